@@ -1,0 +1,31 @@
+//! The words that all layers share: sectors and ranges of them, who asks, what is asked, and how it ended.
+#![tactic(auto)]
+
+mod range;
+mod request;
+
+pub use range::{Range, Sector};
+pub use request::{ClientId, Frame, Op, Outcome, Replies, Reply, Request, RequestId};
+
+/// A port of the adapter: 0 to 3.
+#[derive(Clone, Copy, Debug, Default, PartialEq, Eq, PartialOrd, Ord, Hash)]
+pub struct Port(pub u8);
+
+/// A slot of a port's command list: 0 to 31.
+#[derive(Clone, Copy, Debug, Default, PartialEq, Eq, PartialOrd, Ord, Hash)]
+pub struct Slot(pub u8);
+
+/// What a port is to its clients (this project's own).
+#[derive(Clone, Copy, Debug, PartialEq, Eq)]
+pub enum PortState {
+    /// No device was found, or the port isn't used.
+    Absent,
+    /// Requests are served.
+    Ready,
+    /// The disk has another serial number than the one that is configured.
+    Foreign,
+    /// The device can't be used, for the cause with this number.
+    Unfit(u8),
+    /// The command engine didn't stop, or the adapter didn't end its reset.
+    Dead,
+}
