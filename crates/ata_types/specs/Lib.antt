@@ -1,1 +1,2 @@
+pub mod Grant
 pub mod Range

@@ -1,10 +1,15 @@
-//! The words that all layers share: sectors and ranges of them, who asks, what is asked, and how it ended.
+//! The words that all layers share: sectors and ranges of them, who asks, what is asked and allowed, why it is refused,
+//! and how it ended.
 #![tactic(auto)]
 
+mod grant;
 mod range;
+mod refusal;
 mod request;
 
+pub use grant::{GrantRow, Rights};
 pub use range::{Range, Sector};
+pub use refusal::{FrameFault, MemFault, Refusal, Rule};
 pub use request::{ClientId, Frame, Op, Outcome, Replies, Reply, Request, RequestId};
 
 /// A port of the adapter: 0 to 3.
