@@ -1,0 +1,177 @@
+-- The calls of an adapter: what a register shows, what a reading notes beside the state, and what a write does. A call is
+-- any steps of the device, and then its one effect.
+use Rattle.std.specs.Prelude.{ℕ, Bool, true, false, ◌≡◌, ◌+◌, ◌*◌, ◌/◌, ◌%◌, ◌<◌, ◌&&◌, ◌||◌, not, min, List, [], ◌∷◌, length, if◌then◌else◌, nat_eq}
+use Rattle.hba_regs.specs.Bits.{bit}
+use Rattle.hba_regs.specs.declared.reg.Reg.{Reg}
+use Rattle.hba_regs.specs.declared.reg.Reg.TheVariants.{Cap, Ghc, Pi, Vs, Px}
+use Rattle.hba_regs.specs.declared.reg.Reg.TheVariants as adapter
+use Rattle.hba_regs.specs.declared.reg.PortReg.{PortReg}
+use Rattle.hba_regs.specs.declared.reg.PortReg.TheVariants.{Clb, Clbu, Fb, Fbu, Is, Cmd, Tfd, Sig, Ssts, Sctl, Serr, Sact, Ci}
+use Rattle.adapter.specs.Memory.{patched, bytes_at}
+use Rattle.adapter.specs.Device.{Notes, PortState, Device}
+use Rattle.adapter.specs.Steps.{Steps, with_port, restarted}
+
+-- ---- what a reading shows (AHCI 1.3.1, 3.1 and 3.3). Bits and registers that are not named here may have any value.
+
+-- PxIS: PCS shows X and PRCS shows N
+abbrev pub shown_interrupt : PortState → ℕ → Bool
+shown_interrupt p place =
+    if nat_eq place 6 then p.serr_x else (if nat_eq place 22 then p.serr_n else p.is place)
+
+abbrev pub PortShows : PortReg → ℕ → PortState → Type 0
+PortShows Cmd v p = (bit v 0 ≡ p.st) × (bit v 4 ≡ p.fre) × (bit v 14 ≡ p.fr) × (bit v 15 ≡ p.cr)
+PortShows Tfd v p = v % 65536 ≡ p.tfd
+PortShows Sig v p = v ≡ p.sig
+PortShows Ssts v p = v % 16 ≡ p.ssts_det
+PortShows Sctl v p = v % 16 ≡ p.sctl_det
+PortShows Serr v p = (bit v 16 ≡ p.serr_n) × (bit v 26 ≡ p.serr_x)
+PortShows Ci v p = (slot : ℕ) → slot < 32 → bit v slot ≡ p.ci slot
+PortShows Sact v p = (slot : ℕ) → slot < 32 → bit v slot ≡ p.sact slot
+PortShows Is v p = (place : ℕ) → place < 32 → bit v place ≡ shown_interrupt p place
+PortShows _ v p = Unit {0}
+
+abbrev pub Shows : Reg → ℕ → Device → Type 0
+Shows Cap v d = v ≡ d.cap
+Shows Pi v d = v ≡ d.pi
+Shows Vs v d = v ≡ 0x00010301
+Shows Ghc v d = (bit v 0 ≡ d.hr) × (bit v 1 ≡ d.ie) × (bit v 31 ≡ d.ae)
+Shows (Px port r) v d = PortShows r v (d.port port.0)
+Shows _ v d = Unit {0}
+
+-- ---- what a reading notes beside the state (this project's own)
+
+-- one more reading in a row, at most 64
+abbrev pub counted : Bool → ℕ → ℕ
+counted again n = if again then min 64 (n + 1) else 0
+
+-- the count of SSTS: a reading with a device sets it to 64, where it stays
+abbrev pub link_counted : ℕ → ℕ → ℕ
+link_counted det n = if nat_eq det 3 then 64 else min 64 (n + 1)
+
+-- the counts of SSTS, TFD and CI move only while SCTL.DET is 0
+abbrev pub while_no_comreset : PortState → ℕ → ℕ → ℕ
+while_no_comreset p new old = if nat_eq p.sctl_det 0 then new else old
+
+abbrev pub note : PortReg → ℕ → PortState → Notes
+note Cmd v p =
+    record p.notes {
+      last_cmd = v;
+      engine_count = counted (not p.st && bit v 15 || not p.fre && bit v 14) p.notes.engine_count;
+    }
+note Ssts v p =
+    record p.notes { last_ssts = v; link_count = while_no_comreset p (link_counted (v % 16) p.notes.link_count) p.notes.link_count }
+note Tfd v p =
+    record p.notes { last_tfd = v; busy_count = while_no_comreset p (counted (bit v 7 || bit v 3) p.notes.busy_count) p.notes.busy_count }
+note Ci v p =
+    record p.notes { last_ci = v; command_count = while_no_comreset p (counted (bit v 0) p.notes.command_count) p.notes.command_count }
+note Sig v p = record p.notes { last_sig = v }
+note Sact v p = record p.notes { last_sact = v }
+note _ v p = p.notes
+
+abbrev pub noted : Reg → ℕ → Device → Device
+noted (Px port r) v d = with_port d port.0 (record (d.port port.0) { notes = note r v (d.port port.0) })
+noted _ v d = d
+
+-- ---- what a write does
+
+-- PxCMD.ST: going to one sets CR, going to zero clears CI and SACT
+abbrev pub with_st : Bool → ℕ → PortState → PortState
+with_st st tape p =
+    if st
+    then (if p.st then p
+    else record p {
+      st = true;
+      cr = true;
+      broken = false;
+      halt = restarted p.halt;
+      notes = record p.notes { st_set_at = tape };
+    })
+    else record p {
+      st = false;
+      ci = if p.st then (λ _. false) else p.ci;
+      sact = if p.st then (λ _. false) else p.sact;
+    }
+
+-- PxCMD.FRE: going to one sets FR
+abbrev pub with_fre : Bool → PortState → PortState
+with_fre fre p = record p { fre = fre; fr = fre || p.fr }
+
+-- PxSCTL.DET: 1 sends COMRESET, and 0 after 1 lets the link come up
+abbrev pub with_det : ℕ → ℕ → PortState → PortState
+with_det det tape p =
+    record p {
+      sctl_det = det;
+      ssts_det = if nat_eq det 1 then 0 else p.ssts_det;
+      tfd = if nat_eq det 1 then 0x7f + 256 * (p.tfd / 256) else p.tfd;
+      link_due = p.link_due || nat_eq p.sctl_det 1 && nat_eq det 0;
+      notes = record p.notes { sctl_written_at = tape; link_count = 0; busy_count = 0; command_count = 0 };
+    }
+
+abbrev pub port_written : PortReg → ℕ → ℕ → PortState → PortState
+port_written Clb v tape p = record p { bases = record p.bases { clb = v; clb_set = true } }
+port_written Clbu v tape p = record p { bases = record p.bases { clbu_set = true } }
+port_written Fb v tape p = record p { bases = record p.bases { fb = v; fb_set = true } }
+port_written Fbu v tape p = record p { bases = record p.bases { fbu_set = true } }
+port_written Cmd v tape p = with_fre (bit v 4) (with_st (bit v 0) tape p)
+port_written Sctl v tape p = with_det (v % 16) tape p
+port_written Serr v tape p = record p { serr_n = p.serr_n && not (bit v 16); serr_x = p.serr_x && not (bit v 26) }
+port_written Is v tape p =
+    record p { is = λ place. p.is place && not (bit v place); notes = record p.notes { acknowledged = true } }
+port_written Ci v tape p = record p { ci = λ slot. p.ci slot || bit v slot }
+port_written Sact v tape p = record p { sact = λ slot. p.sact slot || bit v slot }
+port_written _ v tape p = p
+
+-- the port's bit of IS was written
+abbrev pub unacknowledged : PortState → PortState
+unacknowledged p = record p { notes = record p.notes { acknowledged = false } }
+
+abbrev pub written : Reg → ℕ → Device → Device
+written Ghc v d = record d { hr = d.hr || bit v 0; ae = bit v 31; ie = bit v 1 }
+written adapter.Is v d = record d { port = λ port. if bit v port then unacknowledged (d.port port) else d.port port }
+written (Px port r) v d = with_port d port.0 (port_written r v (length d.tape) (d.port port.0))
+written _ v d = d
+
+-- ---- the calls
+
+pub record Reads (r : Reg) (v : ℕ) (old new : Device) : Type 0 where
+  pub mid : Device
+  pub steps : Steps old mid
+  pub shows : Shows r v mid
+  pub effect : new ≡ noted r v mid
+
+pub record Writes (r : Reg) (v : ℕ) (old new : Device) : Type 0 where
+  pub mid : Device
+  pub steps : Steps old mid
+  pub effect : new ≡ written r v mid
+
+pub record Loads (at : ℕ) (bytes : List ℕ) (old new : Device) : Type 0 where
+  pub steps : Steps old new
+  pub shows : bytes ≡ bytes_at new.memory at (length bytes)
+
+pub record Stores (at : ℕ) (bytes : List ℕ) (old new : Device) : Type 0 where
+  pub mid : Device
+  pub steps : Steps old mid
+  pub effect : new ≡ record mid { memory = patched mid.memory at bytes }
+
+-- ---- one call after another
+
+pub data Access : Type 0 where
+  Reading : (r : Reg) (v : ℕ) → Access
+  Writing : (r : Reg) (v : ℕ) → Access
+  Loading : (at : ℕ) (bytes : List ℕ) → Access
+  Storing : (at : ℕ) (bytes : List ℕ) → Access
+
+abbrev pub Does : Access → Device → Device → Type 0
+Does (Reading r v) old new = Reads r v old new
+Does (Writing r v) old new = Writes r v old new
+Does (Loading at bytes) old new = Loads at bytes old new
+Does (Storing at bytes) old new = Stores at bytes old new
+
+abbrev pub DoesAll : List Access → Device → Device → Type 0
+DoesAll [] old new = new ≡ old
+DoesAll (access ∷ accesses) old new = (mid : Device) × Does access old mid × DoesAll accesses mid new
+
+-- some list of accesses, of this adapter by its driver, leads from the one state to the other
+pub record IsDriven (old new : Device) : Type 0 where
+  pub accesses : List Access
+  pub all : DoesAll accesses old new

@@ -1,0 +1,70 @@
+-- The commands that this driver knows (ACS-3; the queued ones also Serial ATA), and the FIS of each.
+use Rattle.std.specs.Prelude.{ℕ, Bool, true, false, ◌≡◌, ◌*◌, ◌^◌, ◌<◌, ◌≤◌, ◌%◌}
+use Rattle.adapter.specs.declared.command.Operation.{Operation}
+use Rattle.adapter.specs.declared.command.Operation.TheVariants.{Identify, Read, Write, ReadQueued, WriteQueued, Flush, Trim, ReadLog}
+use Rattle.adapter.specs.declared.command.Command.{Command}
+use Rattle.adapter.specs.declared.command.Direction.{Direction}
+use Rattle.adapter.specs.declared.command.Direction.TheVariants.{ToMemory, FromMemory}
+
+abbrev pub with_fields : (code features count lba device : ℕ) → Command
+with_fields code features count lba device =
+    record { code = code; features = features; count = count; lba = lba; device = device }
+
+-- The table of commands. By columns: the operation, the command's slot, first sector and number of sectors;
+-- then its code, features, count, LBA and device. A sector count of 0 stands for 65,536. A tag is the slot.
+abbrev pub command_of : (operation : Operation) (slot first count : ℕ) → Command
+command_of Identify slot first count = with_fields 0xec 0 0 0 0x00
+command_of Read slot first count = with_fields 0x25 0 (count % 65536) first 0x40
+command_of Write slot first count = with_fields 0x35 0 (count % 65536) first 0x40
+command_of ReadQueued slot first count = with_fields 0x60 (count % 65536) (8 * slot) first 0x40
+command_of WriteQueued slot first count = with_fields 0x61 (count % 65536) (8 * slot) first 0x40
+command_of Flush slot first count = with_fields 0xea 0 0 0 0x00
+command_of Trim slot first count = with_fields 0x06 1 1 0 0x00
+command_of ReadLog slot first count = with_fields 0x2f 0 1 0x10 0x00
+
+-- a queued command is one of several in flight; a plain one is alone
+abbrev pub is_queued : Operation → Bool
+is_queued ReadQueued = true
+is_queued WriteQueued = true
+is_queued _ = false
+
+-- the command names the sectors that it moves
+abbrev pub is_ranged : Operation → Bool
+is_ranged Read = true
+is_ranged Write = true
+is_ranged ReadQueued = true
+is_ranged WriteQueued = true
+is_ranged _ = false
+
+-- the device reads memory: the W bit of the header
+abbrev pub reads_memory : Operation → Bool
+reads_memory Write = true
+reads_memory WriteQueued = true
+reads_memory Trim = true
+reads_memory _ = false
+
+-- where the bytes of a move go
+abbrev pub direction_of : Operation → Direction
+direction_of Write = FromMemory
+direction_of WriteQueued = FromMemory
+direction_of Trim = FromMemory
+direction_of _ = ToMemory
+
+-- how many pieces of 512 bytes the command moves
+abbrev pub pieces_moved : Operation → ℕ → ℕ
+pieces_moved Flush count = 0
+pieces_moved Identify count = 1
+pieces_moved Trim count = 1
+pieces_moved ReadLog count = 1
+pieces_moved _ count = count
+
+-- What header, FIS and entries of a slot mean: an operation, and its sectors if it names some.
+pub record Meaning : Type 0 where
+  pub operation : Operation
+  pub first : ℕ
+  pub count : ℕ
+
+-- The sectors are some that a FIS can name; where it names none, they are 0.
+pub record IsMeaning (m : Meaning) : Type 0 where
+  pub ranged : is_ranged m.operation ≡ true → (1 ≤ m.count) × (m.count ≤ 65536) × (m.first < 2 ^ 48)
+  pub not_ranged : is_ranged m.operation ≡ false → (m.first ≡ 0) × (m.count ≡ 0)

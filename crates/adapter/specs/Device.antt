@@ -1,0 +1,113 @@
+-- The state of an AHCI adapter with its memory and its disks. Numbers of ports, slots and bits aren't bounded here:
+-- what is past the adapter's is idle from the start and stays so.
+use Rattle.std.specs.Prelude.{ℕ, Bool, List, Option, Some, ◌≡◌, ◌<◌, length, All}
+use Rattle.adapter.specs.Commands.{Meaning}
+use Rattle.adapter.specs.declared.tape.Entry.{Entry}
+
+-- Which disk it is, how many sectors it has, and what they hold where its store tells them, as memory does and a file
+-- doesn't.
+pub record Disk : Type 0 where
+  pub name : ℕ
+  pub size : ℕ
+  pub sectors : Option (ℕ → List ℕ)
+
+-- the disk tells its sectors
+abbrev pub IsTold : Disk → Type 0
+IsTold disk = (told : ℕ → List ℕ) × (disk.sectors ≡ Some told)
+
+-- the bytes of a sector
+abbrev pub IsSector : List ℕ → Type 0
+IsSector bytes = (length bytes ≡ 512) × All (λ byte. byte < 256) bytes
+
+-- each sector that the disk tells is one
+abbrev pub IsDisk : Disk → Type 0
+IsDisk disk = (told : ℕ → List ℕ) → disk.sectors ≡ Some told → (k : ℕ) → k < disk.size → IsSector (told k)
+
+-- A command that the device has taken: what it means, the addresses of its pieces, how many were moved, the block that
+-- a trim has brought, and how many of the block's sectors were cleared.
+pub record Taken : Type 0 where
+  pub meaning : Meaning
+  pub places : List ℕ
+  pub moved : ℕ
+  pub block : List ℕ
+  pub cleared : ℕ
+
+-- Whether a fault has halted the port, and by which kind of command; LogOnly: ST was set again after a queued one.
+pub data Halt : Type 0 where
+  NotHalted HaltedPlain HaltedQueued LogOnly : Halt
+
+-- Where the driver has put the command list and the received FIS area, and which of the four address registers it has
+-- written. PxCLBU and PxFBU are written with 0 alone.
+pub record Bases : Type 0 where
+  pub clb : ℕ
+  pub fb : ℕ
+  pub clb_set : Bool
+  pub clbu_set : Bool
+  pub fb_set : Bool
+  pub fbu_set : Bool
+
+-- What stands beside a port's state: how long the tape was when ST was last set and when SCTL was last written; the
+-- values last read; four counts of readings in a row, each at most 64 (engine: of CR or FR awaited; link: of SSTS without
+-- a device; busy: of TFD with BSY or DRQ; command: of CI with bit 0 set); and whether PxIS was written since the port's
+-- bit of IS was.
+pub record Notes : Type 0 where
+  pub st_set_at : ℕ
+  pub sctl_written_at : ℕ
+  pub last_cmd : ℕ
+  pub last_ssts : ℕ
+  pub last_tfd : ℕ
+  pub last_sig : ℕ
+  pub last_ci : ℕ
+  pub last_sact : ℕ
+  pub engine_count : ℕ
+  pub link_count : ℕ
+  pub busy_count : ℕ
+  pub command_count : ℕ
+  pub acknowledged : Bool
+
+-- A port (AHCI 1.3.1, 3.3 and 5.3).
+pub record PortState : Type 0 where
+  -- as the driver writes them
+  pub bases : Bases
+  pub st : Bool
+  pub fre : Bool
+  pub sctl_det : ℕ
+  -- as the device shows them: PxCMD, PxTFD, PxSIG, PxSSTS.DET, PxSERR.N and X, PxIS, PxCI, PxSACT
+  pub cr : Bool
+  pub fr : Bool
+  pub tfd : ℕ
+  pub sig : ℕ
+  pub ssts_det : ℕ
+  pub serr_n : Bool
+  pub serr_x : Bool
+  pub is : ℕ → Bool
+  pub ci : ℕ → Bool
+  pub sact : ℕ → Bool
+  -- behind the registers: the disk that is in, or was last; those that were plugged in, as they were then, the oldest
+  -- first (a disk's identity is its place there; the first was in at the start)
+  pub disk : Disk
+  pub plugged : List Disk
+  pub present : Bool
+  -- its first FIS has come since it was plugged in
+  pub fresh : Bool
+  -- SCTL.DET went from 1 to 0 since the link last came up
+  pub link_due : Bool
+  pub halt : Halt
+  -- a fatal error stopped it
+  pub broken : Bool
+  pub taken : ℕ → Option Taken
+  pub notes : Notes
+
+-- The adapter: its memory, by address; CAP and PI; GHC.HR, AE and IE; its ports; and the tape of what the device did, the
+-- oldest entry first. `telling` says whether every disk tells its sectors.
+pub record Device : Type 0 where
+  pub telling : Bool
+  pub size : ℕ
+  pub memory : ℕ → ℕ
+  pub cap : ℕ
+  pub pi : ℕ
+  pub hr : Bool
+  pub ae : Bool
+  pub ie : Bool
+  pub port : ℕ → PortState
+  pub tape : List Entry

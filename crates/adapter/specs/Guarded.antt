@@ -1,0 +1,48 @@
+-- Bytes that no step of the device changes, and on which every command in use stands.
+use Rattle.std.specs.Prelude.{ℕ, true, ◌≡◌, ◌+◌, ◌*◌, ◌<◌, ◌≤◌, length, List, Some}
+use Rattle.adapter.specs.Commands.{Meaning}
+use Rattle.adapter.specs.Device.{Taken, PortState, Device}
+use Rattle.adapter.specs.Says.{Says}
+use Rattle.adapter.specs.Rules.{InPlaces, InUse}
+
+-- the bytes from one address up to another are in the set
+abbrev pub Holds : (ℕ → Type 0) → ℕ → ℕ → Type 0
+Holds Set from to = (at : ℕ) → from ≤ at → at < to → Set at
+
+-- none of these bytes is in the set
+abbrev pub Spares : (ℕ → Type 0) → ℕ → ℕ → Type 0
+Spares Set from to = (at : ℕ) → from ≤ at → at < to → Set at → ⊥
+
+-- no piece has a byte of the set
+abbrev pub Avoids : (ℕ → Type 0) → List ℕ → Type 0
+Avoids Set places = (at : ℕ) → Set at → InPlaces places at → ⊥
+
+-- A slot says a command. Its header (but for PRDBC) and its table are table bytes; its PRDBC and its pieces aren't kept.
+pub record IsGuardedSlot (Tables Kept : ℕ → Type 0) (memory : ℕ → ℕ) (list slot : ℕ) : Type 0 where
+  pub meaning : Meaning
+  pub places : List ℕ
+  pub says : Says memory list slot meaning places
+  pub head : Holds Tables (list + 32 * slot) (list + 32 * slot + 4)
+  pub rest : Holds Tables (list + 32 * slot + 8) (list + 32 * slot + 32)
+  pub table : Holds Tables says.table (says.table + 128 + 16 * length says.prds)
+  pub count : Spares Kept (list + 32 * slot + 4) (list + 32 * slot + 8)
+  pub places_avoid : Avoids Kept places
+
+-- Each slot in use is guarded, no piece of a taken command is kept, nor is a byte of the received FIS area.
+pub record IsGuardedPort (Tables Kept : ℕ → Type 0) (memory : ℕ → ℕ) (p : PortState) : Type 0 where
+  pub slot : (slot : ℕ) → InUse p slot → IsGuardedSlot Tables Kept memory p.bases.clb slot
+  pub taken : (slot : ℕ) (t : Taken) → p.taken slot ≡ Some t → Avoids Kept t.places
+  pub received : p.fre ≡ true → Spares Kept p.bases.fb (p.bases.fb + 256)
+
+-- Two sets of bytes: tables, and what is kept, the tables among them.
+pub record IsGuarded (Tables Kept : ℕ → Type 0) (d : Device) : Type 0 where
+  pub within : (at : ℕ) → Tables at → Kept at
+  pub port : (port : ℕ) → IsGuardedPort Tables Kept d.memory (d.port port)
+
+-- These bytes are inside the memory and kept, in no table, and in no header of a slot in use.
+pub record IsApart (Tables Kept : ℕ → Type 0) (at n : ℕ) (d : Device) : Type 0 where
+  pub inside : at + n ≤ d.size
+  pub kept : Holds Kept at (at + n)
+  pub no_table : Spares Tables at (at + n)
+  pub no_header : (port slot a : ℕ) → InUse (d.port port) slot → at ≤ a → a < at + n →
+      (d.port port).bases.clb + 32 * slot ≤ a → a < (d.port port).bases.clb + 32 * slot + 32 → ⊥

@@ -1,0 +1,24 @@
+-- An adapter as its driver takes it over.
+use Rattle.std.specs.Prelude.{ℕ, true, false, ◌≡◌, ◌<◌, None}
+use Rattle.adapter.specs.Device.{IsTold, IsDisk, PortState, Device}
+
+-- no command runs, and none is issued or taken, in any slot number
+pub record IsIdlePort (p : PortState) : Type 0 where
+  pub st : p.st ≡ false
+  pub cr : p.cr ≡ false
+  pub fre : p.fre ≡ false
+  pub fr : p.fr ≡ false
+  pub ci : (slot : ℕ) → p.ci slot ≡ false
+  pub sact : (slot : ℕ) → p.sact slot ≡ false
+  pub taken : (slot : ℕ) → p.taken slot ≡ None
+
+-- No reset is pending, and every port is idle, whatever its number.
+pub record IsIdle (d : Device) : Type 0 where
+  pub no_reset : d.hr ≡ false
+  pub port : (port : ℕ) → IsIdlePort (d.port port)
+
+-- Memory and disks hold bytes, and disks tell their sectors if the adapter is one that tells.
+pub record IsSane (d : Device) : Type 0 where
+  pub bytes : (at : ℕ) → d.memory at < 256
+  pub disk : (port : ℕ) → IsDisk (d.port port).disk
+  pub told : d.telling ≡ true → (port : ℕ) → IsTold (d.port port).disk

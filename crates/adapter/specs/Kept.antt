@@ -1,0 +1,45 @@
+-- What no step of the device changes.
+use Rattle.std.specs.Prelude.{ℕ, true, false, ◌≡◌, ◌++◌, List, None}
+use Rattle.adapter.specs.Device.{PortState, Device}
+use Rattle.adapter.specs.declared.tape.Entry.{Entry}
+
+-- The addresses and the notes are the driver's. Bits of CI, SACT, ST, CR, FRE and FR only fall; nothing is taken while CR
+-- is 0, nothing is left taken once it has fallen, and a free slot stays free.
+pub record KeepsPort (old new : PortState) : Type 0 where
+  pub bases : new.bases ≡ old.bases
+  pub notes : new.notes ≡ old.notes
+  pub st : old.st ≡ false → new.st ≡ false
+  pub fre : old.fre ≡ false → new.fre ≡ false
+  pub cr : old.cr ≡ false → new.cr ≡ false
+  pub fr : old.fr ≡ false → new.fr ≡ false
+  pub ci : (slot : ℕ) → old.ci slot ≡ false → new.ci slot ≡ false
+  pub sact : (slot : ℕ) → old.sact slot ≡ false → new.sact slot ≡ false
+  pub idle : old.cr ≡ false → ((slot : ℕ) → old.taken slot ≡ None) → (slot : ℕ) → new.taken slot ≡ None
+  pub fallen : old.cr ≡ true → new.cr ≡ false → (slot : ℕ) → new.taken slot ≡ None
+  pub free : (slot : ℕ) → old.ci slot ≡ false → old.taken slot ≡ None → new.taken slot ≡ None
+
+-- While no reset is pending: ST, FRE and SCTL.DET are the driver's, flags only rise, and a running port runs on.
+pub record KeepsControls (old new : PortState) : Type 0 where
+  pub st : new.st ≡ old.st
+  pub fre : new.fre ≡ old.fre
+  pub sctl_det : new.sctl_det ≡ old.sctl_det
+  pub is : (place : ℕ) → old.is place ≡ true → new.is place ≡ true
+  pub serr_n : old.serr_n ≡ true → new.serr_n ≡ true
+  pub serr_x : old.serr_x ≡ true → new.serr_x ≡ true
+  pub runs : old.st ≡ true → old.cr ≡ true → new.cr ≡ true
+
+pub record KeepsOn (old new : Device) : Type 0 where
+  pub no_reset : new.hr ≡ false
+  pub ae : new.ae ≡ old.ae
+  pub ie : new.ie ≡ old.ie
+  pub controls : (port : ℕ) → KeepsControls (old.port port) (new.port port)
+
+pub record Keeps (old new : Device) : Type 0 where
+  pub telling : new.telling ≡ old.telling
+  pub size : new.size ≡ old.size
+  pub cap : new.cap ≡ old.cap
+  pub pi : new.pi ≡ old.pi
+  pub port : (port : ℕ) → KeepsPort (old.port port) (new.port port)
+  pub gained : List Entry
+  pub tape : new.tape ≡ old.tape ++ gained
+  pub on : old.hr ≡ false → KeepsOn old new

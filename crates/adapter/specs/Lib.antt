@@ -1,0 +1,12 @@
+pub mod Memory
+pub mod Commands
+pub mod Spelling
+pub mod Says
+pub mod Trim
+pub mod Device
+pub mod Steps
+pub mod Access
+pub mod Rules
+pub mod Kept
+pub mod Guarded
+pub mod Idle

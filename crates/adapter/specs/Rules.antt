@@ -1,0 +1,130 @@
+-- What the driver of an adapter has to keep to (AHCI 1.3.1, 3.1, 3.3, 5.3 and 10).
+use Rattle.std.specs.Prelude.{ℕ, true, false, ◌≡◌, ◌≢◌, ◌+◌, ◌*◌, ◌/◌, ◌%◌, ◌<◌, ◌≤◌, ◌⊎◌, ◌||◌, List, length, None, Some, slice_index}
+use Rattle.hba_regs.specs.Bits.{bit}
+use Rattle.hba_regs.specs.declared.reg.Reg.{Reg}
+use Rattle.hba_regs.specs.declared.reg.Reg.TheVariants.{Ghc, Px}
+use Rattle.hba_regs.specs.declared.reg.Reg.TheVariants as adapter
+use Rattle.hba_regs.specs.declared.reg.PortReg.{PortReg}
+use Rattle.hba_regs.specs.declared.reg.PortReg.TheVariants.{Clb, Clbu, Fb, Fbu, Is, Ie, Cmd, Sctl, Serr, Sact, Ci}
+use Rattle.adapter.specs.Commands.{Meaning, is_queued}
+use Rattle.adapter.specs.Device.{Taken, PortState, Device}
+use Rattle.adapter.specs.Says.{Says}
+use Rattle.adapter.specs.Steps.{Steps}
+
+-- whatever the device does first
+abbrev pub Stays : (Device → Type 0) → Device → Type 0
+Stays P d = (mid : Device) → Steps d mid → P mid
+
+-- the adapter was switched on, and no reset of it is pending
+pub record IsOn (d : Device) : Type 0 where
+  pub ae : d.ae ≡ true
+  pub no_reset : d.hr ≡ false
+
+-- the adapter has the port
+abbrev pub HasPort : Device → ℕ → Type 0
+HasPort d port = (port < 4) × (bit d.pi port ≡ true)
+
+abbrev pub MayRead : Reg → Device → Type 0
+MayRead Ghc d = Unit {0}
+MayRead (Px port r) d = IsOn d × HasPort d port.0
+MayRead _ d = IsOn d
+
+-- ---- writes
+
+-- Command list and received FIS area are programmed, with no upper addresses.
+pub record IsProgrammed (p : PortState) : Type 0 where
+  pub clb : p.bases.clb_set ≡ true
+  pub clbu : p.bases.clbu_set ≡ true
+  pub fb : p.bases.fb_set ≡ true
+  pub fbu : p.bases.fbu_set ≡ true
+
+-- ST may be set
+pub record MayStart (p : PortState) : Type 0 where
+  pub fallen : p.cr ≡ false
+  pub receives : p.fre ≡ true
+  pub programmed : IsProgrammed p
+  pub link : p.notes.last_ssts % 16 ≡ 3
+  pub not_busy : bit p.notes.last_tfd 7 || bit p.notes.last_tfd 3 ≡ false
+
+-- FRE may be set
+pub record MayReceive (p : PortState) : Type 0 where
+  pub fallen : p.fr ≡ false
+  pub fb : p.bases.fb_set ≡ true
+  pub fbu : p.bases.fbu_set ≡ true
+
+-- FRE may be cleared
+pub record MayStopReceiving (p : PortState) : Type 0 where
+  pub stopped : p.st ≡ false
+  pub fallen : p.cr ≡ false
+
+-- ST and FRE change where they may; the other bits are written as they were last read.
+pub record MayCommand (p : PortState) (v : ℕ) : Type 0 where
+  pub start : bit v 0 ≡ true → (p.st ≡ true) ⊎ MayStart p
+  pub receive : bit v 4 ≡ true → (p.fre ≡ true) ⊎ MayReceive p
+  pub stop_receiving : bit v 4 ≡ false → (p.fre ≡ false) ⊎ (MayStopReceiving p × (bit v 0 ≡ false))
+  pub others : (place : ℕ) → place < 32 → place ≢ 0 → place ≢ 4 → bit v place ≡ bit p.notes.last_cmd place
+
+-- Each slot whose bit is set is one of the adapter's and has no command; if its bytes say a queued command, its SACT bit is
+-- set already.
+pub record MayIssue (d : Device) (p : PortState) (v : ℕ) : Type 0 where
+  pub running : p.st ≡ true
+  pub usable : (slot : ℕ) → bit v slot ≡ true → slot ≤ d.cap / 256 % 32
+  pub free : (slot : ℕ) → bit v slot ≡ true → (p.ci slot ≡ false) × (p.taken slot ≡ None)
+  pub queued : (slot : ℕ) (meaning : Meaning) (places : List ℕ) → bit v slot ≡ true →
+      Says d.memory p.bases.clb slot meaning places → is_queued meaning.operation ≡ true → p.sact slot ≡ true
+
+abbrev pub MayWritePort : PortReg → ℕ → Device → PortState → Type 0
+MayWritePort Cmd v d p = MayCommand p v
+MayWritePort Sctl v d p = (p.st ≡ false) × ((v % 16 ≡ 0) ⊎ (v % 16 ≡ 1))
+MayWritePort Clb v d p = (p.cr ≡ false) × (p.st ≡ false) × (v % 1024 ≡ 0) × (v + 1024 ≤ d.size)
+MayWritePort Clbu v d p = (p.cr ≡ false) × (p.st ≡ false) × (v ≡ 0)
+MayWritePort Fb v d p = (p.fr ≡ false) × (p.fre ≡ false) × (v % 256 ≡ 0) × (v + 256 ≤ d.size)
+MayWritePort Fbu v d p = (p.fr ≡ false) × (p.fre ≡ false) × (v ≡ 0)
+MayWritePort Ci v d p = MayIssue d p v
+MayWritePort Sact v d p = p.st ≡ true
+MayWritePort Serr v d p = Unit {0}
+MayWritePort Is v d p = Unit {0}
+MayWritePort Ie v d p = Unit {0}
+MayWritePort _ v d p = ⊥
+
+-- a port's bit of IS is cleared only after its PxIS
+abbrev pub AreAcknowledged : Device → ℕ → Type 0
+AreAcknowledged d v = (port : ℕ) → port < 32 → bit v port ≡ true → (d.port port).notes.acknowledged ≡ true
+
+abbrev pub MayWrite : Reg → ℕ → Device → Type 0
+MayWrite Ghc v d = Unit {0}
+MayWrite adapter.Is v d = IsOn d × AreAcknowledged d v
+MayWrite (Px port r) v d = IsOn d × HasPort d port.0 × MayWritePort r v d (d.port port.0)
+MayWrite _ v d = ⊥
+
+-- ---- loads and stores
+
+-- the byte belongs to a piece of a command
+pub record InPlaces (places : List ℕ) (at : ℕ) : Type 0 where
+  pub number : ℕ
+  pub listed : number < length places
+  pub from : slice_index places number ≤ at
+  pub to : at < slice_index places number + 512
+
+-- the slot has a command that is issued or taken
+abbrev pub InUse : PortState → ℕ → Type 0
+InUse p slot = (p.ci slot ≡ true) ⊎ ((t : Taken) × (p.taken slot ≡ Some t))
+
+-- the byte belongs to what the slot's bytes say: its command table, or a piece
+abbrev pub InCommand : Device → PortState → ℕ → ℕ → Type 0
+InCommand d p slot at =
+    (meaning : Meaning) × (places : List ℕ) × (s : Says d.memory p.bases.clb slot meaning places)
+    × (((s.table ≤ at) × (at < s.table + 128 + 16 * length s.prds)) ⊎ InPlaces places at)
+
+-- The device may use the byte: it is of the header, the table or the places of a command in use, of the places of a taken
+-- one, or of the received FIS area.
+abbrev pub Uses : Device → PortState → ℕ → ℕ → Type 0
+Uses d p slot at =
+    (InUse p slot × (((p.bases.clb + 32 * slot ≤ at) × (at < p.bases.clb + 32 * slot + 32)) ⊎ InCommand d p slot at))
+    ⊎ ((t : Taken) × (p.taken slot ≡ Some t) × InPlaces t.places at)
+    ⊎ ((p.fre ≡ true) × (p.bases.fb ≤ at) × (at < p.bases.fb + 256))
+
+-- these bytes are inside the memory, and the device may use none of them
+pub record IsFree (at n : ℕ) (d : Device) : Type 0 where
+  pub inside : at + n ≤ d.size
+  pub unused : (port slot byte : ℕ) → at ≤ byte → byte < at + n → Uses d (d.port port) slot byte → ⊥

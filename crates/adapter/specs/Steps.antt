@@ -1,0 +1,373 @@
+-- What the device may do by itself between two accesses, step by step: when each step is possible, and what it changes.
+-- The choices that the device makes stand in the step.
+use Rattle.std.specs.Prelude.{ℕ, Bool, true, false, ◌≡◌, ◌+◌, ◌*◌, ◌^◌, ◌<◌, ◌≤◌, ◌⊎◌, ◌&&◌, ◌||◌, List, [], ◌∷◌, ◌++◌, length, None, Some, IfSome, option_map, if◌then◌else◌, slice_index, bit_and, bit_or, take, drop, replicate, nat_le, nat_lt, nat_eq, All}
+use Rattle.adapter.specs.Memory.{patched, bytes_at, changed}
+use Rattle.adapter.specs.Commands.{Meaning, is_queued, is_ranged, reads_memory, direction_of}
+use Rattle.adapter.specs.Device.{Disk, IsTold, IsDisk, IsSector, Taken, Halt, PortState, Device}
+use Rattle.adapter.specs.Device.Halt.{NotHalted, HaltedPlain, HaltedQueued, LogOnly}
+use Rattle.adapter.specs.Says.{Says}
+use Rattle.adapter.specs.Trim.{trim_sectors, consecutive}
+use Rattle.adapter.specs.declared.command.Operation.{Operation}
+use Rattle.adapter.specs.declared.command.Operation.TheVariants.{Identify, Read, Write, ReadQueued, WriteQueued, Trim, ReadLog}
+use Rattle.adapter.specs.declared.tape.Move as tape_move
+use Rattle.adapter.specs.declared.tape.Entry.{Entry}
+use Rattle.adapter.specs.declared.tape.Entry.TheVariants as entry
+
+pub data Step : Type 0 where
+  -- an issued command is taken; its bytes mean no command; a piece is moved; sectors of a trim are cleared
+  Fetch : (port slot : ℕ) (meaning : Meaning) (places : List ℕ) → Step
+  FetchFault : (port slot : ℕ) (queued : Bool) (kept_bits : ℕ) → Step
+  Move : (port slot : ℕ) (t : Taken) (bytes : List ℕ) → Step
+  Clear : (port slot : ℕ) (t : Taken) (first count : ℕ) → Step
+  -- a taken command ends without error, or fails; the port meets a fatal error (27 IFS, 29 HBFS)
+  Done : (port slot flag : ℕ) (t : Taken) → Step
+  Fault : (port slot error kept_bits : ℕ) (t : Taken) → Step
+  Fatal : (port place : ℕ) → Step
+  -- CR falls; FR falls; the link comes up
+  Fall : (port : ℕ) → Step
+  FrFall : (port : ℕ) → Step
+  LinkUp : (port sig : ℕ) (n : Bool) → Step
+  Unplug : (port : ℕ) → Step
+  Plug : (port : ℕ) (disk : Disk) → Step
+  ResetEnds : Step
+  -- any bytes in the received FIS area or in the PRDBC of a taken slot
+  Scribble : (port slot at : ℕ) (bytes : List ℕ) → Step
+
+-- ---- halts: which commands a port takes and works on, what a fault makes of it, and what setting ST makes of it
+
+abbrev pub admits : Halt → Operation → Bool
+admits NotHalted operation = true
+admits LogOnly ReadLog = true
+admits _ operation = false
+
+abbrev pub halted : Halt → Bool → Halt
+halted HaltedQueued queued = HaltedQueued
+halted LogOnly queued = HaltedQueued
+halted _ queued = if queued then HaltedQueued else HaltedPlain
+
+abbrev pub restarted : Halt → Halt
+restarted HaltedQueued = LogOnly
+restarted LogOnly = LogOnly
+restarted _ = NotHalted
+
+-- ---- conditions that several steps have
+
+-- the port works on commands of this kind
+pub record IsWorking (p : PortState) (operation : Operation) : Type 0 where
+  pub running : p.cr ≡ true
+  pub present : p.present ≡ true
+  pub fresh : p.fresh ≡ true
+  pub admitted : admits p.halt operation ≡ true
+  pub whole : p.broken ≡ false
+
+-- the port works on this command, which it has taken in this slot
+pub record WorksOn (p : PortState) (slot : ℕ) (t : Taken) (operation : Operation) : Type 0 where
+  pub taken : p.taken slot ≡ Some t
+  pub working : IsWorking p operation
+
+-- the slot's command is issued, and not taken yet
+pub record IsFetchable (p : PortState) (slot : ℕ) : Type 0 where
+  pub st : p.st ≡ true
+  pub issued : p.ci slot ≡ true
+  pub free : p.taken slot ≡ None
+
+-- a plain command is taken alone, a queued one beside queued ones
+abbrev pub IsAlone : PortState → Operation → Type 0
+IsAlone p operation =
+    (slot : ℕ) (t : Taken) → p.taken slot ≡ Some t → is_queued operation && is_queued t.meaning.operation ≡ true
+
+-- BSY and DRQ may be left set, and no other bit
+abbrev pub AreKeptBits : ℕ → Type 0
+AreKeptBits kept_bits = bit_and kept_bits 0x88 ≡ kept_bits
+
+-- ---- Fetch
+
+pub record MayFetch (d : Device) (port slot : ℕ) (meaning : Meaning) (places : List ℕ) : Type 0 where
+  pub fetchable : IsFetchable (d.port port) slot
+  pub working : IsWorking (d.port port) meaning.operation
+  pub alone : IsAlone (d.port port) meaning.operation
+  pub says : Says d.memory (d.port port).bases.clb slot meaning places
+
+pub record MayFetchFault (d : Device) (port slot kept_bits : ℕ) : Type 0 where
+  pub fetchable : IsFetchable (d.port port) slot
+  pub working : IsWorking (d.port port) Identify
+  pub says_nothing : (meaning : Meaning) (places : List ℕ) → Says d.memory (d.port port).bases.clb slot meaning places → ⊥
+  pub kept : AreKeptBits kept_bits
+
+abbrev pub begun : Meaning → List ℕ → Taken
+begun meaning places = record { meaning = meaning; places = places; moved = 0; block = []; cleared = 0 }
+
+abbrev pub with_fetch : PortState → ℕ → Meaning → List ℕ → PortState
+with_fetch p slot meaning places =
+    record p {
+      taken = changed p.taken slot (Some (begun meaning places));
+      ci = if is_queued meaning.operation then changed p.ci slot false else p.ci;
+      tfd = if is_queued meaning.operation then p.tfd else bit_or p.tfd 0x80;
+    }
+
+-- status 41h (with BSY and DRQ left set or not), an error, TFES; the port is halted
+abbrev pub with_fault : PortState → Bool → ℕ → ℕ → PortState
+with_fault p queued error kept_bits =
+    record p { tfd = 0x41 + kept_bits + 256 * error; is = changed p.is 30 true; halt = halted p.halt queued }
+
+-- ---- Move
+
+-- the address of the next piece, and the sector that it is (0 where the command names none)
+abbrev pub next_place : Taken → ℕ
+next_place t = slice_index t.places t.moved
+
+abbrev pub next_sector : Taken → ℕ
+next_sector t = if is_ranged t.meaning.operation then t.meaning.first + t.moved else 0
+
+-- The bytes that a move may bring: the disk's, where it tells them; memory's, for a command that reads memory; or any
+-- page, for IDENTIFY DEVICE and READ LOG EXT.
+abbrev pub Brings : Disk → (ℕ → ℕ) → Taken → Operation → List ℕ → Type 0
+Brings disk memory t Read bytes = (next_sector t < disk.size) × IfSome disk.sectors (λ told. bytes ≡ told (next_sector t))
+Brings disk memory t ReadQueued bytes = (next_sector t < disk.size) × IfSome disk.sectors (λ told. bytes ≡ told (next_sector t))
+Brings disk memory t Write bytes = (next_sector t < disk.size) × (bytes ≡ bytes_at memory (next_place t) 512)
+Brings disk memory t WriteQueued bytes = (next_sector t < disk.size) × (bytes ≡ bytes_at memory (next_place t) 512)
+Brings disk memory t Trim bytes = bytes ≡ bytes_at memory (next_place t) 512
+Brings disk memory t _ bytes = Unit {0}
+
+pub record MayMove (d : Device) (port slot : ℕ) (t : Taken) (bytes : List ℕ) : Type 0 where
+  pub works : WorksOn (d.port port) slot t t.meaning.operation
+  pub left : t.moved < length t.places
+  pub inside : next_place t + 512 ≤ d.size
+  pub sector : IsSector bytes
+  pub brings : Brings (d.port port).disk d.memory t t.meaning.operation bytes
+
+-- a disk with one sector changed
+abbrev pub disk_with : Disk → ℕ → List ℕ → Disk
+disk_with disk sector bytes = record disk { sectors = option_map (λ told. changed told sector bytes) disk.sectors }
+
+abbrev pub disk_after : Operation → Disk → ℕ → List ℕ → Disk
+disk_after Write disk sector bytes = disk_with disk sector bytes
+disk_after WriteQueued disk sector bytes = disk_with disk sector bytes
+disk_after _ disk sector bytes = disk
+
+-- a trim keeps the block that it brought
+abbrev pub block_after : Operation → List ℕ → List ℕ → List ℕ
+block_after Trim bytes old = bytes
+block_after _ bytes old = old
+
+abbrev pub with_move : PortState → ℕ → Taken → List ℕ → PortState
+with_move p slot t bytes =
+    record p {
+      taken = changed p.taken slot (Some (record t { moved = t.moved + 1; block = block_after t.meaning.operation bytes t.block }));
+      disk = disk_after t.meaning.operation p.disk (next_sector t) bytes;
+    }
+
+abbrev pub memory_after : (ℕ → ℕ) → Taken → List ℕ → ℕ → ℕ
+memory_after memory t bytes = if reads_memory t.meaning.operation then memory else patched memory (next_place t) bytes
+
+-- ---- Clear
+
+-- The next sectors of the block, from `first` on, become zero, with a sector left to clear; none of them is past the disk.
+pub record MayClear (d : Device) (port slot : ℕ) (t : Taken) (first count : ℕ) : Type 0 where
+  pub works : WorksOn (d.port port) slot t Trim
+  pub trim : t.meaning.operation ≡ Trim
+  pub moved : t.moved ≡ length t.places
+  pub next : take 1 (drop t.cleared (trim_sectors t.block)) ≡ first ∷ []
+  pub sectors : take count (drop t.cleared (trim_sectors t.block)) ≡ consecutive first count
+  pub inside : (count ≡ 0) ⊎ (first + count ≤ (d.port port).disk.size)
+
+abbrev pub disk_cleared : Disk → ℕ → ℕ → Disk
+disk_cleared disk first count =
+    record disk {
+      sectors = option_map (λ told k. if nat_le first k && nat_lt k (first + count) then replicate 512 0 else told k) disk.sectors;
+    }
+
+abbrev pub with_clear : PortState → ℕ → Taken → ℕ → ℕ → PortState
+with_clear p slot t first count =
+    record p {
+      taken = changed p.taken slot (Some (record t { cleared = t.cleared + count }));
+      disk = disk_cleared p.disk first count;
+    }
+
+-- ---- Done
+
+-- nothing is left to move or to clear
+pub record IsFinished (t : Taken) : Type 0 where
+  pub moved : t.moved ≡ length t.places
+  pub cleared : t.meaning.operation ≡ Trim → t.cleared ≡ length (trim_sectors t.block)
+
+pub record MayBeDone (d : Device) (port slot flag : ℕ) (t : Taken) : Type 0 where
+  pub works : WorksOn (d.port port) slot t t.meaning.operation
+  pub finished : IsFinished t
+  -- DHRS, PSS or SDBS
+  pub shown : (flag ≡ 0) ⊎ (flag ≡ 1) ⊎ (flag ≡ 3)
+
+abbrev pub with_done : PortState → ℕ → ℕ → Operation → PortState
+with_done p slot flag operation =
+    record p {
+      taken = changed p.taken slot None;
+      ci = if is_queued operation then p.ci else changed p.ci slot false;
+      sact = if is_queued operation then changed p.sact slot false else p.sact;
+      tfd = bit_and p.tfd 0xff7f;
+      is = changed p.is flag true;
+      halt = NotHalted;
+    }
+
+-- ---- Fault
+
+pub record MayFault (p : PortState) (slot error kept_bits : ℕ) (t : Taken) : Type 0 where
+  pub taken : p.taken slot ≡ Some t
+  pub running : p.cr ≡ true
+  pub is_byte : error < 256
+  pub kept : AreKeptBits kept_bits
+
+-- ---- LinkUp
+
+pub record MayLinkUp (p : PortState) (sig : ℕ) : Type 0 where
+  pub present : p.present ≡ true
+  pub det : p.sctl_det ≡ 0
+  pub due : p.link_due ≡ true
+  pub fits : sig < 2 ^ 32
+
+-- DET 3, and the disk's first FIS: its signature; BSY and DRQ clear
+abbrev pub with_link : PortState → ℕ → Bool → PortState
+with_link p sig n =
+    record p {
+      ssts_det = 3;
+      fresh = true;
+      halt = NotHalted;
+      broken = false;
+      tfd = bit_and p.tfd 0xff77;
+      sig = sig;
+      serr_x = true;
+      serr_n = p.serr_n || n;
+      link_due = false;
+    }
+
+-- ---- ResetEnds
+
+-- CLB, CLBU, FB and FBU stay, and so do the disk and a halt
+abbrev pub with_reset : PortState → PortState
+with_reset p =
+    record p {
+      st = false;
+      cr = false;
+      fre = false;
+      fr = false;
+      ci = λ _. false;
+      sact = λ _. false;
+      is = λ _. false;
+      serr_n = false;
+      serr_x = false;
+      link_due = p.link_due || nat_eq p.sctl_det 1;
+      sctl_det = 0;
+      ssts_det = 0;
+      tfd = 0x7f;
+      sig = 0xffffffff;
+      taken = λ _. None;
+      fresh = false;
+      broken = false;
+    }
+
+-- ---- Scribble
+
+-- a place where the device may write what it wants: the received FIS area, or the number in PRDBC of a taken slot
+pub record MayScribble (p : PortState) (slot at : ℕ) (bytes : List ℕ) : Type 0 where
+  pub fre : p.fre ≡ true
+  pub place : ((p.bases.fb ≤ at) × (at + length bytes ≤ p.bases.fb + 256))
+      ⊎ ((t : Taken) × (p.taken slot ≡ Some t) × (at ≡ p.bases.clb + 32 * slot + 4) × (length bytes ≡ 4))
+  pub are_bytes : All (λ byte. byte < 256) bytes
+
+-- ---- all steps: when each is possible
+
+abbrev pub Can : Step → Device → Type 0
+Can (Fetch port slot meaning places) d = MayFetch d port slot meaning places
+Can (FetchFault port slot queued kept_bits) d = MayFetchFault d port slot kept_bits
+Can (Move port slot t bytes) d = MayMove d port slot t bytes
+Can (Clear port slot t first count) d = MayClear d port slot t first count
+Can (Done port slot flag t) d = MayBeDone d port slot flag t
+Can (Fault port slot error kept_bits t) d = MayFault (d.port port) slot error kept_bits t
+Can (Fatal port place) d = ((d.port port).cr ≡ true) × ((place ≡ 27) ⊎ (place ≡ 29))
+Can (Fall port) d = ((d.port port).st ≡ false) × ((d.port port).cr ≡ true)
+Can (FrFall port) d = ((d.port port).fre ≡ false) × ((d.port port).cr ≡ false) × ((d.port port).fr ≡ true)
+Can (LinkUp port sig n) d = MayLinkUp (d.port port) sig
+Can (Unplug port) d = (d.port port).present ≡ true
+Can (Plug port disk) d = ((d.port port).present ≡ false) × IsDisk disk × (d.telling ≡ true → IsTold disk)
+Can ResetEnds d = d.hr ≡ true
+Can (Scribble port slot at bytes) d = MayScribble (d.port port) slot at bytes
+
+-- ---- all steps: what each changes
+
+abbrev pub with_port : Device → ℕ → PortState → Device
+with_port d port new = record d { port = changed d.port port new }
+
+-- a port changed, and an entry stands on the tape
+abbrev pub recorded : Device → ℕ → PortState → Entry → Device
+recorded d port new entry = record d { port = changed d.port port new; tape = d.tape ++ entry ∷ [] }
+
+abbrev pub move_of : ℕ → ℕ → Taken → List ℕ → tape_move.Move
+move_of port slot t bytes = record {
+  port = record { 0 = port };
+  slot = record { 0 = slot };
+  operation = t.meaning.operation;
+  sector = next_sector t;
+  address = next_place t;
+  direction = direction_of t.meaning.operation;
+  bytes = bytes;
+}
+
+abbrev pub clear_entry : ℕ → ℕ → ℕ → ℕ → Entry
+clear_entry port slot first count =
+    entry.Clear (record { port = record { 0 = port }; slot = record { 0 = slot }; first = first; count = count })
+
+abbrev pub done_entry : ℕ → ℕ → Operation → Entry
+done_entry port slot operation =
+    entry.Done (record { port = record { 0 = port }; slot = record { 0 = slot }; operation = operation })
+
+abbrev pub fault_entry : ℕ → ℕ → ℕ → ℕ → Entry
+fault_entry port slot error kept_bits =
+    entry.Fault (record { port = record { 0 = port }; slot = record { 0 = slot }; status = 0x41 + kept_bits; error = error })
+
+abbrev pub after : Step → Device → Device
+after (Fetch port slot meaning places) d = with_port d port (with_fetch (d.port port) slot meaning places)
+after (FetchFault port slot queued kept_bits) d =
+    recorded d port (with_fault (d.port port) queued 4 kept_bits) (fault_entry port slot 4 kept_bits)
+after (Move port slot t bytes) d =
+    record (recorded d port (with_move (d.port port) slot t bytes) (entry.Move (move_of port slot t bytes))) {
+      memory = memory_after d.memory t bytes;
+    }
+after (Clear port slot t first count) d =
+    recorded d port (with_clear (d.port port) slot t first count) (clear_entry port slot first count)
+after (Done port slot flag t) d =
+    recorded d port (with_done (d.port port) slot flag t.meaning.operation) (done_entry port slot t.meaning.operation)
+after (Fault port slot error kept_bits t) d =
+    recorded d port (with_fault (d.port port) (is_queued t.meaning.operation) error kept_bits) (fault_entry port slot error kept_bits)
+after (Fatal port place) d =
+    recorded d port (record (d.port port) { is = changed (d.port port).is place true; broken = true })
+    (entry.Fatal (record { 0 = port }))
+after (Fall port) d = with_port d port (record (d.port port) { cr = false; taken = λ _. None })
+after (FrFall port) d = with_port d port (record (d.port port) { fr = false })
+after (LinkUp port sig n) d = with_port d port (with_link (d.port port) sig n)
+after (Unplug port) d =
+    recorded d port (record (d.port port) { ssts_det = 0; present = false; fresh = false; serr_n = true })
+    (entry.Unplug (record { 0 = port }))
+after (Plug port disk) d =
+    recorded d port
+    (record (d.port port) {
+      disk = disk;
+      plugged = (d.port port).plugged ++ disk ∷ [];
+      ssts_det = 3;
+      present = true;
+      fresh = false;
+      serr_n = true;
+      serr_x = true;
+    })
+    (entry.Plug (record { 0 = port }) disk.name)
+after ResetEnds d = record d { hr = false; ae = false; ie = false; port = λ port. with_reset (d.port port) }
+after (Scribble port slot at bytes) d = record d { memory = patched d.memory at bytes }
+
+-- ---- lists of steps
+
+abbrev pub Leads : List Step → Device → Device → Type 0
+Leads [] old new = new ≡ old
+Leads (step ∷ steps) old new = Can step old × Leads steps (after step old) new
+
+-- the device may go from the one state to the other by itself
+pub record Steps (old new : Device) : Type 0 where
+  pub steps : List Step
+  pub lead : Leads steps old new

@@ -1,0 +1,59 @@
+// The calls of an adapter, and of one whose device can be told what to do.
+ghost use Rattle.std.specs.Prelude.{◌≡◌, length, false};
+ghost use Rattle.adapter.specs.Device.{Device};
+ghost use Rattle.adapter.specs.Steps.{Steps};
+ghost use Rattle.adapter.specs.Access.{Reads, Writes, Loads, Stores};
+ghost use Rattle.adapter.specs.Rules.{MayRead, MayWrite, IsFree, Stays};
+
+use ata_types::{Port, Slot};
+use hba_regs::Reg;
+
+/// An AHCI host adapter with its memory and its disks.
+///
+/// Before each call the device may do any steps; then the call has its one effect. The conditions on the caller are the
+/// rules of AHCI 1.3.1 for drivers, and that it touches no byte which the device may use.
+pub trait Adapter {
+    /// The state of registers, memory, ports and disks.
+    ghost device: { Self → Device };
+
+    /// The value of a register.
+    fn read(&mut self, r: Reg) -> u32
+        requires { MayRead r (device self.old) }
+        ensures { Reads r result (device self.old) (device self.new) };
+
+    /// Writes a register.
+    fn write(&mut self, r: Reg, v: u32)
+        requires { Stays (MayWrite r v) (device self.old) }
+        ensures { Writes r v (device self.old) (device self.new) };
+
+    /// Copies bytes of memory, from an address on.
+    fn load(&mut self, addr: u32, out: &mut [u8])
+        requires { Stays (IsFree addr (length out.old)) (device self.old) }
+        ensures { Loads addr out.new (device self.old) (device self.new) };
+
+    /// Puts bytes into memory, from an address on.
+    fn store(&mut self, addr: u32, bytes: &[u8])
+        requires { Stays (IsFree addr (length bytes.now)) (device self.old) }
+        ensures { Stores addr bytes.now (device self.old) (device self.new) };
+}
+
+/// What a device can be told to do.
+#[derive(Clone, Copy, Debug, PartialEq, Eq)]
+pub enum DeviceStep {
+    /// Take the command that is issued in the slot.
+    Fetch(Port, Slot),
+    /// Move the next 512 bytes of the slot's command.
+    Move(Port, Slot),
+    /// End the slot's command, all of which was moved.
+    Done(Port, Slot),
+    /// All that is left of the slot's command: take it, move, end it.
+    Finish(Port, Slot),
+}
+
+/// An adapter whose device does what it is told, if that is possible then.
+pub trait Stepped: Adapter {
+    /// Has the device do a step. `false` says that it is not possible, and that nothing changed.
+    fn step(&mut self, s: &DeviceStep) -> bool
+        ensures steps { Steps (Self.device self.old) (Self.device self.new) }
+        ensures refused { result ≡ false → Self.device self.new ≡ Self.device self.old };
+}

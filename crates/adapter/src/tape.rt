@@ -1,0 +1,57 @@
+// What the device did, as its tape tells it. Entries are named as the steps that leave them.
+use crate::command::{Direction, Operation};
+use ata_types::{Port, Slot};
+
+/// 512 bytes that a command moved between disk and memory.
+#[derive(Clone, Copy, Debug)]
+pub struct Move {
+    pub port: Port,
+    pub slot: Slot,
+    pub operation: Operation,
+    /// 0 where the command names no sectors.
+    pub sector: u64,
+    pub address: u32,
+    pub direction: Direction,
+    pub bytes: [u8; 512],
+}
+
+/// Sectors that a trim has made zero.
+#[derive(Clone, Copy, Debug, PartialEq, Eq)]
+pub struct Clear {
+    pub port: Port,
+    pub slot: Slot,
+    pub first: u64,
+    pub count: u32,
+}
+
+/// A command that ended without error.
+#[derive(Clone, Copy, Debug, PartialEq, Eq)]
+pub struct Done {
+    pub port: Port,
+    pub slot: Slot,
+    pub operation: Operation,
+}
+
+/// A command that failed, with what the task file then showed.
+#[derive(Clone, Copy, Debug, PartialEq, Eq)]
+pub struct Fault {
+    pub port: Port,
+    pub slot: Slot,
+    pub status: u8,
+    pub error: u8,
+}
+
+/// One entry of the tape.
+#[derive(Clone, Copy, Debug)]
+pub enum Entry {
+    Move(Move),
+    Clear(Clear),
+    Done(Done),
+    Fault(Fault),
+    /// A fatal error of a port.
+    Fatal(Port),
+    /// The disk was taken out.
+    Unplug(Port),
+    /// The disk with this name was put in.
+    Plug(Port, u32),
+}

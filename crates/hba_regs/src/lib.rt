@@ -1,0 +1,4 @@
+//! Registers.
+#![tactic(auto)]
+mod reg;
+pub use reg::{PortReg, Reg};
