@@ -1,5 +1,5 @@
 -- Bytes that no step of the device changes, and on which every command in use stands.
-use Rattle.std.specs.Prelude.{ℕ, true, ◌≡◌, ◌+◌, ◌*◌, ◌<◌, ◌≤◌, length, List, Some}
+use Rattle.std.specs.Prelude.{ℕ, Bool, true, ◌≡◌, ◌+◌, ◌*◌, ◌<◌, ◌≤◌, length, List, Some}
 use Rattle.adapter.specs.Commands.{Meaning}
 use Rattle.adapter.specs.Device.{Taken, PortState, Device}
 use Rattle.adapter.specs.Says.{Says}
@@ -46,3 +46,7 @@ pub record IsApart (Tables Kept : ℕ → Type 0) (at n : ℕ) (d : Device) : Ty
   pub no_table : Spares Tables at (at + n)
   pub no_header : (port slot a : ℕ) → InUse (d.port port) slot → at ≤ a → a < at + n →
       (d.port port).bases.clb + 32 * slot ≤ a → a < (d.port port).bases.clb + 32 * slot + 32 → ⊥
+
+-- the bytes that pass a test, as a set
+abbrev pub Passing : (ℕ → Bool) → ℕ → Type 0
+Passing test at = test at ≡ true

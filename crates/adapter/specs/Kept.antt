@@ -3,11 +3,10 @@ use Rattle.std.specs.Prelude.{ℕ, true, false, ◌≡◌, ◌++◌, List, None}
 use Rattle.adapter.specs.Device.{PortState, Device}
 use Rattle.adapter.specs.declared.tape.Entry.{Entry}
 
--- The addresses and the notes are the driver's. Bits of CI, SACT, ST, CR, FRE and FR only fall; nothing is taken while CR
+-- The addresses are the driver's. Bits of CI, SACT, ST, CR, FRE and FR only fall; nothing is taken while CR
 -- is 0, nothing is left taken once it has fallen, and a free slot stays free.
 pub record KeepsPort (old new : PortState) : Type 0 where
   pub bases : new.bases ≡ old.bases
-  pub notes : new.notes ≡ old.notes
   pub st : old.st ≡ false → new.st ≡ false
   pub fre : old.fre ≡ false → new.fre ≡ false
   pub cr : old.cr ≡ false → new.cr ≡ false
@@ -40,6 +39,7 @@ pub record Keeps (old new : Device) : Type 0 where
   pub cap : new.cap ≡ old.cap
   pub pi : new.pi ≡ old.pi
   pub port : (port : ℕ) → KeepsPort (old.port port) (new.port port)
+  pub notes : (port : ℕ) → (new.port port).notes ≡ (old.port port).notes
   pub gained : List Entry
   pub tape : new.tape ≡ old.tape ++ gained
   pub on : old.hr ≡ false → KeepsOn old new

@@ -1,0 +1,388 @@
+-- Each step keeps what `Keeps` says, and so does a list of steps.
+use Rattle.std.proofs.Common.{ℕ, ◌≡◌, Bool, true, false, refl, subst, sym, ◌∙◌, ap, List, [], ◌∷◌, ◌++◌, Option, None, Some, ◌||◌, if◌then◌else◌, append_assoc, append-nil}
+use Rattle.adapter.proofs.Absurd.{true-false, some-none}
+use Rattle.adapter.proofs.Changed.{changed_each}
+use Rattle.adapter.specs.Memory.{changed}
+use Rattle.adapter.specs.Commands.{is_queued}
+use Rattle.adapter.specs.Device.{Taken, PortState, Device}
+use Rattle.adapter.specs.Kept.{Keeps, KeepsOn, KeepsPort, KeepsControls}
+use Rattle.adapter.specs.Steps.{Step, Can, after, Leads, Steps, WorksOn, with_port}
+use Rattle.adapter.specs.Steps.Step.{Fetch, FetchFault, Move, Clear, Done, Fault, Fatal, Fall, FrFall, LinkUp, Unplug, Plug, ResetEnds, Scribble}
+use Rattle.adapter.specs.declared.tape.Entry.{Entry}
+
+-- ---- sets of bits that only fall, or only rise
+
+fall_keeps : (f : ℕ → Bool) (place k : ℕ) → f k ≡ false → changed f place false k ≡ false
+fall_keeps f place k h = changed_each f place false (λ q v. f q ≡ false → v ≡ false) (λ _. refl) (λ q e. e) k h
+
+rise_keeps : (f : ℕ → Bool) (place k : ℕ) → f k ≡ true → changed f place true k ≡ true
+rise_keeps f place k h = changed_each f place true (λ q v. f q ≡ true → v ≡ true) (λ _. refl) (λ q e. e) k h
+
+fall_if : (b : Bool) (f : ℕ → Bool) (place k : ℕ) → f k ≡ false → (if b then changed f place false else f) k ≡ false
+fall_if true f place k h = fall_keeps f place k h
+fall_if false f place k h = h
+
+fall_unless : (b : Bool) (f : ℕ → Bool) (place k : ℕ) → f k ≡ false → (if b then f else changed f place false) k ≡ false
+fall_unless false f place k h = fall_keeps f place k h
+fall_unless true f place k h = h
+
+or_keeps : (a b : Bool) → a ≡ true → (a || b) ≡ true
+or_keeps true b h = refl
+or_keeps false b h = true-false h refl
+
+-- ---- a port
+
+-- what the command engine of a port is, and its addresses, are the same
+abbrev pub SameEngine : PortState → PortState → Type 0
+SameEngine old new =
+    (new.bases ≡ old.bases) × (new.st ≡ old.st) × (new.fre ≡ old.fre)
+    × (new.cr ≡ old.cr) × (new.fr ≡ old.fr) × (new.ci ≡ old.ci) × (new.sact ≡ old.sact) × (new.taken ≡ old.taken)
+
+pub same_engine : (p : PortState) → SameEngine p p
+same_engine p = (refl, refl, refl, refl, refl, refl, refl, refl)
+
+still : (old new : PortState) → SameEngine old new → KeepsPort old new
+still old new (bases, st, fre, cr, fr, ci, sact, taken) =
+    let at : (slot : ℕ) → new.taken slot ≡ old.taken slot = λ slot. ap (λ (f : ℕ → Option Taken). f slot) taken in
+    record {
+      bases = bases;
+      st = λ h. st ∙ h;
+      fre = λ h. fre ∙ h;
+      cr = λ h. cr ∙ h;
+      fr = λ h. fr ∙ h;
+      ci = λ k h. ap (λ (f : ℕ → Bool). f k) ci ∙ h;
+      sact = λ k h. ap (λ (f : ℕ → Bool). f k) sact ∙ h;
+      idle = λ quiet none slot. at slot ∙ none slot;
+      fallen = λ ran quiet. true-false ran (sym cr ∙ quiet);
+      free = λ slot unset none. at slot ∙ none;
+    }
+
+pub KeepsPort-refl : (p : PortState) → KeepsPort p p
+KeepsPort-refl p = still p p (same_engine p)
+
+-- what the driver's controls are, and the flags, are the same, and CR is
+abbrev SameControls : PortState → PortState → Type 0
+SameControls old new =
+    (new.st ≡ old.st) × (new.fre ≡ old.fre) × (new.sctl_det ≡ old.sctl_det) × (new.is ≡ old.is)
+    × (new.serr_n ≡ old.serr_n) × (new.serr_x ≡ old.serr_x) × (new.cr ≡ old.cr)
+
+same_controls : (p : PortState) → SameControls p p
+same_controls p = (refl, refl, refl, refl, refl, refl, refl)
+
+calm : (old new : PortState) → SameControls old new → KeepsControls old new
+calm old new (st, fre, det, is, n, x, cr) = record {
+  st = st;
+  fre = fre;
+  sctl_det = det;
+  is = λ k h. ap (λ (f : ℕ → Bool). f k) is ∙ h;
+  serr_n = λ h. n ∙ h;
+  serr_x = λ h. x ∙ h;
+  runs = λ _ ran. cr ∙ ran;
+}
+
+pub KeepsControls-refl : (p : PortState) → KeepsControls p p
+KeepsControls-refl p = calm p p (same_controls p)
+
+-- a flag rises
+flagged : (p : PortState) (place : ℕ) (new : PortState) → SameControls (record p { is = changed p.is place true }) new → KeepsControls p new
+flagged p place new (st, fre, det, is, n, x, cr) = record {
+  st = st;
+  fre = fre;
+  sctl_det = det;
+  is = λ k h. ap (λ (f : ℕ → Bool). f k) is ∙ rise_keeps p.is place k h;
+  serr_n = λ h. n ∙ h;
+  serr_x = λ h. x ∙ h;
+  runs = λ _ ran. cr ∙ ran;
+}
+
+-- a slot that was in use holds something else now
+slot_keeps : (p : PortState) (slot : ℕ) (new : Option Taken) → (p.ci slot ≡ false → p.taken slot ≡ None → new ≡ None)
+    → (k : ℕ) → p.ci k ≡ false → p.taken k ≡ None → changed p.taken slot new k ≡ None
+slot_keeps p slot new used =
+    changed_each p.taken slot new (λ k o. p.ci k ≡ false → p.taken k ≡ None → o ≡ None) used (λ k unset none. none)
+
+-- the command of a slot of a working port goes on
+worked : (p : PortState) (slot : ℕ) (t u : Taken) (new : PortState) → p.cr ≡ true → p.taken slot ≡ Some t
+    → SameEngine (record p { taken = changed p.taken slot (Some u) }) new → KeepsPort p new
+worked p slot t u new running is (bases, st, fre, cr, fr, ci, sact, taken) = record {
+  bases = bases;
+  st = λ h. st ∙ h;
+  fre = λ h. fre ∙ h;
+  cr = λ h. cr ∙ h;
+  fr = λ h. fr ∙ h;
+  ci = λ k h. ap (λ (f : ℕ → Bool). f k) ci ∙ h;
+  sact = λ k h. ap (λ (f : ℕ → Bool). f k) sact ∙ h;
+  idle = λ quiet. true-false running quiet;
+  fallen = λ ran quiet. true-false ran (sym cr ∙ quiet);
+  free = λ k unset none. ap (λ (f : ℕ → Option Taken). f k) taken ∙ slot_keeps p slot (Some u) (λ _ n. some-none is n) k unset none;
+}
+
+-- ---- one step, at its port
+
+module _ (d : Device) (port : ℕ) (new : PortState) (keeps : KeepsPort (d.port port) new) (controls : KeepsControls (d.port port) new) (same : new.notes ≡ (d.port port).notes) where
+  ports : (q : ℕ) → KeepsPort (d.port q) (changed d.port port new q)
+  ports = changed_each d.port port new (λ q p. KeepsPort (d.port q) p) keeps (λ q. KeepsPort-refl (d.port q))
+
+  all_controls : (q : ℕ) → KeepsControls (d.port q) (changed d.port port new q)
+  all_controls = changed_each d.port port new (λ q p. KeepsControls (d.port q) p) controls (λ q. KeepsControls-refl (d.port q))
+
+  all_notes : (q : ℕ) → (changed d.port port new q).notes ≡ (d.port q).notes
+  all_notes = changed_each d.port port new (λ q p. p.notes ≡ (d.port q).notes) same (λ q. refl)
+
+  -- one port changes, and the tape and memory with it
+  keeps_recorded : (memory : ℕ → ℕ) (gained : List Entry) →
+      Keeps d (record d { memory = memory; port = changed d.port port new; tape = d.tape ++ gained })
+  keeps_recorded memory gained = record {
+    telling = refl;
+    size = refl;
+    cap = refl;
+    pi = refl;
+    port = ports;
+    notes = all_notes;
+    gained = gained;
+    tape = refl;
+    on = λ h. record { no_reset = h; ae = refl; ie = refl; controls = all_controls };
+  }
+
+  keeps_quiet : Keeps d (with_port d port new)
+  keeps_quiet = record {
+    telling = refl;
+    size = refl;
+    cap = refl;
+    pi = refl;
+    port = ports;
+    notes = all_notes;
+    gained = [];
+    tape = sym (append-nil d.tape);
+    on = λ h. record { no_reset = h; ae = refl; ie = refl; controls = all_controls };
+  }
+
+pub Keeps-refl : (d : Device) → Keeps d d
+Keeps-refl d = record {
+  telling = refl;
+  size = refl;
+  cap = refl;
+  pi = refl;
+  port = λ q. KeepsPort-refl (d.port q);
+  notes = λ q. refl;
+  gained = [];
+  tape = sym (append-nil d.tape);
+  on = λ h. record { no_reset = h; ae = refl; ie = refl; controls = λ q. KeepsControls-refl (d.port q) };
+}
+
+pub step_keeps : (step : Step) (d : Device) → Can step d → Keeps d (after step d)
+step_keeps (Fetch port slot meaning places) d can =
+    let p : PortState = d.port port in
+    keeps_quiet d port _
+    (record {
+      bases = refl;
+      st = λ h. h;
+      fre = λ h. h;
+      cr = λ h. h;
+      fr = λ h. h;
+      ci = λ k h. fall_if (is_queued meaning.operation) p.ci slot k h;
+      sact = λ k h. h;
+      idle = λ quiet. true-false can.working.running quiet;
+      fallen = λ ran quiet. true-false ran quiet;
+      free = slot_keeps p slot _ (λ unset _. true-false can.fetchable.issued unset);
+    })
+    (calm _ _ (same_controls p))
+    refl
+step_keeps (FetchFault port slot queued kept_bits) d can =
+    keeps_recorded d port _ (still _ _ (same_engine (d.port port))) (flagged (d.port port) 30 _ (same_controls (record (d.port port) { is = changed (d.port port).is 30 true }))) refl d.memory _
+step_keeps (Move port slot t bytes) d can =
+    keeps_recorded d port _ (worked (d.port port) slot t _ _ can.works.working.running can.works.taken (same_engine (record (d.port port) { taken = changed (d.port port).taken slot (Some _) }))) (calm _ _ (same_controls (d.port port))) refl _ _
+step_keeps (Clear port slot t first count) d can =
+    keeps_recorded d port _ (worked (d.port port) slot t _ _ can.works.working.running can.works.taken (same_engine (record (d.port port) { taken = changed (d.port port).taken slot (Some _) }))) (calm _ _ (same_controls (d.port port))) refl d.memory _
+step_keeps (Done port slot flag t) d can =
+    let p : PortState = d.port port in
+    keeps_recorded d port _
+    (record {
+      bases = refl;
+      st = λ h. h;
+      fre = λ h. h;
+      cr = λ h. h;
+      fr = λ h. h;
+      ci = λ k h. fall_unless (is_queued t.meaning.operation) p.ci slot k h;
+      sact = λ k h. fall_if (is_queued t.meaning.operation) p.sact slot k h;
+      idle = λ quiet. true-false can.works.working.running quiet;
+      fallen = λ ran quiet. true-false ran quiet;
+      free = slot_keeps p slot None (λ _ _. refl);
+    })
+    (flagged p flag _ (same_controls (record p { is = changed p.is flag true })))
+    refl d.memory _
+step_keeps (Fault port slot error kept_bits t) d can =
+    keeps_recorded d port _ (still _ _ (same_engine (d.port port))) (flagged (d.port port) 30 _ (same_controls (record (d.port port) { is = changed (d.port port).is 30 true }))) refl d.memory _
+step_keeps (Fatal port place) d can =
+    keeps_recorded d port _ (still _ _ (same_engine (d.port port))) (flagged (d.port port) place _ (same_controls (record (d.port port) { is = changed (d.port port).is place true }))) refl d.memory _
+step_keeps (Fall port) d can =
+    keeps_quiet d port _
+    (record {
+      bases = refl;
+      st = λ h. h;
+      fre = λ h. h;
+      cr = λ _. refl;
+      fr = λ h. h;
+      ci = λ k h. h;
+      sact = λ k h. h;
+      idle = λ quiet none slot. refl;
+      fallen = λ ran quiet slot. refl;
+      free = λ slot unset none. refl;
+    })
+    (record {
+      st = refl;
+      fre = refl;
+      sctl_det = refl;
+      is = λ k h. h;
+      serr_n = λ h. h;
+      serr_x = λ h. h;
+      runs = λ st ran. true-false st can.0;
+    })
+    refl
+step_keeps (FrFall port) d can =
+    keeps_quiet d port _
+    (record {
+      bases = refl;
+      st = λ h. h;
+      fre = λ h. h;
+      cr = λ h. h;
+      fr = λ _. refl;
+      ci = λ k h. h;
+      sact = λ k h. h;
+      idle = λ quiet none. none;
+      fallen = λ ran quiet. true-false ran quiet;
+      free = λ slot unset none. none;
+    })
+    (calm _ _ (same_controls (d.port port)))
+    refl
+step_keeps (LinkUp port sig n) d can =
+    keeps_quiet d port _ (still _ _ (same_engine (d.port port)))
+    (record {
+      st = refl;
+      fre = refl;
+      sctl_det = refl;
+      is = λ k h. h;
+      serr_n = or_keeps (d.port port).serr_n n;
+      serr_x = λ _. refl;
+      runs = λ st ran. ran;
+    })
+    refl
+step_keeps (Unplug port) d can =
+    keeps_recorded d port _ (still _ _ (same_engine (d.port port)))
+    (record {
+      st = refl;
+      fre = refl;
+      sctl_det = refl;
+      is = λ k h. h;
+      serr_n = λ _. refl;
+      serr_x = λ h. h;
+      runs = λ st ran. ran;
+    })
+    refl d.memory _
+step_keeps (Plug port disk) d can =
+    keeps_recorded d port _ (still _ _ (same_engine (d.port port)))
+    (record {
+      st = refl;
+      fre = refl;
+      sctl_det = refl;
+      is = λ k h. h;
+      serr_n = λ _. refl;
+      serr_x = λ _. refl;
+      runs = λ st ran. ran;
+    })
+    refl d.memory _
+step_keeps ResetEnds d can = record {
+  telling = refl;
+  size = refl;
+  cap = refl;
+  pi = refl;
+  port = λ q. record {
+    bases = refl;
+    st = λ _. refl;
+    fre = λ _. refl;
+    cr = λ _. refl;
+    fr = λ _. refl;
+    ci = λ k _. refl;
+    sact = λ k _. refl;
+    idle = λ quiet none slot. refl;
+    fallen = λ ran quiet slot. refl;
+    free = λ slot unset none. refl;
+  };
+  notes = λ q. refl;
+  gained = [];
+  tape = sym (append-nil d.tape);
+  on = λ h. true-false can h;
+}
+step_keeps (Scribble port slot at bytes) d can = record {
+  telling = refl;
+  size = refl;
+  cap = refl;
+  pi = refl;
+  port = λ q. KeepsPort-refl (d.port q);
+  notes = λ q. refl;
+  gained = [];
+  tape = sym (append-nil d.tape);
+  on = λ h. record { no_reset = h; ae = refl; ie = refl; controls = λ q. KeepsControls-refl (d.port q) };
+}
+
+-- ---- lists of steps
+
+module _ {old mid new : PortState} (a : KeepsPort old mid) (b : KeepsPort mid new) where
+  -- CR fell in the first part or in the second
+  fell_between : (cr : Bool) → mid.cr ≡ cr → old.cr ≡ true → new.cr ≡ false → (slot : ℕ) → new.taken slot ≡ None
+  fell_between true is ran quiet = b.fallen is quiet
+  fell_between false is ran quiet = b.idle is (a.fallen ran is)
+
+  pub KeepsPort-trans : KeepsPort old new
+  KeepsPort-trans = record {
+    bases = b.bases ∙ a.bases;
+    st = λ h. b.st (a.st h);
+    fre = λ h. b.fre (a.fre h);
+    cr = λ h. b.cr (a.cr h);
+    fr = λ h. b.fr (a.fr h);
+    ci = λ k h. b.ci k (a.ci k h);
+    sact = λ k h. b.sact k (a.sact k h);
+    idle = λ quiet none. b.idle (a.cr quiet) (a.idle quiet none);
+    fallen = λ ran quiet. fell_between mid.cr refl ran quiet;
+    free = λ slot unset none. b.free slot (a.ci slot unset) (a.free slot unset none);
+  }
+
+pub KeepsControls-trans : {old mid new : PortState} → KeepsControls old mid → KeepsControls mid new → KeepsControls old new
+KeepsControls-trans a b = record {
+  st = b.st ∙ a.st;
+  fre = b.fre ∙ a.fre;
+  sctl_det = b.sctl_det ∙ a.sctl_det;
+  is = λ k h. b.is k (a.is k h);
+  serr_n = λ h. b.serr_n (a.serr_n h);
+  serr_x = λ h. b.serr_x (a.serr_x h);
+  runs = λ st ran. b.runs (a.st ∙ st) (a.runs st ran);
+}
+
+pub KeepsOn-trans : {old mid new : Device} → KeepsOn old mid → KeepsOn mid new → KeepsOn old new
+KeepsOn-trans a b = record {
+  no_reset = b.no_reset;
+  ae = b.ae ∙ a.ae;
+  ie = b.ie ∙ a.ie;
+  controls = λ q. KeepsControls-trans (a.controls q) (b.controls q);
+}
+
+pub Keeps-trans : {old mid new : Device} → Keeps old mid → Keeps mid new → Keeps old new
+Keeps-trans {old} {mid} {new} a b = record {
+  telling = b.telling ∙ a.telling;
+  size = b.size ∙ a.size;
+  cap = b.cap ∙ a.cap;
+  pi = b.pi ∙ a.pi;
+  port = λ q. KeepsPort-trans (a.port q) (b.port q);
+  notes = λ q. b.notes q ∙ a.notes q;
+  gained = a.gained ++ b.gained;
+  tape = b.tape ∙ (ap (λ t. t ++ b.gained) a.tape ∙ append_assoc old.tape a.gained b.gained);
+  on = λ h. let first : KeepsOn old mid = a.on h in KeepsOn-trans first (b.on first.no_reset);
+}
+
+leads_keeps : (steps : List Step) (old new : Device) → Leads steps old new → Keeps old new
+leads_keeps [] old new e = let P : Device → Type 0 = λ d. Keeps old d in subst P (sym e) (Keeps-refl old)
+leads_keeps (step ∷ steps) old new (can, rest) = Keeps-trans (step_keeps step old can) (leads_keeps steps (after step old) new rest)
+
+-- whatever the device does, it keeps this
+pub steps_keep : {old new : Device} → Steps old new → Keeps old new
+steps_keep {old} {new} s = leads_keeps s.steps old new s.lead
