@@ -1,10 +1,9 @@
 -- Kept bytes that are no command's may be loaded and stored, whatever the device does first.
-use Rattle.std.proofs.Common.{ℕ, ◌≡◌, ◌<◌, ◌≤◌, ◌+◌, ◌*◌, List, length, ap, sym, subst, inl, inr, arith}
-use Rattle.adapter.specs.Commands.{Meaning}
-use Rattle.adapter.specs.Device.{Bases, PortState, Device}
+use Rattle.std.proofs.Common.{ℕ, ◌≡◌, ◌<◌, ◌≤◌, ◌+◌, List, length, ap, subst, inl, inr, arith}
+use Rattle.adapter.specs.Device.{Bases, Device}
 use Rattle.adapter.specs.Kept.{Keeps, KeepsPort}
 use Rattle.adapter.specs.Steps.{Steps}
-use Rattle.adapter.specs.Rules.{Uses, InUse, IsFree, Stays, InPlaces}
+use Rattle.adapter.specs.Rules.{Uses, IsFree, Stays, InPlaces}
 use Rattle.adapter.specs.Guarded.{IsGuardedSlot, IsGuarded, IsApart}
 use Rattle.adapter.proofs.Guards.{steps_guard, in_use_before}
 use Rattle.adapter.proofs.KeptLemmas.{steps_keep}

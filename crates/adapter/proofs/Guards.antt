@@ -1,14 +1,14 @@
 -- The device changes no kept byte, and its commands go on to stand on them.
-use Rattle.std.proofs.Common.{ℕ, ◌≡◌, ◌<◌, ◌≤◌, ◌+◌, ◌*◌, Bool, true, false, List, [], ◌∷◌, length, Option, None, Some, refl, sym, ◌∙◌, ap, subst, arith, ◌⊎◌, inl, inr, if◌then◌else◌}
+use Rattle.std.proofs.Common.{ℕ, ◌≡◌, ◌+◌, Bool, true, false, List, [], ◌∷◌, length, Option, None, Some, refl, sym, ◌∙◌, subst, arith, inl, inr, if◌then◌else◌}
 use Rattle.adapter.specs.Memory.{patched, changed}
 use Rattle.adapter.specs.Commands.{Meaning, reads_memory}
 use Rattle.adapter.specs.Device.{Taken, Bases, PortState, Device}
 use Rattle.adapter.specs.Kept.{Keeps, KeepsPort}
-use Rattle.adapter.specs.Rules.{InPlaces, InUse}
+use Rattle.adapter.specs.Rules.{InUse}
 use Rattle.adapter.specs.Steps.{Step, Can, after, Leads, Steps, MayFetch, MayScribble, next_place}
 use Rattle.adapter.specs.Steps.Step.{Fetch, FetchFault, Move, Clear, Done, Fault, Fatal, Fall, FrFall, LinkUp, Unplug, Plug, ResetEnds, Scribble}
-use Rattle.adapter.specs.Guarded.{Holds, Spares, Avoids, IsGuardedSlot, IsGuardedPort, IsGuarded}
-use Rattle.adapter.proofs.Absurd.{true-false, some-none, some_one, set_before}
+use Rattle.adapter.specs.Guarded.{Spares, Avoids, IsGuardedSlot, IsGuardedPort, IsGuarded}
+use Rattle.adapter.proofs.Absurd.{some-none, some_one, set_before}
 use Rattle.adapter.proofs.Changed.{changed_each}
 use Rattle.adapter.proofs.KeptLemmas.{step_keeps}
 use Rattle.adapter.proofs.MemoryLemmas.{patched_apart}

@@ -6,7 +6,7 @@ use Rattle.adapter.specs.Memory.{changed}
 use Rattle.adapter.specs.Commands.{is_queued}
 use Rattle.adapter.specs.Device.{Taken, PortState, Device}
 use Rattle.adapter.specs.Kept.{Keeps, KeepsOn, KeepsPort, KeepsControls}
-use Rattle.adapter.specs.Steps.{Step, Can, after, Leads, Steps, WorksOn, with_port}
+use Rattle.adapter.specs.Steps.{Step, Can, after, Leads, Steps, with_port}
 use Rattle.adapter.specs.Steps.Step.{Fetch, FetchFault, Move, Clear, Done, Fault, Fatal, Fall, FrFall, LinkUp, Unplug, Plug, ResetEnds, Scribble}
 use Rattle.adapter.specs.declared.tape.Entry.{Entry}
 
@@ -41,7 +41,7 @@ SameEngine old new =
 pub same_engine : (p : PortState) → SameEngine p p
 same_engine p = (refl, refl, refl, refl, refl, refl, refl, refl)
 
-still : (old new : PortState) → SameEngine old new → KeepsPort old new
+pub still : (old new : PortState) → SameEngine old new → KeepsPort old new
 still old new (bases, st, fre, cr, fr, ci, sact, taken) =
     let at : (slot : ℕ) → new.taken slot ≡ old.taken slot = λ slot. ap (λ (f : ℕ → Option Taken). f slot) taken in
     record {
@@ -61,15 +61,15 @@ pub KeepsPort-refl : (p : PortState) → KeepsPort p p
 KeepsPort-refl p = still p p (same_engine p)
 
 -- what the driver's controls are, and the flags, are the same, and CR is
-abbrev SameControls : PortState → PortState → Type 0
+abbrev pub SameControls : PortState → PortState → Type 0
 SameControls old new =
     (new.st ≡ old.st) × (new.fre ≡ old.fre) × (new.sctl_det ≡ old.sctl_det) × (new.is ≡ old.is)
     × (new.serr_n ≡ old.serr_n) × (new.serr_x ≡ old.serr_x) × (new.cr ≡ old.cr)
 
-same_controls : (p : PortState) → SameControls p p
+pub same_controls : (p : PortState) → SameControls p p
 same_controls p = (refl, refl, refl, refl, refl, refl, refl)
 
-calm : (old new : PortState) → SameControls old new → KeepsControls old new
+pub calm : (old new : PortState) → SameControls old new → KeepsControls old new
 calm old new (st, fre, det, is, n, x, cr) = record {
   st = st;
   fre = fre;

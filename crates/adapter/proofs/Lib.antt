@@ -1,4 +1,6 @@
 pub mod Absurd
+pub mod Alike
+pub mod Calls
 pub mod Changed
 pub mod Free
 pub mod Guards

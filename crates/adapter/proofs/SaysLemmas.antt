@@ -1,14 +1,12 @@
 -- What a slot says depends on its header and its table alone, and is one command with one list of places.
-use Rattle.std.proofs.Common.{ℕ, zero, suc, ◌≡◌, ◌<◌, ◌≤◌, ◌+◌, ◌*◌, ◌%◌, ◌^◌, ◌⊎◌, inl, inr, List, [], ◌∷◌, length, slice_index, refl, sym, ◌∙◌, ap, arith, subst, Bool, true, false, if◌then◌else◌, nat_eq}
-use Rattle.std.proofs.lemmas.Bool.{cases_lt}
+use Rattle.std.proofs.Common.{ℕ, zero, suc, ◌≡◌, ◌<◌, ◌≤◌, ◌+◌, ◌*◌, ◌^◌, List, [], ◌∷◌, length, slice_index, refl, sym, ◌∙◌, ap, arith, subst, Bool, true, false, if◌then◌else◌, nat_eq}
 use Rattle.byteorder.specs.Endian.{little_from}
 use Rattle.adapter.specs.Memory.{bytes_at}
-use Rattle.adapter.specs.Commands.{Meaning, IsMeaning, command_of, is_ranged, reads_memory, pieces_moved}
-use Rattle.adapter.specs.Spelling.{SpellsCommand, SpellsHeader, SpellsPrd, AreZero}
+use Rattle.adapter.specs.Commands.{Meaning, command_of, is_ranged, reads_memory, pieces_moved}
+use Rattle.adapter.specs.Spelling.{SpellsCommand, SpellsHeader, SpellsPrd}
 use Rattle.adapter.specs.Says.{Says, HasPrds, pieces}
 use Rattle.adapter.specs.declared.command.Operation.{Operation}
 use Rattle.adapter.specs.declared.command.Operation.TheVariants.{Identify, Read, Write, ReadQueued, WriteQueued, Flush, Trim, ReadLog}
-use Rattle.adapter.specs.declared.command.Command.{Command}
 use Rattle.adapter.specs.declared.command.Prd.{Prd}
 use Rattle.adapter.proofs.Absurd.{true-false}
 use Rattle.adapter.proofs.MemoryLemmas.{bytes_same, bytes_length, bytes_index}

@@ -1,5 +1,7 @@
 // Laws of the definitions, for the crates above: the clause is the theorem. Nothing calls these functions.
 ghost use Rattle.std.specs.Prelude.{◌≡◌, ℕ, Bool, List};
+ghost use Rattle.hba_regs.specs.declared.reg.Reg.{Reg};
+ghost use Rattle.adapter.specs.Access.{Access, Does, IsDriven, Reads};
 ghost use Rattle.adapter.specs.Commands.{Meaning};
 ghost use Rattle.adapter.specs.Device.{Device};
 ghost use Rattle.adapter.specs.Guarded.{Passing, IsGuarded, IsApart};
@@ -35,4 +37,18 @@ pub fn kept_bytes_stay()
 pub fn apart_bytes_are_free()
     ensures { (tables kept : ℕ → Bool) (at n : ℕ) (d : Device) → IsGuarded (Passing tables) (Passing kept) d
         → IsApart (Passing tables) (Passing kept) at n d → Stays (IsFree at n) d }
+{}
+
+/// A reading of any register leaves kept bytes and guards as the device's steps do.
+pub fn kept_bytes_stay_over_readings()
+    ensures { (tables kept : ℕ → Bool) (old new : Device) (r : Reg) (v : ℕ) → Reads r v old new
+        → IsGuarded (Passing tables) (Passing kept) old
+        → IsGuarded (Passing tables) (Passing kept) new × ((at : ℕ) → Passing kept at → new.memory at ≡ old.memory at) }
+{}
+
+/// Accesses go on one after another.
+pub fn accesses_compose()
+    ensures none { (d : Device) → IsDriven d d }
+    ensures one { (access : Access) (old new : Device) → Does access old new → IsDriven old new }
+    ensures more { (old mid new : Device) → IsDriven old mid → IsDriven mid new → IsDriven old new }
 {}

@@ -1,0 +1,78 @@
+-- Two states that differ in notes, flags and what else isn't the command engine's.
+use Rattle.std.proofs.Common.{ℕ, ◌≡◌, ◌+◌, Option, refl, sym, ◌∙◌, ap, subst}
+use Rattle.hba_regs.specs.declared.reg.Reg.{Reg}
+use Rattle.hba_regs.specs.declared.reg.Reg.TheVariants.{Cap, Ghc, Is, Pi, Vs, Cap2, Bohc, Px}
+use Rattle.adapter.specs.Device.{Taken, Bases, PortState, Device}
+use Rattle.adapter.specs.Kept.{KeepsPort}
+use Rattle.adapter.specs.Steps.{with_port}
+use Rattle.adapter.specs.Access.{Reads, note, noted}
+use Rattle.adapter.specs.Guarded.{Spares, IsGuardedSlot, IsGuarded}
+use Rattle.adapter.proofs.Changed.{changed_each}
+use Rattle.adapter.proofs.Guards.{in_use_before, steps_guard}
+use Rattle.adapter.proofs.KeptLemmas.{SameEngine, same_engine, still}
+
+pub record IsAlike (old new : Device) : Type 0 where
+  pub telling : new.telling ≡ old.telling
+  pub size : new.size ≡ old.size
+  pub memory : new.memory ≡ old.memory
+  pub cap : new.cap ≡ old.cap
+  pub pi : new.pi ≡ old.pi
+  pub hr : new.hr ≡ old.hr
+  pub ae : new.ae ≡ old.ae
+  pub port : (q : ℕ) → SameEngine (old.port q) (new.port q)
+
+-- a port's engine is the same, and so are the other ports
+pub port_alike : (d : Device) (port : ℕ) (new : PortState) → SameEngine (d.port port) new → IsAlike d (with_port d port new)
+port_alike d port new same = record {
+  telling = refl;
+  size = refl;
+  memory = refl;
+  cap = refl;
+  pi = refl;
+  hr = refl;
+  ae = refl;
+  port = changed_each d.port port new (λ q p. SameEngine (d.port q) p) same (λ q. same_engine (d.port q));
+}
+
+pub IsAlike-refl : (d : Device) → IsAlike d d
+IsAlike-refl d = record { telling = refl; size = refl; memory = refl; cap = refl; pi = refl; hr = refl; ae = refl; port = λ q. same_engine (d.port q) }
+
+-- a reading changes notes alone
+pub noted_alike : (r : Reg) (v : ℕ) (d : Device) → IsAlike d (noted r v d)
+noted_alike Cap v d = IsAlike-refl d
+noted_alike Ghc v d = IsAlike-refl d
+noted_alike Is v d = IsAlike-refl d
+noted_alike Pi v d = IsAlike-refl d
+noted_alike Vs v d = IsAlike-refl d
+noted_alike Cap2 v d = IsAlike-refl d
+noted_alike Bohc v d = IsAlike-refl d
+noted_alike (Px port r) v d = port_alike d port.0 (record (d.port port.0) { notes = note r v (d.port port.0) }) (same_engine (d.port port.0))
+
+module _ (Tables Kept : ℕ → Type 0) where
+  -- what is guarded is guarded in a state that is alike
+  pub guard_alike : (old new : Device) → IsAlike old new → IsGuarded Tables Kept old → IsGuarded Tables Kept new
+  guard_alike old new a g = record {
+    within = g.within;
+    port = λ q.
+        let k : KeepsPort (old.port q) (new.port q) = still (old.port q) (new.port q) (a.port q) in
+        record {
+          slot = λ slot used.
+              let P : (ℕ → ℕ) → Type 0 = λ memory. IsGuardedSlot Tables Kept memory (new.port q).bases.clb slot in
+              let Q : Bases → Type 0 = λ b. IsGuardedSlot Tables Kept old.memory b.clb slot in
+              subst P (sym a.memory) (subst Q (sym k.bases) ((g.port q).slot slot (in_use_before (old.port q) (new.port q) k slot used)));
+          taken = λ slot t is. (g.port q).taken slot t (sym (ap (λ (f : ℕ → Option Taken). f slot) ((a.port q).7)) ∙ is);
+          received = λ set.
+              let P : Bases → Type 0 = λ b. Spares Kept b.fb (b.fb + 256) in
+              subst P (sym k.bases) ((g.port q).received (sym ((a.port q).2) ∙ set));
+        };
+  }
+
+  -- and after a reading
+  pub reads_guard : (old new : Device) (r : Reg) (v : ℕ) → Reads r v old new → IsGuarded Tables Kept old →
+      IsGuarded Tables Kept new × ((at : ℕ) → Kept at → new.memory at ≡ old.memory at)
+  reads_guard old new r v call g =
+      let s = steps_guard Tables Kept old call.mid g call.steps in
+      let a : IsAlike call.mid (noted r v call.mid) = noted_alike r v call.mid in
+      let P : Device → Type 0 = λ d. IsGuarded Tables Kept d × ((at : ℕ) → Kept at → d.memory at ≡ old.memory at) in
+      subst P (sym call.effect)
+      (guard_alike call.mid (noted r v call.mid) a s.0, λ at kept. ap (λ (f : ℕ → ℕ). f at) a.memory ∙ s.1 at kept)

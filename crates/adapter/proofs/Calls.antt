@@ -1,0 +1,179 @@
+-- What one access leaves, in the terms of the state after it.
+use Rattle.std.proofs.Common.{ℕ, ◌≡◌, ◌≢◌, false, refl, subst, sym, ◌∙◌, ap, length, List, [], ◌∷◌, ◌++◌}
+use Rattle.hba_regs.specs.declared.reg.Reg.TheVariants.{Px}
+use Rattle.hba_regs.specs.declared.reg.PortReg.{PortReg}
+use Rattle.hba_regs.specs.declared.reg.PortReg.TheVariants.{Clb, Clbu, Fb, Fbu, Is, Ie, Cmd, Tfd, Sig, Ssts, Sctl, Serr, Sact, Ci}
+use Rattle.ata_types.specs.declared.Port.{Port}
+use Rattle.adapter.specs.Device.{Notes, PortState, Device}
+use Rattle.adapter.specs.Kept.{Keeps, KeepsOn, KeepsPort, KeepsControls}
+use Rattle.adapter.specs.Rules.{IsOn}
+use Rattle.adapter.specs.Steps.{Steps, with_port}
+use Rattle.adapter.specs.Access.{PortShows, note, Reads, Writes, port_written, Access, Does, DoesAll, IsDriven}
+use Rattle.adapter.proofs.Changed.{changed_same, changed_other, changed_each}
+use Rattle.adapter.proofs.KeptLemmas.{steps_keep, same_engine, still, same_controls, calm, KeepsPort-refl, KeepsPort-trans, KeepsControls-refl, KeepsControls-trans}
+
+-- ---- lists of accesses
+
+pub driven_none : (d : Device) → IsDriven d d
+driven_none d = record { accesses = []; all = refl }
+
+pub driven_one : (access : Access) (old new : Device) → Does access old new → IsDriven old new
+driven_one access old new does = record { accesses = access ∷ []; all = (new, does, refl) }
+
+does_append : (first then : List Access) (old mid new : Device) → DoesAll first old mid → DoesAll then mid new → DoesAll (first ++ then) old new
+does_append [] then old mid new e rest = let P : Device → Type 0 = λ d. DoesAll then d new in subst P e rest
+does_append (access ∷ accesses) then old mid new (one, does, more) rest = (one, does, does_append accesses then one mid new more rest)
+
+pub driven_then : {old mid new : Device} → IsDriven old mid → IsDriven mid new → IsDriven old new
+driven_then {old} {mid} {new} a b = record { accesses = a.accesses ++ b.accesses; all = does_append a.accesses b.accesses old mid new a.all b.all }
+
+-- ---- rules that last
+
+pub on_after : {old new : Device} → IsOn old → KeepsOn old new → IsOn new
+on_after on keeps = record { ae = keeps.ae ∙ on.ae; no_reset = keeps.no_reset }
+
+pub on_stays : {old new : Device} → IsOn old → Steps old new → IsOn new
+on_stays on steps = let k = steps_keep steps in on_after on (k.on on.no_reset)
+
+-- ---- a register of a port is read
+
+-- no register shows what stands beside the state
+shows_noted : (r : PortReg) (v : ℕ) (p : PortState) (n : Notes) → PortShows r v p → PortShows r v (record p { notes = n })
+shows_noted Clb v p n h = h
+shows_noted Clbu v p n h = h
+shows_noted Fb v p n h = h
+shows_noted Fbu v p n h = h
+shows_noted Is v p n h = h
+shows_noted Ie v p n h = h
+shows_noted Cmd v p n h = h
+shows_noted Tfd v p n h = h
+shows_noted Sig v p n h = h
+shows_noted Ssts v p n h = h
+shows_noted Sctl v p n h = h
+shows_noted Serr v p n h = h
+shows_noted Sact v p n h = h
+shows_noted Ci v p n h = h
+
+-- What a call leaves of the adapter, while no reset is pending: all that steps do, but for notes.
+pub record KeepsAll (old new : Device) : Type 0 where
+  pub size : new.size ≡ old.size
+  pub cap : new.cap ≡ old.cap
+  pub pi : new.pi ≡ old.pi
+  pub on : KeepsOn old new
+  pub port : (q : ℕ) → KeepsPort (old.port q) (new.port q)
+
+pub KeepsAll-trans : {old mid new : Device} → KeepsAll old mid → KeepsAll mid new → KeepsAll old new
+KeepsAll-trans a b = record {
+  size = b.size ∙ a.size;
+  cap = b.cap ∙ a.cap;
+  pi = b.pi ∙ a.pi;
+  on = record {
+    no_reset = b.on.no_reset;
+    ae = b.on.ae ∙ a.on.ae;
+    ie = b.on.ie ∙ a.on.ie;
+    controls = λ q. KeepsControls-trans (a.on.controls q) (b.on.controls q);
+  };
+  port = λ q. KeepsPort-trans (a.port q) (b.port q);
+}
+
+pub steps_keep_all : {old new : Device} → old.hr ≡ false → Steps old new → KeepsAll old new
+steps_keep_all h steps = let k = steps_keep steps in record { size = k.size; cap = k.cap; pi = k.pi; on = k.on h; port = k.port }
+
+-- a register of a port was read: the state after the call shows the value, and the port's notes have it
+pub record SeenAt (port : ℕ) (r : PortReg) (v : ℕ) (old new : Device) : Type 0 where
+  pub keeps : KeepsAll old new
+  pub shows : PortShows r v (new.port port)
+  pub notes : (new.port port).notes ≡ note r v (record (new.port port) { notes = (old.port port).notes })
+  pub others : (q : ℕ) → q ≢ port → (new.port q).notes ≡ (old.port q).notes
+
+module _ (port : Port) (r : PortReg) (v : ℕ) (old new : Device) (call : Reads (Px port r) v old new) (h : old.hr ≡ false) where
+  kept : Keeps old call.mid
+  kept = steps_keep call.steps
+
+  there : PortState
+  there = record (call.mid.port port.0) { notes = note r v (call.mid.port port.0) }
+
+  is_there : new.port port.0 ≡ there
+  unfolding there
+  is_there = ap (λ (d : Device). d.port port.0) call.effect ∙ changed_same call.mid.port port.0 there
+
+  noted_keeps : KeepsAll call.mid (with_port call.mid port.0 there)
+  unfolding there
+  noted_keeps =
+      let on : KeepsOn old call.mid = kept.on h in
+      record {
+        size = refl;
+        cap = refl;
+        pi = refl;
+        on = record {
+          no_reset = on.no_reset;
+          ae = refl;
+          ie = refl;
+          controls = changed_each call.mid.port port.0 there (λ q p. KeepsControls (call.mid.port q) p) (calm (call.mid.port port.0) there (same_controls (call.mid.port port.0))) (λ q. KeepsControls-refl (call.mid.port q));
+        };
+        port = changed_each call.mid.port port.0 there (λ q p. KeepsPort (call.mid.port q) p) (still (call.mid.port port.0) there (same_engine (call.mid.port port.0))) (λ q. KeepsPort-refl (call.mid.port q));
+      }
+
+  seen_keeps : KeepsAll old new
+  unfolding there
+  seen_keeps =
+      let P : Device → Type 0 = λ d. KeepsAll old d in
+      subst P (sym call.effect) (KeepsAll-trans (steps_keep_all h call.steps) noted_keeps)
+
+  seen_shows : PortShows r v (new.port port.0)
+  unfolding there
+  seen_shows =
+      let P : PortState → Type 0 = λ p. PortShows r v p in
+      subst P (sym is_there) (shows_noted r v (call.mid.port port.0) (note r v (call.mid.port port.0)) call.shows)
+
+  seen_notes : (new.port port.0).notes ≡ note r v (record (new.port port.0) { notes = (old.port port.0).notes })
+  unfolding there
+  seen_notes =
+      let P : PortState → Type 0 = λ p. p.notes ≡ note r v (record p { notes = (old.port port.0).notes }) in
+      let Q : Notes → Type 0 = λ n. note r v (call.mid.port port.0) ≡ note r v (record (call.mid.port port.0) { notes = n }) in
+      subst P (sym is_there) (subst Q (kept.notes port.0) refl)
+
+  seen_others : (q : ℕ) → q ≢ port.0 → (new.port q).notes ≡ (old.port q).notes
+  unfolding there
+  seen_others q ne =
+      ap (λ (d : Device). (d.port q).notes) call.effect ∙ (ap (λ (p : PortState). p.notes) (changed_other call.mid.port port.0 there q ne) ∙ kept.notes q)
+
+  pub seen : SeenAt port.0 r v old new
+  seen = record { keeps = seen_keeps; shows = seen_shows; notes = seen_notes; others = seen_others }
+
+-- ---- a register of a port is written: the port has it, after what the device did first; the others have what that left
+
+pub record PutAt (port : ℕ) (r : PortReg) (v : ℕ) (old new : Device) : Type 0 where
+  pub mid : Device
+  pub steps : Steps old mid
+  pub keeps : KeepsAll old mid
+  pub notes : (q : ℕ) → (mid.port q).notes ≡ (old.port q).notes
+  pub hr : new.hr ≡ false
+  pub ae : new.ae ≡ old.ae
+  pub size : new.size ≡ old.size
+  pub cap : new.cap ≡ old.cap
+  pub pi : new.pi ≡ old.pi
+  pub memory : new.memory ≡ mid.memory
+  pub tape : new.tape ≡ mid.tape
+  pub here : new.port port ≡ port_written r v (length mid.tape) (mid.port port)
+  pub others : (q : ℕ) → q ≢ port → new.port q ≡ mid.port q
+
+pub put : (port : Port) (r : PortReg) (v : ℕ) (old new : Device) → Writes (Px port r) v old new → old.hr ≡ false → PutAt port.0 r v old new
+put port r v old new call h =
+    let k : Keeps old call.mid = steps_keep call.steps in
+    let on : KeepsOn old call.mid = k.on h in
+    record {
+      mid = call.mid;
+      steps = call.steps;
+      keeps = steps_keep_all h call.steps;
+      notes = k.notes;
+      hr = ap (λ (d : Device). d.hr) call.effect ∙ on.no_reset;
+      ae = ap (λ (d : Device). d.ae) call.effect ∙ on.ae;
+      size = ap (λ (d : Device). d.size) call.effect ∙ k.size;
+      cap = ap (λ (d : Device). d.cap) call.effect ∙ k.cap;
+      pi = ap (λ (d : Device). d.pi) call.effect ∙ k.pi;
+      memory = ap (λ (d : Device). d.memory) call.effect;
+      tape = ap (λ (d : Device). d.tape) call.effect;
+      here = ap (λ (d : Device). d.port port.0) call.effect ∙ changed_same call.mid.port port.0 _;
+      others = λ q ne. ap (λ (d : Device). d.port q) call.effect ∙ changed_other call.mid.port port.0 _ q ne;
+    }

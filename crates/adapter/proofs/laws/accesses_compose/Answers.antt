@@ -1,0 +1,11 @@
+use Rattle.adapter.proofs.Calls.{driven_none, driven_one, driven_then}
+use Rattle.adapter.proofs.laws.accesses_compose.Goals as goal
+
+pub returns-clause-none : goal.returns-clause-none
+returns-clause-none c = driven_none
+
+pub returns-clause-one : goal.returns-clause-one
+returns-clause-one c = driven_one
+
+pub returns-clause-more : goal.returns-clause-more
+returns-clause-more c = λ old mid new a b. driven_then a b
