@@ -1,0 +1,126 @@
+-- The rules that a request may break, each by itself, and which of them is told (this project's own).
+-- Grants are a set of rows. Numbers are whole numbers: no sum wraps.
+use Rattle.std.specs.Prelude.{◌≡◌, ◌≢◌, ℕ, ◌+◌, ◌/◌, ◌<◌, ◌≤◌, ◌⊎◌, List, length, Option, Some, IsSome, Contains, slice_get}
+use Rattle.ata_types.specs.declared.request.ClientId.{ClientId}
+use Rattle.ata_types.specs.declared.request.Frame.{Frame}
+use Rattle.ata_types.specs.declared.request.RequestId.{RequestId}
+use Rattle.ata_types.specs.declared.request.Request.{Request}
+use Rattle.ata_types.specs.declared.request.Op.{Op}
+use Rattle.ata_types.specs.declared.request.Op.TheVariants.{Read, Write, Trim, Flush}
+use Rattle.ata_types.specs.declared.grant.GrantRow.{GrantRow}
+use Rattle.ata_types.specs.declared.refusal.FrameFault.{FrameFault}
+use Rattle.ata_types.specs.declared.refusal.FrameFault.TheVariants.{FrameForeign, FrameTwice, FrameLent}
+use Rattle.ata_types.specs.declared.refusal.Rule.{Rule}
+use Rattle.ata_types.specs.declared.refusal.Rule.TheVariants.{NoGrant, NoRight, BadCount, OutsideGrant, FrameCount, Frames}
+use Rattle.ata_types.specs.Grant.{Allows, Covers}
+
+-- the row is the one of this client under this number
+abbrev pub Names : ClientId → ℕ → GrantRow → Type 0
+Names client number row = (row.client ≡ client) × (row.number ≡ number)
+
+-- the rows don't stand under one client and number
+abbrev pub DifferInName : GrantRow → GrantRow → Type 0
+DifferInName a b = Names a.client a.number b → ⊥
+
+-- the row is the one that the request names
+abbrev pub IsNamed : List GrantRow → Request → GrantRow → Type 0
+IsNamed rows r row = Contains rows row × Names r.client r.grant row
+
+-- the operation may have so many sectors
+abbrev pub IsCount : Op → ℕ → Type 0
+IsCount Read n = (1 ≤ n) × (n ≤ 256)
+IsCount Write n = (1 ≤ n) × (n ≤ 256)
+IsCount Trim n = (1 ≤ n) × (n ≤ 4194240)
+IsCount Flush n = n ≡ 0
+
+-- how many frames the operation has for so many sectors: one for eight, rounded up, where bytes are moved
+abbrev pub frames_for : Op → ℕ → ℕ
+frames_for Read n = (n + 7) / 8
+frames_for Write n = (n + 7) / 8
+frames_for Trim n = 0
+frames_for Flush n = 0
+
+-- the frame at place i isn't the client's: another client's, or nobody's
+abbrev pub IsForeignAt : (Frame → Option ClientId) → ClientId → List Frame → ℕ → Type 0
+IsForeignAt owner client frames i = (f : Frame) × (slice_get frames i ≡ Some f) × (owner f ≢ Some client)
+
+-- the frame at place i stands at an earlier place too
+abbrev pub IsTwiceAt : List Frame → ℕ → Type 0
+IsTwiceAt frames i = (f : Frame) × (j : ℕ) × (j < i) × (slice_get frames j ≡ Some f) × (slice_get frames i ≡ Some f)
+
+-- the frame at place i is lent to a request
+abbrev pub IsLentAt : (Frame → Option RequestId) → List Frame → ℕ → Type 0
+IsLentAt lent frames i = (f : Frame) × (slice_get frames i ≡ Some f) × IsSome (lent f)
+
+-- the fault is one of these frames, of this client
+abbrev pub HasFault : (Frame → Option ClientId) → (Frame → Option RequestId) → ClientId → List Frame → FrameFault → Type 0
+HasFault owner lent client frames (FrameForeign i) = IsForeignAt owner client frames i
+HasFault owner lent client frames (FrameTwice i) = IsTwiceAt frames i
+HasFault owner lent client frames (FrameLent i) = IsLentAt lent frames i
+
+-- the request breaks the rule
+abbrev pub Breaks : List GrantRow → (Frame → Option ClientId) → (Frame → Option RequestId) → Request → Rule → Type 0
+Breaks rows owner lent r NoGrant = (row : GrantRow) → IsNamed rows r row → ⊥
+Breaks rows owner lent r NoRight = (row : GrantRow) × IsNamed rows r row × (Allows row.rights r.op → ⊥)
+Breaks rows owner lent r BadCount = IsCount r.op r.count → ⊥
+Breaks rows owner lent r OutsideGrant = (r.op ≢ Flush) × ((row : GrantRow) × IsNamed rows r row × (Covers row r.first.0 r.count → ⊥))
+Breaks rows owner lent r FrameCount = length r.frames.items ≢ frames_for r.op r.count
+Breaks rows owner lent r (Frames fault) = HasFault owner lent r.client r.frames.items fault
+
+-- the numbers of the rules say which is told first
+abbrev pub fault_number : FrameFault → ℕ
+fault_number (FrameForeign i) = 6
+fault_number (FrameTwice i) = 7
+fault_number (FrameLent i) = 8
+
+abbrev pub number : Rule → ℕ
+number NoGrant = 1
+number NoRight = 2
+number BadCount = 3
+number OutsideGrant = 4
+number FrameCount = 5
+number (Frames fault) = fault_number fault
+
+-- the place of the frame that is at fault; the other rules have none
+abbrev pub fault_place : FrameFault → ℕ
+fault_place (FrameForeign i) = i
+fault_place (FrameTwice i) = i
+fault_place (FrameLent i) = i
+
+abbrev pub place : Rule → ℕ
+place NoGrant = 0
+place NoRight = 0
+place BadCount = 0
+place OutsideGrant = 0
+place FrameCount = 0
+place (Frames fault) = fault_place fault
+
+-- number and place come before another number and place
+abbrev pub Precedes : ℕ → ℕ → ℕ → ℕ → Type 0
+Precedes n i other_n other_i = (n < other_n) ⊎ ((n ≡ other_n) × (i < other_i))
+
+-- the fault is told before the other
+abbrev pub IsFaultBefore : FrameFault → FrameFault → Type 0
+IsFaultBefore a b = Precedes (fault_number a) (fault_place a) (fault_number b) (fault_place b)
+
+-- the rule is told before the other
+abbrev pub IsBefore : Rule → Rule → Type 0
+IsBefore a b = Precedes (number a) (place a) (number b) (place b)
+
+-- the frames have no fault
+abbrev pub HasNoFault : (Frame → Option ClientId) → (Frame → Option RequestId) → ClientId → List Frame → Type 0
+HasNoFault owner lent client frames = (fault : FrameFault) → HasFault owner lent client frames fault → ⊥
+
+-- the fault is one of these frames, and none before it is
+abbrev pub IsFirstFault : (Frame → Option ClientId) → (Frame → Option RequestId) → ClientId → List Frame → FrameFault → Type 0
+IsFirstFault owner lent client frames fault = HasFault owner lent client frames fault
+    × ((other : FrameFault) → IsFaultBefore other fault → HasFault owner lent client frames other → ⊥)
+
+-- the request breaks no rule
+abbrev pub BreaksNone : List GrantRow → (Frame → Option ClientId) → (Frame → Option RequestId) → Request → Type 0
+BreaksNone rows owner lent r = (rule : Rule) → Breaks rows owner lent r rule → ⊥
+
+-- the request breaks the rule, and none before it
+abbrev pub IsFirstBroken : List GrantRow → (Frame → Option ClientId) → (Frame → Option RequestId) → Request → Rule → Type 0
+IsFirstBroken rows owner lent r rule = Breaks rows owner lent r rule
+    × ((other : Rule) → IsBefore other rule → Breaks rows owner lent r other → ⊥)
