@@ -1,0 +1,3 @@
+mod Cover
+mod Parts
+mod Zeros

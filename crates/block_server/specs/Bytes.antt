@@ -1,0 +1,13 @@
+-- Bytes in a buffer.
+use Rattle.std.specs.Prelude.{◌≡◌, ℕ, ◌+◌, ◌<◌, ◌≤◌, List, length, slice_index, take, drop}
+
+-- new is old with the bytes written from a place on, and nothing else changed
+pub record Stores (old new : List ℕ) (at : ℕ) (bytes : List ℕ) : Type 0 where
+  pub size : length new ≡ length old
+  pub inside : (i : ℕ) → i < length bytes → slice_index new (at + i) ≡ slice_index bytes i
+  pub before : (i : ℕ) → i < at → slice_index new i ≡ slice_index old i
+  pub after : (i : ℕ) → at + length bytes ≤ i → slice_index new i ≡ slice_index old i
+
+-- the n bytes from a place on
+abbrev pub part : List ℕ → ℕ → ℕ → List ℕ
+part bytes at n = take n (drop at bytes)
