@@ -1,3 +1,5 @@
+mod Booting
 mod Cover
 mod Parts
+mod PortLemmas
 mod Zeros

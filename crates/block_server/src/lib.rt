@@ -2,5 +2,6 @@
 #![tactic(auto)]
 
 mod command_table;
+mod port;
 
 pub use command_table::{encode_h2d, header, prds, table_bytes};

@@ -1,0 +1,34 @@
+use Rattle.std.proofs.Common.{arith, sym, ◌∙◌}
+use Rattle.block_server.proofs.Booting.{ready_found, busy_again}
+use Rattle.block_server.proofs.port.wait_until_ready.Goals as goal
+
+pub loop-reading-init : goal.loop-reading-init
+loop-reading-init g c = record { links = c.requires.links; linked = c.requires.linked; low = omega arith; high = λ h. absurd (omega arith) }
+
+pub read-requires : goal.read-requires
+read-requires g c = let b = c.loop-reading.invariant.links.booting in (b.lone.on, b.there)
+
+pub returns-then-not-is_occupied-clause-links : goal.returns-then-not-is_occupied-clause-links
+returns-then-not-is_occupied-clause-links g c =
+    (ready_found _ _ _ c.read.result _ c.loop-reading.invariant c.read.ensures (sym c.is_occupied.ensures ∙ c.if-not-is_occupied.true)).0
+
+pub returns-then-not-is_occupied-clause-linked : goal.returns-then-not-is_occupied-clause-linked
+returns-then-not-is_occupied-clause-linked g c =
+    (ready_found _ _ _ c.read.result _ c.loop-reading.invariant c.read.ensures (sym c.is_occupied.ensures ∙ c.if-not-is_occupied.true)).1
+
+pub returns-then-not-is_occupied-clause-ready : goal.returns-then-not-is_occupied-clause-ready
+returns-then-not-is_occupied-clause-ready g c =
+    λ _. (ready_found _ _ _ c.read.result _ c.loop-reading.invariant c.read.ensures (sym c.is_occupied.ensures ∙ c.if-not-is_occupied.true)).2
+
+pub loop-reading-preserved : goal.loop-reading-preserved
+loop-reading-preserved g c =
+    busy_again _ _ _ c.read.result _ (omega arith) c.loop-reading.invariant c.read.ensures (sym c.is_occupied.ensures ∙ c.if-not-is_occupied.false)
+
+pub returns-clause-links : goal.returns-clause-links
+returns-clause-links g c = c.loop-reading.invariant.links
+
+pub returns-clause-linked : goal.returns-clause-linked
+returns-clause-linked g c = c.loop-reading.invariant.linked
+
+pub returns-clause-busy : goal.returns-clause-busy
+returns-clause-busy g c = λ _. let w = c.loop-reading.invariant in omega (arith, w.low, w.high (omega arith))

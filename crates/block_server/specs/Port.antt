@@ -1,0 +1,138 @@
+-- What the server knows of the adapter between two accesses, while it uses port 0 alone and one slot of it. No step of the
+-- device makes these words false.
+use Rattle.std.specs.Prelude.{ℕ, Bool, true, false, ◌≡◌, ◌≢◌, ◌+◌, ◌*◌, ◌%◌, ◌<◌, ◌≤◌, ◌⊎◌, None, Some, List, All, Contains, length}
+use Rattle.hba_regs.specs.Bits.{bit}
+use Rattle.ata_types.specs.declared.request.Frame.{Frame}
+use Rattle.ata_types.specs.declared.PortState.{PortState}
+use Rattle.ata_types.specs.declared.PortState.TheVariants.{Absent, Ready, Foreign, Unfit, Dead}
+use Rattle.adapter.specs.declared.command.Operation.TheVariants.{Read}
+use Rattle.adapter.specs.Commands.{Meaning}
+use Rattle.adapter.specs.Device.{Bases, Taken, Device}
+use Rattle.adapter.specs.Device as device
+use Rattle.adapter.specs.Idle.{IsIdlePort}
+use Rattle.adapter.specs.Rules.{IsOn, HasPort}
+use Rattle.adapter.specs.Says.{Says}
+use Rattle.block_server.specs.Places.{places_of}
+
+-- no command is issued or taken in the slot
+pub record IsSlotFree (p : device.PortState) (slot : ℕ) : Type 0 where
+  pub ci : p.ci slot ≡ false
+  pub taken : p.taken slot ≡ None
+
+-- where port 0 has its command list and its received FIS area
+abbrev pub programmed : Bases
+programmed = record { clb = 0; fb = 1024; clb_set = true; clbu_set = true; fb_set = true; fbu_set = true }
+
+-- The adapter is on, has memory for the driver's frames, and no port but port 0 is used.
+pub record IsLone (d : Device) : Type 0 where
+  pub on : IsOn d
+  pub room : 163840 ≤ d.size
+  pub others : (port : ℕ) → port ≢ 0 → IsIdlePort (d.port port)
+
+-- The port is stopped, with these addresses; it receives FISes or doesn't; no slot is in use.
+pub record IsStopped (addresses : Bases) (receives : Bool) (p : device.PortState) : Type 0 where
+  pub st : p.st ≡ false
+  pub cr : p.cr ≡ false
+  pub fre : p.fre ≡ receives
+  pub fr : receives ≡ false → p.fr ≡ false
+  pub bases : p.bases ≡ addresses
+  pub free : (slot : ℕ) → IsSlotFree p slot
+
+-- Port 0 is there, and on its way to run.
+pub record IsBooting (addresses : Bases) (receives : Bool) (d : Device) : Type 0 where
+  pub lone : IsLone d
+  pub there : HasPort d 0
+  pub stopped : IsStopped addresses receives (d.port 0)
+
+-- Accesses brought port 0 there, and the memory is as large as it was.
+pub record Boots (addresses : Bases) (receives : Bool) (old new : Device) : Type 0 where
+  pub booting : IsBooting addresses receives new
+  pub size : new.size ≡ old.size
+
+-- The same, with SCTL.DET at 0.
+pub record Links (old new : Device) : Type 0 where
+  pub booting : IsBooting programmed true new
+  pub det : (new.port 0).sctl_det ≡ 0
+  pub size : new.size ≡ old.size
+
+-- the reading of SSTS that was made last showed a device with a link
+abbrev pub IsLinked : Device → Type 0
+IsLinked d = (d.port 0).notes.last_ssts % 16 ≡ 3
+
+-- the reading of TFD that was made last showed neither BSY nor DRQ
+abbrev pub IsNotBusy : Device → Type 0
+IsNotBusy d = (bit (d.port 0).notes.last_tfd 7 ≡ false) × (bit (d.port 0).notes.last_tfd 3 ≡ false)
+
+-- a wait of 64 readings of SSTS found no device
+abbrev pub IsMissing : Device → Type 0
+IsMissing d = ((d.port 0).notes.last_ssts % 16 ≢ 3) × ((d.port 0).notes.link_count ≡ 64)
+
+-- The port doesn't run, and has its received FIS area where it belongs if it has one.
+pub record IsResting (p : device.PortState) : Type 0 where
+  pub free : (slot : ℕ) → IsSlotFree p slot
+  pub received : p.fre ≡ true → p.bases.fb ≡ 1024
+
+-- Port 0 runs, and no slot but slot 0 is in use.
+pub record IsRunning (d : Device) : Type 0 where
+  pub there : HasPort d 0
+  pub st : (d.port 0).st ≡ true
+  pub bases : (d.port 0).bases ≡ programmed
+  pub free : (slot : ℕ) → slot ≢ 0 → IsSlotFree (d.port 0) slot
+
+-- The adapter was switched on and nothing else: port 0 is idle.
+pub record IsSwitchedOn (old new : Device) : Type 0 where
+  pub lone : IsLone new
+  pub idle : IsIdlePort (new.port 0)
+  pub size : new.size ≡ old.size
+
+-- Port 0 was started, with no slot in use.
+pub record Starts (old new : Device) : Type 0 where
+  pub lone : IsLone new
+  pub runs : IsRunning new
+  pub free : IsSlotFree (new.port 0) 0
+  pub size : new.size ≡ old.size
+
+-- What stands behind each state that port 0 can have after it was brought up.
+abbrev pub IsBroughtUp : PortState → Device → Type 0
+IsBroughtUp Ready d = IsLone d × IsRunning d × IsSlotFree (d.port 0) 0
+IsBroughtUp Absent d = IsLone d × IsResting (d.port 0) × ((bit d.pi 0 ≡ false) ⊎ IsMissing d)
+IsBroughtUp (Unfit cause) d = IsLone d × IsResting (d.port 0) × (cause ≡ 7) × ((d.port 0).notes.busy_count ≡ 64)
+IsBroughtUp Foreign d = ⊥
+IsBroughtUp Dead d = ⊥
+
+-- A read as it is issued: its first sector, its number of sectors, and its frames.
+pub record Issued : Type 0 where
+  pub first : ℕ
+  pub count : ℕ
+  pub frames : List Frame
+
+-- the read's command
+abbrev pub meaning_of : Issued → Meaning
+meaning_of r = record { operation = Read; first = r.first; count = r.count }
+
+-- Slot 0 has this read: its bytes say it, its frames are clients' and hold its sectors, and if it is taken, CI shows it still.
+pub record HoldsRead (r : Issued) (d : Device) : Type 0 where
+  pub says : Says d.memory 0 0 (meaning_of r) (places_of r.frames r.count)
+  pub table : says.table ≡ 4096
+  pub few : length says.prds ≤ 32
+  pub clients : All (λ frame. 40 ≤ frame.0) r.frames
+  pub enough : r.count ≤ 8 * length r.frames
+  pub tied : (t : Taken) → (d.port 0).taken 0 ≡ Some t → (t.places ≡ places_of r.frames r.count) × ((d.port 0).ci 0 ≡ true)
+
+-- ---- sets of bytes
+
+-- the header of slot 0, but for PRDBC, and its table
+abbrev pub IsTableByte : ℕ → Type 0
+IsTableByte at = (at < 4) ⊎ ((8 ≤ at) × (at < 32)) ⊎ ((4096 ≤ at) × (at < 5120))
+
+-- a byte of one of these frames
+abbrev pub IsInFrames : List Frame → ℕ → Type 0
+IsInFrames frames at = (frame : Frame) × Contains frames frame × (4096 * frame.0 ≤ at) × (at < 4096 * frame.0 + 4096)
+
+-- what stays while a command moves bytes to these frames: header and table, and the client frames but for these
+abbrev pub IsKeptByte : List Frame → ℕ → Type 0
+IsKeptByte frames at = IsTableByte at ⊎ ((163840 ≤ at) × (IsInFrames frames at → ⊥))
+
+-- what stays while no command is in use: all but the received FIS area
+abbrev pub IsOutsideArea : ℕ → Type 0
+IsOutsideArea at = (at < 1024) ⊎ (1280 ≤ at)
