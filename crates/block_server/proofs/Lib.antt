@@ -2,4 +2,5 @@ mod Booting
 mod Cover
 mod Parts
 mod PortLemmas
+mod Serving
 mod Zeros

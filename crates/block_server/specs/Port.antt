@@ -1,6 +1,6 @@
 -- What the server knows of the adapter between two accesses, while it uses port 0 alone and one slot of it. No step of the
 -- device makes these words false.
-use Rattle.std.specs.Prelude.{ℕ, Bool, true, false, ◌≡◌, ◌≢◌, ◌+◌, ◌*◌, ◌%◌, ◌<◌, ◌≤◌, ◌⊎◌, None, Some, List, All, Contains, length}
+use Rattle.std.specs.Prelude.{ℕ, Bool, true, false, ◌≡◌, ◌≢◌, ◌+◌, ◌*◌, ◌%◌, ◌<◌, ◌≤◌, ◌⊎◌, Option, None, Some, List, All, Contains, length}
 use Rattle.hba_regs.specs.Bits.{bit}
 use Rattle.ata_types.specs.declared.request.Frame.{Frame}
 use Rattle.ata_types.specs.declared.PortState.{PortState}
@@ -118,6 +118,16 @@ pub record HoldsRead (r : Issued) (d : Device) : Type 0 where
   pub clients : All (λ frame. 40 ≤ frame.0) r.frames
   pub enough : r.count ≤ 8 * length r.frames
   pub tied : (t : Taken) → (d.port 0).taken 0 ≡ Some t → (t.places ≡ places_of r.frames r.count) × ((d.port 0).ci 0 ≡ true)
+
+-- Port 0 runs, and serves this read or none.
+abbrev pub Serves : Option Issued → Device → Type 0
+Serves None d = IsLone d × IsRunning d × IsSlotFree (d.port 0) 0
+Serves (Some r) d = IsLone d × IsRunning d × HoldsRead r d
+
+-- Accesses left port 0 serving what it served.
+pub record KeepsServing (old new : Device) : Type 0 where
+  pub serves : (issued : Option Issued) → Serves issued old → Serves issued new
+  pub size : new.size ≡ old.size
 
 -- ---- sets of bytes
 
