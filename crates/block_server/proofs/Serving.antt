@@ -33,7 +33,7 @@ place_at frames zero a k small = absurd (omega arith)
 place_at frames (suc n) a zero small = ap (place_of frames) (omega arith)
 place_at frames (suc n) a (suc k) small = place_at frames n (a + 1) k (omega arith) ∙ ap (place_of frames) (omega arith)
 
-places_length : (frames : List Frame) (n a : ℕ) → length (map (place_of frames) (range_with_len a n)) ≡ n
+pub places_length : (frames : List Frame) (n a : ℕ) → length (map (place_of frames) (range_with_len a n)) ≡ n
 places_length frames zero a = refl
 places_length frames (suc n) a = let rest = places_length frames n (a + 1) in omega (arith, rest)
 
@@ -108,7 +108,7 @@ slot_guarded r d h = record {
 }
 
 -- a slot that is free is not in use
-free_unused : {A : Type 0} (p : PortState) (slot : ℕ) → IsSlotFree p slot → InUse p slot → A
+pub free_unused : {A : Type 0} (p : PortState) (slot : ℕ) → IsSlotFree p slot → InUse p slot → A
 free_unused p slot f (inl set) = true-false set f.ci
 free_unused p slot f (inr (t, is)) = some-none is f.taken
 

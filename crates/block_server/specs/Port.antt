@@ -124,6 +124,11 @@ abbrev pub Serves : Option Issued → Device → Type 0
 Serves None d = IsLone d × IsRunning d × IsSlotFree (d.port 0) 0
 Serves (Some r) d = IsLone d × IsRunning d × HoldsRead r d
 
+-- A read that is done leaves its slot free; one that isn't is served on.
+abbrev pub FindsDone : Issued → Bool → Device → Type 0
+FindsDone r true d = Serves None d
+FindsDone r false d = Serves (Some r) d
+
 -- Accesses left port 0 serving what it served.
 pub record KeepsServing (old new : Device) : Type 0 where
   pub serves : (issued : Option Issued) → Serves issued old → Serves issued new

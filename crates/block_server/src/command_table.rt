@@ -121,6 +121,7 @@ pub fn table_bytes(command: &Command, prds: &[Prd]) -> [u8; 640]
     requires lba { command.now.lba < 2 ^ 48 }
     requires room { length prds.now ≤ 32 }
     requires allowed { All IsAllowed prds.now }
+    ensures size { length result ≡ 640 }
     ensures fis { SpellsCommand (part result 0 20) command.now }
     ensures prds { (i : ℕ) (d : Prd) → i < length prds.now → SpellsPrd (part result (128 + 16 * i) 16) (slice_index_or prds.now i d) }
 {

@@ -3,5 +3,6 @@
 
 mod command_table;
 mod port;
+mod slot;
 
 pub use command_table::{encode_h2d, header, prds, table_bytes};

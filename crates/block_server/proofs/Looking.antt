@@ -1,0 +1,262 @@
+-- Readings, and writes that acknowledge, leave port 0 serving what it served.
+use Rattle.std.proofs.Common.{ℕ, ◌≡◌, ◌≢◌, ◌<◌, Bool, true, false, Option, None, Some, not, ◌||◌, refl, sym, ◌∙◌, ap, subst, arith, if◌then◌else◌}
+use Rattle.hba_regs.specs.Bits.{bit}
+use Rattle.hba_regs.specs.declared.reg.PortReg.{PortReg}
+use Rattle.hba_regs.specs.declared.reg.PortReg.TheVariants.{Is, Ssts, Ci, Sact}
+use Rattle.hba_regs.specs.declared.reg.Reg.{Reg}
+use Rattle.hba_regs.specs.declared.reg.Reg.TheVariants as adapter
+use Rattle.adapter.specs.Access.{Reads, Writes, PortShows, noted, written, port_written, unacknowledged}
+use Rattle.adapter.specs.Device.{Bases, Notes, Taken, PortState, Device}
+use Rattle.adapter.specs.Idle.{IsIdlePort}
+use Rattle.adapter.specs.Rules.{HasPort, AreAcknowledged, MayIssue}
+use Rattle.adapter.specs.Says.{Says}
+use Rattle.adapter.specs.Steps.{Steps}
+use Rattle.adapter.proofs.Absurd.{true-false, some-none}
+use Rattle.adapter.proofs.Alike.{IsAlike, port_alike, noted_alike}
+use Rattle.adapter.proofs.Calls.{KeepsAll, steps_keep_all, seen, SeenAt, put, PutAt}
+use Rattle.adapter.proofs.Changed.{changed_same}
+use Rattle.adapter.proofs.KeptLemmas.{SameEngine, same_engine, still, steps_keep}
+use Rattle.block_server.specs.Places.{places_of}
+use Rattle.block_server.specs.Port.{IsSlotFree, IsLone, IsRunning, Issued, meaning_of, HoldsRead, Serves, KeepsServing, FindsDone}
+use Rattle.block_server.proofs.Booting.{px}
+use Rattle.block_server.proofs.Issuing.{may_issue, none_after, bit_of_one, bit_one_other}
+use Rattle.block_server.proofs.PortLemmas.{idle_after, free_after, lone_after, running_after, lone_put, there_put}
+use Rattle.block_server.proofs.Serving.{steps_hold}
+
+-- ---- states that are alike
+
+module _ {old new : Device} (a : IsAlike old new) where
+  lone_alike : IsLone old → IsLone new
+  lone_alike l = record {
+    on = record { ae = a.ae ∙ l.on.ae; no_reset = a.hr ∙ l.on.no_reset };
+    room = rw a.size l.room;
+    others = λ q ne. idle_after (still (old.port q) (new.port q) (a.port q)) (l.others q ne);
+  }
+
+  running_alike : IsRunning old → IsRunning new
+  running_alike r =
+      let k = still (old.port 0) (new.port 0) (a.port 0) in
+      record {
+        there = (r.there.0, ap (λ (pi : ℕ). bit pi 0) a.pi ∙ r.there.1);
+        st = (a.port 0).1 ∙ r.st;
+        bases = k.bases ∙ r.bases;
+        free = λ slot ne. free_after k slot (r.free slot ne);
+      }
+
+  holds_alike : (r : Issued) → HoldsRead r old → HoldsRead r new
+  holds_alike r h =
+      let P : (ℕ → ℕ) → Type 0 = λ memory. (s : Says memory 0 0 (meaning_of r) (places_of r.frames r.count)) × (s.table ≡ 4096) × (s.prds ≡ h.says.prds) in
+      let said = subst P (sym a.memory) (h.says, h.table, refl) in
+      record {
+        says = said.0;
+        table = said.1;
+        few = let few = h.few in rw said.2 few;
+        clients = h.clients;
+        enough = h.enough;
+        tied = λ t is.
+            let old_tied = h.tied t (sym (ap (λ (f : ℕ → Option Taken). f 0) ((a.port 0).7)) ∙ is) in
+            (old_tied.0, ap (λ (f : ℕ → Bool). f 0) ((a.port 0).5) ∙ old_tied.1);
+      }
+
+  serves_alike : (issued : Option Issued) → Serves issued old → Serves issued new
+  serves_alike None s = (lone_alike s.0, running_alike s.1, free_after (still (old.port 0) (new.port 0) (a.port 0)) 0 s.2)
+  serves_alike (Some r) s = (lone_alike s.0, running_alike s.1, holds_alike r s.2)
+
+pub steps_serve : (issued : Option Issued) (old new : Device) → Serves issued old → Steps old new → Serves issued new
+steps_serve None old new s steps = none_after old new s steps
+steps_serve (Some r) old new s steps =
+    let k : KeepsAll old new = steps_keep_all s.0.on.no_reset steps in
+    (lone_after k s.0, running_after k s.1, steps_hold r old new s.0 s.1 s.2 steps)
+
+-- any steps, and an effect that leaves the state alike
+keeps_by : (old mid new after : Device) → old.hr ≡ false → Steps old mid → new ≡ after → IsAlike mid after → KeepsServing old new
+keeps_by old mid new after quiet steps effect a =
+    let P : Device → Type 0 = λ d. KeepsServing old d in
+    subst P (sym effect)
+    (record {
+      serves = λ issued s. serves_alike a issued (steps_serve issued old mid s steps);
+      size = a.size ∙ (steps_keep_all quiet steps).size;
+    })
+
+pub keeps_then : {old mid new : Device} → KeepsServing old mid → KeepsServing mid new → KeepsServing old new
+keeps_then x y = record { serves = λ issued s. y.serves issued (x.serves issued s); size = y.size ∙ x.size }
+
+-- IS is written: notes change alone
+acknowledging_alike : (v : ℕ) (d : Device) → IsAlike d (written adapter.Is v d)
+acknowledging_alike v d = record {
+  telling = refl;
+  size = refl;
+  memory = refl;
+  cap = refl;
+  pi = refl;
+  hr = refl;
+  ae = refl;
+  port = λ q. same (bit v q) (d.port q);
+}
+  where
+    same : (b : Bool) (p : PortState) → SameEngine p (if b then unacknowledged p else p)
+    same true p = same_engine p
+    same false p = same_engine p
+
+module _ (old new : Device) (quiet : old.hr ≡ false) where
+  pub reading_keeps : (r : Reg) (v : ℕ) → Reads r v old new → KeepsServing old new
+  reading_keeps r v call = keeps_by old call.mid new (noted r v call.mid) quiet call.steps call.effect (noted_alike r v call.mid)
+
+  pub interrupts_keep : (v : ℕ) → Writes (px Is) v old new → KeepsServing old new
+  interrupts_keep v call =
+      keeps_by old call.mid new (written (px Is) v call.mid) quiet call.steps call.effect
+      (port_alike call.mid 0 _ (same_engine (call.mid.port 0)))
+
+  pub acknowledging_keeps : (v : ℕ) → Writes adapter.Is v old new → KeepsServing old new
+  acknowledging_keeps v call =
+      keeps_by old call.mid new (written adapter.Is v call.mid) quiet call.steps call.effect (acknowledging_alike v call.mid)
+
+-- lone and running ports go on, whatever they serve
+module _ (old new : Device) (quiet : old.hr ≡ false) where
+  pub steps_run : IsLone old → IsRunning old → Steps old new → IsLone new × IsRunning new
+  steps_run l r steps = let k = steps_keep_all quiet steps in (lone_after k l, running_after k r)
+
+  pub reading_runs : (r : Reg) (v : ℕ) → IsLone old → IsRunning old → Reads r v old new → IsLone new × IsRunning new
+  reading_runs r v l run call =
+      let k = steps_keep_all quiet call.steps in
+      let P : Device → Type 0 = λ d. IsLone d × IsRunning d in
+      let a = noted_alike r v call.mid in
+      subst P (sym call.effect) (lone_alike a (lone_after k l), running_alike a (running_after k run))
+
+  pub interrupts_run : (v : ℕ) → IsLone old → IsRunning old → Writes (px Is) v old new → IsLone new × IsRunning new
+  interrupts_run v l run call =
+      let k = steps_keep_all quiet call.steps in
+      let P : Device → Type 0 = λ d. IsLone d × IsRunning d in
+      let a = port_alike call.mid 0 _ (same_engine (call.mid.port 0)) in
+      subst P (sym call.effect) (lone_alike a (lone_after k l), running_alike a (running_after k run))
+
+pub acknowledging_runs : (old new : Device) → IsLone old → IsRunning old → Writes adapter.Is 1 old new → IsLone new × IsRunning new
+acknowledging_runs old new l run call =
+    let k = steps_keep_all l.on.no_reset call.steps in
+    let P : Device → Type 0 = λ d. IsLone d × IsRunning d in
+    let a = acknowledging_alike 1 call.mid in
+    subst P (sym call.effect) (lone_alike a (lone_after k l), running_alike a (running_after k run))
+
+-- after PxIS was written, the port's bit of IS may be
+pub acknowledged : (old new mid : Device) (v : ℕ) → old.hr ≡ false → Writes (px Is) v old new → Steps new mid → AreAcknowledged mid 1
+acknowledged old new mid v quiet call steps port small set =
+    let w : PutAt 0 Is v old new = put (record { 0 = 0 }) Is v old new call quiet in
+    let here : (new.port 0).notes.acknowledged ≡ true = ap (λ (p : PortState). p.notes.acknowledged) w.here in
+    let there : (mid.port 0).notes.acknowledged ≡ true = ap (λ (n : Notes). n.acknowledged) ((steps_keep steps).notes 0) ∙ here in
+    let P : ℕ → Type 0 = λ q. (mid.port q).notes.acknowledged ≡ true in
+    subst P (sym (bit_of_one port set)) there
+
+-- ---- CI and SACT, read in this order
+
+-- what the two readings say of the read in slot 0
+module _ (old mid new : Device) (l : IsLone old) (run : IsRunning old) (issued active : ℕ) (first : Reads (px Ci) issued old mid) (second : Reads (px Sact) active mid new) where
+  quiet : old.hr ≡ false
+  quiet = l.on.no_reset
+
+  mid_runs : IsLone mid × IsRunning mid
+  mid_runs = reading_runs old mid l.on.no_reset (px Ci) issued l run first
+
+  pub masks_keep : KeepsServing old new
+  masks_keep = keeps_then (reading_keeps old mid quiet (px Ci) issued first) (reading_keeps mid new (mid_runs.0.on.no_reset) (px Sact) active second)
+
+  ci_seen : SeenAt 0 Ci issued old mid
+  ci_seen = seen (record { 0 = 0 }) Ci issued old mid first quiet
+
+  sact_seen : SeenAt 0 Sact active mid new
+  sact_seen = seen (record { 0 = 0 }) Sact active mid new second (mid_runs.0.on.no_reset)
+
+  -- a read whose bit of CI was seen clear leaves its slot free
+  slot_left : (r : Issued) → bit issued 0 ≡ false → Serves (Some r) old → Serves None new
+  slot_left r clear s =
+      let t : Serves (Some r) new = masks_keep.serves (Some r) s in
+      let ci : (new.port 0).ci 0 ≡ false = (sact_seen.keeps.port 0).ci 0 (sym (ci_seen.shows 0 (omega arith)) ∙ clear) in
+      (t.0, t.1, record { ci = ci; taken = none (new.port 0).taken ((new.port 0).taken 0) refl (λ u is. true-false (t.2.tied u is).1 ci) })
+    where
+      none : (f : ℕ → Option Taken) (o : Option Taken) → f 0 ≡ o → ((u : Taken) → f 0 ≡ Some u → ⊥) → f 0 ≡ None
+      none f None is taken = is
+      none f (Some u) is taken = absurd (taken u is)
+
+  finds : (r : Issued) (done : Bool) → bit issued 0 ≡ false → Serves (Some r) old → FindsDone r done new
+  finds r true clear s = slot_left r clear s
+  finds r false clear s = masks_keep.serves (Some r) s
+
+  pub masks_find : (r : Issued) (done : Bool) → bit issued 0 ≡ false → Serves (Some r) old → FindsDone r done new
+  masks_find = finds
+
+  -- bits that were clear at the start were seen clear
+  pub ci_was_clear : (old.port 0).ci 0 ≡ false → bit issued 0 ≡ false
+  ci_was_clear h = ci_seen.shows 0 (omega arith) ∙ (ci_seen.keeps.port 0).ci 0 h
+
+  pub sact_was_clear : (old.port 0).sact 0 ≡ false → bit active 0 ≡ false
+  sact_was_clear h = sact_seen.shows 0 (omega arith) ∙ (sact_seen.keeps.port 0).sact 0 ((ci_seen.keeps.port 0).sact 0 h)
+
+-- ---- the issue
+
+-- CI is written with the bit of slot 0, whose bytes say the read
+pub issue_serves : (r : Issued) (old new : Device) → Serves None old → HoldsRead r old → Writes (px Ci) 1 old new →
+    Serves (Some r) new × ((new.port 0).ci 0 ≡ true) × (new.size ≡ old.size)
+issue_serves r old new s h call =
+    let w : PutAt 0 Ci 1 old new = put (record { 0 = 0 }) Ci 1 old new call s.0.on.no_reset in
+    let mid : Serves None w.mid = none_after old w.mid s w.steps in
+    let held : HoldsRead r w.mid = steps_hold r old w.mid s.0 s.1 h w.steps in
+    let after : PortState = port_written Ci 1 0 (w.mid.port 0) in
+    let P : PortState → Type 0 = λ p. p.taken 0 ≡ None in
+    let free : (new.port 0).taken 0 ≡ None = subst P (sym w.here) mid.2.taken in
+    let set : (new.port 0).ci 0 ≡ true = ap (λ (p : PortState). p.ci 0) w.here ∙ or_true ((w.mid.port 0).ci 0) in
+    let M : (ℕ → ℕ) → Type 0 = λ memory. (x : Says memory 0 0 (meaning_of r) (places_of r.frames r.count)) × (x.table ≡ 4096) × (x.prds ≡ held.says.prds) in
+    let said = subst M (sym w.memory) (held.says, held.table, refl) in
+    (
+      (
+        lone_put Ci 1 old new w s.0,
+        record {
+          there = there_put Ci 1 old new w s.1.there;
+          st = ap (λ (p : PortState). p.st) w.here ∙ mid.1.st;
+          bases = ap (λ (p : PortState). p.bases) w.here ∙ mid.1.bases;
+          free = λ slot ne.
+              let Q : PortState → Type 0 = λ p. IsSlotFree p slot in
+              subst Q (sym w.here) (record {
+                ci = or_false ((w.mid.port 0).ci slot) (bit 1 slot) (mid.1.free slot ne).ci (bit_one_other slot ne);
+                taken = (mid.1.free slot ne).taken;
+              });
+        },
+        record {
+          says = said.0;
+          table = said.1;
+          few = let few = held.few in rw said.2 few;
+          clients = held.clients;
+          enough = held.enough;
+          tied = λ t is. some-none is free;
+        },
+      ),
+      set,
+      w.size,
+    )
+  where
+    or_true : (b : Bool) → (b || bit 1 0) ≡ true
+    or_true true = refl
+    or_true false = refl
+
+    or_false : (a b : Bool) → a ≡ false → b ≡ false → a || b ≡ false
+    or_false false false x y = refl
+    or_false true b x y = true-false refl x
+    or_false false true x y = true-false refl y
+
+-- ---- PxIS is read and cleared, and the port's bit of IS; then SSTS is read
+
+module _ (d0 d1 d2 d3 : Device) (l : IsLone d0) (run : IsRunning d0) (v w : ℕ)
+  (first : Reads (px Is) v d0 d1) (second : Writes (px Is) w d1 d2) (third : Writes adapter.Is 1 d2 d3) where
+  second_runs : IsLone d2 × IsRunning d2
+  second_runs =
+      let a = reading_runs d0 d1 l.on.no_reset (px Is) v l run first in
+      interrupts_run d1 d2 a.0.on.no_reset w a.0 a.1 second
+
+  pub looked_run : IsLone d3 × IsRunning d3
+  looked_run = acknowledging_runs d2 d3 second_runs.0 second_runs.1 third
+
+  pub looked_keep : (d4 : Device) (s : ℕ) → Reads (px Ssts) s d3 d4 → KeepsServing d0 d4
+  looked_keep d4 s fourth =
+      let a = reading_runs d0 d1 l.on.no_reset (px Is) v l run first in
+      keeps_then (reading_keeps d0 d1 l.on.no_reset (px Is) v first)
+      (keeps_then (interrupts_keep d1 d2 a.0.on.no_reset w second)
+      (keeps_then (acknowledging_keeps d2 d3 second_runs.0.on.no_reset 1 third)
+      (reading_keeps d3 d4 looked_run.0.on.no_reset (px Ssts) s fourth)))

@@ -1,0 +1,21 @@
+use Rattle.std.proofs.Common.{◌∙◌}
+use Rattle.block_server.proofs.Issuing.{none_after, may_issue}
+use Rattle.block_server.proofs.Looking.{issue_serves}
+use Rattle.block_server.proofs.Serving.{steps_hold}
+use Rattle.block_server.proofs.slot.issue.Goals as goal
+
+pub write-requires : goal.write-requires
+write-requires g c = λ mid steps.
+    let s = c.write_read.ensures.serves in
+    let h = c.write_read.ensures.holds in
+    let t = none_after _ mid s steps in
+    (t.0.on, t.1.there, may_issue _ mid t (steps_hold _ _ mid s.0 s.1 h steps))
+
+pub returns-clause-serves : goal.returns-clause-serves
+returns-clause-serves g c = (issue_serves _ _ _ c.write_read.ensures.serves c.write_read.ensures.holds c.write.ensures).0
+
+pub returns-clause-issued : goal.returns-clause-issued
+returns-clause-issued g c = (issue_serves _ _ _ c.write_read.ensures.serves c.write_read.ensures.holds c.write.ensures).1
+
+pub returns-clause-size : goal.returns-clause-size
+returns-clause-size g c = (issue_serves _ _ _ c.write_read.ensures.serves c.write_read.ensures.holds c.write.ensures).2 ∙ c.write_read.ensures.size
