@@ -28,7 +28,8 @@ pub fn without_bit(value: u32, place: u32) -> u32
     value & !(1 << place)
 }
 
-/// Whether the value has the mask's bit.
+/// Whether the value has the mask's bit. A method whose body names the mask and whose clause names the place has the
+/// two checked against each other.
 pub(crate) fn has(value: u32, mask: u32) -> bool
     ensures { (place : ℕ) → mask ≡ 2 ^ place → result ≡ bit value place }
 {

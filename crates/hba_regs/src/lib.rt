@@ -18,7 +18,6 @@ pub use reg::{PortReg, Reg};
 mod tests {
     use super::*;
     use ata_types::Port;
-    use bitflags::Flags;
 
     // Values of registers, with what the names of AHCI's bits and fields say of them.
     #[test]
