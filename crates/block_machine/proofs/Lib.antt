@@ -1,1 +1,1 @@
-mod RuleLemmas
+pub mod RuleLemmas

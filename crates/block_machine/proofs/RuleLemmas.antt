@@ -51,7 +51,7 @@ late (FrameForeign i) = (omega arith, omega arith)
 late (FrameTwice i) = (omega arith, omega arith)
 late (FrameLent i) = (omega arith, omega arith)
 
-same_rule : (a b : Rule) → number a ≡ number b → place a ≡ place b → a ≡ b
+pub same_rule : (a b : Rule) → number a ≡ number b → place a ≡ place b → a ≡ b
 same_rule NoGrant NoGrant n p = refl
 same_rule NoRight NoRight n p = refl
 same_rule BadCount BadCount n p = refl

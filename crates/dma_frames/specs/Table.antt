@@ -1,0 +1,40 @@
+-- Who owns each frame, and which request each frame is lent to.
+use Rattle.std.specs.Prelude.{◌≡◌, ℕ, ◌+◌, ◌<◌, ◌≤◌, List, Option, None, slice_index_or, All, Contains}
+use Rattle.ata_types.specs.declared.request.ClientId.{ClientId}
+use Rattle.ata_types.specs.declared.request.Frame.{Frame}
+use Rattle.ata_types.specs.declared.request.RequestId.{RequestId}
+
+-- by the frame's number: its owner, and the request that it is lent to
+pub record Table : Type 0 where
+  pub owners : List (Option ClientId)
+  pub lent : List (Option RequestId)
+
+-- a frame past the memory is owned by nobody
+abbrev pub owner_of : Table → Frame → Option ClientId
+owner_of t f = slice_index_or t.owners f.0 None
+
+-- a frame past the memory is lent to none
+abbrev pub lent_to : Table → Frame → Option RequestId
+lent_to t f = slice_index_or t.lent f.0 None
+
+-- these frames are now lent to this request, or to none, and nothing else changed
+pub record LendsOnly (old new : Table) (frames : List Frame) (to : Option RequestId) : Type 0 where
+  pub owners : new.owners ≡ old.owners
+  pub these : All (λ f. lent_to new f ≡ to) frames
+  pub others : (f : Frame) → (Contains frames f → ⊥) → lent_to new f ≡ lent_to old f
+
+-- frames in a row, of one owner: the owner, the first frame, how many
+abbrev pub Run : Type 0
+Run = ClientId × Frame × ℕ
+
+-- the frame is one of the run
+abbrev pub HasFrame : Run → Frame → Type 0
+HasFrame run f = (run.1.0 ≤ f.0) × (f.0 < run.1.0 + run.2)
+
+-- The owner is one of 1 to 8, and each frame is one of the memory's 1024. A run of no frames may begin anywhere.
+abbrev pub IsRun : Run → Type 0
+IsRun run = (1 ≤ run.0.0) × (run.0.0 ≤ 8) × ((f : Frame) → HasFrame run f → f.0 < 1024)
+
+-- no frame is in both
+abbrev pub AreApart : Run → Run → Type 0
+AreApart a b = (f : Frame) → HasFrame a f → HasFrame b f → ⊥

@@ -1,0 +1,2 @@
+mod RowLemmas
+mod RuleLemmas
