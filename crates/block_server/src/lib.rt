@@ -2,7 +2,12 @@
 #![tactic(auto)]
 
 mod command_table;
+mod lookup;
 mod port;
+mod server;
 mod slot;
+mod types;
 
 pub use command_table::{encode_h2d, header, prds, table_bytes};
+pub use server::Server;
+pub use types::{Accepted, Event, RunStopped, Said, ServerError, Setup};

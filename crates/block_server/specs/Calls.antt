@@ -1,0 +1,136 @@
+-- What each call of the server does.
+use Rattle.std.specs.Prelude.{ℕ, Bool, true, false, ◌≡◌, ◌+◌, ◌*◌, ◌<◌, ◌≤◌, ◌⊎◌, List, [], ◌∷◌, ◌++◌, length, Option, Some, None, Ok, Err, All, AllPairs, Contains, take, min, if◌then◌else◌, nat_eq, ◌≢◌}
+use Rattle.std.specs.declared.result.Result.{Result}
+use Rattle.ata_types.specs.declared.Port.{Port}
+use Rattle.ata_types.specs.declared.PortState.{PortState}
+use Rattle.ata_types.specs.declared.PortState.TheVariants.{Absent, Ready}
+use Rattle.ata_types.specs.declared.grant.GrantRow.{GrantRow}
+use Rattle.ata_types.specs.declared.refusal.MemFault.{MemFault}
+use Rattle.ata_types.specs.declared.refusal.Refusal.{Refusal}
+use Rattle.ata_types.specs.declared.request.ClientId.{ClientId}
+use Rattle.ata_types.specs.declared.request.Frame.{Frame}
+use Rattle.ata_types.specs.declared.request.Outcome.TheVariants as outcome
+use Rattle.ata_types.specs.declared.request.Reply.{Reply}
+use Rattle.ata_types.specs.declared.request.Request.{Request}
+use Rattle.ata_types.specs.declared.request.RequestId.{RequestId}
+use Rattle.adapter.specs.Access.{Loads}
+use Rattle.adapter.specs.Device.{Device}
+use Rattle.adapter.specs.Idle.{IsIdle}
+use Rattle.adapter.specs.Steps.{Steps}
+use Rattle.block_machine.specs.Refusals.{Situation, IsAcceptable, IsFirstRefusal, IsOpen, IsFirstMemFault}
+use Rattle.block_machine.specs.Rules.{DifferInName}
+use Rattle.dma_frames.specs.Table.{Run, Table, owner_of, lent_to, LendsOnly, HasFrame, IsRun, AreApart}
+use Rattle.block_server.specs.Book.{IsReadGrant, unanswered_of}
+use Rattle.block_server.specs.View.{ServerView}
+use Rattle.block_server.specs.declared.types.Accepted.{Accepted}
+
+-- ---- the maker
+
+-- The configuration is one that this server can serve: frames 41 to 1024; owners 1 to 8 of client frames, no frame twice;
+-- at most 64 grants of reads, none twice.
+pub record IsSetup (frames : ℕ) (owners : List Run) (grants : List GrantRow) : Type 0 where
+  pub frames_from : 41 ≤ frames
+  pub frames_to : frames ≤ 1024
+  pub runs : All IsRun owners
+  pub apart : AllPairs AreApart owners
+  pub clients : (run : Run) (f : Frame) → Contains owners run → HasFrame run f → (40 ≤ f.0) × (f.0 < frames)
+  pub few : length grants ≤ 64
+  pub names : AllPairs DifferInName grants
+  pub reads : All IsReadGrant grants
+
+-- the adapter is idle and has the frames
+pub record IsReadyFor (frames : ℕ) (d : Device) : Type 0 where
+  pub idle : IsIdle d
+  pub room : 4096 * frames ≤ d.size
+
+-- ---- where a request stands
+
+-- a port's state, for clients: no port but port 0 is used
+abbrev pub state_of : {A : Type 0} → ServerView A → Port → PortState
+state_of s port = if nat_eq port.0 0 then s.state else Absent
+
+abbrev pub situation_of : {A : Type 0} → ServerView A → Situation
+situation_of s = record {
+  rows = s.grants;
+  owner = owner_of s.table;
+  lent = lent_to s.table;
+  state = state_of s;
+  sectors = λ _. s.sectors;
+  trims = λ _. false;
+  unanswered = λ client. unanswered_of s.book client.0;
+  next = s.last + 1;
+}
+
+-- ---- the calls
+
+-- grants, owners, state, sectors and ids are as they were
+pub record SameSetup {A : Type 0} (old new : ServerView A) : Type 0 where
+  pub grants : new.grants ≡ old.grants
+  pub owners : new.table.owners ≡ old.table.owners
+  pub state : new.state ≡ old.state
+  pub sectors : new.sectors ≡ old.sectors
+
+-- the book's entry for a request
+abbrev pub accepted_as : Request → RequestId → Accepted
+accepted_as r id =
+    record { id = id; client = r.client; first = r.first; count = r.count; loan = record { frames = r.frames.items; request = id } }
+
+-- The request goes last in the book with the next id, its frames are lent to it, and the first of the book is issued: its bit
+-- of CI is set if it wasn't issued before.
+pub record Accepts {A : Type 0} (device : A → Device) (old new : ServerView A) (r : Request) (id : RequestId) : Type 0 where
+  pub acceptable : IsAcceptable (situation_of old) r
+  pub id_is : id.0 ≡ old.last + 1
+  pub last : new.last ≡ old.last + 1
+  pub book : new.book ≡ old.book ++ accepted_as r id ∷ []
+  pub lent : LendsOnly old.table new.table r.frames.items (Some id)
+  pub setup : SameSetup old new
+  pub issued : new.issued ≡ true
+  pub sent : old.issued ≡ false → ((device new.adapter).port 0).ci 0 ≡ true
+
+-- A refused request is told the first cause that applies, and changes nothing: neither server nor adapter.
+abbrev pub Submits : {A : Type 0} → (A → Device) → ServerView A → ServerView A → Request → Result RequestId Refusal → Type 0
+Submits device old new r (Ok id) = Accepts device old new r id
+Submits device old new r (Err refusal) = IsFirstRefusal (situation_of old) r refusal × (new ≡ old)
+
+-- the reply that says that a read was done
+abbrev pub done_reply : Accepted → Reply
+done_reply e = record { id = e.id; client = e.client; outcome = outcome.Ok }
+
+-- Nobody is answered: the book and what is lent are as they were, and nothing more is issued.
+pub record AnswersNone {A : Type 0} (old new : ServerView A) (replies : List Reply) : Type 0 where
+  pub replies_are : replies ≡ []
+  pub book : new.book ≡ old.book
+  pub table : new.table ≡ old.table
+  pub issued : new.issued ≡ old.issued
+
+-- The first of the book, which was issued, is answered Ok: it leaves the book, its frames are given back, and the next of the
+-- book is issued.
+pub record AnswersFirst {A : Type 0} (device : A → Device) (old new : ServerView A) (replies : List Reply) : Type 0 where
+  pub entry : Accepted
+  pub was_issued : old.issued ≡ true
+  pub replies_are : replies ≡ done_reply entry ∷ []
+  pub book : old.book ≡ entry ∷ new.book
+  pub lent : LendsOnly old.table new.table entry.loan.frames None
+  pub sent : new.book ≢ [] → (new.issued ≡ true) × (((device new.adapter).port 0).ci 0 ≡ true)
+
+pub record Services {A : Type 0} (device : A → Device) (old new : ServerView A) (replies : List Reply) : Type 0 where
+  pub setup : SameSetup old new
+  pub last : new.last ≡ old.last
+  pub answers : AnswersNone old new replies ⊎ AnswersFirst device old new replies
+
+-- A refused load is told the first cause that applies, and changes nothing, the buffer neither. Another brings the frame's
+-- bytes and changes nothing of the server but what the device does meanwhile.
+abbrev pub LoadsFrame : {A : Type 0} → (A → Device) → ServerView A → ServerView A → ClientId → Frame → ℕ → List ℕ → List ℕ → Result (Unit {0}) MemFault → Type 0
+LoadsFrame device old new client frame offset before bytes (Ok done) =
+    IsOpen (owner_of old.table) (lent_to old.table) client frame offset (length before)
+    × Loads (4096 * frame.0 + offset) bytes (device old.adapter) (device new.adapter)
+    × (new ≡ record old { adapter = new.adapter })
+LoadsFrame device old new client frame offset before bytes (Err fault) =
+    IsFirstMemFault (owner_of old.table) (lent_to old.table) client frame offset (length before) fault
+    × (new ≡ old) × (bytes ≡ before)
+
+-- The device does what it is told, or nothing; of the server nothing else changes.
+pub record StepsDevice {A : Type 0} (device : A → Device) (old new : ServerView A) (done : Bool) : Type 0 where
+  pub steps : Steps (device old.adapter) (device new.adapter)
+  pub refused : done ≡ false → device new.adapter ≡ device old.adapter
+  pub rest : new ≡ record old { adapter = new.adapter }
