@@ -1,8 +1,10 @@
+mod Booking
 mod Booting
 mod Cover
 mod Parts
 mod Issuing
 mod Looking
 mod PortLemmas
+mod Ruling
 mod Serving
 mod Zeros
