@@ -171,3 +171,13 @@ pub owns_on : (old new : Table) (size more : ℕ) → new.owners ≡ old.owners 
 owns_on old new size more owners same owns f client owner =
     let o = owns f client (ap (λ (list : List (Option ClientId)). get_or list f.0 None) (sym owners) ∙ owner) in
     (o.0, let inside = o.1 in omega (arith, same, inside))
+
+-- a client that has room leaves room in the book
+pub room_left : (table : Table) (book : List Accepted) (e : Accepted) → All (IsAccepted table) book → ((client : ℕ) → unanswered_of book client ≤ 16) →
+    unanswered_of book e.client.0 < 16 → 1 ≤ e.client.0 → e.client.0 ≤ 8 → length book < 128
+room_left table book e accepted few room low high =
+    let more : (client : ℕ) → unanswered_of (book ++ e ∷ []) client ≤ 16 = few_more book e few room in
+    let clients = All-push IsClients book e (All-weaker (IsAccepted table) IsClients (λ x a. (a.client_from, a.client_to)) book accepted) (low, high) in
+    let h = counted_all (book ++ e ∷ []) clients in
+    let n = length-append book (e ∷ []) in
+    omega (arith, h, n, more 1, more 2, more 3, more 4, more 5, more 6, more 7, more 8)

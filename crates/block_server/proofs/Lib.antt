@@ -1,10 +1,13 @@
+mod Accepting
 mod Booking
 mod Booting
 mod Cover
+mod Making
 mod Parts
 mod Issuing
 mod Looking
 mod PortLemmas
+mod Refusing
 mod Ruling
 mod Serving
 mod Zeros

@@ -120,7 +120,7 @@ is_true_false h e = true-false h e
 
 module _ (rows : List GrantRow) (table : Table) (r : Request) (reads : All IsReadGrant rows)
   (none : BreaksNone rows (owner_of table) (lent_to table) r) where
-  grant_of : (row : GrantRow) → IsNamed rows r row → IsReadGrant row
+  pub grant_of : (row : GrantRow) → IsNamed rows r row → IsReadGrant row
   grant_of row named = let c = named.0 in let P : GrantRow → Type 0 = λ x. IsReadGrant x in subst P c.2 (reads c.0 row c.1)
 
   -- what can be told apart holds if it holds of each row that is named

@@ -21,6 +21,8 @@ use Rattle.block_machine.specs.Refusals.{Situation, IsAcceptable, IsFirstRefusal
 use Rattle.block_machine.specs.Rules.{DifferInName}
 use Rattle.dma_frames.specs.Table.{Run, Table, owner_of, lent_to, LendsOnly, HasFrame, IsRun, AreApart}
 use Rattle.block_server.specs.Book.{IsReadGrant, unanswered_of}
+use Rattle.grants.specs.Rows.{SameRows}
+use Rattle.block_server.specs.Port.{IsBroughtUp}
 use Rattle.block_server.specs.View.{ServerView}
 use Rattle.block_server.specs.declared.types.Accepted.{Accepted}
 
@@ -62,6 +64,10 @@ situation_of s = record {
 }
 
 -- ---- the calls
+
+-- only the adapter is another
+abbrev pub SameServer : {A : Type 0} → ServerView A → ServerView A → Type 0
+SameServer old new = new ≡ record old { adapter = new.adapter }
 
 -- grants, owners, state, sectors and ids are as they were
 pub record SameSetup {A : Type 0} (old new : ServerView A) : Type 0 where
@@ -124,7 +130,7 @@ abbrev pub LoadsFrame : {A : Type 0} → (A → Device) → ServerView A → Ser
 LoadsFrame device old new client frame offset before bytes (Ok done) =
     IsOpen (owner_of old.table) (lent_to old.table) client frame offset (length before)
     × Loads (4096 * frame.0 + offset) bytes (device old.adapter) (device new.adapter)
-    × (new ≡ record old { adapter = new.adapter })
+    × SameServer old new
 LoadsFrame device old new client frame offset before bytes (Err fault) =
     IsFirstMemFault (owner_of old.table) (lent_to old.table) client frame offset (length before) fault
     × (new ≡ old) × (bytes ≡ before)
@@ -133,4 +139,19 @@ LoadsFrame device old new client frame offset before bytes (Err fault) =
 pub record StepsDevice {A : Type 0} (device : A → Device) (old new : ServerView A) (done : Bool) : Type 0 where
   pub steps : Steps (device old.adapter) (device new.adapter)
   pub refused : done ≡ false → device new.adapter ≡ device old.adapter
-  pub rest : new ≡ record old { adapter = new.adapter }
+  pub rest : SameServer old new
+
+-- The server as it is made: nothing is asked, nothing lent, and no id handed out. It holds the rows and the owners that it was
+-- given.
+pub record IsNew {A : Type 0} (device : A → Device) (owners : List Run) (grants : List GrantRow) (adapter : A) (sectors : ℕ) (s : ServerView A) : Type 0 where
+  pub book : s.book ≡ []
+  pub issued : s.issued ≡ false
+  pub last : s.last ≡ 0
+  pub sectors_are : s.sectors ≡ sectors
+  pub rows : SameRows grants s.grants
+  pub owned : (run : Run) (f : Frame) → Contains owners run → HasFrame run f → owner_of s.table f ≡ Some run.0
+  pub only : (f : Frame) (client : ClientId) → owner_of s.table f ≡ Some client → (run : Run) × Contains owners run × HasFrame run f × (run.0 ≡ client)
+  pub free : (f : Frame) → lent_to s.table f ≡ None
+  pub size : (device s.adapter).size ≡ (device adapter).size
+  pub brought_up : IsBroughtUp s.state (device s.adapter)
+

@@ -1,5 +1,5 @@
 // The server.
-ghost use Rattle.std.specs.Prelude.{◌≡◌, ◌≤◌, ◌<◌, ◌*◌, ◌+◌, IfOk, IfErr, OnErr, MatchOption, None, Some, length};
+ghost use Rattle.std.specs.Prelude.{◌≡◌, ◌≢◌, ◌<◌, ◌+◌, ◌↔◌, IsTrue, IfOk, IfErr, MatchOption};
 
 use crate::lookup::unanswered;
 use crate::port::{bring_up, power_on};
@@ -49,7 +49,45 @@ impl<A: Adapter> Model for Server<A> {
 }
 
 impl<A: Adapter> Server<A> {
-    ghost use Rattle.block_server.specs.Calls.{state_of};
+    ghost use Rattle.block_machine.specs.Refusals.{IsAcceptable, IsFirstRefusal};
+    ghost use Rattle.block_server.specs.Calls.{IsSetup, IsReadyFor, IsNew, state_of, situation_of, Accepts, Submits, AnswersFirst, Services, LoadsFrame, SameServer};
+
+    /// A server of the port's disk, which has so many sectors: port 0 is brought up, and nothing is asked yet. Provisional:
+    /// the number of sectors isn't read from the disk.
+    ///
+    /// Where memory is refused, the adapter comes back as it was.
+    pub fn first(
+        alloc: Global,
+        setup: &Setup,
+        adapter: A,
+        sectors: u64,
+    ) -> Result<Self, (ServerError, A)>
+        requires setup { IsSetup setup.now.frames setup.now.owners.now setup.now.grants.now }
+        requires ready { IsReadyFor setup.now.frames (A.device adapter) }
+        ensures made { IfOk result (λ s. IsNew A.device setup.now.owners.now setup.now.grants.now adapter sectors s) }
+        ensures refused { IfErr result (λ e. (e.0 ≡ ServerError.NoMemory) × (e.1 ≡ adapter)) }
+    {
+        let Ok(grants) = Grants::from_rows(alloc, setup.grants) else {
+            return Err((ServerError::NoMemory, adapter));
+        };
+        let Ok(book) = Vec::with_capacity(alloc, PLACES) else {
+            return Err((ServerError::NoMemory, adapter));
+        };
+        let table = FrameTable::new(setup.owners);
+        let mut adapter = adapter;
+        power_on(&mut adapter);
+        let state = bring_up(&mut adapter);
+        Ok(Server {
+            adapter,
+            grants,
+            table,
+            state,
+            sectors,
+            book,
+            issued: false,
+            last: 0,
+        })
+    }
 
     /// The adapter behind the server.
     pub fn adapter(&self) -> &A
@@ -67,5 +105,72 @@ impl<A: Adapter> Server<A> {
         } else {
             PortState::Absent
         }
+    }
+
+    /// Whether the sectors of a request leave the disk's. A flush has none.
+    fn leaves_disk(&self, r: &Request) -> bool
+        ensures { IsTrue result ↔ ((r.now.op ≢ Op.Flush) × (self.now.sectors < r.now.first.0 + r.now.count)) }
+    {
+        let end = r.first.0 as u128 + r.count as u128;
+        r.op != Op::Flush && end > self.sectors as u128
+    }
+
+    /// The first cause to refuse the request, if there is one.
+    fn refusal(&self, r: &Request) -> Option<Refusal>
+        ensures { MatchOption result (IsAcceptable (situation_of self.now) r.now) (λ refusal. IsFirstRefusal (situation_of self.now) r.now refusal) }
+    {
+        if let Err(rule) = decide(r, &self.grants, &self.table) {
+            return Some(Refusal::Rule(rule));
+        }
+        let Some(row) = self.grants.row(r.client, r.grant) else {
+            unreachable!()
+        };
+        let state = self.state(row.port);
+        let PortState::Ready = state else {
+            return Some(Refusal::PortNotReady(state));
+        };
+        if self.leaves_disk(r) {
+            return Some(Refusal::OutsideDisk);
+        }
+        if unanswered(&self.book, r.client) >= CLIENT_PLACES {
+            return Some(Refusal::ClientFull);
+        }
+        if self.last >= u64::MAX {
+            return Some(Refusal::IdsSpent);
+        }
+        None
+    }
+
+    /// Puts the request last into the book, lends it its frames, and issues it if it is the first.
+    fn accept(&mut self, r: &Request) -> RequestId
+        requires { IsAcceptable (situation_of self.old) r.now }
+        ensures { Accepts A.device self.old self.new r.now result }
+    {
+        let id = RequestId(self.last + 1);
+        let loan = self.table.lend(r.client, r.frames.as_slice(), id);
+        self.book.push_reserved(Accepted {
+            id,
+            client: r.client,
+            first: r.first,
+            count: r.count,
+            loan,
+        });
+        self.last = id.0;
+        if !self.issued {
+            issue(&mut self.adapter, r.first, r.count, r.frames.as_slice());
+            self.issued = true;
+        }
+        id
+    }
+
+    /// Asks for a request. It is accepted exactly where no refusal applies, and then answered by a later `service`; its
+    /// frames are lent until then. Where refusals apply, the first of them is told, and nothing changes.
+    pub fn submit(&mut self, r: &Request) -> Result<RequestId, Refusal>
+        ensures { Submits A.device self.old self.new r.now result }
+    {
+        if let Some(refusal) = self.refusal(r) {
+            return Err(refusal);
+        }
+        Ok(self.accept(r))
     }
 }

@@ -1,0 +1,55 @@
+-- What the server keeps when it is made.
+use Rattle.std.proofs.Common.{ℕ, ◌≡◌, ◌+◌, ◌*◌, ◌<◌, ◌≤◌, ◌⊎◌, inl, inr, Bool, true, false, List, [], ◌∷◌, length, Option, Some, None, refl, sym, ◌∙◌, ap, subst, arith, get_or}
+use Rattle.std.specs.List.{All, AllPairs, Contains}
+use Rattle.std.proofs.lemmas.List.{get_or_default}
+use Rattle.std.proofs.lemmas.List.Elements.{All-contains}
+use Rattle.ata_types.specs.declared.PortState.{PortState}
+use Rattle.ata_types.specs.declared.PortState.TheVariants.{Absent, Ready, Foreign, Unfit, Dead}
+use Rattle.ata_types.specs.declared.grant.GrantRow.{GrantRow}
+use Rattle.ata_types.specs.declared.request.ClientId.{ClientId}
+use Rattle.ata_types.specs.declared.request.Frame.{Frame}
+use Rattle.adapter.specs.Device.{Device}
+use Rattle.adapter.proofs.Absurd.{true-false}
+use Rattle.dma_frames.specs.Table.{Run, Table, owner_of, HasFrame}
+use Rattle.grants.specs.Rows.{SameRows}
+use Rattle.block_server.specs.Book.{IsKept, IsReadGrant, OwnsClientFrames, StandsBehind, IsAccepted, IsEarlier, served, unanswered_of}
+use Rattle.block_server.specs.Calls.{IsSetup}
+use Rattle.block_server.specs.Port.{IsBroughtUp}
+use Rattle.block_server.specs.View.{ServerView}
+use Rattle.block_server.specs.declared.types.Accepted.{Accepted}
+
+stands : (state : PortState) (d : Device) → IsBroughtUp state d → StandsBehind state None d
+stands Ready d h = h
+stands Absent d h = (h.0, h.1)
+stands Foreign d h = absurd h
+stands (Unfit n) d h = (h.0, h.1)
+stands Dead d h = absurd h
+
+module _ {A : Type 0} (device : A → Device) (adapter : A) (table : Table) (state : PortState) (sectors : ℕ) (grants : List GrantRow) where
+  abbrev made : List Accepted → ServerView A
+  made book = record { adapter = adapter; grants = grants; table = table; state = state; sectors = sectors; book = book; issued = false; last = 0 }
+
+  pub new_is_kept : {frames size : ℕ} {owners : List Run} {given : List GrantRow} → IsSetup frames owners given → 4096 * frames ≤ size → (device adapter).size ≡ size → SameRows given grants →
+      ((f : Frame) (client : ClientId) → owner_of table f ≡ Some client → (run : Run) × Contains owners run × HasFrame run f × (run.0 ≡ client)) →
+      IsBroughtUp state (device adapter) → (book : List Accepted) → book ≡ [] → (places : ℕ) → 128 ≤ places →
+      IsKept device (record { adapter = adapter; grants = grants; table = table; state = state; sectors = sectors; book = book; issued = false; last = 0 }) places
+  new_is_kept {frames} {size} {owners} {given} setup room size_is rows only brought book none places enough =
+      let P : List Accepted → Type 0 = λ b. IsKept device (made b) places in
+      subst P (sym none) (record {
+        room = enough;
+        few = λ client. omega arith;
+        rows = λ k d small.
+            let there = rows.1 (get_or grants k d) (k, small, get_or_default grants k (get_or grants k d) d small) in
+            All-contains (λ (row : GrantRow). IsReadGrant row) given (get_or grants k d) setup.reads there;
+        owners = λ f client owner.
+            let run = only f client owner in
+            let inside = setup.clients run.0 f run.1 run.2 in
+            (inside.0, omega (arith, inside.1, room, size_is));
+        accepted = λ k d small. absurd (omega (arith, small));
+        ordered = λ i j d lt small. absurd (omega (arith, small));
+        handed_out = λ k d small. absurd (omega (arith, small));
+        due = λ _. refl;
+        some = λ h. true-false h refl;
+        port = stands state (device adapter) brought;
+        ready = λ h. true-false h refl;
+      })

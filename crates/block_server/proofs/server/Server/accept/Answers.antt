@@ -1,0 +1,83 @@
+use Rattle.std.proofs.Common.{ℕ, ◌≡◌, ◌+◌, ◌<◌, ◌≤◌, arith, true, false, List, [], ◌∷◌, ◌++◌, length, Some, refl, sym, ◌∙◌, ap, subst}
+use Rattle.std.specs.Vec.{vec_capacity}
+use Rattle.std.specs.List.{All}
+use Rattle.ata_types.specs.declared.request.Frame.{Frame}
+use Rattle.ata_types.specs.declared.request.RequestId.{RequestId}
+use Rattle.block_machine.specs.Refusals.{IsAcceptable}
+use Rattle.block_machine.specs.Rules.{HasNoFault}
+use Rattle.dma_frames.specs.Loan.{Lending}
+use Rattle.dma_frames.specs.Table.{owner_of, lent_to, LendsOnly}
+use Rattle.block_server.specs.Book.{IsKept, StandsBehind, served}
+use Rattle.block_server.specs.Calls.{situation_of, accepted_as}
+use Rattle.block_server.specs.Port.{Issued, Serves}
+use Rattle.block_server.specs.Seen.{seen}
+use Rattle.block_server.specs.View.{ServerView}
+use Rattle.block_server.specs.declared.types.Accepted.{Accepted}
+use Rattle.block_server.proofs.Accepting as accepting
+use Rattle.block_server.proofs.server.Server.accept.Goals as goal
+
+pub overflow_add-id : goal.overflow_add-id
+overflow_add-id g c =
+    let acc = subst (λ (v : ServerView g.row.A.Denot). IsAcceptable (situation_of v) c.args.r.now) (sym c.self.view_is) c.requires in
+    let h = accepting.id_fits g.A.Adapter.device (seen c.self.inside) (vec_capacity c.self.inside.book) c.self.invariant c.args.r.now acc in omega (arith, h)
+
+pub lend-loan-requires-clause-clear : goal.lend-loan-requires-clause-clear
+lend-loan-requires-clause-clear g c =
+    let acc = subst (λ (v : ServerView g.row.A.Denot). IsAcceptable (situation_of v) c.args.r.now) (sym c.self.view_is) c.requires in
+    subst (λ (frames : List Frame). HasNoFault (owner_of c.self.inside.table) (lent_to c.self.inside.table) c.args.r.now.client frames) (sym c.as_slice.ensures.value) (accepting.clear g.A.Adapter.device (seen c.self.inside) (vec_capacity c.self.inside.book) c.self.invariant c.args.r.now acc)
+
+pub push_reserved-requires : goal.push_reserved-requires
+push_reserved-requires g c =
+    let acc = subst (λ (v : ServerView g.row.A.Denot). IsAcceptable (situation_of v) c.args.r.now) (sym c.self.view_is) c.requires in
+    let h = accepting.book_room g.A.Adapter.device (seen c.self.inside) (vec_capacity c.self.inside.book) c.self.invariant c.args.r.now acc in let l = c.self.inside.book.ok.0 in omega (arith, h, c.self.invariant.room, l)
+
+pub issue-requires-clause-serves : goal.issue-requires-clause-serves
+issue-requires-clause-serves g c =
+    let acc = subst (λ (v : ServerView g.row.A.Denot). IsAcceptable (situation_of v) c.args.r.now) (sym c.self.view_is) c.requires in
+    accepting.none_served g.A.Adapter.device (seen c.self.inside) (vec_capacity c.self.inside.book) c.self.invariant c.args.r.now acc c.if-not-self.true
+
+pub issue-requires-clause-some : goal.issue-requires-clause-some
+issue-requires-clause-some g c =
+    let acc = subst (λ (v : ServerView g.row.A.Denot). IsAcceptable (situation_of v) c.args.r.now) (sym c.self.view_is) c.requires in
+    accepting.some g.A.Adapter.device (seen c.self.inside) (vec_capacity c.self.inside.book) c.self.invariant c.args.r.now acc
+
+pub issue-requires-clause-few : goal.issue-requires-clause-few
+issue-requires-clause-few g c =
+    let acc = subst (λ (v : ServerView g.row.A.Denot). IsAcceptable (situation_of v) c.args.r.now) (sym c.self.view_is) c.requires in
+    accepting.few g.A.Adapter.device (seen c.self.inside) (vec_capacity c.self.inside.book) c.self.invariant c.args.r.now acc
+
+pub issue-requires-clause-first : goal.issue-requires-clause-first
+issue-requires-clause-first g c =
+    let acc = subst (λ (v : ServerView g.row.A.Denot). IsAcceptable (situation_of v) c.args.r.now) (sym c.self.view_is) c.requires in
+    accepting.first g.A.Adapter.device (seen c.self.inside) (vec_capacity c.self.inside.book) c.self.invariant c.args.r.now acc
+
+pub issue-requires-clause-frames : goal.issue-requires-clause-frames
+issue-requires-clause-frames g c =
+    let acc = subst (λ (v : ServerView g.row.A.Denot). IsAcceptable (situation_of v) c.args.r.now) (sym c.self.view_is) c.requires in
+    ap (λ (frames : List Frame). length frames) c.as_slice-then-not-self.ensures.value ∙ accepting.frames g.A.Adapter.device (seen c.self.inside) (vec_capacity c.self.inside.book) c.self.invariant c.args.r.now acc
+
+pub issue-requires-clause-clients : goal.issue-requires-clause-clients
+issue-requires-clause-clients g c =
+    let acc = subst (λ (v : ServerView g.row.A.Denot). IsAcceptable (situation_of v) c.args.r.now) (sym c.self.view_is) c.requires in
+    subst (λ (frames : List Frame). All (λ (f : Frame). 40 ≤ f.0) frames) (sym c.as_slice-then-not-self.ensures.value) (accepting.clients g.A.Adapter.device (seen c.self.inside) (vec_capacity c.self.inside.book) c.self.invariant c.args.r.now acc)
+
+pub invariant_of-self : goal.invariant_of-self
+invariant_of-self g c =
+    let acc = subst (λ (v : ServerView g.row.A.Denot). IsAcceptable (situation_of v) c.args.r.now) (sym c.self.view_is) c.requires in
+    let only_frames : Serves (Some (record { first = c.args.r.now.first.0; count = c.args.r.now.count; frames = c.args.r.now.frames.items })) (g.A.Adapter.device c.issue.new.adapter) =
+        (let P : List Frame → Type 0 = λ frames. Serves (Some (record { first = c.args.r.now.first.0; count = c.args.r.now.count; frames = frames })) (g.A.Adapter.device c.issue.new.adapter) in
+        subst P c.as_slice-then-not-self.ensures.value c.issue.ensures.serves) in
+    let id : RequestId = record { 0 = c.self.inside.last + 1 } in
+    accepting.kept_in g.A.Adapter.device (seen c.self.inside) (vec_capacity c.self.inside.book) c.self.invariant c.args.r.now acc c.issue.new.adapter c.lend-loan.new.self id refl
+    c.lend-loan.result c.as_slice.result.now c.as_slice.ensures.value c.lend-loan.ensures.frames c.lend-loan.ensures.request c.lend-loan.ensures.lent c.issue.ensures.size
+    c.push_reserved.new.self.items c.push_reserved.ensures.items (vec_capacity c.push_reserved.new.self) c.push_reserved.ensures.capacity true refl
+    (accepting.first_served g.A.Adapter.device (seen c.self.inside) (vec_capacity c.self.inside.book) c.self.invariant c.args.r.now acc id c.if-not-self.true c.issue.new.adapter only_frames)
+
+pub invariant_of-self-else-not-self : goal.invariant_of-self-else-not-self
+invariant_of-self-else-not-self g c =
+    let acc = subst (λ (v : ServerView g.row.A.Denot). IsAcceptable (situation_of v) c.args.r.now) (sym c.self.view_is) c.requires in
+    let id : RequestId = record { 0 = c.self.inside.last + 1 } in
+    accepting.kept_in g.A.Adapter.device (seen c.self.inside) (vec_capacity c.self.inside.book) c.self.invariant c.args.r.now acc c.self.inside.adapter c.lend-loan.new.self id refl
+    c.lend-loan.result c.as_slice.result.now c.as_slice.ensures.value c.lend-loan.ensures.frames c.lend-loan.ensures.request c.lend-loan.ensures.lent refl
+    c.push_reserved.new.self.items c.push_reserved.ensures.items (vec_capacity c.push_reserved.new.self) c.push_reserved.ensures.capacity c.self.inside.issued c.if-not-self.false
+    (accepting.still_served g.A.Adapter.device (seen c.self.inside) (vec_capacity c.self.inside.book) c.self.invariant c.args.r.now acc id c.if-not-self.false)
