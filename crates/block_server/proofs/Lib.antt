@@ -1,4 +1,5 @@
 mod Accepting
+mod Answering
 mod Booking
 mod Booting
 mod Cover

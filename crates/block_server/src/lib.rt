@@ -1,6 +1,7 @@
 //! The server: it holds clients' grants and frames, and drives the disk for them.
 #![tactic(auto)]
 
+mod book;
 mod command_table;
 mod lookup;
 mod port;

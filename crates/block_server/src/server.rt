@@ -1,6 +1,7 @@
 // The server.
 ghost use Rattle.std.specs.Prelude.{◌≡◌, ◌≢◌, ◌<◌, ◌+◌, ◌↔◌, IsTrue, IfOk, IfErr, MatchOption};
 
+use crate::book::issue_first;
 use crate::lookup::unanswered;
 use crate::port::{bring_up, power_on};
 use crate::slot::{is_done, issue, look};
@@ -172,5 +173,34 @@ impl<A: Adapter> Server<A> {
             return Err(refusal);
         }
         Ok(self.accept(r))
+    }
+
+    /// Looks at the port. Where its read is done, that is answered, its frames are given back, and the next is issued. Nothing
+    /// is answered any more once the port was disturbed.
+    pub fn service(&mut self) -> Replies
+        ensures { Services A.device self.old self.new result.items }
+    {
+        let mut replies = Replies::new();
+        let PortState::Ready = self.state else {
+            return replies;
+        };
+        if !look(&mut self.adapter) || !self.issued || !is_done(&mut self.adapter) {
+            return replies;
+        }
+        let Accepted {
+            id,
+            client,
+            first: _,
+            count: _,
+            loan,
+        } = self.book.remove(0);
+        self.table.give_back(loan);
+        self.issued = issue_first(&mut self.adapter, &self.book);
+        replies.push(Reply {
+            id,
+            client,
+            outcome: Outcome::Ok,
+        });
+        replies
     }
 }

@@ -1,0 +1,26 @@
+// The book as the port serves it.
+ghost use Rattle.std.specs.Prelude.{◌≡◌, ◌≢◌, true, false, None, [], All};
+ghost use Rattle.block_server.specs.Book.{IsAccepted, served};
+ghost use Rattle.block_server.specs.Port.{Serves};
+ghost use Rattle.dma_frames.specs.Table.{Table};
+
+use crate::Accepted;
+use crate::slot::issue;
+use adapter::Adapter;
+
+/// Issues the first of the book, if there is one. Whether there is.
+pub fn issue_first<A: Adapter>(adapter: &mut A, book: &[Accepted]) -> bool
+    requires serves { Serves None (A.device adapter.old) }
+    requires accepted { (table : Table) × All (IsAccepted table) book.now }
+    ensures serves { Serves (served result book.now) (A.device adapter.new) }
+    ensures none { result ≡ false → book.now ≡ [] }
+    ensures some { result ≡ true → book.now ≢ [] }
+    ensures issued { result ≡ true → ((A.device adapter.new).port 0).ci 0 ≡ true }
+    ensures size { (A.device adapter.new).size ≡ (A.device adapter.old).size }
+{
+    let Some(next) = book.first() else {
+        return false;
+    };
+    issue(adapter, next.first, next.count, next.loan.frames());
+    true
+}
