@@ -2,12 +2,13 @@
 use Rattle.std.proofs.Common.{ℕ, suc, ◌≡◌, ◌≢◌, ◌+◌, ◌*◌, ◌<◌, ◌≤◌, Bool, true, false, List, [], ◌∷◌, length, Option, Some, None, refl, sym, ◌∙◌, ap, subst, arith, get_or}
 use Rattle.std.specs.List.{All, AllPairs}
 use Rattle.std.specs.Prelude.{remove}
-use Rattle.std.proofs.lemmas.List.Elements.{All-tail}
+use Rattle.std.proofs.lemmas.List.Elements.{All-head, All-tail}
 use Rattle.ata_types.specs.declared.PortState.{PortState}
 use Rattle.ata_types.specs.declared.PortState.TheVariants.{Ready}
+use Rattle.ata_types.specs.declared.request.RequestId.{RequestId}
 use Rattle.adapter.specs.Device.{Device}
 use Rattle.adapter.proofs.Absurd.{true-false}
-use Rattle.dma_frames.specs.Table.{Table, LendsOnly}
+use Rattle.dma_frames.specs.Table.{Table, lent_to, LendsOnly}
 use Rattle.block_server.specs.Book.{IsKept, IsAccepted, IsEarlier, StandsBehind, served, issued_of, unanswered_of}
 use Rattle.block_server.specs.Port.{Serves, FindsDone, Issued}
 use Rattle.block_server.specs.View.{ServerView}
@@ -98,3 +99,11 @@ module _ {A : Type 0} (device : A → Device) (s : ServerView A) (places : ℕ) 
               port = stands (served again rest) (device adapter) serves;
               ready = λ _. ready;
             }
+
+-- the frames of the first are lent to it
+pub first_lent : (table : Table) (book rest : List Accepted) (e : Accepted) → book ≡ e ∷ rest → All (IsAccepted table) book →
+    All (λ f. lent_to table f ≡ Some e.loan.request) e.loan.frames
+first_lent table book rest e is all k d small =
+    let P : List Accepted → Type 0 = λ b. All (IsAccepted table) b in
+    let a : IsAccepted table e = All-head (IsAccepted table) e rest (subst P is all) in
+    a.lent k d small ∙ ap (λ (x : RequestId). Some x) (sym a.request)

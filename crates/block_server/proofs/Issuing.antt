@@ -42,7 +42,7 @@ bit_of_one k h = elim (cases_eq k 0) [ inl e ↦ e | inr ne ↦ true-false h (bi
 
 -- ---- stores while no slot is in use
 
-all_free : (d : Device) → Serves None d → (slot : ℕ) → IsSlotFree (d.port 0) slot
+pub all_free : (d : Device) → Serves None d → (slot : ℕ) → IsSlotFree (d.port 0) slot
 all_free d s slot =
     elim (cases_eq slot 0) [
       | inl e ↦ let P : ℕ → Type 0 = λ k. IsSlotFree (d.port 0) k in subst P (sym e) s.2

@@ -6,6 +6,7 @@ mod Cover
 mod Making
 mod Parts
 mod Issuing
+mod Loading
 mod Looking
 mod PortLemmas
 mod Refusing

@@ -1,12 +1,13 @@
 // The book as the port serves it.
-ghost use Rattle.std.specs.Prelude.{◌≡◌, ◌≢◌, true, false, None, [], All};
-ghost use Rattle.block_server.specs.Book.{IsAccepted, served};
+ghost use Rattle.std.specs.Prelude.{◌≡◌, ◌≢◌, true, false, None, [], All, AllPairs};
+ghost use Rattle.block_server.specs.Book.{IsAccepted, IsEarlier, served};
 ghost use Rattle.block_server.specs.Port.{Serves};
 ghost use Rattle.dma_frames.specs.Table.{Table};
 
 use crate::Accepted;
 use crate::slot::issue;
 use adapter::Adapter;
+use dma_frames::FrameTable;
 
 /// Issues the first of the book, if there is one. Whether there is.
 pub fn issue_first<A: Adapter>(adapter: &mut A, book: &[Accepted]) -> bool
@@ -23,4 +24,23 @@ pub fn issue_first<A: Adapter>(adapter: &mut A, book: &[Accepted]) -> bool
     };
     issue(adapter, next.first, next.count, next.loan.frames());
     true
+}
+
+/// Ends a book: what it has lent is given back.
+pub fn give_all_back(book: Vec<Accepted>, table: &mut FrameTable)
+    requires accepted { All (IsAccepted table.old) book.items }
+    requires ordered { AllPairs IsEarlier book.items }
+{
+    let mut book = book;
+    while !book.is_empty() {
+        let Accepted {
+            id: _,
+            client: _,
+            first: _,
+            count: _,
+            loan,
+        } = book.remove(0);
+        table.give_back(loan);
+    }
+    book.destroy_empty();
 }

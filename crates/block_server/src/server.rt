@@ -1,8 +1,8 @@
 // The server.
 ghost use Rattle.std.specs.Prelude.{◌≡◌, ◌≢◌, ◌<◌, ◌+◌, ◌↔◌, IsTrue, IfOk, IfErr, MatchOption};
 
-use crate::book::issue_first;
-use crate::lookup::unanswered;
+use crate::book::{give_all_back, issue_first};
+use crate::lookup::{owns, unanswered};
 use crate::port::{bring_up, power_on};
 use crate::slot::{is_done, issue, look};
 use crate::{Accepted, ServerError, Setup};
@@ -202,5 +202,52 @@ impl<A: Adapter> Server<A> {
             outcome: Outcome::Ok,
         });
         replies
+    }
+
+    /// Copies bytes of a client's own frame out, from an offset in bytes on. Not while the frame is lent.
+    pub fn client_load(&mut self, client: ClientId, frame: Frame, offset: u32, out: &mut [u8]) -> Result<(), MemFault>
+        ensures { LoadsFrame A.device self.old self.new client frame offset out.old out.new result }
+    {
+        if !owns(&self.table, client, frame) {
+            return Err(MemFault::FrameForeign);
+        }
+        if self.table.lent_to(frame).is_some() {
+            return Err(MemFault::FrameLent);
+        }
+        if offset as u128 + out.len() as u128 > FRAME_BYTES as u128 {
+            return Err(MemFault::OutsideFrame);
+        }
+        self.adapter.load(FRAME_BYTES * frame.0 as u32 + offset, out);
+        Ok(())
+    }
+
+    /// Ends the server. The adapter comes back as it is: what is issued stays issued.
+    pub fn close(self) -> A
+        ensures { result ≡ self.adapter }
+    {
+        let Server {
+            adapter,
+            grants: _,
+            table,
+            state: _,
+            sectors: _,
+            book,
+            issued: _,
+            last: _,
+        } = self;
+        let mut table = table;
+        give_all_back(book, &mut table);
+        adapter
+    }
+}
+
+impl<A: Stepped> Server<A> {
+    ghost use Rattle.block_server.specs.Calls.{StepsDevice};
+
+    /// Has the device do a step, if that is possible.
+    pub fn device(&mut self, step: &DeviceStep) -> bool
+        ensures { StepsDevice A.device self.old self.new result }
+    {
+        self.adapter.step(step)
     }
 }
