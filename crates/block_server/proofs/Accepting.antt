@@ -1,8 +1,8 @@
 -- What the server keeps when it accepts a request.
-use Rattle.std.proofs.Common.{ℕ, ◌≡◌, ◌≢◌, ◌+◌, ◌*◌, ◌/◌, ◌^◌, ◌<◌, ◌≤◌, inl, inr, Bool, true, false, List, [], ◌∷◌, ◌++◌, length, Option, Some, None, refl, sym, ◌∙◌, ap, subst, arith, get_or, if◌then◌else◌, nat_eq}
-use Rattle.std.specs.List.{All, AllPairs, Contains}
+use Rattle.std.proofs.Common.{ℕ, ◌≡◌, ◌≢◌, ◌+◌, ◌/◌, ◌^◌, ◌<◌, ◌≤◌, inl, inr, Bool, true, false, List, [], ◌∷◌, ◌++◌, length, Option, Some, None, refl, sym, ◌∙◌, ap, subst, arith, if◌then◌else◌, nat_eq}
+use Rattle.std.specs.List.{All}
 use Rattle.std.proofs.lemmas.Bool.{cases_lt}
-use Rattle.std.proofs.lemmas.List.Elements.{All-push, All-weaker}
+use Rattle.std.proofs.lemmas.List.Elements.{All-push}
 use Rattle.std.proofs.lemmas.List.Quantifiers.{all_pairs_push}
 use Rattle.ata_types.specs.declared.PortState.{PortState}
 use Rattle.ata_types.specs.declared.PortState.TheVariants.{Absent, Ready, Foreign, Unfit, Dead}
@@ -18,7 +18,7 @@ use Rattle.block_machine.specs.Refusals.{IsAcceptable}
 use Rattle.block_machine.specs.Rules.{IsNamed, BreaksNone, HasNoFault}
 use Rattle.dma_frames.specs.Loan.{Lending}
 use Rattle.dma_frames.specs.Table.{Table, owner_of, lent_to, LendsOnly}
-use Rattle.block_server.specs.Book.{IsKept, IsAccepted, IsEarlier, IsReadGrant, StandsBehind, served, issued_of, unanswered_of}
+use Rattle.block_server.specs.Book.{IsKept, IsAccepted, IsEarlier, StandsBehind, served, issued_of, unanswered_of}
 use Rattle.block_server.specs.Calls.{situation_of, state_of, accepted_as}
 use Rattle.block_server.specs.Port.{Serves, Issued}
 use Rattle.block_server.specs.View.{ServerView}
@@ -84,7 +84,7 @@ module _ {A : Type 0} (device : A → Device) (s : ServerView A) (places : ℕ) 
 
   -- the server with the request in its book
   module _ (adapter : A) (table : Table) (id : RequestId) (id_is : id.0 ≡ s.last + 1) (lends : LendsOnly s.table table r.frames.items (Some id))
-    (size : (device adapter).size ≡ (device s.adapter).size) where
+      (size : (device adapter).size ≡ (device s.adapter).size) where
     entry : Accepted
     entry = accepted_as r id
 
@@ -166,7 +166,7 @@ module _ {A : Type 0} (device : A → Device) (s : ServerView A) (places : ℕ) 
       let R : ℕ → Type 0 = λ n. IsKept device (record s { adapter = adapter; table = table; book = book; issued = issued; last = s.last + 1 }) n in
       let kept = kept_more adapter table id id_is (subst L frames_are lends) size port in
       let lending : loan ≡ record { frames = r.frames.items; request = id } =
-          ap (λ (list : List Frame). record { frames = list; request = loan.request }) (loan_is ∙ frames_are) ∙ ap (λ (x : RequestId). record { frames = r.frames.items; request = x }) to_it in
+      ap (λ (list : List Frame). record { frames = list; request = loan.request }) (loan_is ∙ frames_are) ∙ ap (λ (x : RequestId). record { frames = r.frames.items; request = x }) to_it in
       let same : book ≡ s.book ++ accepted_as r id ∷ [] =
-          book_is ∙ ap (λ (l : Lending). s.book ++ record { id = id; client = r.client; first = r.first; count = r.count; loan = l } ∷ []) lending in
+      book_is ∙ ap (λ (l : Lending). s.book ++ record { id = id; client = r.client; first = r.first; count = r.count; loan = l } ∷ []) lending in
       subst R (sym room_is) (subst I (sym issued_is) (subst B (sym same) kept))

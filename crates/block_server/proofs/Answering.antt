@@ -1,5 +1,5 @@
 -- What the server keeps while it serves.
-use Rattle.std.proofs.Common.{ℕ, suc, ◌≡◌, ◌≢◌, ◌+◌, ◌*◌, ◌<◌, ◌≤◌, Bool, true, false, List, [], ◌∷◌, length, Option, Some, None, refl, sym, ◌∙◌, ap, subst, arith, get_or}
+use Rattle.std.proofs.Common.{ℕ, ◌≡◌, ◌≢◌, ◌≤◌, Bool, true, false, List, [], ◌∷◌, Option, Some, None, refl, sym, ◌∙◌, ap, subst, get_or}
 use Rattle.std.specs.List.{All, AllPairs}
 use Rattle.std.specs.Prelude.{remove}
 use Rattle.std.proofs.lemmas.List.Elements.{All-head, All-tail}
@@ -7,7 +7,6 @@ use Rattle.ata_types.specs.declared.PortState.{PortState}
 use Rattle.ata_types.specs.declared.PortState.TheVariants.{Ready}
 use Rattle.ata_types.specs.declared.request.RequestId.{RequestId}
 use Rattle.adapter.specs.Device.{Device}
-use Rattle.adapter.proofs.Absurd.{true-false}
 use Rattle.dma_frames.specs.Table.{Table, lent_to, LendsOnly}
 use Rattle.block_server.specs.Book.{IsKept, IsAccepted, IsEarlier, StandsBehind, served, issued_of, unanswered_of}
 use Rattle.block_server.specs.Port.{Serves, FindsDone, Issued}
@@ -45,7 +44,7 @@ module _ {A : Type 0} (device : A → Device) (s : ServerView A) (places : ℕ) 
   }
 
   module _ (issued : s.issued ≡ true) (first next : Device) (serves : Serves (served s.issued s.book) first) (done : Bool)
-    (found : (r : Issued) → Serves (Some r) first → FindsDone r done next) where
+      (found : (r : Issued) → Serves (Some r) first → FindsDone r done next) where
     by_book : (book : List Accepted) → book ≢ [] → Serves (served true book) first → done ≡ false → Serves (served true book) next
     by_book [] some there not = absurd (some refl)
     by_book (e ∷ es) some there not = let P : Bool → Type 0 = λ b. FindsDone (issued_of e) b next in subst P not (found (issued_of e) there)
@@ -76,7 +75,7 @@ module _ {A : Type 0} (device : A → Device) (s : ServerView A) (places : ℕ) 
         IsKept device (record s { adapter = adapter; table = table; book = book; issued = again }) room
     kept_rest adapter size book is again none some serves room room_is =
         let B : List Accepted → Type 0 = λ b. (again ≡ false → b ≡ []) → (again ≡ true → b ≢ []) → Serves (served again b) (device adapter) →
-            IsKept device (record s { adapter = adapter; table = table; book = b; issued = again }) places in
+        IsKept device (record s { adapter = adapter; table = table; book = b; issued = again }) places in
         let R : ℕ → Type 0 = λ n. IsKept device (record s { adapter = adapter; table = table; book = book; issued = again }) n in
         subst R (sym room_is) (subst B (sym is) whole none some serves)
       where

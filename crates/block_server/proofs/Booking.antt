@@ -1,15 +1,14 @@
 -- The book and what it has lent, as requests come and go.
-use Rattle.std.proofs.Common.{ℕ, zero, suc, ◌≡◌, ◌≢◌, ◌+◌, ◌*◌, ◌/◌, ◌^◌, ◌<◌, ◌≤◌, ◌==◌, ◌⊎◌, inl, inr, Bool, true, false, List, [], ◌∷◌, ◌++◌, length, Option, Some, None, refl, sym, ◌∙◌, ap, subst, arith, get_or, cond, length-append}
-use Rattle.std.specs.List.{All, AllPairs, Contains, sum_by, count_by}
+use Rattle.std.proofs.Common.{ℕ, suc, ◌≡◌, ◌≢◌, ◌+◌, ◌<◌, ◌≤◌, ◌==◌, inl, inr, Bool, true, false, List, [], ◌∷◌, ◌++◌, length, Option, Some, None, refl, sym, ◌∙◌, ap, subst, arith, get_or, cond, length-append}
+use Rattle.std.specs.List.{All, AllPairs, Contains}
 use Rattle.std.proofs.lemmas.Bool.{cases_eq, eq-eqb, eqb-true}
 use Rattle.std.proofs.lemmas.List.{get_or_default}
 use Rattle.std.proofs.lemmas.List.Elements.{All-push, All-head, All-tail, All-weaker, All-contains}
-use Rattle.std.proofs.lemmas.List.Quantifiers.{all_pairs_push}
 use Rattle.std.proofs.lemmas.List.Sums.{sum_by-append}
 use Rattle.ata_types.specs.declared.request.ClientId.{ClientId}
 use Rattle.ata_types.specs.declared.request.Frame.{Frame}
 use Rattle.ata_types.specs.declared.request.RequestId.{RequestId}
-use Rattle.dma_frames.specs.Table.{Table, owner_of, lent_to, LendsOnly}
+use Rattle.dma_frames.specs.Table.{Table, lent_to, LendsOnly}
 use Rattle.block_server.specs.Book.{unanswered_of, IsAccepted, IsEarlier, OwnsClientFrames}
 use Rattle.block_server.specs.declared.types.Accepted.{Accepted}
 
@@ -49,24 +48,24 @@ one_of_eight e low high =
     elim (cases_eq e.client.0 1) [
       | inl is ↦ let h = hit e 1 is in omega (arith, h)
       | inr n1 ↦ elim (cases_eq e.client.0 2) [
-          | inl is ↦ let h = hit e 2 is in omega (arith, h)
-          | inr n2 ↦ elim (cases_eq e.client.0 3) [
-              | inl is ↦ let h = hit e 3 is in omega (arith, h)
-              | inr n3 ↦ elim (cases_eq e.client.0 4) [
-                  | inl is ↦ let h = hit e 4 is in omega (arith, h)
-                  | inr n4 ↦ elim (cases_eq e.client.0 5) [
-                      | inl is ↦ let h = hit e 5 is in omega (arith, h)
-                      | inr n5 ↦ elim (cases_eq e.client.0 6) [
-                          | inl is ↦ let h = hit e 6 is in omega (arith, h)
-                          | inr n6 ↦ elim (cases_eq e.client.0 7) [
-                              | inl is ↦ let h = hit e 7 is in omega (arith, h)
-                              | inr n7 ↦ let h = hit e 8 (omega arith) in omega (arith, h)
-                            ]
-                        ]
-                    ]
+        | inl is ↦ let h = hit e 2 is in omega (arith, h)
+        | inr n2 ↦ elim (cases_eq e.client.0 3) [
+          | inl is ↦ let h = hit e 3 is in omega (arith, h)
+          | inr n3 ↦ elim (cases_eq e.client.0 4) [
+            | inl is ↦ let h = hit e 4 is in omega (arith, h)
+            | inr n4 ↦ elim (cases_eq e.client.0 5) [
+              | inl is ↦ let h = hit e 5 is in omega (arith, h)
+              | inr n5 ↦ elim (cases_eq e.client.0 6) [
+                | inl is ↦ let h = hit e 6 is in omega (arith, h)
+                | inr n6 ↦ elim (cases_eq e.client.0 7) [
+                  | inl is ↦ let h = hit e 7 is in omega (arith, h)
+                  | inr n7 ↦ let h = hit e 8 (omega arith) in omega (arith, h)
                 ]
+              ]
             ]
+          ]
         ]
+      ]
     ]
 
 abbrev IsClients : Accepted → Type 0

@@ -1,22 +1,21 @@
 -- The accesses that bring port 0 up, one by one.
-use Rattle.std.proofs.Common.{ℕ, ◌≡◌, ◌≢◌, ◌%◌, ◌+◌, ◌<◌, ◌≤◌, ◌⊎◌, inl, inr, Bool, true, false, None, refl, sym, ◌∙◌, ap, subst, arith, lit<, lit≤, nat_eq, min, if◌then◌else◌, ◌||◌}
+use Rattle.std.proofs.Common.{ℕ, ◌≡◌, ◌≢◌, ◌%◌, ◌+◌, ◌<◌, ◌≤◌, inl, inr, Bool, true, false, refl, sym, ◌∙◌, ap, subst, arith, lit<, nat_eq, if◌then◌else◌, ◌||◌}
 use Rattle.std.proofs.lemmas.Bool.Decides.{eqb_tells}
 use Rattle.hba_regs.specs.Bits.{bit}
 use Rattle.hba_regs.specs.declared.reg.PortReg.{PortReg}
 use Rattle.hba_regs.specs.declared.reg.PortReg.TheVariants.{Clb, Clbu, Fb, Fbu, Is, Cmd, Tfd, Ssts, Sctl, Serr}
 use Rattle.hba_regs.specs.declared.reg.Reg.{Reg}
 use Rattle.hba_regs.specs.declared.reg.Reg.TheVariants.{Ghc, Pi, Px}
-use Rattle.ata_types.specs.declared.Port.{Port}
-use Rattle.adapter.specs.Access.{Reads, Writes, note, port_written, link_counted, counted, while_no_comreset}
+use Rattle.adapter.specs.Access.{Reads, Writes, port_written, link_counted, counted}
 use Rattle.adapter.specs.Device.{Bases, Notes, PortState, Device}
 use Rattle.adapter.specs.Idle.{IsIdlePort, IsIdle}
 use Rattle.adapter.specs.Kept.{Keeps, KeepsOn}
-use Rattle.adapter.specs.Rules.{HasPort, MayCommand, MayStart}
+use Rattle.adapter.specs.Rules.{HasPort, MayCommand}
 use Rattle.adapter.specs.Steps.{Steps}
 use Rattle.adapter.proofs.Calls.{KeepsAll, steps_keep_all, seen, SeenAt, put, PutAt}
 use Rattle.adapter.proofs.KeptLemmas.{steps_keep}
-use Rattle.block_server.specs.Port.{IsSlotFree, programmed, IsLone, IsStopped, IsBooting, Boots, Links, IsLinked, IsNotBusy, IsMissing, IsSwitchedOn, Starts, IsRunning}
-use Rattle.block_server.proofs.PortLemmas.{idle_after, lone_after, there_after, booting_after, lone_put, there_put, booting_put, received, HasStarted, started}
+use Rattle.block_server.specs.Port.{programmed, IsLone, IsStopped, IsBooting, Boots, Links, IsLinked, IsNotBusy, IsSwitchedOn, Starts}
+use Rattle.block_server.proofs.PortLemmas.{idle_after, lone_after, booting_after, lone_put, there_put, booting_put, received, HasStarted, started}
 
 -- port 0's register
 abbrev pub px : PortReg → Reg
@@ -31,8 +30,8 @@ module _ (old new : Device) where
       let on : KeepsOn old call.mid = k.on i.no_reset in
       let ports : (q : ℕ) → new.port q ≡ call.mid.port q = λ q. ap (λ (d : Device). d.port q) call.effect in
       let idle : (q : ℕ) → IsIdlePort (new.port q) = λ q.
-          let P : PortState → Type 0 = λ p. IsIdlePort p in
-          subst P (sym (ports q)) (idle_after (k.port q) (i.port q)) in
+      let P : PortState → Type 0 = λ p. IsIdlePort p in
+      subst P (sym (ports q)) (idle_after (k.port q) (i.port q)) in
       let size : new.size ≡ old.size = ap (λ (d : Device). d.size) call.effect ∙ k.size in
       let quiet : call.mid.hr ≡ false = on.no_reset in
       record {
@@ -51,8 +50,7 @@ module _ (old new : Device) where
   pub pi_read : (v : ℕ) → IsLone old → IsIdlePort (old.port 0) → Reads Pi v old new → IsSwitchedOn old new × (v ≡ new.pi)
   pi_read v l i call =
       let k : KeepsAll old call.mid = steps_keep_all l.on.no_reset call.steps in
-      let P : Device → Type 0 = λ d. IsSwitchedOn old d in
-      (
+      let P : Device → Type 0 = λ d. IsSwitchedOn old d in (
         subst P (sym call.effect) (record { lone = lone_after k l; idle = idle_after (k.port 0) i; size = k.size }),
         call.shows ∙ sym (ap (λ (d : Device). d.pi) call.effect),
       )

@@ -1,35 +1,31 @@
 -- A read is written into slot 0 and issued.
-use Rattle.std.proofs.Common.{ℕ, zero, suc, ◌≡◌, ◌≢◌, ◌+◌, ◌-◌, ◌*◌, ◌/◌, ◌%◌, ◌^◌, ◌<◌, ◌≤◌, ◌⊎◌, inl, inr, Bool, true, false, ◌||◌, ◌==◌, List, [], ◌∷◌, length, take, drop, Option, None, Some, refl, sym, ◌∙◌, ap, subst, arith, lit<, slice_index, slice_index_or, get_or, length-take-le, length-drop}
+use Rattle.std.proofs.Common.{ℕ, suc, ◌≡◌, ◌≢◌, ◌+◌, ◌*◌, ◌/◌, ◌^◌, ◌<◌, ◌≤◌, ◌⊎◌, inl, inr, true, false, ◌==◌, List, [], ◌∷◌, length, take, drop, None, refl, sym, ◌∙◌, ap, subst, arith, slice_index, slice_index_or, get_or, length-drop}
 use Rattle.std.specs.List.{All}
 use Rattle.std.proofs.lemmas.Bool.{cases_eq}
 use Rattle.std.proofs.lemmas.Nat.Bits.{bit_at-pow_other}
 use Rattle.std.proofs.lemmas.List.{same_lists, get_or-take, get_or-drop, get_or_default, length-take}
 use Rattle.hba_regs.specs.Bits.{bit}
-use Rattle.hba_regs.specs.declared.reg.PortReg.TheVariants.{Ci}
-use Rattle.ata_types.specs.declared.request.Frame.{Frame}
 use Rattle.adapter.specs.declared.command.Prd.{Prd}
-use Rattle.adapter.specs.declared.command.Command.{Command}
 use Rattle.adapter.specs.declared.command.Operation.TheVariants.{Read}
-use Rattle.adapter.specs.Access.{Stores, Writes}
-use Rattle.adapter.specs.Commands.{Meaning, IsMeaning, is_queued, is_ranged, command_of, pieces_moved}
-use Rattle.adapter.specs.Device.{Bases, Taken, PortState, Device}
-use Rattle.adapter.specs.Guarded.{IsGuarded, IsApart}
+use Rattle.adapter.specs.Access.{Stores}
+use Rattle.adapter.specs.Commands.{Meaning, is_queued, command_of}
+use Rattle.adapter.specs.Device.{Bases, Device}
+use Rattle.adapter.specs.Guarded.{IsGuarded}
 use Rattle.adapter.specs.Memory.{patched, bytes_at}
-use Rattle.adapter.specs.Rules.{IsFree, Stays, IsOn, HasPort, MayIssue}
+use Rattle.adapter.specs.Rules.{IsFree, Stays, MayIssue}
 use Rattle.adapter.specs.Says.{Says, HasPrds, pieces, IsWhole}
 use Rattle.adapter.specs.Spelling.{SpellsCommand, SpellsHeader, SpellsPrd}
 use Rattle.adapter.specs.Steps.{Steps}
 use Rattle.adapter.proofs.Absurd.{true-false, some-none}
-use Rattle.adapter.proofs.Calls.{KeepsAll, steps_keep_all, put, PutAt}
+use Rattle.adapter.proofs.Calls.{KeepsAll, steps_keep_all}
 use Rattle.adapter.proofs.Free.{apart_free_stays}
 use Rattle.adapter.proofs.Guards.{steps_guard}
 use Rattle.adapter.proofs.MemoryLemmas.{bytes_same, bytes_length, bytes_index, patched_apart, patched_bytes}
 use Rattle.adapter.proofs.SaysLemmas.{says_meaning}
 use Rattle.block_server.specs.Bytes.{part}
 use Rattle.block_server.specs.Places.{places_of}
-use Rattle.block_server.specs.Port.{IsSlotFree, IsLone, IsRunning, Issued, meaning_of, HoldsRead, Serves, IsOutsideArea}
-use Rattle.block_server.proofs.Booting.{px}
-use Rattle.block_server.proofs.PortLemmas.{lone_after, running_after, free_after, lone_put, there_put}
+use Rattle.block_server.specs.Port.{IsSlotFree, Issued, meaning_of, HoldsRead, Serves, IsOutsideArea}
+use Rattle.block_server.proofs.PortLemmas.{lone_after, running_after, free_after}
 use Rattle.block_server.proofs.Serving.{free_guarded, free_unused, places_length}
 
 -- ---- a bit of 1
@@ -127,12 +123,11 @@ part_at memory at n bs i k e fits le =
 pub prds_stand : (memory : ℕ → ℕ) (es : List Prd) (at : ℕ) → ((i : ℕ) (d : Prd) → i < length es → SpellsPrd (bytes_at memory (at + 16 * i) 16) (slice_index_or es i d)) → HasPrds memory at es
 prds_stand memory [] at each = tt
 prds_stand memory (e ∷ es) at each =
-    let first : at + 16 * 0 ≡ at = omega arith in
-    (
+    let first : at + 16 * 0 ≡ at = omega arith in (
       rw first at (each 0 e (omega arith)),
       prds_stand memory es (at + 16) (λ i d lt.
-      let next : at + 16 + 16 * i ≡ at + 16 * (suc i) = omega arith in
-      rw next (each (suc i) d (omega arith))),
+          let next : at + 16 + 16 * i ≡ at + 16 * (suc i) = omega arith in
+          rw next (each (suc i) d (omega arith))),
     )
 
 -- ---- the read that was stored, and its issue
@@ -147,12 +142,11 @@ pub record IsRead (r : Issued) : Type 0 where
 
 -- the table was stored, then the header: slot 0 says the read
 module _ (r : Issued) (is : IsRead r) (old mid new : Device) (prds : List Prd) (table header : List ℕ)
-  (first : Stored 4096 (take (128 + 16 * length prds) table) old mid) (second : Stored 0 header mid new) where
+    (first : Stored 4096 (take (128 + 16 * length prds) table) old mid) (second : Stored 0 header mid new) where
   module _ (size : length table ≡ 640) (few : length prds ≤ 32) (places : pieces prds ≡ places_of r.frames r.count) (whole : All IsWhole prds)
-    (fis : SpellsCommand (part table 0 20) (command_of Read 0 r.first r.count))
-    (each : (i : ℕ) (d : Prd) → i < length prds → SpellsPrd (part table (128 + 16 * i) 16) (slice_index_or prds i d))
-    (heads : SpellsHeader header false (length prds) 4096) where
-
+      (fis : SpellsCommand (part table 0 20) (command_of Read 0 r.first r.count))
+      (each : (i : ℕ) (d : Prd) → i < length prds → SpellsPrd (part table (128 + 16 * i) 16) (slice_index_or prds i d))
+      (heads : SpellsHeader header false (length prds) 4096) where
     n : ℕ
     n = 128 + 16 * length prds
 

@@ -11,5 +11,6 @@ mod Looking
 mod PortLemmas
 mod Refusing
 mod Ruling
+mod Running
 mod Serving
 mod Zeros

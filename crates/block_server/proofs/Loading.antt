@@ -1,5 +1,5 @@
 -- What the device does meanwhile leaves what the server keeps, and a frame that is lent to none may be loaded.
-use Rattle.std.proofs.Common.{ℕ, ◌≡◌, ◌≢◌, ◌+◌, ◌*◌, ◌<◌, ◌≤◌, inl, inr, Bool, true, false, List, [], ◌∷◌, length, Option, Some, None, refl, sym, ◌∙◌, ap, subst, arith}
+use Rattle.std.proofs.Common.{ℕ, ◌≡◌, ◌+◌, ◌*◌, ◌<◌, ◌≤◌, inl, inr, Bool, true, false, List, [], ◌∷◌, Option, Some, None, refl, sym, ap, subst, arith}
 use Rattle.std.specs.List.{All, Contains}
 use Rattle.std.specs.Option.{is_some}
 use Rattle.std.proofs.lemmas.Bool.{cases_eq}
@@ -8,16 +8,14 @@ use Rattle.ata_types.specs.declared.PortState.{PortState}
 use Rattle.ata_types.specs.declared.PortState.TheVariants.{Absent, Ready, Foreign, Unfit, Dead}
 use Rattle.ata_types.specs.declared.request.ClientId.{ClientId}
 use Rattle.ata_types.specs.declared.request.Frame.{Frame}
-use Rattle.ata_types.specs.declared.request.RequestId.{RequestId}
 use Rattle.adapter.specs.Device.{Bases, Device}
-use Rattle.adapter.specs.Guarded.{IsGuarded, IsApart}
 use Rattle.adapter.specs.Rules.{IsFree, Stays}
 use Rattle.adapter.specs.Steps.{Steps}
 use Rattle.adapter.proofs.Absurd.{true-false, some-none}
 use Rattle.adapter.proofs.Calls.{KeepsAll, steps_keep_all}
 use Rattle.adapter.proofs.Free.{apart_free_stays}
-use Rattle.dma_frames.specs.Table.{Table, owner_of, lent_to}
-use Rattle.block_server.specs.Book.{IsKept, IsAccepted, OwnsClientFrames, StandsBehind, served, issued_of}
+use Rattle.dma_frames.specs.Table.{owner_of, lent_to}
+use Rattle.block_server.specs.Book.{IsKept, IsAccepted, StandsBehind, served, issued_of}
 use Rattle.block_server.specs.Port.{IsSlotFree, IsLone, IsRunning, IsResting, Issued, HoldsRead, Serves, IsTableByte, IsKeptByte, IsInFrames, IsOutsideArea}
 use Rattle.block_server.specs.View.{ServerView}
 use Rattle.block_server.specs.declared.types.Accepted.{Accepted}
@@ -131,7 +129,7 @@ frame_apart frames f apart at low high inside =
     apart (subst P e inside.1)
 
 module _ {A : Type 0} (device : A → Device) (s : ServerView A) (places : ℕ) (inv : IsKept device s places) (f : Frame) (client : ClientId)
-  (owner : owner_of s.table f ≡ Some client) (lent : lent_to s.table f ≡ None) (offset n : ℕ) (fits : offset + n ≤ 4096) where
+    (owner : owner_of s.table f ≡ Some client) (lent : lent_to s.table f ≡ None) (offset n : ℕ) (fits : offset + n ≤ 4096) where
   low : 163840 ≤ 4096 * f.0 + offset
   low = let o = inv.owners f client owner in omega (arith, o.0)
 

@@ -1,25 +1,22 @@
 -- Readings, and writes that acknowledge, leave port 0 serving what it served.
-use Rattle.std.proofs.Common.{ℕ, ◌≡◌, ◌≢◌, ◌<◌, Bool, true, false, Option, None, Some, not, ◌||◌, refl, sym, ◌∙◌, ap, subst, arith, if◌then◌else◌}
+use Rattle.std.proofs.Common.{ℕ, ◌≡◌, Bool, true, false, Option, None, Some, ◌||◌, refl, sym, ◌∙◌, ap, subst, arith, if◌then◌else◌}
 use Rattle.hba_regs.specs.Bits.{bit}
-use Rattle.hba_regs.specs.declared.reg.PortReg.{PortReg}
 use Rattle.hba_regs.specs.declared.reg.PortReg.TheVariants.{Is, Ssts, Ci, Sact}
 use Rattle.hba_regs.specs.declared.reg.Reg.{Reg}
 use Rattle.hba_regs.specs.declared.reg.Reg.TheVariants as adapter
-use Rattle.adapter.specs.Access.{Reads, Writes, PortShows, noted, written, port_written, unacknowledged}
-use Rattle.adapter.specs.Device.{Bases, Notes, Taken, PortState, Device}
-use Rattle.adapter.specs.Idle.{IsIdlePort}
-use Rattle.adapter.specs.Rules.{HasPort, AreAcknowledged, MayIssue}
+use Rattle.adapter.specs.Access.{Reads, Writes, noted, written, port_written, unacknowledged}
+use Rattle.adapter.specs.Device.{Notes, Taken, PortState, Device}
+use Rattle.adapter.specs.Rules.{AreAcknowledged}
 use Rattle.adapter.specs.Says.{Says}
 use Rattle.adapter.specs.Steps.{Steps}
 use Rattle.adapter.proofs.Absurd.{true-false, some-none}
 use Rattle.adapter.proofs.Alike.{IsAlike, port_alike, noted_alike}
 use Rattle.adapter.proofs.Calls.{KeepsAll, steps_keep_all, seen, SeenAt, put, PutAt}
-use Rattle.adapter.proofs.Changed.{changed_same}
 use Rattle.adapter.proofs.KeptLemmas.{SameEngine, same_engine, still, steps_keep}
 use Rattle.block_server.specs.Places.{places_of}
 use Rattle.block_server.specs.Port.{IsSlotFree, IsLone, IsRunning, Issued, meaning_of, HoldsRead, Serves, KeepsServing, FindsDone}
 use Rattle.block_server.proofs.Booting.{px}
-use Rattle.block_server.proofs.Issuing.{may_issue, none_after, bit_of_one, bit_one_other}
+use Rattle.block_server.proofs.Issuing.{none_after, bit_of_one, bit_one_other}
 use Rattle.block_server.proofs.PortLemmas.{idle_after, free_after, lone_after, running_after, lone_put, there_put}
 use Rattle.block_server.proofs.Serving.{steps_hold}
 
@@ -204,8 +201,7 @@ issue_serves r old new s h call =
     let free : (new.port 0).taken 0 ≡ None = subst P (sym w.here) mid.2.taken in
     let set : (new.port 0).ci 0 ≡ true = ap (λ (p : PortState). p.ci 0) w.here ∙ or_true ((w.mid.port 0).ci 0) in
     let M : (ℕ → ℕ) → Type 0 = λ memory. (x : Says memory 0 0 (meaning_of r) (places_of r.frames r.count)) × (x.table ≡ 4096) × (x.prds ≡ held.says.prds) in
-    let said = subst M (sym w.memory) (held.says, held.table, refl) in
-    (
+    let said = subst M (sym w.memory) (held.says, held.table, refl) in (
       (
         lone_put Ci 1 old new w s.0,
         record {
@@ -244,7 +240,7 @@ issue_serves r old new s h call =
 -- ---- PxIS is read and cleared, and the port's bit of IS; then SSTS is read
 
 module _ (d0 d1 d2 d3 : Device) (l : IsLone d0) (run : IsRunning d0) (v w : ℕ)
-  (first : Reads (px Is) v d0 d1) (second : Writes (px Is) w d1 d2) (third : Writes adapter.Is 1 d2 d3) where
+    (first : Reads (px Is) v d0 d1) (second : Writes (px Is) w d1 d2) (third : Writes adapter.Is 1 d2 d3) where
   second_runs : IsLone d2 × IsRunning d2
   second_runs =
       let a = reading_runs d0 d1 l.on.no_reset (px Is) v l run first in

@@ -1,6 +1,6 @@
 -- What the server keeps when it is made.
-use Rattle.std.proofs.Common.{ℕ, ◌≡◌, ◌+◌, ◌*◌, ◌<◌, ◌≤◌, ◌⊎◌, inl, inr, Bool, true, false, List, [], ◌∷◌, length, Option, Some, None, refl, sym, ◌∙◌, ap, subst, arith, get_or}
-use Rattle.std.specs.List.{All, AllPairs, Contains}
+use Rattle.std.proofs.Common.{ℕ, ◌≡◌, ◌*◌, ◌≤◌, false, List, [], Some, None, refl, sym, subst, arith, get_or}
+use Rattle.std.specs.List.{Contains}
 use Rattle.std.proofs.lemmas.List.{get_or_default}
 use Rattle.std.proofs.lemmas.List.Elements.{All-contains}
 use Rattle.ata_types.specs.declared.PortState.{PortState}
@@ -12,7 +12,7 @@ use Rattle.adapter.specs.Device.{Device}
 use Rattle.adapter.proofs.Absurd.{true-false}
 use Rattle.dma_frames.specs.Table.{Run, Table, owner_of, HasFrame}
 use Rattle.grants.specs.Rows.{SameRows}
-use Rattle.block_server.specs.Book.{IsKept, IsReadGrant, OwnsClientFrames, StandsBehind, IsAccepted, IsEarlier, served, unanswered_of}
+use Rattle.block_server.specs.Book.{IsKept, IsReadGrant, StandsBehind}
 use Rattle.block_server.specs.Calls.{IsSetup}
 use Rattle.block_server.specs.Port.{IsBroughtUp}
 use Rattle.block_server.specs.View.{ServerView}

@@ -1,17 +1,14 @@
 -- What the server knows of its port goes on, whatever the device does.
-use Rattle.std.proofs.Common.{ℕ, ◌≡◌, ◌≢◌, ◌≤◌, ◌<◌, Bool, true, false, Option, None, refl, sym, ◌∙◌, ap, subst, arith, if◌then◌else◌}
+use Rattle.std.proofs.Common.{ℕ, ◌≡◌, Bool, true, false, refl, sym, ◌∙◌, ap, subst, if◌then◌else◌}
 use Rattle.hba_regs.specs.Bits.{bit}
 use Rattle.hba_regs.specs.declared.reg.PortReg.{PortReg}
-use Rattle.hba_regs.specs.declared.reg.Reg.{Reg}
-use Rattle.hba_regs.specs.declared.reg.Reg.TheVariants.{Px}
-use Rattle.ata_types.specs.declared.Port.{Port}
-use Rattle.adapter.specs.Access.{Reads, Writes, port_written, with_st, with_fre}
-use Rattle.adapter.specs.Device.{Bases, Taken, PortState, Device}
+use Rattle.adapter.specs.Access.{port_written, with_st, with_fre}
+use Rattle.adapter.specs.Device.{Bases, PortState, Device}
 use Rattle.adapter.specs.Idle.{IsIdlePort}
-use Rattle.adapter.specs.Kept.{Keeps, KeepsPort, KeepsControls}
-use Rattle.adapter.specs.Rules.{IsOn, HasPort}
-use Rattle.adapter.specs.Steps.{Steps, restarted}
-use Rattle.adapter.proofs.Calls.{KeepsAll, steps_keep_all, on_after, seen, SeenAt, put, PutAt}
+use Rattle.adapter.specs.Kept.{KeepsPort, KeepsControls}
+use Rattle.adapter.specs.Rules.{HasPort}
+use Rattle.adapter.specs.Steps.{restarted}
+use Rattle.adapter.proofs.Calls.{KeepsAll, on_after, PutAt}
 use Rattle.block_server.specs.Port.{IsSlotFree, IsLone, IsStopped, IsBooting, IsResting, IsRunning}
 
 -- ---- over the device's steps, and over readings

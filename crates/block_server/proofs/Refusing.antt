@@ -1,5 +1,5 @@
 -- The first cause to refuse a request, as the server looks for it.
-use Rattle.std.proofs.Common.{ℕ, ◌≡◌, ◌≢◌, ◌+◌, ◌^◌, ◌<◌, ◌≤◌, Option, Some, refl, sym, ◌∙◌, ap, subst, arith}
+use Rattle.std.proofs.Common.{ℕ, ◌≡◌, ◌≢◌, ◌+◌, ◌^◌, ◌<◌, ◌≤◌, Option, Some, sym, ◌∙◌, ap, arith}
 use Rattle.std.specs.List.{All}
 use Rattle.ata_types.specs.declared.PortState.{PortState}
 use Rattle.ata_types.specs.declared.PortState.TheVariants.{Ready}
@@ -17,8 +17,8 @@ use Rattle.block_server.proofs.Ruling as ruling
 
 -- the row is the only one that the request names
 module _ {A : Type 0} (s : ServerView A) (reads : All IsReadGrant s.grants) (r : Request) (none : BreaksNone s.grants (owner_of s.table) (lent_to s.table) r)
-  (row : GrantRow) (found : Option GrantRow) (is : found ≡ Some row) (all : (other : GrantRow) → IsNamed s.grants r other → found ≡ Some other)
-  (named : IsNamed s.grants r row) where
+    (row : GrantRow) (found : Option GrantRow) (is : found ≡ Some row) (all : (other : GrantRow) → IsNamed s.grants r other → found ≡ Some other)
+    (named : IsNamed s.grants r row) where
   the_same : (other : GrantRow) → IsNamed s.grants r other → other ≡ row
   the_same other its = let e : Some other ≡ Some row = sym (all other its) ∙ is in cc
 

@@ -1,16 +1,12 @@
 -- From the causes in turn to the first that applies, and what an acceptable request is.
-use Rattle.std.proofs.Common.{ℕ, ◌≡◌, ◌≢◌, ◌+◌, ◌/◌, ◌^◌, ◌<◌, ◌≤◌, ◌⊎◌, inl, inr, Bool, true, false, List, length, Option, Some, None, refl, sym, ◌∙◌, ap, subst, arith, get_or, if◌then◌else◌, nat_eq}
+use Rattle.std.proofs.Common.{ℕ, ◌≡◌, ◌+◌, ◌/◌, ◌^◌, ◌<◌, ◌≤◌, inl, inr, Bool, false, List, length, Option, Some, refl, sym, ◌∙◌, ap, subst, arith, get_or}
 use Rattle.std.specs.Prelude.{IsTrue, IsSome}
-use Rattle.std.specs.List.{All, Contains, slice_get}
+use Rattle.std.specs.List.{All, Contains}
 use Rattle.std.proofs.lemmas.Bool.{cases_eq, cases_lt}
 use Rattle.std.proofs.lemmas.Option.{slice_get-get_or}
-use Rattle.ata_types.specs.Grant.{Allows, Covers}
-use Rattle.ata_types.specs.declared.Port.{Port}
+use Rattle.ata_types.specs.Grant.{Allows}
 use Rattle.ata_types.specs.declared.PortState.{PortState}
-use Rattle.ata_types.specs.declared.PortState.TheVariants.{Absent, Ready}
 use Rattle.ata_types.specs.declared.grant.GrantRow.{GrantRow}
-use Rattle.ata_types.specs.declared.grant.Rights.{Rights}
-use Rattle.ata_types.specs.declared.refusal.FrameFault.{FrameFault}
 use Rattle.ata_types.specs.declared.refusal.FrameFault.TheVariants.{FrameForeign, FrameTwice, FrameLent}
 use Rattle.ata_types.specs.declared.refusal.Refusal.{Refusal}
 use Rattle.ata_types.specs.declared.refusal.Refusal.TheVariants.{Rule, PortNotReady, OutsideDisk, TrimUnsupported, ClientFull, IdsSpent}
@@ -22,9 +18,9 @@ use Rattle.ata_types.specs.declared.request.Op.{Op}
 use Rattle.ata_types.specs.declared.request.Op.TheVariants.{Read, Write, Trim, Flush}
 use Rattle.ata_types.specs.declared.request.Request.{Request}
 use Rattle.ata_types.specs.declared.request.RequestId.{RequestId}
-use Rattle.adapter.proofs.Absurd.{true-false, some-none}
+use Rattle.adapter.proofs.Absurd.{true-false}
 use Rattle.block_machine.specs.Refusals.{Situation, Applies, IsAcceptable, IsFirstRefusal, IsRefusalBefore, refusal_number, refusal_place}
-use Rattle.block_machine.specs.Rules.{IsCount, frames_for, IsNamed, HasNoFault, Breaks, BreaksNone, IsFirstBroken, number, place, Precedes, fault_number}
+use Rattle.block_machine.specs.Rules.{IsCount, frames_for, IsNamed, HasNoFault, Breaks, BreaksNone, IsFirstBroken, number, place, Precedes}
 use Rattle.dma_frames.specs.Table.{Table, owner_of, lent_to}
 use Rattle.block_server.specs.Book.{IsReadGrant, OwnsClientFrames}
 
@@ -119,7 +115,7 @@ is_true_false : {b : Bool} {A : Type 0} → IsTrue b → b ≡ false → A
 is_true_false h e = true-false h e
 
 module _ (rows : List GrantRow) (table : Table) (r : Request) (reads : All IsReadGrant rows)
-  (none : BreaksNone rows (owner_of table) (lent_to table) r) where
+    (none : BreaksNone rows (owner_of table) (lent_to table) r) where
   pub grant_of : (row : GrantRow) → IsNamed rows r row → IsReadGrant row
   grant_of row named = let c = named.0 in let P : GrantRow → Type 0 = λ x. IsReadGrant x in subst P c.2 (reads c.0 row c.1)
 
@@ -129,12 +125,24 @@ module _ (rows : List GrantRow) (table : Table) (r : Request) (reads : All IsRea
 
   pub asks_read : (op : Op) → r.op ≡ op → r.op ≡ Read
   asks_read Read e = e
-  asks_read Write e = by_rows (λ row named. none NoRight (row, named, λ allowed.
-      let P : Op → Type 0 = λ op. Allows row.rights op in is_true_false (subst P e allowed) (grant_of row named).no_write))
-  asks_read Trim e = by_rows (λ row named. none NoRight (row, named, λ allowed.
-      let P : Op → Type 0 = λ op. Allows row.rights op in is_true_false (subst P e allowed) (grant_of row named).no_trim))
-  asks_read Flush e = by_rows (λ row named. none NoRight (row, named, λ allowed.
-      let P : Op → Type 0 = λ op. Allows row.rights op in is_true_false (subst P e allowed) (grant_of row named).no_flush))
+  asks_read Write e = by_rows (λ row named. none NoRight (
+    row,
+    named,
+    λ allowed.
+        let P : Op → Type 0 = λ op. Allows row.rights op in is_true_false (subst P e allowed) (grant_of row named).no_write,
+  ))
+  asks_read Trim e = by_rows (λ row named. none NoRight (
+    row,
+    named,
+    λ allowed.
+        let P : Op → Type 0 = λ op. Allows row.rights op in is_true_false (subst P e allowed) (grant_of row named).no_trim,
+  ))
+  asks_read Flush e = by_rows (λ row named. none NoRight (
+    row,
+    named,
+    λ allowed.
+        let P : Op → Type 0 = λ op. Allows row.rights op in is_true_false (subst P e allowed) (grant_of row named).no_flush,
+  ))
 
   is_read : r.op ≡ Read
   is_read = asks_read r.op refl
@@ -172,9 +180,9 @@ module _ (rows : List GrantRow) (table : Table) (r : Request) (reads : All IsRea
       elim (cases_lt r.first.0 (2 ^ 48)) [
         | inl low ↦ low
         | inr high ↦ by_rows (λ row named. none OutsideGrant (
-            (λ flush. let e : Flush ≡ Read = sym flush ∙ is_read in cc),
-            (row, named, λ covers. let g = grant_of row named in let c = some in omega (arith, high, covers.1, g.sectors, c)),
-          ))
+          (λ flush. let e : Flush ≡ Read = sym flush ∙ is_read in cc),
+          (row, named, λ covers. let g = grant_of row named in let c = some in omega (arith, high, covers.1, g.sectors, c)),
+        ))
       ]
 
   pub frames_fit : length r.frames.items ≡ (r.count + 7) / 8

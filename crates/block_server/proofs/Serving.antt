@@ -1,29 +1,26 @@
 -- While port 0 serves a read, the device moves nothing but its sectors to its frames.
-use Rattle.std.proofs.Common.{ℕ, zero, suc, ◌≡◌, ◌≢◌, ◌+◌, ◌*◌, ◌/◌, ◌%◌, ◌<◌, ◌≤◌, ◌⊎◌, inl, inr, Bool, true, false, List, [], ◌∷◌, length, Option, None, Some, refl, sym, ◌∙◌, ap, subst, arith, slice_index, slice_index_or, map, if◌then◌else◌}
+use Rattle.std.proofs.Common.{ℕ, zero, suc, ◌≡◌, ◌+◌, ◌*◌, ◌/◌, ◌<◌, ◌≤◌, inl, inr, Bool, true, false, List, [], ◌∷◌, length, Option, None, Some, refl, sym, ◌∙◌, ap, subst, arith, slice_index, slice_index_or, map, if◌then◌else◌}
 use Rattle.std.proofs.lemmas.Bool.{cases_eq}
 use Rattle.std.proofs.lemmas.List.{get_or_default}
-use Rattle.std.specs.List.{range_with_len, Contains, All}
+use Rattle.std.specs.List.{range_with_len}
 use Rattle.ata_types.specs.declared.request.Frame.{Frame}
 use Rattle.adapter.specs.Commands.{Meaning, is_queued}
 use Rattle.adapter.specs.Device.{Bases, Taken, PortState, Device}
 use Rattle.adapter.specs.Idle.{IsIdlePort}
-use Rattle.adapter.specs.Guarded.{Holds, Spares, Avoids, IsGuardedSlot, IsGuardedPort, IsGuarded, IsApart}
+use Rattle.adapter.specs.Guarded.{Spares, Avoids, IsGuardedSlot, IsGuardedPort, IsGuarded}
 use Rattle.adapter.specs.Memory.{changed}
-use Rattle.adapter.specs.Rules.{InPlaces, InUse, IsFree, Stays}
+use Rattle.adapter.specs.Rules.{InPlaces, InUse}
 use Rattle.adapter.specs.Says.{Says}
-use Rattle.adapter.specs.Steps.{Step, Can, after, Leads, Steps, WorksOn, MayFetch, block_after, with_fetch, with_move, with_clear, with_done}
+use Rattle.adapter.specs.Steps.{Step, Can, after, Leads, Steps, MayFetch, block_after, with_fetch, with_move, with_clear, with_done}
 use Rattle.adapter.specs.Steps.Step.{Fetch, FetchFault, Move, Clear, Done, Fault, Fatal, Fall, FrFall, LinkUp, Unplug, Plug, ResetEnds, Scribble}
 use Rattle.adapter.proofs.Absurd.{true-false, some-none, some_one}
-use Rattle.adapter.proofs.Alike.{IsAlike}
 use Rattle.adapter.proofs.Calls.{KeepsAll, steps_keep_all}
 use Rattle.adapter.proofs.Changed.{changed_same, changed_each}
-use Rattle.adapter.proofs.Free.{apart_free_stays}
 use Rattle.adapter.proofs.Guards.{step_bytes}
-use Rattle.adapter.proofs.KeptLemmas.{step_keeps}
 use Rattle.adapter.proofs.SaysLemmas.{says_same, says_meaning, says_places}
-use Rattle.block_server.specs.Places.{place_of, places_of, frame_number}
-use Rattle.block_server.specs.Port.{IsSlotFree, IsLone, IsResting, IsRunning, Issued, meaning_of, HoldsRead, Serves, IsTableByte, IsInFrames, IsKeptByte, IsOutsideArea, programmed}
-use Rattle.block_server.proofs.PortLemmas.{lone_after, running_after, free_after}
+use Rattle.block_server.specs.Places.{place_of, places_of}
+use Rattle.block_server.specs.Port.{IsSlotFree, IsLone, IsRunning, Issued, meaning_of, HoldsRead, IsTableByte, IsInFrames, IsKeptByte, IsOutsideArea}
+use Rattle.block_server.proofs.PortLemmas.{lone_after, running_after}
 
 -- ---- places
 
@@ -44,8 +41,7 @@ place_in_frames frames n at enough w =
     let place : slice_index (places_of frames n) w.number ≡ place_of frames w.number = place_at frames n 0 w.number small ∙ ap (place_of frames) (omega arith) in
     let i : ℕ = w.number / 8 in
     let inside : i < length frames = omega arith in
-    let frame : Frame = slice_index_or frames i (record { 0 = 0 }) in
-    (
+    let frame : Frame = slice_index_or frames i (record { 0 = 0 }) in (
       frame,
       (i, inside, get_or_default frames i frame (record { 0 = 0 }) inside),
       omega (arith, place, w.from, w.to),
@@ -59,9 +55,9 @@ places_avoid : (r : Issued) (d : Device) → HoldsRead r d → Avoids (IsKeptByt
 places_avoid r d h at kept w =
     let in_frames : IsInFrames r.frames at = place_in_frames r.frames r.count at h.enough w in
     let client : 40 ≤ in_frames.0.0 =
-        let k = in_frames.1 in
-        let P : Frame → Type 0 = λ f. 40 ≤ f.0 in
-        subst P k.2 (h.clients k.0 in_frames.0 k.1) in
+    let k = in_frames.1 in
+    let P : Frame → Type 0 = λ f. 40 ≤ f.0 in
+    subst P k.2 (h.clients k.0 in_frames.0 k.1) in
     elim kept [
       | inl table ↦
           elim table [
@@ -201,8 +197,8 @@ module _ (r : Issued) (d : Device) (l : IsLone d) (run : IsRunning d) (h : Holds
       (t.places ≡ places_of r.frames r.count) × (new.ci 0 ≡ true) → Tied new
   refilled q slot t new e s is ok u taken =
       let here : changed (d.port q).taken slot (Some t) 0 ≡ Some t =
-          let P : ℕ → Type 0 = λ k. changed (d.port q).taken slot (Some t) k ≡ Some t in
-          subst P s (changed_same (d.port q).taken slot (Some t)) in
+      let P : ℕ → Type 0 = λ k. changed (d.port q).taken slot (Some t) k ≡ Some t in
+      subst P s (changed_same (d.port q).taken slot (Some t)) in
       let same : t ≡ u = some_one (sym here ∙ sym (ap (λ (f : ℕ → Option Taken). f 0) is) ∙ taken) in
       (sym (ap (λ (x : Taken). x.places) same) ∙ ok.0, ok.1)
 
@@ -257,7 +253,7 @@ module _ (r : Issued) (d : Device) (l : IsLone d) (run : IsRunning d) (h : Holds
   -- the bytes of header and table are the same in another memory
   says_on : (memory : ℕ → ℕ) → ((at : ℕ) → IsTableByte at → memory at ≡ d.memory at) → (new : Device) → new.memory ≡ memory → Tied (new.port 0) → HoldsRead r new
   unfolding says_same
-  says_on memory same new is tied = 
+  says_on memory same new is tied =
       let g : IsGuardedSlot IsTableByte (IsKeptByte r.frames) d.memory 0 0 = slot_guarded r d h in
       let there : (at : ℕ) → IsTableByte at → new.memory at ≡ d.memory at = λ at table. ap (λ (f : ℕ → ℕ). f at) is ∙ same at table in
       record {

@@ -1,12 +1,11 @@
 -- What the server keeps: between any two calls this holds of it.
 use Rattle.std.specs.Prelude.{ℕ, Bool, true, false, ◌≡◌, ◌≢◌, ◌+◌, ◌*◌, ◌/◌, ◌^◌, ◌<◌, ◌≤◌, ◌==◌, List, [], ◌∷◌, length, Option, Some, None, All, AllPairs, count_by}
 use Rattle.ata_types.specs.declared.PortState.{PortState}
-use Rattle.ata_types.specs.declared.PortState.TheVariants.{Absent, Ready, Foreign, Unfit, Dead}
+use Rattle.ata_types.specs.declared.PortState.TheVariants.{Ready}
 use Rattle.ata_types.specs.declared.grant.GrantRow.{GrantRow}
 use Rattle.ata_types.specs.declared.request.ClientId.{ClientId}
 use Rattle.ata_types.specs.declared.request.Frame.{Frame}
 use Rattle.adapter.specs.Device.{Device}
-use Rattle.block_machine.specs.Rules.{DifferInName}
 use Rattle.dma_frames.specs.Table.{Table, owner_of, lent_to}
 use Rattle.block_server.specs.Port.{Issued, IsLone, IsResting, Serves}
 use Rattle.block_server.specs.View.{ServerView}

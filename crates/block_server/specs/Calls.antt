@@ -1,9 +1,9 @@
 -- What each call of the server does.
-use Rattle.std.specs.Prelude.{ℕ, Bool, true, false, ◌≡◌, ◌+◌, ◌*◌, ◌<◌, ◌≤◌, ◌⊎◌, List, [], ◌∷◌, ◌++◌, length, Option, Some, None, Ok, Err, All, AllPairs, Contains, take, min, if◌then◌else◌, nat_eq, ◌≢◌}
+use Rattle.std.specs.Prelude.{ℕ, Bool, true, false, ◌≡◌, ◌+◌, ◌*◌, ◌<◌, ◌≤◌, ◌⊎◌, List, [], ◌∷◌, ◌++◌, length, Some, None, Ok, Err, All, AllPairs, Contains, if◌then◌else◌, nat_eq, ◌≢◌}
 use Rattle.std.specs.declared.result.Result.{Result}
 use Rattle.ata_types.specs.declared.Port.{Port}
 use Rattle.ata_types.specs.declared.PortState.{PortState}
-use Rattle.ata_types.specs.declared.PortState.TheVariants.{Absent, Ready}
+use Rattle.ata_types.specs.declared.PortState.TheVariants.{Absent}
 use Rattle.ata_types.specs.declared.grant.GrantRow.{GrantRow}
 use Rattle.ata_types.specs.declared.refusal.MemFault.{MemFault}
 use Rattle.ata_types.specs.declared.refusal.Refusal.{Refusal}
@@ -19,7 +19,7 @@ use Rattle.adapter.specs.Idle.{IsIdle}
 use Rattle.adapter.specs.Steps.{Steps}
 use Rattle.block_machine.specs.Refusals.{Situation, IsAcceptable, IsFirstRefusal, IsOpen, IsFirstMemFault}
 use Rattle.block_machine.specs.Rules.{DifferInName}
-use Rattle.dma_frames.specs.Table.{Run, Table, owner_of, lent_to, LendsOnly, HasFrame, IsRun, AreApart}
+use Rattle.dma_frames.specs.Table.{Run, owner_of, lent_to, LendsOnly, HasFrame, IsRun, AreApart}
 use Rattle.block_server.specs.Book.{IsReadGrant, unanswered_of}
 use Rattle.grants.specs.Rows.{SameRows}
 use Rattle.block_server.specs.Port.{IsBroughtUp}
@@ -154,4 +154,3 @@ pub record IsNew {A : Type 0} (device : A → Device) (owners : List Run) (grant
   pub free : (f : Frame) → lent_to s.table f ≡ None
   pub size : (device s.adapter).size ≡ (device adapter).size
   pub brought_up : IsBroughtUp s.state (device s.adapter)
-

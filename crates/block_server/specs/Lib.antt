@@ -4,4 +4,5 @@ pub mod Port
 pub mod View
 pub mod Book
 pub mod Calls
+pub mod Running
 pub mod Seen

@@ -5,6 +5,7 @@ mod book;
 mod command_table;
 mod lookup;
 mod port;
+mod run;
 mod server;
 mod slot;
 mod types;

@@ -11,7 +11,9 @@ use dma_frames::FrameTable;
 pub fn unanswered(book: &[Accepted], client: ClientId) -> usize
     ensures { result ≡ unanswered_of book.now client.0 }
 {
-    book.iter().filter(|entry| entry.client.0 == client.0).count()
+    book.iter()
+        .filter(|entry| entry.client.0 == client.0)
+        .count()
 }
 
 /// Whether the client owns the frame.

@@ -7,7 +7,9 @@ ghost use Rattle.block_server.specs.Port.{programmed, IsLone, IsBooting, Boots, 
 
 use adapter::Adapter;
 use ata_types::{Port, PortState};
-use hba_regs::{GlobalControl, PortCommand, PortReg, Reg, SataControl, SataStatus, TaskFile, is_set};
+use hba_regs::{
+    GlobalControl, PortCommand, PortReg, Reg, SataControl, SataStatus, TaskFile, is_set,
+};
 
 /// Readings of a register in one wait.
 const READINGS: u32 = 64;

@@ -8,7 +8,8 @@ use crate::slot::{is_done, issue, look};
 use crate::{Accepted, ServerError, Setup};
 use adapter::{Adapter, DeviceStep, Stepped};
 use ata_types::{
-    ClientId, Frame, GrantRow, MemFault, Op, Outcome, Port, PortState, Range, Refusal, Replies, Reply, Request, RequestId, Rule, Sector,
+    ClientId, Frame, GrantRow, MemFault, Op, Outcome, Port, PortState, Range, Refusal, Replies,
+    Reply, Request, RequestId, Rule, Sector,
 };
 use dma_frames::{FrameTable, Loan};
 use grants::{Grants, decide};
@@ -175,8 +176,8 @@ impl<A: Adapter> Server<A> {
         Ok(self.accept(r))
     }
 
-    /// Looks at the port. Where its read is done, that is answered, its frames are given back, and the next is issued. Nothing
-    /// is answered any more once the port was disturbed.
+    /// Looks at the port. Where its read is done, that is answered, its frames are given back, and the next is issued. A call
+    /// that sees the port disturbed answers nothing.
     pub fn service(&mut self) -> Replies
         ensures { Services A.device self.old self.new result.items }
     {
@@ -205,7 +206,13 @@ impl<A: Adapter> Server<A> {
     }
 
     /// Copies bytes of a client's own frame out, from an offset in bytes on. Not while the frame is lent.
-    pub fn client_load(&mut self, client: ClientId, frame: Frame, offset: u32, out: &mut [u8]) -> Result<(), MemFault>
+    pub fn client_load(
+        &mut self,
+        client: ClientId,
+        frame: Frame,
+        offset: u32,
+        out: &mut [u8],
+    ) -> Result<(), MemFault>
         ensures { LoadsFrame A.device self.old self.new client frame offset out.old out.new result }
     {
         if !owns(&self.table, client, frame) {
@@ -217,7 +224,8 @@ impl<A: Adapter> Server<A> {
         if offset as u128 + out.len() as u128 > FRAME_BYTES as u128 {
             return Err(MemFault::OutsideFrame);
         }
-        self.adapter.load(FRAME_BYTES * frame.0 as u32 + offset, out);
+        self.adapter
+            .load(FRAME_BYTES * frame.0 as u32 + offset, out);
         Ok(())
     }
 

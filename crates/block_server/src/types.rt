@@ -1,7 +1,10 @@
 // What the server is given, and what it tells.
 use adapter::DeviceStep;
 use arrayvec::ArrayVec;
-use ata_types::{ClientId, Frame, GrantRow, MemFault, Port, PortState, Refusal, Replies, Request, RequestId, Sector};
+use ata_types::{
+    ClientId, Frame, GrantRow, MemFault, Port, PortState, Refusal, Replies, Request, RequestId,
+    Sector,
+};
 use dma_frames::Loan;
 
 /// Who owns which frames, and what may be done with which sectors.

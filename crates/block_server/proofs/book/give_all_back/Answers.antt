@@ -1,4 +1,4 @@
-use Rattle.std.proofs.Common.{◌≡◌, ◌≢◌, true, false, [], refl, sym, ◌∙◌, ap, subst, arith, length, List, ℕ}
+use Rattle.std.proofs.Common.{◌≢◌, [], sym, ap, subst, arith, length, List}
 use Rattle.std.specs.List.{All, AllPairs}
 use Rattle.std.specs.Vec.{vec_len}
 use Rattle.std.proofs.lemmas.Bool.{eq-eqb}
@@ -15,18 +15,18 @@ loop-book-init c = record { accepted = c.requires.accepted; ordered = c.requires
 pub give_back-requires : goal.give_back-requires
 give_back-requires c =
     let some : c.loop-book.book.items ≢ [] = (λ none.
-        let l = c.loop-book.book.ok.0 in
-        let n = ap (λ (b : List Accepted). length b) none in
-        true-false (eq-eqb (vec_len c.loop-book.book) 0 (omega (arith, l, n))) (sym c.loop-book-test.ensures)) in
+    let l = c.loop-book.book.ok.0 in
+    let n = ap (λ (b : List Accepted). length b) none in
+    true-false (eq-eqb (vec_len c.loop-book.book) 0 (omega (arith, l, n))) (sym c.loop-book-test.ensures)) in
     let is = first_and_rest c.loop-book.book.items c.remove-loan.new.self.items c.remove-loan.result some c.remove-loan.ensures.value c.remove-loan.ensures.items in
     first_lent c.loop-book.table c.loop-book.book.items c.remove-loan.new.self.items c.remove-loan.result is c.loop-book.invariant.accepted
 
 pub loop-book-preserved : goal.loop-book-preserved
 loop-book-preserved c =
     let some : c.loop-book.book.items ≢ [] = (λ none.
-        let l = c.loop-book.book.ok.0 in
-        let n = ap (λ (b : List Accepted). length b) none in
-        true-false (eq-eqb (vec_len c.loop-book.book) 0 (omega (arith, l, n))) (sym c.loop-book-test.ensures)) in
+    let l = c.loop-book.book.ok.0 in
+    let n = ap (λ (b : List Accepted). length b) none in
+    true-false (eq-eqb (vec_len c.loop-book.book) 0 (omega (arith, l, n))) (sym c.loop-book-test.ensures)) in
     let is = first_and_rest c.loop-book.book.items c.remove-loan.new.self.items c.remove-loan.result some c.remove-loan.ensures.value c.remove-loan.ensures.items in
     let P : List Accepted → Type 0 = λ b. All (IsAccepted c.loop-book.table) b in
     let Q : List Accepted → Type 0 = λ b. AllPairs IsEarlier b in

@@ -1,6 +1,4 @@
-use Rattle.std.proofs.Common.{◌≡◌, refl, arith, false}
-use Rattle.adapter.specs.Device.{Bases}
-use Rattle.block_server.specs.Port.{IsBooting, Boots}
+use Rattle.std.proofs.Common.{refl, arith, false}
 use Rattle.block_server.proofs.Booting.{steps_boot, booting_idle, boots_then, clb_boots, clbu_boots, fb_boots, fbu_boots}
 use Rattle.block_server.proofs.port.program.Goals as goal
 

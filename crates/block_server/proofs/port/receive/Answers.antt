@@ -1,9 +1,7 @@
-use Rattle.std.proofs.Common.{◌≡◌, ◌≢◌, ℕ, ◌<◌, sym, ◌∙◌, ap, arith, lit<, false, true}
-use Rattle.hba_regs.specs.Bits.{bit}
+use Rattle.std.proofs.Common.{◌∙◌, ap, arith, lit<, false, true}
 use Rattle.adapter.specs.Device.{Notes}
 use Rattle.adapter.proofs.KeptLemmas.{steps_keep}
 use Rattle.block_server.proofs.Booting.{steps_boot, read_boots, receive_boots, may_receive, boots_then}
-use Rattle.block_server.specs.Port.{programmed}
 use Rattle.block_server.proofs.port.receive.Goals as goal
 
 pub write-requires : goal.write-requires

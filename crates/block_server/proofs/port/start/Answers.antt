@@ -1,9 +1,8 @@
-use Rattle.std.proofs.Common.{◌≡◌, ◌≢◌, ℕ, ◌<◌, ◌%◌, sym, ◌∙◌, ap, arith, lit<, false, true}
+use Rattle.std.proofs.Common.{◌%◌, ◌∙◌, ap, arith, lit<, true}
 use Rattle.hba_regs.specs.Bits.{bit}
 use Rattle.adapter.specs.Device.{Notes}
 use Rattle.adapter.proofs.KeptLemmas.{steps_keep}
 use Rattle.block_server.proofs.Booting.{steps_boot, read_boots, start_runs, may_start}
-use Rattle.block_server.specs.Port.{programmed}
 use Rattle.block_server.proofs.port.start.Goals as goal
 
 pub write-requires : goal.write-requires

@@ -1,4 +1,4 @@
-use Rattle.std.proofs.Common.{arith, ◌≡◌, ◌%◌}
+use Rattle.std.proofs.Common.{arith}
 use Rattle.block_server.proofs.Booting.{link_found, link_again}
 use Rattle.block_server.proofs.port.wait_for_link.Goals as goal
 

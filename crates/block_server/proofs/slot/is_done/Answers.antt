@@ -1,4 +1,4 @@
-use Rattle.std.proofs.Common.{Bool, true, false, Some, not, sym, ◌∙◌, ap}
+use Rattle.std.proofs.Common.{Some, not, sym, ◌∙◌, ap}
 use Rattle.adapter.proofs.Absurd.{true-false}
 use Rattle.block_server.proofs.Looking.{reading_runs, masks_keep, masks_find, ci_was_clear, sact_was_clear}
 use Rattle.block_server.proofs.slot.is_done.Goals as goal

@@ -1,9 +1,3 @@
-use Rattle.adapter.specs.Device.{Device}
-use Rattle.hba_regs.specs.declared.reg.PortReg.TheVariants.{Is, Ssts}
-use Rattle.adapter.specs.Access.{Reads, Writes}
-use Rattle.hba_regs.specs.declared.reg.Reg.TheVariants as adapter
-use Rattle.block_server.specs.Port.{IsLone, IsRunning, KeepsServing}
-use Rattle.block_server.proofs.Booting.{px}
 use Rattle.block_server.proofs.Looking.{steps_run, acknowledged, looked_run, looked_keep, reading_runs, interrupts_run}
 use Rattle.block_server.proofs.slot.look.Goals as goal
 

@@ -1,11 +1,8 @@
-use Rattle.std.proofs.Common.{ℕ, ◌≡◌, ◌≤◌, ◌<◌, ◌+◌, ◌*◌, ◌/◌, ◌%◌, ◌∙◌, sym, ap, subst, inl, inr, arith, length, take, List, slice_index_or, Bool, false}
+use Rattle.std.proofs.Common.{ℕ, ◌≡◌, ◌<◌, ◌+◌, ◌*◌, ◌∙◌, ap, subst, inl, inr, arith, length, take, List, slice_index_or, false}
 use Rattle.std.proofs.lemmas.List.{length-take}
-use Rattle.adapter.specs.Access.{Stores}
 use Rattle.adapter.specs.Commands.{command_of}
-use Rattle.adapter.specs.Device.{Device}
 use Rattle.adapter.specs.Says.{pieces}
 use Rattle.adapter.specs.Spelling.{SpellsCommand, SpellsHeader, SpellsPrd}
-use Rattle.adapter.specs.declared.command.Command.{Command}
 use Rattle.adapter.specs.declared.command.Prd.{Prd}
 use Rattle.adapter.specs.declared.command.Operation.TheVariants.{Read}
 use Rattle.block_server.specs.Bytes.{part}

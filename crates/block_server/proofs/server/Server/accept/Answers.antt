@@ -1,18 +1,15 @@
-use Rattle.std.proofs.Common.{ℕ, ◌≡◌, ◌+◌, ◌<◌, ◌≤◌, arith, true, false, List, [], ◌∷◌, ◌++◌, length, Some, refl, sym, ◌∙◌, ap, subst}
+use Rattle.std.proofs.Common.{◌+◌, ◌≤◌, arith, true, List, length, Some, refl, sym, ◌∙◌, ap, subst}
 use Rattle.std.specs.Vec.{vec_capacity}
 use Rattle.std.specs.List.{All}
 use Rattle.ata_types.specs.declared.request.Frame.{Frame}
 use Rattle.ata_types.specs.declared.request.RequestId.{RequestId}
 use Rattle.block_machine.specs.Refusals.{IsAcceptable}
 use Rattle.block_machine.specs.Rules.{HasNoFault}
-use Rattle.dma_frames.specs.Loan.{Lending}
-use Rattle.dma_frames.specs.Table.{owner_of, lent_to, LendsOnly}
-use Rattle.block_server.specs.Book.{IsKept, StandsBehind, served}
-use Rattle.block_server.specs.Calls.{situation_of, accepted_as}
-use Rattle.block_server.specs.Port.{Issued, Serves}
+use Rattle.dma_frames.specs.Table.{owner_of, lent_to}
+use Rattle.block_server.specs.Calls.{situation_of}
+use Rattle.block_server.specs.Port.{Serves}
 use Rattle.block_server.specs.Seen.{seen}
 use Rattle.block_server.specs.View.{ServerView}
-use Rattle.block_server.specs.declared.types.Accepted.{Accepted}
 use Rattle.block_server.proofs.Accepting as accepting
 use Rattle.block_server.proofs.server.Server.accept.Goals as goal
 
@@ -65,8 +62,8 @@ pub invariant_of-self : goal.invariant_of-self
 invariant_of-self g c =
     let acc = subst (λ (v : ServerView g.row.A.Denot). IsAcceptable (situation_of v) c.args.r.now) (sym c.self.view_is) c.requires in
     let only_frames : Serves (Some (record { first = c.args.r.now.first.0; count = c.args.r.now.count; frames = c.args.r.now.frames.items })) (g.A.Adapter.device c.issue.new.adapter) =
-        (let P : List Frame → Type 0 = λ frames. Serves (Some (record { first = c.args.r.now.first.0; count = c.args.r.now.count; frames = frames })) (g.A.Adapter.device c.issue.new.adapter) in
-        subst P c.as_slice-then-not-self.ensures.value c.issue.ensures.serves) in
+    (let P : List Frame → Type 0 = λ frames. Serves (Some (record { first = c.args.r.now.first.0; count = c.args.r.now.count; frames = frames })) (g.A.Adapter.device c.issue.new.adapter) in
+    subst P c.as_slice-then-not-self.ensures.value c.issue.ensures.serves) in
     let id : RequestId = record { 0 = c.self.inside.last + 1 } in
     accepting.kept_in g.A.Adapter.device (seen c.self.inside) (vec_capacity c.self.inside.book) c.self.invariant c.args.r.now acc c.issue.new.adapter c.lend-loan.new.self id refl
     c.lend-loan.result c.as_slice.result.now c.as_slice.ensures.value c.lend-loan.ensures.frames c.lend-loan.ensures.request c.lend-loan.ensures.lent c.issue.ensures.size

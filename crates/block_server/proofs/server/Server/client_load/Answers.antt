@@ -1,5 +1,4 @@
-use Rattle.std.proofs.Common.{◌≡◌, sym, ◌∙◌, Option, None}
-use Rattle.std.specs.Option.{is_some}
+use Rattle.std.proofs.Common.{sym, ◌∙◌}
 use Rattle.std.specs.Vec.{vec_capacity}
 use Rattle.block_server.specs.Seen.{seen}
 use Rattle.block_server.proofs.Loading.{frame_loads, kept_after, none_if_not_some}

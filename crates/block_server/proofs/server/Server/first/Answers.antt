@@ -1,4 +1,4 @@
-use Rattle.std.proofs.Common.{◌≡◌, ◌∙◌, ◌≤◌, arith}
+use Rattle.std.proofs.Common.{◌∙◌, arith}
 use Rattle.std.specs.Vec.{vec_capacity}
 use Rattle.block_server.proofs.Making.{new_is_kept}
 use Rattle.block_server.proofs.server.Server.first.Goals as goal

@@ -1,4 +1,4 @@
-use Rattle.std.proofs.Common.{◌≡◌, refl, sym, ◌∙◌, subst, List}
+use Rattle.std.proofs.Common.{refl, sym, ◌∙◌, subst, List}
 use Rattle.std.specs.List.{All}
 use Rattle.std.specs.Vec.{vec_capacity}
 use Rattle.block_server.specs.Book.{IsAccepted, served}
@@ -30,9 +30,11 @@ issue_first-self-inside-requires-clause-accepted g c =
     let s = seen c.self.inside in
     let table = c.give_back.new.self in
     let book_is = answering.first_and_rest s.book c.remove-loan.new.self.items c.remove-loan.result (c.self.invariant.some c.if-not-self.false) c.remove-loan.ensures.value c.remove-loan.ensures.items in
-    let P : List Accepted → Type 0 = λ book. All (IsAccepted table) book in
-    (table, subst P (sym c.deref.ensures.value)
-    (answering.rest_accepted g.A.Adapter.device s (vec_capacity c.self.inside.book) c.self.invariant c.in-Ready.is c.remove-loan.result c.remove-loan.new.self.items book_is table c.give_back.ensures))
+    let P : List Accepted → Type 0 = λ book. All (IsAccepted table) book in (
+      table,
+      subst P (sym c.deref.ensures.value)
+          (answering.rest_accepted g.A.Adapter.device s (vec_capacity c.self.inside.book) c.self.invariant c.in-Ready.is c.remove-loan.result c.remove-loan.new.self.items book_is table c.give_back.ensures),
+    )
 
 pub invariant_of-self-2 : goal.invariant_of-self-2
 invariant_of-self-2 g c =

@@ -1,0 +1,74 @@
+// Calls from a list.
+ghost use Rattle.std.specs.Prelude.{◌≡◌, ◌<◌, ◌≤◌, ◌+◌, OnOk, IfOk, IfErr, IsOk, length, take, min, vec_len};
+ghost use Rattle.std.specs.Vec.{vec_capacity};
+
+use crate::{Event, RunStopped, Said, Server};
+use adapter::{Adapter, Stepped};
+use arrayvec::ArrayVec;
+use ata_types::{ClientId, Frame, MemFault};
+
+/// Bytes that one load of a list tells at most.
+const FEW: usize = 64;
+
+impl<A: Adapter> Server<A> {
+    ghost use Rattle.block_server.specs.Running.{TellsBytes, RefusesBytes};
+
+    /// At most 64 bytes of a frame.
+    fn load_few(
+        &mut self,
+        client: ClientId,
+        frame: Frame,
+        offset: u32,
+        count: u32,
+    ) -> Result<ArrayVec<u8, 64>, MemFault>
+        ensures ok { IfOk result (λ bytes. TellsBytes A.device self.old self.new client frame offset (min count 64) bytes.items) }
+        ensures err { IfErr result (RefusesBytes self.old self.new client frame offset (min count 64)) }
+    {
+        let mut buffer = [0; FEW];
+        let part = &mut buffer[..(count as usize).min(FEW)];
+        self.client_load(client, frame, offset, part)?;
+        let mut bytes = ArrayVec::new();
+        bytes.try_extend_from_slice(part).unwrap();
+        Ok(bytes)
+    }
+}
+
+impl<A: Stepped> Server<A> {
+    ghost use Rattle.block_server.specs.Running.{Answers, RanInto};
+
+    /// Makes the call.
+    fn answer(&mut self, event: &Event) -> Said
+        ensures { Answers A.device event.now result self.old self.new }
+    {
+        match event {
+            Event::Submit(request) => Said::Submitted(self.submit(request)),
+            Event::ClientLoad {
+                client,
+                frame,
+                offset,
+                length,
+            } => Said::Loaded(self.load_few(*client, *frame, *offset, *length)),
+            Event::Service => Said::Served(self.service()),
+            Event::State(port) => Said::State(self.state(*port)),
+            Event::Device(step) => Said::Stepped(self.device(step)),
+        }
+    }
+
+    /// Makes the calls in order, and puts what each answered at the end of `out`. Where memory for that is refused, the
+    /// events before `at` are done, and no other.
+    pub fn run(&mut self, events: &[Event], out: &mut Vec<Said>) -> Result<(), RunStopped>
+        ensures done { OnOk result (RanInto A.device self.old self.new events.now out.old.items out.new.items) }
+        ensures stopped { IfErr result (λ e. e.at < length events.now) }
+        ensures ample { vec_len out.old + length events.now ≤ vec_capacity out.old → IsOk result }
+        ensures begun { IfErr result (λ e. RanInto A.device self.old self.new (take e.at events.now) out.old.items out.new.items) }
+    {
+        for (at, event) in events.iter().enumerate() {
+            if out.reserve(1).is_err() {
+                return Err(RunStopped { at });
+            }
+            let said = self.answer(event);
+            out.push_reserved(said);
+        }
+        Ok(())
+    }
+}
