@@ -1,15 +1,12 @@
 -- From the least place of each kind of fault to the first fault of all.
-use Rattle.std.proofs.Common.{ℕ, ◌<◌, List, Option, arith, inl, inr}
+use Rattle.std.proofs.Common.{ℕ, List, Option, arith, inl, inr}
 use Rattle.ata_types.specs.declared.request.ClientId.{ClientId}
 use Rattle.ata_types.specs.declared.request.Frame.{Frame}
 use Rattle.ata_types.specs.declared.request.RequestId.{RequestId}
 use Rattle.ata_types.specs.declared.refusal.FrameFault.{FrameFault}
 use Rattle.ata_types.specs.declared.refusal.FrameFault.TheVariants.{FrameForeign, FrameTwice, FrameLent}
 use Rattle.block_machine.specs.Rules.{IsForeignAt, IsTwiceAt, IsLentAt, HasFault, IsFaultBefore, HasNoFault, IsFirstFault}
-
--- the least place with P
-abbrev pub IsLeast : (ℕ → Type 0) → ℕ → Type 0
-IsLeast P i = P i × ((j : ℕ) → j < i → P j → ⊥)
+use Rattle.dma_frames.specs.Places.{IsLeast}
 
 module _ (owner : Frame → Option ClientId) (lent : Frame → Option RequestId) (client : ClientId) (frames : List Frame) where
   pub first_foreign_fault : (i : ℕ) → IsLeast (IsForeignAt owner client frames) i → IsFirstFault owner lent client frames (FrameForeign i)
