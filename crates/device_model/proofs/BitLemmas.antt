@@ -1,0 +1,85 @@
+-- Bits of `a | b` and `a & !b`, as functions of the place.
+use Rattle.std.proofs.Common.{ℕ, zero, suc, ◌≡◌, ◌<◌, ◌≤◌, ◌-◌, ◌*◌, ◌%◌, ◌^◌, ◌⊎◌, Bool, true, false, refl, sym, ◌∙◌, ap, arith, min, inl, inr, ◌||◌, ◌&&◌, w32, ◌≢◌, if◌then◌else◌}
+use Rattle.std.specs.Prelude.{not, bit_and, bit_or, ◌==◌}
+use Rattle.std.specs.Int.{bit_at, bit_not}
+use Rattle.std.proofs.lemmas.Nat.Bits.{bit_at_or, bit_at_and, bit_at-lt, bit_at_not, bit_at_above, bit_at_set_same, bit_at_set_other, bit_at_clear_same, bit_at_clear_other, bit_at-pow_same, bit_at-pow_other, bit_at-zero}
+use Rattle.std.proofs.lemmas.Bool.Decides.{eqb_tells}
+use Rattle.std.proofs.lemmas.Bool.{cases_lt}
+use Rattle.hba_regs.specs.Bits.{bit}
+use Rattle.adapter.specs.Memory.{changed}
+use Rattle.adapter.proofs.Changed.{fun_ext, changed_same, changed_other}
+use Rattle.device_model.specs.Bits.{bits_of}
+
+-- a bit is nought or one
+nought_or_one : (n k : ℕ) → (bit_at n k ≡ 0) ⊎ (bit_at n k ≡ 1)
+nought_or_one n k = small (bit_at n k) (bit_at-lt n k)
+  where
+    small : (b : ℕ) → b < 2 → (b ≡ 0) ⊎ (b ≡ 1)
+    small zero h = inl refl
+    small (suc b) h = inr (omega arith)
+
+pub bit-or : (a b k : ℕ) → bit (bit_or a b) k ≡ bit a k || bit b k
+bit-or a b k =
+    rw bit_at_or
+    (elim (nought_or_one a k) [
+      | inl x ↦ elim (nought_or_one b k) [ inl y ↦ rw (x, y) refl | inr y ↦ rw (x, y) refl ]
+      | inr x ↦ elim (nought_or_one b k) [ inl y ↦ rw (x, y) refl | inr y ↦ rw (x, y) refl ]
+    ])
+
+pub bits_of-or : (a b : ℕ) → bits_of (bit_or a b) ≡ (λ k. bits_of a k || bits_of b k)
+bits_of-or a b = fun_ext (λ k. bit-or a b k)
+
+kept_low : (a b k : ℕ) → b < 2 ^ 32 → k < 32 → bit (bit_and a (bit_not w32 b)) k ≡ bit a k && not (bit b k)
+kept_low a b k small low =
+    let e : bit_at (bit_not w32 b) k ≡ 1 - bit_at b k = bit_at_not w32 b k small low in
+    rw (bit_at_and a (bit_not w32 b) k, e)
+    (elim (nought_or_one a k) [
+      | inl x ↦ elim (nought_or_one b k) [ inl y ↦ rw (x, y) refl | inr y ↦ rw (x, y) refl ]
+      | inr x ↦ elim (nought_or_one b k) [ inl y ↦ rw (x, y) refl | inr y ↦ rw (x, y) refl ]
+    ])
+
+min_zero : (n : ℕ) → min 0 n ≡ 0
+min_zero n = omega arith
+
+kept_high : (a b k : ℕ) → a < 2 ^ 32 → 32 ≤ k → bit (bit_and a (bit_not w32 b)) k ≡ bit a k && not (bit b k)
+kept_high a b k small high =
+    let e : bit_at a k ≡ 0 = bit_at_above a 32 k small high in
+    rw (bit_at_and a (bit_not w32 b) k, e) (rw (min_zero (bit_at (bit_not w32 b) k)) refl)
+
+pub bits_of-and_not : (a b : ℕ) → a < 2 ^ 32 → b < 2 ^ 32 → bits_of (bit_and a (bit_not w32 b)) ≡ (λ k. bits_of a k && not (bits_of b k))
+bits_of-and_not a b small other =
+    fun_ext (λ k. elim (cases_lt k 32) [ inl low ↦ kept_low a b k other low | inr high ↦ kept_high a b k small high ])
+
+-- one flag more, and one less
+pub bits_of-set : (value place : ℕ) → place < 32 → bits_of (bit_or value (1 * 2 ^ place % 2 ^ 32)) ≡ changed (bits_of value) place true
+bits_of-set value place small =
+    fun_ext (λ k.
+    elim (eqb_tells k place) [
+      | inl same ↦
+          rw same.1
+          (ap (λ n. n == 1) (bit_at_set_same w32 value place small) ∙ sym (changed_same (bits_of value) place true))
+      | inr differ ↦
+          ap (λ n. n == 1) (bit_at_set_other w32 value place small k differ.1) ∙ sym (changed_other (bits_of value) place true k differ.1)
+    ])
+
+clear_at : (value place k : ℕ) → value < 2 ^ 32 → place < 32 → k ≢ place →
+    bit_at (bit_and value (bit_not w32 (1 * 2 ^ place % 2 ^ 32))) k ≡ bit_at value k
+clear_at value place k fits small ne =
+    elim (cases_lt k 32) [
+      | inl low ↦ bit_at_clear_other w32 value place small k low ne
+      | inr high ↦
+          let e : bit_at value k ≡ 0 = bit_at_above value 32 k fits high in
+          rw (bit_at_and value (bit_not w32 (1 * 2 ^ place % 2 ^ 32)) k, e) (min_zero _)
+    ]
+
+pub bits_of-clear : (value place : ℕ) → value < 2 ^ 32 → place < 32 →
+    bits_of (bit_and value (bit_not w32 (1 * 2 ^ place % 2 ^ 32))) ≡ changed (bits_of value) place false
+bits_of-clear value place fits small =
+    fun_ext (λ k.
+    elim (eqb_tells k place) [
+      | inl same ↦
+          rw same.1
+          (ap (λ n. n == 1) (bit_at_clear_same w32 value place small) ∙ sym (changed_same (bits_of value) place false))
+      | inr differ ↦
+          ap (λ n. n == 1) (clear_at value place k fits small differ.1) ∙ sym (changed_other (bits_of value) place false k differ.1)
+    ])

@@ -1,0 +1,20 @@
+use Rattle.std.proofs.Common.{rules, ◌<◌, length, ◌≡◌, ◌+◌, ◌*◌, ◌∙◌, refl, arith, slice_index_or}
+use Rattle.device_model.specs.Fetched.{no_prd}
+use Rattle.device_model.proofs.Fetches.{before_none, before_more, before_here}
+use Rattle.device_model.proofs.fetch.piece_at.Goals as goal
+
+pub loop-prd-init : goal.loop-prd-init
+loop-prd-init c = before_none c.args.prds.now c.args.number
+
+pub loop-prd-preserved : goal.loop-prd-preserved
+loop-prd-preserved c =
+    let small : c.loop-prd.prd-index < length c.args.prds.now = search rules in
+    before_more c.args.prds.now c.loop-prd.prd-index c.args.number c.loop-prd.left (slice_index_or c.args.prds.now c.loop-prd.prd-index no_prd) small refl c.if-left-here.false c.loop-prd.invariant
+
+pub returns-then-left-here : goal.returns-then-left-here
+returns-then-left-here c =
+    let small : c.loop-prd.prd-index < length c.args.prds.now = search rules in
+    let e = slice_index_or c.args.prds.now c.loop-prd.prd-index no_prd in
+    let here = before_here c.args.prds.now c.loop-prd.prd-index c.args.number c.loop-prd.left e small refl c.if-left-here.true c.loop-prd.invariant in
+    let same : c.from.result + 512 * c.from-then-left-here.result ≡ e.address + 512 * c.loop-prd.left = omega (arith, c.from.ensures, c.from-then-left-here.ensures) in
+    (here.0, same ∙ here.1)
