@@ -50,36 +50,19 @@ pub bits_of-and_not : (a b : ℕ) → a < 2 ^ 32 → b < 2 ^ 32 → bits_of (bit
 bits_of-and_not a b small other =
     fun_ext (λ k. elim (cases_lt k 32) [ inl low ↦ kept_low a b k other low | inr high ↦ kept_high a b k small high ])
 
--- one flag more, and one less
-pub bits_of-set : (value place : ℕ) → place < 32 → bits_of (bit_or value (1 * 2 ^ place % 2 ^ 32)) ≡ changed (bits_of value) place true
-bits_of-set value place small =
+-- a value of 32 bits with one bit as said, and the others as they were
+pub one_bit : (value new place : ℕ) (set : Bool) → value < 2 ^ 32 → new < 2 ^ 32 → bit new place ≡ set →
+    ((k : ℕ) → k < 32 → k ≢ place → bit new k ≡ bit value k) → bits_of new ≡ changed (bits_of value) place set
+one_bit value new place set fits new_fits here others =
     fun_ext (λ k.
     elim (eqb_tells k place) [
-      | inl same ↦
-          rw same.1
-          (ap (λ n. n == 1) (bit_at_set_same w32 value place small) ∙ sym (changed_same (bits_of value) place true))
-      | inr differ ↦
-          ap (λ n. n == 1) (bit_at_set_other w32 value place small k differ.1) ∙ sym (changed_other (bits_of value) place true k differ.1)
+      | inl same ↦ rw same.1 (here ∙ sym (changed_same (bits_of value) place set))
+      | inr differ ↦ other_bit k differ.1 ∙ sym (changed_other (bits_of value) place set k differ.1)
     ])
-
-clear_at : (value place k : ℕ) → value < 2 ^ 32 → place < 32 → k ≢ place →
-    bit_at (bit_and value (bit_not w32 (1 * 2 ^ place % 2 ^ 32))) k ≡ bit_at value k
-clear_at value place k fits small ne =
-    elim (cases_lt k 32) [
-      | inl low ↦ bit_at_clear_other w32 value place small k low ne
-      | inr high ↦
-          let e : bit_at value k ≡ 0 = bit_at_above value 32 k fits high in
-          rw (bit_at_and value (bit_not w32 (1 * 2 ^ place % 2 ^ 32)) k, e) (min_zero _)
-    ]
-
-pub bits_of-clear : (value place : ℕ) → value < 2 ^ 32 → place < 32 →
-    bits_of (bit_and value (bit_not w32 (1 * 2 ^ place % 2 ^ 32))) ≡ changed (bits_of value) place false
-bits_of-clear value place fits small =
-    fun_ext (λ k.
-    elim (eqb_tells k place) [
-      | inl same ↦
-          rw same.1
-          (ap (λ n. n == 1) (bit_at_clear_same w32 value place small) ∙ sym (changed_same (bits_of value) place false))
-      | inr differ ↦
-          ap (λ n. n == 1) (clear_at value place k fits small differ.1) ∙ sym (changed_other (bits_of value) place false k differ.1)
-    ])
+  where
+    other_bit : (k : ℕ) → k ≢ place → bit new k ≡ bit value k
+    other_bit k ne =
+        elim (cases_lt k 32) [
+          | inl low ↦ others k low ne
+          | inr high ↦ rw (bit_at_above new 32 k new_fits high, bit_at_above value 32 k fits high) refl
+        ]

@@ -1,16 +1,9 @@
 // Bits of registers.
-ghost use Rattle.std.specs.Prelude.{◌≡◌, ◌<◌, ◌^◌, ◌&&◌, not, if◌then◌else◌, true, false};
+ghost use Rattle.std.specs.Prelude.{◌≡◌, ◌<◌, ◌^◌, ◌&&◌, not, if◌then◌else◌};
 ghost use Rattle.adapter.specs.Memory.{changed};
-ghost use Rattle.hba_regs.specs.Bits.{bit};
 ghost use Rattle.device_model.specs.Bits.{bits_of};
 
-/// Whether a bit is one.
-pub fn is_set(value: u32, place: u32) -> bool
-    requires { place < 32 }
-    ensures { result ≡ bit value place }
-{
-    (value >> place) % 2 == 1
-}
+use hba_regs::{with_bit, without_bit};
 
 /// A value of this one bit, or none.
 pub fn bit_if(set: bool, place: u32) -> u32
@@ -26,9 +19,9 @@ pub fn with_bit_as(value: u32, place: u32, set: bool) -> u32
     ensures { bits_of result ≡ changed (bits_of value) place set }
 {
     if set {
-        value | 1 << place
+        with_bit(value, place)
     } else {
-        value & !(1 << place)
+        without_bit(value, place)
     }
 }
 

@@ -7,10 +7,10 @@ ghost use Rattle.hba_regs.specs.Bits.{bit};
 ghost use Rattle.device_model.specs.View.{Media, port_of, blank};
 ghost use Rattle.device_model.specs.Whole.{Outside, device_of, HasPort};
 
-use crate::bits::{bit_if, is_set};
+use crate::bits::bit_if;
 use crate::port::PortModel;
 use adapter::Entry;
-use hba_regs::Reg;
+use hba_regs::{Reg, is_set};
 
 /// Registers, memory and the tape.
 #[derive(Drop)]

@@ -4,9 +4,9 @@ ghost use Rattle.adapter.specs.Steps.{with_link};
 ghost use Rattle.adapter.specs.Access.{PortShows, note, port_written, unacknowledged, counted as count_after, link_counted as link_count_after};
 ghost use Rattle.device_model.specs.View.{Media, port_of, Settles};
 
-use crate::bits::{bit_if, is_set, with_bit_as, without_ones};
+use crate::bits::{bit_if, with_bit_as, without_ones};
 use crate::port::PortModel;
-use hba_regs::PortReg;
+use hba_regs::{PortReg, is_set};
 
 /// One more reading in a row.
 fn counted(again: bool, count: u32) -> u32

@@ -5,9 +5,10 @@ ghost use Rattle.adapter.specs.Steps.{with_fetch, with_move, with_done};
 ghost use Rattle.device_model.specs.Slots.{MayTake, HoldsAt};
 ghost use Rattle.device_model.specs.View.{Media, port_of, slots_of, taken_of, blank};
 
-use crate::bits::{is_set, with_bit_as};
+use crate::bits::with_bit_as;
 use crate::port::{PortModel, TakenRead};
 use adapter::Operation;
+use hba_regs::is_set;
 
 /// Whether no slot is taken.
 fn none_taken(taken: &[Option<TakenRead>; 32]) -> bool
