@@ -93,9 +93,10 @@ pub record IsBefore (xs : List Prd) (i number left : ℕ) : Type 0 where
   pub front : List ℕ
   pub split : pieces xs ≡ front ++ pieces (drop i xs)
   pub sum : number ≡ length front + left
+  pub bound : length front ≤ 8388608 * i
 
 pub before_none : (xs : List Prd) (number : ℕ) → IsBefore xs 0 number number
-before_none xs number = record { front = []; split = refl; sum = omega arith }
+before_none xs number = record { front = []; split = refl; sum = omega arith; bound = omega arith }
 
 drop_suc : (xs : List Prd) (i : ℕ) (e : Prd) → i < length xs → e ≡ slice_index_or xs i no_prd → drop i xs ≡ e ∷ drop (suc i) xs
 drop_suc [] i e small is = absurd (omega arith)
@@ -106,14 +107,15 @@ drop_next : (xs : List Prd) (i : ℕ) (e : Prd) → i < length xs → e ≡ slic
 drop_next xs i e small is = let next : i + 1 ≡ suc i = omega arith in rw next (drop_suc xs i e small is)
 
 pub before_more : (xs : List Prd) (i number left : ℕ) (e : Prd) → i < length xs → e ≡ slice_index_or xs i no_prd → e.bytes / 512 ≤ left →
-    IsBefore xs i number left → IsBefore xs (i + 1) number (left - e.bytes / 512)
-before_more xs i number left e small is past b =
+    e.bytes / 512 ≤ 8388608 → IsBefore xs i number left → IsBefore xs (i + 1) number (left - e.bytes / 512)
+before_more xs i number left e small is past most b =
     let front = cut e.address (e.bytes / 512) in
     let rest : drop i xs ≡ e ∷ drop (i + 1) xs = drop_next xs i e small is in
     record {
       front = b.front ++ front;
       split = b.split ∙ ap (λ (es : List Prd). b.front ++ pieces es) rest ∙ sym (append_assoc b.front front (pieces (drop (i + 1) xs)));
       sum = omega (arith, b.sum, length-append b.front front, cut_length e.address (e.bytes / 512));
+      bound = omega (arith, b.bound, most, length-append b.front front, cut_length e.address (e.bytes / 512));
     }
 
 -- one of the pieces of this one

@@ -5,3 +5,4 @@ pub mod Ports
 pub mod Acknowledged
 pub mod Fetches
 pub mod SlotLemmas
+pub mod Stepping

@@ -1,5 +1,5 @@
 -- What a port may do with its slots.
-use Rattle.std.specs.Prelude.{ℕ, ◌≡◌, ◌+◌, ◌<◌, ◌≤◌, None, Some, length, slice_index, slice_index_or}
+use Rattle.std.specs.Prelude.{ℕ, ◌≡◌, ◌+◌, ◌^◌, ◌<◌, ◌≤◌, None, Some, length, slice_index, slice_index_or}
 use Rattle.adapter.specs.Device.{PortState}
 use Rattle.adapter.specs.Says.{pieces}
 use Rattle.adapter.specs.Steps.{IsFetchable, IsWorking, IsAlone, WorksOn}
@@ -24,6 +24,7 @@ pub record HoldsAt (p : PortModel) (slot : ℕ) (t : TakenRead) : Type 0 where
 pub record IsNext (h : Hardware) (port slot sector address : ℕ) (t : TakenRead) : Type 0 where
   pub holds : HoldsAt (slice_index_or h.ports port blank) slot t
   pub left : t.moved < length (pieces t.prds)
+  pub room : t.moved + 1 < 2 ^ 32
   pub sector_is : sector ≡ t.first + t.moved
   pub address_is : address ≡ slice_index (pieces t.prds) t.moved
   pub inside : address + 512 ≤ length h.memory.items

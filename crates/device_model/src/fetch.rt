@@ -196,7 +196,8 @@ pub fn count_pieces(prds: &[Prd; 128]) -> u32
 
 /// The address of a piece, if PRDs have so many.
 pub fn piece_at(prds: &[Prd; 128], number: u32) -> Option<u64>
-    ensures { IfSome result (λ address. (number < length (pieces prds.now)) × (address ≡ slice_index (pieces prds.now) number)) }
+    ensures found { IfSome result (λ address. (number < length (pieces prds.now)) × (address ≡ slice_index (pieces prds.now) number)) }
+    ensures room { IfSome result (λ _. number + 1 < 2 ^ 32) }
 {
     let mut left = number;
     for prd in prds {

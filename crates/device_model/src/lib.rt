@@ -8,4 +8,5 @@ mod port;
 mod registers;
 pub mod sector_store;
 mod slots;
+mod steps;
 pub use config::{ModelConfig, NoMemory, Trim};
