@@ -6,3 +6,5 @@ pub mod Acknowledged
 pub mod Fetches
 pub mod SlotLemmas
 pub mod Stepping
+pub mod Going
+pub mod NewModel

@@ -1,12 +1,12 @@
 -- Steps of the hardware, of a port by its index in the array.
 use Rattle.std.proofs.Common.{ℕ, ◌≡◌, ◌≢◌, ◌<◌, ◌≤◌, ◌+◌, List, [], ◌∷◌, ◌++◌, length, None, Some, refl, sym, ◌∙◌, ap, subst, inl, arith, take, drop}
-use Rattle.std.specs.Prelude.{slice_set, slice_index_or}
+use Rattle.std.specs.Prelude.{slice_set, slice_index_or, Option, IfSome}
 use Rattle.std.specs.Global.{Vec}
 use Rattle.adapter.specs.Commands.{Meaning}
-use Rattle.adapter.specs.Device.{Device, PortState}
+use Rattle.adapter.specs.Device.{Device, PortState, IsSector}
 use Rattle.adapter.specs.Memory.{patched}
 use Rattle.adapter.specs.Says.{Says, pieces}
-use Rattle.adapter.specs.Steps.{after, MayFetch, IsWorking, IsAlone, with_fetch, with_move, with_done, done_entry, move_of, next_place, recorded}
+use Rattle.adapter.specs.Steps.{after, MayFetch, MayMove, IsWorking, IsAlone, with_fetch, with_move, with_done, done_entry, move_of, next_place, recorded}
 use Rattle.adapter.specs.Steps.Step.{Move}
 use Rattle.adapter.specs.declared.command.Operation.TheVariants.{Read, Trim}
 use Rattle.adapter.specs.declared.command.Operation.{Operation}
@@ -16,7 +16,7 @@ use Rattle.device_model.specs.Asked.{DoesFetch, DoesDone}
 use Rattle.device_model.specs.Fetched.{bytes_of}
 use Rattle.device_model.specs.Slots.{MayTake, HoldsAt, IsNext}
 use Rattle.device_model.specs.View.{port_of, taken_of, blank}
-use Rattle.device_model.specs.Whole.{Outside, device_of}
+use Rattle.device_model.specs.Whole.{Outside, device_of, outside_of}
 use Rattle.device_model.specs.declared.port.TakenRead.{TakenRead}
 use Rattle.device_model.specs.declared.port.PortModel.{PortModel}
 use Rattle.device_model.specs.declared.hardware.Hardware.{Hardware}
@@ -92,3 +92,23 @@ port_brings h o p port slot sector address new t tape memory bytes e small size 
     set_port_brought h o p new (with_move ((device_of h o).port p) slot (taken_of t) bytes) tape (entry.Move (move_of p slot (taken_of t) bytes)) memory
     (next_place (taken_of t)) bytes small is entries inside (rw (← place) put)
     ∙ ap (λ q. after (Move q slot (taken_of t) bytes) (device_of h o)) e
+
+-- the first disk's sector may be moved
+pub may_move : (h : Hardware) (size : ℕ) (told other : Option (ℕ → List ℕ)) (port slot sector address : ℕ) (t : TakenRead) (bytes : List ℕ) →
+    port ≡ 0 → IsNext h port slot sector address t → IsSector bytes → sector < size → IfSome told (λ f. bytes ≡ f sector) →
+    MayMove (device_of h (outside_of size told other)) port slot (taken_of t) bytes
+may_move h size told other port slot sector address t bytes e next is small gives =
+    let here = rw e at next in
+    let place : address ≡ next_place (taken_of t) = next.address_is in
+    let number : sector ≡ t.first + t.moved = next.sector_is in
+    let inside : address + 512 ≤ length h.memory.items = next.inside in
+    let small_here : t.first + t.moved < size = rw number at small in
+    let gives_here : IfSome told (λ f. bytes ≡ f (t.first + t.moved)) = rw number at gives in
+    rw e
+    (record {
+      works = here.holds.works _;
+      left = next.left;
+      inside = rw place at inside;
+      sector = is;
+      brings = (small_here, gives_here);
+    })

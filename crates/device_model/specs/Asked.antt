@@ -1,9 +1,8 @@
 -- What was asked of the device, and done.
-use Rattle.std.specs.Prelude.{ℕ, ◌≡◌, ◌<◌, List, length, All}
+use Rattle.std.specs.Prelude.{ℕ, zero, suc, ◌≡◌, ◌⊎◌, List}
 use Rattle.adapter.specs.Commands.{Meaning}
 use Rattle.adapter.specs.Device.{Taken, Device}
-use Rattle.adapter.specs.Rules.{InUse}
-use Rattle.adapter.specs.Steps.{Step, Can, after, Leads}
+use Rattle.adapter.specs.Steps.{Can, after}
 use Rattle.adapter.specs.Steps.Step.{Fetch, Move, Done}
 use Rattle.adapter.specs.declared.access.DeviceStep.{DeviceStep}
 use Rattle.adapter.specs.declared.access.DeviceStep.TheVariants as asked
@@ -30,19 +29,17 @@ pub record DoesDone (port slot : ℕ) (old new : Device) : Type 0 where
   pub effect : new ≡ after (Done port slot flag t) old
 
 -- a step of this slot's command
-abbrev pub IsOf : ℕ → ℕ → Step → Type 0
-IsOf port slot (Fetch p s meaning places) = (p ≡ port) × (s ≡ slot)
-IsOf port slot (Move p s t bytes) = (p ≡ port) × (s ≡ slot)
-IsOf port slot (Done p s flag t) = (p ≡ port) × (s ≡ slot)
-IsOf port slot _ = ⊥
+abbrev pub DoesOne : ℕ → ℕ → Device → Device → Type 0
+DoesOne port slot old new = DoesFetch port slot old new ⊎ DoesMove port slot old new ⊎ DoesDone port slot old new
 
--- the slot's command, which was issued or taken, went on by one step or more, and nothing else happened
-pub record GoesOn (port slot : ℕ) (old new : Device) : Type 0 where
-  pub used : InUse (old.port port) slot
-  pub steps : List Step
-  pub some : 0 < length steps
-  pub of_slot : All (IsOf port slot) steps
-  pub lead : Leads steps old new
+-- so many steps of the slot's command, one after another, and nothing else
+abbrev pub DoesSome : ℕ → ℕ → ℕ → Device → Device → Type 0
+DoesSome zero port slot old new = new ≡ old
+DoesSome (suc n) port slot old new = (mid : Device) × DoesSome n port slot old mid × DoesOne port slot mid new
+
+-- the slot's command went on by one step or more
+abbrev pub GoesOn : ℕ → ℕ → Device → Device → Type 0
+GoesOn port slot old new = (n : ℕ) × DoesSome (suc n) port slot old new
 
 abbrev pub Asked : DeviceStep → Device → Device → Type 0
 Asked (asked.Fetch p s) old new = DoesFetch p.0 s.0 old new

@@ -1,4 +1,8 @@
 // One port of the model.
+ghost use Rattle.std.specs.Prelude.{◌≡◌};
+ghost use Rattle.adapter.specs.Idle.{IsIdlePort};
+ghost use Rattle.device_model.specs.View.{Media, port_of};
+
 use adapter::Prd;
 
 /// Where the driver has put the command list and the received FIS area, and which of these registers it has written.
@@ -64,4 +68,34 @@ pub struct PortModel {
     pub link_due: bool,
     pub taken: [Option<TakenRead>; 32],
     pub readings: Readings,
+}
+
+impl PortModel {
+    /// A port as after a reset, with a disk or without.
+    pub fn new(present: bool) -> PortModel
+        ensures idle { (m : Media) → IsIdlePort (port_of result m) }
+        ensures present { result.present ≡ present }
+    {
+        PortModel {
+            addresses: Addresses::default(),
+            st: false,
+            fre: false,
+            sctl_det: 0,
+            cr: false,
+            fr: false,
+            tfd: 0x7f,
+            sig: 0xffff_ffff,
+            detected: false,
+            serr_n: false,
+            serr_x: false,
+            is: 0,
+            ci: 0,
+            sact: 0,
+            present,
+            fresh: false,
+            link_due: false,
+            taken: [None; 32],
+            readings: Readings::default(),
+        }
+    }
 }

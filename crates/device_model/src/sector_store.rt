@@ -20,8 +20,7 @@ pub trait SectorStore: Drop {
 
     /// How many sectors there are.
     fn sectors(&self) -> u64
-        ensures size { result ≡ size self.now }
-        ensures told { AreSectors (size self.now) (told self.now) };
+        ensures { result ≡ size self.now };
 
     /// Copies a sector.
     fn read(&mut self, sector: u64, out: &mut [u8; 512]) -> bool
@@ -39,6 +38,9 @@ pub trait SectorStore: Drop {
         ensures kept { result ≡ false → told self.new ≡ told self.old }
         ensures sure { is_sure ≡ true → sector < size self.old → result ≡ true }
         ensures size { size self.new ≡ size self.old };
+
+    /// What it tells are sectors.
+    ghost tells_sectors: { (s : Self) → AreSectors (size s) (told s) };
 }
 
 /// Sectors in memory, which the store tells.
@@ -67,6 +69,8 @@ impl SectorStore for MemStore {
     ghost told = { λ s. Some (λ k. slice_index_or s.sectors.items k []) };
 
     ghost is_sure = { true };
+
+    ghost tells_sectors = { λ s. s.are_sectors };
 
     fn sectors(&self) -> u64 {
         self.sectors.len() as u64

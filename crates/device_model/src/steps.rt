@@ -11,8 +11,9 @@ ghost use Rattle.device_model.specs.declared.port.TakenRead.{TakenRead};
 
 use crate::fetch::{count_pieces, piece_at, read_command};
 use crate::hardware::{Hardware, put};
+use crate::port::TakenRead;
 use crate::slots::{may_take, working_on};
-use adapter::{Direction, Done, Entry, Move, Operation};
+use adapter::{Direction, Done, Entry, Move, Operation, Prd};
 use ata_types::{Port, Slot};
 
 /// A sector that a command moves next, and the address that it goes to.
@@ -28,6 +29,22 @@ fn record(tape: &mut Vec<Entry>, entry: Entry) -> bool
     ensures kept { result ≡ false → tape.new.items ≡ tape.old.items }
 {
     tape.push(entry).is_ok()
+}
+
+/// Whether each region is in a memory of this size.
+fn are_inside(prds: &[Prd; 128], size: usize) -> bool {
+    prds.iter()
+        .all(|prd| prd.address as usize + prd.bytes as usize <= size)
+}
+
+/// How many moves are left of a command, if each of its pieces has a place in a memory of this size and is one of so many
+/// sectors.
+fn left_of(read: &TakenRead, size: usize, sectors: u64) -> Option<u32> {
+    let end = read.first.checked_add(u64::from(read.count))?;
+    if end > sectors || !are_inside(&read.prds, size) {
+        return None;
+    }
+    count_pieces(&read.prds).checked_sub(read.moved)
 }
 
 impl Hardware {
@@ -117,5 +134,29 @@ impl Hardware {
         }
         self.ports[usize::from(port)].end(slot);
         true
+    }
+
+    /// How many moves are left until a slot's command can end, if it may be taken or is taken, and each move is possible on
+    /// a disk of so many sectors.
+    pub fn moves_left(&self, port: u8, slot: u8, sectors: u64) -> Option<u32>
+        requires port { port < 4 }
+        requires slot { slot < 32 }
+    {
+        let place = usize::from(port);
+        if may_take(&self.ports, place, slot) {
+            let list = self.ports[place].addresses.clb;
+            let read = read_command(&self.memory, list, slot)?;
+            left_of(&read, self.memory.len(), sectors)
+        } else {
+            let read = working_on(&self.ports, place, slot)?;
+            left_of(read, self.memory.len(), sectors)
+        }
+    }
+
+    /// Finds memory for more entries of the tape; `false` says that there was none.
+    pub fn reserve(&mut self, entries: usize) -> bool
+        ensures { (o : Outside) → device_of self.new o ≡ device_of self.old o }
+    {
+        self.tape.reserve(entries).is_ok()
     }
 }
