@@ -1,8 +1,8 @@
 -- Bits of `a | b` and `a & !b`, as functions of the place.
-use Rattle.std.proofs.Common.{ℕ, zero, suc, ◌≡◌, ◌<◌, ◌≤◌, ◌-◌, ◌*◌, ◌%◌, ◌^◌, ◌⊎◌, Bool, true, false, refl, sym, ◌∙◌, ap, arith, min, inl, inr, ◌||◌, ◌&&◌, w32, ◌≢◌, if◌then◌else◌}
-use Rattle.std.specs.Prelude.{not, bit_and, bit_or, ◌==◌}
+use Rattle.std.proofs.Common.{ℕ, zero, suc, ◌≡◌, ◌<◌, ◌≤◌, ◌-◌, ◌^◌, ◌⊎◌, Bool, refl, sym, ◌∙◌, arith, min, inl, inr, ◌||◌, ◌&&◌, w32, ◌≢◌}
+use Rattle.std.specs.Prelude.{not, bit_and, bit_or}
 use Rattle.std.specs.Int.{bit_at, bit_not}
-use Rattle.std.proofs.lemmas.Nat.Bits.{bit_at_or, bit_at_and, bit_at-lt, bit_at_not, bit_at_above, bit_at_set_same, bit_at_set_other, bit_at_clear_same, bit_at_clear_other, bit_at-pow_same, bit_at-pow_other, bit_at-zero}
+use Rattle.std.proofs.lemmas.Nat.Bits.{bit_at_or, bit_at_and, bit_at-lt, bit_at_not, bit_at_above}
 use Rattle.std.proofs.lemmas.Bool.Decides.{eqb_tells}
 use Rattle.std.proofs.lemmas.Bool.{cases_lt}
 use Rattle.hba_regs.specs.Bits.{bit}

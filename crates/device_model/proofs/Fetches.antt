@@ -1,5 +1,5 @@
 -- PRDs, one more at the end; and the bytes of a slot, one way and the other.
-use Rattle.std.proofs.Common.{ℕ, Bool, true, false, zero, suc, ◌^◌, replicate, length-take, ◌≡◌, ◌<◌, ◌≤◌, ◌+◌, ◌-◌, ◌*◌, ◌/◌, ◌%◌, List, [], ◌∷◌, ◌++◌, length, take, drop, All, slice_index, slice_index_or, refl, sym, ◌∙◌, ap, arith, subst, append-nil, append_assoc, length-append, drop-cons}
+use Rattle.std.proofs.Common.{ℕ, Bool, true, false, zero, suc, ◌^◌, replicate, length-take, ◌≡◌, ◌<◌, ◌≤◌, ◌+◌, ◌-◌, ◌*◌, ◌/◌, List, [], ◌∷◌, ◌++◌, length, take, drop, All, slice_index, slice_index_or, refl, sym, ◌∙◌, ap, arith, subst, append_assoc, length-append}
 use Rattle.std.specs.Prelude.{slice_set}
 use Rattle.std.proofs.Math.Seq.{take-suc-set}
 use Rattle.std.proofs.lemmas.List.{get_or_append_left, get_or-append_right}
@@ -127,14 +127,13 @@ before_here xs i number left e small is here b =
     let all : pieces xs ≡ b.front ++ (front ++ after) = b.split ∙ ap (λ (es : List Prd). b.front ++ pieces es) (drop_next xs i e small is) in
     let n : length front ≡ e.bytes / 512 = cut_length e.address (e.bytes / 512) in
     let place : number - length b.front ≡ left = omega (arith, b.sum) in
-    let sizes = ap length all in
-    (
+    let sizes = ap length all in (
       omega (arith, b.sum, n, sizes, length-append b.front (front ++ after), length-append front after),
       sym
-      (ap (λ (l : List ℕ). slice_index l number) all
-      ∙ (get_or-append_right b.front (front ++ after) (length b.front) number 0 refl (omega (arith, b.sum))
-      ∙ (ap (λ k. slice_index (front ++ after) k) place
-      ∙ (get_or_append_left front after 0 left (omega (arith, n)) ∙ cut_index e.address (e.bytes / 512) left here)))),
+          (ap (λ (l : List ℕ). slice_index l number) all
+          ∙ (get_or-append_right b.front (front ++ after) (length b.front) number 0 refl (omega (arith, b.sum))
+          ∙ (ap (λ k. slice_index (front ++ after) k) place
+          ∙ (get_or_append_left front after 0 left (omega (arith, n)) ∙ cut_index e.address (e.bytes / 512) left here)))),
     )
 
 pub padded_none : (n : ℕ) → IsPadded (replicate n no_prd) 0

@@ -1,12 +1,12 @@
 -- Steps of one slot's command, one after another.
-use Rattle.std.proofs.Common.{ℕ, Bool, true, false, zero, suc, ◌≡◌, ◌<◌, ◌∙◌, refl, sym, subst, inl, inr}
+use Rattle.std.proofs.Common.{ℕ, Bool, true, false, zero, suc, ◌≡◌, refl, sym, subst, inl, inr}
 use Rattle.adapter.specs.Device.{Device}
 use Rattle.adapter.specs.Steps.{Steps}
 use Rattle.adapter.specs.Steps.Step.{Fetch, Move, Done}
 use Rattle.adapter.specs.declared.access.DeviceStep.{DeviceStep}
 use Rattle.adapter.specs.declared.access.DeviceStep.TheVariants as asked
 use Rattle.adapter.proofs.Runs.{Steps-refl, Steps-one, Steps-trans}
-use Rattle.device_model.specs.Asked.{DoesFetch, DoesMove, DoesDone, DoesOne, DoesSome, GoesOn, Asked}
+use Rattle.device_model.specs.Asked.{DoesOne, DoesSome, GoesOn, Asked}
 
 pub goes_one : (port slot : ℕ) (old new : Device) → DoesOne port slot old new → GoesOn port slot old new
 goes_one port slot old new one = (0, (old, refl, one))

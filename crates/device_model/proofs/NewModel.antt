@@ -1,5 +1,5 @@
 -- A new model is idle and sane.
-use Rattle.std.proofs.Common.{ℕ, Bool, true, false, zero, suc, ◌≡◌, ◌<◌, List, [], ◌∷◌, Option, None, Some, replicate, refl, ap, ◌∙◌, slice_index, subst, inl, inr, arith, ◌&&◌, slice_index_or}
+use Rattle.std.proofs.Common.{ℕ, true, false, zero, suc, ◌≡◌, ◌<◌, List, [], ◌∷◌, Option, None, Some, replicate, refl, ap, ◌∙◌, slice_index, subst, inl, inr, arith, ◌&&◌, slice_index_or}
 use Rattle.std.specs.Prelude.{is_some}
 use Rattle.std.proofs.lemmas.Bool.Decides.{eqb_tells}
 use Rattle.std.proofs.lemmas.Nat.Bits.{bit_at-zero}
@@ -9,7 +9,6 @@ use Rattle.adapter.specs.Idle.{IsIdlePort}
 use Rattle.device_model.specs.Stores.{AreSectors}
 use Rattle.device_model.specs.View.{Media, port_of, slots_of, blank}
 use Rattle.device_model.specs.Whole.{outside_of}
-use Rattle.device_model.specs.declared.port.TakenRead.{TakenRead}
 use Rattle.device_model.specs.declared.port.PortModel.{PortModel}
 
 pub zero_bit : (k : ℕ) → bit 0 k ≡ false

@@ -13,7 +13,7 @@ use Rattle.adapter.proofs.Runs.{Steps-refl, Steps-one}
 use Rattle.adapter.proofs.Changed.{fun_ext, changed_same, changed_other, changed_each}
 use Rattle.hba_regs.specs.declared.reg.Reg.{Reg}
 use Rattle.hba_regs.specs.declared.reg.Reg.TheVariants.{Cap, Ghc, Is, Pi, Vs, Cap2, Bohc, Px}
-use Rattle.device_model.specs.View.{Media, port_of, blank, Settles}
+use Rattle.device_model.specs.View.{port_of, blank, Settles}
 use Rattle.device_model.specs.Whole.{Outside, device_of, HasPort}
 use Rattle.device_model.specs.declared.port.PortModel.{PortModel}
 use Rattle.device_model.specs.declared.hardware.Hardware.{Hardware}

@@ -1,12 +1,11 @@
 -- Steps of the hardware, of a port by its index in the array.
-use Rattle.std.proofs.Common.{ℕ, ◌≡◌, ◌≢◌, ◌<◌, ◌≤◌, ◌+◌, List, [], ◌∷◌, ◌++◌, length, None, Some, refl, sym, ◌∙◌, ap, subst, inl, arith, take, drop}
+use Rattle.std.proofs.Common.{ℕ, ◌≡◌, ◌<◌, ◌≤◌, ◌+◌, List, [], ◌∷◌, ◌++◌, length, refl, sym, ◌∙◌, ap, subst, inl, arith, take, drop}
 use Rattle.std.specs.Prelude.{slice_set, slice_index_or, Option, IfSome}
 use Rattle.std.specs.Global.{Vec}
 use Rattle.adapter.specs.Commands.{Meaning}
-use Rattle.adapter.specs.Device.{Device, PortState, IsSector}
-use Rattle.adapter.specs.Memory.{patched}
+use Rattle.adapter.specs.Device.{PortState, IsSector}
 use Rattle.adapter.specs.Says.{Says, pieces}
-use Rattle.adapter.specs.Steps.{after, MayFetch, MayMove, IsWorking, IsAlone, with_fetch, with_move, with_done, done_entry, move_of, next_place, recorded}
+use Rattle.adapter.specs.Steps.{after, MayFetch, MayMove, IsWorking, IsAlone, with_fetch, with_move, with_done, done_entry, move_of, next_place}
 use Rattle.adapter.specs.Steps.Step.{Move}
 use Rattle.adapter.specs.declared.command.Operation.TheVariants.{Read, Trim}
 use Rattle.adapter.specs.declared.command.Operation.{Operation}

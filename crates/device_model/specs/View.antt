@@ -1,6 +1,6 @@
 -- The state that a model stands for.
-use Rattle.std.specs.Prelude.{ℕ, Bool, true, false, ◌≡◌, ◌%◌, ◌<◌, ◌⊎◌, ◌&&◌, List, [], ◌∷◌, length, Option, None, Some, is_some, option_map, if◌then◌else◌, nat_eq, slice_index, slice_index_or}
-use Rattle.adapter.specs.Device.{Disk, Taken, Bases, Notes, PortState, Device}
+use Rattle.std.specs.Prelude.{ℕ, true, false, ◌≡◌, ◌%◌, ◌⊎◌, List, [], Option, None, option_map, if◌then◌else◌, slice_index_or}
+use Rattle.adapter.specs.Device.{Disk, Taken, Bases, Notes, PortState}
 use Rattle.adapter.specs.Device.Halt.{NotHalted}
 use Rattle.adapter.specs.Says.{pieces}
 use Rattle.adapter.specs.Steps.{with_link, MayLinkUp}

@@ -1,5 +1,5 @@
 -- The state of the whole adapter that a model stands for.
-use Rattle.std.specs.Prelude.{ℕ, Bool, ◌≡◌, ◌<◌, ◌&&◌, List, [], ◌∷◌, length, Option, Some, is_some, if◌then◌else◌, nat_eq, slice_index, slice_index_or}
+use Rattle.std.specs.Prelude.{ℕ, Bool, ◌<◌, ◌&&◌, List, [], ◌∷◌, length, Option, Some, is_some, if◌then◌else◌, nat_eq, slice_index, slice_index_or}
 use Rattle.adapter.specs.Device.{Disk, Device}
 use Rattle.hba_regs.specs.declared.reg.Reg.{Reg}
 use Rattle.hba_regs.specs.declared.reg.Reg.TheVariants.{Px}
@@ -44,7 +44,7 @@ outside_of size told other =
     record {
       telling = is_some told && is_some other;
       media = λ port.
-        if nat_eq port 0
-        then record { disk = first_disk size told; plugged = first_disk size told ∷ [] }
-        else no_media;
+          if nat_eq port 0
+          then record { disk = first_disk size told; plugged = first_disk size told ∷ [] }
+          else no_media;
     }

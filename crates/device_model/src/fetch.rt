@@ -38,7 +38,11 @@ fn copy_bytes(memory: &[u8], at: usize, out: &mut [u8])
 {
     for i in 0..out.len() {
         let place = at + i;
-        out[i] = if place < memory.len() { memory[place] } else { 0 };
+        out[i] = if place < memory.len() {
+            memory[place]
+        } else {
+            0
+        };
     }
 }
 

@@ -58,7 +58,7 @@ fn get(memory: &[u8], at: usize, out: &mut [u8])
 /// Bits of IS were written.
 fn unacknowledge(ports: &mut [PortModel; 4], value: u32)
     ensures { (m : Media) (port : ℕ) → port_of (slice_index_or ports.new port blank) m ≡
-      (if bit value port then unacknowledged (port_of (slice_index_or ports.old port blank) m) else port_of (slice_index_or ports.old port blank) m) }
+        (if bit value port then unacknowledged (port_of (slice_index_or ports.old port blank) m) else port_of (slice_index_or ports.old port blank) m) }
 {
     for port in 0..4u32 {
         if is_set(value, port) {

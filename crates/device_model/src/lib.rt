@@ -15,4 +15,3 @@ mod steps;
 
 pub use config::{ModelConfig, NoMemory, Trim};
 pub use model::Model;
-

@@ -38,12 +38,7 @@ pub struct Model<S> {
 impl<S: SectorStore> Model<S> {
     /// An adapter as after its reset, with four ports, memory of zeros, and the disks 0 and 1 of port 0. Disk 0 is
     /// plugged in.
-    pub fn new(
-        alloc: Global,
-        config: ModelConfig,
-        disk0: S,
-        disk1: S,
-    ) -> Result<Model<S>, NoMemory>
+    pub fn new(alloc: Global, config: ModelConfig, disk0: S, disk1: S) -> Result<Model<S>, NoMemory>
         requires frames { (41 ≤ config.frames) × (config.frames ≤ 1024) }
         requires slots { (1 ≤ config.slots) × (config.slots ≤ 32) }
         requires depth { (1 ≤ config.depth) × (config.depth ≤ 32) }
@@ -144,7 +139,7 @@ impl<S: SectorStore> Model<S> {
         ensures asked { result ≡ true → Asked s.now (device_at S.size S.told self.old) (device_at S.size S.told self.new) }
         ensures refused { result ≡ false → device_at S.size S.told self.new ≡ device_at S.size S.told self.old }
         ensures fetches { result ≡ false → (p : Port) (slot : Slot) (m : Meaning) (places : List ℕ) → s.now ≡ DeviceStep.Fetch p slot → p.0 < 4 → slot.0 < 32 →
-          m.operation ≡ Operation.Read → Can (Fetch p.0 slot.0 m places) (device_at S.size S.told self.old) → ⊥ }
+            m.operation ≡ Operation.Read → Can (Fetch p.0 slot.0 m places) (device_at S.size S.told self.old) → ⊥ }
     {
         match *s {
             DeviceStep::Fetch(port, slot) => {
@@ -220,8 +215,11 @@ impl<S: SectorStore> Stepped for Model<S> {
         ensures refused { result ≡ false → device_at S.size S.told self.new ≡ device_at S.size S.told self.old }
         ensures asked { result ≡ true → Asked s.now (device_at S.size S.told self.old) (device_at S.size S.told self.new) }
         ensures fetches { result ≡ false → (p : Port) (slot : Slot) (m : Meaning) (places : List ℕ) → s.now ≡ DeviceStep.Fetch p slot → p.0 < 4 → slot.0 < 32 →
-          m.operation ≡ Operation.Read → Can (Fetch p.0 slot.0 m places) (device_at S.size S.told self.old) → ⊥ }
+            m.operation ≡ Operation.Read → Can (Fetch p.0 slot.0 m places) (device_at S.size S.told self.old) → ⊥ }
     {
         self.do_step(s)
     }
 }
+
+#[cfg(test)]
+mod tests;

@@ -70,8 +70,10 @@ impl PortModel {
             PortReg::Ci => {
                 self.readings.last_ci = value;
                 if no_comreset {
-                    self.readings.command_count =
-                        counted(is_set(value, 0), self.readings.command_count);
+                    self.readings.command_count = counted(
+                        is_set(value, 0),
+                        self.readings.command_count,
+                    );
                 }
             }
             PortReg::Sig => self.readings.last_sig = value,

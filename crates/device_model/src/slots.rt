@@ -56,7 +56,7 @@ impl PortModel {
         requires slot { slot < 32 }
         requires room { IfSome (slice_index_or self.old.taken slot None) (λ t. t.moved + 1 < 2 ^ 32) }
         ensures { (m : Media) (t : TakenRead) (bytes : List ℕ) → slice_index_or self.old.taken slot None ≡ Some t →
-          port_of self.new m ≡ with_move (port_of self.old m) slot (taken_of t) bytes }
+            port_of self.new m ≡ with_move (port_of self.old m) slot (taken_of t) bytes }
     {
         add_moved(&mut self.taken[usize::from(slot)]);
     }

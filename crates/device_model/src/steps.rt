@@ -91,7 +91,7 @@ impl Hardware {
         requires slot { slot < 32 }
         requires next { (t : TakenRead) × IsNext self.old port slot next.sector next.address t }
         ensures did { result ≡ true → (o : Outside) → (t : TakenRead) × IsNext self.old port slot next.sector next.address t
-          × (device_of self.new o ≡ after (MoveStep port slot (taken_of t) bytes.now) (device_of self.old o)) }
+            × (device_of self.new o ≡ after (MoveStep port slot (taken_of t) bytes.now) (device_of self.old o)) }
         ensures refused { result ≡ false → (o : Outside) → device_of self.new o ≡ device_of self.old o }
     {
         let entry = Entry::Move(Move {

@@ -1,4 +1,4 @@
-use Rattle.std.proofs.Common.{◌≡◌, ◌<◌, ℕ, length, arith}
+use Rattle.std.proofs.Common.{length, arith}
 use Rattle.device_model.proofs.Bytes.{bytes_copied}
 use Rattle.device_model.specs.Fetched.{bytes_of}
 use Rattle.device_model.proofs.fetch.copy_bytes.Goals as goal

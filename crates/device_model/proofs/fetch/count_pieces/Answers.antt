@@ -1,4 +1,4 @@
-use Rattle.std.proofs.Common.{rules, ◌<◌, ◌≤◌, ◌≡◌, ap, ◌∙◌, arith, length, List}
+use Rattle.std.proofs.Common.{rules, ◌<◌, ◌≤◌, ap, ◌∙◌, arith, length, List}
 use Rattle.adapter.specs.declared.command.Prd.{Prd}
 use Rattle.adapter.specs.Says.{pieces}
 use Rattle.std.proofs.lemmas.List.{take_all}

@@ -1,4 +1,4 @@
-use Rattle.std.proofs.Common.{◌≡◌, ◌<◌, ◌^◌, arith}
+use Rattle.std.proofs.Common.{◌<◌, ◌^◌, arith}
 use Rattle.device_model.proofs.fetch.decode_sectors.Goals as goal
 
 pub returns-clause-range : goal.returns-clause-range

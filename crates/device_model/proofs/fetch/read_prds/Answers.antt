@@ -1,4 +1,4 @@
-use Rattle.std.proofs.Common.{rules, ◌≡◌, ◌<◌, ◌≢◌, ◌∙◌, ℕ, length, take, arith, slice_index_or, length-take, get_or-set_other}
+use Rattle.std.proofs.Common.{◌≡◌, ◌<◌, ◌≢◌, ◌∙◌, length, take, arith, slice_index_or, length-take, get_or-set_other}
 use Rattle.std.proofs.lemmas.List.{length-set}
 use Rattle.device_model.specs.Fetched.{bytes_of, no_prd}
 use Rattle.device_model.proofs.Fetches.{has_at, prds_more, whole_more, pieces_padded}
@@ -8,7 +8,7 @@ pub returns-in_default-clause-only : goal.returns-in_default-clause-only
 returns-in_default-clause-only c = λ _ es n has whole.
     let small : c.loop-i.i < length es = omega arith in
     let read = c.in_default.ensures.only (slice_index_or es c.loop-i.i no_prd)
-        (has_at (bytes_of c.args.memory.now) c.args.at es c.loop-i.i has small) (whole c.loop-i.i no_prd small) in
+    (has_at (bytes_of c.args.memory.now) c.args.at es c.loop-i.i has small) (whole c.loop-i.i no_prd small) in
     absurd (cc (read))
 
 pub loop-i-preserved : goal.loop-i-preserved

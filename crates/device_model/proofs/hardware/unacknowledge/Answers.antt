@@ -1,4 +1,4 @@
-use Rattle.std.proofs.Common.{rules, ◌<◌, ◌≤◌, ◌≡◌, ◌∙◌, sym, length}
+use Rattle.std.proofs.Common.{rules, ◌<◌, ◌≤◌, ◌∙◌, sym, length}
 use Rattle.device_model.proofs.Acknowledged.{none_done, skip_port, change_port, all_done}
 use Rattle.device_model.proofs.hardware.unacknowledge.Goals as goal
 use Rattle.device_model.proofs.hardware.unacknowledge.Goals.{then-is_set, else-is_set}

@@ -1,7 +1,4 @@
-use Rattle.std.proofs.Common.{rules, ◌<◌, ◌≡◌, length, ap}
-use Rattle.adapter.specs.Device.{Device}
-use Rattle.device_model.specs.View.{port_of}
-use Rattle.device_model.specs.Whole.{device_of}
+use Rattle.std.proofs.Common.{rules, ◌<◌, length}
 use Rattle.device_model.proofs.Stepping.{port_takes, fetch_takes, fetch_says}
 use Rattle.device_model.proofs.hardware.Hardware.fetch.Goals as goal
 

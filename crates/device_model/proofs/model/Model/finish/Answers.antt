@@ -1,4 +1,4 @@
-use Rattle.std.proofs.Common.{◌≡◌, ◌∙◌, true, false, inl, inr, refl, sym, subst}
+use Rattle.std.proofs.Common.{◌≡◌, ◌∙◌, true, false, inl, inr, sym, subst}
 use Rattle.adapter.specs.Device.{Device}
 use Rattle.device_model.specs.Asked.{DoesFetch, GoesOn}
 use Rattle.device_model.specs.Modelled.{device_at}
