@@ -222,7 +222,12 @@ fn failing_disk(alloc: Global, left: u8) -> Result<Failing, AllocError> {
 #[test]
 fn a_store_that_fails_cuts_a_read_short(rt: HostRuntime) -> Result<(), Fail> {
     let alloc = rt.alloc();
-    let mut model = Model::new(alloc, CONFIG, failing_disk(alloc, 3)?, failing_disk(alloc, 0)?)?;
+    let mut model = Model::new(
+        alloc,
+        CONFIG,
+        failing_disk(alloc, 3)?,
+        failing_disk(alloc, 0)?,
+    )?;
     issue(&mut model);
     assert!(rt; step(&mut model, FINISH));
     assert_eq!(rt; model.tape().len(), 3);
