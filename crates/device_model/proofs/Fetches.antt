@@ -2,7 +2,7 @@
 use Rattle.std.proofs.Common.{ℕ, Bool, true, false, zero, suc, ◌^◌, replicate, length-take, ◌≡◌, ◌<◌, ◌≤◌, ◌+◌, ◌-◌, ◌*◌, ◌/◌, List, [], ◌∷◌, ◌++◌, length, take, drop, All, slice_index, slice_index_or, refl, sym, ◌∙◌, ap, arith, subst, append_assoc, length-append}
 use Rattle.std.specs.Prelude.{slice_set}
 use Rattle.std.proofs.Math.Seq.{take-suc-set}
-use Rattle.std.proofs.lemmas.List.{get_or_append_left, get_or-append_right}
+use Rattle.std.proofs.lemmas.List.{drop_all, get_or_append_left, get_or-append_right}
 use Rattle.std.proofs.lemmas.List.Elements.{All-append}
 use Rattle.adapter.specs.Memory.{bytes_at}
 use Rattle.adapter.specs.Commands.{Meaning, command_of, is_ranged, reads_memory, pieces_moved}
@@ -135,6 +135,13 @@ before_here xs i number left e small is here b =
           ∙ (ap (λ k. slice_index (front ++ after) k) place
           ∙ (get_or_append_left front after 0 left (omega (arith, n)) ∙ cut_index e.address (e.bytes / 512) left here)))),
     )
+
+-- past the last one, all are in front
+pub before_all : (xs : List Prd) (i number left : ℕ) → length xs ≤ i → IsBefore xs i number left → length (pieces xs) ≤ number
+before_all xs i number left past b =
+    let none : pieces (drop i xs) ≡ [] = ap pieces (drop_all i xs past) in
+    let all : length (pieces xs) ≡ length (b.front ++ []) = ap length b.split ∙ ap (λ (l : List ℕ). length (b.front ++ l)) none in
+    omega (arith, all, b.sum, length-append {A = ℕ} b.front [])
 
 pub padded_none : (n : ℕ) → IsPadded (replicate n no_prd) 0
 padded_none zero = λ k le. refl

@@ -202,6 +202,7 @@ pub fn count_pieces(prds: &[Prd; 128]) -> u32
 pub fn piece_at(prds: &[Prd; 128], number: u32) -> Option<u64>
     ensures found { IfSome result (λ address. (number < length (pieces prds.now)) × (address ≡ slice_index (pieces prds.now) number)) }
     ensures room { IfSome result (λ _. number + 1 < 2 ^ 32) }
+    ensures none { result ≡ None → length (pieces prds.now) ≤ number }
 {
     let mut left = number;
     for prd in prds {

@@ -1,6 +1,6 @@
-use Rattle.std.proofs.Common.{rules, ◌<◌, length, ◌≡◌, ◌+◌, ◌*◌, ◌∙◌, refl, arith, slice_index_or}
+use Rattle.std.proofs.Common.{rules, ◌<◌, ◌≤◌, length, ◌≡◌, ◌+◌, ◌*◌, ◌∙◌, refl, arith, slice_index_or}
 use Rattle.device_model.specs.Fetched.{no_prd}
-use Rattle.device_model.proofs.Fetches.{before_none, before_more, before_here}
+use Rattle.device_model.proofs.Fetches.{before_none, before_more, before_here, before_all}
 use Rattle.device_model.proofs.fetch.piece_at.Goals as goal
 
 pub loop-prd-init : goal.loop-prd-init
@@ -24,3 +24,8 @@ returns-then-left-here-clause-room c =
     let b = c.loop-prd.invariant.bound in
     let s = c.loop-prd.invariant.sum in
     omega arith
+
+pub returns-clause-none : goal.returns-clause-none
+returns-clause-none c = λ _.
+    let past : length c.args.prds.now ≤ c.loop-prd.prd-index = search rules in
+    before_all c.args.prds.now c.loop-prd.prd-index c.args.number c.loop-prd.left past c.loop-prd.invariant
