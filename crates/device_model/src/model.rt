@@ -23,7 +23,8 @@ struct Queued {
     step: DeviceStep,
 }
 
-/// A modelled adapter. Port 0 has a disk over the first store; ports 1 to 3 have no device.
+/// A modelled adapter. Port 0 has a disk over the first store; ports 1 to 3 have no device. Of all commands it takes READ
+/// DMA EXT alone: a step on another one answers `false`.
 #[derive(Drop)]
 pub struct Model<S> {
     hardware: Hardware,
