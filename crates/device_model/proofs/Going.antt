@@ -1,0 +1,40 @@
+-- Steps of one slot's command, one after another.
+use Rattle.std.proofs.Common.{ℕ, Bool, true, false, zero, suc, ◌≡◌, refl, sym, subst, inl, inr}
+use Rattle.adapter.specs.Device.{Device}
+use Rattle.adapter.specs.Steps.{Steps}
+use Rattle.adapter.specs.Steps.Step.{Fetch, Move, Done}
+use Rattle.adapter.specs.declared.access.DeviceStep.{DeviceStep}
+use Rattle.adapter.specs.declared.access.DeviceStep.TheVariants as asked
+use Rattle.adapter.proofs.Runs.{Steps-refl, Steps-one, Steps-trans}
+use Rattle.device_model.specs.Asked.{DoesOne, DoesSome, GoesOn, Asked}
+
+pub goes_one : (port slot : ℕ) (old new : Device) → DoesOne port slot old new → GoesOn port slot old new
+goes_one port slot old new one = (0, (old, refl, one))
+
+-- a step that happened or not, after some or none
+pub goes_next : (port slot : ℕ) (old mid new : Device) (did : Bool) → (did ≡ true → GoesOn port slot old mid) → (did ≡ false → mid ≡ old) →
+    DoesOne port slot mid new → GoesOn port slot old new
+goes_next port slot old mid new true before same one = let b = before refl in (suc b.0, (mid, b.1, one))
+goes_next port slot old mid new false before same one =
+    let P : Device → Type 0 = λ d. DoesOne port slot d new in
+    goes_one port slot old new (subst P (same refl) one)
+
+one_steps : (port slot : ℕ) (old new : Device) → DoesOne port slot old new → Steps old new
+one_steps port slot old new (inl f) = Steps-one (Fetch port slot f.meaning f.places) old new f.can f.effect
+one_steps port slot old new (inr (inl m)) = Steps-one (Move port slot m.t m.bytes) old new m.can m.effect
+one_steps port slot old new (inr (inr d)) = Steps-one (Done port slot d.flag d.t) old new d.can d.effect
+
+some_steps : (n port slot : ℕ) (old new : Device) → DoesSome n port slot old new → Steps old new
+some_steps zero port slot old new e = let P : Device → Type 0 = λ d. Steps old d in subst P (sym e) (Steps-refl old)
+some_steps (suc n) port slot old new s = Steps-trans (some_steps n port slot old s.0 s.1) (one_steps port slot s.0 new s.2)
+
+asked_steps : (s : DeviceStep) (old new : Device) → Asked s old new → Steps old new
+asked_steps (asked.Fetch p slot) old new did = one_steps p.0 slot.0 old new (inl did)
+asked_steps (asked.Move p slot) old new did = one_steps p.0 slot.0 old new (inr (inl did))
+asked_steps (asked.Done p slot) old new did = one_steps p.0 slot.0 old new (inr (inr did))
+asked_steps (asked.Finish p slot) old new did = some_steps (suc did.0) p.0 slot.0 old new did.1
+
+-- what was asked was done, or nothing
+pub step_steps : (result : Bool) (s : DeviceStep) (old new : Device) → (result ≡ true → Asked s old new) → (result ≡ false → new ≡ old) → Steps old new
+step_steps true s old new did refused = asked_steps s old new (did refl)
+step_steps false s old new did refused = let P : Device → Type 0 = λ d. Steps old d in subst P (sym (refused refl)) (Steps-refl old)

@@ -1,0 +1,14 @@
+use Rattle.std.proofs.Common.{rules, ap, ℕ, ◌<◌, length, ◌∙◌}
+use Rattle.adapter.specs.Access.{noted}
+use Rattle.hba_regs.specs.declared.reg.Reg.TheVariants.{Px}
+use Rattle.device_model.specs.Whole.{device_of}
+use Rattle.device_model.proofs.Ports.{set_port}
+use Rattle.device_model.proofs.hardware.Hardware.note.Goals as goal
+
+pub returns-in-Px : goal.returns-in-Px
+returns-in-Px c = λ o.
+    let h : c.in-Px.port.0 < 4 = rw c.in-Px.is at c.requires in
+    let small : c.from.result < length c.args.self.now.ports = search rules in
+    rw c.in-Px.is
+    (set_port c.args.self.now o c.from.result _ _ small (c.note.ensures (o.media c.from.result))
+    ∙ ap (λ (p : ℕ). noted (Px (record { 0 = p }) c.in-Px.r) c.args.value (device_of c.args.self.now o)) c.from.ensures)

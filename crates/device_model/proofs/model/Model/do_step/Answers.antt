@@ -1,0 +1,21 @@
+use Rattle.std.proofs.Common.{◌≡◌, subst}
+use Rattle.ata_types.specs.declared.Port.{Port}
+use Rattle.ata_types.specs.declared.Slot.{Slot}
+use Rattle.adapter.specs.Steps.{Can}
+use Rattle.adapter.specs.Steps.Step.{Fetch}
+use Rattle.device_model.specs.Modelled.{device_at}
+use Rattle.device_model.proofs.model.Model.do_step.Goals as goal
+
+pub returns-then-slot-lt32-clause-refused : goal.returns-then-slot-lt32-clause-refused
+returns-then-slot-lt32-clause-refused g c = λ no. c.fetch.ensures.refused no _
+
+pub returns-then-slot-lt32-clause-fetches : goal.returns-then-slot-lt32-clause-fetches
+returns-then-slot-lt32-clause-fetches g c = λ no p slot m places is low small read can.
+    let d = device_at g.S.SectorStore.size g.S.SectorStore.told c.args.self.now in
+    let ports : p ≡ c.in-Fetch.port = cc in
+    let slots : slot ≡ c.in-Fetch.slot = cc in
+    c.fetch.ensures.only no _ m places read
+    (subst (λ (s : Slot). Can (Fetch c.in-Fetch.port.0 s.0 m places) d) slots (subst (λ (q : Port). Can (Fetch q.0 slot.0 m places) d) ports can))
+
+pub returns-then-slot-lt32-3-clause-refused : goal.returns-then-slot-lt32-3-clause-refused
+returns-then-slot-lt32-3-clause-refused g c = λ no. c.done.ensures.refused no _

@@ -1,0 +1,8 @@
+pub mod Stores
+pub mod Bits
+pub mod View
+pub mod Whole
+pub mod Fetched
+pub mod Slots
+pub mod Asked
+pub mod Modelled

@@ -1,0 +1,130 @@
+-- The state that a model stands for.
+use Rattle.std.specs.Prelude.{ℕ, true, false, ◌≡◌, ◌%◌, ◌⊎◌, List, [], Option, None, option_map, if◌then◌else◌, slice_index_or}
+use Rattle.adapter.specs.Device.{Disk, Taken, Bases, Notes, PortState}
+use Rattle.adapter.specs.Device.Halt.{NotHalted}
+use Rattle.adapter.specs.Says.{pieces}
+use Rattle.adapter.specs.Steps.{with_link, MayLinkUp}
+use Rattle.adapter.specs.declared.command.Operation.TheVariants.{Read}
+use Rattle.device_model.specs.Bits.{bits_of}
+use Rattle.device_model.specs.declared.port.Addresses.{Addresses}
+use Rattle.device_model.specs.declared.port.Readings.{Readings}
+use Rattle.device_model.specs.declared.port.TakenRead.{TakenRead}
+use Rattle.device_model.specs.declared.port.PortModel.{PortModel}
+
+abbrev pub bases_of : Addresses → Bases
+bases_of a =
+    record {
+      clb = a.clb;
+      fb = a.fb;
+      clb_set = a.clb_set;
+      clbu_set = a.clbu_set;
+      fb_set = a.fb_set;
+      fbu_set = a.fbu_set;
+    }
+
+abbrev pub notes_of : Readings → Notes
+notes_of r =
+    record {
+      st_set_at = r.st_set_at;
+      sctl_written_at = r.sctl_written_at;
+      last_cmd = r.last_cmd;
+      last_ssts = r.last_ssts;
+      last_tfd = r.last_tfd;
+      last_sig = r.last_sig;
+      last_ci = r.last_ci;
+      last_sact = r.last_sact;
+      engine_count = r.engine_count;
+      link_count = r.link_count;
+      busy_count = r.busy_count;
+      command_count = r.command_count;
+      acknowledged = r.acknowledged;
+    }
+
+abbrev pub taken_of : TakenRead → Taken
+taken_of t =
+    record {
+      meaning = record { operation = Read; first = t.first; count = t.count };
+      places = pieces t.prds;
+      moved = t.moved;
+      block = [];
+      cleared = 0;
+    }
+
+abbrev pub slots_of : List (Option TakenRead) → ℕ → Option Taken
+slots_of taken = λ slot. option_map taken_of (slice_index_or taken slot None)
+
+-- what is behind a port: its disk, and those that were plugged in
+pub record Media : Type 0 where
+  pub disk : Disk
+  pub plugged : List Disk
+
+abbrev pub port_of : PortModel → Media → PortState
+port_of p m =
+    record {
+      bases = bases_of p.addresses;
+      st = p.st;
+      fre = p.fre;
+      sctl_det = p.sctl_det % 16;
+      cr = p.cr;
+      fr = p.fr;
+      tfd = p.tfd;
+      sig = p.sig;
+      ssts_det = if p.detected then 3 else 0;
+      serr_n = p.serr_n;
+      serr_x = p.serr_x;
+      is = bits_of p.is;
+      ci = bits_of p.ci;
+      sact = bits_of p.sact;
+      disk = m.disk;
+      plugged = m.plugged;
+      present = p.present;
+      fresh = p.fresh;
+      link_due = p.link_due;
+      halt = NotHalted;
+      broken = false;
+      taken = slots_of p.taken;
+      notes = notes_of p.readings;
+    }
+
+-- what a port does by itself: nothing, or its link comes up
+abbrev pub Settles : PortState → PortState → Type 0
+Settles old new = (new ≡ old) ⊎ (MayLinkUp old 0x101 × (new ≡ with_link old 0x101 true))
+
+-- a port that isn't there
+abbrev pub blank : PortModel
+blank =
+    record {
+      addresses = record { clb = 0; fb = 0; clb_set = false; clbu_set = false; fb_set = false; fbu_set = false };
+      st = false;
+      fre = false;
+      sctl_det = 0;
+      cr = false;
+      fr = false;
+      tfd = 0;
+      sig = 0;
+      detected = false;
+      serr_n = false;
+      serr_x = false;
+      is = 0;
+      ci = 0;
+      sact = 0;
+      present = false;
+      fresh = false;
+      link_due = false;
+      taken = [];
+      readings = record {
+        st_set_at = 0;
+        sctl_written_at = 0;
+        last_cmd = 0;
+        last_ssts = 0;
+        last_tfd = 0;
+        last_sig = 0;
+        last_ci = 0;
+        last_sact = 0;
+        engine_count = 0;
+        link_count = 0;
+        busy_count = 0;
+        command_count = 0;
+        acknowledged = false;
+      };
+    }

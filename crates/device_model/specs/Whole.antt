@@ -1,0 +1,50 @@
+-- The state of the whole adapter that a model stands for.
+use Rattle.std.specs.Prelude.{ℕ, Bool, ◌<◌, ◌&&◌, List, [], ◌∷◌, length, Option, Some, is_some, if◌then◌else◌, nat_eq, slice_index, slice_index_or}
+use Rattle.adapter.specs.Device.{Disk, Device}
+use Rattle.hba_regs.specs.declared.reg.Reg.{Reg}
+use Rattle.hba_regs.specs.declared.reg.Reg.TheVariants.{Px}
+use Rattle.device_model.specs.View.{Media, port_of, blank}
+use Rattle.device_model.specs.declared.hardware.Hardware.{Hardware}
+
+-- what is outside the hardware: what is behind each port, and whether all disks tell their sectors
+pub record Outside : Type 0 where
+  pub telling : Bool
+  pub media : ℕ → Media
+
+abbrev pub device_of : Hardware → Outside → Device
+device_of h o =
+    record {
+      telling = o.telling;
+      size = length h.memory.items;
+      memory = λ at. slice_index h.memory.items at;
+      cap = h.cap;
+      pi = 0x0f;
+      hr = h.hr;
+      ae = h.ae;
+      ie = h.ie;
+      port = λ port. port_of (slice_index_or h.ports port blank) (o.media port);
+      tape = h.tape.items;
+    }
+
+-- a register of the adapter, or of a port that is there
+abbrev pub HasPort : Reg → Type 0
+HasPort (Px port r) = port.0 < 4
+HasPort _ = Unit {0}
+
+-- no disk, ever
+abbrev pub no_media : Media
+no_media = record { disk = record { name = 0; size = 0; sectors = Some (λ k. []) }; plugged = [] }
+
+abbrev pub first_disk : ℕ → Option (ℕ → List ℕ) → Disk
+first_disk size told = record { name = 0; size = size; sectors = told }
+
+-- Disk 0 has been in port 0 from the start, and isn't written; disk 1 has never been in. No other port has a disk.
+abbrev pub outside_of : (size : ℕ) (told other : Option (ℕ → List ℕ)) → Outside
+outside_of size told other =
+    record {
+      telling = is_some told && is_some other;
+      media = λ port.
+          if nat_eq port 0
+          then record { disk = first_disk size told; plugged = first_disk size told ∷ [] }
+          else no_media;
+    }

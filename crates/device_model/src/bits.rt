@@ -1,0 +1,33 @@
+// Bits of registers.
+ghost use Rattle.std.specs.Prelude.{◌≡◌, ◌<◌, ◌^◌, ◌&&◌, not, if◌then◌else◌};
+ghost use Rattle.adapter.specs.Memory.{changed};
+ghost use Rattle.device_model.specs.Bits.{bits_of};
+
+use hba_regs::{with_bit, without_bit};
+
+/// A value of this one bit, or none.
+pub fn bit_if(set: bool, place: u32) -> u32
+    requires { place < 32 }
+    ensures { result ≡ (if set then 2 ^ place else 0) }
+{
+    if set { 1 << place } else { 0 }
+}
+
+/// The value with this bit as said.
+pub fn with_bit_as(value: u32, place: u32, set: bool) -> u32
+    requires { place < 32 }
+    ensures { bits_of result ≡ changed (bits_of value) place set }
+{
+    if set {
+        with_bit(value, place)
+    } else {
+        without_bit(value, place)
+    }
+}
+
+/// The value without the bits that are ones in the other.
+pub fn without_ones(value: u32, ones: u32) -> u32
+    ensures { bits_of result ≡ (λ place. bits_of value place && not (bits_of ones place)) }
+{
+    value & !ones
+}

@@ -1,0 +1,38 @@
+// What a model is made from.
+use std::alloc::AllocError;
+
+/// What the modelled disk says of trims.
+#[derive(Clone, Copy, Debug, Default, PartialEq, Eq)]
+pub enum Trim {
+    /// It has DATA SET MANAGEMENT with TRIM, and promises zeros afterwards.
+    #[default]
+    Full,
+    /// It has the command, and promises nothing of the sectors.
+    Weak,
+    /// It lacks the command.
+    Without,
+}
+
+/// The adapter and the disks that are modelled.
+#[derive(Clone, Copy, Debug, PartialEq, Eq)]
+pub struct ModelConfig {
+    /// The memory, in frames of 4096 bytes: 41 to 1024.
+    pub frames: u16,
+    /// The slots of each command list: 1 to 32.
+    pub slots: u8,
+    /// Whether adapter and disks know queued commands.
+    pub ncq: bool,
+    /// How many queued commands a disk takes at once: 1 to 32.
+    pub depth: u8,
+    pub trim: Trim,
+}
+
+/// There was no memory left.
+#[derive(Clone, Copy, Debug, PartialEq, Eq)]
+pub struct NoMemory;
+
+impl From<AllocError> for NoMemory {
+    fn from(_error: AllocError) -> Self {
+        NoMemory
+    }
+}

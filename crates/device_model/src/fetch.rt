@@ -1,0 +1,245 @@
+// What the bytes of a slot mean, read as the device reads them. Bytes past the end of the memory are zeros.
+ghost use Rattle.std.specs.Prelude.{◌≡◌, ◌<◌, ◌≤◌, ◌+◌, ◌*◌, ◌^◌, ◌%◌, ℕ, List, true, false, None, Some, All, IfSome, IsTrue, ◌↔◌, length, slice_index};
+ghost use Rattle.adapter.specs.Commands.{Meaning, command_of};
+ghost use Rattle.adapter.specs.Memory.{bytes_at};
+ghost use Rattle.adapter.specs.Says.{HasPrds, IsWhole, Says, pieces};
+ghost use Rattle.adapter.specs.Spelling.{AreZero, SpellsCommand, SpellsHeader, SpellsPrd};
+ghost use Rattle.byteorder.specs.Endian.{little_from};
+ghost use Rattle.device_model.specs.Fetched.{ArePrds, IsPadded, bytes_of};
+ghost use Rattle.device_model.specs.View.{taken_of};
+
+use crate::port::TakenRead;
+use adapter::{Operation, Prd};
+use byteorder::{ByteOrder, LittleEndian};
+
+/// What a command header says: how many PRDs there are, and where the command table is.
+#[derive(Clone, Copy, Debug)]
+struct Header {
+    entries: u16,
+    table: u32,
+}
+
+/// The sectors that a FIS names.
+#[derive(Clone, Copy, Debug)]
+struct Sectors {
+    first: u64,
+    count: u32,
+}
+
+const NO_PRD: Prd = Prd {
+    address: 0,
+    bytes: 0,
+};
+
+/// Copies bytes of memory.
+fn copy_bytes(memory: &[u8], at: usize, out: &mut [u8])
+    requires { at + length out.old < 2 ^ 64 }
+    ensures { out.new ≡ bytes_at (bytes_of memory.now) at (length out.old) }
+{
+    for i in 0..out.len() {
+        let place = at + i;
+        out[i] = if place < memory.len() {
+            memory[place]
+        } else {
+            0
+        };
+    }
+}
+
+/// Whether the bytes of these places, up to the end, are zero.
+fn are_zero(bytes: &[u8], from: usize, to: usize) -> bool
+    requires order { from ≤ to }
+    requires room { to ≤ length bytes.now }
+    ensures { IsTrue result ↔ AreZero bytes.now from to }
+{
+    for place in from..to {
+        if bytes[place] != 0 {
+            return false;
+        }
+    }
+    true
+}
+
+/// The header that the bytes are, if they are one of a command that fills memory.
+fn decode_header(bytes: &[u8]) -> Option<Header>
+    requires { length bytes.now ≡ 32 }
+    ensures found { IfSome result (λ h. SpellsHeader bytes.now false h.entries h.table) }
+    ensures only { (h : Header) → SpellsHeader bytes.now false h.entries h.table → result ≡ Some h }
+{
+    let table = LittleEndian::read_u32(&bytes[8..]);
+    if LittleEndian::read_u16(bytes) != 5 || table % 128 != 0 || !are_zero(bytes, 12, 32) {
+        return None;
+    }
+    Some(Header {
+        entries: LittleEndian::read_u16(&bytes[2..]),
+        table,
+    })
+}
+
+/// The LBA that a FIS names.
+fn lba_of(bytes: &[u8]) -> u64
+    requires { length bytes.now ≡ 20 }
+    ensures { result ≡ little_from 4 3 bytes.now + 2 ^ 24 * little_from 8 3 bytes.now }
+{
+    u64::from(LittleEndian::read_u24(&bytes[4..]))
+        + (u64::from(LittleEndian::read_u24(&bytes[8..])) << 24)
+}
+
+/// The number of sectors that a count register means.
+fn sectors_of(register: u16) -> u32
+    ensures meant { result % 65536 ≡ register }
+    ensures range { (1 ≤ result) × (result ≤ 65536) }
+{
+    if register == 0 {
+        65536
+    } else {
+        u32::from(register)
+    }
+}
+
+/// The sectors that the bytes name, if they are the FIS of a READ DMA EXT.
+fn decode_sectors(bytes: &[u8]) -> Option<Sectors>
+    requires { length bytes.now ≡ 20 }
+    ensures found { IfSome result (λ s. (slot : ℕ) → SpellsCommand bytes.now (command_of Operation.Read slot s.first s.count)) }
+    ensures range { IfSome result (λ s. (1 ≤ s.count) × (s.count ≤ 65536) × (s.first < 2 ^ 48)) }
+    ensures only { (slot : ℕ) (s : Sectors) → 1 ≤ s.count → s.count ≤ 65536 → SpellsCommand bytes.now (command_of Operation.Read slot s.first s.count) → result ≡ Some s }
+{
+    if bytes[0] != 0x27 || bytes[1] != 0x80 || bytes[2] != 0x25 {
+        return None;
+    }
+    if bytes[3] != 0 || bytes[11] != 0 || bytes[7] != 0x40 || !are_zero(bytes, 14, 20) {
+        return None;
+    }
+    Some(Sectors {
+        first: lba_of(bytes),
+        count: sectors_of(LittleEndian::read_u16(&bytes[12..])),
+    })
+}
+
+/// The PRD that the bytes are, if they are one of a whole number of pieces.
+fn decode_prd(bytes: &[u8]) -> Option<Prd>
+    requires { length bytes.now ≡ 16 }
+    ensures found { IfSome result (λ e. SpellsPrd bytes.now e × IsWhole e) }
+    ensures only { (e : Prd) → SpellsPrd bytes.now e → IsWhole e → result ≡ Some e }
+{
+    let address = LittleEndian::read_u32(bytes);
+    let count = LittleEndian::read_u32(&bytes[12..]);
+    if LittleEndian::read_u64(&bytes[4..]) != 0 || address % 2 != 0 || count >= 1 << 22 {
+        return None;
+    }
+    if (count + 1) % 512 != 0 {
+        return None;
+    }
+    Some(Prd {
+        address,
+        bytes: count + 1,
+    })
+}
+
+/// The header at an address, if there is one of a command that fills memory.
+fn header_at(memory: &[u8], at: usize) -> Option<Header>
+    requires { at < 2 ^ 33 }
+    ensures found { IfSome result (λ h. SpellsHeader (bytes_at (bytes_of memory.now) at 32) false h.entries h.table) }
+    ensures only { (h : Header) → SpellsHeader (bytes_at (bytes_of memory.now) at 32) false h.entries h.table → result ≡ Some h }
+{
+    let mut bytes = [0; 32];
+    copy_bytes(memory, at, &mut bytes);
+    decode_header(&bytes)
+}
+
+/// The sectors that the FIS at an address names, if it is one of a READ DMA EXT.
+fn sectors_at(memory: &[u8], at: usize) -> Option<Sectors>
+    requires { at < 2 ^ 33 }
+    ensures found { IfSome result (λ s. (slot : ℕ) → SpellsCommand (bytes_at (bytes_of memory.now) at 20) (command_of Operation.Read slot s.first s.count)) }
+    ensures range { IfSome result (λ s. (1 ≤ s.count) × (s.count ≤ 65536) × (s.first < 2 ^ 48)) }
+    ensures only { (slot : ℕ) (s : Sectors) → 1 ≤ s.count → s.count ≤ 65536 → SpellsCommand (bytes_at (bytes_of memory.now) at 20) (command_of Operation.Read slot s.first s.count) → result ≡ Some s }
+{
+    let mut bytes = [0; 20];
+    copy_bytes(memory, at, &mut bytes);
+    decode_sectors(&bytes)
+}
+
+/// The PRD at an address, if there is one of a whole number of pieces.
+fn prd_at(memory: &[u8], at: usize) -> Option<Prd>
+    requires { at < 2 ^ 33 }
+    ensures found { IfSome result (λ e. SpellsPrd (bytes_at (bytes_of memory.now) at 16) e × IsWhole e) }
+    ensures only { (e : Prd) → SpellsPrd (bytes_at (bytes_of memory.now) at 16) e → IsWhole e → result ≡ Some e }
+{
+    let mut bytes = [0; 16];
+    copy_bytes(memory, at, &mut bytes);
+    decode_prd(&bytes)
+}
+
+/// Reads so many PRDs of whole pieces from an address on, in front of the list; `false` says that they don't stand there.
+fn read_prds(memory: &[u8], at: usize, number: usize, prds: &mut [Prd; 128]) -> bool
+    requires low { at < 2 ^ 32 + 128 }
+    requires few { number ≤ 128 }
+    requires empty { IsPadded prds.old 0 }
+    ensures found { result ≡ true → ArePrds (bytes_of memory.now) at number prds.new }
+    ensures only { result ≡ false → (es : List Prd) → length es ≡ number → HasPrds (bytes_of memory.now) at es → All IsWhole es → ⊥ }
+{
+    for i in 0..number {
+        let Some(prd) = prd_at(memory, at + 16 * i) else {
+            return false;
+        };
+        prds[i] = prd;
+    }
+    true
+}
+
+/// How many pieces PRDs have.
+pub fn count_pieces(prds: &[Prd; 128]) -> u32
+    ensures { result ≡ length (pieces prds.now) }
+{
+    let mut count = 0;
+    for prd in prds {
+        count += prd.bytes / 512;
+    }
+    count
+}
+
+/// The address of a piece, if PRDs have so many.
+pub fn piece_at(prds: &[Prd; 128], number: u32) -> Option<u64>
+    ensures found { IfSome result (λ address. (number < length (pieces prds.now)) × (address ≡ slice_index (pieces prds.now) number)) }
+    ensures room { IfSome result (λ _. number + 1 < 2 ^ 32) }
+    ensures none { result ≡ None → length (pieces prds.now) ≤ number }
+{
+    let mut left = number;
+    for prd in prds {
+        let here = prd.bytes / 512;
+        if left < here {
+            return Some(u64::from(prd.address) + 512 * u64::from(left));
+        }
+        left -= here;
+    }
+    None
+}
+
+/// The command that the bytes of a slot say, if it is a READ DMA EXT.
+pub fn read_command(memory: &[u8], list: u32, slot: u8) -> Option<TakenRead>
+    requires { slot < 32 }
+    ensures found { IfSome result (λ t. (t.moved ≡ 0) × Says (bytes_of memory.now) list slot (taken_of t).meaning (taken_of t).places) }
+    ensures only { result ≡ None → (m : Meaning) (places : List ℕ) → m.operation ≡ Operation.Read → Says (bytes_of memory.now) list slot m places → ⊥ }
+{
+    let Some(header) = header_at(memory, list as usize + 32 * usize::from(slot)) else {
+        return None;
+    };
+    let table = header.table as usize;
+    let entries = usize::from(header.entries);
+    let Some(sectors) = sectors_at(memory, table) else {
+        return None;
+    };
+    let mut prds = [NO_PRD; 128];
+    if entries > 128 || !read_prds(memory, table + 128, entries, &mut prds) {
+        return None;
+    }
+    if count_pieces(&prds) != sectors.count {
+        return None;
+    }
+    Some(TakenRead {
+        first: sectors.first,
+        count: sectors.count,
+        prds,
+        moved: 0,
+    })
+}

@@ -1,0 +1,153 @@
+// The model without its disks.
+ghost use Rattle.std.specs.Prelude.{◌≡◌, ◌+◌, ◌<◌, ◌≤◌, ◌++◌, ℕ, Bool, true, if◌then◌else◌, length, take, drop, slice_index_or};
+ghost use Rattle.adapter.specs.Access.{Shows, noted, written, unacknowledged};
+ghost use Rattle.adapter.specs.Memory.{patched, bytes_at};
+ghost use Rattle.adapter.specs.Steps.{Steps};
+ghost use Rattle.hba_regs.specs.Bits.{bit};
+ghost use Rattle.device_model.specs.View.{Media, port_of, blank};
+ghost use Rattle.device_model.specs.Whole.{Outside, device_of, HasPort};
+
+use crate::bits::bit_if;
+use crate::port::PortModel;
+use adapter::Entry;
+use hba_regs::{Reg, is_set};
+
+/// Registers, memory and the tape.
+#[derive(Drop)]
+pub struct Hardware {
+    pub memory: Vec<u8>,
+    pub ports: [PortModel; 4],
+    pub cap: u32,
+    pub hr: bool,
+    pub ae: bool,
+    pub ie: bool,
+    pub tape: Vec<Entry>,
+}
+
+/// PI: ports 0 to 3.
+const PORTS: u32 = 0x0f;
+
+/// VS: version 1.3.1.
+const VERSION: u32 = 0x0001_0301;
+
+/// GHC, by its three bits.
+fn global_control(hr: bool, ie: bool, ae: bool) -> u32
+    ensures reset { bit result 0 ≡ hr }
+    ensures interrupts { bit result 1 ≡ ie }
+    ensures enabled { bit result 31 ≡ ae }
+{
+    bit_if(hr, 0) | bit_if(ie, 1) | bit_if(ae, 31)
+}
+
+/// Puts bytes over those from a place on.
+pub fn put(memory: &mut [u8], at: usize, bytes: &[u8])
+    requires { at + length bytes.now ≤ length memory.old }
+    ensures { memory.new ≡ take at memory.old ++ (bytes.now ++ drop (at + length bytes.now) memory.old) }
+{
+    memory[at..at + bytes.len()].copy_from_slice(bytes);
+}
+
+/// Copies the bytes from a place on.
+fn get(memory: &[u8], at: usize, out: &mut [u8])
+    requires { at + length out.old ≤ length memory.now }
+    ensures { out.new ≡ take (length out.old) (drop at memory.now) }
+{
+    out.copy_from_slice(&memory[at..at + out.len()]);
+}
+
+/// Bits of IS were written.
+fn unacknowledge(ports: &mut [PortModel; 4], value: u32)
+    ensures { (m : Media) (port : ℕ) → port_of (slice_index_or ports.new port blank) m ≡
+        (if bit value port then unacknowledged (port_of (slice_index_or ports.old port blank) m) else port_of (slice_index_or ports.old port blank) m) }
+{
+    for port in 0..4u32 {
+        if is_set(value, port) {
+            ports[port as usize].unacknowledge();
+        }
+    }
+}
+
+impl Hardware {
+    /// What a register shows.
+    pub fn shown(&self, r: Reg) -> u32
+        requires { HasPort r }
+        ensures { (o : Outside) → Shows r result (device_of self.now o) }
+    {
+        match r {
+            Reg::Cap => self.cap,
+            Reg::Pi => PORTS,
+            Reg::Vs => VERSION,
+            Reg::Ghc => global_control(self.hr, self.ie, self.ae),
+            Reg::Px(port, r) => self.ports[usize::from(port.0)].shown(r),
+            Reg::Is | Reg::Cap2 | Reg::Bohc => 0,
+        }
+    }
+
+    /// Notes what a register showed.
+    pub fn note(&mut self, r: Reg, value: u32)
+        requires { HasPort r }
+        ensures { (o : Outside) → device_of self.new o ≡ noted r value (device_of self.old o) }
+    {
+        if let Reg::Px(port, r) = r {
+            self.ports[usize::from(port.0)].note(r, value);
+        }
+    }
+
+    /// GHC is written.
+    fn set_global(&mut self, value: u32)
+        ensures { (o : Outside) → device_of self.new o ≡ written Reg.Ghc value (device_of self.old o) }
+    {
+        self.hr = self.hr || is_set(value, 0);
+        self.ae = is_set(value, 31);
+        self.ie = is_set(value, 1);
+    }
+
+    /// Writes a register.
+    pub fn write(&mut self, r: Reg, value: u32)
+        requires { HasPort r }
+        ensures { (o : Outside) → device_of self.new o ≡ written r value (device_of self.old o) }
+    {
+        match r {
+            Reg::Ghc => self.set_global(value),
+            Reg::Is => unacknowledge(&mut self.ports, value),
+            Reg::Px(port, r) => {
+                let tape = self.tape.len();
+                self.ports[usize::from(port.0)].write(r, value, tape);
+            }
+            _ => {}
+        }
+    }
+
+    /// Copies bytes of memory.
+    pub fn load(&self, at: usize, out: &mut [u8])
+        requires { at + length out.old ≤ length self.now.memory.items }
+        ensures { (o : Outside) → out.new ≡ bytes_at (device_of self.now o).memory at (length out.new) }
+    {
+        get(&self.memory, at, out);
+    }
+
+    /// Puts bytes into memory.
+    pub fn store(&mut self, at: usize, bytes: &[u8])
+        requires { at + length bytes.now ≤ length self.old.memory.items }
+        ensures { (o : Outside) → device_of self.new o ≡ record (device_of self.old o) { memory = patched (device_of self.old o).memory at bytes.now } }
+    {
+        put(&mut self.memory, at, bytes);
+    }
+
+    /// What one port does by itself.
+    fn settle_port(&mut self, port: usize)
+        requires { port < 4 }
+        ensures { (o : Outside) → Steps (device_of self.old o) (device_of self.new o) }
+    {
+        self.ports[port].settle();
+    }
+
+    /// What the ports do by themselves before a register is read.
+    pub fn settle(&mut self)
+        ensures { (o : Outside) → Steps (device_of self.old o) (device_of self.new o) }
+    {
+        for port in 0..4 {
+            self.settle_port(port);
+        }
+    }
+}

@@ -1,0 +1,17 @@
+//! A modelled AHCI adapter: registers, memory, and one disk over a store of sectors. Its device does what it is told, and
+//! by itself only brings the link up. For now it takes READ DMA EXT alone.
+#![tactic(auto)]
+
+mod bits;
+mod config;
+mod fetch;
+mod hardware;
+mod model;
+mod port;
+mod registers;
+pub mod sector_store;
+mod slots;
+mod steps;
+
+pub use config::{ModelConfig, NoMemory, Trim};
+pub use model::Model;

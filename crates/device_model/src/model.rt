@@ -1,0 +1,226 @@
+// The model as an adapter.
+ghost use Rattle.std.specs.Prelude.{◌≡◌, ◌≢◌, ◌<◌, ◌≤◌, ◌*◌, ◌++◌, ◌∷◌, [], ℕ, List, true, false, IfOk, OnOk, OnErr};
+ghost use Rattle.adapter.specs.Commands.{Meaning};
+ghost use Rattle.adapter.specs.Idle.{IsIdle, IsSane};
+ghost use Rattle.adapter.specs.Steps.{Steps, Can};
+ghost use Rattle.adapter.specs.Steps.Step.{Fetch};
+ghost use Rattle.device_model.specs.Asked.{DoesMove, GoesOn, Asked};
+ghost use Rattle.device_model.specs.Modelled.{device_at, cap_of, IsNew};
+
+use crate::config::{ModelConfig, NoMemory};
+use crate::hardware::Hardware;
+use crate::port::PortModel;
+use crate::sector_store::SectorStore;
+use adapter::{Adapter, DeviceStep, Entry, Operation, Stepped};
+use ata_types::{Port, Slot};
+use hba_regs::Reg;
+use std::alloc::Global;
+
+/// A step that is done before the access with this number.
+#[derive(Clone, Copy, Debug)]
+struct Queued {
+    access: u64,
+    step: DeviceStep,
+}
+
+/// A modelled adapter. Port 0 has a disk over the first store; ports 1 to 3 have no device. Of all commands it takes READ
+/// DMA EXT alone: a step on another one answers `false`.
+#[derive(Drop)]
+pub struct Model<S> {
+    hardware: Hardware,
+    disk0: S,
+    disk1: S,
+    /// In the order in which they were queued.
+    queue: Vec<Queued>,
+    /// How many accesses were made.
+    accesses: u64,
+}
+
+impl<S: SectorStore> Model<S> {
+    /// An adapter as after its reset, with four ports, memory of zeros, and the disks 0 and 1 of port 0. Disk 0 is
+    /// plugged in.
+    pub fn new(alloc: Global, config: ModelConfig, disk0: S, disk1: S) -> Result<Model<S>, NoMemory>
+        requires frames { (41 ≤ config.frames) × (config.frames ≤ 1024) }
+        requires slots { (1 ≤ config.slots) × (config.slots ≤ 32) }
+        requires depth { (1 ≤ config.depth) × (config.depth ≤ 32) }
+        ensures idle { IfOk result (λ m. IsIdle (device_at S.size S.told m)) }
+        ensures sane { IfOk result (λ m. IsSane (device_at S.size S.told m)) }
+        ensures made { IfOk result (λ m. IsNew config (S.size disk0) (S.told disk0) (device_at S.size S.told m)) }
+    {
+        let hardware = Hardware {
+            memory: vec![in alloc; 0u8; 4096 * usize::from(config.frames)]?,
+            ports: [
+                PortModel::new(true),
+                PortModel::new(false),
+                PortModel::new(false),
+                PortModel::new(false),
+            ],
+            cap: capabilities(config.slots, config.ncq),
+            hr: false,
+            ae: false,
+            ie: false,
+            tape: Vec::new(alloc),
+        };
+        Ok(Model {
+            hardware,
+            disk0,
+            disk1,
+            queue: Vec::new(alloc),
+            accesses: 0,
+        })
+    }
+
+    /// What the device did, the oldest first.
+    pub fn tape(&self) -> &[Entry]
+        ensures { result.now ≡ (device_at S.size S.told self.now).tape }
+    {
+        self.hardware.tape.as_slice()
+    }
+
+    /// Has the device do a step before the n-th access from now, if it is possible then. The next access is the first;
+    /// 0 is read as 1. Steps before one access are done in the order in which they were queued.
+    pub fn queue_step(&mut self, n: u64, step: DeviceStep) -> Result<(), NoMemory>
+        ensures same { device_at S.size S.told self.new ≡ device_at S.size S.told self.old }
+        ensures queued { OnOk result ((access : ℕ) × (self.new.queue.items ≡ self.old.queue.items ++ record { access = access; step = step } ∷ [])) }
+        ensures kept { OnErr result (self.new.queue.items ≡ self.old.queue.items) }
+    {
+        let access = self.accesses.saturating_add(n.max(1));
+        self.queue
+            .push(Queued { access, step })
+            .map_err(|_full| NoMemory)
+    }
+
+    /// Moves the next piece of a slot's command; `false` says that it isn't possible, or that the store failed or the
+    /// tape found no memory, and that nothing changed.
+    fn move_piece(&mut self, port: u8, slot: u8) -> bool
+        requires { slot < 32 }
+        ensures did { result ≡ true → DoesMove port slot (device_at S.size S.told self.old) (device_at S.size S.told self.new) }
+        ensures refused { result ≡ false → device_at S.size S.told self.new ≡ device_at S.size S.told self.old }
+    {
+        // No other port has a disk.
+        if port != 0 {
+            return false;
+        }
+        let Some(next) = self.hardware.next_move(port, slot) else {
+            return false;
+        };
+        let mut bytes = [0; 512];
+        self.disk0.read(next.sector, &mut bytes) && self.hardware.bring(port, slot, next, &bytes)
+    }
+
+    /// Takes a slot's command if it isn't taken, moves all that is left of it, and ends it; `false` says that this isn't
+    /// possible, and that nothing changed. The tape's memory is found first. A store that fails cuts it short.
+    fn finish(&mut self, port: u8, slot: u8) -> bool
+        requires { slot < 32 }
+        ensures did { result ≡ true → GoesOn port slot (device_at S.size S.told self.old) (device_at S.size S.told self.new) }
+        ensures refused { result ≡ false → device_at S.size S.told self.new ≡ device_at S.size S.told self.old }
+    {
+        if port != 0 {
+            return false;
+        }
+        let sectors = self.disk0.sectors();
+        let Some(left) = self.hardware.moves_left(port, slot, sectors) else {
+            return false;
+        };
+        if !self.hardware.reserve(left as usize + 1) {
+            return false;
+        }
+        let mut did = self.hardware.fetch(port, slot);
+        for _piece in 0..left {
+            if !self.move_piece(port, slot) {
+                return did;
+            }
+            did = true;
+        }
+        self.hardware.done(port, slot) || did
+    }
+
+    /// Has the device do a step.
+    fn do_step(&mut self, s: &DeviceStep) -> bool
+        ensures asked { result ≡ true → Asked s.now (device_at S.size S.told self.old) (device_at S.size S.told self.new) }
+        ensures refused { result ≡ false → device_at S.size S.told self.new ≡ device_at S.size S.told self.old }
+        ensures fetches { result ≡ false → (p : Port) (slot : Slot) (m : Meaning) (places : List ℕ) → s.now ≡ DeviceStep.Fetch p slot → p.0 < 4 → slot.0 < 32 →
+            m.operation ≡ Operation.Read → Can (Fetch p.0 slot.0 m places) (device_at S.size S.told self.old) → ⊥ }
+    {
+        match *s {
+            DeviceStep::Fetch(port, slot) => {
+                port.0 < 4 && slot.0 < 32 && self.hardware.fetch(port.0, slot.0)
+            }
+            DeviceStep::Move(port, slot) => slot.0 < 32 && self.move_piece(port.0, slot.0),
+            DeviceStep::Done(port, slot) => {
+                port.0 < 4 && slot.0 < 32 && self.hardware.done(port.0, slot.0)
+            }
+            DeviceStep::Finish(port, slot) => slot.0 < 32 && self.finish(port.0, slot.0),
+        }
+    }
+
+    /// Before an access, the steps that are queued before it.
+    fn do_queued(&mut self)
+        ensures { Steps (device_at S.size S.told self.old) (device_at S.size S.told self.new) }
+    {
+        self.accesses = self.accesses.saturating_add(1);
+        let mut place = 0;
+        for _queued in 0..self.queue.len() {
+            if place >= self.queue.len() {
+                break;
+            }
+            let queued = self.queue[place];
+            if queued.access > self.accesses {
+                place += 1;
+            } else {
+                self.queue.remove(place);
+                let _done = self.do_step(&queued.step);
+            }
+        }
+    }
+}
+
+/// CAP: four ports, so many slots, and whether there are queued commands.
+fn capabilities(slots: u8, ncq: bool) -> u32
+    requires { (1 ≤ slots) × (slots ≤ 32) }
+    ensures { result ≡ cap_of slots ncq }
+{
+    3 + 256 * (u32::from(slots) - 1) + (if ncq { 1 << 30 } else { 0 })
+}
+
+impl<S: SectorStore> Adapter for Model<S> {
+    ghost device = { λ m. device_at S.size S.told m };
+
+    fn read(&mut self, r: Reg) -> u32 {
+        self.do_queued();
+        self.hardware.settle();
+        let value = self.hardware.shown(r);
+        self.hardware.note(r, value);
+        value
+    }
+
+    fn write(&mut self, r: Reg, v: u32) {
+        self.do_queued();
+        self.hardware.write(r, v);
+    }
+
+    fn load(&mut self, addr: u32, out: &mut [u8]) {
+        self.do_queued();
+        self.hardware.load(addr as usize, out);
+    }
+
+    fn store(&mut self, addr: u32, bytes: &[u8]) {
+        self.do_queued();
+        self.hardware.store(addr as usize, bytes);
+    }
+}
+
+impl<S: SectorStore> Stepped for Model<S> {
+    fn step(&mut self, s: &DeviceStep) -> bool
+        ensures steps { Steps (device_at S.size S.told self.old) (device_at S.size S.told self.new) }
+        ensures refused { result ≡ false → device_at S.size S.told self.new ≡ device_at S.size S.told self.old }
+        ensures asked { result ≡ true → Asked s.now (device_at S.size S.told self.old) (device_at S.size S.told self.new) }
+        ensures fetches { result ≡ false → (p : Port) (slot : Slot) (m : Meaning) (places : List ℕ) → s.now ≡ DeviceStep.Fetch p slot → p.0 < 4 → slot.0 < 32 →
+            m.operation ≡ Operation.Read → Can (Fetch p.0 slot.0 m places) (device_at S.size S.told self.old) → ⊥ }
+    {
+        self.do_step(s)
+    }
+}
+
+#[cfg(test)]
+mod tests;

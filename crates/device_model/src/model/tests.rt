@@ -1,0 +1,238 @@
+// A driver's way to a read of eight sectors, and what the device does on it. The registers of a port are reached behind
+// the adapter's calls, whose conditions on the driver would have to be proved here.
+use crate::sector_store::{MemStore, SectorStore};
+use crate::{Model, ModelConfig, NoMemory, Trim};
+use adapter::{Adapter, DeviceStep, Entry, Stepped};
+use ata_types::{Port, Slot};
+use hba_regs::{PortReg, Reg};
+use std::alloc::{AllocError, Global};
+use std::test::Fail;
+
+const CONFIG: ModelConfig = ModelConfig {
+    frames: 41,
+    slots: 32,
+    ncq: true,
+    depth: 32,
+    trim: Trim::Full,
+};
+
+// A command header with a number in PRDBC, the FIS of READ DMA EXT of 8 sectors from 100, and a PRD: 4096 bytes at 28000h.
+const HEADER: [u8; 12] = [5, 0, 1, 0, 0xaa, 0xbb, 0xcc, 0xdd, 0, 0x10, 0, 0];
+
+const FIS: [u8; 20] = [
+    0x27, 0x80, 0x25, 0, 0x64, 0, 0, 0x40, 0, 0, 0, 0, 8, 0, 0, 0, 0, 0, 0, 0,
+];
+
+const PRD: [u8; 16] = [0, 0x80, 2, 0, 0, 0, 0, 0, 0, 0, 0, 0, 0xff, 0x0f, 0, 0];
+
+const FINISH: DeviceStep = DeviceStep::Finish(Port(0), Slot(0));
+
+fn read<S: SectorStore>(model: &mut Model<S>, r: PortReg) -> u32 {
+    model.do_queued();
+    model.hardware.settle();
+    model.hardware.shown(Reg::Px(Port(0), r))
+}
+
+fn write<S: SectorStore>(model: &mut Model<S>, r: PortReg, v: u32) {
+    model.do_queued();
+    model.hardware.write(Reg::Px(Port(0), r), v);
+}
+
+fn store<S: SectorStore>(model: &mut Model<S>, at: usize, bytes: &[u8]) {
+    let size = model.hardware.memory.len();
+    if at <= size && bytes.len() <= size - at {
+        model.hardware.store(at, bytes);
+    }
+}
+
+// The port runs, and the read is issued.
+fn issue<S: SectorStore>(model: &mut Model<S>) {
+    write(model, PortReg::Clb, 0);
+    write(model, PortReg::Clbu, 0);
+    write(model, PortReg::Fb, 0x400);
+    write(model, PortReg::Fbu, 0);
+    write(model, PortReg::Cmd, 0x10);
+    write(model, PortReg::Sctl, 1);
+    write(model, PortReg::Sctl, 0);
+    let _ssts = read(model, PortReg::Ssts);
+    write(model, PortReg::Serr, 0xffff_ffff);
+    write(model, PortReg::Is, 0xffff_ffff);
+    write(model, PortReg::Cmd, 0x11);
+    store(model, 0, &HEADER);
+    store(model, 0x1000, &FIS);
+    store(model, 0x1080, &PRD);
+    write(model, PortReg::Ci, 1);
+}
+
+// Sector k begins with the byte k.
+fn disk(alloc: Global) -> Result<MemStore, AllocError> {
+    let mut disk = MemStore::new(alloc, 256)?;
+    for sector in 0..256u32 {
+        let _written = disk.write(u64::from(sector), &[(sector % 256) as u8; 512]);
+    }
+    Ok(disk)
+}
+
+fn issued(alloc: Global) -> Result<Model<MemStore>, NoMemory> {
+    let blank = MemStore::new(alloc, 16)?;
+    let mut model = Model::new(alloc, CONFIG, disk(alloc)?, blank)?;
+    issue(&mut model);
+    Ok(model)
+}
+
+fn step<A: Stepped>(adapter: &mut A, s: DeviceStep) -> bool {
+    adapter.step(&s)
+}
+
+#[test]
+fn a_read_is_finished(rt: HostRuntime) -> Result<(), Fail> {
+    let mut model = issued(rt.alloc())?;
+    assert_eq!(rt; read(&mut model, PortReg::Ssts), 3);
+    assert_eq!(rt; read(&mut model, PortReg::Sig), 0x101);
+    assert_eq!(rt; read(&mut model, PortReg::Tfd) & 0x88, 0);
+    assert!(rt; step(&mut model, FINISH));
+    for (at, byte) in [
+        (0x28000, 100),
+        (0x281ff, 100),
+        (0x28200, 101),
+        (0x28fff, 107),
+    ] {
+        assert_eq!(rt; model.hardware.memory.get(at).copied(), Some(byte));
+    }
+    assert_eq!(rt; model.tape().len(), 9);
+    assert!(rt; matches!(model.tape().last(), Some(Entry::Done(_))));
+    assert_eq!(rt; read(&mut model, PortReg::Ci), 0);
+    assert_eq!(rt; read(&mut model, PortReg::Is) & 1, 1);
+    assert!(rt; !step(&mut model, FINISH));
+    Ok(())
+}
+
+#[test]
+fn a_read_goes_step_by_step(rt: HostRuntime) -> Result<(), Fail> {
+    let mut model = issued(rt.alloc())?;
+    assert!(rt; !step(&mut model, DeviceStep::Move(Port(0), Slot(0))));
+    assert!(rt; step(&mut model, DeviceStep::Fetch(Port(0), Slot(0))));
+    assert_eq!(rt; read(&mut model, PortReg::Tfd) & 0x80, 0x80);
+    assert!(rt; !step(&mut model, DeviceStep::Fetch(Port(0), Slot(0))));
+    for _sector in 0..8 {
+        assert!(rt; !step(&mut model, DeviceStep::Done(Port(0), Slot(0))));
+        assert!(rt; step(&mut model, DeviceStep::Move(Port(0), Slot(0))));
+    }
+    assert!(rt; !step(&mut model, DeviceStep::Move(Port(0), Slot(0))));
+    assert!(rt; step(&mut model, DeviceStep::Done(Port(0), Slot(0))));
+    assert_eq!(rt; read(&mut model, PortReg::Tfd) & 0x80, 0);
+    Ok(())
+}
+
+#[test]
+fn impossible_steps_are_refused(rt: HostRuntime) -> Result<(), Fail> {
+    let mut model = issued(rt.alloc())?;
+    for s in [
+        DeviceStep::Fetch(Port(9), Slot(0)),
+        DeviceStep::Finish(Port(9), Slot(0)),
+        DeviceStep::Finish(Port(1), Slot(0)),
+        DeviceStep::Finish(Port(0), Slot(1)),
+        DeviceStep::Fetch(Port(0), Slot(99)),
+    ] {
+        assert!(rt; !step(&mut model, s));
+    }
+    // A command table begins at a multiple of 128.
+    store(&mut model, 8, &[0x40, 0x10]);
+    assert!(rt; !step(&mut model, DeviceStep::Fetch(Port(0), Slot(0))));
+    assert!(rt; !step(&mut model, FINISH));
+    // And it ends within the memory.
+    store(&mut model, 8, &[0, 0, 0xff]);
+    assert!(rt; !step(&mut model, FINISH));
+    assert_eq!(rt; model.tape().len(), 0);
+    Ok(())
+}
+
+#[test]
+fn a_queued_step_comes_before_its_access(rt: HostRuntime) -> Result<(), Fail> {
+    let mut model = issued(rt.alloc())?;
+    model.queue_step(2, FINISH)?;
+    assert_eq!(rt; read(&mut model, PortReg::Ci), 1);
+    assert_eq!(rt; read(&mut model, PortReg::Ci), 0);
+    // It is done once.
+    write(&mut model, PortReg::Ci, 1);
+    assert_eq!(rt; read(&mut model, PortReg::Ci), 1);
+    // Steps before one access are done in their order.
+    model.queue_step(1, DeviceStep::Move(Port(0), Slot(0)))?;
+    model.queue_step(1, DeviceStep::Fetch(Port(0), Slot(0)))?;
+    let _ci = read(&mut model, PortReg::Ci);
+    assert_eq!(rt; model.tape().len(), 9);
+    Ok(())
+}
+
+#[test]
+fn the_adapter_is_switched_on(rt: HostRuntime) -> Result<(), Fail> {
+    let alloc = rt.alloc();
+    let mut model = Model::new(alloc, CONFIG, disk(alloc)?, MemStore::new(alloc, 16)?)?;
+    assert_eq!(rt; model.read(Reg::Ghc), 0);
+    model.write(Reg::Ghc, 1 << 31);
+    assert_eq!(rt; model.read(Reg::Ghc), 1 << 31);
+    assert_eq!(rt; model.hardware.shown(Reg::Cap), 0x4000_1f03);
+    assert_eq!(rt; model.hardware.shown(Reg::Pi), 0x0f);
+    assert_eq!(rt; model.hardware.shown(Reg::Vs), 0x0001_0301);
+    Ok(())
+}
+
+// A store that tells nothing, and whose reads fail after some.
+#[derive(Drop)]
+struct Failing {
+    sectors: MemStore,
+    left: u8,
+}
+
+impl SectorStore for Failing {
+    ghost use Rattle.std.specs.Prelude.{None, false};
+
+    ghost size = { λ s. ⟦<MemStore as SectorStore>⟧.size s.sectors };
+
+    ghost told = { λ _. None };
+
+    ghost is_sure = { false };
+
+    ghost tells_sectors = { λ _. tt };
+
+    fn sectors(&self) -> u64 {
+        self.sectors.sectors()
+    }
+
+    fn read(&mut self, sector: u64, out: &mut [u8; 512]) -> bool {
+        if self.left == 0 {
+            return false;
+        }
+        self.left -= 1;
+        self.sectors.read(sector, out)
+    }
+
+    fn write(&mut self, _sector: u64, _bytes: &[u8; 512]) -> bool {
+        false
+    }
+}
+
+fn failing_disk(alloc: Global, left: u8) -> Result<Failing, AllocError> {
+    Ok(Failing {
+        sectors: disk(alloc)?,
+        left,
+    })
+}
+
+#[test]
+fn a_store_that_fails_cuts_a_read_short(rt: HostRuntime) -> Result<(), Fail> {
+    let alloc = rt.alloc();
+    let mut model = Model::new(
+        alloc,
+        CONFIG,
+        failing_disk(alloc, 3)?,
+        failing_disk(alloc, 0)?,
+    )?;
+    issue(&mut model);
+    assert!(rt; step(&mut model, FINISH));
+    assert_eq!(rt; model.tape().len(), 3);
+    assert!(rt; !step(&mut model, FINISH));
+    assert!(rt; !step(&mut model, DeviceStep::Move(Port(0), Slot(0))));
+    assert_eq!(rt; read(&mut model, PortReg::Ci), 1);
+    Ok(())
+}

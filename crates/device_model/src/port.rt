@@ -1,0 +1,101 @@
+// One port of the model.
+ghost use Rattle.std.specs.Prelude.{◌≡◌};
+ghost use Rattle.adapter.specs.Idle.{IsIdlePort};
+ghost use Rattle.device_model.specs.View.{Media, port_of};
+
+use adapter::Prd;
+
+/// Where the driver has put the command list and the received FIS area, and which of these registers it has written.
+#[derive(Clone, Copy, Debug, Default)]
+pub struct Addresses {
+    pub clb: u32,
+    pub fb: u32,
+    pub clb_set: bool,
+    pub clbu_set: bool,
+    pub fb_set: bool,
+    pub fbu_set: bool,
+}
+
+/// What readings gave, and where on the tape two writes stand.
+#[derive(Clone, Copy, Debug, Default)]
+pub struct Readings {
+    pub st_set_at: usize,
+    pub sctl_written_at: usize,
+    pub last_cmd: u32,
+    pub last_ssts: u32,
+    pub last_tfd: u32,
+    pub last_sig: u32,
+    pub last_ci: u32,
+    pub last_sact: u32,
+    pub engine_count: u32,
+    pub link_count: u32,
+    pub busy_count: u32,
+    pub command_count: u32,
+    pub acknowledged: bool,
+}
+
+/// A READ DMA EXT that the device has taken.
+#[derive(Clone, Copy, Debug)]
+pub struct TakenRead {
+    pub first: u64,
+    pub count: u32,
+    /// The regions that it fills; those past the last have no bytes.
+    pub prds: [Prd; 128],
+    /// In pieces of 512 bytes.
+    pub moved: u32,
+}
+
+/// The registers of a port, and what stands behind them.
+#[derive(Debug, Drop)]
+pub struct PortModel {
+    pub addresses: Addresses,
+    pub st: bool,
+    pub fre: bool,
+    pub sctl_det: u8,
+    pub cr: bool,
+    pub fr: bool,
+    pub tfd: u16,
+    pub sig: u32,
+    /// SSTS.DET is 3, or else 0.
+    pub detected: bool,
+    pub serr_n: bool,
+    pub serr_x: bool,
+    pub is: u32,
+    pub ci: u32,
+    pub sact: u32,
+    pub present: bool,
+    pub fresh: bool,
+    pub link_due: bool,
+    pub taken: [Option<TakenRead>; 32],
+    pub readings: Readings,
+}
+
+impl PortModel {
+    /// A port as after a reset, with a disk or without.
+    pub fn new(present: bool) -> PortModel
+        ensures idle { (m : Media) → IsIdlePort (port_of result m) }
+        ensures present { result.present ≡ present }
+    {
+        PortModel {
+            addresses: Addresses::default(),
+            st: false,
+            fre: false,
+            sctl_det: 0,
+            cr: false,
+            fr: false,
+            tfd: 0x7f,
+            sig: 0xffff_ffff,
+            detected: false,
+            serr_n: false,
+            serr_x: false,
+            is: 0,
+            ci: 0,
+            sact: 0,
+            present,
+            fresh: false,
+            link_due: false,
+            taken: [None; 32],
+            readings: Readings::default(),
+        }
+    }
+}

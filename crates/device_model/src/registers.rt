@@ -1,0 +1,198 @@
+// What the registers of a port show, and what a write does.
+ghost use Rattle.std.specs.Prelude.{◌≡◌, ◌%◌, ◌<◌, ℕ, IsTrue, ◌↔◌, true};
+ghost use Rattle.adapter.specs.Steps.{with_link};
+ghost use Rattle.adapter.specs.Access.{PortShows, note, port_written, unacknowledged, counted as count_after, link_counted as link_count_after};
+ghost use Rattle.device_model.specs.View.{Media, port_of, Settles};
+
+use crate::bits::{bit_if, with_bit_as, without_ones};
+use crate::port::PortModel;
+use hba_regs::{PortReg, is_set};
+
+/// One more reading in a row.
+fn counted(again: bool, count: u32) -> u32
+    ensures { result ≡ count_after again count }
+{
+    if again { count.min(63) + 1 } else { 0 }
+}
+
+/// The count of SSTS after one more reading.
+fn link_counted(det: u32, count: u32) -> u32
+    ensures { result ≡ link_count_after det count }
+{
+    if det == 3 { 64 } else { count.min(63) + 1 }
+}
+
+impl PortModel {
+    /// What a register shows.
+    pub fn shown(&self, r: PortReg) -> u32
+        ensures { (m : Media) → PortShows r result (port_of self.now m) }
+    {
+        match r {
+            PortReg::Cmd => {
+                bit_if(self.st, 0) | bit_if(self.fre, 4) | bit_if(self.fr, 14) | bit_if(self.cr, 15)
+            }
+            PortReg::Tfd => u32::from(self.tfd),
+            PortReg::Sig => self.sig,
+            PortReg::Ssts => if self.detected { 3 } else { 0 },
+            PortReg::Sctl => u32::from(self.sctl_det) % 16,
+            PortReg::Serr => bit_if(self.serr_n, 16) | bit_if(self.serr_x, 26),
+            PortReg::Ci => self.ci,
+            PortReg::Sact => self.sact,
+            PortReg::Is => with_bit_as(with_bit_as(self.is, 22, self.serr_n), 6, self.serr_x),
+            PortReg::Clb | PortReg::Clbu | PortReg::Fb | PortReg::Fbu | PortReg::Ie => 0,
+        }
+    }
+
+    /// Notes what a register showed.
+    pub fn note(&mut self, r: PortReg, value: u32)
+        ensures { (m : Media) → port_of self.new m ≡ record (port_of self.old m) { notes = note r value (port_of self.old m) } }
+    {
+        let no_comreset = self.sctl_det % 16 == 0;
+        match r {
+            PortReg::Cmd => {
+                let awaited = !self.st && is_set(value, 15) || !self.fre && is_set(value, 14);
+                self.readings.last_cmd = value;
+                self.readings.engine_count = counted(awaited, self.readings.engine_count);
+            }
+            PortReg::Ssts => {
+                self.readings.last_ssts = value;
+                if no_comreset {
+                    self.readings.link_count = link_counted(value % 16, self.readings.link_count);
+                }
+            }
+            PortReg::Tfd => {
+                self.readings.last_tfd = value;
+                if no_comreset {
+                    let busy = is_set(value, 7) || is_set(value, 3);
+                    self.readings.busy_count = counted(busy, self.readings.busy_count);
+                }
+            }
+            PortReg::Ci => {
+                self.readings.last_ci = value;
+                if no_comreset {
+                    self.readings.command_count = counted(
+                        is_set(value, 0),
+                        self.readings.command_count,
+                    );
+                }
+            }
+            PortReg::Sig => self.readings.last_sig = value,
+            PortReg::Sact => self.readings.last_sact = value,
+            _ => {}
+        }
+    }
+
+    /// PxCMD is written.
+    fn set_command(&mut self, value: u32, tape: usize)
+        ensures { (m : Media) → port_of self.new m ≡ port_written PortReg.Cmd value tape (port_of self.old m) }
+    {
+        let st = is_set(value, 0);
+        if st && !self.st {
+            self.cr = true;
+            self.readings.st_set_at = tape;
+        }
+        if !st && self.st {
+            self.ci = 0;
+            self.sact = 0;
+        }
+        self.st = st;
+        self.fre = is_set(value, 4);
+        self.fr = self.fre || self.fr;
+    }
+
+    /// PxSCTL is written.
+    fn set_control(&mut self, value: u32, tape: usize)
+        ensures { (m : Media) → port_of self.new m ≡ port_written PortReg.Sctl value tape (port_of self.old m) }
+    {
+        let det = (value % 16) as u8;
+        if self.sctl_det % 16 == 1 && det == 0 {
+            self.link_due = true;
+        }
+        if det == 1 {
+            self.detected = false;
+            self.tfd = 0x7f + 256 * (self.tfd / 256);
+        }
+        self.sctl_det = det;
+        self.readings.sctl_written_at = tape;
+        self.readings.link_count = 0;
+        self.readings.busy_count = 0;
+        self.readings.command_count = 0;
+    }
+
+    /// Bits of PxSERR are cleared.
+    fn clear_errors(&mut self, value: u32)
+        ensures { (m : Media) (tape : ℕ) → port_of self.new m ≡ port_written PortReg.Serr value tape (port_of self.old m) }
+    {
+        self.serr_n = self.serr_n && !is_set(value, 16);
+        self.serr_x = self.serr_x && !is_set(value, 26);
+    }
+
+    /// Bits of PxIS are cleared.
+    fn acknowledge(&mut self, value: u32)
+        ensures { (m : Media) (tape : ℕ) → port_of self.new m ≡ port_written PortReg.Is value tape (port_of self.old m) }
+    {
+        self.is = without_ones(self.is, value);
+        self.readings.acknowledged = true;
+    }
+
+    /// A register is written.
+    pub fn write(&mut self, r: PortReg, value: u32, tape: usize)
+        ensures { (m : Media) → port_of self.new m ≡ port_written r value tape (port_of self.old m) }
+    {
+        match r {
+            PortReg::Cmd => self.set_command(value, tape),
+            PortReg::Sctl => self.set_control(value, tape),
+            PortReg::Serr => self.clear_errors(value),
+            PortReg::Is => self.acknowledge(value),
+            PortReg::Clb => {
+                self.addresses.clb = value;
+                self.addresses.clb_set = true;
+            }
+            PortReg::Clbu => self.addresses.clbu_set = true,
+            PortReg::Fb => {
+                self.addresses.fb = value;
+                self.addresses.fb_set = true;
+            }
+            PortReg::Fbu => self.addresses.fbu_set = true,
+            PortReg::Ci => self.ci |= value,
+            PortReg::Sact => self.sact |= value,
+            _ => {}
+        }
+    }
+
+    /// The port's bit of IS was written.
+    pub fn unacknowledge(&mut self)
+        ensures { (m : Media) → port_of self.new m ≡ unacknowledged (port_of self.old m) }
+    {
+        self.readings.acknowledged = false;
+    }
+
+    /// Whether the link may come up.
+    fn may_link(&self) -> bool
+        ensures { IsTrue result ↔ ((self.now.present ≡ true) × (self.now.sctl_det % 16 ≡ 0) × (self.now.link_due ≡ true)) }
+    {
+        self.present && self.sctl_det % 16 == 0 && self.link_due
+    }
+
+    /// The link comes up.
+    fn link_up(&mut self)
+        ensures { (m : Media) → port_of self.new m ≡ with_link (port_of self.old m) 0x101 true }
+    {
+        self.detected = true;
+        self.fresh = true;
+        self.tfd &= 0xff77;
+        self.sig = 0x101;
+        self.serr_x = true;
+        self.serr_n = true;
+        self.link_due = false;
+    }
+
+    /// What the port does by itself.
+    pub fn settle(&mut self)
+        ensures { (m : Media) → Settles (port_of self.old m) (port_of self.new m) }
+    {
+        if self.may_link() {
+            self.link_up();
+        }
+    }
+}

@@ -1,0 +1,162 @@
+// Steps that the hardware does when it is told.
+ghost use Rattle.std.specs.Prelude.{◌≡◌, ◌<◌, ◌≤◌, ◌+◌, ◌++◌, ◌∷◌, [], true, false, ℕ, List, IfSome};
+ghost use Rattle.adapter.specs.Commands.{Meaning};
+ghost use Rattle.adapter.specs.Steps.{Can, after};
+ghost use Rattle.adapter.specs.Steps.Step.{Fetch as FetchStep, Move as MoveStep};
+ghost use Rattle.device_model.specs.Asked.{DoesFetch, DoesDone};
+ghost use Rattle.device_model.specs.Slots.{IsNext};
+ghost use Rattle.device_model.specs.View.{taken_of};
+ghost use Rattle.device_model.specs.Whole.{Outside, device_of};
+ghost use Rattle.device_model.specs.declared.port.TakenRead.{TakenRead};
+
+use crate::fetch::{count_pieces, piece_at, read_command};
+use crate::hardware::{Hardware, put};
+use crate::port::TakenRead;
+use crate::slots::{may_take, working_on};
+use adapter::{Direction, Done, Entry, Move, Operation, Prd};
+use ata_types::{Port, Slot};
+
+/// A sector that a command moves next, and the address that it goes to.
+#[derive(Clone, Copy, Debug)]
+pub struct NextMove {
+    pub sector: u64,
+    pub address: u32,
+}
+
+/// Adds an entry to the tape; `false` says that there was no memory.
+fn record(tape: &mut Vec<Entry>, entry: Entry) -> bool
+    ensures added { result ≡ true → tape.new.items ≡ tape.old.items ++ entry ∷ [] }
+    ensures kept { result ≡ false → tape.new.items ≡ tape.old.items }
+{
+    tape.push(entry).is_ok()
+}
+
+/// Whether each region is in a memory of this size.
+fn are_inside(prds: &[Prd; 128], size: usize) -> bool {
+    prds.iter()
+        .all(|prd| prd.address as usize + prd.bytes as usize <= size)
+}
+
+/// How many moves are left of a command, if each of its pieces has a place in a memory of this size and is one of so many
+/// sectors.
+fn left_of(read: &TakenRead, size: usize, sectors: u64) -> Option<u32> {
+    let end = read.first.checked_add(u64::from(read.count))?;
+    if end > sectors || !are_inside(&read.prds, size) {
+        return None;
+    }
+    count_pieces(&read.prds).checked_sub(read.moved)
+}
+
+impl Hardware {
+    /// Takes the READ DMA EXT that is issued in a slot; `false` says that there is none that may be taken.
+    pub fn fetch(&mut self, port: u8, slot: u8) -> bool
+        requires port { port < 4 }
+        requires slot { slot < 32 }
+        ensures did { result ≡ true → (o : Outside) → DoesFetch port slot (device_of self.old o) (device_of self.new o) }
+        ensures refused { result ≡ false → (o : Outside) → device_of self.new o ≡ device_of self.old o }
+        ensures only { result ≡ false → (o : Outside) (m : Meaning) (places : List ℕ) → m.operation ≡ Operation.Read → Can (FetchStep port slot m places) (device_of self.old o) → ⊥ }
+    {
+        let place = usize::from(port);
+        if !may_take(&self.ports, place, slot) {
+            return false;
+        }
+        let list = self.ports[place].addresses.clb;
+        let Some(read) = read_command(&self.memory, list, slot) else {
+            return false;
+        };
+        self.ports[place].take(slot, read);
+        true
+    }
+
+    /// The next move of a slot's command, if one is left and its place is in the memory.
+    pub fn next_move(&self, port: u8, slot: u8) -> Option<NextMove>
+        requires port { port < 4 }
+        requires slot { slot < 32 }
+        ensures { IfSome result (λ n. (t : TakenRead) × IsNext self.now port slot n.sector n.address t) }
+    {
+        let read = working_on(&self.ports, usize::from(port), slot)?;
+        let address = piece_at(&read.prds, read.moved)?;
+        let sector = read.first.checked_add(u64::from(read.moved))?;
+        let address = u32::try_from(address).ok()?;
+        if address as usize + 512 > self.memory.len() {
+            return None;
+        }
+        Some(NextMove { sector, address })
+    }
+
+    /// Brings a sector's bytes to a command's next place; `false` says that the tape found no memory, and that nothing
+    /// changed.
+    pub fn bring(&mut self, port: u8, slot: u8, next: NextMove, bytes: &[u8; 512]) -> bool
+        requires port { port < 4 }
+        requires slot { slot < 32 }
+        requires next { (t : TakenRead) × IsNext self.old port slot next.sector next.address t }
+        ensures did { result ≡ true → (o : Outside) → (t : TakenRead) × IsNext self.old port slot next.sector next.address t
+            × (device_of self.new o ≡ after (MoveStep port slot (taken_of t) bytes.now) (device_of self.old o)) }
+        ensures refused { result ≡ false → (o : Outside) → device_of self.new o ≡ device_of self.old o }
+    {
+        let entry = Entry::Move(Move {
+            port: Port(port),
+            slot: Slot(slot),
+            operation: Operation::Read,
+            sector: next.sector,
+            address: next.address,
+            direction: Direction::ToMemory,
+            bytes: *bytes,
+        });
+        if !record(&mut self.tape, entry) {
+            return false;
+        }
+        put(&mut self.memory, next.address as usize, bytes);
+        self.ports[usize::from(port)].advance(slot);
+        true
+    }
+
+    /// Ends a slot's command, all of which was moved; `false` says that there is none, or that the tape found no memory.
+    pub fn done(&mut self, port: u8, slot: u8) -> bool
+        requires port { port < 4 }
+        requires slot { slot < 32 }
+        ensures did { result ≡ true → (o : Outside) → DoesDone port slot (device_of self.old o) (device_of self.new o) }
+        ensures refused { result ≡ false → (o : Outside) → device_of self.new o ≡ device_of self.old o }
+    {
+        let Some(read) = working_on(&self.ports, usize::from(port), slot) else {
+            return false;
+        };
+        if read.moved != count_pieces(&read.prds) {
+            return false;
+        }
+        let entry = Entry::Done(Done {
+            port: Port(port),
+            slot: Slot(slot),
+            operation: Operation::Read,
+        });
+        if !record(&mut self.tape, entry) {
+            return false;
+        }
+        self.ports[usize::from(port)].end(slot);
+        true
+    }
+
+    /// How many moves are left until a slot's command can end, if it may be taken or is taken, and each move is possible on
+    /// a disk of so many sectors.
+    pub fn moves_left(&self, port: u8, slot: u8, sectors: u64) -> Option<u32>
+        requires port { port < 4 }
+        requires slot { slot < 32 }
+    {
+        let place = usize::from(port);
+        if may_take(&self.ports, place, slot) {
+            let list = self.ports[place].addresses.clb;
+            let read = read_command(&self.memory, list, slot)?;
+            left_of(&read, self.memory.len(), sectors)
+        } else {
+            let read = working_on(&self.ports, place, slot)?;
+            left_of(read, self.memory.len(), sectors)
+        }
+    }
+
+    /// Finds memory for more entries of the tape; `false` says that there was none.
+    pub fn reserve(&mut self, entries: usize) -> bool
+        ensures { (o : Outside) → device_of self.new o ≡ device_of self.old o }
+    {
+        self.tape.reserve(entries).is_ok()
+    }
+}
