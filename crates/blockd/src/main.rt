@@ -1,0 +1,28 @@
+//! `blockd`: a client reads eight sectors of a modelled disk, and asks for a grant that it doesn't have.
+//!
+//! Sector k of the disk holds the byte k alone. Each line tells what one call answered.
+#![tactic(auto)]
+
+use std::io;
+use std::process::ExitCode;
+
+mod session;
+mod told;
+
+use session::{Fault, answers};
+use told::tell;
+
+fn run(rt: &(impl AllocGlobal + Print)) -> Result<io::Result<()>, Fault> {
+    let said = answers(rt.alloc())?;
+    Ok(tell(rt, said.as_slice()))
+}
+
+fn main(rt: HostRuntime) -> ExitCode {
+    match run(&rt) {
+        Ok(Ok(())) => ExitCode::SUCCESS,
+        Ok(Err(_)) => ExitCode::FAILURE,
+        Err(Fault::NoMemory) => match eprintln!(rt; "blockd: no memory") {
+            Ok(()) | Err(_) => ExitCode::FAILURE,
+        },
+    }
+}
