@@ -1,1 +1,14 @@
 mod RuleLemmas
+mod Members
+mod Sound
+mod Keeps
+mod Trace
+mod Content
+mod Reading
+mod Held
+mod Runs
+mod Order
+mod Counting
+mod Dues
+mod Accepts
+mod Lasting

@@ -1,2 +1,9 @@
 pub mod Rules
 pub mod Refusals
+pub mod Due
+pub mod State
+pub mod Steps
+pub mod Left
+pub mod Confined
+pub mod Durable
+pub mod Events
