@@ -43,32 +43,12 @@ id_below start (step ∷ past) r (inl c) = grown step r c
   where
     grown : (y : Step) (r : Accepted) → Comes (after start past) y r → r.id.0 < (next (after start past) y).next
     grown (Accept new) r c = let e = c.1.id in omega (arith, e)
-    grown (Issue mode e) r c = absurd c.0
-    grown (Touch e i block) r c = absurd c.0
-    grown (End e) r c = absurd c.0
-    grown (Age ready) r c = absurd c.0
-    grown (Again e) r c = absurd c.0
-    grown (Answer e outcome) r c = absurd c.0
-    grown Release r c = absurd c.0
-    grown (Unplug port) r c = absurd c.0
-    grown (Replace port id size disk) r c = absurd c.0
-    grown (Store client frame offset bytes) r c = absurd c.0
-    grown (Load client frame offset bytes) r c = absurd c.0
+    grown _ r c = absurd c.0
 id_below start (step ∷ past) r (inr w) = let g = next_grows (after start past) step in let b = id_below start past r w in omega (arith, g, b)
 
 same_accept : (step : Step) (a b : Accepted) → IsAccept step a → IsAccept step b → a ≡ b
 same_accept (Accept new) a b p q = sym p ∙ q
-same_accept (Issue mode e) a b p q = absurd p
-same_accept (Touch e i block) a b p q = absurd p
-same_accept (End e) a b p q = absurd p
-same_accept (Age ready) a b p q = absurd p
-same_accept (Again e) a b p q = absurd p
-same_accept (Answer e outcome) a b p q = absurd p
-same_accept Release a b p q = absurd p
-same_accept (Unplug port) a b p q = absurd p
-same_accept (Replace port id size disk) a b p q = absurd p
-same_accept (Store client frame offset bytes) a b p q = absurd p
-same_accept (Load client frame offset bytes) a b p q = absurd p
+same_accept _ a b p q = absurd p
 
 -- one id is one request, in the whole history
 pub one_id_is_one_request : (start : Machine) (h : List Step) (a b : Accepted) → WasAccepted start h a → WasAccepted start h b → a.id ≡ b.id → a ≡ b

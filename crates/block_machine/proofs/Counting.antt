@@ -33,7 +33,7 @@ count_eq p q (x ∷ xs) same =
     let head : ◌≡◌ {A = ℕ} (cond (p x) 1 0) (cond (q x) 1 0) = ap (λ (b : Bool). cond b 1 0) (same x (inl refl)) in
     omega (arith, rest, head, count_cons p x xs, count_cons q x xs)
 
-count_none : {X : Type 0} (p : X → Bool) (xs : List X) → ((y : X) → In y xs → p y ≡ false) → count_by p xs ≡ 0
+pub count_none : {X : Type 0} (p : X → Bool) (xs : List X) → ((y : X) → In y xs → p y ≡ false) → count_by p xs ≡ 0
 count_none p [] none = refl
 count_none p (x ∷ xs) none =
     let rest = count_none p xs (λ y h. none y (inr h)) in

@@ -38,17 +38,7 @@ held_step m (Load client frame offset bytes) may s o l h = h
 
 new_held : (m : Machine) (step : Step) (r : Accepted) → Comes m step r → IsHeld (next m step) r
 new_held m (Accept new) r c = λ i b past room lb. ap (λ (f : ℕ → Block). f i b) (sym c.1.held)
-new_held m (Issue mode e) r c = absurd c.0
-new_held m (Touch e i block) r c = absurd c.0
-new_held m (End e) r c = absurd c.0
-new_held m (Age ready) r c = absurd c.0
-new_held m (Again e) r c = absurd c.0
-new_held m (Answer e outcome) r c = absurd c.0
-new_held m Release r c = absurd c.0
-new_held m (Unplug port) r c = absurd c.0
-new_held m (Replace port id size disk) r c = absurd c.0
-new_held m (Store client frame offset bytes) r c = absurd c.0
-new_held m (Load client frame offset bytes) r c = absurd c.0
+new_held m _ r c = absurd c.0
 
 pub all_held : (m : Machine) (step : Step) → May m step → Sound m → AllHeld m → AllHeld (next m step)
 all_held m step may s h e l = ⊎_elim

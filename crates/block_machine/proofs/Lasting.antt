@@ -174,17 +174,7 @@ sizes_stay m (Replace p id size disk) port may other = ⊎_elim
     subst (λ (q : Port). size ≡ m.sizes q) at (may.1 (subst (λ (q : Port). id ≡ m.disk_ids q) (sym at) (eqb-true id (m.disk_ids port) (not-false _ same)))))
     (λ _. refl))
     (and_cases (p.0 == port.0) (not (id == m.disk_ids port)) other)
-sizes_stay m (Accept r) port may other = refl
-sizes_stay m (Issue mode e) port may other = refl
-sizes_stay m (Touch e i block) port may other = refl
-sizes_stay m (End e) port may other = refl
-sizes_stay m (Age ready) port may other = refl
-sizes_stay m (Again e) port may other = refl
-sizes_stay m (Answer e outcome) port may other = refl
-sizes_stay m Release port may other = refl
-sizes_stay m (Unplug q) port may other = refl
-sizes_stay m (Store client frame offset bytes) port may other = refl
-sizes_stay m (Load client frame offset bytes) port may other = refl
+sizes_stay m _ port may other = refl
 
 -- another disk comes only where none is in
 other_absent : (m : Machine) (step : Step) (port : Port) → May m step → brings_other m port step ≡ true → m.present port ≡ false
@@ -285,49 +275,16 @@ stage_now start (Touch e n block) past w i s legal writes out t =
           (λ (q : IsReplaced (after start past) (Touch e n block) w.port). absurd q.step_is) x)
           (effect (after start past) (Touch e n block) w.port k legal.1);
     }
-stage_now start (Accept job) past w i s legal writes out t = absurd t
-stage_now start (Issue mode e) past w i s legal writes out t = absurd t
-stage_now start (End e) past w i s legal writes out t = absurd t
-stage_now start (Age ready) past w i s legal writes out t = absurd t
-stage_now start (Again e) past w i s legal writes out t = absurd t
-stage_now start (Answer e outcome) past w i s legal writes out t = absurd t
-stage_now start Release past w i s legal writes out t = absurd t
-stage_now start (Unplug port) past w i s legal writes out t = absurd t
-stage_now start (Replace port id size disk) past w i s legal writes out t = absurd t
-stage_now start (Store client frame offset bytes) past w i s legal writes out t = absurd t
-stage_now start (Load client frame offset bytes) past w i s legal writes out t = absurd t
+stage_now start _ past w i s legal writes out t = absurd t
 
 answer_ok : (step : Step) (w : Accepted) → IsOk step w → (e : Pending) × (step ≡ Answer e Ok) × (e.request ≡ w)
 answer_ok (Answer e Ok) w t = (e, refl, t)
 answer_ok (Answer e (DeviceError status error)) w t = absurd t
-answer_ok (Answer e Aborted) w t = absurd t
-answer_ok (Answer e Unplugged) w t = absurd t
-answer_ok (Answer e PortDead) w t = absurd t
-answer_ok (Accept job) w t = absurd t
-answer_ok (Issue mode e) w t = absurd t
-answer_ok (Touch e i block) w t = absurd t
-answer_ok (End e) w t = absurd t
-answer_ok (Age ready) w t = absurd t
-answer_ok (Again e) w t = absurd t
-answer_ok Release w t = absurd t
-answer_ok (Unplug port) w t = absurd t
-answer_ok (Replace port id size disk) w t = absurd t
-answer_ok (Store client frame offset bytes) w t = absurd t
-answer_ok (Load client frame offset bytes) w t = absurd t
+answer_ok _ w t = absurd t
 
 accept_of : (step : Step) (w : Accepted) → IsAccept step w → step ≡ Accept w
 accept_of (Accept job) w t = ap Accept t
-accept_of (Answer e outcome) w t = absurd t
-accept_of (Issue mode e) w t = absurd t
-accept_of (Touch e i block) w t = absurd t
-accept_of (End e) w t = absurd t
-accept_of (Age ready) w t = absurd t
-accept_of (Again e) w t = absurd t
-accept_of Release w t = absurd t
-accept_of (Unplug port) w t = absurd t
-accept_of (Replace port id size disk) w t = absurd t
-accept_of (Store client frame offset bytes) w t = absurd t
-accept_of (Load client frame offset bytes) w t = absurd t
+accept_of _ w t = absurd t
 
 -- what the answer Ok of a request says of its entry
 ok_entry : (m : Machine) (step : Step) (w : Accepted) → May m step → IsWhole step → IsOk step w → (e : Pending) × Contains m.book e × (e.request ≡ w) × ((i : ℕ) → i < w.asked.count → e.touched i ≡ true) × (e.ended ≡ true)
@@ -401,17 +358,7 @@ same_disk start past (Replace p i n d) port k id size disk may back other inside
     let large : n ≡ (after start past).sizes port = may.1 named' ∙ ap (λ (x : Port). (after start past).sizes x) t.0 in
     subst (λ (x : Disk). HeldSince start port k (x k) past) t.3
     (subst (λ (x : Port). HeldSince start x k (d k) past) t.0 (back named' k (omega (arith, large, inside))))
-same_disk start past (Answer e outcome) port k id size disk may back other inside t = absurd t
-same_disk start past (Accept job) port k id size disk may back other inside t = absurd t
-same_disk start past (Issue mode e) port k id size disk may back other inside t = absurd t
-same_disk start past (Touch e i block) port k id size disk may back other inside t = absurd t
-same_disk start past (End e) port k id size disk may back other inside t = absurd t
-same_disk start past (Age ready) port k id size disk may back other inside t = absurd t
-same_disk start past (Again e) port k id size disk may back other inside t = absurd t
-same_disk start past Release port k id size disk may back other inside t = absurd t
-same_disk start past (Unplug q) port k id size disk may back other inside t = absurd t
-same_disk start past (Store client frame offset bytes) port k id size disk may back other inside t = absurd t
-same_disk start past (Load client frame offset bytes) port k id size disk may back other inside t = absurd t
+same_disk start past _ port k id size disk may back other inside t = absurd t
 
 lasts_step : (start : Machine) (step : Step) (past : List Step) (w : Accepted) (k : ℕ) → IsStart start → IsLegal start (step ∷ past) → is_writer w.asked.op ≡ true
     → ComesBack start past step → brings_other (after start past) w.port step ≡ false → Lasts start past w k → Lasts start (step ∷ past) w k
@@ -489,17 +436,7 @@ lasts_end start (End e) past w flush k port op t g = record {
       (and_from _ _ (eq-eqb e.request.port.0 w.port.0 (ap (λ (q : Port). q.0) (ap (λ (j : Accepted). j.port) t ∙ port))) (ap is_flush (ap (λ (j : Accepted). j.asked.op) t ∙ op)))))
       held;
 }
-lasts_end start (Answer e outcome) past w flush k port op t g = absurd t
-lasts_end start (Accept job) past w flush k port op t g = absurd t
-lasts_end start (Issue mode e) past w flush k port op t g = absurd t
-lasts_end start (Touch e i block) past w flush k port op t g = absurd t
-lasts_end start (Age ready) past w flush k port op t g = absurd t
-lasts_end start (Again e) past w flush k port op t g = absurd t
-lasts_end start Release past w flush k port op t g = absurd t
-lasts_end start (Unplug q) past w flush k port op t g = absurd t
-lasts_end start (Replace p i n d) past w flush k port op t g = absurd t
-lasts_end start (Store client frame offset bytes) past w flush k port op t g = absurd t
-lasts_end start (Load client frame offset bytes) past w flush k port op t g = absurd t
+lasts_end start _ past w flush k port op t g = absurd t
 
 asked_lasts : (start : Machine) (h : List Step) (w flush : Accepted) → IsStart start → IsLegal start h → AllWhole h → IsVolatile start h → is_writer w.asked.op ≡ true → flush.port ≡ w.port → flush.asked.op ≡ Flush
     → FlushAccepted w flush h → (x : Pending) → Contains (after start h).book x → x.request ≡ flush → x.ended ≡ true → (i : ℕ) → i < w.asked.count → Lasts start h w (w.asked.first.0 + i)
@@ -536,17 +473,7 @@ finds start past (Replace port id size disk) s legal whole back = λ same w flus
     let inside : sector_of w i < (after start past).sizes port = subst (λ (p : Port). sector_of w i < (after start past).sizes p) here lasts.inside in
     let large = legal.1.1 same in
     lasts.since (disk (sector_of w i)) (subst (λ (p : Port). HeldSince start p (sector_of w i) (disk (sector_of w i)) past) (sym here) (back.1 same (sector_of w i) (omega (arith, inside, large))))
-finds start past (Accept r) s legal whole back = tt
-finds start past (Issue mode e) s legal whole back = tt
-finds start past (Touch e i block) s legal whole back = tt
-finds start past (End e) s legal whole back = tt
-finds start past (Age ready) s legal whole back = tt
-finds start past (Again e) s legal whole back = tt
-finds start past (Answer e outcome) s legal whole back = tt
-finds start past Release s legal whole back = tt
-finds start past (Unplug port) s legal whole back = tt
-finds start past (Store client frame offset bytes) s legal whole back = tt
-finds start past (Load client frame offset bytes) s legal whole back = tt
+finds start past _ s legal whole back = tt
 
 pub every_plug_finds : (start : Machine) (h : List Step) → IsStart start → IsLegal start h → AllWhole h → IsVolatile start h → EveryPlugFinds start h
 every_plug_finds start [] s legal whole back = tt

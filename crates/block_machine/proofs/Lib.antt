@@ -12,3 +12,5 @@ mod Counting
 mod Dues
 mod Accepts
 mod Lasting
+mod Limits
+mod EventLemmas

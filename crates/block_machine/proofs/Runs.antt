@@ -78,17 +78,7 @@ read_holds_left start h e s legal told here whole op = record {
 
 meets : {m : Machine} {x : Accepted} {j : ℕ} {w : Accepted} (k : ℕ) (step : Step) → May m step → IsTouch step w k → Seen m x j → w.id.0 ≡ x.id.0 → w ≡ x
 meets {m} k (Touch e i block) may t s id = sym t.0 ∙ s.one e (runs_lives m e may.0) (ap (λ (y : Accepted). y.id.0) t.0 ∙ id)
-meets k (Accept job) may t s id = absurd t
-meets k (Issue mode e) may t s id = absurd t
-meets k (End e) may t s id = absurd t
-meets k (Age ready) may t s id = absurd t
-meets k (Again e) may t s id = absurd t
-meets k (Answer e outcome) may t s id = absurd t
-meets k Release may t s id = absurd t
-meets k (Unplug port) may t s id = absurd t
-meets k (Replace port name size disk) may t s id = absurd t
-meets k (Store client frame offset bytes) may t s id = absurd t
-meets k (Load client frame offset bytes) may t s id = absurd t
+meets k _ may t s id = absurd t
 
 touched_one : (start : Machine) (h : List Step) → IsStart start → IsLegal start h → (w x : Accepted) (k n j o : ℕ) → HasTouched w k n h → HasTouched x j o h → w.id.0 ≡ x.id.0 → w ≡ x
 touched_one start [] s legal w x k n j o a b id = absurd a
@@ -96,17 +86,7 @@ touched_one start (step ∷ past) s legal w x k n j o (inl a) (inl b) id = both 
   where
     both : (y : Step) → IsTouch y w k → IsTouch y x j → w ≡ x
     both (Touch e i block) p q = sym p.0 ∙ q.0
-    both (Accept job) p q = absurd p
-    both (Issue mode e) p q = absurd p
-    both (End e) p q = absurd p
-    both (Age ready) p q = absurd p
-    both (Again e) p q = absurd p
-    both (Answer e outcome) p q = absurd p
-    both Release p q = absurd p
-    both (Unplug port) p q = absurd p
-    both (Replace port id size disk) p q = absurd p
-    both (Store client frame offset bytes) p q = absurd p
-    both (Load client frame offset bytes) p q = absurd p
+    both _ p q = absurd p
 touched_one start (step ∷ past) s legal w x k n j o (inl a) (inr b) id = meets k step legal.1 a.0 ((traced start past s legal.0).seen x j o b) id
 touched_one start (step ∷ past) s legal w x k n j o (inr a) (inl b) id = sym (meets j step legal.1 b.0 ((traced start past s legal.0).seen w k n a) (sym id))
 touched_one start (step ∷ past) s legal w x k n j o (inr a) (inr b) id = touched_one start past s legal.0 w x k n j o a b id

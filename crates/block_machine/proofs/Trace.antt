@@ -61,17 +61,7 @@ lives_before m (Load client frame offset bytes) may a h = inl (same_before m a h
 
 pub next_grows : (m : Machine) (step : Step) → m.next ≤ (next m step).next
 next_grows m (Accept job) = omega arith
-next_grows m (Issue mode e) = le_refl _
-next_grows m (Touch e i block) = le_refl _
-next_grows m (End e) = le_refl _
-next_grows m (Age ready) = le_refl _
-next_grows m (Again e) = le_refl _
-next_grows m (Answer e outcome) = le_refl _
-next_grows m Release = le_refl _
-next_grows m (Unplug port) = le_refl _
-next_grows m (Replace port id size disk) = le_refl _
-next_grows m (Store client frame offset bytes) = le_refl _
-next_grows m (Load client frame offset bytes) = le_refl _
+next_grows m _ = le_refl _
 
 pub lives_one : (m : Machine) → Sound m → (a b : Pending) → IsLiving m a → IsLiving m b → a.request.id.0 ≡ b.request.id.0 → a.request ≡ b.request
 lives_one m s a b (inl i) (inl j) eq = ap (λ (x : Pending). x.request) (s.one a b i j eq)
@@ -126,17 +116,7 @@ seen_now m s e i r lt = record {
 
 pub seen_touch : (m : Machine) (step : Step) → May m step → Sound m → (w : Accepted) (k : ℕ) → IsTouch step w k → Seen m w k
 seen_touch m (Touch e i block) may s w k t = subst (λ (x : ℕ). Seen m w x) t.1 (subst (λ (j : Accepted). Seen m j (sector_of j i)) t.0 (seen_now m s e i may.0 may.1))
-seen_touch m (Accept job) may s w k t = absurd t
-seen_touch m (Issue mode e) may s w k t = absurd t
-seen_touch m (End e) may s w k t = absurd t
-seen_touch m (Age ready) may s w k t = absurd t
-seen_touch m (Again e) may s w k t = absurd t
-seen_touch m (Answer e outcome) may s w k t = absurd t
-seen_touch m Release may s w k t = absurd t
-seen_touch m (Unplug port) may s w k t = absurd t
-seen_touch m (Replace port id size disk) may s w k t = absurd t
-seen_touch m (Store client frame offset bytes) may s w k t = absurd t
-seen_touch m (Load client frame offset bytes) may s w k t = absurd t
+seen_touch m _ may s w k t = absurd t
 
 -- Numbers of disks.
 

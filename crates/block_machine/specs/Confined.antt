@@ -1,5 +1,6 @@
 -- What a request that moves data may reach.
 use Rattle.std.specs.Prelude.{◌≡◌, ◌≢◌, ◌⊎◌, ℕ, ◌*◌, ◌/◌, ◌<◌, ◌≤◌, true, false, Some, length, List, [], ◌∷◌}
+use Rattle.ata_types.specs.declared.request.ClientId.{ClientId}
 use Rattle.ata_types.specs.declared.request.Op.{Op}
 use Rattle.ata_types.specs.declared.request.Op.TheVariants.{Read, Write, Trim, Flush}
 use Rattle.ata_types.specs.declared.grant.GrantRow.{GrantRow}
@@ -7,7 +8,7 @@ use Rattle.ata_types.specs.Grant.{Allows, Covers}
 use Rattle.std.specs.Prelude.{Contains}
 use Rattle.block_machine.specs.Rules.{IsNamed}
 use Rattle.block_machine.specs.State.{Accepted, Pending, Machine, block_of, frame_at, is_reader}
-use Rattle.block_machine.specs.Steps.{Step, IsNew}
+use Rattle.block_machine.specs.Steps.{Step, IsNew, IsLiving, unanswered_of}
 use Rattle.block_machine.specs.Left.{after, IsAccept}
 
 -- a row of the client grants the request: its port, its operation, and, but for a flush, its sectors
@@ -41,3 +42,14 @@ pub record IsConfined (start : Machine) (history : List Step) (r : Accepted) (i 
 abbrev pub IsHeld : Machine → Accepted → Type 0
 IsHeld m r = (i b : ℕ) → (is_reader r.asked.op ≡ true → r.asked.count ≤ i) → i < 8 * length r.asked.frames.items → b < 512
     → block_of m.memory r.asked.frames.items i b ≡ r.held i b
+
+-- A client has at most 16 unanswered requests. A request that is unanswered or kept was issued at most four times, and
+-- once at least where it is issued; its frames are its client's, and lent to it: so no frame is lent to two.
+pub record WithinLimits (m : Machine) : Type 0 where
+  pub few : (client : ClientId) → unanswered_of m.book client ≤ 16
+  pub issues : (e : Pending) → IsLiving m e → e.issues ≤ 4
+  pub issued : (e : Pending) → IsLiving m e → e.issued ≡ true → 1 ≤ e.issues
+  pub lent : (e : Pending) → IsLiving m e → (i : ℕ) → i < length e.request.asked.frames.items
+      → m.lent (frame_at e.request.asked.frames.items i) ≡ Some e.request.id
+  pub owned : (e : Pending) → IsLiving m e → (i : ℕ) → i < length e.request.asked.frames.items
+      → m.owner (frame_at e.request.asked.frames.items i) ≡ Some e.request.asked.client
