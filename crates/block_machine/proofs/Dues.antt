@@ -1,14 +1,13 @@
 -- Issuing one due request leaves the others of its port as due as they were.
 use Rattle.std.proofs.Common.{◌≡◌, ◌≢◌, ◌⊎◌, ◌↔◌, ℕ, ◌+◌, ◌-◌, ◌<◌, ◌≤◌, Bool, true, false, cond, not, ◌&&◌, ◌||◌, ◌==◌, ltb, List, [], ◌∷◌, map, inl, inr, ⊎_elim, refl, sym, ap, ◌∙◌, subst, arith, eqb-true, eq-eqb, lt-ltb, ltb-true}
-use Rattle.std.proofs.lemmas.Bool.{cases_lt, or_left, or_right, and_parts, and_from, and_left, and_right, cond-true, cond-false, eqb-false, false≢true, not-true, both_ways, false_from_ne_true}
+use Rattle.std.proofs.lemmas.Bool.{cases_lt, or_left, and_parts, and_from, and_left, and_right, cond-true, cond-false, eqb-false, false≢true, not-true, both_ways, false_from_ne_true}
 use Rattle.std.specs.List.{Contains, list_any, count_by}
 use Rattle.ata_types.specs.declared.Port.{Port}
 use Rattle.ata_types.specs.declared.request.RequestId.{RequestId}
 use Rattle.block_machine.specs.declared.due.Mode.{Mode}
 use Rattle.block_machine.specs.declared.due.Unanswered.{Unanswered}
 use Rattle.block_machine.specs.Due.{IsDue, IsInOrder, conflict, holds_back, is_plain, is_earlier, is_clear, ahead, issued_count, free_slots, mark_issued, with_issued}
-use Rattle.block_machine.proofs.Members.{contains_cases, into_map, some_in}
-use Rattle.block_machine.proofs.Keeps.{same_port}
+use Rattle.block_machine.proofs.Members.{into_map, some_in}
 use Rattle.block_machine.proofs.Order.{In, Ordered, in_from, from_in, ordered_from, in_order_one}
 use Rattle.block_machine.proofs.Counting.{count_cons, count_map, count_least, holds_if, unheld}
 

@@ -1,20 +1,17 @@
 -- Runs of events as histories of steps, and the laws over them.
-use Rattle.std.proofs.Common.{◌≡◌, ◌⊎◌, ℕ, ◌+◌, ◌*◌, ◌/◌, ◌%◌, ◌<◌, ◌≤◌, Bool, true, false, List, [], ◌∷◌, ◌++◌, length, Option, Some, None, inl, inr, ⊎_elim, refl, sym, ap, ◌∙◌, subst, arith, eq-eqb}
-use Rattle.std.proofs.lemmas.Bool.{cond-true, cond-false, cond_both, false≢true}
-use Rattle.std.specs.List.{Contains, list_any}
+use Rattle.std.proofs.Common.{◌≡◌, ◌⊎◌, ℕ, ◌+◌, ◌*◌, ◌/◌, ◌%◌, ◌<◌, Bool, true, false, List, [], ◌∷◌, ◌++◌, length, Option, Some, None, inl, inr, ⊎_elim, refl, sym, ap, ◌∙◌, subst, arith, eq-eqb}
+use Rattle.std.proofs.lemmas.Bool.{cond-true, cond-false, cond_both}
+use Rattle.std.specs.List.{list_any}
 use Rattle.ata_types.specs.declared.request.Frame.{Frame}
 use Rattle.ata_types.specs.declared.request.RequestId.{RequestId}
-use Rattle.ata_types.specs.declared.request.Op.{Op}
-use Rattle.ata_types.specs.declared.request.Op.TheVariants.{Read}
 use Rattle.ata_types.specs.declared.request.Outcome.TheVariants.{Ok, DeviceError, Aborted, Unplugged, PortDead}
-use Rattle.block_machine.specs.State.{Block, Memory, Accepted, Pending, Machine, block_of, frame_at, is_reader}
-use Rattle.block_machine.specs.Steps.{Step, Accept, Issue, Touch, End, Age, Again, Answer, Release, Unplug, Replace, Store, Load, May, AllTouched, next, stays, unlend, is_lent_to, put_bytes, memory_after}
-use Rattle.block_machine.specs.Left.{after, IsLegal, IsStart, HoldsLeft, AllTold}
+use Rattle.block_machine.specs.State.{Block, Memory, Pending, Machine, frame_at, is_reader}
+use Rattle.block_machine.specs.Steps.{Step, Accept, Touch, Answer, Release, Store, May, next, stays, unlend, is_lent_to, put_bytes, memory_after}
+use Rattle.block_machine.specs.Left.{after, IsLegal, IsStart, AllTold}
 use Rattle.block_machine.specs.Durable.{IsVolatile, EveryPlugFinds}
-use Rattle.block_machine.specs.Events.{Ports, Moment, Ask, Submit, StoreAt, LoadAt, Service, Tick, Reset, State, Device, Event, Evidence, AllMay, IsDevices, IsServers, Belong, IsLawful, AllLawful, Happens, moment_of, moment_after, IsRun, steps_of, AnswerHolds, AnswersHold, EveryReadHolds}
+use Rattle.block_machine.specs.Events.{Ports, Moment, Ask, Submit, StoreAt, LoadAt, Service, Tick, Reset, State, Device, Event, Evidence, AllMay, IsDevices, IsServers, Belong, AllLawful, moment_of, IsRun, steps_of, AnswerHolds, AnswersHold, EveryReadHolds}
 use Rattle.block_machine.proofs.Order.{In}
 use Rattle.block_machine.proofs.Sound.{Sound}
-use Rattle.block_machine.proofs.Keeps.{same_frame}
 use Rattle.block_machine.proofs.Trace.{runs_lives}
 use Rattle.block_machine.proofs.Reading.{put_other}
 use Rattle.block_machine.proofs.Runs.{traced, read_holds_left}
@@ -182,8 +179,8 @@ answer_holds start memory past (Answer e Ok) s l told w stays = λ op.
     let holds = read_holds_left start past e s l.0 told l.1 w.0 op in
     let room = sound.room e (inl l.1) (ap is_reader op) in
     let gone : (i : ℕ) → i < length e.request.asked.frames.items → unlend e.request.id m.lent (frame_at e.request.asked.frames.items i) ≡ None = λ i lt.
-        cond-true (is_lent_to e.request.id (m.lent (frame_at e.request.asked.frames.items i))) None (m.lent (frame_at e.request.asked.frames.items i))
-        (ap (is_lent_to e.request.id) (sound.lent e (inl l.1) i lt) ∙ eq-eqb e.request.id.0 e.request.id.0 refl) in
+    cond-true (is_lent_to e.request.id (m.lent (frame_at e.request.asked.frames.items i))) None (m.lent (frame_at e.request.asked.frames.items i))
+    (ap (is_lent_to e.request.id) (sound.lent e (inl l.1) i lt) ∙ eq-eqb e.request.id.0 e.request.id.0 refl) in
     record {
       sectors = λ i lt. let q = holds.sectors i lt in
           (q.0, q.1, λ b lb. stays (frame_at e.request.asked.frames.items (i / 8)) (gone (i / 8) (omega (arith, room, lt))) (512 * (i % 8) + b) ∙ q.2 b lb);

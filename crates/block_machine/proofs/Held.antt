@@ -1,8 +1,7 @@
 -- The frames of a request that lives hold what they held at its acceptance, but for the sectors that a read asked.
-use Rattle.std.proofs.Common.{◌≡◌, ◌⊎◌, ℕ, ◌*◌, ◌<◌, ◌≤◌, true, List, [], ◌∷◌, length, ⊎_elim, sym, ap, ◌∙◌, subst, arith}
-use Rattle.block_machine.specs.State.{Block, Accepted, Pending, Machine, block_of, is_reader}
-use Rattle.block_machine.specs.Steps.{Step, Accept, Issue, Touch, End, Age, Again, Answer, Release, Unplug, Replace, Store, Load, May, IsNew, IsLiving, next}
-use Rattle.block_machine.specs.Left.{IsAccept}
+use Rattle.std.proofs.Common.{◌≡◌, ℕ, ⊎_elim, sym, ap, ◌∙◌, subst, arith}
+use Rattle.block_machine.specs.State.{Block, Accepted, Pending, Machine, is_reader}
+use Rattle.block_machine.specs.Steps.{Step, Accept, Issue, Touch, End, Age, Again, Answer, Release, Unplug, Replace, Store, Load, May, IsLiving, next}
 use Rattle.block_machine.specs.Confined.{IsHeld}
 use Rattle.block_machine.proofs.Sound.{Sound}
 use Rattle.block_machine.proofs.Trace.{Before, Comes, lives_before, lives_one, runs_lives}

@@ -4,13 +4,13 @@ use Rattle.std.proofs.lemmas.Bool.{eqb-false, cases_eq, cases_lt, or_cases, or_l
 use Rattle.std.specs.List.{Contains}
 use Rattle.ata_types.specs.declared.Port.{Port}
 use Rattle.ata_types.specs.declared.request.RequestId.{RequestId}
-use Rattle.ata_types.specs.declared.request.Op.TheVariants.{Write, Flush}
-use Rattle.ata_types.specs.declared.request.Outcome.TheVariants.{Ok, DeviceError, Aborted, Unplugged, PortDead}
+use Rattle.ata_types.specs.declared.request.Op.TheVariants.{Flush}
+use Rattle.ata_types.specs.declared.request.Outcome.TheVariants.{Ok, DeviceError}
 use Rattle.block_machine.specs.State.{Block, Disk, Accepted, Pending, Machine, sector_of, written_by}
 use Rattle.block_machine.specs.Due.{is_flush, is_writer}
-use Rattle.block_machine.specs.Steps.{Step, Accept, Issue, Touch, End, Age, Again, Answer, Release, Unplug, Replace, Store, Load, May, AllTouched, IsLiving, MayMove, next, at, issue, touch, mark_ended, requeued, older, newly_accepted, put_sector}
+use Rattle.block_machine.specs.Steps.{Step, Accept, Issue, Touch, End, Age, Again, Answer, Release, Unplug, Replace, Store, Load, May, AllTouched, MayMove, next, at, issue, touch, mark_ended, requeued, older, newly_accepted, put_sector}
 use Rattle.block_machine.specs.Left.{after, IsLegal, IsStart, IsAccept, IsTouch, HasTouched, plug_count}
-use Rattle.block_machine.specs.Durable.{SameBytes, starts_lasting, HeldSince, ComesBack, IsVolatile, IsOk, takes_out, brings_other, WriteAccepted, WriteAnswered, FlushAccepted, FlushAnswered, IsFlushed, IsSince, HasWrite, FindsFlushed, EveryPlugFinds}
+use Rattle.block_machine.specs.Durable.{SameBytes, starts_lasting, HeldSince, ComesBack, IsVolatile, IsOk, takes_out, brings_other, WriteAccepted, WriteAnswered, FlushAccepted, FlushAnswered, IsSince, FindsFlushed, EveryPlugFinds}
 use Rattle.block_machine.proofs.Members.{map_in, at_cases, without_in, append_in}
 use Rattle.block_machine.proofs.Sound.{Sound}
 use Rattle.block_machine.proofs.Keeps.{older_keeps, older_touched, same_port}

@@ -1,28 +1,26 @@
 -- What holds of the book and its requests after every history: their order, their number, their issues, their owners.
-use Rattle.std.proofs.Common.{◌≡◌, ◌⊎◌, ℕ, ◌+◌, ◌-◌, ◌<◌, ◌≤◌, Bool, true, false, cond, not, ◌&&◌, ◌==◌, List, [], ◌∷◌, ◌++◌, length, map, suc, Option, Some, None, inl, inr, ⊎_elim, refl, sym, ap, ◌∙◌, subst, arith, eqb-true, le_refl}
-use Rattle.std.proofs.lemmas.Bool.{cases_eq, cases_Bool, and_parts, and_from, and_left, cond-true, cond-false, false≢true, not-true, both_ways, false_from_ne_true, or_left}
-use Rattle.std.specs.List.{Contains, count_by, filter, list_any}
+use Rattle.std.proofs.Common.{◌≡◌, ℕ, ◌<◌, ◌≤◌, Bool, true, false, cond, not, ◌&&◌, ◌==◌, List, [], ◌∷◌, ◌++◌, length, map, suc, Option, Some, None, inl, inr, ⊎_elim, refl, sym, ap, ◌∙◌, subst, arith, eqb-true, le_refl}
+use Rattle.std.proofs.lemmas.Bool.{cases_eq, cases_Bool, and_parts, and_from, cond-true, false≢true, not-true, both_ways, false_from_ne_true, or_left}
+use Rattle.std.specs.List.{Contains}
 use Rattle.ata_types.specs.declared.Port.{Port}
 use Rattle.ata_types.specs.declared.request.ClientId.{ClientId}
 use Rattle.ata_types.specs.declared.request.Frame.{Frame}
 use Rattle.ata_types.specs.declared.request.RequestId.{RequestId}
-use Rattle.ata_types.specs.declared.request.Outcome.{Outcome}
 use Rattle.ata_types.specs.declared.refusal.FrameFault.TheVariants.{FrameForeign}
 use Rattle.ata_types.specs.declared.refusal.Rule.TheVariants.{Frames}
 use Rattle.block_machine.specs.declared.due.Mode.{Mode}
 use Rattle.block_machine.specs.declared.due.Unanswered.{Unanswered}
-use Rattle.block_machine.specs.Due.{IsDue, IsInOrder, is_plain, holds_back, is_clear, issued_count, free_slots}
+use Rattle.block_machine.specs.Due.{IsDue, IsInOrder, is_plain, issued_count}
 use Rattle.block_machine.specs.State.{Accepted, Pending, Machine, frame_at, unanswered}
-use Rattle.block_machine.specs.Steps.{Step, Accept, Issue, Touch, End, Age, Again, Answer, Release, Unplug, Replace, Store, Load, May, IsNew, IsLiving, next, at, without, issue, touch, mark_ended, requeued, older, newly_accepted, stays, unanswered_of}
+use Rattle.block_machine.specs.Steps.{Step, Accept, Issue, Touch, End, Age, Again, Answer, Release, Unplug, Replace, Store, Load, May, IsLiving, next, at, without, issue, touch, mark_ended, requeued, older, newly_accepted, stays, unanswered_of}
 use Rattle.block_machine.specs.Left.{after, IsLegal, IsStart}
 use Rattle.block_machine.specs.Confined.{WasAccepted, WithinLimits}
 use Rattle.block_machine.proofs.Members.{contains_none, contains_here, contains_there, contains_cases, map_in, into_map, at_cases, without_in, append_in}
 use Rattle.block_machine.proofs.Sound.{Sound, KeepsRequest}
-use Rattle.block_machine.proofs.Keeps.{at_keeps, older_keeps, older_issued, get_frame, same_port}
-use Rattle.block_machine.proofs.Trace.{Comes}
+use Rattle.block_machine.proofs.Keeps.{at_keeps, older_keeps, older_issued, get_frame}
 use Rattle.block_machine.proofs.Runs.{traced, nobody}
 use Rattle.block_machine.proofs.Accepts.{living_accepted}
-use Rattle.block_machine.proofs.Order.{In, Ordered, in_from, from_in, ordered_from, from_ordered}
+use Rattle.block_machine.proofs.Order.{Ordered, in_from, from_in, from_ordered}
 use Rattle.block_machine.proofs.Counting.{count_cons, count_append, count_map, count_none, unheld}
 
 -- The book stays in order of acceptance.

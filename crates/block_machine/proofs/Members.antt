@@ -1,6 +1,6 @@
 -- Members of lists, after a change.
 use Rattle.std.proofs.Common.{◌≡◌, ◌≢◌, ◌⊎◌, ℕ, ◌<◌, Bool, true, false, cond, not, ◌==◌, List, [], ◌∷◌, ◌++◌, length, get_or, map, suc, zero, inl, inr, ⊎_elim, refl, sym, ap, ◌∙◌, arith, eqb-true}
-use Rattle.std.specs.List.{Contains, filter, list_any}
+use Rattle.std.specs.List.{Contains, list_any}
 use Rattle.std.proofs.lemmas.Bool.{eqb-false, or_parts, or_left, or_right, cond-true, cond-false}
 use Rattle.std.proofs.lemmas.List.Elements.{Contains-append_cases}
 use Rattle.ata_types.specs.declared.request.RequestId.{RequestId}

@@ -1,6 +1,6 @@
 -- Members and order of a book, by recursion on the list.
 use Rattle.std.proofs.Common.{◌≡◌, ◌⊎◌, ℕ, ◌<◌, List, [], ◌∷◌, length, get_or, zero, suc, inl, inr, ⊎_elim, refl, sym, ap, subst, arith, ◌∙◌}
-use Rattle.std.specs.List.{Contains, AllPairs}
+use Rattle.std.specs.List.{Contains}
 use Rattle.block_machine.specs.declared.due.Unanswered.{Unanswered}
 use Rattle.block_machine.specs.Due.{IsInOrder}
 use Rattle.block_machine.proofs.Members.{contains_none, contains_here, contains_there, contains_cases}

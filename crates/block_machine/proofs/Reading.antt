@@ -1,8 +1,7 @@
 -- What each read under way has at its places.
-use Rattle.std.proofs.Common.{◌≡◌, ◌≢◌, ◌⊎◌, ℕ, ◌+◌, ◌-◌, ◌*◌, ◌/◌, ◌%◌, ◌<◌, ◌≤◌, Bool, true, false, ◌&&◌, ◌==◌, ltb, leb, List, ◌∷◌, length, map, slice_index, Option, Some, None, IsSome, is_some, inl, inr, ⊎_elim, refl, sym, ap, ◌∙◌, subst, arith, eqb-true, eq-eqb, ne_eqb, lt-ltb, le-leb, le_refl, ltb-true, leb-true}
+use Rattle.std.proofs.Common.{◌≡◌, ◌⊎◌, ℕ, ◌+◌, ◌-◌, ◌*◌, ◌/◌, ◌%◌, ◌<◌, ◌≤◌, Bool, true, false, ◌&&◌, ◌==◌, ltb, leb, List, ◌∷◌, length, map, slice_index, Option, Some, None, IsSome, inl, ⊎_elim, refl, sym, ap, ◌∙◌, subst, arith, eqb-true, eq-eqb, ne_eqb, lt-ltb, le-leb, le_refl, ltb-true, leb-true}
 use Rattle.std.proofs.lemmas.Bool.{cases_eq, cases_order, or_cases, or_left, or_right, and_parts, and_from, and_left, and_right, cond-true, cond-false, false≢true, false_from_ne_true}
 use Rattle.std.specs.List.{Contains}
-use Rattle.ata_types.specs.declared.Port.{Port}
 use Rattle.ata_types.specs.declared.request.ClientId.{ClientId}
 use Rattle.ata_types.specs.declared.request.Frame.{Frame}
 use Rattle.ata_types.specs.declared.request.RequestId.{RequestId}
@@ -10,8 +9,8 @@ use Rattle.ata_types.specs.declared.request.Op.{Op}
 use Rattle.ata_types.specs.declared.request.Op.TheVariants.{Read, Write, Trim, Flush}
 use Rattle.ata_types.specs.declared.refusal.MemFault.TheVariants as fault
 use Rattle.block_machine.specs.Refusals.{IsOpen}
-use Rattle.block_machine.specs.Due.{is_writer, conflict}
-use Rattle.block_machine.specs.State.{Block, Disk, Memory, Accepted, Pending, Machine, block_of, frame_at, sector_of, waiting, is_reader}
+use Rattle.block_machine.specs.Due.{is_writer}
+use Rattle.block_machine.specs.State.{Block, Memory, Accepted, Pending, Machine, block_of, frame_at, sector_of, is_reader}
 use Rattle.block_machine.specs.Steps.{Step, Accept, Issue, Touch, End, Age, Again, Answer, Release, Unplug, Replace, Store, Load, May, next, at, IsLiving, MayMove, issue, touch, mark_ended, requeued, older, newly_accepted, put_bytes, memory_after}
 use Rattle.block_machine.specs.Left.{plug_count, IsTouch, touches, disk_read, Wrote, IsLast, IsLeft, IsTold}
 use Rattle.block_machine.proofs.Members.{map_in, at_cases, without_in, append_in}

@@ -1,11 +1,10 @@
 -- What a request that moves data may reach.
-use Rattle.std.specs.Prelude.{◌≡◌, ◌≢◌, ◌⊎◌, ℕ, ◌*◌, ◌/◌, ◌<◌, ◌≤◌, true, false, Some, length, List, [], ◌∷◌}
+use Rattle.std.specs.Prelude.{◌≡◌, ◌≢◌, ◌⊎◌, ℕ, ◌*◌, ◌/◌, ◌<◌, ◌≤◌, true, Some, length, List, [], ◌∷◌}
 use Rattle.ata_types.specs.declared.request.ClientId.{ClientId}
 use Rattle.ata_types.specs.declared.request.Op.{Op}
 use Rattle.ata_types.specs.declared.request.Op.TheVariants.{Read, Write, Trim, Flush}
 use Rattle.ata_types.specs.declared.grant.GrantRow.{GrantRow}
 use Rattle.ata_types.specs.Grant.{Allows, Covers}
-use Rattle.std.specs.Prelude.{Contains}
 use Rattle.block_machine.specs.Rules.{IsNamed}
 use Rattle.block_machine.specs.State.{Accepted, Pending, Machine, block_of, frame_at, is_reader}
 use Rattle.block_machine.specs.Steps.{Step, IsNew, IsLiving, unanswered_of}

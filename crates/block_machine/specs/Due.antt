@@ -1,6 +1,6 @@
 -- Which unanswered requests are due to be issued: a condition on each request of the book (this project's own).
 -- A port serves reads and writes queued (native command queuing, up to `usable` at a time) or plain, one at a time.
-use Rattle.std.specs.Prelude.{◌≡◌, ◌≢◌, ℕ, ◌-◌, ◌<◌, Bool, true, false, not, ◌&&◌, ◌||◌, ◌==◌, nat_lt, if◌then◌else◌, List, map, count_by, Contains, AllPairs}
+use Rattle.std.specs.Prelude.{◌≡◌, ℕ, ◌-◌, ◌<◌, Bool, true, false, not, ◌&&◌, ◌||◌, ◌==◌, nat_lt, if◌then◌else◌, List, map, count_by, Contains, AllPairs}
 use Rattle.std.specs.List.{list_any}
 use Rattle.ata_types.specs.declared.Port.{Port}
 use Rattle.ata_types.specs.declared.range.Range.{Range}

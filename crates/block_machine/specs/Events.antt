@@ -1,6 +1,6 @@
 -- Calls of the server as events, and runs of them (this project's own).
 -- An event ties what was asked, what was said, what the ports showed, and the machine's steps.
-use Rattle.std.specs.Prelude.{◌≡◌, ◌⊎◌, ℕ, ◌<◌, Bool, true, false, IsTrue, ◌==◌, List, [], ◌∷◌, ◌++◌, length, map, count_by, Contains, AllPairs, IsPermutation, Option, Some, None, Result, Ok, Err}
+use Rattle.std.specs.Prelude.{◌≡◌, ◌⊎◌, ℕ, ◌<◌, Bool, true, false, IsTrue, List, [], ◌∷◌, ◌++◌, length, map, count_by, Contains, AllPairs, IsPermutation, Option, Some, None, Result, Ok, Err}
 use Rattle.ata_types.specs.declared.Port.{Port}
 use Rattle.ata_types.specs.declared.PortState.{PortState}
 use Rattle.ata_types.specs.declared.PortState.TheVariants.{Ready}
