@@ -14,3 +14,6 @@ mod Accepts
 mod Lasting
 mod Limits
 mod EventLemmas
+mod Setting
+mod WorkedRun
+mod KeptMatters

@@ -7,3 +7,4 @@ pub mod Left
 pub mod Confined
 pub mod Durable
 pub mod Events
+pub mod Worked

@@ -22,6 +22,7 @@ ghost use Rattle.block_machine.specs.Left.{IsStart, IsLegal, AllTold, IsLeft, Ho
 ghost use Rattle.block_machine.specs.Confined.{IsGranted, IsConfined, IsHeld, WasAccepted, WithinLimits};
 ghost use Rattle.block_machine.specs.Durable.{IsVolatile, EveryPlugFinds};
 ghost use Rattle.block_machine.specs.Events.{Moment, Event, IsRun, EveryReadHolds, steps_of};
+ghost use Rattle.block_machine.specs.Worked.{FindsTheFlushed, GoesWrong};
 
 /// One rule is the first that a request breaks.
 pub fn first_broken_rule_is_one()
@@ -140,4 +141,19 @@ pub fn due_finds_slot()
     ensures { (mode : Mode) (book : List Unanswered) (r : Unanswered) → IsDue mode book r
         → (is_plain mode r.op ≡ true → issued_count book r.port ≡ 0)
         × (is_plain mode r.op ≡ false → issued_count book r.port < mode.usable) }
+{}
+
+/// A machine to begin with exists.
+pub fn a_start_exists()
+    ensures { (m : Machine) × IsStart m }
+{}
+
+/// A run exists in which the laws on reads and on flushed writes have something to say.
+pub fn a_worked_run_exists()
+    ensures { FindsTheFlushed }
+{}
+
+/// Without the rule on kept requests a read may go wrong.
+pub fn kept_requests_matter()
+    ensures { GoesWrong }
 {}
