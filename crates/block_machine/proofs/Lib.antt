@@ -1,19 +1,22 @@
-mod RuleLemmas
-mod Members
-mod Sound
-mod Keeps
-mod Trace
-mod Content
-mod Reading
-mod Held
-mod Runs
-mod Order
-mod Counting
-mod Dues
-mod Accepts
-mod Lasting
-mod Limits
-mod EventLemmas
-mod Setting
-mod WorkedRun
-mod KeptMatters
+pub mod RuleLemmas
+pub mod Members
+pub mod Sound
+pub mod Keeps
+pub mod Trace
+pub mod Content
+pub mod Reading
+pub mod Held
+pub mod Runs
+pub mod Order
+pub mod Counting
+pub mod Dues
+pub mod Accepts
+pub mod Lasting
+pub mod Limits
+pub mod EventLemmas
+pub mod Setting
+pub mod WorkedRun
+pub mod KeptMatters
+pub mod HistoryLemmas
+pub mod Standing
+pub mod PlainDue

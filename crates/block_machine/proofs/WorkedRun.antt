@@ -314,7 +314,7 @@ happens3 = record {
   may = (((tt, (inl (contains_here (issue (newly_accepted write)) [] (issue (newly_accepted write)) refl, refl), omega arith, refl, omega arith, λ _ b lt. refl)), (inl (contains_here (touch 0 (issue (newly_accepted write))) [] (touch 0 (issue (newly_accepted write))) refl, refl), one_touched, refl)), contains_here (done write) [] (done write) refl);
   belong = (((tt, inl tt), inl tt), inr tt);
   lawful = (tt, (record { pending = issue (newly_accepted write); here = contains_here (issue (newly_accepted write)) [] (issue (newly_accepted write)) refl; id_is = refl; issued = refl }, refl, one_touched, refl));
-  answered = (one_told (done write) refl event3.steps refl (reply write.id.0) refl, λ p _. none_there p);
+  answered = (one_told (done write) refl event3.steps refl (reply write.id.0) refl, λ p _. none_there p, λ p ne. absurd (ne refl));
 }
 
 happens4 : Happens (moment_of first run3) event4
@@ -330,7 +330,7 @@ happens5 = record {
   may = ((tt, (inl (contains_here (issue (newly_accepted flush)) [] (issue (newly_accepted flush)) refl, refl), (λ k lt. absurd (omega (arith, lt))), refl)), contains_here (mark_ended (issue (newly_accepted flush))) [] (mark_ended (issue (newly_accepted flush))) refl);
   belong = ((tt, inl tt), inr tt);
   lawful = (tt, (record { pending = issue (newly_accepted flush); here = contains_here (issue (newly_accepted flush)) [] (issue (newly_accepted flush)) refl; id_is = refl; issued = refl }, refl, (λ k lt. absurd (omega (arith, lt))), refl));
-  answered = (one_told (mark_ended (issue (newly_accepted flush))) refl event5.steps refl (reply 2) refl, λ p _. none_there p);
+  answered = (one_told (mark_ended (issue (newly_accepted flush))) refl event5.steps refl (reply 2) refl, λ p _. none_there p, λ p ne. absurd (ne refl));
 }
 
 happens6 : Happens (moment_of first run5) event6
@@ -354,7 +354,7 @@ happens8 = record {
   may = (((tt, (inl (contains_here (issue (newly_accepted later)) [] (issue (newly_accepted later)) refl, refl), omega arith, refl, omega arith, λ _ b lt. refl)), (inl (contains_here (touch 0 (issue (newly_accepted later))) [] (touch 0 (issue (newly_accepted later))) refl, refl), one_touched, refl)), contains_here (done later) [] (done later) refl);
   belong = (((tt, inl tt), inl tt), inr tt);
   lawful = (tt, (record { pending = issue (newly_accepted later); here = contains_here (issue (newly_accepted later)) [] (issue (newly_accepted later)) refl; id_is = refl; issued = refl }, refl, one_touched, refl));
-  answered = (one_told (done later) refl event8.steps refl (reply later.id.0) refl, λ p _. none_there p);
+  answered = (one_told (done later) refl event8.steps refl (reply later.id.0) refl, λ p _. none_there p, λ p ne. absurd (ne refl));
 }
 
 happens9 : Happens (moment_of first run8) event9
@@ -386,7 +386,7 @@ happens12 = record {
   may = (((tt, (inl (contains_here (issue (newly_accepted read)) [] (issue (newly_accepted read)) refl, refl), omega arith, refl, omega arith, λ e. absurd (false≢true (sym (ap is_reader e))))), (inl (contains_here (touch 0 (issue (newly_accepted read))) [] (touch 0 (issue (newly_accepted read))) refl, refl), one_touched, refl)), contains_here (done read) [] (done read) refl);
   belong = (((tt, inl tt), inl tt), inr tt);
   lawful = (tt, (record { pending = issue (newly_accepted read); here = contains_here (issue (newly_accepted read)) [] (issue (newly_accepted read)) refl; id_is = refl; issued = refl }, refl, one_touched, refl));
-  answered = (one_told (done read) refl event12.steps refl (reply read.id.0) refl, λ p _. none_there p);
+  answered = (one_told (done read) refl event12.steps refl (reply read.id.0) refl, λ p _. none_there p, λ p ne. absurd (ne refl));
 }
 
 loaded : (b : ℕ) → b < 1 → slice_index (90 ∷ []) b ≡ (moment_of first run12).machine.memory (frame 41) (0 + b)

@@ -1,6 +1,6 @@
 -- Calls of the server as events, and runs of them (this project's own).
 -- An event ties what was asked, what was said, what the ports showed, and the machine's steps.
-use Rattle.std.specs.Prelude.{◌≡◌, ◌⊎◌, ℕ, ◌<◌, Bool, true, false, IsTrue, List, [], ◌∷◌, ◌++◌, length, map, count_by, Contains, AllPairs, IsPermutation, Option, Some, None, Result, Ok, Err}
+use Rattle.std.specs.Prelude.{◌≡◌, ◌≢◌, ◌⊎◌, ℕ, ◌<◌, Bool, true, false, IsTrue, List, [], ◌∷◌, ◌++◌, length, map, count_by, Contains, AllPairs, IsPermutation, Option, Some, None, Result, Ok, Err}
 use Rattle.ata_types.specs.declared.Port.{Port}
 use Rattle.ata_types.specs.declared.PortState.{PortState}
 use Rattle.ata_types.specs.declared.PortState.TheVariants.{Ready}
@@ -202,6 +202,10 @@ situation_of m = record {
 abbrev pub AllIssued : Moment → Type 0
 AllIssued m = (port : Port) → m.ports.state port ≡ Ready → NoneDue (m.ports.mode port) (map unanswered m.machine.book) port
 
+-- where a port isn't ready, none of its requests is unanswered
+abbrev pub IsEmptied : Moment → Port → Type 0
+IsEmptied m port = m.ports.state port ≢ Ready → (e : Pending) → Contains m.machine.book e → e.request.port ≢ port
+
 -- the ports are what they were
 abbrev pub SamePorts : Ports → Ports → Type 0
 SamePorts old new = (port : Port) → (new.state port ≡ old.state port) × (new.sectors port ≡ old.sectors port)
@@ -241,9 +245,11 @@ IsAnswered (LoadAt client frame offset count) (Loaded (Ok bytes)) old steps new 
 IsAnswered (LoadAt client frame offset count) (Loaded (Err fault)) old steps new =
     IsFirstMemFault old.machine.owner old.machine.lent client frame offset count fault
     × (steps ≡ []) × SamePorts old.ports new.ports
-IsAnswered Service (Served replies) old steps new = Tells steps replies × AllIssued new
+IsAnswered Service (Served replies) old steps new = Tells steps replies × AllIssued new × ((port : Port) → IsEmptied new port)
 IsAnswered Tick (Served replies) old steps new = Tells steps replies × AgesOnce old.ports steps × AllIssued new
+    × ((port : Port) → old.ports.state port ≡ Ready → IsEmptied new port)
 IsAnswered Reset (WasReset (Some replies)) old steps new = Tells steps replies × ReleasesOnce steps × AllIssued new
+    × ((port : Port) → IsEmptied new port)
 IsAnswered Reset (WasReset None) old steps new = AllDevices steps
 IsAnswered (State port) (Shown state) old steps new = (state ≡ old.ports.state port) × (steps ≡ []) × SamePorts old.ports new.ports
 IsAnswered Device (Stepped true) old steps new = AllDevices steps × SamePorts old.ports new.ports

@@ -8,3 +8,4 @@ pub mod Confined
 pub mod Durable
 pub mod Events
 pub mod Worked
+pub mod Histories

@@ -1,7 +1,7 @@
 //! Laws about the definitions in specs/. The clause of each function is the law; the functions do nothing, and nothing
 //! calls them.
 
-ghost use Rattle.std.specs.Prelude.{◌≡◌, ◌≢◌, ◌↔◌, ◌<◌, ◌≤◌, ℕ, true, false, List, Option, Some, length, map, AllPairs, Contains};
+ghost use Rattle.std.specs.Prelude.{◌≡◌, ◌≢◌, ◌↔◌, ◌<◌, ◌≤◌, ℕ, true, false, List, Option, Some, length, map, AllPairs, Contains, IsTrue};
 ghost use Rattle.ata_types.specs.declared.Port.{Port};
 ghost use Rattle.ata_types.specs.declared.request.ClientId.{ClientId};
 ghost use Rattle.ata_types.specs.declared.request.Frame.{Frame};
@@ -11,11 +11,13 @@ ghost use Rattle.ata_types.specs.declared.request.Op.TheVariants.{Read};
 ghost use Rattle.ata_types.specs.declared.refusal.Rule.{Rule};
 ghost use Rattle.ata_types.specs.declared.refusal.Refusal.{Refusal};
 ghost use Rattle.ata_types.specs.declared.grant.GrantRow.{GrantRow};
+ghost use Rattle.ata_types.specs.declared.range.Range.{Range};
+ghost use Rattle.ata_types.specs.Range.{Overlaps};
 ghost use Rattle.block_machine.specs.declared.due.Mode.{Mode};
 ghost use Rattle.block_machine.specs.declared.due.Unanswered.{Unanswered};
 ghost use Rattle.block_machine.specs.Rules.{DifferInName, IsFirstBroken};
 ghost use Rattle.block_machine.specs.Refusals.{Situation, IsFirstRefusal};
-ghost use Rattle.block_machine.specs.Due.{IsDue, IsInOrder, is_plain, ahead, due_ahead, free_slots, issued_count, with_issued};
+ghost use Rattle.block_machine.specs.Due.{IsDue, IsInOrder, overlap, is_due, is_plain, ahead, due_ahead, free_slots, issued_count, with_issued};
 ghost use Rattle.block_machine.specs.State.{Block, Accepted, Pending, Machine, frame_at, unanswered};
 ghost use Rattle.block_machine.specs.Steps.{Step, Touch, Issue, May, IsNew, IsLiving, AllTouched};
 ghost use Rattle.block_machine.specs.Left.{IsStart, IsLegal, AllTold, IsLeft, HoldsLeft, after};
@@ -141,6 +143,17 @@ pub fn due_finds_slot()
     ensures { (mode : Mode) (book : List Unanswered) (r : Unanswered) → IsDue mode book r
         → (is_plain mode r.op ≡ true → issued_count book r.port ≡ 0)
         × (is_plain mode r.op ≡ false → issued_count book r.port < mode.usable) }
+{}
+
+/// Two ranges overlap, by the test, where a sector is in both.
+pub fn overlap_is_tested()
+    ensures { (a b : Range) → IsTrue (overlap a b) ↔ Overlaps a b }
+{}
+
+/// A request of the book is due where the test says so.
+pub fn due_is_tested()
+    ensures { (mode : Mode) (book : List Unanswered) (r : Unanswered) → Contains book r
+        → IsTrue (is_due mode book r) ↔ IsDue mode book r }
 {}
 
 /// A machine to begin with exists.

@@ -4,4 +4,4 @@
 mod due;
 pub mod laws;
 
-pub use due::{Mode, Unanswered};
+pub use due::{due_list, is_due, Mode, Unanswered};
