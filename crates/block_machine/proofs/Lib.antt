@@ -20,3 +20,4 @@ pub mod KeptMatters
 pub mod HistoryLemmas
 pub mod Standing
 pub mod PlainDue
+pub mod PlainRules

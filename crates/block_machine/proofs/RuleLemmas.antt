@@ -53,7 +53,7 @@ late (FrameForeign i) = (omega arith, omega arith)
 late (FrameTwice i) = (omega arith, omega arith)
 late (FrameLent i) = (omega arith, omega arith)
 
-same_rule : (a b : Rule) → number a ≡ number b → place a ≡ place b → a ≡ b
+pub same_rule : (a b : Rule) → number a ≡ number b → place a ≡ place b → a ≡ b
 same_rule NoGrant NoGrant n p = refl
 same_rule NoRight NoRight n p = refl
 same_rule BadCount BadCount n p = refl
@@ -64,7 +64,7 @@ same_rule (Frames f) _ n p = absurd (omega (arith, late f))
 same_rule _ (Frames g) n p = absurd (omega (arith, late g))
 same_rule _ _ n p = absurd (omega arith)
 
-early : (rule : Rule) → number rule < 9
+pub early : (rule : Rule) → number rule < 9
 early NoGrant = omega arith
 early NoRight = omega arith
 early BadCount = omega arith

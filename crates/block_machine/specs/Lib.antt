@@ -9,3 +9,4 @@ pub mod Durable
 pub mod Events
 pub mod Worked
 pub mod Histories
+pub mod Plain

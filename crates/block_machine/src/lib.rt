@@ -3,5 +3,7 @@
 
 mod due;
 pub mod laws;
+mod refuse;
 
 pub use due::{due_list, is_due, Mode, Unanswered};
+pub use refuse::{PortShown, Tables};
