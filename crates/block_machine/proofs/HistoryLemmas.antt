@@ -4,7 +4,7 @@ use Rattle.block_machine.specs.State.{Machine}
 use Rattle.block_machine.specs.Steps.{Step, May}
 use Rattle.block_machine.specs.Left.{after, AllTold}
 use Rattle.block_machine.specs.Durable.{IsVolatile, EveryPlugFinds}
-use Rattle.block_machine.specs.Events.{Moment, Event, AllMay, Happens, moment_after, moment_of, IsRun, steps_of, EveryReadHolds}
+use Rattle.block_machine.specs.Events.{Moment, AllMay, Happens, moment_after, moment_of, IsRun, steps_of, EveryReadHolds}
 use Rattle.block_machine.specs.Histories.{Instant, Happening, now, events_of, IsHistory, IsReached, AddsSteps}
 use Rattle.block_machine.proofs.EventLemmas.{after-append, legal_more, run_starts, run_legal, moment_is, every_read_holds, run_finds}
 
@@ -31,7 +31,7 @@ history_finds Begins Agrees first past h back = run_finds first.moment (events_o
 -- the machine of a history is reached
 pub history_reaches : {D : Type 0} (Begins : Instant D → Type 0) (Agrees : Instant D → Happening D → Type 0) (first : Instant D) (past : List (Happening D))
     → IsHistory Begins Agrees first past → IsReached (now first past).moment.machine
-history_reaches Begins Agrees first past h = 
+history_reaches Begins Agrees first past h =
     let run = history_is_run Begins Agrees first past h in
     record {
       first = first.moment.machine;

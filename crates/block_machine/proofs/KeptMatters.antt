@@ -1,13 +1,11 @@
 -- Without the rule on kept requests: a write is kept when its port dies, a later one of its sector is answered Ok, the kept
 -- one touches the sector after it, and a read finds the kept one's bytes.
-use Rattle.std.proofs.Common.{◌≡◌, ◌≢◌, ◌⊎◌, ℕ, ◌+◌, ◌-◌, ◌<◌, ◌≤◌, ◌^◌, Bool, true, false, ◌||◌, ◌==◌, List, [], ◌∷◌, length, slice_get, slice_index_or, ◌/◌, Option, Some, None, inl, inr, ⊎_elim, refl, sym, ap, ◌∙◌, subst, arith, eq-eqb}
+use Rattle.std.proofs.Common.{◌≡◌, ◌≢◌, ◌⊎◌, ℕ, ◌+◌, ◌-◌, ◌<◌, ◌≤◌, ◌^◌, true, false, ◌||◌, ◌==◌, List, [], ◌∷◌, slice_get, Some, None, inl, inr, refl, sym, ap, ◌∙◌, subst, arith, eq-eqb}
 use Rattle.std.proofs.lemmas.Bool.{or_left, false≢true}
 use Rattle.std.proofs.lemmas.Option.{get_or_from_slice_get}
 use Rattle.std.specs.List.{Contains}
-use Rattle.ata_types.specs.declared.Port.{Port}
 use Rattle.ata_types.specs.declared.PortState.TheVariants.{Ready}
 use Rattle.ata_types.specs.declared.request.Frame.{Frame}
-use Rattle.ata_types.specs.declared.request.RequestId.{RequestId}
 use Rattle.ata_types.specs.declared.request.Op.{Op}
 use Rattle.ata_types.specs.declared.request.Op.TheVariants.{Read, Write, Trim, Flush}
 use Rattle.ata_types.specs.declared.request.Outcome.TheVariants as outcome
@@ -15,14 +13,14 @@ use Rattle.ata_types.specs.declared.refusal.Refusal.TheVariants as refused
 use Rattle.ata_types.specs.declared.grant.GrantRow.{GrantRow}
 use Rattle.ata_types.specs.Grant.{Allows}
 use Rattle.block_machine.specs.declared.due.Mode.{Mode}
-use Rattle.block_machine.specs.Rules.{IsNamed, IsCount, frames_for}
+use Rattle.block_machine.specs.Rules.{IsCount, frames_for}
 use Rattle.block_machine.specs.Refusals.{Situation}
-use Rattle.block_machine.specs.Due.{IsDue, is_flush, is_writer}
+use Rattle.block_machine.specs.Due.{is_flush, is_writer}
 use Rattle.block_machine.specs.State.{Block, Memory, Accepted, Pending, Machine, block_of, is_reader, unanswered, written_by}
 use Rattle.block_machine.specs.Steps.{Step, Accept, Issue, Touch, End, Answer, newly_accepted, issue, touch, mark_ended, unanswered_of, IsNew}
 use Rattle.block_machine.specs.Left.{after, HoldsLeft, IsLeft, HasTouched, Wrote}
 use Rattle.block_machine.specs.Worked.{IsLoose, GoesWrong}
-use Rattle.block_machine.proofs.Members.{contains_none, contains_here}
+use Rattle.block_machine.proofs.Members.{contains_here}
 use Rattle.block_machine.proofs.Setting.{client, port, frame, row, request, empty, only_row, is_trim, filled_starts, IsFit, acceptable}
 
 -- each frame is filled with its number

@@ -21,3 +21,4 @@ pub mod HistoryLemmas
 pub mod Standing
 pub mod PlainDue
 pub mod PlainRules
+pub mod PlainLeft

@@ -1,5 +1,5 @@
 -- The plain program's tests as facts.
-use Rattle.std.proofs.Common.{◌≡◌, ◌⊎◌, ◌↔◌, ℕ, ◌+◌, ◌<◌, ◌≤◌, Bool, true, false, ◌&&◌, ◌||◌, List, max, refl, sym, ap, ◌∙◌, arith, lt-ltb, ltb-true, inl, inr, ⊎_elim}
+use Rattle.std.proofs.Common.{◌≡◌, ◌↔◌, Bool, true, false, ◌||◌, List, max, refl, sym, ◌∙◌, arith, lt-ltb, ltb-true, ⊎_elim}
 use Rattle.std.proofs.lemmas.Bool.{and_parts, and_from, or_cases, or_left, or_right, false≢true}
 use Rattle.std.specs.Bool.{IsTrue}
 use Rattle.std.specs.Prelude.{nat_lt}
@@ -8,7 +8,7 @@ use Rattle.ata_types.specs.declared.range.Range.{Range}
 use Rattle.ata_types.specs.Range.{range_end, Overlaps}
 use Rattle.block_machine.specs.declared.due.Mode.{Mode}
 use Rattle.block_machine.specs.declared.due.Unanswered.{Unanswered}
-use Rattle.block_machine.specs.Due.{overlap, is_plain, is_clear, ahead, free_slots, IsDue, is_due}
+use Rattle.block_machine.specs.Due.{overlap, is_plain, ahead, free_slots, IsDue, is_due}
 
 -- two tests of one fact are one
 pub same_test : {P : Type 0} (r t : Bool) → (IsTrue r ↔ P) → (IsTrue t ↔ P) → r ≡ t

@@ -1,5 +1,5 @@
 -- A run in which a write is flushed, a later one is lost, and a read finds the flushed byte.
-use Rattle.std.proofs.Common.{◌≡◌, ◌≢◌, ◌⊎◌, ℕ, ◌+◌, ◌<◌, ◌≤◌, Bool, true, false, List, [], ◌∷◌, ◌++◌, length, map, slice_get, slice_index, Option, Some, is_some, ◌||◌, ◌==◌, eq-eqb, None, Result, Ok, Err, inl, inr, ⊎_elim, refl, sym, ap, ◌∙◌, subst, arith}
+use Rattle.std.proofs.Common.{◌≡◌, ◌≢◌, ℕ, ◌+◌, ◌<◌, ◌≤◌, true, false, List, [], ◌∷◌, ◌++◌, slice_get, slice_index, Some, is_some, ◌||◌, ◌==◌, eq-eqb, None, Ok, inl, inr, ⊎_elim, refl, sym, ap, ◌∙◌, subst, arith}
 use Rattle.std.proofs.lemmas.Bool.{false≢true, or_left}
 use Rattle.std.specs.List.{Contains}
 use Rattle.std.specs.List.Sorted.{IsPermutation}
@@ -9,31 +9,27 @@ use Rattle.ata_types.specs.declared.Port.{Port}
 use Rattle.ata_types.specs.declared.PortState.TheVariants.{Ready}
 use Rattle.ata_types.specs.declared.request.Frame.{Frame}
 use Rattle.ata_types.specs.declared.request.RequestId.{RequestId}
-use Rattle.ata_types.specs.declared.request.Request.{Request}
 use Rattle.ata_types.specs.declared.request.Reply.{Reply}
 use Rattle.ata_types.specs.declared.request.Op.{Op}
 use Rattle.ata_types.specs.declared.request.Op.TheVariants.{Read, Write, Trim, Flush}
-use Rattle.ata_types.specs.declared.request.Outcome.{Outcome}
 use Rattle.ata_types.specs.declared.request.Outcome.TheVariants as outcome
-use Rattle.ata_types.specs.declared.refusal.Rule.{Rule}
 use Rattle.ata_types.specs.declared.refusal.Refusal.TheVariants as refused
 use Rattle.ata_types.specs.declared.refusal.MemFault.TheVariants as fault
 use Rattle.ata_types.specs.declared.grant.GrantRow.{GrantRow}
 use Rattle.block_machine.specs.declared.due.Mode.{Mode}
 use Rattle.block_machine.specs.declared.due.Unanswered.{Unanswered}
 use Rattle.ata_types.specs.Grant.{Allows}
-use Rattle.block_machine.specs.Rules.{IsNamed, BreaksNone, IsCount, frames_for}
-use Rattle.block_machine.specs.Refusals.{Situation, IsAcceptable, IsOpen}
-use Rattle.block_machine.specs.Due.{IsDue, NoneDue, is_flush}
+use Rattle.block_machine.specs.Rules.{IsCount, frames_for}
+use Rattle.block_machine.specs.Refusals.{IsOpen}
+use Rattle.block_machine.specs.Due.{NoneDue, is_flush}
 use Rattle.block_machine.specs.State.{Disk, Accepted, Pending, Machine, block_of, is_reader, unanswered}
-use Rattle.block_machine.specs.Steps.{Step, Accept, Issue, Touch, End, Answer, Unplug, Replace, Store, Load, newly_accepted, issue, touch, mark_ended, AllTouched, IsNew}
-use Rattle.block_machine.specs.Left.{after}
-use Rattle.block_machine.specs.Events.{Ports, Moment, Submit, StoreAt, LoadAt, Service, Device, Ask, Said, Submitted, Stored, Loaded, Served, Stepped, Event, Evidence, Tells, AllIssued, Happens, WasIssued, moment_of, situation_of, steps_of, answers_of, reply_of}
+use Rattle.block_machine.specs.Steps.{Step, Accept, Issue, Touch, End, Answer, Unplug, Replace, Store, Load, newly_accepted, issue, touch, mark_ended, IsNew}
+use Rattle.block_machine.specs.Events.{Ports, Moment, Submit, StoreAt, LoadAt, Service, Device, Ask, Said, Submitted, Stored, Loaded, Served, Stepped, Event, Tells, Happens, moment_of, situation_of, steps_of, answers_of, reply_of}
 use Rattle.block_machine.specs.Durable.{ComesBack}
 use Rattle.block_machine.specs.Worked.{FindsTheFlushed}
 use Rattle.block_machine.proofs.Members.{contains_none, contains_here, contains_there, contains_cases}
 use Rattle.block_machine.proofs.Dues.{issued_not_due}
-use Rattle.block_machine.proofs.Setting.{client, port, frame, row, request, owner, empty, empty_starts, only_row, is_trim, IsFit, acceptable}
+use Rattle.block_machine.proofs.Setting.{client, port, frame, row, request, empty, empty_starts, only_row, is_trim, IsFit, acceptable}
 
 abbrev mode : Mode
 mode = record { queued = true; usable = 32 }
@@ -213,8 +209,10 @@ fit_sector m op n q no_trim no_flush frames count allowed own free = record {
 
 fit_write : (m : Moment) → IsQuiet m → IsFit (situation_of m) (request Write 100 1 (frame 40 ∷ []))
 fit_write m q = fit_sector m Write 40 q (λ e. false≢true (ap is_trim e)) (λ e. false≢true (ap is_flush e)) refl (omega arith, omega arith) refl q.owned q.free
+
 fit_read : (m : Moment) → IsQuiet m → IsFit (situation_of m) (request Read 100 1 (frame 41 ∷ []))
 fit_read m q = fit_sector m Read 41 q (λ e. false≢true (ap is_trim e)) (λ e. false≢true (ap is_flush e)) refl (omega arith, omega arith) refl q.owned_too q.free_too
+
 fit_flush : (m : Moment) → IsQuiet m → IsFit (situation_of m) (request Flush 0 0 [])
 fit_flush m q = record {
   rows = q.rows;

@@ -10,3 +10,4 @@ pub mod Events
 pub mod Worked
 pub mod Histories
 pub mod Plain
+pub mod PlainLeft

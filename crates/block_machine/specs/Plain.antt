@@ -1,16 +1,13 @@
 -- What the plain programs of this crate are about: small tables and histories, as the machine's own.
-use Rattle.std.specs.Prelude.{◌≡◌, ◌≢◌, ℕ, ◌+◌, ◌<◌, ◌==◌, Bool, false, List, count_by, Option, Some, None, IsTrue, IfSome, IfNone, slice_index_or}
+use Rattle.std.specs.Prelude.{◌≡◌, ℕ, ◌+◌, ◌<◌, ◌==◌, false, List, count_by, Option, None, IsTrue, IfSome, IfNone, slice_index_or}
 use Rattle.ata_types.specs.declared.Port.{Port}
-use Rattle.ata_types.specs.declared.PortState.{PortState}
 use Rattle.ata_types.specs.declared.PortState.TheVariants.{Absent}
-use Rattle.ata_types.specs.declared.request.ClientId.{ClientId}
 use Rattle.ata_types.specs.declared.request.Frame.{Frame}
-use Rattle.ata_types.specs.declared.request.RequestId.{RequestId}
 use Rattle.ata_types.specs.declared.request.Request.{Request}
 use Rattle.ata_types.specs.declared.grant.GrantRow.{GrantRow}
 use Rattle.ata_types.specs.declared.refusal.Refusal.{Refusal}
 use Rattle.ata_types.specs.declared.refusal.Refusal.TheVariants as refused
-use Rattle.ata_types.specs.declared.refusal.Rule.TheVariants.{NoGrant, NoRight, OutsideGrant}
+use Rattle.ata_types.specs.declared.refusal.Rule.TheVariants.{NoRight, OutsideGrant}
 use Rattle.ata_types.specs.Grant.{Allows, Covers}
 use Rattle.block_machine.specs.declared.refuse.PortShown.{PortShown}
 use Rattle.block_machine.specs.declared.refuse.Tables.{Tables}

@@ -6,7 +6,6 @@ use Rattle.ata_types.specs.declared.request.Op.TheVariants.{Read}
 use Rattle.ata_types.specs.declared.request.Outcome.TheVariants.{Ok}
 use Rattle.block_machine.specs.State.{Disk, Accepted, Pending, Machine, sector_of, unanswered}
 use Rattle.block_machine.specs.Due.{IsDue}
-
 use Rattle.block_machine.specs.Steps.{Step, Issue, Answer, Replace, May, AllTouched}
 use Rattle.block_machine.specs.Left.{after, IsStart, AllTold, HoldsLeft}
 use Rattle.block_machine.specs.Durable.{IsVolatile, IsFlushed}

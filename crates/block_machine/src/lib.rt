@@ -2,8 +2,10 @@
 #![tactic(auto)]
 
 mod due;
+mod history;
 pub mod laws;
 mod refuse;
 
-pub use due::{due_list, is_due, Mode, Unanswered};
+pub use due::{Mode, Unanswered, due_list, is_due};
+pub use history::{Filled, Happened, left};
 pub use refuse::{PortShown, Tables};

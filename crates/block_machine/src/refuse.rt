@@ -99,14 +99,22 @@ impl Tables {
     fn owner(&self, frame: Frame) -> Option<ClientId>
         ensures { result ≡ for_frame self.now.owners.items frame }
     {
-        self.owners.as_slice().get(frame.0 as usize).copied().flatten()
+        self.owners
+            .as_slice()
+            .get(frame.0 as usize)
+            .copied()
+            .flatten()
     }
 
     /// The request that the frame is lent to.
     fn lent_to(&self, frame: Frame) -> Option<RequestId>
         ensures { result ≡ for_frame self.now.lent.items frame }
     {
-        self.lent.as_slice().get(frame.0 as usize).copied().flatten()
+        self.lent
+            .as_slice()
+            .get(frame.0 as usize)
+            .copied()
+            .flatten()
     }
 
     /// What the port shows.

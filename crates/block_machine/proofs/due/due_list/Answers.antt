@@ -1,5 +1,4 @@
-use Rattle.std.proofs.Common.{ap, arith, length, take, ◌<◌}
-use Rattle.std.specs.List.{filter}
+use Rattle.std.proofs.Common.{ap, arith, length, take}
 use Rattle.std.proofs.lemmas.List.{length-take}
 use Rattle.std.proofs.lemmas.List.Sums.{length-filter, count_by-le-length}
 use Rattle.block_machine.specs.Due as due
