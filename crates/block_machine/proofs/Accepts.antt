@@ -14,7 +14,7 @@ use Rattle.ata_types.specs.Grant.{Allows}
 use Rattle.block_machine.specs.declared.due.Mode.{Mode}
 use Rattle.block_machine.specs.Rules.{IsNamed, IsCount, frames_for}
 use Rattle.block_machine.specs.State.{Block, Accepted, Pending, Machine, frame_at}
-use Rattle.block_machine.specs.Steps.{Step, Accept, Issue, Touch, May, IsNew, IsLiving, next}
+use Rattle.block_machine.specs.Steps.{Step, Accept, Issue, Touch, May, IsNew, IsLiving, after_step}
 use Rattle.block_machine.specs.Left.{after, IsLegal, IsStart, IsAccept}
 use Rattle.block_machine.specs.Confined.{IsGranted, IsConfined, WasAccepted, MovesBytes}
 use Rattle.block_machine.proofs.Members.{contains_none, contains_here, contains_there, contains_cases}
@@ -40,7 +40,7 @@ id_below : (start : Machine) (h : List Step) (r : Accepted) → WasAccepted star
 id_below start [] r w = absurd w
 id_below start (step ∷ past) r (inl c) = grown step r c
   where
-    grown : (y : Step) (r : Accepted) → Comes (after start past) y r → r.id.0 < (next (after start past) y).next
+    grown : (y : Step) (r : Accepted) → Comes (after start past) y r → r.id.0 < (after_step (after start past) y).next
     grown (Accept new) r c = let e = c.1.id in omega (arith, e)
     grown _ r c = absurd c.0
 id_below start (step ∷ past) r (inr w) = let g = next_grows (after start past) step in let b = id_below start past r w in omega (arith, g, b)

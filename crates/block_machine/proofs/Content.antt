@@ -4,7 +4,7 @@ use Rattle.std.proofs.lemmas.Bool.{cases_eq, cases_lt, or_left, and_parts, and_f
 use Rattle.ata_types.specs.declared.Port.{Port}
 use Rattle.block_machine.specs.State.{Block, Disk, Accepted, Pending, Machine, waiting, sector_of, written_by}
 use Rattle.block_machine.specs.Due.{conflict, is_writer}
-use Rattle.block_machine.specs.Steps.{Step, Accept, Issue, Touch, End, Age, Again, Answer, Release, Unplug, Replace, Store, Load, May, next, MayMove, put_sector, disks_after}
+use Rattle.block_machine.specs.Steps.{Step, Accept, Issue, Touch, End, Age, Again, Answer, Release, Unplug, Replace, Store, Load, May, after_step, MayMove, put_sector, disks_after}
 use Rattle.block_machine.specs.Left.{plug_count, bytes_when_plugged, IsTouch, HasTouched, Wrote, IsLast}
 use Rattle.block_machine.proofs.Sound.{Sound}
 use Rattle.block_machine.proofs.Keeps.{same_port}
@@ -32,15 +32,15 @@ content_quiet start h m step port k limit seen untouched number le last =
 
 content_replace : (start : Machine) (h : List Step) (m : Machine) (at : Port) (id size : ℕ) (disk : Disk) (port : Port) (k : ℕ) → AllSeen m h
     → IsLast start port k (plug_count port h) m.next h (m.disks port k)
-    → IsLast start port k (plug_count port (Replace at id size disk ∷ h)) m.next (Replace at id size disk ∷ h) ((next m (Replace at id size disk)).disks port k)
+    → IsLast start port k (plug_count port (Replace at id size disk ∷ h)) m.next (Replace at id size disk ∷ h) ((after_step m (Replace at id size disk)).disks port k)
 content_replace start h m at id size disk port k seen last = ⊎_elim same other (cases_eq at.0 port.0)
   where
-    same : at.0 ≡ port.0 → IsLast start port k (plug_count port (Replace at id size disk ∷ h)) m.next (Replace at id size disk ∷ h) ((next m (Replace at id size disk)).disks port k)
+    same : at.0 ≡ port.0 → IsLast start port k (plug_count port (Replace at id size disk ∷ h)) m.next (Replace at id size disk ∷ h) ((after_step m (Replace at id size disk)).disks port k)
     same e =
         let t : (at.0 == port.0) ≡ true = eq-eqb at.0 port.0 e in
         let t' : (port.0 == at.0) ≡ true = eq-eqb port.0 at.0 (sym e) in
         let number : plug_count port (Replace at id size disk ∷ h) ≡ suc (plug_count port h) = cond-true (at.0 == port.0) (suc (plug_count port h)) (plug_count port h) t in
-        let now : (next m (Replace at id size disk)).disks port ≡ disk = cond-true (port.0 == at.0) disk (m.disks port) t' in
+        let now : (after_step m (Replace at id size disk)).disks port ≡ disk = cond-true (port.0 == at.0) disk (m.disks port) t' in
         let put : bytes_when_plugged start port (plug_count port (Replace at id size disk ∷ h)) (Replace at id size disk ∷ h) ≡ disk =
         cond-true ((at.0 == port.0) && suc (plug_count port h) == plug_count port (Replace at id size disk ∷ h)) disk (bytes_when_plugged start port (plug_count port (Replace at id size disk ∷ h)) h)
         (and_from _ _ t (eq-eqb (suc (plug_count port h)) (plug_count port (Replace at id size disk ∷ h)) (sym number))) in
@@ -54,12 +54,12 @@ content_replace start h m at id size disk port k seen last = ⊎_elim same other
           ap (λ (d : Disk). d k) (now ∙ sym put),
         )
 
-    other : (at.0 ≡ port.0 → ⊥) → IsLast start port k (plug_count port (Replace at id size disk ∷ h)) m.next (Replace at id size disk ∷ h) ((next m (Replace at id size disk)).disks port k)
+    other : (at.0 ≡ port.0 → ⊥) → IsLast start port k (plug_count port (Replace at id size disk ∷ h)) m.next (Replace at id size disk ∷ h) ((after_step m (Replace at id size disk)).disks port k)
     other ne =
         let f : (at.0 == port.0) ≡ false = ne_eqb at.0 port.0 ne in
         let f' : (port.0 == at.0) ≡ false = ne_eqb port.0 at.0 (λ e. ne (sym e)) in
         let number : plug_count port (Replace at id size disk ∷ h) ≡ plug_count port h = cond-false (at.0 == port.0) (suc (plug_count port h)) (plug_count port h) f in
-        let now : (next m (Replace at id size disk)).disks port ≡ m.disks port = cond-false (port.0 == at.0) disk (m.disks port) f' in
+        let now : (after_step m (Replace at id size disk)).disks port ≡ m.disks port = cond-false (port.0 == at.0) disk (m.disks port) f' in
         subst (λ (d : Disk). IsLast start port k (plug_count port (Replace at id size disk ∷ h)) m.next (Replace at id size disk ∷ h) (d k)) (sym now)
         (content_quiet start h m (Replace at id size disk) port k m.next seen (λ w t. t) number (le_refl _) last)
 
@@ -122,7 +122,7 @@ content_touch start h m e i block port k s seen r lt last = by_op (is_writer e.r
         (λ x writes here touch. both_ways _ w (subst (λ (j : Accepted). is_writer j.asked.op ≡ true) (sym touch.0) writes))
 
 -- the disks hold what was last put there, after each step
-pub content_step : (start : Machine) (h : List Step) (m : Machine) (step : Step) → May m step → Sound m → AllSeen m h → Holds start h m → Holds start (step ∷ h) (next m step)
+pub content_step : (start : Machine) (h : List Step) (m : Machine) (step : Step) → May m step → Sound m → AllSeen m h → Holds start h m → Holds start (step ∷ h) (after_step m step)
 content_step start h m (Accept job) may s seen c port k = content_quiet start h m (Accept job) port k (suc m.next) seen (λ w t. t) refl (omega arith) (c port k)
 content_step start h m (Issue mode e) may s seen c port k = content_quiet start h m (Issue mode e) port k m.next seen (λ w t. t) refl (le_refl _) (c port k)
 content_step start h m (Touch e i block) may s seen c port k = content_touch start h m e i block port k s seen may.0 may.1 (c port k)

@@ -6,7 +6,7 @@ use Rattle.ata_types.specs.declared.request.Frame.{Frame}
 use Rattle.ata_types.specs.declared.request.RequestId.{RequestId}
 use Rattle.ata_types.specs.declared.request.Outcome.TheVariants.{Ok, DeviceError, Aborted, Unplugged, PortDead}
 use Rattle.block_machine.specs.State.{Block, Memory, Pending, Machine, frame_at, is_reader}
-use Rattle.block_machine.specs.Steps.{Step, Accept, Touch, Answer, Release, Store, May, next, stays, unlend, is_lent_to, put_bytes, memory_after}
+use Rattle.block_machine.specs.Steps.{Step, Accept, Touch, Answer, Release, Store, May, after_step, stays, unlend, is_lent_to, put_bytes, memory_after}
 use Rattle.block_machine.specs.Left.{after, IsLegal, IsStart, AllTold}
 use Rattle.block_machine.specs.Durable.{IsVolatile, EveryPlugFinds}
 use Rattle.block_machine.specs.Events.{Ports, Moment, Ask, Submit, StoreAt, LoadAt, Service, Tick, Reset, State, Device, Event, Evidence, AllMay, IsDevices, IsServers, Belong, AllLawful, moment_of, IsRun, steps_of, AnswerHolds, AnswersHold, EveryReadHolds}
@@ -21,7 +21,7 @@ use Rattle.block_machine.proofs.Lasting.{IsWhole, AllWhole, every_plug_finds}
 
 pub after-append : (start : Machine) (late early : List Step) → after start (late ++ early) ≡ after (after start early) late
 after-append start [] early = refl
-after-append start (step ∷ late) early = ap (λ (m : Machine). next m step) (after-append start late early)
+after-append start (step ∷ late) early = ap (λ (m : Machine). after_step m step) (after-append start late early)
 
 pub legal_more : (start : Machine) (late early : List Step) → IsLegal start early → AllMay (after start early) late → IsLegal start (late ++ early)
 legal_more start [] early l a = l
@@ -147,7 +147,7 @@ some_none o id p q = none_some (sym q ∙ p)
 unlent_none : (id : RequestId) (lent : Frame → Option RequestId) (f : Frame) → lent f ≡ None → unlend id lent f ≡ None
 unlent_none id lent f e = cond-false (is_lent_to id (lent f)) None (lent f) (ap (is_lent_to id) e) ∙ e
 
-stays_touch : (m : Machine) → Sound m → (e : Pending) (i : ℕ) (block : Block) → May m (Touch e i block) → (f : Frame) → m.lent f ≡ None → (b : ℕ) → (next m (Touch e i block)).memory f b ≡ m.memory f b
+stays_touch : (m : Machine) → Sound m → (e : Pending) (i : ℕ) (block : Block) → May m (Touch e i block) → (f : Frame) → m.lent f ≡ None → (b : ℕ) → (after_step m (Touch e i block)).memory f b ≡ m.memory f b
 stays_touch m s e i block may f none b = by (is_reader e.request.asked.op) refl
   where
     by : (t : Bool) → is_reader e.request.asked.op ≡ t → memory_after e.request i block m.memory f b ≡ m.memory f b
@@ -160,7 +160,7 @@ stays_touch m s e i block may f none b = by (is_reader e.request.asked.op) refl
         ∙ put_other (frame_at e.request.asked.frames.items (i / 8)) f (512 * (i % 8)) b 512 block m.memory
         (λ same _ _. some_none (m.lent f) e.request.id (ap m.lent (sym same) ∙ s.lent e l (i / 8) place) none)
 
-stays_step : (memory : Memory) (m : Machine) (step : Step) → May m step → Sound m → IsQuiet step → Stays memory (next m step) → Stays memory m
+stays_step : (memory : Memory) (m : Machine) (step : Step) → May m step → Sound m → IsQuiet step → Stays memory (after_step m step) → Stays memory m
 stays_step memory m (Touch e i block) may s q h = λ f none b. h f none b ∙ stays_touch m s e i block may f none b
 stays_step memory m (Answer e outcome) may s q h = λ f none b. h f
     (cond_both (stays e outcome) m.lent (unlend e.request.id m.lent) (λ lent. lent f ≡ None) (λ _. none) (λ _. unlent_none e.request.id m.lent f none)) b

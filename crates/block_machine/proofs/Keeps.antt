@@ -17,7 +17,7 @@ use Rattle.block_machine.specs.declared.due.Unanswered.{Unanswered}
 use Rattle.block_machine.specs.State.{Accepted, Pending, Machine, frame_at, is_reader, unanswered, waiting}
 use Rattle.block_machine.specs.Rules.{frames_for}
 use Rattle.block_machine.specs.Due.{IsDue, conflict, holds_back, is_plain}
-use Rattle.block_machine.specs.Steps.{Step, Accept, Issue, Touch, End, Age, Again, Answer, Release, Unplug, Replace, Store, Load, May, IsNew, NoneKept, next, at, without, IsLiving, MayMove, issue, touch, mark_ended, requeued, older, newly_accepted, lend, unlend, unlend_all, is_lent_to, stays}
+use Rattle.block_machine.specs.Steps.{Step, Accept, Issue, Touch, End, Age, Again, Answer, Release, Unplug, Replace, Store, Load, May, IsNew, NoneKept, after_step, at, without, IsLiving, MayMove, issue, touch, mark_ended, requeued, older, newly_accepted, lend, unlend, unlend_all, is_lent_to, stays}
 use Rattle.block_machine.proofs.Members.{contains_none, contains_here, contains_there, contains_cases, map_in, into_map, at_cases, without_in, append_in, none_of}
 use Rattle.block_machine.proofs.Sound.{Sound, Carries, IsChanged, KeepsRequest, IsLentAll, IsDistinct, lived, order_carried, carried}
 
@@ -68,7 +68,7 @@ same_id i j e = ap (λ n. record { 0 = n }) e
 conflict_port : (a b : Accepted) → conflict (waiting a) (waiting b) ≡ true → a.port ≡ b.port
 conflict_port a b con = same_port a.port b.port (eqb-true a.port.0 b.port.0 (and_parts _ _ con).0)
 
-issue_carries : (m : Machine) (mode : Mode) (e : Pending) → Carries (at e.request.id issue) (λ x. x) m (next m (Issue mode e))
+issue_carries : (m : Machine) (mode : Mode) (e : Pending) → Carries (at e.request.id issue) (λ x. x) m (after_step m (Issue mode e))
 issue_carries m mode e = record {
   f_keeps = at_keeps e.request.id issue (λ x. refl);
   g_keeps = λ x. refl;
@@ -78,19 +78,19 @@ issue_carries m mode e = record {
   lent = λ x. refl;
 }
 
-keeps_issue : (m : Machine) (mode : Mode) (e : Pending) → Sound m → Contains m.book e → IsDue mode (map unanswered m.book) (unanswered e) → NoneKept m e.request.port → Sound (next m (Issue mode e))
-keeps_issue m mode e s here due none = carried (at e.request.id issue) (λ x. x) m (next m (Issue mode e)) (issue_carries m mode e) order s
+keeps_issue : (m : Machine) (mode : Mode) (e : Pending) → Sound m → Contains m.book e → IsDue mode (map unanswered m.book) (unanswered e) → NoneKept m e.request.port → Sound (after_step m (Issue mode e))
+keeps_issue m mode e s here due none = carried (at e.request.id issue) (λ x. x) m (after_step m (Issue mode e)) (issue_carries m mode e) order s
   where
     earlier : (a : Pending) → IsLiving m a → a.request.id.0 < e.request.id.0 → conflict (waiting a.request) (waiting e.request) ≡ true → ⊥
     earlier a (inl h) lt con = due_order mode (map unanswered m.book) (unanswered e) (unanswered a) due (into_map unanswered m.book a h) lt con
     earlier a (inr h) lt con = none a h (conflict_port a.request e.request con)
 
-    order : (x a : Pending) → MayMove (next m (Issue mode e)) x → IsLiving (next m (Issue mode e)) a → a.request.id.0 < x.request.id.0 → conflict (waiting a.request) (waiting x.request) ≡ true → ⊥
+    order : (x a : Pending) → MayMove (after_step m (Issue mode e)) x → IsLiving (after_step m (Issue mode e)) a → a.request.id.0 < x.request.id.0 → conflict (waiting a.request) (waiting x.request) ≡ true → ⊥
     order x a (inr h) l lt con =
-        let q = lived (at e.request.id issue) (λ x. x) m (next m (Issue mode e)) (issue_carries m mode e) a l in
+        let q = lived (at e.request.id issue) (λ x. x) m (after_step m (Issue mode e)) (issue_carries m mode e) a l in
         s.order x q.0 (inr h) q.1 (subst (λ (j : Accepted). j.id.0 < x.request.id.0) q.2 lt) (subst (λ (j : Accepted). conflict (waiting j) (waiting x.request) ≡ true) q.2 con)
     order x a (inl h) l lt con =
-        let q = lived (at e.request.id issue) (λ x. x) m (next m (Issue mode e)) (issue_carries m mode e) a l in
+        let q = lived (at e.request.id issue) (λ x. x) m (after_step m (Issue mode e)) (issue_carries m mode e) a l in
         let r = map_in (at e.request.id issue) m.book x h.0 in
         let jx : x.request ≡ r.0.request = ap (λ (y : Pending). y.request) r.2 ∙ at_keeps e.request.id issue (λ y. refl) r.0 in
         let lt' : q.0.request.id.0 < r.0.request.id.0 = subst (λ (j : Accepted). q.0.request.id.0 < j.id.0) jx (subst (λ (j : Accepted). j.id.0 < x.request.id.0) q.2 lt) in
@@ -200,7 +200,7 @@ none_has id (y ∷ ys) o p ne =
     ap (λ (b : Bool). b || list_any (λ e. is_lent_to e.request.id o) ys) (ap (is_lent_to y.request.id) p ∙ ne_eqb id.0 y.request.id.0 (λ q. ne y (contains_here y ys y refl) (sym q)))
     ∙ none_has id ys o p (λ x i. ne x (contains_there y ys x i))
 
-keeps_release : (m : Machine) → Sound m → Sound (next m Release)
+keeps_release : (m : Machine) → Sound m → Sound (after_step m Release)
 keeps_release m s = record {
   below = λ x l. s.below x (lives x l);
   one = s.one;
@@ -212,15 +212,15 @@ keeps_release m s = record {
   order = λ x a r l. s.order x a (runs x r) (lives a l);
 }
   where
-    lives : (x : Pending) → IsLiving (next m Release) x → IsLiving m x
+    lives : (x : Pending) → IsLiving (after_step m Release) x → IsLiving m x
     lives x (inl i) = inl i
     lives x (inr i) = absurd (contains_none x i)
 
-    runs : (x : Pending) → MayMove (next m Release) x → MayMove m x
+    runs : (x : Pending) → MayMove (after_step m Release) x → MayMove m x
     runs x (inl i) = inl i
     runs x (inr i) = absurd (contains_none x i)
 
-    lent : (x : Pending) → IsLiving (next m Release) x → IsLentAll (unlend_all m.kept m.lent) x.request
+    lent : (x : Pending) → IsLiving (after_step m Release) x → IsLentAll (unlend_all m.kept m.lent) x.request
     lent x (inl i) k lt =
         let f = frame_at x.request.asked.frames.items k in
         let e : m.lent f ≡ Some x.request.id = s.lent x (inl i) k lt in
@@ -254,7 +254,7 @@ enough Write count n e r = absurd (false≢true r)
 enough Trim count n e r = absurd (false≢true r)
 enough Flush count n e r = absurd (false≢true r)
 
-keeps_accept : (m : Machine) (job : Accepted) → Sound m → IsNew m job → Sound (next m (Accept job))
+keeps_accept : (m : Machine) (job : Accepted) → Sound m → IsNew m job → Sound (after_step m (Accept job))
 keeps_accept m job s new = record {
   below = λ x l. ⊎_elim (λ i. below x i) (λ p. subst (λ (y : Pending). y.request.id.0 < suc m.next) (sym p) (omega (arith, new.id))) (who x l);
   one = λ a b ha hb eq. one a b (append_in m.book (newly_accepted job) a ha) (append_in m.book (newly_accepted job) b hb) eq;
@@ -266,7 +266,7 @@ keeps_accept m job s new = record {
   order = λ e a r l lt con. order e a r (who a l) lt con;
 }
   where
-    who : (x : Pending) → IsLiving (next m (Accept job)) x → IsLiving m x ⊎ (x ≡ newly_accepted job)
+    who : (x : Pending) → IsLiving (after_step m (Accept job)) x → IsLiving m x ⊎ (x ≡ newly_accepted job)
     who x (inl i) = ⊎_elim (λ j. inl (inl j)) (λ p. inr p) (append_in m.book (newly_accepted job) x i)
     who x (inr i) = inl (inr i)
 
@@ -310,7 +310,7 @@ keeps_accept m job s new = record {
     room : is_reader job.asked.op ≡ true → job.asked.count ≤ 8 * length job.asked.frames.items
     room r = ⊎_elim (λ e. enough job.asked.op job.asked.count (length job.asked.frames.items) e r) (λ ne. absurd (new.unbroken FrameCount ne)) (cases_eq (length job.asked.frames.items) (frames_for job.asked.op job.asked.count))
 
-    order : (e a : Pending) → MayMove (next m (Accept job)) e → IsLiving m a ⊎ (a ≡ newly_accepted job) → a.request.id.0 < e.request.id.0 → conflict (waiting a.request) (waiting e.request) ≡ true → ⊥
+    order : (e a : Pending) → MayMove (after_step m (Accept job)) e → IsLiving m a ⊎ (a ≡ newly_accepted job) → a.request.id.0 < e.request.id.0 → conflict (waiting a.request) (waiting e.request) ≡ true → ⊥
     order e a (inr i) (inl l) lt con = s.order e a (inr i) l lt con
     order e a (inr i) (inr p) lt con = let b = s.below e (inr i) in let n = is_new a p in omega (arith, b, n, lt)
     order e a (inl h) l lt con = inner (append_in m.book (newly_accepted job) e h.0) l
@@ -321,12 +321,12 @@ keeps_accept m job s new = record {
         inner (inr p) l = false≢true (ap (λ (y : Pending). y.issued) (sym p) ∙ h.1)
 
 -- each step that may come keeps the machine sound
-pub keeps : (m : Machine) (step : Step) → May m step → Sound m → Sound (next m step)
+pub keeps : (m : Machine) (step : Step) → May m step → Sound m → Sound (after_step m step)
 keeps m (Accept job) may s = keeps_accept m job s may
 keeps m (Issue mode e) may s = keeps_issue m mode e s may.0 may.1 may.2
-keeps m (Touch e i block) may s = keeps_at (touch i) m (next m (Touch e i block)) e.request.id (λ x. refl) (λ x h. h) refl refl refl (λ x. refl) s
-keeps m (End e) may s = keeps_at mark_ended m (next m (End e)) e.request.id (λ x. refl) (λ x h. h) refl refl refl (λ x. refl) s
-keeps m (Age ready) may s = keeps_changed (older ready) (λ x. x) m (next m (Age ready))
+keeps m (Touch e i block) may s = keeps_at (touch i) m (after_step m (Touch e i block)) e.request.id (λ x. refl) (λ x h. h) refl refl refl (λ x. refl) s
+keeps m (End e) may s = keeps_at mark_ended m (after_step m (End e)) e.request.id (λ x. refl) (λ x h. h) refl refl refl (λ x. refl) s
+keeps m (Age ready) may s = keeps_changed (older ready) (λ x. x) m (after_step m (Age ready))
     (record {
       f_keeps = older_keeps ready;
       g_keeps = λ x. refl;
@@ -335,7 +335,7 @@ keeps m (Age ready) may s = keeps_changed (older ready) (λ x. x) m (next m (Age
       next = refl;
       lent = λ x. refl;
     }) (λ x h. sym (older_issued ready x) ∙ h) s
-keeps m (Again e) may s = keeps_changed (at e.request.id requeued) (λ x. x) m (next m (Again e))
+keeps m (Again e) may s = keeps_changed (at e.request.id requeued) (λ x. x) m (after_step m (Again e))
     (record {
       f_keeps = at_keeps e.request.id requeued (λ x. refl);
       g_keeps = λ x. refl;
@@ -346,7 +346,7 @@ keeps m (Again e) may s = keeps_changed (at e.request.id requeued) (λ x. x) m (
     }) (at_quiet e.request.id requeued (λ x h. absurd (false≢true h))) s
 keeps m (Answer e outcome) may s = keeps_answer m e (stays e outcome) s may (stays_issued e outcome)
 keeps m Release may s = keeps_release m s
-keeps m (Unplug port) may s = keeps_bytes m (next m (Unplug port)) refl refl refl (λ x. refl) s
-keeps m (Replace port id size disk) may s = keeps_bytes m (next m (Replace port id size disk)) refl refl refl (λ x. refl) s
-keeps m (Store client frame offset bytes) may s = keeps_bytes m (next m (Store client frame offset bytes)) refl refl refl (λ x. refl) s
+keeps m (Unplug port) may s = keeps_bytes m (after_step m (Unplug port)) refl refl refl (λ x. refl) s
+keeps m (Replace port id size disk) may s = keeps_bytes m (after_step m (Replace port id size disk)) refl refl refl (λ x. refl) s
+keeps m (Store client frame offset bytes) may s = keeps_bytes m (after_step m (Store client frame offset bytes)) refl refl refl (λ x. refl) s
 keeps m (Load client frame offset bytes) may s = s

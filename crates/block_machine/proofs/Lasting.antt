@@ -8,7 +8,7 @@ use Rattle.ata_types.specs.declared.request.Op.TheVariants.{Flush}
 use Rattle.ata_types.specs.declared.request.Outcome.TheVariants.{Ok, DeviceError}
 use Rattle.block_machine.specs.State.{Block, Disk, Accepted, Pending, Machine, sector_of, written_by}
 use Rattle.block_machine.specs.Due.{is_flush, is_writer}
-use Rattle.block_machine.specs.Steps.{Step, Accept, Issue, Touch, End, Age, Again, Answer, Release, Unplug, Replace, Store, Load, May, AllTouched, MayMove, next, at, issue, touch, mark_ended, requeued, older, newly_accepted, put_sector}
+use Rattle.block_machine.specs.Steps.{Step, Accept, Issue, Touch, End, Age, Again, Answer, Release, Unplug, Replace, Store, Load, May, AllTouched, MayMove, after_step, at, issue, touch, mark_ended, requeued, older, newly_accepted, put_sector}
 use Rattle.block_machine.specs.Left.{after, IsLegal, IsStart, IsAccept, IsTouch, HasTouched, plug_count}
 use Rattle.block_machine.specs.Durable.{SameBytes, starts_lasting, HeldSince, ComesBack, IsVolatile, IsOk, takes_out, brings_other, WriteAccepted, WriteAnswered, FlushAccepted, FlushAnswered, IsSince, FindsFlushed, EveryPlugFinds}
 use Rattle.block_machine.proofs.Members.{map_in, at_cases, without_in, append_in}
@@ -40,7 +40,7 @@ record IsWritten (m : Machine) (step : Step) (port : Port) (k : ℕ) : Type 0 wh
   touched : IsTouch step entry.request k
   from : entry.request.asked.first.0 ≤ k
   to : k < entry.request.asked.first.0 + entry.request.asked.count
-  is : (next m step).disks port k ≡ written_by entry.request.asked.op entry.request.held (k - entry.request.asked.first.0)
+  is : (after_step m step).disks port k ≡ written_by entry.request.asked.op entry.request.held (k - entry.request.asked.first.0)
 
 record IsReplaced (m : Machine) (step : Step) (port : Port) : Type 0 where
   id : ℕ
@@ -48,10 +48,10 @@ record IsReplaced (m : Machine) (step : Step) (port : Port) : Type 0 where
   disk : Disk
   absent : m.present port ≡ false
   step_is : IsReplace step port id size disk
-  is : (next m step).disks port ≡ disk
+  is : (after_step m step).disks port ≡ disk
 
 record IsIdle (m : Machine) (step : Step) (port : Port) (k : ℕ) : Type 0 where
-  same : (next m step).disks port k ≡ m.disks port k
+  same : (after_step m step).disks port k ≡ m.disks port k
   quiet : (w : Accepted) → is_writer w.asked.op ≡ true → w.port ≡ port → IsTouch step w k → ⊥
 
 abbrev Effect : Machine → Step → Port → ℕ → Type 0
@@ -60,7 +60,7 @@ Effect m step port k = IsIdle m step port k ⊎ (IsWritten m step port k ⊎ IsR
 effect_touch : (m : Machine) (e : Pending) (i : ℕ) (block : Block) (port : Port) (k : ℕ) → MayMove m e → i < e.request.asked.count → Effect m (Touch e i block) port k
 effect_touch m e i block port k r lt = by_op (is_writer e.request.asked.op) refl
   where
-    by_place : is_writer e.request.asked.op ≡ true → (next m (Touch e i block)).disks port k ≡ put_sector e.request.port (e.request.asked.first.0 + i) (written_by e.request.asked.op e.request.held i) m.disks port k
+    by_place : is_writer e.request.asked.op ≡ true → (after_step m (Touch e i block)).disks port k ≡ put_sector e.request.port (e.request.asked.first.0 + i) (written_by e.request.asked.op e.request.held i) m.disks port k
         → (b : Bool) → ((port.0 == e.request.port.0) && (k == e.request.asked.first.0 + i)) ≡ b → Effect m (Touch e i block) port k
     by_place w now true t =
         let p = and_parts (port.0 == e.request.port.0) (k == e.request.asked.first.0 + i) t in
@@ -119,7 +119,7 @@ effect m (Store client frame offset bytes) port k may = inl (record { same = ref
 effect m (Load client frame offset bytes) port k may = inl (record { same = refl; quiet = λ w _ _ t. t })
 
 -- while no disk is taken out, one stays in
-stays_in : (m : Machine) (step : Step) (port : Port) → May m step → takes_out port step ≡ false → m.present port ≡ true → (next m step).present port ≡ true
+stays_in : (m : Machine) (step : Step) (port : Port) → May m step → takes_out port step ≡ false → m.present port ≡ true → (after_step m step).present port ≡ true
 stays_in m (Unplug p) port may out here = cond-false (port.0 == p.0) false (m.present port) (ne_eqb port.0 p.0 (λ e. both_ways _ out (eq-eqb p.0 port.0 (sym e)))) ∙ here
 stays_in m (Replace p id size disk) port may out here = cond_both (port.0 == p.0) true (m.present port) (λ b. b ≡ true) (λ _. refl) (λ _. here)
 stays_in m (Touch e i block) port may out here = here
@@ -143,7 +143,7 @@ since_same : (w : Accepted) (k : ℕ) (h : List Step) (a b : Block) → a ≡ b 
 since_same w k h a b e s = since_bytes w k h a b (λ x lt. ap (λ (c : Block). c x) e) s
 
 -- a writer's touch after w's is of w or a later request
-since_written : (m : Machine) (step : Step) (h : List Step) (w : Accepted) (k : ℕ) → Seen m w k → is_writer w.asked.op ≡ true → (t : IsWritten m step w.port k) → IsSince w k (step ∷ h) ((next m step).disks w.port k)
+since_written : (m : Machine) (step : Step) (h : List Step) (w : Accepted) (k : ℕ) → Seen m w k → is_writer w.asked.op ≡ true → (t : IsWritten m step w.port k) → IsSince w k (step ∷ h) ((after_step m step).disks w.port k)
 since_written m step h w k seen writes t = record {
   writer = t.entry.request;
   writes = t.writes;
@@ -166,7 +166,7 @@ record Stage (start : Machine) (h : List Step) (w : Accepted) (k : ℕ) : Type 0
   since : IsSince w k h ((after start h).disks w.port k)
 
 -- the disk keeps its size, unless another comes
-sizes_stay : (m : Machine) (step : Step) (port : Port) → May m step → brings_other m port step ≡ false → (next m step).sizes port ≡ m.sizes port
+sizes_stay : (m : Machine) (step : Step) (port : Port) → May m step → brings_other m port step ≡ false → (after_step m step).sizes port ≡ m.sizes port
 sizes_stay m (Replace p id size disk) port may other = ⊎_elim
     (λ (ne : (p.0 == port.0) ≡ false). cond-false (port.0 == p.0) size (m.sizes port) (ne_eqb port.0 p.0 (λ e. eqb-false p.0 port.0 ne (sym e))))
     (λ (same : not (id == m.disk_ids port) ≡ false). cond_both (port.0 == p.0) size (m.sizes port) (λ n. n ≡ m.sizes port)
@@ -241,7 +241,7 @@ came_touch m s e n block x i run hx t =
     (λ p. inl (r.0, r.1, ap (λ (y : Pending). y.request) (r.2 ∙ p.1), subst (λ (y : Pending). y.touched i ≡ true) (r.2 ∙ p.1) t))
     (at_cases e.request.id (touch n) r.0)
 
-came : (m : Machine) (step : Step) → May m step → Sound m → (x : Pending) (i : ℕ) → Contains (next m step).book x → x.touched i ≡ true → Came m step x i
+came : (m : Machine) (step : Step) → May m step → Sound m → (x : Pending) (i : ℕ) → Contains (after_step m step).book x → x.touched i ≡ true → Came m step x i
 came m (Accept job) may s x i hx t = ⊎_elim (λ (p : Contains m.book x). inl (x, p, refl, t)) (λ (p : x ≡ newly_accepted job). absurd (false≢true (subst (λ (y : Pending). y.touched i ≡ true) p t))) (append_in m.book (newly_accepted job) x hx)
 came m (Issue mode e) may s x i hx t = came_at m (Issue mode e) e.request.id issue x i hx (λ y. refl) (λ y q. absurd (false≢true q)) t
 came m (Touch e n block) may s x i hx t = came_touch m s e n block x i may.0 hx t
@@ -301,14 +301,14 @@ accept_out : (port : Port) (step : Step) (w : Accepted) → IsAccept step w → 
 accept_out port step w t = ap (takes_out port) (accept_of step w t)
 
 -- a request that is accepted now has nothing touched and isn't ended
-new_entry : (m : Machine) (step : Step) (w : Accepted) → May m step → Sound m → IsAccept step w → (x : Pending) → Contains (next m step).book x → x.request ≡ w → x ≡ newly_accepted w
+new_entry : (m : Machine) (step : Step) (w : Accepted) → May m step → Sound m → IsAccept step w → (x : Pending) → Contains (after_step m step).book x → x.request ≡ w → x ≡ newly_accepted w
 new_entry m step w may s t x hx same =
     let e = accept_of step w t in
     let new : May m (Accept w) = subst (λ (y : Step). May m y) e may in
     ⊎_elim
     (λ (i : Contains m.book x). let b = s.below x (inl i) in let q : x.request.id.0 ≡ w.id.0 = ap (λ (j : Accepted). j.id.0) same in let n = new.id in absurd (omega (arith, b, q, n)))
     (λ (p : x ≡ newly_accepted w). p)
-    (append_in m.book (newly_accepted w) x (subst (λ (y : Step). Contains (next m y).book x) e hx))
+    (append_in m.book (newly_accepted w) x (subst (λ (y : Step). Contains (after_step m y).book x) e hx))
 
 -- Each sector that an accepted writer touched is at its stage, while no disk was taken out.
 accepted_stage : (start : Machine) (h : List Step) (w : Accepted) → IsStart start → IsLegal start h → is_writer w.asked.op ≡ true → WriteAccepted w h
@@ -409,7 +409,7 @@ ended_end m s e x run hx t =
 older_ended : (ready : Port → Bool) (e : Pending) → (older ready e).ended ≡ e.ended
 older_ended ready e = elim (e.issued && ready e.request.port) as (λ b. (cond b (record e { age = suc e.age }) e).ended ≡ e.ended) [ true ↦ refl | false ↦ refl ]
 
-ended : (m : Machine) (step : Step) → May m step → Sound m → (x : Pending) → Contains (next m step).book x → x.ended ≡ true → Ended m step x
+ended : (m : Machine) (step : Step) → May m step → Sound m → (x : Pending) → Contains (after_step m step).book x → x.ended ≡ true → Ended m step x
 ended m (Accept job) may s x hx t = ⊎_elim (λ (p : Contains m.book x). inl (x, p, refl, t)) (λ (p : x ≡ newly_accepted job). absurd (false≢true (subst (λ (y : Pending). y.ended ≡ true) p t))) (append_in m.book (newly_accepted job) x hx)
 ended m (Issue mode e) may s x hx t = ended_at m (Issue mode e) e.request.id issue x hx (λ y. refl) (λ y q. absurd (false≢true q)) t
 ended m (Touch e n block) may s x hx t = ended_at m (Touch e n block) e.request.id (touch n) x hx (λ y. refl) (λ y q. q) t

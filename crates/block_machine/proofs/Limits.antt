@@ -12,7 +12,7 @@ use Rattle.block_machine.specs.declared.due.Mode.{Mode}
 use Rattle.block_machine.specs.declared.due.Unanswered.{Unanswered}
 use Rattle.block_machine.specs.Due.{IsDue, IsInOrder, is_plain, issued_count}
 use Rattle.block_machine.specs.State.{Accepted, Pending, Machine, frame_at, unanswered}
-use Rattle.block_machine.specs.Steps.{Step, Accept, Issue, Touch, End, Age, Again, Answer, Release, Unplug, Replace, Store, Load, May, IsLiving, next, at, without, issue, touch, mark_ended, requeued, older, newly_accepted, stays, unanswered_of}
+use Rattle.block_machine.specs.Steps.{Step, Accept, Issue, Touch, End, Age, Again, Answer, Release, Unplug, Replace, Store, Load, May, IsLiving, after_step, at, without, issue, touch, mark_ended, requeued, older, newly_accepted, stays, unanswered_of}
 use Rattle.block_machine.specs.Left.{after, IsLegal, IsStart}
 use Rattle.block_machine.specs.Confined.{WasAccepted, WithinLimits}
 use Rattle.block_machine.proofs.Members.{contains_none, contains_here, contains_there, contains_cases, map_in, into_map, at_cases, without_in, append_in}
@@ -63,7 +63,7 @@ order_append (y ∷ ys) x o less = (
   order_append ys x o.1 (λ e i. less e (contains_there y ys e i)),
 )
 
-order_step : (m : Machine) (step : Step) → May m step → Sound m → Ordered (map unanswered m.book) → Ordered (map unanswered (next m step).book)
+order_step : (m : Machine) (step : Step) → May m step → Sound m → Ordered (map unanswered m.book) → Ordered (map unanswered (after_step m step).book)
 order_step m (Accept r) may s o = order_append m.book (newly_accepted r) o (λ e i. let b = s.below e (inl i) in let q = may.id in omega (arith, b, q))
 order_step m (Issue mode e) may s o = order_map (at e.request.id issue) m.book (at_keeps e.request.id issue (λ x. refl)) o
 order_step m (Touch e i block) may s o = order_map (at e.request.id (touch i)) m.book (at_keeps e.request.id (touch i) (λ x. refl)) o
@@ -104,7 +104,7 @@ counted_at id f es c now x h =
     (λ p. subst IsCounted (sym (r.2 ∙ p.1)) (c r.0 r.1))
     (at_cases id f r.0)
 
-counted_step : (m : Machine) (step : Step) → May m step → Sound m → AllCounted m → AllCounted (next m step)
+counted_step : (m : Machine) (step : Step) → May m step → Sound m → AllCounted m → AllCounted (after_step m step)
 counted_step m (Accept r) may s c x (inl h) = ⊎_elim
     (λ i. c x (inl i))
     (λ p. subst IsCounted (sym p) (record { some = λ t. absurd (false≢true t); most = omega arith; left = λ _. omega arith }))
@@ -165,7 +165,7 @@ fewer_without c id (x ∷ xs) = go (x.request.id.0 == id.0) (fewer_without c id 
     go true a = omega (arith, a, count_cons (λ e. e.request.asked.client.0 == c.0) x xs)
     go false a = omega (arith, a, count_cons (λ e. e.request.asked.client.0 == c.0) x xs, count_cons (λ e. e.request.asked.client.0 == c.0) x (without id xs))
 
-few_step : (m : Machine) (step : Step) → May m step → (c : ClientId) → unanswered_of m.book c ≤ 16 → unanswered_of (next m step).book c ≤ 16
+few_step : (m : Machine) (step : Step) → May m step → (c : ClientId) → unanswered_of m.book c ≤ 16 → unanswered_of (after_step m step).book c ≤ 16
 few_step m (Accept r) may c le =
     let more = count_append (λ (e : Pending). e.request.asked.client.0 == c.0) m.book (newly_accepted r ∷ []) in
     let last = count_cons (λ (e : Pending). e.request.asked.client.0 == c.0) (newly_accepted r) [] in
@@ -193,7 +193,7 @@ few start (step ∷ past) s legal c = few_step (after start past) step legal.1 c
 
 -- Owners.
 
-owner_stays : (m : Machine) (step : Step) (f : Frame) → (next m step).owner f ≡ m.owner f
+owner_stays : (m : Machine) (step : Step) (f : Frame) → (after_step m step).owner f ≡ m.owner f
 owner_stays m (Accept r) f = refl
 owner_stays m (Issue mode e) f = refl
 owner_stays m _ f = refl

@@ -11,7 +11,7 @@ use Rattle.ata_types.specs.declared.refusal.MemFault.TheVariants as fault
 use Rattle.block_machine.specs.Refusals.{IsOpen}
 use Rattle.block_machine.specs.Due.{is_writer}
 use Rattle.block_machine.specs.State.{Block, Memory, Accepted, Pending, Machine, block_of, frame_at, sector_of, is_reader}
-use Rattle.block_machine.specs.Steps.{Step, Accept, Issue, Touch, End, Age, Again, Answer, Release, Unplug, Replace, Store, Load, May, next, at, IsLiving, MayMove, issue, touch, mark_ended, requeued, older, newly_accepted, put_bytes, memory_after}
+use Rattle.block_machine.specs.Steps.{Step, Accept, Issue, Touch, End, Age, Again, Answer, Release, Unplug, Replace, Store, Load, May, after_step, at, IsLiving, MayMove, issue, touch, mark_ended, requeued, older, newly_accepted, put_bytes, memory_after}
 use Rattle.block_machine.specs.Left.{plug_count, IsTouch, touches, disk_read, Wrote, IsLast, IsLeft, IsTold}
 use Rattle.block_machine.proofs.Members.{map_in, at_cases, without_in, append_in}
 use Rattle.block_machine.proofs.Sound.{Sound, KeepsRequest}
@@ -204,13 +204,13 @@ traced_same : (m n : Machine) → n.book ≡ m.book → IsTraced m n
 traced_same m n b x hx i touched = (x, subst (λ (es : List Pending). Contains es x) b hx, refl, touched, λ h. h)
 
 touch_good : (start : Machine) (h : List Step) (m : Machine) (e : Pending) (i : ℕ) (block : Block) → IsTold m (Touch e i block) → Sound m → AllSeen m h → Holds start h m → MayMove m e → i < e.request.asked.count
-    → AllGood start h m → AllGood start (Touch e i block ∷ h) (next m (Touch e i block))
+    → AllGood start h m → AllGood start (Touch e i block ∷ h) (after_step m (Touch e i block))
 touch_good start h m e i block told s seen holds r li good x hx reads k lt touched =
     let q = map_in (at e.request.id (touch i)) m.book x hx in
     ⊎_elim (λ p. same q.0 q.1 p.0 (q.2 ∙ p.1)) (λ p. other q.0 q.1 p.0 (q.2 ∙ p.1)) (at_cases e.request.id (touch i) q.0)
   where
     n : Machine
-    n = next m (Touch e i block)
+    n = after_step m (Touch e i block)
 
     clash : (op : Op) → is_reader op ≡ true → is_writer op ≡ true → ⊥
     clash Read a b = false≢true b
@@ -225,8 +225,8 @@ touch_good start h m e i block told s seen holds r li good x hx reads k lt touch
     reads_only Flush a = absurd (false≢true a)
 
     -- the entry is the one that is touched
-    same : (o : Pending) → Contains m.book o → o.request.id.0 ≡ e.request.id.0 → x ≡ touch i o → (x.issued ≡ true) × IsGood start (Touch e i block ∷ h) (next m (Touch e i block)) x.request k
-    same o ho id eq = (subst (λ (y : Pending). y.issued ≡ true) (sym eq) issued, subst (λ (j : Accepted). IsGood start (Touch e i block ∷ h) (next m (Touch e i block)) j k) (sym jx) (⊎_elim now before (cases_eq i k)))
+    same : (o : Pending) → Contains m.book o → o.request.id.0 ≡ e.request.id.0 → x ≡ touch i o → (x.issued ≡ true) × IsGood start (Touch e i block ∷ h) (after_step m (Touch e i block)) x.request k
+    same o ho id eq = (subst (λ (y : Pending). y.issued ≡ true) (sym eq) issued, subst (λ (j : Accepted). IsGood start (Touch e i block ∷ h) (after_step m (Touch e i block)) j k) (sym jx) (⊎_elim now before (cases_eq i k)))
       where
         jx : x.request ≡ o.request
         jx = ap (λ (y : Pending). y.request) eq
@@ -245,36 +245,36 @@ touch_good start h m e i block told s seen holds r li good x hx reads k lt touch
             (λ (a : Contains m.book e × (e.issued ≡ true)). subst (λ (y : Pending). y.issued ≡ true) (s.one e o a.0 ho (sym id)) a.1)
             (λ (a : Contains m.kept e). absurd (s.apart o e ho a id)) r
 
-        now : i ≡ k → IsGood start (Touch e i block ∷ h) (next m (Touch e i block)) o.request k
-        now p = subst (λ (j : Accepted). IsGood start (Touch e i block ∷ h) (next m (Touch e i block)) j k) (sym je)
-            (subst (λ (y : ℕ). IsGood start (Touch e i block ∷ h) (next m (Touch e i block)) e.request y) p
-            (good_now start h m (next m (Touch e i block)) e i block s seen holds r li (subst (λ (j : Accepted). is_reader j.asked.op ≡ true) je reads_o)
+        now : i ≡ k → IsGood start (Touch e i block ∷ h) (after_step m (Touch e i block)) o.request k
+        now p = subst (λ (j : Accepted). IsGood start (Touch e i block ∷ h) (after_step m (Touch e i block)) j k) (sym je)
+            (subst (λ (y : ℕ). IsGood start (Touch e i block ∷ h) (after_step m (Touch e i block)) e.request y) p
+            (good_now start h m (after_step m (Touch e i block)) e i block s seen holds r li (subst (λ (j : Accepted). is_reader j.asked.op ≡ true) je reads_o)
             (λ b lb. memory_own m e i block b (subst (λ (j : Accepted). is_reader j.asked.op ≡ true) je reads_o) lb
             ∙ told (reads_only e.request.asked.op (subst (λ (j : Accepted). is_reader j.asked.op ≡ true) je reads_o)) b lb)))
 
-        before : (i ≡ k → ⊥) → IsGood start (Touch e i block ∷ h) (next m (Touch e i block)) o.request k
+        before : (i ≡ k → ⊥) → IsGood start (Touch e i block ∷ h) (after_step m (Touch e i block)) o.request k
         before ne =
             let was : o.touched k ≡ true = ⊎_elim
             (λ (a : (k == i) ≡ true). absurd (ne (sym (eqb-true k i a)))) (λ (a : o.touched k ≡ true). a)
             (or_cases (k == i) (o.touched k) (subst (λ (y : Pending). y.touched k ≡ true) eq touched)) in
             let room = s.room o (inl ho) reads_o in
             let first : e.request.asked.first.0 ≡ o.request.asked.first.0 = ap (λ (j : Accepted). j.asked.first.0) (sym je) in
-            good_more start h m (next m (Touch e i block)) (Touch e i block) o.request k
+            good_more start h m (after_step m (Touch e i block)) (Touch e i block) o.request k
             (λ b lb. memory_touch m s e o r (inl ho) i block k b li (omega (arith, room, lt_o)) lb (λ _ _ p. ne p))
             (and_right _ _ (ne_eqb (e.request.asked.first.0 + i) (o.request.asked.first.0 + k) (λ p. ne (omega (arith, p, first)))))
             (λ w writes _ _ t. clash o.request.asked.op reads_o (subst (λ (j : Accepted). is_writer j.asked.op ≡ true) (sym (je ∙ t.0)) writes))
             (good o ho reads_o k lt_o was).1
 
     -- the entry is another
-    other : (o : Pending) → Contains m.book o → (o.request.id.0 ≡ e.request.id.0 → ⊥) → x ≡ o → (x.issued ≡ true) × IsGood start (Touch e i block ∷ h) (next m (Touch e i block)) x.request k
+    other : (o : Pending) → Contains m.book o → (o.request.id.0 ≡ e.request.id.0 → ⊥) → x ≡ o → (x.issued ≡ true) × IsGood start (Touch e i block ∷ h) (after_step m (Touch e i block)) x.request k
     other o ho ne eq =
         let reads_o : is_reader o.request.asked.op ≡ true = subst (λ (y : Pending). is_reader y.request.asked.op ≡ true) eq reads in
         let lt_o : k < o.request.asked.count = subst (λ (y : Pending). k < y.request.asked.count) eq lt in
         let g = good o ho reads_o k lt_o (subst (λ (y : Pending). y.touched k ≡ true) eq touched) in
         let room = s.room o (inl ho) reads_o in
-        subst (λ (y : Pending). (y.issued ≡ true) × IsGood start (Touch e i block ∷ h) (next m (Touch e i block)) y.request k) (sym eq) (
+        subst (λ (y : Pending). (y.issued ≡ true) × IsGood start (Touch e i block ∷ h) (after_step m (Touch e i block)) y.request k) (sym eq) (
           g.0,
-          good_more start h m (next m (Touch e i block)) (Touch e i block) o.request k
+          good_more start h m (after_step m (Touch e i block)) (Touch e i block) o.request k
               (λ b lb. memory_touch m s e o r (inl ho) i block k b li (omega (arith, room, lt_o)) lb (λ _ p _. ne (sym p)))
               (and_left _ _ (ne_eqb e.request.id.0 o.request.id.0 (λ p. ne (sym p))))
               (λ w writes port less t.
@@ -287,16 +287,16 @@ touch_good start h m e i block told s seen holds r li good x hx reads k lt touch
               g.1,
         )
 
-pub good_step : (start : Machine) (h : List Step) (m : Machine) (step : Step) → May m step → IsTold m step → Sound m → AllSeen m h → Holds start h m → AllGood start h m → AllGood start (step ∷ h) (next m step)
-good_step start h m (Accept job) may told s seen holds g = quiet_good start h m (next m (Accept job)) (Accept job) s
+pub good_step : (start : Machine) (h : List Step) (m : Machine) (step : Step) → May m step → IsTold m step → Sound m → AllSeen m h → Holds start h m → AllGood start h m → AllGood start (step ∷ h) (after_step m step)
+good_step start h m (Accept job) may told s seen holds g = quiet_good start h m (after_step m (Accept job)) (Accept job) s
     (λ x hx i t. ⊎_elim (λ p. (x, p, refl, t, λ q. q)) (λ p. absurd (false≢true (subst (λ (y : Pending). y.touched i ≡ true) p t))) (append_in m.book (newly_accepted job) x hx))
     (λ o ho i b li lb. refl) (λ id k. refl) (λ w k t. t) g
-good_step start h m (Issue mode e) may told s seen holds g = quiet_good start h m (next m (Issue mode e)) (Issue mode e) s
-    (traced_at m (next m (Issue mode e)) e.request.id issue refl (λ x i t. absurd (false≢true t)) (λ x. refl)) (λ o ho i b li lb. refl) (λ id k. refl) (λ w k t. t) g
+good_step start h m (Issue mode e) may told s seen holds g = quiet_good start h m (after_step m (Issue mode e)) (Issue mode e) s
+    (traced_at m (after_step m (Issue mode e)) e.request.id issue refl (λ x i t. absurd (false≢true t)) (λ x. refl)) (λ o ho i b li lb. refl) (λ id k. refl) (λ w k t. t) g
 good_step start h m (Touch e i block) may told s seen holds g = touch_good start h m e i block told s seen holds may.0 may.1 g
-good_step start h m (End e) may told s seen holds g = quiet_good start h m (next m (End e)) (End e) s
-    (traced_at m (next m (End e)) e.request.id mark_ended refl (λ x i t. (t, λ q. q)) (λ x. refl)) (λ o ho i b li lb. refl) (λ id k. refl) (λ w k t. t) g
-good_step start h m (Age ready) may told s seen holds g = quiet_good start h m (next m (Age ready)) (Age ready) s
+good_step start h m (End e) may told s seen holds g = quiet_good start h m (after_step m (End e)) (End e) s
+    (traced_at m (after_step m (End e)) e.request.id mark_ended refl (λ x i t. (t, λ q. q)) (λ x. refl)) (λ o ho i b li lb. refl) (λ id k. refl) (λ w k t. t) g
+good_step start h m (Age ready) may told s seen holds g = quiet_good start h m (after_step m (Age ready)) (Age ready) s
     (λ x hx i t. let r = map_in (older ready) m.book x hx in (
       r.0,
       r.1,
@@ -305,18 +305,18 @@ good_step start h m (Age ready) may told s seen holds g = quiet_good start h m (
       λ q. ap (λ (y : Pending). y.issued) r.2 ∙ older_issued ready r.0 ∙ q,
     ))
     (λ o ho i b li lb. refl) (λ id k. refl) (λ w k t. t) g
-good_step start h m (Again e) may told s seen holds g = quiet_good start h m (next m (Again e)) (Again e) s
-    (traced_at m (next m (Again e)) e.request.id requeued refl (λ x i t. absurd (false≢true t)) (λ x. refl)) (λ o ho i b li lb. refl) (λ id k. refl) (λ w k t. t) g
-good_step start h m (Answer e outcome) may told s seen holds g = quiet_good start h m (next m (Answer e outcome)) (Answer e outcome) s
+good_step start h m (Again e) may told s seen holds g = quiet_good start h m (after_step m (Again e)) (Again e) s
+    (traced_at m (after_step m (Again e)) e.request.id requeued refl (λ x i t. absurd (false≢true t)) (λ x. refl)) (λ o ho i b li lb. refl) (λ id k. refl) (λ w k t. t) g
+good_step start h m (Answer e outcome) may told s seen holds g = quiet_good start h m (after_step m (Answer e outcome)) (Answer e outcome) s
     (λ x hx i t. (x, (without_in e.request.id m.book x hx).0, refl, t, λ q. q))
     (λ o ho i b li lb. refl) (λ id k. refl) (λ w k t. t) g
-good_step start h m Release may told s seen holds g = quiet_good start h m (next m Release) Release s
-    (traced_same m (next m Release) refl) (λ o ho i b li lb. refl) (λ id k. refl) (λ w k t. t) g
-good_step start h m (Unplug port) may told s seen holds g = quiet_good start h m (next m (Unplug port)) (Unplug port) s
-    (traced_same m (next m (Unplug port)) refl) (λ o ho i b li lb. refl) (λ id k. refl) (λ w k t. t) g
-good_step start h m (Replace port id size disk) may told s seen holds g = quiet_good start h m (next m (Replace port id size disk)) (Replace port id size disk) s
-    (traced_same m (next m (Replace port id size disk)) refl) (λ o ho i b li lb. refl) (λ id k. refl) (λ w k t. t) g
-good_step start h m (Store client frame offset bytes) may told s seen holds g = quiet_good start h m (next m (Store client frame offset bytes)) (Store client frame offset bytes) s
-    (traced_same m (next m (Store client frame offset bytes)) refl) (λ o ho i b li lb. memory_store m s o (inl ho) client frame offset bytes may i b li) (λ id k. refl) (λ w k t. t) g
-good_step start h m (Load client frame offset bytes) may told s seen holds g = quiet_good start h m (next m (Load client frame offset bytes)) (Load client frame offset bytes) s
-    (traced_same m (next m (Load client frame offset bytes)) refl) (λ o ho i b li lb. refl) (λ id k. refl) (λ w k t. t) g
+good_step start h m Release may told s seen holds g = quiet_good start h m (after_step m Release) Release s
+    (traced_same m (after_step m Release) refl) (λ o ho i b li lb. refl) (λ id k. refl) (λ w k t. t) g
+good_step start h m (Unplug port) may told s seen holds g = quiet_good start h m (after_step m (Unplug port)) (Unplug port) s
+    (traced_same m (after_step m (Unplug port)) refl) (λ o ho i b li lb. refl) (λ id k. refl) (λ w k t. t) g
+good_step start h m (Replace port id size disk) may told s seen holds g = quiet_good start h m (after_step m (Replace port id size disk)) (Replace port id size disk) s
+    (traced_same m (after_step m (Replace port id size disk)) refl) (λ o ho i b li lb. refl) (λ id k. refl) (λ w k t. t) g
+good_step start h m (Store client frame offset bytes) may told s seen holds g = quiet_good start h m (after_step m (Store client frame offset bytes)) (Store client frame offset bytes) s
+    (traced_same m (after_step m (Store client frame offset bytes)) refl) (λ o ho i b li lb. memory_store m s o (inl ho) client frame offset bytes may i b li) (λ id k. refl) (λ w k t. t) g
+good_step start h m (Load client frame offset bytes) may told s seen holds g = quiet_good start h m (after_step m (Load client frame offset bytes)) (Load client frame offset bytes) s
+    (traced_same m (after_step m (Load client frame offset bytes)) refl) (λ o ho i b li lb. refl) (λ id k. refl) (λ w k t. t) g

@@ -5,7 +5,7 @@ use Rattle.std.specs.List.{Contains}
 use Rattle.ata_types.specs.declared.Port.{Port}
 use Rattle.block_machine.specs.State.{Block, Disk, Accepted, Pending, Machine, waiting, sector_of}
 use Rattle.block_machine.specs.Due.{conflict, is_writer}
-use Rattle.block_machine.specs.Steps.{Step, Accept, Issue, Touch, End, Age, Again, Answer, Release, Unplug, Replace, Store, Load, May, IsNew, next, at, IsLiving, MayMove, issue, touch, mark_ended, requeued, older, newly_accepted}
+use Rattle.block_machine.specs.Steps.{Step, Accept, Issue, Touch, End, Age, Again, Answer, Release, Unplug, Replace, Store, Load, May, IsNew, after_step, at, IsLiving, MayMove, issue, touch, mark_ended, requeued, older, newly_accepted}
 use Rattle.block_machine.specs.Left.{IsAccept, plugs, disk_of, plug_count, bytes_when_plugged, IsTouch, touches, HasTouched, disk_read, Wrote, IsLast}
 use Rattle.block_machine.proofs.Members.{contains_none, contains_cases, map_in, without_in, append_in}
 use Rattle.block_machine.proofs.Sound.{Sound, KeepsRequest}
@@ -37,7 +37,7 @@ kept_then m e a false h i = inr i
 abbrev pub Comes : Machine → Step → Accepted → Type 0
 Comes m step r = IsAccept step r × IsNew m r
 
-pub lives_before : (m : Machine) (step : Step) → May m step → (a : Pending) → IsLiving (next m step) a → Before m a ⊎ Comes m step a.request
+pub lives_before : (m : Machine) (step : Step) → May m step → (a : Pending) → IsLiving (after_step m step) a → Before m a ⊎ Comes m step a.request
 lives_before m (Accept job) may a (inl h) = ⊎_elim (λ i. inl (same_before m a (inl i))) (λ p. inr (ap (λ (y : Pending). y.request) (sym p), subst (λ (y : Pending). IsNew m y.request) (sym p) may)) (append_in m.book (newly_accepted job) a h)
 lives_before m (Accept job) may a (inr h) = inl (same_before m a (inr h))
 lives_before m (Issue mode e) may a (inl h) = inl (in_book m a (moved (at e.request.id issue) m.book (at_keeps e.request.id issue (λ x. refl)) a h))
@@ -59,7 +59,7 @@ lives_before m (Replace port id size disk) may a h = inl (same_before m a h)
 lives_before m (Store client frame offset bytes) may a h = inl (same_before m a h)
 lives_before m (Load client frame offset bytes) may a h = inl (same_before m a h)
 
-pub next_grows : (m : Machine) (step : Step) → m.next ≤ (next m step).next
+pub next_grows : (m : Machine) (step : Step) → m.next ≤ (after_step m step).next
 next_grows m (Accept job) = omega arith
 next_grows m _ = le_refl _
 
@@ -89,7 +89,7 @@ pub record Seen (m : Machine) (w : Accepted) (k : ℕ) : Type 0 where
   pub one : (a : Pending) → IsLiving m a → a.request.id.0 ≡ w.id.0 → a.request ≡ w
   pub order : (a : Pending) → IsLiving m a → a.request.id.0 < w.id.0 → conflict (waiting a.request) (waiting w) ≡ true → ⊥
 
-pub seen_step : (m : Machine) (step : Step) → May m step → (w : Accepted) (k : ℕ) → Seen m w k → Seen (next m step) w k
+pub seen_step : (m : Machine) (step : Step) → May m step → (w : Accepted) (k : ℕ) → Seen m w k → Seen (after_step m step) w k
 seen_step m step may w k s = record {
   below = let g = next_grows m step in let b = s.below in omega (arith, g, b);
   from = s.from;

@@ -9,12 +9,12 @@ use Rattle.ata_types.specs.declared.request.Op.TheVariants.{Read}
 use Rattle.block_machine.specs.Rules.{DifferInName}
 use Rattle.block_machine.specs.Due.{is_writer}
 use Rattle.block_machine.specs.State.{Block, Disk, Memory, Accepted, Machine, block_of, sector_of, written_by}
-use Rattle.block_machine.specs.Steps.{Step, Accept, Touch, Replace, May, next}
+use Rattle.block_machine.specs.Steps.{Step, Accept, Touch, Replace, May, after_step}
 
 -- the machine after a history of steps
 abbrev pub after : Machine → List Step → Machine
 after start [] = start
-after start (step ∷ past) = next (after start past) step
+after start (step ∷ past) = after_step (after start past) step
 
 -- each step of the history came when it might
 abbrev pub IsLegal : Machine → List Step → Type 0

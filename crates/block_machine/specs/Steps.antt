@@ -105,36 +105,36 @@ stays e Unplugged = false
 stays e PortDead = e.issued
 
 -- the machine after the step
-abbrev pub next : Machine → Step → Machine
-next m (Accept r) = record m { book = m.book ++ newly_accepted r ∷ []; lent = lend r m.lent; next = suc m.next }
-next m (Issue mode e) = record m { book = map (at e.request.id issue) m.book }
-next m (Touch e i block) =
+abbrev pub after_step : Machine → Step → Machine
+after_step m (Accept r) = record m { book = m.book ++ newly_accepted r ∷ []; lent = lend r m.lent; next = suc m.next }
+after_step m (Issue mode e) = record m { book = map (at e.request.id issue) m.book }
+after_step m (Touch e i block) =
     record m {
       disks = disks_after e.request i m.disks;
       memory = memory_after e.request i block m.memory;
       book = map (at e.request.id (touch i)) m.book;
       kept = map (at e.request.id (touch i)) m.kept;
     }
-next m (End e) = record m { book = map (at e.request.id mark_ended) m.book; kept = map (at e.request.id mark_ended) m.kept }
-next m (Age ready) = record m { book = map (older ready) m.book }
-next m (Again e) = record m { book = map (at e.request.id requeued) m.book }
-next m (Answer e outcome) =
+after_step m (End e) = record m { book = map (at e.request.id mark_ended) m.book; kept = map (at e.request.id mark_ended) m.kept }
+after_step m (Age ready) = record m { book = map (older ready) m.book }
+after_step m (Again e) = record m { book = map (at e.request.id requeued) m.book }
+after_step m (Answer e outcome) =
     record m {
       book = without e.request.id m.book;
       kept = if stays e outcome then e ∷ m.kept else m.kept;
       lent = if stays e outcome then m.lent else unlend e.request.id m.lent;
     }
-next m Release = record m { kept = []; lent = unlend_all m.kept m.lent }
-next m (Unplug port) = record m { present = λ p. if p.0 == port.0 then false else m.present p }
-next m (Replace port id size disk) =
+after_step m Release = record m { kept = []; lent = unlend_all m.kept m.lent }
+after_step m (Unplug port) = record m { present = λ p. if p.0 == port.0 then false else m.present p }
+after_step m (Replace port id size disk) =
     record m {
       present = λ p. if p.0 == port.0 then true else m.present p;
       disk_ids = λ p. if p.0 == port.0 then id else m.disk_ids p;
       sizes = λ p. if p.0 == port.0 then size else m.sizes p;
       disks = λ p. if p.0 == port.0 then disk else m.disks p;
     }
-next m (Store client frame offset bytes) = record m { memory = put_bytes frame offset (length bytes) (slice_index bytes) m.memory }
-next m (Load client frame offset bytes) = m
+after_step m (Store client frame offset bytes) = record m { memory = put_bytes frame offset (length bytes) (slice_index bytes) m.memory }
+after_step m (Load client frame offset bytes) = m
 
 -- issued, or kept: the device may move its sectors
 abbrev pub MayMove : Machine → Pending → Type 0
