@@ -22,3 +22,4 @@ pub mod Standing
 pub mod PlainDue
 pub mod PlainRules
 pub mod PlainLeft
+pub mod Staying

@@ -1,7 +1,8 @@
 -- Histories of a server over a device D, and what its calls add to them (this project's own).
 -- The crate that knows the device gives two relations. `Begins` is what a new server leaves. `Agrees` is what ties an event's
 -- device to its steps: accesses of the device lead from the old one to the new one, what the device did in them are the
--- steps' touches, ends and disks in order, the evidence stands, and after it disks and frames hold what the machine's do.
+-- steps' touches, ends and disks in order, the evidence stands, and after it disks and frames hold what the machine's do, and
+-- the ports are as the event says.
 use Rattle.std.specs.Prelude.{◌≡◌, List, [], ◌∷◌, map}
 use Rattle.block_machine.specs.State.{Machine}
 use Rattle.block_machine.specs.Steps.{Step}

@@ -75,7 +75,8 @@ fn disk_read(read: &Filled, sector: u64, history: &[Happened]) -> usize
 /// What the disk with this number held in all places when it was put in.
 fn bytes_when_plugged(start: u8, port: Port, number: usize, history: &[Happened]) -> u8
     ensures { (k b : ℕ)
-        → left.bytes_when_plugged (start_filled start) port number (history_of history.now) k b ≡ result }
+        → left.bytes_when_plugged (start_filled start) port number
+        (history_of history.now) k b ≡ result }
 {
     match history.split_first() {
         None => start,
@@ -90,7 +91,8 @@ fn bytes_when_plugged(start: u8, port: Port, number: usize, history: &[Happened]
 /// Whether this is a touch of the sector of the read by an earlier write or trim of its port.
 fn writes(read: &Filled, sector: u64, happened: &Happened) -> Option<Filled>
     ensures some { IfSome result (IsWriterNow read.now sector (step_of happened.now)) }
-    ensures none { IfNone result ((w : Filled) → IsWriterNow read.now sector (step_of happened.now) w → ⊥) }
+    ensures none { IfNone result ((w : Filled)
+        → IsWriterNow read.now sector (step_of happened.now) w → ⊥) }
 {
     match happened {
         Happened::Touched(writer, number) => {
@@ -146,7 +148,8 @@ fn written(writer: Filled) -> u8
 /// What the writes and trims accepted before the read left on the sector, as the byte in all its places. The newest happening
 /// stands first, and the disks held `start` before the first.
 pub fn left(start: u8, history: &[Happened], read: &Filled, sector: u64) -> u8
-    ensures { (block : Block) × left.IsLeft (start_filled start) (history_of history.now) (accepted_of read.now) sector block
+    ensures { (block : Block) × left.IsLeft (start_filled start) (history_of history.now)
+        (accepted_of read.now) sector block
         × ((b : ℕ) → block b ≡ result) }
 {
     let disk = disk_read(read, sector, history);

@@ -176,7 +176,8 @@ impl Tables {
 
     /// Whether the frames of the request have this fault.
     fn has_fault(&self, client: ClientId, frames: &[Frame], fault: FrameFault) -> bool
-        ensures { IsTrue result ↔ HasFault (for_frame self.now.owners.items) (for_frame self.now.lent.items)
+        ensures { IsTrue result ↔ HasFault (for_frame self.now.owners.items)
+            (for_frame self.now.lent.items)
             client frames.now fault }
     {
         match fault {
@@ -231,7 +232,8 @@ impl Tables {
     /// The cause, if it applies.
     fn if_applies(&self, request: &Request, cause: Refusal) -> Option<Refusal>
         requires { (refusal_number cause < 6) ⊎ (9 < refusal_number cause) }
-        ensures { IsFirstNumbered (situation_in self.now) request.now (refusal_number cause) result }
+        ensures { IsFirstNumbered (situation_in self.now) request.now
+            (refusal_number cause) result }
     {
         if self.applies(request, cause) {
             Some(cause)
@@ -305,9 +307,11 @@ impl Tables {
 
     /// The first rule that the request breaks, if it breaks one.
     pub fn first_broken(&self, request: &Request) -> Option<Rule>
-        ensures some { IfSome result (IsFirstBroken self.now.rows.items (for_frame self.now.owners.items)
+        ensures some { IfSome result (IsFirstBroken self.now.rows.items
+            (for_frame self.now.owners.items)
             (for_frame self.now.lent.items) request.now) }
-        ensures none { IfNone result (BreaksNone self.now.rows.items (for_frame self.now.owners.items)
+        ensures none { IfNone result (BreaksNone self.now.rows.items
+            (for_frame self.now.owners.items)
             (for_frame self.now.lent.items) request.now) }
     {
         match self.first_refusal(request) {
