@@ -23,6 +23,7 @@ abbrev pub WasAccepted : Machine → List Step → Accepted → Type 0
 WasAccepted start [] r = ⊥
 WasAccepted start (step ∷ past) r = (IsAccept step r × IsNew (after start past) r) ⊎ WasAccepted start past r
 
+-- the operation moves bytes between disk and frames
 abbrev pub MovesBytes : Op → Type 0
 MovesBytes Read = Unit {0}
 MovesBytes Write = Unit {0}

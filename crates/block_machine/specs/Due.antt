@@ -11,6 +11,7 @@ use Rattle.ata_types.specs.Range.{range_end}
 use Rattle.block_machine.specs.declared.due.Mode.{Mode}
 use Rattle.block_machine.specs.declared.due.Unanswered.{Unanswered}
 
+-- the operation is a flush
 abbrev pub is_flush : Op → Bool
 is_flush Read = false
 is_flush Write = false

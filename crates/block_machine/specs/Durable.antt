@@ -37,14 +37,17 @@ abbrev pub IsVolatile : Machine → List Step → Type 0
 IsVolatile start [] = Unit {0}
 IsVolatile start (step ∷ past) = IsVolatile start past × ComesBack start past step
 
+-- the step answers the request Ok
 abbrev pub IsOk : Step → Accepted → Type 0
 IsOk (Answer e Ok) r = e.request ≡ r
 IsOk _ r = ⊥
 
+-- the step takes the disk of the port out
 abbrev pub takes_out : Port → Step → Bool
 takes_out port (Unplug p) = p.0 == port.0
 takes_out port _ = false
 
+-- the step puts another disk in at the port
 abbrev pub brings_other : Machine → Port → Step → Bool
 brings_other old port (Replace p id size disk) = p.0 == port.0 && not (id == old.disk_ids port)
 brings_other old port _ = false

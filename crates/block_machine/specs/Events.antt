@@ -122,11 +122,13 @@ abbrev pub AllDevices : List Step → Type 0
 AllDevices [] = Unit {0}
 AllDevices (step ∷ before) = AllDevices before × IsDevices step
 
+-- the requests that the steps accept
 abbrev pub accepts_of : List Step → List Accepted
 accepts_of [] = []
 accepts_of (Accept r ∷ before) = r ∷ accepts_of before
 accepts_of (step ∷ before) = accepts_of before
 
+-- the answers that the steps give
 abbrev pub answers_of : List Step → List (Pending × Outcome)
 answers_of [] = []
 answers_of (Answer e o ∷ before) = (e, o) ∷ answers_of before
@@ -139,10 +141,12 @@ transfers_of (Store c f o bytes ∷ before) = bytes ∷ transfers_of before
 transfers_of (Load c f o bytes ∷ before) = bytes ∷ transfers_of before
 transfers_of (step ∷ before) = transfers_of before
 
+-- the step is a tick
 abbrev pub is_age : Step → Bool
 is_age (Age ready) = true
 is_age _ = false
 
+-- the step gives the kept requests' frames back
 abbrev pub is_release : Step → Bool
 is_release Release = true
 is_release _ = false
@@ -175,6 +179,7 @@ abbrev pub IsToldBefore : Pending × Outcome → Pending × Outcome → Type 0
 IsToldBefore a b = (a.0.request.port.0 < b.0.request.port.0)
     ⊎ ((a.0.request.port ≡ b.0.request.port) × (a.0.request.id.0 < b.0.request.id.0))
 
+-- an answer, as the client is told it
 abbrev pub reply_of : Pending × Outcome → Reply
 reply_of answer = record { id = answer.0.request.id; client = answer.0.request.asked.client; outcome = answer.1 }
 

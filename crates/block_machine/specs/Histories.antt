@@ -24,6 +24,7 @@ abbrev pub now : {D : Type 0} → Instant D → List (Happening D) → Instant D
 now first [] = first
 now first (h ∷ past) = record { device = h.device; moment = moment_after (now first past).moment h.event }
 
+-- the calls without the device
 abbrev pub events_of : {D : Type 0} → List (Happening D) → List Event
 events_of past = map (λ h. h.event) past
 

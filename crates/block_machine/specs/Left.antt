@@ -37,6 +37,7 @@ abbrev pub plugs : Port → Step → Bool
 plugs port (Replace p id size disk) = p.0 == port.0
 plugs port _ = false
 
+-- what the disk holds that the step puts in
 abbrev pub disk_of : Step → Disk
 disk_of (Replace p id size disk) = disk
 disk_of _ = λ k b. 0

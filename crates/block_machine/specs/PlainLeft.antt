@@ -18,10 +18,12 @@ accepted_of r = record {
   held = λ i b. r.fill;
 }
 
+-- a happening as a step
 abbrev pub step_of : Happened → Step
 step_of (Touched r i) = Touch (newly_accepted (accepted_of r)) i (λ b. r.fill)
 step_of (Plugged port fill) = Replace port 0 0 (λ k b. fill)
 
+-- happenings as steps
 abbrev pub history_of : List Happened → List Step
 history_of happened = map step_of happened
 

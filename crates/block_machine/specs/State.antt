@@ -61,9 +61,11 @@ pub record Pending : Type 0 where
 abbrev pub waiting : Accepted → Unanswered
 waiting r = record { id = r.id; port = r.port; op = r.asked.op; range = record { first = r.asked.first; count = r.asked.count }; issued = false }
 
+-- and the same of a request with how far it is
 abbrev pub unanswered : Pending → Unanswered
 unanswered e = record (waiting e.request) { issued = e.issued }
 
+-- What the machine holds.
 pub record Machine : Type 0 where
   -- By port: whether a disk is in; and of the disk that is in, or was last in: which one it is, its sectors' number, and
   -- their bytes. A disk is named by its port and a number: so no disk is in two ports, and none changes its port.
@@ -84,6 +86,7 @@ pub record Machine : Type 0 where
   -- the id of the next request that is accepted
   pub next : ℕ
 
+-- the operation moves sectors from the disk to frames
 abbrev pub is_reader : Op → Bool
 is_reader Read = true
 is_reader Write = false

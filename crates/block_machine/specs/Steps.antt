@@ -43,37 +43,48 @@ pub data Step : Type 0 where
 abbrev pub at : RequestId → (Pending → Pending) → Pending → Pending
 at id change e = if e.request.id.0 == id.0 then change e else e
 
+-- the requests but for the one with this id
 abbrev pub without : RequestId → List Pending → List Pending
 without id pending = filter (λ e. not (e.request.id.0 == id.0)) pending
 
+-- a request that was just accepted
 abbrev pub newly_accepted : Accepted → Pending
 newly_accepted r = record { request = r; issues = 0; age = 0; issued = false; touched = λ _. false; ended = false }
 
+-- the request issued once more: nothing touched, not ended, of age 0
 abbrev pub issue : Pending → Pending
 issue e = record { request = e.request; issues = suc e.issues; age = 0; issued = true; touched = λ _. false; ended = false }
 
+-- sector number i touched too
 abbrev pub touch : ℕ → Pending → Pending
 touch i e = record e { touched = λ k. k == i || e.touched k }
 
+-- the request ended
 abbrev pub mark_ended : Pending → Pending
 mark_ended e = record e { ended = true }
 
+-- the request waiting again: nothing touched, not ended
 abbrev pub requeued : Pending → Pending
 requeued e = record e { issued = false; touched = λ _. false; ended = false }
 
+-- the request a tick older, if it is issued on one of these ports
 abbrev pub older : (Port → Bool) → Pending → Pending
 older ready e = if e.issued && ready e.request.port then record e { age = suc e.age } else e
 
+-- the frames of the request lent to it
 abbrev pub lend : Accepted → (Frame → Option RequestId) → Frame → Option RequestId
 lend r lent f = if list_any (λ g. g.0 == f.0) r.asked.frames.items then Some r.id else lent f
 
+-- the loan is to the request with this id
 abbrev pub is_lent_to : RequestId → Option RequestId → Bool
 is_lent_to id None = false
 is_lent_to id (Some other) = other.0 == id.0
 
+-- the frames of the request with this id given back
 abbrev pub unlend : RequestId → (Frame → Option RequestId) → Frame → Option RequestId
 unlend id lent f = if is_lent_to id (lent f) then None else lent f
 
+-- the frames of all these requests given back
 abbrev pub unlend_all : List Pending → (Frame → Option RequestId) → Frame → Option RequestId
 unlend_all kept lent f = if list_any (λ e. is_lent_to e.request.id (lent f)) kept then None else lent f
 

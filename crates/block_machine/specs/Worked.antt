@@ -45,6 +45,7 @@ abbrev pub LooseMay : Machine → Step → Type 0
 LooseMay m (Issue mode e) = Contains m.book e × IsDue mode (map unanswered m.book) (unanswered e)
 LooseMay m step = May m step
 
+-- each step of the history came when it might there
 abbrev pub IsLoose : Machine → List Step → Type 0
 IsLoose start [] = Unit {0}
 IsLoose start (step ∷ past) = IsLoose start past × LooseMay (after start past) step
