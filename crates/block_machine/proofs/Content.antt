@@ -123,7 +123,7 @@ content_touch start h m e i block port k s seen r lt last = by_op (is_writer e.r
 
 -- the disks hold what was last put there, after each step
 pub content_step : (start : Machine) (h : List Step) (m : Machine) (step : Step) → May m step → Sound m → AllSeen m h → Holds start h m → Holds start (step ∷ h) (after_step m step)
-content_step start h m (Accept job) may s seen c port k = content_quiet start h m (Accept job) port k (suc m.next) seen (λ w t. t) refl (omega arith) (c port k)
+content_step start h m (Accept request) may s seen c port k = content_quiet start h m (Accept request) port k (suc m.next) seen (λ w t. t) refl (omega arith) (c port k)
 content_step start h m (Issue mode e) may s seen c port k = content_quiet start h m (Issue mode e) port k m.next seen (λ w t. t) refl (le_refl _) (c port k)
 content_step start h m (Touch e i block) may s seen c port k = content_touch start h m e i block port k s seen may.0 may.1 (c port k)
 content_step start h m (End e) may s seen c port k = content_quiet start h m (End e) port k m.next seen (λ w t. t) refl (le_refl _) (c port k)

@@ -21,7 +21,7 @@ use Rattle.block_machine.specs.Steps.{Step, Accept, Issue, Touch, End, Age, Agai
 use Rattle.block_machine.proofs.Members.{contains_none, contains_here, contains_there, contains_cases, map_in, into_map, at_cases, without_in, append_in, none_of}
 use Rattle.block_machine.proofs.Sound.{Sound, Carries, IsChanged, KeepsRequest, IsLentAll, IsDistinct, lived, order_carried, carried}
 
--- a change of one entry keeps every job
+-- a change of one request keeps every request
 pub at_keeps : (id : RequestId) (f : Pending → Pending) → KeepsRequest f → KeepsRequest (at id f)
 at_keeps id f k e = ⊎_elim (λ p. ap (λ (x : Pending). x.request) p.1 ∙ k e) (λ p. ap (λ (x : Pending). x.request) p.1) (at_cases id f e)
 
@@ -101,7 +101,7 @@ keeps_issue m mode e s here due none = carried (at e.request.id issue) (λ x. x)
         (λ p. s.order r.0 q.0 (inl (r.1, ap (λ (y : Pending). y.issued) (sym (r.2 ∙ p.1)) ∙ h.1)) q.1 lt' con')
         (at_cases e.request.id issue r.0)
 
--- a step that issues nothing and changes entries
+-- a step that issues nothing and changes requests
 keeps_changed : (f g : Pending → Pending) (m n : Machine) → Carries f g m n → ((e : Pending) → (f e).issued ≡ true → e.issued ≡ true) → Sound m → Sound n
 keeps_changed f g m n c quiet s = carried f g m n c (order_carried f g m n c quiet s) s
 
@@ -254,75 +254,75 @@ enough Write count n e r = absurd (false≢true r)
 enough Trim count n e r = absurd (false≢true r)
 enough Flush count n e r = absurd (false≢true r)
 
-keeps_accept : (m : Machine) (job : Accepted) → Sound m → IsNew m job → Sound (after_step m (Accept job))
-keeps_accept m job s new = record {
+keeps_accept : (m : Machine) (request : Accepted) → Sound m → IsNew m request → Sound (after_step m (Accept request))
+keeps_accept m request s new = record {
   below = λ x l. ⊎_elim (λ i. below x i) (λ p. subst (λ (y : Pending). y.request.id.0 < suc m.next) (sym p) (omega (arith, new.id))) (who x l);
-  one = λ a b ha hb eq. one a b (append_in m.book (newly_accepted job) a ha) (append_in m.book (newly_accepted job) b hb) eq;
+  one = λ a b ha hb eq. one a b (append_in m.book (newly_accepted request) a ha) (append_in m.book (newly_accepted request) b hb) eq;
   kept_one = s.kept_one;
-  apart = λ a b ha hb eq. apart a b (append_in m.book (newly_accepted job) a ha) hb eq;
+  apart = λ a b ha hb eq. apart a b (append_in m.book (newly_accepted request) a ha) hb eq;
   lent = λ x l. lent x (who x l);
   distinct = λ x l. ⊎_elim (λ i. s.distinct x i) (λ p. subst (λ (y : Pending). IsDistinct y.request.asked.frames.items) (sym p) apart_frames) (who x l);
   room = λ x l. ⊎_elim (λ i. s.room x i) (λ p. subst (λ (y : Pending). is_reader y.request.asked.op ≡ true → y.request.asked.count ≤ 8 * length y.request.asked.frames.items) (sym p) room) (who x l);
   order = λ e a r l lt con. order e a r (who a l) lt con;
 }
   where
-    who : (x : Pending) → IsLiving (after_step m (Accept job)) x → IsLiving m x ⊎ (x ≡ newly_accepted job)
-    who x (inl i) = ⊎_elim (λ j. inl (inl j)) (λ p. inr p) (append_in m.book (newly_accepted job) x i)
+    who : (x : Pending) → IsLiving (after_step m (Accept request)) x → IsLiving m x ⊎ (x ≡ newly_accepted request)
+    who x (inl i) = ⊎_elim (λ j. inl (inl j)) (λ p. inr p) (append_in m.book (newly_accepted request) x i)
     who x (inr i) = inl (inr i)
 
     below : (x : Pending) → IsLiving m x → x.request.id.0 < suc m.next
     below x i = let b = s.below x i in omega (arith, b)
 
-    is_new : (x : Pending) → x ≡ newly_accepted job → x.request.id.0 ≡ m.next
+    is_new : (x : Pending) → x ≡ newly_accepted request → x.request.id.0 ≡ m.next
     is_new x p = ap (λ (y : Pending). y.request.id.0) p ∙ new.id
 
-    clash : (a b : Pending) → IsLiving m a → b ≡ newly_accepted job → a.request.id.0 ≡ b.request.id.0 → ⊥
+    clash : (a b : Pending) → IsLiving m a → b ≡ newly_accepted request → a.request.id.0 ≡ b.request.id.0 → ⊥
     clash a b l p eq = let below = s.below a l in let id = is_new b p in omega (arith, below, id, eq)
 
-    one : (a b : Pending) → Contains m.book a ⊎ (a ≡ newly_accepted job) → Contains m.book b ⊎ (b ≡ newly_accepted job) → a.request.id.0 ≡ b.request.id.0 → a ≡ b
+    one : (a b : Pending) → Contains m.book a ⊎ (a ≡ newly_accepted request) → Contains m.book b ⊎ (b ≡ newly_accepted request) → a.request.id.0 ≡ b.request.id.0 → a ≡ b
     one a b (inl i) (inl j) eq = s.one a b i j eq
     one a b (inl i) (inr q) eq = absurd (clash a b (inl i) q eq)
     one a b (inr p) (inl j) eq = absurd (clash b a (inl j) p (sym eq))
     one a b (inr p) (inr q) eq = p ∙ sym q
 
-    apart : (a b : Pending) → Contains m.book a ⊎ (a ≡ newly_accepted job) → Contains m.kept b → a.request.id.0 ≡ b.request.id.0 → ⊥
+    apart : (a b : Pending) → Contains m.book a ⊎ (a ≡ newly_accepted request) → Contains m.kept b → a.request.id.0 ≡ b.request.id.0 → ⊥
     apart a b (inl i) j eq = s.apart a b i j eq
     apart a b (inr p) j eq = clash b a (inr j) p (sym eq)
 
-    unlent : (x : Frame) → IsSome (m.lent x) → list_any (λ g. g.0 == x.0) job.asked.frames.items ≡ false
-    unlent x h = false_from_ne_true _ (λ t. let r = place_of x job.asked.frames.items t in
-        new.unbroken (Frames (FrameLent r.0)) (frame_at job.asked.frames.items r.0, get_frame job.asked.frames.items r.0 r.1, subst (λ (y : Frame). IsSome (m.lent y)) (sym r.2) h))
+    unlent : (x : Frame) → IsSome (m.lent x) → list_any (λ g. g.0 == x.0) request.asked.frames.items ≡ false
+    unlent x h = false_from_ne_true _ (λ t. let r = place_of x request.asked.frames.items t in
+        new.unbroken (Frames (FrameLent r.0)) (frame_at request.asked.frames.items r.0, get_frame request.asked.frames.items r.0 r.1, subst (λ (y : Frame). IsSome (m.lent y)) (sym r.2) h))
 
-    lent : (x : Pending) → IsLiving m x ⊎ (x ≡ newly_accepted job) → IsLentAll (lend job m.lent) x.request
+    lent : (x : Pending) → IsLiving m x ⊎ (x ≡ newly_accepted request) → IsLentAll (lend request m.lent) x.request
     lent x (inl l) k lt =
         let f = frame_at x.request.asked.frames.items k in
         let e : m.lent f ≡ Some x.request.id = s.lent x l k lt in
-        cond-false (list_any (λ g. g.0 == f.0) job.asked.frames.items) (Some job.id) (m.lent f) (unlent f (some_is_some (m.lent f) x.request.id e)) ∙ e
-    lent x (inr p) k lt = subst (λ (y : Pending). IsLentAll (lend job m.lent) y.request) (sym p) own k lt
+        cond-false (list_any (λ g. g.0 == f.0) request.asked.frames.items) (Some request.id) (m.lent f) (unlent f (some_is_some (m.lent f) x.request.id e)) ∙ e
+    lent x (inr p) k lt = subst (λ (y : Pending). IsLentAll (lend request m.lent) y.request) (sym p) own k lt
       where
-        own : IsLentAll (lend job m.lent) job
-        own j below = cond-true (list_any (λ g. g.0 == (frame_at job.asked.frames.items j).0) job.asked.frames.items) (Some job.id) (m.lent (frame_at job.asked.frames.items j)) (has_place job.asked.frames.items j below)
+        own : IsLentAll (lend request m.lent) request
+        own j below = cond-true (list_any (λ g. g.0 == (frame_at request.asked.frames.items j).0) request.asked.frames.items) (Some request.id) (m.lent (frame_at request.asked.frames.items j)) (has_place request.asked.frames.items j below)
 
-    apart_frames : IsDistinct job.asked.frames.items
+    apart_frames : IsDistinct request.asked.frames.items
     apart_frames i j lt below eq = new.unbroken (Frames (FrameTwice i))
-        (frame_at job.asked.frames.items i, j, lt, get_frame job.asked.frames.items j (omega (arith, lt, below)) ∙ ap Some eq, get_frame job.asked.frames.items i below)
+        (frame_at request.asked.frames.items i, j, lt, get_frame request.asked.frames.items j (omega (arith, lt, below)) ∙ ap Some eq, get_frame request.asked.frames.items i below)
 
-    room : is_reader job.asked.op ≡ true → job.asked.count ≤ 8 * length job.asked.frames.items
-    room r = ⊎_elim (λ e. enough job.asked.op job.asked.count (length job.asked.frames.items) e r) (λ ne. absurd (new.unbroken FrameCount ne)) (cases_eq (length job.asked.frames.items) (frames_for job.asked.op job.asked.count))
+    room : is_reader request.asked.op ≡ true → request.asked.count ≤ 8 * length request.asked.frames.items
+    room r = ⊎_elim (λ e. enough request.asked.op request.asked.count (length request.asked.frames.items) e r) (λ ne. absurd (new.unbroken FrameCount ne)) (cases_eq (length request.asked.frames.items) (frames_for request.asked.op request.asked.count))
 
-    order : (e a : Pending) → MayMove (after_step m (Accept job)) e → IsLiving m a ⊎ (a ≡ newly_accepted job) → a.request.id.0 < e.request.id.0 → conflict (waiting a.request) (waiting e.request) ≡ true → ⊥
+    order : (e a : Pending) → MayMove (after_step m (Accept request)) e → IsLiving m a ⊎ (a ≡ newly_accepted request) → a.request.id.0 < e.request.id.0 → conflict (waiting a.request) (waiting e.request) ≡ true → ⊥
     order e a (inr i) (inl l) lt con = s.order e a (inr i) l lt con
     order e a (inr i) (inr p) lt con = let b = s.below e (inr i) in let n = is_new a p in omega (arith, b, n, lt)
-    order e a (inl h) l lt con = inner (append_in m.book (newly_accepted job) e h.0) l
+    order e a (inl h) l lt con = inner (append_in m.book (newly_accepted request) e h.0) l
       where
-        inner : Contains m.book e ⊎ (e ≡ newly_accepted job) → IsLiving m a ⊎ (a ≡ newly_accepted job) → ⊥
+        inner : Contains m.book e ⊎ (e ≡ newly_accepted request) → IsLiving m a ⊎ (a ≡ newly_accepted request) → ⊥
         inner (inl i) (inl l) = s.order e a (inl (i, h.1)) l lt con
         inner (inl i) (inr p) = let b = s.below e (inl i) in let n = is_new a p in omega (arith, b, n, lt)
         inner (inr p) l = false≢true (ap (λ (y : Pending). y.issued) (sym p) ∙ h.1)
 
 -- each step that may come keeps the machine sound
 pub keeps : (m : Machine) (step : Step) → May m step → Sound m → Sound (after_step m step)
-keeps m (Accept job) may s = keeps_accept m job s may
+keeps m (Accept request) may s = keeps_accept m request s may
 keeps m (Issue mode e) may s = keeps_issue m mode e s may.0 may.1 may.2
 keeps m (Touch e i block) may s = keeps_at (touch i) m (after_step m (Touch e i block)) e.request.id (λ x. refl) (λ x h. h) refl refl refl (λ x. refl) s
 keeps m (End e) may s = keeps_at mark_ended m (after_step m (End e)) e.request.id (λ x. refl) (λ x h. h) refl refl refl (λ x. refl) s

@@ -107,7 +107,7 @@ effect_replace m p id size disk port k gone = ⊎_elim
 effect : (m : Machine) (step : Step) (port : Port) (k : ℕ) → May m step → Effect m step port k
 effect m (Touch e i block) port k may = effect_touch m e i block port k may.0 may.1
 effect m (Replace p id size disk) port k may = effect_replace m p id size disk port k may.0
-effect m (Accept job) port k may = inl (record { same = refl; quiet = λ w _ _ t. t })
+effect m (Accept request) port k may = inl (record { same = refl; quiet = λ w _ _ t. t })
 effect m (Issue mode e) port k may = inl (record { same = refl; quiet = λ w _ _ t. t })
 effect m (End e) port k may = inl (record { same = refl; quiet = λ w _ _ t. t })
 effect m (Age ready) port k may = inl (record { same = refl; quiet = λ w _ _ t. t })
@@ -123,7 +123,7 @@ stays_in : (m : Machine) (step : Step) (port : Port) → May m step → takes_ou
 stays_in m (Unplug p) port may out here = cond-false (port.0 == p.0) false (m.present port) (ne_eqb port.0 p.0 (λ e. both_ways _ out (eq-eqb p.0 port.0 (sym e)))) ∙ here
 stays_in m (Replace p id size disk) port may out here = cond_both (port.0 == p.0) true (m.present port) (λ b. b ≡ true) (λ _. refl) (λ _. here)
 stays_in m (Touch e i block) port may out here = here
-stays_in m (Accept job) port may out here = here
+stays_in m (Accept request) port may out here = here
 stays_in m (Issue mode e) port may out here = here
 stays_in m (End e) port may out here = here
 stays_in m (Age ready) port may out here = here
@@ -180,7 +180,7 @@ sizes_stay m _ port may other = refl
 other_absent : (m : Machine) (step : Step) (port : Port) → May m step → brings_other m port step ≡ true → m.present port ≡ false
 other_absent m (Replace p i n d) port may t = ap m.present (sym (same_port p port (eqb-true p.0 port.0 (and_parts _ _ t).0))) ∙ may.0
 other_absent m (Answer e outcome) port may t = absurd (false≢true t)
-other_absent m (Accept job) port may t = absurd (false≢true t)
+other_absent m (Accept request) port may t = absurd (false≢true t)
 other_absent m (Issue mode e) port may t = absurd (false≢true t)
 other_absent m (Touch e i block) port may t = absurd (false≢true t)
 other_absent m (End e) port may t = absurd (false≢true t)
@@ -214,10 +214,10 @@ stage_step start step past w k s legal writes out g = record {
 
 -- the step is a touch of sector number i by this request
 abbrev IsTouchAt : Step → Accepted → ℕ → Type 0
-IsTouchAt (Touch e n block) job i = (e.request ≡ job) × (n ≡ i)
-IsTouchAt _ job i = ⊥
+IsTouchAt (Touch e n block) request i = (e.request ≡ request) × (n ≡ i)
+IsTouchAt _ request i = ⊥
 
--- where an entry with a touched sector comes from
+-- where a request with a touched sector comes from
 abbrev Came : Machine → Step → Pending → ℕ → Type 0
 Came m step x i = ((o : Pending) × Contains m.book o × (x.request ≡ o.request) × (o.touched i ≡ true)) ⊎ IsTouchAt step x.request i
 
@@ -242,7 +242,7 @@ came_touch m s e n block x i run hx t =
     (at_cases e.request.id (touch n) r.0)
 
 came : (m : Machine) (step : Step) → May m step → Sound m → (x : Pending) (i : ℕ) → Contains (after_step m step).book x → x.touched i ≡ true → Came m step x i
-came m (Accept job) may s x i hx t = ⊎_elim (λ (p : Contains m.book x). inl (x, p, refl, t)) (λ (p : x ≡ newly_accepted job). absurd (false≢true (subst (λ (y : Pending). y.touched i ≡ true) p t))) (append_in m.book (newly_accepted job) x hx)
+came m (Accept request) may s x i hx t = ⊎_elim (λ (p : Contains m.book x). inl (x, p, refl, t)) (λ (p : x ≡ newly_accepted request). absurd (false≢true (subst (λ (y : Pending). y.touched i ≡ true) p t))) (append_in m.book (newly_accepted request) x hx)
 came m (Issue mode e) may s x i hx t = came_at m (Issue mode e) e.request.id issue x i hx (λ y. refl) (λ y q. absurd (false≢true q)) t
 came m (Touch e n block) may s x i hx t = came_touch m s e n block x i may.0 hx t
 came m (End e) may s x i hx t = came_at m (End e) e.request.id mark_ended x i hx (λ y. refl) (λ y q. q) t
@@ -283,10 +283,10 @@ answer_ok (Answer e (DeviceError status error)) w t = absurd t
 answer_ok _ w t = absurd t
 
 accept_of : (step : Step) (w : Accepted) → IsAccept step w → step ≡ Accept w
-accept_of (Accept job) w t = ap Accept t
+accept_of (Accept request) w t = ap Accept t
 accept_of _ w t = absurd t
 
--- what the answer Ok of a request says of its entry
+-- what the answer Ok of a request says of its request
 ok_entry : (m : Machine) (step : Step) (w : Accepted) → May m step → IsWhole step → IsOk step w → (e : Pending) × Contains m.book e × (e.request ≡ w) × ((i : ℕ) → i < w.asked.count → e.touched i ≡ true) × (e.ended ≡ true)
 ok_entry m step w may whole ok =
     let r = answer_ok step w ok in
@@ -382,10 +382,10 @@ lasts_step start step past w k s legal writes back other g = record {
         (effect (after start past) step w.port k legal.1)
 
 abbrev IsEnd : Step → Accepted → Type 0
-IsEnd (End e) job = e.request ≡ job
-IsEnd _ job = ⊥
+IsEnd (End e) request = e.request ≡ request
+IsEnd _ request = ⊥
 
--- where an ended entry comes from
+-- where an ended request comes from
 abbrev Ended : Machine → Step → Pending → Type 0
 Ended m step x = ((o : Pending) × Contains m.book o × (x.request ≡ o.request) × (o.ended ≡ true)) ⊎ IsEnd step x.request
 
@@ -410,7 +410,7 @@ older_ended : (ready : Port → Bool) (e : Pending) → (older ready e).ended �
 older_ended ready e = elim (e.issued && ready e.request.port) as (λ b. (cond b (record e { age = suc e.age }) e).ended ≡ e.ended) [ true ↦ refl | false ↦ refl ]
 
 ended : (m : Machine) (step : Step) → May m step → Sound m → (x : Pending) → Contains (after_step m step).book x → x.ended ≡ true → Ended m step x
-ended m (Accept job) may s x hx t = ⊎_elim (λ (p : Contains m.book x). inl (x, p, refl, t)) (λ (p : x ≡ newly_accepted job). absurd (false≢true (subst (λ (y : Pending). y.ended ≡ true) p t))) (append_in m.book (newly_accepted job) x hx)
+ended m (Accept request) may s x hx t = ⊎_elim (λ (p : Contains m.book x). inl (x, p, refl, t)) (λ (p : x ≡ newly_accepted request). absurd (false≢true (subst (λ (y : Pending). y.ended ≡ true) p t))) (append_in m.book (newly_accepted request) x hx)
 ended m (Issue mode e) may s x hx t = ended_at m (Issue mode e) e.request.id issue x hx (λ y. refl) (λ y q. absurd (false≢true q)) t
 ended m (Touch e n block) may s x hx t = ended_at m (Touch e n block) e.request.id (touch n) x hx (λ y. refl) (λ y q. q) t
 ended m (End e) may s x hx t = ended_end m s e x may.0 hx t

@@ -21,8 +21,8 @@ use Rattle.block_machine.proofs.Content.{AllSeen, Holds}
 
 -- the sector stands at its place as it was left
 abbrev pub IsGood : Machine → List Step → Machine → Accepted → ℕ → Type 0
-IsGood start h m job i =
-    (block : Block) × IsLeft start h job (job.asked.first.0 + i) block × ((b : ℕ) → b < 512 → block_of m.memory job.asked.frames.items i b ≡ block b)
+IsGood start h m request i =
+    (block : Block) × IsLeft start h request (request.asked.first.0 + i) block × ((b : ℕ) → b < 512 → block_of m.memory request.asked.frames.items i b ≡ block b)
 
 -- each sector that a read touched since its last issue is good
 abbrev pub AllGood : Machine → List Step → Machine → Type 0
@@ -31,17 +31,17 @@ AllGood start h m =
     → (e.issued ≡ true) × IsGood start h m e.request i
 
 -- a sector that stays at its place stays good after a step that is no touch of its kind
-good_more : (start : Machine) (h : List Step) (m n : Machine) (step : Step) (job : Accepted) (i : ℕ)
-    → ((b : ℕ) → b < 512 → block_of n.memory job.asked.frames.items i b ≡ block_of m.memory job.asked.frames.items i b)
-    → touches job.id (job.asked.first.0 + i) step ≡ false
-    → ((w : Accepted) → is_writer w.asked.op ≡ true → w.port ≡ job.port → w.id.0 < job.id.0 → IsTouch step w (job.asked.first.0 + i) → ⊥)
-    → IsGood start h m job i → IsGood start (step ∷ h) n job i
-good_more start h m n step job i same own others good =
-    let k : ℕ = job.asked.first.0 + i in
-    let found : disk_read job k (step ∷ h) ≡ disk_read job k h = cond-false (touches job.id k step) (plug_count job.port h) (disk_read job k h) own in (
+good_more : (start : Machine) (h : List Step) (m n : Machine) (step : Step) (request : Accepted) (i : ℕ)
+    → ((b : ℕ) → b < 512 → block_of n.memory request.asked.frames.items i b ≡ block_of m.memory request.asked.frames.items i b)
+    → touches request.id (request.asked.first.0 + i) step ≡ false
+    → ((w : Accepted) → is_writer w.asked.op ≡ true → w.port ≡ request.port → w.id.0 < request.id.0 → IsTouch step w (request.asked.first.0 + i) → ⊥)
+    → IsGood start h m request i → IsGood start (step ∷ h) n request i
+good_more start h m n step request i same own others good =
+    let k : ℕ = request.asked.first.0 + i in
+    let found : disk_read request k (step ∷ h) ≡ disk_read request k h = cond-false (touches request.id k step) (plug_count request.port h) (disk_read request k h) own in (
       good.0,
-      subst (λ (x : ℕ). IsLast start job.port k x job.id.0 (step ∷ h) good.0) (sym found)
-          (last_from start job.port k (disk_read job k h) job.id.0 job.id.0 step h good.0 (read_number job k h) others (λ w o. o.earlier) (λ w o. o.earlier) good.1),
+      subst (λ (x : ℕ). IsLast start request.port k x request.id.0 (step ∷ h) good.0) (sym found)
+          (last_from start request.port k (disk_read request k h) request.id.0 request.id.0 step h good.0 (read_number request k h) others (λ w o. o.earlier) (λ w o. o.earlier) good.1),
       λ b lt. same b lt ∙ good.2 b lt,
     )
 
@@ -105,8 +105,8 @@ place_apart m s e o le lo i k b li lk lb differ frame low high =
     let ie : i / 8 < length e.request.asked.frames.items = omega arith in
     let ko : k / 8 < length o.request.asked.frames.items = omega arith in
     let id : e.request.id.0 ≡ o.request.id.0 = some_id (sym (s.lent e le (i / 8) ie) ∙ ap m.lent frame ∙ s.lent o lo (k / 8) ko) in
-    let job : e.request ≡ o.request = lives_one m s e o le lo id in
-    let frames : e.request.asked.frames.items ≡ o.request.asked.frames.items = ap (λ (j : Accepted). j.asked.frames.items) job in
+    let request : e.request ≡ o.request = lives_one m s e o le lo id in
+    let frames : e.request.asked.frames.items ≡ o.request.asked.frames.items = ap (λ (j : Accepted). j.asked.frames.items) request in
     let frame' : frame_at e.request.asked.frames.items (i / 8) ≡ frame_at e.request.asked.frames.items (k / 8) = frame ∙ ap (λ (xs : List Frame). frame_at xs (k / 8)) (sym frames) in
     let ke : k / 8 < length e.request.asked.frames.items = subst (λ (xs : List Frame). k / 8 < length xs) (sym frames) ko in
     ⊎_elim
@@ -163,7 +163,7 @@ memory_store m s o lo client frame offset bytes free k b lk =
 
 -- Each step keeps the reads good.
 
--- where an entry with a touched sector comes from, in a step that touches nothing
+-- where a request with a touched sector comes from, in a step that touches nothing
 abbrev IsTraced : Machine → Machine → Type 0
 IsTraced m n = (x : Pending) → Contains n.book x → (i : ℕ) → x.touched i ≡ true
     → (o : Pending) × Contains m.book o × (x.request ≡ o.request) × (o.touched i ≡ true) × (o.issued ≡ true → x.issued ≡ true)
@@ -224,7 +224,7 @@ touch_good start h m e i block told s seen holds r li good x hx reads k lt touch
     reads_only Trim a = absurd (false≢true a)
     reads_only Flush a = absurd (false≢true a)
 
-    -- the entry is the one that is touched
+    -- the request is the one that is touched
     same : (o : Pending) → Contains m.book o → o.request.id.0 ≡ e.request.id.0 → x ≡ touch i o → (x.issued ≡ true) × IsGood start (Touch e i block ∷ h) (after_step m (Touch e i block)) x.request k
     same o ho id eq = (subst (λ (y : Pending). y.issued ≡ true) (sym eq) issued, subst (λ (j : Accepted). IsGood start (Touch e i block ∷ h) (after_step m (Touch e i block)) j k) (sym jx) (⊎_elim now before (cases_eq i k)))
       where
@@ -265,7 +265,7 @@ touch_good start h m e i block told s seen holds r li good x hx reads k lt touch
             (λ w writes _ _ t. clash o.request.asked.op reads_o (subst (λ (j : Accepted). is_writer j.asked.op ≡ true) (sym (je ∙ t.0)) writes))
             (good o ho reads_o k lt_o was).1
 
-    -- the entry is another
+    -- the request is another
     other : (o : Pending) → Contains m.book o → (o.request.id.0 ≡ e.request.id.0 → ⊥) → x ≡ o → (x.issued ≡ true) × IsGood start (Touch e i block ∷ h) (after_step m (Touch e i block)) x.request k
     other o ho ne eq =
         let reads_o : is_reader o.request.asked.op ≡ true = subst (λ (y : Pending). is_reader y.request.asked.op ≡ true) eq reads in
@@ -288,8 +288,8 @@ touch_good start h m e i block told s seen holds r li good x hx reads k lt touch
         )
 
 pub good_step : (start : Machine) (h : List Step) (m : Machine) (step : Step) → May m step → IsTold m step → Sound m → AllSeen m h → Holds start h m → AllGood start h m → AllGood start (step ∷ h) (after_step m step)
-good_step start h m (Accept job) may told s seen holds g = quiet_good start h m (after_step m (Accept job)) (Accept job) s
-    (λ x hx i t. ⊎_elim (λ p. (x, p, refl, t, λ q. q)) (λ p. absurd (false≢true (subst (λ (y : Pending). y.touched i ≡ true) p t))) (append_in m.book (newly_accepted job) x hx))
+good_step start h m (Accept request) may told s seen holds g = quiet_good start h m (after_step m (Accept request)) (Accept request) s
+    (λ x hx i t. ⊎_elim (λ p. (x, p, refl, t, λ q. q)) (λ p. absurd (false≢true (subst (λ (y : Pending). y.touched i ≡ true) p t))) (append_in m.book (newly_accepted request) x hx))
     (λ o ho i b li lb. refl) (λ id k. refl) (λ w k t. t) g
 good_step start h m (Issue mode e) may told s seen holds g = quiet_good start h m (after_step m (Issue mode e)) (Issue mode e) s
     (traced_at m (after_step m (Issue mode e)) e.request.id issue refl (λ x i t. absurd (false≢true t)) (λ x. refl)) (λ o ho i b li lb. refl) (λ id k. refl) (λ w k t. t) g

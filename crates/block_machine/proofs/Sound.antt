@@ -8,7 +8,7 @@ use Rattle.block_machine.specs.Due.{conflict}
 use Rattle.block_machine.specs.Steps.{IsLiving, MayMove}
 
 abbrev pub IsLentAll : (Frame → Option RequestId) → Accepted → Type 0
-IsLentAll lent job = (i : ℕ) → i < length job.asked.frames.items → lent (frame_at job.asked.frames.items i) ≡ Some job.id
+IsLentAll lent request = (i : ℕ) → i < length request.asked.frames.items → lent (frame_at request.asked.frames.items i) ≡ Some request.id
 
 abbrev pub IsDistinct : List Frame → Type 0
 IsDistinct frames = (i j : ℕ) → j < i → i < length frames → frame_at frames j ≡ frame_at frames i → ⊥
@@ -31,7 +31,7 @@ IsChanged f old new = (e : Pending) → Contains new e → (o : Pending) × Cont
 abbrev pub KeepsRequest : (Pending → Pending) → Type 0
 KeepsRequest f = (e : Pending) → (f e).request ≡ e.request
 
--- A step that changes entries and leaves their jobs, and what is lent.
+-- A step that changes requests and leaves their requests, and what is lent.
 pub record Carries (f g : Pending → Pending) (m n : Machine) : Type 0 where
   pub f_keeps : KeepsRequest f
   pub g_keeps : KeepsRequest g

@@ -16,7 +16,7 @@ use Rattle.block_machine.proofs.Keeps.{at_keeps, older_keeps}
 moved : (f : Pending → Pending) (es : List Pending) → KeepsRequest f → (a : Pending) → Contains (map f es) a → (o : Pending) × Contains es o × (a.request ≡ o.request)
 moved f es k a h = let r = map_in f es a h in (r.0, r.1, ap (λ (x : Pending). x.request) r.2 ∙ k r.0)
 
--- an entry that lived before with the same job
+-- a request that lived before with the same request
 abbrev pub Before : Machine → Pending → Type 0
 Before m a = (o : Pending) × IsLiving m o × (a.request ≡ o.request)
 
@@ -38,8 +38,8 @@ abbrev pub Comes : Machine → Step → Accepted → Type 0
 Comes m step r = IsAccept step r × IsNew m r
 
 pub lives_before : (m : Machine) (step : Step) → May m step → (a : Pending) → IsLiving (after_step m step) a → Before m a ⊎ Comes m step a.request
-lives_before m (Accept job) may a (inl h) = ⊎_elim (λ i. inl (same_before m a (inl i))) (λ p. inr (ap (λ (y : Pending). y.request) (sym p), subst (λ (y : Pending). IsNew m y.request) (sym p) may)) (append_in m.book (newly_accepted job) a h)
-lives_before m (Accept job) may a (inr h) = inl (same_before m a (inr h))
+lives_before m (Accept request) may a (inl h) = ⊎_elim (λ i. inl (same_before m a (inl i))) (λ p. inr (ap (λ (y : Pending). y.request) (sym p), subst (λ (y : Pending). IsNew m y.request) (sym p) may)) (append_in m.book (newly_accepted request) a h)
+lives_before m (Accept request) may a (inr h) = inl (same_before m a (inr h))
 lives_before m (Issue mode e) may a (inl h) = inl (in_book m a (moved (at e.request.id issue) m.book (at_keeps e.request.id issue (λ x. refl)) a h))
 lives_before m (Issue mode e) may a (inr h) = inl (same_before m a (inr h))
 lives_before m (Touch e i block) may a (inl h) = inl (in_book m a (moved (at e.request.id (touch i)) m.book (at_keeps e.request.id (touch i) (λ x. refl)) a h))
@@ -60,7 +60,7 @@ lives_before m (Store client frame offset bytes) may a h = inl (same_before m a 
 lives_before m (Load client frame offset bytes) may a h = inl (same_before m a h)
 
 pub next_grows : (m : Machine) (step : Step) → m.next ≤ (after_step m step).next
-next_grows m (Accept job) = omega arith
+next_grows m (Accept request) = omega arith
 next_grows m _ = le_refl _
 
 pub lives_one : (m : Machine) → Sound m → (a b : Pending) → IsLiving m a → IsLiving m b → a.request.id.0 ≡ b.request.id.0 → a.request ≡ b.request
@@ -128,13 +128,13 @@ touched_number w k n [] t = absurd t
 touched_number w k n (step ∷ past) (inl t) = let g = number_grows w.port step past in let e = t.1 in omega (arith, g, e)
 touched_number w k n (step ∷ past) (inr t) = let g = number_grows w.port step past in let r = touched_number w k n past t in omega (arith, g, r)
 
-pub read_number : (job : Accepted) (k : ℕ) (h : List Step) → disk_read job k h ≤ plug_count job.port h
-read_number job k [] = le_refl _
-read_number job k (step ∷ past) =
-    let g = number_grows job.port step past in
-    let r = read_number job k past in
-    let low : disk_read job k past ≤ plug_count job.port (step ∷ past) = omega (arith, g, r) in
-    elim (touches job.id k step) as (λ b. cond b (plug_count job.port past) (disk_read job k past) ≤ plug_count job.port (step ∷ past)) [ true ↦ g | false ↦ low ]
+pub read_number : (request : Accepted) (k : ℕ) (h : List Step) → disk_read request k h ≤ plug_count request.port h
+read_number request k [] = le_refl _
+read_number request k (step ∷ past) =
+    let g = number_grows request.port step past in
+    let r = read_number request k past in
+    let low : disk_read request k past ≤ plug_count request.port (step ∷ past) = omega (arith, g, r) in
+    elim (touches request.id k step) as (λ b. cond b (plug_count request.port past) (disk_read request k past) ≤ plug_count request.port (step ∷ past)) [ true ↦ g | false ↦ low ]
 
 plugged_more : (start : Machine) (port : Port) (n : ℕ) (step : Step) (past : List Step) → n ≤ plug_count port past → bytes_when_plugged start port n (step ∷ past) ≡ bytes_when_plugged start port n past
 plugged_more start port n step past le =
