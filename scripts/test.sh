@@ -14,3 +14,4 @@ part() {
 }
 
 part "rt ci" rt ci
+part "compile-fail" scripts/compile-fail.sh

@@ -1,9 +1,11 @@
 -- What is told of a request is one thing.
-use Rattle.std.proofs.Common.{◌≡◌, ℕ, ◌<◌, List, get_or, refl, ap, sym, ◌∙◌, subst, arith, inl, inr}
+use Rattle.std.proofs.Common.{◌≡◌, ℕ, ◌<◌, List, Option, get_or, refl, ap, sym, ◌∙◌, subst, arith, inl, inr}
 use Rattle.std.specs.List.{AllPairs, Contains}
 use Rattle.std.proofs.lemmas.Bool.{cases_order}
 use Rattle.std.proofs.lemmas.List.{get_or_default}
 use Rattle.ata_types.specs.declared.request.ClientId.{ClientId}
+use Rattle.ata_types.specs.declared.request.Frame.{Frame}
+use Rattle.ata_types.specs.declared.request.RequestId.{RequestId}
 use Rattle.ata_types.specs.declared.request.Request.{Request}
 use Rattle.ata_types.specs.declared.grant.GrantRow.{GrantRow}
 use Rattle.ata_types.specs.declared.refusal.FrameFault.{FrameFault}
@@ -12,7 +14,7 @@ use Rattle.ata_types.specs.declared.refusal.Rule.{Rule}
 use Rattle.ata_types.specs.declared.refusal.Rule.TheVariants.{NoGrant, NoRight, BadCount, OutsideGrant, FrameCount, Frames}
 use Rattle.ata_types.specs.declared.refusal.Refusal.{Refusal}
 use Rattle.ata_types.specs.declared.refusal.Refusal.TheVariants as refused
-use Rattle.block_machine.specs.Rules.{Names, DifferInName, number, place, fault_number, fault_place}
+use Rattle.block_machine.specs.Rules.{Names, DifferInName, Precedes, IsFirstBroken, number, place, fault_number, fault_place}
 use Rattle.block_machine.specs.Refusals.{Situation, Applies, IsFirstRefusal, refusal_number, refusal_place}
 
 -- a member of a list stands at its place, whatever the default
@@ -62,7 +64,7 @@ same_rule (Frames f) _ n p = absurd (omega (arith, late f))
 same_rule _ (Frames g) n p = absurd (omega (arith, late g))
 same_rule _ _ n p = absurd (omega arith)
 
-early : (rule : Rule) → number rule < 9
+pub early : (rule : Rule) → number rule < 9
 early NoGrant = omega arith
 early NoRight = omega arith
 early BadCount = omega arith
@@ -84,22 +86,26 @@ same_refusal s r differ (refused.Rule a) _ x y n p = absurd (omega (arith, early
 same_refusal s r differ _ (refused.Rule b) x y n p = absurd (omega (arith, early b))
 same_refusal s r differ _ _ x y n p = absurd (omega arith)
 
+-- neither of two pairs of numbers precedes the other: they are equal
+same_rank : (n i m j : ℕ) → (Precedes n i m j → ⊥) → (Precedes m j n i → ⊥) → (n ≡ m) × (i ≡ j)
+same_rank n i m j below above = elim (cases_order n m) [
+  | inl e ↦ elim (cases_order i j) [
+    | inl f ↦ (e, f)
+    | inr o ↦ absurd (elim o [ inl lt ↦ below (inr (e, lt)) | inr gt ↦ above (inr (sym e, gt)) ])
+  ]
+  | inr o ↦ absurd (elim o [ inl lt ↦ below (inl lt) | inr gt ↦ above (inl gt) ])
+]
+
+-- the first broken rule is one
+pub first_broken_is_one : (rows : List GrantRow) (owner : Frame → Option ClientId) (lent : Frame → Option RequestId) (r : Request) (one other : Rule)
+    → IsFirstBroken rows owner lent r one → IsFirstBroken rows owner lent r other → one ≡ other
+first_broken_is_one rows owner lent r one other a b =
+    let n = same_rank (number one) (place one) (number other) (place other) (λ p. b.1 one p a.0) (λ p. a.1 other p b.0) in
+    same_rule one other n.0 n.1
+
 -- the first refusal is one
 pub first_refusal_is_one : (s : Situation) (r : Request) (one other : Refusal) → AllPairs DifferInName s.rows
     → IsFirstRefusal s r one → IsFirstRefusal s r other → one ≡ other
 first_refusal_is_one s r one other differ a b =
-    same_refusal s r differ one other a.0 b.0 (numbers.0) (numbers.1)
-  where
-    apart : (n i m j : ℕ) → ((n < m) → ⊥) → ((m < n) → ⊥) → ((n ≡ m) → (i < j) → ⊥) → ((n ≡ m) → (j < i) → ⊥) → (n ≡ m) × (i ≡ j)
-    apart n i m j below above left right = elim (cases_order n m) [
-      | inl e ↦ elim (cases_order i j) [
-        | inl f ↦ (e, f)
-        | inr o ↦ absurd (elim o [ inl lt ↦ left e lt | inr gt ↦ right e gt ])
-      ]
-      | inr o ↦ absurd (elim o [ inl lt ↦ below lt | inr gt ↦ above gt ])
-    ]
-
-    numbers : (refusal_number one ≡ refusal_number other) × (refusal_place one ≡ refusal_place other)
-    numbers = apart _ _ _ _
-        (λ lt. b.1 one (inl lt) a.0) (λ gt. a.1 other (inl gt) b.0)
-        (λ e lt. b.1 one (inr (e, lt)) a.0) (λ e gt. a.1 other (inr (sym e, gt)) b.0)
+    let n = same_rank (refusal_number one) (refusal_place one) (refusal_number other) (refusal_place other) (λ p. b.1 one p a.0) (λ p. a.1 other p b.0) in
+    same_refusal s r differ one other a.0 b.0 n.0 n.1

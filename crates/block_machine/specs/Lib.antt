@@ -1,2 +1,13 @@
 pub mod Rules
 pub mod Refusals
+pub mod Due
+pub mod State
+pub mod Steps
+pub mod Left
+pub mod Confined
+pub mod Durable
+pub mod Events
+pub mod Worked
+pub mod Histories
+pub mod Plain
+pub mod PlainLeft

@@ -49,6 +49,7 @@ refusal_number refused.TrimUnsupported = 11
 refusal_number refused.ClientFull = 12
 refusal_number refused.IdsSpent = 13
 
+-- the place of the frame that is at fault; the other causes have none
 abbrev pub refusal_place : Refusal → ℕ
 refusal_place (refused.Rule rule) = place rule
 refusal_place (refused.PortNotReady state) = 0
@@ -76,6 +77,7 @@ MemApplies owner lent client frame offset count FrameForeign = owner frame ≢ S
 MemApplies owner lent client frame offset count FrameLent = IsSome (lent frame)
 MemApplies owner lent client frame offset count OutsideFrame = 4096 < offset + count
 
+-- the numbers of these causes say which is told first
 abbrev pub mem_fault_number : MemFault → ℕ
 mem_fault_number FrameForeign = 1
 mem_fault_number FrameLent = 2

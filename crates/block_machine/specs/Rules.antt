@@ -73,6 +73,7 @@ fault_number (FrameForeign i) = 6
 fault_number (FrameTwice i) = 7
 fault_number (FrameLent i) = 8
 
+-- and so for the rules
 abbrev pub number : Rule → ℕ
 number NoGrant = 1
 number NoRight = 2
@@ -87,6 +88,7 @@ fault_place (FrameForeign i) = i
 fault_place (FrameTwice i) = i
 fault_place (FrameLent i) = i
 
+-- and so for the rules
 abbrev pub place : Rule → ℕ
 place NoGrant = 0
 place NoRight = 0

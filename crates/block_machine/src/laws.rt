@@ -1,13 +1,199 @@
-//! Laws about the definitions in specs/. The clause of each function is the law; nothing calls the functions.
+//! Laws about the definitions in specs/. The clause of each function is the law; the functions do nothing, and nothing
+//! calls them.
 
-ghost use Rattle.std.specs.Prelude.{◌≡◌, AllPairs};
+ghost use Rattle.std.specs.Prelude.{◌≡◌, ◌≢◌, ◌↔◌, ◌<◌, ◌≤◌, ℕ, true, false, List, ◌∷◌, Option, Some, length, map, AllPairs, Contains, IsTrue};
+ghost use Rattle.ata_types.specs.declared.Port.{Port};
+ghost use Rattle.ata_types.specs.declared.request.ClientId.{ClientId};
+ghost use Rattle.ata_types.specs.declared.request.Frame.{Frame};
+ghost use Rattle.ata_types.specs.declared.request.RequestId.{RequestId};
 ghost use Rattle.ata_types.specs.declared.request.Request.{Request};
+ghost use Rattle.ata_types.specs.declared.request.Op.TheVariants.{Read};
+ghost use Rattle.ata_types.specs.declared.refusal.Rule.{Rule};
 ghost use Rattle.ata_types.specs.declared.refusal.Refusal.{Refusal};
-ghost use Rattle.block_machine.specs.Rules.{DifferInName};
+ghost use Rattle.ata_types.specs.declared.grant.GrantRow.{GrantRow};
+ghost use Rattle.ata_types.specs.declared.range.Range.{Range};
+ghost use Rattle.ata_types.specs.Range.{Overlaps};
+ghost use Rattle.block_machine.specs.declared.due.Mode.{Mode};
+ghost use Rattle.block_machine.specs.declared.due.Unanswered.{Unanswered};
+ghost use Rattle.block_machine.specs.Rules.{DifferInName, IsFirstBroken};
 ghost use Rattle.block_machine.specs.Refusals.{Situation, IsFirstRefusal};
+ghost use Rattle.block_machine.specs.Due.{IsDue, IsInOrder, overlap, is_due, is_plain, ahead, due_ahead, free_slots, issued_count, with_issued};
+ghost use Rattle.block_machine.specs.State.{Block, Accepted, Pending, Machine, frame_at, unanswered};
+ghost use Rattle.block_machine.specs.Steps.{Step, Touch, Issue, May, IsNew, IsLiving, AllTouched};
+ghost use Rattle.block_machine.specs.Left.{IsStart, IsLegal, AllTold, HasTouched, IsLeft, HoldsLeft, after};
+ghost use Rattle.block_machine.specs.Confined.{IsGranted, IsConfined, IsHeld, WasAccepted, WithinLimits};
+ghost use Rattle.block_machine.specs.Durable.{IsVolatile, EveryPlugFinds};
+ghost use Rattle.block_machine.specs.Events.{Moment, Event, IsRun, EveryReadHolds, steps_of};
+ghost use Rattle.block_machine.specs.Worked.{FindsTheFlushed, GoesWrong};
+
+/// One rule is the first that a request breaks.
+pub fn first_broken_rule_is_one()
+    ensures { (rows : List GrantRow) (owner : Frame → Option ClientId)
+        (lent : Frame → Option RequestId)
+        (r : Request) (one other : Rule) → IsFirstBroken rows owner lent r one
+        → IsFirstBroken rows owner lent r other → one ≡ other }
+{}
 
 /// One cause is the first that applies to a request.
 pub fn first_refusal_is_one()
     ensures { (s : Situation) (r : Request) (one other : Refusal) → AllPairs DifferInName s.rows
         → IsFirstRefusal s r one → IsFirstRefusal s r other → one ≡ other }
+{}
+
+/// Over every run of calls whose reads moved their disks' bytes: each read that is answered Ok has, at the end of the
+/// call that answers it, sector by sector what the writes and trims accepted before it left, and the rest of its frames
+/// is as it was when it was accepted.
+pub fn every_read_holds()
+    ensures { (first : Moment) (run : List Event) → IsRun first run
+        → AllTold first.machine (steps_of run)
+        → EveryReadHolds first run }
+{}
+
+/// After every history, a read with all its sectors touched since its last issue has what is left.
+pub fn read_holds_left()
+    ensures { (start : Machine) (history : List Step) (read : Pending) → IsStart start
+        → IsLegal start history
+        → AllTold start history → Contains (after start history).book read → AllTouched read
+        → read.request.asked.op ≡ Read → HoldsLeft start history
+        (after start history).memory read.request }
+{}
+
+/// What is left on a sector is one block.
+pub fn left_is_one()
+    ensures { (start : Machine) (history : List Step) (read : Accepted) (sector : ℕ)
+        (one other : Block)
+        → IsStart start → IsLegal start history → IsLeft start history read sector one
+        → IsLeft start history read sector other → one ≡ other }
+{}
+
+/// What is left for a read that was answered stays what it is: no write or trim accepted before it touches the sector any
+/// more, however long the run goes on.
+pub fn left_stays()
+    ensures { (start : Machine) (history : List Step) (step : Step) (read : Accepted)
+        (sector disk : ℕ) (block : Block)
+        → IsStart start → IsLegal start (step ∷ history) → HasTouched read sector disk history
+        → ((e : Pending) → IsLiving (after start history) e → e.request.id ≢ read.id)
+        → IsLeft start history read sector block → IsLeft start (step ∷ history) read sector block }
+{}
+
+/// Over every run of calls on disks with volatile caches: where a write was answered Ok before a flush of its port was
+/// accepted, the flush was answered Ok, and no disk was taken out between, the same disk has the write's bytes or later
+/// ones each time that it comes back.
+pub fn every_plug_finds()
+    ensures { (first : Moment) (run : List Event) → IsRun first run
+        → IsVolatile first.machine (steps_of run)
+        → EveryPlugFinds first.machine (steps_of run) }
+{}
+
+/// Each touch of a sector is of an accepted request's own sector, at a frame that is lent to it.
+pub fn touch_is_confined()
+    ensures { (start : Machine) (history : List Step) (e : Pending) (i : ℕ) (block : Block)
+        → IsStart start
+        → IsLegal start history → May (after start history) (Touch e i block)
+        → IsConfined start history e.request i }
+{}
+
+/// Each request that is issued was accepted, when it broke no rule, and its frames are still lent to it.
+pub fn issue_was_accepted()
+    ensures { (start : Machine) (history : List Step) (mode : Mode) (e : Pending) → IsStart start
+        → IsLegal start history → May (after start history) (Issue mode e)
+        → WasAccepted start history e.request
+        × ((i : ℕ) → i < length e.request.asked.frames.items
+        → (after start history).lent
+        (frame_at e.request.asked.frames.items i) ≡ Some e.request.id) }
+{}
+
+/// A request that is accepted is within a row of its client.
+pub fn accepted_is_granted()
+    ensures { (m : Machine) (r : Accepted) → IsNew m r → IsGranted m.rows r }
+{}
+
+/// Each request that is unanswered or kept was accepted.
+pub fn living_was_accepted()
+    ensures { (start : Machine) (history : List Step) (e : Pending) → IsStart start
+        → IsLegal start history
+        → IsLiving (after start history) e → WasAccepted start history e.request }
+{}
+
+/// One id is one request, in the whole history.
+pub fn one_id_is_one_request()
+    ensures { (start : Machine) (history : List Step) (one other : Accepted)
+        → WasAccepted start history one
+        → WasAccepted start history other → one.id ≡ other.id → one ≡ other }
+{}
+
+/// The frames of a request that is unanswered or kept hold what they held when it was accepted, but for the sectors of a
+/// read: so the device moves a write's own bytes.
+pub fn frames_keep_bytes()
+    ensures { (start : Machine) (history : List Step) (e : Pending) → IsStart start
+        → IsLegal start history
+        → IsLiving (after start history) e → IsHeld (after start history) e.request }
+{}
+
+/// The limits hold after every history.
+pub fn limits_hold()
+    ensures { (start : Machine) (history : List Step) → IsStart start → IsLegal start history
+        → WithinLimits (after start history) }
+{}
+
+/// The book stands in order of acceptance.
+pub fn book_in_order()
+    ensures { (start : Machine) (history : List Step) → IsStart start → IsLegal start history
+        → IsInOrder (map unanswered (after start history).book) }
+{}
+
+/// Once a due request is issued, the others of its port are due that were due before: so the requests that are issued
+/// one by one, until none is due, are exactly those that were due.
+pub fn issues_one_by_one()
+    ensures { (mode : Mode) (book : List Unanswered) (r other : Unanswered) → IsInOrder book
+        → IsDue mode book r
+        → Contains book other → other.id ≢ r.id → other.port ≡ r.port
+        → IsDue mode book other ↔ IsDue mode (with_issued r.id book) other }
+{}
+
+/// A request that is issued isn't due.
+pub fn issued_is_not_due()
+    ensures { (mode : Mode) (book : List Unanswered) (r : Unanswered) → r.issued ≡ true
+        → ¬ IsDue mode book r }
+{}
+
+/// A slot is left for a request whether the earlier ones of its port are counted as clear to go or as due.
+pub fn slots_by_due()
+    ensures { (mode : Mode) (book : List Unanswered) (r : Unanswered) → IsInOrder book
+        → Contains book r
+        → (ahead mode book r < free_slots mode book r.port) ↔
+        (due_ahead mode book r < free_slots mode book r.port) }
+{}
+
+/// A due request finds a free slot: a plain one a port with nothing issued, a queued one fewer issued than are usable.
+pub fn due_finds_slot()
+    ensures { (mode : Mode) (book : List Unanswered) (r : Unanswered) → IsDue mode book r
+        → (is_plain mode r.op ≡ true → issued_count book r.port ≡ 0)
+        × (is_plain mode r.op ≡ false → issued_count book r.port < mode.usable) }
+{}
+
+/// Two ranges overlap, by the test, where a sector is in both.
+pub fn overlap_is_tested()
+    ensures { (a b : Range) → IsTrue (overlap a b) ↔ Overlaps a b }
+{}
+
+/// A request of the book is due where the test says so.
+pub fn due_is_tested()
+    ensures { (mode : Mode) (book : List Unanswered) (r : Unanswered) → Contains book r
+        → IsTrue (is_due mode book r) ↔ IsDue mode book r }
+{}
+
+/// A machine to begin with exists.
+pub fn a_start_exists()
+    ensures { (m : Machine) × IsStart m }
+{}
+
+/// A run exists in which the laws on reads and on flushed writes have something to say.
+pub fn a_worked_run_exists()
+    ensures { FindsTheFlushed }
+{}
+
+/// Without the rule on kept requests a read may go wrong.
+pub fn kept_requests_matter()
+    ensures { GoesWrong }
 {}

@@ -1,0 +1,149 @@
+-- What is known of requests from their acceptance on.
+use Rattle.std.proofs.Common.{◌≡◌, ◌⊎◌, ℕ, ◌+◌, ◌/◌, ◌<◌, ◌≤◌, Bool, List, [], ◌∷◌, length, Some, inl, inr, ⊎_elim, refl, sym, ap, ◌∙◌, subst, arith}
+use Rattle.std.proofs.lemmas.Bool.{cases_Bool, cases_eq, cases_lt, false≢true}
+use Rattle.std.specs.List.{Contains}
+use Rattle.std.specs.Bool.{IsTrue}
+use Rattle.ata_types.specs.declared.request.ClientId.{ClientId}
+use Rattle.ata_types.specs.declared.request.Request.{Request}
+use Rattle.ata_types.specs.declared.request.Op.{Op}
+use Rattle.ata_types.specs.declared.request.Op.TheVariants.{Read, Write, Trim, Flush}
+use Rattle.ata_types.specs.declared.refusal.Rule.TheVariants.{NoGrant, NoRight, BadCount, OutsideGrant, FrameCount}
+use Rattle.ata_types.specs.declared.grant.GrantRow.{GrantRow}
+use Rattle.ata_types.specs.declared.grant.Rights.{Rights}
+use Rattle.ata_types.specs.Grant.{Allows}
+use Rattle.block_machine.specs.declared.due.Mode.{Mode}
+use Rattle.block_machine.specs.Rules.{IsNamed, IsCount, frames_for}
+use Rattle.block_machine.specs.State.{Block, Accepted, Pending, Machine, frame_at}
+use Rattle.block_machine.specs.Steps.{Step, Accept, Issue, Touch, May, IsNew, IsLiving, after_step}
+use Rattle.block_machine.specs.Left.{after, IsLegal, IsStart, IsAccept}
+use Rattle.block_machine.specs.Confined.{IsGranted, IsConfined, WasAccepted, MovesBytes}
+use Rattle.block_machine.proofs.Members.{contains_none, contains_here, contains_there, contains_cases}
+use Rattle.block_machine.proofs.Trace.{Before, Comes, lives_before, next_grows, runs_lives}
+use Rattle.block_machine.proofs.Runs.{traced, nobody}
+
+-- each request that lives was accepted
+pub living_accepted : (start : Machine) (h : List Step) → IsStart start → IsLegal start h → (e : Pending) → IsLiving (after start h) e → WasAccepted start h e.request
+living_accepted start [] s legal e l = absurd (nobody start s e l)
+living_accepted start (step ∷ past) s legal e l = ⊎_elim
+    (λ (r : Before (after start past) e). inr (subst (λ (j : Accepted). WasAccepted start past j) (sym r.2) (living_accepted start past s legal.0 r.0 r.1)))
+    (λ (c : Comes (after start past) step e.request). inl c)
+    (lives_before (after start past) step legal.1 e l)
+
+-- it was new to some machine
+pub was_new : (start : Machine) (h : List Step) (r : Accepted) → WasAccepted start h r → (m : Machine) × IsNew m r
+was_new start [] r w = absurd w
+was_new start (step ∷ past) r (inl c) = (after start past, c.1)
+was_new start (step ∷ past) r (inr w) = was_new start past r w
+
+-- its id was handed out
+id_below : (start : Machine) (h : List Step) (r : Accepted) → WasAccepted start h r → r.id.0 < (after start h).next
+id_below start [] r w = absurd w
+id_below start (step ∷ past) r (inl c) = grown step r c
+  where
+    grown : (y : Step) (r : Accepted) → Comes (after start past) y r → r.id.0 < (after_step (after start past) y).next
+    grown (Accept new) r c = let e = c.1.id in omega (arith, e)
+    grown _ r c = absurd c.0
+id_below start (step ∷ past) r (inr w) = let g = next_grows (after start past) step in let b = id_below start past r w in omega (arith, g, b)
+
+same_accept : (step : Step) (a b : Accepted) → IsAccept step a → IsAccept step b → a ≡ b
+same_accept (Accept new) a b p q = sym p ∙ q
+same_accept _ a b p q = absurd p
+
+-- one id is one request, in the whole history
+pub one_id_is_one_request : (start : Machine) (h : List Step) (a b : Accepted) → WasAccepted start h a → WasAccepted start h b → a.id ≡ b.id → a ≡ b
+one_id_is_one_request start [] a b p q e = absurd p
+one_id_is_one_request start (step ∷ past) a b (inl p) (inl q) e = same_accept step a b p.0 q.0
+one_id_is_one_request start (step ∷ past) a b (inl p) (inr q) e =
+    let low = id_below start past b q in let new = p.1.id in let n : a.id.0 ≡ b.id.0 = ap (λ i. i.0) e in absurd (omega (arith, low, new, n))
+one_id_is_one_request start (step ∷ past) a b (inr p) (inl q) e =
+    let low = id_below start past a p in let new = q.1.id in let n : a.id.0 ≡ b.id.0 = ap (λ i. i.0) e in absurd (omega (arith, low, new, n))
+one_id_is_one_request start (step ∷ past) a b (inr p) (inr q) e = one_id_is_one_request start past a b p q e
+
+-- What an accepted request is.
+
+same_client : (a b : ClientId) → a.0 ≡ b.0 → a ≡ b
+same_client a b e = ap (λ n. record { 0 = n }) e
+
+-- the row that the request names, or none
+row_of : (rows : List GrantRow) (q : Request) → ((row : GrantRow) × IsNamed rows q row) ⊎ ((row : GrantRow) → IsNamed rows q row → ⊥)
+row_of [] q = inr (λ row h. contains_none row h.0)
+row_of (r ∷ rs) q = ⊎_elim
+    (λ (x : (row : GrantRow) × IsNamed rs q row). inl (x.0, (contains_there r rs x.0 x.1.0, x.1.1)))
+    (λ (none : (row : GrantRow) → IsNamed rs q row → ⊥). ⊎_elim
+    (λ (client : r.client.0 ≡ q.client.0). ⊎_elim
+    (λ (number : r.number ≡ q.grant). inl (r, (contains_here r rs r refl, (same_client r.client q.client client, number))))
+    (λ (ne : r.number ≡ q.grant → ⊥). inr (λ row h. ⊎_elim
+    (λ (p : row ≡ r). ne (ap (λ (x : GrantRow). x.number) (sym p) ∙ h.1.1))
+    (λ (k : Contains rs row). none row (k, h.1)) (contains_cases r rs row h.0)))
+    (cases_eq r.number q.grant))
+    (λ (ne : r.client.0 ≡ q.client.0 → ⊥). inr (λ row h. ⊎_elim
+    (λ (p : row ≡ r). ne (ap (λ (x : GrantRow). x.client.0) (sym p) ∙ ap (λ (c : ClientId). c.0) h.1.0))
+    (λ (k : Contains rs row). none row (k, h.1)) (contains_cases r rs row h.0)))
+    (cases_eq r.client.0 q.client.0))
+    (row_of rs q)
+
+true_cases : (b : Bool) → IsTrue b ⊎ (IsTrue b → ⊥)
+true_cases b = ⊎_elim (λ t. inl t) (λ f. inr (λ t. false≢true (sym f ∙ t))) (cases_Bool b)
+
+-- whether the operation is allowed
+allows_cases : (rights : Rights) (op : Op) → Allows rights op ⊎ (Allows rights op → ⊥)
+allows_cases rights Read = true_cases rights.read
+allows_cases rights Write = true_cases rights.write
+allows_cases rights Trim = true_cases rights.trim
+allows_cases rights Flush = true_cases rights.flush
+
+-- a request that breaks no rule is granted
+pub accepted_is_granted : (m : Machine) (r : Accepted) → IsNew m r → IsGranted m.rows r
+accepted_is_granted m r new = ⊎_elim
+    (λ (x : (row : GrantRow) × IsNamed m.rows r.asked row). record {
+      row = x.0;
+      named = x.1;
+      port = new.port x.0 x.1;
+      right = ⊎_elim (λ t. t) (λ f. absurd (new.unbroken NoRight (x.0, x.1, f))) (allows_cases x.0.rights r.asked.op);
+      covered = λ op. ⊎_elim
+          (λ (lt : r.asked.first.0 < x.0.first.0). absurd (new.unbroken OutsideGrant (op, (x.0, x.1, λ c. let le = c.0 in omega (arith, lt, le)))))
+          (λ (from : x.0.first.0 ≤ r.asked.first.0). ⊎_elim
+          (λ (lt : x.0.first.0 + x.0.count < r.asked.first.0 + r.asked.count). absurd (new.unbroken OutsideGrant (op, (x.0, x.1, λ c. let le = c.1 in omega (arith, lt, le)))))
+          (λ (to : r.asked.first.0 + r.asked.count ≤ x.0.first.0 + x.0.count). (from, to))
+          (cases_lt (x.0.first.0 + x.0.count) (r.asked.first.0 + r.asked.count)))
+          (cases_lt r.asked.first.0 x.0.first.0);
+    })
+    (λ none. absurd (new.unbroken NoGrant none))
+    (row_of m.rows r.asked)
+
+-- the numbers of its frames and sectors fit
+frames_fit : (m : Machine) (r : Accepted) → IsNew m r → length r.asked.frames.items ≡ frames_for r.asked.op r.asked.count
+frames_fit m r new = ⊎_elim (λ e. e) (λ ne. absurd (new.unbroken FrameCount ne)) (cases_eq (length r.asked.frames.items) (frames_for r.asked.op r.asked.count))
+
+pub flush_empty : (m : Machine) (r : Accepted) → IsNew m r → r.asked.op ≡ Flush → r.asked.count ≡ 0
+flush_empty m r new op = ⊎_elim (λ e. e) (λ ne. absurd (new.unbroken BadCount (subst (λ (o : Op). IsCount o r.asked.count → ⊥) (sym op) ne))) (cases_eq r.asked.count 0)
+
+framed : (op : Op) (count n i : ℕ) → n ≡ frames_for op count → MovesBytes op → i < count → i / 8 < n
+framed Read count n i e b lt = omega arith
+framed Write count n i e b lt = omega arith
+framed Trim count n i e b lt = absurd b
+framed Flush count n i e b lt = absurd b
+
+-- a frame for each sector that is moved
+pub has_frame : (m : Machine) (r : Accepted) → IsNew m r → MovesBytes r.asked.op → (i : ℕ) → i < r.asked.count → i / 8 < length r.asked.frames.items
+has_frame m r new moves i lt = framed r.asked.op r.asked.count (length r.asked.frames.items) i (frames_fit m r new) moves lt
+
+-- each touch is confined
+pub touch_is_confined : (start : Machine) (h : List Step) (e : Pending) (i : ℕ) (block : Block) → IsStart start → IsLegal start h → May (after start h) (Touch e i block) → IsConfined start h e.request i
+touch_is_confined start h e i block s legal may =
+    let l = runs_lives (after start h) e may.0 in
+    let accepted = living_accepted start h s legal e l in
+    let new = was_new start h e.request accepted in
+    let place : MovesBytes e.request.asked.op → i / 8 < length e.request.asked.frames.items = λ b. has_frame new.0 e.request new.1 b i may.1 in
+    record {
+      accepted = accepted;
+      within = may.1;
+      framed = place;
+      lent = λ b. (traced start h s legal).sound.lent e l (i / 8) (place b);
+    }
+
+-- each request that is issued was accepted, and its frames are still lent to it
+pub issue_was_accepted : (start : Machine) (h : List Step) (mode : Mode) (e : Pending) → IsStart start → IsLegal start h → May (after start h) (Issue mode e)
+    → WasAccepted start h e.request × ((i : ℕ) → i < length e.request.asked.frames.items → (after start h).lent (frame_at e.request.asked.frames.items i) ≡ Some e.request.id)
+issue_was_accepted start h mode e s legal may =
+    (living_accepted start h s legal e (inl may.0), (traced start h s legal).sound.lent e (inl may.0))

@@ -1,0 +1,137 @@
+-- What stands on the disks is what the last writer in order of acceptance put there.
+use Rattle.std.proofs.Common.{◌≡◌, ℕ, ◌+◌, ◌-◌, ◌<◌, ◌≤◌, Bool, true, false, ◌&&◌, ◌==◌, List, ◌∷◌, suc, inl, inr, ⊎_elim, refl, sym, ap, ◌∙◌, subst, arith, eqb-true, eq-eqb, ne_eqb, le_refl}
+use Rattle.std.proofs.lemmas.Bool.{cases_eq, cases_lt, or_left, and_parts, and_from, cond-true, cond-false, both_ways}
+use Rattle.ata_types.specs.declared.Port.{Port}
+use Rattle.block_machine.specs.State.{Block, Disk, Accepted, Pending, Machine, waiting, sector_of, written_by}
+use Rattle.block_machine.specs.Due.{conflict, is_writer}
+use Rattle.block_machine.specs.Steps.{Step, Accept, Issue, Touch, End, Age, Again, Answer, Release, Unplug, Replace, Store, Load, May, after_step, MayMove, put_sector, disks_after}
+use Rattle.block_machine.specs.Left.{plug_count, bytes_when_plugged, IsTouch, HasTouched, Wrote, IsLast}
+use Rattle.block_machine.proofs.Sound.{Sound}
+use Rattle.block_machine.proofs.Keeps.{same_port}
+use Rattle.block_machine.proofs.Trace.{Seen, runs_lives, conflict_at, touched_number, last_from}
+
+-- each touch in the history is one that the machine has seen
+abbrev pub AllSeen : Machine → List Step → Type 0
+AllSeen m h = (w : Accepted) (k n : ℕ) → HasTouched w k n h → Seen m w k
+
+abbrev pub Holds : Machine → List Step → Machine → Type 0
+Holds start h m = (port : Port) (k : ℕ) → IsLast start port k (plug_count port h) m.next h (m.disks port k)
+
+-- a step that touches nothing and changes no disk
+content_quiet : (start : Machine) (h : List Step) (m : Machine) (step : Step) (port : Port) (k limit : ℕ) → AllSeen m h
+    → ((w : Accepted) → IsTouch step w k → ⊥) → plug_count port (step ∷ h) ≡ plug_count port h → m.next ≤ limit
+    → IsLast start port k (plug_count port h) m.next h (m.disks port k)
+    → IsLast start port k (plug_count port (step ∷ h)) limit (step ∷ h) (m.disks port k)
+content_quiet start h m step port k limit seen untouched number le last =
+    subst (λ (n : ℕ). IsLast start port k n limit (step ∷ h) (m.disks port k)) (sym number)
+    (last_from start port k (plug_count port h) m.next limit step h (m.disks port k) (le_refl _)
+    (λ w _ _ _ t. untouched w t)
+    (λ w o. let b = o.earlier in omega (arith, le, b))
+    (λ w o. (seen w k (plug_count port h) o.touched).below)
+    last)
+
+content_replace : (start : Machine) (h : List Step) (m : Machine) (at : Port) (id size : ℕ) (disk : Disk) (port : Port) (k : ℕ) → AllSeen m h
+    → IsLast start port k (plug_count port h) m.next h (m.disks port k)
+    → IsLast start port k (plug_count port (Replace at id size disk ∷ h)) m.next (Replace at id size disk ∷ h) ((after_step m (Replace at id size disk)).disks port k)
+content_replace start h m at id size disk port k seen last = ⊎_elim same other (cases_eq at.0 port.0)
+  where
+    same : at.0 ≡ port.0 → IsLast start port k (plug_count port (Replace at id size disk ∷ h)) m.next (Replace at id size disk ∷ h) ((after_step m (Replace at id size disk)).disks port k)
+    same e =
+        let t : (at.0 == port.0) ≡ true = eq-eqb at.0 port.0 e in
+        let t' : (port.0 == at.0) ≡ true = eq-eqb port.0 at.0 (sym e) in
+        let number : plug_count port (Replace at id size disk ∷ h) ≡ suc (plug_count port h) = cond-true (at.0 == port.0) (suc (plug_count port h)) (plug_count port h) t in
+        let now : (after_step m (Replace at id size disk)).disks port ≡ disk = cond-true (port.0 == at.0) disk (m.disks port) t' in
+        let put : bytes_when_plugged start port (plug_count port (Replace at id size disk ∷ h)) (Replace at id size disk ∷ h) ≡ disk =
+        cond-true ((at.0 == port.0) && suc (plug_count port h) == plug_count port (Replace at id size disk ∷ h)) disk (bytes_when_plugged start port (plug_count port (Replace at id size disk ∷ h)) h)
+        (and_from _ _ t (eq-eqb (suc (plug_count port h)) (plug_count port (Replace at id size disk ∷ h)) (sym number))) in
+        inr (
+          λ w o. ⊎_elim (λ (x : ⊥ × (plug_count w.port h ≡ plug_count port (Replace at id size disk ∷ h))). x.0)
+              (λ (x : HasTouched w k (plug_count port (Replace at id size disk ∷ h)) h).
+              let b = touched_number w k (plug_count port (Replace at id size disk ∷ h)) h x in
+              let p : plug_count w.port h ≡ plug_count port h = ap (λ (q : Port). plug_count q h) o.here in
+              let f : ⊥ = omega (arith, b, p, number) in f)
+              o.touched,
+          ap (λ (d : Disk). d k) (now ∙ sym put),
+        )
+
+    other : (at.0 ≡ port.0 → ⊥) → IsLast start port k (plug_count port (Replace at id size disk ∷ h)) m.next (Replace at id size disk ∷ h) ((after_step m (Replace at id size disk)).disks port k)
+    other ne =
+        let f : (at.0 == port.0) ≡ false = ne_eqb at.0 port.0 ne in
+        let f' : (port.0 == at.0) ≡ false = ne_eqb port.0 at.0 (λ e. ne (sym e)) in
+        let number : plug_count port (Replace at id size disk ∷ h) ≡ plug_count port h = cond-false (at.0 == port.0) (suc (plug_count port h)) (plug_count port h) f in
+        let now : (after_step m (Replace at id size disk)).disks port ≡ m.disks port = cond-false (port.0 == at.0) disk (m.disks port) f' in
+        subst (λ (d : Disk). IsLast start port k (plug_count port (Replace at id size disk ∷ h)) m.next (Replace at id size disk ∷ h) (d k)) (sym now)
+        (content_quiet start h m (Replace at id size disk) port k m.next seen (λ w t. t) number (le_refl _) last)
+
+content_touch : (start : Machine) (h : List Step) (m : Machine) (e : Pending) (i : ℕ) (block : Block) (port : Port) (k : ℕ) → Sound m → AllSeen m h → MayMove m e → i < e.request.asked.count
+    → IsLast start port k (plug_count port h) m.next h (m.disks port k)
+    → IsLast start port k (plug_count port h) m.next (Touch e i block ∷ h) (disks_after e.request i m.disks port k)
+content_touch start h m e i block port k s seen r lt last = by_op (is_writer e.request.asked.op) refl
+  where
+    -- no writer's touch of this sector
+    quiet : (left : Block) → left ≡ m.disks port k → ((w : Accepted) → is_writer w.asked.op ≡ true → w.port ≡ port → IsTouch (Touch e i block) w k → ⊥)
+        → IsLast start port k (plug_count port h) m.next (Touch e i block ∷ h) left
+    quiet left same none =
+        subst (λ (b : Block). IsLast start port k (plug_count port h) m.next (Touch e i block ∷ h) b) (sym same)
+        (last_from start port k (plug_count port h) m.next m.next (Touch e i block) h (m.disks port k) (le_refl _)
+        (λ w a b _ t. none w a b t) (λ w o. o.earlier) (λ w o. o.earlier) last)
+
+    latest : is_writer e.request.asked.op ≡ true → e.request.port ≡ port → e.request.asked.first.0 + i ≡ k
+        → (w : Accepted) → Wrote port k (plug_count port h) m.next (Touch e i block ∷ h) w → w.id.0 ≤ e.request.id.0
+    latest writes here at w o = ⊎_elim
+        (λ (t : IsTouch (Touch e i block) w k × (plug_count w.port h ≡ plug_count port h)).
+        subst (λ (j : Accepted). j.id.0 ≤ e.request.id.0) t.0.0 (le_refl _))
+        (λ (t : HasTouched w k (plug_count port h) h). ⊎_elim
+        (λ (less : e.request.id.0 < w.id.0).
+        let q = seen w k (plug_count port h) t in
+        let con : conflict (waiting e.request) (waiting w) ≡ true = conflict_at e.request w k (here ∙ sym o.here) (or_left _ _ writes) (omega (arith, at)) (omega (arith, at, lt)) q.from q.to in
+        absurd (q.order e (runs_lives m e r) less con))
+        (λ (le : w.id.0 ≤ e.request.id.0). le)
+        (cases_lt e.request.id.0 w.id.0))
+        o.touched
+
+    by_place : is_writer e.request.asked.op ≡ true → (b : Bool) → ((port.0 == e.request.port.0) && (k == e.request.asked.first.0 + i)) ≡ b
+        → IsLast start port k (plug_count port h) m.next (Touch e i block ∷ h) (put_sector e.request.port (e.request.asked.first.0 + i) (written_by e.request.asked.op e.request.held i) m.disks port k)
+    by_place writes true t =
+        let p = and_parts (port.0 == e.request.port.0) (k == e.request.asked.first.0 + i) t in
+        let here : e.request.port ≡ port = sym (same_port port e.request.port (eqb-true port.0 e.request.port.0 p.0)) in
+        let at : e.request.asked.first.0 + i ≡ k = sym (eqb-true k (e.request.asked.first.0 + i) p.1) in
+        let nth : k - e.request.asked.first.0 ≡ i = omega (arith, at) in
+        inl (
+          e.request,
+          record { writes = writes; here = here; earlier = s.below e (runs_lives m e r); touched = inl ((refl, at), ap (λ (q : Port). plug_count q h) here) },
+          latest writes here at,
+          cond-true ((port.0 == e.request.port.0) && (k == e.request.asked.first.0 + i)) (written_by e.request.asked.op e.request.held i) (m.disks port k) t
+              ∙ ap (λ (x : ℕ). written_by e.request.asked.op e.request.held x) (sym nth),
+        )
+    by_place writes false t =
+        quiet _ (cond-false ((port.0 == e.request.port.0) && (k == e.request.asked.first.0 + i)) (written_by e.request.asked.op e.request.held i) (m.disks port k) t)
+        (λ w _ here touch.
+        let port_same : port ≡ e.request.port = sym here ∙ ap (λ (j : Accepted). j.port) (sym touch.0) in
+        let k_same : k ≡ e.request.asked.first.0 + i = sym touch.1 ∙ ap (λ (j : Accepted). sector_of j i) (sym touch.0) in
+        both_ways _ t (and_from _ _ (eq-eqb port.0 e.request.port.0 (ap (λ (q : Port). q.0) port_same)) (eq-eqb k (e.request.asked.first.0 + i) k_same)))
+
+    by_op : (b : Bool) → is_writer e.request.asked.op ≡ b
+        → IsLast start port k (plug_count port h) m.next (Touch e i block ∷ h) (disks_after e.request i m.disks port k)
+    by_op true w =
+        subst (λ (d : Port → Disk). IsLast start port k (plug_count port h) m.next (Touch e i block ∷ h) (d port k))
+        (sym (cond-true (is_writer e.request.asked.op) (put_sector e.request.port (e.request.asked.first.0 + i) (written_by e.request.asked.op e.request.held i) m.disks) m.disks w))
+        (by_place w _ refl)
+    by_op false w =
+        quiet _ (ap (λ (d : Port → Disk). d port k) (cond-false (is_writer e.request.asked.op) (put_sector e.request.port (e.request.asked.first.0 + i) (written_by e.request.asked.op e.request.held i) m.disks) m.disks w))
+        (λ x writes here touch. both_ways _ w (subst (λ (j : Accepted). is_writer j.asked.op ≡ true) (sym touch.0) writes))
+
+-- the disks hold what was last put there, after each step
+pub content_step : (start : Machine) (h : List Step) (m : Machine) (step : Step) → May m step → Sound m → AllSeen m h → Holds start h m → Holds start (step ∷ h) (after_step m step)
+content_step start h m (Accept request) may s seen c port k = content_quiet start h m (Accept request) port k (suc m.next) seen (λ w t. t) refl (omega arith) (c port k)
+content_step start h m (Issue mode e) may s seen c port k = content_quiet start h m (Issue mode e) port k m.next seen (λ w t. t) refl (le_refl _) (c port k)
+content_step start h m (Touch e i block) may s seen c port k = content_touch start h m e i block port k s seen may.0 may.1 (c port k)
+content_step start h m (End e) may s seen c port k = content_quiet start h m (End e) port k m.next seen (λ w t. t) refl (le_refl _) (c port k)
+content_step start h m (Age ready) may s seen c port k = content_quiet start h m (Age ready) port k m.next seen (λ w t. t) refl (le_refl _) (c port k)
+content_step start h m (Again e) may s seen c port k = content_quiet start h m (Again e) port k m.next seen (λ w t. t) refl (le_refl _) (c port k)
+content_step start h m (Answer e outcome) may s seen c port k = content_quiet start h m (Answer e outcome) port k m.next seen (λ w t. t) refl (le_refl _) (c port k)
+content_step start h m Release may s seen c port k = content_quiet start h m Release port k m.next seen (λ w t. t) refl (le_refl _) (c port k)
+content_step start h m (Unplug at) may s seen c port k = content_quiet start h m (Unplug at) port k m.next seen (λ w t. t) refl (le_refl _) (c port k)
+content_step start h m (Replace at id size disk) may s seen c port k = content_replace start h m at id size disk port k seen (c port k)
+content_step start h m (Store client frame offset bytes) may s seen c port k = content_quiet start h m (Store client frame offset bytes) port k m.next seen (λ w t. t) refl (le_refl _) (c port k)
+content_step start h m (Load client frame offset bytes) may s seen c port k = content_quiet start h m (Load client frame offset bytes) port k m.next seen (λ w t. t) refl (le_refl _) (c port k)

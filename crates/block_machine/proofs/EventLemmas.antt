@@ -1,0 +1,235 @@
+-- Runs of events as histories of steps, and the laws over them.
+use Rattle.std.proofs.Common.{◌≡◌, ◌⊎◌, ℕ, ◌+◌, ◌*◌, ◌/◌, ◌%◌, ◌<◌, Bool, true, false, List, [], ◌∷◌, ◌++◌, length, Option, Some, None, inl, inr, ⊎_elim, refl, sym, ap, ◌∙◌, subst, arith, eq-eqb}
+use Rattle.std.proofs.lemmas.Bool.{cond-true, cond-false, cond_both}
+use Rattle.std.specs.List.{list_any}
+use Rattle.ata_types.specs.declared.request.Frame.{Frame}
+use Rattle.ata_types.specs.declared.request.RequestId.{RequestId}
+use Rattle.ata_types.specs.declared.request.Outcome.TheVariants.{Ok, DeviceError, Aborted, Unplugged, PortDead}
+use Rattle.block_machine.specs.State.{Block, Memory, Pending, Machine, frame_at, is_reader}
+use Rattle.block_machine.specs.Steps.{Step, Accept, Touch, Answer, Release, Store, May, after_step, stays, unlend, is_lent_to, put_bytes, memory_after}
+use Rattle.block_machine.specs.Left.{after, IsLegal, IsStart, AllTold}
+use Rattle.block_machine.specs.Durable.{IsVolatile, EveryPlugFinds}
+use Rattle.block_machine.specs.Events.{Ports, Moment, Ask, Submit, StoreAt, LoadAt, Service, Tick, Reset, State, Device, Event, Evidence, AllMay, IsDevices, IsServers, Belong, AllLawful, moment_of, IsRun, steps_of, AnswerHolds, AnswersHold, EveryReadHolds}
+use Rattle.block_machine.proofs.Order.{In}
+use Rattle.block_machine.proofs.Sound.{Sound}
+use Rattle.block_machine.proofs.Trace.{runs_lives}
+use Rattle.block_machine.proofs.Reading.{put_other}
+use Rattle.block_machine.proofs.Runs.{traced, read_holds_left}
+use Rattle.block_machine.proofs.Lasting.{IsWhole, AllWhole, every_plug_finds}
+
+-- Steps one after the other.
+
+pub after-append : (start : Machine) (late early : List Step) → after start (late ++ early) ≡ after (after start early) late
+after-append start [] early = refl
+after-append start (step ∷ late) early = ap (λ (m : Machine). after_step m step) (after-append start late early)
+
+pub legal_more : (start : Machine) (late early : List Step) → IsLegal start early → AllMay (after start early) late → IsLegal start (late ++ early)
+legal_more start [] early l a = l
+legal_more start (step ∷ late) early l a =
+    (legal_more start late early l a.0, subst (λ (m : Machine). May m step) (sym (after-append start late early)) a.1)
+
+-- the machine of a run is the one that its steps leave
+pub moment_is : (first : Moment) (run : List Event) → (moment_of first run).machine ≡ after first.machine (steps_of run)
+moment_is first [] = refl
+moment_is first (event ∷ past) = ap (λ (m : Machine). after m event.steps) (moment_is first past) ∙ sym (after-append first.machine event.steps (steps_of past))
+
+pub run_starts : (first : Moment) (run : List Event) → IsRun first run → IsStart first.machine
+run_starts first [] r = r
+run_starts first (event ∷ past) r = run_starts first past r.0
+
+pub run_legal : (first : Moment) (run : List Event) → IsRun first run → IsLegal first.machine (steps_of run)
+run_legal first [] r = tt
+run_legal first (event ∷ past) r = legal_more first.machine event.steps (steps_of past) (run_legal first past r.0)
+    (subst (λ (m : Machine). AllMay m event.steps) (moment_is first past) r.1.may)
+
+-- Each Ok is told of a whole request.
+
+answer_whole : (old : Machine) (evidence : Evidence) (step : Step) (before : List Step) → AllLawful old evidence (step ∷ before) → AllLawful old evidence before × IsWhole step
+answer_whole old evidence (Answer e Ok) before l = (l.0, (l.1.2, l.1.3))
+answer_whole old evidence (Answer e (DeviceError status error)) before l = (l.0, tt)
+answer_whole old evidence (Answer e Aborted) before l = (l.0, tt)
+answer_whole old evidence (Answer e Unplugged) before l = (l.0, tt)
+answer_whole old evidence (Answer e PortDead) before l = (l.0, tt)
+answer_whole old evidence _ before l = (l, tt)
+
+call_whole : (old : Machine) (evidence : Evidence) (steps past : List Step) → AllLawful old evidence steps → AllWhole past → AllWhole (steps ++ past)
+call_whole old evidence [] past l w = w
+call_whole old evidence (step ∷ before) past l w =
+    let q = answer_whole old evidence step before l in (call_whole old evidence before past q.0 w, q.1)
+
+pub run_whole : (first : Moment) (run : List Event) → IsRun first run → AllWhole (steps_of run)
+run_whole first [] r = tt
+run_whole first (event ∷ past) r = call_whole (moment_of first past).machine event.evidence event.steps (steps_of past) r.1.lawful (run_whole first past r.0)
+
+-- a disk that comes back in a run has the writes that were flushed
+pub run_finds : (first : Moment) (run : List Event) → IsRun first run → IsVolatile first.machine (steps_of run) → EveryPlugFinds first.machine (steps_of run)
+run_finds first run r back = every_plug_finds first.machine (steps_of run) (run_starts first run r) (run_legal first run r) (run_whole first run r) back
+
+-- In a call that answers, no request is accepted and no client stores.
+
+abbrev IsQuiet : Step → Type 0
+IsQuiet (Accept r) = ⊥
+IsQuiet (Store client frame offset bytes) = ⊥
+IsQuiet _ = Unit {0}
+
+abbrev IsSilent : Step → Type 0
+IsSilent (Answer e outcome) = ⊥
+IsSilent _ = Unit {0}
+
+devices_quiet : (step : Step) → IsDevices step → IsQuiet step × IsSilent step
+devices_quiet (Accept r) d = absurd d
+devices_quiet (Store client frame offset bytes) d = absurd d
+devices_quiet (Answer e outcome) d = absurd d
+devices_quiet _ d = (tt, tt)
+
+quiet_service : (ports : Ports) (step : Step) → IsServers Service ports step → IsQuiet step
+quiet_service ports (Accept r) h = absurd h
+quiet_service ports (Store client frame offset bytes) h = absurd h
+quiet_service ports _ h = tt
+
+quiet_tick : (ports : Ports) (step : Step) → IsServers Tick ports step → IsQuiet step
+quiet_tick ports (Accept r) h = absurd h
+quiet_tick ports (Store client frame offset bytes) h = absurd h
+quiet_tick ports _ h = tt
+
+quiet_reset : (ports : Ports) (step : Step) → IsServers Reset ports step → IsQuiet step
+quiet_reset ports (Accept r) h = absurd h
+quiet_reset ports (Store client frame offset bytes) h = absurd h
+quiet_reset ports _ h = tt
+
+abbrev Quiet : Ask → Ports → Type 0
+Quiet ask ports = (step : Step) → IsServers ask ports step → IsQuiet step
+
+abbrev Silent : Ask → Ports → Type 0
+Silent ask ports = (step : Step) → IsServers ask ports step → IsSilent step
+
+quiet_or_silent : (ask : Ask) (ports : Ports) → Quiet ask ports ⊎ Silent ask ports
+quiet_or_silent Service ports = inl (quiet_service ports)
+quiet_or_silent Tick ports = inl (quiet_tick ports)
+quiet_or_silent Reset ports = inl (quiet_reset ports)
+quiet_or_silent (Submit r) ports = inr go
+  where
+    go : (step : Step) → IsServers (Submit r) ports step → IsSilent step
+    go (Answer e outcome) h = absurd h
+    go _ h = tt
+quiet_or_silent (StoreAt c f o b) ports = inr go
+  where
+    go : (step : Step) → IsServers (StoreAt c f o b) ports step → IsSilent step
+    go (Answer e outcome) h = absurd h
+    go _ h = tt
+quiet_or_silent (LoadAt c f o n) ports = inr go
+  where
+    go : (step : Step) → IsServers (LoadAt c f o n) ports step → IsSilent step
+    go (Answer e outcome) h = absurd h
+    go _ h = tt
+quiet_or_silent (State port) ports = inr go
+  where
+    go : (step : Step) → IsServers (State port) ports step → IsSilent step
+    go (Answer e outcome) h = absurd h
+    go _ h = tt
+quiet_or_silent Device ports = inr go
+  where
+    go : (step : Step) → IsServers Device ports step → IsSilent step
+    go (Answer e outcome) h = absurd h
+    go _ h = tt
+
+-- What stands in frames that are lent to none stays, until a request is accepted or a client stores.
+
+abbrev Stays : Memory → Machine → Type 0
+Stays memory m = (f : Frame) → m.lent f ≡ None → (b : ℕ) → memory f b ≡ m.memory f b
+
+some_none : (o : Option RequestId) (id : RequestId) → o ≡ Some id → o ≡ None → ⊥
+some_none o id p q = none_some (sym q ∙ p)
+  where
+    none_some : None ≡ Some id → ⊥
+    none_some p = cc
+
+unlent_none : (id : RequestId) (lent : Frame → Option RequestId) (f : Frame) → lent f ≡ None → unlend id lent f ≡ None
+unlent_none id lent f e = cond-false (is_lent_to id (lent f)) None (lent f) (ap (is_lent_to id) e) ∙ e
+
+stays_touch : (m : Machine) → Sound m → (e : Pending) (i : ℕ) (block : Block) → May m (Touch e i block) → (f : Frame) → m.lent f ≡ None → (b : ℕ) → (after_step m (Touch e i block)).memory f b ≡ m.memory f b
+stays_touch m s e i block may f none b = by (is_reader e.request.asked.op) refl
+  where
+    by : (t : Bool) → is_reader e.request.asked.op ≡ t → memory_after e.request i block m.memory f b ≡ m.memory f b
+    by false t = ap (λ (x : Memory). x f b) (cond-false (is_reader e.request.asked.op) (put_bytes (frame_at e.request.asked.frames.items (i / 8)) (512 * (i % 8)) 512 block m.memory) m.memory t)
+    by true t =
+        let l = runs_lives m e may.0 in
+        let room = s.room e l t in
+        let place : i / 8 < length e.request.asked.frames.items = omega (arith, room, may.1) in
+        ap (λ (x : Memory). x f b) (cond-true (is_reader e.request.asked.op) (put_bytes (frame_at e.request.asked.frames.items (i / 8)) (512 * (i % 8)) 512 block m.memory) m.memory t)
+        ∙ put_other (frame_at e.request.asked.frames.items (i / 8)) f (512 * (i % 8)) b 512 block m.memory
+        (λ same _ _. some_none (m.lent f) e.request.id (ap m.lent (sym same) ∙ s.lent e l (i / 8) place) none)
+
+stays_step : (memory : Memory) (m : Machine) (step : Step) → May m step → Sound m → IsQuiet step → Stays memory (after_step m step) → Stays memory m
+stays_step memory m (Touch e i block) may s q h = λ f none b. h f none b ∙ stays_touch m s e i block may f none b
+stays_step memory m (Answer e outcome) may s q h = λ f none b. h f
+    (cond_both (stays e outcome) m.lent (unlend e.request.id m.lent) (λ lent. lent f ≡ None) (λ _. none) (λ _. unlent_none e.request.id m.lent f none)) b
+stays_step memory m Release may s q h = λ f none b. h f
+    (cond_both (list_any (λ e. is_lent_to e.request.id (m.lent f)) m.kept) None (m.lent f) (λ o. o ≡ None) (λ _. refl) (λ _. none)) b
+stays_step memory m (Accept r) may s q h = absurd q
+stays_step memory m (Store client frame offset bytes) may s q h = absurd q
+stays_step memory m _ may s q h = h
+
+-- a read that is answered Ok has in the last memory what is left
+answer_holds : (start : Machine) (memory : Memory) (past : List Step) (step : Step) → IsStart start → IsLegal start (step ∷ past) → AllTold start past → IsWhole step
+    → Stays memory (after start (step ∷ past)) → AnswerHolds start memory past step
+answer_holds start memory past (Answer e Ok) s l told w stays = λ op.
+    let m = after start past in
+    let sound = (traced start past s l.0).sound in
+    let holds = read_holds_left start past e s l.0 told l.1 w.0 op in
+    let room = sound.room e (inl l.1) (ap is_reader op) in
+    let gone : (i : ℕ) → i < length e.request.asked.frames.items → unlend e.request.id m.lent (frame_at e.request.asked.frames.items i) ≡ None = λ i lt.
+    cond-true (is_lent_to e.request.id (m.lent (frame_at e.request.asked.frames.items i))) None (m.lent (frame_at e.request.asked.frames.items i))
+    (ap (is_lent_to e.request.id) (sound.lent e (inl l.1) i lt) ∙ eq-eqb e.request.id.0 e.request.id.0 refl) in
+    record {
+      sectors = λ i lt. let q = holds.sectors i lt in
+          (q.0, q.1, λ b lb. stays (frame_at e.request.asked.frames.items (i / 8)) (gone (i / 8) (omega (arith, room, lt))) (512 * (i % 8) + b) ∙ q.2 b lb);
+      rest = λ i b beyond lt lb. stays (frame_at e.request.asked.frames.items (i / 8)) (gone (i / 8) (omega (arith, lt))) (512 * (i % 8) + b) ∙ holds.rest i b beyond lt lb;
+    }
+answer_holds start memory past (Answer e (DeviceError status error)) s l told w stays = tt
+answer_holds start memory past (Answer e Aborted) s l told w stays = tt
+answer_holds start memory past (Answer e Unplugged) s l told w stays = tt
+answer_holds start memory past (Answer e PortDead) s l told w stays = tt
+answer_holds start memory past _ s l told w stays = tt
+
+-- so has each read of a call that answers
+answers_hold : (start : Machine) (memory : Memory) (steps past : List Step) → IsStart start → IsLegal start (steps ++ past) → AllTold start (steps ++ past) → AllWhole (steps ++ past)
+    → ((step : Step) → In step steps → IsQuiet step) → Stays memory (after start (steps ++ past)) → AnswersHold start memory past steps
+answers_hold start memory [] past s l told w quiet stays = tt
+answers_hold start memory (step ∷ before) past s l told w quiet stays = (
+  answers_hold start memory before past s l.0 told.0 w.0 (λ x i. quiet x (inr i))
+      (stays_step memory (after start (before ++ past)) step l.1 (traced start (before ++ past) s l.0).sound (quiet step (inl refl)) stays),
+  answer_holds start memory (before ++ past) step s l told.0 w.1 stays,
+)
+
+silent_holds : (start : Machine) (memory : Memory) (past : List Step) (step : Step) → IsSilent step → AnswerHolds start memory past step
+silent_holds start memory past (Answer e outcome) h = absurd h
+silent_holds start memory past _ h = tt
+
+silents_hold : (start : Machine) (memory : Memory) (steps past : List Step) → ((step : Step) → In step steps → IsSilent step) → AnswersHold start memory past steps
+silents_hold start memory [] past h = tt
+silents_hold start memory (step ∷ before) past h = (silents_hold start memory before past (λ x i. h x (inr i)), silent_holds start memory (before ++ past) step (h step (inl refl)))
+
+belongs : (ask : Ask) (ports : Ports) (steps : List Step) → Belong ask ports steps → (step : Step) → In step steps → IsDevices step ⊎ IsServers ask ports step
+belongs ask ports [] b step i = absurd i
+belongs ask ports (x ∷ xs) b step (inl e) = subst (λ (y : Step). IsDevices y ⊎ IsServers ask ports y) (sym e) b.1
+belongs ask ports (x ∷ xs) b step (inr i) = belongs ask ports xs b.0 step i
+
+-- each read of a run that was answered Ok has, at the end of its call, what is left
+pub every_read_holds : (first : Moment) (run : List Event) → IsRun first run → AllTold first.machine (steps_of run) → EveryReadHolds first run
+every_read_holds first [] r told = tt
+every_read_holds first (event ∷ past) r told = (
+  every_read_holds first past r.0 (told_before event.steps (steps_of past) told),
+  ⊎_elim
+      (λ (q : Quiet event.ask event.ports). answers_hold first.machine (moment_of first (event ∷ past)).machine.memory event.steps (steps_of past)
+      (run_starts first past r.0) (run_legal first (event ∷ past) r) told (run_whole first (event ∷ past) r)
+      (λ step i. ⊎_elim (λ d. (devices_quiet step d).0) (λ h. q step h) (belongs event.ask event.ports event.steps r.1.belong step i))
+      (λ f none b. ap (λ (m : Machine). m.memory f b) (moment_is first (event ∷ past))))
+      (λ (q : Silent event.ask event.ports). silents_hold first.machine (moment_of first (event ∷ past)).machine.memory event.steps (steps_of past)
+      (λ step i. ⊎_elim (λ d. (devices_quiet step d).1) (λ h. q step h) (belongs event.ask event.ports event.steps r.1.belong step i)))
+      (quiet_or_silent event.ask event.ports),
+)
+  where
+    told_before : (late early : List Step) → AllTold first.machine (late ++ early) → AllTold first.machine early
+    told_before [] early t = t
+    told_before (step ∷ late) early t = told_before late early t.0

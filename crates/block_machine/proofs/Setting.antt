@@ -1,0 +1,156 @@
+-- A machine with one client, one row and small requests, and what holds of requests there.
+use Rattle.std.proofs.Common.{◌≡◌, ◌≢◌, ℕ, ◌+◌, ◌^◌, ◌<◌, ◌≤◌, Bool, true, false, cond, ◌&&◌, List, [], ◌∷◌, length, slice_get, Option, Some, None, IsSome, is_some, ⊎_elim, refl, sym, ap, ◌∙◌, subst, arith, leb-true, ltb-true}
+use Rattle.std.proofs.lemmas.Bool.{false≢true}
+use Rattle.std.proofs.lemmas.Option.{slice_get_within}
+use Rattle.std.specs.List.{Contains}
+use Rattle.std.specs.Prelude.{nat_le, nat_lt}
+use Rattle.ata_types.specs.declared.Port.{Port}
+use Rattle.ata_types.specs.declared.PortState.TheVariants.{Ready}
+use Rattle.ata_types.specs.declared.request.ClientId.{ClientId}
+use Rattle.ata_types.specs.declared.request.Frame.{Frame}
+use Rattle.ata_types.specs.declared.request.RequestId.{RequestId}
+use Rattle.ata_types.specs.declared.request.Request.{Request}
+use Rattle.ata_types.specs.declared.request.Op.{Op}
+use Rattle.ata_types.specs.declared.request.Op.TheVariants.{Trim, Flush}
+use Rattle.ata_types.specs.declared.grant.GrantRow.{GrantRow}
+use Rattle.ata_types.specs.declared.refusal.FrameFault.TheVariants.{FrameForeign, FrameTwice, FrameLent}
+use Rattle.ata_types.specs.declared.refusal.Rule.TheVariants.{NoGrant, NoRight, BadCount, OutsideGrant, FrameCount, Frames}
+use Rattle.ata_types.specs.declared.refusal.Refusal.TheVariants as refused
+use Rattle.ata_types.specs.Grant.{Allows, Covers}
+use Rattle.block_machine.specs.Rules.{IsNamed, IsCount, frames_for}
+use Rattle.block_machine.specs.Refusals.{Situation, IsAcceptable}
+use Rattle.block_machine.specs.State.{Memory, Machine}
+use Rattle.block_machine.specs.Left.{IsStart}
+use Rattle.block_machine.proofs.Members.{contains_none, contains_here, contains_cases}
+
+abbrev pub client : ClientId
+client = record { 0 = 1 }
+
+abbrev pub port : Port
+port = record { 0 = 0 }
+
+abbrev pub frame : ℕ → Frame
+frame n = record { 0 = n }
+
+abbrev pub row : GrantRow
+row = record { client = client; number = 0; port = port; first = record { 0 = 100 }; count = 64; rights = record { read = true; write = true; trim = true; flush = true } }
+
+abbrev pub request : Op → ℕ → ℕ → List Frame → Request
+request op first count frames = record { client = client; grant = 0; op = op; first = record { 0 = first }; count = count; frames = record { items = frames } }
+
+abbrev pub owner : Frame → Option ClientId
+owner f = cond (nat_le 40 f.0 && nat_lt f.0 80) (Some client) None
+
+-- frames of zeros, and a disk of 200 zero sectors
+abbrev pub empty : Machine
+empty = record {
+  present = λ p. true;
+  disk_ids = λ p. 0;
+  sizes = λ p. 200;
+  disks = λ p k b. 0;
+  book = [];
+  kept = [];
+  lent = λ f. None;
+  memory = λ f b. 0;
+  rows = row ∷ [];
+  owner = owner;
+  next = 1;
+}
+
+pub only_row : (r : GrantRow) → Contains (row ∷ []) r → r ≡ row
+only_row r h = ⊎_elim (λ p. p) (λ n. absurd (contains_none r n)) (contains_cases row [] r h)
+
+-- it is a start, whatever its frames hold
+pub filled_starts : (memory : Memory) → IsStart (record empty { memory = memory })
+filled_starts memory = record {
+  book = refl;
+  kept = refl;
+  lent = λ f. refl;
+  next = refl;
+  rows = λ i j d lt below. absurd (omega (arith, lt, below));
+  owned = λ f c e. within f (nat_le 40 f.0) (nat_lt f.0 80) refl refl c e;
+}
+  where
+    within : (f : Frame) (a b : Bool) → nat_le 40 f.0 ≡ a → nat_lt f.0 80 ≡ b → (c : ClientId) → cond (a && b) (Some client) None ≡ Some c → (1 ≤ c.0) × (c.0 ≤ 8) × (40 ≤ f.0) × (f.0 < 1024)
+    within f true true low high c e =
+        let is : client ≡ c = cc in
+        let n : 1 ≡ c.0 = ap (λ (x : ClientId). x.0) is in
+        let l : 40 ≤ f.0 = leb-true 40 f.0 low in
+        let h : f.0 < 80 = ltb-true f.0 80 high in
+        (omega (arith, n), omega (arith, n), l, omega (arith, h))
+    within f true false low high c e = absurd (none_some c e)
+      where
+        none_some : (c : ClientId) → None ≡ Some c → ⊥
+        none_some c e = cc
+    within f false b low high c e = absurd (none_some c e)
+      where
+        none_some : (c : ClientId) → None ≡ Some c → ⊥
+        none_some c e = cc
+
+pub empty_starts : IsStart empty
+empty_starts = filled_starts (λ f b. 0)
+
+abbrev pub is_trim : Op → Bool
+is_trim Trim = true
+is_trim _ = false
+
+-- what makes a request of this client acceptable
+pub record IsFit (s : Situation) (r : Request) : Type 0 where
+  pub rows : s.rows ≡ row ∷ []
+  pub client_is : r.client ≡ client
+  pub grant : r.grant ≡ 0
+  pub allowed : Allows row.rights r.op
+  pub count : IsCount r.op r.count
+  pub covered : r.op ≢ Flush → Covers row r.first.0 r.count
+  pub frames : length r.frames.items ≡ frames_for r.op r.count
+  pub single : length r.frames.items ≤ 1
+  pub owned : (f : Frame) → slice_get r.frames.items 0 ≡ Some f → s.owner f ≡ Some client
+  pub free : (f : Frame) → slice_get r.frames.items 0 ≡ Some f → s.lent f ≡ None
+  pub ready : s.state port ≡ Ready
+  pub on_disk : r.op ≢ Flush → r.first.0 + r.count ≤ s.sectors port
+  pub no_trim : r.op ≢ Trim
+  pub few : s.unanswered client < 16
+  pub ids : s.next < 2 ^ 64
+
+pub acceptable : (s : Situation) (r : Request) → IsFit s r → IsAcceptable s r
+acceptable s r fit = go
+  where
+    named : IsNamed s.rows r row
+    named = (subst (λ (rows : List GrantRow). Contains rows row) (sym fit.rows) (contains_here row [] row refl), (sym fit.client_is, sym fit.grant))
+
+    is_row : (x : GrantRow) → IsNamed s.rows r x → x ≡ row
+    is_row x h = only_row x (subst (λ (rows : List GrantRow). Contains rows x) fit.rows h.0)
+
+    first_place : (i : ℕ) (f : Frame) → slice_get r.frames.items i ≡ Some f → slice_get r.frames.items 0 ≡ Some f
+    first_place i f e =
+        let lt = slice_get_within r.frames.items i f e in
+        let few = fit.single in
+        let z : i ≡ 0 = omega (arith, lt, few) in
+        subst (λ (k : ℕ). slice_get r.frames.items k ≡ Some f) z e
+
+    none_is_some : (o : Option RequestId) → o ≡ None → IsSome o → ⊥
+    none_is_some o e h = false≢true (sym (ap is_some e) ∙ h)
+
+    go : IsAcceptable s r
+    go (refused.Rule NoGrant) h = h row named
+    go (refused.Rule NoRight) h = h.2 (subst (λ (x : GrantRow). Allows x.rights r.op) (sym (is_row h.0 h.1)) fit.allowed)
+    go (refused.Rule BadCount) h = h fit.count
+    go (refused.Rule OutsideGrant) h = h.1.2 (subst (λ (x : GrantRow). Covers x r.first.0 r.count) (sym (is_row h.1.0 h.1.1)) (fit.covered h.0))
+    go (refused.Rule FrameCount) h = h fit.frames
+    go (refused.Rule (Frames (FrameForeign i))) h = h.2 (fit.owned h.0 (first_place i h.0 h.1) ∙ ap Some (sym fit.client_is))
+    go (refused.Rule (Frames (FrameTwice i))) h =
+        let lt = slice_get_within r.frames.items i h.0 h.4 in
+        let few = fit.single in
+        omega (arith, lt, few, h.2)
+    go (refused.Rule (Frames (FrameLent i))) h = none_is_some (s.lent h.0) (fit.free h.0 (first_place i h.0 h.1)) h.2
+    go (refused.PortNotReady state) h = h.0 (sym h.1.2 ∙ ap (λ (x : GrantRow). s.state x.port) (is_row h.1.0 h.1.1) ∙ fit.ready)
+    go refused.OutsideDisk h =
+        let least = fit.on_disk h.0 in
+        let size : s.sectors h.1.0.port ≡ s.sectors port = ap (λ (x : GrantRow). s.sectors x.port) (is_row h.1.0 h.1.1) in
+        omega (arith, least, size, h.1.2)
+    go refused.TrimUnsupported h = fit.no_trim h.0
+    go refused.ClientFull h =
+        let few = fit.few in
+        let same : s.unanswered r.client ≡ s.unanswered client = ap s.unanswered fit.client_is in
+        omega (arith, few, same, h)
+    go refused.IdsSpent h = let ids = fit.ids in omega (arith, ids, h)

@@ -1,0 +1,11 @@
+use Rattle.block_machine.specs.PlainLeft.{history_of}
+use Rattle.block_machine.proofs.PlainLeft.{left_by_writer, left_by_disk}
+use Rattle.block_machine.proofs.history.left.Goals as goal
+
+pub returns-in-Some : goal.returns-in-Some
+returns-in-Some c = left_by_writer c.args.start (history_of c.args.history.now) c.args.read.now c.args.sector c.disk_read-disk.result c.written.result c.in-Some.writer c.last_writer.result
+    c.disk_read-disk.ensures c.last_writer.ensures c.in-Some.is c.written.ensures
+
+pub returns-in-None : goal.returns-in-None
+returns-in-None c = left_by_disk c.args.start (history_of c.args.history.now) c.args.read.now c.args.sector c.disk_read-disk.result c.bytes_when_plugged.result c.last_writer.result
+    c.disk_read-disk.ensures c.last_writer.ensures c.in-None.is c.bytes_when_plugged.ensures

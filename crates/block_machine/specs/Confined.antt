@@ -1,0 +1,55 @@
+-- What a request that moves data may reach.
+use Rattle.std.specs.Prelude.{◌≡◌, ◌≢◌, ◌⊎◌, ℕ, ◌*◌, ◌/◌, ◌<◌, ◌≤◌, true, Some, length, List, [], ◌∷◌}
+use Rattle.ata_types.specs.declared.request.ClientId.{ClientId}
+use Rattle.ata_types.specs.declared.request.Op.{Op}
+use Rattle.ata_types.specs.declared.request.Op.TheVariants.{Read, Write, Trim, Flush}
+use Rattle.ata_types.specs.declared.grant.GrantRow.{GrantRow}
+use Rattle.ata_types.specs.Grant.{Allows, Covers}
+use Rattle.block_machine.specs.Rules.{IsNamed}
+use Rattle.block_machine.specs.State.{Accepted, Pending, Machine, block_of, frame_at, is_reader}
+use Rattle.block_machine.specs.Steps.{Step, IsNew, IsLiving, unanswered_of}
+use Rattle.block_machine.specs.Left.{after, IsAccept}
+
+-- a row of the client grants the request: its port, its operation, and, but for a flush, its sectors
+pub record IsGranted (rows : List GrantRow) (r : Accepted) : Type 0 where
+  pub row : GrantRow
+  pub named : IsNamed rows r.asked row
+  pub port : r.port ≡ row.port
+  pub right : Allows row.rights r.asked.op
+  pub covered : r.asked.op ≢ Flush → Covers row r.asked.first.0 r.asked.count
+
+-- the request was accepted in the history: it broke no rule then, and had its row's port and its frames' bytes
+abbrev pub WasAccepted : Machine → List Step → Accepted → Type 0
+WasAccepted start [] r = ⊥
+WasAccepted start (step ∷ past) r = (IsAccept step r × IsNew (after start past) r) ⊎ WasAccepted start past r
+
+-- the operation moves bytes between disk and frames
+abbrev pub MovesBytes : Op → Type 0
+MovesBytes Read = Unit {0}
+MovesBytes Write = Unit {0}
+MovesBytes Trim = ⊥
+MovesBytes Flush = ⊥
+
+-- A sector of a request that is touched: the request was accepted, the sector is one of its own, and the frame of its
+-- place is lent to it.
+pub record IsConfined (start : Machine) (history : List Step) (r : Accepted) (i : ℕ) : Type 0 where
+  pub accepted : WasAccepted start history r
+  pub within : i < r.asked.count
+  pub framed : MovesBytes r.asked.op → i / 8 < length r.asked.frames.items
+  pub lent : MovesBytes r.asked.op → (after start history).lent (frame_at r.asked.frames.items (i / 8)) ≡ Some r.id
+
+-- The frames hold what they held at acceptance, but for the sectors of a read: so a write's hold its bytes.
+abbrev pub IsHeld : Machine → Accepted → Type 0
+IsHeld m r = (i b : ℕ) → (is_reader r.asked.op ≡ true → r.asked.count ≤ i) → i < 8 * length r.asked.frames.items → b < 512
+    → block_of m.memory r.asked.frames.items i b ≡ r.held i b
+
+-- A client has at most 16 unanswered requests. A request that is unanswered or kept was issued at most four times, and
+-- once at least where it is issued; its frames are its client's, and lent to it: so no frame is lent to two.
+pub record WithinLimits (m : Machine) : Type 0 where
+  pub few : (client : ClientId) → unanswered_of m.book client ≤ 16
+  pub issues : (e : Pending) → IsLiving m e → e.issues ≤ 4
+  pub issued : (e : Pending) → IsLiving m e → e.issued ≡ true → 1 ≤ e.issues
+  pub lent : (e : Pending) → IsLiving m e → (i : ℕ) → i < length e.request.asked.frames.items
+      → m.lent (frame_at e.request.asked.frames.items i) ≡ Some e.request.id
+  pub owned : (e : Pending) → IsLiving m e → (i : ℕ) → i < length e.request.asked.frames.items
+      → m.owner (frame_at e.request.asked.frames.items i) ≡ Some e.request.asked.client

@@ -1,0 +1,103 @@
+-- Which unanswered requests are due to be issued: a condition on each request of the book (this project's own).
+-- A port serves reads and writes queued (native command queuing, up to `usable` at a time) or plain, one at a time.
+use Rattle.std.specs.Prelude.{◌≡◌, ℕ, ◌-◌, ◌<◌, Bool, true, false, not, ◌&&◌, ◌||◌, ◌==◌, nat_lt, if◌then◌else◌, List, map, count_by, Contains, AllPairs}
+use Rattle.std.specs.List.{list_any}
+use Rattle.ata_types.specs.declared.Port.{Port}
+use Rattle.ata_types.specs.declared.range.Range.{Range}
+use Rattle.ata_types.specs.declared.request.Op.{Op}
+use Rattle.ata_types.specs.declared.request.Op.TheVariants.{Read, Write, Trim, Flush}
+use Rattle.ata_types.specs.declared.request.RequestId.{RequestId}
+use Rattle.ata_types.specs.Range.{range_end}
+use Rattle.block_machine.specs.declared.due.Mode.{Mode}
+use Rattle.block_machine.specs.declared.due.Unanswered.{Unanswered}
+
+-- the operation is a flush
+abbrev pub is_flush : Op → Bool
+is_flush Read = false
+is_flush Write = false
+is_flush Trim = false
+is_flush Flush = true
+
+-- the operation changes sectors
+abbrev pub is_writer : Op → Bool
+is_writer Read = false
+is_writer Write = true
+is_writer Trim = true
+is_writer Flush = false
+
+-- the ranges have a sector in common
+abbrev pub overlap : Range → Range → Bool
+overlap a b = (nat_lt a.first.0 (range_end b) && nat_lt b.first.0 (range_end a)) && (nat_lt 0 a.count && nat_lt 0 b.count)
+
+-- two requests of one port conflict if one is a flush, or if one of them writes or trims and their ranges overlap
+abbrev pub conflict : Unanswered → Unanswered → Bool
+conflict a b = a.port.0 == b.port.0
+    && ((is_flush a.op || is_flush b.op) || ((is_writer a.op || is_writer b.op) && overlap a.range b.range))
+
+-- trims and flushes are plain, and so are reads and writes where commands aren't queued
+abbrev pub is_plain : Mode → Op → Bool
+is_plain mode Read = not mode.queued
+is_plain mode Write = not mode.queued
+is_plain mode Trim = true
+is_plain mode Flush = true
+
+-- the one was accepted before the other, on the same port
+abbrev pub is_earlier : Unanswered → Unanswered → Bool
+is_earlier a b = a.port.0 == b.port.0 && nat_lt a.id.0 b.id.0
+
+-- A request stands in the way of r. A plain r waits for each issued and each earlier one of its port.
+-- A queued r waits for the plain ones, issued or earlier, and for earlier ones that conflict with it.
+abbrev pub holds_back : Mode → Unanswered → Unanswered → Bool
+holds_back mode r other =
+    other.port.0 == r.port.0
+    && (if is_plain mode r.op
+    then other.issued || nat_lt other.id.0 r.id.0
+    else (is_plain mode other.op && other.issued)
+    || (nat_lt other.id.0 r.id.0 && (is_plain mode other.op || conflict other r)))
+
+-- it waits, and nothing stands in its way
+abbrev pub is_clear : Mode → List Unanswered → Unanswered → Bool
+is_clear mode book r = not r.issued && not (list_any (holds_back mode r) book)
+
+-- how many earlier ones of its port are clear to go
+abbrev pub ahead : Mode → List Unanswered → Unanswered → ℕ
+ahead mode book r = count_by (λ other. is_earlier other r && is_clear mode book other) book
+
+-- how many requests of the port are issued: each has a slot
+abbrev pub issued_count : List Unanswered → Port → ℕ
+issued_count book port = count_by (λ other. other.port.0 == port.0 && other.issued) book
+
+-- how many usable slots of the port are free
+abbrev pub free_slots : Mode → List Unanswered → Port → ℕ
+free_slots mode book port = mode.usable - issued_count book port
+
+-- The request is due: it is clear to go, and a slot is left for it after the earlier ones that go.
+-- (A plain one goes alone, so its slot is free.)
+pub record IsDue (mode : Mode) (book : List Unanswered) (r : Unanswered) : Type 0 where
+  pub here : Contains book r
+  pub clear : is_clear mode book r ≡ true
+  pub slot : is_plain mode r.op ≡ false → ahead mode book r < free_slots mode book r.port
+
+-- `IsDue` of a request of the book, as a test
+abbrev pub is_due : Mode → List Unanswered → Unanswered → Bool
+is_due mode book r = is_clear mode book r && (is_plain mode r.op || nat_lt (ahead mode book r) (free_slots mode book r.port))
+
+-- how many earlier ones of its port are due: law `slots_by_due` says that a slot is left after these too
+abbrev pub due_ahead : Mode → List Unanswered → Unanswered → ℕ
+due_ahead mode book r = count_by (λ other. is_earlier other r && is_due mode book other) book
+
+-- no request of the port is due
+abbrev pub NoneDue : Mode → List Unanswered → Port → Type 0
+NoneDue mode book port = (r : Unanswered) → r.port ≡ port → IsDue mode book r → ⊥
+
+-- the book is in order of acceptance
+abbrev pub IsInOrder : List Unanswered → Type 0
+IsInOrder book = AllPairs (λ a b. a.id.0 < b.id.0) book
+
+-- the request issued, if it has this id
+abbrev pub mark_issued : RequestId → Unanswered → Unanswered
+mark_issued id r = if r.id.0 == id.0 then record r { issued = true } else r
+
+-- the book with the request of this id issued
+abbrev pub with_issued : RequestId → List Unanswered → List Unanswered
+with_issued id book = map (mark_issued id) book

@@ -1,0 +1,109 @@
+-- A disk with a volatile cache, and what a flush makes sure of (FLUSH CACHE EXT, ACS-3).
+use Rattle.std.specs.Prelude.{◌≡◌, ◌⊎◌, ℕ, ◌-◌, ◌<◌, ◌≤◌, Bool, true, false, not, ◌&&◌, ◌==◌, List, [], ◌∷◌}
+use Rattle.ata_types.specs.declared.Port.{Port}
+use Rattle.ata_types.specs.declared.request.Op.TheVariants.{Write, Flush}
+use Rattle.ata_types.specs.declared.request.Outcome.TheVariants.{Ok}
+use Rattle.block_machine.specs.Due.{is_flush, is_writer}
+use Rattle.block_machine.specs.State.{Block, Disk, Accepted, Machine, sector_of, written_by}
+use Rattle.block_machine.specs.Steps.{Step, Answer, End, Unplug, Replace}
+use Rattle.block_machine.specs.Left.{after, IsAccept, HasTouched}
+
+-- the bytes of a sector are the same
+abbrev pub SameBytes : Block → Block → Type 0
+SameBytes one other = (b : ℕ) → b < 512 → one b ≡ other b
+
+-- From this step on the bytes of the port's disk last: a flush of it is ended, or another disk is put in.
+abbrev pub starts_lasting : Machine → Port → Step → Bool
+starts_lasting old port (End e) = e.request.port.0 == port.0 && is_flush e.request.asked.op
+starts_lasting old port (Replace p id size disk) = p.0 == port.0 && not (id == old.disk_ids port)
+starts_lasting old port _ = false
+
+-- Sector k of the port's disk held this block at some moment since a flush was last ended on that disk, or since the disk
+-- was first in.
+abbrev pub HeldSince : Machine → Port → ℕ → Block → List Step → Type 0
+HeldSince start port k block [] = SameBytes block (start.disks port k)
+HeldSince start port k block (step ∷ past) =
+    SameBytes block ((after start (step ∷ past)).disks port k)
+    ⊎ ((starts_lasting (after start past) port step ≡ false) × HeldSince start port k block past)
+
+-- the same disk comes back with each sector as it was at some such moment
+abbrev pub ComesBack : Machine → List Step → Step → Type 0
+ComesBack start past (Replace port id size disk) =
+    id ≡ (after start past).disk_ids port → (k : ℕ) → k < size → HeldSince start port k (disk k) past
+ComesBack start past _ = Unit {0}
+
+-- The disks of the history have volatile caches: each disk that comes back does so.
+abbrev pub IsVolatile : Machine → List Step → Type 0
+IsVolatile start [] = Unit {0}
+IsVolatile start (step ∷ past) = IsVolatile start past × ComesBack start past step
+
+-- the step answers the request Ok
+abbrev pub IsOk : Step → Accepted → Type 0
+IsOk (Answer e Ok) r = e.request ≡ r
+IsOk _ r = ⊥
+
+-- the step takes the disk of the port out
+abbrev pub takes_out : Port → Step → Bool
+takes_out port (Unplug p) = p.0 == port.0
+takes_out port _ = false
+
+-- the step puts another disk in at the port
+abbrev pub brings_other : Machine → Port → Step → Bool
+brings_other old port (Replace p id size disk) = p.0 == port.0 && not (id == old.disk_ids port)
+brings_other old port _ = false
+
+-- the write was accepted, and no disk of its port was taken out since
+abbrev pub WriteAccepted : Accepted → List Step → Type 0
+WriteAccepted w [] = ⊥
+WriteAccepted w (step ∷ past) = IsAccept step w ⊎ ((takes_out w.port step ≡ false) × WriteAccepted w past)
+
+-- and then it was answered Ok
+abbrev pub WriteAnswered : Accepted → List Step → Type 0
+WriteAnswered w [] = ⊥
+WriteAnswered w (step ∷ past) = (IsOk step w × WriteAccepted w past) ⊎ ((takes_out w.port step ≡ false) × WriteAnswered w past)
+
+-- and then this flush was accepted
+abbrev pub FlushAccepted : Accepted → Accepted → List Step → Type 0
+FlushAccepted w flush [] = ⊥
+FlushAccepted w flush (step ∷ past) =
+    (IsAccept step flush × WriteAnswered w past) ⊎ ((takes_out w.port step ≡ false) × FlushAccepted w flush past)
+
+-- and then it was answered Ok, and no other disk was put in since
+abbrev pub FlushAnswered : Machine → Accepted → Accepted → List Step → Type 0
+FlushAnswered start w flush [] = ⊥
+FlushAnswered start w flush (step ∷ past) =
+    (IsOk step flush × FlushAccepted w flush past)
+    ⊎ ((brings_other (after start past) w.port step ≡ false) × FlushAnswered start w flush past)
+
+-- the write was answered Ok before the flush of its port was accepted, and the flush was answered Ok, all on one disk
+pub record IsFlushed (start : Machine) (w flush : Accepted) (history : List Step) : Type 0 where
+  pub write : w.asked.op ≡ Write
+  pub flush_is : flush.asked.op ≡ Flush
+  pub port : flush.port ≡ w.port
+  pub answered : FlushAnswered start w flush history
+
+-- The block is what w, or a write or trim of its port accepted later, put on sector k. (Where w is flushed, no other disk was
+-- in since w was accepted, so the touch was of this disk.)
+pub record IsSince (w : Accepted) (k : ℕ) (history : List Step) (block : Block) : Type 0 where
+  pub writer : Accepted
+  pub writes : is_writer writer.asked.op ≡ true
+  pub here : writer.port ≡ w.port
+  pub later : w.id.0 ≤ writer.id.0
+  pub disk : ℕ
+  pub touched : HasTouched writer k disk history
+  pub is : SameBytes block (written_by writer.asked.op writer.held (k - writer.asked.first.0))
+
+-- each sector of the write has, on this disk, its bytes or those of a write or trim accepted later
+abbrev pub HasWrite : Accepted → List Step → Disk → Type 0
+HasWrite w history disk = (i : ℕ) → i < w.asked.count → IsSince w (sector_of w i) history (disk (sector_of w i))
+
+-- a disk that comes back with this step has the writes that were flushed
+abbrev pub FindsFlushed : Machine → List Step → Step → Type 0
+FindsFlushed start past (Replace port id size disk) = id ≡ (after start past).disk_ids port
+    → (w flush : Accepted) → w.port ≡ port → IsFlushed start w flush past → HasWrite w past disk
+FindsFlushed start past _ = Unit {0}
+
+-- so it is with each step of the history
+abbrev pub EveryPlugFinds : Machine → List Step → Type 0
+EveryPlugFinds start [] = Unit {0}
+EveryPlugFinds start (step ∷ past) = EveryPlugFinds start past × FindsFlushed start past step

@@ -1,0 +1,117 @@
+-- What is left on a sector by the order of acceptance. It looks at no order of moves.
+-- Steps, and the events of a run, stand the newest first in their lists, everywhere in this crate.
+use Rattle.std.specs.Prelude.{◌≡◌, ◌⊎◌, ℕ, suc, ◌-◌, ◌*◌, ◌<◌, ◌≤◌, Bool, true, false, ◌&&◌, ◌==◌, if◌then◌else◌, List, [], ◌∷◌, length, Some, None, AllPairs}
+use Rattle.ata_types.specs.declared.Port.{Port}
+use Rattle.ata_types.specs.declared.request.ClientId.{ClientId}
+use Rattle.ata_types.specs.declared.request.Frame.{Frame}
+use Rattle.ata_types.specs.declared.request.RequestId.{RequestId}
+use Rattle.ata_types.specs.declared.request.Op.TheVariants.{Read}
+use Rattle.block_machine.specs.Rules.{DifferInName}
+use Rattle.block_machine.specs.Due.{is_writer}
+use Rattle.block_machine.specs.State.{Block, Disk, Memory, Accepted, Machine, block_of, sector_of, written_by}
+use Rattle.block_machine.specs.Steps.{Step, Accept, Touch, Replace, May, after_step}
+
+-- the machine after a history of steps
+abbrev pub after : Machine → List Step → Machine
+after start [] = start
+after start (step ∷ past) = after_step (after start past) step
+
+-- each step of the history came when it might
+abbrev pub IsLegal : Machine → List Step → Type 0
+IsLegal start [] = Unit {0}
+IsLegal start (step ∷ past) = IsLegal start past × May (after start past) step
+
+-- A machine to begin with: no request is there, no frame is lent, no id was handed out, the rows differ in name, and the
+-- clients, 1 to 8, own frames from 40 on: the driver's are nobody's.
+pub record IsStart (m : Machine) : Type 0 where
+  pub book : m.book ≡ []
+  pub kept : m.kept ≡ []
+  pub lent : (frame : Frame) → m.lent frame ≡ None
+  pub next : m.next ≡ 1
+  pub rows : AllPairs DifferInName m.rows
+  pub owned : (frame : Frame) (client : ClientId) → m.owner frame ≡ Some client
+      → (1 ≤ client.0) × (client.0 ≤ 8) × (40 ≤ frame.0) × (frame.0 < 1024)
+
+-- the step puts a disk in at this port
+abbrev pub plugs : Port → Step → Bool
+plugs port (Replace p id size disk) = p.0 == port.0
+plugs port _ = false
+
+-- what the disk holds that the step puts in
+abbrev pub disk_of : Step → Disk
+disk_of (Replace p id size disk) = disk
+disk_of _ = λ k b. 0
+
+-- How many disks were put in at the port. Disk number n of the port is the one that was put in n-th; the one that was
+-- there at the start has number 0. One that is put in again counts as another.
+abbrev pub plug_count : Port → List Step → ℕ
+plug_count port [] = 0
+plug_count port (step ∷ past) = if plugs port step then suc (plug_count port past) else plug_count port past
+
+-- what disk number n of the port held when it was put in
+abbrev pub bytes_when_plugged : Machine → Port → ℕ → List Step → Disk
+bytes_when_plugged start port n [] = start.disks port
+bytes_when_plugged start port n (step ∷ past) =
+    if plugs port step && suc (plug_count port past) == n then disk_of step else bytes_when_plugged start port n past
+
+-- the step accepts the request
+abbrev pub IsAccept : Step → Accepted → Type 0
+IsAccept (Accept new) r = new ≡ r
+IsAccept _ r = ⊥
+
+-- the step is a touch of sector k of the disk by this request
+abbrev pub IsTouch : Step → Accepted → ℕ → Type 0
+IsTouch (Touch e i block) r k = (e.request ≡ r) × (sector_of r i ≡ k)
+IsTouch _ r k = ⊥
+
+-- the same as a test, by the request's id
+abbrev pub touches : RequestId → ℕ → Step → Bool
+touches id k (Touch e i block) = e.request.id.0 == id.0 && sector_of e.request i == k
+touches id k _ = false
+
+-- the request touched sector k while disk number n of its port was in
+abbrev pub HasTouched : Accepted → ℕ → ℕ → List Step → Type 0
+HasTouched r k n [] = ⊥
+HasTouched r k n (step ∷ past) = (IsTouch step r k × (plug_count r.port past ≡ n)) ⊎ HasTouched r k n past
+
+-- the number of the disk that was in at the last touch of sector k by this request
+abbrev pub disk_read : Accepted → ℕ → List Step → ℕ
+disk_read r k [] = 0
+disk_read r k (step ∷ past) = if touches r.id k step then plug_count r.port past else disk_read r k past
+
+-- a write or trim of the port, accepted before this id, touched sector k while disk number n was in
+pub record Wrote (port : Port) (k n before : ℕ) (history : List Step) (writer : Accepted) : Type 0 where
+  pub writes : is_writer writer.asked.op ≡ true
+  pub here : writer.port ≡ port
+  pub earlier : writer.id.0 < before
+  pub touched : HasTouched writer k n history
+
+-- The last of these in order of acceptance put the block there. If there is none, disk number n came with it.
+abbrev pub IsLast : Machine → Port → ℕ → ℕ → ℕ → List Step → Block → Type 0
+IsLast start port k n before history block =
+    ((writer : Accepted) × Wrote port k n before history writer
+    × ((other : Accepted) → Wrote port k n before history other → other.id.0 ≤ writer.id.0)
+    × (block ≡ written_by writer.asked.op writer.held (k - writer.asked.first.0)))
+    ⊎ (((writer : Accepted) → Wrote port k n before history writer → ⊥) × (block ≡ bytes_when_plugged start port n history k))
+
+-- what the writes and trims accepted before this read left on sector k, on the disk that the read last found there
+abbrev pub IsLeft : Machine → List Step → Accepted → ℕ → Block → Type 0
+IsLeft start history read k block = IsLast start read.port k (disk_read read k history) read.id.0 history block
+
+-- The read has in this memory, sector by sector, what is left; the rest of its frames is as it was at acceptance.
+pub record HoldsLeft (start : Machine) (history : List Step) (memory : Memory) (read : Accepted) : Type 0 where
+  pub sectors : (i : ℕ) → i < read.asked.count → (block : Block) × IsLeft start history read (sector_of read i) block
+      × ((b : ℕ) → b < 512 → block_of memory read.asked.frames.items i b ≡ block b)
+  pub rest : (i b : ℕ) → read.asked.count ≤ i → i < 8 * length read.asked.frames.items → b < 512
+      → block_of memory read.asked.frames.items i b ≡ read.held i b
+
+-- The bytes that a read moved are those of its disk. (A disk over a store that doesn't tell what it holds may move any.)
+abbrev pub IsTold : Machine → Step → Type 0
+IsTold old (Touch e i block) = e.request.asked.op ≡ Read
+    → (b : ℕ) → b < 512 → block b ≡ old.disks e.request.port (sector_of e.request i) b
+IsTold old _ = Unit {0}
+
+-- so it is with each step of the history
+abbrev pub AllTold : Machine → List Step → Type 0
+AllTold start [] = Unit {0}
+AllTold start (step ∷ past) = AllTold start past × IsTold (after start past) step

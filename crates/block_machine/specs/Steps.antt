@@ -1,0 +1,199 @@
+-- The steps of the block machine: when each may come, and what it changes (this project's own).
+use Rattle.std.specs.Prelude.{◌≡◌, ◌≢◌, ◌⊎◌, ℕ, suc, ◌+◌, ◌-◌, ◌*◌, ◌/◌, ◌%◌, ◌^◌, ◌<◌, Bool, true, false, not, ◌&&◌, ◌||◌, ◌==◌, nat_lt, nat_le, if◌then◌else◌, List, [], ◌∷◌, ◌++◌, length, map, filter, count_by, Contains, Option, Some, None, slice_index}
+use Rattle.std.specs.List.{list_any}
+use Rattle.ata_types.specs.declared.Port.{Port}
+use Rattle.ata_types.specs.declared.request.ClientId.{ClientId}
+use Rattle.ata_types.specs.declared.request.Frame.{Frame}
+use Rattle.ata_types.specs.declared.request.RequestId.{RequestId}
+use Rattle.ata_types.specs.declared.request.Op.TheVariants.{Write}
+use Rattle.ata_types.specs.declared.request.Outcome.{Outcome}
+use Rattle.ata_types.specs.declared.request.Outcome.TheVariants.{Ok, DeviceError, Aborted, Unplugged, PortDead}
+use Rattle.ata_types.specs.declared.grant.GrantRow.{GrantRow}
+use Rattle.block_machine.specs.declared.due.Mode.{Mode}
+use Rattle.block_machine.specs.Rules.{IsNamed, BreaksNone}
+use Rattle.block_machine.specs.Refusals.{IsOpen}
+use Rattle.block_machine.specs.Due.{IsDue, is_writer}
+use Rattle.block_machine.specs.State.{Block, Disk, Memory, Accepted, Pending, Machine, block_of, frame_at, sector_of, unanswered, is_reader, written_by}
+
+-- A step. A pending request in it is the one that the step finds.
+pub data Step : Type 0 where
+  -- a request goes into the book, and its frames are lent to it
+  Accept : Accepted → Step
+  -- a due request is issued, on a port that takes commands in this mode
+  Issue : Mode → Pending → Step
+  -- one sector of a request is moved or cleared: its number in the request, and the bytes that were moved
+  Touch : Pending → ℕ → Block → Step
+  -- a request with all its sectors touched is ended
+  End : Pending → Step
+  -- the issued requests of these ports are a tick older
+  Age : (Port → Bool) → Step
+  -- an issued request waits again, in its old place
+  Again : Pending → Step
+  Answer : Pending → Outcome → Step
+  -- the frames of the kept requests are given back
+  Release : Step
+  -- a disk is taken out; a disk is put in: which one, its sectors' number, and their bytes
+  Unplug : Port → Step
+  Replace : Port → ℕ → ℕ → Disk → Step
+  -- a client stores bytes into its frame from an offset on, or is told them
+  Store : ClientId → Frame → ℕ → List ℕ → Step
+  Load : ClientId → Frame → ℕ → List ℕ → Step
+
+-- a change of the request with this id alone
+abbrev pub at : RequestId → (Pending → Pending) → Pending → Pending
+at id change e = if e.request.id.0 == id.0 then change e else e
+
+-- the requests but for the one with this id
+abbrev pub without : RequestId → List Pending → List Pending
+without id pending = filter (λ e. not (e.request.id.0 == id.0)) pending
+
+-- a request that was just accepted
+abbrev pub newly_accepted : Accepted → Pending
+newly_accepted r = record { request = r; issues = 0; age = 0; issued = false; touched = λ _. false; ended = false }
+
+-- the request issued once more: nothing touched, not ended, of age 0
+abbrev pub issue : Pending → Pending
+issue e = record { request = e.request; issues = suc e.issues; age = 0; issued = true; touched = λ _. false; ended = false }
+
+-- sector number i touched too
+abbrev pub touch : ℕ → Pending → Pending
+touch i e = record e { touched = λ k. k == i || e.touched k }
+
+-- the request ended
+abbrev pub mark_ended : Pending → Pending
+mark_ended e = record e { ended = true }
+
+-- the request waiting again: nothing touched, not ended
+abbrev pub requeued : Pending → Pending
+requeued e = record e { issued = false; touched = λ _. false; ended = false }
+
+-- the request a tick older, if it is issued on one of these ports
+abbrev pub older : (Port → Bool) → Pending → Pending
+older ready e = if e.issued && ready e.request.port then record e { age = suc e.age } else e
+
+-- the frames of the request lent to it
+abbrev pub lend : Accepted → (Frame → Option RequestId) → Frame → Option RequestId
+lend r lent f = if list_any (λ g. g.0 == f.0) r.asked.frames.items then Some r.id else lent f
+
+-- the loan is to the request with this id
+abbrev pub is_lent_to : RequestId → Option RequestId → Bool
+is_lent_to id None = false
+is_lent_to id (Some other) = other.0 == id.0
+
+-- the frames of the request with this id given back
+abbrev pub unlend : RequestId → (Frame → Option RequestId) → Frame → Option RequestId
+unlend id lent f = if is_lent_to id (lent f) then None else lent f
+
+-- the frames of all these requests given back
+abbrev pub unlend_all : List Pending → (Frame → Option RequestId) → Frame → Option RequestId
+unlend_all kept lent f = if list_any (λ e. is_lent_to e.request.id (lent f)) kept then None else lent f
+
+-- a sector of a port's disk overwritten
+abbrev pub put_sector : Port → ℕ → Block → (Port → Disk) → Port → Disk
+put_sector port k block disks p s = if p.0 == port.0 && s == k then block else disks p s
+
+-- n bytes of a frame overwritten, from an offset on
+abbrev pub put_bytes : Frame → ℕ → ℕ → Block → Memory → Memory
+put_bytes frame offset n bytes memory f b =
+    if f.0 == frame.0 && (nat_le offset b && nat_lt b (offset + n)) then bytes (b - offset) else memory f b
+
+-- what a touch of sector number i leaves on the disks: a writer's own bytes, or zeros
+abbrev pub disks_after : Accepted → ℕ → (Port → Disk) → Port → Disk
+disks_after r i disks =
+    if is_writer r.asked.op then put_sector r.port (sector_of r i) (written_by r.asked.op r.held i) disks else disks
+
+-- and in memory: for a read, the bytes that were moved
+abbrev pub memory_after : Accepted → ℕ → Block → Memory → Memory
+memory_after r i block memory =
+    if is_reader r.asked.op then put_bytes (frame_at r.asked.frames.items (i / 8)) (512 * (i % 8)) 512 block memory else memory
+
+-- a request that was issued and is answered PortDead is kept: the device may still move its sectors
+abbrev pub stays : Pending → Outcome → Bool
+stays e Ok = false
+stays e (DeviceError status error) = false
+stays e Aborted = false
+stays e Unplugged = false
+stays e PortDead = e.issued
+
+-- the machine after the step
+abbrev pub after_step : Machine → Step → Machine
+after_step m (Accept r) = record m { book = m.book ++ newly_accepted r ∷ []; lent = lend r m.lent; next = suc m.next }
+after_step m (Issue mode e) = record m { book = map (at e.request.id issue) m.book }
+after_step m (Touch e i block) =
+    record m {
+      disks = disks_after e.request i m.disks;
+      memory = memory_after e.request i block m.memory;
+      book = map (at e.request.id (touch i)) m.book;
+      kept = map (at e.request.id (touch i)) m.kept;
+    }
+after_step m (End e) = record m { book = map (at e.request.id mark_ended) m.book; kept = map (at e.request.id mark_ended) m.kept }
+after_step m (Age ready) = record m { book = map (older ready) m.book }
+after_step m (Again e) = record m { book = map (at e.request.id requeued) m.book }
+after_step m (Answer e outcome) =
+    record m {
+      book = without e.request.id m.book;
+      kept = if stays e outcome then e ∷ m.kept else m.kept;
+      lent = if stays e outcome then m.lent else unlend e.request.id m.lent;
+    }
+after_step m Release = record m { kept = []; lent = unlend_all m.kept m.lent }
+after_step m (Unplug port) = record m { present = λ p. if p.0 == port.0 then false else m.present p }
+after_step m (Replace port id size disk) =
+    record m {
+      present = λ p. if p.0 == port.0 then true else m.present p;
+      disk_ids = λ p. if p.0 == port.0 then id else m.disk_ids p;
+      sizes = λ p. if p.0 == port.0 then size else m.sizes p;
+      disks = λ p. if p.0 == port.0 then disk else m.disks p;
+    }
+after_step m (Store client frame offset bytes) = record m { memory = put_bytes frame offset (length bytes) (slice_index bytes) m.memory }
+after_step m (Load client frame offset bytes) = m
+
+-- issued, or kept: the device may move its sectors
+abbrev pub MayMove : Machine → Pending → Type 0
+MayMove m e = (Contains m.book e × (e.issued ≡ true)) ⊎ Contains m.kept e
+
+-- unanswered, or kept: its frames are lent to it
+abbrev pub IsLiving : Machine → Pending → Type 0
+IsLiving m e = Contains m.book e ⊎ Contains m.kept e
+
+-- each sector of the request was touched since its last issue
+abbrev pub AllTouched : Pending → Type 0
+AllTouched e = (i : ℕ) → i < e.request.asked.count → e.touched i ≡ true
+
+-- how many unanswered requests the client has
+abbrev pub unanswered_of : List Pending → ClientId → ℕ
+unanswered_of book client = count_by (λ e. e.request.asked.client.0 == client.0) book
+
+-- A request that is accepted has the next id, breaks no rule, goes to its row's port, and has what its frames hold.
+-- A client has at most 16 unanswered requests, and ids fit 64 bits.
+pub record IsNew (m : Machine) (r : Accepted) : Type 0 where
+  pub id : r.id.0 ≡ m.next
+  pub id_left : m.next < 2 ^ 64
+  pub unbroken : BreaksNone m.rows m.owner m.lent r.asked
+  pub port : (row : GrantRow) → IsNamed m.rows r.asked row → r.port ≡ row.port
+  pub few : unanswered_of m.book r.asked.client < 16
+  pub held : r.held ≡ block_of m.memory r.asked.frames.items
+
+-- no kept request is left on the port: one may still touch sectors out of turn
+abbrev pub NoneKept : Machine → Port → Type 0
+NoneKept m port = (e : Pending) → Contains m.kept e → e.request.port ≢ port
+
+-- the bytes that are moved for a write are its own; a read's may be any, and a trim's and a flush's mean nothing
+abbrev pub MovesOwn : Accepted → ℕ → Block → Type 0
+MovesOwn r i block = r.asked.op ≡ Write → (b : ℕ) → b < 512 → block b ≡ r.held i b
+
+-- The step may come. (That an answer is lawful is judged at the end of its call, where what stands behind it is known.)
+abbrev pub May : Machine → Step → Type 0
+May m (Accept r) = IsNew m r
+May m (Issue mode e) = Contains m.book e × IsDue mode (map unanswered m.book) (unanswered e) × NoneKept m e.request.port
+May m (Touch e i block) = MayMove m e × (i < e.request.asked.count) × (m.present e.request.port ≡ true)
+    × (sector_of e.request i < m.sizes e.request.port) × MovesOwn e.request i block
+May m (End e) = MayMove m e × AllTouched e × (m.present e.request.port ≡ true)
+May m (Age ready) = Unit {0}
+May m (Again e) = Contains m.book e × (e.issued ≡ true) × (e.issues < 4)
+May m (Answer e outcome) = Contains m.book e
+May m Release = Unit {0}
+May m (Unplug port) = m.present port ≡ true
+May m (Replace port id size disk) = (m.present port ≡ false) × (id ≡ m.disk_ids port → size ≡ m.sizes port)
+May m (Store client frame offset bytes) = IsOpen m.owner m.lent client frame offset (length bytes)
+May m (Load client frame offset bytes) = IsOpen m.owner m.lent client frame offset (length bytes)
+    × ((b : ℕ) → b < length bytes → slice_index bytes b ≡ m.memory frame (offset + b))

@@ -1,0 +1,64 @@
+-- What a run is that shows that the laws speak of something.
+use Rattle.std.specs.Prelude.{◌≡◌, ◌≢◌, ℕ, List, [], ◌∷◌, ◌++◌, map, Contains}
+use Rattle.ata_types.specs.declared.Port.{Port}
+use Rattle.ata_types.specs.declared.request.Frame.{Frame}
+use Rattle.ata_types.specs.declared.request.Op.TheVariants.{Read}
+use Rattle.ata_types.specs.declared.request.Outcome.TheVariants.{Ok}
+use Rattle.block_machine.specs.State.{Disk, Accepted, Pending, Machine, sector_of, unanswered}
+use Rattle.block_machine.specs.Due.{IsDue}
+use Rattle.block_machine.specs.Steps.{Step, Issue, Answer, Replace, May, AllTouched}
+use Rattle.block_machine.specs.Left.{after, IsStart, AllTold, HoldsLeft}
+use Rattle.block_machine.specs.Durable.{IsVolatile, IsFlushed}
+use Rattle.block_machine.specs.Events.{Moment, Event, IsRun, steps_of, moment_of}
+
+-- In a run of calls a write is flushed, a later write isn't, the disk is taken out, and comes back without the later one.
+-- A read is then answered Ok, and its frame has the flushed byte.
+pub record FindsTheFlushed : Type 0 where
+  pub first : Moment
+  pub run : List Event
+  pub runs : IsRun first run
+  pub told : AllTold first.machine (steps_of run)
+  pub volatile : IsVolatile first.machine (steps_of run)
+  -- the run's steps: these before the disk comes back, and these after
+  pub port : Port
+  pub id : ℕ
+  pub size : ℕ
+  pub disk : Disk
+  pub late : List Step
+  pub early : List Step
+  pub comes : steps_of run ≡ late ++ Replace port id size disk ∷ early
+  pub same : id ≡ (after first.machine early).disk_ids port
+  pub write : Accepted
+  pub flush : Accepted
+  pub here : write.port ≡ port
+  pub flushed : IsFlushed first.machine write flush early
+  pub loses : disk (sector_of write 0) 0 ≢ (after first.machine early).disks port (sector_of write 0) 0
+  pub read : Pending
+  pub answered : Contains (steps_of run) (Answer read Ok)
+  pub reads : read.request.asked.op ≡ Read
+  pub sector : read.request.asked.count ≡ 1
+  pub frame : Frame
+  pub found : (moment_of first run).machine.memory frame 0 ≡ 90
+
+-- The machine without the rule that nothing is issued while a kept request is left on the port.
+abbrev pub LooseMay : Machine → Step → Type 0
+LooseMay m (Issue mode e) = Contains m.book e × IsDue mode (map unanswered m.book) (unanswered e)
+LooseMay m step = May m step
+
+-- each step of the history came when it might there
+abbrev pub IsLoose : Machine → List Step → Type 0
+IsLoose start [] = Unit {0}
+IsLoose start (step ∷ past) = IsLoose start past × LooseMay (after start past) step
+
+-- a read with all its sectors touched that doesn't have what was left, though it moved its disk's bytes
+pub record GoesWrong : Type 0 where
+  pub start : Machine
+  pub history : List Step
+  pub read : Pending
+  pub starts : IsStart start
+  pub loose : IsLoose start history
+  pub told : AllTold start history
+  pub here : Contains (after start history).book read
+  pub whole : AllTouched read
+  pub reads : read.request.asked.op ≡ Read
+  pub wrong : HoldsLeft start history (after start history).memory read.request → ⊥
