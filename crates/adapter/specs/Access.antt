@@ -1,6 +1,6 @@
 -- The calls of an adapter: what a register shows, what a reading notes beside the state, and what a write does. A call is
 -- any steps of the device, and then its one effect.
-use Rattle.std.specs.Prelude.{ℕ, Bool, true, false, ◌≡◌, ◌+◌, ◌*◌, ◌/◌, ◌%◌, ◌<◌, ◌&&◌, ◌||◌, not, min, List, [], ◌∷◌, length, if◌then◌else◌, nat_eq}
+use Rattle.std.specs.Prelude.{ℕ, Bool, true, false, ◌≡◌, ◌+◌, ◌*◌, ◌/◌, ◌%◌, ◌<◌, ◌&&◌, ◌||◌, not, min, List, [], ◌∷◌, length, if◌then◌else◌, nat_eq, nat_le}
 use Rattle.hba_regs.specs.Bits.{bit}
 use Rattle.hba_regs.specs.declared.reg.Reg.{Reg}
 use Rattle.hba_regs.specs.declared.reg.Reg.TheVariants.{Cap, Ghc, Pi, Vs, Px}
@@ -12,6 +12,11 @@ use Rattle.adapter.specs.Device.{Notes, PortState, Device}
 use Rattle.adapter.specs.Steps.{Steps, with_port, restarted}
 
 -- ---- what a reading shows (AHCI 1.3.1, 3.1 and 3.3). Bits and registers that are not named here may have any value.
+
+-- The causes in PxIS that steps raise, and HBDS: DHRS, PSS, SDBS, PCS, PRCS, IFS, HBDS, HBFS and TFES. The others may show
+-- anything.
+abbrev pub is_cause : ℕ → Bool
+is_cause place = nat_eq place 0 || nat_eq place 1 || nat_eq place 3 || nat_eq place 6 || nat_eq place 22 || nat_le 27 place && nat_le place 30
 
 -- PxIS: PCS shows X and PRCS shows N
 abbrev pub shown_interrupt : PortState → ℕ → Bool
@@ -27,7 +32,7 @@ PortShows Sctl v p = v % 16 ≡ p.sctl_det
 PortShows Serr v p = (bit v 16 ≡ p.serr_n) × (bit v 26 ≡ p.serr_x)
 PortShows Ci v p = (slot : ℕ) → slot < 32 → bit v slot ≡ p.ci slot
 PortShows Sact v p = (slot : ℕ) → slot < 32 → bit v slot ≡ p.sact slot
-PortShows Is v p = (place : ℕ) → place < 32 → bit v place ≡ shown_interrupt p place
+PortShows Is v p = (place : ℕ) → is_cause place ≡ true → bit v place ≡ shown_interrupt p place
 PortShows _ v p = Unit {0}
 
 abbrev pub Shows : Reg → ℕ → Device → Type 0

@@ -64,12 +64,13 @@ pub record MayCommand (p : PortState) (v : ℕ) : Type 0 where
   pub stop_receiving : bit v 4 ≡ false → (p.fre ≡ false) ⊎ (MayStopReceiving p × (bit v 0 ≡ false))
   pub others : (place : ℕ) → place < 32 → place ≢ 0 → place ≢ 4 → bit v place ≡ bit p.notes.last_cmd place
 
--- Each slot whose bit is set is one of the adapter's and has no command; if its bytes say a queued command, its SACT bit is
--- set already.
+-- Each slot whose bit is set is one of the adapter's and has no command; its bytes say one, and if that is a queued command,
+-- its SACT bit is set already.
 pub record MayIssue (d : Device) (p : PortState) (v : ℕ) : Type 0 where
   pub running : p.st ≡ true
   pub usable : (slot : ℕ) → bit v slot ≡ true → slot ≤ d.cap / 256 % 32
   pub free : (slot : ℕ) → bit v slot ≡ true → (p.ci slot ≡ false) × (p.taken slot ≡ None)
+  pub says : (slot : ℕ) → bit v slot ≡ true → (meaning : Meaning) × (places : List ℕ) × Says d.memory p.bases.clb slot meaning places
   pub queued : (slot : ℕ) (meaning : Meaning) (places : List ℕ) → bit v slot ≡ true →
       Says d.memory p.bases.clb slot meaning places → is_queued meaning.operation ≡ true → p.sact slot ≡ true
 
