@@ -210,6 +210,10 @@ may_issue r mid s h = record {
   free = λ slot set.
       let P : ℕ → Type 0 = λ k. ((mid.port 0).ci k ≡ false) × ((mid.port 0).taken k ≡ None) in
       subst P (sym (bit_of_one slot set)) (s.2.ci, s.2.taken);
+  says = λ slot set.
+      let P : ℕ → Type 0 = λ k. Says mid.memory (mid.port 0).bases.clb k (meaning_of r) (places_of r.frames r.count) in
+      let Q : Bases → Type 0 = λ b. Says mid.memory b.clb 0 (meaning_of r) (places_of r.frames r.count) in
+      (meaning_of r, places_of r.frames r.count, subst P (sym (bit_of_one slot set)) (subst Q (sym s.1.bases) h.says));
   queued = λ slot m places set says queued.
       let P : ℕ → Type 0 = λ k. Says mid.memory (mid.port 0).bases.clb k m places in
       let Q : Bases → Type 0 = λ b. Says mid.memory b.clb 0 m places in
