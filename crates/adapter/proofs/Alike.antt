@@ -19,6 +19,8 @@ pub record IsAlike (old new : Device) : Type 0 where
   pub pi : new.pi ≡ old.pi
   pub hr : new.hr ≡ old.hr
   pub ae : new.ae ≡ old.ae
+  pub ie : new.ie ≡ old.ie
+  pub tape : new.tape ≡ old.tape
   pub port : (q : ℕ) → SameEngine (old.port q) (new.port q)
 
 -- a port's engine is the same, and so are the other ports
@@ -31,11 +33,13 @@ port_alike d port new same = record {
   pi = refl;
   hr = refl;
   ae = refl;
+  ie = refl;
+  tape = refl;
   port = changed_each d.port port new (λ q p. SameEngine (d.port q) p) same (λ q. same_engine (d.port q));
 }
 
 pub IsAlike-refl : (d : Device) → IsAlike d d
-IsAlike-refl d = record { telling = refl; size = refl; memory = refl; cap = refl; pi = refl; hr = refl; ae = refl; port = λ q. same_engine (d.port q) }
+IsAlike-refl d = record { telling = refl; size = refl; memory = refl; cap = refl; pi = refl; hr = refl; ae = refl; ie = refl; tape = refl; port = λ q. same_engine (d.port q) }
 
 -- a reading changes notes alone
 pub noted_alike : (r : Reg) (v : ℕ) (d : Device) → IsAlike d (noted r v d)

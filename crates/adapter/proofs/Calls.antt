@@ -150,6 +150,7 @@ pub record PutAt (port : ℕ) (r : PortReg) (v : ℕ) (old new : Device) : Type 
   pub notes : (q : ℕ) → (mid.port q).notes ≡ (old.port q).notes
   pub hr : new.hr ≡ false
   pub ae : new.ae ≡ old.ae
+  pub ie : new.ie ≡ old.ie
   pub size : new.size ≡ old.size
   pub cap : new.cap ≡ old.cap
   pub pi : new.pi ≡ old.pi
@@ -169,6 +170,7 @@ put port r v old new call h =
       notes = k.notes;
       hr = ap (λ (d : Device). d.hr) call.effect ∙ on.no_reset;
       ae = ap (λ (d : Device). d.ae) call.effect ∙ on.ae;
+      ie = ap (λ (d : Device). d.ie) call.effect ∙ on.ie;
       size = ap (λ (d : Device). d.size) call.effect ∙ k.size;
       cap = ap (λ (d : Device). d.cap) call.effect ∙ k.cap;
       pi = ap (λ (d : Device). d.pi) call.effect ∙ k.pi;

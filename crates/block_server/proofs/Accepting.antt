@@ -1,5 +1,5 @@
 -- What the server keeps when it accepts a request.
-use Rattle.std.proofs.Common.{ℕ, ◌≡◌, ◌≢◌, ◌+◌, ◌/◌, ◌^◌, ◌<◌, ◌≤◌, inl, inr, Bool, true, false, List, [], ◌∷◌, ◌++◌, length, Option, Some, None, refl, sym, ◌∙◌, ap, subst, arith, if◌then◌else◌, nat_eq}
+use Rattle.std.proofs.Common.{ℕ, ◌≡◌, ◌≢◌, ◌+◌, ◌/◌, ◌^◌, ◌<◌, ◌≤◌, inl, inr, Bool, true, false, List, [], ◌∷◌, ◌++◌, length, Option, Some, None, refl, sym, ◌∙◌, ap, subst, arith, if◌then◌else◌, nat_eq, get_or}
 use Rattle.std.specs.List.{All}
 use Rattle.std.proofs.lemmas.Bool.{cases_lt}
 use Rattle.std.proofs.lemmas.List.Elements.{All-push}
@@ -10,6 +10,7 @@ use Rattle.ata_types.specs.declared.grant.GrantRow.{GrantRow}
 use Rattle.ata_types.specs.declared.refusal.Refusal.TheVariants.{Rule, PortNotReady, ClientFull, IdsSpent}
 use Rattle.ata_types.specs.declared.refusal.Rule.TheVariants.{NoGrant}
 use Rattle.ata_types.specs.declared.request.Frame.{Frame}
+use Rattle.ata_types.specs.declared.request.Op.TheVariants.{Read, Flush}
 use Rattle.ata_types.specs.declared.request.Request.{Request}
 use Rattle.ata_types.specs.declared.request.RequestId.{RequestId}
 use Rattle.adapter.specs.Device.{Device}
@@ -19,11 +20,12 @@ use Rattle.block_machine.specs.Rules.{IsNamed, BreaksNone, HasNoFault}
 use Rattle.dma_frames.specs.Loan.{Lending}
 use Rattle.dma_frames.specs.Table.{Table, owner_of, lent_to, LendsOnly}
 use Rattle.block_server.specs.Book.{IsKept, IsAccepted, IsEarlier, StandsBehind, served, issued_of, unanswered_of}
-use Rattle.block_server.specs.Calls.{situation_of, state_of, accepted_as}
-use Rattle.block_server.specs.Port.{Serves, Issued}
+use Rattle.block_server.specs.Calls.{situation_of, state_of, accepted_as, Accepts}
+use Rattle.block_server.specs.Port.{Serves, GoesOn, Issued}
 use Rattle.block_server.specs.View.{ServerView}
 use Rattle.block_server.specs.declared.types.Accepted.{Accepted}
-use Rattle.block_server.proofs.Booking.{accepted_on, few_more, owns_on, room_left}
+use Rattle.block_server.proofs.Booking.{owner_same, accepted_on, few_more, owns_on, room_left}
+use Rattle.block_server.proofs.Covering as covering
 use Rattle.block_server.proofs.Ruling as ruling
 
 module _ {A : Type 0} (device : A → Device) (s : ServerView A) (places : ℕ) (inv : IsKept device s places) (r : Request) (acc : IsAcceptable (situation_of s) r) where
@@ -77,9 +79,13 @@ module _ {A : Type 0} (device : A → Device) (s : ServerView A) (places : ℕ) 
   pub frames : length r.frames.items ≡ (r.count + 7) / 8
   frames = ruling.frames_fit s.grants s.table r inv.rows none_broken
 
+  -- it is a read, which has sectors
+  moves : r.op ≢ Flush
+  moves flush = let read = ruling.asks_read s.grants s.table r inv.rows none_broken r.op refl in let e : Flush ≡ Read = sym flush ∙ read in cc
+
   pub book_room : length s.book < 128
   book_room =
-      room_left s.table s.book (accepted_as r (record { 0 = 0 })) inv.accepted inv.few has_room
+      room_left s.grants s.table s.book (accepted_as r (record { 0 = 0 })) inv.accepted inv.few has_room
       (ruling.client_from s.grants s.table r inv.rows none_broken) (ruling.client_to s.grants s.table r inv.rows none_broken)
 
   -- the server with the request in its book
@@ -91,7 +97,7 @@ module _ {A : Type 0} (device : A → Device) (s : ServerView A) (places : ℕ) 
     abbrev more : ServerView A
     more = record s { adapter = adapter; table = table; book = s.book ++ accepted_as r id ∷ []; issued = true; last = s.last + 1 }
 
-    new_accepted : IsAccepted table (accepted_as r id)
+    new_accepted : IsAccepted s.grants table (accepted_as r id)
     new_accepted = record {
       client_from = ruling.client_from s.grants s.table r inv.rows none_broken;
       client_to = ruling.client_to s.grants s.table r inv.rows none_broken;
@@ -99,7 +105,10 @@ module _ {A : Type 0} (device : A → Device) (s : ServerView A) (places : ℕ) 
       few = few;
       first = first;
       frames = frames;
+      row = covering.covered s.grants s.table r none_broken id moves;
       clients = clients;
+      own = λ k d small. owner_same s.table table lends.owners (get_or r.frames.items k d) r.client (covering.own s.grants s.table r none_broken k d small);
+      apart = covering.apart s.grants s.table r none_broken;
       request = refl;
       lent = lends.these;
     }
@@ -115,8 +124,8 @@ module _ {A : Type 0} (device : A → Device) (s : ServerView A) (places : ℕ) 
       rows = inv.rows;
       owners = owns_on s.table table (device s.adapter).size (device adapter).size lends.owners size inv.owners;
       accepted =
-          All-push (IsAccepted table) s.book (accepted_as r id)
-          (accepted_on s.table table r.frames.items id s.book lends inv.accepted (λ f other held there.
+          All-push (IsAccepted s.grants table) s.book (accepted_as r id)
+          (accepted_on s.grants s.table table r.frames.items id s.book lends inv.accepted (λ f other held there.
           ruling.lent_elsewhere s.grants s.table r inv.rows none_broken f other held there)) new_accepted;
       ordered = all_pairs_push IsEarlier s.book (accepted_as r id) inv.ordered (λ k d small. let h = inv.handed_out k d small in omega (arith, h, id_is));
       handed_out =
@@ -136,6 +145,13 @@ module _ {A : Type 0} (device : A → Device) (s : ServerView A) (places : ℕ) 
       let Q : List Accepted → Type 0 = λ book. Serves (served true (book ++ accepted_as r id ∷ [])) (device adapter) in
       subst P (sym is_ready) (subst Q (sym (inv.due none)) serves)
 
+  -- the same, as the port serves it
+  pub first_serving : (id : RequestId) → s.issued ≡ false → (adapter : A) → Serves (Some (issued_of (accepted_as r id))) (device adapter) →
+      Serves (served true (s.book ++ accepted_as r id ∷ [])) (device adapter)
+  first_serving id none adapter serves =
+      let Q : List Accepted → Type 0 = λ book. Serves (served true (book ++ accepted_as r id ∷ [])) (device adapter) in
+      subst Q (sym (inv.due none)) serves
+
   pub none_served : s.issued ≡ false → Serves None (device s.adapter)
   none_served none =
       let P : Bool → Type 0 = λ b. Serves (served b s.book) (device s.adapter) in
@@ -152,6 +168,33 @@ module _ {A : Type 0} (device : A → Device) (s : ServerView A) (places : ℕ) 
       let Q : Option Issued → Type 0 = λ o. Serves o (device s.adapter) in
       let B : Bool → Type 0 = λ b. Serves (served b s.book) (device s.adapter) in
       subst P (sym is_ready) (subst Q (sym (same_first s.book (accepted_as r id) (inv.some issued))) (subst B issued serving))
+
+  pub still_serving : (id : RequestId) → s.issued ≡ true → Serves (served true (s.book ++ accepted_as r id ∷ [])) (device s.adapter)
+  still_serving id issued =
+      let Q : Option Issued → Type 0 = λ o. Serves o (device s.adapter) in
+      let B : Bool → Type 0 = λ b. Serves (served b s.book) (device s.adapter) in
+      subst Q (sym (same_first s.book (accepted_as r id) (inv.some issued))) (subst B issued serving)
+
+  -- what accepting does
+  pub accepts : (adapter : A) (table : Table) (id : RequestId) → id.0 ≡ s.last + 1 → LendsOnly s.table table r.frames.items (Some id) →
+      (s.issued ≡ false → ((device adapter).port 0).ci 0 ≡ true) → (s.issued ≡ true → adapter ≡ s.adapter) → GoesOn None (device s.adapter) (device adapter) →
+      Serves (served true (s.book ++ accepted_as r id ∷ [])) (device adapter) → (book : List Accepted) → book ≡ s.book ++ accepted_as r id ∷ [] → (issued : Bool) → issued ≡ true →
+      Accepts device s (record s { adapter = adapter; table = table; book = book; issued = issued; last = s.last + 1 }) r id
+  accepts adapter table id id_is lends sent same goes serves book book_is issued issued_is =
+      let P : List Accepted → Type 0 = λ b. Serves (served true b) (device adapter) in
+      record {
+        acceptable = acc;
+        id_is = id_is;
+        last = refl;
+        book = book_is;
+        lent = lends;
+        setup = record { grants = refl; owners = lends.owners; state = refl; sectors = refl };
+        issued = issued_is;
+        sent = sent;
+        same = same;
+        serves = subst P (sym book_is) serves;
+        goes_on = goes;
+      }
 
   -- the same for a vector that holds the book, with room as before
   pub kept_in : (adapter : A) (table : Table) (id : RequestId) → id.0 ≡ s.last + 1 → (loan : Lending) (frames : List Frame) → frames ≡ r.frames.items → loan.frames ≡ frames →

@@ -5,6 +5,7 @@ use Rattle.std.specs.Prelude.{remove}
 use Rattle.std.proofs.lemmas.List.Elements.{All-head, All-tail}
 use Rattle.ata_types.specs.declared.PortState.{PortState}
 use Rattle.ata_types.specs.declared.PortState.TheVariants.{Ready}
+use Rattle.ata_types.specs.declared.grant.GrantRow.{GrantRow}
 use Rattle.ata_types.specs.declared.request.RequestId.{RequestId}
 use Rattle.adapter.specs.Device.{Device}
 use Rattle.dma_frames.specs.Table.{Table, lent_to, LendsOnly}
@@ -63,11 +64,11 @@ module _ {A : Type 0} (device : A → Device) (s : ServerView A) (places : ℕ) 
     is_free is = freed s.book (inv.some issued) there is
 
   module _ (e : Accepted) (rest : List Accepted) (book_is : s.book ≡ e ∷ rest) (table : Table) (lends : LendsOnly s.table table e.loan.frames None) where
-    pub rest_accepted : All (IsAccepted table) rest
+    pub rest_accepted : All (IsAccepted s.grants table) rest
     rest_accepted =
-        let P : List Accepted → Type 0 = λ b. All (IsAccepted s.table) b in
+        let P : List Accepted → Type 0 = λ b. All (IsAccepted s.grants s.table) b in
         let Q : List Accepted → Type 0 = λ b. AllPairs IsEarlier b in
-        accepted_rest s.table table e rest lends (subst P book_is inv.accepted) (subst Q book_is inv.ordered)
+        accepted_rest s.grants s.table table e rest lends (subst P book_is inv.accepted) (subst Q book_is inv.ordered)
 
     -- the rest of the book, and whether its first is issued
     pub kept_rest : (adapter : A) → (device adapter).size ≡ (device s.adapter).size → (book : List Accepted) → book ≡ rest → (again : Bool) → (again ≡ false → book ≡ []) → (again ≡ true → book ≢ []) →
@@ -100,9 +101,9 @@ module _ {A : Type 0} (device : A → Device) (s : ServerView A) (places : ℕ) 
             }
 
 -- the frames of the first are lent to it
-pub first_lent : (table : Table) (book rest : List Accepted) (e : Accepted) → book ≡ e ∷ rest → All (IsAccepted table) book →
+pub first_lent : (rows : List GrantRow) (table : Table) (book rest : List Accepted) (e : Accepted) → book ≡ e ∷ rest → All (IsAccepted rows table) book →
     All (λ f. lent_to table f ≡ Some e.loan.request) e.loan.frames
-first_lent table book rest e is all k d small =
-    let P : List Accepted → Type 0 = λ b. All (IsAccepted table) b in
-    let a : IsAccepted table e = All-head (IsAccepted table) e rest (subst P is all) in
+first_lent rows table book rest e is all k d small =
+    let P : List Accepted → Type 0 = λ b. All (IsAccepted rows table) b in
+    let a : IsAccepted rows table e = All-head (IsAccepted rows table) e rest (subst P is all) in
     a.lent k d small ∙ ap (λ (x : RequestId). Some x) (sym a.request)

@@ -5,10 +5,11 @@ use Rattle.std.proofs.lemmas.Bool.{cases_eq, eq-eqb, eqb-true}
 use Rattle.std.proofs.lemmas.List.{get_or_default}
 use Rattle.std.proofs.lemmas.List.Elements.{All-push, All-head, All-tail, All-weaker, All-contains}
 use Rattle.std.proofs.lemmas.List.Sums.{sum_by-append}
+use Rattle.ata_types.specs.declared.grant.GrantRow.{GrantRow}
 use Rattle.ata_types.specs.declared.request.ClientId.{ClientId}
 use Rattle.ata_types.specs.declared.request.Frame.{Frame}
 use Rattle.ata_types.specs.declared.request.RequestId.{RequestId}
-use Rattle.dma_frames.specs.Table.{Table, lent_to, LendsOnly}
+use Rattle.dma_frames.specs.Table.{Table, owner_of, lent_to, LendsOnly}
 use Rattle.block_server.specs.Book.{unanswered_of, IsAccepted, IsEarlier, OwnsClientFrames}
 use Rattle.block_server.specs.declared.types.Accepted.{Accepted}
 
@@ -88,9 +89,9 @@ counted_all (e ∷ book) clients =
     omega (arith, rest, c1, c2, c3, c4, c5, c6, c7, c8, h)
 
 -- sixteen requests of each of eight clients
-pub book_fits : (table : Table) (book : List Accepted) → All (IsAccepted table) book → ((client : ℕ) → unanswered_of book client ≤ 16) → length book ≤ 128
-book_fits table book accepted few =
-    let h = counted_all book (All-weaker (IsAccepted table) IsClients (λ e a. (a.client_from, a.client_to)) book accepted) in
+pub book_fits : (rows : List GrantRow) (table : Table) (book : List Accepted) → All (IsAccepted rows table) book → ((client : ℕ) → unanswered_of book client ≤ 16) → length book ≤ 128
+book_fits rows table book accepted few =
+    let h = counted_all book (All-weaker (IsAccepted rows table) IsClients (λ e a. (a.client_from, a.client_to)) book accepted) in
     omega (arith, h, few 1, few 2, few 3, few 4, few 5, few 6, few 7, few 8)
 
 -- one more of a client that had room
@@ -121,17 +122,24 @@ few_less e book few client = let c = counted_more e book client in omega (arith,
 
 -- ---- what is lent
 
+-- a table with the same owners
+pub owner_same : (old new : Table) → new.owners ≡ old.owners → (frame : Frame) (client : ClientId) → owner_of old frame ≡ Some client → owner_of new frame ≡ Some client
+owner_same old new same frame client owner = ap (λ (list : List (Option ClientId)). get_or list frame.0 None) same ∙ owner
+
 -- the frames of an entry stay lent to it over a change of other frames
-kept_lent : (old new : Table) (frames : List Frame) (to : Option RequestId) (e : Accepted) → LendsOnly old new frames to → IsAccepted old e →
-    ((f : Frame) → Contains e.loan.frames f → Contains frames f → ⊥) → IsAccepted new e
-kept_lent old new frames to e lends a apart = record {
+kept_lent : (rows : List GrantRow) (old new : Table) (frames : List Frame) (to : Option RequestId) (e : Accepted) → LendsOnly old new frames to → IsAccepted rows old e →
+    ((f : Frame) → Contains e.loan.frames f → Contains frames f → ⊥) → IsAccepted rows new e
+kept_lent rows old new frames to e lends a apart = record {
   client_from = a.client_from;
   client_to = a.client_to;
   some = a.some;
   few = a.few;
   first = a.first;
   frames = a.frames;
+  row = a.row;
   clients = a.clients;
+  own = λ k d small. owner_same old new lends.owners (get_or e.loan.frames k d) e.client (a.own k d small);
+  apart = a.apart;
   request = a.request;
   lent = λ k d small.
       let f : Frame = get_or e.loan.frames k d in
@@ -139,24 +147,24 @@ kept_lent old new frames to e lends a apart = record {
 }
 
 -- frames that are lent to nobody are lent: all else stays
-pub accepted_on : (old new : Table) (frames : List Frame) (id : RequestId) (book : List Accepted) → LendsOnly old new frames (Some id) → All (IsAccepted old) book →
-    ((f : Frame) (other : RequestId) → lent_to old f ≡ Some other → Contains frames f → ⊥) → All (IsAccepted new) book
-accepted_on old new frames id book lends all apart =
-    All-weaker (IsAccepted old) (IsAccepted new) (λ e a. kept_lent old new frames (Some id) e lends a (λ f held there.
+pub accepted_on : (rows : List GrantRow) (old new : Table) (frames : List Frame) (id : RequestId) (book : List Accepted) → LendsOnly old new frames (Some id) → All (IsAccepted rows old) book →
+    ((f : Frame) (other : RequestId) → lent_to old f ≡ Some other → Contains frames f → ⊥) → All (IsAccepted rows new) book
+accepted_on rows old new frames id book lends all apart =
+    All-weaker (IsAccepted rows old) (IsAccepted rows new) (λ e a. kept_lent rows old new frames (Some id) e lends a (λ f held there.
     apart f e.id (All-contains (λ (x : Frame). lent_to old x ≡ Some e.id) e.loan.frames f a.lent held) there)) book all
 
 same_id : {a b : RequestId} → Some a ≡ Some b → a.0 ≡ b.0
 same_id {a} {b} e = let same : a ≡ b = (let f : Some a ≡ Some b = e in cc) in ap (λ (x : RequestId). x.0) same
 
 -- the frames of the first are given back: those of the others stay lent
-pub accepted_rest : (old new : Table) (e : Accepted) (book : List Accepted) → LendsOnly old new e.loan.frames None → All (IsAccepted old) (e ∷ book) →
-    AllPairs IsEarlier (e ∷ book) → All (IsAccepted new) book
-accepted_rest old new e book lends all ordered k d small =
-    let here : IsAccepted old e = All-head (IsAccepted old) e book all in
+pub accepted_rest : (rows : List GrantRow) (old new : Table) (e : Accepted) (book : List Accepted) → LendsOnly old new e.loan.frames None → All (IsAccepted rows old) (e ∷ book) →
+    AllPairs IsEarlier (e ∷ book) → All (IsAccepted rows new) book
+accepted_rest rows old new e book lends all ordered k d small =
+    let here : IsAccepted rows old e = All-head (IsAccepted rows old) e book all in
     let x : Accepted = get_or book k d in
-    let there : IsAccepted old x = All-tail (IsAccepted old) e book all k d small in
+    let there : IsAccepted rows old x = All-tail (IsAccepted rows old) e book all k d small in
     let later : e.id.0 < x.id.0 = ordered 0 (suc k) d (omega arith) (omega arith) in
-    kept_lent old new e.loan.frames None x lends there (λ f held mine.
+    kept_lent rows old new e.loan.frames None x lends there (λ f held mine.
     let to_x = All-contains (λ (y : Frame). lent_to old y ≡ Some x.id) x.loan.frames f there.lent held in
     let to_e = All-contains (λ (y : Frame). lent_to old y ≡ Some e.id) e.loan.frames f here.lent mine in
     let same = same_id (sym to_e ∙ to_x) in
@@ -172,11 +180,11 @@ owns_on old new size more owners same owns f client owner =
     (o.0, let inside = o.1 in omega (arith, same, inside))
 
 -- a client that has room leaves room in the book
-pub room_left : (table : Table) (book : List Accepted) (e : Accepted) → All (IsAccepted table) book → ((client : ℕ) → unanswered_of book client ≤ 16) →
+pub room_left : (rows : List GrantRow) (table : Table) (book : List Accepted) (e : Accepted) → All (IsAccepted rows table) book → ((client : ℕ) → unanswered_of book client ≤ 16) →
     unanswered_of book e.client.0 < 16 → 1 ≤ e.client.0 → e.client.0 ≤ 8 → length book < 128
-room_left table book e accepted few room low high =
+room_left rows table book e accepted few room low high =
     let more : (client : ℕ) → unanswered_of (book ++ e ∷ []) client ≤ 16 = few_more book e few room in
-    let clients = All-push IsClients book e (All-weaker (IsAccepted table) IsClients (λ x a. (a.client_from, a.client_to)) book accepted) (low, high) in
+    let clients = All-push IsClients book e (All-weaker (IsAccepted rows table) IsClients (λ x a. (a.client_from, a.client_to)) book accepted) (low, high) in
     let h = counted_all (book ++ e ∷ []) clients in
     let n = length-append book (e ∷ []) in
     omega (arith, h, n, more 1, more 2, more 3, more 4, more 5, more 6, more 7, more 8)

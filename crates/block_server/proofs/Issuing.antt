@@ -45,7 +45,7 @@ all_free d s slot =
       | inr ne ↦ s.1.free slot ne
     ]
 
-none_guarded : (d : Device) → Serves None d → IsGuarded (λ _. ⊥) IsOutsideArea d
+pub none_guarded : (d : Device) → Serves None d → IsGuarded (λ _. ⊥) IsOutsideArea d
 none_guarded d s = free_guarded d s.0 (all_free d s) (λ _. ap (λ (b : Bases). b.fb) s.1.bases)
 
 pub none_after : (old new : Device) → Serves None old → Steps old new → Serves None new
@@ -88,8 +88,8 @@ stored at bytes old new s call =
     let memory : new.memory ≡ patched call.mid.memory at bytes = ap (λ (d : Device). d.memory) call.effect in
     let P : Device → Type 0 = λ d. Serves None d in
     let served : Serves None after = (
-      record { on = record { ae = mid.0.on.ae; no_reset = mid.0.on.no_reset }; room = mid.0.room; others = mid.0.others },
-      record { there = mid.1.there; st = mid.1.st; bases = mid.1.bases; free = mid.1.free },
+      record { on = record { ae = mid.0.on.ae; no_reset = mid.0.on.no_reset }; silent = mid.0.silent; room = mid.0.room; others = mid.0.others },
+      record { there = mid.1.there; st = mid.1.st; cr = mid.1.cr; fre = mid.1.fre; bases = mid.1.bases; sact = mid.1.sact; free = mid.1.free },
       mid.2,
     ) in
     record {

@@ -14,7 +14,11 @@ use Rattle.adapter.specs.Steps.{Steps}
 use Rattle.adapter.proofs.Absurd.{true-false, some-none}
 use Rattle.adapter.proofs.Calls.{KeepsAll, steps_keep_all}
 use Rattle.adapter.proofs.Free.{apart_free_stays}
-use Rattle.dma_frames.specs.Table.{owner_of, lent_to}
+use Rattle.std.specs.Prelude.{IsSome}
+use Rattle.ata_types.specs.declared.refusal.MemFault.TheVariants.{FrameForeign, FrameLent, OutsideFrame}
+use Rattle.ata_types.specs.declared.request.RequestId.{RequestId}
+use Rattle.block_machine.specs.Refusals.{IsOpen}
+use Rattle.dma_frames.specs.Table.{Table, owner_of, lent_to}
 use Rattle.block_server.specs.Book.{IsKept, IsAccepted, StandsBehind, served, issued_of}
 use Rattle.block_server.specs.Port.{IsSlotFree, IsLone, IsRunning, IsResting, Issued, HoldsRead, Serves, IsTableByte, IsKeptByte, IsInFrames, IsOutsideArea}
 use Rattle.block_server.specs.View.{ServerView}
@@ -136,12 +140,12 @@ module _ {A : Type 0} (device : A → Device) (s : ServerView A) (places : ℕ) 
   inside : 4096 * f.0 + offset + n ≤ (device s.adapter).size
   inside = let o = inv.owners f client owner in omega (arith, o.1, fits)
 
-  not_lent : (e : Accepted) → IsAccepted s.table e → Contains e.loan.frames f → ⊥
+  not_lent : (e : Accepted) → IsAccepted s.grants s.table e → Contains e.loan.frames f → ⊥
   not_lent e accepted there =
       let to_it = All-contains (λ (x : Frame). lent_to s.table x ≡ Some e.id) e.loan.frames f accepted.lent there in
       some-none to_it lent
 
-  loads_while : (o : Option Issued) (book : List Accepted) (issued : Bool) → o ≡ served issued book → All (IsAccepted s.table) book → Serves o (device s.adapter) →
+  loads_while : (o : Option Issued) (book : List Accepted) (issued : Bool) → o ≡ served issued book → All (IsAccepted s.grants s.table) book → Serves o (device s.adapter) →
       Stays (IsFree (4096 * f.0 + offset) n) (device s.adapter)
   loads_while None book issued is accepted serves =
       free_loads (4096 * f.0 + offset) n low (device s.adapter) inside serves.0 (all_free (device s.adapter) serves) (λ _. ap (λ (b : Bases). b.fb) serves.1.bases)
@@ -152,7 +156,7 @@ module _ {A : Type 0} (device : A → Device) (s : ServerView A) (places : ℕ) 
       let same : r ≡ issued_of e = (let h : Some r ≡ Some (issued_of e) = is in cc) in
       let frames_are : r.frames ≡ e.loan.frames = ap (λ (x : Issued). x.frames) same in
       let P : List Frame → Type 0 = λ frames. Contains frames f in
-      let apart : Contains r.frames f → ⊥ = (λ there. not_lent e (All-head (IsAccepted s.table) e es accepted) (subst P frames_are there)) in
+      let apart : Contains r.frames f → ⊥ = (λ there. not_lent e (All-head (IsAccepted s.grants s.table) e es accepted) (subst P frames_are there)) in
       read_loads (4096 * f.0 + offset) n low (device s.adapter) inside r serves.0 serves.1 serves.2
       (λ a from to. frame_apart r.frames f apart a (omega (arith, from)) (omega (arith, to, fits)))
 
@@ -172,3 +176,10 @@ module _ {A : Type 0} (device : A → Device) (s : ServerView A) (places : ℕ) 
 pub none_if_not_some : {T : Type 0} (o : Option T) → is_some o ≡ false → o ≡ None
 none_if_not_some None e = refl
 none_if_not_some (Some x) e = true-false refl e
+
+-- such a frame is open to its client
+pub frame_opens : (table : Table) (f : Frame) (client : ClientId) (offset n : ℕ) → owner_of table f ≡ Some client → lent_to table f ≡ None → offset + n ≤ 4096 →
+    IsOpen (owner_of table) (lent_to table) client f offset n
+frame_opens table f client offset n owner lent fits FrameForeign applies = applies owner
+frame_opens table f client offset n owner lent fits FrameLent applies = let P : Option RequestId → Type 0 = λ o. IsSome o in true-false (subst P lent applies) refl
+frame_opens table f client offset n owner lent fits OutsideFrame applies = omega (arith, applies, fits)

@@ -14,16 +14,17 @@ use Rattle.dma_frames.specs.Table.{Run, Table, owner_of, HasFrame}
 use Rattle.grants.specs.Rows.{SameRows}
 use Rattle.block_server.specs.Book.{IsKept, IsReadGrant, StandsBehind}
 use Rattle.block_server.specs.Calls.{IsSetup}
-use Rattle.block_server.specs.Port.{IsBroughtUp}
+use Rattle.block_server.specs.Port.{IsBroughtUp, SparesClients}
 use Rattle.block_server.specs.View.{ServerView}
 use Rattle.block_server.specs.declared.types.Accepted.{Accepted}
+use Rattle.block_server.proofs.Coming.{undisturbed_both}
 
-stands : (state : PortState) (d : Device) → IsBroughtUp state d → StandsBehind state None d
-stands Ready d h = h
-stands Absent d h = (h.0, h.1)
-stands Foreign d h = absurd h
-stands (Unfit n) d h = (h.0, h.1)
-stands Dead d h = absurd h
+stands : (state : PortState) (old d : Device) → IsBroughtUp state old d → StandsBehind state None d
+stands Ready old d h = (h.0, h.1, h.2)
+stands Absent old d h = (h.0, h.1)
+stands Foreign old d h = absurd h
+stands (Unfit n) old d h = (h.0, h.1)
+stands Dead old d h = absurd h
 
 module _ {A : Type 0} (device : A → Device) (adapter : A) (table : Table) (state : PortState) (sectors : ℕ) (grants : List GrantRow) where
   abbrev made : List Accepted → ServerView A
@@ -31,9 +32,9 @@ module _ {A : Type 0} (device : A → Device) (adapter : A) (table : Table) (sta
 
   pub new_is_kept : {frames size : ℕ} {owners : List Run} {given : List GrantRow} → IsSetup frames owners given → 4096 * frames ≤ size → (device adapter).size ≡ size → SameRows given grants →
       ((f : Frame) (client : ClientId) → owner_of table f ≡ Some client → (run : Run) × Contains owners run × HasFrame run f × (run.0 ≡ client)) →
-      IsBroughtUp state (device adapter) → (book : List Accepted) → book ≡ [] → (places : ℕ) → 128 ≤ places →
+      (old : Device) → IsBroughtUp state old (device adapter) → (book : List Accepted) → book ≡ [] → (places : ℕ) → 128 ≤ places →
       IsKept device (record { adapter = adapter; grants = grants; table = table; state = state; sectors = sectors; book = book; issued = false; last = 0 }) places
-  new_is_kept {frames} {size} {owners} {given} setup room size_is rows only brought book none places enough =
+  new_is_kept {frames} {size} {owners} {given} setup room size_is rows only old brought book none places enough =
       let P : List Accepted → Type 0 = λ b. IsKept device (made b) places in
       subst P (sym none) (record {
         room = enough;
@@ -50,6 +51,14 @@ module _ {A : Type 0} (device : A → Device) (adapter : A) (table : Table) (sta
         handed_out = λ k d small. absurd (omega (arith, small));
         due = λ _. refl;
         some = λ h. true-false h refl;
-        port = stands state (device adapter) brought;
+        port = stands state old (device adapter) brought;
         ready = λ h. true-false h refl;
       })
+
+-- what stands behind the state, from before the adapter was switched on
+pub brought_from : (state : PortState) (old mid new : Device) → SparesClients [] old mid → SparesClients [] mid new → IsBroughtUp state mid new → IsBroughtUp state old new
+brought_from Ready old mid new a b h = (h.0, h.1, h.2, h.3, λ none. h.4 (undisturbed_both a b none).1)
+brought_from Absent old mid new a b h = h
+brought_from Foreign old mid new a b h = h
+brought_from (Unfit n) old mid new a b h = h
+brought_from Dead old mid new a b h = h

@@ -117,7 +117,7 @@ unused_guarded Tables Kept memory p free area = record {
   received = area;
 }
 
-idle_guarded : (Tables Kept : ℕ → Type 0) (memory : ℕ → ℕ) (p : PortState) → IsIdlePort p → IsGuardedPort Tables Kept memory p
+pub idle_guarded : (Tables Kept : ℕ → Type 0) (memory : ℕ → ℕ) (p : PortState) → IsIdlePort p → IsGuardedPort Tables Kept memory p
 idle_guarded Tables Kept memory p i =
     unused_guarded Tables Kept memory p (λ slot. record { ci = i.ci slot; taken = i.taken slot }) (λ fre. true-false fre i.fre)
 
@@ -151,7 +151,7 @@ read_guarded r d l run h =
             | inl e ↦
                 let P : List ℕ → Type 0 = λ places. Avoids (IsKeptByte r.frames) places in
                 let here : (d.port 0).taken 0 ≡ Some t = ap (d.port 0).taken (sym e) ∙ is in
-                subst P (sym (h.tied t here).0) (places_avoid r d h)
+                subst P (sym (h.tied t here).1) (places_avoid r d h)
             | inr ne ↦ some-none is (run.free slot ne).taken
           ];
       received = λ fre.
@@ -170,8 +170,8 @@ free_guarded d l free area =
 -- ---- the read goes on, whatever the device does
 
 module _ (r : Issued) (d : Device) (l : IsLone d) (run : IsRunning d) (h : HoldsRead r d) where
-  abbrev Tied : PortState → Type 0
-  Tied p = (t : Taken) → p.taken 0 ≡ Some t → (t.places ≡ places_of r.frames r.count) × (p.ci 0 ≡ true)
+  abbrev pub Tied : PortState → Type 0
+  Tied p = (t : Taken) → p.taken 0 ≡ Some t → (t.meaning ≡ meaning_of r) × (t.places ≡ places_of r.frames r.count) × (p.ci 0 ≡ true)
 
   -- port 0 is still tied if a port is another now
   at_port : (q : ℕ) (new : PortState) → (q ≡ 0 → Tied new) → Tied (changed d.port q new 0)
@@ -179,11 +179,11 @@ module _ (r : Issued) (d : Device) (l : IsLone d) (run : IsRunning d) (h : Holds
       changed_each d.port q new (λ k p. k ≡ 0 → Tied p) here
       (λ k e. let P : ℕ → Type 0 = λ n. Tied (d.port n) in subst P (sym e) h.tied) 0 refl
 
-  tied_at : (q : ℕ) → q ≡ 0 → Tied (d.port q)
+  pub tied_at : (q : ℕ) → q ≡ 0 → Tied (d.port q)
   tied_at q e = let P : ℕ → Type 0 = λ n. Tied (d.port n) in subst P (sym e) h.tied
 
   -- a slot of port 0 that is in use is slot 0
-  slot_zero : (q slot : ℕ) → q ≡ 0 → InUse (d.port q) slot → slot ≡ 0
+  pub slot_zero : (q slot : ℕ) → q ≡ 0 → InUse (d.port q) slot → slot ≡ 0
   slot_zero q slot e used =
       elim (cases_eq slot 0) [
         | inl zero_is ↦ zero_is
@@ -194,39 +194,47 @@ module _ (r : Issued) (d : Device) (l : IsLone d) (run : IsRunning d) (h : Holds
 
   -- a slot is filled with a command that has the same places, and CI still shows it
   refilled : (q slot : ℕ) (t : Taken) (new : PortState) → q ≡ 0 → slot ≡ 0 → new.taken ≡ changed (d.port q).taken slot (Some t) →
-      (t.places ≡ places_of r.frames r.count) × (new.ci 0 ≡ true) → Tied new
+      (t.meaning ≡ meaning_of r) × (t.places ≡ places_of r.frames r.count) × (new.ci 0 ≡ true) → Tied new
   refilled q slot t new e s is ok u taken =
       let here : changed (d.port q).taken slot (Some t) 0 ≡ Some t =
       let P : ℕ → Type 0 = λ k. changed (d.port q).taken slot (Some t) k ≡ Some t in
       subst P s (changed_same (d.port q).taken slot (Some t)) in
       let same : t ≡ u = some_one (sym here ∙ sym (ap (λ (f : ℕ → Option Taken). f 0) is) ∙ taken) in
-      (sym (ap (λ (x : Taken). x.places) same) ∙ ok.0, ok.1)
+      (sym (ap (λ (x : Taken). x.meaning) same) ∙ ok.0, sym (ap (λ (x : Taken). x.places) same) ∙ ok.1, ok.2)
+
+  -- what is taken is what the slot's bytes say
+  fetch_says : (q slot : ℕ) (m : Meaning) (places : List ℕ) → MayFetch d q slot m places → q ≡ 0 → Says d.memory 0 0 m places
+  fetch_says q slot m places can e =
+      let list : (d.port q).bases.clb ≡ 0 = ap (λ (k : ℕ). (d.port k).bases.clb) e ∙ ap (λ (b : Bases). b.clb) run.bases in
+      let P : ℕ → Type 0 = λ clb. Says d.memory clb slot m places in
+      let Q : ℕ → Type 0 = λ k. Says d.memory 0 k m places in
+      subst Q (slot_zero q slot e (inl can.fetchable.issued)) (subst P list can.says)
+
+  pub fetch_means : (q slot : ℕ) (m : Meaning) (places : List ℕ) → MayFetch d q slot m places → q ≡ 0 → m ≡ meaning_of r
+  fetch_means q slot m places can e = says_meaning d.memory 0 0 m (meaning_of r) places (places_of r.frames r.count) (fetch_says q slot m places can e) h.says
 
   fetch_tied : (q slot : ℕ) (m : Meaning) (places : List ℕ) → MayFetch d q slot m places → q ≡ 0 → Tied (with_fetch (d.port q) slot m places)
   fetch_tied q slot m places can e =
       let s : slot ≡ 0 = slot_zero q slot e (inl can.fetchable.issued) in
-      let list : (d.port q).bases.clb ≡ 0 = ap (λ (k : ℕ). (d.port k).bases.clb) e ∙ ap (λ (b : Bases). b.clb) run.bases in
-      let P : ℕ → Type 0 = λ clb. Says d.memory clb slot m places in
-      let Q : ℕ → Type 0 = λ k. Says d.memory 0 k m places in
-      let says : Says d.memory 0 0 m places = subst Q s (subst P list can.says) in
-      let same : places ≡ places_of r.frames r.count = says_places d.memory 0 0 m (meaning_of r) places (places_of r.frames r.count) says h.says in
-      let plain : is_queued m.operation ≡ false =
-      ap (λ (x : Meaning). is_queued x.operation) (says_meaning d.memory 0 0 m (meaning_of r) places (places_of r.frames r.count) says h.says) in
+      let same : places ≡ places_of r.frames r.count =
+      says_places d.memory 0 0 m (meaning_of r) places (places_of r.frames r.count) (fetch_says q slot m places can e) h.says in
+      let meant : m ≡ meaning_of r = fetch_means q slot m places can e in
+      let plain : is_queued m.operation ≡ false = ap (λ (x : Meaning). is_queued x.operation) meant in
       let ci : (d.port q).ci 0 ≡ true = ap (d.port q).ci (sym s) ∙ can.fetchable.issued in
       let stays : (b : Bool) → b ≡ false → (if b then changed (d.port q).ci slot false else (d.port q).ci) 0 ≡ true = stay (d.port q).ci slot ci in
-      refilled q slot _ (with_fetch (d.port q) slot m places) e s refl (same, stays (is_queued m.operation) plain)
+      refilled q slot _ (with_fetch (d.port q) slot m places) e s refl (meant, same, stays (is_queued m.operation) plain)
     where
       stay : (f : ℕ → Bool) (k : ℕ) → f 0 ≡ true → (b : Bool) → b ≡ false → (if b then changed f k false else f) 0 ≡ true
       stay f k set true no_queue = true-false refl no_queue
       stay f k set false no_queue = set
 
   -- the slot's command goes on
-  works_tied : (q slot : ℕ) (t u : Taken) (new : PortState) → (d.port q).taken slot ≡ Some t → u.places ≡ t.places →
+  works_tied : (q slot : ℕ) (t u : Taken) (new : PortState) → (d.port q).taken slot ≡ Some t → u.meaning ≡ t.meaning → u.places ≡ t.places →
       new.taken ≡ changed (d.port q).taken slot (Some u) → new.ci ≡ (d.port q).ci → q ≡ 0 → Tied new
-  works_tied q slot t u new is same taken ci e =
+  works_tied q slot t u new is means same taken ci e =
       let s : slot ≡ 0 = slot_zero q slot e (inr (t, is)) in
       let old = tied_at q e t (ap (d.port q).taken (sym s) ∙ is) in
-      refilled q slot u new e s taken (same ∙ old.0, ap (λ (f : ℕ → Bool). f 0) ci ∙ old.1)
+      refilled q slot u new e s taken (means ∙ old.0, same ∙ old.1, ap (λ (f : ℕ → Bool). f 0) ci ∙ old.2)
 
   done_tied : (q slot flag : ℕ) (t : Taken) → (d.port q).taken slot ≡ Some t → q ≡ 0 → Tied (with_done (d.port q) slot flag t.meaning.operation)
   done_tied q slot flag t is e u taken =
@@ -237,8 +245,8 @@ module _ (r : Issued) (d : Device) (l : IsLone d) (run : IsRunning d) (h : Holds
   step_tied : (step : Step) → Can step d → Tied ((after step d).port 0)
   step_tied (Fetch port slot m places) can = at_port port _ (fetch_tied port slot m places can)
   step_tied (FetchFault port slot queued kept_bits) can = at_port port _ (tied_at port)
-  step_tied (Move port slot t bytes) can = at_port port _ (works_tied port slot t (record t { moved = t.moved + 1; block = block_after t.meaning.operation bytes t.block }) (with_move (d.port port) slot t bytes) can.works.taken refl refl refl)
-  step_tied (Clear port slot t first count) can = at_port port _ (works_tied port slot t (record t { cleared = t.cleared + count }) (with_clear (d.port port) slot t first count) can.works.taken refl refl refl)
+  step_tied (Move port slot t bytes) can = at_port port _ (works_tied port slot t (record t { moved = t.moved + 1; block = block_after t.meaning.operation bytes t.block }) (with_move (d.port port) slot t bytes) can.works.taken refl refl refl refl)
+  step_tied (Clear port slot t first count) can = at_port port _ (works_tied port slot t (record t { cleared = t.cleared + count }) (with_clear (d.port port) slot t first count) can.works.taken refl refl refl refl)
   step_tied (Done port slot flag t) can = at_port port _ (done_tied port slot flag t can.works.taken)
   step_tied (Fault port slot error kept_bits t) can = at_port port _ (tied_at port)
   step_tied (Fatal port place) can = at_port port _ (tied_at port)

@@ -1,5 +1,6 @@
 -- What the server keeps: between any two calls this holds of it.
-use Rattle.std.specs.Prelude.{ℕ, Bool, true, false, ◌≡◌, ◌≢◌, ◌+◌, ◌*◌, ◌/◌, ◌^◌, ◌<◌, ◌≤◌, ◌==◌, List, [], ◌∷◌, length, Option, Some, None, All, AllPairs, count_by}
+use Rattle.std.specs.Prelude.{ℕ, Bool, true, false, ◌≡◌, ◌≢◌, ◌+◌, ◌*◌, ◌/◌, ◌^◌, ◌<◌, ◌≤◌, ◌==◌, List, [], ◌∷◌, length, Option, Some, None, All, AllPairs, Contains, count_by}
+use Rattle.ata_types.specs.Grant.{Covers}
 use Rattle.ata_types.specs.declared.PortState.{PortState}
 use Rattle.ata_types.specs.declared.PortState.TheVariants.{Ready}
 use Rattle.ata_types.specs.declared.grant.GrantRow.{GrantRow}
@@ -34,16 +35,23 @@ pub record IsReadGrant (row : GrantRow) : Type 0 where
   pub no_trim : row.rights.trim ≡ false
   pub no_flush : row.rights.flush ≡ false
 
--- An accepted read: of a client 1 to 8, of 1 to 256 sectors below 2^48, with as many frames as it needs, all of them
--- clients' and lent to it.
-pub record IsAccepted (table : Table) (e : Accepted) : Type 0 where
+-- The request's sectors are in a row of its client.
+abbrev pub IsCovered : List GrantRow → Accepted → Type 0
+IsCovered rows e = (row : GrantRow) × Contains rows row × (row.client ≡ e.client) × Covers row e.first.0 e.count
+
+-- An accepted read: of a client 1 to 8, of 1 to 256 sectors below 2^48 within a row of the client, with as many frames as it
+-- needs, each another one, all of them the client's own and lent to it.
+pub record IsAccepted (rows : List GrantRow) (table : Table) (e : Accepted) : Type 0 where
   pub client_from : 1 ≤ e.client.0
   pub client_to : e.client.0 ≤ 8
   pub some : 1 ≤ e.count
   pub few : e.count ≤ 256
   pub first : e.first.0 < 2 ^ 48
   pub frames : length e.loan.frames ≡ (e.count + 7) / 8
+  pub row : IsCovered rows e
   pub clients : All (λ frame. 40 ≤ frame.0) e.loan.frames
+  pub own : All (λ frame. owner_of table frame ≡ Some e.client) e.loan.frames
+  pub apart : AllPairs (λ a b. a ≢ b) e.loan.frames
   pub request : e.loan.request ≡ e.id
   pub lent : All (λ frame. lent_to table frame ≡ Some e.id) e.loan.frames
 
@@ -66,7 +74,7 @@ pub record IsKept {A : Type 0} (device : A → Device) (s : ServerView A) (place
   pub few : (client : ℕ) → unanswered_of s.book client ≤ 16
   pub rows : All IsReadGrant s.grants
   pub owners : OwnsClientFrames s.table (device s.adapter).size
-  pub accepted : All (IsAccepted s.table) s.book
+  pub accepted : All (IsAccepted s.grants s.table) s.book
   pub ordered : AllPairs IsEarlier s.book
   pub handed_out : All (λ e. e.id.0 ≤ s.last) s.book
   -- what is due is issued

@@ -1,9 +1,9 @@
 -- What each call of the server does.
-use Rattle.std.specs.Prelude.{ℕ, Bool, true, false, ◌≡◌, ◌+◌, ◌*◌, ◌<◌, ◌≤◌, ◌⊎◌, List, [], ◌∷◌, ◌++◌, length, Some, None, Ok, Err, All, AllPairs, Contains, if◌then◌else◌, nat_eq, ◌≢◌}
+use Rattle.std.specs.Prelude.{ℕ, Bool, true, false, ◌≡◌, ◌+◌, ◌*◌, ◌<◌, ◌≤◌, ◌⊎◌, List, [], ◌∷◌, ◌++◌, length, Option, Some, None, Ok, Err, All, AllPairs, Contains, if◌then◌else◌, nat_eq, ◌≢◌}
 use Rattle.std.specs.declared.result.Result.{Result}
 use Rattle.ata_types.specs.declared.Port.{Port}
 use Rattle.ata_types.specs.declared.PortState.{PortState}
-use Rattle.ata_types.specs.declared.PortState.TheVariants.{Absent}
+use Rattle.ata_types.specs.declared.PortState.TheVariants.{Absent, Ready}
 use Rattle.ata_types.specs.declared.grant.GrantRow.{GrantRow}
 use Rattle.ata_types.specs.declared.refusal.MemFault.{MemFault}
 use Rattle.ata_types.specs.declared.refusal.Refusal.{Refusal}
@@ -20,9 +20,10 @@ use Rattle.adapter.specs.Steps.{Steps}
 use Rattle.block_machine.specs.Refusals.{Situation, IsAcceptable, IsFirstRefusal, IsOpen, IsFirstMemFault}
 use Rattle.block_machine.specs.Rules.{DifferInName}
 use Rattle.dma_frames.specs.Table.{Run, owner_of, lent_to, LendsOnly, HasFrame, IsRun, AreApart}
-use Rattle.block_server.specs.Book.{IsReadGrant, unanswered_of}
+use Rattle.block_server.specs.Book.{IsReadGrant, served, unanswered_of}
 use Rattle.grants.specs.Rows.{SameRows}
-use Rattle.block_server.specs.Port.{IsBroughtUp}
+use Rattle.block_server.specs.Port.{IsBroughtUp, IsHealthy, Issued, Serves, SparesClients, GoesOn, frames_of}
+use Rattle.block_server.specs.Told.{reads_ended, IsUnharmed}
 use Rattle.block_server.specs.View.{ServerView}
 use Rattle.block_server.specs.declared.types.Accepted.{Accepted}
 
@@ -81,8 +82,8 @@ abbrev pub accepted_as : Request → RequestId → Accepted
 accepted_as r id =
     record { id = id; client = r.client; first = r.first; count = r.count; loan = record { frames = r.frames.items; request = id } }
 
--- The request goes last in the book with the next id, its frames are lent to it, and the first of the book is issued: its bit
--- of CI is set if it wasn't issued before.
+-- The request goes last in the book with the next id, its frames are lent to it, and port 0 serves the first of the book: its
+-- bit of CI is set if it wasn't issued before. No client frame changes.
 pub record Accepts {A : Type 0} (device : A → Device) (old new : ServerView A) (r : Request) (id : RequestId) : Type 0 where
   pub acceptable : IsAcceptable (situation_of old) r
   pub id_is : id.0 ≡ old.last + 1
@@ -92,6 +93,9 @@ pub record Accepts {A : Type 0} (device : A → Device) (old new : ServerView A)
   pub setup : SameSetup old new
   pub issued : new.issued ≡ true
   pub sent : old.issued ≡ false → ((device new.adapter).port 0).ci 0 ≡ true
+  pub same : old.issued ≡ true → new.adapter ≡ old.adapter
+  pub serves : Serves (served true new.book) (device new.adapter)
+  pub goes_on : GoesOn None (device old.adapter) (device new.adapter)
 
 -- A refused request is told the first cause that applies, and changes nothing: neither server nor adapter.
 abbrev pub Submits : {A : Type 0} → (A → Device) → ServerView A → ServerView A → Request → Result RequestId Refusal → Type 0
@@ -103,34 +107,49 @@ abbrev pub done_reply : Accepted → Reply
 done_reply e = record { id = e.id; client = e.client; outcome = outcome.Ok }
 
 -- Nobody is answered: the book and what is lent are as they were, and nothing more is issued.
-pub record AnswersNone {A : Type 0} (old new : ServerView A) (replies : List Reply) : Type 0 where
+pub record AnswersNone {A : Type 0} (device : A → Device) (old new : ServerView A) (replies : List Reply) : Type 0 where
   pub replies_are : replies ≡ []
   pub book : new.book ≡ old.book
   pub table : new.table ≡ old.table
   pub issued : new.issued ≡ old.issued
+  pub ended : ((device old.adapter).port 0).ci 0 ≡ true → (((device new.adapter).port 0).ci 0 ≡ true) ⊎ (reads_ended (device old.adapter) < reads_ended (device new.adapter))
 
--- The first of the book, which was issued, is answered Ok: it leaves the book, its frames are given back, and the next of the
--- book is issued.
+-- The first of the book, which was issued, is answered Ok: the device has ended it, in this call where its bit of CI was set
+-- before. It leaves the book, its frames are given back, and the next of the book is issued.
 pub record AnswersFirst {A : Type 0} (device : A → Device) (old new : ServerView A) (replies : List Reply) : Type 0 where
   pub entry : Accepted
   pub was_issued : old.issued ≡ true
   pub replies_are : replies ≡ done_reply entry ∷ []
   pub book : old.book ≡ entry ∷ new.book
   pub lent : LendsOnly old.table new.table entry.loan.frames None
+  pub ended : ((device old.adapter).port 0).ci 0 ≡ true → reads_ended (device old.adapter) < reads_ended (device new.adapter)
   pub sent : new.book ≢ [] → (new.issued ≡ true) × (((device new.adapter).port 0).ci 0 ≡ true)
+  pub none : new.book ≡ [] → new.issued ≡ false
 
+-- what port 0 serves
+abbrev pub served_by : {A : Type 0} → ServerView A → Option Issued
+served_by s = served s.issued s.book
+
+-- Nobody is answered, or the first of the book is, which was done: on a port without trouble it is answered once its bit of CI
+-- is clear. No client frame changes but those of the read that was served, and port 0 serves the first of the book.
 pub record Services {A : Type 0} (device : A → Device) (old new : ServerView A) (replies : List Reply) : Type 0 where
   pub setup : SameSetup old new
   pub last : new.last ≡ old.last
-  pub answers : AnswersNone old new replies ⊎ AnswersFirst device old new replies
+  pub answers : AnswersNone device old new replies ⊎ AnswersFirst device old new replies
+  pub answered : old.state ≡ Ready → old.issued ≡ true → IsHealthy ((device old.adapter).port 0) → IsUnharmed (device old.adapter) (device new.adapter) →
+      ((device old.adapter).port 0).ci 0 ≡ false → replies ≢ []
+  pub serves : old.state ≡ Ready → Serves (served_by new) (device new.adapter)
+  pub spares : SparesClients (frames_of (served_by old)) (device old.adapter) (device new.adapter)
+  pub healthy : IsUnharmed (device old.adapter) (device new.adapter) → IsHealthy ((device old.adapter).port 0) → IsHealthy ((device new.adapter).port 0)
 
 -- A refused load is told the first cause that applies, and changes nothing, the buffer neither. Another brings the frame's
--- bytes and changes nothing of the server but what the device does meanwhile.
+-- bytes and changes nothing of the server but what the device does meanwhile, which changes no client frame but those of the
+-- read that is served.
 abbrev pub LoadsFrame : {A : Type 0} → (A → Device) → ServerView A → ServerView A → ClientId → Frame → ℕ → List ℕ → List ℕ → Result (Unit {0}) MemFault → Type 0
 LoadsFrame device old new client frame offset before bytes (Ok done) =
     IsOpen (owner_of old.table) (lent_to old.table) client frame offset (length before)
     × Loads (4096 * frame.0 + offset) bytes (device old.adapter) (device new.adapter)
-    × SameServer old new
+    × SameServer old new × GoesOn (served_by old) (device old.adapter) (device new.adapter)
 LoadsFrame device old new client frame offset before bytes (Err fault) =
     IsFirstMemFault (owner_of old.table) (lent_to old.table) client frame offset (length before) fault
     × (new ≡ old) × (bytes ≡ before)
@@ -140,6 +159,7 @@ pub record StepsDevice {A : Type 0} (device : A → Device) (old new : ServerVie
   pub steps : Steps (device old.adapter) (device new.adapter)
   pub refused : done ≡ false → device new.adapter ≡ device old.adapter
   pub rest : SameServer old new
+  pub goes_on : GoesOn (served_by old) (device old.adapter) (device new.adapter)
 
 -- The server as it is made: nothing is asked, nothing lent, and no id handed out. It holds the rows and the owners that it was
 -- given.
@@ -152,5 +172,5 @@ pub record IsNew {A : Type 0} (device : A → Device) (owners : List Run) (grant
   pub owned : (run : Run) (f : Frame) → Contains owners run → HasFrame run f → owner_of s.table f ≡ Some run.0
   pub only : (f : Frame) (client : ClientId) → owner_of s.table f ≡ Some client → (run : Run) × Contains owners run × HasFrame run f × (run.0 ≡ client)
   pub free : (f : Frame) → lent_to s.table f ≡ None
-  pub size : (device s.adapter).size ≡ (device adapter).size
-  pub brought_up : IsBroughtUp s.state (device s.adapter)
+  pub spares : SparesClients [] (device adapter) (device s.adapter)
+  pub brought_up : IsBroughtUp s.state (device adapter) (device s.adapter)

@@ -1,5 +1,6 @@
 pub mod Bytes
 pub mod Places
+pub mod Told
 pub mod Port
 pub mod View
 pub mod Book

@@ -7,7 +7,8 @@ use Rattle.adapter.specs.Access.{Loads}
 use Rattle.adapter.specs.Device.{Device}
 use Rattle.block_machine.specs.Refusals.{IsOpen, IsFirstMemFault}
 use Rattle.dma_frames.specs.Table.{owner_of, lent_to}
-use Rattle.block_server.specs.Calls.{state_of, SameServer, Submits, Services, StepsDevice}
+use Rattle.block_server.specs.Port.{GoesOn}
+use Rattle.block_server.specs.Calls.{state_of, served_by, SameServer, Submits, Services, StepsDevice}
 use Rattle.block_server.specs.View.{ServerView}
 use Rattle.block_server.specs.declared.types.Event.{Event}
 use Rattle.block_server.specs.declared.types.Event.TheVariants.{Submit, ClientLoad, Service, State, Device as Step}
@@ -19,7 +20,7 @@ abbrev pub TellsBytes : {A : Type 0} → (A → Device) → ServerView A → Ser
 TellsBytes device old new client frame offset n bytes = (length bytes ≡ n)
     × IsOpen (owner_of old.table) (lent_to old.table) client frame offset n
     × Loads (4096 * frame.0 + offset) bytes (device old.adapter) (device new.adapter)
-    × SameServer old new
+    × SameServer old new × GoesOn (served_by old) (device old.adapter) (device new.adapter)
 
 -- the first cause against the access is told, and nothing changes
 abbrev pub RefusesBytes : {A : Type 0} → ServerView A → ServerView A → ClientId → Frame → ℕ → ℕ → MemFault → Type 0

@@ -1,7 +1,8 @@
 // The book as the port serves it.
-ghost use Rattle.std.specs.Prelude.{◌≡◌, ◌≢◌, true, false, None, [], All, AllPairs};
+ghost use Rattle.std.specs.Prelude.{◌≡◌, ◌≢◌, true, false, List, None, [], All, AllPairs};
+ghost use Rattle.ata_types.specs.declared.grant.GrantRow.{GrantRow};
 ghost use Rattle.block_server.specs.Book.{IsAccepted, IsEarlier, served};
-ghost use Rattle.block_server.specs.Port.{Serves};
+ghost use Rattle.block_server.specs.Port.{Serves, GoesOn};
 ghost use Rattle.dma_frames.specs.Table.{Table};
 
 use crate::Accepted;
@@ -12,12 +13,12 @@ use dma_frames::FrameTable;
 /// Issues the first of the book, if there is one. Whether there is.
 pub fn issue_first<A: Adapter>(adapter: &mut A, book: &[Accepted]) -> bool
     requires serves { Serves None (A.device adapter.old) }
-    requires accepted { (table : Table) × All (IsAccepted table) book.now }
+    requires accepted { (rows : List GrantRow) × (table : Table) × All (IsAccepted rows table) book.now }
     ensures serves { Serves (served result book.now) (A.device adapter.new) }
     ensures none { result ≡ false → book.now ≡ [] }
     ensures some { result ≡ true → book.now ≢ [] }
     ensures issued { result ≡ true → ((A.device adapter.new).port 0).ci 0 ≡ true }
-    ensures size { (A.device adapter.new).size ≡ (A.device adapter.old).size }
+    ensures goes_on { GoesOn None (A.device adapter.old) (A.device adapter.new) }
 {
     let Some(next) = book.first() else {
         return false;
@@ -28,7 +29,7 @@ pub fn issue_first<A: Adapter>(adapter: &mut A, book: &[Accepted]) -> bool
 
 /// Ends a book: what it has lent is given back.
 pub fn give_all_back(book: Vec<Accepted>, table: &mut FrameTable)
-    requires accepted { All (IsAccepted table.old) book.items }
+    requires accepted { (rows : List GrantRow) × All (IsAccepted rows table.old) book.items }
     requires ordered { AllPairs IsEarlier book.items }
 {
     let mut book = book;

@@ -1,9 +1,10 @@
 // Port 0, which is all that the server uses, with one slot.
-ghost use Rattle.std.specs.Prelude.{◌≡◌, ◌≤◌, ◌||◌, true, false};
+ghost use Rattle.std.specs.Prelude.{◌≡◌, ◌≤◌, ◌||◌, true, false, []};
 ghost use Rattle.hba_regs.specs.Bits.{bit};
 ghost use Rattle.adapter.specs.Idle.{IsIdle, IsIdlePort};
 ghost use Rattle.adapter.specs.Rules.{HasPort};
-ghost use Rattle.block_server.specs.Port.{programmed, IsLone, IsBooting, Boots, Links, IsLinked, IsNotBusy, IsMissing, IsSwitchedOn, Starts, IsBroughtUp};
+ghost use Rattle.block_server.specs.Port.{programmed, IsLone, IsBooting, Boots, Links, IsLinked, IsNotBusy, IsMissing, IsSwitchedOn, Starts, IsUp, IsComing, IsClear, IsCalm, KeepsLink, SparesClients, IsBroughtUp};
+ghost use Rattle.block_server.specs.Told.{IsUndisturbed};
 
 use adapter::Adapter;
 use ata_types::{Port, PortState};
@@ -60,7 +61,8 @@ fn receive<A: Adapter>(adapter: &mut A)
 /// Sends COMRESET, and lets the link come up again (AHCI 1.3.1, 10.4.2).
 fn comreset<A: Adapter>(adapter: &mut A)
     requires { IsBooting programmed true (A.device adapter.old) }
-    ensures { Links (A.device adapter.old) (A.device adapter.new) }
+    ensures links { Links (A.device adapter.old) (A.device adapter.new) }
+    ensures coming { IsUndisturbed (A.device adapter.old) (A.device adapter.new) → IsComing ((A.device adapter.new).port 0) }
 {
     adapter.write(Reg::Px(Port(0), PortReg::Sctl), SataControl::SEND_COMRESET);
     adapter.write(Reg::Px(Port(0), PortReg::Sctl), SataControl::NO_ACTION);
@@ -70,7 +72,9 @@ fn comreset<A: Adapter>(adapter: &mut A)
 fn wait_for_link<A: Adapter>(adapter: &mut A) -> bool
     requires { Links (A.device adapter.old) (A.device adapter.old) }
     ensures links { Links (A.device adapter.old) (A.device adapter.new) }
+    ensures link { KeepsLink (A.device adapter.old) (A.device adapter.new) }
     ensures linked { result ≡ true → IsLinked (A.device adapter.new) }
+    ensures up { result ≡ true → IsUndisturbed (A.device adapter.old) (A.device adapter.new) → IsComing ((A.device adapter.old).port 0) → IsUp ((A.device adapter.new).port 0) }
     ensures missing { result ≡ false → IsMissing (A.device adapter.new) }
 {
     for _reading in 0..READINGS {
@@ -88,6 +92,9 @@ fn clear_errors<A: Adapter>(adapter: &mut A)
     requires linked { IsLinked (A.device adapter.old) }
     ensures links { Links (A.device adapter.old) (A.device adapter.new) }
     ensures linked { IsLinked (A.device adapter.new) }
+    ensures link { KeepsLink (A.device adapter.old) (A.device adapter.new) }
+    ensures clear { IsUndisturbed (A.device adapter.old) (A.device adapter.new) → IsUp ((A.device adapter.old).port 0) → IsClear ((A.device adapter.new).port 0) }
+    ensures calm { IsCalm ((A.device adapter.new).port 0) }
 {
     adapter.write(Reg::Px(Port(0), PortReg::Serr), ALL_ONES);
     adapter.write(Reg::Px(Port(0), PortReg::Is), ALL_ONES);
@@ -106,6 +113,7 @@ fn wait_until_ready<A: Adapter>(adapter: &mut A) -> bool
     requires linked { IsLinked (A.device adapter.old) }
     ensures links { Links (A.device adapter.old) (A.device adapter.new) }
     ensures linked { IsLinked (A.device adapter.new) }
+    ensures link { KeepsLink (A.device adapter.old) (A.device adapter.new) }
     ensures ready { result ≡ true → IsNotBusy (A.device adapter.new) }
     ensures busy { result ≡ false → ((A.device adapter.new).port 0).notes.busy_count ≡ 64 }
 {
@@ -134,8 +142,8 @@ fn start<A: Adapter>(adapter: &mut A)
 pub fn bring_up<A: Adapter>(adapter: &mut A) -> PortState
     requires lone { IsLone (A.device adapter.old) }
     requires idle { IsIdlePort ((A.device adapter.old).port 0) }
-    ensures size { (A.device adapter.new).size ≡ (A.device adapter.old).size }
-    ensures state { IsBroughtUp result (A.device adapter.new) }
+    ensures spares { SparesClients [] (A.device adapter.old) (A.device adapter.new) }
+    ensures state { IsBroughtUp result (A.device adapter.old) (A.device adapter.new) }
 {
     if !has_port(adapter) {
         return PortState::Absent;

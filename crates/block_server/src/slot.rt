@@ -1,6 +1,8 @@
 // One read in slot 0 of port 0: issuing it, and seeing that it is done.
-ghost use Rattle.std.specs.Prelude.{◌≡◌, ◌+◌, ◌*◌, ◌/◌, ◌^◌, ◌<◌, ◌≤◌, true, false, None, Some, length, All};
-ghost use Rattle.block_server.specs.Port.{IsLone, IsRunning, HoldsRead, Serves, KeepsServing, FindsDone, Issued};
+ghost use Rattle.std.specs.Prelude.{◌≡◌, ◌+◌, ◌*◌, ◌/◌, ◌%◌, ◌^◌, ◌<◌, ◌≤◌, ◌||◌, ◌&&◌, ◌==◌, not, true, false, None, Some, length, All};
+ghost use Rattle.hba_regs.specs.Bits.{bit};
+ghost use Rattle.block_server.specs.Port.{IsLone, IsRunning, HoldsRead, Serves, KeepsServing, FindsDone, GoesOn, IsHealthy, Issued};
+ghost use Rattle.block_server.specs.Told.{IsUnharmed};
 
 use crate::command_table::{header, prds, table_bytes};
 use adapter::{Adapter, Command};
@@ -30,7 +32,7 @@ fn write_read<A: Adapter>(adapter: &mut A, first: Sector, count: u32, frames: &[
     requires clients { All (λ frame. 40 ≤ frame.0) frames.now }
     ensures serves { Serves None (A.device adapter.new) }
     ensures holds { HoldsRead (record { first = first.0; count = count; frames = frames.now }) (A.device adapter.new) }
-    ensures size { (A.device adapter.new).size ≡ (A.device adapter.old).size }
+    ensures goes_on { GoesOn None (A.device adapter.old) (A.device adapter.new) }
 {
     let command = Command {
         code: READ_DMA_EXT,
@@ -55,10 +57,37 @@ pub fn issue<A: Adapter>(adapter: &mut A, first: Sector, count: u32, frames: &[F
     requires clients { All (λ frame. 40 ≤ frame.0) frames.now }
     ensures serves { Serves (Some (record { first = first.0; count = count; frames = frames.now })) (A.device adapter.new) }
     ensures issued { ((A.device adapter.new).port 0).ci 0 ≡ true }
-    ensures size { (A.device adapter.new).size ≡ (A.device adapter.old).size }
+    ensures goes_on { GoesOn None (A.device adapter.old) (A.device adapter.new) }
 {
     write_read(adapter, first, count, frames);
     adapter.write(Reg::Px(Port(0), PortReg::Ci), 1);
+}
+
+/// Whether the link went or came (AHCI 1.3.1, 3.3.5).
+fn has_change(interrupts: PortInterrupts) -> bool
+    ensures { result ≡ (bit interrupts.0 6 || bit interrupts.0 22) }
+{
+    interrupts.has_port_change() || interrupts.has_phy_ready_change()
+}
+
+/// Whether an error stopped the port (AHCI 1.3.1, 6.2).
+fn has_failure(interrupts: PortInterrupts) -> bool
+    ensures { result ≡ (bit interrupts.0 28 || bit interrupts.0 29 || bit interrupts.0 27 || bit interrupts.0 30) }
+{
+    interrupts.has_host_bus_data()
+        || interrupts.has_host_bus_fatal()
+        || interrupts.has_interface_fatal()
+        || interrupts.has_task_file_error()
+}
+
+/// Whether the link is there, neither went nor came, and nothing failed (AHCI 1.3.1, 5.5 and 6.2).
+fn is_undisturbed(interrupts: PortInterrupts, status: SataStatus) -> bool
+    ensures { result ≡ (status.0 % 16 == 3 && not (bit interrupts.0 6 || bit interrupts.0 22)
+        && not (bit interrupts.0 28 || bit interrupts.0 29 || bit interrupts.0 27 || bit interrupts.0 30)) }
+{
+    status.detection() == SataStatus::DEVICE_WITH_LINK
+        && !has_change(interrupts)
+        && !has_failure(interrupts)
 }
 
 /// Reads and clears the port's interrupts, and looks at its link. Whether the port goes on undisturbed: its device neither
@@ -66,20 +95,15 @@ pub fn issue<A: Adapter>(adapter: &mut A, first: Sector, count: u32, frames: &[F
 pub fn look<A: Adapter>(adapter: &mut A) -> bool
     requires lone { IsLone (A.device adapter.old) }
     requires runs { IsRunning (A.device adapter.old) }
-    ensures { KeepsServing (A.device adapter.old) (A.device adapter.new) }
+    ensures serves { KeepsServing (A.device adapter.old) (A.device adapter.new) }
+    ensures unset { ((A.device adapter.old).port 0).ci 0 ≡ false → ((A.device adapter.new).port 0).ci 0 ≡ false }
+    ensures undisturbed { IsHealthy ((A.device adapter.old).port 0) → IsUnharmed (A.device adapter.old) (A.device adapter.new) → result ≡ true }
 {
     let interrupts = PortInterrupts(adapter.read(Reg::Px(Port(0), PortReg::Is)));
     adapter.write(Reg::Px(Port(0), PortReg::Is), interrupts.0);
     adapter.write(Reg::Is, 1);
     let status = SataStatus(adapter.read(Reg::Px(Port(0), PortReg::Ssts)));
-    let is_lost = interrupts.has_port_change()
-        || interrupts.has_phy_ready_change()
-        || status.detection() != SataStatus::DEVICE_WITH_LINK;
-    let has_failed = interrupts.has_host_bus_data()
-        || interrupts.has_host_bus_fatal()
-        || interrupts.has_interface_fatal()
-        || interrupts.has_task_file_error();
-    !is_lost && !has_failed
+    is_undisturbed(interrupts, status)
 }
 
 /// Whether the read in slot 0 is done: its bits are clear in CI and in SACT, which are read in this order.
@@ -87,8 +111,8 @@ pub fn is_done<A: Adapter>(adapter: &mut A) -> bool
     requires lone { IsLone (A.device adapter.old) }
     requires runs { IsRunning (A.device adapter.old) }
     ensures found { (r : Issued) → Serves (Some r) (A.device adapter.old) → FindsDone r result (A.device adapter.new) }
-    ensures size { (A.device adapter.new).size ≡ (A.device adapter.old).size }
-    ensures seen { ((A.device adapter.old).port 0).ci 0 ≡ false → ((A.device adapter.old).port 0).sact 0 ≡ false → result ≡ true }
+    ensures goes_on { (r : Issued) → Serves (Some r) (A.device adapter.old) → GoesOn (Some r) (A.device adapter.old) (A.device adapter.new) }
+    ensures seen { ((A.device adapter.old).port 0).ci 0 ≡ false → result ≡ true }
 {
     let issued = adapter.read(Reg::Px(Port(0), PortReg::Ci));
     let active = adapter.read(Reg::Px(Port(0), PortReg::Sact));

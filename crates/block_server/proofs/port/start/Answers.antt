@@ -3,6 +3,8 @@ use Rattle.hba_regs.specs.Bits.{bit}
 use Rattle.adapter.specs.Device.{Notes}
 use Rattle.adapter.proofs.KeptLemmas.{steps_keep}
 use Rattle.block_server.proofs.Booting.{steps_boot, read_boots, start_runs, may_start}
+use Rattle.block_server.proofs.Coming.{link_then, reading_link}
+use Rattle.block_server.proofs.Sparing.{spares_then}
 use Rattle.block_server.proofs.port.start.Goals as goal
 
 pub write-requires : goal.write-requires
@@ -24,4 +26,10 @@ returns g c =
     let receives = r.1.shows.1 ∙ r.0.booting.stopped.fre in
     let fre = c.with_start.ensures.others 4 (lit< tt) (λ e. absurd (omega (arith, e))) ∙ receives in
     let s = start_runs _ _ _ r.0.booting c.write.ensures c.with_start.ensures.set fre in
-    record { lone = s.lone; runs = s.runs; free = s.free; size = s.size ∙ r.0.size }
+    record {
+      lone = s.lone;
+      runs = s.runs;
+      free = s.free;
+      spares = spares_then r.0.spares s.spares;
+      link = link_then r.0.spares s.spares (reading_link _ _ _ _ c.requires.booting.lone.on.no_reset c.requires.booting.stopped.cr c.read.ensures) s.link;
+    }

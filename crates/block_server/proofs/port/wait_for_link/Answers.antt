@@ -1,9 +1,10 @@
 use Rattle.std.proofs.Common.{arith}
 use Rattle.block_server.proofs.Booting.{link_found, link_again}
+use Rattle.block_server.proofs.Coming.{link_none}
 use Rattle.block_server.proofs.port.wait_for_link.Goals as goal
 
 pub loop-reading-init : goal.loop-reading-init
-loop-reading-init g c = record { links = c.requires; low = omega arith; high = λ h. absurd (omega arith); far = λ h. absurd (omega arith) }
+loop-reading-init g c = record { links = c.requires; link = link_none _; low = omega arith; high = λ h. absurd (omega arith); far = λ h. absurd (omega arith) }
 
 pub read-requires : goal.read-requires
 read-requires g c = let b = c.loop-reading.invariant.links.booting in (b.lone.on, b.there)
@@ -18,12 +19,25 @@ pub returns-then-detection-eq-DEVICE_WITH_LINK-clause-linked :
 returns-then-detection-eq-DEVICE_WITH_LINK-clause-linked g c =
     λ _. (link_found _ _ _ c.read.result _ c.loop-reading.invariant c.read.ensures (omega arith)).1
 
+pub returns-then-detection-eq-DEVICE_WITH_LINK-clause-link :
+    goal.returns-then-detection-eq-DEVICE_WITH_LINK-clause-link
+returns-then-detection-eq-DEVICE_WITH_LINK-clause-link g c =
+    (link_found _ _ _ c.read.result _ c.loop-reading.invariant c.read.ensures (omega arith)).2
+
+pub returns-then-detection-eq-DEVICE_WITH_LINK-clause-up :
+    goal.returns-then-detection-eq-DEVICE_WITH_LINK-clause-up
+returns-then-detection-eq-DEVICE_WITH_LINK-clause-up g c =
+    λ _. (link_found _ _ _ c.read.result _ c.loop-reading.invariant c.read.ensures (omega arith)).3
+
 pub loop-reading-preserved : goal.loop-reading-preserved
 loop-reading-preserved g c =
     link_again _ _ _ c.read.result _ (omega arith) c.loop-reading.invariant c.read.ensures (λ three. absurd (omega arith))
 
 pub returns-clause-links : goal.returns-clause-links
 returns-clause-links g c = c.loop-reading.invariant.links
+
+pub returns-clause-link : goal.returns-clause-link
+returns-clause-link g c = c.loop-reading.invariant.link
 
 pub returns-clause-missing : goal.returns-clause-missing
 returns-clause-missing g c = λ _. let w = c.loop-reading.invariant in (w.far (omega arith), omega (arith, w.low, w.high (omega arith)))

@@ -1,9 +1,10 @@
 use Rattle.std.proofs.Common.{arith, sym, ◌∙◌}
 use Rattle.block_server.proofs.Booting.{ready_found, busy_again}
+use Rattle.block_server.proofs.Coming.{link_none}
 use Rattle.block_server.proofs.port.wait_until_ready.Goals as goal
 
 pub loop-reading-init : goal.loop-reading-init
-loop-reading-init g c = record { links = c.requires.links; linked = c.requires.linked; low = omega arith; high = λ h. absurd (omega arith) }
+loop-reading-init g c = record { links = c.requires.links; link = link_none _; linked = c.requires.linked; low = omega arith; high = λ h. absurd (omega arith) }
 
 pub read-requires : goal.read-requires
 read-requires g c = let b = c.loop-reading.invariant.links.booting in (b.lone.on, b.there)
@@ -18,7 +19,11 @@ returns-then-not-is_occupied-clause-linked g c =
 
 pub returns-then-not-is_occupied-clause-ready : goal.returns-then-not-is_occupied-clause-ready
 returns-then-not-is_occupied-clause-ready g c =
-    λ _. (ready_found _ _ _ c.read.result _ c.loop-reading.invariant c.read.ensures (sym c.is_occupied.ensures ∙ c.if-not-is_occupied.true)).2
+    λ _. (ready_found _ _ _ c.read.result _ c.loop-reading.invariant c.read.ensures (sym c.is_occupied.ensures ∙ c.if-not-is_occupied.true)).3
+
+pub returns-then-not-is_occupied-clause-link : goal.returns-then-not-is_occupied-clause-link
+returns-then-not-is_occupied-clause-link g c =
+    (ready_found _ _ _ c.read.result _ c.loop-reading.invariant c.read.ensures (sym c.is_occupied.ensures ∙ c.if-not-is_occupied.true)).2
 
 pub loop-reading-preserved : goal.loop-reading-preserved
 loop-reading-preserved g c =
@@ -29,6 +34,9 @@ returns-clause-links g c = c.loop-reading.invariant.links
 
 pub returns-clause-linked : goal.returns-clause-linked
 returns-clause-linked g c = c.loop-reading.invariant.linked
+
+pub returns-clause-link : goal.returns-clause-link
+returns-clause-link g c = c.loop-reading.invariant.link
 
 pub returns-clause-busy : goal.returns-clause-busy
 returns-clause-busy g c = λ _. let w = c.loop-reading.invariant in omega (arith, w.low, w.high (omega arith))

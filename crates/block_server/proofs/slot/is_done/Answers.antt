@@ -1,6 +1,6 @@
 use Rattle.std.proofs.Common.{Some, not, sym, ◌∙◌, ap}
 use Rattle.adapter.proofs.Absurd.{true-false}
-use Rattle.block_server.proofs.Looking.{reading_runs, masks_keep, masks_find, ci_was_clear, sact_was_clear}
+use Rattle.block_server.proofs.Looking.{reading_runs, masks_keep, masks_find, ci_was_clear, sact_is_clear}
 use Rattle.block_server.proofs.slot.is_done.Goals as goal
 
 pub read-active-requires : goal.read-active-requires
@@ -10,14 +10,14 @@ read-active-requires g c =
 
 pub returns-then-is_set-clause-found : goal.returns-then-is_set-clause-found
 returns-then-is_set-clause-found g c = λ r s.
-    (masks_keep _ _ _ c.requires.lone c.requires.runs _ _ c.read-issued.ensures c.read-active.ensures).serves (Some r) s
+    (masks_keep _ _ _ c.requires.lone c.requires.runs _ _ c.read-issued.ensures c.read-active.ensures (Some r) s).0
 
-pub returns-then-is_set-clause-size : goal.returns-then-is_set-clause-size
-returns-then-is_set-clause-size g c =
-    (masks_keep _ _ _ c.requires.lone c.requires.runs _ _ c.read-issued.ensures c.read-active.ensures).size
+pub returns-then-is_set-clause-goes_on : goal.returns-then-is_set-clause-goes_on
+returns-then-is_set-clause-goes_on g c = λ r s.
+    (masks_keep _ _ _ c.requires.lone c.requires.runs _ _ c.read-issued.ensures c.read-active.ensures (Some r) s).1
 
 pub returns-then-is_set-clause-seen : goal.returns-then-is_set-clause-seen
-returns-then-is_set-clause-seen g c = λ ci sact.
+returns-then-is_set-clause-seen g c = λ ci.
     true-false (sym c.is_set.ensures ∙ c.if-is_set.true)
     (ci_was_clear _ _ _ c.requires.lone c.requires.runs _ _ c.read-issued.ensures c.read-active.ensures ci)
 
@@ -25,10 +25,10 @@ pub returns-clause-found : goal.returns-clause-found
 returns-clause-found g c = λ r s.
     masks_find _ _ _ c.requires.lone c.requires.runs _ _ c.read-issued.ensures c.read-active.ensures r _ (sym c.is_set.ensures ∙ c.if-is_set.false) s
 
-pub returns-clause-size : goal.returns-clause-size
-returns-clause-size g c =
-    (masks_keep _ _ _ c.requires.lone c.requires.runs _ _ c.read-issued.ensures c.read-active.ensures).size
+pub returns-clause-goes_on : goal.returns-clause-goes_on
+returns-clause-goes_on g c = λ r s.
+    (masks_keep _ _ _ c.requires.lone c.requires.runs _ _ c.read-issued.ensures c.read-active.ensures (Some r) s).1
 
 pub returns-clause-seen : goal.returns-clause-seen
-returns-clause-seen g c = λ ci sact.
-    ap not (c.is_set-2.ensures ∙ sact_was_clear _ _ _ c.requires.lone c.requires.runs _ _ c.read-issued.ensures c.read-active.ensures sact)
+returns-clause-seen g c = λ _.
+    ap not (c.is_set-2.ensures ∙ sact_is_clear _ _ _ c.requires.lone c.requires.runs _ _ c.read-issued.ensures c.read-active.ensures)

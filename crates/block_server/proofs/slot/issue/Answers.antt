@@ -1,4 +1,5 @@
-use Rattle.std.proofs.Common.{◌∙◌}
+use Rattle.std.proofs.Common.{None}
+use Rattle.block_server.proofs.Going.{goes_then}
 use Rattle.block_server.proofs.Issuing.{none_after, may_issue}
 use Rattle.block_server.proofs.Looking.{issue_serves}
 use Rattle.block_server.proofs.Serving.{steps_hold}
@@ -17,5 +18,6 @@ returns-clause-serves g c = (issue_serves _ _ _ c.write_read.ensures.serves c.wr
 pub returns-clause-issued : goal.returns-clause-issued
 returns-clause-issued g c = (issue_serves _ _ _ c.write_read.ensures.serves c.write_read.ensures.holds c.write.ensures).1
 
-pub returns-clause-size : goal.returns-clause-size
-returns-clause-size g c = (issue_serves _ _ _ c.write_read.ensures.serves c.write_read.ensures.holds c.write.ensures).2 ∙ c.write_read.ensures.size
+pub returns-clause-goes_on : goal.returns-clause-goes_on
+returns-clause-goes_on g c =
+    goes_then None c.write_read.ensures.goes_on (issue_serves _ _ _ c.write_read.ensures.serves c.write_read.ensures.holds c.write.ensures).2

@@ -1,4 +1,4 @@
-use Rattle.std.proofs.Common.{ℕ, ◌≡◌, ◌<◌, ◌+◌, ◌*◌, ◌∙◌, ap, subst, inl, inr, arith, length, take, List, slice_index_or, false}
+use Rattle.std.proofs.Common.{ℕ, ◌≡◌, ◌<◌, ◌+◌, ◌*◌, ◌∙◌, ap, subst, inl, inr, arith, length, take, List, slice_index_or, false, None}
 use Rattle.std.proofs.lemmas.List.{length-take}
 use Rattle.adapter.specs.Commands.{command_of}
 use Rattle.adapter.specs.Says.{pieces}
@@ -8,6 +8,7 @@ use Rattle.adapter.specs.declared.command.Operation.TheVariants.{Read}
 use Rattle.block_server.specs.Bytes.{part}
 use Rattle.block_server.specs.Places.{places_of}
 use Rattle.block_server.specs.Port.{Issued}
+use Rattle.block_server.proofs.Going.{goes_then, store_goes}
 use Rattle.block_server.proofs.Issuing.{IsRead, Stored, may_store, stored, read_stored}
 use Rattle.block_server.proofs.slot.write_read.Goals as goal
 
@@ -53,7 +54,14 @@ returns-clause-holds g c =
     read_stored r is _ _ _ prds c.table_bytes-table.result c.header.result first second
     c.table_bytes-table.ensures.size (omega (arith, number, frames, few)) places c.prds-prds.ensures.whole fis each heads
 
-pub returns-clause-size : goal.returns-clause-size
-returns-clause-size g c =
+pub returns-clause-goes_on : goal.returns-clause-goes_on
+returns-clause-goes_on g c =
+    let number = c.prds-prds.ensures.number in
+    let len = c.len.ensures.value in
+    let size = length-take (128 + 16 * c.len.result) c.table_bytes-table.result in
+    let frames = c.requires.frames in
+    let few = c.requires.few in
     let first = stored 4096 _ _ _ c.requires.serves c.store.ensures in
-    (stored 0 _ _ _ first.serves c.store-2.ensures).size ∙ first.size
+    let says = c.header.ensures.says.size in
+    goes_then None (store_goes 4096 _ _ _ c.requires.serves c.store.ensures (omega (arith, number, len, size, frames, few)))
+    (store_goes 0 _ _ _ first.serves c.store-2.ensures (omega (arith, says)))

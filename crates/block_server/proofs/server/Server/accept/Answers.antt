@@ -66,7 +66,7 @@ invariant_of-self g c =
     subst P c.as_slice-then-not-self.ensures.value c.issue.ensures.serves) in
     let id : RequestId = record { 0 = c.self.inside.last + 1 } in
     accepting.kept_in g.A.Adapter.device (seen c.self.inside) (vec_capacity c.self.inside.book) c.self.invariant c.args.r.now acc c.issue.new.adapter c.lend-loan.new.self id refl
-    c.lend-loan.result c.as_slice.result.now c.as_slice.ensures.value c.lend-loan.ensures.frames c.lend-loan.ensures.request c.lend-loan.ensures.lent c.issue.ensures.size
+    c.lend-loan.result c.as_slice.result.now c.as_slice.ensures.value c.lend-loan.ensures.frames c.lend-loan.ensures.request c.lend-loan.ensures.lent c.issue.ensures.goes_on.spares.size
     c.push_reserved.new.self.items c.push_reserved.ensures.items (vec_capacity c.push_reserved.new.self) c.push_reserved.ensures.capacity true refl
     (accepting.first_served g.A.Adapter.device (seen c.self.inside) (vec_capacity c.self.inside.book) c.self.invariant c.args.r.now acc id c.if-not-self.true c.issue.new.adapter only_frames)
 

@@ -1,7 +1,14 @@
-use Rattle.std.proofs.Common.{sym, ◌∙◌}
+use Rattle.std.proofs.Common.{◌+◌, ◌*◌, length, refl, sym, ◌∙◌, subst, arith}
 use Rattle.std.specs.Vec.{vec_capacity}
+use Rattle.adapter.specs.Access.{Loads}
+use Rattle.block_machine.specs.Refusals.{IsOpen}
+use Rattle.dma_frames.specs.Table.{owner_of, lent_to}
+use Rattle.block_server.specs.Calls.{SameServer, served_by}
+use Rattle.block_server.specs.Port.{GoesOn}
 use Rattle.block_server.specs.Seen.{seen}
-use Rattle.block_server.proofs.Loading.{frame_loads, kept_after, none_if_not_some}
+use Rattle.block_server.specs.View.{ServerView}
+use Rattle.block_server.proofs.Serviced.{kept_goes}
+use Rattle.block_server.proofs.Loading.{frame_loads, frame_opens, kept_after, none_if_not_some}
 use Rattle.block_server.proofs.server.Server.client_load.Goals as goal
 
 pub load-requires : goal.load-requires
@@ -12,3 +19,20 @@ load-requires g c =
 
 pub invariant_of-self : goal.invariant_of-self
 invariant_of-self g c = kept_after g.A.Adapter.device (seen c.self.inside) (vec_capacity c.self.inside.book) c.self.invariant c.load.new.self c.load.ensures.steps
+
+pub returns : goal.returns
+returns g c =
+    let s = seen c.self.inside in
+    let owner = c.owns.ensures.0 c.if-not-owns.false in
+    let lent = sym c.lent_to.ensures ∙ none_if_not_some c.lent_to.result (sym c.is_some.ensures ∙ c.if-is_some.false) in
+    let P : ServerView g.row.A.Denot → Type 0 = λ v.
+    IsOpen (owner_of v.table) (lent_to v.table) c.args.client c.args.frame c.args.offset (length c.args.out.now)
+    × Loads (4096 * c.args.frame.0 + c.args.offset) c.load.new.out (g.A.Adapter.device v.adapter) (g.A.Adapter.device c.load.new.self)
+    × SameServer v (record s { adapter = c.load.new.self })
+    × GoesOn (served_by v) (g.A.Adapter.device v.adapter) (g.A.Adapter.device c.load.new.self) in
+    subst P c.self.view_is (
+      frame_opens s.table c.args.frame c.args.client c.args.offset (length c.args.out.now) owner lent (let h = c.if-offset-out.false in omega (arith, h)),
+      c.load.ensures,
+      refl,
+      kept_goes g.A.Adapter.device s (vec_capacity c.self.inside.book) c.self.invariant (g.A.Adapter.device c.load.new.self) c.load.ensures.steps,
+    )

@@ -1,4 +1,10 @@
-use Rattle.std.proofs.Common.{refl, sym, ◌∙◌, subst, List}
+use Rattle.std.proofs.Common.{refl, sym, ◌∙◌, ap, subst, List, [], ◌∷◌, ◌++◌}
+use Rattle.ata_types.specs.declared.request.Reply.{Reply}
+use Rattle.adapter.proofs.Absurd.{true-false}
+use Rattle.block_server.specs.Calls.{Services, done_reply}
+use Rattle.block_server.specs.View.{ServerView}
+use Rattle.block_server.proofs.Going.{goes_then}
+use Rattle.block_server.proofs.Serviced.{found_goes, services_none, services_first}
 use Rattle.std.specs.List.{All}
 use Rattle.std.specs.Vec.{vec_capacity}
 use Rattle.block_server.specs.Book.{IsAccepted, served}
@@ -7,21 +13,50 @@ use Rattle.block_server.specs.Seen.{seen}
 use Rattle.block_server.specs.declared.types.Accepted.{Accepted}
 use Rattle.block_server.proofs.Answering as answering
 use Rattle.block_server.proofs.server.Server.service.Goals as goal
+use Rattle.block_server.proofs.server.Server.service.Goals.{then-not-look-via-then-not-look, then-not-look-via-else-not-look+then-not-self, then-not-look-via-else-not-look+else-not-self+then-not-is_done}
 
 pub invariant_of-self-then-not-is_done : goal.invariant_of-self-then-not-is_done
 invariant_of-self-then-not-is_done g c =
     let s = seen c.self.inside in
     let places = vec_capacity c.self.inside.book in
-    let first = c.look.ensures.serves _ (answering.serving g.A.Adapter.device s places c.self.invariant c.in-Ready.is) in
-    answering.kept_on g.A.Adapter.device s places c.self.invariant c.in-Ready.is c.is_done.new.adapter (c.is_done.ensures.size ∙ c.look.ensures.size)
-    (answering.not_done g.A.Adapter.device s places c.self.invariant c.in-Ready.is c.if-not-self.false _ _ first c.is_done.result c.is_done.ensures.found c.if-not-is_done.true)
+    let looked = c.look.ensures.serves _ (answering.serving g.A.Adapter.device s places c.self.invariant c.in-Ready.is) in
+    let goes = found_goes g.A.Adapter.device s places c.self.invariant c.if-not-self.false _ _ c.is_done.ensures.goes_on looked.0 in
+    answering.kept_on g.A.Adapter.device s places c.self.invariant c.in-Ready.is c.is_done.new.adapter (goes.spares.size ∙ looked.1.spares.size)
+    (answering.not_done g.A.Adapter.device s places c.self.invariant c.in-Ready.is c.if-not-self.false _ _ looked.0 c.is_done.result c.is_done.ensures.found c.if-not-is_done.true)
+
+pub returns-then-not-look : goal.returns-then-not-look
+returns-then-not-look g c =
+    let s = seen c.self.inside in
+    let places = vec_capacity c.self.inside.book in
+    let looked = c.look.ensures.serves _ (answering.serving g.A.Adapter.device s places c.self.invariant c.in-Ready.is) in
+    let Here : ServerView g.row.A.Denot → Type 0 = λ v. Services g.A.Adapter.device v c.then-not-look.self c.new-replies.result.items in
+    let There : ServerView g.row.A.Denot → Type 0 = λ v. Services g.A.Adapter.device s v c.new-replies.result.items in
+    subst Here c.self.view_is (
+    elim c.then-not-look.branch [
+      | then-not-look-via-then-not-look w ↦
+          subst There (sym w.self-is)
+          (services_none g.A.Adapter.device s places c.self.invariant c.look.new.adapter c.new-replies.result.items c.new-replies.ensures (λ _. looked.0) looked.1
+          (λ _ issued healthy unharmed clear. true-false (c.look.ensures.undisturbed healthy unharmed) w.if-not-look.true))
+      | then-not-look-via-else-not-look+then-not-self w ↦
+          subst There (sym w.self-is)
+          (services_none g.A.Adapter.device s places c.self.invariant c.look.new.adapter c.new-replies.result.items c.new-replies.ensures (λ _. looked.0) looked.1
+          (λ _ issued healthy unharmed clear. true-false issued w.if-not-self.true))
+      | then-not-look-via-else-not-look+else-not-self+then-not-is_done w ↦
+          let goes = found_goes g.A.Adapter.device s places c.self.invariant w.if-not-self.false _ _ w.is_done.ensures.goes_on looked.0 in
+          subst There (sym w.self-is)
+          (services_none g.A.Adapter.device s places c.self.invariant w.is_done.new.adapter c.new-replies.result.items c.new-replies.ensures
+          (λ _. answering.not_done g.A.Adapter.device s places c.self.invariant c.in-Ready.is w.if-not-self.false _ _ looked.0 w.is_done.result w.is_done.ensures.found w.if-not-is_done.true)
+          (goes_then (served s.issued s.book) looked.1 goes)
+          (λ _ issued healthy unharmed clear. true-false (w.is_done.ensures.seen (c.look.ensures.unset clear)) w.if-not-is_done.true))
+    ])
 
 pub issue_first-self-inside-requires-clause-serves :
     goal.issue_first-self-inside-requires-clause-serves
 issue_first-self-inside-requires-clause-serves g c =
     let s = seen c.self.inside in
     let places = vec_capacity c.self.inside.book in
-    let first = c.look.ensures.serves _ (answering.serving g.A.Adapter.device s places c.self.invariant c.in-Ready.is) in
+    let looked = c.look.ensures.serves _ (answering.serving g.A.Adapter.device s places c.self.invariant c.in-Ready.is) in
+    let first = looked.0 in
     answering.is_free g.A.Adapter.device s places c.self.invariant c.in-Ready.is c.if-not-self.false _ _ first c.is_done.result c.is_done.ensures.found c.if-not-is_done.false
 
 pub issue_first-self-inside-requires-clause-accepted :
@@ -30,7 +65,8 @@ issue_first-self-inside-requires-clause-accepted g c =
     let s = seen c.self.inside in
     let table = c.give_back.new.self in
     let book_is = answering.first_and_rest s.book c.remove-loan.new.self.items c.remove-loan.result (c.self.invariant.some c.if-not-self.false) c.remove-loan.ensures.value c.remove-loan.ensures.items in
-    let P : List Accepted → Type 0 = λ book. All (IsAccepted table) book in (
+    let P : List Accepted → Type 0 = λ book. All (IsAccepted s.grants table) book in (
+      s.grants,
       table,
       subst P (sym c.deref.ensures.value)
           (answering.rest_accepted g.A.Adapter.device s (vec_capacity c.self.inside.book) c.self.invariant c.in-Ready.is c.remove-loan.result c.remove-loan.new.self.items book_is table c.give_back.ensures),
@@ -39,12 +75,34 @@ issue_first-self-inside-requires-clause-accepted g c =
 pub invariant_of-self-2 : goal.invariant_of-self-2
 invariant_of-self-2 g c =
     let s = seen c.self.inside in
+    let places = vec_capacity c.self.inside.book in
+    let looked = c.look.ensures.serves _ (answering.serving g.A.Adapter.device s places c.self.invariant c.in-Ready.is) in
+    let goes = found_goes g.A.Adapter.device s places c.self.invariant c.if-not-self.false _ _ c.is_done.ensures.goes_on looked.0 in
     let rest = c.remove-loan.new.self.items in
     let book_is = answering.first_and_rest s.book rest c.remove-loan.result (c.self.invariant.some c.if-not-self.false) c.remove-loan.ensures.value c.remove-loan.ensures.items in
     let next = c.issue_first-self-inside.ensures in
     let same = c.deref.ensures.value in
-    answering.kept_rest g.A.Adapter.device s (vec_capacity c.self.inside.book) c.self.invariant c.in-Ready.is c.remove-loan.result rest book_is c.give_back.new.self c.give_back.ensures
-    c.issue_first-self-inside.new.adapter (next.size ∙ c.is_done.ensures.size ∙ c.look.ensures.size) rest refl c.issue_first-self-inside.result
+    answering.kept_rest g.A.Adapter.device s places c.self.invariant c.in-Ready.is c.remove-loan.result rest book_is c.give_back.new.self c.give_back.ensures
+    c.issue_first-self-inside.new.adapter (next.goes_on.spares.size ∙ goes.spares.size ∙ looked.1.spares.size) rest refl c.issue_first-self-inside.result
     (λ not. sym same ∙ next.none not) (λ is none. next.some is (same ∙ none))
     (let P : List Accepted → Type 0 = λ book. Serves (served c.issue_first-self-inside.result book) (g.A.Adapter.device c.issue_first-self-inside.new.adapter) in subst P same next.serves)
     (vec_capacity c.remove-loan.new.self) c.remove-loan.ensures.capacity
+
+pub returns : goal.returns
+returns g c =
+    let s = seen c.self.inside in
+    let places = vec_capacity c.self.inside.book in
+    let looked = c.look.ensures.serves _ (answering.serving g.A.Adapter.device s places c.self.invariant c.in-Ready.is) in
+    let goes = goes_then (served s.issued s.book) looked.1 (found_goes g.A.Adapter.device s places c.self.invariant c.if-not-self.false _ _ c.is_done.ensures.goes_on looked.0) in
+    let free = answering.is_free g.A.Adapter.device s places c.self.invariant c.in-Ready.is c.if-not-self.false _ _ looked.0 c.is_done.result c.is_done.ensures.found c.if-not-is_done.false in
+    let rest = c.remove-loan.new.self.items in
+    let book_is = answering.first_and_rest s.book rest c.remove-loan.result (c.self.invariant.some c.if-not-self.false) c.remove-loan.ensures.value c.remove-loan.ensures.items in
+    let next = c.issue_first-self-inside.ensures in
+    let same = c.deref.ensures.value in
+    let P : List Accepted → Type 0 = λ book. Serves (served c.issue_first-self-inside.result book) (g.A.Adapter.device c.issue_first-self-inside.new.adapter) in
+    let Here : ServerView g.row.A.Denot → Type 0 = λ v. Services g.A.Adapter.device v
+    (record s { adapter = c.issue_first-self-inside.new.adapter; table = c.give_back.new.self; book = rest; issued = c.issue_first-self-inside.result }) c.push.new.self.items in
+    subst Here c.self.view_is
+    (services_first g.A.Adapter.device s places c.self.invariant c.if-not-self.false c.remove-loan.result rest book_is c.give_back.new.self c.give_back.ensures
+    (g.A.Adapter.device c.is_done.new.adapter) goes free c.issue_first-self-inside.new.adapter c.issue_first-self-inside.result c.push.new.self.items (c.push.ensures.items ∙ ap (λ (replies : List Reply). replies ++ done_reply c.remove-loan.result ∷ []) c.new-replies.ensures)
+    next.goes_on (λ not. sym same ∙ next.none not) (λ is none. next.some is (same ∙ none)) next.issued (subst P same next.serves))

@@ -1,0 +1,115 @@
+-- What a call of `service` does, path by path, and what goes on while the device does steps.
+use Rattle.std.proofs.Common.{ℕ, ◌≡◌, ◌≢◌, ◌<◌, ◌≤◌, ◌⊎◌, inl, inr, Bool, true, false, List, [], ◌∷◌, Option, Some, None, refl, sym, ◌∙◌, ap, subst, arith}
+use Rattle.ata_types.specs.declared.PortState.{PortState}
+use Rattle.ata_types.specs.declared.PortState.TheVariants.{Absent, Ready, Foreign, Unfit, Dead}
+use Rattle.ata_types.specs.declared.request.Reply.{Reply}
+use Rattle.adapter.specs.Device.{Bases, Device}
+use Rattle.adapter.specs.Steps.{Steps}
+use Rattle.adapter.proofs.Absurd.{true-false}
+use Rattle.dma_frames.specs.Table.{Table, LendsOnly}
+use Rattle.block_server.specs.Book.{IsKept, StandsBehind, served, issued_of}
+use Rattle.block_server.specs.Calls.{Services, AnswersNone, AnswersFirst, done_reply}
+use Rattle.block_server.specs.Port.{IsLone, IsResting, IsHealthy, Issued, Serves, SparesClients, GoesOn, frames_of}
+use Rattle.block_server.specs.Told.{reads_ended, IsUnharmed}
+use Rattle.block_server.specs.View.{ServerView}
+use Rattle.block_server.specs.declared.types.Accepted.{Accepted}
+use Rattle.block_server.proofs.Going.{goes_then, goes_none, reads_grow, unharmed_both, steps_go}
+use Rattle.block_server.proofs.Linking.{steps_healthy}
+use Rattle.block_server.proofs.Serving.{free_guarded}
+use Rattle.block_server.proofs.Sparing.{spares_then, spares_less, quiet_spares}
+
+resting_goes : (old new : Device) → IsLone old → IsResting (old.port 0) → Steps old new → GoesOn None old new
+resting_goes old new l rests steps = record {
+  spares = quiet_spares old new (free_guarded old l rests.free rests.received) steps;
+  healthy = steps_healthy old new l.on.no_reset steps;
+  ended = λ set. true-false set (rests.free 0).ci;
+}
+
+module _ {A : Type 0} (device : A → Device) (s : ServerView A) (places : ℕ) (inv : IsKept device s places) where
+  -- what goes on at port 0 while the device does steps
+  pub kept_goes : (new : Device) → Steps (device s.adapter) new → GoesOn (served s.issued s.book) (device s.adapter) new
+  kept_goes new steps = by s.state inv.port refl
+    where
+      resting : (s.state ≡ Ready → ⊥) → IsLone (device s.adapter) × IsResting ((device s.adapter).port 0) → GoesOn (served s.issued s.book) (device s.adapter) new
+      resting other stands = from s.issued refl
+        where
+          from : (b : Bool) → s.issued ≡ b → GoesOn (served b s.book) (device s.adapter) new
+          from true is = absurd (other (inv.ready is))
+          from false is = resting_goes (device s.adapter) new stands.0 stands.1 steps
+
+      by : (state : PortState) → StandsBehind state (served s.issued s.book) (device s.adapter) → s.state ≡ state → GoesOn (served s.issued s.book) (device s.adapter) new
+      by Ready stands is = steps_go (served s.issued s.book) (device s.adapter) new stands steps
+      by Absent stands is = resting (λ e. let x : Absent ≡ Ready = sym is ∙ e in cc) stands
+      by Foreign stands is = resting (λ e. let x : Foreign ≡ Ready = sym is ∙ e in cc) stands
+      by (Unfit n) stands is = resting (λ e. let x : Unfit n ≡ Ready = sym is ∙ e in cc) stands
+      by Dead stands is = resting (λ e. let x : Dead ≡ Ready = sym is ∙ e in cc) stands
+
+  -- a read that is issued is the first of the book
+  pub served_some : s.issued ≡ true → (r : Issued) × (served s.issued s.book ≡ Some r)
+  served_some issued = from s.issued s.book issued (inv.some issued)
+    where
+      from : (b : Bool) (book : List Accepted) → b ≡ true → book ≢ [] → (r : Issued) × (served b book ≡ Some r)
+      from true [] set some = absurd (some refl)
+      from true (e ∷ es) set some = (issued_of e, refl)
+      from false book set some = true-false set refl
+
+  -- what was found of the read that is served
+  pub found_goes : s.issued ≡ true → (first next : Device) → ((r : Issued) → Serves (Some r) first → GoesOn (Some r) first next) → Serves (served s.issued s.book) first →
+      GoesOn (served s.issued s.book) first next
+  found_goes issued first next goes serves =
+      let r = served_some issued in
+      let S : Option Issued → Type 0 = λ o. Serves o first in
+      let G : Option Issued → Type 0 = λ o. GoesOn o first next in
+      subst G (sym r.1) (goes r.0 (subst S r.1 serves))
+
+  -- nobody is answered
+  pub services_none : (adapter : A) (replies : List Reply) → replies ≡ [] → (s.state ≡ Ready → Serves (served s.issued s.book) (device adapter)) →
+      GoesOn (served s.issued s.book) (device s.adapter) (device adapter) →
+      (s.state ≡ Ready → s.issued ≡ true → IsHealthy ((device s.adapter).port 0) → IsUnharmed (device s.adapter) (device adapter) → ((device s.adapter).port 0).ci 0 ≡ false → ⊥) →
+      Services device s (record s { adapter = adapter }) replies
+  services_none adapter replies none serves goes never = record {
+    setup = record { grants = refl; owners = refl; state = refl; sectors = refl };
+    last = refl;
+    answers = inl (record { replies_are = none; book = refl; table = refl; issued = refl; ended = goes.ended });
+    answered = λ ready issued healthy unharmed clear. absurd (never ready issued healthy unharmed clear);
+    serves = serves;
+    spares = goes.spares;
+    healthy = goes.healthy;
+  }
+
+  -- the first is answered, and the next is issued
+  module _ (issued : s.issued ≡ true) (e : Accepted) (rest : List Accepted) (book_is : s.book ≡ e ∷ rest) (table : Table) (lends : LendsOnly s.table table e.loan.frames None)
+      (middle : Device) (goes : GoesOn (served s.issued s.book) (device s.adapter) middle) (free : Serves None middle) where
+    pub services_first : (adapter : A) (again : Bool) (replies : List Reply) → replies ≡ done_reply e ∷ [] → GoesOn None middle (device adapter) →
+        (again ≡ false → rest ≡ []) → (again ≡ true → rest ≢ []) → (again ≡ true → ((device adapter).port 0).ci 0 ≡ true) → Serves (served again rest) (device adapter) →
+        Services device s (record s { adapter = adapter; table = table; book = rest; issued = again }) replies
+    services_first adapter again replies one next none some sent serves = record {
+      setup = record { grants = refl; owners = lends.owners; state = refl; sectors = refl };
+      last = refl;
+      answers = inr (record {
+        entry = e;
+        was_issued = issued;
+        replies_are = one;
+        book = book_is;
+        lent = lends;
+        ended = λ set. has_ended (goes.ended set);
+        sent = λ more. is_sent again refl more;
+        none = λ empty. is_none again refl empty;
+      });
+      answered = λ _ _ _ _ _ nobody. let x : done_reply e ∷ [] ≡ [] = sym one ∙ nobody in cc;
+      serves = λ _. serves;
+      spares = spares_then goes.spares (spares_less (frames_of (served s.issued s.book)) next.spares);
+      healthy = λ unharmed h. let u = unharmed_both goes.spares next.spares unharmed in next.healthy u.1 (goes.healthy u.0 h);
+    }
+      where
+        has_ended : (((middle.port 0).ci 0 ≡ true) ⊎ (reads_ended (device s.adapter) < reads_ended middle)) → reads_ended (device s.adapter) < reads_ended (device adapter)
+        has_ended (inl still) = true-false still free.2.ci
+        has_ended (inr more) = let n = (reads_grow goes.spares next.spares).1 in omega (arith, n, more)
+
+        is_sent : (b : Bool) → again ≡ b → rest ≢ [] → (again ≡ true) × (((device adapter).port 0).ci 0 ≡ true)
+        is_sent true is more = (is, sent is)
+        is_sent false is more = absurd (more (none is))
+
+        is_none : (b : Bool) → again ≡ b → rest ≡ [] → again ≡ false
+        is_none true is empty = absurd (some is empty)
+        is_none false is empty = is

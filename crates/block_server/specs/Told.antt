@@ -1,0 +1,45 @@
+-- What the device's tape tells of port 0, counted (this project's own).
+use Rattle.std.specs.Prelude.{ℕ, Bool, true, false, ◌≡◌, ◌&&◌, ◌==◌, count_by}
+use Rattle.adapter.specs.declared.command.Operation.{Operation}
+use Rattle.adapter.specs.declared.command.Operation.TheVariants.{Read}
+use Rattle.adapter.specs.declared.tape.Entry.{Entry}
+use Rattle.adapter.specs.declared.tape.Entry.TheVariants.{Done, Fault, Fatal, Unplug, Plug}
+use Rattle.adapter.specs.Device.{Device}
+
+-- a disk was taken out of port 0, or put into it
+abbrev pub is_change : Entry → Bool
+is_change (Unplug port) = port.0 == 0
+is_change (Plug port name) = port.0 == 0
+is_change _ = false
+
+-- a command of port 0 failed, or the port did
+abbrev pub is_failure : Entry → Bool
+is_failure (Fault f) = f.port.0 == 0
+is_failure (Fatal port) = port.0 == 0
+is_failure _ = false
+
+abbrev pub is_read : Operation → Bool
+is_read Read = true
+is_read _ = false
+
+-- a READ DMA EXT in slot 0 of port 0 ended without error
+abbrev pub is_read_end : Entry → Bool
+is_read_end (Done e) = e.port.0 == 0 && e.slot.0 == 0 && is_read e.operation
+is_read_end _ = false
+
+abbrev pub changes : Device → ℕ
+changes d = count_by is_change d.tape
+
+abbrev pub failures : Device → ℕ
+failures d = count_by is_failure d.tape
+
+abbrev pub reads_ended : Device → ℕ
+reads_ended d = count_by is_read_end d.tape
+
+-- no disk came or went meanwhile
+abbrev pub IsUndisturbed : Device → Device → Type 0
+IsUndisturbed old new = changes new ≡ changes old
+
+-- no disk came or went meanwhile, and nothing failed
+abbrev pub IsUnharmed : Device → Device → Type 0
+IsUnharmed old new = (changes new ≡ changes old) × (failures new ≡ failures old)
