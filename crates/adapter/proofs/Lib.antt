@@ -8,3 +8,4 @@ pub mod KeptLemmas
 pub mod MemoryLemmas
 pub mod Runs
 pub mod SaysLemmas
+pub mod Going

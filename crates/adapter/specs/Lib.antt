@@ -10,3 +10,4 @@ pub mod Rules
 pub mod Kept
 pub mod Guarded
 pub mod Idle
+pub mod Asked

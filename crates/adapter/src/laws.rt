@@ -1,7 +1,9 @@
 // Laws of the definitions, for the crates above: the clause is the theorem. Nothing calls these functions.
 ghost use Rattle.std.specs.Prelude.{◌≡◌, ℕ, Bool, List};
 ghost use Rattle.hba_regs.specs.declared.reg.Reg.{Reg};
+ghost use Rattle.adapter.specs.declared.access.DeviceStep.{DeviceStep};
 ghost use Rattle.adapter.specs.Access.{Access, Does, IsDriven, Reads};
+ghost use Rattle.adapter.specs.Asked.{Asked};
 ghost use Rattle.adapter.specs.Commands.{Meaning};
 ghost use Rattle.adapter.specs.Device.{Device};
 ghost use Rattle.adapter.specs.Guarded.{Passing, IsGuarded, IsApart};
@@ -14,6 +16,11 @@ ghost use Rattle.adapter.specs.Steps.{Steps};
 pub fn steps_compose()
     ensures none { (d : Device) → Steps d d }
     ensures more { (old mid new : Device) → Steps old mid → Steps mid new → Steps old new }
+{}
+
+/// What a device was told to do is some of its steps.
+pub fn what_is_asked_is_steps()
+    ensures { (s : DeviceStep) (old new : Device) → Asked s old new → Steps old new }
 {}
 
 /// What no step of the device changes, no list of steps changes.
