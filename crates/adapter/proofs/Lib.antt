@@ -9,3 +9,6 @@ pub mod MemoryLemmas
 pub mod Runs
 pub mod SaysLemmas
 pub mod Going
+pub mod OneCommand
+pub mod ReadDone
+pub mod FirstRead

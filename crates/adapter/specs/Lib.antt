@@ -11,3 +11,6 @@ pub mod Kept
 pub mod Guarded
 pub mod Idle
 pub mod Asked
+pub mod OneCommand
+pub mod ReadDone
+pub mod FirstRead
