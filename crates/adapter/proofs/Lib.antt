@@ -8,3 +8,7 @@ pub mod KeptLemmas
 pub mod MemoryLemmas
 pub mod Runs
 pub mod SaysLemmas
+pub mod Going
+pub mod OneCommand
+pub mod ReadDone
+pub mod FirstRead

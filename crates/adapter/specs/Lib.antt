@@ -10,3 +10,7 @@ pub mod Rules
 pub mod Kept
 pub mod Guarded
 pub mod Idle
+pub mod Asked
+pub mod OneCommand
+pub mod ReadDone
+pub mod FirstRead

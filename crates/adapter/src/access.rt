@@ -1,6 +1,7 @@
 // The calls of an adapter, and of one whose device can be told what to do.
-ghost use Rattle.std.specs.Prelude.{◌≡◌, length, false};
+ghost use Rattle.std.specs.Prelude.{◌≡◌, length, true, false};
 ghost use Rattle.adapter.specs.Device.{Device};
+ghost use Rattle.adapter.specs.Asked.{Asked};
 ghost use Rattle.adapter.specs.Steps.{Steps};
 ghost use Rattle.adapter.specs.Access.{Reads, Writes, Loads, Stores};
 ghost use Rattle.adapter.specs.Rules.{MayRead, MayWrite, IsFree, Stays};
@@ -52,8 +53,10 @@ pub enum DeviceStep {
 
 /// An adapter whose device does what it is told, if that is possible then.
 pub trait Stepped: Adapter {
-    /// Has the device do a step. `false` says that it is not possible, and that nothing changed.
+    /// Has the device do a step. `true` says that it was done, and nothing else; `false` that it is not possible, and that
+    /// nothing changed.
     fn step(&mut self, s: &DeviceStep) -> bool
+        ensures asked { result ≡ true → Asked s.now (Self.device self.old) (Self.device self.new) }
         ensures steps { Steps (Self.device self.old) (Self.device self.new) }
         ensures refused { result ≡ false → Self.device self.new ≡ Self.device self.old };
 }

@@ -1,19 +1,30 @@
 // Laws of the definitions, for the crates above: the clause is the theorem. Nothing calls these functions.
-ghost use Rattle.std.specs.Prelude.{◌≡◌, ℕ, Bool, List};
+ghost use Rattle.std.specs.Prelude.{◌≡◌, ◌+◌, ◌≤◌, ℕ, Bool, true, false, List};
 ghost use Rattle.hba_regs.specs.declared.reg.Reg.{Reg};
+ghost use Rattle.adapter.specs.declared.access.DeviceStep.{DeviceStep};
 ghost use Rattle.adapter.specs.Access.{Access, Does, IsDriven, Reads};
+ghost use Rattle.adapter.specs.Asked.{Asked};
 ghost use Rattle.adapter.specs.Commands.{Meaning};
 ghost use Rattle.adapter.specs.Device.{Device};
-ghost use Rattle.adapter.specs.Guarded.{Passing, IsGuarded, IsApart};
+ghost use Rattle.adapter.specs.FirstRead.{first_read, sector_of};
+ghost use Rattle.adapter.specs.Guarded.{Passing, Spares, IsGuarded, IsApart};
+ghost use Rattle.adapter.specs.Idle.{IsIdle, IsSane};
 ghost use Rattle.adapter.specs.Kept.{Keeps};
-ghost use Rattle.adapter.specs.Rules.{IsFree, Stays};
-ghost use Rattle.adapter.specs.Says.{Says};
+ghost use Rattle.adapter.specs.OneCommand.{HasNoCommand, HasOneCommand, IsElsewhere, is_read_alone, is_unwritten, standing};
+ghost use Rattle.adapter.specs.ReadDone.{IsRead, MayBeRead, read_of};
+ghost use Rattle.adapter.specs.Rules.{IsOn, IsFree, Stays};
+ghost use Rattle.adapter.specs.Says.{Says, cut};
 ghost use Rattle.adapter.specs.Steps.{Steps};
 
 /// The device may do nothing, and what it does goes on.
 pub fn steps_compose()
     ensures none { (d : Device) → Steps d d }
     ensures more { (old mid new : Device) → Steps old mid → Steps mid new → Steps old new }
+{}
+
+/// What a device was told to do is some of its steps.
+pub fn what_is_asked_is_steps()
+    ensures { (s : DeviceStep) (old new : Device) → Asked s old new → Steps old new }
 {}
 
 /// What no step of the device changes, no list of steps changes.
@@ -51,4 +62,46 @@ pub fn accesses_compose()
     ensures none { (d : Device) → IsDriven d d }
     ensures one { (access : Access) (old new : Device) → Does access old new → IsDriven old new }
     ensures more { (old mid new : Device) → IsDriven old mid → IsDriven mid new → IsDriven old new }
+{}
+
+/// Where no slot has a command, any bytes that are not of a received FIS area in use are guarded, and no table is needed.
+pub fn an_adapter_without_commands_is_guarded()
+    ensures { (kept : ℕ → Bool) (d : Device) → HasNoCommand d
+        → ((port : ℕ) → (d.port port).fre ≡ true → Spares (Passing kept) (d.port port).bases.fb ((d.port port).bases.fb + 256))
+        → IsGuarded (Passing (λ _. false)) (Passing kept) d }
+{}
+
+/// An idle adapter is guarded, whatever bytes are kept; so its driver may load and store any bytes of the memory, whatever
+/// the device does first.
+pub fn an_idle_adapter_is_guarded()
+    ensures guarded { (kept : ℕ → Bool) (d : Device) → IsIdle d → IsGuarded (Passing (λ _. false)) (Passing kept) d }
+    ensures free { (at n : ℕ) (d : Device) → IsIdle d → at + n ≤ d.size → Stays (IsFree at n) d }
+{}
+
+/// An adapter with one command is guarded: what the device only reads for it are the tables, and what it doesn't write is
+/// kept. So the driver may load and store all other bytes of the memory, whatever the device does first.
+pub fn an_adapter_with_a_command_is_guarded()
+    ensures guarded { (port slot : ℕ) (d : Device) (c : HasOneCommand d port slot)
+        → IsGuarded (Passing (is_read_alone (standing d port slot c.command))) (Passing (is_unwritten (standing d port slot c.command))) d }
+    ensures free { (port slot at n : ℕ) (d : Device) (c : HasOneCommand d port slot)
+        → IsElsewhere (standing d port slot c.command) at n d → Stays (IsFree at n) d }
+{}
+
+/// A read that may be fetched can be done, on a disk that tells its sectors: some steps of the device lead to where each
+/// sector stands in its piece, and the slot is free.
+pub fn a_read_can_be_done()
+    ensures { (port slot first count : ℕ) (places : List ℕ) (told : ℕ → List ℕ) (old : Device) → MayBeRead old port slot first count places told
+        → (new : Device) × IsRead old new port slot first count places told }
+{}
+
+/// There is an adapter with a command, so that the laws above speak of something: eight sectors from 100 on are to be read
+/// into frame 40. It is switched on; its memory and disks are sane; the bytes of the slot say the read; frame 41 is free,
+/// whatever the device does; and the read can be done.
+pub fn a_first_read_exists()
+    ensures on { IsOn first_read }
+    ensures sane { IsSane first_read }
+    ensures command { HasOneCommand first_read 0 0 }
+    ensures says { Says first_read.memory 0 0 (read_of 100 8) (cut 0x28000 8) }
+    ensures free { Stays (IsFree 0x29000 4096) first_read }
+    ensures done { (new : Device) × IsRead first_read new 0 0 100 8 (cut 0x28000 8) sector_of }
 {}

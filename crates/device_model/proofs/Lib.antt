@@ -6,5 +6,4 @@ pub mod Acknowledged
 pub mod Fetches
 pub mod SlotLemmas
 pub mod Stepping
-pub mod Going
 pub mod NewModel

@@ -11,7 +11,7 @@ use Rattle.adapter.specs.declared.command.Operation.TheVariants.{Read, Trim}
 use Rattle.adapter.specs.declared.command.Operation.{Operation}
 use Rattle.adapter.specs.declared.tape.Entry.{Entry}
 use Rattle.adapter.specs.declared.tape.Entry.TheVariants as entry
-use Rattle.device_model.specs.Asked.{DoesFetch, DoesDone}
+use Rattle.adapter.specs.Asked.{DoesFetch, DoesDone}
 use Rattle.device_model.specs.Fetched.{bytes_of}
 use Rattle.device_model.specs.Slots.{MayTake, HoldsAt, IsNext}
 use Rattle.device_model.specs.View.{port_of, taken_of, blank}

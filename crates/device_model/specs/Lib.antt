@@ -4,5 +4,4 @@ pub mod View
 pub mod Whole
 pub mod Fetched
 pub mod Slots
-pub mod Asked
 pub mod Modelled

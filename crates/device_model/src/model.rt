@@ -4,7 +4,7 @@ ghost use Rattle.adapter.specs.Commands.{Meaning};
 ghost use Rattle.adapter.specs.Idle.{IsIdle, IsSane};
 ghost use Rattle.adapter.specs.Steps.{Steps, Can};
 ghost use Rattle.adapter.specs.Steps.Step.{Fetch};
-ghost use Rattle.device_model.specs.Asked.{DoesMove, GoesOn, Asked};
+ghost use Rattle.adapter.specs.Asked.{DoesMove, GoesOn, Asked};
 ghost use Rattle.device_model.specs.Modelled.{device_at, cap_of, IsNew};
 
 use crate::config::{ModelConfig, NoMemory};

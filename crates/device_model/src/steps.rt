@@ -3,7 +3,7 @@ ghost use Rattle.std.specs.Prelude.{◌≡◌, ◌<◌, ◌≤◌, ◌+◌, ◌+
 ghost use Rattle.adapter.specs.Commands.{Meaning};
 ghost use Rattle.adapter.specs.Steps.{Can, after};
 ghost use Rattle.adapter.specs.Steps.Step.{Fetch as FetchStep, Move as MoveStep};
-ghost use Rattle.device_model.specs.Asked.{DoesFetch, DoesDone};
+ghost use Rattle.adapter.specs.Asked.{DoesFetch, DoesDone};
 ghost use Rattle.device_model.specs.Slots.{IsNext};
 ghost use Rattle.device_model.specs.View.{taken_of};
 ghost use Rattle.device_model.specs.Whole.{Outside, device_of};

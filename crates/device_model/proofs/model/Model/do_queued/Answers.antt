@@ -1,5 +1,5 @@
 use Rattle.adapter.proofs.Runs.{Steps-trans}
-use Rattle.device_model.proofs.Going.{step_steps}
+use Rattle.adapter.proofs.Going.{step_steps}
 use Rattle.device_model.proofs.model.Model.do_queued.Goals as goal
 use Rattle.device_model.proofs.model.Model.do_queued.Goals.{then-queued-self, else-queued-self}
 

@@ -1,9 +1,9 @@
 use Rattle.std.proofs.Common.{◌≡◌, ◌∙◌, true, false, inl, inr, sym, subst}
 use Rattle.adapter.specs.Device.{Device}
-use Rattle.device_model.specs.Asked.{DoesFetch, GoesOn}
+use Rattle.adapter.specs.Asked.{DoesFetch, GoesOn}
 use Rattle.device_model.specs.Modelled.{device_at}
 use Rattle.device_model.specs.Whole.{Outside, device_of, outside_of}
-use Rattle.device_model.proofs.Going.{goes_one, goes_next}
+use Rattle.adapter.proofs.Going.{goes_one, goes_next}
 use Rattle.device_model.proofs.model.Model.finish.Goals as goal
 
 pub loop-piece-init : goal.loop-piece-init

@@ -1,5 +1,5 @@
 use Rattle.std.proofs.Common.{◌≡◌, true, false}
-use Rattle.device_model.specs.Asked.{GoesOn}
+use Rattle.adapter.specs.Asked.{GoesOn}
 use Rattle.device_model.specs.Modelled.{device_at}
 use Rattle.device_model.proofs.model.Model.finish.Given as goal
 

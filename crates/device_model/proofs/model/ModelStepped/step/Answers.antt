@@ -1,4 +1,4 @@
-use Rattle.device_model.proofs.Going.{step_steps}
+use Rattle.adapter.proofs.Going.{step_steps}
 use Rattle.device_model.proofs.model.ModelStepped.step.Goals as goal
 
 pub returns-clause-steps : goal.returns-clause-steps

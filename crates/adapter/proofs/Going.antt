@@ -6,7 +6,7 @@ use Rattle.adapter.specs.Steps.Step.{Fetch, Move, Done}
 use Rattle.adapter.specs.declared.access.DeviceStep.{DeviceStep}
 use Rattle.adapter.specs.declared.access.DeviceStep.TheVariants as asked
 use Rattle.adapter.proofs.Runs.{Steps-refl, Steps-one, Steps-trans}
-use Rattle.device_model.specs.Asked.{DoesOne, DoesSome, GoesOn, Asked}
+use Rattle.adapter.specs.Asked.{DoesOne, DoesSome, GoesOn, Asked}
 
 pub goes_one : (port slot : ℕ) (old new : Device) → DoesOne port slot old new → GoesOn port slot old new
 goes_one port slot old new one = (0, (old, refl, one))
@@ -28,7 +28,7 @@ some_steps : (n port slot : ℕ) (old new : Device) → DoesSome n port slot old
 some_steps zero port slot old new e = let P : Device → Type 0 = λ d. Steps old d in subst P (sym e) (Steps-refl old)
 some_steps (suc n) port slot old new s = Steps-trans (some_steps n port slot old s.0 s.1) (one_steps port slot s.0 new s.2)
 
-asked_steps : (s : DeviceStep) (old new : Device) → Asked s old new → Steps old new
+pub asked_steps : (s : DeviceStep) (old new : Device) → Asked s old new → Steps old new
 asked_steps (asked.Fetch p slot) old new did = one_steps p.0 slot.0 old new (inl did)
 asked_steps (asked.Move p slot) old new did = one_steps p.0 slot.0 old new (inr (inl did))
 asked_steps (asked.Done p slot) old new did = one_steps p.0 slot.0 old new (inr (inr did))

@@ -1,0 +1,254 @@
+-- The first read, checked byte by byte.
+use Rattle.std.proofs.Common.{ℕ, zero, suc, ◌≡◌, ◌<◌, ◌≤◌, ◌+◌, ◌-◌, ◌*◌, ◌&&◌, ◌||◌, ◌⊎◌, not, Bool, true, false, List, [], ◌∷◌, Some, slice_index, slice_index_or, nat_le, nat_lt, refl, sym, ◌∙◌, ap, subst, arith, inl, inr, All}
+use Rattle.std.proofs.lemmas.Bool.{le-leb, lt-leb, le-ltb, leb-true, ltb-true}
+use Rattle.std.proofs.lemmas.Bool.Decides.{leb_tells}
+use Rattle.std.proofs.lemmas.List.{length-replicate}
+use Rattle.std.proofs.lemmas.List.Elements.{All-replicate}
+use Rattle.adapter.specs.Memory.{patched, bytes_at, changed}
+use Rattle.adapter.specs.Device.{Disk, IsSector, IsDisk, IsTold, PortState, Device}
+use Rattle.adapter.specs.FirstRead.{header_bytes, fis_bytes, prd_bytes, first_memory, sector_of, first_disk, no_disk, quiet_port, reading_port, first_read}
+use Rattle.adapter.specs.Idle.{IsIdlePort, IsSane}
+use Rattle.adapter.specs.OneCommand.{HasOneCommand, SaysCommand, Standing, standing, is_from, is_of_pieces, is_read_alone, is_written, is_unwritten, IsElsewhere}
+use Rattle.adapter.specs.ReadDone.{read_of, IsRead}
+use Rattle.adapter.specs.Rules.{IsFree, Stays}
+use Rattle.adapter.specs.Says.{Says, IsWhole, cut}
+use Rattle.adapter.specs.declared.command.Prd.{Prd}
+use Rattle.adapter.proofs.Absurd.{true-false, some-none, some_one}
+use Rattle.adapter.proofs.Changed.{changed_other, changed_each}
+use Rattle.adapter.proofs.OneCommand.{elsewhere_free}
+use Rattle.adapter.proofs.ReadDone.{read_done}
+use Rattle.adapter.proofs.MemoryLemmas.{bytes_index, patched_before, patched_past}
+
+-- ---- what the bytes say
+
+-- the memory is zero between what was put there
+zero_between : (a : ℕ) → 12 ≤ a → a < 0x1000 → first_memory a ≡ 0
+unfolding first_memory
+zero_between a low high =
+    patched_before (patched (patched (λ _. 0) 0 header_bytes) 0x1000 fis_bytes) 0x1080 prd_bytes a (omega (arith, high))
+    ∙ (patched_before (patched (λ _. 0) 0 header_bytes) 0x1000 fis_bytes a high ∙ patched_past (λ _. 0) 0 header_bytes a low)
+
+zero_after_fis : (a : ℕ) → 0x100e ≤ a → a < 0x1080 → first_memory a ≡ 0
+unfolding first_memory
+zero_after_fis a low high =
+    patched_before (patched (patched (λ _. 0) 0 header_bytes) 0x1000 fis_bytes) 0x1080 prd_bytes a high
+    ∙ (patched_past (patched (λ _. 0) 0 header_bytes) 0x1000 fis_bytes a low ∙ patched_past (λ _. 0) 0 header_bytes a (omega (arith, low)))
+
+abbrev prd : Prd
+prd = record { address = 0x28000; bytes = 4096 }
+
+-- the one PRD is of whole pieces
+all_one : All IsWhole (prd ∷ [])
+all_one zero d small = refl
+all_one (suc k) d small = absurd (omega arith)
+
+pub first_says : Says first_memory 0 0 (read_of 100 8) (cut 0x28000 8)
+unfolding first_memory patched bytes_at
+first_says = record {
+  table = 0x1000;
+  prds = prd ∷ [];
+  header = record {
+    size = refl;
+    first = refl;
+    points = refl;
+    aligned = refl;
+    zeros = λ i low high. bytes_index first_memory 0 32 i high ∙ zero_between (0 + i) (omega (arith, low)) (omega (arith, high));
+  };
+  fis = record {
+    size = refl;
+    kind = refl;
+    c_bit = refl;
+    code = refl;
+    features = refl;
+    lba = refl;
+    device = refl;
+    count = refl;
+    zeros = λ i low high. bytes_index first_memory 0x1000 20 i high ∙ zero_after_fis (0x1000 + i) (omega (arith, low)) (omega (arith, high));
+  };
+  meaning = record {
+    ranged = λ _. (omega arith, omega arith, omega arith);
+    not_ranged = λ h. true-false refl h;
+  };
+  stand = (
+    record {
+      size = refl;
+      allowed = record { even_address = refl; even_bytes = refl; some = omega arith; limit = omega arith };
+      address = refl;
+      upper = refl;
+      count = refl;
+    },
+    tt,
+  );
+  few = omega arith;
+  whole = all_one;
+  in_order = refl;
+  as_many = refl;
+}
+
+-- ---- the rest of the adapter
+
+and_left : (a b : Bool) → a && b ≡ true → a ≡ true
+and_left true b h = refl
+and_left false b h = h
+
+and_right : (a b : Bool) → a && b ≡ true → b ≡ true
+and_right true b h = h
+and_right false b h = true-false h refl
+
+sector_is : (k : ℕ) → k < 256 → IsSector (sector_of k)
+unfolding sector_of
+sector_is k small = (length-replicate 512 k, All-replicate (λ b. b < 256) 512 k small)
+
+told_sectors : (disk : Disk) (told : ℕ → List ℕ) → disk.sectors ≡ Some told → ((k : ℕ) → k < disk.size → IsSector (told k)) → IsDisk disk
+told_sectors disk told is each = λ other other_is k small.
+    let P : (ℕ → List ℕ) → Type 0 = λ f. IsSector (f k) in
+    subst P (some_one (sym is ∙ other_is)) (each k small)
+
+-- bytes that are small, as a test
+are_small : List ℕ → Bool
+are_small [] = true
+are_small (b ∷ bs) = nat_lt b 256 && are_small bs
+
+small_index : (bs : List ℕ) (k d : ℕ) → are_small bs ≡ true → d < 256 → slice_index_or bs k d < 256
+unfolding are_small
+small_index [] k d all small = small
+small_index (b ∷ bs) zero d all small = ltb-true b 256 (and_left (nat_lt b 256) (are_small bs) all)
+small_index (b ∷ bs) (suc k) d all small = small_index bs k d (and_right (nat_lt b 256) (are_small bs) all) small
+
+small_patched : (memory : ℕ → ℕ) (at : ℕ) (bs : List ℕ) → are_small bs ≡ true → ((a : ℕ) → memory a < 256) → (a : ℕ) → patched memory at bs a < 256
+unfolding patched
+small_patched memory at bs all small a =
+    elim (leb_tells at a) [
+      | inl here ↦ rw here.0 (small_index bs (a - at) (memory a) all (small a))
+      | inr there ↦ rw there.0 (small a)
+    ]
+
+first_small : (a : ℕ) → first_memory a < 256
+unfolding first_memory are_small
+first_small =
+    small_patched (patched (patched (λ _. 0) 0 header_bytes) 0x1000 fis_bytes) 0x1080 prd_bytes refl
+    (small_patched (patched (λ _. 0) 0 header_bytes) 0x1000 fis_bytes refl (small_patched (λ _. 0) 0 header_bytes refl (λ a. omega arith)))
+
+pub first_sane : IsSane first_read
+first_sane = record {
+  bytes = first_small;
+  disk = changed_each (λ _. quiet_port) 0 reading_port (λ q p. IsDisk p.disk) (told_sectors first_disk sector_of refl (λ k small. sector_is k small)) (λ q. told_sectors no_disk (λ k. []) refl (λ k small. absurd (omega arith)));
+  told = λ _. changed_each (λ _. quiet_port) 0 reading_port (λ q p. IsTold p.disk) (sector_of, refl) (λ q. (λ k. [], refl));
+}
+
+-- ---- tests of bytes
+
+from_within : (first n at : ℕ) → is_from first n at ≡ true → (first ≤ at) × (at < first + n)
+from_within first n at h =
+    (leb-true first at (and_left (nat_le first at) (nat_lt at (first + n)) h), ltb-true at (first + n) (and_right (nat_le first at) (nat_lt at (first + n)) h))
+
+from_no : (first n at : ℕ) → (at < first) ⊎ (first + n ≤ at) → is_from first n at ≡ false
+from_no first n at (inl before) = rw (lt-leb first at before) refl
+from_no first n at (inr past) = rw (le-leb first at (omega (arith, past)), le-ltb at (first + n) past) refl
+
+-- a byte outside a run of pieces is in none
+pieces_no : (first n at : ℕ) → (at < first) ⊎ (first + 512 * n ≤ at) → is_of_pieces (cut first n) at ≡ false
+pieces_no first zero at outside = refl
+pieces_no first (suc n) at (inl before) = rw (from_no first 512 at (inl before), pieces_no (first + 512) n at (inl (omega (arith, before)))) refl
+pieces_no first (suc n) at (inr past) = rw (from_no first 512 at (inr (omega (arith, past))), pieces_no (first + 512) n at (inr (omega (arith, past)))) refl
+
+cut_index : (first n k : ℕ) → k < n → slice_index (cut first n) k ≡ first + 512 * k
+cut_index first zero k small = absurd (omega arith)
+cut_index first (suc n) zero small = omega arith
+cut_index first (suc n) (suc k) small = cut_index (first + 512) n k (omega arith) ∙ omega arith
+
+-- ---- the one command
+
+command : SaysCommand first_read 0 0
+unfolding changed
+command = record { meaning = read_of 100 8; places = cut 0x28000 8; says = first_says }
+
+-- where it stands
+abbrev stands : Standing
+stands = record { header = 0; table = 0x1000; entries = 1; places = cut 0x28000 8; received = 0x400 }
+
+stands_is : standing first_read 0 0 command ≡ stands
+unfolding changed command first_says
+stands_is = refl
+
+none_of : (a b c : Bool) → a ≡ false → b ≡ false → c ≡ false → a || b || c ≡ false
+none_of a b c x y z = rw (x, y, z) refl
+
+one_of : (a b c : Bool) → a || b || c ≡ true → (a ≡ true) ⊎ ((b ≡ true) ⊎ (c ≡ true))
+one_of true b c h = inl refl
+one_of false true c h = inr (inl refl)
+one_of false false c h = inr (inr h)
+
+unwritten : (at : ℕ) → (at < 4) ⊎ (8 ≤ at) → (at < 0x400) ⊎ (0x500 ≤ at) → (at < 0x28000) ⊎ (0x29000 ≤ at) → is_written stands at ≡ false
+unwritten at count area frame =
+    none_of (is_from 4 4 at) (is_of_pieces (cut 0x28000 8) at) (is_from 0x400 256 at) (from_no 4 4 at count) (pieces_no 0x28000 8 at frame) (from_no 0x400 256 at area)
+
+stands_apart : (at : ℕ) → is_read_alone stands at ≡ true → is_unwritten stands at ≡ true
+stands_apart at h =
+    elim (one_of (is_from 0 4 at) (is_from 8 24 at) (is_from 0x1000 144 at) h) [
+      | inl head ↦
+          let in_head = from_within 0 4 at head in
+          ap not (unwritten at (inl in_head.1) (inl (omega (arith, in_head.1))) (inl (omega (arith, in_head.1))))
+      | inr (inl rest) ↦
+          let in_rest = from_within 8 24 at rest in
+          ap not (unwritten at (inr in_rest.0) (inl (omega (arith, in_rest.1))) (inl (omega (arith, in_rest.1))))
+      | inr (inr table) ↦
+          let in_table = from_within 0x1000 144 at table in
+          ap not (unwritten at (inr (omega (arith, in_table.0))) (inr (omega (arith, in_table.0))) (inl (omega (arith, in_table.1))))
+    ]
+
+pub first_command : HasOneCommand first_read 0 0
+unfolding changed
+first_command = record {
+  used = inl refl;
+  command = command;
+  taken = λ t is. some-none is refl;
+  apart = let P : Standing → Type 0 = λ s. (at : ℕ) → is_read_alone s at ≡ true → is_unwritten s at ≡ true in subst P (sym stands_is) stands_apart;
+  other_slots = λ k ne. record { ci = changed_other (λ _. false) 0 true k ne; taken = refl };
+  other_ports = λ q ne. let P : PortState → Type 0 = λ p. IsIdlePort p in subst P (sym (changed_other (λ _. quiet_port) 0 reading_port q ne)) quiet;
+}
+  where
+    quiet : IsIdlePort quiet_port
+    quiet = record { st = refl; cr = refl; fre = refl; fr = refl; ci = λ _. refl; sact = λ _. refl; taken = λ _. refl }
+
+-- the next frame is none of it
+elsewhere : IsElsewhere stands 0x29000 4096 first_read
+elsewhere = record {
+  inside = omega arith;
+  elsewhere = λ a low high.
+      or_no (is_read_alone stands a) (is_written stands a)
+      (none_of (is_from 0 4 a) (is_from 8 24 a) (is_from 0x1000 144 a) (from_no 0 4 a (inr (omega (arith, low)))) (from_no 8 24 a (inr (omega (arith, low)))) (from_no 0x1000 144 a (inr (omega (arith, low)))))
+      (unwritten a (inr (omega (arith, low))) (inr (omega (arith, low))) (inr low));
+}
+  where
+    or_no : (a b : Bool) → a ≡ false → b ≡ false → a || b ≡ false
+    or_no a b x y = rw (x, y) refl
+
+pub first_free : Stays (IsFree 0x29000 4096) first_read
+unfolding first_command
+first_free =
+    let P : Standing → Type 0 = λ s. IsElsewhere s 0x29000 4096 first_read in
+    elsewhere_free first_read 0 0 first_command 0x29000 4096 (subst P (sym stands_is) elsewhere)
+
+-- ---- and it can be done
+
+pub first_done : (new : Device) × IsRead first_read new 0 0 100 8 (cut 0x28000 8) sector_of
+unfolding changed
+first_done =
+    read_done first_read 0 0 100 8 (cut 0x28000 8) sector_of
+    (record {
+      fetch = record {
+        fetchable = record { st = refl; issued = refl; free = refl };
+        working = record { running = refl; present = refl; fresh = refl; admitted = refl; whole = refl };
+        alone = λ slot t is. some-none is refl;
+        says = first_says;
+      };
+      disk = first_sane.disk 0;
+      told_is = refl;
+      on_disk = omega arith;
+      inside = λ k small. let place = cut_index 0x28000 8 k small in omega (arith, place, small);
+      apart = λ j k before small.
+          let first = cut_index 0x28000 8 j (omega (arith, before, small)) in
+          let then = cut_index 0x28000 8 k small in
+          inl (omega (arith, first, then, before));
+    })

@@ -1,0 +1,201 @@
+-- An adapter without a command, and one with one, are guarded.
+use Rattle.std.proofs.Common.{ℕ, zero, suc, ◌≡◌, ◌<◌, ◌≤◌, ◌+◌, ◌*◌, ◌||◌, not, Bool, true, false, List, [], ◌∷◌, length, slice_index, refl, sym, ◌∙◌, ap, subst, arith, inl, inr}
+use Rattle.std.proofs.lemmas.Bool.{cases_eq, cases_lt, le-leb, lt-ltb}
+use Rattle.adapter.specs.Device.{PortState, Device}
+use Rattle.adapter.specs.Idle.{IsIdle, IsIdlePort}
+use Rattle.adapter.specs.Rules.{InUse, InPlaces, IsFree, Stays}
+use Rattle.adapter.specs.Guarded.{Passing, Spares, Avoids, IsGuardedSlot, IsGuardedPort, IsGuarded}
+use Rattle.adapter.specs.OneCommand.{Standing, is_from, is_of_pieces, is_read_alone, is_written, is_unwritten, IsFreeSlot, standing, HasOneCommand, HasNoCommand, IsElsewhere}
+use Rattle.adapter.proofs.Absurd.{true-false, some-none}
+use Rattle.adapter.proofs.Free.{apart_free_stays}
+
+-- ---- tests of bytes
+
+is_from_yes : (first n at : ℕ) → first ≤ at → at < first + n → is_from first n at ≡ true
+is_from_yes first n at low high =
+    rw (le-leb first at low, lt-ltb at (first + n) high) refl
+
+or_one : (a b : Bool) → a ≡ true → a || b ≡ true
+or_one a b h = rw h refl
+
+or_two : (a b : Bool) → b ≡ true → a || b ≡ true
+or_two true b h = refl
+or_two false b h = h
+
+is_of_pieces_yes : (places : List ℕ) (k at : ℕ) → k < length places → slice_index places k ≤ at → at < slice_index places k + 512 → is_of_pieces places at ≡ true
+is_of_pieces_yes [] k at small low high = absurd (omega arith)
+is_of_pieces_yes (place ∷ places) zero at small low high = rw (is_from_yes place 512 at low high) refl
+is_of_pieces_yes (place ∷ places) (suc k) at small low high =
+    or_two (is_from place 512 at) _ (is_of_pieces_yes places k at (omega arith) low high)
+
+-- the first, the second or the third of three
+first_of : (a b c : Bool) → a ≡ true → a || b || c ≡ true
+first_of a b c h = rw h refl
+
+second_of : (a b c : Bool) → b ≡ true → a || b || c ≡ true
+second_of a b c h = or_one (a || b) c (or_two a b h)
+
+third_of : (a b c : Bool) → c ≡ true → a || b || c ≡ true
+third_of a b c h = or_two (a || b) c h
+
+module _ (s : Standing) (at : ℕ) where
+  reads_head : s.header ≤ at → at < s.header + 4 → is_read_alone s at ≡ true
+  reads_head low high = first_of (is_from s.header 4 at) (is_from (s.header + 8) 24 at) (is_from s.table (128 + 16 * s.entries) at) (is_from_yes s.header 4 at low high)
+
+  reads_rest : s.header + 8 ≤ at → at < s.header + 32 → is_read_alone s at ≡ true
+  reads_rest low high = second_of (is_from s.header 4 at) (is_from (s.header + 8) 24 at) (is_from s.table (128 + 16 * s.entries) at) (is_from_yes (s.header + 8) 24 at low (omega (arith, high)))
+
+  reads_table : s.table ≤ at → at < s.table + 128 + 16 * s.entries → is_read_alone s at ≡ true
+  reads_table low high = third_of (is_from s.header 4 at) (is_from (s.header + 8) 24 at) (is_from s.table (128 + 16 * s.entries) at) (is_from_yes s.table (128 + 16 * s.entries) at low (omega (arith, high)))
+
+  writes_count : s.header + 4 ≤ at → at < s.header + 8 → is_written s at ≡ true
+  writes_count low high = first_of (is_from (s.header + 4) 4 at) (is_of_pieces s.places at) (is_from s.received 256 at) (is_from_yes (s.header + 4) 4 at low (omega (arith, high)))
+
+  writes_piece : InPlaces s.places at → is_written s at ≡ true
+  writes_piece w = second_of (is_from (s.header + 4) 4 at) (is_of_pieces s.places at) (is_from s.received 256 at) (is_of_pieces_yes s.places w.number at w.listed w.from w.to)
+
+  writes_area : s.received ≤ at → at < s.received + 256 → is_written s at ≡ true
+  writes_area low high = third_of (is_from (s.header + 4) 4 at) (is_of_pieces s.places at) (is_from s.received 256 at) (is_from_yes s.received 256 at low high)
+
+-- a byte that is written isn't unwritten
+written_not : {A : Type 0} (s : Standing) (at : ℕ) → is_written s at ≡ true → is_unwritten s at ≡ true → A
+written_not s at w u = true-false u (ap not w)
+
+-- ---- ports with no command
+
+free_unused : {A : Type 0} (p : PortState) (slot : ℕ) → IsFreeSlot p slot → InUse p slot → A
+free_unused p slot f (inl set) = true-false set f.ci
+free_unused p slot f (inr (t, is)) = some-none is f.taken
+
+port_unused : (Tables Kept : ℕ → Type 0) (memory : ℕ → ℕ) (p : PortState) → ((slot : ℕ) → IsFreeSlot p slot) →
+    (p.fre ≡ true → Spares Kept p.bases.fb (p.bases.fb + 256)) → IsGuardedPort Tables Kept memory p
+port_unused Tables Kept memory p free area = record {
+  slot = λ slot used. free_unused p slot (free slot) used;
+  taken = λ slot t is. some-none is (free slot).taken;
+  received = area;
+}
+
+port_idle : (Tables Kept : ℕ → Type 0) (memory : ℕ → ℕ) (p : PortState) → IsIdlePort p → IsGuardedPort Tables Kept memory p
+port_idle Tables Kept memory p i =
+    port_unused Tables Kept memory p (λ slot. record { ci = i.ci slot; taken = i.taken slot }) (λ fre. true-false fre i.fre)
+
+pub unused_guarded : (kept : ℕ → Bool) (d : Device) → HasNoCommand d →
+    ((port : ℕ) → (d.port port).fre ≡ true → Spares (Passing kept) (d.port port).bases.fb ((d.port port).bases.fb + 256)) →
+    IsGuarded (Passing (λ _. false)) (Passing kept) d
+unused_guarded kept d none area = record {
+  within = λ at table. true-false table refl;
+  port = λ q. port_unused (Passing (λ _. false)) (Passing kept) d.memory (d.port q) (none q) (area q);
+}
+
+pub idle_guarded : (kept : ℕ → Bool) (d : Device) → IsIdle d → IsGuarded (Passing (λ _. false)) (Passing kept) d
+idle_guarded kept d i = record {
+  within = λ at table. true-false table refl;
+  port = λ q. port_idle (Passing (λ _. false)) (Passing kept) d.memory (d.port q) (i.port q);
+}
+
+pub idle_free : (at n : ℕ) (d : Device) → IsIdle d → at + n ≤ d.size → Stays (IsFree at n) d
+idle_free at n d i inside =
+    apart_free_stays (Passing (λ _. false)) (Passing (λ _. true)) at n d (idle_guarded (λ _. true) d i)
+    (record {
+      inside = inside;
+      kept = λ a low high. refl;
+      no_table = λ a low high table. true-false table refl;
+      no_header = λ q slot a used low high from to. free_unused (d.port q) slot (record { ci = (i.port q).ci slot; taken = (i.port q).taken slot }) used;
+    })
+
+-- ---- one command
+
+module _ (d : Device) (port slot : ℕ) (c : HasOneCommand d port slot) where
+  abbrev s : Standing
+  s = standing d port slot c.command
+
+  abbrev Tables : ℕ → Type 0
+  Tables = Passing (is_read_alone s)
+
+  abbrev Kept : ℕ → Type 0
+  Kept = Passing (is_unwritten s)
+
+  places_avoid : Avoids Kept c.command.places
+  places_avoid at kept in_places = written_not s at (writes_piece s at in_places) kept
+
+  command_guarded : IsGuardedSlot Tables Kept d.memory (d.port port).bases.clb slot
+  command_guarded = record {
+    meaning = c.command.meaning;
+    places = c.command.places;
+    says = c.command.says;
+    head = λ at low high. reads_head s at low high;
+    rest = λ at low high. reads_rest s at low high;
+    table = λ at low high. reads_table s at low high;
+    count = λ at low high kept. written_not s at (writes_count s at low high) kept;
+    places_avoid = places_avoid;
+  }
+
+  port_guarded : IsGuardedPort Tables Kept d.memory (d.port port)
+  port_guarded = record {
+    slot = λ k used.
+        elim (cases_eq k slot) [
+          | inl e ↦
+              let P : ℕ → Type 0 = λ n. IsGuardedSlot Tables Kept d.memory (d.port port).bases.clb n in
+              subst P (sym e) command_guarded
+          | inr ne ↦ free_unused (d.port port) k (c.other_slots k ne) used
+        ];
+    taken = λ k t is.
+        elim (cases_eq k slot) [
+          | inl e ↦
+              let P : List ℕ → Type 0 = λ places. Avoids Kept places in
+              subst P (sym (c.taken t (ap (d.port port).taken (sym e) ∙ is))) places_avoid
+          | inr ne ↦ some-none is (c.other_slots k ne).taken
+        ];
+    received = λ fre at low high kept. written_not s at (writes_area s at low high) kept;
+  }
+
+  pub command_is_guarded : IsGuarded (Passing (is_read_alone (standing d port slot c.command))) (Passing (is_unwritten (standing d port slot c.command))) d
+  command_is_guarded = record {
+    within = c.apart;
+    port = λ q.
+        elim (cases_eq q port) [
+          | inl e ↦
+              let P : ℕ → Type 0 = λ n. IsGuardedPort Tables Kept d.memory (d.port n) in
+              subst P (sym e) port_guarded
+          | inr ne ↦ port_idle Tables Kept d.memory (d.port q) (c.other_ports q ne)
+        ];
+  }
+
+  or_none : {A : Type 0} (a b : Bool) → a || b ≡ false → (a ≡ false → b ≡ false → A) → A
+  or_none true b h k = true-false refl h
+  or_none false b h k = k refl h
+
+  -- a byte of the header is read alone or written
+  in_header : (at : ℕ) → s.header ≤ at → at < s.header + 32 → is_read_alone s at || is_written s at ≡ true
+  in_header at low high =
+      elim (cases_lt at (s.header + 4)) [
+        | inl first ↦ or_one (is_read_alone s at) (is_written s at) (reads_head s at low first)
+        | inr more ↦
+            elim (cases_lt at (s.header + 8)) [
+              | inl count ↦ or_two (is_read_alone s at) (is_written s at) (writes_count s at more count)
+              | inr rest ↦ or_one (is_read_alone s at) (is_written s at) (reads_rest s at rest high)
+            ]
+      ]
+
+  pub elsewhere_free : (at n : ℕ) → IsElsewhere (standing d port slot c.command) at n d → Stays (IsFree at n) d
+  elsewhere_free at n e =
+      apart_free_stays Tables Kept at n d command_is_guarded
+      (record {
+        inside = e.inside;
+        kept = λ a low high. or_none (is_read_alone s a) (is_written s a) (e.elsewhere a low high) (λ r w. ap not w);
+        no_table = λ a low high table. or_none (is_read_alone s a) (is_written s a) (e.elsewhere a low high) (λ r w. true-false table r);
+        no_header = λ q k a used low high from to.
+            elim (cases_eq q port) [
+              | inl same ↦
+                  elim (cases_eq k slot) [
+                    | inl it ↦
+                        let clb : (d.port q).bases.clb ≡ (d.port port).bases.clb = ap (λ (n : ℕ). (d.port n).bases.clb) same in
+                        true-false (in_header a (omega (arith, clb, it, from)) (omega (arith, clb, it, to))) (e.elsewhere a low high)
+                    | inr ne ↦
+                        let P : ℕ → Type 0 = λ n. InUse (d.port n) k in
+                        free_unused (d.port port) k (c.other_slots k ne) (subst P same used)
+                  ]
+              | inr ne ↦
+                  free_unused (d.port q) k (record { ci = (c.other_ports q ne).ci k; taken = (c.other_ports q ne).taken k }) used
+            ];
+      })

@@ -1,0 +1,154 @@
+-- A read that may be fetched can be done: one piece after another.
+use Rattle.std.proofs.Common.{ℕ, zero, suc, ◌≡◌, ◌+◌, ◌<◌, ◌≤◌, List, [], ◌∷◌, ◌++◌, length, slice_index, Option, None, Some, IfSome, false, refl, sym, ◌∙◌, ap, subst, arith, inl, inr, append_assoc, append-nil}
+use Rattle.std.proofs.lemmas.Bool.{cases_eq}
+use Rattle.adapter.specs.Memory.{patched, bytes_at}
+use Rattle.adapter.specs.Device.{Disk, IsSector, Taken, Halt, PortState, Device}
+use Rattle.adapter.specs.OneCommand.{IsFreeSlot}
+use Rattle.adapter.specs.ReadDone.{read_of, MayBeRead, moves, IsRead}
+use Rattle.adapter.specs.Steps.{after, Steps, WorksOn, IsWorking, admits, begun, MayMove, MayBeDone, with_fetch, with_move, with_done, done_entry, move_of}
+use Rattle.adapter.specs.Steps.Step.{Fetch, Move, Done}
+use Rattle.adapter.specs.declared.command.Operation.TheVariants.{Read, Trim}
+use Rattle.adapter.specs.declared.tape.Entry.{Entry}
+use Rattle.adapter.specs.declared.tape.Entry.TheVariants as entry
+use Rattle.adapter.proofs.Changed.{changed_same}
+use Rattle.adapter.proofs.MemoryLemmas.{bytes_same, patched_apart, patched_bytes}
+use Rattle.adapter.proofs.Runs.{Steps-one, Steps-trans}
+
+module _ (old : Device) (port slot first count : ℕ) (places : List ℕ) (told : ℕ → List ℕ) (may : MayBeRead old port slot first count places told) where
+  -- the command when so many of its pieces were moved
+  abbrev command : ℕ → Taken
+  command n = record (begun (read_of first count) places) { moved = n }
+
+  -- so many pieces were moved
+  record IsMoved (n : ℕ) (d : Device) : Type 0 where
+    pub steps : Steps old d
+    pub works : WorksOn (d.port port) slot (command n) Read
+    pub disk : (d.port port).disk ≡ (old.port port).disk
+    pub size : d.size ≡ old.size
+    pub tape : d.tape ≡ old.tape ++ moves port slot first places told n
+    pub bytes : (k : ℕ) → k < n → bytes_at d.memory (slice_index places k) 512 ≡ told (first + k)
+
+  many : length places ≡ count
+  many = may.fetch.says.as_many
+
+  -- a port that works on reads, with another command in the slot
+  still_works : (p new : PortState) → IsWorking p Read → new.cr ≡ p.cr → new.present ≡ p.present → new.fresh ≡ p.fresh → new.halt ≡ p.halt → new.broken ≡ p.broken → IsWorking new Read
+  still_works p new w cr present fresh halt broken = record {
+    running = cr ∙ w.running;
+    present = present ∙ w.present;
+    fresh = fresh ∙ w.fresh;
+    admitted = ap (λ (h : Halt). admits h Read) halt ∙ w.admitted;
+    whole = broken ∙ w.whole;
+  }
+
+  none_moved : IsMoved 0 (after (Fetch port slot (read_of first count) places) old)
+  none_moved =
+      let d : Device = after (Fetch port slot (read_of first count) places) old in
+      let new : PortState = with_fetch (old.port port) slot (read_of first count) places in
+      let here : d.port port ≡ new = changed_same old.port port new in
+      let P : PortState → Type 0 = λ p. WorksOn p slot (command 0) Read in
+      record {
+        steps = Steps-one (Fetch port slot (read_of first count) places) old d may.fetch refl;
+        works = subst P (sym here)
+            (record {
+              taken = changed_same (old.port port).taken slot (Some (command 0));
+              working = still_works (old.port port) new may.fetch.working refl refl refl refl refl;
+            });
+        disk = ap (λ (p : PortState). p.disk) here;
+        size = refl;
+        tape = sym (append-nil old.tape);
+        bytes = λ k small. absurd (omega arith);
+      }
+
+  -- the next piece is moved
+  module _ (n : ℕ) (left : n < count) (d : Device) (m : IsMoved n d) where
+    sector : List ℕ
+    sector = told (first + n)
+
+    is_sector : IsSector sector
+    unfolding sector
+    is_sector = may.disk told may.told_is (first + n) (omega (arith, left, may.on_disk))
+
+    may_move : MayMove d port slot (command n) sector
+    unfolding sector
+    may_move = record {
+      works = m.works;
+      left = omega (arith, left, many);
+      inside = omega (arith, may.inside n left, m.size);
+      sector = is_sector;
+      brings =
+          let P : Disk → Type 0 = λ disk. (first + n < disk.size) × IfSome disk.sectors (λ f. told (first + n) ≡ f (first + n)) in
+          let Q : Option (ℕ → List ℕ) → Type 0 = λ o. IfSome o (λ f. told (first + n) ≡ f (first + n)) in
+          subst P (sym m.disk) (omega (arith, left, may.on_disk), subst Q (sym may.told_is) refl);
+    }
+
+    next : Device
+    next = after (Move port slot (command n) sector) d
+
+    moved_bytes : (k : ℕ) → k < suc n → bytes_at next.memory (slice_index places k) 512 ≡ told (first + k)
+    unfolding next sector
+    moved_bytes k small =
+        elim (cases_eq k n) [
+          | inl e ↦
+              let P : ℕ → Type 0 = λ j. bytes_at (patched d.memory (slice_index places n) (told (first + n))) (slice_index places j) 512 ≡ told (first + j) in
+              let Q : ℕ → Type 0 = λ l. bytes_at (patched d.memory (slice_index places n) (told (first + n))) (slice_index places n) l ≡ told (first + n) in
+              subst P (sym e) (subst Q (is_sector.0) (patched_bytes d.memory (slice_index places n) (told (first + n))))
+          | inr ne ↦
+              let before : k < n = omega (arith, small, ne) in
+              let size : length (told (first + n)) ≡ 512 = is_sector.0 in
+              let apart = may.apart k n before left in
+              bytes_same d.memory (patched d.memory (slice_index places n) (told (first + n))) (slice_index places k) 512
+              (λ a low high.
+              patched_apart d.memory (slice_index places n) (told (first + n)) a
+              (λ from to. elim apart [ inl below ↦ absurd (omega (arith, below, from, high)) | inr above ↦ absurd (omega (arith, above, to, size, low)) ]))
+              ∙ m.bytes k before
+        ]
+
+    one_more : IsMoved (suc n) next
+    unfolding next sector
+    one_more =
+        let new : PortState = with_move (d.port port) slot (command n) (told (first + n)) in
+        let here : next.port port ≡ new = changed_same d.port port new in
+        let P : PortState → Type 0 = λ p. WorksOn p slot (command (suc n)) Read in
+        let number : n + 1 ≡ suc n = omega arith in
+        record {
+          steps = Steps-trans m.steps (Steps-one (Move port slot (command n) (told (first + n))) d next may_move refl);
+          works = subst P (sym here)
+              (record {
+                taken = changed_same (d.port port).taken slot (Some (command (n + 1))) ∙ ap (λ (j : ℕ). Some (command j)) number;
+                working = still_works (d.port port) new m.works.working refl refl refl refl refl;
+              });
+          disk = ap (λ (p : PortState). p.disk) here ∙ m.disk;
+          size = m.size;
+          tape = ap (λ (entries : List Entry). entries ++ entry.Move (move_of port slot (command n) (told (first + n))) ∷ []) m.tape ∙ append_assoc old.tape (moves port slot first places told n) _;
+          bytes = moved_bytes;
+        }
+
+  all_moved : (n : ℕ) → n ≤ count → (d : Device) × IsMoved n d
+  all_moved zero few = (after (Fetch port slot (read_of first count) places) old, none_moved)
+  all_moved (suc n) few =
+      let before = all_moved n (omega arith) in (next n few before.0 before.1, one_more n few before.0 before.1)
+
+  pub read_done : (new : Device) × IsRead old new port slot first count places told
+  read_done =
+      let before = all_moved count (omega arith) in
+      let d : Device = before.0 in
+      let m : IsMoved count d = before.1 in
+      let end : Device = after (Done port slot 0 (command count)) d in
+      let new : PortState = with_done (d.port port) slot 0 Read in
+      let here : end.port port ≡ new = changed_same d.port port new in
+      let can : MayBeDone d port slot 0 (command count) = record {
+        works = m.works;
+        finished = record { moved = sym many; cleared = λ trim. absurd (let f : Read ≡ Trim = trim in cc) };
+        shown = inl refl;
+      } in
+      let P : PortState → Type 0 = λ p. IsFreeSlot p slot in (
+        end,
+        record {
+          steps = Steps-trans m.steps (Steps-one (Done port slot 0 (command count)) d end can refl);
+          free = subst P (sym here)
+              (record { ci = changed_same (d.port port).ci slot false; taken = changed_same (d.port port).taken slot None });
+          tape = ap (λ (entries : List Entry). entries ++ done_entry port slot Read ∷ []) m.tape ∙ append_assoc old.tape (moves port slot first places told count) _;
+          bytes = m.bytes;
+        },
+      )

@@ -1,0 +1,114 @@
+-- An adapter as a driver leaves it when it has issued its first read: 8 sectors from 100 on, into frame 40.
+use Rattle.std.specs.Prelude.{ℕ, ◌*◌, true, false, List, [], ◌∷◌, None, Some, replicate}
+use Rattle.adapter.specs.Memory.{patched, changed}
+use Rattle.adapter.specs.Device.{Disk, Notes, PortState, Device}
+use Rattle.adapter.specs.Device.Halt.{NotHalted}
+
+-- the header of slot 0, but for its zeros at the end: no W, one PRD, and the table's address
+abbrev pub header_bytes : List ℕ
+header_bytes = 5 ∷ 0 ∷ 1 ∷ 0 ∷ 0 ∷ 0 ∷ 0 ∷ 0 ∷ 0 ∷ 0x10 ∷ 0 ∷ 0 ∷ []
+
+-- the FIS of READ DMA EXT, but for its zeros at the end: sector 64h, and 8 of them
+abbrev pub fis_bytes : List ℕ
+fis_bytes = 0x27 ∷ 0x80 ∷ 0x25 ∷ 0 ∷ 0x64 ∷ 0 ∷ 0 ∷ 0x40 ∷ 0 ∷ 0 ∷ 0 ∷ 0 ∷ 8 ∷ 0 ∷ []
+
+-- the PRD: 4096 bytes at 28000h, where frame 40 begins
+abbrev pub prd_bytes : List ℕ
+prd_bytes = 0 ∷ 0x80 ∷ 2 ∷ 0 ∷ 0 ∷ 0 ∷ 0 ∷ 0 ∷ 0 ∷ 0 ∷ 0 ∷ 0 ∷ 0xff ∷ 0x0f ∷ 0 ∷ 0 ∷ []
+
+-- the command list is at 0, and the table of slot 0 at 1000h; all else is zero
+unfoldable pub first_memory : ℕ → ℕ
+first_memory = patched (patched (patched (λ _. 0) 0 header_bytes) 0x1000 fis_bytes) 0x1080 prd_bytes
+
+-- sector k holds the byte k
+unfoldable pub sector_of : ℕ → List ℕ
+sector_of k = replicate 512 k
+
+abbrev pub first_disk : Disk
+first_disk = record { name = 0; size = 256; sectors = Some sector_of }
+
+abbrev pub no_disk : Disk
+no_disk = record { name = 0; size = 0; sectors = Some (λ k. []) }
+
+-- nothing was read yet
+abbrev pub no_notes : Notes
+no_notes =
+    record {
+      st_set_at = 0;
+      sctl_written_at = 0;
+      last_cmd = 0;
+      last_ssts = 0;
+      last_tfd = 0;
+      last_sig = 0;
+      last_ci = 0;
+      last_sact = 0;
+      engine_count = 0;
+      link_count = 0;
+      busy_count = 0;
+      command_count = 0;
+      acknowledged = false;
+    }
+
+-- a port with no device, as after a reset
+abbrev pub quiet_port : PortState
+quiet_port =
+    record {
+      bases = record { clb = 0; fb = 0; clb_set = false; clbu_set = false; fb_set = false; fbu_set = false };
+      st = false;
+      fre = false;
+      sctl_det = 0;
+      cr = false;
+      fr = false;
+      tfd = 0x7f;
+      sig = 0xffffffff;
+      ssts_det = 0;
+      serr_n = false;
+      serr_x = false;
+      is = λ _. false;
+      ci = λ _. false;
+      sact = λ _. false;
+      disk = no_disk;
+      plugged = [];
+      present = false;
+      fresh = false;
+      link_due = false;
+      halt = NotHalted;
+      broken = false;
+      taken = λ _. None;
+      notes = no_notes;
+    }
+
+-- a port that runs, with a disk, its command list at 0 and its received FIS area at 400h; slot 0 is issued
+abbrev pub reading_port : PortState
+reading_port =
+    record quiet_port {
+      bases = record { clb = 0; fb = 0x400; clb_set = true; clbu_set = true; fb_set = true; fbu_set = true };
+      st = true;
+      fre = true;
+      cr = true;
+      fr = true;
+      tfd = 0x50;
+      sig = 0x101;
+      ssts_det = 3;
+      ci = changed (λ _. false) 0 true;
+      disk = first_disk;
+      plugged = first_disk ∷ [];
+      present = true;
+      fresh = true;
+    }
+
+-- the adapter is switched on, has 256 frames of memory, 32 slots and four ports, and has done nothing yet
+abbrev pub first_read : Device
+first_read =
+    record {
+      telling = true;
+      size = 4096 * 256;
+      memory = first_memory;
+      cap = 0x1f03;
+      pi = 0x0f;
+      hr = false;
+      ae = true;
+      ie = false;
+      port = changed (λ _. quiet_port) 0 reading_port;
+      tape = [];
+    }

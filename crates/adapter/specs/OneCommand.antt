@@ -1,0 +1,77 @@
+-- An adapter with one command in use.
+use Rattle.std.specs.Prelude.{ℕ, Bool, false, true, ◌≡◌, ◌≢◌, ◌+◌, ◌*◌, ◌<◌, ◌≤◌, ◌&&◌, ◌||◌, not, List, [], ◌∷◌, length, None, Some, nat_le, nat_lt}
+use Rattle.adapter.specs.Commands.{Meaning}
+use Rattle.adapter.specs.Device.{Taken, PortState, Device}
+use Rattle.adapter.specs.Idle.{IsIdlePort}
+use Rattle.adapter.specs.Rules.{InUse}
+use Rattle.adapter.specs.Says.{Says}
+
+-- Where a command stands in memory: its header, its table of so many PRDs, its pieces, and its port's received FIS area.
+pub record Standing : Type 0 where
+  pub header : ℕ
+  pub table : ℕ
+  pub entries : ℕ
+  pub places : List ℕ
+  pub received : ℕ
+
+-- the byte is one of so many from an address on
+abbrev pub is_from : ℕ → ℕ → ℕ → Bool
+is_from first n at = nat_le first at && nat_lt at (first + n)
+
+-- the byte is one of a piece
+abbrev pub is_of_pieces : List ℕ → ℕ → Bool
+is_of_pieces [] at = false
+is_of_pieces (place ∷ places) at = is_from place 512 at || is_of_pieces places at
+
+-- a byte that the device only reads: of the header but for PRDBC, or of the table
+abbrev pub is_read_alone : Standing → ℕ → Bool
+is_read_alone s at = is_from s.header 4 at || is_from (s.header + 8) 24 at || is_from s.table (128 + 16 * s.entries) at
+
+-- a byte that the device may write: of PRDBC, of a piece, or of the received FIS area
+abbrev pub is_written : Standing → ℕ → Bool
+is_written s at = is_from (s.header + 4) 4 at || is_of_pieces s.places at || is_from s.received 256 at
+
+-- every byte that the device doesn't write
+abbrev pub is_unwritten : Standing → ℕ → Bool
+is_unwritten s at = not (is_written s at)
+
+-- a slot with no command, neither issued nor taken
+pub record IsFreeSlot (p : PortState) (slot : ℕ) : Type 0 where
+  pub ci : p.ci slot ≡ false
+  pub taken : p.taken slot ≡ None
+
+-- the slot's bytes say a command
+pub record SaysCommand (d : Device) (port slot : ℕ) : Type 0 where
+  pub meaning : Meaning
+  pub places : List ℕ
+  pub says : Says d.memory (d.port port).bases.clb slot meaning places
+
+abbrev pub standing : (d : Device) (port slot : ℕ) → SaysCommand d port slot → Standing
+standing d port slot c =
+    record {
+      header = (d.port port).bases.clb + 32 * slot;
+      table = c.says.table;
+      entries = length c.says.prds;
+      places = c.places;
+      received = (d.port port).bases.fb;
+    }
+
+-- One slot of one port has a command that is issued or taken, and its bytes say it; if it is taken, then with the places
+-- that they say. No byte that the device only reads for it is one that it writes. All other slots are free, and all other
+-- ports idle.
+pub record HasOneCommand (d : Device) (port slot : ℕ) : Type 0 where
+  pub used : InUse (d.port port) slot
+  pub command : SaysCommand d port slot
+  pub taken : (t : Taken) → (d.port port).taken slot ≡ Some t → t.places ≡ command.places
+  pub apart : (at : ℕ) → is_read_alone (standing d port slot command) at ≡ true → is_unwritten (standing d port slot command) at ≡ true
+  pub other_slots : (k : ℕ) → k ≢ slot → IsFreeSlot (d.port port) k
+  pub other_ports : (q : ℕ) → q ≢ port → IsIdlePort (d.port q)
+
+-- these bytes are inside the memory, and none of them is the command's
+pub record IsElsewhere (s : Standing) (at n : ℕ) (d : Device) : Type 0 where
+  pub inside : at + n ≤ d.size
+  pub elsewhere : (a : ℕ) → at ≤ a → a < at + n → is_read_alone s a || is_written s a ≡ false
+
+-- no slot of any port has a command
+abbrev pub HasNoCommand : Device → Type 0
+HasNoCommand d = (port slot : ℕ) → IsFreeSlot (d.port port) slot

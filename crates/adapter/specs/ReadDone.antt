@@ -1,0 +1,50 @@
+-- A READ DMA EXT, from its fetch to its end.
+use Rattle.std.specs.Prelude.{ℕ, zero, suc, ◌≡◌, ◌+◌, ◌<◌, ◌≤◌, ◌⊎◌, List, [], ◌∷◌, ◌++◌, Some, slice_index}
+use Rattle.adapter.specs.Memory.{bytes_at}
+use Rattle.adapter.specs.Commands.{Meaning}
+use Rattle.adapter.specs.Device.{IsDisk, Device}
+use Rattle.adapter.specs.OneCommand.{IsFreeSlot}
+use Rattle.adapter.specs.Steps.{Can, Steps, done_entry}
+use Rattle.adapter.specs.Steps.Step.{Fetch}
+use Rattle.adapter.specs.declared.command.Operation.TheVariants.{Read}
+use Rattle.adapter.specs.declared.command.Direction.TheVariants.{ToMemory}
+use Rattle.adapter.specs.declared.tape.Entry.{Entry}
+use Rattle.adapter.specs.declared.tape.Entry.TheVariants as entry
+
+abbrev pub read_of : ℕ → ℕ → Meaning
+read_of first count = record { operation = Read; first = first; count = count }
+
+-- A read that may be fetched: each of its sectors is on a disk that tells its sectors, and each of its pieces is in the
+-- memory and apart from the others.
+pub record MayBeRead (d : Device) (port slot first count : ℕ) (places : List ℕ) (told : ℕ → List ℕ) : Type 0 where
+  pub fetch : Can (Fetch port slot (read_of first count) places) d
+  pub disk : IsDisk (d.port port).disk
+  pub told_is : (d.port port).disk.sectors ≡ Some told
+  pub on_disk : first + count ≤ (d.port port).disk.size
+  pub inside : (k : ℕ) → k < count → slice_index places k + 512 ≤ d.size
+  pub apart : (j k : ℕ) → j < k → k < count →
+      (slice_index places j + 512 ≤ slice_index places k) ⊎ (slice_index places k + 512 ≤ slice_index places j)
+
+-- the tape's entries of the first n moves: sector after sector goes to piece after piece
+abbrev pub moves : (port slot first : ℕ) (places : List ℕ) (told : ℕ → List ℕ) → ℕ → List Entry
+moves port slot first places told zero = []
+moves port slot first places told (suc n) =
+    moves port slot first places told n
+    ++ entry.Move (record {
+      port = record { 0 = port };
+      slot = record { 0 = slot };
+      operation = Read;
+      sector = first + n;
+      address = slice_index places n;
+      direction = ToMemory;
+      bytes = told (first + n);
+    })
+    ∷ []
+
+-- The device has done the read and nothing else: each sector stands in its piece, the slot is free, and the tape tells the
+-- moves and the end.
+pub record IsRead (old new : Device) (port slot first count : ℕ) (places : List ℕ) (told : ℕ → List ℕ) : Type 0 where
+  pub steps : Steps old new
+  pub free : IsFreeSlot (new.port port) slot
+  pub tape : new.tape ≡ old.tape ++ (moves port slot first places told count ++ done_entry port slot Read ∷ [])
+  pub bytes : (k : ℕ) → k < count → bytes_at new.memory (slice_index places k) 512 ≡ told (first + k)
