@@ -21,7 +21,7 @@ use Rattle.dma_frames.specs.Loan.{Lending}
 use Rattle.dma_frames.specs.Table.{Table, owner_of, lent_to, LendsOnly}
 use Rattle.block_server.specs.Book.{IsKept, IsAccepted, IsEarlier, StandsBehind, served, issued_of, unanswered_of}
 use Rattle.block_server.specs.Calls.{situation_of, state_of, accepted_as, Accepts}
-use Rattle.block_server.specs.Port.{Serves, GoesOn, Issued}
+use Rattle.block_server.specs.Port.{Serves, Proceeds, Issued}
 use Rattle.block_server.specs.View.{ServerView}
 use Rattle.block_server.specs.declared.types.Accepted.{Accepted}
 use Rattle.block_server.proofs.Booking.{owner_same, accepted_on, few_more, owns_on, room_left}
@@ -177,7 +177,7 @@ module _ {A : Type 0} (device : A → Device) (s : ServerView A) (places : ℕ) 
 
   -- what accepting does
   pub accepts : (adapter : A) (table : Table) (id : RequestId) → id.0 ≡ s.last + 1 → LendsOnly s.table table r.frames.items (Some id) →
-      (s.issued ≡ false → ((device adapter).port 0).ci 0 ≡ true) → (s.issued ≡ true → adapter ≡ s.adapter) → GoesOn None (device s.adapter) (device adapter) →
+      (s.issued ≡ false → ((device adapter).port 0).ci 0 ≡ true) → (s.issued ≡ true → adapter ≡ s.adapter) → Proceeds None (device s.adapter) (device adapter) →
       Serves (served true (s.book ++ accepted_as r id ∷ [])) (device adapter) → (book : List Accepted) → book ≡ s.book ++ accepted_as r id ∷ [] → (issued : Bool) → issued ≡ true →
       Accepts device s (record s { adapter = adapter; table = table; book = book; issued = issued; last = s.last + 1 }) r id
   accepts adapter table id id_is lends sent same goes serves book book_is issued issued_is =

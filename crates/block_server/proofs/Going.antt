@@ -17,7 +17,7 @@ use Rattle.adapter.proofs.Calls.{KeepsAll, steps_keep_all}
 use Rattle.adapter.proofs.KeptLemmas.{step_keeps}
 use Rattle.adapter.proofs.MemoryLemmas.{patched_apart}
 use Rattle.adapter.proofs.Runs.{Steps-one}
-use Rattle.block_server.specs.Port.{IsInFrames, IsTableByte, IsKeptByte, IsHealthy, IsLone, IsRunning, Issued, meaning_of, HoldsRead, Serves, SparesClients, GoesOn, frames_of}
+use Rattle.block_server.specs.Port.{IsInFrames, IsTableByte, IsKeptByte, IsHealthy, IsLone, IsRunning, Issued, meaning_of, HoldsRead, Serves, SparesClients, Proceeds, frames_of}
 use Rattle.block_server.specs.Told.{is_change, is_failure, is_read, is_read_end, changes, failures, reads_ended, IsUnharmed}
 use Rattle.block_server.proofs.Coming.{SameFace, up_face}
 use Rattle.block_server.proofs.Issuing.{none_guarded}
@@ -42,10 +42,10 @@ module _ {frames more : List Frame} {old mid new : Device} (a : SparesClients fr
   pub reads_grow : (reads_ended old ≤ reads_ended mid) × (reads_ended mid ≤ reads_ended new)
   reads_grow = grows is_read_end
 
-pub goes_none : (issued : Option Issued) (d : Device) → GoesOn issued d d
+pub goes_none : (issued : Option Issued) (d : Device) → Proceeds issued d d
 goes_none issued d = record { spares = spares_none (frames_of issued) d; healthy = λ _ h. h; ended = λ h. inl h }
 
-pub goes_then : (issued : Option Issued) {old mid new : Device} → GoesOn issued old mid → GoesOn issued mid new → GoesOn issued old new
+pub goes_then : (issued : Option Issued) {old mid new : Device} → Proceeds issued old mid → Proceeds issued mid new → Proceeds issued old new
 goes_then issued {old} {mid} {new} a b = record {
   spares = spares_then a.spares b.spares;
   healthy = λ u h. let n = unharmed_both a.spares b.spares u in b.healthy n.1 (a.healthy n.0 h);
@@ -66,8 +66,8 @@ SameWork old new = SameFace old new × (new.ci 0 ≡ old.ci 0)
 pub healthy_face : (old new : PortState) → SameFace old new → IsHealthy old → IsHealthy new
 healthy_face old new f h = record { up = up_face old new f h.up; clear = f.3 h.clear; calm = λ place low high. f.4 place (h.calm place low high) }
 
-pub goes_effect : (issued : Option Issued) {old mid : Device} (new : Device) → GoesOn issued old mid → new.size ≡ mid.size → new.memory ≡ mid.memory → new.tape ≡ mid.tape →
-    SameWork (mid.port 0) (new.port 0) → GoesOn issued old new
+pub goes_effect : (issued : Option Issued) {old mid : Device} (new : Device) → Proceeds issued old mid → new.size ≡ mid.size → new.memory ≡ mid.memory → new.tape ≡ mid.tape →
+    SameWork (mid.port 0) (new.port 0) → Proceeds issued old new
 goes_effect issued {old} {mid} new a size memory tape same = record {
   spares = spares_on new a.spares size memory tape;
   healthy = λ u h. healthy_face (mid.port 0) (new.port 0) same.0 (a.healthy (count is_change u.0, count is_failure u.1) h);
@@ -157,7 +157,7 @@ steps_end : (r : Issued) (old new : Device) → Serves (Some r) old → Steps ol
 steps_end r old new s steps =
     (steps_relate (Ending r) (λ d s. (s, omega arith, λ set. inl set)) (ending_then r) (ending_step r) old new s.0.on.no_reset steps s).2
 
-pub steps_go : (issued : Option Issued) (old new : Device) → Serves issued old → Steps old new → GoesOn issued old new
+pub steps_go : (issued : Option Issued) (old new : Device) → Serves issued old → Steps old new → Proceeds issued old new
 steps_go None old new s steps = record {
   spares = quiet_spares old new (none_guarded old s) steps;
   healthy = steps_healthy old new s.0.on.no_reset steps;
@@ -171,11 +171,11 @@ steps_go (Some r) old new s steps = record {
 
 -- ---- a store below the client frames, while no slot is in use
 
-pub store_goes : (at : ℕ) (bytes : List ℕ) (old new : Device) → Serves None old → Stores at bytes old new → at + length bytes ≤ 163840 → GoesOn None old new
+pub store_goes : (at : ℕ) (bytes : List ℕ) (old new : Device) → Serves None old → Stores at bytes old new → at + length bytes ≤ 163840 → Proceeds None old new
 store_goes at bytes old new s call low =
-    let a : GoesOn None old call.mid = steps_go None old call.mid s call.steps in
+    let a : Proceeds None old call.mid = steps_go None old call.mid s call.steps in
     let stored : Device = record call.mid { memory = patched call.mid.memory at bytes } in
-    let P : Device → Type 0 = λ d. GoesOn None old d in
+    let P : Device → Type 0 = λ d. Proceeds None old d in
     subst P (sym call.effect) (record {
       spares = record {
         size = a.spares.size;

@@ -19,7 +19,7 @@ use Rattle.adapter.proofs.Changed.{changed_same}
 use Rattle.adapter.proofs.Calls.{KeepsAll, steps_keep_all, seen, SeenAt, put, PutAt}
 use Rattle.adapter.proofs.KeptLemmas.{SameEngine, same_engine, still, steps_keep}
 use Rattle.block_server.specs.Places.{places_of}
-use Rattle.block_server.specs.Port.{IsSlotFree, IsLone, IsRunning, Issued, meaning_of, HoldsRead, Serves, KeepsServing, GoesOn, IsHealthy, FindsDone}
+use Rattle.block_server.specs.Port.{IsSlotFree, IsLone, IsRunning, Issued, meaning_of, HoldsRead, Serves, KeepsServing, Proceeds, IsHealthy, FindsDone}
 use Rattle.block_server.specs.Told.{is_change, is_failure, changes, failures, IsUnharmed}
 use Rattle.block_server.proofs.Coming.{SameFace, is_face}
 use Rattle.block_server.proofs.Going.{SameWork, healthy_face, goes_then, goes_effect, steps_go}
@@ -261,7 +261,7 @@ module _ (old mid new : Device) (l : IsLone old) (run : IsRunning old) (issued a
 
 -- CI is written with the bit of slot 0, whose bytes say the read
 pub issue_serves : (r : Issued) (old new : Device) → Serves None old → HoldsRead r old → Writes (px Ci) 1 old new →
-    Serves (Some r) new × ((new.port 0).ci 0 ≡ true) × GoesOn None old new
+    Serves (Some r) new × ((new.port 0).ci 0 ≡ true) × Proceeds None old new
 issue_serves r old new s h call =
     let w : PutAt 0 Ci 1 old new = put (record { 0 = 0 }) Ci 1 old new call s.0.on.no_reset in
     let mid : Serves None w.mid = none_after old w.mid s w.steps in

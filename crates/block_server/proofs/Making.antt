@@ -54,11 +54,3 @@ module _ {A : Type 0} (device : A → Device) (adapter : A) (table : Table) (sta
         port = stands state old (device adapter) brought;
         ready = λ h. true-false h refl;
       })
-
--- what stands behind the state, from before the adapter was switched on
-pub brought_from : (state : PortState) (old mid new : Device) → SparesClients [] old mid → SparesClients [] mid new → IsBroughtUp state mid new → IsBroughtUp state old new
-brought_from Ready old mid new a b h = (h.0, h.1, h.2, h.3, λ none. h.4 (undisturbed_both a b none).1)
-brought_from Absent old mid new a b h = h
-brought_from Foreign old mid new a b h = h
-brought_from (Unfit n) old mid new a b h = h
-brought_from Dead old mid new a b h = h

@@ -9,7 +9,7 @@ use Rattle.adapter.proofs.Absurd.{true-false}
 use Rattle.dma_frames.specs.Table.{Table, LendsOnly}
 use Rattle.block_server.specs.Book.{IsKept, StandsBehind, served, issued_of}
 use Rattle.block_server.specs.Calls.{Services, AnswersNone, AnswersFirst, done_reply}
-use Rattle.block_server.specs.Port.{IsLone, IsResting, IsHealthy, Issued, Serves, SparesClients, GoesOn, frames_of}
+use Rattle.block_server.specs.Port.{IsLone, IsResting, IsHealthy, Issued, Serves, SparesClients, Proceeds, frames_of}
 use Rattle.block_server.specs.Told.{reads_ended, IsUnharmed}
 use Rattle.block_server.specs.View.{ServerView}
 use Rattle.block_server.specs.declared.types.Accepted.{Accepted}
@@ -18,7 +18,7 @@ use Rattle.block_server.proofs.Linking.{steps_healthy}
 use Rattle.block_server.proofs.Serving.{free_guarded}
 use Rattle.block_server.proofs.Sparing.{spares_then, spares_less, quiet_spares}
 
-resting_goes : (old new : Device) → IsLone old → IsResting (old.port 0) → Steps old new → GoesOn None old new
+resting_goes : (old new : Device) → IsLone old → IsResting (old.port 0) → Steps old new → Proceeds None old new
 resting_goes old new l rests steps = record {
   spares = quiet_spares old new (free_guarded old l rests.free rests.received) steps;
   healthy = steps_healthy old new l.on.no_reset steps;
@@ -27,17 +27,17 @@ resting_goes old new l rests steps = record {
 
 module _ {A : Type 0} (device : A → Device) (s : ServerView A) (places : ℕ) (inv : IsKept device s places) where
   -- what goes on at port 0 while the device does steps
-  pub kept_goes : (new : Device) → Steps (device s.adapter) new → GoesOn (served s.issued s.book) (device s.adapter) new
+  pub kept_goes : (new : Device) → Steps (device s.adapter) new → Proceeds (served s.issued s.book) (device s.adapter) new
   kept_goes new steps = by s.state inv.port refl
     where
-      resting : (s.state ≡ Ready → ⊥) → IsLone (device s.adapter) × IsResting ((device s.adapter).port 0) → GoesOn (served s.issued s.book) (device s.adapter) new
+      resting : (s.state ≡ Ready → ⊥) → IsLone (device s.adapter) × IsResting ((device s.adapter).port 0) → Proceeds (served s.issued s.book) (device s.adapter) new
       resting other stands = from s.issued refl
         where
-          from : (b : Bool) → s.issued ≡ b → GoesOn (served b s.book) (device s.adapter) new
+          from : (b : Bool) → s.issued ≡ b → Proceeds (served b s.book) (device s.adapter) new
           from true is = absurd (other (inv.ready is))
           from false is = resting_goes (device s.adapter) new stands.0 stands.1 steps
 
-      by : (state : PortState) → StandsBehind state (served s.issued s.book) (device s.adapter) → s.state ≡ state → GoesOn (served s.issued s.book) (device s.adapter) new
+      by : (state : PortState) → StandsBehind state (served s.issued s.book) (device s.adapter) → s.state ≡ state → Proceeds (served s.issued s.book) (device s.adapter) new
       by Ready stands is = steps_go (served s.issued s.book) (device s.adapter) new stands steps
       by Absent stands is = resting (λ e. let x : Absent ≡ Ready = sym is ∙ e in cc) stands
       by Foreign stands is = resting (λ e. let x : Foreign ≡ Ready = sym is ∙ e in cc) stands
@@ -54,17 +54,17 @@ module _ {A : Type 0} (device : A → Device) (s : ServerView A) (places : ℕ) 
       from false book set some = true-false set refl
 
   -- what was found of the read that is served
-  pub found_goes : s.issued ≡ true → (first next : Device) → ((r : Issued) → Serves (Some r) first → GoesOn (Some r) first next) → Serves (served s.issued s.book) first →
-      GoesOn (served s.issued s.book) first next
+  pub found_goes : s.issued ≡ true → (first next : Device) → ((r : Issued) → Serves (Some r) first → Proceeds (Some r) first next) → Serves (served s.issued s.book) first →
+      Proceeds (served s.issued s.book) first next
   found_goes issued first next goes serves =
       let r = served_some issued in
       let S : Option Issued → Type 0 = λ o. Serves o first in
-      let G : Option Issued → Type 0 = λ o. GoesOn o first next in
+      let G : Option Issued → Type 0 = λ o. Proceeds o first next in
       subst G (sym r.1) (goes r.0 (subst S r.1 serves))
 
   -- nobody is answered
   pub services_none : (adapter : A) (replies : List Reply) → replies ≡ [] → (s.state ≡ Ready → Serves (served s.issued s.book) (device adapter)) →
-      GoesOn (served s.issued s.book) (device s.adapter) (device adapter) →
+      Proceeds (served s.issued s.book) (device s.adapter) (device adapter) →
       (s.state ≡ Ready → s.issued ≡ true → IsHealthy ((device s.adapter).port 0) → IsUnharmed (device s.adapter) (device adapter) → ((device s.adapter).port 0).ci 0 ≡ false → ⊥) →
       Services device s (record s { adapter = adapter }) replies
   services_none adapter replies none serves goes never = record {
@@ -79,8 +79,8 @@ module _ {A : Type 0} (device : A → Device) (s : ServerView A) (places : ℕ) 
 
   -- the first is answered, and the next is issued
   module _ (issued : s.issued ≡ true) (e : Accepted) (rest : List Accepted) (book_is : s.book ≡ e ∷ rest) (table : Table) (lends : LendsOnly s.table table e.loan.frames None)
-      (middle : Device) (goes : GoesOn (served s.issued s.book) (device s.adapter) middle) (free : Serves None middle) where
-    pub services_first : (adapter : A) (again : Bool) (replies : List Reply) → replies ≡ done_reply e ∷ [] → GoesOn None middle (device adapter) →
+      (middle : Device) (goes : Proceeds (served s.issued s.book) (device s.adapter) middle) (free : Serves None middle) where
+    pub services_first : (adapter : A) (again : Bool) (replies : List Reply) → replies ≡ done_reply e ∷ [] → Proceeds None middle (device adapter) →
         (again ≡ false → rest ≡ []) → (again ≡ true → rest ≢ []) → (again ≡ true → ((device adapter).port 0).ci 0 ≡ true) → Serves (served again rest) (device adapter) →
         Services device s (record s { adapter = adapter; table = table; book = rest; issued = again }) replies
     services_first adapter again replies one next none some sent serves = record {

@@ -14,15 +14,17 @@ use Rattle.ata_types.specs.declared.request.Reply.{Reply}
 use Rattle.ata_types.specs.declared.request.Request.{Request}
 use Rattle.ata_types.specs.declared.request.RequestId.{RequestId}
 use Rattle.adapter.specs.Access.{Loads}
+use Rattle.adapter.specs.Asked.{Asked}
 use Rattle.adapter.specs.Device.{Device}
 use Rattle.adapter.specs.Idle.{IsIdle}
 use Rattle.adapter.specs.Steps.{Steps}
+use Rattle.adapter.specs.declared.access.DeviceStep.{DeviceStep}
 use Rattle.block_machine.specs.Refusals.{Situation, IsAcceptable, IsFirstRefusal, IsOpen, IsFirstMemFault}
 use Rattle.block_machine.specs.Rules.{DifferInName}
 use Rattle.dma_frames.specs.Table.{Run, owner_of, lent_to, LendsOnly, HasFrame, IsRun, AreApart}
 use Rattle.block_server.specs.Book.{IsReadGrant, served, unanswered_of}
 use Rattle.grants.specs.Rows.{SameRows}
-use Rattle.block_server.specs.Port.{IsBroughtUp, IsHealthy, Issued, Serves, SparesClients, GoesOn, frames_of}
+use Rattle.block_server.specs.Port.{IsBroughtUp, IsHealthy, Issued, Serves, SparesClients, Proceeds, frames_of}
 use Rattle.block_server.specs.Told.{reads_ended, IsUnharmed}
 use Rattle.block_server.specs.View.{ServerView}
 use Rattle.block_server.specs.declared.types.Accepted.{Accepted}
@@ -95,7 +97,7 @@ pub record Accepts {A : Type 0} (device : A → Device) (old new : ServerView A)
   pub sent : old.issued ≡ false → ((device new.adapter).port 0).ci 0 ≡ true
   pub same : old.issued ≡ true → new.adapter ≡ old.adapter
   pub serves : Serves (served true new.book) (device new.adapter)
-  pub goes_on : GoesOn None (device old.adapter) (device new.adapter)
+  pub goes_on : Proceeds None (device old.adapter) (device new.adapter)
 
 -- A refused request is told the first cause that applies, and changes nothing: neither server nor adapter.
 abbrev pub Submits : {A : Type 0} → (A → Device) → ServerView A → ServerView A → Request → Result RequestId Refusal → Type 0
@@ -149,17 +151,18 @@ abbrev pub LoadsFrame : {A : Type 0} → (A → Device) → ServerView A → Ser
 LoadsFrame device old new client frame offset before bytes (Ok done) =
     IsOpen (owner_of old.table) (lent_to old.table) client frame offset (length before)
     × Loads (4096 * frame.0 + offset) bytes (device old.adapter) (device new.adapter)
-    × SameServer old new × GoesOn (served_by old) (device old.adapter) (device new.adapter)
+    × SameServer old new × Proceeds (served_by old) (device old.adapter) (device new.adapter)
 LoadsFrame device old new client frame offset before bytes (Err fault) =
     IsFirstMemFault (owner_of old.table) (lent_to old.table) client frame offset (length before) fault
     × (new ≡ old) × (bytes ≡ before)
 
 -- The device does what it is told, or nothing; of the server nothing else changes.
-pub record StepsDevice {A : Type 0} (device : A → Device) (old new : ServerView A) (done : Bool) : Type 0 where
+pub record StepsDevice {A : Type 0} (device : A → Device) (old new : ServerView A) (step : DeviceStep) (done : Bool) : Type 0 where
+  pub asked : done ≡ true → Asked step (device old.adapter) (device new.adapter)
   pub steps : Steps (device old.adapter) (device new.adapter)
   pub refused : done ≡ false → device new.adapter ≡ device old.adapter
   pub rest : SameServer old new
-  pub goes_on : GoesOn (served_by old) (device old.adapter) (device new.adapter)
+  pub goes_on : Proceeds (served_by old) (device old.adapter) (device new.adapter)
 
 -- The server as it is made: nothing is asked, nothing lent, and no id handed out. It holds the rows and the owners that it was
 -- given.

@@ -204,7 +204,7 @@ frames_of (Some r) = r.frames
 
 -- Meanwhile no client frame changed but those of the read that is served; a port without trouble has none still, unless it
 -- was told; and where slot 0's bit of CI went away, the read ended.
-pub record GoesOn (issued : Option Issued) (old new : Device) : Type 0 where
+pub record Proceeds (issued : Option Issued) (old new : Device) : Type 0 where
   pub spares : SparesClients (frames_of issued) old new
   pub healthy : IsUnharmed old new → IsHealthy (old.port 0) → IsHealthy (new.port 0)
   pub ended : (old.port 0).ci 0 ≡ true → ((new.port 0).ci 0 ≡ true) ⊎ (reads_ended old < reads_ended new)
@@ -216,4 +216,4 @@ FindsDone r false d = Serves (Some r) d
 
 -- Accesses left port 0 serving what it served.
 abbrev pub KeepsServing : Device → Device → Type 0
-KeepsServing old new = (issued : Option Issued) → Serves issued old → Serves issued new × GoesOn issued old new
+KeepsServing old new = (issued : Option Issued) → Serves issued old → Serves issued new × Proceeds issued old new

@@ -7,7 +7,7 @@ use Rattle.adapter.specs.Access.{Loads}
 use Rattle.adapter.specs.Device.{Device}
 use Rattle.block_machine.specs.Refusals.{IsOpen, IsFirstMemFault}
 use Rattle.dma_frames.specs.Table.{owner_of, lent_to}
-use Rattle.block_server.specs.Port.{GoesOn}
+use Rattle.block_server.specs.Port.{Proceeds}
 use Rattle.block_server.specs.Calls.{state_of, served_by, SameServer, Submits, Services, StepsDevice}
 use Rattle.block_server.specs.View.{ServerView}
 use Rattle.block_server.specs.declared.types.Event.{Event}
@@ -20,7 +20,7 @@ abbrev pub TellsBytes : {A : Type 0} → (A → Device) → ServerView A → Ser
 TellsBytes device old new client frame offset n bytes = (length bytes ≡ n)
     × IsOpen (owner_of old.table) (lent_to old.table) client frame offset n
     × Loads (4096 * frame.0 + offset) bytes (device old.adapter) (device new.adapter)
-    × SameServer old new × GoesOn (served_by old) (device old.adapter) (device new.adapter)
+    × SameServer old new × Proceeds (served_by old) (device old.adapter) (device new.adapter)
 
 -- the first cause against the access is told, and nothing changes
 abbrev pub RefusesBytes : {A : Type 0} → ServerView A → ServerView A → ClientId → Frame → ℕ → ℕ → MemFault → Type 0
@@ -33,7 +33,7 @@ Answers device (ClientLoad client frame offset n) (said.Loaded (Ok bytes)) old n
 Answers device (ClientLoad client frame offset n) (said.Loaded (Err fault)) old new = RefusesBytes old new client frame offset (min n 64) fault
 Answers device Service (said.Served replies) old new = Services device old new replies.items
 Answers device (State port) (said.State state) old new = (state ≡ state_of old port) × (new ≡ old)
-Answers device (Step step) (said.Stepped done) old new = StepsDevice device old new done
+Answers device (Step step) (said.Stepped done) old new = StepsDevice device old new step done
 Answers device _ _ old new = ⊥
 
 -- the events lead from the one server to the other, and say this in turn

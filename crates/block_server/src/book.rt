@@ -2,7 +2,7 @@
 ghost use Rattle.std.specs.Prelude.{◌≡◌, ◌≢◌, true, false, List, None, [], All, AllPairs};
 ghost use Rattle.ata_types.specs.declared.grant.GrantRow.{GrantRow};
 ghost use Rattle.block_server.specs.Book.{IsAccepted, IsEarlier, served};
-ghost use Rattle.block_server.specs.Port.{Serves, GoesOn};
+ghost use Rattle.block_server.specs.Port.{Serves, Proceeds};
 ghost use Rattle.dma_frames.specs.Table.{Table};
 
 use crate::Accepted;
@@ -18,7 +18,7 @@ pub fn issue_first<A: Adapter>(adapter: &mut A, book: &[Accepted]) -> bool
     ensures none { result ≡ false → book.now ≡ [] }
     ensures some { result ≡ true → book.now ≢ [] }
     ensures issued { result ≡ true → ((A.device adapter.new).port 0).ci 0 ≡ true }
-    ensures goes_on { GoesOn None (A.device adapter.old) (A.device adapter.new) }
+    ensures goes_on { Proceeds None (A.device adapter.old) (A.device adapter.new) }
 {
     let Some(next) = book.first() else {
         return false;

@@ -254,7 +254,7 @@ impl<A: Stepped> Server<A> {
 
     /// Has the device do a step, if that is possible.
     pub fn device(&mut self, step: &DeviceStep) -> bool
-        ensures { StepsDevice A.device self.old self.new result }
+        ensures { StepsDevice A.device self.old self.new step.now result }
     {
         self.adapter.step(step)
     }

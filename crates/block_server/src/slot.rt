@@ -1,7 +1,7 @@
 // One read in slot 0 of port 0: issuing it, and seeing that it is done.
 ghost use Rattle.std.specs.Prelude.{◌≡◌, ◌+◌, ◌*◌, ◌/◌, ◌%◌, ◌^◌, ◌<◌, ◌≤◌, ◌||◌, ◌&&◌, ◌==◌, not, true, false, None, Some, length, All};
 ghost use Rattle.hba_regs.specs.Bits.{bit};
-ghost use Rattle.block_server.specs.Port.{IsLone, IsRunning, HoldsRead, Serves, KeepsServing, FindsDone, GoesOn, IsHealthy, Issued};
+ghost use Rattle.block_server.specs.Port.{IsLone, IsRunning, HoldsRead, Serves, KeepsServing, FindsDone, Proceeds, IsHealthy, Issued};
 ghost use Rattle.block_server.specs.Told.{IsUnharmed};
 
 use crate::command_table::{header, prds, table_bytes};
@@ -32,7 +32,7 @@ fn write_read<A: Adapter>(adapter: &mut A, first: Sector, count: u32, frames: &[
     requires clients { All (λ frame. 40 ≤ frame.0) frames.now }
     ensures serves { Serves None (A.device adapter.new) }
     ensures holds { HoldsRead (record { first = first.0; count = count; frames = frames.now }) (A.device adapter.new) }
-    ensures goes_on { GoesOn None (A.device adapter.old) (A.device adapter.new) }
+    ensures goes_on { Proceeds None (A.device adapter.old) (A.device adapter.new) }
 {
     let command = Command {
         code: READ_DMA_EXT,
@@ -57,7 +57,7 @@ pub fn issue<A: Adapter>(adapter: &mut A, first: Sector, count: u32, frames: &[F
     requires clients { All (λ frame. 40 ≤ frame.0) frames.now }
     ensures serves { Serves (Some (record { first = first.0; count = count; frames = frames.now })) (A.device adapter.new) }
     ensures issued { ((A.device adapter.new).port 0).ci 0 ≡ true }
-    ensures goes_on { GoesOn None (A.device adapter.old) (A.device adapter.new) }
+    ensures goes_on { Proceeds None (A.device adapter.old) (A.device adapter.new) }
 {
     write_read(adapter, first, count, frames);
     adapter.write(Reg::Px(Port(0), PortReg::Ci), 1);
@@ -111,7 +111,7 @@ pub fn is_done<A: Adapter>(adapter: &mut A) -> bool
     requires lone { IsLone (A.device adapter.old) }
     requires runs { IsRunning (A.device adapter.old) }
     ensures found { (r : Issued) → Serves (Some r) (A.device adapter.old) → FindsDone r result (A.device adapter.new) }
-    ensures goes_on { (r : Issued) → Serves (Some r) (A.device adapter.old) → GoesOn (Some r) (A.device adapter.old) (A.device adapter.new) }
+    ensures goes_on { (r : Issued) → Serves (Some r) (A.device adapter.old) → Proceeds (Some r) (A.device adapter.old) (A.device adapter.new) }
     ensures seen { ((A.device adapter.old).port 0).ci 0 ≡ false → result ≡ true }
 {
     let issued = adapter.read(Reg::Px(Port(0), PortReg::Ci));

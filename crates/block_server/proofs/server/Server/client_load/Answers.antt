@@ -4,7 +4,7 @@ use Rattle.adapter.specs.Access.{Loads}
 use Rattle.block_machine.specs.Refusals.{IsOpen}
 use Rattle.dma_frames.specs.Table.{owner_of, lent_to}
 use Rattle.block_server.specs.Calls.{SameServer, served_by}
-use Rattle.block_server.specs.Port.{GoesOn}
+use Rattle.block_server.specs.Port.{Proceeds}
 use Rattle.block_server.specs.Seen.{seen}
 use Rattle.block_server.specs.View.{ServerView}
 use Rattle.block_server.proofs.Serviced.{kept_goes}
@@ -29,7 +29,7 @@ returns g c =
     IsOpen (owner_of v.table) (lent_to v.table) c.args.client c.args.frame c.args.offset (length c.args.out.now)
     × Loads (4096 * c.args.frame.0 + c.args.offset) c.load.new.out (g.A.Adapter.device v.adapter) (g.A.Adapter.device c.load.new.self)
     × SameServer v (record s { adapter = c.load.new.self })
-    × GoesOn (served_by v) (g.A.Adapter.device v.adapter) (g.A.Adapter.device c.load.new.self) in
+    × Proceeds (served_by v) (g.A.Adapter.device v.adapter) (g.A.Adapter.device c.load.new.self) in
     subst P c.self.view_is (
       frame_opens s.table c.args.frame c.args.client c.args.offset (length c.args.out.now) owner lent (let h = c.if-offset-out.false in omega (arith, h)),
       c.load.ensures,

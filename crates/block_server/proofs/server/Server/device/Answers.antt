@@ -12,8 +12,9 @@ invariant_of-self g c = kept_after g.A.Adapter.device (seen c.self.inside) (vec_
 
 pub returns : goal.returns
 returns g c =
-    let P : ServerView g.row.A.Denot → Type 0 = λ v. StepsDevice g.A.Adapter.device v (record (seen c.self.inside) { adapter = c.step.new.self }) c.step.result in
+    let P : ServerView g.row.A.Denot → Type 0 = λ v. StepsDevice g.A.Adapter.device v (record (seen c.self.inside) { adapter = c.step.new.self }) c.args.step.now c.step.result in
     subst P c.self.view_is (record {
+      asked = c.step.ensures.asked;
       steps = c.step.ensures.steps;
       refused = c.step.ensures.refused;
       rest = refl;
