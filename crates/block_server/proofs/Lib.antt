@@ -13,4 +13,5 @@ mod Refusing
 mod Ruling
 mod Running
 mod Serving
+mod Setting
 mod Zeros

@@ -3,6 +3,7 @@ pub mod Places
 pub mod Port
 pub mod View
 pub mod Book
+pub mod Setup
 pub mod Calls
 pub mod Running
 pub mod Seen
