@@ -20,4 +20,5 @@ mod Refusing
 mod Ruling
 mod Running
 mod Serving
+mod Setting
 mod Zeros

@@ -13,8 +13,8 @@ use Rattle.adapter.proofs.Absurd.{true-false}
 use Rattle.dma_frames.specs.Table.{Run, Table, owner_of, HasFrame}
 use Rattle.grants.specs.Rows.{SameRows}
 use Rattle.block_server.specs.Book.{IsKept, IsReadGrant, StandsBehind}
-use Rattle.block_server.specs.Calls.{IsSetup}
 use Rattle.block_server.specs.Port.{IsBroughtUp, SparesClients}
+use Rattle.block_server.specs.Setup.{SetupView, IsSetup, HasClientFrames}
 use Rattle.block_server.specs.View.{ServerView}
 use Rattle.block_server.specs.declared.types.Accepted.{Accepted}
 use Rattle.block_server.proofs.Coming.{undisturbed_both}
@@ -30,22 +30,22 @@ module _ {A : Type 0} (device : A → Device) (adapter : A) (table : Table) (sta
   abbrev made : List Accepted → ServerView A
   made book = record { adapter = adapter; grants = grants; table = table; state = state; sectors = sectors; book = book; issued = false; last = 0 }
 
-  pub new_is_kept : {frames size : ℕ} {owners : List Run} {given : List GrantRow} → IsSetup frames owners given → 4096 * frames ≤ size → (device adapter).size ≡ size → SameRows given grants →
-      ((f : Frame) (client : ClientId) → owner_of table f ≡ Some client → (run : Run) × Contains owners run × HasFrame run f × (run.0 ≡ client)) →
+  pub new_is_kept : {size : ℕ} {given : SetupView} → IsSetup given → 4096 * given.frames ≤ size → (device adapter).size ≡ size → SameRows given.grants grants →
+      ((f : Frame) (client : ClientId) → owner_of table f ≡ Some client → (run : Run) × Contains given.owners run × HasFrame run f × (run.0 ≡ client)) →
       (old : Device) → IsBroughtUp state old (device adapter) → (book : List Accepted) → book ≡ [] → (places : ℕ) → 128 ≤ places →
       IsKept device (record { adapter = adapter; grants = grants; table = table; state = state; sectors = sectors; book = book; issued = false; last = 0 }) places
-  new_is_kept {frames} {size} {owners} {given} setup room size_is rows only old brought book none places enough =
+  new_is_kept {size} {given} setup room size_is rows only old brought book none places enough =
       let P : List Accepted → Type 0 = λ b. IsKept device (made b) places in
       subst P (sym none) (record {
         room = enough;
         few = λ client. omega arith;
         rows = λ k d small.
             let there = rows.1 (get_or grants k d) (k, small, get_or_default grants k (get_or grants k d) d small) in
-            All-contains (λ (row : GrantRow). IsReadGrant row) given (get_or grants k d) setup.reads there;
+            All-contains (λ (row : GrantRow). IsReadGrant row) given.grants (get_or grants k d) setup.rows.reads there;
         owners = λ f client owner.
             let run = only f client owner in
-            let inside = setup.clients run.0 f run.1 run.2 in
-            (inside.0, omega (arith, inside.1, room, size_is));
+            let inside = All-contains (HasClientFrames given.frames) given.owners run.0 setup.runs.within run.1 in
+            (omega (arith, inside.0, run.2.0), omega (arith, inside.2, run.2.1, room, size_is));
         accepted = λ k d small. absurd (omega (arith, small));
         ordered = λ i j d lt small. absurd (omega (arith, small));
         handed_out = λ k d small. absurd (omega (arith, small));
@@ -54,3 +54,11 @@ module _ {A : Type 0} (device : A → Device) (adapter : A) (table : Table) (sta
         port = stands state old (device adapter) brought;
         ready = λ h. true-false h refl;
       })
+
+-- what stands behind the state, from before the adapter was switched on
+pub brought_from : (state : PortState) (old mid new : Device) → SparesClients [] old mid → SparesClients [] mid new → IsBroughtUp state mid new → IsBroughtUp state old new
+brought_from Ready old mid new a b h = (h.0, h.1, h.2, h.3, λ none. h.4 (undisturbed_both a b none).1)
+brought_from Absent old mid new a b h = h
+brought_from Foreign old mid new a b h = h
+brought_from (Unfit n) old mid new a b h = h
+brought_from Dead old mid new a b h = h

@@ -1,5 +1,5 @@
 -- What each call of the server does.
-use Rattle.std.specs.Prelude.{ℕ, Bool, true, false, ◌≡◌, ◌+◌, ◌*◌, ◌<◌, ◌≤◌, ◌⊎◌, List, [], ◌∷◌, ◌++◌, length, Option, Some, None, Ok, Err, All, AllPairs, Contains, if◌then◌else◌, nat_eq, ◌≢◌}
+use Rattle.std.specs.Prelude.{ℕ, Bool, true, false, ◌≡◌, ◌+◌, ◌*◌, ◌<◌, ◌≤◌, ◌⊎◌, List, [], ◌∷◌, ◌++◌, length, Option, Some, None, Ok, Err, Contains, if◌then◌else◌, nat_eq, ◌≢◌}
 use Rattle.std.specs.declared.result.Result.{Result}
 use Rattle.ata_types.specs.declared.Port.{Port}
 use Rattle.ata_types.specs.declared.PortState.{PortState}
@@ -20,9 +20,8 @@ use Rattle.adapter.specs.Idle.{IsIdle}
 use Rattle.adapter.specs.Steps.{Steps}
 use Rattle.adapter.specs.declared.access.DeviceStep.{DeviceStep}
 use Rattle.block_machine.specs.Refusals.{Situation, IsAcceptable, IsFirstRefusal, IsOpen, IsFirstMemFault}
-use Rattle.block_machine.specs.Rules.{DifferInName}
-use Rattle.dma_frames.specs.Table.{Run, owner_of, lent_to, LendsOnly, HasFrame, IsRun, AreApart}
-use Rattle.block_server.specs.Book.{IsReadGrant, served, unanswered_of}
+use Rattle.dma_frames.specs.Table.{Run, owner_of, lent_to, LendsOnly, HasFrame}
+use Rattle.block_server.specs.Book.{served, unanswered_of}
 use Rattle.grants.specs.Rows.{SameRows}
 use Rattle.block_server.specs.Port.{IsBroughtUp, IsHealthy, Issued, Serves, SparesClients, Proceeds, frames_of}
 use Rattle.block_server.specs.Told.{reads_ended, IsUnharmed}
@@ -30,18 +29,6 @@ use Rattle.block_server.specs.View.{ServerView}
 use Rattle.block_server.specs.declared.types.Accepted.{Accepted}
 
 -- ---- the maker
-
--- The configuration is one that this server can serve: frames 41 to 1024; owners 1 to 8 of client frames, no frame twice;
--- at most 64 grants of reads, none twice.
-pub record IsSetup (frames : ℕ) (owners : List Run) (grants : List GrantRow) : Type 0 where
-  pub frames_from : 41 ≤ frames
-  pub frames_to : frames ≤ 1024
-  pub runs : All IsRun owners
-  pub apart : AllPairs AreApart owners
-  pub clients : (run : Run) (f : Frame) → Contains owners run → HasFrame run f → (40 ≤ f.0) × (f.0 < frames)
-  pub few : length grants ≤ 64
-  pub names : AllPairs DifferInName grants
-  pub reads : All IsReadGrant grants
 
 -- the adapter is idle and has the frames
 pub record IsReadyFor (frames : ℕ) (d : Device) : Type 0 where

@@ -4,6 +4,7 @@ pub mod Told
 pub mod Port
 pub mod View
 pub mod Book
+pub mod Setup
 pub mod Calls
 pub mod Running
 pub mod Seen

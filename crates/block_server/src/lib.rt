@@ -7,9 +7,11 @@ mod lookup;
 mod port;
 mod run;
 mod server;
+mod setup;
 mod slot;
 mod types;
 
 pub use command_table::{encode_h2d, header, prds, table_bytes};
 pub use server::Server;
-pub use types::{Accepted, Event, RunStopped, Said, ServerError, Setup};
+pub use setup::{GrantFault, RunFault, Setup, SetupError};
+pub use types::{Accepted, Event, RunStopped, Said, ServerError};

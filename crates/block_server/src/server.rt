@@ -52,7 +52,7 @@ impl<A: Adapter> Model for Server<A> {
 
 impl<A: Adapter> Server<A> {
     ghost use Rattle.block_machine.specs.Refusals.{IsAcceptable, IsFirstRefusal};
-    ghost use Rattle.block_server.specs.Calls.{IsSetup, IsReadyFor, IsNew, state_of, situation_of, Accepts, Submits, AnswersFirst, Services, LoadsFrame, SameServer};
+    ghost use Rattle.block_server.specs.Calls.{IsReadyFor, IsNew, state_of, situation_of, Accepts, Submits, AnswersFirst, Services, LoadsFrame, SameServer};
 
     /// A server of the port's disk, which has so many sectors: port 0 is brought up, and nothing is asked yet. Provisional:
     /// the number of sectors isn't read from the disk.
@@ -64,18 +64,17 @@ impl<A: Adapter> Server<A> {
         adapter: A,
         sectors: u64,
     ) -> Result<Self, (ServerError, A)>
-        requires setup { IsSetup setup.now.frames setup.now.owners.now setup.now.grants.now }
         requires ready { IsReadyFor setup.now.frames (A.device adapter) }
-        ensures made { IfOk result (λ s. IsNew A.device setup.now.owners.now setup.now.grants.now adapter sectors s) }
+        ensures made { IfOk result (λ s. IsNew A.device setup.now.owners setup.now.grants adapter sectors s) }
         ensures refused { IfErr result (λ e. (e.0 ≡ ServerError.NoMemory) × (e.1 ≡ adapter)) }
     {
-        let Ok(grants) = Grants::from_rows(alloc, setup.grants) else {
+        let Ok(grants) = Grants::from_rows(alloc, setup.grants()) else {
             return Err((ServerError::NoMemory, adapter));
         };
         let Ok(book) = Vec::with_capacity(alloc, PLACES) else {
             return Err((ServerError::NoMemory, adapter));
         };
-        let table = FrameTable::new(setup.owners);
+        let table = FrameTable::new(setup.owners());
         let mut adapter = adapter;
         power_on(&mut adapter);
         let state = bring_up(&mut adapter);

@@ -1,22 +1,10 @@
-// What the server is given, and what it tells.
+// What the server keeps, and what it tells.
 use adapter::DeviceStep;
 use arrayvec::ArrayVec;
 use ata_types::{
-    ClientId, Frame, GrantRow, MemFault, Port, PortState, Refusal, Replies, Request, RequestId,
-    Sector,
+    ClientId, Frame, MemFault, Port, PortState, Refusal, Replies, Request, RequestId, Sector,
 };
 use dma_frames::Loan;
-
-/// Who owns which frames, and what may be done with which sectors.
-#[derive(Clone, Copy, Debug)]
-pub struct Setup<'a> {
-    /// How many frames of memory there are: 41 to 1024.
-    pub frames: u16,
-    /// Owner, first frame and number of frames: clients 1 to 8, frames from 40 on, no frame twice.
-    pub owners: &'a [(ClientId, Frame, u16)],
-    /// Reads of port 0, at most 64, each (client, number) once, within 2^48 sectors.
-    pub grants: &'a [GrantRow],
-}
 
 /// Why no server was made.
 #[derive(Clone, Copy, Debug, PartialEq, Eq)]

@@ -24,5 +24,8 @@ fn main(rt: HostRuntime) -> ExitCode {
         Err(Fault::NoMemory) => match eprintln!(rt; "blockd: no memory") {
             Ok(()) | Err(_) => ExitCode::FAILURE,
         },
+        Err(Fault::Setup(error)) => match eprintln!(rt; "blockd: {error:?}") {
+            Ok(()) | Err(_) => ExitCode::FAILURE,
+        },
     }
 }

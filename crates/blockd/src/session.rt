@@ -1,11 +1,8 @@
 // The calls that the program makes.
-ghost use Rattle.std.specs.Prelude.{◌≡◌};
-ghost use Rattle.block_server.specs.Calls.{IsSetup};
-
 use adapter::DeviceStep;
 use arrayvec::ArrayVec;
 use ata_types::{ClientId, Frame, GrantRow, Op, Port, Request, Rights, Sector, Slot};
-use block_server::{Event, Said, Server, Setup};
+use block_server::{Event, Said, Server, Setup, SetupError};
 use device_model::sector_store::{MemStore, SectorStore};
 use device_model::{Model, ModelConfig, Trim};
 use std::alloc::{AllocError, Global};
@@ -16,15 +13,40 @@ const SECTORS: u32 = 256;
 /// The frames of the memory.
 const FRAMES: u16 = 256;
 
+/// The client owns frames 40 to 79.
+const OWNERS: [(ClientId, Frame, u16); 1] = [(ClientId(1), Frame(40), 40)];
+
+/// The client may read sectors 100 to 163.
+const GRANTS: [GrantRow; 1] = [GrantRow {
+    client: ClientId(1),
+    number: 0,
+    port: Port(0),
+    first: Sector(100),
+    count: 64,
+    rights: Rights {
+        read: true,
+        write: false,
+        trim: false,
+        flush: false,
+    },
+}];
+
 /// Why there are no answers.
 #[derive(Clone, Copy, Debug, PartialEq, Eq)]
 pub enum Fault {
     NoMemory,
+    Setup(SetupError),
 }
 
 impl From<AllocError> for Fault {
     fn from(_error: AllocError) -> Fault {
         Fault::NoMemory
+    }
+}
+
+impl From<SetupError> for Fault {
+    fn from(error: SetupError) -> Fault {
+        Fault::Setup(error)
     }
 }
 
@@ -37,22 +59,40 @@ fn disk(alloc: Global) -> Result<MemStore, AllocError> {
     Ok(disk)
 }
 
-/// The client's read of eight sectors from 100 on into frame 40, by one of its grants.
-fn read(grant: u8) -> Request {
+/// The client's read into one frame, by one of its grants.
+fn read(grant: u8, first: u64, count: u32, frame: u16) -> Request {
     let mut frames = ArrayVec::new();
-    frames.push(Frame(40));
+    frames.push(Frame(frame));
     Request {
         client: ClientId(1),
         grant,
         op: Op::Read,
-        first: Sector(100),
-        count: 8,
+        first: Sector(first),
+        count,
         frames,
     }
 }
 
-/// What the calls answer.
+/// What the calls answer: a read that is done and looked at, and one by a grant that the client doesn't have.
 pub fn answers(alloc: Global) -> Result<Vec<Said>, Fault> {
+    let events = [
+        Event::Submit(read(0, 100, 8, 40)),
+        Event::Device(DeviceStep::Finish(Port(0), Slot(0))),
+        Event::Service,
+        Event::ClientLoad {
+            client: ClientId(1),
+            frame: Frame(40),
+            offset: 0,
+            length: 4,
+        },
+        Event::Submit(read(1, 100, 8, 40)),
+    ];
+    said_of(alloc, &events)
+}
+
+/// What these calls answer, of a server that is made for them.
+fn said_of(alloc: Global, events: &[Event]) -> Result<Vec<Said>, Fault> {
+    let setup = Setup::new(FRAMES, &OWNERS, &GRANTS)?;
     let config = ModelConfig {
         frames: FRAMES,
         slots: 1,
@@ -63,46 +103,141 @@ pub fn answers(alloc: Global) -> Result<Vec<Said>, Fault> {
     let Ok(model) = Model::new(alloc, config, disk(alloc)?, MemStore::new(alloc, 0)?) else {
         return Err(Fault::NoMemory);
     };
-    let owners = [(ClientId(1), Frame(40), 40)];
-    let grants = [GrantRow {
-        client: ClientId(1),
-        number: 0,
-        port: Port(0),
-        first: Sector(100),
-        count: 64,
-        rights: Rights {
-            read: true,
-            write: false,
-            trim: false,
-            flush: false,
-        },
-    }];
-    let setup = Setup {
-        frames: FRAMES,
-        owners: &owners,
-        grants: &grants,
-    };
     let Ok(server) = Server::first(alloc, &setup, model, SECTORS as u64) else {
         return Err(Fault::NoMemory);
     };
     let mut server = server;
-    let events = [
-        Event::Submit(read(0)),
-        Event::Device(DeviceStep::Finish(Port(0), Slot(0))),
-        Event::Service,
-        Event::ClientLoad {
-            client: ClientId(1),
-            frame: Frame(40),
-            offset: 0,
-            length: 4,
-        },
-        Event::Submit(read(1)),
-    ];
     let mut said = Vec::new(alloc);
-    let ran = server.run(&events, &mut said);
+    let ran = server.run(events, &mut said);
     let _model = server.close();
     match ran {
         Ok(()) => Ok(said),
         Err(_) => Err(Fault::NoMemory),
+    }
+}
+
+#[cfg(test)]
+mod tests {
+    use super::*;
+    use ata_types::{FrameFault, MemFault, PortState, Refusal, RequestId, Rule};
+    use std::test::Fail;
+
+    /// What is said of a read, if it is refused by a rule.
+    fn rule(said: &[Said], at: usize) -> Option<Rule> {
+        match said.get(at) {
+            Some(Said::Submitted(Err(Refusal::Rule(rule)))) => Some(*rule),
+            _ => None,
+        }
+    }
+
+    #[test]
+    fn a_read_outside_its_grant_is_refused(rt: HostRuntime) -> Result<(), Fail> {
+        let events = [
+            Event::Submit(read(0, 156, 8, 40)),
+            Event::Submit(read(0, 157, 8, 41)),
+            Event::Submit(read(0, u64::MAX, 8, 41)),
+        ];
+        let said = said_of(rt.alloc(), &events)?;
+        assert!(rt; matches!(said.get(0), Some(Said::Submitted(Ok(RequestId(1))))));
+        assert_eq!(rt; rule(&said, 1), Some(Rule::OutsideGrant));
+        assert_eq!(rt; rule(&said, 2), Some(Rule::OutsideGrant));
+        Ok(())
+    }
+
+    #[test]
+    fn a_count_that_no_read_has_is_refused(rt: HostRuntime) -> Result<(), Fail> {
+        let events = [
+            Event::Submit(read(0, 100, 0, 40)),
+            Event::Submit(read(0, 100, 257, 40)),
+            Event::Submit(read(0, 100, 9, 40)),
+        ];
+        let said = said_of(rt.alloc(), &events)?;
+        assert_eq!(rt; rule(&said, 0), Some(Rule::BadCount));
+        assert_eq!(rt; rule(&said, 1), Some(Rule::BadCount));
+        assert_eq!(rt; rule(&said, 2), Some(Rule::FrameCount));
+        Ok(())
+    }
+
+    #[test]
+    fn a_frame_that_cannot_be_lent_is_refused(rt: HostRuntime) -> Result<(), Fail> {
+        let events = [
+            Event::Submit(read(0, 100, 8, 40)),
+            Event::Submit(read(0, 100, 8, 40)),
+            Event::Submit(read(0, 100, 8, 80)),
+        ];
+        let said = said_of(rt.alloc(), &events)?;
+        assert!(rt; matches!(said.get(0), Some(Said::Submitted(Ok(RequestId(1))))));
+        assert_eq!(rt;
+            rule(&said, 1),
+            Some(Rule::Frames(FrameFault::FrameLent(0)))
+        );
+        assert_eq!(rt;
+            rule(&said, 2),
+            Some(Rule::Frames(FrameFault::FrameForeign(0)))
+        );
+        Ok(())
+    }
+
+    #[test]
+    fn port_0_alone_is_ready(rt: HostRuntime) -> Result<(), Fail> {
+        let said = said_of(rt.alloc(), &[Event::State(Port(0)), Event::State(Port(1))])?;
+        assert!(rt; matches!(said.get(0), Some(Said::State(PortState::Ready))));
+        assert!(rt; matches!(said.get(1), Some(Said::State(PortState::Absent))));
+        Ok(())
+    }
+
+    /// The client's load of four bytes of a frame.
+    fn load(frame: u16, offset: u32) -> Event {
+        Event::ClientLoad {
+            client: ClientId(1),
+            frame: Frame(frame),
+            offset,
+            length: 4,
+        }
+    }
+
+    /// The bytes that are said.
+    fn bytes(said: &[Said], at: usize) -> Option<&[u8]> {
+        match said.get(at) {
+            Some(Said::Loaded(Ok(bytes))) => Some(bytes.as_slice()),
+            _ => None,
+        }
+    }
+
+    #[test]
+    fn a_frame_that_is_not_open_is_not_loaded(rt: HostRuntime) -> Result<(), Fail> {
+        let events = [
+            Event::Submit(read(0, 100, 8, 40)),
+            load(40, 0),
+            load(80, 0),
+            load(41, 4093),
+            load(41, 4092),
+        ];
+        let said = said_of(rt.alloc(), &events)?;
+        assert!(rt; matches!(said.get(1), Some(Said::Loaded(Err(MemFault::FrameLent)))));
+        assert!(rt; matches!(said.get(2), Some(Said::Loaded(Err(MemFault::FrameForeign)))));
+        assert!(rt; matches!(said.get(3), Some(Said::Loaded(Err(MemFault::OutsideFrame)))));
+        assert_eq!(rt; bytes(&said, 4), Some(&[0, 0, 0, 0][..]));
+        Ok(())
+    }
+
+    #[test]
+    fn a_frame_is_loaded_again_once_its_read_is_answered(rt: HostRuntime) -> Result<(), Fail> {
+        let events = [
+            Event::Submit(read(0, 100, 8, 40)),
+            Event::Service,
+            load(40, 4092),
+            Event::Device(DeviceStep::Finish(Port(0), Slot(0))),
+            Event::Service,
+            load(40, 4092),
+        ];
+        let said = said_of(rt.alloc(), &events)?;
+        let Some(Said::Served(none)) = said.get(1) else {
+            return Err(Fail::from("served"));
+        };
+        assert!(rt; none.is_empty());
+        assert!(rt; matches!(said.get(2), Some(Said::Loaded(Err(MemFault::FrameLent)))));
+        assert_eq!(rt; bytes(&said, 5), Some(&[107, 107, 107, 107][..]));
+        Ok(())
     }
 }

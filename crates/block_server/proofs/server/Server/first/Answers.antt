@@ -1,10 +1,31 @@
-use Rattle.std.proofs.Common.{◌∙◌, arith}
+use Rattle.std.proofs.Common.{refl, ◌∙◌, arith, rules, sym, subst}
+use Rattle.std.specs.List.{AllPairs}
 use Rattle.std.specs.Vec.{vec_capacity}
-use Rattle.block_server.proofs.Making.{new_is_kept}
+use Rattle.dma_frames.specs.Table.{AreApart}
+use Rattle.block_server.proofs.Making.{brought_from, new_is_kept}
+use Rattle.block_server.proofs.Sparing.{spares_then}
 use Rattle.block_server.proofs.server.Server.first.Goals as goal
+
+pub new-table-requires-clause-apart : goal.new-table-requires-clause-apart
+new-table-requires-clause-apart g c = subst (AllPairs AreApart) (sym c.owners.ensures.owners) c.owners.ensures.fits.runs.apart
 
 pub invariant_of-result : goal.invariant_of-result
 invariant_of-result g c =
     new_is_kept g.A.Adapter.device c.bring_up-state.new.adapter c.new-table.result c.bring_up-state.result c.args.sectors c.in-Ok.grants
-    c.requires.setup c.requires.ready.room (c.bring_up-state.ensures.spares.size ∙ c.power_on.ensures.spares.size) c.in-Ok.ensures.rows c.new-table.ensures.only _ c.bring_up-state.ensures.state
+    c.grants.ensures.fits c.requires.ready.room (c.bring_up-state.ensures.spares.size ∙ c.power_on.ensures.spares.size)
+    (rw c.grants.ensures.grants at c.in-Ok.ensures.rows) (rw c.owners.ensures.owners at c.new-table.ensures.only) _ c.bring_up-state.ensures.state
     c.in-Ok-with_capacity.book.items c.in-Ok-with_capacity.ensures.items (vec_capacity c.in-Ok-with_capacity.book) (let e = c.in-Ok-with_capacity.ensures.exact in omega (arith, e))
+
+pub returns-clause-made : goal.returns-clause-made
+returns-clause-made g c = rw (← c.owners.ensures.owners, ← c.grants.ensures.grants) (record {
+      book = c.in-Ok-with_capacity.ensures.items;
+      issued = refl;
+      last = refl;
+      sectors_are = refl;
+      rows = c.in-Ok.ensures.rows;
+      owned = c.new-table.ensures.owned;
+      only = c.new-table.ensures.only;
+      free = c.new-table.ensures.free;
+      spares = spares_then c.power_on.ensures.spares c.bring_up-state.ensures.spares;
+      brought_up = brought_from c.bring_up-state.result _ _ _ c.power_on.ensures.spares c.bring_up-state.ensures.spares c.bring_up-state.ensures.state;
+    })
