@@ -3,6 +3,7 @@
 
 mod book;
 mod command_table;
+pub mod laws;
 mod lookup;
 mod port;
 mod run;

@@ -1,4 +1,7 @@
 // The calls that the program makes.
+ghost use Rattle.std.specs.Prelude.{◌≡◌, [], false, None, IfOk};
+ghost use Rattle.block_server.specs.Port.{Serves};
+
 use adapter::DeviceStep;
 use arrayvec::ArrayVec;
 use ata_types::{ClientId, Frame, GrantRow, Op, Port, Request, Rights, Sector, Slot};
@@ -90,8 +93,10 @@ pub fn answers(alloc: Global) -> Result<Vec<Said>, Fault> {
     said_of(alloc, &events)
 }
 
-/// What these calls answer, of a server that is made for them.
-fn said_of(alloc: Global, events: &[Event]) -> Result<Vec<Said>, Fault> {
+/// A server of a model over such a disk, with the memory, owners and grants above. Nothing is asked of it yet.
+fn new_server(alloc: Global) -> Result<Server<Model<MemStore>>, Fault>
+    ensures { IfOk result (λ s. (s.book ≡ []) × (s.issued ≡ false)) }
+{
     let setup = Setup::new(FRAMES, &OWNERS, &GRANTS)?;
     let config = ModelConfig {
         frames: FRAMES,
@@ -106,7 +111,12 @@ fn said_of(alloc: Global, events: &[Event]) -> Result<Vec<Said>, Fault> {
     let Ok(server) = Server::first(alloc, &setup, model, SECTORS as u64) else {
         return Err(Fault::NoMemory);
     };
-    let mut server = server;
+    Ok(server)
+}
+
+/// What these calls answer, of a server that is made for them.
+fn said_of(alloc: Global, events: &[Event]) -> Result<Vec<Said>, Fault> {
+    let mut server = new_server(alloc)?;
     let mut said = Vec::new(alloc);
     let ran = server.run(events, &mut said);
     let _model = server.close();
@@ -119,6 +129,9 @@ fn said_of(alloc: Global, events: &[Event]) -> Result<Vec<Said>, Fault> {
 #[cfg(test)]
 mod tests {
     use super::*;
+    use adapter::laws::steps_compose;
+    use adapter::{Adapter, Stepped};
+    use block_server::laws::driver_bytes_are_free;
     use ata_types::{FrameFault, MemFault, PortState, Refusal, RequestId, Rule};
     use std::test::Fail;
 
@@ -238,6 +251,58 @@ mod tests {
         assert!(rt; none.is_empty());
         assert!(rt; matches!(said.get(2), Some(Said::Loaded(Err(MemFault::FrameLent)))));
         assert_eq!(rt; bytes(&said, 5), Some(&[107, 107, 107, 107][..]));
+        Ok(())
+    }
+
+    /// Has the server's first read done: eight sectors from 100 on into frame 40. The adapter, if the read is answered.
+    fn done_read<A: Stepped>(server: Server<A>) -> Result<A, A>
+        requires { server.book ≡ [] }
+        ensures { IfOk result (λ adapter. Serves None (A.device adapter)) }
+    {
+        let mut server = server;
+        let Ok(_id) = server.submit(&read(0, 100, 8, 40)) else {
+            return Err(server.close());
+        };
+        let _did = server.device(&DeviceStep::Finish(Port(0), Slot(0)));
+        let PortState::Ready = server.state(Port(0)) else {
+            return Err(server.close());
+        };
+        let replies = server.service();
+        let adapter = server.close();
+        if replies.is_empty() {
+            return Err(adapter);
+        }
+        Ok(adapter)
+    }
+
+    /// What stands in memory where slot 0 has its header, its FIS and its first entry.
+    fn slot_bytes<A: Adapter>(adapter: &mut A) -> ([u8; 16], [u8; 20], [u8; 16])
+        requires { Serves None (A.device adapter.old) }
+    {
+        driver_bytes_are_free();
+        steps_compose();
+        let mut header = [0; 16];
+        adapter.load(0, &mut header);
+        let mut fis = [0; 20];
+        adapter.load(0x1000, &mut fis);
+        let mut entry = [0; 16];
+        adapter.load(0x1080, &mut entry);
+        (header, fis, entry)
+    }
+
+    #[test]
+    fn a_read_stands_in_memory(rt: HostRuntime) -> Result<(), Fail> {
+        let Ok(model) = done_read(new_server(rt.alloc())?) else {
+            return Err(Fail::from("the read isn't answered"));
+        };
+        let mut model = model;
+        let (header, fis, entry) = slot_bytes(&mut model);
+        assert_eq!(rt; header, [5, 0, 1, 0, 0, 0, 0, 0, 0, 0x10, 0, 0, 0, 0, 0, 0]);
+        assert_eq!(rt;
+            fis,
+            [0x27, 0x80, 0x25, 0, 0x64, 0, 0, 0x40, 0, 0, 0, 0, 8, 0, 0, 0, 0, 0, 0, 0]
+        );
+        assert_eq!(rt; entry, [0, 0x80, 2, 0, 0, 0, 0, 0, 0, 0, 0, 0, 0xff, 0x0f, 0, 0]);
         Ok(())
     }
 }
