@@ -15,7 +15,8 @@ use Rattle.adapter.specs.declared.command.Operation.TheVariants.{Read, Trim}
 use Rattle.adapter.specs.declared.command.Prd.{Prd}
 use Rattle.adapter.proofs.Absurd.{some-none, some_one}
 use Rattle.adapter.proofs.Changed.{changed_same}
-use Rattle.adapter.proofs.SaysLemmas.{says_meaning, says_places}
+use Rattle.adapter.proofs.ReadDone.{still_working}
+use Rattle.adapter.proofs.SaysLemmas.{says_meaning, says_places, cut_length, cut_index}
 use Rattle.device_model.specs.Finishing.{IsCovered, IsGoing, IsReady}
 use Rattle.device_model.specs.Fetched.{bytes_of}
 use Rattle.device_model.specs.Stores.{AreSectors}
@@ -26,7 +27,6 @@ use Rattle.device_model.specs.declared.port.PortModel.{PortModel}
 use Rattle.device_model.specs.declared.hardware.Hardware.{Hardware}
 use Rattle.std.specs.Vec.{vec_len}
 use Rattle.device_model.specs.declared.port.TakenRead.{TakenRead}
-use Rattle.device_model.proofs.Fetches.{cut_length, cut_index}
 use Rattle.device_model.proofs.Sectors.{zero_sector}
 
 -- ---- pieces inside a memory
@@ -99,16 +99,6 @@ module _ (h : Hardware) (p port slot sectors size : ℕ) (r : TakenRead) (e : p 
       subst P e (record { t = taken_of r; read = refl; covered = covers left covered; begins = inl (holds.works (o.media p)) })
 
 -- ---- a read goes on
-
--- a port that works goes on to, with other slots and registers
-still_working : (p new : PortState) (o : Operation) → o ≡ Read → IsWorking p o → new.cr ≡ p.cr → new.present ≡ p.present → new.fresh ≡ p.fresh → new.halt ≡ p.halt → new.broken ≡ p.broken → IsWorking new Read
-still_working p new o read w cr present fresh halt broken = record {
-  running = cr ∙ w.running;
-  present = present ∙ w.present;
-  fresh = fresh ∙ w.fresh;
-  admitted = ap (λ (h : Halt). admits h Read) halt ∙ (ap (admits p.halt) (sym read) ∙ w.admitted);
-  whole = broken ∙ w.whole;
-}
 
 module _ (port slot sectors : ℕ) where
   -- it was just taken
