@@ -1,5 +1,5 @@
 -- The first read, checked byte by byte.
-use Rattle.std.proofs.Common.{ℕ, zero, suc, ◌≡◌, ◌<◌, ◌≤◌, ◌+◌, ◌-◌, ◌*◌, ◌&&◌, ◌||◌, ◌⊎◌, not, Bool, true, false, List, [], ◌∷◌, Some, slice_index, slice_index_or, nat_le, nat_lt, refl, sym, ◌∙◌, ap, subst, arith, inl, inr, All}
+use Rattle.std.proofs.Common.{ℕ, zero, suc, ◌≡◌, ◌<◌, ◌≤◌, ◌+◌, ◌-◌, ◌*◌, ◌&&◌, ◌||◌, ◌⊎◌, not, Bool, true, false, List, [], ◌∷◌, Some, slice_index_or, nat_le, nat_lt, refl, sym, ◌∙◌, ap, subst, arith, inl, inr, All}
 use Rattle.std.proofs.lemmas.Bool.{le-leb, lt-leb, le-ltb, leb-true, ltb-true}
 use Rattle.std.proofs.lemmas.Bool.Decides.{leb_tells}
 use Rattle.std.proofs.lemmas.List.{length-replicate}
@@ -17,6 +17,7 @@ use Rattle.adapter.proofs.Absurd.{true-false, some-none, some_one}
 use Rattle.adapter.proofs.Changed.{changed_other, changed_each}
 use Rattle.adapter.proofs.OneCommand.{elsewhere_free}
 use Rattle.adapter.proofs.ReadDone.{read_done}
+use Rattle.adapter.proofs.SaysLemmas.{cut_index}
 use Rattle.adapter.proofs.MemoryLemmas.{bytes_index, patched_before, patched_past}
 
 -- ---- what the bytes say
@@ -151,11 +152,6 @@ pieces_no : (first n at : ℕ) → (at < first) ⊎ (first + 512 * n ≤ at) →
 pieces_no first zero at outside = refl
 pieces_no first (suc n) at (inl before) = rw (from_no first 512 at (inl before), pieces_no (first + 512) n at (inl (omega (arith, before)))) refl
 pieces_no first (suc n) at (inr past) = rw (from_no first 512 at (inr (omega (arith, past))), pieces_no (first + 512) n at (inr (omega (arith, past)))) refl
-
-cut_index : (first n k : ℕ) → k < n → slice_index (cut first n) k ≡ first + 512 * k
-cut_index first zero k small = absurd (omega arith)
-cut_index first (suc n) zero small = omega arith
-cut_index first (suc n) (suc k) small = cut_index (first + 512) n k (omega arith) ∙ omega arith
 
 -- ---- the one command
 

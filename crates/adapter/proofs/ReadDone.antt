@@ -7,12 +7,23 @@ use Rattle.adapter.specs.OneCommand.{IsFreeSlot}
 use Rattle.adapter.specs.ReadDone.{read_of, MayBeRead, moves, IsRead}
 use Rattle.adapter.specs.Steps.{after, Steps, WorksOn, IsWorking, admits, begun, MayMove, MayBeDone, with_fetch, with_move, with_done, done_entry, move_of}
 use Rattle.adapter.specs.Steps.Step.{Fetch, Move, Done}
+use Rattle.adapter.specs.declared.command.Operation.{Operation}
 use Rattle.adapter.specs.declared.command.Operation.TheVariants.{Read, Trim}
 use Rattle.adapter.specs.declared.tape.Entry.{Entry}
 use Rattle.adapter.specs.declared.tape.Entry.TheVariants as entry
 use Rattle.adapter.proofs.Changed.{changed_same}
 use Rattle.adapter.proofs.MemoryLemmas.{bytes_same, patched_apart, patched_bytes}
 use Rattle.adapter.proofs.Runs.{Steps-one, Steps-trans}
+
+-- a port that works goes on to, with other slots and registers
+pub still_working : (p new : PortState) (o : Operation) → o ≡ Read → IsWorking p o → new.cr ≡ p.cr → new.present ≡ p.present → new.fresh ≡ p.fresh → new.halt ≡ p.halt → new.broken ≡ p.broken → IsWorking new Read
+still_working p new o read w cr present fresh halt broken = record {
+  running = cr ∙ w.running;
+  present = present ∙ w.present;
+  fresh = fresh ∙ w.fresh;
+  admitted = ap (λ (h : Halt). admits h Read) halt ∙ (ap (admits p.halt) (sym read) ∙ w.admitted);
+  whole = broken ∙ w.whole;
+}
 
 module _ (old : Device) (port slot first count : ℕ) (places : List ℕ) (told : ℕ → List ℕ) (may : MayBeRead old port slot first count places told) where
   -- the command when so many of its pieces were moved
@@ -31,16 +42,6 @@ module _ (old : Device) (port slot first count : ℕ) (places : List ℕ) (told 
   many : length places ≡ count
   many = may.fetch.says.as_many
 
-  -- a port that works on reads, with another command in the slot
-  still_works : (p new : PortState) → IsWorking p Read → new.cr ≡ p.cr → new.present ≡ p.present → new.fresh ≡ p.fresh → new.halt ≡ p.halt → new.broken ≡ p.broken → IsWorking new Read
-  still_works p new w cr present fresh halt broken = record {
-    running = cr ∙ w.running;
-    present = present ∙ w.present;
-    fresh = fresh ∙ w.fresh;
-    admitted = ap (λ (h : Halt). admits h Read) halt ∙ w.admitted;
-    whole = broken ∙ w.whole;
-  }
-
   none_moved : IsMoved 0 (after (Fetch port slot (read_of first count) places) old)
   none_moved =
       let d : Device = after (Fetch port slot (read_of first count) places) old in
@@ -52,7 +53,7 @@ module _ (old : Device) (port slot first count : ℕ) (places : List ℕ) (told 
         works = subst P (sym here)
             (record {
               taken = changed_same (old.port port).taken slot (Some (command 0));
-              working = still_works (old.port port) new may.fetch.working refl refl refl refl refl;
+              working = still_working (old.port port) new Read refl may.fetch.working refl refl refl refl refl;
             });
         disk = ap (λ (p : PortState). p.disk) here;
         size = refl;
@@ -116,7 +117,7 @@ module _ (old : Device) (port slot first count : ℕ) (places : List ℕ) (told 
           works = subst P (sym here)
               (record {
                 taken = changed_same (d.port port).taken slot (Some (command (n + 1))) ∙ ap (λ (j : ℕ). Some (command j)) number;
-                working = still_works (d.port port) new m.works.working refl refl refl refl refl;
+                working = still_working (d.port port) new Read refl m.works.working refl refl refl refl refl;
               });
           disk = ap (λ (p : PortState). p.disk) here ∙ m.disk;
           size = m.size;

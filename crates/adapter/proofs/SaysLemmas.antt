@@ -4,7 +4,7 @@ use Rattle.byteorder.specs.Endian.{little_from}
 use Rattle.adapter.specs.Memory.{bytes_at}
 use Rattle.adapter.specs.Commands.{Meaning, command_of, is_ranged, reads_memory, pieces_moved}
 use Rattle.adapter.specs.Spelling.{SpellsCommand, SpellsHeader, SpellsPrd}
-use Rattle.adapter.specs.Says.{Says, HasPrds, pieces}
+use Rattle.adapter.specs.Says.{Says, HasPrds, pieces, cut}
 use Rattle.adapter.specs.declared.command.Operation.{Operation}
 use Rattle.adapter.specs.declared.command.Operation.TheVariants.{Identify, Read, Write, ReadQueued, WriteQueued, Flush, Trim, ReadLog}
 use Rattle.adapter.specs.declared.command.Prd.{Prd}
@@ -66,6 +66,17 @@ module _ (old new : ℕ → ℕ) where
         in_order = s.in_order;
         as_many = s.as_many;
       }
+
+-- ---- pieces cut from a region
+
+pub cut_length : (at n : ℕ) → length (cut at n) ≡ n
+cut_length at zero = refl
+cut_length at (suc n) = let rest = cut_length (at + 512) n in omega (arith, rest)
+
+pub cut_index : (at n i : ℕ) → i < n → slice_index (cut at n) i ≡ at + 512 * i
+cut_index at zero i small = absurd (omega arith)
+cut_index at (suc n) zero small = omega arith
+cut_index at (suc n) (suc i) small = cut_index (at + 512) n i (omega arith) ∙ omega arith
 
 -- ---- one meaning
 

@@ -11,6 +11,7 @@ use Rattle.adapter.specs.Says.{HasPrds, IsWhole, Says, pieces, cut}
 use Rattle.adapter.specs.declared.command.Operation.{Operation}
 use Rattle.adapter.specs.declared.command.Operation.TheVariants.{Read}
 use Rattle.adapter.specs.declared.command.Prd.{Prd}
+use Rattle.adapter.proofs.SaysLemmas.{cut_length, cut_index}
 use Rattle.device_model.specs.Fetched.{ArePrds, IsPadded, no_prd}
 
 abbrev Here : (ℕ → ℕ) → ℕ → Prd → Type 0
@@ -53,15 +54,6 @@ has_once memory at (x ∷ xs) (y ∷ ys) n s r =
 pub pieces_append : (xs ys : List Prd) → pieces (xs ++ ys) ≡ pieces xs ++ pieces ys
 pieces_append [] ys = refl
 pieces_append (x ∷ xs) ys = rw (pieces_append xs ys) (sym (append_assoc (cut x.address (x.bytes / 512)) (pieces xs) (pieces ys)))
-
-pub cut_length : (at n : ℕ) → length (cut at n) ≡ n
-cut_length at zero = refl
-cut_length at (suc n) = let rest = cut_length (at + 512) n in omega (arith, rest)
-
-pub cut_index : (at n i : ℕ) → i < n → slice_index (cut at n) i ≡ at + 512 * i
-cut_index at zero i small = absurd (omega arith)
-cut_index at (suc n) zero small = omega arith
-cut_index at (suc n) (suc i) small = cut_index (at + 512) n i (omega arith) ∙ omega arith
 
 -- empty ones have none
 pub pieces_padded : (xs : List Prd) (n : ℕ) → IsPadded xs n → pieces xs ≡ pieces (take n xs)

@@ -7,3 +7,4 @@ pub mod Fetches
 pub mod SlotLemmas
 pub mod Stepping
 pub mod NewModel
+pub mod Finishing

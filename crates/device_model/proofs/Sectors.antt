@@ -23,7 +23,7 @@ each_same P x d zero k here lt = absurd (omega arith)
 each_same P x d (suc n) zero here lt = here
 each_same P x d (suc n) (suc k) here lt = each_same P x d n k here (omega arith)
 
-zero_sector : IsSector (replicate 512 0)
+pub zero_sector : IsSector (replicate 512 0)
 zero_sector = (refl, λ k d lt. each_same (λ b. b < 256) 0 d 512 k (omega arith) lt)
 
 pub hold_zeros : (n : ℕ) → HoldSectors (replicate n (replicate 512 0))

@@ -5,3 +5,4 @@ pub mod Whole
 pub mod Fetched
 pub mod Slots
 pub mod Modelled
+pub mod Finishing

@@ -1,10 +1,13 @@
 // The model as an adapter.
-ghost use Rattle.std.specs.Prelude.{◌≡◌, ◌≢◌, ◌<◌, ◌≤◌, ◌*◌, ◌++◌, ◌∷◌, [], ℕ, List, true, false, IfOk, OnOk, OnErr};
+ghost use Rattle.std.specs.Prelude.{◌≡◌, ◌≢◌, ◌<◌, ◌≤◌, ◌+◌, ◌*◌, ◌^◌, ◌++◌, ◌∷◌, [], ℕ, List, true, false, IfOk, OnOk, OnErr};
 ghost use Rattle.adapter.specs.Commands.{Meaning};
+ghost use Rattle.adapter.specs.Device.{Taken};
 ghost use Rattle.adapter.specs.Idle.{IsIdle, IsSane};
+ghost use Rattle.adapter.specs.OneCommand.{IsFreeSlot};
 ghost use Rattle.adapter.specs.Steps.{Steps, Can};
-ghost use Rattle.adapter.specs.Steps.Step.{Fetch};
+ghost use Rattle.adapter.specs.Steps.Step.{Fetch, Move, Done};
 ghost use Rattle.adapter.specs.Asked.{DoesMove, GoesOn, Asked};
+ghost use Rattle.device_model.specs.Finishing.{HasRoom};
 ghost use Rattle.device_model.specs.Modelled.{device_at, cap_of, IsNew};
 
 use crate::config::{ModelConfig, NoMemory};
@@ -91,11 +94,15 @@ impl<S: SectorStore> Model<S> {
     }
 
     /// Moves the next piece of a slot's command; `false` says that it isn't possible, or that the store failed or the
-    /// tape found no memory, and that nothing changed.
+    /// tape found no memory, and that nothing changed. The memory is taken to end at 4 GiB.
     fn move_piece(&mut self, port: u8, slot: u8) -> bool
         requires { slot < 32 }
         ensures did { result ≡ true → DoesMove port slot (device_at S.size S.told self.old) (device_at S.size S.told self.new) }
         ensures refused { result ≡ false → device_at S.size S.told self.new ≡ device_at S.size S.told self.old }
+        ensures only { result ≡ false → S.is_sure ≡ true → HasRoom self.old.hardware 1 → (device_at S.size S.told self.old).size ≤ 2 ^ 32 →
+            (t : Taken) (bytes : List ℕ) → Can (Move port slot t bytes) (device_at S.size S.told self.old) → ⊥ }
+        ensures left { (n : ℕ) → HasRoom self.old.hardware (n + 1) → HasRoom self.new.hardware n }
+        ensures disk { S.size self.new.disk0 ≡ S.size self.old.disk0 }
     {
         // No other port has a disk.
         if port != 0 {
@@ -109,11 +116,14 @@ impl<S: SectorStore> Model<S> {
     }
 
     /// Takes a slot's command if it isn't taken, moves all that is left of it, and ends it; `false` says that this isn't
-    /// possible, and that nothing changed. The tape's memory is found first. A store that fails cuts it short.
+    /// possible, and that nothing changed. The tape's memory is found first. A store that fails cuts it short; over one
+    /// that never does, the slot is free after it.
     fn finish(&mut self, port: u8, slot: u8) -> bool
         requires { slot < 32 }
         ensures did { result ≡ true → GoesOn port slot (device_at S.size S.told self.old) (device_at S.size S.told self.new) }
         ensures refused { result ≡ false → device_at S.size S.told self.new ≡ device_at S.size S.told self.old }
+        ensures ends { result ≡ true → S.is_sure ≡ true → (device_at S.size S.told self.old).size ≤ 2 ^ 32 →
+            IsFreeSlot ((device_at S.size S.told self.new).port port) slot }
     {
         if port != 0 {
             return false;
@@ -141,6 +151,13 @@ impl<S: SectorStore> Model<S> {
         ensures refused { result ≡ false → device_at S.size S.told self.new ≡ device_at S.size S.told self.old }
         ensures fetches { result ≡ false → (p : Port) (slot : Slot) (m : Meaning) (places : List ℕ) → s.now ≡ DeviceStep.Fetch p slot → p.0 < 4 → slot.0 < 32 →
             m.operation ≡ Operation.Read → Can (Fetch p.0 slot.0 m places) (device_at S.size S.told self.old) → ⊥ }
+        ensures moves { result ≡ false → S.is_sure ≡ true → HasRoom self.old.hardware 1 → (device_at S.size S.told self.old).size ≤ 2 ^ 32 →
+            (p : Port) (slot : Slot) (t : Taken) (bytes : List ℕ) → s.now ≡ DeviceStep.Move p slot → slot.0 < 32 →
+            Can (Move p.0 slot.0 t bytes) (device_at S.size S.told self.old) → ⊥ }
+        ensures dones { result ≡ false → HasRoom self.old.hardware 1 → (p : Port) (slot : Slot) (flag : ℕ) (t : Taken) →
+            s.now ≡ DeviceStep.Done p slot → p.0 < 4 → slot.0 < 32 → Can (Done p.0 slot.0 flag t) (device_at S.size S.told self.old) → ⊥ }
+        ensures finishes { result ≡ true → S.is_sure ≡ true → (device_at S.size S.told self.old).size ≤ 2 ^ 32 →
+            (p : Port) (slot : Slot) → s.now ≡ DeviceStep.Finish p slot → IsFreeSlot ((device_at S.size S.told self.new).port p.0) slot.0 }
     {
         match *s {
             DeviceStep::Fetch(port, slot) => {
@@ -211,12 +228,22 @@ impl<S: SectorStore> Adapter for Model<S> {
 }
 
 impl<S: SectorStore> Stepped for Model<S> {
+    /// Beside what every such adapter says: a fetch is refused only where it isn't possible; a move and an end only where
+    /// they aren't, the store failed, or the tape has no memory; and a Finish over a store that never fails ends the
+    /// command.
     fn step(&mut self, s: &DeviceStep) -> bool
         ensures steps { Steps (device_at S.size S.told self.old) (device_at S.size S.told self.new) }
         ensures refused { result ≡ false → device_at S.size S.told self.new ≡ device_at S.size S.told self.old }
         ensures asked { result ≡ true → Asked s.now (device_at S.size S.told self.old) (device_at S.size S.told self.new) }
         ensures fetches { result ≡ false → (p : Port) (slot : Slot) (m : Meaning) (places : List ℕ) → s.now ≡ DeviceStep.Fetch p slot → p.0 < 4 → slot.0 < 32 →
             m.operation ≡ Operation.Read → Can (Fetch p.0 slot.0 m places) (device_at S.size S.told self.old) → ⊥ }
+        ensures moves { result ≡ false → S.is_sure ≡ true → HasRoom self.old.hardware 1 → (device_at S.size S.told self.old).size ≤ 2 ^ 32 →
+            (p : Port) (slot : Slot) (t : Taken) (bytes : List ℕ) → s.now ≡ DeviceStep.Move p slot → slot.0 < 32 →
+            Can (Move p.0 slot.0 t bytes) (device_at S.size S.told self.old) → ⊥ }
+        ensures dones { result ≡ false → HasRoom self.old.hardware 1 → (p : Port) (slot : Slot) (flag : ℕ) (t : Taken) →
+            s.now ≡ DeviceStep.Done p slot → p.0 < 4 → slot.0 < 32 → Can (Done p.0 slot.0 flag t) (device_at S.size S.told self.old) → ⊥ }
+        ensures finishes { result ≡ true → S.is_sure ≡ true → (device_at S.size S.told self.old).size ≤ 2 ^ 32 →
+            (p : Port) (slot : Slot) → s.now ≡ DeviceStep.Finish p slot → IsFreeSlot ((device_at S.size S.told self.new).port p.0) slot.0 }
     {
         self.do_step(s)
     }

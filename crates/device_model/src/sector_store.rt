@@ -1,5 +1,5 @@
 //! Where disks keep their sectors.
-ghost use Rattle.std.specs.Prelude.{◌≡◌, ◌<◌, ℕ, Bool, List, Option, Some, IfSome, IfOk, option_map, replicate, true, false, length, slice_index_or, []};
+ghost use Rattle.std.specs.Prelude.{◌≡◌, ◌<◌, ◌^◌, ℕ, Bool, List, Option, Some, IfSome, IfOk, option_map, replicate, true, false, length, slice_index_or, []};
 ghost use Rattle.adapter.specs.Memory.{changed};
 ghost use Rattle.adapter.specs.Device.{IsSector};
 ghost use Rattle.device_model.specs.Stores.{AreSectors, HoldSectors};
@@ -41,6 +41,9 @@ pub trait SectorStore: Drop {
 
     /// What it tells are sectors.
     ghost tells_sectors: { (s : Self) → AreSectors (size s) (told s) };
+
+    /// Each of its sectors has a number.
+    ghost fits: { (s : Self) → size s < 2 ^ 64 };
 }
 
 /// Sectors in memory, which the store tells.
@@ -48,6 +51,7 @@ pub trait SectorStore: Drop {
 pub struct MemStore {
     sectors: Vec<[u8; 512]>,
     ghost are_sectors: { HoldSectors sectors.items },
+    ghost few: { length sectors.items < 2 ^ 64 },
 }
 
 impl MemStore {
@@ -71,6 +75,8 @@ impl SectorStore for MemStore {
     ghost is_sure = { true };
 
     ghost tells_sectors = { λ s. s.are_sectors };
+
+    ghost fits = { λ s. s.few };
 
     fn sectors(&self) -> u64 {
         self.sectors.len() as u64

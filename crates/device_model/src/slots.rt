@@ -92,7 +92,8 @@ pub fn may_take(ports: &[PortModel; 4], port: usize, slot: u8) -> bool
 pub fn working_on(ports: &[PortModel; 4], port: usize, slot: u8) -> Option<&TakenRead>
     requires port { port < 4 }
     requires slot { slot < 32 }
-    ensures { IfSome result (λ t. HoldsAt (slice_index_or ports.now port blank) slot t.now) }
+    ensures found { IfSome result (λ t. HoldsAt (slice_index_or ports.now port blank) slot t.now) }
+    ensures none { result ≡ None → (t : TakenRead) → HoldsAt (slice_index_or ports.now port blank) slot t → ⊥ }
 {
     if ports[port].cr && ports[port].present && ports[port].fresh {
         ports[port].taken[usize::from(slot)].as_ref()

@@ -1,11 +1,15 @@
 // Steps that the hardware does when it is told.
-ghost use Rattle.std.specs.Prelude.{◌≡◌, ◌<◌, ◌≤◌, ◌+◌, ◌++◌, ◌∷◌, [], true, false, ℕ, List, IfSome};
+ghost use Rattle.std.specs.Prelude.{◌≡◌, ◌<◌, ◌≤◌, ◌+◌, ◌^◌, ◌++◌, ◌∷◌, [], true, false, ℕ, List, None, All, IfSome, length, slice_index, slice_index_or};
+ghost use Rattle.std.specs.Vec.{vec_len, vec_capacity};
 ghost use Rattle.adapter.specs.Commands.{Meaning};
+ghost use Rattle.adapter.specs.Device.{Taken};
+ghost use Rattle.adapter.specs.Says.{pieces};
 ghost use Rattle.adapter.specs.Steps.{Can, after};
-ghost use Rattle.adapter.specs.Steps.Step.{Fetch as FetchStep, Move as MoveStep};
+ghost use Rattle.adapter.specs.Steps.Step.{Fetch as FetchStep, Move as MoveStep, Done as DoneStep};
 ghost use Rattle.adapter.specs.Asked.{DoesFetch, DoesDone};
-ghost use Rattle.device_model.specs.Slots.{IsNext};
-ghost use Rattle.device_model.specs.View.{taken_of};
+ghost use Rattle.device_model.specs.Finishing.{HasRoom, IsCovered, IsReady};
+ghost use Rattle.device_model.specs.Slots.{HoldsAt, IsNext};
+ghost use Rattle.device_model.specs.View.{taken_of, blank};
 ghost use Rattle.device_model.specs.Whole.{Outside, device_of};
 ghost use Rattle.device_model.specs.declared.port.TakenRead.{TakenRead};
 
@@ -27,24 +31,35 @@ pub struct NextMove {
 fn record(tape: &mut Vec<Entry>, entry: Entry) -> bool
     ensures added { result ≡ true → tape.new.items ≡ tape.old.items ++ entry ∷ [] }
     ensures kept { result ≡ false → tape.new.items ≡ tape.old.items }
+    ensures room { vec_len tape.old < vec_capacity tape.old → result ≡ true }
+    ensures left { (n : ℕ) → vec_len tape.old + (n + 1) ≤ vec_capacity tape.old → vec_len tape.new + n ≤ vec_capacity tape.new }
 {
     tape.push(entry).is_ok()
 }
 
 /// Whether each region is in a memory of this size.
-fn are_inside(prds: &[Prd; 128], size: usize) -> bool {
-    prds.iter()
-        .all(|prd| prd.address as usize + prd.bytes as usize <= size)
+fn are_inside(prds: &[Prd; 128], size: usize) -> bool
+    ensures { result ≡ true → All (λ prd. prd.address + prd.bytes ≤ size) prds.now }
+{
+    for prd in prds {
+        if prd.address as usize + prd.bytes as usize > size {
+            return false;
+        }
+    }
+    true
 }
 
 /// How many moves are left of a command, if each of its pieces has a place in a memory of this size and is one of so many
 /// sectors.
-fn left_of(read: &TakenRead, size: usize, sectors: u64) -> Option<u32> {
-    let end = read.first.checked_add(u64::from(read.count))?;
+fn left_of(read: &TakenRead, size: usize, sectors: u64) -> Option<u32>
+    ensures { IfSome result (λ left. IsCovered (taken_of read.now) size sectors left) }
+{
+    let pieces = count_pieces(&read.prds);
+    let end = read.first.checked_add(u64::from(pieces))?;
     if end > sectors || !are_inside(&read.prds, size) {
         return None;
     }
-    count_pieces(&read.prds).checked_sub(read.moved)
+    pieces.checked_sub(read.moved)
 }
 
 impl Hardware {
@@ -55,6 +70,7 @@ impl Hardware {
         ensures did { result ≡ true → (o : Outside) → DoesFetch port slot (device_of self.old o) (device_of self.new o) }
         ensures refused { result ≡ false → (o : Outside) → device_of self.new o ≡ device_of self.old o }
         ensures only { result ≡ false → (o : Outside) (m : Meaning) (places : List ℕ) → m.operation ≡ Operation.Read → Can (FetchStep port slot m places) (device_of self.old o) → ⊥ }
+        ensures tape { self.new.tape ≡ self.old.tape }
     {
         let place = usize::from(port);
         if !may_take(&self.ports, place, slot) {
@@ -72,7 +88,9 @@ impl Hardware {
     pub fn next_move(&self, port: u8, slot: u8) -> Option<NextMove>
         requires port { port < 4 }
         requires slot { slot < 32 }
-        ensures { IfSome result (λ n. (t : TakenRead) × IsNext self.now port slot n.sector n.address t) }
+        ensures found { IfSome result (λ n. (t : TakenRead) × IsNext self.now port slot n.sector n.address t) }
+        ensures none { result ≡ None → length self.now.memory.items ≤ 2 ^ 32 → (t : TakenRead) → HoldsAt (slice_index_or self.now.ports port blank) slot t →
+            t.moved < length (pieces t.prds) → slice_index (pieces t.prds) t.moved + 512 ≤ length self.now.memory.items → t.first + t.moved < 2 ^ 64 → ⊥ }
     {
         let read = working_on(&self.ports, usize::from(port), slot)?;
         let address = piece_at(&read.prds, read.moved)?;
@@ -93,6 +111,8 @@ impl Hardware {
         ensures did { result ≡ true → (o : Outside) → (t : TakenRead) × IsNext self.old port slot next.sector next.address t
             × (device_of self.new o ≡ after (MoveStep port slot (taken_of t) bytes.now) (device_of self.old o)) }
         ensures refused { result ≡ false → (o : Outside) → device_of self.new o ≡ device_of self.old o }
+        ensures room { HasRoom self.old 1 → result ≡ true }
+        ensures left { (n : ℕ) → HasRoom self.old (n + 1) → HasRoom self.new n }
     {
         let entry = Entry::Move(Move {
             port: Port(port),
@@ -117,6 +137,8 @@ impl Hardware {
         requires slot { slot < 32 }
         ensures did { result ≡ true → (o : Outside) → DoesDone port slot (device_of self.old o) (device_of self.new o) }
         ensures refused { result ≡ false → (o : Outside) → device_of self.new o ≡ device_of self.old o }
+        ensures only { result ≡ false → HasRoom self.old 1 → (o : Outside) (flag : ℕ) (t : Taken) →
+            Can (DoneStep port slot flag t) (device_of self.old o) → ⊥ }
     {
         let Some(read) = working_on(&self.ports, usize::from(port), slot) else {
             return false;
@@ -141,6 +163,7 @@ impl Hardware {
     pub fn moves_left(&self, port: u8, slot: u8, sectors: u64) -> Option<u32>
         requires port { port < 4 }
         requires slot { slot < 32 }
+        ensures { IfSome result (λ left. (o : Outside) → IsReady (device_of self.now o) port slot sectors left) }
     {
         let place = usize::from(port);
         if may_take(&self.ports, place, slot) {
@@ -155,7 +178,8 @@ impl Hardware {
 
     /// Finds memory for more entries of the tape; `false` says that there was none.
     pub fn reserve(&mut self, entries: usize) -> bool
-        ensures { (o : Outside) → device_of self.new o ≡ device_of self.old o }
+        ensures same { (o : Outside) → device_of self.new o ≡ device_of self.old o }
+        ensures room { result ≡ true → HasRoom self.new entries }
     {
         self.tape.reserve(entries).is_ok()
     }

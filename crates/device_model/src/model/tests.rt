@@ -195,6 +195,8 @@ impl SectorStore for Failing {
 
     ghost tells_sectors = { λ _. tt };
 
+    ghost fits = { λ s. s.sectors.few };
+
     fn sectors(&self) -> u64 {
         self.sectors.sectors()
     }

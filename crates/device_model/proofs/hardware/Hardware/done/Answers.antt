@@ -7,5 +7,5 @@ returns-clause-did c = λ _ o.
     let small : c.from-2.result < length c.args.self.now.ports = search rules in
     let same : c.from.result ≡ c.from-2.result = c.from.ensures ∙ sym c.from-2.ensures in
     port_ends c.args.self.now o c.from-2.result c.args.port c.args.slot _ c.in-Some.read.now c.record.new.tape c.from-2.ensures small
-    (rw same at c.in-Some.ensures) (c.if-read-count_pieces.false ∙ c.count_pieces.ensures) (c.end.ensures (o.media c.from-2.result))
+    (rw same at c.in-Some.ensures.found) (c.if-read-count_pieces.false ∙ c.count_pieces.ensures) (c.end.ensures (o.media c.from-2.result))
     (c.record.ensures.added c.if-not-record.false)

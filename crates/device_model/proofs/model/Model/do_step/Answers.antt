@@ -2,7 +2,7 @@ use Rattle.std.proofs.Common.{◌≡◌, subst}
 use Rattle.ata_types.specs.declared.Port.{Port}
 use Rattle.ata_types.specs.declared.Slot.{Slot}
 use Rattle.adapter.specs.Steps.{Can}
-use Rattle.adapter.specs.Steps.Step.{Fetch}
+use Rattle.adapter.specs.Steps.Step.{Fetch, Done}
 use Rattle.device_model.specs.Modelled.{device_at}
 use Rattle.device_model.proofs.model.Model.do_step.Goals as goal
 
@@ -19,3 +19,11 @@ returns-then-slot-lt32-clause-fetches g c = λ no p slot m places is low small r
 
 pub returns-then-slot-lt32-3-clause-refused : goal.returns-then-slot-lt32-3-clause-refused
 returns-then-slot-lt32-3-clause-refused g c = λ no. c.done.ensures.refused no _
+
+pub returns-then-slot-lt32-3-clause-dones : goal.returns-then-slot-lt32-3-clause-dones
+returns-then-slot-lt32-3-clause-dones g c = λ no room p slot flag t is low small can.
+    let d = device_at g.S.SectorStore.size g.S.SectorStore.told c.args.self.now in
+    let ports : p ≡ c.in-Done.port = cc in
+    let slots : slot ≡ c.in-Done.slot = cc in
+    c.done.ensures.only no room _ flag t
+    (subst (λ (s : Slot). Can (Done c.in-Done.port.0 s.0 flag t) d) slots (subst (λ (q : Port). Can (Done q.0 slot.0 flag t) d) ports can))

@@ -1,9 +1,14 @@
-use Rattle.std.proofs.Common.{◌≡◌, ◌∙◌, true, false, inl, inr, sym, subst}
+use Rattle.std.proofs.Common.{ℕ, suc, ◌≡◌, ◌≤◌, ◌+◌, ◌-◌, ◌∙◌, true, false, inl, inr, sym, ap, subst, arith}
+use Rattle.std.specs.Global.{Vec}
+use Rattle.std.specs.Vec.{vec_len, vec_capacity}
 use Rattle.adapter.specs.Device.{Device}
 use Rattle.adapter.specs.Asked.{DoesFetch, GoesOn}
+use Rattle.adapter.specs.declared.tape.Entry.{Entry}
+use Rattle.device_model.specs.Finishing.{IsGoing, IsReady}
 use Rattle.device_model.specs.Modelled.{device_at}
 use Rattle.device_model.specs.Whole.{Outside, device_of, outside_of}
 use Rattle.adapter.proofs.Going.{goes_one, goes_next}
+use Rattle.device_model.proofs.Finishing.{fetched_goes, fetched_size, moved_goes, going_may_move, going_may_end, done_frees}
 use Rattle.device_model.proofs.model.Model.finish.Goals as goal
 
 pub loop-piece-init : goal.loop-piece-init
@@ -11,18 +16,39 @@ loop-piece-init g c =
     let m = c.args.self.now in
     let o : Outside = outside_of (g.S.SectorStore.size m.disk0) (g.S.SectorStore.told m.disk0) (g.S.SectorStore.told m.disk1) in
     let new : Device = device_of c.fetch-did.new.self o in
-    let kept = c.reserve.ensures o in
+    let kept = c.reserve.ensures.same o in
     record {
       did = λ e. goes_one c.args.port c.args.slot _ new
           (inl (subst (λ (d : Device). DoesFetch c.args.port c.args.slot d new) kept (c.fetch-did.ensures.did e o)));
       refused = λ e. c.fetch-did.ensures.refused e o ∙ kept;
+      size = fetched_size c.args.port c.args.slot c.fetch-did.result _ new (λ e. c.fetch-did.ensures.did e o) (λ e. c.fetch-did.ensures.refused e o)
+          ∙ ap (λ (d : Device). d.size) kept;
+      disk = sym c.sectors-sectors.ensures;
+      room =
+          let P : Vec Entry → Type 0 = λ tape. vec_len tape + (c.in-Some.left + 1) ≤ vec_capacity tape in
+          let enough = subst P (sym c.fetch-did.ensures.tape) (c.reserve.ensures.room c.if-not-reserve.false) in
+          omega (arith, enough);
+      going =
+          let P : Device → Type 0 = λ d. IsReady d c.args.port c.args.slot c.sectors-sectors.result c.in-Some.left in
+          let Q : ℕ → Type 0 = λ n. IsGoing new c.args.port c.args.slot c.sectors-sectors.result n in
+          let all : c.in-Some.left ≡ c.in-Some.left - 0 = omega arith in
+          subst Q all
+          (fetched_goes c.args.port c.args.slot c.sectors-sectors.result c.in-Some.left c.fetch-did.result _ new (subst P (sym kept) (c.in-Some.ensures o))
+          (λ e. c.fetch-did.ensures.did e o) (λ e. c.fetch-did.ensures.refused e o) (λ e. c.fetch-did.ensures.only e o));
     }
 
 pub loop-piece-preserved : goal.loop-piece-preserved
-loop-piece-preserved g c = record {
+loop-piece-preserved g c = let moved = c.move_piece.ensures.did c.if-not-move_piece.false in record {
   did = λ _. goes_next c.args.port c.args.slot _ _ _ c.loop-piece.did c.loop-piece.invariant.did c.loop-piece.invariant.refused
       (inr (inl (c.move_piece.ensures.did c.if-not-move_piece.false)));
   refused = λ no. absurd (let e : true ≡ false = no in cc);
+  size = ap (λ (d : Device). d.size) moved.effect ∙ c.loop-piece.invariant.size;
+  disk = c.move_piece.ensures.disk ∙ c.loop-piece.invariant.disk;
+  room = c.move_piece.ensures.left _ (omega (arith, c.loop-piece.invariant.room, c.loop-piece-test.true));
+  going =
+      let P : ℕ → Type 0 = λ n. IsGoing (device_at g.S.SectorStore.size g.S.SectorStore.told c.loop-piece.self) c.args.port c.args.slot c.sectors-sectors.result n in
+      let next : c.in-Some.left - c.loop-piece._piece ≡ suc (c.in-Some.left - (c.loop-piece._piece + 1)) = omega (arith, c.loop-piece-test.true) in
+      moved_goes c.args.port c.args.slot c.sectors-sectors.result (c.in-Some.left - (c.loop-piece._piece + 1)) _ _ (subst P next c.loop-piece.invariant.going) moved;
 }
 
 pub returns-then-not-move_piece-clause-did : goal.returns-then-not-move_piece-clause-did
@@ -32,6 +58,44 @@ returns-then-not-move_piece-clause-did g c = λ e.
 
 pub returns-then-not-move_piece-clause-refused : goal.returns-then-not-move_piece-clause-refused
 returns-then-not-move_piece-clause-refused g c = λ e. c.move_piece.ensures.refused c.if-not-move_piece.true ∙ c.loop-piece.invariant.refused e
+
+-- a move that is left is possible, so it isn't refused
+pub returns-then-not-move_piece-clause-ends : goal.returns-then-not-move_piece-clause-ends
+returns-then-not-move_piece-clause-ends g c = λ _ sure small.
+    let m = c.loop-piece.self in
+    let size = g.S.SectorStore.size m.disk0 in
+    let told = g.S.SectorStore.told m.disk0 in
+    let law = g.met.S.SectorStore.tells_sectors m.disk0 in
+    let P : ℕ → Type 0 = λ n. IsGoing (device_at g.S.SectorStore.size g.S.SectorStore.told m) c.args.port c.args.slot c.sectors-sectors.result n in
+    let Q : ℕ → Type 0 = λ n. IsGoing (device_at g.S.SectorStore.size g.S.SectorStore.told m) c.args.port c.args.slot n (suc (c.in-Some.left - (c.loop-piece._piece + 1))) in
+    let next : c.in-Some.left - c.loop-piece._piece ≡ suc (c.in-Some.left - (c.loop-piece._piece + 1)) = omega (arith, c.loop-piece-test.true) in
+    let going = subst Q (sym c.loop-piece.invariant.disk) (subst P next c.loop-piece.invariant.going) in
+    let found = going_may_move m.hardware size told (g.S.SectorStore.told m.disk1) c.args.port c.args.slot (c.in-Some.left - (c.loop-piece._piece + 1)) c.if-port-ne0.false law going in
+    absurd
+    (c.move_piece.ensures.only c.if-not-move_piece.true sure (omega (arith, c.loop-piece.invariant.room)) (omega (arith, c.loop-piece.invariant.size, small))
+    found.0 found.1 found.2)
+
+pub returns-then-done-clause-ends : goal.returns-then-done-clause-ends
+returns-then-done-clause-ends g c = λ _ sure small.
+    let m = c.loop-piece.self in
+    let o : Outside = outside_of (g.S.SectorStore.size m.disk0) (g.S.SectorStore.told m.disk0) (g.S.SectorStore.told m.disk1) in
+    let P : ℕ → Type 0 = λ n. IsGoing (device_at g.S.SectorStore.size g.S.SectorStore.told m) c.args.port c.args.slot c.sectors-sectors.result n in
+    let none : c.in-Some.left - c.loop-piece._piece ≡ 0 = omega (arith, c.loop-piece-test.false) in
+    done_frees c.args.port c.args.slot c.sectors-sectors.result _ _ (subst P none c.loop-piece.invariant.going) (c.done.ensures.did c.if-done.true o)
+
+-- an end that is possible isn't refused
+pub returns-else-done-clause-ends : goal.returns-else-done-clause-ends
+returns-else-done-clause-ends g c = λ _ sure small.
+    let m = c.loop-piece.self in
+    let o : Outside = outside_of (g.S.SectorStore.size m.disk0) (g.S.SectorStore.told m.disk0) (g.S.SectorStore.told m.disk1) in
+    let P : ℕ → Type 0 = λ n. IsGoing (device_at g.S.SectorStore.size g.S.SectorStore.told m) c.args.port c.args.slot c.sectors-sectors.result n in
+    let none : c.in-Some.left - c.loop-piece._piece ≡ 0 = omega (arith, c.loop-piece-test.false) in
+    let going = subst P none c.loop-piece.invariant.going in
+    absurd
+    (c.done.ensures.only c.if-done.false (omega (arith, c.loop-piece.invariant.room)) o 0 going.t (going_may_end c.args.port c.args.slot c.sectors-sectors.result _ going))
+
+pub returns-then-not-reserve-clause-refused : goal.returns-then-not-reserve-clause-refused
+returns-then-not-reserve-clause-refused g c = λ _. c.reserve.ensures.same _
 
 pub returns-then-done-clause-did : goal.returns-then-done-clause-did
 returns-then-done-clause-did g c = λ _.

@@ -1,5 +1,6 @@
-use Rattle.std.proofs.Common.{◌≡◌, true, false}
+use Rattle.std.proofs.Common.{◌≡◌, ◌+◌, ◌-◌, true, false}
 use Rattle.adapter.specs.Asked.{GoesOn}
+use Rattle.device_model.specs.Finishing.{HasRoom, IsGoing}
 use Rattle.device_model.specs.Modelled.{device_at}
 use Rattle.device_model.proofs.model.Model.finish.Given as goal
 
@@ -9,4 +10,8 @@ invariant-loop-piece g l = record {
       (device_at g.S.SectorStore.size g.S.SectorStore.told l.fn.self) (device_at g.S.SectorStore.size g.S.SectorStore.told l.self);
   refused : l.did ≡ false →
       device_at g.S.SectorStore.size g.S.SectorStore.told l.self ≡ device_at g.S.SectorStore.size g.S.SectorStore.told l.fn.self;
+  size : (device_at g.S.SectorStore.size g.S.SectorStore.told l.self).size ≡ (device_at g.S.SectorStore.size g.S.SectorStore.told l.fn.self).size;
+  disk : g.S.SectorStore.size l.self.disk0 ≡ l.sectors;
+  room : HasRoom l.self.hardware (l.left - l._piece + 1);
+  going : IsGoing (device_at g.S.SectorStore.size g.S.SectorStore.told l.self) l.port l.slot l.sectors (l.left - l._piece);
 }

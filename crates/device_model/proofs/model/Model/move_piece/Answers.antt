@@ -1,8 +1,17 @@
-use Rattle.std.proofs.Common.{◌≡◌, ◌∙◌, ap}
+use Rattle.std.proofs.Common.{◌≡◌, ◌∙◌, ap, arith}
 use Rattle.device_model.specs.View.{taken_of}
 use Rattle.device_model.specs.Whole.{Outside, device_of, outside_of}
 use Rattle.device_model.proofs.Stepping.{may_move}
+use Rattle.device_model.proofs.Finishing.{move_fits}
 use Rattle.device_model.proofs.model.Model.move_piece.Goals as goal
+
+pub returns-in_default-clause-only : goal.returns-in_default-clause-only
+returns-in_default-clause-only g c = λ _ sure room small t bytes can.
+    let m = c.args.self.now in
+    let size = g.S.SectorStore.size m.disk0 in
+    let fits = g.met.S.SectorStore.fits m.disk0 in
+    let found = move_fits m.hardware size (g.S.SectorStore.told m.disk0) (g.S.SectorStore.told m.disk1) c.args.port c.args.slot t bytes c.if-port-ne0.false can in
+    c.next_move.ensures.none c.in_default.is small found.r found.holds found.left found.inside (omega (arith, found.on_disk, fits))
 
 pub returns-then-read-clause-did : goal.returns-then-read-clause-did
 returns-then-read-clause-did g c = λ did.

@@ -1,4 +1,4 @@
-use Rattle.std.proofs.Common.{◌≡◌, ◌∙◌, ap, sym, subst, ◌++◌, ◌∷◌, [], replicate}
+use Rattle.std.proofs.Common.{◌≡◌, ◌∙◌, ap, sym, subst, ◌++◌, ◌∷◌, [], replicate, arith}
 use Rattle.device_model.specs.Stores.{HoldSectors}
 use Rattle.device_model.proofs.Sectors.{hold_zeros}
 use Rattle.std.proofs.lemmas.List.{replicate-append-replicate}
@@ -12,4 +12,8 @@ loop-sector-preserved c =
 pub invariant_of-result : goal.invariant_of-result
 invariant_of-result c =
     let all : c.loop-sector.zeros.items ≡ replicate c.loop-sector._sector (replicate 512 0) = c.loop-sector.invariant in
-    record { are_sectors = subst HoldSectors (sym all) (hold_zeros c.loop-sector._sector) }
+    let zeros = c.loop-sector.zeros in
+    record {
+      are_sectors = subst HoldSectors (sym all) (hold_zeros c.loop-sector._sector);
+      few = omega (arith, zeros.ok.0, zeros.ok.1, zeros.small);
+    }

@@ -1,0 +1,33 @@
+-- What has to hold that a command can be done to its end.
+use Rattle.std.specs.Prelude.{ℕ, ◌≡◌, ◌+◌, ◌<◌, ◌≤◌, ◌⊎◌, length, slice_index}
+use Rattle.std.specs.Vec.{vec_len, vec_capacity}
+use Rattle.adapter.specs.Device.{Taken, Device}
+use Rattle.adapter.specs.Steps.{Can, WorksOn, begun}
+use Rattle.adapter.specs.Steps.Step.{Fetch}
+use Rattle.adapter.specs.declared.command.Operation.TheVariants.{Read}
+use Rattle.device_model.specs.declared.hardware.Hardware.{Hardware}
+
+-- the tape has memory for so many more entries
+abbrev pub HasRoom : Hardware → ℕ → Type 0
+HasRoom h n = vec_len h.tape + n ≤ vec_capacity h.tape
+
+-- so many moves are left of this command; each of its pieces is in a memory of this size, and each of its sectors one of
+-- so many
+pub record IsCovered (t : Taken) (size sectors left : ℕ) : Type 0 where
+  pub left_is : t.moved + left ≡ length t.places
+  pub on_disk : t.meaning.first + length t.places ≤ sectors
+  pub inside : (k : ℕ) → k < length t.places → slice_index t.places k + 512 ≤ size
+
+-- the port works on a read of which so many moves are left, all of them possible
+pub record IsGoing (d : Device) (port slot sectors left : ℕ) : Type 0 where
+  pub t : Taken
+  pub read : t.meaning.operation ≡ Read
+  pub covered : IsCovered t d.size sectors left
+  pub works : WorksOn (d.port port) slot t Read
+
+-- the same, or the read isn't taken yet, and may be
+pub record IsReady (d : Device) (port slot sectors left : ℕ) : Type 0 where
+  pub t : Taken
+  pub read : t.meaning.operation ≡ Read
+  pub covered : IsCovered t d.size sectors left
+  pub begins : WorksOn (d.port port) slot t Read ⊎ (Can (Fetch port slot t.meaning t.places) d × (t ≡ begun t.meaning t.places))
