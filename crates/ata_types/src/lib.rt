@@ -6,6 +6,8 @@ mod grant;
 mod range;
 mod refusal;
 mod request;
+#[cfg(test)]
+mod tests;
 
 pub use grant::{GrantRow, Rights};
 pub use range::{Range, Sector};

@@ -5,10 +5,10 @@ use Rattle.std.proofs.lemmas.List.{get_or_append_left, get_or-append_right}
 use Rattle.std.specs.Prelude.{IfSome, SomeIff, replicate, option_map, if◌then◌else◌}
 use Rattle.adapter.specs.Asked.{DoesFetch, DoesMove, DoesDone}
 use Rattle.adapter.specs.Commands.{Meaning, is_ranged}
-use Rattle.adapter.specs.Device.{Taken, Halt, PortState, Device, IsSector}
+use Rattle.adapter.specs.Device.{Taken, PortState, Device, IsSector}
 use Rattle.adapter.specs.OneCommand.{IsFreeSlot}
 use Rattle.adapter.specs.Says.{Says, pieces, cut}
-use Rattle.adapter.specs.Steps.{Can, admits, WorksOn, IsWorking, begun, MayMove, Brings, next_sector, with_fetch, with_move, with_done, block_after}
+use Rattle.adapter.specs.Steps.{Can, WorksOn, begun, MayMove, Brings, next_sector, with_fetch, with_move, with_done, block_after}
 use Rattle.adapter.specs.Steps.Step.{Fetch, Move, Done}
 use Rattle.adapter.specs.declared.command.Operation.{Operation}
 use Rattle.adapter.specs.declared.command.Operation.TheVariants.{Read, Trim}

@@ -8,3 +8,4 @@ pub mod SlotLemmas
 pub mod Stepping
 pub mod NewModel
 pub mod Finishing
+pub mod Queueing

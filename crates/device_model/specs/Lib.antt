@@ -6,3 +6,4 @@ pub mod Fetched
 pub mod Slots
 pub mod Modelled
 pub mod Finishing
+pub mod Queue

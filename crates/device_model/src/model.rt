@@ -1,5 +1,5 @@
 // The model as an adapter.
-ghost use Rattle.std.specs.Prelude.{◌≡◌, ◌≢◌, ◌<◌, ◌≤◌, ◌+◌, ◌*◌, ◌^◌, ◌++◌, ◌∷◌, [], ℕ, List, true, false, IfOk, OnOk, OnErr};
+ghost use Rattle.std.specs.Prelude.{◌≡◌, ◌≢◌, ◌<◌, ◌≤◌, ◌+◌, ◌-◌, ◌*◌, ◌^◌, ◌++◌, ◌∷◌, [], ℕ, List, true, false, min, IfOk, OnOk, OnErr};
 ghost use Rattle.adapter.specs.Commands.{Meaning};
 ghost use Rattle.adapter.specs.Device.{Taken};
 ghost use Rattle.adapter.specs.Idle.{IsIdle, IsSane};
@@ -8,6 +8,7 @@ ghost use Rattle.adapter.specs.Steps.{Steps, Can};
 ghost use Rattle.adapter.specs.Steps.Step.{Fetch, Move, Done};
 ghost use Rattle.adapter.specs.Asked.{DoesMove, GoesOn, Asked};
 ghost use Rattle.device_model.specs.Finishing.{HasRoom};
+ghost use Rattle.device_model.specs.Queue.{DoesEach, due, not_due};
 ghost use Rattle.device_model.specs.Modelled.{device_at, cap_of, IsNew};
 
 use crate::config::{ModelConfig, NoMemory};
@@ -103,6 +104,8 @@ impl<S: SectorStore> Model<S> {
             (t : Taken) (bytes : List ℕ) → Can (Move port slot t bytes) (device_at S.size S.told self.old) → ⊥ }
         ensures left { (n : ℕ) → HasRoom self.old.hardware (n + 1) → HasRoom self.new.hardware n }
         ensures disk { S.size self.new.disk0 ≡ S.size self.old.disk0 }
+        ensures queue { self.new.queue ≡ self.old.queue }
+        ensures accesses { self.new.accesses ≡ self.old.accesses }
     {
         // No other port has a disk.
         if port != 0 {
@@ -124,6 +127,8 @@ impl<S: SectorStore> Model<S> {
         ensures refused { result ≡ false → device_at S.size S.told self.new ≡ device_at S.size S.told self.old }
         ensures ends { result ≡ true → S.is_sure ≡ true → (device_at S.size S.told self.old).size ≤ 2 ^ 32 →
             IsFreeSlot ((device_at S.size S.told self.new).port port) slot }
+        ensures queue { self.new.queue ≡ self.old.queue }
+        ensures accesses { self.new.accesses ≡ self.old.accesses }
     {
         if port != 0 {
             return false;
@@ -158,6 +163,8 @@ impl<S: SectorStore> Model<S> {
             s.now ≡ DeviceStep.Done p slot → p.0 < 4 → slot.0 < 32 → Can (Done p.0 slot.0 flag t) (device_at S.size S.told self.old) → ⊥ }
         ensures finishes { result ≡ true → S.is_sure ≡ true → (device_at S.size S.told self.old).size ≤ 2 ^ 32 →
             (p : Port) (slot : Slot) → s.now ≡ DeviceStep.Finish p slot → IsFreeSlot ((device_at S.size S.told self.new).port p.0) slot.0 }
+        ensures queue { self.new.queue ≡ self.old.queue }
+        ensures accesses { self.new.accesses ≡ self.old.accesses }
     {
         match *s {
             DeviceStep::Fetch(port, slot) => {
@@ -171,16 +178,17 @@ impl<S: SectorStore> Model<S> {
         }
     }
 
-    /// Before an access, the steps that are queued before it.
+    /// Before an access, the steps that are queued before it, in their order; each leaves the queue, whether it was possible
+    /// or not.
     fn do_queued(&mut self)
-        ensures { Steps (device_at S.size S.told self.old) (device_at S.size S.told self.new) }
+        ensures steps { Steps (device_at S.size S.told self.old) (device_at S.size S.told self.new) }
+        ensures did { DoesEach (due self.new.accesses self.old.queue.items) (device_at S.size S.told self.old) (device_at S.size S.told self.new) }
+        ensures left { self.new.queue.items ≡ not_due self.new.accesses self.old.queue.items }
+        ensures counted { self.new.accesses ≡ min (self.old.accesses + 1) (2 ^ 64 - 1) }
     {
         self.accesses = self.accesses.saturating_add(1);
         let mut place = 0;
         for _queued in 0..self.queue.len() {
-            if place >= self.queue.len() {
-                break;
-            }
             let queued = self.queue[place];
             if queued.access > self.accesses {
                 place += 1;

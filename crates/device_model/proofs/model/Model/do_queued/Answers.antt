@@ -1,13 +1,102 @@
-use Rattle.adapter.proofs.Runs.{Steps-trans}
-use Rattle.adapter.proofs.Going.{step_steps}
+use Rattle.std.proofs.Common.{ℕ, suc, ◌≡◌, ◌<◌, ◌≤◌, ◌+◌, ◌-◌, ◌∙◌, ◌⊎◌, List, length, slice_index_or, refl, sym, ap, subst, arith}
+use Rattle.std.specs.Global.{Vec}
+use Rattle.std.specs.List.{remove}
+use Rattle.adapter.specs.Asked.{Asked}
+use Rattle.adapter.specs.Device.{Device}
+use Rattle.device_model.specs.Modelled.{device_at}
+use Rattle.device_model.specs.Queue.{DoesEach, due, not_due}
+use Rattle.device_model.specs.declared.model.Queued.{Queued}
+use Rattle.device_model.proofs.Queueing.{IsAt, at_start, at_inside, at_kept, at_done, at_end_left, at_end_did, did_or_not, each_steps}
 use Rattle.device_model.proofs.model.Model.do_queued.Goals as goal
 use Rattle.device_model.proofs.model.Model.do_queued.Goals.{then-queued-self, else-queued-self}
 
+pub loop-queued-init : goal.loop-queued-init
+loop-queued-init g c =
+    let d : Device = device_at g.S.SectorStore.size g.S.SectorStore.told c.args.self.now in
+    let items = c.args.self.now.queue.items in
+    let ok = c.args.self.now.queue.ok.0 in
+    let P : ℕ → Type 0 = λ n. IsAt c.saturating_add-self.result items items 0 n d d in
+    let all : length items ≡ c.len-queued-end.result - 0 = omega (arith, ok, c.len-queued-end.ensures) in
+    record { same = refl; at = subst P all (at_start c.saturating_add-self.result items d) }
+
+-- there is one at the place while some are left to look at
+pub index-requires : goal.index-requires
+index-requires g c =
+    let m = c.loop-queued.self in
+    let inside = at_inside c.saturating_add-self.result c.args.self.now.queue.items m.queue.items c.loop-queued.place _ _ _ c.loop-queued.invariant.at (omega (arith, c.loop-queued-test.true)) in
+    let ok = m.queue.ok.0 in
+    omega (arith, inside, ok)
+
+pub remove-requires : goal.remove-requires
+remove-requires g c =
+    let m = c.loop-queued.self in
+    let inside = at_inside c.saturating_add-self.result c.args.self.now.queue.items m.queue.items c.loop-queued.place _ _ _ c.loop-queued.invariant.at (omega (arith, c.loop-queued-test.true)) in
+    let ok = m.queue.ok.0 in
+    omega (arith, inside, ok)
+
+pub overflow_add-place : goal.overflow_add-place
+overflow_add-place g c =
+    let m = c.loop-queued.self in
+    let inside = at_inside c.saturating_add-self.result c.args.self.now.queue.items m.queue.items c.loop-queued.place _ _ _ c.loop-queued.invariant.at (omega (arith, c.loop-queued-test.true)) in
+    let ok = m.queue.ok in
+    let small = m.queue.small in
+    omega (arith, inside, ok.0, ok.1, small)
+
 pub loop-queued-preserved : goal.loop-queued-preserved
 loop-queued-preserved g c =
+    let m = c.loop-queued.self in
+    let old : Device = device_at g.S.SectorStore.size g.S.SectorStore.told c.args.self.now in
+    let mid : Device = device_at g.S.SectorStore.size g.S.SectorStore.told m in
+    let access : ℕ = c.saturating_add-self.result in
+    let left : ℕ = c.len-queued-end.result - (c.loop-queued._queued + 1) in
+    let next : c.len-queued-end.result - c.loop-queued._queued ≡ suc left = omega (arith, c.loop-queued-test.true) in
+    let P : ℕ → Type 0 = λ n. IsAt access c.args.self.now.queue.items m.queue.items c.loop-queued.place n old mid in
+    let at = subst P next c.loop-queued.invariant.at in
+    let x : Queued = c.index.result.now in
+    let same = c.loop-queued.invariant.same in
     elim c.if-queued-self.branch [
-      | then-queued-self w ↦ rw w.self-is c.loop-queued.invariant
+      | then-queued-self w ↦
+          let late : access < (slice_index_or m.queue.items c.loop-queued.place x).access =
+          let Q : Queued → Type 0 = λ q. access < q.access in
+          subst Q c.index.ensures (omega (arith, same, w.if-queued-self.true)) in
+          rw (w.self-is, w.place-is)
+          (record { same = same; at = at_kept access c.args.self.now.queue.items m.queue.items c.loop-queued.place left old mid mid at x late refl })
       | else-queued-self w ↦
-          rw w.self-is
-          (Steps-trans c.loop-queued.invariant (step_steps w.do_step-done.result _ _ _ w.do_step-done.ensures.asked w.do_step-done.ensures.refused))
+          let early : (slice_index_or m.queue.items c.loop-queued.place x).access ≤ access =
+          let Q : Queued → Type 0 = λ q. q.access ≤ access in
+          subst Q c.index.ensures (omega (arith, same, w.if-queued-self.false)) in
+          let new : Device = device_at g.S.SectorStore.size g.S.SectorStore.told w.do_step-done.new.self in
+          let R : Queued → Type 0 = λ q. Asked q.step mid new ⊎ (new ≡ mid) in
+          let one = did_or_not w.do_step-done.result x.step mid new w.do_step-done.ensures.asked w.do_step-done.ensures.refused in
+          let gone = at_done access c.args.self.now.queue.items m.queue.items c.loop-queued.place left old mid new at x early (subst R c.index.ensures one) in
+          let items : w.do_step-done.new.self.queue.items ≡ remove m.queue.items c.loop-queued.place =
+          ap (λ (v : Vec Queued). v.items) w.do_step-done.ensures.queue ∙ w.remove.ensures.items in
+          let T : List Queued → Type 0 = λ now. IsAt access c.args.self.now.queue.items now c.loop-queued.place left old new in
+          rw (w.self-is, w.place-is) (record { same = w.do_step-done.ensures.accesses ∙ same; at = subst T (sym items) gone })
     ]
+
+pub returns-clause-counted : goal.returns-clause-counted
+returns-clause-counted g c = c.loop-queued.invariant.same ∙ c.saturating_add-self.ensures
+
+pub returns-clause-left : goal.returns-clause-left
+returns-clause-left g c =
+    let m = c.loop-queued.self in
+    let none : c.len-queued-end.result - c.loop-queued._queued ≡ 0 = omega (arith, c.loop-queued-test.false) in
+    let P : ℕ → Type 0 = λ n. IsAt c.saturating_add-self.result c.args.self.now.queue.items m.queue.items c.loop-queued.place n
+    (device_at g.S.SectorStore.size g.S.SectorStore.told c.args.self.now) (device_at g.S.SectorStore.size g.S.SectorStore.told m) in
+    at_end_left c.saturating_add-self.result c.args.self.now.queue.items m.queue.items c.loop-queued.place _ _ (subst P none c.loop-queued.invariant.at)
+    ∙ ap (λ n. not_due n c.args.self.now.queue.items) (sym c.loop-queued.invariant.same)
+
+pub returns-clause-did : goal.returns-clause-did
+returns-clause-did g c =
+    let m = c.loop-queued.self in
+    let old : Device = device_at g.S.SectorStore.size g.S.SectorStore.told c.args.self.now in
+    let new : Device = device_at g.S.SectorStore.size g.S.SectorStore.told m in
+    let none : c.len-queued-end.result - c.loop-queued._queued ≡ 0 = omega (arith, c.loop-queued-test.false) in
+    let P : ℕ → Type 0 = λ n. IsAt c.saturating_add-self.result c.args.self.now.queue.items m.queue.items c.loop-queued.place n old new in
+    let Q : ℕ → Type 0 = λ n. DoesEach (due n c.args.self.now.queue.items) old new in
+    subst Q (sym c.loop-queued.invariant.same)
+    (at_end_did c.saturating_add-self.result c.args.self.now.queue.items m.queue.items c.loop-queued.place old new (subst P none c.loop-queued.invariant.at))
+
+pub returns-clause-steps : goal.returns-clause-steps
+returns-clause-steps g c = each_steps c.loop-queued.invariant.at.done _ _ c.loop-queued.invariant.at.did

@@ -1,4 +1,4 @@
-use Rattle.std.proofs.Common.{ℕ, suc, ◌≡◌, ◌≤◌, ◌+◌, ◌-◌, ◌∙◌, true, false, inl, inr, sym, ap, subst, arith}
+use Rattle.std.proofs.Common.{ℕ, suc, ◌≡◌, ◌≤◌, ◌+◌, ◌-◌, ◌∙◌, true, false, inl, inr, refl, sym, ap, subst, arith}
 use Rattle.std.specs.Global.{Vec}
 use Rattle.std.specs.Vec.{vec_len, vec_capacity}
 use Rattle.adapter.specs.Device.{Device}
@@ -24,6 +24,8 @@ loop-piece-init g c =
       size = fetched_size c.args.port c.args.slot c.fetch-did.result _ new (λ e. c.fetch-did.ensures.did e o) (λ e. c.fetch-did.ensures.refused e o)
           ∙ ap (λ (d : Device). d.size) kept;
       disk = sym c.sectors-sectors.ensures;
+      queue = refl;
+      accesses = refl;
       room =
           let P : Vec Entry → Type 0 = λ tape. vec_len tape + (c.in-Some.left + 1) ≤ vec_capacity tape in
           let enough = subst P (sym c.fetch-did.ensures.tape) (c.reserve.ensures.room c.if-not-reserve.false) in
@@ -44,6 +46,8 @@ loop-piece-preserved g c = let moved = c.move_piece.ensures.did c.if-not-move_pi
   refused = λ no. absurd (let e : true ≡ false = no in cc);
   size = ap (λ (d : Device). d.size) moved.effect ∙ c.loop-piece.invariant.size;
   disk = c.move_piece.ensures.disk ∙ c.loop-piece.invariant.disk;
+  queue = c.move_piece.ensures.queue ∙ c.loop-piece.invariant.queue;
+  accesses = c.move_piece.ensures.accesses ∙ c.loop-piece.invariant.accesses;
   room = c.move_piece.ensures.left _ (omega (arith, c.loop-piece.invariant.room, c.loop-piece-test.true));
   going =
       let P : ℕ → Type 0 = λ n. IsGoing (device_at g.S.SectorStore.size g.S.SectorStore.told c.loop-piece.self) c.args.port c.args.slot c.sectors-sectors.result n in

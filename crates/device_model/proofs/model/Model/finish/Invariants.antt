@@ -14,4 +14,6 @@ invariant-loop-piece g l = record {
   disk : g.S.SectorStore.size l.self.disk0 ≡ l.sectors;
   room : HasRoom l.self.hardware (l.left - l._piece + 1);
   going : IsGoing (device_at g.S.SectorStore.size g.S.SectorStore.told l.self) l.port l.slot l.sectors (l.left - l._piece);
+  queue : l.self.queue ≡ l.fn.self.queue;
+  accesses : l.self.accesses ≡ l.fn.self.accesses;
 }

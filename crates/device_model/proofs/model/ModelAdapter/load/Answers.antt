@@ -2,12 +2,12 @@ use Rattle.device_model.specs.Whole.{outside_of}
 use Rattle.device_model.proofs.model.ModelAdapter.load.Goals as goal
 
 pub load-requires : goal.load-requires
-load-requires g c = (c.requires _ c.do_queued.ensures).inside
+load-requires g c = (c.requires _ c.do_queued.ensures.steps).inside
 
 pub returns : goal.returns
 returns g c =
     let m = c.do_queued.new.self in
     record {
-      steps = c.do_queued.ensures;
+      steps = c.do_queued.ensures.steps;
       shows = c.load.ensures (outside_of (g.S.SectorStore.size m.disk0) (g.S.SectorStore.told m.disk0) (g.S.SectorStore.told m.disk1));
     }

@@ -9,4 +9,4 @@ pub note-requires : goal.note-requires
 note-requires g c = has_port_read c.args.r _ c.requires
 
 pub returns : goal.returns
-returns g c = record { mid = _; steps = Steps-trans c.do_queued.ensures (c.settle.ensures _); shows = c.shown-value.ensures _; effect = c.note.ensures _ }
+returns g c = record { mid = _; steps = Steps-trans c.do_queued.ensures.steps (c.settle.ensures _); shows = c.shown-value.ensures _; effect = c.note.ensures _ }
