@@ -12,10 +12,17 @@ pub mod Counting
 pub mod Dues
 pub mod Accepts
 pub mod Lasting
+pub mod Configured
 pub mod Limits
+pub mod Changes
+pub mod Touching
+pub mod CallSteps
+pub mod RunLaws
 pub mod EventLemmas
 pub mod Setting
+pub mod Scene
 pub mod WorkedRun
+pub mod WaitingRun
 pub mod KeptMatters
 pub mod HistoryLemmas
 pub mod Standing
