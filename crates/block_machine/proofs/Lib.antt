@@ -23,6 +23,7 @@ pub mod Setting
 pub mod Scene
 pub mod WorkedRun
 pub mod WaitingRun
+pub mod ResetRun
 pub mod KeptMatters
 pub mod HistoryLemmas
 pub mod Standing

@@ -1,17 +1,19 @@
 -- What the worked runs are made of: ports, calls and requests, and what holds of them.
-use Rattle.std.proofs.Common.{◌≡◌, ◌≢◌, ℕ, ◌+◌, ◌<◌, ◌≤◌, true, false, List, [], ◌∷◌, slice_get, Some, is_some, ◌||◌, ◌==◌, eq-eqb, None, inr, ⊎_elim, refl, sym, ap, ◌∙◌, subst, arith}
-use Rattle.std.proofs.lemmas.Bool.{false≢true, or_left}
+use Rattle.std.proofs.Common.{◌≡◌, ◌≢◌, ℕ, ◌+◌, ◌<◌, ◌≤◌, true, false, List, [], ◌∷◌, slice_get, Some, is_some, ◌||◌, ◌==◌, eq-eqb, None, inr, ⊎_elim, refl, sym, ap, ◌∙◌, subst, arith, Bool, cond, eqb-true}
+use Rattle.std.proofs.lemmas.Bool.{false≢true, or_left, cond-true, cond-false}
 use Rattle.std.specs.List.{Contains}
 use Rattle.std.specs.List.Sorted.{IsPermutation}
 use Rattle.std.proofs.lemmas.Option.{slice_get_within, get_or_from_slice_get}
 use Rattle.std.proofs.lemmas.List.Sorted.{IsPermutation-refl}
 use Rattle.ata_types.specs.declared.Port.{Port}
-use Rattle.ata_types.specs.declared.PortState.TheVariants.{Ready, Dead}
+use Rattle.ata_types.specs.declared.PortState.{PortState}
+use Rattle.ata_types.specs.declared.PortState.TheVariants.{Absent, Ready, Dead}
 use Rattle.ata_types.specs.declared.request.Frame.{Frame}
 use Rattle.ata_types.specs.declared.request.RequestId.{RequestId}
 use Rattle.ata_types.specs.declared.request.Reply.{Reply}
 use Rattle.ata_types.specs.declared.request.Op.{Op}
 use Rattle.ata_types.specs.declared.request.Op.TheVariants.{Read, Write, Trim, Flush}
+use Rattle.ata_types.specs.declared.request.Outcome.{Outcome}
 use Rattle.ata_types.specs.declared.request.Outcome.TheVariants as outcome
 use Rattle.ata_types.specs.declared.refusal.Refusal.TheVariants as refused
 use Rattle.ata_types.specs.declared.refusal.MemFault.TheVariants as fault
@@ -33,8 +35,15 @@ use Rattle.block_machine.proofs.Setting.{client, port, frame, row, request, empt
 abbrev pub mode : Mode
 mode = record { queued = true; usable = 32 }
 
+-- port 0 in this state, and no other port
+abbrev pub at_port : PortState → Port → PortState
+at_port state p = cond (p.0 == 0) state Absent
+
+abbrev pub ports_in : PortState → Ports
+ports_in state = record { served = λ p. p.0 == 0; state = at_port state; serial = λ p. []; sectors = λ p. 200; trims = λ p. true; mode = λ p. mode }
+
 abbrev pub ports : Ports
-ports = record { served = λ p. true; state = λ p. Ready; serial = λ p. []; sectors = λ p. 200; trims = λ p. true; mode = λ p. mode }
+ports = ports_in Ready
 
 abbrev pub first : Moment
 first = record { machine = empty; ports = ports }
@@ -157,10 +166,10 @@ pub none_there : (p : Port) → NoneDue mode [] p
 none_there p r here due = contains_none r due.here
 
 -- an only answer is told
-pub one_told : (e : Pending) → e.request.asked.client ≡ client → (steps : List Step) → answers_of steps ≡ (e, outcome.Ok) ∷ [] → (r : Reply) → r ≡ reply_of (e, outcome.Ok) → Tells steps (r ∷ [])
-one_told e mine steps only r is = record {
-  answers = (e, outcome.Ok) ∷ [];
-  same = subst (λ xs. IsPermutation ((e, outcome.Ok) ∷ []) xs) (sym only) (IsPermutation-refl _);
+pub one_told : (e : Pending) (o : Outcome) (steps : List Step) → answers_of steps ≡ (e, o) ∷ [] → (r : Reply) → r ≡ reply_of (e, o) → Tells steps (r ∷ [])
+one_told e o steps only r is = record {
+  answers = (e, o) ∷ [];
+  same = subst (λ xs. IsPermutation ((e, o) ∷ []) xs) (sym only) (IsPermutation-refl _);
   ordered = λ i j d lt below. absurd (omega (arith, lt, below));
   told = ap (λ (x : Reply). x ∷ []) is;
 }
@@ -168,22 +177,50 @@ one_told e mine steps only r is = record {
 pub one_touched : (i : ℕ) → i < 1 → ((i == 0) || false) ≡ true
 one_touched i lt = or_left _ _ (eq-eqb i 0 (omega arith))
 
-pub ports_fit : AreFit ports
-ports_fit = record {
-  absent = λ p e. absurd (false≢true (sym e));
+pub ports_fit : (state : PortState) → AreFit (ports_in state)
+ports_fit state = record {
+  few = λ p e. let zero = eqb-true p.0 0 e in omega (arith, zero);
+  absent = λ p e. cond-false (p.0 == 0) state Absent e;
   slots = λ p e. (omega arith, omega arith, λ f. absurd (false≢true (sym f)));
 }
 
--- no port is dead in any call
-pub none_dead : {A : Type 0} → Ready ≡ Dead → A
-none_dead e = absurd (ready_dead e)
-  where
-    ready_dead : Ready ≡ Dead → ⊥
-    ready_dead e = cc
+-- where port 0 is in a state, and where another is
+pub at_here : (state : PortState) (p : Port) → (p.0 == 0) ≡ true → at_port state p ≡ state
+at_here state p e = cond-true (p.0 == 0) state Absent e
 
--- no port changes in any call
+abbrev pub is_ready : PortState → Bool
+is_ready Ready = true
+is_ready _ = false
+
+abbrev pub is_dead : PortState → Bool
+is_dead Dead = true
+is_dead _ = false
+
+pub ready_here : (p : Port) → at_port Ready p ≡ Ready → (p.0 == 0) ≡ true
+ready_here p e = go (p.0 == 0) e
+  where
+    go : (b : Bool) → cond b Ready Absent ≡ Ready → b ≡ true
+    go true e = refl
+    go false e = absurd (false≢true (ap is_ready e))
+
+-- no port is dead in most calls
+pub none_dead : {A : Type 0} (p : Port) → at_port Ready p ≡ Dead → A
+none_dead {A} p e = go (p.0 == 0) e
+  where
+    go : (b : Bool) → cond b Ready Absent ≡ Dead → A
+    go true e = absurd (false≢true (ap is_dead e))
+    go false e = absurd (false≢true (ap is_dead e))
+
+-- and in them no port changes
 pub serviced : (p : Port) → IsServiced ports none ports p
 serviced p = (
-  record { served = refl; stuck = λ e. none_dead e; kept = λ _. inr (inr (refl, (refl, refl))) },
+  record { served = refl; stuck = λ e. none_dead p e; kept = λ ready. inr (inr (ready, (refl, refl))) },
   λ _. (refl, refl, refl, refl, refl, refl),
 )
+
+-- where port 0 is ready, one request of it is no other port's
+pub emptied_one : (one : Pending) → one.request.port ≡ port → (p : Port) → at_port Ready p ≢ Ready → (e : Pending) → Contains (one ∷ []) e → e.request.port ≢ p
+emptied_one one here p ne e h q = ⊎_elim
+    (λ (same : e ≡ one). ne (subst (λ (x : Port). at_port Ready x ≡ Ready) (sym here ∙ ap (λ (x : Pending). x.request.port) (sym same) ∙ q) refl))
+    (λ n. contains_none e n)
+    (contains_cases one [] e h)

@@ -19,18 +19,19 @@ use Rattle.std.proofs.lemmas.Bool.{false≢true}
 use Rattle.block_machine.specs.declared.due.Unanswered.{Unanswered}
 use Rattle.block_machine.proofs.Dues.{issued_not_due}
 use Rattle.block_machine.proofs.Setting.{acceptable}
-use Rattle.block_machine.proofs.Scene.{mode, first, id, call, reply, sector_request, done, served, IsQuiet, fit_write, fit_read, new, one_issued, none_there, one_told, one_touched, ports_fit, none_dead, serviced}
+use Rattle.ata_types.specs.declared.PortState.TheVariants.{Ready}
+use Rattle.block_machine.proofs.Scene.{mode, first, id, call, reply, sector_request, done, served, IsQuiet, fit_write, fit_read, new, one_issued, none_there, one_told, one_touched, ports_fit, none_dead, serviced, emptied_one}
 
-abbrev run0 : List (Event (Unit {0}))
+abbrev pub run0 : List (Event (Unit {0}))
 run0 = []
 
-abbrev write : Accepted
+abbrev pub write : Accepted
 write = sector_request (moment_of first run0).machine 1 Write 40
 
-abbrev event1 : Event (Unit {0})
+abbrev pub event1 : Event (Unit {0})
 event1 = call (Submit write.asked) (Submitted (Ok (id 1))) (Issue mode (newly_accepted write) ∷ Accept write ∷ [])
 
-abbrev run1 : List (Event (Unit {0}))
+abbrev pub run1 : List (Event (Unit {0}))
 run1 = event1 ∷ run0
 
 abbrev read : Accepted
@@ -64,13 +65,13 @@ quiet0 = record { rows = refl; ready = refl; size = refl; room = omega arith; fe
 quiet1 : IsQuiet (moment_of first run1)
 quiet1 = record { rows = refl; ready = refl; size = refl; room = omega arith; few = omega arith }
 
-happens1 : Happens (moment_of first run0) event1
+pub happens1 : Happens (moment_of first run0) event1
 happens1 = record {
   may = ((tt, new (moment_of first run0) write quiet0 (fit_write (moment_of first run0) 40 quiet0 refl refl) refl refl refl), (contains_here (newly_accepted write) [] (newly_accepted write) refl, record { here = contains_here (unanswered (newly_accepted write)) [] (unanswered (newly_accepted write)) refl; clear = refl; slot = λ _. omega arith }, λ e h. absurd (contains_none e h)));
   belong = ((tt, inr refl), inr (refl, refl));
   last = ((tt, λ id h i. false≢true i), λ id h i. false≢true i);
   lawful = tt;
-  fit = ports_fit;
+  fit = ports_fit Ready;
   disks = λ e o h i same. (refl, refl);
   answered = (acceptable (situation_of (moment_of first run0)) write.asked (fit_write (moment_of first run0) 40 quiet0 refl refl), (write, refl, refl), λ p. (refl, refl, refl, refl, refl, refl), λ p _. one_issued (unanswered (issue (newly_accepted write))) refl p);
 }
@@ -95,7 +96,7 @@ happens2 = record {
   belong = (tt, inr refl);
   last = (tt, λ id h i. false≢true i);
   lawful = tt;
-  fit = ports_fit;
+  fit = ports_fit Ready;
   disks = λ e o h i same. (refl, refl);
   answered = (acceptable (situation_of (moment_of first run1)) read.asked (fit_read (moment_of first run1) 41 quiet1 refl refl), (read, refl, refl), λ p. (refl, refl, refl, refl, refl, refl), λ p _. none_due p);
 }
@@ -115,9 +116,9 @@ happens3 = record {
   belong = ((((tt, inl tt), inl tt), inr tt), inr (refl, refl));
   last = ((((tt, λ id h i. false≢true i), λ id h i. false≢true i), λ id h i. false≢true i), λ id h i. false≢true i);
   lawful = (tt, (record { pending = issue (newly_accepted write); here = contains_here (issue (newly_accepted write)) (newly_accepted read ∷ []) (issue (newly_accepted write)) refl; id_is = refl; issued = refl }, refl, one_touched, refl));
-  fit = ports_fit;
+  fit = ports_fit Ready;
   disks = λ e o h i same. (refl, refl);
-  answered = (one_told (done write) refl event3.steps refl (reply write.id.0) refl, λ e o i dead. none_dead dead, λ p _. one_issued (unanswered (issue (newly_accepted read))) refl p, λ p. (λ ne. absurd (ne refl), serviced p));
+  answered = (one_told (done write) outcome.Ok event3.steps refl (reply write.id.0) refl, λ e o i dead. none_dead e.request.port dead, λ p _. one_issued (unanswered (issue (newly_accepted read))) refl p, λ p. (λ ne e h. emptied_one (issue (newly_accepted read)) refl p ne e h, serviced p));
 }
 
 happens4 : Happens (moment_of first run3) event4
@@ -126,16 +127,16 @@ happens4 = record {
   belong = (((tt, inl tt), inl tt), inr tt);
   last = (((tt, λ id h i. false≢true i), λ id h i. false≢true i), λ id h i. false≢true i);
   lawful = (tt, (record { pending = issue (newly_accepted read); here = contains_here (issue (newly_accepted read)) [] (issue (newly_accepted read)) refl; id_is = refl; issued = refl }, refl, one_touched, refl));
-  fit = ports_fit;
+  fit = ports_fit Ready;
   disks = λ e o h i same. (refl, refl);
-  answered = (one_told (done read) refl event4.steps refl (reply read.id.0) refl, λ e o i dead. none_dead dead, λ p _. none_there p, λ p. (λ ne. absurd (ne refl), serviced p));
+  answered = (one_told (done read) outcome.Ok event4.steps refl (reply read.id.0) refl, λ e o i dead. none_dead e.request.port dead, λ p _. none_there p, λ p. (λ ne e h. absurd (contains_none e h), serviced p));
 }
 
 pub waits_its_turn : WaitsItsTurn
 waits_its_turn = record {
   first = first;
   run = run4;
-  runs = (((((empty_starts, ports_fit), happens1), happens2), happens3), happens4);
+  runs = (((((empty_starts, ports_fit Ready), happens1), happens2), happens3), happens4);
   told = ((((((((((tt, tt), tt), tt), λ e. absurd (false≢true (ap is_reader e))), tt), tt), tt), λ _ b lt. refl), tt), tt);
   late = event4 ∷ [];
   call = event3;

@@ -10,6 +10,7 @@ use Rattle.block_machine.specs.Durable.{ComesBack}
 use Rattle.block_machine.specs.Worked.{FindsTheFlushed}
 use Rattle.block_machine.proofs.Members.{contains_none, contains_here, contains_there}
 use Rattle.block_machine.proofs.Setting.{client, port, frame, request, empty, empty_starts, acceptable}
+use Rattle.ata_types.specs.declared.PortState.TheVariants.{Ready}
 use Rattle.block_machine.proofs.Scene.{mode, first, id, call, reply, sector_request, done, served, is_open, IsQuiet, fit_write, fit_read, fit_flush, new, one_issued, none_there, one_told, one_touched, ports_fit, none_dead, serviced}
 
 abbrev run0 : List (Event (Unit {0}))
@@ -130,7 +131,7 @@ happens1 = record {
   belong = (tt, inr (refl, refl, refl, refl));
   last = (tt, λ id h i. false≢true i);
   lawful = tt;
-  fit = ports_fit;
+  fit = ports_fit Ready;
   disks = λ e o h i same. (refl, refl);
   answered = (is_open (moment_of first run0).machine 40 0 1 refl refl (omega arith), refl, λ p. (refl, refl, refl, refl, refl, refl));
 }
@@ -141,7 +142,7 @@ happens2 = record {
   belong = ((tt, inr refl), inr (refl, refl));
   last = ((tt, λ id h i. false≢true i), λ id h i. false≢true i);
   lawful = tt;
-  fit = ports_fit;
+  fit = ports_fit Ready;
   disks = λ e o h i same. (refl, refl);
   answered = (acceptable (situation_of (moment_of first run1)) write.asked (fit_write (moment_of first run1) 40 quiet1 refl refl), (write, refl, refl), λ p. (refl, refl, refl, refl, refl, refl), λ p _. one_issued (unanswered (issue (newly_accepted write))) refl p);
 }
@@ -152,9 +153,9 @@ happens3 = record {
   belong = (((tt, inl tt), inl tt), inr tt);
   last = (((tt, λ id h i. false≢true i), λ id h i. false≢true i), λ id h i. false≢true i);
   lawful = (tt, (record { pending = issue (newly_accepted write); here = contains_here (issue (newly_accepted write)) [] (issue (newly_accepted write)) refl; id_is = refl; issued = refl }, refl, one_touched, refl));
-  fit = ports_fit;
+  fit = ports_fit Ready;
   disks = λ e o h i same. (refl, refl);
-  answered = (one_told (done write) refl event3.steps refl (reply write.id.0) refl, λ e o i dead. none_dead dead, λ p _. none_there p, λ p. (λ ne. absurd (ne refl), serviced p));
+  answered = (one_told (done write) outcome.Ok event3.steps refl (reply write.id.0) refl, λ e o i dead. none_dead e.request.port dead, λ p _. none_there p, λ p. (λ ne e h. absurd (contains_none e h), serviced p));
 }
 
 happens4 : Happens (moment_of first run3) event4
@@ -163,7 +164,7 @@ happens4 = record {
   belong = ((tt, inr refl), inr (refl, refl));
   last = ((tt, λ id h i. false≢true i), λ id h i. false≢true i);
   lawful = tt;
-  fit = ports_fit;
+  fit = ports_fit Ready;
   disks = λ e o h i same. (refl, refl);
   answered = (acceptable (situation_of (moment_of first run3)) flush.asked (fit_flush (moment_of first run3) quiet3), (flush, refl, refl), λ p. (refl, refl, refl, refl, refl, refl), λ p _. one_issued (unanswered (issue (newly_accepted flush))) refl p);
 }
@@ -174,9 +175,9 @@ happens5 = record {
   belong = ((tt, inl tt), inr tt);
   last = ((tt, λ id h i. false≢true i), λ id h i. false≢true i);
   lawful = (tt, (record { pending = issue (newly_accepted flush); here = contains_here (issue (newly_accepted flush)) [] (issue (newly_accepted flush)) refl; id_is = refl; issued = refl }, refl, (λ k lt. absurd (omega (arith, lt))), refl));
-  fit = ports_fit;
+  fit = ports_fit Ready;
   disks = λ e o h i same. (refl, refl);
-  answered = (one_told (mark_ended (issue (newly_accepted flush))) refl event5.steps refl (reply 2) refl, λ e o i dead. none_dead dead, λ p _. none_there p, λ p. (λ ne. absurd (ne refl), serviced p));
+  answered = (one_told (mark_ended (issue (newly_accepted flush))) outcome.Ok event5.steps refl (reply 2) refl, λ e o i dead. none_dead e.request.port dead, λ p _. none_there p, λ p. (λ ne e h. absurd (contains_none e h), serviced p));
 }
 
 happens6 : Happens (moment_of first run5) event6
@@ -185,7 +186,7 @@ happens6 = record {
   belong = (tt, inr (refl, refl, refl, refl));
   last = (tt, λ id h i. false≢true i);
   lawful = tt;
-  fit = ports_fit;
+  fit = ports_fit Ready;
   disks = λ e o h i same. (refl, refl);
   answered = (is_open (moment_of first run5).machine 40 0 1 refl refl (omega arith), refl, λ p. (refl, refl, refl, refl, refl, refl));
 }
@@ -196,7 +197,7 @@ happens7 = record {
   belong = ((tt, inr refl), inr (refl, refl));
   last = ((tt, λ id h i. false≢true i), λ id h i. false≢true i);
   lawful = tt;
-  fit = ports_fit;
+  fit = ports_fit Ready;
   disks = λ e o h i same. (refl, refl);
   answered = (acceptable (situation_of (moment_of first run6)) later.asked (fit_write (moment_of first run6) 40 quiet6 refl refl), (later, refl, refl), λ p. (refl, refl, refl, refl, refl, refl), λ p _. one_issued (unanswered (issue (newly_accepted later))) refl p);
 }
@@ -207,9 +208,9 @@ happens8 = record {
   belong = (((tt, inl tt), inl tt), inr tt);
   last = (((tt, λ id h i. false≢true i), λ id h i. false≢true i), λ id h i. false≢true i);
   lawful = (tt, (record { pending = issue (newly_accepted later); here = contains_here (issue (newly_accepted later)) [] (issue (newly_accepted later)) refl; id_is = refl; issued = refl }, refl, one_touched, refl));
-  fit = ports_fit;
+  fit = ports_fit Ready;
   disks = λ e o h i same. (refl, refl);
-  answered = (one_told (done later) refl event8.steps refl (reply later.id.0) refl, λ e o i dead. none_dead dead, λ p _. none_there p, λ p. (λ ne. absurd (ne refl), serviced p));
+  answered = (one_told (done later) outcome.Ok event8.steps refl (reply later.id.0) refl, λ e o i dead. none_dead e.request.port dead, λ p _. none_there p, λ p. (λ ne e h. absurd (contains_none e h), serviced p));
 }
 
 happens9 : Happens (moment_of first run8) event9
@@ -218,7 +219,7 @@ happens9 = record {
   belong = (tt, inl tt);
   last = (tt, λ id h i. false≢true i);
   lawful = tt;
-  fit = ports_fit;
+  fit = ports_fit Ready;
   disks = λ e o h i same. (refl, refl);
   answered = ((tt, tt), λ p. (refl, refl, refl, refl, refl, refl));
 }
@@ -229,7 +230,7 @@ happens10 = record {
   belong = (tt, inl tt);
   last = (tt, λ id h i. false≢true i);
   lawful = tt;
-  fit = ports_fit;
+  fit = ports_fit Ready;
   disks = λ e o h i same. (refl, refl);
   answered = ((tt, tt), λ p. (refl, refl, refl, refl, refl, refl));
 }
@@ -240,7 +241,7 @@ happens11 = record {
   belong = ((tt, inr refl), inr (refl, refl));
   last = ((tt, λ id h i. false≢true i), λ id h i. false≢true i);
   lawful = tt;
-  fit = ports_fit;
+  fit = ports_fit Ready;
   disks = λ e o h i same. (refl, refl);
   answered = (acceptable (situation_of (moment_of first run10)) read.asked (fit_read (moment_of first run10) 41 quiet10 refl refl), (read, refl, refl), λ p. (refl, refl, refl, refl, refl, refl), λ p _. one_issued (unanswered (issue (newly_accepted read))) refl p);
 }
@@ -251,9 +252,9 @@ happens12 = record {
   belong = (((tt, inl tt), inl tt), inr tt);
   last = (((tt, λ id h i. false≢true i), λ id h i. false≢true i), λ id h i. false≢true i);
   lawful = (tt, (record { pending = issue (newly_accepted read); here = contains_here (issue (newly_accepted read)) [] (issue (newly_accepted read)) refl; id_is = refl; issued = refl }, refl, one_touched, refl));
-  fit = ports_fit;
+  fit = ports_fit Ready;
   disks = λ e o h i same. (refl, refl);
-  answered = (one_told (done read) refl event12.steps refl (reply read.id.0) refl, λ e o i dead. none_dead dead, λ p _. none_there p, λ p. (λ ne. absurd (ne refl), serviced p));
+  answered = (one_told (done read) outcome.Ok event12.steps refl (reply read.id.0) refl, λ e o i dead. none_dead e.request.port dead, λ p _. none_there p, λ p. (λ ne e h. absurd (contains_none e h), serviced p));
 }
 
 loaded : (b : ℕ) → b < 1 → slice_index (90 ∷ []) b ≡ (moment_of first run12).machine.memory (frame 41) (0 + b)
@@ -265,7 +266,7 @@ happens13 = record {
   belong = (tt, inr (refl, refl, refl, refl));
   last = (tt, λ id h i. false≢true i);
   lawful = tt;
-  fit = ports_fit;
+  fit = ports_fit Ready;
   disks = λ e o h i same. (refl, refl);
   answered = (is_open (moment_of first run12).machine 41 0 1 refl refl (omega arith), refl, λ p. (refl, refl, refl, refl, refl, refl));
 }
@@ -277,7 +278,7 @@ pub finds_the_flushed : FindsTheFlushed
 finds_the_flushed = record {
   first = first;
   run = run13;
-  runs = ((((((((((((((empty_starts, ports_fit), happens1), happens2), happens3), happens4), happens5), happens6), happens7), happens8), happens9), happens10), happens11), happens12), happens13);
+  runs = ((((((((((((((empty_starts, ports_fit Ready), happens1), happens2), happens3), happens4), happens5), happens6), happens7), happens8), happens9), happens10), happens11), happens12), happens13);
   told = ((((((((((((((((((((((((tt, tt), tt), tt), λ e. absurd (false≢true (ap is_reader e))), tt), tt), tt), tt), tt), tt), tt), tt), tt), λ e. absurd (false≢true (ap is_reader e))), tt), tt), tt), tt), tt), tt), λ _ b lt. refl), tt), tt), tt);
   volatile = ((((((((((((((((((((((((tt, tt), tt), tt), tt), tt), tt), tt), tt), tt), tt), tt), tt), tt), tt), tt), tt), tt), back), tt), tt), tt), tt), tt), tt);
   port = port;

@@ -1,5 +1,5 @@
 -- What the ports are to clients and to the book, and what a call may make of them (this project's own).
-use Rattle.std.specs.Prelude.{◌≡◌, ◌⊎◌, ℕ, ◌≤◌, Bool, true, false, List, Contains}
+use Rattle.std.specs.Prelude.{◌≡◌, ◌⊎◌, ℕ, ◌<◌, ◌≤◌, Bool, true, false, List, Contains}
 use Rattle.ata_types.specs.declared.Port.{Port}
 use Rattle.ata_types.specs.declared.PortState.{PortState}
 use Rattle.ata_types.specs.declared.PortState.TheVariants.{Absent, Ready, Dead}
@@ -22,8 +22,10 @@ pub record Ports : Type 0 where
 abbrev pub IsMode : Mode → Type 0
 IsMode mode = (1 ≤ mode.usable) × (mode.usable ≤ 32) × (mode.queued ≡ false → mode.usable ≡ 1)
 
--- What ports are between any two calls. (A mode is known of a ready port alone: the disk's own page tells it.)
+-- What ports are between any two calls: at most four are served. (A mode is known of a ready port alone: the disk's own page
+-- tells it.)
 pub record AreFit (ports : Ports) : Type 0 where
+  pub few : (port : Port) → ports.served port ≡ true → port.0 < 4
   pub absent : (port : Port) → ports.served port ≡ false → ports.state port ≡ Absent
   pub slots : (port : Port) → ports.state port ≡ Ready → IsMode (ports.mode port)
 

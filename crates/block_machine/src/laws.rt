@@ -26,7 +26,7 @@ ghost use Rattle.block_machine.specs.Left.{IsStart, IsLegal, AllTold, HasTouched
 ghost use Rattle.block_machine.specs.Confined.{IsGranted, IsConfined, IsHeld, WasAccepted, WithinLimits, MayChangeByte, MayChangeSector};
 ghost use Rattle.block_machine.specs.Durable.{IsVolatile, EveryPlugFinds};
 ghost use Rattle.block_machine.specs.Events.{Moment, Event, Happens, IsRun, IsStillStuck, EveryReadHolds, issues_it, moment_of, steps_of};
-ghost use Rattle.block_machine.specs.Worked.{FindsTheFlushed, WaitsItsTurn, GoesWrong};
+ghost use Rattle.block_machine.specs.Worked.{FindsTheFlushed, WaitsItsTurn, EndsWithAReset, GoesWrong};
 
 /// One rule is the first that a request breaks.
 pub fn first_broken_rule_is_one()
@@ -85,6 +85,11 @@ pub fn every_plug_finds<D>()
     ensures { (first : Moment) (run : List (Event D)) → IsRun first run
         → IsVolatile first.machine (steps_of run)
         → EveryPlugFinds first.machine (steps_of run) }
+{}
+
+/// A run exists in which ticks, a reset that is stuck, and one that ends do what they have to.
+pub fn a_reset_run_exists()
+    ensures { EndsWithAReset }
 {}
 
 /// Where a run answers a request Ok, each of its sectors was touched, and since then the request wasn't issued again.
