@@ -244,7 +244,7 @@ happens6 = record {
     one_told again outcome.PortDead service.steps refl (reply_of (again, outcome.PortDead)) refl,
     told_dead,
     λ p ready. dead_not_ready p ready,
-    λ p. (λ ne e h. absurd (contains_none e h), (record { served = refl; stuck = dead_here p; kept = λ ready. dead_not_ready p ready }, λ _. (refl, refl, refl, refl, refl, refl))),
+    λ p. (λ ne e h. absurd (contains_none e h), (record { served = refl; stuck = dead_here p; disk = λ ready. dead_not_ready p ready }, λ _. (refl, refl, refl, refl, refl, refl))),
   );
 }
 
@@ -260,7 +260,7 @@ happens7 = record {
     none_told reset.steps refl,
     record { later = []; earlier = []; split = refl; before = tt; once = refl },
     λ p _. none_there p,
-    λ p. (λ ne e h. absurd (contains_none e h), record { served = refl; stuck = λ e. none_dead p e; kept = λ ready. dead_not_ready p ready }, λ e h. absurd (contains_none e h)),
+    λ p. (λ ne e h. absurd (contains_none e h), record { served = refl; stuck = λ e. none_dead p e; disk = λ ready. dead_not_ready p ready }, λ e h. absurd (contains_none e h)),
   );
 }
 

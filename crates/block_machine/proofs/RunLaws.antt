@@ -79,7 +79,7 @@ kind ask said old evidence steps new was a = absurd a
 
 -- Ports.
 
-abbrev is_ready : PortState → Bool
+abbrev pub is_ready : PortState → Bool
 is_ready Ready = true
 is_ready _ = false
 

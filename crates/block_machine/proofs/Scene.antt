@@ -214,7 +214,7 @@ none_dead {A} p e = go (p.0 == 0) e
 -- and in them no port changes
 pub serviced : (p : Port) → IsServiced ports none ports p
 serviced p = (
-  record { served = refl; stuck = λ e. none_dead p e; kept = λ ready. inr (inr (ready, (refl, refl))) },
+  record { served = refl; stuck = λ e. none_dead p e; disk = λ ready. inr (inr (ready, (refl, refl))) },
   λ _. (refl, refl, refl, refl, refl, refl),
 )
 

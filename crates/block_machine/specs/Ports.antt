@@ -61,7 +61,7 @@ pub record Evidence : Type 0 where
 pub record MayBecome (old : Ports) (evidence : Evidence) (new : Ports) (port : Port) : Type 0 where
   pub served : new.served port ≡ old.served port
   pub stuck : new.state port ≡ Dead → Contains evidence.stuck port
-  pub kept : old.state port ≡ Ready
+  pub disk : old.state port ≡ Ready
       → Contains evidence.lost port ⊎ ((new.state port ≡ Dead) ⊎ ((new.state port ≡ Ready) × SameDisk old new port))
 
 -- What a service may make of it: a dead port stays what it is, since a reset alone ends that.

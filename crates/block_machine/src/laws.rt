@@ -25,7 +25,7 @@ ghost use Rattle.block_machine.specs.Steps.{Step, Touch, Issue, Answer, May, aft
 ghost use Rattle.block_machine.specs.Left.{IsStart, IsLegal, AllTold, HasTouched, HasTouchedSince, IsLeft, HoldsLeft, after};
 ghost use Rattle.block_machine.specs.Confined.{IsGranted, IsConfined, IsHeld, WasAccepted, WithinLimits, MayChangeByte, MayChangeSector};
 ghost use Rattle.block_machine.specs.Durable.{IsVolatile, EveryPlugFinds};
-ghost use Rattle.block_machine.specs.Events.{Moment, Event, Happens, IsRun, IsStillStuck, EveryReadHolds, issues_it, moment_of, steps_of};
+ghost use Rattle.block_machine.specs.Events.{Moment, Event, AllIssued, Happens, IsRun, IsStillStuck, EveryReadHolds, issues_it, moment_of, steps_of};
 ghost use Rattle.block_machine.specs.Worked.{FindsTheFlushed, WaitsItsTurn, EndsWithAReset, GoesWrong};
 
 /// One rule is the first that a request breaks.
@@ -104,6 +104,12 @@ pub fn ok_was_touched<D>()
 pub fn issued_once_a_call<D>()
     ensures { (old : Moment) (event : Event D) (id : RequestId) → Happens old event
         → count_by (issues_it id) event.steps ≤ 1 }
+{}
+
+/// At each moment of a run no request of a ready port is due: calls that issue leave none, and no other makes one due.
+pub fn none_due_between<D>()
+    ensures { (first : Moment) (run : List (Event D)) → IsRun first run
+        → AllIssued (moment_of first run) }
 {}
 
 /// At each moment of a run the age of an issued request is two at most: the tick that would bring it to three restarts its

@@ -1,6 +1,6 @@
 // Why a request, or a client's access to a frame, is refused, as a plain and slow program: each cause by itself, and then the
 // first that applies.
-ghost use Rattle.std.specs.Prelude.{◌≡◌, ◌⊎◌, ◌<◌, ◌≤◌, ◌↔◌, IsTrue, IfSome, IfNone, slice_get, count_by, ◌==◌};
+ghost use Rattle.std.specs.Prelude.{false, ◌≡◌, ◌⊎◌, ◌<◌, ◌≤◌, ◌↔◌, IsTrue, IfSome, IfNone, slice_get, count_by, ◌==◌};
 ghost use Rattle.ata_types.specs.Grant.{Allows, Covers};
 ghost use Rattle.block_machine.specs.Rules.{IsNamed, Names, IsCount, frames_for, Breaks, HasFault, fault_number, fault_place, BreaksNone, IsFirstBroken};
 ghost use Rattle.block_machine.specs.Refusals.{Applies, IsAcceptable, IsFirstRefusal, MemApplies, IsOpen, IsFirstMemFault, refusal_number};
@@ -23,7 +23,10 @@ pub struct PortShown {
 }
 
 impl Default for PortShown {
-    fn default() -> Self {
+    /// A port that isn't there.
+    fn default() -> Self
+        ensures { result ≡ record { state = PortState.Absent; sectors = 0; trims = false } }
+    {
         PortShown {
             state: PortState::Absent,
             sectors: 0,
@@ -125,11 +128,7 @@ impl Tables {
     {
         match self.ports.as_slice().get(port.0 as usize) {
             Some(shown) => *shown,
-            None => PortShown {
-                state: PortState::Absent,
-                sectors: 0,
-                trims: false,
-            },
+            None => PortShown::default(),
         }
     }
 
