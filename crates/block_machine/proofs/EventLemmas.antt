@@ -9,7 +9,8 @@ use Rattle.block_machine.specs.State.{Block, Memory, Pending, Machine, frame_at,
 use Rattle.block_machine.specs.Steps.{Step, Accept, Touch, Answer, Release, Store, May, after_step, stays, unlend, is_lent_to, put_bytes, memory_after}
 use Rattle.block_machine.specs.Left.{after, IsLegal, IsStart, AllTold}
 use Rattle.block_machine.specs.Durable.{IsVolatile, EveryPlugFinds}
-use Rattle.block_machine.specs.Events.{Ports, Moment, Ask, Submit, StoreAt, LoadAt, Service, Tick, Reset, State, Device, Event, Evidence, AllMay, IsDevices, IsServers, Belong, AllLawful, moment_of, IsRun, steps_of, AnswerHolds, AnswersHold, EveryReadHolds}
+use Rattle.block_machine.specs.Ports.{Ports, Evidence}
+use Rattle.block_machine.specs.Events.{Moment, Ask, Submit, StoreAt, LoadAt, Service, Tick, Reset, State, Device, Event, AllMay, IsDevices, IsServers, Belong, AllLawful, moment_of, IsRun, steps_of, AnswerHolds, AnswersHold, EveryReadHolds}
 use Rattle.block_machine.proofs.Order.{In}
 use Rattle.block_machine.proofs.Sound.{Sound}
 use Rattle.block_machine.proofs.Trace.{runs_lives}
@@ -29,40 +30,40 @@ legal_more start (step ∷ late) early l a =
     (legal_more start late early l a.0, subst (λ (m : Machine). May m step) (sym (after-append start late early)) a.1)
 
 -- the machine of a run is the one that its steps leave
-pub moment_is : (first : Moment) (run : List Event) → (moment_of first run).machine ≡ after first.machine (steps_of run)
+pub moment_is : {D : Type 0} (first : Moment) (run : List (Event D)) → (moment_of first run).machine ≡ after first.machine (steps_of run)
 moment_is first [] = refl
 moment_is first (event ∷ past) = ap (λ (m : Machine). after m event.steps) (moment_is first past) ∙ sym (after-append first.machine event.steps (steps_of past))
 
-pub run_starts : (first : Moment) (run : List Event) → IsRun first run → IsStart first.machine
-run_starts first [] r = r
+pub run_starts : {D : Type 0} (first : Moment) (run : List (Event D)) → IsRun first run → IsStart first.machine
+run_starts first [] r = r.0
 run_starts first (event ∷ past) r = run_starts first past r.0
 
-pub run_legal : (first : Moment) (run : List Event) → IsRun first run → IsLegal first.machine (steps_of run)
+pub run_legal : {D : Type 0} (first : Moment) (run : List (Event D)) → IsRun first run → IsLegal first.machine (steps_of run)
 run_legal first [] r = tt
 run_legal first (event ∷ past) r = legal_more first.machine event.steps (steps_of past) (run_legal first past r.0)
     (subst (λ (m : Machine). AllMay m event.steps) (moment_is first past) r.1.may)
 
 -- Each Ok is told of a whole request.
 
-answer_whole : (old : Machine) (evidence : Evidence) (step : Step) (before : List Step) → AllLawful old evidence (step ∷ before) → AllLawful old evidence before × IsWhole step
-answer_whole old evidence (Answer e Ok) before l = (l.0, (l.1.2, l.1.3))
-answer_whole old evidence (Answer e (DeviceError status error)) before l = (l.0, tt)
-answer_whole old evidence (Answer e Aborted) before l = (l.0, tt)
-answer_whole old evidence (Answer e Unplugged) before l = (l.0, tt)
-answer_whole old evidence (Answer e PortDead) before l = (l.0, tt)
-answer_whole old evidence _ before l = (l, tt)
+answer_whole : (old : Machine) (evidence : Evidence) (ports : Ports) (step : Step) (before : List Step) → AllLawful old evidence ports (step ∷ before) → AllLawful old evidence ports before × IsWhole step
+answer_whole old evidence ports (Answer e Ok) before l = (l.0, (l.1.2, l.1.3))
+answer_whole old evidence ports (Answer e (DeviceError status error)) before l = (l.0, tt)
+answer_whole old evidence ports (Answer e Aborted) before l = (l.0, tt)
+answer_whole old evidence ports (Answer e Unplugged) before l = (l.0, tt)
+answer_whole old evidence ports (Answer e PortDead) before l = (l.0, tt)
+answer_whole old evidence ports _ before l = (l, tt)
 
-call_whole : (old : Machine) (evidence : Evidence) (steps past : List Step) → AllLawful old evidence steps → AllWhole past → AllWhole (steps ++ past)
-call_whole old evidence [] past l w = w
-call_whole old evidence (step ∷ before) past l w =
-    let q = answer_whole old evidence step before l in (call_whole old evidence before past q.0 w, q.1)
+call_whole : (old : Machine) (evidence : Evidence) (ports : Ports) (steps past : List Step) → AllLawful old evidence ports steps → AllWhole past → AllWhole (steps ++ past)
+call_whole old evidence ports [] past l w = w
+call_whole old evidence ports (step ∷ before) past l w =
+    let q = answer_whole old evidence ports step before l in (call_whole old evidence ports before past q.0 w, q.1)
 
-pub run_whole : (first : Moment) (run : List Event) → IsRun first run → AllWhole (steps_of run)
+pub run_whole : {D : Type 0} (first : Moment) (run : List (Event D)) → IsRun first run → AllWhole (steps_of run)
 run_whole first [] r = tt
-run_whole first (event ∷ past) r = call_whole (moment_of first past).machine event.evidence event.steps (steps_of past) r.1.lawful (run_whole first past r.0)
+run_whole first (event ∷ past) r = call_whole (moment_of first past).machine event.evidence event.ports event.steps (steps_of past) r.1.lawful (run_whole first past r.0)
 
 -- a disk that comes back in a run has the writes that were flushed
-pub run_finds : (first : Moment) (run : List Event) → IsRun first run → IsVolatile first.machine (steps_of run) → EveryPlugFinds first.machine (steps_of run)
+pub run_finds : {D : Type 0} (first : Moment) (run : List (Event D)) → IsRun first run → IsVolatile first.machine (steps_of run) → EveryPlugFinds first.machine (steps_of run)
 run_finds first run r back = every_plug_finds first.machine (steps_of run) (run_starts first run r) (run_legal first run r) (run_whole first run r) back
 
 -- In a call that answers, no request is accepted and no client stores.
@@ -82,54 +83,54 @@ devices_quiet (Store client frame offset bytes) d = absurd d
 devices_quiet (Answer e outcome) d = absurd d
 devices_quiet _ d = (tt, tt)
 
-quiet_service : (ports : Ports) (step : Step) → IsServers Service ports step → IsQuiet step
-quiet_service ports (Accept r) h = absurd h
-quiet_service ports (Store client frame offset bytes) h = absurd h
-quiet_service ports _ h = tt
+quiet_service : (D : Type 0) (ports : Ports) (step : Step) → IsServers {D = D} Service ports step → IsQuiet step
+quiet_service D ports (Accept r) h = absurd h
+quiet_service D ports (Store client frame offset bytes) h = absurd h
+quiet_service D ports _ h = tt
 
-quiet_tick : (ports : Ports) (step : Step) → IsServers Tick ports step → IsQuiet step
-quiet_tick ports (Accept r) h = absurd h
-quiet_tick ports (Store client frame offset bytes) h = absurd h
-quiet_tick ports _ h = tt
+quiet_tick : (D : Type 0) (ports : Ports) (step : Step) → IsServers {D = D} Tick ports step → IsQuiet step
+quiet_tick D ports (Accept r) h = absurd h
+quiet_tick D ports (Store client frame offset bytes) h = absurd h
+quiet_tick D ports _ h = tt
 
-quiet_reset : (ports : Ports) (step : Step) → IsServers Reset ports step → IsQuiet step
-quiet_reset ports (Accept r) h = absurd h
-quiet_reset ports (Store client frame offset bytes) h = absurd h
-quiet_reset ports _ h = tt
+quiet_reset : (D : Type 0) (ports : Ports) (step : Step) → IsServers {D = D} Reset ports step → IsQuiet step
+quiet_reset D ports (Accept r) h = absurd h
+quiet_reset D ports (Store client frame offset bytes) h = absurd h
+quiet_reset D ports _ h = tt
 
-abbrev Quiet : Ask → Ports → Type 0
+abbrev Quiet : {D : Type 0} → Ask D → Ports → Type 0
 Quiet ask ports = (step : Step) → IsServers ask ports step → IsQuiet step
 
-abbrev Silent : Ask → Ports → Type 0
+abbrev Silent : {D : Type 0} → Ask D → Ports → Type 0
 Silent ask ports = (step : Step) → IsServers ask ports step → IsSilent step
 
-quiet_or_silent : (ask : Ask) (ports : Ports) → Quiet ask ports ⊎ Silent ask ports
-quiet_or_silent Service ports = inl (quiet_service ports)
-quiet_or_silent Tick ports = inl (quiet_tick ports)
-quiet_or_silent Reset ports = inl (quiet_reset ports)
-quiet_or_silent (Submit r) ports = inr go
+quiet_or_silent : {D : Type 0} (ask : Ask D) (ports : Ports) → Quiet ask ports ⊎ Silent ask ports
+quiet_or_silent {D} Service ports = inl (quiet_service D ports)
+quiet_or_silent {D} Tick ports = inl (quiet_tick D ports)
+quiet_or_silent {D} Reset ports = inl (quiet_reset D ports)
+quiet_or_silent {D} (Submit r) ports = inr go
   where
-    go : (step : Step) → IsServers (Submit r) ports step → IsSilent step
+    go : (step : Step) → IsServers {D = D} (Submit r) ports step → IsSilent step
     go (Answer e outcome) h = absurd h
     go _ h = tt
-quiet_or_silent (StoreAt c f o b) ports = inr go
+quiet_or_silent {D} (StoreAt c f o b) ports = inr go
   where
-    go : (step : Step) → IsServers (StoreAt c f o b) ports step → IsSilent step
+    go : (step : Step) → IsServers {D = D} (StoreAt c f o b) ports step → IsSilent step
     go (Answer e outcome) h = absurd h
     go _ h = tt
-quiet_or_silent (LoadAt c f o n) ports = inr go
+quiet_or_silent {D} (LoadAt c f o n) ports = inr go
   where
-    go : (step : Step) → IsServers (LoadAt c f o n) ports step → IsSilent step
+    go : (step : Step) → IsServers {D = D} (LoadAt c f o n) ports step → IsSilent step
     go (Answer e outcome) h = absurd h
     go _ h = tt
-quiet_or_silent (State port) ports = inr go
+quiet_or_silent {D} (State port) ports = inr go
   where
-    go : (step : Step) → IsServers (State port) ports step → IsSilent step
+    go : (step : Step) → IsServers {D = D} (State port) ports step → IsSilent step
     go (Answer e outcome) h = absurd h
     go _ h = tt
-quiet_or_silent Device ports = inr go
+quiet_or_silent {D} (Device d) ports = inr go
   where
-    go : (step : Step) → IsServers Device ports step → IsSilent step
+    go : (step : Step) → IsServers {D = D} (Device d) ports step → IsSilent step
     go (Answer e outcome) h = absurd h
     go _ h = tt
 
@@ -210,13 +211,13 @@ silents_hold : (start : Machine) (memory : Memory) (steps past : List Step) → 
 silents_hold start memory [] past h = tt
 silents_hold start memory (step ∷ before) past h = (silents_hold start memory before past (λ x i. h x (inr i)), silent_holds start memory (before ++ past) step (h step (inl refl)))
 
-belongs : (ask : Ask) (ports : Ports) (steps : List Step) → Belong ask ports steps → (step : Step) → In step steps → IsDevices step ⊎ IsServers ask ports step
+belongs : {D : Type 0} (ask : Ask D) (ports : Ports) (steps : List Step) → Belong ask ports steps → (step : Step) → In step steps → IsDevices step ⊎ IsServers ask ports step
 belongs ask ports [] b step i = absurd i
 belongs ask ports (x ∷ xs) b step (inl e) = subst (λ (y : Step). IsDevices y ⊎ IsServers ask ports y) (sym e) b.1
 belongs ask ports (x ∷ xs) b step (inr i) = belongs ask ports xs b.0 step i
 
 -- each read of a run that was answered Ok has, at the end of its call, what is left
-pub every_read_holds : (first : Moment) (run : List Event) → IsRun first run → AllTold first.machine (steps_of run) → EveryReadHolds first run
+pub every_read_holds : {D : Type 0} (first : Moment) (run : List (Event D)) → IsRun first run → AllTold first.machine (steps_of run) → EveryReadHolds first run
 every_read_holds first [] r told = tt
 every_read_holds first (event ∷ past) r told = (
   every_read_holds first past r.0 (told_before event.steps (steps_of past) told),

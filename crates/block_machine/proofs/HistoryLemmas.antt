@@ -8,28 +8,28 @@ use Rattle.block_machine.specs.Events.{Moment, AllMay, Happens, moment_after, mo
 use Rattle.block_machine.specs.Histories.{Instant, Happening, now, events_of, IsHistory, IsReached, AddsSteps}
 use Rattle.block_machine.proofs.EventLemmas.{after-append, legal_more, run_starts, run_legal, moment_is, every_read_holds, run_finds}
 
-pub now_is : {D : Type 0} (first : Instant D) (past : List (Happening D)) → (now first past).moment ≡ moment_of first.moment (events_of past)
+pub now_is : {D E : Type 0} (first : Instant D) (past : List (Happening D E)) → (now first past).moment ≡ moment_of first.moment (events_of past)
 now_is first [] = refl
 now_is first (h ∷ past) = ap (λ (m : Moment). moment_after m h.event) (now_is first past)
 
 -- the events of a history are a run
-pub history_is_run : {D : Type 0} (Begins : Instant D → Type 0) (Agrees : Instant D → Happening D → Type 0) (first : Instant D) (past : List (Happening D))
+pub history_is_run : {D E : Type 0} (Begins : Instant D → Type 0) (Agrees : Instant D → Happening D E → Type 0) (first : Instant D) (past : List (Happening D E))
     → IsHistory Begins Agrees first past → IsRun first.moment (events_of past)
 history_is_run Begins Agrees first [] h = h.0
 history_is_run Begins Agrees first (x ∷ past) h =
     (history_is_run Begins Agrees first past h.0, subst (λ (m : Moment). Happens m x.event) (now_is first past) h.1)
 
 -- so its reads hold what is left, and its flushed writes last
-pub history_reads : {D : Type 0} (Begins : Instant D → Type 0) (Agrees : Instant D → Happening D → Type 0) (first : Instant D) (past : List (Happening D))
+pub history_reads : {D E : Type 0} (Begins : Instant D → Type 0) (Agrees : Instant D → Happening D E → Type 0) (first : Instant D) (past : List (Happening D E))
     → IsHistory Begins Agrees first past → AllTold first.moment.machine (steps_of (events_of past)) → EveryReadHolds first.moment (events_of past)
 history_reads Begins Agrees first past h told = every_read_holds first.moment (events_of past) (history_is_run Begins Agrees first past h) told
 
-pub history_finds : {D : Type 0} (Begins : Instant D → Type 0) (Agrees : Instant D → Happening D → Type 0) (first : Instant D) (past : List (Happening D))
+pub history_finds : {D E : Type 0} (Begins : Instant D → Type 0) (Agrees : Instant D → Happening D E → Type 0) (first : Instant D) (past : List (Happening D E))
     → IsHistory Begins Agrees first past → IsVolatile first.moment.machine (steps_of (events_of past)) → EveryPlugFinds first.moment.machine (steps_of (events_of past))
 history_finds Begins Agrees first past h back = run_finds first.moment (events_of past) (history_is_run Begins Agrees first past h) back
 
 -- the machine of a history is reached
-pub history_reaches : {D : Type 0} (Begins : Instant D → Type 0) (Agrees : Instant D → Happening D → Type 0) (first : Instant D) (past : List (Happening D))
+pub history_reaches : {D E : Type 0} (Begins : Instant D → Type 0) (Agrees : Instant D → Happening D E → Type 0) (first : Instant D) (past : List (Happening D E))
     → IsHistory Begins Agrees first past → IsReached (now first past).moment.machine
 history_reaches Begins Agrees first past h =
     let run = history_is_run Begins Agrees first past h in

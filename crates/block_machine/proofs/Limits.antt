@@ -4,7 +4,6 @@ use Rattle.std.proofs.lemmas.Bool.{cases_eq, cases_Bool, and_parts, and_from, co
 use Rattle.std.specs.List.{Contains}
 use Rattle.ata_types.specs.declared.Port.{Port}
 use Rattle.ata_types.specs.declared.request.ClientId.{ClientId}
-use Rattle.ata_types.specs.declared.request.Frame.{Frame}
 use Rattle.ata_types.specs.declared.request.RequestId.{RequestId}
 use Rattle.ata_types.specs.declared.refusal.FrameFault.TheVariants.{FrameForeign}
 use Rattle.ata_types.specs.declared.refusal.Rule.TheVariants.{Frames}
@@ -20,6 +19,7 @@ use Rattle.block_machine.proofs.Sound.{Sound, KeepsRequest}
 use Rattle.block_machine.proofs.Keeps.{at_keeps, older_keeps, older_issued, get_frame}
 use Rattle.block_machine.proofs.Runs.{traced, nobody}
 use Rattle.block_machine.proofs.Accepts.{living_accepted}
+use Rattle.block_machine.proofs.Configured.{owner_step, all_few}
 use Rattle.block_machine.proofs.Order.{Ordered, in_from, from_in, from_ordered}
 use Rattle.block_machine.proofs.Counting.{count_cons, count_append, count_map, count_none, unheld}
 
@@ -193,13 +193,8 @@ few start (step ∷ past) s legal c = few_step (after start past) step legal.1 c
 
 -- Owners.
 
-owner_stays : (m : Machine) (step : Step) (f : Frame) → (after_step m step).owner f ≡ m.owner f
-owner_stays m (Accept r) f = refl
-owner_stays m (Issue mode e) f = refl
-owner_stays m _ f = refl
-
 -- the owner that isn't another
-owned : (o : Option ClientId) (c : ClientId) → ((o ≡ Some c → ⊥) → ⊥) → o ≡ Some c
+pub owned : (o : Option ClientId) (c : ClientId) → ((o ≡ Some c → ⊥) → ⊥) → o ≡ Some c
 owned None c h = absurd (h (λ p. none_some p))
   where
     none_some : None ≡ Some c → ⊥
@@ -214,14 +209,15 @@ owned (Some d) c h = ⊎_elim
 
 accepted_owned : (start : Machine) (h : List Step) (r : Accepted) → WasAccepted start h r → (i : ℕ) → i < length r.asked.frames.items → (after start h).owner (frame_at r.asked.frames.items i) ≡ Some r.asked.client
 accepted_owned start [] r w i lt = absurd w
-accepted_owned start (step ∷ past) r (inl c) i lt = owner_stays (after start past) step (frame_at r.asked.frames.items i)
+accepted_owned start (step ∷ past) r (inl c) i lt = owner_step (after start past) step (frame_at r.asked.frames.items i)
     ∙ owned _ r.asked.client (λ ne. c.1.unbroken (Frames (FrameForeign i)) (frame_at r.asked.frames.items i, get_frame r.asked.frames.items i lt, ne))
-accepted_owned start (step ∷ past) r (inr w) i lt = owner_stays (after start past) step (frame_at r.asked.frames.items i) ∙ accepted_owned start past r w i lt
+accepted_owned start (step ∷ past) r (inr w) i lt = owner_step (after start past) step (frame_at r.asked.frames.items i) ∙ accepted_owned start past r w i lt
 
 -- all of these together
 pub limits_hold : (start : Machine) (h : List Step) → IsStart start → IsLegal start h → WithinLimits (after start h)
 limits_hold start h s legal = record {
   few = few start h s legal;
+  all = all_few start h s legal (few start h s legal);
   issues = λ e l. (all_counted start h s legal e l).most;
   issued = λ e l t. (all_counted start h s legal e l).some t;
   lent = λ e l i lt. (traced start h s legal).sound.lent e l i lt;

@@ -20,7 +20,7 @@ use Rattle.ata_types.specs.Grant.{Allows, Covers}
 use Rattle.block_machine.specs.Rules.{IsNamed, IsCount, frames_for}
 use Rattle.block_machine.specs.Refusals.{Situation, IsAcceptable}
 use Rattle.block_machine.specs.State.{Memory, Machine}
-use Rattle.block_machine.specs.Left.{IsStart}
+use Rattle.block_machine.specs.Left.{IsRow, IsStart}
 use Rattle.block_machine.proofs.Members.{contains_none, contains_here, contains_cases}
 
 abbrev pub client : ClientId
@@ -67,7 +67,9 @@ filled_starts memory = record {
   kept = refl;
   lent = λ f. refl;
   next = refl;
+  few = omega arith;
   rows = λ i j d lt below. absurd (omega (arith, lt, below));
+  configured = λ r h. subst IsRow (sym (only_row r h)) (record { client = (omega arith, omega arith); number = omega arith; port = omega arith; some = omega arith; below = omega arith });
   owned = λ f c e. within f (nat_le 40 f.0) (nat_lt f.0 80) refl refl c e;
 }
   where

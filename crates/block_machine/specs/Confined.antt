@@ -1,13 +1,16 @@
--- What a request that moves data may reach.
-use Rattle.std.specs.Prelude.{◌≡◌, ◌≢◌, ◌⊎◌, ℕ, ◌*◌, ◌/◌, ◌<◌, ◌≤◌, true, Some, length, List, [], ◌∷◌}
+-- What a request that moves data may reach, and what changes bytes.
+use Rattle.std.specs.Prelude.{◌≡◌, ◌≢◌, ◌⊎◌, ℕ, ◌+◌, ◌*◌, ◌/◌, ◌%◌, ◌<◌, ◌≤◌, true, Some, None, length, List, [], ◌∷◌}
+use Rattle.ata_types.specs.declared.Port.{Port}
 use Rattle.ata_types.specs.declared.request.ClientId.{ClientId}
+use Rattle.ata_types.specs.declared.request.Frame.{Frame}
 use Rattle.ata_types.specs.declared.request.Op.{Op}
 use Rattle.ata_types.specs.declared.request.Op.TheVariants.{Read, Write, Trim, Flush}
 use Rattle.ata_types.specs.declared.grant.GrantRow.{GrantRow}
 use Rattle.ata_types.specs.Grant.{Allows, Covers}
 use Rattle.block_machine.specs.Rules.{IsNamed}
-use Rattle.block_machine.specs.State.{Accepted, Pending, Machine, block_of, frame_at, is_reader}
-use Rattle.block_machine.specs.Steps.{Step, IsNew, IsLiving, unanswered_of}
+use Rattle.block_machine.specs.Due.{is_writer}
+use Rattle.block_machine.specs.State.{Accepted, Pending, Machine, block_of, frame_at, sector_of, is_reader}
+use Rattle.block_machine.specs.Steps.{Step, Touch, Replace, Store, IsNew, IsLiving, unanswered_of}
 use Rattle.block_machine.specs.Left.{after, IsAccept}
 
 -- a row of the client grants the request: its port, its operation, and, but for a flush, its sectors
@@ -43,13 +46,29 @@ abbrev pub IsHeld : Machine → Accepted → Type 0
 IsHeld m r = (i b : ℕ) → (is_reader r.asked.op ≡ true → r.asked.count ≤ i) → i < 8 * length r.asked.frames.items → b < 512
     → block_of m.memory r.asked.frames.items i b ≡ r.held i b
 
--- A client has at most 16 unanswered requests. A request that is unanswered or kept was issued at most four times, and
+-- A client has at most 16 unanswered requests, and all have 128. A request that is unanswered or kept was issued at most four times, and
 -- once at least where it is issued; its frames are its client's, and lent to it: so no frame is lent to two.
 pub record WithinLimits (m : Machine) : Type 0 where
   pub few : (client : ClientId) → unanswered_of m.book client ≤ 16
+  pub all : length m.book ≤ 128
   pub issues : (e : Pending) → IsLiving m e → e.issues ≤ 4
   pub issued : (e : Pending) → IsLiving m e → e.issued ≡ true → 1 ≤ e.issues
   pub lent : (e : Pending) → IsLiving m e → (i : ℕ) → i < length e.request.asked.frames.items
       → m.lent (frame_at e.request.asked.frames.items i) ≡ Some e.request.id
   pub owned : (e : Pending) → IsLiving m e → (i : ℕ) → i < length e.request.asked.frames.items
       → m.owner (frame_at e.request.asked.frames.items i) ≡ Some e.request.asked.client
+
+-- What may change a byte of a client's frame: a touch of a read that the frame is lent to, of the sector whose place the byte
+-- is in; or a store of these bytes by the frame's owner, while it is lent to none.
+abbrev pub MayChangeByte : Machine → Step → Frame → ℕ → Type 0
+MayChangeByte m (Touch e i block) frame b = (e.request.asked.op ≡ Read) × (frame_at e.request.asked.frames.items (i / 8) ≡ frame)
+    × (m.lent frame ≡ Some e.request.id) × (512 * (i % 8) ≤ b) × (b < 512 * (i % 8) + 512)
+MayChangeByte m (Store client f offset bytes) frame b = (f ≡ frame) × (m.owner frame ≡ Some client) × (m.lent frame ≡ None)
+    × (offset ≤ b) × (b < offset + length bytes)
+MayChangeByte m _ frame b = ⊥
+
+-- What may change a sector of a port's disk: a touch of it by a write or trim of the port, or a disk that is put in there.
+abbrev pub MayChangeSector : Step → Port → ℕ → Type 0
+MayChangeSector (Touch e i block) port k = (is_writer e.request.asked.op ≡ true) × (e.request.port ≡ port) × (sector_of e.request i ≡ k)
+MayChangeSector (Replace p id size disk) port k = p ≡ port
+MayChangeSector _ port k = ⊥

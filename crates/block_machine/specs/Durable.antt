@@ -82,8 +82,8 @@ pub record IsFlushed (start : Machine) (w flush : Accepted) (history : List Step
   pub port : flush.port ≡ w.port
   pub answered : FlushAnswered start w flush history
 
--- The block is what w, or a write or trim of its port accepted later, put on sector k. (Where w is flushed, no other disk was
--- in since w was accepted, so the touch was of this disk.)
+-- The block is what w, or a write or trim of its port accepted later, put on sector k of the disk that was in, whichever it was.
+-- (The law is on flushed writes. Since such a write was accepted one disk alone was in at its port, maybe several times.)
 pub record IsSince (w : Accepted) (k : ℕ) (history : List Step) (block : Block) : Type 0 where
   pub writer : Accepted
   pub writes : is_writer writer.asked.op ≡ true

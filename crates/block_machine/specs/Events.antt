@@ -1,9 +1,11 @@
 -- Calls of the server as events, and runs of them (this project's own).
--- An event ties what was asked, what was said, what the ports showed, and the machine's steps.
-use Rattle.std.specs.Prelude.{◌≡◌, ◌≢◌, ◌⊎◌, ℕ, ◌<◌, Bool, true, false, IsTrue, List, [], ◌∷◌, ◌++◌, length, map, count_by, Contains, AllPairs, IsPermutation, Option, Some, None, Result, Ok, Err}
+-- An event ties what was asked, what was said, what the ports showed, and the machine's steps. `D` are the steps that a device
+-- can be told to do.
+use Rattle.std.specs.Prelude.{◌≡◌, ◌≢◌, ◌⊎◌, ℕ, ◌<◌, ◌≤◌, ◌==◌, Bool, true, false, IsTrue, List, [], ◌∷◌, ◌++◌, length, map, count_by, Contains, AllPairs, IsPermutation, Option, Some, None, Result, Ok, Err}
+use Rattle.std.specs.List.{list_any}
 use Rattle.ata_types.specs.declared.Port.{Port}
 use Rattle.ata_types.specs.declared.PortState.{PortState}
-use Rattle.ata_types.specs.declared.PortState.TheVariants.{Ready}
+use Rattle.ata_types.specs.declared.PortState.TheVariants.{Ready, Dead}
 use Rattle.ata_types.specs.declared.request.ClientId.{ClientId}
 use Rattle.ata_types.specs.declared.request.Frame.{Frame}
 use Rattle.ata_types.specs.declared.request.RequestId.{RequestId}
@@ -14,20 +16,12 @@ use Rattle.ata_types.specs.declared.request.Outcome.{Outcome}
 use Rattle.ata_types.specs.declared.request.Outcome.TheVariants as outcome
 use Rattle.ata_types.specs.declared.refusal.Refusal.{Refusal}
 use Rattle.ata_types.specs.declared.refusal.MemFault.{MemFault}
-use Rattle.block_machine.specs.declared.due.Mode.{Mode}
 use Rattle.block_machine.specs.Refusals.{Situation, IsAcceptable, IsFirstRefusal, IsOpen, IsFirstMemFault}
 use Rattle.block_machine.specs.Due.{NoneDue}
+use Rattle.block_machine.specs.Ports.{Ports, AreFit, SamePort, SamePorts, SameDisk, Evidence, MayBecome, IsServiced, IsStuck}
 use Rattle.block_machine.specs.State.{Memory, Accepted, Pending, Machine, unanswered}
 use Rattle.block_machine.specs.Steps.{Step, Accept, Issue, Touch, End, Age, Again, Answer, Release, Unplug, Replace, Store, Load, May, AllTouched, unanswered_of}
 use Rattle.block_machine.specs.Left.{after, IsStart, HoldsLeft}
-
--- What the ports are to clients and to the book: their states, the sizes of their disks in sectors, whether these promise
--- zeros after a trim, and how they take commands.
-pub record Ports : Type 0 where
-  pub state : Port → PortState
-  pub sectors : Port → ℕ
-  pub trims : Port → Bool
-  pub mode : Port → Mode
 
 -- machine and ports between two calls
 pub record Moment : Type 0 where
@@ -35,15 +29,15 @@ pub record Moment : Type 0 where
   pub ports : Ports
 
 -- what is asked of the server
-pub data Ask : Type 0 where
-  Submit : Request → Ask
+pub data Ask (D : Type 0) : Type 0 where
+  Submit : Request → Ask D
   -- client, frame, offset, and the bytes or how many
-  StoreAt : ClientId → Frame → ℕ → List ℕ → Ask
-  LoadAt : ClientId → Frame → ℕ → ℕ → Ask
-  Service Tick Reset : Ask
-  State : Port → Ask
-  -- the device is told to do a step of its own
-  Device : Ask
+  StoreAt : ClientId → Frame → ℕ → List ℕ → Ask D
+  LoadAt : ClientId → Frame → ℕ → ℕ → Ask D
+  Service Tick Reset : Ask D
+  State : Port → Ask D
+  -- the device is told to do this step of its own
+  Device : D → Ask D
 
 -- what it says
 pub data Said : Type 0 where
@@ -58,22 +52,9 @@ pub data Said : Type 0 where
   Shown : PortState → Said
   Stepped : Bool → Said
 
--- a fault that the device told of a request: the two bytes of the task file
-pub record Fault : Type 0 where
-  pub id : RequestId
-  pub status : ℕ
-  pub error : ℕ
-
--- What the device vouches for in a call: the faults that it told, the ports that lost their disk or have another, and the
--- ports whose engine didn't stop or whose adapter didn't end its reset. The layer that knows the device backs each item.
-pub record Evidence : Type 0 where
-  pub faults : List Fault
-  pub lost : List Port
-  pub stuck : List Port
-
 -- a call: what it asked, what it said, the evidence, its steps, and what the ports are at its end
-pub record Event : Type 0 where
-  pub ask : Ask
+pub record Event (D : Type 0) : Type 0 where
+  pub ask : Ask D
   pub said : Said
   pub evidence : Evidence
   pub steps : List Step
@@ -94,7 +75,7 @@ IsDevices _ = ⊥
 
 -- The step is one that the server makes in a call that asks this. Requests are issued on ports that are ready at its end,
 -- in the mode that the port has then.
-abbrev pub IsServers : Ask → Ports → Step → Type 0
+abbrev pub IsServers : {D : Type 0} → Ask D → Ports → Step → Type 0
 IsServers (Submit r) ports (Accept new) = new.asked ≡ r
 IsServers (Submit r) ports (Issue mode e) = (ports.state e.request.port ≡ Ready) × (ports.mode e.request.port ≡ mode)
 IsServers (StoreAt client frame offset bytes) ports (Store c f o b) = (c ≡ client) × (f ≡ frame) × (o ≡ offset) × (b ≡ bytes)
@@ -113,7 +94,7 @@ IsServers Reset ports (Answer e o) = Unit {0}
 IsServers ask ports step = ⊥
 
 -- each step is the device's, or one of such a call
-abbrev pub Belong : Ask → Ports → List Step → Type 0
+abbrev pub Belong : {D : Type 0} → Ask D → Ports → List Step → Type 0
 Belong ask ports [] = Unit {0}
 Belong ask ports (step ∷ before) = Belong ask ports before × (IsDevices step ⊎ IsServers ask ports step)
 
@@ -151,6 +132,27 @@ abbrev pub is_release : Step → Bool
 is_release Release = true
 is_release _ = false
 
+-- the step issues the request of this id
+abbrev pub issues_it : RequestId → Step → Bool
+issues_it id (Issue mode e) = e.request.id.0 == id.0
+issues_it id _ = false
+
+-- the step is one of the server's with the request of this id: it issues it, lets it wait again, or answers it
+abbrev pub handles : RequestId → Step → Bool
+handles id (Issue mode e) = e.request.id.0 == id.0
+handles id (Again e) = e.request.id.0 == id.0
+handles id (Answer e o) = e.request.id.0 == id.0
+handles id _ = false
+
+-- one of these steps issues the request of this id
+abbrev pub IsIssuedIn : RequestId → List Step → Type 0
+IsIssuedIn id steps = list_any (issues_it id) steps ≡ true
+
+-- A call does nothing more with a request that it issued: so it issues a request once at most, and answers none that it issued.
+abbrev pub IssuesLast : List Step → Type 0
+IssuesLast [] = Unit {0}
+IssuesLast (step ∷ before) = IssuesLast before × ((id : RequestId) → handles id step ≡ true → IsIssuedIn id before → ⊥)
+
 -- an unanswered request of that id was issued
 pub record WasIssued (m : Machine) (id : RequestId) : Type 0 where
   pub pending : Pending
@@ -158,21 +160,22 @@ pub record WasIssued (m : Machine) (id : RequestId) : Type 0 where
   pub id_is : pending.request.id ≡ id
   pub issued : pending.issued ≡ true
 
--- What stands behind each outcome. An Ok is of a request that was issued when its call began, and since its last issue each
--- of its sectors was touched, and it was ended. A fault is told of an issued request. An abort comes after four issues.
-abbrev pub IsLawful : Machine → Evidence → Pending → Outcome → Type 0
-IsLawful old evidence e outcome.Ok = WasIssued old e.request.id × (e.issued ≡ true) × AllTouched e × (e.ended ≡ true)
-IsLawful old evidence e (outcome.DeviceError status error) =
-    (e.issued ≡ true) × Contains evidence.faults (record { id = e.request.id; status = status; error = error })
-IsLawful old evidence e outcome.Aborted = e.issues ≡ 4
-IsLawful old evidence e outcome.Unplugged = Contains evidence.lost e.request.port
-IsLawful old evidence e outcome.PortDead = Contains evidence.stuck e.request.port
+-- What stands behind each outcome. An Ok, a fault and an abort are of a request that was issued when the call began. Of an Ok
+-- each sector was touched since the last issue, and it was ended. A fault is told of a request that is issued. An abort comes
+-- after four issues. And PortDead leaves the port dead.
+abbrev pub IsLawful : Machine → Evidence → Ports → Pending → Outcome → Type 0
+IsLawful old evidence ports e outcome.Ok = WasIssued old e.request.id × (e.issued ≡ true) × AllTouched e × (e.ended ≡ true)
+IsLawful old evidence ports e (outcome.DeviceError status error) = WasIssued old e.request.id × (e.issued ≡ true)
+    × Contains evidence.faults (record { id = e.request.id; status = status; error = error })
+IsLawful old evidence ports e outcome.Aborted = WasIssued old e.request.id × (e.issues ≡ 4)
+IsLawful old evidence ports e outcome.Unplugged = Contains evidence.lost e.request.port
+IsLawful old evidence ports e outcome.PortDead = Contains evidence.stuck e.request.port × (ports.state e.request.port ≡ Dead)
 
--- each answer of the call is lawful
-abbrev pub AllLawful : Machine → Evidence → List Step → Type 0
-AllLawful old evidence [] = Unit {0}
-AllLawful old evidence (Answer e o ∷ before) = AllLawful old evidence before × IsLawful old evidence e o
-AllLawful old evidence (step ∷ before) = AllLawful old evidence before
+-- each answer of the call is lawful, with these ports at its end
+abbrev pub AllLawful : Machine → Evidence → Ports → List Step → Type 0
+AllLawful old evidence ports [] = Unit {0}
+AllLawful old evidence ports (Answer e o ∷ before) = AllLawful old evidence ports before × IsLawful old evidence ports e o
+AllLawful old evidence ports (step ∷ before) = AllLawful old evidence ports before
 
 -- the answers of a call, as they are told: by port, and then by id
 abbrev pub IsToldBefore : Pending × Outcome → Pending × Outcome → Type 0
@@ -211,10 +214,23 @@ AllIssued m = (port : Port) → m.ports.state port ≡ Ready → NoneDue (m.port
 abbrev pub IsEmptied : Moment → Port → Type 0
 IsEmptied m port = m.ports.state port ≢ Ready → (e : Pending) → Contains m.machine.book e → e.request.port ≢ port
 
--- the ports are what they were
-abbrev pub SamePorts : Ports → Ports → Type 0
-SamePorts old new = (port : Port) → (new.state port ≡ old.state port) × (new.sectors port ≡ old.sectors port)
-    × (new.trims port ≡ old.trims port) × (new.mode port ≡ old.mode port)
+-- a request that was unanswered when the call began, and still is, has the disk that it was accepted for
+abbrev pub KeepsDisks : Moment → Moment → Type 0
+KeepsDisks old new = (e o : Pending) → Contains new.machine.book e → Contains old.machine.book o → o.request.id ≡ e.request.id
+    → SameDisk old.ports new.ports e.request.port
+
+-- a tick brings the age of an issued request of this ready port to three
+pub record IsHung (old : Moment) (port : Port) : Type 0 where
+  pub ready : old.ports.state port ≡ Ready
+  pub pending : Pending
+  pub here : Contains old.machine.book pending
+  pub port_is : pending.request.port ≡ port
+  pub issued : pending.issued ≡ true
+  pub old_enough : 2 ≤ pending.age
+
+-- no unanswered request of the port keeps an issue that it had before these steps
+abbrev pub NoneKeepsIssue : List Step → Machine → Port → Type 0
+NoneKeepsIssue steps m port = (e : Pending) → Contains m.book e → e.request.port ≡ port → e.issued ≡ true → IsIssuedIn e.request.id steps
 
 -- The tick comes first, and once, at the ports that are ready then.
 pub record AgesOnce (ports : Ports) (steps : List Step) : Type 0 where
@@ -224,6 +240,13 @@ pub record AgesOnce (ports : Ports) (steps : List Step) : Type 0 where
   pub first : steps ≡ later ++ Age ready ∷ []
   pub once : count_by is_age later ≡ 0
 
+-- A tick restarts each port that is hung, where no request then keeps its issue. With others it does nothing but issue.
+pub record RestartsHung (old : Moment) (evidence : Evidence) (steps : List Step) (new : Moment) : Type 0 where
+  pub ports : (port : Port) → SamePort old.ports new.ports port ⊎ (IsHung old port × MayBecome old.ports evidence new.ports port)
+  pub again : (e : Pending) → Contains steps (Again e) → IsHung old e.request.port
+  pub answer : (e : Pending) (o : Outcome) → Contains steps (Answer e o) → IsHung old e.request.port
+  pub anew : (port : Port) → IsHung old port → NoneKeepsIssue steps new.machine port
+
 -- The kept requests' frames are given back once, before the server does anything else.
 pub record ReleasesOnce (steps : List Step) : Type 0 where
   pub later : List Step
@@ -232,58 +255,78 @@ pub record ReleasesOnce (steps : List Step) : Type 0 where
   pub before : AllDevices earlier
   pub once : count_by is_release later ≡ 0
 
+-- a service answers the requests of a dead port PortDead
+abbrev pub TellsDead : Moment → List Step → Type 0
+TellsDead old steps = (e : Pending) (o : Outcome) → Contains steps (Answer e o) → old.ports.state e.request.port ≡ Dead → o ≡ outcome.PortDead
+
 -- What is said of a call agrees with its steps, and the call did what was asked.
-abbrev pub IsAnswered : Ask → Said → Moment → List Step → Moment → Type 0
-IsAnswered (Submit r) (Submitted (Ok id)) old steps new = IsAcceptable (situation_of old) r
+abbrev pub IsAnswered : {D : Type 0} → Ask D → Said → Moment → Evidence → List Step → Moment → Type 0
+IsAnswered (Submit r) (Submitted (Ok id)) old evidence steps new = IsAcceptable (situation_of old) r
     × ((a : Accepted) × (accepts_of steps ≡ a ∷ []) × (a.id ≡ id)) × SamePorts old.ports new.ports × AllIssued new
-IsAnswered (Submit r) (Submitted (Err refusal)) old steps new = IsFirstRefusal (situation_of old) r refusal
+IsAnswered (Submit r) (Submitted (Err refusal)) old evidence steps new = IsFirstRefusal (situation_of old) r refusal
     × (steps ≡ []) × SamePorts old.ports new.ports
-IsAnswered (StoreAt client frame offset bytes) (Stored None) old steps new =
+IsAnswered (StoreAt client frame offset bytes) (Stored None) old evidence steps new =
     IsOpen old.machine.owner old.machine.lent client frame offset (length bytes)
     × (transfers_of steps ≡ bytes ∷ []) × SamePorts old.ports new.ports
-IsAnswered (StoreAt client frame offset bytes) (Stored (Some fault)) old steps new =
+IsAnswered (StoreAt client frame offset bytes) (Stored (Some fault)) old evidence steps new =
     IsFirstMemFault old.machine.owner old.machine.lent client frame offset (length bytes) fault
     × (steps ≡ []) × SamePorts old.ports new.ports
-IsAnswered (LoadAt client frame offset count) (Loaded (Ok bytes)) old steps new =
+IsAnswered (LoadAt client frame offset count) (Loaded (Ok bytes)) old evidence steps new =
     IsOpen old.machine.owner old.machine.lent client frame offset count
     × (transfers_of steps ≡ bytes ∷ []) × SamePorts old.ports new.ports
-IsAnswered (LoadAt client frame offset count) (Loaded (Err fault)) old steps new =
+IsAnswered (LoadAt client frame offset count) (Loaded (Err fault)) old evidence steps new =
     IsFirstMemFault old.machine.owner old.machine.lent client frame offset count fault
     × (steps ≡ []) × SamePorts old.ports new.ports
-IsAnswered Service (Served replies) old steps new = Tells steps replies × AllIssued new × ((port : Port) → IsEmptied new port)
-IsAnswered Tick (Served replies) old steps new = Tells steps replies × AgesOnce old.ports steps × AllIssued new
-    × ((port : Port) → old.ports.state port ≡ Ready → IsEmptied new port)
-IsAnswered Reset (WasReset (Some replies)) old steps new = Tells steps replies × ReleasesOnce steps × AllIssued new
-    × ((port : Port) → IsEmptied new port)
-IsAnswered Reset (WasReset None) old steps new = AllDevices steps
-IsAnswered (State port) (Shown state) old steps new = (state ≡ old.ports.state port) × (steps ≡ []) × SamePorts old.ports new.ports
-IsAnswered Device (Stepped true) old steps new = AllDevices steps × SamePorts old.ports new.ports
-IsAnswered Device (Stepped false) old steps new = (steps ≡ []) × SamePorts old.ports new.ports
-IsAnswered ask said old steps new = ⊥
+IsAnswered Service (Served replies) old evidence steps new = Tells steps replies × TellsDead old steps × AllIssued new
+    × ((port : Port) → IsEmptied new port × IsServiced old.ports evidence new.ports port)
+IsAnswered Tick (Served replies) old evidence steps new = Tells steps replies × AgesOnce old.ports steps
+    × RestartsHung old evidence steps new × AllIssued new × ((port : Port) → old.ports.state port ≡ Ready → IsEmptied new port)
+IsAnswered Reset (WasReset (Some replies)) old evidence steps new = Tells steps replies × ReleasesOnce steps × AllIssued new
+    × ((port : Port) → IsEmptied new port × MayBecome old.ports evidence new.ports port × NoneKeepsIssue steps new.machine port)
+IsAnswered Reset (WasReset None) old evidence steps new = AllDevices steps × ((port : Port) → IsStuck old.ports new.ports port)
+IsAnswered (State port) (Shown state) old evidence steps new = (state ≡ old.ports.state port) × (steps ≡ []) × SamePorts old.ports new.ports
+IsAnswered (Device step) (Stepped true) old evidence steps new = AllDevices steps × SamePorts old.ports new.ports
+IsAnswered (Device step) (Stepped false) old evidence steps new = (steps ≡ []) × SamePorts old.ports new.ports
+IsAnswered ask said old evidence steps new = ⊥
 
 -- the moment after the event
-abbrev pub moment_after : Moment → Event → Moment
+abbrev pub moment_after : {D : Type 0} → Moment → Event D → Moment
 moment_after old event = record { machine = after old.machine event.steps; ports = event.ports }
 
 -- The event may happen at the old moment.
-pub record Happens (old : Moment) (event : Event) : Type 0 where
+pub record Happens {D : Type 0} (old : Moment) (event : Event D) : Type 0 where
   pub may : AllMay old.machine event.steps
   pub belong : Belong event.ask event.ports event.steps
-  pub lawful : AllLawful old.machine event.evidence event.steps
-  pub answered : IsAnswered event.ask event.said old event.steps (moment_after old event)
+  pub last : IssuesLast event.steps
+  pub lawful : AllLawful old.machine event.evidence event.ports event.steps
+  pub fit : AreFit event.ports
+  pub disks : KeepsDisks old (moment_after old event)
+  pub answered : IsAnswered event.ask event.said old event.evidence event.steps (moment_after old event)
 
 -- the moment after a run of events
-abbrev pub moment_of : Moment → List Event → Moment
+abbrev pub moment_of : {D : Type 0} → Moment → List (Event D) → Moment
 moment_of first [] = first
 moment_of first (event ∷ past) = moment_after (moment_of first past) event
 
 -- each event of the run happened at the moment that the events before it left
-abbrev pub IsRun : Moment → List Event → Type 0
-IsRun first [] = IsStart first.machine
+abbrev pub IsRun : {D : Type 0} → Moment → List (Event D) → Type 0
+IsRun first [] = IsStart first.machine × AreFit first.ports
 IsRun first (event ∷ past) = IsRun first past × Happens (moment_of first past) event
 
+-- what a call makes of it that the adapter didn't end a reset: this is so until a service, or a reset that ends
+abbrev pub StaysStuck : {D : Type 0} → Ask D → Said → Type 0 → Type 0
+StaysStuck Reset (WasReset None) was = Unit {0}
+StaysStuck Reset said was = ⊥
+StaysStuck Service said was = ⊥
+StaysStuck ask said was = was
+
+-- a reset of the run was stuck, and no service and no reset that ends came since
+abbrev pub IsStillStuck : {D : Type 0} → List (Event D) → Type 0
+IsStillStuck [] = ⊥
+IsStillStuck (event ∷ past) = StaysStuck event.ask event.said (IsStillStuck past)
+
 -- the steps of a run
-abbrev pub steps_of : List Event → List Step
+abbrev pub steps_of : {D : Type 0} → List (Event D) → List Step
 steps_of [] = []
 steps_of (event ∷ past) = event.steps ++ steps_of past
 
@@ -299,7 +342,7 @@ AnswersHold start memory past (step ∷ before) =
     AnswersHold start memory past before × AnswerHolds start memory (before ++ past) step
 
 -- Each read of the run that was answered Ok has, at the end of the call that answered it, what is left.
-abbrev pub EveryReadHolds : Moment → List Event → Type 0
+abbrev pub EveryReadHolds : {D : Type 0} → Moment → List (Event D) → Type 0
 EveryReadHolds first [] = Unit {0}
 EveryReadHolds first (event ∷ past) = EveryReadHolds first past
     × AnswersHold first.machine (moment_of first (event ∷ past)).machine.memory (steps_of past) event.steps

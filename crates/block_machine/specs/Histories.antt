@@ -1,10 +1,11 @@
--- Histories of a server over a device D, and what its calls add to them (this project's own).
+-- Histories of a server over a device of state D that can be told steps E, and what its calls add to them (this project's own).
 -- The crate that knows the device gives two relations. `Begins` is what a new server leaves. `Agrees` is what ties an event's
 -- device to its steps: accesses of the device lead from the old one to the new one, what the device did in them are the
--- steps' touches, ends and disks in order, the evidence stands, and after it disks and frames hold what the machine's do, and
--- the ports are as the event says.
+-- steps' touches, ends and disks in order, it did the step that it was told, the evidence stands, and after it disks and frames
+-- hold what the machine's do, and the ports are as the event says.
 use Rattle.std.specs.Prelude.{◌≡◌, List, [], ◌∷◌, map}
 use Rattle.block_machine.specs.State.{Machine}
+use Rattle.block_machine.specs.Ports.{AreFit}
 use Rattle.block_machine.specs.Steps.{Step}
 use Rattle.block_machine.specs.Left.{after, IsStart, IsLegal}
 use Rattle.block_machine.specs.Events.{Moment, Ask, Said, Event, AllMay, Happens, moment_after}
@@ -15,37 +16,37 @@ pub record Instant (D : Type 0) : Type 0 where
   pub moment : Moment
 
 -- a call, and the device after it
-pub record Happening (D : Type 0) : Type 0 where
-  pub event : Event
+pub record Happening (D E : Type 0) : Type 0 where
+  pub event : Event E
   pub device : D
 
 -- the instant after these calls
-abbrev pub now : {D : Type 0} → Instant D → List (Happening D) → Instant D
+abbrev pub now : {D E : Type 0} → Instant D → List (Happening D E) → Instant D
 now first [] = first
 now first (h ∷ past) = record { device = h.device; moment = moment_after (now first past).moment h.event }
 
 -- the calls without the device
-abbrev pub events_of : {D : Type 0} → List (Happening D) → List Event
+abbrev pub events_of : {D E : Type 0} → List (Happening D E) → List (Event E)
 events_of past = map (λ h. h.event) past
 
 -- calls that happened one after the other, from what a new server left on
-abbrev pub IsHistory : {D : Type 0} → (Instant D → Type 0) → (Instant D → Happening D → Type 0) → Instant D → List (Happening D) → Type 0
-IsHistory Begins Agrees first [] = IsStart first.moment.machine × Begins first
+abbrev pub IsHistory : {D E : Type 0} → (Instant D → Type 0) → (Instant D → Happening D E → Type 0) → Instant D → List (Happening D E) → Type 0
+IsHistory Begins Agrees first [] = (IsStart first.moment.machine × AreFit first.moment.ports) × Begins first
 IsHistory Begins Agrees first (h ∷ past) =
     IsHistory Begins Agrees first past × Happens (now first past).moment h.event × Agrees (now first past) h
 
 -- The history leads to a server's state: `Stands` says when a state is at an instant. A server's invariant is that some
 -- history leads to it, so that none of the clauses below is empty.
-pub record Leads {D S : Type 0} (Begins : Instant D → Type 0) (Agrees : Instant D → Happening D → Type 0)
-    (Stands : Instant D → S → Type 0) (first : Instant D) (past : List (Happening D)) (state : S) : Type 0 where
+pub record Leads {D E S : Type 0} (Begins : Instant D → Type 0) (Agrees : Instant D → Happening D E → Type 0)
+    (Stands : Instant D → S → Type 0) (first : Instant D) (past : List (Happening D E)) (state : S) : Type 0 where
   pub history : IsHistory Begins Agrees first past
   pub stands : Stands (now first past) state
 
 -- To every history that leads to the old state, a call that asked this and said that adds one event, which leads to the new.
-pub record Adds {D S : Type 0} (Begins : Instant D → Type 0) (Agrees : Instant D → Happening D → Type 0)
-    (Stands : Instant D → S → Type 0) (old new : S) (ask : Ask) (said : Said) : Type 0 where
-  pub adds : (first : Instant D) (past : List (Happening D)) → Leads Begins Agrees Stands first past old
-      → (h : Happening D) × (h.event.ask ≡ ask) × (h.event.said ≡ said) × Leads Begins Agrees Stands first (h ∷ past) new
+pub record Adds {D E S : Type 0} (Begins : Instant D → Type 0) (Agrees : Instant D → Happening D E → Type 0)
+    (Stands : Instant D → S → Type 0) (old new : S) (ask : Ask E) (said : Said) : Type 0 where
+  pub adds : (first : Instant D) (past : List (Happening D E)) → Leads Begins Agrees Stands first past old
+      → (h : Happening D E) × (h.event.ask ≡ ask) × (h.event.said ≡ said) × Leads Begins Agrees Stands first (h ∷ past) new
 
 -- a history of steps leads to the machine
 pub record IsReached (m : Machine) : Type 0 where

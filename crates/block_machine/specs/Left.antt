@@ -1,15 +1,16 @@
 -- What is left on a sector by the order of acceptance. It looks at no order of moves.
 -- Steps, and the events of a run, stand the newest first in their lists, everywhere in this crate.
-use Rattle.std.specs.Prelude.{◌≡◌, ◌⊎◌, ℕ, suc, ◌-◌, ◌*◌, ◌<◌, ◌≤◌, Bool, true, false, ◌&&◌, ◌==◌, if◌then◌else◌, List, [], ◌∷◌, length, Some, None, AllPairs}
+use Rattle.std.specs.Prelude.{◌≡◌, ◌⊎◌, ℕ, suc, ◌+◌, ◌-◌, ◌*◌, ◌^◌, ◌<◌, ◌≤◌, Bool, true, false, ◌&&◌, ◌==◌, if◌then◌else◌, List, [], ◌∷◌, length, Some, None, Contains, AllPairs}
 use Rattle.ata_types.specs.declared.Port.{Port}
 use Rattle.ata_types.specs.declared.request.ClientId.{ClientId}
 use Rattle.ata_types.specs.declared.request.Frame.{Frame}
 use Rattle.ata_types.specs.declared.request.RequestId.{RequestId}
 use Rattle.ata_types.specs.declared.request.Op.TheVariants.{Read}
+use Rattle.ata_types.specs.declared.grant.GrantRow.{GrantRow}
 use Rattle.block_machine.specs.Rules.{DifferInName}
 use Rattle.block_machine.specs.Due.{is_writer}
 use Rattle.block_machine.specs.State.{Block, Disk, Memory, Accepted, Machine, block_of, sector_of, written_by}
-use Rattle.block_machine.specs.Steps.{Step, Accept, Touch, Replace, May, after_step}
+use Rattle.block_machine.specs.Steps.{Step, Accept, Issue, Touch, Replace, May, after_step}
 
 -- the machine after a history of steps
 abbrev pub after : Machine → List Step → Machine
@@ -21,14 +22,26 @@ abbrev pub IsLegal : Machine → List Step → Type 0
 IsLegal start [] = Unit {0}
 IsLegal start (step ∷ past) = IsLegal start past × May (after start past) step
 
--- A machine to begin with: no request is there, no frame is lent, no id was handed out, the rows differ in name, and the
--- clients, 1 to 8, own frames from 40 on: the driver's are nobody's.
+-- A grant as a configuration may give it: to a client from 1 to 8, under a number from 0 to 63, on a port from 0 to 3, of one
+-- sector at least, all of them below 2^48.
+pub record IsRow (row : GrantRow) : Type 0 where
+  pub client : (1 ≤ row.client.0) × (row.client.0 ≤ 8)
+  pub number : row.number ≤ 63
+  pub port : row.port.0 ≤ 3
+  pub some : 1 ≤ row.count
+  pub below : row.first.0 + row.count ≤ 2 ^ 48
+
+-- A machine to begin with: no request is there, no frame is lent, and no id was handed out. There are at most 64 rows, which
+-- differ in name, and each is one that a configuration may give. The clients, 1 to 8, own frames from 40 on: the driver's are
+-- nobody's.
 pub record IsStart (m : Machine) : Type 0 where
   pub book : m.book ≡ []
   pub kept : m.kept ≡ []
   pub lent : (frame : Frame) → m.lent frame ≡ None
   pub next : m.next ≡ 1
+  pub few : length m.rows ≤ 64
   pub rows : AllPairs DifferInName m.rows
+  pub configured : (row : GrantRow) → Contains m.rows row → IsRow row
   pub owned : (frame : Frame) (client : ClientId) → m.owner frame ≡ Some client
       → (1 ≤ client.0) × (client.0 ≤ 8) × (40 ≤ frame.0) × (frame.0 < 1024)
 
@@ -73,6 +86,16 @@ touches id k _ = false
 abbrev pub HasTouched : Accepted → ℕ → ℕ → List Step → Type 0
 HasTouched r k n [] = ⊥
 HasTouched r k n (step ∷ past) = (IsTouch step r k × (plug_count r.port past ≡ n)) ⊎ HasTouched r k n past
+
+-- the step issues the request
+abbrev pub IsIssue : Step → Accepted → Type 0
+IsIssue (Issue mode e) r = e.request ≡ r
+IsIssue _ r = ⊥
+
+-- the request touched sector k, and was not issued since
+abbrev pub HasTouchedSince : Accepted → ℕ → List Step → Type 0
+HasTouchedSince r k [] = ⊥
+HasTouchedSince r k (step ∷ past) = IsTouch step r k ⊎ ((IsIssue step r → ⊥) × HasTouchedSince r k past)
 
 -- the number of the disk that was in at the last touch of sector k by this request
 abbrev pub disk_read : Accepted → ℕ → List Step → ℕ

@@ -3,6 +3,7 @@ pub mod Refusals
 pub mod Due
 pub mod State
 pub mod Steps
+pub mod Ports
 pub mod Left
 pub mod Confined
 pub mod Durable

@@ -1,21 +1,23 @@
--- What a run is that shows that the laws speak of something.
-use Rattle.std.specs.Prelude.{◌≡◌, ◌≢◌, ℕ, List, [], ◌∷◌, ◌++◌, map, Contains}
+-- What runs are that show that the laws speak of something.
+use Rattle.std.specs.Prelude.{◌≡◌, ◌≢◌, ℕ, true, false, List, [], ◌∷◌, ◌++◌, map, Contains, Some, None}
 use Rattle.ata_types.specs.declared.Port.{Port}
+use Rattle.ata_types.specs.declared.PortState.TheVariants.{Ready}
 use Rattle.ata_types.specs.declared.request.Frame.{Frame}
 use Rattle.ata_types.specs.declared.request.Op.TheVariants.{Read}
-use Rattle.ata_types.specs.declared.request.Outcome.TheVariants.{Ok}
-use Rattle.block_machine.specs.State.{Disk, Accepted, Pending, Machine, sector_of, unanswered}
-use Rattle.block_machine.specs.Due.{IsDue}
+use Rattle.ata_types.specs.declared.request.Outcome.TheVariants.{Ok, PortDead}
+use Rattle.block_machine.specs.declared.due.Mode.{Mode}
+use Rattle.block_machine.specs.State.{Disk, Accepted, Pending, Machine, frame_at, sector_of, unanswered}
+use Rattle.block_machine.specs.Due.{IsDue, conflict}
 use Rattle.block_machine.specs.Steps.{Step, Issue, Answer, Replace, May, AllTouched}
 use Rattle.block_machine.specs.Left.{after, IsStart, AllTold, HoldsLeft}
 use Rattle.block_machine.specs.Durable.{IsVolatile, IsFlushed}
-use Rattle.block_machine.specs.Events.{Moment, Event, IsRun, steps_of, moment_of}
+use Rattle.block_machine.specs.Events.{Moment, Event, WasReset, IsRun, steps_of, moment_of}
 
--- In a run of calls a write is flushed, a later write isn't, the disk is taken out, and comes back without the later one.
--- A read is then answered Ok, and its frame has the flushed byte.
+-- In a run of calls a write of one sector with 90 as its first byte is flushed, a later write of the sector isn't, the disk is
+-- taken out, and comes back without the later one. Then a read of the sector is answered Ok, and its frame begins with 90.
 pub record FindsTheFlushed : Type 0 where
   pub first : Moment
-  pub run : List Event
+  pub run : List (Event (Unit {0}))
   pub runs : IsRun first run
   pub told : AllTold first.machine (steps_of run)
   pub volatile : IsVolatile first.machine (steps_of run)
@@ -31,14 +33,67 @@ pub record FindsTheFlushed : Type 0 where
   pub write : Accepted
   pub flush : Accepted
   pub here : write.port ≡ port
+  pub one : write.asked.count ≡ 1
+  pub byte : write.held 0 0 ≡ 90
   pub flushed : IsFlushed first.machine write flush early
   pub loses : disk (sector_of write 0) 0 ≢ (after first.machine early).disks port (sector_of write 0) 0
   pub read : Pending
-  pub answered : Contains (steps_of run) (Answer read Ok)
   pub reads : read.request.asked.op ≡ Read
-  pub sector : read.request.asked.count ≡ 1
+  pub there : read.request.port ≡ port
+  pub sector : sector_of read.request 0 ≡ sector_of write 0
+  pub single : read.request.asked.count ≡ 1
+  pub answered : Contains late (Answer read Ok)
+  pub found : (moment_of first run).machine.memory (frame_at read.request.asked.frames.items 0) 0 ≡ 90
+
+-- In a run of calls two requests are unanswered at once: one is issued, and the other waits for it. One call then answers the
+-- one and issues the other, and a later one answers that too.
+pub record WaitsItsTurn : Type 0 where
+  pub first : Moment
+  pub run : List (Event (Unit {0}))
+  pub runs : IsRun first run
+  pub told : AllTold first.machine (steps_of run)
+  -- the run's events: these before that call, and these after
+  pub late : List (Event (Unit {0}))
+  pub call : Event (Unit {0})
+  pub early : List (Event (Unit {0}))
+  pub comes : run ≡ late ++ call ∷ early
+  pub issued : Pending
+  pub waits : Pending
+  pub both : (moment_of first early).machine.book ≡ issued ∷ waits ∷ []
+  pub is_issued : issued.issued ≡ true
+  pub is_waiting : waits.issued ≡ false
+  pub conflicts : conflict (unanswered issued) (unanswered waits) ≡ true
+  pub done : Pending
+  pub answers : Contains call.steps (Answer done Ok)
+  pub its : done.request ≡ issued.request
+  pub mode : Mode
+  pub issues : Contains call.steps (Issue mode waits)
+  pub last : Pending
+  pub answered : Contains (steps_of late) (Answer last Ok)
+  pub its_too : last.request ≡ waits.request
+
+-- In a run of calls three ticks go by after a request was issued, and the third issues it again. A reset is then stuck, and a
+-- service answers the request PortDead: it is kept, and its frame stays lent. A reset that ends gives the frame back.
+pub record EndsWithAReset : Type 0 where
+  pub first : Moment
+  pub ticked : List (Event (Unit {0}))
+  pub stuck : Event (Unit {0})
+  pub service : Event (Unit {0})
+  pub reset : Event (Unit {0})
+  pub runs : IsRun first (reset ∷ service ∷ stuck ∷ ticked)
+  pub again : Pending
+  pub hung : (moment_of first ticked).machine.book ≡ again ∷ []
+  pub twice : again.issues ≡ 2
+  pub issued : again.issued ≡ true
+  pub stays : stuck.said ≡ WasReset None
+  pub answers : Contains service.steps (Answer again PortDead)
+  pub kept : (moment_of first (service ∷ stuck ∷ ticked)).machine.kept ≡ again ∷ []
   pub frame : Frame
-  pub found : (moment_of first run).machine.memory frame 0 ≡ 90
+  pub its : again.request.asked.frames.items ≡ frame ∷ []
+  pub lent : (moment_of first (service ∷ stuck ∷ ticked)).machine.lent frame ≡ Some again.request.id
+  pub ends : reset.said ≡ WasReset (Some [])
+  pub freed : (moment_of first (reset ∷ service ∷ stuck ∷ ticked)).machine.lent frame ≡ None
+  pub ready : (moment_of first (reset ∷ service ∷ stuck ∷ ticked)).ports.state again.request.port ≡ Ready
 
 -- The machine without the rule that nothing is issued while a kept request is left on the port.
 abbrev pub LooseMay : Machine → Step → Type 0

@@ -1,13 +1,15 @@
 //! Laws about the definitions in specs/. The clause of each function is the law; the functions do nothing, and nothing
-//! calls them.
+//! calls them. `D` are the steps that a device can be told to do: a law on runs holds for any device.
 
-ghost use Rattle.std.specs.Prelude.{◌≡◌, ◌≢◌, ◌↔◌, ◌<◌, ◌≤◌, ℕ, true, false, List, ◌∷◌, Option, Some, length, map, AllPairs, Contains, IsTrue};
+ghost use Rattle.std.specs.Prelude.{◌≡◌, ◌≢◌, ◌⊎◌, ◌↔◌, ◌+◌, ◌<◌, ◌≤◌, ℕ, true, false, List, ◌∷◌, ◌++◌, Option, Some, length, map, count_by, AllPairs, Contains, IsTrue};
 ghost use Rattle.ata_types.specs.declared.Port.{Port};
+ghost use Rattle.ata_types.specs.declared.PortState.TheVariants.{Ready, Dead};
 ghost use Rattle.ata_types.specs.declared.request.ClientId.{ClientId};
 ghost use Rattle.ata_types.specs.declared.request.Frame.{Frame};
 ghost use Rattle.ata_types.specs.declared.request.RequestId.{RequestId};
 ghost use Rattle.ata_types.specs.declared.request.Request.{Request};
-ghost use Rattle.ata_types.specs.declared.request.Op.TheVariants.{Read};
+ghost use Rattle.ata_types.specs.declared.request.Op.TheVariants.{Read, Flush};
+ghost use Rattle.ata_types.specs.declared.request.Outcome.TheVariants.{Ok};
 ghost use Rattle.ata_types.specs.declared.refusal.Rule.{Rule};
 ghost use Rattle.ata_types.specs.declared.refusal.Refusal.{Refusal};
 ghost use Rattle.ata_types.specs.declared.grant.GrantRow.{GrantRow};
@@ -18,13 +20,13 @@ ghost use Rattle.block_machine.specs.declared.due.Unanswered.{Unanswered};
 ghost use Rattle.block_machine.specs.Rules.{DifferInName, IsFirstBroken};
 ghost use Rattle.block_machine.specs.Refusals.{Situation, IsFirstRefusal};
 ghost use Rattle.block_machine.specs.Due.{IsDue, IsInOrder, overlap, is_due, is_plain, ahead, due_ahead, free_slots, issued_count, with_issued};
-ghost use Rattle.block_machine.specs.State.{Block, Accepted, Pending, Machine, frame_at, unanswered};
-ghost use Rattle.block_machine.specs.Steps.{Step, Touch, Issue, May, IsNew, IsLiving, AllTouched};
-ghost use Rattle.block_machine.specs.Left.{IsStart, IsLegal, AllTold, HasTouched, IsLeft, HoldsLeft, after};
-ghost use Rattle.block_machine.specs.Confined.{IsGranted, IsConfined, IsHeld, WasAccepted, WithinLimits};
+ghost use Rattle.block_machine.specs.State.{Block, Accepted, Pending, Machine, frame_at, sector_of, unanswered};
+ghost use Rattle.block_machine.specs.Steps.{Step, Touch, Issue, Answer, May, after_step, IsNew, IsLiving, AllTouched};
+ghost use Rattle.block_machine.specs.Left.{IsStart, IsLegal, AllTold, HasTouched, HasTouchedSince, IsLeft, HoldsLeft, after};
+ghost use Rattle.block_machine.specs.Confined.{IsGranted, IsConfined, IsHeld, WasAccepted, WithinLimits, MayChangeByte, MayChangeSector};
 ghost use Rattle.block_machine.specs.Durable.{IsVolatile, EveryPlugFinds};
-ghost use Rattle.block_machine.specs.Events.{Moment, Event, IsRun, EveryReadHolds, steps_of};
-ghost use Rattle.block_machine.specs.Worked.{FindsTheFlushed, GoesWrong};
+ghost use Rattle.block_machine.specs.Events.{Moment, Event, AllIssued, Happens, IsRun, IsStillStuck, EveryReadHolds, issues_it, moment_of, steps_of};
+ghost use Rattle.block_machine.specs.Worked.{FindsTheFlushed, WaitsItsTurn, EndsWithAReset, GoesWrong};
 
 /// One rule is the first that a request breaks.
 pub fn first_broken_rule_is_one()
@@ -43,8 +45,8 @@ pub fn first_refusal_is_one()
 /// Over every run of calls whose reads moved their disks' bytes: each read that is answered Ok has, at the end of the
 /// call that answers it, sector by sector what the writes and trims accepted before it left, and the rest of its frames
 /// is as it was when it was accepted.
-pub fn every_read_holds()
-    ensures { (first : Moment) (run : List Event) → IsRun first run
+pub fn every_read_holds<D>()
+    ensures { (first : Moment) (run : List (Event D)) → IsRun first run
         → AllTold first.machine (steps_of run)
         → EveryReadHolds first run }
 {}
@@ -79,10 +81,87 @@ pub fn left_stays()
 /// Over every run of calls on disks with volatile caches: where a write was answered Ok before a flush of its port was
 /// accepted, the flush was answered Ok, and no disk was taken out between, the same disk has the write's bytes or later
 /// ones each time that it comes back.
-pub fn every_plug_finds()
-    ensures { (first : Moment) (run : List Event) → IsRun first run
+pub fn every_plug_finds<D>()
+    ensures { (first : Moment) (run : List (Event D)) → IsRun first run
         → IsVolatile first.machine (steps_of run)
         → EveryPlugFinds first.machine (steps_of run) }
+{}
+
+/// A run exists in which ticks, a reset that is stuck, and one that ends do what they have to.
+pub fn a_reset_run_exists()
+    ensures { EndsWithAReset }
+{}
+
+/// Where a run answers a request Ok, each of its sectors was touched, and since then the request wasn't issued again.
+pub fn ok_was_touched<D>()
+    ensures { (first : Moment) (run : List (Event D)) (late early : List Step) (e : Pending)
+        → IsRun first run → steps_of run ≡ late ++ Answer e Ok ∷ early
+        → (i : ℕ) → i < e.request.asked.count
+        → HasTouchedSince e.request (sector_of e.request i) early }
+{}
+
+/// A call issues a request once at most.
+pub fn issued_once_a_call<D>()
+    ensures { (old : Moment) (event : Event D) (id : RequestId) → Happens old event
+        → count_by (issues_it id) event.steps ≤ 1 }
+{}
+
+/// At each moment of a run no request of a ready port is due: calls that issue leave none, and no other makes one due.
+pub fn none_due_between<D>()
+    ensures { (first : Moment) (run : List (Event D)) → IsRun first run
+        → AllIssued (moment_of first run) }
+{}
+
+/// At each moment of a run the age of an issued request is two at most: the tick that would bring it to three restarts its
+/// port.
+pub fn ages_are_bounded<D>()
+    ensures { (first : Moment) (run : List (Event D)) (e : Pending) → IsRun first run
+        → Contains (moment_of first run).machine.book e → e.issued ≡ true → e.age ≤ 2 }
+{}
+
+/// At each moment of a run an unanswered request is on a port that is ready, or on one that is dead since a reset that was
+/// stuck.
+pub fn unanswered_where_ready<D>()
+    ensures { (first : Moment) (run : List (Event D)) (e : Pending) → IsRun first run
+        → Contains (moment_of first run).machine.book e
+        → ((moment_of first run).ports.state e.request.port ≡ Ready)
+        ⊎ (((moment_of first run).ports.state e.request.port ≡ Dead) × IsStillStuck run) }
+{}
+
+/// At each moment of a run the sectors of an unanswered request are sectors that its port's disk showed to have.
+pub fn unanswered_on_disk<D>()
+    ensures { (first : Moment) (run : List (Event D)) (e : Pending) → IsRun first run
+        → Contains (moment_of first run).machine.book e → e.request.asked.op ≢ Flush
+        → e.request.asked.first.0 + e.request.asked.count
+        ≤ (moment_of first run).ports.sectors e.request.port }
+{}
+
+/// At each moment of a run a kept request is on a dead port: so nothing that is due waits for kept requests.
+pub fn kept_where_dead<D>()
+    ensures { (first : Moment) (run : List (Event D)) (e : Pending) → IsRun first run
+        → Contains (moment_of first run).machine.kept e
+        → (moment_of first run).ports.state e.request.port ≡ Dead }
+{}
+
+/// Rows and owners stay what they were.
+pub fn rows_and_owners_stay()
+    ensures { (start : Machine) (history : List Step) → ((after start history).rows ≡ start.rows)
+        × ((frame : Frame) → (after start history).owner frame ≡ start.owner frame) }
+{}
+
+/// A byte of a client's frame changes by a touch of a read that the frame is lent to, or by its owner's store.
+pub fn bytes_change_by()
+    ensures { (start : Machine) (history : List Step) (step : Step) (frame : Frame) (place : ℕ)
+        → IsStart start → IsLegal start (step ∷ history)
+        → (after start (step ∷ history)).memory frame place ≢ (after start history).memory frame place
+        → MayChangeByte (after start history) step frame place }
+{}
+
+/// A sector of a port's disk changes by a touch of it by a write or trim of the port, or by a disk that is put in.
+pub fn sectors_change_by()
+    ensures { (m : Machine) (step : Step) (port : Port) (sector place : ℕ)
+        → (after_step m step).disks port sector place ≢ m.disks port sector place
+        → MayChangeSector step port sector }
 {}
 
 /// Each touch of a sector is of an accepted request's own sector, at a frame that is lent to it.
@@ -142,8 +221,7 @@ pub fn book_in_order()
         → IsInOrder (map unanswered (after start history).book) }
 {}
 
-/// Once a due request is issued, the others of its port are due that were due before: so the requests that are issued
-/// one by one, until none is due, are exactly those that were due.
+/// Once a due request is issued, another request of its port is due exactly where it was due before.
 pub fn issues_one_by_one()
     ensures { (mode : Mode) (book : List Unanswered) (r other : Unanswered) → IsInOrder book
         → IsDue mode book r
@@ -191,6 +269,11 @@ pub fn a_start_exists()
 /// A run exists in which the laws on reads and on flushed writes have something to say.
 pub fn a_worked_run_exists()
     ensures { FindsTheFlushed }
+{}
+
+/// A run exists in which a request waits for another, and is issued by the call that answers that one.
+pub fn a_waiting_run_exists()
+    ensures { WaitsItsTurn }
 {}
 
 /// Without the rule on kept requests a read may go wrong.

@@ -1,13 +1,15 @@
-// Why a request is refused, as a plain and slow program: each cause by itself, and then the first that applies.
-ghost use Rattle.std.specs.Prelude.{◌≡◌, ◌⊎◌, ◌<◌, ◌≤◌, ◌↔◌, IsTrue, IfSome, IfNone, slice_get, count_by, ◌==◌};
+// Why a request, or a client's access to a frame, is refused, as a plain and slow program: each cause by itself, and then the
+// first that applies.
+ghost use Rattle.std.specs.Prelude.{false, ◌≡◌, ◌⊎◌, ◌<◌, ◌≤◌, ◌↔◌, IsTrue, IfSome, IfNone, slice_get, count_by, ◌==◌};
 ghost use Rattle.ata_types.specs.Grant.{Allows, Covers};
 ghost use Rattle.block_machine.specs.Rules.{IsNamed, Names, IsCount, frames_for, Breaks, HasFault, fault_number, fault_place, BreaksNone, IsFirstBroken};
-ghost use Rattle.block_machine.specs.Refusals.{Applies, IsAcceptable, IsFirstRefusal, refusal_number};
+ghost use Rattle.block_machine.specs.Refusals.{Applies, IsAcceptable, IsFirstRefusal, MemApplies, IsOpen, IsFirstMemFault, refusal_number};
 ghost use Rattle.block_machine.specs.Plain.{for_frame, shown_at, situation_in, RowHas, SomeRowHas, IsFirstNumbered};
 
 use arrayvec::ArrayVec;
 use ata_types::{
-    ClientId, Frame, FrameFault, GrantRow, Op, Port, PortState, Refusal, Request, RequestId, Rule,
+    ClientId, Frame, FrameFault, GrantRow, MemFault, Op, Port, PortState, Refusal, Request,
+    RequestId, Rule,
 };
 
 /// What a port shows of itself.
@@ -21,7 +23,10 @@ pub struct PortShown {
 }
 
 impl Default for PortShown {
-    fn default() -> Self {
+    /// A port that isn't there.
+    fn default() -> Self
+        ensures { result ≡ record { state = PortState.Absent; sectors = 0; trims = false } }
+    {
         PortShown {
             state: PortState::Absent,
             sectors: 0,
@@ -123,11 +128,7 @@ impl Tables {
     {
         match self.ports.as_slice().get(port.0 as usize) {
             Some(shown) => *shown,
-            None => PortShown {
-                state: PortState::Absent,
-                sectors: 0,
-                trims: false,
-            },
+            None => PortShown::default(),
         }
     }
 
@@ -317,6 +318,50 @@ impl Tables {
         match self.first_refusal(request) {
             Some(cause) => rule_of(cause),
             None => None,
+        }
+    }
+
+    /// Whether the cause applies to the client's access to `count` bytes of the frame from byte `offset` on.
+    pub fn mem_applies(
+        &self,
+        client: ClientId,
+        frame: Frame,
+        offset: u32,
+        count: usize,
+        fault: MemFault,
+    ) -> bool
+        ensures { IsTrue result ↔ MemApplies (for_frame self.now.owners.items)
+            (for_frame self.now.lent.items) client frame offset count fault }
+    {
+        match fault {
+            MemFault::FrameForeign => self.owner(frame) != Some(client),
+            MemFault::FrameLent => self.lent_to(frame).is_some(),
+            MemFault::OutsideFrame => 4096 < offset as u128 + count as u128,
+        }
+    }
+
+    /// The first cause that applies to the client's access to `count` bytes of the frame from byte `offset` on, or none
+    /// where it is open to the client.
+    pub fn first_mem_fault(
+        &self,
+        client: ClientId,
+        frame: Frame,
+        offset: u32,
+        count: usize,
+    ) -> Option<MemFault>
+        ensures some { IfSome result (IsFirstMemFault (for_frame self.now.owners.items)
+            (for_frame self.now.lent.items) client frame offset count) }
+        ensures none { IfNone result (IsOpen (for_frame self.now.owners.items)
+            (for_frame self.now.lent.items) client frame offset count) }
+    {
+        if self.mem_applies(client, frame, offset, count, MemFault::FrameForeign) {
+            Some(MemFault::FrameForeign)
+        } else if self.mem_applies(client, frame, offset, count, MemFault::FrameLent) {
+            Some(MemFault::FrameLent)
+        } else if self.mem_applies(client, frame, offset, count, MemFault::OutsideFrame) {
+            Some(MemFault::OutsideFrame)
+        } else {
+            None
         }
     }
 }

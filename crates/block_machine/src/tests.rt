@@ -2,8 +2,8 @@
 use crate::{Filled, Happened, Mode, PortShown, Tables, Unanswered, due_list, left};
 use arrayvec::ArrayVec;
 use ata_types::{
-    ClientId, Frame, FrameFault, GrantRow, Op, Port, PortState, Range, Refusal, Request, RequestId,
-    Rights, Rule, Sector,
+    ClientId, Frame, FrameFault, GrantRow, MemFault, Op, Port, PortState, Range, Refusal, Request,
+    RequestId, Rights, Rule, Sector,
 };
 use std::process::Abort;
 
@@ -145,7 +145,7 @@ fn each_fault_of_a_frame_is_told(rt: HostRuntime) {
 }
 
 #[test]
-fn each_further_cause_is_told(rt: HostRuntime) {
+fn a_client_has_sixteen_requests(rt: HostRuntime) {
     let mut tables = tables(&rt);
     for _ in 0..15 {
         assert!(rt; tables.unanswered.try_push(ClientId(1)).is_ok());
@@ -156,12 +156,33 @@ fn each_further_cause_is_told(rt: HostRuntime) {
     assert_eq!(rt; tables.first_refusal(&asked), Some(Refusal::ClientFull));
     let other = request(&rt, 2, 0, Op::Read, 140, 1, &[80]);
     assert_eq!(rt; tables.first_refusal(&other), None);
+}
 
+#[test]
+fn ids_end_at_the_last(rt: HostRuntime) {
+    let mut tables = tables(&rt);
+    let asked = request(&rt, 2, 0, Op::Read, 140, 1, &[80]);
     tables.last = u64::MAX - 1;
-    assert_eq!(rt; tables.first_refusal(&other), None);
+    assert_eq!(rt; tables.first_refusal(&asked), None);
     tables.last = u64::MAX;
-    assert_eq!(rt; tables.first_refusal(&other), Some(Refusal::IdsSpent));
+    assert_eq!(rt; tables.first_refusal(&asked), Some(Refusal::IdsSpent));
+}
 
+/// Port 0 alone, as it is told.
+fn show(rt: &impl Abort, tables: &mut Tables, state: PortState, sectors: u64, trims: bool) {
+    let shown = PortShown {
+        state,
+        sectors,
+        trims,
+    };
+    tables.ports = ArrayVec::new();
+    assert!(rt; tables.ports.try_push(shown).is_ok());
+}
+
+#[test]
+fn a_port_that_is_not_ready_is_told(rt: HostRuntime) {
+    let mut tables = tables(&rt);
+    let asked = request(&rt, 2, 0, Op::Read, 140, 1, &[80]);
     let states = [
         PortState::Absent,
         PortState::Foreign,
@@ -169,31 +190,78 @@ fn each_further_cause_is_told(rt: HostRuntime) {
         PortState::Dead,
     ];
     for state in states {
-        let shown = PortShown {
-            state,
-            sectors: 100,
-            trims: false,
-        };
-        tables.ports = ArrayVec::new();
-        assert!(rt; tables.ports.try_push(shown).is_ok());
+        show(&rt, &mut tables, state, 100, false);
         assert_eq!(rt;
-            tables.first_refusal(&other),
+            tables.first_refusal(&asked),
             Some(Refusal::PortNotReady(state))
         );
     }
-    let shown = PortShown {
-        state: PortState::Ready,
-        sectors: 150,
-        trims: false,
-    };
     tables.ports = ArrayVec::new();
-    assert!(rt; tables.ports.try_push(shown).is_ok());
-    let past = request(&rt, 1, 0, Op::Read, 148, 8, &[40]);
+    assert_eq!(rt;
+        tables.first_refusal(&asked),
+        Some(Refusal::PortNotReady(PortState::Absent))
+    );
+}
+
+#[test]
+fn what_a_disk_cannot_do_is_told(rt: HostRuntime) {
+    let mut tables = tables(&rt);
+    show(&rt, &mut tables, PortState::Ready, 150, false);
+    let within = request(&rt, 1, 0, Op::Read, 142, 8, &[40]);
+    assert_eq!(rt; tables.first_refusal(&within), None);
+    let past = request(&rt, 1, 0, Op::Read, 143, 8, &[40]);
     assert_eq!(rt; tables.first_refusal(&past), Some(Refusal::OutsideDisk));
     let trim = request(&rt, 1, 0, Op::Trim, 100, 8, &[]);
     assert_eq!(rt; tables.first_refusal(&trim), Some(Refusal::TrimUnsupported));
     let flush = request(&rt, 1, 0, Op::Flush, u64::MAX, 0, &[]);
-    assert_eq!(rt; tables.first_refusal(&flush), Some(Refusal::ClientFull));
+    assert_eq!(rt; tables.first_refusal(&flush), None);
+}
+
+#[test]
+fn a_trim_has_a_longest_range(rt: HostRuntime) {
+    let mut tables = tables(&rt);
+    tables.rows = ArrayVec::new();
+    assert!(rt; tables.rows.try_push(row(1, 0, 5_000_000, true)).is_ok());
+    show(&rt, &mut tables, PortState::Ready, 5_000_000, true);
+    let longest = request(&rt, 1, 0, Op::Trim, 7, 4_194_240, &[]);
+    assert_eq!(rt; tables.first_refusal(&longest), None);
+    let longer = request(&rt, 1, 0, Op::Trim, 7, 4_194_241, &[]);
+    assert_eq!(rt;
+        tables.first_refusal(&longer),
+        Some(Refusal::Rule(Rule::BadCount))
+    );
+    let none = request(&rt, 1, 0, Op::Trim, 7, 0, &[]);
+    assert_eq!(rt;
+        tables.first_refusal(&none),
+        Some(Refusal::Rule(Rule::BadCount))
+    );
+    let flush = request(&rt, 1, 0, Op::Flush, 7, 1, &[]);
+    assert_eq!(rt;
+        tables.first_refusal(&flush),
+        Some(Refusal::Rule(Rule::BadCount))
+    );
+}
+
+#[test]
+fn each_fault_of_an_access_is_told(rt: HostRuntime) {
+    let mut tables = tables(&rt);
+    lend(&rt, &mut tables, 41, 1);
+    let cases: [(u8, u16, u32, usize, Option<MemFault>); 10] = [
+        (1, 40, 0, 4096, None),
+        (1, 40, 4096, 0, None),
+        (1, 40, 1, 4096, Some(MemFault::OutsideFrame)),
+        (1, 40, u32::MAX, usize::MAX, Some(MemFault::OutsideFrame)),
+        (1, 41, 0, 1, Some(MemFault::FrameLent)),
+        (1, 41, 4096, 1, Some(MemFault::FrameLent)),
+        (2, 41, 0, 1, Some(MemFault::FrameForeign)),
+        (1, 80, 4096, 1, Some(MemFault::FrameForeign)),
+        (1, 0, 0, 1, Some(MemFault::FrameForeign)),
+        (0, 2000, 0, 0, Some(MemFault::FrameForeign)),
+    ];
+    for (client, frame, offset, count, want) in cases {
+        let found = tables.first_mem_fault(ClientId(client), Frame(frame), offset, count);
+        assert_eq!(rt; found, want, "at {frame}, {offset}");
+    }
 }
 
 const QUEUED: Mode = Mode {
@@ -288,6 +356,25 @@ fn a_waiting_trim_holds_back_later_reads(rt: HostRuntime) {
     assert!(rt; due_ids(&rt, QUEUED, &book).is_empty());
 }
 
+#[test]
+fn ports_do_not_wait_for_each_other(rt: HostRuntime) {
+    let one = Mode {
+        queued: true,
+        usable: 1,
+    };
+    let here = unanswered(1, Op::Write, 100, 8, true);
+    let flush = unanswered(2, Op::Flush, 0, 0, false);
+    let mut there = unanswered(3, Op::Read, 104, 8, false);
+    there.port = Port(1);
+    let mut next = unanswered(4, Op::Read, 120, 8, false);
+    next.port = Port(1);
+    let book = [here, flush, there, next];
+    assert_eq!(rt; due_ids(&rt, one, &book).as_slice(), [3].as_slice());
+    assert_eq!(rt; due_ids(&rt, QUEUED, &book).as_slice(), [3, 4].as_slice());
+    there.issued = true;
+    assert!(rt; due_ids(&rt, one, &[here, flush, there, next]).is_empty());
+}
+
 fn filled(id: u64, op: Op, first: u64, count: u32, fill: u8) -> Filled {
     Filled {
         id: RequestId(id),
@@ -361,4 +448,35 @@ fn a_disk_is_plugged_in_again(rt: HostRuntime) {
         Happened::Touched(write, 0),
     ];
     assert_eq!(rt; left(5, &before, &read, 100), 1);
+}
+
+#[test]
+fn what_is_left_goes_by_sector(rt: HostRuntime) {
+    let first = filled(1, Op::Write, 100, 8, 1);
+    let second = filled(2, Op::Write, 104, 8, 2);
+    let read = filled(3, Op::Read, 98, 8, 0);
+    let history = [
+        Happened::Touched(read, 7),
+        Happened::Touched(read, 6),
+        Happened::Touched(read, 5),
+        Happened::Touched(read, 1),
+        Happened::Touched(second, 0),
+        Happened::Touched(first, 4),
+        Happened::Touched(first, 3),
+    ];
+    assert_eq!(rt; left(5, &history, &read, 99), 5);
+    assert_eq!(rt; left(5, &history, &read, 103), 1);
+    assert_eq!(rt; left(5, &history, &read, 104), 2);
+    assert_eq!(rt; left(5, &history, &read, 105), 5);
+}
+
+#[test]
+fn a_touch_on_another_port_leaves_nothing(rt: HostRuntime) {
+    let mut write = filled(1, Op::Write, 96, 8, 7);
+    let read = filled(2, Op::Read, 100, 1, 0);
+    let here = [Happened::Touched(read, 0), Happened::Touched(write, 4)];
+    assert_eq!(rt; left(5, &here, &read, 100), 7);
+    write.port = Port(1);
+    let there = [Happened::Touched(read, 0), Happened::Touched(write, 4)];
+    assert_eq!(rt; left(5, &there, &read, 100), 5);
 }

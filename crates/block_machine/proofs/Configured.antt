@@ -1,0 +1,97 @@
+-- Rows and owners stay what they were, so clients are those of the start, and at most 128 requests are unanswered.
+use Rattle.std.proofs.Common.{◌≡◌, ℕ, ◌+◌, ◌*◌, ◌≤◌, Bool, cond, ◌==◌, List, [], ◌∷◌, length, zero, suc, inl, inr, ⊎_elim, refl, ap, ◌∙◌, subst, arith, eq-eqb, le_refl}
+use Rattle.std.proofs.lemmas.Bool.{cases_eq}
+use Rattle.std.specs.List.{Contains}
+use Rattle.ata_types.specs.declared.request.ClientId.{ClientId}
+use Rattle.ata_types.specs.declared.request.Frame.{Frame}
+use Rattle.ata_types.specs.declared.grant.GrantRow.{GrantRow}
+use Rattle.block_machine.specs.State.{Accepted, Pending, Machine}
+use Rattle.block_machine.specs.Steps.{Step, Accept, after_step, unanswered_of}
+use Rattle.block_machine.specs.Left.{after, IsLegal, IsStart}
+use Rattle.block_machine.specs.Confined.{WasAccepted}
+use Rattle.block_machine.proofs.Members.{contains_here, contains_there}
+use Rattle.block_machine.proofs.Counting.{count_cons}
+use Rattle.block_machine.proofs.Accepts.{living_accepted, accepted_is_granted}
+
+row_step : (m : Machine) (step : Step) → (after_step m step).rows ≡ m.rows
+row_step m (Accept r) = refl
+row_step m _ = refl
+
+pub rows_stay : (m : Machine) (h : List Step) → (after m h).rows ≡ m.rows
+rows_stay m [] = refl
+rows_stay m (step ∷ past) = row_step (after m past) step ∙ rows_stay m past
+
+pub owner_step : (m : Machine) (step : Step) (f : Frame) → (after_step m step).owner f ≡ m.owner f
+owner_step m (Accept r) f = refl
+owner_step m _ f = refl
+
+pub owners_stay : (m : Machine) (h : List Step) (f : Frame) → (after m h).owner f ≡ m.owner f
+owners_stay m [] f = refl
+owners_stay m (step ∷ past) f = owner_step (after m past) step f ∙ owners_stay m past f
+
+pub rows_and_owners_stay : (start : Machine) (h : List Step) → ((after start h).rows ≡ start.rows) × ((f : Frame) → (after start h).owner f ≡ start.owner f)
+rows_and_owners_stay start h = (rows_stay start h, owners_stay start h)
+
+-- the client of an accepted request is one that a row may have
+accepted_client : (start : Machine) (h : List Step) (r : Accepted) → IsStart start → WasAccepted start h r → (1 ≤ r.asked.client.0) × (r.asked.client.0 ≤ 8)
+accepted_client start [] r s w = absurd w
+accepted_client start (step ∷ past) r s (inl c) =
+    let g = accepted_is_granted (after start past) r c.1 in
+    let row = s.configured g.row (subst (λ (rows : List GrantRow). Contains rows g.row) (rows_stay start past) g.named.0) in
+    let low = row.client.0 in
+    let high = row.client.1 in
+    let same : g.row.client.0 ≡ r.asked.client.0 = ap (λ (x : ClientId). x.0) g.named.1.0 in
+    (omega (arith, low, same), omega (arith, high, same))
+accepted_client start (step ∷ past) r s (inr w) = accepted_client start past r s w
+
+-- how many requests the clients 1 to n have
+abbrev total : List Pending → ℕ → ℕ
+total es zero = 0
+total es (suc n) = total es n + unanswered_of es (record { 0 = suc n })
+
+total_grows : (x : Pending) (xs : List Pending) (n : ℕ) → total xs n ≤ total (x ∷ xs) n
+total_grows x xs zero = le_refl 0
+total_grows x xs (suc n) =
+    let rest = total_grows x xs n in
+    let here = count_cons (λ (e : Pending). e.request.asked.client.0 == suc n) x xs in
+    omega (arith, rest, here)
+
+total_more : (x : Pending) (xs : List Pending) (n : ℕ) → 1 ≤ x.request.asked.client.0 → x.request.asked.client.0 ≤ n → suc (total xs n) ≤ total (x ∷ xs) n
+total_more x xs zero low high = absurd (omega (arith, low, high))
+total_more x xs (suc n) low high =
+    let here = count_cons (λ (e : Pending). e.request.asked.client.0 == suc n) x xs in
+    ⊎_elim
+    (λ (e : x.request.asked.client.0 ≡ suc n).
+    let one : ◌≡◌ {A = ℕ} (cond (x.request.asked.client.0 == suc n) 1 0) 1 = ap (λ (b : Bool). cond {A = ℕ} b 1 0) (eq-eqb x.request.asked.client.0 (suc n) e) in
+    let rest = total_grows x xs n in
+    omega (arith, rest, here, one))
+    (λ (ne : x.request.asked.client.0 ≡ suc n → ⊥).
+    let below : x.request.asked.client.0 ≤ n = nearly x.request.asked.client.0 n high ne in
+    let rest = total_more x xs n low below in
+    omega (arith, rest, here))
+    (cases_eq x.request.asked.client.0 (suc n))
+  where
+    nearly : (a b : ℕ) → a ≤ suc b → (a ≡ suc b → ⊥) → a ≤ b
+    nearly a b le ne = omega (arith, le, ne)
+
+total_all : (es : List Pending) (n : ℕ) → ((e : Pending) → Contains es e → (1 ≤ e.request.asked.client.0) × (e.request.asked.client.0 ≤ n)) → length es ≤ total es n
+total_all [] n c = omega arith
+total_all (x ∷ xs) n c =
+    let rest = total_all xs n (λ e h. c e (contains_there x xs e h)) in
+    let own = c x (contains_here x xs x refl) in
+    let more = total_more x xs n own.0 own.1 in
+    omega (arith, rest, more)
+
+total_most : (es : List Pending) (n : ℕ) → ((c : ClientId) → unanswered_of es c ≤ 16) → total es n ≤ 16 * n
+total_most es zero few = le_refl 0
+total_most es (suc n) few =
+    let rest = total_most es n few in
+    let own = few (record { 0 = suc n }) in
+    omega (arith, rest, own)
+
+-- 16 of each of 8 clients
+pub all_few : (start : Machine) (h : List Step) → IsStart start → IsLegal start h → ((c : ClientId) → unanswered_of (after start h).book c ≤ 16) → length (after start h).book ≤ 128
+all_few start h s legal few =
+    let all = total_all (after start h).book 8 (λ e i. accepted_client start h e.request s (living_accepted start h s legal e (inl i))) in
+    let most = total_most (after start h).book 8 few in
+    omega (arith, all, most)

@@ -1,0 +1,288 @@
+-- A run in which a request hangs, is issued again by the third tick, and stays with a reset that is stuck.
+use Rattle.std.proofs.Common.{◌≡◌, ℕ, ◌<◌, ◌==◌, Bool, true, false, cond, List, [], ◌∷◌, ◌++◌, Option, Some, None, inl, inr, ⊎_elim, refl, sym, ap, subst, arith, eqb-true}
+use Rattle.std.proofs.lemmas.Bool.{false≢true}
+use Rattle.std.proofs.lemmas.List.Sorted.{IsPermutation-refl}
+use Rattle.std.specs.List.{Contains, count_by}
+use Rattle.std.specs.List.Sorted.{IsPermutation}
+use Rattle.ata_types.specs.declared.Port.{Port}
+use Rattle.ata_types.specs.declared.PortState.TheVariants.{Absent, Ready, Dead}
+use Rattle.ata_types.specs.declared.request.Outcome.{Outcome}
+use Rattle.ata_types.specs.declared.request.Outcome.TheVariants as outcome
+use Rattle.block_machine.specs.Ports.{Evidence, SamePorts}
+use Rattle.block_machine.specs.State.{Pending, unanswered}
+use Rattle.block_machine.specs.Steps.{Step, Issue, Age, Again, Answer, Release, newly_accepted, issue, requeued}
+use Rattle.block_machine.specs.Events.{Moment, Service, Tick, Reset, Served, WasReset, Event, Tells, TellsDead, AgesOnce, IsHung, IsIssuedIn, RestartsHung, Happens, answers_of, is_age, reply_of, moment_of}
+use Rattle.block_machine.specs.Worked.{EndsWithAReset}
+use Rattle.block_machine.proofs.Members.{contains_none, contains_here, contains_cases}
+use Rattle.block_machine.proofs.Keeps.{same_port}
+use Rattle.block_machine.proofs.Setting.{port, frame, empty_starts}
+use Rattle.block_machine.proofs.Scene.{mode, ports, ports_in, at_port, first, none, call, at_here, is_ready, is_dead, ready_here, none_dead, emptied_one, one_issued, none_there, one_told, ports_fit}
+use Rattle.block_machine.proofs.WaitingRun.{write, run1, happens1}
+
+-- the ports that a tick ages
+abbrev aging : Port → Bool
+aging p = p.0 == 0
+
+abbrev tick : List Step → Event (Unit {0})
+tick later = call Tick (Served []) (later ++ Age aging ∷ [])
+
+abbrev run2 : List (Event (Unit {0}))
+run2 = tick [] ∷ run1
+
+abbrev run3 : List (Event (Unit {0}))
+run3 = tick [] ∷ run2
+
+-- the write, issued so many ticks ago
+abbrev aged : ℕ → Pending
+aged n = record (issue (newly_accepted write)) { age = n }
+
+abbrev waits : Pending
+waits = requeued (aged 3)
+
+abbrev restarts : List Step
+restarts = Issue mode waits ∷ Again (aged 3) ∷ []
+
+abbrev run4 : List (Event (Unit {0}))
+run4 = tick restarts ∷ run3
+
+abbrev again : Pending
+again = issue waits
+
+abbrev stuck : Event (Unit {0})
+stuck = record { ask = Reset; said = WasReset None; evidence = none; steps = []; ports = ports_in Dead }
+
+abbrev run5 : List (Event (Unit {0}))
+run5 = stuck ∷ run4
+
+abbrev seen : Evidence
+seen = record { faults = []; lost = []; stuck = port ∷ [] }
+
+abbrev service : Event (Unit {0})
+service = record { ask = Service; said = Served (reply_of (again, outcome.PortDead) ∷ []); evidence = seen; steps = Answer again outcome.PortDead ∷ []; ports = ports_in Dead }
+
+abbrev run6 : List (Event (Unit {0}))
+run6 = service ∷ run5
+
+abbrev reset : Event (Unit {0})
+reset = record { ask = Reset; said = WasReset (Some []); evidence = none; steps = Release ∷ []; ports = ports }
+
+-- What holds of the parts.
+
+none_told : (steps : List Step) → answers_of steps ≡ [] → Tells steps []
+none_told steps only = record {
+  answers = [];
+  same = subst (λ xs. IsPermutation [] xs) (sym only) (IsPermutation-refl _);
+  ordered = λ i j d lt below. absurd (omega (arith, lt, below));
+  told = refl;
+}
+
+ages_once : (later : List Step) → count_by is_age later ≡ 0 → AgesOnce ports (later ++ Age aging ∷ [])
+ages_once later once = record {
+  ready = aging;
+  is_ready = λ p. (at_here Ready p, ready_here p);
+  later = later;
+  first = refl;
+  once = once;
+}
+
+-- a tick before the third leaves the port alone
+not_hung : (m : Moment) (x : Pending) → m.machine.book ≡ x ∷ [] → x.age < 2 → (p : Port) → IsHung m p → ⊥
+not_hung m x only young p hung = ⊎_elim
+    (λ (same : hung.pending ≡ x). let age = ap (λ (y : Pending). y.age) same in let enough = hung.old_enough in omega (arith, age, enough, young))
+    (λ n. contains_none hung.pending n)
+    (contains_cases x [] hung.pending (subst (λ (es : List Pending). Contains es hung.pending) only hung.here))
+
+only_age : (step : Step) → Contains (Age aging ∷ []) step → is_age step ≡ true
+only_age step h = ⊎_elim (λ same. ap is_age same) (λ n. absurd (contains_none step n)) (contains_cases (Age aging) [] step h)
+
+ticks : (old : Moment) (x : Pending) → old.machine.book ≡ x ∷ [] → x.age < 2 → (new : Moment) → SamePorts old.ports new.ports → RestartsHung old none (Age aging ∷ []) new
+ticks old x only young new same = record {
+  ports = λ p. inl (same p);
+  again = λ e h. absurd (false≢true (only_age (Again e) h));
+  answer = λ e o h. absurd (false≢true (only_age (Answer e o) h));
+  anew = λ p hung. absurd (not_hung old x only young p hung);
+}
+
+happens2 : Happens (moment_of first run1) (tick [])
+happens2 = record {
+  may = (tt, tt);
+  belong = (tt, inr tt);
+  last = (tt, λ id h i. false≢true i);
+  lawful = tt;
+  fit = ports_fit Ready;
+  disks = λ e o h i same. (refl, refl);
+  answered = (
+    none_told (Age aging ∷ []) refl,
+    ages_once [] refl,
+    ticks (moment_of first run1) (aged 0) refl (omega arith) (moment_of first run2) (λ p. (refl, refl, refl, refl, refl, refl)),
+    λ p _. one_issued (unanswered (aged 1)) refl p,
+    λ p _ ne e h. emptied_one (aged 1) refl p ne e h,
+  );
+}
+
+happens3 : Happens (moment_of first run2) (tick [])
+happens3 = record {
+  may = (tt, tt);
+  belong = (tt, inr tt);
+  last = (tt, λ id h i. false≢true i);
+  lawful = tt;
+  fit = ports_fit Ready;
+  disks = λ e o h i same. (refl, refl);
+  answered = (
+    none_told (Age aging ∷ []) refl,
+    ages_once [] refl,
+    ticks (moment_of first run2) (aged 1) refl (omega arith) (moment_of first run3) (λ p. (refl, refl, refl, refl, refl, refl)),
+    λ p _. one_issued (unanswered (aged 2)) refl p,
+    λ p _ ne e h. emptied_one (aged 2) refl p ne e h,
+  );
+}
+
+-- the third restarts it
+
+hung : IsHung (moment_of first run3) port
+hung = record { ready = refl; pending = aged 2; here = contains_here (aged 2) [] (aged 2) refl; port_is = refl; issued = refl; old_enough = omega arith }
+
+abbrev again_of : Step → Option Pending
+again_of (Again e) = Some e
+again_of _ = None
+
+abbrev is_answer : Step → Bool
+is_answer (Answer e o) = true
+is_answer _ = false
+
+-- a fact of each of the steps
+each_step : (P : Step → Type 0) → P (Issue mode waits) → P (Again (aged 3)) → P (Age aging) → (step : Step) → Contains (tick restarts).steps step → P step
+each_step P a b c step h = ⊎_elim
+    (λ same. subst P (sym same) a)
+    (λ n. ⊎_elim
+    (λ same. subst P (sym same) b)
+    (λ k. ⊎_elim (λ same. subst P (sym same) c) (λ l. absurd (contains_none step l)) (contains_cases (Age aging) [] step k))
+    (contains_cases (Again (aged 3)) (Age aging ∷ []) step n))
+    (contains_cases (Issue mode waits) (Again (aged 3) ∷ Age aging ∷ []) step h)
+
+restarted : RestartsHung (moment_of first run3) none (tick restarts).steps (moment_of first run4)
+restarted = record {
+  ports = λ p. inl (refl, refl, refl, refl, refl, refl);
+  again = λ e h. each_step (λ step. (x : Pending) → again_of step ≡ Some x → IsHung (moment_of first run3) x.request.port)
+      (λ x q. absurd (none_some x q))
+      (λ x q. let same : aged 3 ≡ x = some_same x q in subst (λ (y : Pending). IsHung (moment_of first run3) y.request.port) same hung)
+      (λ x q. absurd (none_some x q))
+      (Again e) h e refl;
+  answer = λ e o h. absurd (false≢true (sym (each_step (λ step. is_answer step ≡ false) refl refl refl (Answer e o) h)));
+  anew = λ p _ e h _ _. ⊎_elim
+      (λ (same : e ≡ again). subst (λ (y : Pending). IsIssuedIn y.request.id (tick restarts).steps) (sym same) refl)
+      (λ n. absurd (contains_none e n))
+      (contains_cases again [] e h);
+}
+  where
+    none_some : (x : Pending) → None ≡ Some x → ⊥
+    none_some x q = cc
+
+    some_same : (x : Pending) → Some (aged 3) ≡ Some x → aged 3 ≡ x
+    some_same x q = cc
+
+happens4 : Happens (moment_of first run3) (tick restarts)
+happens4 = record {
+  may = (
+    ((tt, tt), (contains_here (aged 3) [] (aged 3) refl, refl, omega arith)),
+    (contains_here waits [] waits refl, record { here = contains_here (unanswered waits) [] (unanswered waits) refl; clear = refl; slot = λ _. omega arith }, λ e h. absurd (contains_none e h)),
+  );
+  belong = (((tt, inr tt), inr tt), inr (refl, refl));
+  last = (((tt, λ id h i. false≢true i), λ id h i. false≢true i), λ id h i. false≢true i);
+  lawful = tt;
+  fit = ports_fit Ready;
+  disks = λ e o h i same. (refl, refl);
+  answered = (none_told (tick restarts).steps refl, ages_once restarts refl, restarted, λ p _. one_issued (unanswered again) refl p, λ p _ ne e h. emptied_one again refl p ne e h);
+}
+
+-- The reset that is stuck, and what comes after it.
+
+dead_not_ready : {A : Type 0} (p : Port) → at_port Dead p ≡ Ready → A
+dead_not_ready {A} p e = go (p.0 == 0) e
+  where
+    go : (b : Bool) → cond b Dead Absent ≡ Ready → A
+    go true e = absurd (false≢true (ap is_ready e))
+    go false e = absurd (false≢true (ap is_ready e))
+
+dead_here : (p : Port) → at_port Dead p ≡ Dead → Contains (port ∷ []) p
+dead_here p e = contains_here port [] p (same_port p port (eqb-true p.0 0 (go (p.0 == 0) e)))
+  where
+    go : (b : Bool) → cond b Dead Absent ≡ Dead → b ≡ true
+    go true e = refl
+    go false e = absurd (false≢true (ap is_dead e))
+
+happens5 : Happens (moment_of first run4) stuck
+happens5 = record {
+  may = tt;
+  belong = tt;
+  last = tt;
+  lawful = tt;
+  fit = ports_fit Dead;
+  disks = λ e o h i same. (refl, refl);
+  answered = (tt, λ p. (refl, at_here Dead p, (refl, refl)));
+}
+
+abbrev outcome_of : Step → Outcome
+outcome_of (Answer e o) = o
+outcome_of _ = outcome.Ok
+
+told_dead : TellsDead (moment_of first run5) service.steps
+told_dead e o h dead = ⊎_elim
+    (λ same. ap outcome_of same)
+    (λ n. absurd (contains_none (Answer e o) n))
+    (contains_cases (Answer again outcome.PortDead) [] (Answer e o) h)
+
+happens6 : Happens (moment_of first run5) service
+happens6 = record {
+  may = (tt, contains_here again [] again refl);
+  belong = (tt, inr tt);
+  last = (tt, λ id h i. false≢true i);
+  lawful = (tt, (contains_here port [] port refl, refl));
+  fit = ports_fit Dead;
+  disks = λ e o h i same. (refl, refl);
+  answered = (
+    one_told again outcome.PortDead service.steps refl (reply_of (again, outcome.PortDead)) refl,
+    told_dead,
+    λ p ready. dead_not_ready p ready,
+    λ p. (λ ne e h. absurd (contains_none e h), (record { served = refl; stuck = dead_here p; disk = λ ready. dead_not_ready p ready }, λ _. (refl, refl, refl, refl, refl, refl))),
+  );
+}
+
+happens7 : Happens (moment_of first run6) reset
+happens7 = record {
+  may = (tt, tt);
+  belong = (tt, inr tt);
+  last = (tt, λ id h i. false≢true i);
+  lawful = tt;
+  fit = ports_fit Ready;
+  disks = λ e o h i same. (refl, refl);
+  answered = (
+    none_told reset.steps refl,
+    record { later = []; earlier = []; split = refl; before = tt; once = refl },
+    λ p _. none_there p,
+    λ p. (λ ne e h. absurd (contains_none e h), record { served = refl; stuck = λ e. none_dead p e; disk = λ ready. dead_not_ready p ready }, λ e h. absurd (contains_none e h)),
+  );
+}
+
+pub ends_with_a_reset : EndsWithAReset
+ends_with_a_reset = record {
+  first = first;
+  ticked = run4;
+  stuck = stuck;
+  service = service;
+  reset = reset;
+  runs = ((((((((empty_starts, ports_fit Ready), happens1), happens2), happens3), happens4), happens5), happens6), happens7);
+  again = again;
+  hung = refl;
+  twice = refl;
+  issued = refl;
+  stays = refl;
+  answers = contains_here (Answer again outcome.PortDead) [] (Answer again outcome.PortDead) refl;
+  kept = refl;
+  frame = frame 40;
+  its = refl;
+  lent = refl;
+  ends = refl;
+  freed = refl;
+  ready = refl;
+}

@@ -1,0 +1,226 @@
+-- What the worked runs are made of: ports, calls and requests, and what holds of them.
+use Rattle.std.proofs.Common.{◌≡◌, ◌≢◌, ℕ, ◌+◌, ◌<◌, ◌≤◌, true, false, List, [], ◌∷◌, slice_get, Some, is_some, ◌||◌, ◌==◌, eq-eqb, None, inr, ⊎_elim, refl, sym, ap, ◌∙◌, subst, arith, Bool, cond, eqb-true}
+use Rattle.std.proofs.lemmas.Bool.{false≢true, or_left, cond-true, cond-false}
+use Rattle.std.specs.List.{Contains}
+use Rattle.std.specs.List.Sorted.{IsPermutation}
+use Rattle.std.proofs.lemmas.Option.{slice_get_within, get_or_from_slice_get}
+use Rattle.std.proofs.lemmas.List.Sorted.{IsPermutation-refl}
+use Rattle.ata_types.specs.declared.Port.{Port}
+use Rattle.ata_types.specs.declared.PortState.{PortState}
+use Rattle.ata_types.specs.declared.PortState.TheVariants.{Absent, Ready, Dead}
+use Rattle.ata_types.specs.declared.request.Frame.{Frame}
+use Rattle.ata_types.specs.declared.request.RequestId.{RequestId}
+use Rattle.ata_types.specs.declared.request.Reply.{Reply}
+use Rattle.ata_types.specs.declared.request.Op.{Op}
+use Rattle.ata_types.specs.declared.request.Op.TheVariants.{Read, Write, Trim, Flush}
+use Rattle.ata_types.specs.declared.request.Outcome.{Outcome}
+use Rattle.ata_types.specs.declared.request.Outcome.TheVariants as outcome
+use Rattle.ata_types.specs.declared.refusal.Refusal.TheVariants as refused
+use Rattle.ata_types.specs.declared.refusal.MemFault.TheVariants as fault
+use Rattle.ata_types.specs.declared.grant.GrantRow.{GrantRow}
+use Rattle.block_machine.specs.declared.due.Mode.{Mode}
+use Rattle.block_machine.specs.declared.due.Unanswered.{Unanswered}
+use Rattle.ata_types.specs.Grant.{Allows}
+use Rattle.block_machine.specs.Rules.{IsCount, frames_for}
+use Rattle.block_machine.specs.Refusals.{IsOpen}
+use Rattle.block_machine.specs.Due.{NoneDue, is_flush}
+use Rattle.block_machine.specs.State.{Accepted, Pending, Machine, block_of, is_reader}
+use Rattle.block_machine.specs.Steps.{Step, Touch, End, Answer, newly_accepted, issue, touch, mark_ended, IsNew}
+use Rattle.block_machine.specs.Ports.{Ports, Evidence, AreFit, IsServiced}
+use Rattle.block_machine.specs.Events.{Moment, Ask, Said, Event, Tells, situation_of, answers_of, reply_of}
+use Rattle.block_machine.proofs.Members.{contains_none, contains_cases}
+use Rattle.block_machine.proofs.Dues.{issued_not_due}
+use Rattle.block_machine.proofs.Setting.{client, port, frame, row, request, empty, only_row, is_trim, IsFit, acceptable}
+
+abbrev pub mode : Mode
+mode = record { queued = true; usable = 32 }
+
+-- port 0 in this state, and no other port
+abbrev pub at_port : PortState → Port → PortState
+at_port state p = cond (p.0 == 0) state Absent
+
+abbrev pub ports_in : PortState → Ports
+ports_in state = record { served = λ p. p.0 == 0; state = at_port state; serial = λ p. []; sectors = λ p. 200; trims = λ p. true; mode = λ p. mode }
+
+abbrev pub ports : Ports
+ports = ports_in Ready
+
+abbrev pub first : Moment
+first = record { machine = empty; ports = ports }
+
+abbrev pub id : ℕ → RequestId
+id n = record { 0 = n }
+
+abbrev pub none : Evidence
+none = record { faults = []; lost = []; stuck = [] }
+
+abbrev pub call : Ask (Unit {0}) → Said → List Step → Event (Unit {0})
+call ask said steps = record { ask = ask; said = said; evidence = none; steps = steps; ports = ports }
+
+abbrev pub reply : ℕ → Reply
+reply n = record { id = id n; client = client; outcome = outcome.Ok }
+
+-- a request of one sector, with its frame's bytes at a moment
+abbrev pub sector_request : Machine → ℕ → Op → ℕ → Accepted
+sector_request m n op f = record { id = id n; port = port; asked = request op 100 1 (frame f ∷ []); held = block_of m.memory (frame f ∷ []) }
+
+-- a request of one sector that is touched, ended and answered
+abbrev pub done : Accepted → Pending
+done r = mark_ended (touch 0 (issue (newly_accepted r)))
+
+abbrev pub served : Accepted → List Step
+served r = Answer (done r) outcome.Ok ∷ End (touch 0 (issue (newly_accepted r))) ∷ Touch (issue (newly_accepted r)) 0 (r.held 0) ∷ []
+
+-- What holds of the parts.
+
+pub none_some : {X : Type 0} (x : X) → None ≡ Some x → ⊥
+none_some x e = cc
+
+pub write_is_no : (op : Op) → Write ≡ op → is_reader op ≡ false
+write_is_no op e = ap is_reader (sym e)
+
+-- a frame of the client that is lent to none
+pub is_open : (m : Machine) (n offset count : ℕ) → m.owner (frame n) ≡ Some client → m.lent (frame n) ≡ None → offset + count ≤ 4096 → IsOpen m.owner m.lent client (frame n) offset count
+is_open m n offset count own free fits fault.FrameForeign h = h own
+is_open m n offset count own free fits fault.FrameLent h = false≢true (sym (ap is_some free) ∙ h)
+is_open m n offset count own free fits fault.OutsideFrame h = omega (arith, fits, h)
+
+-- a moment of a run at which the client may ask for more
+pub record IsQuiet (m : Moment) : Type 0 where
+  pub rows : m.machine.rows ≡ row ∷ []
+  pub ready : m.ports.state port ≡ Ready
+  pub size : m.ports.sectors port ≡ 200
+  pub room : (situation_of m).unanswered client < 16
+  pub few : m.machine.next ≤ 5
+
+-- a request of one sector is fit there
+pub fit_sector : (m : Moment) (op : Op) (n : ℕ) → IsQuiet m → op ≢ Trim → op ≢ Flush → frames_for op 1 ≡ 1 → IsCount op 1 → Allows row.rights op
+    → m.machine.owner (frame n) ≡ Some client → m.machine.lent (frame n) ≡ None → IsFit (situation_of m) (request op 100 1 (frame n ∷ []))
+fit_sector m op n q no_trim no_flush frames count allowed own free = record {
+  rows = q.rows;
+  client_is = refl;
+  grant = refl;
+  allowed = allowed;
+  count = count;
+  covered = λ _. (omega arith, omega arith);
+  frames = sym frames;
+  single = omega arith;
+  owned = λ f e. ap m.machine.owner (same f e) ∙ own;
+  free = λ f e. ap m.machine.lent (same f e) ∙ free;
+  ready = q.ready;
+  on_disk = λ _. let size = q.size in omega (arith, size);
+  no_trim = no_trim;
+  few = q.room;
+  ids = let few = q.few in omega (arith, few);
+}
+  where
+    same : (f : Frame) → slice_get (frame n ∷ []) 0 ≡ Some f → f ≡ frame n
+    same f e = sym (get_or_from_slice_get (frame n ∷ []) 0 f f e)
+
+pub fit_write : (m : Moment) (n : ℕ) → IsQuiet m → m.machine.owner (frame n) ≡ Some client → m.machine.lent (frame n) ≡ None → IsFit (situation_of m) (request Write 100 1 (frame n ∷ []))
+fit_write m n q own free = fit_sector m Write n q (λ e. false≢true (ap is_trim e)) (λ e. false≢true (ap is_flush e)) refl (omega arith, omega arith) refl own free
+
+pub fit_read : (m : Moment) (n : ℕ) → IsQuiet m → m.machine.owner (frame n) ≡ Some client → m.machine.lent (frame n) ≡ None → IsFit (situation_of m) (request Read 100 1 (frame n ∷ []))
+fit_read m n q own free = fit_sector m Read n q (λ e. false≢true (ap is_trim e)) (λ e. false≢true (ap is_flush e)) refl (omega arith, omega arith) refl own free
+
+pub fit_flush : (m : Moment) → IsQuiet m → IsFit (situation_of m) (request Flush 0 0 [])
+fit_flush m q = record {
+  rows = q.rows;
+  client_is = refl;
+  grant = refl;
+  allowed = refl;
+  count = refl;
+  covered = λ ne. absurd (ne refl);
+  frames = refl;
+  single = omega arith;
+  owned = λ f e. absurd (nothing f e);
+  free = λ f e. absurd (nothing f e);
+  ready = q.ready;
+  on_disk = λ ne. absurd (ne refl);
+  no_trim = λ e. false≢true (ap is_trim e);
+  few = q.room;
+  ids = let few = q.few in omega (arith, few);
+}
+  where
+    nothing : (f : Frame) → slice_get [] 0 ≡ Some f → ⊥
+    nothing f e = let lt = slice_get_within [] 0 f e in omega (arith, lt)
+
+-- a fit request is new to the machine
+pub new : (m : Moment) (a : Accepted) → IsQuiet m → IsFit (situation_of m) a.asked → a.id.0 ≡ m.machine.next → a.port ≡ port → a.held ≡ block_of m.machine.memory a.asked.frames.items → IsNew m.machine a
+new m a q fit next here held = record {
+  id = next;
+  id_left = let few = q.few in omega (arith, few);
+  unbroken = λ rule h. acceptable (situation_of m) a.asked fit (refused.Rule rule) h;
+  port = λ r h. here ∙ ap (λ (x : GrantRow). x.port) (sym (only_row r (subst (λ (rows : List GrantRow). Contains rows r) q.rows h.0)));
+  few = let none = fit.few in subst (λ c. (situation_of m).unanswered c < 16) (sym fit.client_is) none;
+  held = held;
+}
+
+-- the one request of a book is issued, or there is none
+pub one_issued : (u : Unanswered) → u.issued ≡ true → (p : Port) → NoneDue mode (u ∷ []) p
+one_issued u issued p r here due = issued_not_due mode (u ∷ []) r (⊎_elim
+    (λ e. ap (λ (x : Unanswered). x.issued) e ∙ issued)
+    (λ n. absurd (contains_none r n)) (contains_cases u [] r due.here)) due
+
+pub none_there : (p : Port) → NoneDue mode [] p
+none_there p r here due = contains_none r due.here
+
+-- an only answer is told
+pub one_told : (e : Pending) (o : Outcome) (steps : List Step) → answers_of steps ≡ (e, o) ∷ [] → (r : Reply) → r ≡ reply_of (e, o) → Tells steps (r ∷ [])
+one_told e o steps only r is = record {
+  answers = (e, o) ∷ [];
+  same = subst (λ xs. IsPermutation ((e, o) ∷ []) xs) (sym only) (IsPermutation-refl _);
+  ordered = λ i j d lt below. absurd (omega (arith, lt, below));
+  told = ap (λ (x : Reply). x ∷ []) is;
+}
+
+pub one_touched : (i : ℕ) → i < 1 → ((i == 0) || false) ≡ true
+one_touched i lt = or_left _ _ (eq-eqb i 0 (omega arith))
+
+pub ports_fit : (state : PortState) → AreFit (ports_in state)
+ports_fit state = record {
+  few = λ p e. let zero = eqb-true p.0 0 e in omega (arith, zero);
+  absent = λ p e. cond-false (p.0 == 0) state Absent e;
+  slots = λ p e. (omega arith, omega arith, λ f. absurd (false≢true (sym f)));
+}
+
+-- where port 0 is in a state, and where another is
+pub at_here : (state : PortState) (p : Port) → (p.0 == 0) ≡ true → at_port state p ≡ state
+at_here state p e = cond-true (p.0 == 0) state Absent e
+
+abbrev pub is_ready : PortState → Bool
+is_ready Ready = true
+is_ready _ = false
+
+abbrev pub is_dead : PortState → Bool
+is_dead Dead = true
+is_dead _ = false
+
+pub ready_here : (p : Port) → at_port Ready p ≡ Ready → (p.0 == 0) ≡ true
+ready_here p e = go (p.0 == 0) e
+  where
+    go : (b : Bool) → cond b Ready Absent ≡ Ready → b ≡ true
+    go true e = refl
+    go false e = absurd (false≢true (ap is_ready e))
+
+-- no port is dead in most calls
+pub none_dead : {A : Type 0} (p : Port) → at_port Ready p ≡ Dead → A
+none_dead {A} p e = go (p.0 == 0) e
+  where
+    go : (b : Bool) → cond b Ready Absent ≡ Dead → A
+    go true e = absurd (false≢true (ap is_dead e))
+    go false e = absurd (false≢true (ap is_dead e))
+
+-- and in them no port changes
+pub serviced : (p : Port) → IsServiced ports none ports p
+serviced p = (
+  record { served = refl; stuck = λ e. none_dead p e; disk = λ ready. inr (inr (ready, (refl, refl))) },
+  λ _. (refl, refl, refl, refl, refl, refl),
+)
+
+-- where port 0 is ready, one request of it is no other port's
+pub emptied_one : (one : Pending) → one.request.port ≡ port → (p : Port) → at_port Ready p ≢ Ready → (e : Pending) → Contains (one ∷ []) e → e.request.port ≢ p
+emptied_one one here p ne e h q = ⊎_elim
+    (λ (same : e ≡ one). ne (subst (λ (x : Port). at_port Ready x ≡ Ready) (sym here ∙ ap (λ (x : Pending). x.request.port) (sym same) ∙ q) refl))
+    (λ n. contains_none e n)
+    (contains_cases one [] e h)

@@ -1,0 +1,160 @@
+-- A run in which a read waits for a write of its sector.
+use Rattle.std.proofs.Common.{List, [], ◌∷◌, Ok, inl, inr, ⊎_elim, refl, sym, ap, ◌∙◌, arith}
+use Rattle.std.proofs.lemmas.Bool.{false≢true}
+use Rattle.ata_types.specs.declared.Port.{Port}
+use Rattle.ata_types.specs.declared.request.Op.TheVariants.{Read, Write}
+use Rattle.ata_types.specs.declared.request.Outcome.TheVariants as outcome
+use Rattle.block_machine.specs.declared.due.Unanswered.{Unanswered}
+use Rattle.block_machine.specs.Due.{NoneDue}
+use Rattle.block_machine.specs.State.{Accepted, is_reader, unanswered}
+use Rattle.block_machine.specs.Steps.{Accept, Issue, Touch, End, Answer, newly_accepted, issue, touch}
+use Rattle.block_machine.specs.Events.{Submit, Service, Submitted, Served, Event, Happens, moment_of, situation_of}
+use Rattle.block_machine.specs.Worked.{WaitsItsTurn}
+use Rattle.block_machine.proofs.Members.{contains_none, contains_here, contains_there, contains_cases}
+use Rattle.block_machine.proofs.Dues.{issued_not_due}
+use Rattle.block_machine.proofs.Setting.{port, empty_starts, acceptable}
+use Rattle.block_machine.specs.Due.{NoneDue, is_clear}
+use Rattle.block_machine.specs.State.{Block, is_reader}
+use Rattle.std.proofs.lemmas.Bool.{false≢true}
+use Rattle.block_machine.specs.declared.due.Unanswered.{Unanswered}
+use Rattle.block_machine.proofs.Dues.{issued_not_due}
+use Rattle.block_machine.proofs.Setting.{acceptable}
+use Rattle.ata_types.specs.declared.PortState.TheVariants.{Ready}
+use Rattle.block_machine.proofs.Scene.{mode, first, id, call, reply, sector_request, done, served, IsQuiet, fit_write, fit_read, new, one_issued, none_there, one_told, one_touched, ports_fit, none_dead, serviced, emptied_one}
+
+abbrev pub run0 : List (Event (Unit {0}))
+run0 = []
+
+abbrev pub write : Accepted
+write = sector_request (moment_of first run0).machine 1 Write 40
+
+abbrev pub event1 : Event (Unit {0})
+event1 = call (Submit write.asked) (Submitted (Ok (id 1))) (Issue mode (newly_accepted write) ∷ Accept write ∷ [])
+
+abbrev pub run1 : List (Event (Unit {0}))
+run1 = event1 ∷ run0
+
+abbrev read : Accepted
+read = sector_request (moment_of first run1).machine 2 Read 41
+
+abbrev event2 : Event (Unit {0})
+event2 = call (Submit read.asked) (Submitted (Ok (id 2))) (Accept read ∷ [])
+
+abbrev run2 : List (Event (Unit {0}))
+run2 = event2 ∷ run1
+
+abbrev event3 : Event (Unit {0})
+event3 = call Service (Served (reply 1 ∷ [])) (Issue mode (newly_accepted read) ∷ served write)
+
+abbrev run3 : List (Event (Unit {0}))
+run3 = event3 ∷ run2
+
+-- the bytes that the write left
+abbrev moved : Block
+moved = (moment_of first run3).machine.disks port 100
+
+abbrev event4 : Event (Unit {0})
+event4 = call Service (Served (reply 2 ∷ [])) (Answer (done read) outcome.Ok ∷ End (touch 0 (issue (newly_accepted read))) ∷ Touch (issue (newly_accepted read)) 0 moved ∷ [])
+
+abbrev run4 : List (Event (Unit {0}))
+run4 = event4 ∷ run3
+
+quiet0 : IsQuiet (moment_of first run0)
+quiet0 = record { rows = refl; ready = refl; size = refl; room = omega arith; few = omega arith }
+
+quiet1 : IsQuiet (moment_of first run1)
+quiet1 = record { rows = refl; ready = refl; size = refl; room = omega arith; few = omega arith }
+
+pub happens1 : Happens (moment_of first run0) event1
+happens1 = record {
+  may = ((tt, new (moment_of first run0) write quiet0 (fit_write (moment_of first run0) 40 quiet0 refl refl) refl refl refl), (contains_here (newly_accepted write) [] (newly_accepted write) refl, record { here = contains_here (unanswered (newly_accepted write)) [] (unanswered (newly_accepted write)) refl; clear = refl; slot = λ _. omega arith }, λ e h. absurd (contains_none e h)));
+  belong = ((tt, inr refl), inr (refl, refl));
+  last = ((tt, λ id h i. false≢true i), λ id h i. false≢true i);
+  lawful = tt;
+  fit = ports_fit Ready;
+  disks = λ e o h i same. (refl, refl);
+  answered = (acceptable (situation_of (moment_of first run0)) write.asked (fit_write (moment_of first run0) 40 quiet0 refl refl), (write, refl, refl), λ p. (refl, refl, refl, refl, refl, refl), λ p _. one_issued (unanswered (issue (newly_accepted write))) refl p);
+}
+
+-- the write in its slot, and the read after it
+abbrev book : List Unanswered
+book = unanswered (issue (newly_accepted write)) ∷ unanswered (newly_accepted read) ∷ []
+
+-- neither is due
+none_due : (p : Port) → NoneDue mode book p
+none_due p r here due = ⊎_elim
+    (λ e. issued_not_due mode book r (ap (λ (x : Unanswered). x.issued) e) due)
+    (λ i. ⊎_elim
+    (λ e. false≢true (ap (λ (x : Unanswered). is_clear mode book x) (sym e) ∙ due.clear))
+    (λ n. contains_none r n)
+    (contains_cases (unanswered (newly_accepted read)) [] r i))
+    (contains_cases (unanswered (issue (newly_accepted write))) (unanswered (newly_accepted read) ∷ []) r due.here)
+
+happens2 : Happens (moment_of first run1) event2
+happens2 = record {
+  may = (tt, new (moment_of first run1) read quiet1 (fit_read (moment_of first run1) 41 quiet1 refl refl) refl refl refl);
+  belong = (tt, inr refl);
+  last = (tt, λ id h i. false≢true i);
+  lawful = tt;
+  fit = ports_fit Ready;
+  disks = λ e o h i same. (refl, refl);
+  answered = (acceptable (situation_of (moment_of first run1)) read.asked (fit_read (moment_of first run1) 41 quiet1 refl refl), (read, refl, refl), λ p. (refl, refl, refl, refl, refl, refl), λ p _. none_due p);
+}
+
+happens3 : Happens (moment_of first run2) event3
+happens3 = record {
+  may = (
+    (
+      (
+        (tt, (inl (contains_here (issue (newly_accepted write)) (newly_accepted read ∷ []) (issue (newly_accepted write)) refl, refl), omega arith, refl, omega arith, λ _ b lt. refl)),
+        (inl (contains_here (touch 0 (issue (newly_accepted write))) (newly_accepted read ∷ []) (touch 0 (issue (newly_accepted write))) refl, refl), one_touched, refl),
+      ),
+      contains_here (done write) (newly_accepted read ∷ []) (done write) refl,
+    ),
+    (contains_here (newly_accepted read) [] (newly_accepted read) refl, record { here = contains_here (unanswered (newly_accepted read)) [] (unanswered (newly_accepted read)) refl; clear = refl; slot = λ _. omega arith }, λ e h. absurd (contains_none e h)),
+  );
+  belong = ((((tt, inl tt), inl tt), inr tt), inr (refl, refl));
+  last = ((((tt, λ id h i. false≢true i), λ id h i. false≢true i), λ id h i. false≢true i), λ id h i. false≢true i);
+  lawful = (tt, (record { pending = issue (newly_accepted write); here = contains_here (issue (newly_accepted write)) (newly_accepted read ∷ []) (issue (newly_accepted write)) refl; id_is = refl; issued = refl }, refl, one_touched, refl));
+  fit = ports_fit Ready;
+  disks = λ e o h i same. (refl, refl);
+  answered = (one_told (done write) outcome.Ok event3.steps refl (reply write.id.0) refl, λ e o i dead. none_dead e.request.port dead, λ p _. one_issued (unanswered (issue (newly_accepted read))) refl p, λ p. (λ ne e h. emptied_one (issue (newly_accepted read)) refl p ne e h, serviced p));
+}
+
+happens4 : Happens (moment_of first run3) event4
+happens4 = record {
+  may = (((tt, (inl (contains_here (issue (newly_accepted read)) [] (issue (newly_accepted read)) refl, refl), omega arith, refl, omega arith, λ e. absurd (false≢true (sym (ap is_reader e))))), (inl (contains_here (touch 0 (issue (newly_accepted read))) [] (touch 0 (issue (newly_accepted read))) refl, refl), one_touched, refl)), contains_here (done read) [] (done read) refl);
+  belong = (((tt, inl tt), inl tt), inr tt);
+  last = (((tt, λ id h i. false≢true i), λ id h i. false≢true i), λ id h i. false≢true i);
+  lawful = (tt, (record { pending = issue (newly_accepted read); here = contains_here (issue (newly_accepted read)) [] (issue (newly_accepted read)) refl; id_is = refl; issued = refl }, refl, one_touched, refl));
+  fit = ports_fit Ready;
+  disks = λ e o h i same. (refl, refl);
+  answered = (one_told (done read) outcome.Ok event4.steps refl (reply read.id.0) refl, λ e o i dead. none_dead e.request.port dead, λ p _. none_there p, λ p. (λ ne e h. absurd (contains_none e h), serviced p));
+}
+
+pub waits_its_turn : WaitsItsTurn
+waits_its_turn = record {
+  first = first;
+  run = run4;
+  runs = (((((empty_starts, ports_fit Ready), happens1), happens2), happens3), happens4);
+  told = ((((((((((tt, tt), tt), tt), λ e. absurd (false≢true (ap is_reader e))), tt), tt), tt), λ _ b lt. refl), tt), tt);
+  late = event4 ∷ [];
+  call = event3;
+  early = run2;
+  comes = refl;
+  issued = issue (newly_accepted write);
+  waits = newly_accepted read;
+  both = refl;
+  is_issued = refl;
+  is_waiting = refl;
+  conflicts = refl;
+  done = done write;
+  answers = contains_there (Issue mode (newly_accepted read)) (served write) (Answer (done write) outcome.Ok)
+      (contains_here (Answer (done write) outcome.Ok) (End (touch 0 (issue (newly_accepted write))) ∷ Touch (issue (newly_accepted write)) 0 (write.held 0) ∷ []) (Answer (done write) outcome.Ok) refl);
+  its = refl;
+  mode = mode;
+  issues = contains_here (Issue mode (newly_accepted read)) (served write) (Issue mode (newly_accepted read)) refl;
+  last = done read;
+  answered = contains_here (Answer (done read) outcome.Ok) (End (touch 0 (issue (newly_accepted read))) ∷ Touch (issue (newly_accepted read)) 0 moved ∷ []) (Answer (done read) outcome.Ok) refl;
+  its_too = refl;
+}

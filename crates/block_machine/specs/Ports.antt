@@ -1,0 +1,73 @@
+-- What the ports are to clients and to the book, and what a call may make of them (this project's own).
+use Rattle.std.specs.Prelude.{◌≡◌, ◌⊎◌, ℕ, ◌<◌, ◌≤◌, Bool, true, false, List, Contains}
+use Rattle.ata_types.specs.declared.Port.{Port}
+use Rattle.ata_types.specs.declared.PortState.{PortState}
+use Rattle.ata_types.specs.declared.PortState.TheVariants.{Absent, Ready, Dead}
+use Rattle.ata_types.specs.declared.request.RequestId.{RequestId}
+use Rattle.block_machine.specs.declared.due.Mode.{Mode}
+
+-- What the ports are. The four last things are those of the disk that the port is ready with, or was last ready with.
+pub record Ports : Type 0 where
+  -- whether adapter and configuration have the port; one that they lack is absent for good
+  pub served : Port → Bool
+  pub state : Port → PortState
+  -- the bytes of the disk's serial, and its size in sectors
+  pub serial : Port → List ℕ
+  pub sectors : Port → ℕ
+  -- whether it promises zeros after a trim, and how the port takes commands with it
+  pub trims : Port → Bool
+  pub mode : Port → Mode
+
+-- a port has 1 to 32 usable slots, and one where commands aren't queued
+abbrev pub IsMode : Mode → Type 0
+IsMode mode = (1 ≤ mode.usable) × (mode.usable ≤ 32) × (mode.queued ≡ false → mode.usable ≡ 1)
+
+-- What ports are between any two calls: at most four are served. (A mode is known of a ready port alone: the disk's own page
+-- tells it.)
+pub record AreFit (ports : Ports) : Type 0 where
+  pub few : (port : Port) → ports.served port ≡ true → port.0 < 4
+  pub absent : (port : Port) → ports.served port ≡ false → ports.state port ≡ Absent
+  pub slots : (port : Port) → ports.state port ≡ Ready → IsMode (ports.mode port)
+
+-- the port is what it was
+abbrev pub SamePort : Ports → Ports → Port → Type 0
+SamePort old new port = (new.served port ≡ old.served port) × (new.state port ≡ old.state port) × (new.serial port ≡ old.serial port)
+    × (new.sectors port ≡ old.sectors port) × (new.trims port ≡ old.trims port) × (new.mode port ≡ old.mode port)
+
+-- all ports are what they were
+abbrev pub SamePorts : Ports → Ports → Type 0
+SamePorts old new = (port : Port) → SamePort old new port
+
+-- the disk of the port has the serial and the size that it had: a restart takes it for the same
+abbrev pub SameDisk : Ports → Ports → Port → Type 0
+SameDisk old new port = (new.serial port ≡ old.serial port) × (new.sectors port ≡ old.sectors port)
+
+-- a fault that the device told of a request: the two bytes of the task file
+pub record Fault : Type 0 where
+  pub id : RequestId
+  pub status : ℕ
+  pub error : ℕ
+
+-- What the device vouches for in a call: the faults that it told; the ports that lost their disk or have another, when the
+-- call began, in it, or at its end; and the ports whose engine didn't stop or whose adapter didn't end its reset. The layer
+-- that knows the device backs each item.
+pub record Evidence : Type 0 where
+  pub faults : List Fault
+  pub lost : List Port
+  pub stuck : List Port
+
+-- What a call that looks at the port, or boots it, may make of it: a port that is dead after it is stuck; and one that was
+-- ready and isn't lost is dead, or still ready with its disk.
+pub record MayBecome (old : Ports) (evidence : Evidence) (new : Ports) (port : Port) : Type 0 where
+  pub served : new.served port ≡ old.served port
+  pub stuck : new.state port ≡ Dead → Contains evidence.stuck port
+  pub disk : old.state port ≡ Ready
+      → Contains evidence.lost port ⊎ ((new.state port ≡ Dead) ⊎ ((new.state port ≡ Ready) × SameDisk old new port))
+
+-- What a service may make of it: a dead port stays what it is, since a reset alone ends that.
+abbrev pub IsServiced : Ports → Evidence → Ports → Port → Type 0
+IsServiced old evidence new port = MayBecome old evidence new port × (old.state port ≡ Dead → SamePort old new port)
+
+-- What a reset that was stuck makes of it: a served port is dead, and remembers its disk.
+abbrev pub IsStuck : Ports → Ports → Port → Type 0
+IsStuck old new port = (new.served port ≡ old.served port) × (old.served port ≡ true → new.state port ≡ Dead) × SameDisk old new port
