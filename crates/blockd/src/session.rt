@@ -1,4 +1,7 @@
 // The calls that the program makes.
+ghost use Rattle.std.specs.Prelude.{◌≡◌};
+ghost use Rattle.blockd.specs.declared.session.Fault.TheVariants as fault;
+
 use adapter::DeviceStep;
 use arrayvec::ArrayVec;
 use ata_types::{ClientId, Frame, GrantRow, Op, Port, Request, Rights, Sector, Slot};
@@ -39,12 +42,16 @@ pub enum Fault {
 }
 
 impl From<AllocError> for Fault {
+    ghost from_gives = { λ _ given. given ≡ fault.NoMemory };
+
     fn from(_error: AllocError) -> Fault {
         Fault::NoMemory
     }
 }
 
 impl From<SetupError> for Fault {
+    ghost from_gives = { λ error given. given ≡ fault.Setup error };
+
     fn from(error: SetupError) -> Fault {
         Fault::Setup(error)
     }
