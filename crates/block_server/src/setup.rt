@@ -380,6 +380,10 @@ mod tests {
             }]),
             sectors
         );
+    }
+
+    #[test]
+    fn a_client_and_number_stand_once(rt: HostRuntime) {
         let twice = Some((1, GrantFault::Twice));
         assert_eq!(rt; grant_fault(&[ROW, ROW]), twice);
         assert_eq!(rt; grant_fault(&[ROW, GrantRow { number: 1, ..ROW }]), None);
