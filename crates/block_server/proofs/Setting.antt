@@ -17,7 +17,8 @@ use Rattle.block_server.specs.declared.setup.RunFault.{RunFault}
 use Rattle.block_server.specs.declared.setup.RunFault.TheVariants as run
 
 -- one more run
-pub more_runs : (frames : ℕ) (runs : List Run) (i : ℕ) (d : Run) → i < length runs → AreRuns frames (take i runs) → FitsRun frames (take i runs) (get_or runs i d) → AreRuns frames (take (i + 1) runs)
+pub more_runs : (frames : ℕ) (runs : List Run) (i : ℕ) (d : Run) → i < length runs → AreRuns frames (take i runs)
+    → FitsRun frames (take i runs) (get_or runs i d) → AreRuns frames (take (i + 1) runs)
 more_runs frames runs i d within kept fits = rw (add-one, take-suc runs i d within) (record {
   owners = All-push (λ (r : Run). IsClient r.0) (take i runs) _ kept.owners fits.0;
   within = All-push (HasClientFrames frames) (take i runs) _ kept.within fits.1;
@@ -29,7 +30,8 @@ item_at : {X : Type 0} (P : X → Type 0) (xs : List X) (i : ℕ) (x : X) → Al
 item_at P xs i x all there = subst P (get_or_from_slice_get xs i x x there) (all i x (slice_get_within xs i x there))
 
 -- an item before the one at a place
-pair_at : {X : Type 0} (R : X → X → Type 0) (xs : List X) (i j : ℕ) (x y : X) → AllPairs R xs → slice_get xs i ≡ Some x → j < length (take i xs) → get_or (take i xs) j y ≡ y → R y x
+pair_at : {X : Type 0} (R : X → X → Type 0) (xs : List X) (i j : ℕ) (x y : X) → AllPairs R xs → slice_get xs i ≡ Some x
+    → j < length (take i xs) → get_or (take i xs) j y ≡ y → R y x
 pair_at R xs i j x y all there small is =
     let within : i < length xs = slice_get_within xs i x there in
     let before : j < i = omega (arith, length-take-le i xs) in

@@ -21,6 +21,7 @@ pub record SetupView : Type 0 where
   pub owners : List Run
   pub grants : List GrantRow
 
+-- a setup that says this
 abbrev pub given : ℕ → List Run → List GrantRow → SetupView
 given frames owners grants = record { frames = frames; owners = owners; grants = grants }
 
@@ -104,12 +105,14 @@ grant_fault_number grant.Twice = 5
 
 -- the fault is the run's, and none before it is
 abbrev pub IsFirstRunFault : ℕ → List Run → Run → RunFault → Type 0
-IsFirstRunFault frames earlier r fault = HasRunFault frames earlier r fault
+IsFirstRunFault frames earlier r fault =
+    HasRunFault frames earlier r fault
     × ((other : RunFault) → run_fault_number other < run_fault_number fault → HasRunFault frames earlier r other → ⊥)
 
 -- the fault is the grant's, and none before it is
 abbrev pub IsFirstGrantFault : List GrantRow → GrantRow → GrantFault → Type 0
-IsFirstGrantFault earlier row fault = HasGrantFault earlier row fault
+IsFirstGrantFault earlier row fault =
+    HasGrantFault earlier row fault
     × ((other : GrantFault) → grant_fault_number other < grant_fault_number fault → HasGrantFault earlier row other → ⊥)
 
 -- The run at a place has the fault, and the runs before it are right.
@@ -131,4 +134,5 @@ abbrev pub IsFirstError : SetupView → SetupError → Type 0
 IsFirstError s Memory = IsMemory s.frames → ⊥
 IsFirstError s (InRun place fault) = IsMemory s.frames × IsFirstRun s.frames s.owners place fault
 IsFirstError s TooManyGrants = IsMemory s.frames × AreRuns s.frames s.owners × (64 < length s.grants)
-IsFirstError s (InGrant place fault) = IsMemory s.frames × AreRuns s.frames s.owners × (length s.grants ≤ 64) × IsFirstRow s.grants place fault
+IsFirstError s (InGrant place fault) =
+    IsMemory s.frames × AreRuns s.frames s.owners × (length s.grants ≤ 64) × IsFirstRow s.grants place fault

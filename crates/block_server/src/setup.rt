@@ -20,7 +20,8 @@ const MOST_GRANTS: usize = 64;
 /// One past the last sector of the largest disk.
 const SECTORS_END: u128 = 1 << 48;
 
-/// Who owns which frames, and what may be done with which sectors: a setup that this server can serve.
+/// Who owns which frames, and what may be done with which sectors: a setup that this server can serve (this project's
+/// own).
 #[derive(Debug, Drop)]
 pub struct Setup<'a> {
     frames: u16,
@@ -379,6 +380,10 @@ mod tests {
             }]),
             sectors
         );
+    }
+
+    #[test]
+    fn a_client_and_number_stand_once(rt: HostRuntime) {
         let twice = Some((1, GrantFault::Twice));
         assert_eq!(rt; grant_fault(&[ROW, ROW]), twice);
         assert_eq!(rt; grant_fault(&[ROW, GrantRow { number: 1, ..ROW }]), None);

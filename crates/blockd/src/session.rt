@@ -1,6 +1,7 @@
 // The calls that the program makes.
 ghost use Rattle.std.specs.Prelude.{◌≡◌, [], false, None, IfOk};
 ghost use Rattle.block_server.specs.Port.{Serves};
+ghost use Rattle.blockd.specs.declared.session.Fault.TheVariants as fault;
 
 use adapter::DeviceStep;
 use arrayvec::ArrayVec;
@@ -42,12 +43,16 @@ pub enum Fault {
 }
 
 impl From<AllocError> for Fault {
+    ghost from_gives = { λ _ given. given ≡ fault.NoMemory };
+
     fn from(_error: AllocError) -> Fault {
         Fault::NoMemory
     }
 }
 
 impl From<SetupError> for Fault {
+    ghost from_gives = { λ error given. given ≡ fault.Setup error };
+
     fn from(error: SetupError) -> Fault {
         Fault::Setup(error)
     }
