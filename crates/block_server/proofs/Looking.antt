@@ -1,6 +1,6 @@
 -- Readings, and writes that acknowledge, leave port 0 serving what it served.
 use Rattle.std.specs.Prelude.{count_by}
-use Rattle.std.proofs.Common.{ℕ, ◌≡◌, ◌≤◌, ◌%◌, length, Bool, true, false, Option, None, Some, ◌||◌, refl, sym, ◌∙◌, ap, subst, arith, if◌then◌else◌}
+use Rattle.std.proofs.Common.{ℕ, ◌≡◌, ◌≤◌, ◌%◌, length, Bool, true, false, ◌⊎◌, inl, inr, Option, None, Some, ◌||◌, refl, sym, ◌∙◌, ap, subst, arith, if◌then◌else◌}
 use Rattle.hba_regs.specs.Bits.{bit}
 use Rattle.hba_regs.specs.declared.reg.PortReg.{PortReg}
 use Rattle.hba_regs.specs.declared.reg.PortReg.TheVariants.{Is, Ssts, Ci, Sact}
@@ -8,7 +8,8 @@ use Rattle.hba_regs.specs.declared.reg.Reg.{Reg}
 use Rattle.hba_regs.specs.declared.reg.Reg.TheVariants as adapter
 use Rattle.adapter.specs.Access.{Reads, Writes, noted, written, port_written, unacknowledged, is_cause, shown_interrupt}
 use Rattle.adapter.specs.Device.{Notes, Taken, PortState, Device}
-use Rattle.adapter.specs.Kept.{Keeps}
+use Rattle.std.proofs.lemmas.Bool.{cases_eq}
+use Rattle.adapter.specs.Kept.{Keeps, KeepsControls}
 use Rattle.adapter.specs.Rules.{AreAcknowledged}
 use Rattle.adapter.specs.declared.tape.Entry.{Entry}
 use Rattle.adapter.specs.Says.{Says}
@@ -19,7 +20,7 @@ use Rattle.adapter.proofs.Changed.{changed_same}
 use Rattle.adapter.proofs.Calls.{KeepsAll, steps_keep_all, seen, SeenAt, put, PutAt}
 use Rattle.adapter.proofs.KeptLemmas.{SameEngine, same_engine, still, steps_keep}
 use Rattle.block_server.specs.Places.{places_of}
-use Rattle.block_server.specs.Port.{IsSlotFree, IsLone, IsRunning, Issued, meaning_of, HoldsRead, Serves, KeepsServing, Proceeds, IsHealthy, FindsDone}
+use Rattle.block_server.specs.Port.{IsSlotFree, IsLone, IsRunning, Issued, meaning_of, HoldsRead, Serves, KeepsServing, Proceeds, IsHealthy, IsTroubled, FindsDone}
 use Rattle.block_server.specs.Told.{is_change, is_failure, changes, failures, IsUnharmed}
 use Rattle.block_server.proofs.Coming.{SameFace, is_face}
 use Rattle.block_server.proofs.Going.{SameWork, healthy_face, goes_then, goes_effect, steps_go}
@@ -381,3 +382,36 @@ module _ (d0 d1 d2 d3 : Device) (l : IsLone d0) (run : IsRunning d0) (v w : ℕ)
 
     pub linked : s % 16 ≡ 3
     linked = (seen (record { 0 = 0 }) Ssts s d3 d4 fourth looked_run.0.on.no_reset).shows ∙ four_healthy.up.link
+
+  -- what tells trouble is seen
+  module _ (h : IsTroubled (d0.port 0)) where
+    controls : KeepsControls (d0.port 0) (d1.port 0)
+    controls = (seen (record { 0 = 0 }) Is v d0 d1 first l.on.no_reset).keeps.on.controls 0
+
+    saw : (place : ℕ) → is_cause place ≡ true → bit v place ≡ shown_interrupt (d1.port 0) place
+    saw = (seen (record { 0 = 0 }) Is v d0 d1 first l.on.no_reset).shows
+
+    cause_seen : (place : ℕ) → 27 ≤ place → place ≤ 30 → (d0.port 0).is place ≡ true → (bit v 27 ≡ true) ⊎ (bit v 28 ≡ true) ⊎ (bit v 29 ≡ true) ⊎ (bit v 30 ≡ true)
+    cause_seen place low high set =
+        let at : (n : ℕ) → place ≡ n → (d1.port 0).is n ≡ true = λ n e. let P : ℕ → Type 0 = λ k. (d1.port 0).is k ≡ true in subst P e (controls.is place set) in
+        elim (cases_eq place 27) [
+          | inl e ↦ inl (saw 27 refl ∙ at 27 e)
+          | inr n27 ↦ elim (cases_eq place 28) [
+            | inl e ↦ inr (inl (saw 28 refl ∙ at 28 e))
+            | inr n28 ↦ elim (cases_eq place 29) [
+              | inl e ↦ inr (inr (inl (saw 29 refl ∙ at 29 e)))
+              | inr n29 ↦ inr (inr (inr (saw 30 refl ∙ at 30 (omega arith))))
+            ]
+          ]
+        ]
+
+    pub trouble_seen : (bit v 6 ≡ true) ⊎ (bit v 22 ≡ true) ⊎ (bit v 27 ≡ true) ⊎ (bit v 28 ≡ true) ⊎ (bit v 29 ≡ true) ⊎ (bit v 30 ≡ true)
+    trouble_seen =
+        elim h [
+          | inl n ↦ inr (inl (saw 22 refl ∙ controls.serr_n n))
+          | inr more ↦
+              elim more [
+                | inl x ↦ inl (saw 6 refl ∙ controls.serr_x x)
+                | inr place ↦ inr (inr (cause_seen place.0 place.1 place.2 place.3))
+              ]
+        ]

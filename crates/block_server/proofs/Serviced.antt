@@ -9,7 +9,7 @@ use Rattle.adapter.proofs.Absurd.{true-false}
 use Rattle.dma_frames.specs.Table.{Table, LendsOnly}
 use Rattle.block_server.specs.Book.{IsKept, StandsBehind, served, issued_of}
 use Rattle.block_server.specs.Calls.{Services, AnswersNone, AnswersFirst, done_reply}
-use Rattle.block_server.specs.Port.{IsLone, IsResting, IsHealthy, Issued, Serves, SparesClients, Proceeds, frames_of}
+use Rattle.block_server.specs.Port.{IsLone, IsResting, IsHealthy, IsTroubled, Issued, Serves, SparesClients, Proceeds, frames_of}
 use Rattle.block_server.specs.Told.{reads_ended, IsUnharmed}
 use Rattle.block_server.specs.View.{ServerView}
 use Rattle.block_server.specs.declared.types.Accepted.{Accepted}
@@ -72,6 +72,7 @@ module _ {A : Type 0} (device : A → Device) (s : ServerView A) (places : ℕ) 
     last = refl;
     answers = inl (record { replies_are = none; book = refl; table = refl; issued = refl; ended = goes.ended });
     answered = λ ready issued healthy unharmed clear. absurd (never ready issued healthy unharmed clear);
+    troubled = λ _. none;
     serves = serves;
     spares = goes.spares;
     healthy = goes.healthy;
@@ -80,10 +81,10 @@ module _ {A : Type 0} (device : A → Device) (s : ServerView A) (places : ℕ) 
   -- the first is answered, and the next is issued
   module _ (issued : s.issued ≡ true) (e : Accepted) (rest : List Accepted) (book_is : s.book ≡ e ∷ rest) (table : Table) (lends : LendsOnly s.table table e.loan.frames None)
       (middle : Device) (goes : Proceeds (served s.issued s.book) (device s.adapter) middle) (free : Serves None middle) where
-    pub services_first : (adapter : A) (again : Bool) (replies : List Reply) → replies ≡ done_reply e ∷ [] → Proceeds None middle (device adapter) →
+    pub services_first : (adapter : A) (again : Bool) (replies : List Reply) → replies ≡ done_reply e ∷ [] → (IsTroubled ((device s.adapter).port 0) → ⊥) → Proceeds None middle (device adapter) →
         (again ≡ false → rest ≡ []) → (again ≡ true → rest ≢ []) → (again ≡ true → ((device adapter).port 0).ci 0 ≡ true) → Serves (served again rest) (device adapter) →
         Services device s (record s { adapter = adapter; table = table; book = rest; issued = again }) replies
-    services_first adapter again replies one next none some sent serves = record {
+    services_first adapter again replies one calm next none some sent serves = record {
       setup = record { grants = refl; owners = lends.owners; state = refl; sectors = refl };
       last = refl;
       answers = inr (record {
@@ -97,6 +98,7 @@ module _ {A : Type 0} (device : A → Device) (s : ServerView A) (places : ℕ) 
         none = λ empty. is_none again refl empty;
       });
       answered = λ _ _ _ _ _ nobody. let x : done_reply e ∷ [] ≡ [] = sym one ∙ nobody in cc;
+      troubled = λ trouble. absurd (calm trouble);
       serves = λ _. serves;
       spares = spares_then goes.spares (spares_less (frames_of (served s.issued s.book)) next.spares);
       healthy = λ unharmed h. let u = unharmed_both goes.spares next.spares unharmed in next.healthy u.1 (goes.healthy u.0 h);

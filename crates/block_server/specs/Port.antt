@@ -69,6 +69,10 @@ pub record IsHealthy (p : device.PortState) : Type 0 where
   pub clear : IsClear p
   pub calm : (place : ℕ) → 27 ≤ place → place ≤ 30 → p.is place ≡ false
 
+-- The port tells trouble: in SERR, or by IFS, HBDS, HBFS or TFES.
+abbrev pub IsTroubled : device.PortState → Type 0
+IsTroubled p = (p.serr_n ≡ true) ⊎ (p.serr_x ≡ true) ⊎ ((place : ℕ) × (27 ≤ place) × (place ≤ 30) × (p.is place ≡ true))
+
 -- While no disk comes or goes, a link that is coming up does or goes on to, one that is up stays up, and SERR stays clear;
 -- PxIS stays calm.
 pub record KeepsLink (old new : Device) : Type 0 where

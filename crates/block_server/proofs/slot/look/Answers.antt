@@ -1,6 +1,6 @@
-use Rattle.std.proofs.Common.{◌∙◌, ◌==◌, Bool, not, ◌&&◌, ◌||◌, ◌≡◌, true, false, refl, sym, ap}
+use Rattle.std.proofs.Common.{◌∙◌, ◌==◌, Bool, not, ◌&&◌, ◌||◌, ◌≡◌, ◌⊎◌, inl, inr, true, false, refl, sym, ap}
 use Rattle.std.proofs.lemmas.Bool.{eq-eqb}
-use Rattle.block_server.proofs.Looking.{steps_run, acknowledged, looked_run, looked_keep, reading_runs, interrupts_run, looked_unset, no_change, no_failure, linked}
+use Rattle.block_server.proofs.Looking.{steps_run, acknowledged, looked_run, looked_keep, reading_runs, interrupts_run, looked_unset, no_change, no_failure, linked, trouble_seen}
 use Rattle.block_server.proofs.slot.look.Goals as goal
 
 pub write-requires : goal.write-requires
@@ -39,3 +39,37 @@ returns-clause-undisturbed g c = λ healthy unharmed.
     let failure = no_failure _ _ _ _ c.requires.lone c.requires.runs _ _ c.read.ensures c.write.ensures c.write-2.ensures _ _ c.read-2.ensures healthy unharmed in
     let link = linked _ _ _ _ c.requires.lone c.requires.runs _ _ c.read.ensures c.write.ensures c.write-2.ensures _ _ c.read-2.ensures healthy unharmed in
     c.is_undisturbed.ensures ∙ all_clear _ _ _ _ _ _ _ (eq-eqb _ 3 link) change.0 change.1 failure.1 failure.2 failure.0 failure.3
+
+-- what is seen of a port where one is set
+and_none : (x y : Bool) → y ≡ false → (x && y) ≡ false
+and_none true y h = h
+and_none false y h = refl
+
+and_first : (x y : Bool) → x ≡ false → (x && y) ≡ false
+and_first x y h = rw h refl
+
+or_left : (x y : Bool) → x ≡ true → (x || y) ≡ true
+or_left x y h = rw h refl
+
+or_right : (x y : Bool) → y ≡ true → (x || y) ≡ true
+or_right true y h = refl
+or_right false y h = h
+
+none_if_change : (a x y : Bool) → x ≡ true → (a && not x && y) ≡ false
+none_if_change a x y h = and_first (a && not x) y (and_none a (not x) (ap not h))
+
+none_if_failure : (a x y : Bool) → y ≡ true → (a && not x && not y) ≡ false
+none_if_failure a x y h = and_none (a && not x) (not y) (ap not h)
+
+pub returns-clause-troubled : goal.returns-clause-troubled
+returns-clause-troubled g c = λ troubled.
+    let seen_it = trouble_seen _ _ _ _ c.requires.lone c.requires.runs _ _ c.read.ensures c.write.ensures c.write-2.ensures troubled in
+    c.is_undisturbed.ensures ∙ any_set _ _ _ _ _ _ _ seen_it
+  where
+    any_set : (a b c d e f g : Bool) → ((b ≡ true) ⊎ (c ≡ true) ⊎ (f ≡ true) ⊎ (d ≡ true) ⊎ (e ≡ true) ⊎ (g ≡ true)) → (a && not (b || c) && not (d || e || f || g)) ≡ false
+    any_set a b c d e f g (inl six) = none_if_change a (b || c) (not (d || e || f || g)) (or_left b c six)
+    any_set a b c d e f g (inr (inl twenty_two)) = none_if_change a (b || c) (not (d || e || f || g)) (or_right b c twenty_two)
+    any_set a b c d e f g (inr (inr (inl ifs))) = none_if_failure a (b || c) (d || e || f || g) (or_left (d || e || f) g (or_right (d || e) f ifs))
+    any_set a b c d e f g (inr (inr (inr (inl hbds)))) = none_if_failure a (b || c) (d || e || f || g) (or_left (d || e || f) g (or_left (d || e) f (or_left d e hbds)))
+    any_set a b c d e f g (inr (inr (inr (inr (inl hbfs))))) = none_if_failure a (b || c) (d || e || f || g) (or_left (d || e || f) g (or_left (d || e) f (or_right d e hbfs)))
+    any_set a b c d e f g (inr (inr (inr (inr (inr tfes))))) = none_if_failure a (b || c) (d || e || f || g) (or_right (d || e || f) g tfes)

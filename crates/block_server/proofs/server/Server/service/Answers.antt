@@ -105,4 +105,4 @@ returns g c =
     subst Here c.self.view_is
     (services_first g.A.Adapter.device s places c.self.invariant c.if-not-self.false c.remove-loan.result rest book_is c.give_back.new.self c.give_back.ensures
     (g.A.Adapter.device c.is_done.new.adapter) goes free c.issue_first-self-inside.new.adapter c.issue_first-self-inside.result c.push.new.self.items (c.push.ensures.items ∙ ap (λ (replies : List Reply). replies ++ done_reply c.remove-loan.result ∷ []) c.new-replies.ensures)
-    next.goes_on (λ not. sym same ∙ next.none not) (λ is none. next.some is (same ∙ none)) next.issued (subst P same next.serves))
+    (λ trouble. true-false c.if-not-look.false (c.look.ensures.troubled trouble)) next.goes_on (λ not. sym same ∙ next.none not) (λ is none. next.some is (same ∙ none)) next.issued (subst P same next.serves))
