@@ -5,8 +5,9 @@ use Rattle.std.specs.Global.{Vec}
 use Rattle.std.proofs.lemmas.Bool.Decides.{eqb_tells}
 use Rattle.adapter.specs.Memory.{changed, patched}
 use Rattle.adapter.specs.Device.{PortState, Device}
-use Rattle.adapter.specs.Steps.{with_port, recorded, Steps}
+use Rattle.adapter.specs.Steps.{MayLinkUp, with_port, recorded, Steps}
 use Rattle.adapter.specs.Steps.Step.{LinkUp}
+use Rattle.adapter.specs.Access.{note, noted}
 use Rattle.adapter.specs.Rules.{MayRead, MayWrite}
 use Rattle.adapter.specs.declared.tape.Entry.{Entry}
 use Rattle.adapter.proofs.Runs.{Steps-refl, Steps-one}
@@ -96,3 +97,16 @@ set_port_brought h o p new state tape entry memory at bytes small is more inside
     set_port_recorded (record h { memory = memory }) o p new state tape entry small is more
     ∙ ap (λ (d : Device). record (recorded (device_of h o) p state entry) { size = d.size; memory = d.memory })
     (memory_put (device_of h o) h.memory.items bytes memory.items at inside put)
+
+-- a reading brings no link up, and leaves none that may come up
+pub noted_link : (r : Reg) (v : ℕ) (d : Device) (port : ℕ) → MayLinkUp ((noted r v d).port port) 0x101 → MayLinkUp (d.port port) 0x101
+noted_link (Px q r) v d port may =
+    changed_each d.port q.0 (record (d.port q.0) { notes = note r v (d.port q.0) }) (λ k p. MayLinkUp p 0x101 → MayLinkUp (d.port k) 0x101)
+    (λ m. record { present = m.present; det = m.det; due = m.due; fits = m.fits }) (λ k m. m) port may
+noted_link Cap v d port may = may
+noted_link Ghc v d port may = may
+noted_link Is v d port may = may
+noted_link Pi v d port may = may
+noted_link Vs v d port may = may
+noted_link Cap2 v d port may = may
+noted_link Bohc v d port may = may

@@ -1,8 +1,8 @@
 // The model without its disks.
-ghost use Rattle.std.specs.Prelude.{◌≡◌, ◌+◌, ◌<◌, ◌≤◌, ◌++◌, ℕ, Bool, true, if◌then◌else◌, length, take, drop, slice_index_or};
+ghost use Rattle.std.specs.Prelude.{◌≡◌, ◌≢◌, ◌+◌, ◌<◌, ◌≤◌, ◌++◌, ℕ, Bool, true, if◌then◌else◌, length, take, drop, slice_index_or};
 ghost use Rattle.adapter.specs.Access.{Shows, noted, written, unacknowledged};
 ghost use Rattle.adapter.specs.Memory.{patched, bytes_at};
-ghost use Rattle.adapter.specs.Steps.{Steps};
+ghost use Rattle.adapter.specs.Steps.{MayLinkUp, Steps};
 ghost use Rattle.hba_regs.specs.Bits.{bit};
 ghost use Rattle.device_model.specs.View.{Media, port_of, blank};
 ghost use Rattle.device_model.specs.Whole.{Outside, device_of, HasPort};
@@ -137,14 +137,18 @@ impl Hardware {
     /// What one port does by itself.
     fn settle_port(&mut self, port: usize)
         requires { port < 4 }
-        ensures { (o : Outside) → Steps (device_of self.old o) (device_of self.new o) }
+        ensures steps { (o : Outside) → Steps (device_of self.old o) (device_of self.new o) }
+        ensures settled { (o : Outside) → MayLinkUp ((device_of self.new o).port port) 0x101 → ⊥ }
+        ensures others { (o : Outside) (q : ℕ) → q ≢ port → (device_of self.new o).port q ≡ (device_of self.old o).port q }
+        ensures number { length self.new.ports ≡ length self.old.ports }
     {
         self.ports[port].settle();
     }
 
-    /// What the ports do by themselves before a register is read.
+    /// What the ports do by themselves before a register is read: afterwards no link is left that may come up.
     pub fn settle(&mut self)
-        ensures { (o : Outside) → Steps (device_of self.old o) (device_of self.new o) }
+        ensures steps { (o : Outside) → Steps (device_of self.old o) (device_of self.new o) }
+        ensures settled { (o : Outside) (port : ℕ) → MayLinkUp ((device_of self.new o).port port) 0x101 → ⊥ }
     {
         for port in 0..4 {
             self.settle_port(port);

@@ -4,7 +4,9 @@ ghost use Rattle.adapter.specs.Commands.{Meaning};
 ghost use Rattle.adapter.specs.Device.{Taken};
 ghost use Rattle.adapter.specs.Idle.{IsIdle, IsSane};
 ghost use Rattle.adapter.specs.OneCommand.{IsFreeSlot};
-ghost use Rattle.adapter.specs.Steps.{Steps, Can};
+ghost use Rattle.adapter.specs.Access.{Reads};
+ghost use Rattle.adapter.specs.Rules.{MayRead};
+ghost use Rattle.adapter.specs.Steps.{MayLinkUp, Steps, Can};
 ghost use Rattle.adapter.specs.Steps.Step.{Fetch, Move, Done};
 ghost use Rattle.adapter.specs.Asked.{DoesMove, GoesOn, Asked};
 ghost use Rattle.device_model.specs.Finishing.{HasRoom};
@@ -211,7 +213,12 @@ fn capabilities(slots: u8, ncq: bool) -> u32
 impl<S: SectorStore> Adapter for Model<S> {
     ghost device = { λ m. device_at S.size S.told m };
 
-    fn read(&mut self, r: Reg) -> u32 {
+    /// Before the value is read, each link that may come up does.
+    fn read(&mut self, r: Reg) -> u32
+        requires { MayRead r (device_at S.size S.told self.old) }
+        ensures reads { Reads r result (device_at S.size S.told self.old) (device_at S.size S.told self.new) }
+        ensures settled { (port : ℕ) → MayLinkUp ((device_at S.size S.told self.new).port port) 0x101 → ⊥ }
+    {
         self.do_queued();
         self.hardware.settle();
         let value = self.hardware.shown(r);

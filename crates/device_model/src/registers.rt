@@ -1,6 +1,6 @@
 // What the registers of a port show, and what a write does.
 ghost use Rattle.std.specs.Prelude.{◌≡◌, ◌%◌, ◌<◌, ℕ, IsTrue, ◌↔◌, true};
-ghost use Rattle.adapter.specs.Steps.{with_link};
+ghost use Rattle.adapter.specs.Steps.{MayLinkUp, with_link};
 ghost use Rattle.adapter.specs.Access.{PortShows, note, port_written, unacknowledged, counted as count_after, link_counted as link_count_after};
 ghost use Rattle.device_model.specs.View.{Media, port_of, Settles};
 
@@ -189,7 +189,8 @@ impl PortModel {
 
     /// What the port does by itself.
     pub fn settle(&mut self)
-        ensures { (m : Media) → Settles (port_of self.old m) (port_of self.new m) }
+        ensures does { (m : Media) → Settles (port_of self.old m) (port_of self.new m) }
+        ensures settled { (m : Media) → MayLinkUp (port_of self.new m) 0x101 → ⊥ }
     {
         if self.may_link() {
             self.link_up();

@@ -180,6 +180,7 @@ impl Hardware {
     pub fn reserve(&mut self, entries: usize) -> bool
         ensures same { (o : Outside) → device_of self.new o ≡ device_of self.old o }
         ensures room { result ≡ true → HasRoom self.new entries }
+        ensures enough { HasRoom self.old entries → result ≡ true }
     {
         self.tape.reserve(entries).is_ok()
     }

@@ -1,7 +1,11 @@
-use Rattle.device_model.specs.Whole.{Outside}
-use Rattle.adapter.specs.Steps.{Steps}
-use Rattle.device_model.specs.Whole.{device_of}
+use Rattle.std.proofs.Common.{ℕ, ◌≡◌, ◌<◌, length}
+use Rattle.adapter.specs.Steps.{MayLinkUp, Steps}
+use Rattle.device_model.specs.Whole.{Outside, device_of}
 use Rattle.device_model.proofs.hardware.Hardware.settle.Given as goal
 
 abbrev pub invariant-loop-port : goal.invariant-loop-port
-invariant-loop-port l = (o : Outside) → Steps (device_of l.fn.self o) (device_of l.self o)
+invariant-loop-port l = record {
+  steps : (o : Outside) → Steps (device_of l.fn.self o) (device_of l.self o);
+  settled : (o : Outside) (q : ℕ) → q < l.port → MayLinkUp ((device_of l.self o).port q) 0x101 → ⊥;
+  number : length l.self.ports ≡ 4;
+}

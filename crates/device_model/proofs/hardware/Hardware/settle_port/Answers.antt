@@ -1,8 +1,20 @@
-use Rattle.std.proofs.Common.{rules, ◌<◌, length}
+use Rattle.std.proofs.Common.{rules, ◌<◌, length, ap, subst, get_or-set_same, get_or-set_other}
+use Rattle.adapter.specs.Steps.{MayLinkUp}
+use Rattle.device_model.specs.View.{port_of, blank}
+use Rattle.device_model.specs.declared.port.PortModel.{PortModel}
 use Rattle.device_model.proofs.Ports.{port_settles}
 use Rattle.device_model.proofs.hardware.Hardware.settle_port.Goals as goal
 
-pub returns : goal.returns
-returns c = λ o.
+pub returns-clause-steps : goal.returns-clause-steps
+returns-clause-steps c = λ o.
     let small : c.args.port < length c.args.self.now.ports = search rules in
-    port_settles c.args.self.now o c.args.port _ small (c.settle.ensures (o.media c.args.port))
+    port_settles c.args.self.now o c.args.port _ small (c.settle.ensures.does (o.media c.args.port))
+
+pub returns-clause-settled : goal.returns-clause-settled
+returns-clause-settled c = λ o may.
+    let small : c.args.port < length c.args.self.now.ports = search rules in
+    let P : PortModel → Type 0 = λ p. MayLinkUp (port_of p (o.media c.args.port)) 0x101 in
+    c.settle.ensures.settled (o.media c.args.port) (subst P (get_or-set_same c.args.self.now.ports c.args.port _ blank small) may)
+
+pub returns-clause-others : goal.returns-clause-others
+returns-clause-others c = λ o q ne. ap (λ (p : PortModel). port_of p (o.media q)) (get_or-set_other c.args.self.now.ports c.args.port q _ blank ne)
