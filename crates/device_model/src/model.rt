@@ -1,5 +1,5 @@
 // The model as an adapter.
-ghost use Rattle.std.specs.Prelude.{◌≡◌, ◌≢◌, ◌<◌, ◌≤◌, ◌+◌, ◌-◌, ◌*◌, ◌^◌, ◌++◌, ◌∷◌, [], ℕ, List, true, false, min, IfOk, OnOk, OnErr};
+ghost use Rattle.std.specs.Prelude.{◌≡◌, ◌≢◌, ◌<◌, ◌≤◌, ◌+◌, ◌-◌, ◌*◌, ◌^◌, ◌++◌, ◌∷◌, [], ℕ, List, true, false, min, max, IfOk, OnOk, OnErr};
 ghost use Rattle.adapter.specs.Commands.{Meaning};
 ghost use Rattle.adapter.specs.Device.{Taken};
 ghost use Rattle.adapter.specs.Idle.{IsIdle, IsSane};
@@ -87,7 +87,8 @@ impl<S: SectorStore> Model<S> {
     /// 0 is read as 1. Steps before one access are done in the order in which they were queued.
     pub fn queue_step(&mut self, n: u64, step: DeviceStep) -> Result<(), NoMemory>
         ensures same { device_at S.size S.told self.new ≡ device_at S.size S.told self.old }
-        ensures queued { OnOk result ((access : ℕ) × (self.new.queue.items ≡ self.old.queue.items ++ record { access = access; step = step } ∷ [])) }
+        ensures queued { OnOk result (self.new.queue.items ≡ self.old.queue.items ++ record { access = min (self.old.accesses + max n 1) (2 ^ 64 - 1); step = step } ∷ []) }
+        ensures counted { self.new.accesses ≡ self.old.accesses }
         ensures kept { OnErr result (self.new.queue.items ≡ self.old.queue.items) }
     {
         let access = self.accesses.saturating_add(n.max(1));
