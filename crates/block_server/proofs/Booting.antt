@@ -4,8 +4,7 @@ use Rattle.std.proofs.lemmas.Bool.Decides.{eqb_tells}
 use Rattle.hba_regs.specs.Bits.{bit}
 use Rattle.hba_regs.specs.declared.reg.PortReg.{PortReg}
 use Rattle.hba_regs.specs.declared.reg.PortReg.TheVariants.{Clb, Clbu, Fb, Fbu, Is, Cmd, Tfd, Ssts, Sctl, Serr}
-use Rattle.hba_regs.specs.declared.reg.Reg.{Reg}
-use Rattle.hba_regs.specs.declared.reg.Reg.TheVariants.{Ghc, Pi, Px}
+use Rattle.hba_regs.specs.declared.reg.Reg.TheVariants.{Ghc, Pi}
 use Rattle.adapter.specs.Access.{Reads, Writes, port_written, link_counted, counted}
 use Rattle.adapter.specs.Device.{Bases, Notes, PortState, Device}
 use Rattle.adapter.specs.Guarded.{IsGuarded}

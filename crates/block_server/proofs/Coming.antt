@@ -1,10 +1,10 @@
 -- What the accesses that bring port 0 up make of its link.
-use Rattle.std.proofs.Common.{ℕ, ◌≡◌, ◌+◌, ◌%◌, ◌<◌, ◌≤◌, inl, inr, Bool, true, false, not, ◌&&◌, ◌||◌, ◌==◌, List, length, refl, sym, ◌∙◌, ap, subst, arith, nat_eq, if◌then◌else◌}
+use Rattle.std.proofs.Common.{ℕ, ◌≡◌, ◌<◌, ◌≤◌, inl, inr, Bool, true, false, not, ◌&&◌, ◌||◌, ◌==◌, List, length, refl, sym, ◌∙◌, ap, subst, arith, nat_eq, if◌then◌else◌}
 use Rattle.std.specs.Prelude.{count_by}
 use Rattle.std.proofs.lemmas.Nat.Bits.{bit_at_ones}
 use Rattle.hba_regs.specs.Bits.{bit}
 use Rattle.hba_regs.specs.declared.reg.PortReg.{PortReg}
-use Rattle.hba_regs.specs.declared.reg.PortReg.TheVariants.{Is, Cmd, Ssts, Sctl, Serr}
+use Rattle.hba_regs.specs.declared.reg.PortReg.TheVariants.{Is, Cmd, Sctl, Serr}
 use Rattle.ata_types.specs.declared.request.Frame.{Frame}
 use Rattle.adapter.specs.Access.{Reads, port_written, note, with_st, with_fre}
 use Rattle.adapter.specs.Device.{PortState, Device}
@@ -12,7 +12,7 @@ use Rattle.adapter.specs.Steps.{Steps, restarted}
 use Rattle.adapter.specs.declared.tape.Entry.{Entry}
 use Rattle.adapter.proofs.Calls.{PutAt}
 use Rattle.adapter.proofs.Changed.{changed_same}
-use Rattle.block_server.specs.Port.{programmed, IsBooting, IsUp, IsComing, IsClear, IsCalm, KeepsLink, SparesClients}
+use Rattle.block_server.specs.Port.{IsUp, IsComing, IsClear, IsCalm, KeepsLink, SparesClients}
 use Rattle.block_server.specs.Told.{is_change, changes, IsUndisturbed}
 use Rattle.block_server.proofs.Linking.{LinkOn, up_on, clear_on, coming_on, steps_link, steps_calm}
 use Rattle.block_server.proofs.Told.{count_grows}

@@ -1,5 +1,5 @@
 -- What goes on at port 0 while it serves, over steps, readings and writes.
-use Rattle.std.proofs.Common.{ℕ, ◌≡◌, ◌+◌, ◌<◌, ◌≤◌, length, ◌⊎◌, inl, inr, Bool, true, false, ◌&&◌, ◌==◌, List, [], ◌∷◌, ◌++◌, Option, None, Some, refl, sym, ◌∙◌, ap, subst, arith, if◌then◌else◌}
+use Rattle.std.proofs.Common.{ℕ, ◌≡◌, ◌+◌, ◌<◌, ◌≤◌, length, ◌⊎◌, inl, inr, Bool, true, false, ◌&&◌, ◌==◌, List, Option, None, Some, refl, sym, ◌∙◌, ap, subst, arith, if◌then◌else◌}
 use Rattle.std.specs.Prelude.{count_by}
 use Rattle.std.proofs.lemmas.Bool.{eq-eqb}
 use Rattle.ata_types.specs.declared.request.Frame.{Frame}
@@ -11,20 +11,19 @@ use Rattle.adapter.specs.Memory.{patched, changed}
 use Rattle.adapter.specs.Steps.{Step, Can, after, Steps, done_entry}
 use Rattle.adapter.specs.Steps.Step.{Fetch, FetchFault, Move, Clear, Done, Fault, Fatal, Fall, FrFall, LinkUp, Unplug, Plug, ResetEnds, Scribble}
 use Rattle.adapter.specs.declared.tape.Entry.{Entry}
-use Rattle.adapter.specs.declared.command.Operation.{Operation}
 use Rattle.adapter.proofs.Absurd.{true-false}
 use Rattle.adapter.proofs.Calls.{KeepsAll, steps_keep_all}
 use Rattle.adapter.proofs.KeptLemmas.{step_keeps}
 use Rattle.adapter.proofs.MemoryLemmas.{patched_apart}
 use Rattle.adapter.proofs.Runs.{Steps-one}
-use Rattle.block_server.specs.Port.{IsInFrames, IsTableByte, IsKeptByte, IsHealthy, IsLone, IsRunning, Issued, meaning_of, HoldsRead, Serves, SparesClients, Proceeds, frames_of}
-use Rattle.block_server.specs.Told.{is_change, is_failure, is_read, is_read_end, changes, failures, reads_ended, IsUnharmed}
+use Rattle.block_server.specs.Port.{IsTableByte, IsKeptByte, IsHealthy, IsLone, IsRunning, Issued, meaning_of, HoldsRead, Serves, SparesClients, Proceeds, frames_of}
+use Rattle.block_server.specs.Told.{is_change, is_failure, is_read, is_read_end, reads_ended, IsUnharmed}
 use Rattle.block_server.proofs.Coming.{SameFace, up_face}
 use Rattle.block_server.proofs.Issuing.{none_guarded}
 use Rattle.block_server.proofs.Linking.{steps_healthy}
 use Rattle.block_server.proofs.PortLemmas.{lone_after, running_after}
 use Rattle.block_server.proofs.Serving.{read_guarded, step_holds, slot_zero, tied_at, fetch_means}
-use Rattle.block_server.proofs.Sparing.{spares_none, spares_then, spares_on, spares_less, steps_spare, quiet_spares}
+use Rattle.block_server.proofs.Sparing.{spares_none, spares_then, spares_on, steps_spare, quiet_spares}
 use Rattle.block_server.proofs.Told.{count_grows, count_one, steps_relate, port_of, port_after, at_step}
 
 -- ---- what was told, over one stretch after another

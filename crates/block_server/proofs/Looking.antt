@@ -22,7 +22,7 @@ use Rattle.adapter.proofs.KeptLemmas.{SameEngine, same_engine, still, steps_keep
 use Rattle.block_server.specs.Places.{places_of}
 use Rattle.block_server.specs.Port.{IsSlotFree, IsLone, IsRunning, Issued, meaning_of, HoldsRead, Serves, KeepsServing, Proceeds, IsHealthy, IsTroubled, FindsDone}
 use Rattle.block_server.specs.Told.{is_change, is_failure, changes, failures, IsUnharmed}
-use Rattle.block_server.proofs.Coming.{SameFace, is_face}
+use Rattle.block_server.proofs.Coming.{is_face}
 use Rattle.block_server.proofs.Going.{SameWork, healthy_face, goes_then, goes_effect, steps_go}
 use Rattle.block_server.proofs.Linking.{steps_healthy}
 use Rattle.block_server.proofs.Sparing.{spares_on}

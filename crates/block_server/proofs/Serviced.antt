@@ -1,19 +1,19 @@
 -- What a call of `service` does, path by path, and what goes on while the device does steps.
-use Rattle.std.proofs.Common.{ℕ, ◌≡◌, ◌≢◌, ◌<◌, ◌≤◌, ◌⊎◌, inl, inr, Bool, true, false, List, [], ◌∷◌, Option, Some, None, refl, sym, ◌∙◌, ap, subst, arith}
+use Rattle.std.proofs.Common.{ℕ, ◌≡◌, ◌≢◌, ◌<◌, ◌⊎◌, inl, inr, Bool, true, false, List, [], ◌∷◌, Option, Some, None, refl, sym, ◌∙◌, subst, arith}
 use Rattle.ata_types.specs.declared.PortState.{PortState}
 use Rattle.ata_types.specs.declared.PortState.TheVariants.{Absent, Ready, Foreign, Unfit, Dead}
 use Rattle.ata_types.specs.declared.request.Reply.{Reply}
-use Rattle.adapter.specs.Device.{Bases, Device}
+use Rattle.adapter.specs.Device.{Device}
 use Rattle.adapter.specs.Steps.{Steps}
 use Rattle.adapter.proofs.Absurd.{true-false}
 use Rattle.dma_frames.specs.Table.{Table, LendsOnly}
 use Rattle.block_server.specs.Book.{IsKept, StandsBehind, served, issued_of}
-use Rattle.block_server.specs.Calls.{Services, AnswersNone, AnswersFirst, done_reply}
-use Rattle.block_server.specs.Port.{IsLone, IsResting, IsHealthy, IsTroubled, Issued, Serves, SparesClients, Proceeds, frames_of}
+use Rattle.block_server.specs.Calls.{Services, done_reply}
+use Rattle.block_server.specs.Port.{IsLone, IsResting, IsHealthy, IsTroubled, Issued, Serves, Proceeds, frames_of}
 use Rattle.block_server.specs.Told.{reads_ended, IsUnharmed}
 use Rattle.block_server.specs.View.{ServerView}
 use Rattle.block_server.specs.declared.types.Accepted.{Accepted}
-use Rattle.block_server.proofs.Going.{goes_then, goes_none, reads_grow, unharmed_both, steps_go}
+use Rattle.block_server.proofs.Going.{reads_grow, unharmed_both, steps_go}
 use Rattle.block_server.proofs.Linking.{steps_healthy}
 use Rattle.block_server.proofs.Serving.{free_guarded}
 use Rattle.block_server.proofs.Sparing.{spares_then, spares_less, quiet_spares}

@@ -1,5 +1,5 @@
 -- Which client frames stay as they are.
-use Rattle.std.proofs.Common.{ℕ, ◌≡◌, ◌≤◌, inr, List, [], ◌∷◌, ◌++◌, refl, sym, ◌∙◌, ap, subst, arith, append_assoc}
+use Rattle.std.proofs.Common.{ℕ, ◌≡◌, ◌≤◌, inr, List, [], ◌++◌, refl, sym, ◌∙◌, ap, arith, append_assoc}
 use Rattle.std.proofs.lemmas.List.{append-nil}
 use Rattle.hba_regs.specs.declared.reg.Reg.{Reg}
 use Rattle.adapter.specs.Access.{Reads, noted}
@@ -13,7 +13,6 @@ use Rattle.adapter.proofs.Alike.{IsAlike, noted_alike}
 use Rattle.adapter.proofs.Guards.{steps_guard}
 use Rattle.adapter.proofs.KeptLemmas.{steps_keep}
 use Rattle.block_server.specs.Port.{IsInFrames, IsOutsideArea, SparesClients}
-use Rattle.block_server.specs.Told.{changes}
 
 pub spares_none : (frames : List Frame) (d : Device) → SparesClients frames d d
 spares_none frames d = record { size = refl; clients = λ at client other. refl; gained = []; tape = sym (append-nil d.tape) }

@@ -136,8 +136,8 @@ mod tests {
     use super::*;
     use adapter::laws::steps_compose;
     use adapter::{Adapter, Stepped};
-    use block_server::laws::driver_bytes_are_free;
     use ata_types::{FrameFault, MemFault, PortState, Refusal, RequestId, Rule};
+    use block_server::laws::driver_bytes_are_free;
     use std::test::Fail;
 
     /// What is said of a read, if it is refused by a rule.
@@ -305,9 +305,14 @@ mod tests {
         assert_eq!(rt; header, [5, 0, 1, 0, 0, 0, 0, 0, 0, 0x10, 0, 0, 0, 0, 0, 0]);
         assert_eq!(rt;
             fis,
-            [0x27, 0x80, 0x25, 0, 0x64, 0, 0, 0x40, 0, 0, 0, 0, 8, 0, 0, 0, 0, 0, 0, 0]
+            [
+                0x27, 0x80, 0x25, 0, 0x64, 0, 0, 0x40, 0, 0, 0, 0, 8, 0, 0, 0, 0, 0, 0, 0
+            ]
         );
-        assert_eq!(rt; entry, [0, 0x80, 2, 0, 0, 0, 0, 0, 0, 0, 0, 0, 0xff, 0x0f, 0, 0]);
+        assert_eq!(rt;
+            entry,
+            [0, 0x80, 2, 0, 0, 0, 0, 0, 0, 0, 0, 0, 0xff, 0x0f, 0, 0]
+        );
         Ok(())
     }
 }

@@ -1,6 +1,3 @@
-use Rattle.std.proofs.Common.{[], refl}
-use Rattle.adapter.specs.Device.{Device}
-use Rattle.block_server.specs.Port.{programmed, Boots, Links, IsSwitchedOn, SparesClients}
 use Rattle.block_server.proofs.Booting.{links_here}
 use Rattle.block_server.proofs.Coming.{link_then, undisturbed_both}
 use Rattle.block_server.proofs.Sparing.{spares_then}

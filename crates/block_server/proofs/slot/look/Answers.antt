@@ -1,4 +1,4 @@
-use Rattle.std.proofs.Common.{◌∙◌, ◌==◌, Bool, not, ◌&&◌, ◌||◌, ◌≡◌, ◌⊎◌, inl, inr, true, false, refl, sym, ap}
+use Rattle.std.proofs.Common.{◌∙◌, Bool, not, ◌&&◌, ◌||◌, ◌≡◌, ◌⊎◌, inl, inr, true, false, refl, ap}
 use Rattle.std.proofs.lemmas.Bool.{eq-eqb}
 use Rattle.block_server.proofs.Looking.{steps_run, acknowledged, looked_run, looked_keep, reading_runs, interrupts_run, looked_unset, no_change, no_failure, linked, trouble_seen}
 use Rattle.block_server.proofs.slot.look.Goals as goal

@@ -1,4 +1,4 @@
-use Rattle.std.proofs.Common.{refl, ◌∙◌, arith, rules, sym, subst}
+use Rattle.std.proofs.Common.{refl, ◌∙◌, arith, sym, subst}
 use Rattle.std.specs.List.{AllPairs}
 use Rattle.std.specs.Vec.{vec_capacity}
 use Rattle.dma_frames.specs.Table.{AreApart}
@@ -18,14 +18,14 @@ invariant_of-result g c =
 
 pub returns-clause-made : goal.returns-clause-made
 returns-clause-made g c = rw (← c.owners.ensures.owners, ← c.grants.ensures.grants) (record {
-      book = c.in-Ok-with_capacity.ensures.items;
-      issued = refl;
-      last = refl;
-      sectors_are = refl;
-      rows = c.in-Ok.ensures.rows;
-      owned = c.new-table.ensures.owned;
-      only = c.new-table.ensures.only;
-      free = c.new-table.ensures.free;
-      spares = spares_then c.power_on.ensures.spares c.bring_up-state.ensures.spares;
-      brought_up = brought_from c.bring_up-state.result _ _ _ c.power_on.ensures.spares c.bring_up-state.ensures.spares c.bring_up-state.ensures.state;
-    })
+  book = c.in-Ok-with_capacity.ensures.items;
+  issued = refl;
+  last = refl;
+  sectors_are = refl;
+  rows = c.in-Ok.ensures.rows;
+  owned = c.new-table.ensures.owned;
+  only = c.new-table.ensures.only;
+  free = c.new-table.ensures.free;
+  spares = spares_then c.power_on.ensures.spares c.bring_up-state.ensures.spares;
+  brought_up = brought_from c.bring_up-state.result _ _ _ c.power_on.ensures.spares c.bring_up-state.ensures.spares c.bring_up-state.ensures.state;
+})
