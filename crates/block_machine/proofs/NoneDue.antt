@@ -77,9 +77,9 @@ issued_still old new book same all port ready =
     (subst (λ (us : List Unanswered). NoneDue (old.ports.mode port) us port) (sym book) (all port (sym (same port).1 ∙ ready)))
 
 -- and where each served port is dead, none is ready
-issued_stuck : (old new : Moment) → AreFit new.ports → ((port : Port) → IsStuck old.ports new.ports port) → AllIssued new
-issued_stuck old new fit stuck port ready = absurd (⊎_elim
-    (λ served. false≢true (ap is_ready (sym ((stuck port).1 served)) ∙ ap is_ready ready))
+issued_stuck : (old new : Moment) (evidence : Evidence) → AreFit new.ports → ((port : Port) → IsStuck old.ports evidence new.ports port) → AllIssued new
+issued_stuck old new evidence fit stuck port ready = absurd (⊎_elim
+    (λ served. false≢true (ap is_ready (sym ((stuck port).1 served).0) ∙ ap is_ready ready))
     (λ other. false≢true (ap is_ready (sym (fit.absent port ((stuck port).0 ∙ other))) ∙ ap is_ready ready))
     (cases_Bool (old.ports.served port)))
 
@@ -102,7 +102,7 @@ issued_event {D} (Device d) (Stepped false) old evidence steps ports a b fit all
 issued_event Service (Served replies) old evidence steps ports a b fit all = a.2
 issued_event Tick (Served replies) old evidence steps ports a b fit all = a.3
 issued_event Reset (WasReset (Some replies)) old evidence steps ports a b fit all = a.2
-issued_event Reset (WasReset None) old evidence steps ports a b fit all = issued_stuck old (left old steps ports) fit a.1
+issued_event Reset (WasReset None) old evidence steps ports a b fit all = issued_stuck old (left old steps ports) evidence fit a.1
 issued_event ask said old evidence steps ports a b fit all = absurd a
 
 pub none_due_between : {D : Type 0} (first : Moment) (run : List (Event D)) → IsRun first run → AllIssued (moment_of first run)

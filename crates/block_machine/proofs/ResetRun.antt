@@ -48,14 +48,14 @@ run4 = tick restarts ∷ run3
 abbrev again : Pending
 again = issue waits
 
+abbrev seen : Evidence
+seen = record { faults = []; lost = []; gone = []; failed = []; stopped = []; stuck = port ∷ [] }
+
 abbrev stuck : Event (Unit {0})
-stuck = record { ask = Reset; said = WasReset None; evidence = none; steps = []; ports = ports_in Dead }
+stuck = record { ask = Reset; said = WasReset None; evidence = seen; steps = []; ports = ports_in Dead }
 
 abbrev run5 : List (Event (Unit {0}))
 run5 = stuck ∷ run4
-
-abbrev seen : Evidence
-seen = record { faults = []; lost = []; stuck = port ∷ [] }
 
 abbrev service : Event (Unit {0})
 service = record { ask = Service; said = Served (reply_of (again, outcome.PortDead) ∷ []); evidence = seen; steps = Answer again outcome.PortDead ∷ []; ports = ports_in Dead }
@@ -187,7 +187,7 @@ happens4 = record {
     ((tt, tt), (contains_here (aged 3) [] (aged 3) refl, refl, omega arith)),
     (contains_here waits [] waits refl, record { here = contains_here (unanswered waits) [] (unanswered waits) refl; clear = refl; slot = λ _. omega arith }, λ e h. absurd (contains_none e h)),
   );
-  belong = (((tt, inr tt), inr tt), inr (refl, refl));
+  belong = (((tt, inr tt), inr refl), inr (refl, refl));
   last = (((tt, λ id h i. false≢true i), λ id h i. false≢true i), λ id h i. false≢true i);
   lawful = tt;
   fit = ports_fit Ready;
@@ -219,7 +219,7 @@ happens5 = record {
   lawful = tt;
   fit = ports_fit Dead;
   disks = λ e o h i same. (refl, refl);
-  answered = (tt, λ p. (refl, at_here Dead p, (refl, refl)));
+  answered = (tt, λ p. (refl, λ here. let dead = at_here Dead p here in (dead, dead_here p dead), (refl, refl)));
 }
 
 abbrev outcome_of : Step → Outcome
@@ -242,7 +242,7 @@ happens6 = record {
   disks = λ e o h i same. (refl, refl);
   answered = (
     one_told again outcome.PortDead service.steps refl (reply_of (again, outcome.PortDead)) refl,
-    told_dead,
+    record { dead = told_dead; lost = λ p ready. dead_not_ready p ready; grounded = tt; booted = λ p ready. dead_not_ready p ready },
     λ p ready. dead_not_ready p ready,
     λ p. (λ ne e h. absurd (contains_none e h), (record { served = refl; stuck = dead_here p; disk = λ ready. dead_not_ready p ready }, λ _. (refl, refl, refl, refl, refl, refl))),
   );
@@ -267,16 +267,24 @@ happens7 = record {
 pub ends_with_a_reset : EndsWithAReset
 ends_with_a_reset = record {
   first = first;
-  ticked = run4;
+  asked = run1;
+  one = tick [];
+  two = tick [];
+  three = tick restarts;
   stuck = stuck;
   service = service;
   reset = reset;
   runs = ((((((((empty_starts, ports_fit Ready), happens1), happens2), happens3), happens4), happens5), happens6), happens7);
+  ticks = (refl, refl, refl);
+  aged = aged 2;
+  old = refl;
+  once = (refl, refl, refl);
   again = again;
+  same = refl;
   hung = refl;
-  twice = refl;
-  issued = refl;
+  twice = (refl, refl, refl);
   stays = refl;
+  serves = refl;
   answers = contains_here (Answer again outcome.PortDead) [] (Answer again outcome.PortDead) refl;
   kept = refl;
   frame = frame 40;

@@ -59,7 +59,7 @@ data Kind {D : Type 0} (ask : Ask D) (said : Said) (old : Moment) (evidence : Ev
   Ticks : is_reset ask ≡ false → AgesOnce old.ports steps → RestartsHung old evidence steps new → ((port : Port) → old.ports.state port ≡ Ready → IsEmptied new port)
       → (was → StaysStuck ask said was) → Kind ask said old evidence steps new was
   Resets : is_tick ask ≡ false → ReleasesOnce steps → ((port : Port) → IsEmptied new port × MayBecome old.ports evidence new.ports port × NoneKeepsIssue steps new.machine port) → Kind ask said old evidence steps new was
-  Sticks : is_tick ask ≡ false → ((port : Port) → IsStuck old.ports new.ports port) → StaysStuck ask said was → Kind ask said old evidence steps new was
+  Sticks : is_tick ask ≡ false → ((port : Port) → IsStuck old.ports evidence new.ports port) → StaysStuck ask said was → Kind ask said old evidence steps new was
 
 kind : {D : Type 0} (ask : Ask D) (said : Said) (old : Moment) (evidence : Evidence) (steps : List Step) (new : Moment) (was : Type 0) → IsAnswered ask said old evidence steps new → Kind ask said old evidence steps new was
 kind (Submit r) (Submitted (Ok id)) old evidence steps new was a = Leaves refl refl a.2 (λ w. w)
@@ -166,7 +166,7 @@ placed_event ask said old evidence steps new was e fit here placed (Ticks r ages
     (hung.ports e.request.port))
     placed
 placed_event ask said old evidence steps new was e fit here placed (Resets t releases ports) = inl (emptied_ready new e here (ports e.request.port).0)
-placed_event ask said old evidence steps new was e fit here placed (Sticks t ports keep) = inr ((ports e.request.port).1 (placed_served old.ports e.request.port was fit placed), keep)
+placed_event ask said old evidence steps new was e fit here placed (Sticks t ports keep) = inr (((ports e.request.port).1 (placed_served old.ports e.request.port was fit placed)).0, keep)
 
 pub unanswered_where_ready : {D : Type 0} (first : Moment) (run : List (Event D)) (e : Pending) → IsRun first run → Contains (moment_of first run).machine.book e
     → ((moment_of first run).ports.state e.request.port ≡ Ready) ⊎ (((moment_of first run).ports.state e.request.port ≡ Dead) × IsStillStuck run)
@@ -322,7 +322,7 @@ kept_event ask said old evidence steps new port fit none dead (Resets t releases
     ap (λ (xs : List Step). count_by is_release xs) releases.split ∙ count_append is_release releases.later (Release ∷ releases.earlier) in
     let one = count_cons is_release Release releases.earlier in
     absurd (omega (arith, split, one, none))
-kept_event ask said old evidence steps new port fit none dead (Sticks t ports keep) = (ports port).1 (placed_served old.ports port (Unit {0}) fit (inr (dead, tt)))
+kept_event ask said old evidence steps new port fit none dead (Sticks t ports keep) = ((ports port).1 (placed_served old.ports port (Unit {0}) fit (inr (dead, tt)))).0
 
 pub kept_where_dead : {D : Type 0} (first : Moment) (run : List (Event D)) (e : Pending) → IsRun first run → Contains (moment_of first run).machine.kept e → (moment_of first run).ports.state e.request.port ≡ Dead
 kept_where_dead first [] e r h = absurd (nobody first.machine r.0 e (inr h))

@@ -52,7 +52,7 @@ abbrev pub id : ℕ → RequestId
 id n = record { 0 = n }
 
 abbrev pub none : Evidence
-none = record { faults = []; lost = []; stuck = [] }
+none = record { faults = []; lost = []; gone = []; failed = []; stopped = []; stuck = [] }
 
 abbrev pub call : Ask (Unit {0}) → Said → List Step → Event (Unit {0})
 call ask said steps = record { ask = ask; said = said; evidence = none; steps = steps; ports = ports }

@@ -118,7 +118,7 @@ happens3 = record {
   lawful = (tt, (record { pending = issue (newly_accepted write); here = contains_here (issue (newly_accepted write)) (newly_accepted read ∷ []) (issue (newly_accepted write)) refl; id_is = refl; issued = refl }, refl, one_touched, refl));
   fit = ports_fit Ready;
   disks = λ e o h i same. (refl, refl);
-  answered = (one_told (done write) outcome.Ok event3.steps refl (reply write.id.0) refl, λ e o i dead. none_dead e.request.port dead, λ p _. one_issued (unanswered (issue (newly_accepted read))) refl p, λ p. (λ ne e h. emptied_one (issue (newly_accepted read)) refl p ne e h, serviced p));
+  answered = (one_told (done write) outcome.Ok event3.steps refl (reply write.id.0) refl, record { dead = λ e o i dead. none_dead e.request.port dead; lost = λ p _ gone. absurd (contains_none p gone); grounded = tt; booted = λ p _. inl (refl, refl, refl, refl, refl, refl) }, λ p _. one_issued (unanswered (issue (newly_accepted read))) refl p, λ p. (λ ne e h. emptied_one (issue (newly_accepted read)) refl p ne e h, serviced p));
 }
 
 happens4 : Happens (moment_of first run3) event4
@@ -129,7 +129,7 @@ happens4 = record {
   lawful = (tt, (record { pending = issue (newly_accepted read); here = contains_here (issue (newly_accepted read)) [] (issue (newly_accepted read)) refl; id_is = refl; issued = refl }, refl, one_touched, refl));
   fit = ports_fit Ready;
   disks = λ e o h i same. (refl, refl);
-  answered = (one_told (done read) outcome.Ok event4.steps refl (reply read.id.0) refl, λ e o i dead. none_dead e.request.port dead, λ p _. none_there p, λ p. (λ ne e h. absurd (contains_none e h), serviced p));
+  answered = (one_told (done read) outcome.Ok event4.steps refl (reply read.id.0) refl, record { dead = λ e o i dead. none_dead e.request.port dead; lost = λ p _ gone. absurd (contains_none p gone); grounded = tt; booted = λ p _. inl (refl, refl, refl, refl, refl, refl) }, λ p _. none_there p, λ p. (λ ne e h. absurd (contains_none e h), serviced p));
 }
 
 pub waits_its_turn : WaitsItsTurn

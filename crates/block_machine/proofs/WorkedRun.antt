@@ -155,7 +155,7 @@ happens3 = record {
   lawful = (tt, (record { pending = issue (newly_accepted write); here = contains_here (issue (newly_accepted write)) [] (issue (newly_accepted write)) refl; id_is = refl; issued = refl }, refl, one_touched, refl));
   fit = ports_fit Ready;
   disks = λ e o h i same. (refl, refl);
-  answered = (one_told (done write) outcome.Ok event3.steps refl (reply write.id.0) refl, λ e o i dead. none_dead e.request.port dead, λ p _. none_there p, λ p. (λ ne e h. absurd (contains_none e h), serviced p));
+  answered = (one_told (done write) outcome.Ok event3.steps refl (reply write.id.0) refl, record { dead = λ e o i dead. none_dead e.request.port dead; lost = λ p _ gone. absurd (contains_none p gone); grounded = tt; booted = λ p _. inl (refl, refl, refl, refl, refl, refl) }, λ p _. none_there p, λ p. (λ ne e h. absurd (contains_none e h), serviced p));
 }
 
 happens4 : Happens (moment_of first run3) event4
@@ -177,7 +177,7 @@ happens5 = record {
   lawful = (tt, (record { pending = issue (newly_accepted flush); here = contains_here (issue (newly_accepted flush)) [] (issue (newly_accepted flush)) refl; id_is = refl; issued = refl }, refl, (λ k lt. absurd (omega (arith, lt))), refl));
   fit = ports_fit Ready;
   disks = λ e o h i same. (refl, refl);
-  answered = (one_told (mark_ended (issue (newly_accepted flush))) outcome.Ok event5.steps refl (reply 2) refl, λ e o i dead. none_dead e.request.port dead, λ p _. none_there p, λ p. (λ ne e h. absurd (contains_none e h), serviced p));
+  answered = (one_told (mark_ended (issue (newly_accepted flush))) outcome.Ok event5.steps refl (reply 2) refl, record { dead = λ e o i dead. none_dead e.request.port dead; lost = λ p _ gone. absurd (contains_none p gone); grounded = tt; booted = λ p _. inl (refl, refl, refl, refl, refl, refl) }, λ p _. none_there p, λ p. (λ ne e h. absurd (contains_none e h), serviced p));
 }
 
 happens6 : Happens (moment_of first run5) event6
@@ -210,7 +210,7 @@ happens8 = record {
   lawful = (tt, (record { pending = issue (newly_accepted later); here = contains_here (issue (newly_accepted later)) [] (issue (newly_accepted later)) refl; id_is = refl; issued = refl }, refl, one_touched, refl));
   fit = ports_fit Ready;
   disks = λ e o h i same. (refl, refl);
-  answered = (one_told (done later) outcome.Ok event8.steps refl (reply later.id.0) refl, λ e o i dead. none_dead e.request.port dead, λ p _. none_there p, λ p. (λ ne e h. absurd (contains_none e h), serviced p));
+  answered = (one_told (done later) outcome.Ok event8.steps refl (reply later.id.0) refl, record { dead = λ e o i dead. none_dead e.request.port dead; lost = λ p _ gone. absurd (contains_none p gone); grounded = tt; booted = λ p _. inl (refl, refl, refl, refl, refl, refl) }, λ p _. none_there p, λ p. (λ ne e h. absurd (contains_none e h), serviced p));
 }
 
 happens9 : Happens (moment_of first run8) event9
@@ -254,7 +254,7 @@ happens12 = record {
   lawful = (tt, (record { pending = issue (newly_accepted read); here = contains_here (issue (newly_accepted read)) [] (issue (newly_accepted read)) refl; id_is = refl; issued = refl }, refl, one_touched, refl));
   fit = ports_fit Ready;
   disks = λ e o h i same. (refl, refl);
-  answered = (one_told (done read) outcome.Ok event12.steps refl (reply read.id.0) refl, λ e o i dead. none_dead e.request.port dead, λ p _. none_there p, λ p. (λ ne e h. absurd (contains_none e h), serviced p));
+  answered = (one_told (done read) outcome.Ok event12.steps refl (reply read.id.0) refl, record { dead = λ e o i dead. none_dead e.request.port dead; lost = λ p _ gone. absurd (contains_none p gone); grounded = tt; booted = λ p _. inl (refl, refl, refl, refl, refl, refl) }, λ p _. none_there p, λ p. (λ ne e h. absurd (contains_none e h), serviced p));
 }
 
 loaded : (b : ℕ) → b < 1 → slice_index (90 ∷ []) b ≡ (moment_of first run12).machine.memory (frame 41) (0 + b)

@@ -73,24 +73,32 @@ IsDevices (Unplug port) = Unit {0}
 IsDevices (Replace port id size disk) = Unit {0}
 IsDevices _ = ⊥
 
--- The step is one that the server makes in a call that asks this. Requests are issued on ports that are ready at its end,
--- in the mode that the port has then.
+-- what a restart, or a reset, tells of a request that isn't done
+abbrev pub GivesUp : Outcome → Type 0
+GivesUp outcome.Aborted = Unit {0}
+GivesUp outcome.Unplugged = Unit {0}
+GivesUp outcome.PortDead = Unit {0}
+GivesUp _ = ⊥
+
+-- The step is one that the server makes in a call that asks this. Requests are issued, or wait again, on ports that are ready
+-- at its end, and are issued in the mode that the port has then. A tick tells no fault, and a reset tells neither faults nor
+-- that something was done.
 abbrev pub IsServers : {D : Type 0} → Ask D → Ports → Step → Type 0
 IsServers (Submit r) ports (Accept new) = new.asked ≡ r
 IsServers (Submit r) ports (Issue mode e) = (ports.state e.request.port ≡ Ready) × (ports.mode e.request.port ≡ mode)
 IsServers (StoreAt client frame offset bytes) ports (Store c f o b) = (c ≡ client) × (f ≡ frame) × (o ≡ offset) × (b ≡ bytes)
 IsServers (LoadAt client frame offset count) ports (Load c f o b) = (c ≡ client) × (f ≡ frame) × (o ≡ offset) × (length b ≡ count)
 IsServers Service ports (Issue mode e) = (ports.state e.request.port ≡ Ready) × (ports.mode e.request.port ≡ mode)
-IsServers Service ports (Again e) = Unit {0}
+IsServers Service ports (Again e) = ports.state e.request.port ≡ Ready
 IsServers Service ports (Answer e o) = Unit {0}
 IsServers Tick ports (Age ready) = Unit {0}
 IsServers Tick ports (Issue mode e) = (ports.state e.request.port ≡ Ready) × (ports.mode e.request.port ≡ mode)
-IsServers Tick ports (Again e) = Unit {0}
-IsServers Tick ports (Answer e o) = Unit {0}
+IsServers Tick ports (Again e) = ports.state e.request.port ≡ Ready
+IsServers Tick ports (Answer e o) = GivesUp o ⊎ (o ≡ outcome.Ok)
 IsServers Reset ports Release = Unit {0}
 IsServers Reset ports (Issue mode e) = (ports.state e.request.port ≡ Ready) × (ports.mode e.request.port ≡ mode)
-IsServers Reset ports (Again e) = Unit {0}
-IsServers Reset ports (Answer e o) = Unit {0}
+IsServers Reset ports (Again e) = ports.state e.request.port ≡ Ready
+IsServers Reset ports (Answer e o) = GivesUp o
 IsServers ask ports step = ⊥
 
 -- each step is the device's, or one of such a call
@@ -162,13 +170,14 @@ pub record WasIssued (m : Machine) (id : RequestId) : Type 0 where
 
 -- What stands behind each outcome. An Ok, a fault and an abort are of a request that was issued when the call began. Of an Ok
 -- each sector was touched since the last issue, and it was ended. A fault is told of a request that is issued. An abort comes
--- after four issues. And PortDead leaves the port dead.
+-- after four issues, and leaves the port ready. An issued request is given up only where its port stopped: else its frames may
+-- still be written. And PortDead leaves the port dead.
 abbrev pub IsLawful : Machine → Evidence → Ports → Pending → Outcome → Type 0
 IsLawful old evidence ports e outcome.Ok = WasIssued old e.request.id × (e.issued ≡ true) × AllTouched e × (e.ended ≡ true)
 IsLawful old evidence ports e (outcome.DeviceError status error) = WasIssued old e.request.id × (e.issued ≡ true)
-    × Contains evidence.faults (record { id = e.request.id; status = status; error = error })
-IsLawful old evidence ports e outcome.Aborted = WasIssued old e.request.id × (e.issues ≡ 4)
-IsLawful old evidence ports e outcome.Unplugged = Contains evidence.lost e.request.port
+    × Contains evidence.faults (record { id = e.request.id; status = status; error = error }) × Contains evidence.stopped e.request.port
+IsLawful old evidence ports e outcome.Aborted = WasIssued old e.request.id × (e.issues ≡ 4) × (ports.state e.request.port ≡ Ready)
+IsLawful old evidence ports e outcome.Unplugged = Contains evidence.lost e.request.port × (e.issued ≡ true → Contains evidence.stopped e.request.port)
 IsLawful old evidence ports e outcome.PortDead = Contains evidence.stuck e.request.port × (ports.state e.request.port ≡ Dead)
 
 -- each answer of the call is lawful, with these ports at its end
@@ -259,6 +268,22 @@ pub record ReleasesOnce (steps : List Step) : Type 0 where
 abbrev pub TellsDead : Moment → List Step → Type 0
 TellsDead old steps = (e : Pending) (o : Outcome) → Contains steps (Answer e o) → old.ports.state e.request.port ≡ Dead → o ≡ outcome.PortDead
 
+-- requests wait again, or are aborted, on ports that failed
+abbrev pub AllGrounded : Evidence → List Step → Type 0
+AllGrounded evidence [] = Unit {0}
+AllGrounded evidence (Again e ∷ before) = AllGrounded evidence before × Contains evidence.failed e.request.port
+AllGrounded evidence (Answer e outcome.Aborted ∷ before) = AllGrounded evidence before × Contains evidence.failed e.request.port
+AllGrounded evidence (step ∷ before) = AllGrounded evidence before
+
+-- A service tells dead ports; it answers all requests of a ready port that had lost its disk when it began; it lets requests
+-- wait again, or aborts them, where something failed; and it leaves none its issue on a ready port that it changes, which it
+-- has booted.
+pub record ServesPorts (old : Moment) (evidence : Evidence) (steps : List Step) (new : Moment) : Type 0 where
+  pub dead : TellsDead old steps
+  pub lost : (port : Port) → old.ports.state port ≡ Ready → Contains evidence.gone port → (e : Pending) → Contains new.machine.book e → e.request.port ≢ port
+  pub grounded : AllGrounded evidence steps
+  pub booted : (port : Port) → old.ports.state port ≡ Ready → SamePort old.ports new.ports port ⊎ NoneKeepsIssue steps new.machine port
+
 -- What is said of a call agrees with its steps, and the call did what was asked.
 abbrev pub IsAnswered : {D : Type 0} → Ask D → Said → Moment → Evidence → List Step → Moment → Type 0
 IsAnswered (Submit r) (Submitted (Ok id)) old evidence steps new = IsAcceptable (situation_of old) r
@@ -277,13 +302,13 @@ IsAnswered (LoadAt client frame offset count) (Loaded (Ok bytes)) old evidence s
 IsAnswered (LoadAt client frame offset count) (Loaded (Err fault)) old evidence steps new =
     IsFirstMemFault old.machine.owner old.machine.lent client frame offset count fault
     × (steps ≡ []) × SamePorts old.ports new.ports
-IsAnswered Service (Served replies) old evidence steps new = Tells steps replies × TellsDead old steps × AllIssued new
+IsAnswered Service (Served replies) old evidence steps new = Tells steps replies × ServesPorts old evidence steps new × AllIssued new
     × ((port : Port) → IsEmptied new port × IsServiced old.ports evidence new.ports port)
 IsAnswered Tick (Served replies) old evidence steps new = Tells steps replies × AgesOnce old.ports steps
     × RestartsHung old evidence steps new × AllIssued new × ((port : Port) → old.ports.state port ≡ Ready → IsEmptied new port)
 IsAnswered Reset (WasReset (Some replies)) old evidence steps new = Tells steps replies × ReleasesOnce steps × AllIssued new
     × ((port : Port) → IsEmptied new port × MayBecome old.ports evidence new.ports port × NoneKeepsIssue steps new.machine port)
-IsAnswered Reset (WasReset None) old evidence steps new = AllDevices steps × ((port : Port) → IsStuck old.ports new.ports port)
+IsAnswered Reset (WasReset None) old evidence steps new = AllDevices steps × ((port : Port) → IsStuck old.ports evidence new.ports port)
 IsAnswered (State port) (Shown state) old evidence steps new = (state ≡ old.ports.state port) × (steps ≡ []) × SamePorts old.ports new.ports
 IsAnswered (Device step) (Stepped true) old evidence steps new = AllDevices steps × SamePorts old.ports new.ports
 IsAnswered (Device step) (Stepped false) old evidence steps new = (steps ≡ []) × SamePorts old.ports new.ports

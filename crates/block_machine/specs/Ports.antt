@@ -49,11 +49,18 @@ pub record Fault : Type 0 where
   pub error : ℕ
 
 -- What the device vouches for in a call: the faults that it told; the ports that lost their disk or have another, when the
--- call began, in it, or at its end; and the ports whose engine didn't stop or whose adapter didn't end its reset. The layer
--- that knows the device backs each item.
+-- call began, in it, or at its end, or that end it neither dead nor ready with serial and size as before; of these, those
+-- that had told so when it began, and had no other disk put in since; the ports that
+-- failed in it (an error of theirs was read in PxIS); those that stopped in it (their engine was seen to stop, or the adapter
+-- ended its reset); and the ports whose engine didn't stop or
+-- whose adapter didn't end its reset, in this call or, of a port that is dead already, in the one that left it dead. The
+-- layer that knows the device backs each item.
 pub record Evidence : Type 0 where
   pub faults : List Fault
   pub lost : List Port
+  pub gone : List Port
+  pub failed : List Port
+  pub stopped : List Port
   pub stuck : List Port
 
 -- What a call that looks at the port, or boots it, may make of it: a port that is dead after it is stuck; and one that was
@@ -68,6 +75,7 @@ pub record MayBecome (old : Ports) (evidence : Evidence) (new : Ports) (port : P
 abbrev pub IsServiced : Ports → Evidence → Ports → Port → Type 0
 IsServiced old evidence new port = MayBecome old evidence new port × (old.state port ≡ Dead → SamePort old new port)
 
--- What a reset that was stuck makes of it: a served port is dead, and remembers its disk.
-abbrev pub IsStuck : Ports → Ports → Port → Type 0
-IsStuck old new port = (new.served port ≡ old.served port) × (old.served port ≡ true → new.state port ≡ Dead) × SameDisk old new port
+-- What a reset that was stuck makes of it: a served port is dead, for which there is evidence, and remembers its disk.
+abbrev pub IsStuck : Ports → Evidence → Ports → Port → Type 0
+IsStuck old evidence new port = (new.served port ≡ old.served port)
+    × (old.served port ≡ true → (new.state port ≡ Dead) × Contains evidence.stuck port) × SameDisk old new port

@@ -11,7 +11,7 @@ use Rattle.block_machine.specs.Due.{IsDue, conflict}
 use Rattle.block_machine.specs.Steps.{Step, Issue, Answer, Replace, May, AllTouched}
 use Rattle.block_machine.specs.Left.{after, IsStart, AllTold, HoldsLeft}
 use Rattle.block_machine.specs.Durable.{IsVolatile, IsFlushed}
-use Rattle.block_machine.specs.Events.{Moment, Event, WasReset, IsRun, steps_of, moment_of}
+use Rattle.block_machine.specs.Events.{Moment, Event, Service, Tick, WasReset, IsRun, steps_of, moment_of}
 
 -- In a run of calls a write of one sector with 90 as its first byte is flushed, a later write of the sector isn't, the disk is
 -- taken out, and comes back without the later one. Then a read of the sector is answered Ok, and its frame begins with 90.
@@ -76,24 +76,32 @@ pub record WaitsItsTurn : Type 0 where
 -- service answers the request PortDead: it is kept, and its frame stays lent. A reset that ends gives the frame back.
 pub record EndsWithAReset : Type 0 where
   pub first : Moment
-  pub ticked : List (Event (Unit {0}))
+  pub asked : List (Event (Unit {0}))
+  pub one : Event (Unit {0})
+  pub two : Event (Unit {0})
+  pub three : Event (Unit {0})
   pub stuck : Event (Unit {0})
   pub service : Event (Unit {0})
   pub reset : Event (Unit {0})
-  pub runs : IsRun first (reset ∷ service ∷ stuck ∷ ticked)
+  pub runs : IsRun first (reset ∷ service ∷ stuck ∷ three ∷ two ∷ one ∷ asked)
+  pub ticks : (one.ask ≡ Tick) × (two.ask ≡ Tick) × (three.ask ≡ Tick)
+  pub aged : Pending
+  pub old : (moment_of first (two ∷ one ∷ asked)).machine.book ≡ aged ∷ []
+  pub once : (aged.issues ≡ 1) × (aged.issued ≡ true) × (aged.age ≡ 2)
   pub again : Pending
-  pub hung : (moment_of first ticked).machine.book ≡ again ∷ []
-  pub twice : again.issues ≡ 2
-  pub issued : again.issued ≡ true
+  pub same : again.request ≡ aged.request
+  pub hung : (moment_of first (three ∷ two ∷ one ∷ asked)).machine.book ≡ again ∷ []
+  pub twice : (again.issues ≡ 2) × (again.issued ≡ true) × (again.age ≡ 0)
   pub stays : stuck.said ≡ WasReset None
+  pub serves : service.ask ≡ Service
   pub answers : Contains service.steps (Answer again PortDead)
-  pub kept : (moment_of first (service ∷ stuck ∷ ticked)).machine.kept ≡ again ∷ []
+  pub kept : (moment_of first (service ∷ stuck ∷ three ∷ two ∷ one ∷ asked)).machine.kept ≡ again ∷ []
   pub frame : Frame
   pub its : again.request.asked.frames.items ≡ frame ∷ []
-  pub lent : (moment_of first (service ∷ stuck ∷ ticked)).machine.lent frame ≡ Some again.request.id
+  pub lent : (moment_of first (service ∷ stuck ∷ three ∷ two ∷ one ∷ asked)).machine.lent frame ≡ Some again.request.id
   pub ends : reset.said ≡ WasReset (Some [])
-  pub freed : (moment_of first (reset ∷ service ∷ stuck ∷ ticked)).machine.lent frame ≡ None
-  pub ready : (moment_of first (reset ∷ service ∷ stuck ∷ ticked)).ports.state again.request.port ≡ Ready
+  pub freed : (moment_of first (reset ∷ service ∷ stuck ∷ three ∷ two ∷ one ∷ asked)).machine.lent frame ≡ None
+  pub ready : (moment_of first (reset ∷ service ∷ stuck ∷ three ∷ two ∷ one ∷ asked)).ports.state again.request.port ≡ Ready
 
 -- The machine without the rule that nothing is issued while a kept request is left on the port.
 abbrev pub LooseMay : Machine → Step → Type 0
