@@ -242,6 +242,26 @@ fn a_trim_has_a_longest_range(rt: HostRuntime) {
     );
 }
 
+/// The trims of one grant, of sectors 0 to 69,999.
+#[test]
+fn a_trim_stays_in_its_grant(rt: HostRuntime) {
+    let mut tables = tables(&rt);
+    tables.rows = ArrayVec::new();
+    assert!(rt; tables.rows.try_push(row(1, 0, 70_000, true)).is_ok());
+    let longest = request(&rt, 1, 0, Op::Trim, 0, 4_194_240, &[]);
+    assert_eq!(rt;
+        tables.first_refusal(&longest),
+        Some(Refusal::Rule(Rule::OutsideGrant))
+    );
+    let longer = request(&rt, 1, 0, Op::Trim, 0, 4_194_241, &[]);
+    assert_eq!(rt;
+        tables.first_refusal(&longer),
+        Some(Refusal::Rule(Rule::BadCount))
+    );
+    let inside = request(&rt, 1, 0, Op::Trim, 1000, 65_535, &[]);
+    assert_eq!(rt; tables.first_refusal(&inside), None);
+}
+
 #[test]
 fn each_fault_of_an_access_is_told(rt: HostRuntime) {
     let mut tables = tables(&rt);
@@ -339,6 +359,10 @@ fn a_conflict_is_passed_over(rt: HostRuntime) {
         unanswered(4, Op::Read, 120, 8, false),
     ];
     assert_eq!(rt; due_ids(&rt, QUEUED, &book).as_slice(), [1, 4].as_slice());
+    let issued = unanswered(1, Op::Write, 100, 8, true);
+    let passed = unanswered(4, Op::Read, 120, 8, true);
+    assert!(rt; due_ids(&rt, QUEUED, &[issued, second, third, passed]).is_empty());
+    assert!(rt; due_ids(&rt, QUEUED, &[issued, second, third]).is_empty());
     assert_eq!(rt;
         due_ids(&rt, QUEUED, &[second, third]).as_slice(),
         [2].as_slice()
@@ -422,6 +446,21 @@ fn a_request_goes_again(rt: HostRuntime) {
     assert_eq!(rt; left(5, &history, &read, 100), 1);
     assert_eq!(rt; left(5, &history, &last, 100), 0);
     assert_eq!(rt; left(5, &history, &trim, 100), 3);
+}
+
+/// What is left goes by the order of acceptance: a write that is touched again after a later one is still the earlier one.
+#[test]
+fn a_later_write_stays(rt: HostRuntime) {
+    let first = filled(1, Op::Write, 100, 1, 1);
+    let later = filled(2, Op::Write, 100, 1, 2);
+    let read = filled(3, Op::Read, 100, 1, 0);
+    let history = [
+        Happened::Touched(read, 0),
+        Happened::Touched(first, 0),
+        Happened::Touched(later, 0),
+        Happened::Touched(first, 0),
+    ];
+    assert_eq!(rt; left(5, &history, &read, 100), 2);
 }
 
 #[test]
