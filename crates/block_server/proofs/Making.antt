@@ -1,5 +1,5 @@
 -- What the server keeps when it is made.
-use Rattle.std.proofs.Common.{ℕ, ◌≡◌, ◌*◌, ◌≤◌, false, List, [], Some, None, refl, sym, subst, arith, get_or}
+use Rattle.std.proofs.Common.{◌⊎◌, inl, inr, ℕ, ◌≡◌, ◌*◌, ◌≤◌, false, List, [], Some, None, refl, sym, subst, arith, get_or}
 use Rattle.std.specs.List.{Contains}
 use Rattle.std.proofs.lemmas.List.{get_or_default}
 use Rattle.std.proofs.lemmas.List.Elements.{All-contains}
@@ -13,7 +13,9 @@ use Rattle.adapter.proofs.Absurd.{true-false}
 use Rattle.dma_frames.specs.Table.{Run, Table, owner_of, HasFrame}
 use Rattle.grants.specs.Rows.{SameRows}
 use Rattle.block_server.specs.Book.{IsKept, IsReadGrant, StandsBehind}
-use Rattle.block_server.specs.Port.{IsBroughtUp, SparesClients}
+use Rattle.block_server.specs.Port.{IsBroughtUp, IsMissing, IsComing, SparesClients}
+use Rattle.block_server.specs.Told.{IsUndisturbed}
+use Rattle.hba_regs.specs.Bits.{bit}
 use Rattle.block_server.specs.Setup.{SetupView, IsSetup, HasClientFrames}
 use Rattle.block_server.specs.View.{ServerView}
 use Rattle.block_server.specs.declared.types.Accepted.{Accepted}
@@ -58,7 +60,11 @@ module _ {A : Type 0} (device : A → Device) (adapter : A) (table : Table) (sta
 -- what stands behind the state, from before the adapter was switched on
 pub brought_from : (state : PortState) (old mid new : Device) → SparesClients [] old mid → SparesClients [] mid new → IsBroughtUp state mid new → IsBroughtUp state old new
 brought_from Ready old mid new a b h = (h.0, h.1, h.2, h.3, λ none. h.4 (undisturbed_both a b none).1)
-brought_from Absent old mid new a b h = h
+brought_from Absent old mid new a b h = (h.0, h.1, found h.2)
+  where
+    found : ((bit new.pi 0 ≡ false) ⊎ (IsMissing new × (IsUndisturbed mid new → IsComing (new.port 0)))) → ((bit new.pi 0 ≡ false) ⊎ (IsMissing new × (IsUndisturbed old new → IsComing (new.port 0))))
+    found (inl none) = inl none
+    found (inr m) = inr (m.0, λ none. m.1 (undisturbed_both a b none).1)
 brought_from Foreign old mid new a b h = h
 brought_from (Unfit n) old mid new a b h = h
 brought_from Dead old mid new a b h = h

@@ -47,6 +47,9 @@ module _ {old new : PortState} (k : KeepsPort old new) where
 
   pub resting_after : KeepsControls old new → IsResting old → IsResting new
   resting_after c r = record {
+    st = k.st r.st;
+    cr = k.cr r.cr;
+    sact = λ slot. k.sact slot (r.sact slot);
     free = λ slot. free_after slot (r.free slot);
     received = λ fre. ap (λ (b : Bases). b.fb) k.bases ∙ r.received (sym c.fre ∙ fre);
   }

@@ -1,5 +1,5 @@
 -- What the server knows of the adapter between two accesses, while it uses port 0 alone and one slot of it. No step of the
--- device makes these words false.
+-- device makes these words false, but for those on the link and on trouble.
 use Rattle.std.specs.Prelude.{ℕ, Bool, true, false, ◌≡◌, ◌≢◌, ◌+◌, ◌*◌, ◌%◌, ◌<◌, ◌≤◌, ◌⊎◌, ◌++◌, Option, None, Some, List, [], All, Contains, length}
 use Rattle.hba_regs.specs.Bits.{bit}
 use Rattle.ata_types.specs.declared.request.Frame.{Frame}
@@ -133,12 +133,15 @@ IsLinked d = (d.port 0).notes.last_ssts % 16 ≡ 3
 abbrev pub IsNotBusy : Device → Type 0
 IsNotBusy d = (bit (d.port 0).notes.last_tfd 7 ≡ false) × (bit (d.port 0).notes.last_tfd 3 ≡ false)
 
--- a wait of 64 readings of SSTS found no device
+-- SSTS was read last without a device, and either 64 readings in a row found none, or one was seen and then went
 abbrev pub IsMissing : Device → Type 0
 IsMissing d = ((d.port 0).notes.last_ssts % 16 ≢ 3) × ((d.port 0).notes.link_count ≡ 64)
 
--- The port doesn't run, and has its received FIS area where it belongs if it has one.
+-- The port doesn't run, no command is in use, and it has its received FIS area where it belongs if it has one.
 pub record IsResting (p : device.PortState) : Type 0 where
+  pub st : p.st ≡ false
+  pub cr : p.cr ≡ false
+  pub sact : (slot : ℕ) → p.sact slot ≡ false
   pub free : (slot : ℕ) → IsSlotFree p slot
   pub received : p.fre ≡ true → p.bases.fb ≡ 1024
 
@@ -167,12 +170,14 @@ pub record Starts (old new : Device) : Type 0 where
   pub link : KeepsLink old new
 
 -- What stands behind each state that port 0 can have after it was brought up. Where it is ready, it runs with no trouble told;
--- its link came up anew and SERR is clear, unless a disk came or went meanwhile.
+-- its link is up and SERR is clear, unless a disk came or went meanwhile. Where it is absent, it isn't there, or a wait found no
+-- device though a COMRESET had ended, unless a disk came or went. Where it is unfit, a device was seen, and then stayed busy.
 abbrev pub IsBroughtUp : PortState → Device → Device → Type 0
 IsBroughtUp Ready old new = IsLone new × IsRunning new × IsSlotFree (new.port 0) 0 × IsCalm (new.port 0)
     × (IsUndisturbed old new → IsUp (new.port 0) × IsClear (new.port 0))
-IsBroughtUp Absent old new = IsLone new × IsResting (new.port 0) × ((bit new.pi 0 ≡ false) ⊎ IsMissing new)
-IsBroughtUp (Unfit cause) old new = IsLone new × IsResting (new.port 0) × (cause ≡ 7) × ((new.port 0).notes.busy_count ≡ 64)
+IsBroughtUp Absent old new = IsLone new × IsResting (new.port 0)
+    × ((bit new.pi 0 ≡ false) ⊎ (IsMissing new × (IsUndisturbed old new → IsComing (new.port 0))))
+IsBroughtUp (Unfit cause) old new = IsLone new × IsResting (new.port 0) × (cause ≡ 7) × IsLinked new × ((new.port 0).notes.busy_count ≡ 64)
 IsBroughtUp Foreign old new = ⊥
 IsBroughtUp Dead old new = ⊥
 
