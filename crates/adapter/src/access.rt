@@ -47,14 +47,15 @@ pub enum DeviceStep {
     Move(Port, Slot),
     /// End the slot's command, all of which was moved.
     Done(Port, Slot),
-    /// All that is left of the slot's command: take it, move, end it.
+    /// What is left of the slot's command: take it, move, end it. An adapter may stop short of the end, after one of these
+    /// at least.
     Finish(Port, Slot),
 }
 
 /// An adapter whose device does what it is told, if that is possible then.
 pub trait Stepped: Adapter {
-    /// Has the device do a step. `true` says that it was done, and nothing else; `false` that it is not possible, and that
-    /// nothing changed.
+    /// Has the device do a step. `true` says that it was done, and nothing else; `false` that it wasn't, and that nothing
+    /// changed.
     fn step(&mut self, s: &DeviceStep) -> bool
         ensures asked { result ≡ true → Asked s.now (Self.device self.old) (Self.device self.new) }
         ensures steps { Steps (Self.device self.old) (Self.device self.new) }

@@ -25,7 +25,7 @@ served _ _ = None
 abbrev pub unanswered_of : List Accepted → ℕ → ℕ
 unanswered_of book client = count_by (λ e. e.client.0 == client) book
 
--- A grant that this server can serve: of a client 1 to 8, on port 0, of sectors below 2^48, and to read alone.
+-- A grant that this server can serve: of a client 1 to 8, on port 0, of sectors below 2^48, and with no right but to read.
 pub record IsReadGrant (row : GrantRow) : Type 0 where
   pub client_from : 1 ≤ row.client.0
   pub client_to : row.client.0 ≤ 8
