@@ -1,6 +1,6 @@
 -- Readings, and writes that acknowledge, leave port 0 serving what it served.
 use Rattle.std.specs.Prelude.{count_by}
-use Rattle.std.proofs.Common.{ℕ, ◌≡◌, ◌≤◌, ◌%◌, length, Bool, true, false, ◌⊎◌, inl, inr, Option, None, Some, ◌||◌, refl, sym, ◌∙◌, ap, subst, arith, if◌then◌else◌}
+use Rattle.std.proofs.Common.{List, ℕ, ◌≡◌, ◌≤◌, ◌%◌, length, Bool, true, false, ◌⊎◌, inl, inr, Option, None, Some, ◌||◌, refl, sym, ◌∙◌, ap, subst, arith, if◌then◌else◌}
 use Rattle.hba_regs.specs.Bits.{bit}
 use Rattle.hba_regs.specs.declared.reg.PortReg.{PortReg}
 use Rattle.hba_regs.specs.declared.reg.PortReg.TheVariants.{Is, Ssts, Ci, Sact}
@@ -21,7 +21,7 @@ use Rattle.adapter.proofs.Calls.{KeepsAll, steps_keep_all, seen, SeenAt, put, Pu
 use Rattle.adapter.proofs.KeptLemmas.{SameEngine, same_engine, still, steps_keep}
 use Rattle.block_server.specs.Places.{places_of}
 use Rattle.block_server.specs.Port.{IsSlotFree, IsLone, IsRunning, Issued, meaning_of, HoldsRead, Serves, KeepsServing, Proceeds, IsHealthy, IsTroubled, FindsDone}
-use Rattle.block_server.specs.Told.{is_change, is_failure, changes, failures, IsUnharmed}
+use Rattle.block_server.specs.Told.{is_change, is_failure, is_read_end, changes, failures, IsUnharmed}
 use Rattle.block_server.proofs.Coming.{is_face}
 use Rattle.block_server.proofs.Going.{SameWork, healthy_face, goes_then, goes_effect, steps_go}
 use Rattle.block_server.proofs.Linking.{steps_healthy}
@@ -306,7 +306,7 @@ issue_serves r old new s h call =
             let told : (p : Entry → Bool) → count_by p new.tape ≡ count_by p w.mid.tape = λ p. ap (count_by p) w.tape in
             subst Q (sym w.here) (healthy_face (w.mid.port 0) after (refl, refl, refl, λ c. c, λ place n. n)
             (steps_healthy old w.mid s.0.on.no_reset w.steps (sym (told is_change) ∙ u.0, sym (told is_failure) ∙ u.1) h));
-        ended = λ set_before. true-false set_before s.2.ci;
+        ended = ap (λ (t : List Entry). count_by is_read_end t) w.tape ∙ (steps_go None old w.mid s w.steps).ended;
       },
     )
   where

@@ -1,5 +1,5 @@
 -- What a call of `service` does, path by path, and what goes on while the device does steps.
-use Rattle.std.proofs.Common.{ℕ, ◌≡◌, ◌≢◌, ◌<◌, ◌⊎◌, inl, inr, Bool, true, false, List, [], ◌∷◌, Option, Some, None, refl, sym, ◌∙◌, subst, arith}
+use Rattle.std.proofs.Common.{ap, ℕ, ◌≡◌, ◌≢◌, ◌<◌, ◌⊎◌, inl, inr, Bool, true, false, List, [], ◌∷◌, Option, Some, None, refl, sym, ◌∙◌, subst, arith, ◌+◌, if◌then◌else◌}
 use Rattle.ata_types.specs.declared.PortState.{PortState}
 use Rattle.ata_types.specs.declared.PortState.TheVariants.{Absent, Ready, Foreign, Unfit, Dead}
 use Rattle.ata_types.specs.declared.request.Reply.{Reply}
@@ -9,11 +9,11 @@ use Rattle.adapter.proofs.Absurd.{true-false}
 use Rattle.dma_frames.specs.Table.{Table, LendsOnly}
 use Rattle.block_server.specs.Book.{IsKept, StandsBehind, served, issued_of}
 use Rattle.block_server.specs.Calls.{Services, done_reply}
-use Rattle.block_server.specs.Port.{IsLone, IsResting, IsHealthy, IsTroubled, Issued, Serves, Proceeds, frames_of}
+use Rattle.block_server.specs.Port.{IsLone, IsResting, IsHealthy, IsTroubled, Issued, Serves, Proceeds, frames_of, EndsAsShown, issued_now}
 use Rattle.block_server.specs.Told.{reads_ended, IsUnharmed}
 use Rattle.block_server.specs.View.{ServerView}
 use Rattle.block_server.specs.declared.types.Accepted.{Accepted}
-use Rattle.block_server.proofs.Going.{reads_grow, unharmed_both, steps_go}
+use Rattle.block_server.proofs.Going.{unharmed_both, steps_go, steps_rest, told}
 use Rattle.block_server.proofs.Linking.{steps_healthy}
 use Rattle.block_server.proofs.Serving.{free_guarded}
 use Rattle.block_server.proofs.Sparing.{spares_then, spares_less, quiet_spares}
@@ -22,7 +22,7 @@ resting_goes : (old new : Device) → IsLone old → IsResting (old.port 0) → 
 resting_goes old new l rests steps = record {
   spares = quiet_spares old new (free_guarded old l rests.free rests.received) steps;
   healthy = steps_healthy old new l.on.no_reset steps;
-  ended = λ set. true-false set (rests.free 0).ci;
+  ended = steps_rest old new l.on.no_reset steps (rests.free 0);
 }
 
 module _ {A : Type 0} (device : A → Device) (s : ServerView A) (places : ℕ) (inv : IsKept device s places) where
@@ -93,7 +93,7 @@ module _ {A : Type 0} (device : A → Device) (s : ServerView A) (places : ℕ) 
         replies_are = one;
         book = book_is;
         lent = lends;
-        ended = λ set. has_ended (goes.ended set);
+        ended = has_ended;
         sent = λ more. is_sent again refl more;
         none = λ empty. is_none again refl empty;
       });
@@ -104,9 +104,14 @@ module _ {A : Type 0} (device : A → Device) (s : ServerView A) (places : ℕ) 
       healthy = λ unharmed h. let u = unharmed_both goes.spares next.spares unharmed in next.healthy u.1 (goes.healthy u.0 h);
     }
       where
-        has_ended : (((middle.port 0).ci 0 ≡ true) ⊎ (reads_ended (device s.adapter) < reads_ended middle)) → reads_ended (device s.adapter) < reads_ended (device adapter)
-        has_ended (inl still) = true-false still free.2.ci
-        has_ended (inr more) = let n = (reads_grow goes.spares next.spares).1 in omega (arith, n, more)
+        has_ended : reads_ended (device adapter) ≡ reads_ended (device s.adapter) + issued_now (device s.adapter)
+        has_ended =
+            let r = served_some issued in
+            let E : Option Issued → Type 0 = λ o. EndsAsShown o (device s.adapter) middle in
+            let ends : EndsAsShown (Some r.0) (device s.adapter) middle = subst E r.1 goes.ended in
+            let clear = ap told free.2.ci in
+            let same = next.ended in
+            omega (arith, ends, clear, same)
 
         is_sent : (b : Bool) → again ≡ b → rest ≢ [] → (again ≡ true) × (((device adapter).port 0).ci 0 ≡ true)
         is_sent true is more = (is, sent is)

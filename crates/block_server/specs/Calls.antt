@@ -23,7 +23,7 @@ use Rattle.block_machine.specs.Refusals.{Situation, IsAcceptable, IsFirstRefusal
 use Rattle.dma_frames.specs.Table.{Run, owner_of, lent_to, LendsOnly, HasFrame}
 use Rattle.block_server.specs.Book.{served, unanswered_of}
 use Rattle.grants.specs.Rows.{SameRows}
-use Rattle.block_server.specs.Port.{IsBroughtUp, IsHealthy, IsTroubled, Issued, Serves, SparesClients, Proceeds, frames_of}
+use Rattle.block_server.specs.Port.{IsBroughtUp, IsHealthy, IsTroubled, Issued, Serves, SparesClients, Proceeds, EndsAsShown, issued_now, frames_of}
 use Rattle.block_server.specs.Told.{reads_ended, IsUnharmed}
 use Rattle.block_server.specs.View.{ServerView}
 use Rattle.block_server.specs.declared.types.Accepted.{Accepted}
@@ -95,23 +95,23 @@ Submits device old new r (Err refusal) = IsFirstRefusal (situation_of old) r ref
 abbrev pub done_reply : Accepted → Reply
 done_reply e = record { id = e.id; client = e.client; outcome = outcome.Ok }
 
--- Nobody is answered: the book and what is lent are as they were, and nothing more is issued.
+-- Nobody is answered: the book and what is lent are as they were, and nothing is issued.
 pub record AnswersNone {A : Type 0} (device : A → Device) (old new : ServerView A) (replies : List Reply) : Type 0 where
   pub replies_are : replies ≡ []
   pub book : new.book ≡ old.book
   pub table : new.table ≡ old.table
   pub issued : new.issued ≡ old.issued
-  pub ended : ((device old.adapter).port 0).ci 0 ≡ true → (((device new.adapter).port 0).ci 0 ≡ true) ⊎ (reads_ended (device old.adapter) < reads_ended (device new.adapter))
+  pub ended : EndsAsShown (served old.issued old.book) (device old.adapter) (device new.adapter)
 
 -- The first of the book, which was issued, is answered Ok: the device has ended it, in this call where its bit of CI was set
--- before. It leaves the book, its frames are given back, and the next of the book is issued.
+-- before, and once. It leaves the book, its frames are given back, and the next of the book is issued.
 pub record AnswersFirst {A : Type 0} (device : A → Device) (old new : ServerView A) (replies : List Reply) : Type 0 where
   pub entry : Accepted
   pub was_issued : old.issued ≡ true
   pub replies_are : replies ≡ done_reply entry ∷ []
   pub book : old.book ≡ entry ∷ new.book
   pub lent : LendsOnly old.table new.table entry.loan.frames None
-  pub ended : ((device old.adapter).port 0).ci 0 ≡ true → reads_ended (device old.adapter) < reads_ended (device new.adapter)
+  pub ended : reads_ended (device new.adapter) ≡ reads_ended (device old.adapter) + issued_now (device old.adapter)
   pub sent : new.book ≢ [] → (new.issued ≡ true) × (((device new.adapter).port 0).ci 0 ≡ true)
   pub none : new.book ≡ [] → new.issued ≡ false
 

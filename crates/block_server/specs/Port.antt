@@ -1,6 +1,6 @@
 -- What the server knows of the adapter between two accesses, while it uses port 0 alone and one slot of it. No step of the
 -- device makes these words false, but for those on the link and on trouble.
-use Rattle.std.specs.Prelude.{ℕ, Bool, true, false, ◌≡◌, ◌≢◌, ◌+◌, ◌*◌, ◌%◌, ◌<◌, ◌≤◌, ◌⊎◌, ◌++◌, Option, None, Some, List, [], All, Contains, length}
+use Rattle.std.specs.Prelude.{ℕ, Bool, true, false, ◌≡◌, ◌≢◌, ◌+◌, ◌*◌, ◌%◌, ◌<◌, ◌≤◌, ◌⊎◌, ◌++◌, Option, None, Some, List, [], All, Contains, length, if◌then◌else◌}
 use Rattle.hba_regs.specs.Bits.{bit}
 use Rattle.ata_types.specs.declared.request.Frame.{Frame}
 use Rattle.ata_types.specs.declared.PortState.{PortState}
@@ -211,12 +211,21 @@ abbrev pub frames_of : Option Issued → List Frame
 frames_of None = []
 frames_of (Some r) = r.frames
 
+-- slot 0's bit of CI, as a number
+abbrev pub issued_now : Device → ℕ
+issued_now d = if (d.port 0).ci 0 then 1 else 0
+
+-- As many reads ended in slot 0 as bits of CI went away from it; none where no read is served.
+abbrev pub EndsAsShown : Option Issued → Device → Device → Type 0
+EndsAsShown None old new = reads_ended new ≡ reads_ended old
+EndsAsShown (Some r) old new = reads_ended new + issued_now new ≡ reads_ended old + issued_now old
+
 -- Meanwhile no client frame changed but those of the read that is served; a port without trouble has none still, unless it
--- was told; and where slot 0's bit of CI went away, the read ended.
+-- was told; and as many reads ended as bits of CI went away.
 pub record Proceeds (issued : Option Issued) (old new : Device) : Type 0 where
   pub spares : SparesClients (frames_of issued) old new
   pub healthy : IsUnharmed old new → IsHealthy (old.port 0) → IsHealthy (new.port 0)
-  pub ended : (old.port 0).ci 0 ≡ true → ((new.port 0).ci 0 ≡ true) ⊎ (reads_ended old < reads_ended new)
+  pub ended : EndsAsShown issued old new
 
 -- A read that is done leaves its slot free; one that isn't is served on.
 abbrev pub FindsDone : Issued → Bool → Device → Type 0
