@@ -1,5 +1,5 @@
 -- What goes on at port 0 while it serves, over steps, readings and writes.
-use Rattle.std.proofs.Common.{◌++◌, ◌∷◌, [], ℕ, ◌≡◌, ◌≢◌, ◌+◌, ◌<◌, ◌≤◌, length, ◌⊎◌, inl, inr, Bool, true, false, ◌&&◌, ◌==◌, List, Option, None, Some, refl, sym, ◌∙◌, ap, subst, arith, cond, if◌then◌else◌}
+use Rattle.std.proofs.Common.{◌∷◌, [], ℕ, ◌≡◌, ◌≢◌, ◌+◌, ◌≤◌, length, inl, inr, Bool, true, false, ◌&&◌, ◌==◌, List, Option, None, Some, refl, sym, ◌∙◌, ap, subst, arith, cond, if◌then◌else◌}
 use Rattle.std.specs.Prelude.{count_by}
 use Rattle.std.proofs.lemmas.Bool.{cases_eq, eq-eqb, eqb-true}
 use Rattle.ata_types.specs.declared.request.Frame.{Frame}

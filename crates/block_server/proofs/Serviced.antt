@@ -1,5 +1,5 @@
 -- What a call of `service` does, path by path, and what goes on while the device does steps.
-use Rattle.std.proofs.Common.{ap, ℕ, ◌≡◌, ◌≢◌, ◌<◌, ◌⊎◌, inl, inr, Bool, true, false, List, [], ◌∷◌, Option, Some, None, refl, sym, ◌∙◌, subst, arith, ◌+◌, if◌then◌else◌}
+use Rattle.std.proofs.Common.{ap, ℕ, ◌≡◌, ◌≢◌, inl, inr, Bool, true, false, List, [], ◌∷◌, Option, Some, None, refl, sym, ◌∙◌, subst, arith, ◌+◌}
 use Rattle.ata_types.specs.declared.PortState.{PortState}
 use Rattle.ata_types.specs.declared.PortState.TheVariants.{Absent, Ready, Foreign, Unfit, Dead}
 use Rattle.ata_types.specs.declared.request.Reply.{Reply}
