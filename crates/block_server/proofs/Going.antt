@@ -5,7 +5,7 @@ use Rattle.std.proofs.lemmas.Bool.{cases_eq, eq-eqb, eqb-true}
 use Rattle.ata_types.specs.declared.request.Frame.{Frame}
 use Rattle.adapter.specs.Access.{Stores}
 use Rattle.adapter.specs.Commands.{Meaning, is_queued}
-use Rattle.adapter.specs.Device.{Taken, PortState, Device}
+use Rattle.adapter.specs.Device.{Bases, Taken, PortState, Device}
 use Rattle.adapter.specs.Kept.{Keeps}
 use Rattle.adapter.specs.Memory.{patched, changed}
 use Rattle.adapter.specs.Steps.{Step, Can, after, Steps, move_of, clear_entry, done_entry, fault_entry}
@@ -18,10 +18,11 @@ use Rattle.adapter.proofs.Calls.{KeepsAll, steps_keep_all}
 use Rattle.adapter.proofs.KeptLemmas.{step_keeps}
 use Rattle.adapter.proofs.MemoryLemmas.{patched_apart}
 use Rattle.adapter.proofs.Runs.{Steps-one}
-use Rattle.block_server.specs.Port.{IsTableByte, IsKeptByte, IsHealthy, IsLone, IsRunning, Issued, meaning_of, HoldsRead, Serves, SparesClients, Proceeds, EndsAsShown, issued_now, IsSlotFree, frames_of}
+use Rattle.block_server.specs.Port.{IsTableByte, IsKeptByte, IsHealthy, IsLone, IsRunning, Issued, meaning_of, HoldsRead, Serves, SparesClients, Proceeds, MovesOnly, EndsAsShown, issued_now, IsSlotFree, frames_of}
 use Rattle.block_server.specs.Told.{is_change, is_failure, is_read, is_read_end, reads_ended, IsUnharmed}
 use Rattle.block_server.proofs.Coming.{SameFace, up_face}
-use Rattle.block_server.proofs.Issuing.{none_guarded}
+use Rattle.block_server.proofs.Issuing.{none_guarded, none_after, all_free}
+use Rattle.block_server.proofs.Moving.{moves_none, moves_then, moves_on, none_confined, read_confined, step_moves}
 use Rattle.block_server.proofs.Linking.{steps_healthy}
 use Rattle.block_server.proofs.PortLemmas.{free_after, lone_after, running_after}
 use Rattle.block_server.proofs.Serving.{read_guarded, step_holds, slot_zero, tied_at, fetch_means}
@@ -44,7 +45,7 @@ module _ {frames more : List Frame} {old mid new : Device} (a : SparesClients fr
   reads_grow = grows is_read_end
 
 pub goes_none : (issued : Option Issued) (d : Device) → Proceeds issued d d
-goes_none issued d = record { spares = spares_none (frames_of issued) d; healthy = λ _ h. h; ended = same issued }
+goes_none issued d = record { spares = spares_none (frames_of issued) d; healthy = λ _ h. h; ended = same issued; moved = moves_none issued d }
   where
     same : (o : Option Issued) → EndsAsShown o d d
     same None = refl
@@ -55,6 +56,7 @@ goes_then issued {old} {mid} {new} a b = record {
   spares = spares_then a.spares b.spares;
   healthy = λ u h. let n = unharmed_both a.spares b.spares u in b.healthy n.1 (a.healthy n.0 h);
   ended = both issued a.ended b.ended;
+  moved = moves_then issued a.moved b.moved;
 }
   where
     both : (o : Option Issued) → EndsAsShown o old mid → EndsAsShown o mid new → EndsAsShown o old new
@@ -75,6 +77,7 @@ goes_effect issued {old} {mid} new a size memory tape same = record {
   spares = spares_on new a.spares size memory tape;
   healthy = λ u h. healthy_face (mid.port 0) (new.port 0) same.0 (a.healthy (count is_change u.0, count is_failure u.1) h);
   ended = shown issued a.ended;
+  moved = moves_on issued new a.moved (λ at client. ap (λ (m : ℕ → ℕ). m at) memory) tape;
 }
   where
     count : (p : Entry → Bool) → count_by p new.tape ≡ count_by p old.tape → count_by p mid.tape ≡ count_by p old.tape
@@ -244,16 +247,39 @@ steps_end : (r : Issued) (old new : Device) → Serves (Some r) old → Steps ol
 steps_end r old new s steps =
     (steps_relate (Ending r) (λ d t. (t, refl)) (λ a b c x y t. let first = x t in let second = y first.0 in (second.0, second.1 ∙ first.1)) (ending_step r) old new s.0.on.no_reset steps s).1
 
+-- ---- what moves
+
+abbrev Moving : Option Issued → Device → Device → Type 0
+Moving issued old new = Serves issued old → Serves issued new × MovesOnly issued old new
+
+moving_step : (issued : Option Issued) (step : Step) (d : Device) → d.hr ≡ false → Can step d → Moving issued d (after step d)
+moving_step None step d quiet can s =
+    let one : Steps d (after step d) = Steps-one step d (after step d) can refl in
+    (none_after d (after step d) s one, step_moves None d (none_confined d s.0 (λ _. ap (λ (b : Bases). b.fb) s.1.bases) (all_free d s)) step can quiet)
+moving_step (Some r) step d quiet can s = ((ending_step r step d quiet can s).0, step_moves (Some r) d (read_confined r d s.0 s.1 s.2) step can quiet)
+
+quiet_of : (issued : Option Issued) (d : Device) → Serves issued d → d.hr ≡ false
+quiet_of None d s = s.0.on.no_reset
+quiet_of (Some r) d s = s.0.on.no_reset
+
+steps_move : (issued : Option Issued) (old new : Device) → Serves issued old → Steps old new → MovesOnly issued old new
+steps_move issued old new s steps =
+    (steps_relate (Moving issued) (λ d t. (t, moves_none issued d))
+    (λ a b c x y t. let first = x t in let second = y first.0 in (second.0, moves_then issued first.1 second.1))
+    (moving_step issued) old new (quiet_of issued old s) steps s).1
+
 pub steps_go : (issued : Option Issued) (old new : Device) → Serves issued old → Steps old new → Proceeds issued old new
 steps_go None old new s steps = record {
   spares = quiet_spares old new (none_guarded old s) steps;
   healthy = steps_healthy old new s.0.on.no_reset steps;
   ended = steps_rest old new s.0.on.no_reset steps s.2;
+  moved = steps_move None old new s steps;
 }
 steps_go (Some r) old new s steps = record {
   spares = steps_spare IsTableByte (IsKeptByte r.frames) r.frames old new (λ at client other. inr (client, other)) (read_guarded r old s.0 s.1 s.2) steps;
   healthy = steps_healthy old new s.0.on.no_reset steps;
   ended = steps_end r old new s steps;
+  moved = steps_move (Some r) old new s steps;
 }
 
 -- ---- a store below the client frames, while no slot is in use
@@ -272,4 +298,5 @@ store_goes at bytes old new s call low =
       };
       healthy = a.healthy;
       ended = a.ended;
+      moved = moves_on None stored a.moved (λ b client. patched_apart call.mid.memory at bytes b (λ from to. omega (arith, low, client, to))) refl;
     })

@@ -10,6 +10,7 @@ mod Issuing
 mod Loading
 mod Looking
 mod Told
+mod Moving
 mod Serviced
 mod Going
 mod Coming

@@ -25,6 +25,7 @@ use Rattle.block_server.specs.Told.{is_change, is_failure, is_read_end, changes,
 use Rattle.block_server.proofs.Coming.{is_face}
 use Rattle.block_server.proofs.Going.{SameWork, healthy_face, goes_then, goes_effect, steps_go}
 use Rattle.block_server.proofs.Linking.{steps_healthy}
+use Rattle.block_server.proofs.Moving.{moves_on}
 use Rattle.block_server.proofs.Sparing.{spares_on}
 use Rattle.block_server.proofs.Told.{count_grows}
 use Rattle.block_server.proofs.Issuing.{none_after, bit_of_one, bit_one_other}
@@ -307,6 +308,7 @@ issue_serves r old new s h call =
             subst Q (sym w.here) (healthy_face (w.mid.port 0) after (refl, refl, refl, λ c. c, λ place n. n)
             (steps_healthy old w.mid s.0.on.no_reset w.steps (sym (told is_change) ∙ u.0, sym (told is_failure) ∙ u.1) h));
         ended = ap (λ (t : List Entry). count_by is_read_end t) w.tape ∙ (steps_go None old w.mid s w.steps).ended;
+        moved = moves_on None new (steps_go None old w.mid s w.steps).moved (λ at client. ap (λ (m : ℕ → ℕ). m at) w.memory) w.tape;
       },
     )
   where

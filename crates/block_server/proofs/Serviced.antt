@@ -4,25 +4,41 @@ use Rattle.ata_types.specs.declared.PortState.{PortState}
 use Rattle.ata_types.specs.declared.PortState.TheVariants.{Absent, Ready, Foreign, Unfit, Dead}
 use Rattle.ata_types.specs.declared.request.Reply.{Reply}
 use Rattle.adapter.specs.Device.{Device}
-use Rattle.adapter.specs.Steps.{Steps}
+use Rattle.adapter.specs.Steps.{Steps, after}
 use Rattle.adapter.proofs.Absurd.{true-false}
+use Rattle.adapter.proofs.Calls.{steps_keep_all}
+use Rattle.adapter.proofs.Runs.{Steps-one}
 use Rattle.dma_frames.specs.Table.{Table, LendsOnly}
 use Rattle.block_server.specs.Book.{IsKept, StandsBehind, served, issued_of}
 use Rattle.block_server.specs.Calls.{Services, done_reply}
-use Rattle.block_server.specs.Port.{IsLone, IsResting, IsHealthy, IsTroubled, Issued, Serves, Proceeds, frames_of, EndsAsShown, issued_now}
+use Rattle.block_server.specs.Port.{IsLone, IsResting, IsHealthy, IsTroubled, Issued, Serves, Proceeds, frames_of, EndsAsShown, issued_now, MovesOnly}
 use Rattle.block_server.specs.Told.{reads_ended, IsUnharmed}
 use Rattle.block_server.specs.View.{ServerView}
 use Rattle.block_server.specs.declared.types.Accepted.{Accepted}
 use Rattle.block_server.proofs.Going.{unharmed_both, steps_go, steps_rest, told}
 use Rattle.block_server.proofs.Linking.{steps_healthy}
+use Rattle.block_server.proofs.Moving.{moves_none, moves_then, moves_more_read, none_confined, step_moves}
+use Rattle.block_server.proofs.PortLemmas.{lone_after, resting_after}
+use Rattle.block_server.proofs.Told.{steps_relate}
 use Rattle.block_server.proofs.Serving.{free_guarded}
 use Rattle.block_server.proofs.Sparing.{spares_then, spares_less, quiet_spares}
+
+-- a port that doesn't run moves nothing
+abbrev Still : Device → Device → Type 0
+Still old new = (IsLone old × IsResting (old.port 0)) → IsLone new × IsResting (new.port 0) × MovesOnly None old new
 
 resting_goes : (old new : Device) → IsLone old → IsResting (old.port 0) → Steps old new → Proceeds None old new
 resting_goes old new l rests steps = record {
   spares = quiet_spares old new (free_guarded old l rests.free rests.received) steps;
   healthy = steps_healthy old new l.on.no_reset steps;
   ended = steps_rest old new l.on.no_reset steps (rests.free 0);
+  moved =
+      (steps_relate Still (λ d t. (t.0, t.1, moves_none None d))
+      (λ a b c x y t. let first = x t in let second = y (first.0, first.1) in (second.0, second.1, moves_then None first.2 second.2))
+      (λ step d quiet can t.
+      let k = steps_keep_all quiet (Steps-one step d (after step d) can refl) in
+      (lone_after k t.0, resting_after (k.port 0) (k.on.controls 0) t.1, step_moves None d (none_confined d t.0 t.1.received t.1.free) step can quiet))
+      old new l.on.no_reset steps (l, rests)).2;
 }
 
 module _ {A : Type 0} (device : A → Device) (s : ServerView A) (places : ℕ) (inv : IsKept device s places) where
@@ -75,6 +91,7 @@ module _ {A : Type 0} (device : A → Device) (s : ServerView A) (places : ℕ) 
     troubled = λ _. none;
     serves = serves;
     spares = goes.spares;
+    moved = goes.moved;
     healthy = goes.healthy;
   }
 
@@ -101,6 +118,7 @@ module _ {A : Type 0} (device : A → Device) (s : ServerView A) (places : ℕ) 
       troubled = λ trouble. absurd (calm trouble);
       serves = λ _. serves;
       spares = spares_then goes.spares (spares_less (frames_of (served s.issued s.book)) next.spares);
+      moved = moves_then (served s.issued s.book) goes.moved (moves_more_read (served s.issued s.book) next.moved);
       healthy = λ unharmed h. let u = unharmed_both goes.spares next.spares unharmed in next.healthy u.1 (goes.healthy u.0 h);
     }
       where

@@ -25,7 +25,7 @@ use Rattle.block_server.proofs.PortLemmas.{lone_after, running_after}
 -- ---- places
 
 -- a place in the list of places
-place_at : (frames : List Frame) (n a k : ℕ) → k < n → slice_index (map (place_of frames) (range_with_len a n)) k ≡ place_of frames (a + k)
+pub place_at : (frames : List Frame) (n a k : ℕ) → k < n → slice_index (map (place_of frames) (range_with_len a n)) k ≡ place_of frames (a + k)
 place_at frames zero a k small = absurd (omega arith)
 place_at frames (suc n) a zero small = ap (place_of frames) (omega arith)
 place_at frames (suc n) a (suc k) small = place_at frames n (a + 1) k (omega arith) ∙ ap (place_of frames) (omega arith)

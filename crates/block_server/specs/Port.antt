@@ -12,9 +12,12 @@ use Rattle.adapter.specs.Device as device
 use Rattle.adapter.specs.Idle.{IsIdlePort}
 use Rattle.adapter.specs.Rules.{IsOn, HasPort}
 use Rattle.adapter.specs.Says.{Says}
+use Rattle.adapter.specs.declared.command.Direction.TheVariants.{ToMemory}
 use Rattle.adapter.specs.declared.tape.Entry.{Entry}
-use Rattle.block_server.specs.Places.{places_of}
-use Rattle.block_server.specs.Told.{reads_ended, IsUndisturbed, IsUnharmed}
+use Rattle.adapter.specs.declared.tape.Entry.TheVariants as entry
+use Rattle.adapter.specs.declared.tape.Move.{Move}
+use Rattle.block_server.specs.Places.{place_of, places_of}
+use Rattle.block_server.specs.Told.{after_moves, reads_ended, IsUndisturbed, IsUnharmed}
 
 -- ---- sets of bytes
 
@@ -220,12 +223,41 @@ abbrev pub EndsAsShown : Option Issued → Device → Device → Type 0
 EndsAsShown None old new = reads_ended new ≡ reads_ended old
 EndsAsShown (Some r) old new = reads_ended new + issued_now new ≡ reads_ended old + issued_now old
 
+-- A move that an entry tells is the read's: of one of its sectors, to the sector's place in its frames.
+pub record IsMoveOf (r : Issued) (m : Move) : Type 0 where
+  pub port : m.port.0 ≡ 0
+  pub slot : m.slot.0 ≡ 0
+  pub operation : m.operation ≡ Read
+  pub direction : m.direction ≡ ToMemory
+  pub number : ℕ
+  pub small : number < r.count
+  pub sector : m.sector ≡ r.first + number
+  pub address : m.address ≡ place_of r.frames number
+
+-- a move is one of the read that is served
+abbrev pub IsServedMove : Option Issued → Move → Type 0
+IsServedMove None m = ⊥
+IsServedMove (Some r) m = IsMoveOf r m
+
+-- an entry that tells a move tells such a one
+abbrev pub IsOwn : Option Issued → Entry → Type 0
+IsOwn issued (entry.Move m) = IsServedMove issued m
+IsOwn issued _ = Unit {0}
+
+-- Client frames are as the moves that the tape has gained leave them, and each of these is the served read's.
+pub record MovesOnly (issued : Option Issued) (old new : Device) : Type 0 where
+  pub gained : List Entry
+  pub tape : new.tape ≡ old.tape ++ gained
+  pub own : All (IsOwn issued) gained
+  pub memory : (at : ℕ) → 163840 ≤ at → new.memory at ≡ after_moves gained old.memory at
+
 -- Meanwhile no client frame changed but those of the read that is served; a port without trouble has none still, unless it
 -- was told; and as many reads ended as bits of CI went away.
 pub record Proceeds (issued : Option Issued) (old new : Device) : Type 0 where
   pub spares : SparesClients (frames_of issued) old new
   pub healthy : IsUnharmed old new → IsHealthy (old.port 0) → IsHealthy (new.port 0)
   pub ended : EndsAsShown issued old new
+  pub moved : MovesOnly issued old new
 
 -- A read that is done leaves its slot free; one that isn't is served on.
 abbrev pub FindsDone : Issued → Bool → Device → Type 0

@@ -1,9 +1,12 @@
 -- What the device's tape tells of port 0, counted (this project's own).
-use Rattle.std.specs.Prelude.{ℕ, Bool, true, false, ◌≡◌, ◌&&◌, ◌==◌, count_by}
+use Rattle.std.specs.Prelude.{ℕ, Bool, true, false, ◌≡◌, ◌&&◌, ◌==◌, List, [], ◌∷◌, count_by}
+use Rattle.adapter.specs.Memory.{patched}
+use Rattle.adapter.specs.declared.command.Direction.{Direction}
+use Rattle.adapter.specs.declared.command.Direction.TheVariants.{ToMemory, FromMemory}
 use Rattle.adapter.specs.declared.command.Operation.{Operation}
 use Rattle.adapter.specs.declared.command.Operation.TheVariants.{Read}
 use Rattle.adapter.specs.declared.tape.Entry.{Entry}
-use Rattle.adapter.specs.declared.tape.Entry.TheVariants.{Done, Fault, Fatal, Unplug, Plug}
+use Rattle.adapter.specs.declared.tape.Entry.TheVariants.{Move, Done, Fault, Fatal, Unplug, Plug}
 use Rattle.adapter.specs.Device.{Device}
 
 -- a disk was taken out of port 0, or put into it
@@ -43,3 +46,14 @@ IsUndisturbed old new = changes new ≡ changes old
 -- no disk came or went meanwhile, and nothing failed
 abbrev pub IsUnharmed : Device → Device → Type 0
 IsUnharmed old new = (changes new ≡ changes old) × (failures new ≡ failures old)
+
+-- memory after a move of these bytes
+abbrev pub moved_in : Direction → ℕ → List ℕ → (ℕ → ℕ) → ℕ → ℕ
+moved_in ToMemory at bytes memory = patched memory at bytes
+moved_in FromMemory at bytes memory = memory
+
+-- memory after the moves that these entries tell, in their order: the bytes of each stand at its address
+abbrev pub after_moves : List Entry → (ℕ → ℕ) → ℕ → ℕ
+after_moves [] memory = memory
+after_moves (Move m ∷ rest) memory = after_moves rest (moved_in m.direction m.address m.bytes memory)
+after_moves (entry ∷ rest) memory = after_moves rest memory
