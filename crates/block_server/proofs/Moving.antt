@@ -5,7 +5,7 @@ use Rattle.std.proofs.lemmas.Bool.{cases_eq}
 use Rattle.std.proofs.lemmas.List.{append-nil}
 use Rattle.std.proofs.lemmas.List.Elements.{All-append, All-push, All-weaker}
 use Rattle.adapter.specs.Commands.{Meaning, is_ranged, reads_memory, direction_of}
-use Rattle.adapter.specs.Device.{Bases, Taken, PortState, Device}
+use Rattle.adapter.specs.Device.{Bases, Taken, Device}
 use Rattle.adapter.specs.Memory.{patched}
 use Rattle.adapter.specs.Steps.{Step, Can, after, MayScribble, move_of, clear_entry, done_entry, fault_entry, next_place, memory_after}
 use Rattle.adapter.specs.Steps.Step.{Fetch, FetchFault, Move, Clear, Done, Fault, Fatal, Fall, FrFall, LinkUp, Unplug, Plug, ResetEnds, Scribble}
@@ -18,7 +18,7 @@ use Rattle.adapter.specs.declared.tape.Entry.TheVariants as entry
 use Rattle.adapter.proofs.Absurd.{true-false, some-none}
 use Rattle.adapter.proofs.MemoryLemmas.{patched_apart}
 use Rattle.block_server.specs.Places.{place_of, places_of}
-use Rattle.block_server.specs.Port.{IsSlotFree, IsLone, IsRunning, Issued, meaning_of, HoldsRead, IsMoveOf, IsOwn, MovesOnly, SparesClients}
+use Rattle.block_server.specs.Port.{IsSlotFree, IsLone, IsRunning, Issued, meaning_of, HoldsRead, IsOwn, MovesOnly}
 use Rattle.block_server.specs.Told.{after_moves, moved_in}
 use Rattle.block_server.proofs.Serving.{slot_zero, tied_at, place_at, places_length}
 
@@ -63,7 +63,7 @@ moves_then issued {old} {mid} {new} a b = record {
   tape = b.tape ∙ ap (λ (tape : List Entry). tape ++ b.gained) a.tape ∙ append_assoc old.tape a.gained b.gained;
   own = All-append (IsOwn issued) a.gained b.gained a.own b.own;
   memory = λ at client. b.memory at client ∙ moves_alike b.gained mid.memory (after_moves a.gained old.memory) at (a.memory at client)
-  ∙ sym (ap (λ (m : ℕ → ℕ). m at) (moves_more a.gained b.gained old.memory));
+      ∙ sym (ap (λ (m : ℕ → ℕ). m at) (moves_more a.gained b.gained old.memory));
 }
 
 -- where no read is served there is no move: so the same holds for any read
@@ -111,8 +111,7 @@ module _ (issued : Option Issued) (d : Device) (c : IsConfined issued d) where
       let operation : t.meaning.operation ≡ Read = ap (λ (m : Meaning). m.operation) served.3 in
       let n = places_length r.frames r.count 0 in
       let same = ap (λ (places : List ℕ). length places) served.4 in
-      let small : t.moved < r.count = omega (arith, left, same, n) in
-      (
+      let small : t.moved < r.count = omega (arith, left, same, n) in (
         record {
           port = served.0;
           slot = served.1;
