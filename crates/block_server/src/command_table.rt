@@ -94,12 +94,12 @@ fn prd_bytes(prd: &Prd) -> [u8; 16]
 /// The PRDs that cover the first bytes of the frames, in order: one a frame, each but the last of 4096 bytes.
 pub fn prds(frames: &[Frame], bytes: u32) -> ArrayVec<Prd, 32>
     requires room { length frames.now ≤ 32 }
-    requires whole { bytes % 512 ≡ 0 }
+    requires even { bytes % 2 ≡ 0 }
     requires within { bytes ≤ 4096 * length frames.now }
     requires last { 4096 * length frames.now < bytes + 4096 }
     ensures allowed { All IsAllowed result.items }
-    ensures whole { All IsWhole result.items }
-    ensures places { pieces result.items ≡ places_of frames.now (bytes / 512) }
+    ensures whole { bytes % 512 ≡ 0 → All IsWhole result.items }
+    ensures places { bytes % 512 ≡ 0 → pieces result.items ≡ places_of frames.now (bytes / 512) }
     ensures number { length result.items ≡ length frames.now }
     ensures entries { (i : ℕ) (d : Prd) → i < length frames.now → IsPrdOf frames.now bytes i (slice_index_or result.items i d) }
 {

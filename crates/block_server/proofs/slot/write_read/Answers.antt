@@ -44,7 +44,7 @@ returns-clause-holds g c =
     let first : First (length prds) = subst First c.len.ensures.value (stored 4096 _ _ _ c.requires.serves c.store.ensures) in
     let second = stored 0 _ _ _ first.serves c.store-2.ensures in
     let places : pieces prds ≡ places_of r.frames r.count =
-    c.prds-prds.ensures.places ∙ ap (places_of r.frames) (omega arith) in
+    c.prds-prds.ensures.places (omega arith) ∙ ap (places_of r.frames) (omega arith) in
     let F : ℕ → Type 0 = λ count. SpellsCommand (part c.table_bytes-table.result 0 20) (record { code = 0x25; features = 0; count = count; lba = r.first; device = 0x40 }) in
     let fis : SpellsCommand (part c.table_bytes-table.result 0 20) (command_of Read 0 r.first r.count) = subst F (omega arith) c.table_bytes-table.ensures.fis in
     let E : List Prd → Type 0 = λ es. (i : ℕ) (d : Prd) → i < length es → SpellsPrd (part c.table_bytes-table.result (128 + 16 * i) 16) (slice_index_or es i d) in
@@ -52,7 +52,7 @@ returns-clause-holds g c =
     let H : ℕ → Type 0 = λ len. SpellsHeader c.header.result false len 4096 in
     let heads : H (length prds) = subst H c.len-2.ensures.value c.header.ensures.says in
     read_stored r is _ _ _ prds c.table_bytes-table.result c.header.result first second
-    c.table_bytes-table.ensures.size (omega (arith, number, frames, few)) places c.prds-prds.ensures.whole fis each heads
+    c.table_bytes-table.ensures.size (omega (arith, number, frames, few)) places (c.prds-prds.ensures.whole (omega arith)) fis each heads
 
 pub returns-clause-goes_on : goal.returns-clause-goes_on
 returns-clause-goes_on g c =
