@@ -10,7 +10,7 @@ use Rattle.ata_types.specs.declared.grant.GrantRow.{GrantRow}
 use Rattle.ata_types.specs.declared.refusal.Refusal.TheVariants.{Rule, PortNotReady, ClientFull, IdsSpent}
 use Rattle.ata_types.specs.declared.refusal.Rule.TheVariants.{NoGrant}
 use Rattle.ata_types.specs.declared.request.Frame.{Frame}
-use Rattle.ata_types.specs.declared.request.Op.TheVariants.{Read, Flush}
+use Rattle.ata_types.specs.declared.request.Op.TheVariants.{Read}
 use Rattle.ata_types.specs.declared.request.Request.{Request}
 use Rattle.ata_types.specs.declared.request.RequestId.{RequestId}
 use Rattle.adapter.specs.Device.{Device}
@@ -79,9 +79,8 @@ module _ {A : Type 0} (device : A → Device) (s : ServerView A) (places : ℕ) 
   pub frames : length r.frames.items ≡ (r.count + 7) / 8
   frames = ruling.frames_fit s.grants s.table r inv.rows none_broken
 
-  -- it is a read, which has sectors
-  moves : r.op ≢ Flush
-  moves flush = let read = ruling.asks_read s.grants s.table r inv.rows none_broken r.op refl in let e : Flush ≡ Read = sym flush ∙ read in cc
+  reads : r.op ≡ Read
+  reads = ruling.asks_read s.grants s.table r inv.rows none_broken r.op refl
 
   pub book_room : length s.book < 128
   book_room =
@@ -105,7 +104,7 @@ module _ {A : Type 0} (device : A → Device) (s : ServerView A) (places : ℕ) 
       few = few;
       first = first;
       frames = frames;
-      row = covering.covered s.grants s.table r none_broken id moves;
+      row = covering.covered s.grants s.table r none_broken id reads;
       clients = clients;
       own = λ k d small. owner_same s.table table lends.owners (get_or r.frames.items k d) r.client (covering.own s.grants s.table r none_broken k d small);
       apart = covering.apart s.grants s.table r none_broken;

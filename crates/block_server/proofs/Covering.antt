@@ -1,18 +1,21 @@
 -- What an accepted request stands on: its row, and frames that are its client's, each another one.
-use Rattle.std.proofs.Common.{ℕ, zero, suc, ◌≡◌, ◌≢◌, ◌+◌, ◌⊎◌, inl, inr, List, [], ◌∷◌, Option, Some, None, refl, sym, ◌∙◌, ap, subst, arith, get_or}
+use Rattle.std.proofs.Common.{Bool, true, false, ℕ, zero, suc, ◌≡◌, ◌≢◌, ◌+◌, ◌⊎◌, inl, inr, List, [], ◌∷◌, Option, Some, None, refl, sym, ◌∙◌, ap, subst, arith, get_or}
 use Rattle.std.specs.List.{All, AllPairs, Contains}
 use Rattle.std.proofs.lemmas.Bool.{cases_eq, cases_lt}
 use Rattle.std.proofs.lemmas.Option.{slice_get-get_or}
-use Rattle.ata_types.specs.Grant.{Covers}
+use Rattle.std.specs.Prelude.{IsTrue}
+use Rattle.ata_types.specs.Grant.{Allows, Covers}
 use Rattle.ata_types.specs.declared.grant.GrantRow.{GrantRow}
 use Rattle.ata_types.specs.declared.refusal.FrameFault.TheVariants.{FrameForeign, FrameTwice}
-use Rattle.ata_types.specs.declared.refusal.Rule.TheVariants.{NoGrant, OutsideGrant, Frames}
+use Rattle.ata_types.specs.declared.refusal.Rule.TheVariants.{NoGrant, NoRight, OutsideGrant, Frames}
 use Rattle.ata_types.specs.declared.request.ClientId.{ClientId}
 use Rattle.ata_types.specs.declared.request.Frame.{Frame}
-use Rattle.ata_types.specs.declared.request.Op.TheVariants.{Flush}
+use Rattle.ata_types.specs.declared.request.Op.{Op}
+use Rattle.ata_types.specs.declared.request.Op.TheVariants.{Read, Flush}
 use Rattle.ata_types.specs.declared.request.Request.{Request}
 use Rattle.ata_types.specs.declared.request.RequestId.{RequestId}
-use Rattle.block_machine.specs.Rules.{Names, BreaksNone}
+use Rattle.adapter.proofs.Absurd.{true-false}
+use Rattle.block_machine.specs.Rules.{Names, IsNamed, BreaksNone}
 use Rattle.dma_frames.specs.Table.{Table, owner_of, lent_to}
 use Rattle.block_server.specs.Book.{IsCovered}
 use Rattle.block_server.specs.Calls.{accepted_as}
@@ -54,13 +57,22 @@ covers_or_not row first count twice = (
 )
 
 module _ (rows : List GrantRow) (table : Table) (r : Request) (none : BreaksNone rows (owner_of table) (lent_to table) r) where
-  pub covered : (id : RequestId) → r.op ≢ Flush → IsCovered rows (accepted_as r id)
-  covered id moves =
+  pub covered : (id : RequestId) → r.op ≡ Read → IsCovered rows (accepted_as r id)
+  covered id reads =
       elim (find rows r.client r.grant) [
         | inl found ↦
-            (found.0, found.1, found.2.0, covers_or_not found.0 r.first.0 r.count (λ outside. none OutsideGrant (moves, (found.0, (found.1, found.2), outside))))
+            (found.0, found.1, found.2.0, may_read found.0 (found.1, found.2), covers_or_not found.0 r.first.0 r.count (λ outside. none OutsideGrant ((λ flush. let e : Flush ≡ Read = sym flush ∙ reads in cc), (found.0, (found.1, found.2), outside))))
         | inr lacks ↦ absurd (none NoGrant (λ row named. lacks row named.0 named.1))
       ]
+    where
+      by : (b : Bool) → ((IsTrue b → ⊥) → ⊥) → IsTrue b
+      by true twice = refl
+      by false twice = absurd (twice (λ h. true-false h refl))
+
+      may_read : (row : GrantRow) → IsNamed rows r row → Allows row.rights Read
+      may_read row named =
+          let P : Op → Type 0 = λ op. (Allows row.rights op → ⊥) → ⊥ in
+          by row.rights.read (subst P reads (λ other. none NoRight (row, named, other)))
 
   -- each frame is the client's own
   pub own : All (λ frame. owner_of table frame ≡ Some r.client) r.frames.items

@@ -1,11 +1,12 @@
 -- What the server keeps: between any two calls this holds of it.
 use Rattle.std.specs.Prelude.{ℕ, Bool, true, false, ◌≡◌, ◌≢◌, ◌+◌, ◌*◌, ◌/◌, ◌^◌, ◌<◌, ◌≤◌, ◌==◌, List, [], ◌∷◌, length, Option, Some, None, All, AllPairs, Contains, count_by}
-use Rattle.ata_types.specs.Grant.{Covers}
+use Rattle.ata_types.specs.Grant.{Allows, Covers}
 use Rattle.ata_types.specs.declared.PortState.{PortState}
 use Rattle.ata_types.specs.declared.PortState.TheVariants.{Ready}
 use Rattle.ata_types.specs.declared.grant.GrantRow.{GrantRow}
 use Rattle.ata_types.specs.declared.request.ClientId.{ClientId}
 use Rattle.ata_types.specs.declared.request.Frame.{Frame}
+use Rattle.ata_types.specs.declared.request.Op.TheVariants.{Read}
 use Rattle.adapter.specs.Device.{Device}
 use Rattle.dma_frames.specs.Table.{Table, owner_of, lent_to}
 use Rattle.block_server.specs.Port.{Issued, IsLone, IsResting, Serves}
@@ -35,9 +36,9 @@ pub record IsReadGrant (row : GrantRow) : Type 0 where
   pub no_trim : row.rights.trim ≡ false
   pub no_flush : row.rights.flush ≡ false
 
--- The request's sectors are in a row of its client.
+-- The request's sectors are in a row that lets its client read them.
 abbrev pub IsCovered : List GrantRow → Accepted → Type 0
-IsCovered rows e = (row : GrantRow) × Contains rows row × (row.client ≡ e.client) × Covers row e.first.0 e.count
+IsCovered rows e = (row : GrantRow) × Contains rows row × (row.client ≡ e.client) × Allows row.rights Read × Covers row e.first.0 e.count
 
 -- An accepted read: of a client 1 to 8, of 1 to 256 sectors below 2^48 within a row of the client, with as many frames as it
 -- needs, each another one, all of them the client's own and lent to it.
