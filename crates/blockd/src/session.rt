@@ -17,23 +17,39 @@ const SECTORS: u32 = 256;
 /// The frames of the memory.
 const FRAMES: u16 = 256;
 
-/// The client owns frames 40 to 79.
-const OWNERS: [(ClientId, Frame, u16); 1] = [(ClientId(1), Frame(40), 40)];
+/// Client 1 owns frames 40 to 79, and client 2 frames 80 to 119.
+const OWNERS: [(ClientId, Frame, u16); 2] = [
+    (ClientId(1), Frame(40), 40),
+    (ClientId(2), Frame(80), 40),
+];
 
-/// The client may read sectors 100 to 163.
-const GRANTS: [GrantRow; 1] = [GrantRow {
-    client: ClientId(1),
-    number: 0,
-    port: Port(0),
-    first: Sector(100),
-    count: 64,
-    rights: Rights {
-        read: true,
-        write: false,
-        trim: false,
-        flush: false,
+/// No right but to read.
+const READS: Rights = Rights {
+    read: true,
+    write: false,
+    trim: false,
+    flush: false,
+};
+
+/// Client 1 may read sectors 100 to 163, and client 2 sectors 140 to 199.
+const GRANTS: [GrantRow; 2] = [
+    GrantRow {
+        client: ClientId(1),
+        number: 0,
+        port: Port(0),
+        first: Sector(100),
+        count: 64,
+        rights: READS,
     },
-}];
+    GrantRow {
+        client: ClientId(2),
+        number: 0,
+        port: Port(0),
+        first: Sector(140),
+        count: 60,
+        rights: READS,
+    },
+];
 
 /// Why there are no answers.
 #[derive(Clone, Copy, Debug, PartialEq, Eq)]
@@ -193,6 +209,54 @@ mod tests {
             rule(&said, 2),
             Some(Rule::Frames(FrameFault::FrameForeign(0)))
         );
+        Ok(())
+    }
+
+    /// Client 2's write of eight sectors from 140 on, by one of its grants.
+    fn write(grant: u8) -> Event {
+        let mut request = read(grant, 140, 8, 80);
+        request.client = ClientId(2);
+        request.op = Op::Write;
+        Event::Submit(request)
+    }
+
+    #[test]
+    fn a_write_without_a_right_is_refused(rt: HostRuntime) -> Result<(), Fail> {
+        let said = said_of(rt.alloc(), &[write(0), write(1)])?;
+        assert_eq!(rt; rule(&said, 0), Some(Rule::NoRight));
+        assert_eq!(rt; rule(&said, 1), Some(Rule::NoGrant));
+        Ok(())
+    }
+
+    #[test]
+    fn a_frame_serves_one_read_at_a_time(rt: HostRuntime) -> Result<(), Fail> {
+        let mut twice = read(0, 100, 16, 41);
+        assert!(rt; twice.frames.try_push(Frame(41)).is_ok());
+        let other = Event::ClientLoad {
+            client: ClientId(2),
+            frame: Frame(41),
+            offset: 0,
+            length: 1,
+        };
+        let events = [
+            Event::Submit(twice),
+            Event::Submit(read(0, 100, 8, 41)),
+            Event::Submit(read(0, 110, 8, 41)),
+            load(41, 0),
+            other,
+        ];
+        let said = said_of(rt.alloc(), &events)?;
+        assert_eq!(rt;
+            rule(&said, 0),
+            Some(Rule::Frames(FrameFault::FrameTwice(1)))
+        );
+        assert!(rt; matches!(said.get(1), Some(Said::Submitted(Ok(RequestId(1))))));
+        assert_eq!(rt;
+            rule(&said, 2),
+            Some(Rule::Frames(FrameFault::FrameLent(0)))
+        );
+        assert!(rt; matches!(said.get(3), Some(Said::Loaded(Err(MemFault::FrameLent)))));
+        assert!(rt; matches!(said.get(4), Some(Said::Loaded(Err(MemFault::FrameForeign)))));
         Ok(())
     }
 
