@@ -45,7 +45,7 @@ run_legal first (event ∷ past) r = legal_more first.machine event.steps (steps
 
 -- Each Ok is told of a whole request.
 
-answer_whole : (old : Machine) (evidence : Evidence) (ports : Ports) (step : Step) (before : List Step) → AllLawful old evidence ports (step ∷ before) → AllLawful old evidence ports before × IsWhole step
+answer_whole : (old : Moment) (evidence : Evidence) (ports : Ports) (step : Step) (before : List Step) → AllLawful old evidence ports (step ∷ before) → AllLawful old evidence ports before × IsWhole step
 answer_whole old evidence ports (Answer e Ok) before l = (l.0, (l.1.2, l.1.3))
 answer_whole old evidence ports (Answer e (DeviceError status error)) before l = (l.0, tt)
 answer_whole old evidence ports (Answer e Aborted) before l = (l.0, tt)
@@ -53,14 +53,14 @@ answer_whole old evidence ports (Answer e Unplugged) before l = (l.0, tt)
 answer_whole old evidence ports (Answer e PortDead) before l = (l.0, tt)
 answer_whole old evidence ports _ before l = (l, tt)
 
-call_whole : (old : Machine) (evidence : Evidence) (ports : Ports) (steps past : List Step) → AllLawful old evidence ports steps → AllWhole past → AllWhole (steps ++ past)
+call_whole : (old : Moment) (evidence : Evidence) (ports : Ports) (steps past : List Step) → AllLawful old evidence ports steps → AllWhole past → AllWhole (steps ++ past)
 call_whole old evidence ports [] past l w = w
 call_whole old evidence ports (step ∷ before) past l w =
     let q = answer_whole old evidence ports step before l in (call_whole old evidence ports before past q.0 w, q.1)
 
 pub run_whole : {D : Type 0} (first : Moment) (run : List (Event D)) → IsRun first run → AllWhole (steps_of run)
 run_whole first [] r = tt
-run_whole first (event ∷ past) r = call_whole (moment_of first past).machine event.evidence event.ports event.steps (steps_of past) r.1.lawful (run_whole first past r.0)
+run_whole first (event ∷ past) r = call_whole (moment_of first past) event.evidence event.ports event.steps (steps_of past) r.1.lawful (run_whole first past r.0)
 
 -- a disk that comes back in a run has the writes that were flushed
 pub run_finds : {D : Type 0} (first : Moment) (run : List (Event D)) → IsRun first run → IsVolatile first.machine (steps_of run) → EveryPlugFinds first.machine (steps_of run)

@@ -58,7 +58,7 @@ abbrev run5 : List (Event (Unit {0}))
 run5 = stuck ∷ run4
 
 abbrev service : Event (Unit {0})
-service = record { ask = Service; said = Served (reply_of (again, outcome.PortDead) ∷ []); evidence = seen; steps = Answer again outcome.PortDead ∷ []; ports = ports_in Dead }
+service = record { ask = Service; said = Served (reply_of (again, outcome.PortDead) ∷ []); evidence = none; steps = Answer again outcome.PortDead ∷ []; ports = ports_in Dead }
 
 abbrev run6 : List (Event (Unit {0}))
 run6 = service ∷ run5
@@ -237,14 +237,14 @@ happens6 = record {
   may = (tt, contains_here again [] again refl);
   belong = (tt, inr tt);
   last = (tt, λ id h i. false≢true i);
-  lawful = (tt, (contains_here port [] port refl, refl));
+  lawful = (tt, (refl, inl refl));
   fit = ports_fit Dead;
   disks = λ e o h i same. (refl, refl);
   answered = (
     one_told again outcome.PortDead service.steps refl (reply_of (again, outcome.PortDead)) refl,
     record { dead = told_dead; lost = λ p ready. dead_not_ready p ready; grounded = tt; booted = λ p ready. dead_not_ready p ready },
     λ p ready. dead_not_ready p ready,
-    λ p. (λ ne e h. absurd (contains_none e h), (record { served = refl; stuck = dead_here p; disk = λ ready. dead_not_ready p ready }, λ _. (refl, refl, refl, refl, refl, refl))),
+    λ p. (λ ne e h. absurd (contains_none e h), (λ _. (refl, refl, refl, refl, refl, refl), λ alive. record { served = refl; stuck = λ dead. absurd (alive dead); disk = λ ready. dead_not_ready p ready })),
   );
 }
 

@@ -282,7 +282,7 @@ moved_kept ports m step before e x same quiet (inl o) =
     inl (o.0, o.1, o.2 ∙ sym same, omega (arith, none, zero, count_cons is_release step before))
 moved_kept ports m step before e x same quiet (inr dead) = inr (ap (λ (r : Accepted). ports.state r.port) same ∙ dead)
 
-kept_from : (old : Machine) (evidence : Evidence) (ports : Ports) (m : Machine) (steps : List Step) → AllLawful old evidence ports steps → (e : Pending) → Contains (after m steps).kept e
+kept_from : (old : Moment) (evidence : Evidence) (ports : Ports) (m : Machine) (steps : List Step) → AllLawful old evidence ports steps → (e : Pending) → Contains (after m steps).kept e
     → ((o : Pending) × Contains m.kept o × (o.request ≡ e.request) × (count_by is_release steps ≡ 0)) ⊎ (ports.state e.request.port ≡ Dead)
 kept_from old evidence ports m [] l e h = inl (e, h, refl, refl)
 kept_from old evidence ports m (Touch p i block ∷ before) l e h =
@@ -303,7 +303,7 @@ kept_from old evidence ports m (Answer p outcome.PortDead ∷ before) l e h = go
         → (Contains (after m before).kept e → ((o : Pending) × Contains m.kept o × (o.request ≡ e.request) × (count_by is_release before ≡ 0)) ⊎ (ports.state e.request.port ≡ Dead))
         → ((o : Pending) × Contains m.kept o × (o.request ≡ e.request) × (count_by is_release (Answer p outcome.PortDead ∷ before) ≡ 0)) ⊎ (ports.state e.request.port ≡ Dead)
     go true h rest = ⊎_elim
-        (λ same. inr (subst (λ (x : Pending). ports.state x.request.port ≡ Dead) (sym same) l.1.1))
+        (λ same. inr (subst (λ (x : Pending). ports.state x.request.port ≡ Dead) (sym same) l.1.0))
         (λ i. moved_kept ports m (Answer p outcome.PortDead) before e e refl refl (rest i))
         (contains_cases p (after m before).kept e h)
     go false h rest = moved_kept ports m (Answer p outcome.PortDead) before e e refl refl (rest h)
@@ -312,7 +312,7 @@ kept_from old evidence ports m (step ∷ before) l e h = moved_kept ports m step
 kept_event : {D : Type 0} (ask : Ask D) (said : Said) (old : Moment) (evidence : Evidence) (steps : List Step) (new : Moment) (port : Port) → AreFit old.ports
     → count_by is_release steps ≡ 0 → old.ports.state port ≡ Dead → Kind ask said old evidence steps new (Unit {0}) → new.ports.state port ≡ Dead
 kept_event ask said old evidence steps new port fit none dead (Leaves t r same keep) = (same port).1 ∙ dead
-kept_event ask said old evidence steps new port fit none dead (Serves t r ports) = ((ports port).1.1 dead).1 ∙ dead
+kept_event ask said old evidence steps new port fit none dead (Serves t r ports) = ((ports port).1.0 dead).1 ∙ dead
 kept_event ask said old evidence steps new port fit none dead (Ticks r ages hung empty keep) = ⊎_elim
     (λ same. same.1 ∙ dead)
     (λ h. absurd (false≢true (ap is_ready (sym dead) ∙ ap is_ready h.0.ready)))
@@ -332,4 +332,4 @@ kept_where_dead first (event ∷ past) e r h = ⊎_elim
     (subst (λ (x : Accepted). (moment_of first past).ports.state x.port ≡ Dead) o.2 (kept_where_dead first past o.0 r.0 o.1))
     (kind event.ask event.said (moment_of first past) event.evidence event.steps (moment_of first (event ∷ past)) (Unit {0}) r.1.answered))
     (λ dead. dead)
-    (kept_from (moment_of first past).machine event.evidence event.ports (moment_of first past).machine event.steps r.1.lawful e h)
+    (kept_from (moment_of first past) event.evidence event.ports (moment_of first past).machine event.steps r.1.lawful e h)

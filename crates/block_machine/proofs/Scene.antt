@@ -214,8 +214,8 @@ none_dead {A} p e = go (p.0 == 0) e
 -- and in them no port changes
 pub serviced : (p : Port) → IsServiced ports none ports p
 serviced p = (
-  record { served = refl; stuck = λ e. none_dead p e; disk = λ ready. inr (inr (ready, (refl, refl))) },
-  λ _. (refl, refl, refl, refl, refl, refl),
+  λ dead. none_dead p dead,
+  λ _. record { served = refl; stuck = λ e. none_dead p e; disk = λ ready. inr (inr (ready, (refl, refl))) },
 )
 
 -- where port 0 is ready, one request of it is no other port's

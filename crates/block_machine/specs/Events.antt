@@ -171,17 +171,19 @@ pub record WasIssued (m : Machine) (id : RequestId) : Type 0 where
 -- What stands behind each outcome. An Ok, a fault and an abort are of a request that was issued when the call began. Of an Ok
 -- each sector was touched since the last issue, and it was ended. A fault is told of a request that is issued. An abort comes
 -- after four issues, and leaves the port ready. An issued request is given up only where its port stopped: else its frames may
--- still be written. And PortDead leaves the port dead.
-abbrev pub IsLawful : Machine → Evidence → Ports → Pending → Outcome → Type 0
-IsLawful old evidence ports e outcome.Ok = WasIssued old e.request.id × (e.issued ≡ true) × AllTouched e × (e.ended ≡ true)
-IsLawful old evidence ports e (outcome.DeviceError status error) = WasIssued old e.request.id × (e.issued ≡ true)
+-- still be written. And PortDead leaves the port dead: it was so when the call began, or its engine or adapter is stuck.
+abbrev pub IsLawful : Moment → Evidence → Ports → Pending → Outcome → Type 0
+IsLawful old evidence ports e outcome.Ok = WasIssued old.machine e.request.id × (e.issued ≡ true) × AllTouched e × (e.ended ≡ true)
+IsLawful old evidence ports e (outcome.DeviceError status error) = WasIssued old.machine e.request.id × (e.issued ≡ true)
     × Contains evidence.faults (record { id = e.request.id; status = status; error = error }) × Contains evidence.stopped e.request.port
-IsLawful old evidence ports e outcome.Aborted = WasIssued old e.request.id × (e.issues ≡ 4) × (ports.state e.request.port ≡ Ready)
+IsLawful old evidence ports e outcome.Aborted = WasIssued old.machine e.request.id × (e.issues ≡ 4) × (ports.state e.request.port ≡ Ready)
+    × Contains evidence.stopped e.request.port
 IsLawful old evidence ports e outcome.Unplugged = Contains evidence.lost e.request.port × (e.issued ≡ true → Contains evidence.stopped e.request.port)
-IsLawful old evidence ports e outcome.PortDead = Contains evidence.stuck e.request.port × (ports.state e.request.port ≡ Dead)
+IsLawful old evidence ports e outcome.PortDead = (ports.state e.request.port ≡ Dead)
+    × ((old.ports.state e.request.port ≡ Dead) ⊎ Contains evidence.stuck e.request.port)
 
 -- each answer of the call is lawful, with these ports at its end
-abbrev pub AllLawful : Machine → Evidence → Ports → List Step → Type 0
+abbrev pub AllLawful : Moment → Evidence → Ports → List Step → Type 0
 AllLawful old evidence ports [] = Unit {0}
 AllLawful old evidence ports (Answer e o ∷ before) = AllLawful old evidence ports before × IsLawful old evidence ports e o
 AllLawful old evidence ports (step ∷ before) = AllLawful old evidence ports before
@@ -323,7 +325,7 @@ pub record Happens {D : Type 0} (old : Moment) (event : Event D) : Type 0 where
   pub may : AllMay old.machine event.steps
   pub belong : Belong event.ask event.ports event.steps
   pub last : IssuesLast event.steps
-  pub lawful : AllLawful old.machine event.evidence event.ports event.steps
+  pub lawful : AllLawful old event.evidence event.ports event.steps
   pub fit : AreFit event.ports
   pub disks : KeepsDisks old (moment_after old event)
   pub answered : IsAnswered event.ask event.said old event.evidence event.steps (moment_after old event)

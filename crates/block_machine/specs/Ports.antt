@@ -1,5 +1,5 @@
 -- What the ports are to clients and to the book, and what a call may make of them (this project's own).
-use Rattle.std.specs.Prelude.{◌≡◌, ◌⊎◌, ℕ, ◌<◌, ◌≤◌, Bool, true, false, List, Contains}
+use Rattle.std.specs.Prelude.{◌≡◌, ◌≢◌, ◌⊎◌, ℕ, ◌<◌, ◌≤◌, Bool, true, false, List, Contains}
 use Rattle.ata_types.specs.declared.Port.{Port}
 use Rattle.ata_types.specs.declared.PortState.{PortState}
 use Rattle.ata_types.specs.declared.PortState.TheVariants.{Absent, Ready, Dead}
@@ -52,9 +52,8 @@ pub record Fault : Type 0 where
 -- call began, in it, or at its end, or that end it neither dead nor ready with serial and size as before; of these, those
 -- that had told so when it began, and had no other disk put in since; the ports that
 -- failed in it (an error of theirs was read in PxIS); those that stopped in it (their engine was seen to stop, or the adapter
--- ended its reset); and the ports whose engine didn't stop or
--- whose adapter didn't end its reset, in this call or, of a port that is dead already, in the one that left it dead. The
--- layer that knows the device backs each item.
+-- ended its reset); and the ports whose engine didn't stop in it, or whose adapter didn't end its reset. The layer that knows
+-- the device backs each item.
 pub record Evidence : Type 0 where
   pub faults : List Fault
   pub lost : List Port
@@ -71,9 +70,10 @@ pub record MayBecome (old : Ports) (evidence : Evidence) (new : Ports) (port : P
   pub disk : old.state port ≡ Ready
       → Contains evidence.lost port ⊎ ((new.state port ≡ Dead) ⊎ ((new.state port ≡ Ready) × SameDisk old new port))
 
--- What a service may make of it: a dead port stays what it is, since a reset alone ends that.
+-- What a service may make of it: a dead port stays what it is, since a reset alone ends that, and nothing new stands behind it;
+-- another becomes what a call that looks at it may make of it.
 abbrev pub IsServiced : Ports → Evidence → Ports → Port → Type 0
-IsServiced old evidence new port = MayBecome old evidence new port × (old.state port ≡ Dead → SamePort old new port)
+IsServiced old evidence new port = (old.state port ≡ Dead → SamePort old new port) × (old.state port ≢ Dead → MayBecome old evidence new port)
 
 -- What a reset that was stuck makes of it: a served port is dead, for which there is evidence, and remembers its disk.
 abbrev pub IsStuck : Ports → Evidence → Ports → Port → Type 0
