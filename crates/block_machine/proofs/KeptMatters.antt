@@ -21,7 +21,7 @@ use Rattle.block_machine.specs.Steps.{Step, Accept, Issue, Touch, End, Answer, n
 use Rattle.block_machine.specs.Left.{after, HoldsLeft, IsLeft, HasTouched, Wrote}
 use Rattle.block_machine.specs.Worked.{IsLoose, GoesWrong}
 use Rattle.block_machine.proofs.Members.{contains_here}
-use Rattle.block_machine.proofs.Setting.{client, port, frame, row, request, empty, only_row, is_trim, filled_starts, IsFit, acceptable}
+use Rattle.block_machine.proofs.Setting.{client, port, frame, row, two_rows, request, empty, its_row, is_trim, filled_starts, IsFit, acceptable}
 
 -- each frame is filled with its number
 abbrev start : Machine
@@ -32,7 +32,7 @@ mode = record { queued = true; usable = 32 }
 
 -- request number n, of one sector, has frame 40 + n
 abbrev one_sector : ℕ → Op → Accepted
-one_sector n op = record { id = record { 0 = n }; port = port; asked = request op 100 1 (frame (40 + n) ∷ []); held = block_of start.memory (frame (40 + n) ∷ []) }
+one_sector n op = record { id = record { 0 = n }; port = port; asked = request 0 op 100 1 (frame (40 + n) ∷ []); held = block_of start.memory (frame (40 + n) ∷ []) }
 
 abbrev one : Pending
 one = issue (newly_accepted (one_sector 1 Write))
@@ -61,10 +61,11 @@ history = Touch read 0 (λ b. 41) ∷ Issue mode (newly_accepted (one_sector 3 R
 abbrev meets : Machine → Situation
 meets m = record { rows = m.rows; owner = m.owner; lent = m.lent; state = λ p. Ready; sectors = λ p. 200; trims = λ p. true; unanswered = unanswered_of m.book; next = m.next }
 
-fit : (m : Machine) (n : ℕ) (op : Op) → m.rows ≡ row ∷ [] → m.owner (frame (40 + n)) ≡ Some client → m.lent (frame (40 + n)) ≡ None → unanswered_of m.book client ≡ 0 → m.next < 2 ^ 64
-    → op ≢ Trim → op ≢ Flush → frames_for op 1 ≡ 1 → IsCount op 1 → Allows row.rights op → IsFit (meets m) (one_sector n op).asked
-fit m n op rows own free none ids no_trim no_flush frames count allowed = record {
-  rows = rows;
+fit : (m : Machine) (n : ℕ) (op : Op) → m.rows ≡ two_rows → m.owner (frame (40 + n)) ≡ Some client → m.lent (frame (40 + n)) ≡ None → unanswered_of m.book client ≡ 0 → m.next < 2 ^ 64
+    → op ≢ Trim → op ≢ Flush → frames_for op 1 ≡ 1 → IsCount op 1 → Allows (row 0).rights op → IsFit 0 (meets m) (one_sector n op).asked
+fit m n op same_rows own free none ids no_trim no_flush frames count allowed = record {
+  rows = same_rows;
+  mine = contains_here (row 0) (row 1 ∷ []) (row 0) refl;
   client_is = refl;
   grant = refl;
   allowed = allowed;
@@ -85,23 +86,23 @@ fit m n op rows own free none ids no_trim no_flush frames count allowed = record
     same f e = sym (get_or_from_slice_get (frame (40 + n) ∷ []) 0 f f e)
 
 -- such a request is new to a machine whose frames hold what they held
-new : (m : Machine) (n : ℕ) (op : Op) → IsFit (meets m) (one_sector n op).asked → m.rows ≡ row ∷ [] → n ≡ m.next → m.memory ≡ start.memory → IsNew m (one_sector n op)
-new m n op fits rows next memory = record {
+new : (m : Machine) (n : ℕ) (op : Op) → IsFit 0 (meets m) (one_sector n op).asked → m.rows ≡ two_rows → n ≡ m.next → m.memory ≡ start.memory → IsNew m (one_sector n op)
+new m n op fits same_rows next memory = record {
   id = next;
   id_left = fits.ids;
-  unbroken = λ rule h. acceptable (meets m) (one_sector n op).asked fits (refused.Rule rule) h;
-  port = λ r h. ap (λ (x : GrantRow). x.port) (sym (only_row r (subst (λ (xs : List GrantRow). Contains xs r) rows h.0)));
+  unbroken = λ rule h. acceptable 0 (meets m) (one_sector n op).asked fits (refused.Rule rule) h;
+  port = λ r h. ap (λ (x : GrantRow). x.port) (sym (its_row r (subst (λ (xs : List GrantRow). Contains xs r) same_rows h.0) ∙ ap row h.1.1));
   few = fits.few;
   held = ap (λ (x : Memory). block_of x (frame (40 + n) ∷ [])) (sym memory);
 }
 
-write_fits : (m : Machine) (n : ℕ) → m.rows ≡ row ∷ [] → m.owner (frame (40 + n)) ≡ Some client → m.lent (frame (40 + n)) ≡ None → unanswered_of m.book client ≡ 0 → m.next < 2 ^ 64
-    → IsFit (meets m) (one_sector n Write).asked
-write_fits m n rows own free none ids = fit m n Write rows own free none ids (λ e. false≢true (ap is_trim e)) (λ e. false≢true (ap is_flush e)) refl (omega arith, omega arith) refl
+write_fits : (m : Machine) (n : ℕ) → m.rows ≡ two_rows → m.owner (frame (40 + n)) ≡ Some client → m.lent (frame (40 + n)) ≡ None → unanswered_of m.book client ≡ 0 → m.next < 2 ^ 64
+    → IsFit 0 (meets m) (one_sector n Write).asked
+write_fits m n same own free none ids = fit m n Write same own free none ids (λ e. false≢true (ap is_trim e)) (λ e. false≢true (ap is_flush e)) refl (omega arith, omega arith) refl
 
-read_fits : (m : Machine) (n : ℕ) → m.rows ≡ row ∷ [] → m.owner (frame (40 + n)) ≡ Some client → m.lent (frame (40 + n)) ≡ None → unanswered_of m.book client ≡ 0 → m.next < 2 ^ 64
-    → IsFit (meets m) (one_sector n Read).asked
-read_fits m n rows own free none ids = fit m n Read rows own free none ids (λ e. false≢true (ap is_trim e)) (λ e. false≢true (ap is_flush e)) refl (omega arith, omega arith) refl
+read_fits : (m : Machine) (n : ℕ) → m.rows ≡ two_rows → m.owner (frame (40 + n)) ≡ Some client → m.lent (frame (40 + n)) ≡ None → unanswered_of m.book client ≡ 0 → m.next < 2 ^ 64
+    → IsFit 0 (meets m) (one_sector n Read).asked
+read_fits m n same own free none ids = fit m n Read same own free none ids (λ e. false≢true (ap is_trim e)) (λ e. false≢true (ap is_flush e)) refl (omega arith, omega arith) refl
 
 touched_only : (w : Accepted) → is_writer w.asked.op ≡ true → HasTouched w 100 0 history → (w ≡ one_sector 2 Write) ⊎ (w ≡ one_sector 1 Write)
 touched_only w op (inl t) = absurd (false≢true (subst (λ (j : Accepted). is_writer j.asked.op ≡ true) (sym t.0.0) op))

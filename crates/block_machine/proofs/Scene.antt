@@ -28,9 +28,9 @@ use Rattle.block_machine.specs.State.{Accepted, Pending, Machine, block_of, is_r
 use Rattle.block_machine.specs.Steps.{Step, Touch, End, Answer, newly_accepted, issue, touch, mark_ended, IsNew}
 use Rattle.block_machine.specs.Ports.{Ports, Evidence, AreFit, IsServiced}
 use Rattle.block_machine.specs.Events.{Moment, Ask, Said, Event, Tells, situation_of, answers_of, reply_of}
-use Rattle.block_machine.proofs.Members.{contains_none, contains_cases}
+use Rattle.block_machine.proofs.Members.{contains_none, contains_here, contains_cases}
 use Rattle.block_machine.proofs.Dues.{issued_not_due}
-use Rattle.block_machine.proofs.Setting.{client, port, frame, row, request, empty, only_row, is_trim, IsFit, acceptable}
+use Rattle.block_machine.proofs.Setting.{client, on, port, frame, row, two_rows, request, empty, its_row, is_trim, IsFit, acceptable}
 
 abbrev pub mode : Mode
 mode = record { queued = true; usable = 32 }
@@ -60,9 +60,13 @@ call ask said steps = record { ask = ask; said = said; evidence = none; steps = 
 abbrev pub reply : ℕ → Reply
 reply n = record { id = id n; client = client; outcome = outcome.Ok }
 
--- a request of one sector, with its frame's bytes at a moment
+-- a request of one sector of a port, with its frame's bytes at a moment
+abbrev pub one_sector : ℕ → Machine → ℕ → Op → ℕ → ℕ → Accepted
+one_sector p m n op sector f = record { id = id n; port = on p; asked = request p op sector 1 (frame f ∷ []); held = block_of m.memory (frame f ∷ []) }
+
+-- the same of sector 100 of port 0
 abbrev pub sector_request : Machine → ℕ → Op → ℕ → Accepted
-sector_request m n op f = record { id = id n; port = port; asked = request op 100 1 (frame f ∷ []); held = block_of m.memory (frame f ∷ []) }
+sector_request m n op f = one_sector 0 m n op 100 f
 
 -- a request of one sector that is touched, ended and answered
 abbrev pub done : Accepted → Pending
@@ -85,30 +89,35 @@ is_open m n offset count own free fits fault.FrameForeign h = h own
 is_open m n offset count own free fits fault.FrameLent h = false≢true (sym (ap is_some free) ∙ h)
 is_open m n offset count own free fits fault.OutsideFrame h = omega (arith, fits, h)
 
--- a moment of a run at which the client may ask for more
-pub record IsQuiet (m : Moment) : Type 0 where
-  pub rows : m.machine.rows ≡ row ∷ []
-  pub ready : m.ports.state port ≡ Ready
-  pub size : m.ports.sectors port ≡ 200
+-- a moment of a run at which the client may ask for more of the port of this number
+pub record IsQuiet (p : ℕ) (m : Moment) : Type 0 where
+  pub rows : m.machine.rows ≡ two_rows
+  pub mine : Contains two_rows (row p)
+  pub ready : m.ports.state (on p) ≡ Ready
+  pub size : m.ports.sectors (on p) ≡ 200
   pub room : (situation_of m).unanswered client < 16
   pub few : m.machine.next ≤ 5
 
+pub row_zero : Contains two_rows (row 0)
+row_zero = contains_here (row 0) (row 1 ∷ []) (row 0) refl
+
 -- a request of one sector is fit there
-pub fit_sector : (m : Moment) (op : Op) (n : ℕ) → IsQuiet m → op ≢ Trim → op ≢ Flush → frames_for op 1 ≡ 1 → IsCount op 1 → Allows row.rights op
-    → m.machine.owner (frame n) ≡ Some client → m.machine.lent (frame n) ≡ None → IsFit (situation_of m) (request op 100 1 (frame n ∷ []))
-fit_sector m op n q no_trim no_flush frames count allowed own free = record {
+pub fit_sector : (p : ℕ) (m : Moment) (op : Op) (k n : ℕ) → IsQuiet p m → op ≢ Trim → op ≢ Flush → frames_for op 1 ≡ 1 → IsCount op 1 → Allows (row p).rights op → 100 ≤ k → k < 164
+    → m.machine.owner (frame n) ≡ Some client → m.machine.lent (frame n) ≡ None → IsFit p (situation_of m) (request p op k 1 (frame n ∷ []))
+fit_sector p m op k n q no_trim no_flush frames count allowed from to own free = record {
   rows = q.rows;
+  mine = q.mine;
   client_is = refl;
   grant = refl;
   allowed = allowed;
   count = count;
-  covered = λ _. (omega arith, omega arith);
+  covered = λ _. (from, omega (arith, to));
   frames = sym frames;
   single = omega arith;
   owned = λ f e. ap m.machine.owner (same f e) ∙ own;
   free = λ f e. ap m.machine.lent (same f e) ∙ free;
   ready = q.ready;
-  on_disk = λ _. let size = q.size in omega (arith, size);
+  on_disk = λ _. let size = q.size in omega (arith, size, to);
   no_trim = no_trim;
   few = q.room;
   ids = let few = q.few in omega (arith, few);
@@ -117,15 +126,19 @@ fit_sector m op n q no_trim no_flush frames count allowed own free = record {
     same : (f : Frame) → slice_get (frame n ∷ []) 0 ≡ Some f → f ≡ frame n
     same f e = sym (get_or_from_slice_get (frame n ∷ []) 0 f f e)
 
-pub fit_write : (m : Moment) (n : ℕ) → IsQuiet m → m.machine.owner (frame n) ≡ Some client → m.machine.lent (frame n) ≡ None → IsFit (situation_of m) (request Write 100 1 (frame n ∷ []))
-fit_write m n q own free = fit_sector m Write n q (λ e. false≢true (ap is_trim e)) (λ e. false≢true (ap is_flush e)) refl (omega arith, omega arith) refl own free
+pub write_at : (p : ℕ) (m : Moment) (k n : ℕ) → IsQuiet p m → 100 ≤ k → k < 164 → m.machine.owner (frame n) ≡ Some client → m.machine.lent (frame n) ≡ None → IsFit p (situation_of m) (request p Write k 1 (frame n ∷ []))
+write_at p m k n q from to own free = fit_sector p m Write k n q (λ e. false≢true (ap is_trim e)) (λ e. false≢true (ap is_flush e)) refl (omega arith, omega arith) refl from to own free
 
-pub fit_read : (m : Moment) (n : ℕ) → IsQuiet m → m.machine.owner (frame n) ≡ Some client → m.machine.lent (frame n) ≡ None → IsFit (situation_of m) (request Read 100 1 (frame n ∷ []))
-fit_read m n q own free = fit_sector m Read n q (λ e. false≢true (ap is_trim e)) (λ e. false≢true (ap is_flush e)) refl (omega arith, omega arith) refl own free
+pub fit_write : (m : Moment) (n : ℕ) → IsQuiet 0 m → m.machine.owner (frame n) ≡ Some client → m.machine.lent (frame n) ≡ None → IsFit 0 (situation_of m) (request 0 Write 100 1 (frame n ∷ []))
+fit_write m n q own free = write_at 0 m 100 n q (omega arith) (omega arith) own free
 
-pub fit_flush : (m : Moment) → IsQuiet m → IsFit (situation_of m) (request Flush 0 0 [])
+pub fit_read : (p : ℕ) (m : Moment) (n : ℕ) → IsQuiet p m → m.machine.owner (frame n) ≡ Some client → m.machine.lent (frame n) ≡ None → IsFit p (situation_of m) (request p Read 100 1 (frame n ∷ []))
+fit_read p m n q own free = fit_sector p m Read 100 n q (λ e. false≢true (ap is_trim e)) (λ e. false≢true (ap is_flush e)) refl (omega arith, omega arith) refl (omega arith) (omega arith) own free
+
+pub fit_flush : (m : Moment) → IsQuiet 0 m → IsFit 0 (situation_of m) (request 0 Flush 0 0 [])
 fit_flush m q = record {
   rows = q.rows;
+  mine = q.mine;
   client_is = refl;
   grant = refl;
   allowed = refl;
@@ -146,12 +159,12 @@ fit_flush m q = record {
     nothing f e = let lt = slice_get_within [] 0 f e in omega (arith, lt)
 
 -- a fit request is new to the machine
-pub new : (m : Moment) (a : Accepted) → IsQuiet m → IsFit (situation_of m) a.asked → a.id.0 ≡ m.machine.next → a.port ≡ port → a.held ≡ block_of m.machine.memory a.asked.frames.items → IsNew m.machine a
-new m a q fit next here held = record {
+pub new : (p : ℕ) (m : Moment) (a : Accepted) → IsQuiet p m → IsFit p (situation_of m) a.asked → a.id.0 ≡ m.machine.next → a.port ≡ on p → a.held ≡ block_of m.machine.memory a.asked.frames.items → IsNew m.machine a
+new p m a q fit next here held = record {
   id = next;
   id_left = let few = q.few in omega (arith, few);
-  unbroken = λ rule h. acceptable (situation_of m) a.asked fit (refused.Rule rule) h;
-  port = λ r h. here ∙ ap (λ (x : GrantRow). x.port) (sym (only_row r (subst (λ (rows : List GrantRow). Contains rows r) q.rows h.0)));
+  unbroken = λ rule h. acceptable p (situation_of m) a.asked fit (refused.Rule rule) h;
+  port = λ r h. here ∙ ap (λ (x : GrantRow). x.port) (sym (its_row r (subst (λ (xs : List GrantRow). Contains xs r) q.rows h.0) ∙ ap row (h.1.1 ∙ fit.grant)));
   few = let none = fit.few in subst (λ c. (situation_of m).unanswered c < 16) (sym fit.client_is) none;
   held = held;
 }

@@ -1,9 +1,10 @@
--- A machine with one client, one row and small requests, and what holds of requests there.
-use Rattle.std.proofs.Common.{◌≡◌, ◌≢◌, ℕ, ◌+◌, ◌^◌, ◌<◌, ◌≤◌, Bool, true, false, cond, ◌&&◌, List, [], ◌∷◌, length, slice_get, Option, Some, None, IsSome, is_some, ⊎_elim, refl, sym, ap, ◌∙◌, subst, arith, leb-true, ltb-true}
+-- A machine with one client, a row on each of two ports, and small requests, and what holds of requests there.
+use Rattle.std.proofs.Common.{◌≡◌, ◌≢◌, ℕ, ◌+◌, ◌^◌, ◌<◌, ◌≤◌, Bool, true, false, cond, ◌&&◌, List, [], ◌∷◌, length, slice_get, Option, Some, None, IsSome, is_some, ◌⊎◌, inl, inr, ⊎_elim, refl, sym, ap, ◌∙◌, subst, arith, leb-true, ltb-true}
 use Rattle.std.proofs.lemmas.Bool.{false≢true}
 use Rattle.std.proofs.lemmas.Option.{slice_get_within}
-use Rattle.std.specs.List.{Contains}
-use Rattle.std.specs.Prelude.{nat_le, nat_lt}
+use Rattle.std.proofs.lemmas.List.Kept.{AllPairs-cons}
+use Rattle.std.specs.List.{Contains, AllPairs}
+use Rattle.std.specs.Prelude.{nat_le, nat_lt, slice_index_or}
 use Rattle.ata_types.specs.declared.Port.{Port}
 use Rattle.ata_types.specs.declared.PortState.TheVariants.{Ready}
 use Rattle.ata_types.specs.declared.request.ClientId.{ClientId}
@@ -17,7 +18,7 @@ use Rattle.ata_types.specs.declared.refusal.FrameFault.TheVariants.{FrameForeign
 use Rattle.ata_types.specs.declared.refusal.Rule.TheVariants.{NoGrant, NoRight, BadCount, OutsideGrant, FrameCount, Frames}
 use Rattle.ata_types.specs.declared.refusal.Refusal.TheVariants as refused
 use Rattle.ata_types.specs.Grant.{Allows, Covers}
-use Rattle.block_machine.specs.Rules.{IsNamed, IsCount, frames_for}
+use Rattle.block_machine.specs.Rules.{IsNamed, DifferInName, IsCount, frames_for}
 use Rattle.block_machine.specs.Refusals.{Situation, IsAcceptable}
 use Rattle.block_machine.specs.State.{Memory, Machine}
 use Rattle.block_machine.specs.Left.{IsRow, IsStart}
@@ -26,22 +27,29 @@ use Rattle.block_machine.proofs.Members.{contains_none, contains_here, contains_
 abbrev pub client : ClientId
 client = record { 0 = 1 }
 
+abbrev pub on : ℕ → Port
+on n = record { 0 = n }
+
 abbrev pub port : Port
-port = record { 0 = 0 }
+port = on 0
 
 abbrev pub frame : ℕ → Frame
 frame n = record { 0 = n }
 
-abbrev pub row : GrantRow
-row = record { client = client; number = 0; port = port; first = record { 0 = 100 }; count = 64; rights = record { read = true; write = true; trim = true; flush = true } }
+-- the row of this number is on the port of this number
+abbrev pub row : ℕ → GrantRow
+row n = record { client = client; number = n; port = on n; first = record { 0 = 100 }; count = 64; rights = record { read = true; write = true; trim = true; flush = true } }
 
-abbrev pub request : Op → ℕ → ℕ → List Frame → Request
-request op first count frames = record { client = client; grant = 0; op = op; first = record { 0 = first }; count = count; frames = record { items = frames } }
+abbrev pub two_rows : List GrantRow
+two_rows = row 0 ∷ row 1 ∷ []
+
+abbrev pub request : ℕ → Op → ℕ → ℕ → List Frame → Request
+request n op first count frames = record { client = client; grant = n; op = op; first = record { 0 = first }; count = count; frames = record { items = frames } }
 
 abbrev pub owner : Frame → Option ClientId
 owner f = cond (nat_le 40 f.0 && nat_lt f.0 80) (Some client) None
 
--- frames of zeros, and a disk of 200 zero sectors
+-- frames of zeros, and disks of 200 zero sectors
 abbrev pub empty : Machine
 empty = record {
   present = λ p. true;
@@ -52,13 +60,33 @@ empty = record {
   kept = [];
   lent = λ f. None;
   memory = λ f b. 0;
-  rows = row ∷ [];
+  rows = two_rows;
   owner = owner;
   next = 1;
 }
 
-pub only_row : (r : GrantRow) → Contains (row ∷ []) r → r ≡ row
-only_row r h = ⊎_elim (λ p. p) (λ n. absurd (contains_none r n)) (contains_cases row [] r h)
+-- a row of one of two numbers
+row_cases : (r : GrantRow) → Contains two_rows r → (r ≡ row 0) ⊎ (r ≡ row 1)
+row_cases r h = ⊎_elim (λ p. inl p) (λ i. ⊎_elim (λ p. inr p) (λ n. absurd (contains_none r n)) (contains_cases (row 1) [] r i)) (contains_cases (row 0) (row 1 ∷ []) r h)
+
+-- its number says which it is
+pub its_row : (r : GrantRow) → Contains two_rows r → r ≡ row r.number
+its_row r h = ⊎_elim
+    (λ p. p ∙ ap row (sym (ap (λ (x : GrantRow). x.number) p)))
+    (λ p. p ∙ ap row (sym (ap (λ (x : GrantRow). x.number) p)))
+    (row_cases r h)
+
+-- each may be given by a configuration, and they differ in name
+fits_row : (n : ℕ) → n ≤ 1 → IsRow (row n)
+fits_row n few = record { client = (omega arith, omega arith); number = omega (arith, few); port = omega (arith, few); some = omega arith; below = omega arith }
+
+differ : AllPairs DifferInName two_rows
+differ = AllPairs-cons DifferInName (row 0) (row 1 ∷ [])
+    (λ k d lt. let z : k ≡ 0 = omega (arith, lt) in subst (λ (i : ℕ). DifferInName (row 0) (slice_index_or (row 1 ∷ []) i d)) (sym z) apart)
+    (λ i j d lt below. absurd (omega (arith, lt, below)))
+  where
+    apart : DifferInName (row 0) (row 1)
+    apart named = let same = named.1 in omega (arith, same)
 
 -- it is a start, whatever its frames hold
 pub filled_starts : (memory : Memory) → IsStart (record empty { memory = memory })
@@ -68,8 +96,8 @@ filled_starts memory = record {
   lent = λ f. refl;
   next = refl;
   few = omega arith;
-  rows = λ i j d lt below. absurd (omega (arith, lt, below));
-  configured = λ r h. subst IsRow (sym (only_row r h)) (record { client = (omega arith, omega arith); number = omega arith; port = omega arith; some = omega arith; below = omega arith });
+  rows = differ;
+  configured = λ r h. ⊎_elim (λ p. subst IsRow (sym p) (fits_row 0 (omega arith))) (λ p. subst IsRow (sym p) (fits_row 1 (omega arith))) (row_cases r h);
   owned = λ f c e. within f (nat_le 40 f.0) (nat_lt f.0 80) refl refl c e;
 }
   where
@@ -96,32 +124,33 @@ abbrev pub is_trim : Op → Bool
 is_trim Trim = true
 is_trim _ = false
 
--- what makes a request of this client acceptable
-pub record IsFit (s : Situation) (r : Request) : Type 0 where
-  pub rows : s.rows ≡ row ∷ []
+-- what makes a request of this client, on the port of this number, acceptable
+pub record IsFit (n : ℕ) (s : Situation) (r : Request) : Type 0 where
+  pub rows : s.rows ≡ two_rows
+  pub mine : Contains two_rows (row n)
   pub client_is : r.client ≡ client
-  pub grant : r.grant ≡ 0
-  pub allowed : Allows row.rights r.op
+  pub grant : r.grant ≡ n
+  pub allowed : Allows (row n).rights r.op
   pub count : IsCount r.op r.count
-  pub covered : r.op ≢ Flush → Covers row r.first.0 r.count
+  pub covered : r.op ≢ Flush → Covers (row n) r.first.0 r.count
   pub frames : length r.frames.items ≡ frames_for r.op r.count
   pub single : length r.frames.items ≤ 1
   pub owned : (f : Frame) → slice_get r.frames.items 0 ≡ Some f → s.owner f ≡ Some client
   pub free : (f : Frame) → slice_get r.frames.items 0 ≡ Some f → s.lent f ≡ None
-  pub ready : s.state port ≡ Ready
-  pub on_disk : r.op ≢ Flush → r.first.0 + r.count ≤ s.sectors port
+  pub ready : s.state (on n) ≡ Ready
+  pub on_disk : r.op ≢ Flush → r.first.0 + r.count ≤ s.sectors (on n)
   pub no_trim : r.op ≢ Trim
   pub few : s.unanswered client < 16
   pub ids : s.next < 2 ^ 64
 
-pub acceptable : (s : Situation) (r : Request) → IsFit s r → IsAcceptable s r
-acceptable s r fit = go
+pub acceptable : (n : ℕ) (s : Situation) (r : Request) → IsFit n s r → IsAcceptable s r
+acceptable n s r fit = go
   where
-    named : IsNamed s.rows r row
-    named = (subst (λ (rows : List GrantRow). Contains rows row) (sym fit.rows) (contains_here row [] row refl), (sym fit.client_is, sym fit.grant))
+    named : IsNamed s.rows r (row n)
+    named = (subst (λ (xs : List GrantRow). Contains xs (row n)) (sym fit.rows) fit.mine, (sym fit.client_is, sym fit.grant))
 
-    is_row : (x : GrantRow) → IsNamed s.rows r x → x ≡ row
-    is_row x h = only_row x (subst (λ (rows : List GrantRow). Contains rows x) fit.rows h.0)
+    is_row : (x : GrantRow) → IsNamed s.rows r x → x ≡ row n
+    is_row x h = its_row x (subst (λ (xs : List GrantRow). Contains xs x) fit.rows h.0) ∙ ap row (h.1.1 ∙ fit.grant)
 
     first_place : (i : ℕ) (f : Frame) → slice_get r.frames.items i ≡ Some f → slice_get r.frames.items 0 ≡ Some f
     first_place i f e =
@@ -134,7 +163,7 @@ acceptable s r fit = go
     none_is_some o e h = false≢true (sym (ap is_some e) ∙ h)
 
     go : IsAcceptable s r
-    go (refused.Rule NoGrant) h = h row named
+    go (refused.Rule NoGrant) h = h (row n) named
     go (refused.Rule NoRight) h = h.2 (subst (λ (x : GrantRow). Allows x.rights r.op) (sym (is_row h.0 h.1)) fit.allowed)
     go (refused.Rule BadCount) h = h fit.count
     go (refused.Rule OutsideGrant) h = h.1.2 (subst (λ (x : GrantRow). Covers x r.first.0 r.count) (sym (is_row h.1.0 h.1.1)) (fit.covered h.0))
@@ -148,7 +177,7 @@ acceptable s r fit = go
     go (refused.PortNotReady state) h = h.0 (sym h.1.2 ∙ ap (λ (x : GrantRow). s.state x.port) (is_row h.1.0 h.1.1) ∙ fit.ready)
     go refused.OutsideDisk h =
         let least = fit.on_disk h.0 in
-        let size : s.sectors h.1.0.port ≡ s.sectors port = ap (λ (x : GrantRow). s.sectors x.port) (is_row h.1.0 h.1.1) in
+        let size : s.sectors h.1.0.port ≡ s.sectors (on n) = ap (λ (x : GrantRow). s.sectors x.port) (is_row h.1.0 h.1.1) in
         omega (arith, least, size, h.1.2)
     go refused.TrimUnsupported h = fit.no_trim h.0
     go refused.ClientFull h =

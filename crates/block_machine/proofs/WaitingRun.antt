@@ -20,7 +20,7 @@ use Rattle.block_machine.specs.declared.due.Unanswered.{Unanswered}
 use Rattle.block_machine.proofs.Dues.{issued_not_due}
 use Rattle.block_machine.proofs.Setting.{acceptable}
 use Rattle.ata_types.specs.declared.PortState.TheVariants.{Ready}
-use Rattle.block_machine.proofs.Scene.{mode, first, id, call, reply, sector_request, done, served, IsQuiet, fit_write, fit_read, new, one_issued, none_there, one_told, one_touched, ports_fit, none_dead, serviced, emptied_one}
+use Rattle.block_machine.proofs.Scene.{mode, first, id, call, reply, sector_request, done, served, IsQuiet, row_zero, fit_write, fit_read, new, one_issued, none_there, one_told, one_touched, ports_fit, none_dead, serviced, emptied_one}
 
 abbrev pub run0 : List (Event (Unit {0}))
 run0 = []
@@ -59,21 +59,21 @@ event4 = call Service (Served (reply 2 ∷ [])) (Answer (done read) outcome.Ok �
 abbrev run4 : List (Event (Unit {0}))
 run4 = event4 ∷ run3
 
-quiet0 : IsQuiet (moment_of first run0)
-quiet0 = record { rows = refl; ready = refl; size = refl; room = omega arith; few = omega arith }
+quiet0 : IsQuiet 0 (moment_of first run0)
+quiet0 = record { rows = refl; mine = row_zero; ready = refl; size = refl; room = omega arith; few = omega arith }
 
-quiet1 : IsQuiet (moment_of first run1)
-quiet1 = record { rows = refl; ready = refl; size = refl; room = omega arith; few = omega arith }
+quiet1 : IsQuiet 0 (moment_of first run1)
+quiet1 = record { rows = refl; mine = row_zero; ready = refl; size = refl; room = omega arith; few = omega arith }
 
 pub happens1 : Happens (moment_of first run0) event1
 happens1 = record {
-  may = ((tt, new (moment_of first run0) write quiet0 (fit_write (moment_of first run0) 40 quiet0 refl refl) refl refl refl), (contains_here (newly_accepted write) [] (newly_accepted write) refl, record { here = contains_here (unanswered (newly_accepted write)) [] (unanswered (newly_accepted write)) refl; clear = refl; slot = λ _. omega arith }, λ e h. absurd (contains_none e h)));
+  may = ((tt, new 0 (moment_of first run0) write quiet0 (fit_write (moment_of first run0) 40 quiet0 refl refl) refl refl refl), (contains_here (newly_accepted write) [] (newly_accepted write) refl, record { here = contains_here (unanswered (newly_accepted write)) [] (unanswered (newly_accepted write)) refl; clear = refl; slot = λ _. omega arith }, λ e h. absurd (contains_none e h)));
   belong = ((tt, inr refl), inr (refl, refl));
   last = ((tt, λ id h i. false≢true i), λ id h i. false≢true i);
   lawful = tt;
   fit = ports_fit Ready;
   disks = λ e o h i same. (refl, refl);
-  answered = (acceptable (situation_of (moment_of first run0)) write.asked (fit_write (moment_of first run0) 40 quiet0 refl refl), (write, refl, refl), λ p. (refl, refl, refl, refl, refl, refl), λ p _. one_issued (unanswered (issue (newly_accepted write))) refl p);
+  answered = (acceptable 0 (situation_of (moment_of first run0)) write.asked (fit_write (moment_of first run0) 40 quiet0 refl refl), (write, refl, refl), λ p. (refl, refl, refl, refl, refl, refl), λ p _. one_issued (unanswered (issue (newly_accepted write))) refl p);
 }
 
 -- the write in its slot, and the read after it
@@ -92,13 +92,13 @@ none_due p r here due = ⊎_elim
 
 happens2 : Happens (moment_of first run1) event2
 happens2 = record {
-  may = (tt, new (moment_of first run1) read quiet1 (fit_read (moment_of first run1) 41 quiet1 refl refl) refl refl refl);
+  may = (tt, new 0 (moment_of first run1) read quiet1 (fit_read 0 (moment_of first run1) 41 quiet1 refl refl) refl refl refl);
   belong = (tt, inr refl);
   last = (tt, λ id h i. false≢true i);
   lawful = tt;
   fit = ports_fit Ready;
   disks = λ e o h i same. (refl, refl);
-  answered = (acceptable (situation_of (moment_of first run1)) read.asked (fit_read (moment_of first run1) 41 quiet1 refl refl), (read, refl, refl), λ p. (refl, refl, refl, refl, refl, refl), λ p _. none_due p);
+  answered = (acceptable 0 (situation_of (moment_of first run1)) read.asked (fit_read 0 (moment_of first run1) 41 quiet1 refl refl), (read, refl, refl), λ p. (refl, refl, refl, refl, refl, refl), λ p _. none_due p);
 }
 
 happens3 : Happens (moment_of first run2) event3

@@ -11,7 +11,7 @@ use Rattle.block_machine.specs.Worked.{FindsTheFlushed}
 use Rattle.block_machine.proofs.Members.{contains_none, contains_here, contains_there}
 use Rattle.block_machine.proofs.Setting.{client, port, frame, request, empty, empty_starts, acceptable}
 use Rattle.ata_types.specs.declared.PortState.TheVariants.{Ready}
-use Rattle.block_machine.proofs.Scene.{mode, first, id, call, reply, sector_request, done, served, is_open, IsQuiet, fit_write, fit_read, fit_flush, new, one_issued, none_there, one_told, one_touched, ports_fit, none_dead, serviced}
+use Rattle.block_machine.proofs.Scene.{mode, first, id, call, reply, sector_request, done, served, is_open, IsQuiet, row_zero, fit_write, fit_read, fit_flush, new, one_issued, none_there, one_told, one_touched, ports_fit, none_dead, serviced}
 
 abbrev run0 : List (Event (Unit {0}))
 run0 = []
@@ -38,7 +38,7 @@ abbrev run3 : List (Event (Unit {0}))
 run3 = event3 ∷ run2
 
 abbrev flush : Accepted
-flush = record { id = id 2; port = port; asked = request Flush 0 0 []; held = block_of (moment_of first run3).machine.memory [] }
+flush = record { id = id 2; port = port; asked = request 0 Flush 0 0 []; held = block_of (moment_of first run3).machine.memory [] }
 
 abbrev event4 : Event (Unit {0})
 event4 = call (Submit flush.asked) (Submitted (Ok (id 2))) (Issue mode (newly_accepted flush) ∷ Accept flush ∷ [])
@@ -113,17 +113,17 @@ event13 = call (LoadAt client (frame 41) 0 1) (Loaded (Ok (90 ∷ []))) (Load cl
 abbrev run13 : List (Event (Unit {0}))
 run13 = event13 ∷ run12
 
-quiet1 : IsQuiet (moment_of first run1)
-quiet1 = record { rows = refl; ready = refl; size = refl; room = omega arith; few = omega arith }
+quiet1 : IsQuiet 0 (moment_of first run1)
+quiet1 = record { rows = refl; mine = row_zero; ready = refl; size = refl; room = omega arith; few = omega arith }
 
-quiet3 : IsQuiet (moment_of first run3)
-quiet3 = record { rows = refl; ready = refl; size = refl; room = omega arith; few = omega arith }
+quiet3 : IsQuiet 0 (moment_of first run3)
+quiet3 = record { rows = refl; mine = row_zero; ready = refl; size = refl; room = omega arith; few = omega arith }
 
-quiet6 : IsQuiet (moment_of first run6)
-quiet6 = record { rows = refl; ready = refl; size = refl; room = omega arith; few = omega arith }
+quiet6 : IsQuiet 0 (moment_of first run6)
+quiet6 = record { rows = refl; mine = row_zero; ready = refl; size = refl; room = omega arith; few = omega arith }
 
-quiet10 : IsQuiet (moment_of first run10)
-quiet10 = record { rows = refl; ready = refl; size = refl; room = omega arith; few = omega arith }
+quiet10 : IsQuiet 0 (moment_of first run10)
+quiet10 = record { rows = refl; mine = row_zero; ready = refl; size = refl; room = omega arith; few = omega arith }
 
 happens1 : Happens (moment_of first run0) event1
 happens1 = record {
@@ -138,13 +138,13 @@ happens1 = record {
 
 happens2 : Happens (moment_of first run1) event2
 happens2 = record {
-  may = ((tt, new (moment_of first run1) write quiet1 (fit_write (moment_of first run1) 40 quiet1 refl refl) refl refl refl), (contains_here (newly_accepted write) [] (newly_accepted write) refl, record { here = contains_here (unanswered (newly_accepted write)) [] (unanswered (newly_accepted write)) refl; clear = refl; slot = λ _. omega arith }, λ e h. absurd (contains_none e h)));
+  may = ((tt, new 0 (moment_of first run1) write quiet1 (fit_write (moment_of first run1) 40 quiet1 refl refl) refl refl refl), (contains_here (newly_accepted write) [] (newly_accepted write) refl, record { here = contains_here (unanswered (newly_accepted write)) [] (unanswered (newly_accepted write)) refl; clear = refl; slot = λ _. omega arith }, λ e h. absurd (contains_none e h)));
   belong = ((tt, inr refl), inr (refl, refl));
   last = ((tt, λ id h i. false≢true i), λ id h i. false≢true i);
   lawful = tt;
   fit = ports_fit Ready;
   disks = λ e o h i same. (refl, refl);
-  answered = (acceptable (situation_of (moment_of first run1)) write.asked (fit_write (moment_of first run1) 40 quiet1 refl refl), (write, refl, refl), λ p. (refl, refl, refl, refl, refl, refl), λ p _. one_issued (unanswered (issue (newly_accepted write))) refl p);
+  answered = (acceptable 0 (situation_of (moment_of first run1)) write.asked (fit_write (moment_of first run1) 40 quiet1 refl refl), (write, refl, refl), λ p. (refl, refl, refl, refl, refl, refl), λ p _. one_issued (unanswered (issue (newly_accepted write))) refl p);
 }
 
 happens3 : Happens (moment_of first run2) event3
@@ -160,13 +160,13 @@ happens3 = record {
 
 happens4 : Happens (moment_of first run3) event4
 happens4 = record {
-  may = ((tt, new (moment_of first run3) flush quiet3 (fit_flush (moment_of first run3) quiet3) refl refl refl), (contains_here (newly_accepted flush) [] (newly_accepted flush) refl, record { here = contains_here (unanswered (newly_accepted flush)) [] (unanswered (newly_accepted flush)) refl; clear = refl; slot = λ _. omega arith }, λ e h. absurd (contains_none e h)));
+  may = ((tt, new 0 (moment_of first run3) flush quiet3 (fit_flush (moment_of first run3) quiet3) refl refl refl), (contains_here (newly_accepted flush) [] (newly_accepted flush) refl, record { here = contains_here (unanswered (newly_accepted flush)) [] (unanswered (newly_accepted flush)) refl; clear = refl; slot = λ _. omega arith }, λ e h. absurd (contains_none e h)));
   belong = ((tt, inr refl), inr (refl, refl));
   last = ((tt, λ id h i. false≢true i), λ id h i. false≢true i);
   lawful = tt;
   fit = ports_fit Ready;
   disks = λ e o h i same. (refl, refl);
-  answered = (acceptable (situation_of (moment_of first run3)) flush.asked (fit_flush (moment_of first run3) quiet3), (flush, refl, refl), λ p. (refl, refl, refl, refl, refl, refl), λ p _. one_issued (unanswered (issue (newly_accepted flush))) refl p);
+  answered = (acceptable 0 (situation_of (moment_of first run3)) flush.asked (fit_flush (moment_of first run3) quiet3), (flush, refl, refl), λ p. (refl, refl, refl, refl, refl, refl), λ p _. one_issued (unanswered (issue (newly_accepted flush))) refl p);
 }
 
 happens5 : Happens (moment_of first run4) event5
@@ -193,13 +193,13 @@ happens6 = record {
 
 happens7 : Happens (moment_of first run6) event7
 happens7 = record {
-  may = ((tt, new (moment_of first run6) later quiet6 (fit_write (moment_of first run6) 40 quiet6 refl refl) refl refl refl), (contains_here (newly_accepted later) [] (newly_accepted later) refl, record { here = contains_here (unanswered (newly_accepted later)) [] (unanswered (newly_accepted later)) refl; clear = refl; slot = λ _. omega arith }, λ e h. absurd (contains_none e h)));
+  may = ((tt, new 0 (moment_of first run6) later quiet6 (fit_write (moment_of first run6) 40 quiet6 refl refl) refl refl refl), (contains_here (newly_accepted later) [] (newly_accepted later) refl, record { here = contains_here (unanswered (newly_accepted later)) [] (unanswered (newly_accepted later)) refl; clear = refl; slot = λ _. omega arith }, λ e h. absurd (contains_none e h)));
   belong = ((tt, inr refl), inr (refl, refl));
   last = ((tt, λ id h i. false≢true i), λ id h i. false≢true i);
   lawful = tt;
   fit = ports_fit Ready;
   disks = λ e o h i same. (refl, refl);
-  answered = (acceptable (situation_of (moment_of first run6)) later.asked (fit_write (moment_of first run6) 40 quiet6 refl refl), (later, refl, refl), λ p. (refl, refl, refl, refl, refl, refl), λ p _. one_issued (unanswered (issue (newly_accepted later))) refl p);
+  answered = (acceptable 0 (situation_of (moment_of first run6)) later.asked (fit_write (moment_of first run6) 40 quiet6 refl refl), (later, refl, refl), λ p. (refl, refl, refl, refl, refl, refl), λ p _. one_issued (unanswered (issue (newly_accepted later))) refl p);
 }
 
 happens8 : Happens (moment_of first run7) event8
@@ -237,13 +237,13 @@ happens10 = record {
 
 happens11 : Happens (moment_of first run10) event11
 happens11 = record {
-  may = ((tt, new (moment_of first run10) read quiet10 (fit_read (moment_of first run10) 41 quiet10 refl refl) refl refl refl), (contains_here (newly_accepted read) [] (newly_accepted read) refl, record { here = contains_here (unanswered (newly_accepted read)) [] (unanswered (newly_accepted read)) refl; clear = refl; slot = λ _. omega arith }, λ e h. absurd (contains_none e h)));
+  may = ((tt, new 0 (moment_of first run10) read quiet10 (fit_read 0 (moment_of first run10) 41 quiet10 refl refl) refl refl refl), (contains_here (newly_accepted read) [] (newly_accepted read) refl, record { here = contains_here (unanswered (newly_accepted read)) [] (unanswered (newly_accepted read)) refl; clear = refl; slot = λ _. omega arith }, λ e h. absurd (contains_none e h)));
   belong = ((tt, inr refl), inr (refl, refl));
   last = ((tt, λ id h i. false≢true i), λ id h i. false≢true i);
   lawful = tt;
   fit = ports_fit Ready;
   disks = λ e o h i same. (refl, refl);
-  answered = (acceptable (situation_of (moment_of first run10)) read.asked (fit_read (moment_of first run10) 41 quiet10 refl refl), (read, refl, refl), λ p. (refl, refl, refl, refl, refl, refl), λ p _. one_issued (unanswered (issue (newly_accepted read))) refl p);
+  answered = (acceptable 0 (situation_of (moment_of first run10)) read.asked (fit_read 0 (moment_of first run10) 41 quiet10 refl refl), (read, refl, refl), λ p. (refl, refl, refl, refl, refl, refl), λ p _. one_issued (unanswered (issue (newly_accepted read))) refl p);
 }
 
 happens12 : Happens (moment_of first run11) event12
