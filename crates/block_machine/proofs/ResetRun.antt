@@ -16,7 +16,7 @@ use Rattle.block_machine.specs.Worked.{EndsWithAReset}
 use Rattle.block_machine.proofs.Members.{contains_none, contains_here, contains_cases}
 use Rattle.block_machine.proofs.Keeps.{same_port}
 use Rattle.block_machine.proofs.Setting.{port, frame, empty_starts}
-use Rattle.block_machine.proofs.Scene.{mode, ports, ports_in, at_port, first, none, call, at_here, is_ready, is_dead, ready_here, none_dead, emptied_one, one_issued, none_there, one_told, ports_fit}
+use Rattle.block_machine.proofs.Scene.{mode, ports, ports_in, at_port, first, none, call, at_here, is_ready, is_dead, ready_here, none_dead, emptied_one, one_issued, none_there, one_told, none_told, ports_fit}
 use Rattle.block_machine.proofs.WaitingRun.{write, run1, happens1}
 
 -- the ports that a tick ages
@@ -67,14 +67,6 @@ abbrev reset : Event (Unit {0})
 reset = record { ask = Reset; said = WasReset (Some []); evidence = none; steps = Release ∷ []; ports = ports }
 
 -- What holds of the parts.
-
-none_told : (steps : List Step) → answers_of steps ≡ [] → Tells steps []
-none_told steps only = record {
-  answers = [];
-  same = subst (λ xs. IsPermutation [] xs) (sym only) (IsPermutation-refl _);
-  ordered = λ i j d lt below. absurd (omega (arith, lt, below));
-  told = refl;
-}
 
 ages_once : (later : List Step) → count_by is_age later ≡ 0 → AgesOnce ports (later ++ Age aging ∷ [])
 ages_once later once = record {

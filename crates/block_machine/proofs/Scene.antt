@@ -29,6 +29,7 @@ use Rattle.block_machine.specs.Steps.{Step, Touch, End, Answer, newly_accepted, 
 use Rattle.block_machine.specs.Ports.{Ports, Evidence, AreFit, IsServiced}
 use Rattle.block_machine.specs.Events.{Moment, Ask, Said, Event, Tells, situation_of, answers_of, reply_of}
 use Rattle.block_machine.proofs.Members.{contains_none, contains_here, contains_cases}
+use Rattle.block_machine.proofs.Keeps.{same_port}
 use Rattle.block_machine.proofs.Dues.{issued_not_due}
 use Rattle.block_machine.proofs.Setting.{client, on, port, frame, row, two_rows, request, empty, its_row, is_trim, IsFit, acceptable}
 
@@ -187,6 +188,14 @@ one_told e o steps only r is = record {
   told = ap (λ (x : Reply). x ∷ []) is;
 }
 
+pub none_told : (steps : List Step) → answers_of steps ≡ [] → Tells steps []
+none_told steps only = record {
+  answers = [];
+  same = subst (λ xs. IsPermutation [] xs) (sym only) (IsPermutation-refl _);
+  ordered = λ i j d lt below. absurd (omega (arith, lt, below));
+  told = refl;
+}
+
 pub one_touched : (i : ℕ) → i < 1 → ((i == 0) || false) ≡ true
 one_touched i lt = or_left _ _ (eq-eqb i 0 (omega arith))
 
@@ -215,6 +224,25 @@ ready_here p e = go (p.0 == 0) e
     go : (b : Bool) → cond b Ready Absent ≡ Ready → b ≡ true
     go true e = refl
     go false e = absurd (false≢true (ap is_ready e))
+
+-- the ready port is port 0
+pub ready_port : (p : Port) → at_port Ready p ≡ Ready → p ≡ port
+ready_port p e = same_port p port (eqb-true p.0 0 (ready_here p e))
+
+-- where port 0 is absent, so are all
+pub absent_not_ready : {A : Type 0} (p : Port) → at_port Absent p ≡ Ready → A
+absent_not_ready {A} p e = go (p.0 == 0) e
+  where
+    go : (b : Bool) → cond b Absent Absent ≡ Ready → A
+    go true e = absurd (false≢true (ap is_ready e))
+    go false e = absurd (false≢true (ap is_ready e))
+
+pub absent_not_dead : {A : Type 0} (p : Port) → at_port Absent p ≡ Dead → A
+absent_not_dead {A} p e = go (p.0 == 0) e
+  where
+    go : (b : Bool) → cond b Absent Absent ≡ Dead → A
+    go true e = absurd (false≢true (ap is_dead e))
+    go false e = absurd (false≢true (ap is_dead e))
 
 -- no port is dead in most calls
 pub none_dead : {A : Type 0} (p : Port) → at_port Ready p ≡ Dead → A

@@ -1,17 +1,21 @@
--- A run in which a write is flushed, a later one is lost, and a read finds the flushed byte.
-use Rattle.std.proofs.Common.{◌≡◌, ℕ, ◌+◌, ◌<◌, true, List, [], ◌∷◌, ◌++◌, slice_index, None, Ok, inl, inr, refl, sym, ap, subst, arith}
-use Rattle.std.proofs.lemmas.Bool.{false≢true}
+-- A run in which a write is flushed and a later one isn't, and a read finds the one or the other after its disk was out.
+use Rattle.std.proofs.Common.{◌≡◌, ◌⊎◌, ℕ, ◌+◌, ◌-◌, ◌<◌, ◌&&◌, Bool, true, List, [], ◌∷◌, ◌++◌, slice_index, None, Ok, inl, inr, ⊎_elim, refl, sym, ap, ◌∙◌, subst, arith, le-leb, lt-ltb}
+use Rattle.std.proofs.lemmas.Bool.{and_from, cond-true, false≢true}
+use Rattle.std.specs.List.{Contains}
+use Rattle.std.specs.Prelude.{nat_le, nat_lt}
+use Rattle.ata_types.specs.declared.PortState.TheVariants.{Absent, Ready}
 use Rattle.ata_types.specs.declared.request.Op.TheVariants.{Read, Write, Flush}
 use Rattle.ata_types.specs.declared.request.Outcome.TheVariants as outcome
-use Rattle.block_machine.specs.State.{Disk, Accepted, block_of, is_reader, unanswered}
+use Rattle.block_machine.specs.Due.{is_flush}
+use Rattle.block_machine.specs.Ports.{Evidence}
+use Rattle.block_machine.specs.State.{Block, Disk, Accepted, block_of, is_reader, unanswered}
 use Rattle.block_machine.specs.Steps.{Step, Accept, Issue, Touch, End, Answer, Unplug, Replace, Store, Load, newly_accepted, issue, touch, mark_ended}
-use Rattle.block_machine.specs.Events.{Submit, StoreAt, LoadAt, Service, Device, Submitted, Stored, Loaded, Served, Stepped, Event, Happens, moment_of, situation_of, steps_of}
-use Rattle.block_machine.specs.Durable.{ComesBack}
-use Rattle.block_machine.specs.Worked.{FindsTheFlushed}
-use Rattle.block_machine.proofs.Members.{contains_none, contains_here, contains_there}
+use Rattle.block_machine.specs.Events.{Submit, StoreAt, LoadAt, Service, Device, Submitted, Stored, Loaded, Served, Stepped, Event, Happens, IsRun, moment_of, situation_of, steps_of}
+use Rattle.block_machine.specs.Durable.{SameBytes, HeldSince}
+use Rattle.block_machine.specs.Worked.{FindsTheFlushed, MayComeBack, ReadsOneOf}
+use Rattle.block_machine.proofs.Members.{contains_none, contains_here, contains_there, contains_cases}
 use Rattle.block_machine.proofs.Setting.{client, port, frame, request, empty, empty_starts, acceptable}
-use Rattle.ata_types.specs.declared.PortState.TheVariants.{Ready}
-use Rattle.block_machine.proofs.Scene.{mode, first, id, call, reply, sector_request, done, served, is_open, IsQuiet, row_zero, fit_write, fit_read, fit_flush, new, one_issued, none_there, one_told, one_touched, ports_fit, none_dead, serviced}
+use Rattle.block_machine.proofs.Scene.{mode, first, none, ports_in, id, call, reply, sector_request, done, served, is_open, IsQuiet, row_zero, fit_write, fit_read, fit_flush, new, one_issued, none_there, one_told, none_told, one_touched, ports_fit, none_dead, serviced, ready_port, absent_not_ready, absent_not_dead}
 
 abbrev run0 : List (Event (Unit {0}))
 run0 = []
@@ -73,45 +77,66 @@ event8 = call Service (Served (reply 3 ∷ [])) (served later)
 abbrev run8 : List (Event (Unit {0}))
 run8 = event8 ∷ run7
 
+-- what the disk held when the flush was ended
+abbrev flushed_disk : Disk
+flushed_disk = (moment_of first run5).machine.disks port
+
+-- the disk is taken out
 abbrev event9 : Event (Unit {0})
 event9 = call (Device tt) (Stepped true) (Unplug port ∷ [])
 
 abbrev run9 : List (Event (Unit {0}))
 run9 = event9 ∷ run8
 
--- what the disk held when the flush was ended
-abbrev flushed_disk : Disk
-flushed_disk = (moment_of first run5).machine.disks port
+-- what the device vouches for where port 0 told that its disk went
+abbrev gone : Evidence
+gone = record { faults = []; lost = port ∷ []; gone = port ∷ []; failed = []; stopped = port ∷ []; stuck = [] }
 
+-- a service notices
 abbrev event10 : Event (Unit {0})
-event10 = call (Device tt) (Stepped true) (Replace port 0 200 flushed_disk ∷ [])
+event10 = record { ask = Service; said = Served []; evidence = gone; steps = []; ports = ports_in Absent }
 
 abbrev run10 : List (Event (Unit {0}))
 run10 = event10 ∷ run9
 
-abbrev read : Accepted
-read = sector_request (moment_of first run10).machine 4 Read 41
+-- the disk comes back, with these bytes
+abbrev event11 : Disk → Event (Unit {0})
+event11 disk = record { ask = Device tt; said = Stepped true; evidence = none; steps = Replace port 0 200 disk ∷ []; ports = ports_in Absent }
 
-abbrev event11 : Event (Unit {0})
-event11 = call (Submit read.asked) (Submitted (Ok (id 4))) (Issue mode (newly_accepted read) ∷ Accept read ∷ [])
+abbrev run11 : Disk → List (Event (Unit {0}))
+run11 disk = event11 disk ∷ run10
 
-abbrev run11 : List (Event (Unit {0}))
-run11 = event11 ∷ run10
-
-abbrev read_served : List Step
-read_served = Answer (done read) outcome.Ok ∷ End (touch 0 (issue (newly_accepted read))) ∷ Touch (issue (newly_accepted read)) 0 (flushed_disk 100) ∷ []
-
+-- a service boots the port
 abbrev event12 : Event (Unit {0})
-event12 = call Service (Served (reply 4 ∷ [])) read_served
+event12 = call Service (Served []) []
 
-abbrev run12 : List (Event (Unit {0}))
-run12 = event12 ∷ run11
+abbrev run12 : Disk → List (Event (Unit {0}))
+run12 disk = event12 ∷ run11 disk
 
-abbrev event13 : Event (Unit {0})
-event13 = call (LoadAt client (frame 41) 0 1) (Loaded (Ok (90 ∷ []))) (Load client (frame 41) 0 (90 ∷ []) ∷ [])
+abbrev read : Disk → Accepted
+read disk = sector_request (moment_of first (run12 disk)).machine 4 Read 41
 
-abbrev run13 : List (Event (Unit {0}))
-run13 = event13 ∷ run12
+abbrev event13 : Disk → Event (Unit {0})
+event13 disk = call (Submit (read disk).asked) (Submitted (Ok (id 4))) (Issue mode (newly_accepted (read disk)) ∷ Accept (read disk) ∷ [])
+
+abbrev run13 : Disk → List (Event (Unit {0}))
+run13 disk = event13 disk ∷ run12 disk
+
+abbrev read_served : Disk → List Step
+read_served disk = Answer (done (read disk)) outcome.Ok ∷ End (touch 0 (issue (newly_accepted (read disk)))) ∷ Touch (issue (newly_accepted (read disk))) 0 (disk 100) ∷ []
+
+abbrev event14 : Disk → Event (Unit {0})
+event14 disk = call Service (Served (reply 4 ∷ [])) (read_served disk)
+
+abbrev run14 : Disk → List (Event (Unit {0}))
+run14 disk = event14 disk ∷ run13 disk
+
+-- the client is told the first byte
+abbrev event15 : Disk → Event (Unit {0})
+event15 disk = call (LoadAt client (frame 41) 0 1) (Loaded (Ok (disk 100 0 ∷ []))) (Load client (frame 41) 0 (disk 100 0 ∷ []) ∷ [])
+
+abbrev run15 : Disk → List (Event (Unit {0}))
+run15 disk = event15 disk ∷ run14 disk
 
 quiet1 : IsQuiet 0 (moment_of first run1)
 quiet1 = record { rows = refl; mine = row_zero; ready = refl; size = refl; room = omega arith; few = omega arith }
@@ -122,8 +147,8 @@ quiet3 = record { rows = refl; mine = row_zero; ready = refl; size = refl; room 
 quiet6 : IsQuiet 0 (moment_of first run6)
 quiet6 = record { rows = refl; mine = row_zero; ready = refl; size = refl; room = omega arith; few = omega arith }
 
-quiet10 : IsQuiet 0 (moment_of first run10)
-quiet10 = record { rows = refl; mine = row_zero; ready = refl; size = refl; room = omega arith; few = omega arith }
+quiet12 : (disk : Disk) → IsQuiet 0 (moment_of first (run12 disk))
+quiet12 disk = record { rows = refl; mine = row_zero; ready = refl; size = refl; room = omega arith; few = omega arith }
 
 happens1 : Happens (moment_of first run0) event1
 happens1 = record {
@@ -226,85 +251,179 @@ happens9 = record {
 
 happens10 : Happens (moment_of first run9) event10
 happens10 = record {
+  may = tt;
+  belong = tt;
+  last = tt;
+  lawful = tt;
+  fit = ports_fit Absent;
+  disks = λ e o h i same. (refl, refl);
+  answered = (
+    none_told [] refl,
+    record { dead = λ e o i dead. none_dead e.request.port dead; lost = λ p _ _ e h. absurd (contains_none e h); grounded = tt; booted = λ p _. inr (λ e h. absurd (contains_none e h)) },
+    λ p _. none_there p,
+    λ p. (
+      λ ne e h. absurd (contains_none e h),
+      (λ dead. none_dead p dead, λ _. record { served = refl; stuck = λ dead. absent_not_dead p dead; disk = λ ready. inl (contains_here port [] p (ready_port p ready)) }),
+    ),
+  );
+}
+
+happens11 : (disk : Disk) → Happens (moment_of first run10) (event11 disk)
+happens11 disk = record {
   may = (tt, (refl, λ _. refl));
   belong = (tt, inl tt);
   last = (tt, λ id h i. false≢true i);
   lawful = tt;
-  fit = ports_fit Ready;
+  fit = ports_fit Absent;
   disks = λ e o h i same. (refl, refl);
   answered = ((tt, tt), λ p. (refl, refl, refl, refl, refl, refl));
 }
 
-happens11 : Happens (moment_of first run10) event11
-happens11 = record {
-  may = ((tt, new 0 (moment_of first run10) read quiet10 (fit_read 0 (moment_of first run10) 41 quiet10 refl refl) refl refl refl), (contains_here (newly_accepted read) [] (newly_accepted read) refl, record { here = contains_here (unanswered (newly_accepted read)) [] (unanswered (newly_accepted read)) refl; clear = refl; slot = λ _. omega arith }, λ e h. absurd (contains_none e h)));
+happens12 : (disk : Disk) → Happens (moment_of first (run11 disk)) event12
+happens12 disk = record {
+  may = tt;
+  belong = tt;
+  last = tt;
+  lawful = tt;
+  fit = ports_fit Ready;
+  disks = λ e o h i same. absurd (contains_none e h);
+  answered = (
+    none_told [] refl,
+    record { dead = λ e o i dead. absent_not_dead e.request.port dead; lost = λ p _ gone. absurd (contains_none p gone); grounded = tt; booted = λ p ready. absent_not_ready p ready },
+    λ p _. none_there p,
+    λ p. (
+      λ ne e h. absurd (contains_none e h),
+      (λ dead. absent_not_dead p dead, λ _. record { served = refl; stuck = λ dead. none_dead p dead; disk = λ ready. absent_not_ready p ready }),
+    ),
+  );
+}
+
+happens13 : (disk : Disk) → Happens (moment_of first (run12 disk)) (event13 disk)
+happens13 disk = record {
+  may = ((tt, new 0 (moment_of first (run12 disk)) (read disk) (quiet12 disk) (fit_read 0 (moment_of first (run12 disk)) 41 (quiet12 disk) refl refl) refl refl refl), (contains_here (newly_accepted (read disk)) [] (newly_accepted (read disk)) refl, record { here = contains_here (unanswered (newly_accepted (read disk))) [] (unanswered (newly_accepted (read disk))) refl; clear = refl; slot = λ _. omega arith }, λ e h. absurd (contains_none e h)));
   belong = ((tt, inr refl), inr (refl, refl));
   last = ((tt, λ id h i. false≢true i), λ id h i. false≢true i);
   lawful = tt;
   fit = ports_fit Ready;
   disks = λ e o h i same. (refl, refl);
-  answered = (acceptable 0 (situation_of (moment_of first run10)) read.asked (fit_read 0 (moment_of first run10) 41 quiet10 refl refl), (read, refl, refl), λ p. (refl, refl, refl, refl, refl, refl), λ p _. one_issued (unanswered (issue (newly_accepted read))) refl p);
+  answered = (acceptable 0 (situation_of (moment_of first (run12 disk))) (read disk).asked (fit_read 0 (moment_of first (run12 disk)) 41 (quiet12 disk) refl refl), (read disk, refl, refl), λ p. (refl, refl, refl, refl, refl, refl), λ p _. one_issued (unanswered (issue (newly_accepted (read disk)))) refl p);
 }
 
-happens12 : Happens (moment_of first run11) event12
-happens12 = record {
-  may = (((tt, (inl (contains_here (issue (newly_accepted read)) [] (issue (newly_accepted read)) refl, refl), omega arith, refl, omega arith, λ e. absurd (false≢true (sym (ap is_reader e))))), (inl (contains_here (touch 0 (issue (newly_accepted read))) [] (touch 0 (issue (newly_accepted read))) refl, refl), one_touched, refl)), contains_here (done read) [] (done read) refl);
+happens14 : (disk : Disk) → Happens (moment_of first (run13 disk)) (event14 disk)
+happens14 disk = record {
+  may = (((tt, (inl (contains_here (issue (newly_accepted (read disk))) [] (issue (newly_accepted (read disk))) refl, refl), omega arith, refl, omega arith, λ e. absurd (false≢true (sym (ap is_reader e))))), (inl (contains_here (touch 0 (issue (newly_accepted (read disk)))) [] (touch 0 (issue (newly_accepted (read disk)))) refl, refl), one_touched, refl)), contains_here (done (read disk)) [] (done (read disk)) refl);
   belong = (((tt, inl tt), inl tt), inr tt);
   last = (((tt, λ id h i. false≢true i), λ id h i. false≢true i), λ id h i. false≢true i);
-  lawful = (tt, (record { pending = issue (newly_accepted read); here = contains_here (issue (newly_accepted read)) [] (issue (newly_accepted read)) refl; id_is = refl; issued = refl }, refl, one_touched, refl));
+  lawful = (tt, (record { pending = issue (newly_accepted (read disk)); here = contains_here (issue (newly_accepted (read disk))) [] (issue (newly_accepted (read disk))) refl; id_is = refl; issued = refl }, refl, one_touched, refl));
   fit = ports_fit Ready;
   disks = λ e o h i same. (refl, refl);
-  answered = (one_told (done read) outcome.Ok event12.steps refl (reply read.id.0) refl, record { dead = λ e o i dead. none_dead e.request.port dead; lost = λ p _ gone. absurd (contains_none p gone); grounded = tt; booted = λ p _. inl (refl, refl, refl, refl, refl, refl) }, λ p _. none_there p, λ p. (λ ne e h. absurd (contains_none e h), serviced p));
+  answered = (one_told (done (read disk)) outcome.Ok (event14 disk).steps refl (reply 4) refl, record { dead = λ e o i dead. none_dead e.request.port dead; lost = λ p _ gone. absurd (contains_none p gone); grounded = tt; booted = λ p _. inl (refl, refl, refl, refl, refl, refl) }, λ p _. none_there p, λ p. (λ ne e h. absurd (contains_none e h), serviced p));
 }
 
-loaded : (b : ℕ) → b < 1 → slice_index (90 ∷ []) b ≡ (moment_of first run12).machine.memory (frame 41) (0 + b)
-loaded b lt = let z : b ≡ 0 = omega arith in subst (λ k. slice_index (90 ∷ []) k ≡ (moment_of first run12).machine.memory (frame 41) (0 + k)) (sym z) refl
+loaded : (disk : Disk) (b : ℕ) → b < 1 → slice_index (disk 100 0 ∷ []) b ≡ (moment_of first (run14 disk)).machine.memory (frame 41) (0 + b)
+loaded disk b lt = let z : b ≡ 0 = omega arith in subst (λ k. slice_index (disk 100 0 ∷ []) k ≡ (moment_of first (run14 disk)).machine.memory (frame 41) (0 + k)) (sym z) refl
 
-happens13 : Happens (moment_of first run12) event13
-happens13 = record {
-  may = (tt, (is_open (moment_of first run12).machine 41 0 1 refl refl (omega arith), loaded));
+happens15 : (disk : Disk) → Happens (moment_of first (run14 disk)) (event15 disk)
+happens15 disk = record {
+  may = (tt, (is_open (moment_of first (run14 disk)).machine 41 0 1 refl refl (omega arith), loaded disk));
   belong = (tt, inr (refl, refl, refl, refl));
   last = (tt, λ id h i. false≢true i);
   lawful = tt;
   fit = ports_fit Ready;
   disks = λ e o h i same. (refl, refl);
-  answered = (is_open (moment_of first run12).machine 41 0 1 refl refl (omega arith), refl, λ p. (refl, refl, refl, refl, refl, refl));
+  answered = (is_open (moment_of first (run14 disk)).machine 41 0 1 refl refl (omega arith), refl, λ p. (refl, refl, refl, refl, refl, refl));
 }
 
-back : ComesBack empty (steps_of run9) (Replace port 0 200 flushed_disk)
-back = λ _ k lt. inr (refl, inr (refl, inr (refl, inr (refl, inr (refl, inr (refl, inr (refl, inr (refl, inl (λ b lt. refl)))))))))
+runs10 : IsRun first run10
+runs10 = (((((((((((empty_starts, ports_fit Ready), happens1), happens2), happens3), happens4), happens5), happens6), happens7), happens8), happens9), happens10)
 
-pub finds_the_flushed : FindsTheFlushed
-finds_the_flushed = record {
-  first = first;
-  run = run13;
-  runs = ((((((((((((((empty_starts, ports_fit Ready), happens1), happens2), happens3), happens4), happens5), happens6), happens7), happens8), happens9), happens10), happens11), happens12), happens13);
+-- What the sector held since the flush was ended: the bytes of the one write or of the other.
+since_flush : (block : Block) → HeldSince empty port 100 block (steps_of run10) → SameBytes block (write.held 0) ⊎ SameBytes block (later.held 0)
+since_flush block (inl p) = inr p
+since_flush block (inr (_, h)) = of8 h
+  where
+    of5 : HeldSince empty port 100 block (Answer (mark_ended (issue (newly_accepted flush))) outcome.Ok ∷ End (issue (newly_accepted flush)) ∷ steps_of run4) → SameBytes block (write.held 0)
+    of5 (inl p) = p
+    of5 (inr (_, inl p)) = p
+    of5 (inr (_, inr (last, _))) = absurd (false≢true (sym last))
+
+    of7 : HeldSince empty port 100 block (steps_of run7) → SameBytes block (write.held 0)
+    of7 (inl p) = p
+    of7 (inr (_, inl p)) = p
+    of7 (inr (_, inr (_, inl p))) = p
+    of7 (inr (_, inr (_, inr (_, h)))) = of5 h
+
+    of8 : HeldSince empty port 100 block (steps_of run8) → SameBytes block (write.held 0) ⊎ SameBytes block (later.held 0)
+    of8 (inl p) = inr p
+    of8 (inr (_, inl p)) = inr p
+    of8 (inr (_, inr (_, inl p))) = inr p
+    of8 (inr (_, inr (_, inr (_, h)))) = inl (of7 h)
+
+finds : (disk : Disk) → MayComeBack first run10 port disk → ReadsOneOf first run10 disk write later
+finds disk back = record {
+  plug = event11 disk;
+  service = event12;
+  late = event15 disk ∷ event14 disk ∷ event13 disk ∷ [];
+  runs = (((((runs10, happens11 disk), happens12 disk), happens13 disk), happens14 disk), happens15 disk);
   told = ((((((((((((((((((((((((tt, tt), tt), tt), λ e. absurd (false≢true (ap is_reader e))), tt), tt), tt), tt), tt), tt), tt), tt), tt), λ e. absurd (false≢true (ap is_reader e))), tt), tt), tt), tt), tt), tt), λ _ b lt. refl), tt), tt), tt);
   volatile = ((((((((((((((((((((((((tt, tt), tt), tt), tt), tt), tt), tt), tt), tt), tt), tt), tt), tt), tt), tt), tt), tt), back), tt), tt), tt), tt), tt), tt);
-  port = port;
-  id = 0;
-  size = 200;
-  disk = flushed_disk;
-  late = event13.steps ++ (event12.steps ++ event11.steps);
-  early = steps_of run9;
   comes = refl;
-  same = refl;
-  write = write;
-  flush = flush;
-  here = refl;
-  one = refl;
-  byte = refl;
-  flushed = record { write = refl; flush_is = refl; port = refl; answered = inr (refl, inr (refl, inr (refl, inr (refl, inr (refl, inr (refl, inr (refl, inl (refl, inr (refl, inr (refl, inl (refl, inl (refl, inr (refl, inr (refl, inr (refl, inl refl))))))))))))))) };
-  loses = λ e. lost e;
-  read = done read;
+  serves = refl;
+  boots = refl;
+  read = done (read disk);
   reads = refl;
   there = refl;
   sector = refl;
   single = refl;
-  answered = contains_there (Load client (frame 41) 0 (90 ∷ [])) (read_served ++ event11.steps) (Answer (done read) outcome.Ok)
-      (contains_here (Answer (done read) outcome.Ok) (End (touch 0 (issue (newly_accepted read))) ∷ Touch (issue (newly_accepted read)) 0 (flushed_disk 100) ∷ event11.steps) (Answer (done read) outcome.Ok) refl);
-  found = refl;
+  answered = contains_there (Load client (frame 41) 0 (disk 100 0 ∷ [])) (read_served disk ++ (event13 disk).steps) (Answer (done (read disk)) outcome.Ok)
+      (contains_here (Answer (done (read disk)) outcome.Ok) (End (touch 0 (issue (newly_accepted (read disk)))) ∷ Touch (issue (newly_accepted (read disk))) 0 (disk 100) ∷ (event13 disk).steps) (Answer (done (read disk)) outcome.Ok) refl);
+  memory = (moment_of first (run15 disk)).machine.memory;
+  at_last = refl;
+  found = ⊎_elim (λ p. inl (has (write.held 0) p)) (λ p. inr (has (later.held 0) p)) (since_flush (disk 100) (back refl 100 (omega arith)));
 }
   where
-    lost : ◌≡◌ {A = ℕ} 90 91 → ⊥
-    lost e = omega (arith, e)
+    has : (block : Block) → SameBytes (disk 100) block → SameBytes (block_of (moment_of first (run15 disk)).machine.memory (frame 41 ∷ []) 0) block
+    has block same b lt = let all : (0 + b) - 0 ≡ b = omega arith in
+        cond-true (nat_le 0 (0 + b) && nat_lt (0 + b) 512) (disk 100 ((0 + b) - 0)) ((moment_of first (run12 disk)).machine.memory (frame 41) (0 + b))
+        (and_from _ _ (le-leb 0 (0 + b) (omega arith)) (lt-ltb (0 + b) 512 (omega (arith, lt)))) ∙ ap (disk 100) all ∙ same b lt
+
+pub finds_the_flushed : FindsTheFlushed
+finds_the_flushed = record {
+  first = first;
+  early = run8;
+  unplug = event9;
+  service = event10;
+  runs = runs10;
+  write = write;
+  flush = flush;
+  later = later;
+  single = refl;
+  flushed = record { write = refl; flush_is = refl; port = refl; answered = inr (refl, inr (refl, inr (refl, inr (refl, inr (refl, inr (refl, inl (refl, inr (refl, inr (refl, inl (refl, inl (refl, inr (refl, inr (refl, inr (refl, inl refl)))))))))))))) };
+  over = (refl, refl);
+  differs = λ e. differ e;
+  done = done later;
+  its = refl;
+  answered = contains_here (Answer (done later) outcome.Ok) (End (touch 0 (issue (newly_accepted later))) ∷ Touch (issue (newly_accepted later)) 0 (later.held 0) ∷ steps_of run7) (Answer (done later) outcome.Ok) refl;
+  unflushed = unflushed;
+  goes = refl;
+  serves = refl;
+  notices = refl;
+  finds = finds;
+  kept = ((moment_of first run8).machine.disks port, (λ _ k lt. inl (λ b lb. refl)), λ b lb. refl);
+  lost = (flushed_disk, (λ _ k lt. inr (refl, inr (refl, inr (refl, inr (refl, inr (refl, inr (refl, inr (refl, inr (refl, inl (λ b lb. refl)))))))))), λ b lb. refl);
+}
+  where
+    differ : ◌≡◌ {A = ℕ} 91 90 → ⊥
+    differ e = omega (arith, e)
+
+    unflushed : (r : Accepted) → Contains (later ∷ flush ∷ write ∷ []) r → r.asked.op ≡ Flush → r.id.0 < 3
+    unflushed r h op = ⊎_elim
+        (λ (p : r ≡ later). absurd (false≢true (ap is_flush (sym (ap (λ (x : Accepted). x.asked.op) p) ∙ op))))
+        (λ i. ⊎_elim
+        (λ (p : r ≡ flush). let two = ap (λ (x : Accepted). x.id.0) p in omega (arith, two))
+        (λ j. ⊎_elim
+        (λ (p : r ≡ write). let one = ap (λ (x : Accepted). x.id.0) p in omega (arith, one))
+        (λ n. absurd (contains_none r n))
+        (contains_cases write [] r j))
+        (contains_cases flush (write ∷ []) r i))
+        (contains_cases later (flush ∷ write ∷ []) r h)

@@ -1,49 +1,75 @@
 -- What runs are that show that the laws speak of something.
-use Rattle.std.specs.Prelude.{◌≡◌, ◌≢◌, ℕ, true, false, List, [], ◌∷◌, ◌++◌, map, Contains, Some, None}
+use Rattle.std.specs.Prelude.{◌≡◌, ◌≢◌, ◌⊎◌, ℕ, ◌<◌, true, false, List, [], ◌∷◌, ◌++◌, map, Contains, Some, None}
 use Rattle.ata_types.specs.declared.Port.{Port}
-use Rattle.ata_types.specs.declared.PortState.TheVariants.{Ready}
+use Rattle.ata_types.specs.declared.PortState.TheVariants.{Absent, Ready}
 use Rattle.ata_types.specs.declared.request.Frame.{Frame}
-use Rattle.ata_types.specs.declared.request.Op.TheVariants.{Read}
+use Rattle.ata_types.specs.declared.request.Op.TheVariants.{Read, Flush}
 use Rattle.ata_types.specs.declared.request.Outcome.TheVariants.{Ok, PortDead}
 use Rattle.block_machine.specs.declared.due.Mode.{Mode}
-use Rattle.block_machine.specs.State.{Disk, Accepted, Pending, Machine, frame_at, sector_of, unanswered}
+use Rattle.block_machine.specs.State.{Disk, Memory, Accepted, Pending, Machine, block_of, sector_of, unanswered}
 use Rattle.block_machine.specs.Due.{IsDue, conflict}
-use Rattle.block_machine.specs.Steps.{Step, Issue, Answer, Replace, May, AllTouched}
+use Rattle.block_machine.specs.Steps.{Step, Issue, Answer, Unplug, Replace, May, AllTouched}
 use Rattle.block_machine.specs.Left.{after, IsStart, AllTold, HoldsLeft}
-use Rattle.block_machine.specs.Durable.{IsVolatile, IsFlushed}
-use Rattle.block_machine.specs.Events.{Moment, Event, Service, Tick, WasReset, IsRun, steps_of, moment_of}
+use Rattle.block_machine.specs.Durable.{SameBytes, ComesBack, IsVolatile, IsFlushed}
+use Rattle.block_machine.specs.Events.{Moment, Event, Service, Tick, WasReset, IsRun, accepts_of, steps_of, moment_of}
 
--- In a run of calls a write of one sector with 90 as its first byte is flushed, a later write of the sector isn't, the disk is
--- taken out, and comes back without the later one. Then a read of the sector is answered Ok, and its frame begins with 90.
-pub record FindsTheFlushed : Type 0 where
-  pub first : Moment
-  pub run : List (Event (Unit {0}))
-  pub runs : IsRun first run
-  pub told : AllTold first.machine (steps_of run)
-  pub volatile : IsVolatile first.machine (steps_of run)
-  -- the run's steps: these before the disk comes back, and these after
-  pub port : Port
-  pub id : ℕ
-  pub size : ℕ
-  pub disk : Disk
-  pub late : List Step
-  pub early : List Step
-  pub comes : steps_of run ≡ late ++ Replace port id size disk ∷ early
-  pub same : id ≡ (after first.machine early).disk_ids port
-  pub write : Accepted
-  pub flush : Accepted
-  pub here : write.port ≡ port
-  pub one : write.asked.count ≡ 1
-  pub byte : write.held 0 0 ≡ 90
-  pub flushed : IsFlushed first.machine write flush early
-  pub loses : disk (sector_of write 0) 0 ≢ (after first.machine early).disks port (sector_of write 0) 0
+-- the disk that was last in at the port is put in again after this run, with these bytes
+abbrev pub same_again : Moment → List (Event (Unit {0})) → Port → Disk → Step
+same_again first run port disk = Replace port ((moment_of first run).machine.disk_ids port) ((moment_of first run).machine.sizes port) disk
+
+-- with a volatile cache it may come back so
+abbrev pub MayComeBack : Moment → List (Event (Unit {0})) → Port → Disk → Type 0
+MayComeBack first run port disk = ComesBack first.machine (steps_of run) (same_again first run port disk)
+
+-- The run goes on: the disk is put in again with these bytes, a service boots the port, and a read of the first sector of
+-- the two writes is answered Ok. Its frame then has the bytes of the one, or those of the other.
+pub record ReadsOneOf (first : Moment) (run : List (Event (Unit {0}))) (disk : Disk) (one other : Accepted) : Type 0 where
+  pub plug : Event (Unit {0})
+  pub service : Event (Unit {0})
+  pub late : List (Event (Unit {0}))
+  pub runs : IsRun first (late ++ service ∷ plug ∷ run)
+  pub told : AllTold first.machine (steps_of (late ++ service ∷ plug ∷ run))
+  pub volatile : IsVolatile first.machine (steps_of (late ++ service ∷ plug ∷ run))
+  pub comes : plug.steps ≡ same_again first run one.port disk ∷ []
+  pub serves : service.ask ≡ Service
+  pub boots : (moment_of first (service ∷ plug ∷ run)).ports.state one.port ≡ Ready
   pub read : Pending
   pub reads : read.request.asked.op ≡ Read
-  pub there : read.request.port ≡ port
-  pub sector : sector_of read.request 0 ≡ sector_of write 0
+  pub there : read.request.port ≡ one.port
+  pub sector : sector_of read.request 0 ≡ sector_of one 0
   pub single : read.request.asked.count ≡ 1
-  pub answered : Contains late (Answer read Ok)
-  pub found : (moment_of first run).machine.memory (frame_at read.request.asked.frames.items 0) 0 ≡ 90
+  pub answered : Contains (steps_of late) (Answer read Ok)
+  pub memory : Memory
+  pub at_last : memory ≡ (moment_of first (late ++ service ∷ plug ∷ run)).machine.memory
+  pub found : SameBytes (block_of memory read.request.asked.frames.items 0) (one.held 0)
+      ⊎ SameBytes (block_of memory read.request.asked.frames.items 0) (other.held 0)
+
+-- In a run of calls a write of one sector is answered Ok and flushed. A later write of it, of other bytes, is answered Ok too,
+-- and not flushed. The disk is taken out, and a service notices. Whatever the disk holds when it comes back, as one with a
+-- volatile cache may, a read then finds the bytes of the one write or of the other; and it may come back with either.
+pub record FindsTheFlushed : Type 0 where
+  pub first : Moment
+  pub early : List (Event (Unit {0}))
+  pub unplug : Event (Unit {0})
+  pub service : Event (Unit {0})
+  pub runs : IsRun first (service ∷ unplug ∷ early)
+  pub write : Accepted
+  pub flush : Accepted
+  pub later : Accepted
+  pub single : write.asked.count ≡ 1
+  pub flushed : IsFlushed first.machine write flush (steps_of early)
+  pub over : (later.port ≡ write.port) × (later.asked ≡ write.asked)
+  pub differs : later.held 0 0 ≢ write.held 0 0
+  pub done : Pending
+  pub its : done.request ≡ later
+  pub answered : Contains (steps_of early) (Answer done Ok)
+  pub unflushed : (r : Accepted) → Contains (accepts_of (steps_of early)) r → r.asked.op ≡ Flush → r.id.0 < later.id.0
+  pub goes : unplug.steps ≡ Unplug write.port ∷ []
+  pub serves : service.ask ≡ Service
+  pub notices : (moment_of first (service ∷ unplug ∷ early)).ports.state write.port ≡ Absent
+  pub finds : (disk : Disk) → MayComeBack first (service ∷ unplug ∷ early) write.port disk → ReadsOneOf first (service ∷ unplug ∷ early) disk write later
+  pub kept : (disk : Disk) × MayComeBack first (service ∷ unplug ∷ early) write.port disk × SameBytes (disk (sector_of write 0)) (later.held 0)
+  pub lost : (disk : Disk) × MayComeBack first (service ∷ unplug ∷ early) write.port disk × SameBytes (disk (sector_of write 0)) (write.held 0)
 
 -- In a run of calls two requests are unanswered at once: one is issued, and the other waits for it. One call then answers the
 -- one and issues the other, and a later one answers that too.

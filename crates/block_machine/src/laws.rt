@@ -266,7 +266,8 @@ pub fn a_start_exists()
     ensures { (m : Machine) × IsStart m }
 {}
 
-/// A run exists in which the laws on reads and on flushed writes have something to say.
+/// A run exists in which a read finds a flushed write or a later one, whichever the disk kept while it was out: so the laws
+/// on reads and on flushed writes have something to say.
 pub fn a_worked_run_exists()
     ensures { FindsTheFlushed }
 {}
