@@ -25,6 +25,7 @@ pub mod Scene
 pub mod WorkedRun
 pub mod WaitingRun
 pub mod ResetRun
+pub mod TroubledRun
 pub mod KeptMatters
 pub mod HistoryLemmas
 pub mod Standing

@@ -1,7 +1,7 @@
 -- What the worked runs are made of: ports, calls and requests, and what holds of them.
-use Rattle.std.proofs.Common.{◌≡◌, ◌≢◌, ℕ, ◌+◌, ◌<◌, ◌≤◌, true, false, List, [], ◌∷◌, slice_get, Some, is_some, ◌||◌, ◌==◌, eq-eqb, None, inr, ⊎_elim, refl, sym, ap, ◌∙◌, subst, arith, Bool, cond, eqb-true}
-use Rattle.std.proofs.lemmas.Bool.{false≢true, or_left, cond-true, cond-false}
-use Rattle.std.specs.List.{Contains}
+use Rattle.std.proofs.Common.{◌≡◌, ◌≢◌, ℕ, ◌+◌, ◌<◌, ◌≤◌, true, false, not, List, [], ◌∷◌, slice_get, Some, is_some, ◌||◌, ◌==◌, eq-eqb, None, inr, ⊎_elim, refl, sym, ap, ◌∙◌, subst, arith, Bool, cond, eqb-true}
+use Rattle.std.proofs.lemmas.Bool.{false≢true, or_left, or_from, cond-true, cond-false}
+use Rattle.std.specs.List.{Contains, list_any}
 use Rattle.std.specs.List.Sorted.{IsPermutation}
 use Rattle.std.proofs.lemmas.Option.{slice_get_within, get_or_from_slice_get}
 use Rattle.std.proofs.lemmas.List.Sorted.{IsPermutation-refl}
@@ -28,7 +28,7 @@ use Rattle.block_machine.specs.State.{Accepted, Pending, Machine, block_of, is_r
 use Rattle.block_machine.specs.Steps.{Step, Touch, End, Answer, newly_accepted, issue, touch, mark_ended, IsNew}
 use Rattle.block_machine.specs.Ports.{Ports, Evidence, AreFit, IsServiced}
 use Rattle.block_machine.specs.Events.{Moment, Ask, Said, Event, Tells, situation_of, answers_of, reply_of}
-use Rattle.block_machine.proofs.Members.{contains_none, contains_here, contains_cases}
+use Rattle.block_machine.proofs.Members.{contains_none, contains_here, contains_cases, none_of}
 use Rattle.block_machine.proofs.Keeps.{same_port}
 use Rattle.block_machine.proofs.Dues.{issued_not_due}
 use Rattle.block_machine.proofs.Setting.{client, on, port, frame, row, two_rows, request, empty, its_row, is_trim, IsFit, acceptable}
@@ -170,11 +170,17 @@ new p m a q fit next here held = record {
   held = held;
 }
 
--- the one request of a book is issued, or there is none
+-- no request of a book is due where all are issued
+pub none_waits : (us : List Unanswered) → list_any (λ u. not u.issued) us ≡ false → (p : Port) → NoneDue mode us p
+none_waits us all p r here due = issued_not_due mode us r (is_issued r.issued (none_of (λ u. not u.issued) us r all due.here)) due
+  where
+    is_issued : (b : Bool) → not b ≡ false → b ≡ true
+    is_issued true e = refl
+    is_issued false e = sym e
+
+-- as of the one request of a book, or where there is none
 pub one_issued : (u : Unanswered) → u.issued ≡ true → (p : Port) → NoneDue mode (u ∷ []) p
-one_issued u issued p r here due = issued_not_due mode (u ∷ []) r (⊎_elim
-    (λ e. ap (λ (x : Unanswered). x.issued) e ∙ issued)
-    (λ n. absurd (contains_none r n)) (contains_cases u [] r due.here)) due
+one_issued u issued p = none_waits (u ∷ []) (or_from _ _ (ap not issued) refl) p
 
 pub none_there : (p : Port) → NoneDue mode [] p
 none_there p r here due = contains_none r due.here
@@ -259,9 +265,12 @@ serviced p = (
   λ _. record { served = refl; stuck = λ e. none_dead p e; disk = λ ready. inr (inr (ready, (refl, refl))) },
 )
 
--- where port 0 is ready, one request of it is no other port's
-pub emptied_one : (one : Pending) → one.request.port ≡ port → (p : Port) → at_port Ready p ≢ Ready → (e : Pending) → Contains (one ∷ []) e → e.request.port ≢ p
-emptied_one one here p ne e h q = ⊎_elim
-    (λ (same : e ≡ one). ne (subst (λ (x : Port). at_port Ready x ≡ Ready) (sym here ∙ ap (λ (x : Pending). x.request.port) (sym same) ∙ q) refl))
+-- where a port is ready, one request of it is no other port's
+pub emptied_at : (state : Port → PortState) (one : Pending) → state one.request.port ≡ Ready → (p : Port) → state p ≢ Ready → (e : Pending) → Contains (one ∷ []) e → e.request.port ≢ p
+emptied_at state one ready p ne e h q = ⊎_elim
+    (λ (same : e ≡ one). ne (subst (λ (x : Port). state x ≡ Ready) (ap (λ (x : Pending). x.request.port) (sym same) ∙ q) ready))
     (λ n. contains_none e n)
     (contains_cases one [] e h)
+
+pub emptied_one : (one : Pending) → at_port Ready one.request.port ≡ Ready → (p : Port) → at_port Ready p ≢ Ready → (e : Pending) → Contains (one ∷ []) e → e.request.port ≢ p
+emptied_one one ready = emptied_at (at_port Ready) one ready

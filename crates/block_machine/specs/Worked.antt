@@ -4,14 +4,14 @@ use Rattle.ata_types.specs.declared.Port.{Port}
 use Rattle.ata_types.specs.declared.PortState.TheVariants.{Absent, Ready}
 use Rattle.ata_types.specs.declared.request.Frame.{Frame}
 use Rattle.ata_types.specs.declared.request.Op.TheVariants.{Read, Flush}
-use Rattle.ata_types.specs.declared.request.Outcome.TheVariants.{Ok, PortDead}
+use Rattle.ata_types.specs.declared.request.Outcome.TheVariants.{Ok, DeviceError, Aborted, Unplugged, PortDead}
 use Rattle.block_machine.specs.declared.due.Mode.{Mode}
 use Rattle.block_machine.specs.State.{Disk, Memory, Accepted, Pending, Machine, block_of, sector_of, unanswered}
 use Rattle.block_machine.specs.Due.{IsDue, conflict}
-use Rattle.block_machine.specs.Steps.{Step, Issue, Answer, Unplug, Replace, May, AllTouched}
+use Rattle.block_machine.specs.Steps.{Step, Issue, Again, Answer, Unplug, Replace, May, AllTouched}
 use Rattle.block_machine.specs.Left.{after, IsStart, AllTold, HoldsLeft}
 use Rattle.block_machine.specs.Durable.{SameBytes, ComesBack, IsVolatile, IsFlushed}
-use Rattle.block_machine.specs.Events.{Moment, Event, Service, Tick, WasReset, IsRun, accepts_of, steps_of, moment_of}
+use Rattle.block_machine.specs.Events.{Moment, Event, Service, Tick, Served, WasReset, IsRun, accepts_of, reply_of, steps_of, moment_of}
 
 -- the disk that was last in at the port is put in again after this run, with these bytes
 abbrev pub same_again : Moment → List (Event (Unit {0})) → Port → Disk → Step
@@ -128,6 +128,46 @@ pub record EndsWithAReset : Type 0 where
   pub ends : reset.said ≡ WasReset (Some [])
   pub freed : (moment_of first (reset ∷ service ∷ stuck ∷ three ∷ two ∷ one ∷ asked)).machine.lent frame ≡ None
   pub ready : (moment_of first (reset ∷ service ∷ stuck ∷ three ∷ two ∷ one ∷ asked)).ports.state again.request.port ≡ Ready
+
+-- In a run of calls three requests are issued, one on one port and two on another, and the first port's disk is taken out. One
+-- service then answers the first port's request Unplugged, and, since the other port failed too, tells the fault of the one
+-- request there and issues the other anew. That fails with its port each time, and is aborted after its fourth issue.
+pub record MeetsTrouble : Type 0 where
+  pub first : Moment
+  pub asked : List (Event (Unit {0}))
+  pub service : Event (Unit {0})
+  pub third : Event (Unit {0})
+  pub fourth : Event (Unit {0})
+  pub last : Event (Unit {0})
+  pub runs : IsRun first (last ∷ fourth ∷ third ∷ service ∷ asked)
+  pub told : AllTold first.machine (steps_of (last ∷ fourth ∷ third ∷ service ∷ asked))
+  pub volatile : IsVolatile first.machine (steps_of (last ∷ fourth ∷ third ∷ service ∷ asked))
+  pub lost : Pending
+  pub failed : Pending
+  pub again : Pending
+  pub book : (moment_of first asked).machine.book ≡ lost ∷ failed ∷ again ∷ []
+  pub issued : (lost.issued ≡ true) × (failed.issued ≡ true) × (again.issued ≡ true)
+  pub apart : lost.request.port ≢ failed.request.port
+  pub together : again.request.port ≡ failed.request.port
+  pub goes : Contains (steps_of asked) (Unplug lost.request.port)
+  pub serves : (service.ask ≡ Service) × (third.ask ≡ Service) × (fourth.ask ≡ Service) × (last.ask ≡ Service)
+  -- the failed port's answer first, since its number is lower
+  pub tells : service.said ≡ Served (reply_of (failed, DeviceError 65 64) ∷ reply_of (lost, Unplugged) ∷ [])
+  pub requeues : Contains service.steps (Again again)
+  pub absent : (moment_of first (service ∷ asked)).ports.state lost.request.port ≡ Absent
+  pub ready : (moment_of first (service ∷ asked)).ports.state failed.request.port ≡ Ready
+  -- how it stands after this call, and before the last
+  pub anew : Pending
+  pub left : (moment_of first (service ∷ asked)).machine.book ≡ anew ∷ []
+  pub twice : (anew.request ≡ again.request) × (anew.issued ≡ true) × (anew.issues ≡ 2)
+  pub spent : Pending
+  pub still : (moment_of first (fourth ∷ third ∷ service ∷ asked)).machine.book ≡ spent ∷ []
+  pub four : (spent.request ≡ again.request) × (spent.issued ≡ true) × (spent.issues ≡ 4)
+  pub ends : last.said ≡ Served (reply_of (spent, Aborted) ∷ [])
+  pub none_left : (moment_of first (last ∷ fourth ∷ third ∷ service ∷ asked)).machine.book ≡ []
+  pub frame : Frame
+  pub its : again.request.asked.frames.items ≡ frame ∷ []
+  pub freed : (moment_of first (last ∷ fourth ∷ third ∷ service ∷ asked)).machine.lent frame ≡ None
 
 -- The machine without the rule that nothing is issued while a kept request is left on the port.
 abbrev pub LooseMay : Machine → Step → Type 0

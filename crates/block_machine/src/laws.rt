@@ -26,7 +26,7 @@ ghost use Rattle.block_machine.specs.Left.{IsStart, IsLegal, AllTold, HasTouched
 ghost use Rattle.block_machine.specs.Confined.{IsGranted, IsConfined, IsHeld, WasAccepted, WithinLimits, MayChangeByte, MayChangeSector};
 ghost use Rattle.block_machine.specs.Durable.{IsVolatile, EveryPlugFinds};
 ghost use Rattle.block_machine.specs.Events.{Moment, Event, AllIssued, Happens, IsRun, IsStillStuck, EveryReadHolds, issues_it, moment_of, steps_of};
-ghost use Rattle.block_machine.specs.Worked.{FindsTheFlushed, WaitsItsTurn, EndsWithAReset, GoesWrong};
+ghost use Rattle.block_machine.specs.Worked.{FindsTheFlushed, WaitsItsTurn, EndsWithAReset, MeetsTrouble, GoesWrong};
 
 /// One rule is the first that a request breaks.
 pub fn first_broken_rule_is_one()
@@ -275,6 +275,12 @@ pub fn a_worked_run_exists()
 /// A run exists in which a request waits for another, and is issued by the call that answers that one.
 pub fn a_waiting_run_exists()
     ensures { WaitsItsTurn }
+{}
+
+/// A run exists in which two ports serve requests, the one fails and the other loses its disk, and a fault, an unplugged
+/// request, one that is issued anew and one that is aborted are told as they have to be.
+pub fn a_troubled_run_exists()
+    ensures { MeetsTrouble }
 {}
 
 /// Without the rule on kept requests a read may go wrong.
