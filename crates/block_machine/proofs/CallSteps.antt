@@ -20,16 +20,16 @@ ages_it port (Age ready) = ready port
 ages_it port _ = false
 
 -- How an issued request got there: the step issued it, or it was issued before, and is a tick older at most.
-abbrev IsIssuedBy : Step → Pending → Pending → Type 0
+abbrev pub IsIssuedBy : Step → Pending → Pending → Type 0
 IsIssuedBy step old e = ((issues_it e.request.id step ≡ true) × (e.age ≡ 0))
     ⊎ ((issues_it e.request.id step ≡ false) × (old.issued ≡ true) × (e.age ≤ old.age + cond (ages_it e.request.port step) 1 0))
 
 -- a request of the book was there before the step
-record Came (m : Machine) (step : Step) (e : Pending) : Type 0 where
-  old : Pending
-  here : Contains m.book old
-  same : old.request ≡ e.request
-  issued : e.issued ≡ true → IsIssuedBy step old e
+pub record Came (m : Machine) (step : Step) (e : Pending) : Type 0 where
+  pub old : Pending
+  pub here : Contains m.book old
+  pub same : old.request ≡ e.request
+  pub issued : e.issued ≡ true → IsIssuedBy step old e
 
 -- the step neither issues nor ages the request
 stayed : (m : Machine) (step : Step) (e o : Pending) → Contains m.book o → o.request ≡ e.request → issues_it e.request.id step ≡ false → (e.issued ≡ true → (o.issued ≡ true) × (e.age ≡ o.age)) → Came m step e
@@ -55,7 +55,7 @@ tick_older ready o = go o.issued (ready o.request.port)
     go true false = omega arith
     go false b = omega arith
 
-came : (m : Machine) (step : Step) (e : Pending) → Contains (after_step m step).book e → Came m step e ⊎ (IsAccept step e.request × (e.issued ≡ false))
+pub came : (m : Machine) (step : Step) (e : Pending) → Contains (after_step m step).book e → Came m step e ⊎ (IsAccept step e.request × (e.issued ≡ false))
 came m (Accept r) e h = ⊎_elim
     (λ o. inl (stayed_same m (Accept r) e e o refl refl))
     (λ p. inr (ap (λ (y : Pending). y.request) (sym p), ap (λ (y : Pending). y.issued) p))

@@ -37,6 +37,9 @@ older_issued ready e = elim (e.issued && ready e.request.port) as (λ b. (cond b
 pub older_touched : (ready : Port → Bool) (e : Pending) → (older ready e).touched ≡ e.touched
 older_touched ready e = elim (e.issued && ready e.request.port) as (λ b. (cond b (record e { age = suc e.age }) e).touched ≡ e.touched) [ true ↦ refl | false ↦ refl ]
 
+pub older_ended : (ready : Port → Bool) (e : Pending) → (older ready e).ended ≡ e.ended
+older_ended ready e = elim (e.issued && ready e.request.port) as (λ b. (cond b (record e { age = suc e.age }) e).ended ≡ e.ended) [ true ↦ refl | false ↦ refl ]
+
 same_all : (es : List Pending) → IsChanged (λ e. e) es es
 same_all es e h = (e, h, refl)
 

@@ -18,6 +18,7 @@ pub mod Changes
 pub mod Touching
 pub mod CallSteps
 pub mod RunLaws
+pub mod Once
 pub mod NoneDue
 pub mod EventLemmas
 pub mod Setting

@@ -140,6 +140,16 @@ abbrev pub is_release : Step → Bool
 is_release Release = true
 is_release _ = false
 
+-- the step accepts the request of this id
+abbrev pub accepts_it : RequestId → Step → Bool
+accepts_it id (Accept r) = r.id.0 == id.0
+accepts_it id _ = false
+
+-- the step answers the request of this id
+abbrev pub answers_it : RequestId → Step → Bool
+answers_it id (Answer e o) = e.request.id.0 == id.0
+answers_it id _ = false
+
 -- the step issues the request of this id
 abbrev pub issues_it : RequestId → Step → Bool
 issues_it id (Issue mode e) = e.request.id.0 == id.0
@@ -356,6 +366,22 @@ IsStillStuck (event ∷ past) = StaysStuck event.ask event.said (IsStillStuck pa
 abbrev pub steps_of : {D : Type 0} → List (Event D) → List Step
 steps_of [] = []
 steps_of (event ∷ past) = event.steps ++ steps_of past
+
+-- the replies that a call gives
+abbrev pub replies_of : Said → List Reply
+replies_of (Served replies) = replies
+replies_of (WasReset (Some replies)) = replies
+replies_of said = []
+
+-- the replies of a run
+abbrev pub all_replies : {D : Type 0} → List (Event D) → List Reply
+all_replies [] = []
+all_replies (event ∷ past) = replies_of event.said ++ all_replies past
+
+-- the call accepts a request under this id
+abbrev pub gives_id : RequestId → Said → Bool
+gives_id id (Submitted (Ok given)) = given.0 == id.0
+gives_id id said = false
 
 -- a read that this step answers Ok has, in this memory, what is left
 abbrev pub AnswerHolds : Machine → Memory → List Step → Step → Type 0

@@ -10,7 +10,7 @@ use Rattle.ata_types.specs.declared.grant.GrantRow.{GrantRow}
 use Rattle.block_machine.specs.Rules.{DifferInName}
 use Rattle.block_machine.specs.Due.{is_writer}
 use Rattle.block_machine.specs.State.{Block, Disk, Memory, Accepted, Machine, block_of, sector_of, written_by}
-use Rattle.block_machine.specs.Steps.{Step, Accept, Issue, Touch, Replace, May, after_step}
+use Rattle.block_machine.specs.Steps.{Step, Accept, Issue, Touch, End, Replace, May, after_step}
 
 -- the machine after a history of steps
 abbrev pub after : Machine → List Step → Machine
@@ -92,10 +92,23 @@ abbrev pub IsIssue : Step → Accepted → Type 0
 IsIssue (Issue mode e) r = e.request ≡ r
 IsIssue _ r = ⊥
 
+-- the step ends the request
+abbrev pub IsEnd : Step → Accepted → Type 0
+IsEnd (End e) r = e.request ≡ r
+IsEnd _ r = ⊥
+
+-- a step of this kind came, and the request was not issued since
+abbrev pub HasSince : (Step → Type 0) → Accepted → List Step → Type 0
+HasSince IsKind r [] = ⊥
+HasSince IsKind r (step ∷ past) = IsKind step ⊎ ((IsIssue step r → ⊥) × HasSince IsKind r past)
+
 -- the request touched sector k, and was not issued since
 abbrev pub HasTouchedSince : Accepted → ℕ → List Step → Type 0
-HasTouchedSince r k [] = ⊥
-HasTouchedSince r k (step ∷ past) = IsTouch step r k ⊎ ((IsIssue step r → ⊥) × HasTouchedSince r k past)
+HasTouchedSince r k past = HasSince (λ step. IsTouch step r k) r past
+
+-- the device ended the request, and it was not issued since
+abbrev pub HasEndedSince : Accepted → List Step → Type 0
+HasEndedSince r past = HasSince (λ step. IsEnd step r) r past
 
 -- the number of the disk that was in at the last touch of sector k by this request
 abbrev pub disk_read : Accepted → ℕ → List Step → ℕ

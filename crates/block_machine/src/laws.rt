@@ -1,7 +1,8 @@
 //! Laws about the definitions in specs/. The clause of each function is the law; the functions do nothing, and nothing
 //! calls them. `D` are the steps that a device can be told to do: a law on runs holds for any device.
 
-ghost use Rattle.std.specs.Prelude.{◌≡◌, ◌≢◌, ◌⊎◌, ◌↔◌, ◌+◌, ◌<◌, ◌≤◌, ℕ, true, false, List, ◌∷◌, ◌++◌, Option, Some, length, map, count_by, AllPairs, Contains, IsTrue};
+ghost use Rattle.std.specs.List.{list_any};
+ghost use Rattle.std.specs.Prelude.{◌≡◌, ◌≢◌, ◌⊎◌, ◌↔◌, ◌+◌, ◌<◌, ◌≤◌, ◌==◌, ℕ, true, false, List, ◌∷◌, ◌++◌, Option, Some, length, map, count_by, AllPairs, Contains, IsTrue};
 ghost use Rattle.ata_types.specs.declared.Port.{Port};
 ghost use Rattle.ata_types.specs.declared.PortState.TheVariants.{Ready, Dead};
 ghost use Rattle.ata_types.specs.declared.request.ClientId.{ClientId};
@@ -9,7 +10,9 @@ ghost use Rattle.ata_types.specs.declared.request.Frame.{Frame};
 ghost use Rattle.ata_types.specs.declared.request.RequestId.{RequestId};
 ghost use Rattle.ata_types.specs.declared.request.Request.{Request};
 ghost use Rattle.ata_types.specs.declared.request.Op.TheVariants.{Read, Flush};
+ghost use Rattle.ata_types.specs.declared.request.Outcome.{Outcome};
 ghost use Rattle.ata_types.specs.declared.request.Outcome.TheVariants.{Ok};
+ghost use Rattle.ata_types.specs.declared.request.Reply.{Reply};
 ghost use Rattle.ata_types.specs.declared.refusal.Rule.{Rule};
 ghost use Rattle.ata_types.specs.declared.refusal.Refusal.{Refusal};
 ghost use Rattle.ata_types.specs.declared.grant.GrantRow.{GrantRow};
@@ -22,10 +25,10 @@ ghost use Rattle.block_machine.specs.Refusals.{Situation, IsFirstRefusal};
 ghost use Rattle.block_machine.specs.Due.{IsDue, IsInOrder, overlap, is_due, is_plain, ahead, due_ahead, free_slots, issued_count, with_issued};
 ghost use Rattle.block_machine.specs.State.{Block, Accepted, Pending, Machine, frame_at, sector_of, unanswered};
 ghost use Rattle.block_machine.specs.Steps.{Step, Touch, Issue, Answer, May, after_step, IsNew, IsLiving, AllTouched};
-ghost use Rattle.block_machine.specs.Left.{IsStart, IsLegal, AllTold, HasTouched, HasTouchedSince, IsLeft, HoldsLeft, after};
+ghost use Rattle.block_machine.specs.Left.{IsStart, IsLegal, AllTold, HasTouched, HasTouchedSince, HasEndedSince, IsLeft, HoldsLeft, after};
 ghost use Rattle.block_machine.specs.Confined.{IsGranted, IsConfined, IsHeld, WasAccepted, WithinLimits, MayChangeByte, MayChangeSector};
 ghost use Rattle.block_machine.specs.Durable.{IsVolatile, EveryPlugFinds};
-ghost use Rattle.block_machine.specs.Events.{Moment, Event, AllIssued, Happens, IsRun, IsStillStuck, EveryReadHolds, issues_it, moment_of, steps_of};
+ghost use Rattle.block_machine.specs.Events.{Moment, Event, AllIssued, Happens, IsRun, IsStillStuck, EveryReadHolds, accepts_it, answers_it, issues_it, gives_id, replies_of, all_replies, moment_of, steps_of};
 ghost use Rattle.block_machine.specs.Worked.{FindsTheFlushed, WaitsItsTurn, EndsWithAReset, MeetsTrouble, GoesWrong};
 
 /// One rule is the first that a request breaks.
@@ -98,6 +101,51 @@ pub fn ok_was_touched<D>()
         → IsRun first run → steps_of run ≡ late ++ Answer e Ok ∷ early
         → (i : ℕ) → i < e.request.asked.count
         → HasTouchedSince e.request (sector_of e.request i) early }
+{}
+
+/// Over every run an id is accepted once at most.
+pub fn accepted_once<D>()
+    ensures { (first : Moment) (run : List (Event D)) (id : RequestId) → IsRun first run
+        → count_by (accepts_it id) (steps_of run) ≤ 1 }
+{}
+
+/// Over every run a request is answered once at most.
+pub fn answered_once<D>()
+    ensures { (first : Moment) (run : List (Event D)) (id : RequestId) → IsRun first run
+        → count_by (answers_it id) (steps_of run) ≤ 1 }
+{}
+
+/// Each request that a run answers was accepted before.
+pub fn answered_was_accepted<D>()
+    ensures { (first : Moment) (run : List (Event D)) (late early : List Step) (e : Pending)
+        (outcome : Outcome) → IsRun first run → steps_of run ≡ late ++ Answer e outcome ∷ early
+        → WasAccepted first.machine early e.request }
+{}
+
+/// Over every run one submit at most gives an id.
+pub fn given_once<D>()
+    ensures { (first : Moment) (run : List (Event D)) (id : RequestId) → IsRun first run
+        → count_by (λ event. gives_id id event.said) run ≤ 1 }
+{}
+
+/// Over every run an id stands in one reply at most.
+pub fn replied_once<D>()
+    ensures { (first : Moment) (run : List (Event D)) (id : RequestId) → IsRun first run
+        → count_by (λ reply. reply.id.0 == id.0) (all_replies run) ≤ 1 }
+{}
+
+/// Each reply of a call has an id that an earlier submit gave.
+pub fn replied_was_given<D>()
+    ensures { (first : Moment) (past : List (Event D)) (event : Event D) (reply : Reply)
+        → IsRun first (event ∷ past) → Contains (replies_of event.said) reply
+        → list_any (λ earlier. gives_id reply.id earlier.said) past ≡ true }
+{}
+
+/// Where a run answers a request Ok, the device ended it, and since then it wasn't issued again.
+pub fn ok_was_ended<D>()
+    ensures { (first : Moment) (run : List (Event D)) (late early : List Step) (e : Pending)
+        → IsRun first run → steps_of run ≡ late ++ Answer e Ok ∷ early
+        → HasEndedSince e.request early }
 {}
 
 /// A call issues a request once at most.
