@@ -1,5 +1,5 @@
 -- The small histories of the plain program as histories of the machine. The newest stands first.
-use Rattle.std.specs.Prelude.{◌≡◌, ◌⊎◌, ℕ, ◌<◌, ◌≤◌, true, List, [], map, Option, Some, None, IfSome, IfNone}
+use Rattle.std.specs.Prelude.{◌≡◌, ◌⊎◌, ℕ, ◌+◌, ◌%◌, ◌<◌, ◌≤◌, true, List, [], map, Option, Some, None, IfSome, IfNone}
 use Rattle.ata_types.specs.declared.Port.{Port}
 use Rattle.block_machine.specs.declared.history.Filled.{Filled}
 use Rattle.block_machine.specs.declared.history.Happened.{Happened}
@@ -9,31 +9,35 @@ use Rattle.block_machine.specs.State.{Accepted, Machine}
 use Rattle.block_machine.specs.Steps.{Step, Touch, Replace, newly_accepted}
 use Rattle.block_machine.specs.Left.{IsTouch, Wrote}
 
--- a request whose bytes are all its fill
+-- the byte in all places of sector number n of what has this fill
+abbrev pub byte_of : ℕ → ℕ → ℕ
+byte_of fill n = (fill + n) % 256
+
+-- a request of this fill: its i-th sector has the byte of i
 abbrev pub accepted_of : Filled → Accepted
 accepted_of r = record {
   id = r.id;
   port = r.port;
   asked = record { client = record { 0 = 0 }; grant = 0; op = r.op; first = r.range.first; count = r.range.count; frames = record { items = [] } };
-  held = λ i b. r.fill;
+  held = λ i b. byte_of r.fill i;
 }
 
 -- a happening as a step
 abbrev pub step_of : Happened → Step
-step_of (Touched r i) = Touch (newly_accepted (accepted_of r)) i (λ b. r.fill)
-step_of (Plugged port fill) = Replace port 0 0 (λ k b. fill)
+step_of (Touched r i) = Touch (newly_accepted (accepted_of r)) i (λ b. byte_of r.fill i)
+step_of (Plugged port fill) = Replace port 0 0 (λ k b. byte_of fill k)
 
 -- happenings as steps
 abbrev pub history_of : List Happened → List Step
 history_of happened = map step_of happened
 
--- a machine whose disks have this byte in all places
+-- a machine whose disks have this fill: sector k has the byte of k
 abbrev pub start_filled : ℕ → Machine
 start_filled fill = record {
   present = λ p. true;
   disk_ids = λ p. 0;
   sizes = λ p. 0;
-  disks = λ p k b. fill;
+  disks = λ p k b. byte_of fill k;
   book = [];
   kept = [];
   lent = λ f. None;

@@ -1,13 +1,14 @@
 // What is left on a sector, as a plain and slow program over small histories.
-ghost use Rattle.std.specs.Prelude.{◌≡◌, ◌≤◌, ℕ, length, IfSome, IfNone};
+ghost use Rattle.std.specs.Prelude.{◌≡◌, ◌≤◌, ◌-◌, ℕ, length, IfSome, IfNone};
 ghost use Rattle.block_machine.specs.Left as left;
 ghost use Rattle.block_machine.specs.State.{Block, written_by};
+ghost use Rattle.block_machine.specs.PlainLeft as plain_left;
 ghost use Rattle.block_machine.specs.PlainLeft.{history_of, step_of, accepted_of, start_filled, IsWriterNow, IsLater, IsLastWriter};
 
 use crate::due::is_writer;
 use ata_types::{Op, Port, Range, RequestId};
 
-/// A request of a small history. A write has this byte in all places.
+/// A request of a small history. A write has, in all places of its i-th sector, the byte `fill` + i, modulo 256.
 #[derive(Clone, Copy, Debug, Default, PartialEq, Eq)]
 pub struct Filled {
     pub id: RequestId,
@@ -22,7 +23,7 @@ pub struct Filled {
 pub enum Happened {
     /// A sector of a request was moved or cleared, by its number in the request.
     Touched(Filled, u32),
-    /// A disk was put in, with this byte in all places.
+    /// A disk was put in. With `fill` as the number here, it has the byte `fill` + k, modulo 256, in all places of sector k.
     Plugged(Port, u8),
 }
 
@@ -72,18 +73,25 @@ fn disk_read(read: &Filled, sector: u64, history: &[Happened]) -> usize
     }
 }
 
-/// What the disk with this number held in all places when it was put in.
-fn bytes_when_plugged(start: u8, port: Port, number: usize, history: &[Happened]) -> u8
+/// The byte in all places of sector number `number` of what has this fill.
+fn byte_of(fill: u8, number: u64) -> u8
+    ensures { result ≡ plain_left.byte_of fill number }
+{
+    ((fill as u128 + number as u128) % 256) as u8
+}
+
+/// The fill that the disk with this number had when it was put in.
+fn fill_when_plugged(start: u8, port: Port, number: usize, history: &[Happened]) -> u8
     ensures { (k b : ℕ)
         → left.bytes_when_plugged (start_filled start) port number
-        (history_of history.now) k b ≡ result }
+        (history_of history.now) k b ≡ plain_left.byte_of result k }
 {
     match history.split_first() {
         None => start,
         Some((newest, past)) => match newest {
             Happened::Plugged(at, fill) if at.0 == port.0 && plug_count(port, past) + 1 == number =>
                 { *fill }
-            _ => bytes_when_plugged(start, port, number, past),
+            _ => fill_when_plugged(start, port, number, past),
         },
     }
 }
@@ -135,18 +143,19 @@ fn last_writer(read: &Filled, sector: u64, disk: usize, history: &[Happened]) ->
     }
 }
 
-/// What a write or trim puts on its sectors: its own byte, or zeros.
-fn written(writer: Filled) -> u8
-    ensures { (i b : ℕ) → written_by writer.op (accepted_of writer).held i b ≡ result }
+/// What a write or trim puts on the sector: its own byte, or zeros.
+fn written(writer: Filled, sector: u64) -> u8
+    ensures { (b : ℕ)
+        → written_by writer.op (accepted_of writer).held (sector - writer.range.first.0) b ≡ result }
 {
     match writer.op {
-        Op::Write => writer.fill,
+        Op::Write => byte_of(writer.fill, sector.saturating_sub(writer.range.first.0)),
         Op::Read | Op::Trim | Op::Flush => 0,
     }
 }
 
 /// What the writes and trims accepted before the read left on the sector, as the byte in all its places. The newest happening
-/// stands first, and the disks held `start` before the first.
+/// stands first, and the disks had the fill `start` before the first.
 pub fn left(start: u8, history: &[Happened], read: &Filled, sector: u64) -> u8
     ensures { (block : Block) × left.IsLeft (start_filled start) (history_of history.now)
         (accepted_of read.now) sector block
@@ -154,7 +163,7 @@ pub fn left(start: u8, history: &[Happened], read: &Filled, sector: u64) -> u8
 {
     let disk = disk_read(read, sector, history);
     match last_writer(read, sector, disk, history) {
-        Some(writer) => written(writer),
-        None => bytes_when_plugged(start, read.port, disk, history),
+        Some(writer) => written(writer, sector),
+        None => byte_of(fill_when_plugged(start, read.port, disk, history), sector),
     }
 }

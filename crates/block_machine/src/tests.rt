@@ -418,14 +418,15 @@ fn an_unplug_cuts_a_write_short(rt: HostRuntime) {
     let read = filled(2, Op::Read, 100, 8, 0);
     let cut = [Happened::Touched(write, 1), Happened::Touched(write, 0)];
     assert_eq!(rt; left(5, &cut, &read, 100), 7);
-    assert_eq!(rt; left(5, &cut, &read, 102), 5);
+    assert_eq!(rt; left(5, &cut, &read, 101), 8);
+    assert_eq!(rt; left(5, &cut, &read, 102), 107);
     let another = [
         Happened::Touched(read, 0),
         Happened::Plugged(Port(0), 9),
         Happened::Touched(write, 1),
         Happened::Touched(write, 0),
     ];
-    assert_eq!(rt; left(5, &another, &read, 100), 9);
+    assert_eq!(rt; left(5, &another, &read, 100), 109);
 }
 
 #[test]
@@ -473,7 +474,7 @@ fn a_disk_is_plugged_in_again(rt: HostRuntime) {
         Happened::Plugged(Port(0), 8),
         Happened::Touched(write, 0),
     ];
-    assert_eq!(rt; left(5, &back, &read, 100), 8);
+    assert_eq!(rt; left(5, &back, &read, 100), 108);
     let again = [
         Happened::Touched(read, 0),
         Happened::Touched(write, 0),
@@ -503,10 +504,10 @@ fn what_is_left_goes_by_sector(rt: HostRuntime) {
         Happened::Touched(first, 4),
         Happened::Touched(first, 3),
     ];
-    assert_eq!(rt; left(5, &history, &read, 99), 5);
-    assert_eq!(rt; left(5, &history, &read, 103), 1);
+    assert_eq!(rt; left(5, &history, &read, 99), 104);
+    assert_eq!(rt; left(5, &history, &read, 103), 4);
     assert_eq!(rt; left(5, &history, &read, 104), 2);
-    assert_eq!(rt; left(5, &history, &read, 105), 5);
+    assert_eq!(rt; left(5, &history, &read, 105), 110);
 }
 
 #[test]
@@ -514,8 +515,8 @@ fn a_touch_on_another_port_leaves_nothing(rt: HostRuntime) {
     let mut write = filled(1, Op::Write, 96, 8, 7);
     let read = filled(2, Op::Read, 100, 1, 0);
     let here = [Happened::Touched(read, 0), Happened::Touched(write, 4)];
-    assert_eq!(rt; left(5, &here, &read, 100), 7);
+    assert_eq!(rt; left(5, &here, &read, 100), 11);
     write.port = Port(1);
     let there = [Happened::Touched(read, 0), Happened::Touched(write, 4)];
-    assert_eq!(rt; left(5, &there, &read, 100), 5);
+    assert_eq!(rt; left(5, &there, &read, 100), 105);
 }

@@ -1,3 +1,4 @@
+use Rattle.std.proofs.Common.{◌∙◌, sym}
 use Rattle.block_machine.specs.PlainLeft.{history_of}
 use Rattle.block_machine.proofs.PlainLeft.{left_by_writer, left_by_disk}
 use Rattle.block_machine.proofs.history.left.Goals as goal
@@ -7,5 +8,5 @@ returns-in-Some c = left_by_writer c.args.start (history_of c.args.history.now) 
     c.disk_read-disk.ensures c.last_writer.ensures c.in-Some.is c.written.ensures
 
 pub returns-in-None : goal.returns-in-None
-returns-in-None c = left_by_disk c.args.start (history_of c.args.history.now) c.args.read.now c.args.sector c.disk_read-disk.result c.bytes_when_plugged.result c.last_writer.result
-    c.disk_read-disk.ensures c.last_writer.ensures c.in-None.is c.bytes_when_plugged.ensures
+returns-in-None c = left_by_disk c.args.start (history_of c.args.history.now) c.args.read.now c.args.sector c.disk_read-disk.result c.byte_of.result c.last_writer.result
+    c.disk_read-disk.ensures c.last_writer.ensures c.in-None.is (λ b. c.fill_when_plugged.ensures c.args.sector b ∙ sym c.byte_of.ensures)
