@@ -1,9 +1,11 @@
 -- Over every run an id is accepted once at most, and answered once at most, after it was accepted: as steps, and as what calls say.
 use Rattle.std.proofs.Common.{◌≡◌, ◌≢◌, ◌⊎◌, ℕ, ◌+◌, ◌<◌, ◌≤◌, ◌==◌, Bool, true, false, cond, suc, List, [], ◌∷◌, ◌++◌, map, Option, Some, None, Ok, Err, inl, inr, ⊎_elim, refl, sym, ap, ◌∙◌, subst, arith, eq-eqb, eqb-true}
 use Rattle.std.proofs.lemmas.Bool.{eqb-false, false≢true, or_left, or_right}
-use Rattle.std.proofs.lemmas.List.Sorted.{sum_by-IsPermutation}
-use Rattle.std.specs.List.{Contains, count_by, list_any}
+use Rattle.std.proofs.lemmas.List.Sorted.{sum_by-IsPermutation, Contains-permutation}
+use Rattle.std.specs.List.{Contains, count_by}
 use Rattle.ata_types.specs.declared.request.RequestId.{RequestId}
+use Rattle.ata_types.specs.declared.request.ClientId.{ClientId}
+use Rattle.ata_types.specs.declared.request.Request.{Request}
 use Rattle.ata_types.specs.declared.request.Outcome.{Outcome}
 use Rattle.ata_types.specs.declared.request.Reply.{Reply}
 use Rattle.block_machine.specs.Ports.{Ports, Evidence}
@@ -11,14 +13,13 @@ use Rattle.block_machine.specs.State.{Accepted, Pending, Machine}
 use Rattle.block_machine.specs.Steps.{Step, Accept, Answer, May, after_step}
 use Rattle.block_machine.specs.Left.{after, IsLegal, IsStart, IsAccept}
 use Rattle.block_machine.specs.Confined.{WasAccepted}
-use Rattle.block_machine.specs.Events.{Moment, Ask, Submit, StoreAt, LoadAt, Service, Tick, Reset, State, Device, Said, Submitted, Stored, Loaded, Served, WasReset, Shown, Stepped, Event, AllMay, Tells, IsAnswered, IsRun, accepts_it, answers_it, accepts_of, answers_of, reply_of, replies_of, all_replies, gives_id, moment_of, steps_of}
+use Rattle.block_machine.specs.Events.{Moment, Ask, Submit, StoreAt, LoadAt, Service, Tick, Reset, State, Device, Said, Submitted, Stored, Loaded, Served, WasReset, Shown, Stepped, Event, AllMay, Belong, Tells, IsAnswered, IsRun, accepts_it, answers_it, accepts_of, answers_of, reply_of, replies_of, all_replies, gives_id, WasGiven, moment_of, steps_of}
 use Rattle.block_machine.proofs.Members.{contains_none, contains_here, contains_there, contains_cases, map_in, without_in, append_in}
 use Rattle.block_machine.proofs.Sound.{Sound}
-use Rattle.block_machine.proofs.Keeps.{same_id}
 use Rattle.block_machine.proofs.Runs.{traced, nobody}
 use Rattle.block_machine.proofs.Accepts.{living_accepted}
 use Rattle.block_machine.proofs.Counting.{count_cons, count_append, count_map}
-use Rattle.block_machine.proofs.CallSteps.{Came, came, Since, IsAccepted, since, is_submit, none_accepted, all_fit}
+use Rattle.block_machine.proofs.CallSteps.{Came, came, Since, IsAccepted, since, is_submit, none_accepted, all_fit, accepted_asked}
 use Rattle.block_machine.proofs.EventLemmas.{run_starts, run_legal}
 use Rattle.block_machine.proofs.Touching.{step_of_run}
 
@@ -179,63 +180,56 @@ run_gives {D} first (event ∷ past) id r =
 pub given_once : {D : Type 0} (first : Moment) (run : List (Event D)) (id : RequestId) → IsRun first run → count_by (λ (event : Event D). gives_id id event.said) run ≤ 1
 given_once first run id r = let few = run_gives first run id r in let once = accepted_once first run id r in omega (arith, few, once)
 
--- Each unanswered request has an id that a submit gave.
+-- Each unanswered request has an id that a submit of its client gave.
 
-accepts_gives : {D : Type 0} (r : Accepted) (ask : Ask D) (said : Said) (old : Moment) (evidence : Evidence) (steps : List Step) (new : Moment) → IsAnswered ask said old evidence steps new
-    → (is_submit ask ≡ false → accepts_of steps ≡ []) → Contains (accepts_of steps) r → gives_id r.id said ≡ true
-accepts_gives r (Submit q) (Submitted (Ok given)) old evidence steps new a none h =
+abbrev IsGiven : {D : Type 0} → RequestId → ClientId → Ask D → Said → Type 0
+IsGiven id client ask said = (r : Request) × (ask ≡ Submit r) × (said ≡ Submitted (Ok id)) × (r.client ≡ client)
+
+accepts_gives : {D : Type 0} (r : Accepted) (ask : Ask D) (said : Said) (old : Moment) (evidence : Evidence) (steps : List Step) (ports : Ports) (new : Moment) → Belong ask ports steps
+    → IsAnswered ask said old evidence steps new → Contains (accepts_of steps) r → IsGiven r.id r.asked.client ask said
+accepts_gives {D} r (Submit q) (Submitted (Ok given)) old evidence steps ports new b a h =
     let same : r ≡ a.1.0 = ⊎_elim (λ e. e) (λ n. absurd (contains_none r n)) (contains_cases a.1.0 [] r (subst (λ (xs : List Accepted). Contains xs r) a.1.1 h)) in
-    eq-eqb given.0 r.id.0 (ap (λ (x : RequestId). x.0) (sym a.1.2) ∙ ap (λ (x : Accepted). x.id.0) (sym same))
-accepts_gives r (Submit q) (Submitted (Err refusal)) old evidence steps new a none h = absurd (contains_none r (subst (λ (xs : List Step). Contains (accepts_of xs) r) a.1 h))
-accepts_gives r (Submit q) said old evidence steps new a none h = absurd a
-accepts_gives r ask said old evidence steps new a none h = absurd (contains_none r (subst (λ (xs : List Accepted). Contains xs r) (none refl) h))
+    (q, refl, ap (λ (x : RequestId). Submitted (Ok x)) (sym a.1.2 ∙ ap (λ (x : Accepted). x.id) (sym same)), ap (λ (x : Request). x.client) (sym (accepted_asked D q ports steps r b h)))
+accepts_gives r (Submit q) (Submitted (Err refusal)) old evidence steps ports new b a h = absurd (contains_none r (subst (λ (xs : List Step). Contains (accepts_of xs) r) a.1 h))
+accepts_gives r (Submit q) said old evidence steps ports new b a h = absurd a
+accepts_gives r ask said old evidence steps ports new b a h = absurd (contains_none r (subst (λ (xs : List Accepted). Contains xs r) (none_accepted ask steps refl (all_fit ask ports steps b)) h))
 
-was_given : {D : Type 0} (first : Moment) (run : List (Event D)) (e : Pending) → IsRun first run → Contains (moment_of first run).machine.book e → list_any (λ (event : Event D). gives_id e.request.id event.said) run ≡ true
+was_given : {D : Type 0} (first : Moment) (run : List (Event D)) (e : Pending) → IsRun first run → Contains (moment_of first run).machine.book e → WasGiven e.request.id e.request.asked.client run
 was_given first [] e r h = absurd (nobody first.machine r.0 e (inl h))
-was_given {D} first (event ∷ past) e r h = ⊎_elim
-    (λ (s : Since (moment_of first past).machine event.steps e). or_right _ _
-    (subst (λ (x : Accepted). list_any (λ (event : Event D). gives_id x.id event.said) past ≡ true) s.same (was_given first past s.old r.0 s.here)))
-    (λ (a : IsAccepted event.steps e). or_left _ _
-    (accepts_gives e.request event.ask event.said (moment_of first past) event.evidence event.steps _ r.1.answered
-    (λ other. none_accepted event.ask event.steps other (all_fit event.ask event.ports event.steps r.1.belong)) a.0))
+was_given first (event ∷ past) e r h = ⊎_elim
+    (λ (s : Since (moment_of first past).machine event.steps e). inr
+    (subst (λ (x : Accepted). WasGiven x.id x.asked.client past) s.same (was_given first past s.old r.0 s.here)))
+    (λ (a : IsAccepted event.steps e). inl
+    (accepts_gives e.request event.ask event.said (moment_of first past) event.evidence event.steps event.ports _ r.1.belong r.1.answered a.0))
     (since (moment_of first past).machine event.steps e h)
 
--- Each reply has an id that a submit gave before the call.
-
--- a member that passes is counted
-counts_one : {X : Type 0} (p : X → Bool) (xs : List X) (x : X) → Contains xs x → p x ≡ true → 1 ≤ count_by p xs
-counts_one p [] x h t = absurd (contains_none x h)
-counts_one p (y ∷ ys) x h t = ⊎_elim
-    (λ (same : x ≡ y). let one : ◌≡◌ {A = ℕ} (cond (p y) 1 0) 1 = ap (λ (b : Bool). cond {A = ℕ} b 1 0) (ap p (sym same) ∙ t) in omega (arith, one, count_cons p y ys))
-    (λ i. let rest = counts_one p ys x i t in omega (arith, rest, count_cons p y ys))
-    (contains_cases y ys x h)
+-- So has each reply.
 
 not_cons : {X : Type 0} (x : X) (xs : List X) → x ∷ xs ≡ [] → ⊥
 not_cons x xs e = contains_none x (subst (λ ys. Contains ys x) e (contains_here x xs x refl))
 
 -- a request that these steps answer was unanswered before them, where they accept none
-was_open : (m : Machine) (steps : List Step) (id : RequestId) → AllMay m steps → accepts_of steps ≡ [] → 1 ≤ count_by (answers_it id) steps → (e : Pending) × Contains m.book e × (e.request.id ≡ id)
-was_open m [] id may none some = absurd (omega (arith, some))
-was_open m (Accept r ∷ before) id may none some = absurd (not_cons r (accepts_of before) none)
-was_open m (Answer p o ∷ before) id may none some = go (λ more. was_open m before id may.0 none more) (p.request.id.0 == id.0) refl
-  where
-    go : (1 ≤ count_by (answers_it id) before → (e : Pending) × Contains m.book e × (e.request.id ≡ id)) → (b : Bool) → (p.request.id.0 == id.0) ≡ b → (e : Pending) × Contains m.book e × (e.request.id ≡ id)
-    go rest true e = ⊎_elim
-        (λ (s : Since m before p). (s.old, s.here, ap (λ (r : Accepted). r.id) s.same ∙ same_id p.request.id id (eqb-true p.request.id.0 id.0 e)))
-        (λ (a : IsAccepted before p). absurd (contains_none p.request (subst (λ (xs : List Accepted). Contains xs p.request) none a.0)))
-        (since m before p may.1)
-    go rest false e =
-        let zero : ◌≡◌ {A = ℕ} (cond (p.request.id.0 == id.0) 1 0) 0 = ap (λ (b : Bool). cond {A = ℕ} b 1 0) e in
-        rest (omega (arith, some, zero, count_cons (answers_it id) (Answer p o) before))
-was_open m (step ∷ before) id may none some = was_open m before id may.0 none (omega (arith, some, count_cons (answers_it id) step before))
+was_open : (m : Machine) (steps : List Step) (answer : Pending × Outcome) → AllMay m steps → accepts_of steps ≡ [] → Contains (answers_of steps) answer
+    → (e : Pending) × Contains m.book e × (e.request ≡ answer.0.request)
+was_open m [] answer may none h = absurd (contains_none answer h)
+was_open m (Accept r ∷ before) answer may none h = absurd (not_cons r (accepts_of before) none)
+was_open m (Answer p o ∷ before) answer may none h = ⊎_elim
+    (λ (same : answer ≡ (p, o)). ⊎_elim
+    (λ (s : Since m before p). (s.old, s.here, s.same ∙ ap (λ (x : Pending × Outcome). x.0.request) (sym same)))
+    (λ (a : IsAccepted before p). absurd (contains_none p.request (subst (λ (xs : List Accepted). Contains xs p.request) none a.0)))
+    (since m before p may.1))
+    (λ i. was_open m before answer may.0 none i)
+    (contains_cases (p, o) (answers_of before) answer h)
+was_open m (step ∷ before) answer may none h = was_open m before answer may.0 none h
 
 pub replied_was_given : {D : Type 0} (first : Moment) (past : List (Event D)) (event : Event D) (reply : Reply) → IsRun first (event ∷ past) → Contains (replies_of event.said) reply
-    → list_any (λ (earlier : Event D). gives_id reply.id earlier.said) past ≡ true
-replied_was_given {D} first past event reply r h = ⊎_elim
+    → WasGiven reply.id reply.client past
+replied_was_given first past event reply r h = ⊎_elim
     (λ (t : Tells event.steps (replies_of event.said) × (is_submit event.ask ≡ false)).
-    let one = counts_one (λ (x : Reply). x.id.0 == reply.id.0) (replies_of event.said) reply h (eq-eqb reply.id.0 reply.id.0 refl) in
-    let few = replies_few reply.id event.steps (replies_of event.said) (inl t.0) in
-    let waited = was_open (moment_of first past).machine event.steps reply.id r.1.may (none_accepted event.ask event.steps t.1 (all_fit event.ask event.ports event.steps r.1.belong)) (omega (arith, one, few)) in
-    subst (λ (x : RequestId). list_any (λ (earlier : Event D). gives_id x earlier.said) past ≡ true) waited.2 (was_given first past waited.0 r.0 waited.1))
+    let a = map_in reply_of t.0.answers reply (subst (λ (xs : List Reply). Contains xs reply) t.0.told h) in
+    let waited = was_open (moment_of first past).machine event.steps a.0 r.1.may
+    (none_accepted event.ask event.steps t.1 (all_fit event.ask event.ports event.steps r.1.belong)) (Contains-permutation t.0.answers (answers_of event.steps) a.0 t.0.same a.1) in
+    subst (λ (x : Reply). WasGiven x.id x.client past) (sym a.2)
+    (subst (λ (x : Accepted). WasGiven x.id x.asked.client past) waited.2 (was_given first past waited.0 r.0 waited.1)))
     (λ e. absurd (contains_none reply (subst (λ (xs : List Reply). Contains xs reply) e h)))
     (told_or_none event.ask event.said (moment_of first past) event.evidence event.steps _ r.1.answered)

@@ -383,6 +383,12 @@ abbrev pub gives_id : RequestId → Said → Bool
 gives_id id (Submitted (Ok given)) = given.0 == id.0
 gives_id id said = false
 
+-- a submit of this client was answered with this id in the run
+abbrev pub WasGiven : {D : Type 0} → RequestId → ClientId → List (Event D) → Type 0
+WasGiven id client [] = ⊥
+WasGiven id client (event ∷ past) =
+    ((r : Request) × (event.ask ≡ Submit r) × (event.said ≡ Submitted (Ok id)) × (r.client ≡ client)) ⊎ WasGiven id client past
+
 -- a read that this step answers Ok has, in this memory, what is left
 abbrev pub AnswerHolds : Machine → Memory → List Step → Step → Type 0
 AnswerHolds start memory past (Answer e outcome.Ok) = e.request.asked.op ≡ Read → HoldsLeft start past memory e.request

@@ -1,7 +1,6 @@
 //! Laws about the definitions in specs/. The clause of each function is the law; the functions do nothing, and nothing
 //! calls them. `D` are the steps that a device can be told to do: a law on runs holds for any device.
 
-ghost use Rattle.std.specs.List.{list_any};
 ghost use Rattle.std.specs.Prelude.{◌≡◌, ◌≢◌, ◌⊎◌, ◌↔◌, ◌+◌, ◌<◌, ◌≤◌, ◌==◌, ℕ, true, false, List, ◌∷◌, ◌++◌, Option, Some, length, map, count_by, AllPairs, Contains, IsTrue};
 ghost use Rattle.ata_types.specs.declared.Port.{Port};
 ghost use Rattle.ata_types.specs.declared.PortState.TheVariants.{Ready, Dead};
@@ -28,7 +27,7 @@ ghost use Rattle.block_machine.specs.Steps.{Step, Touch, Issue, Answer, May, aft
 ghost use Rattle.block_machine.specs.Left.{IsStart, IsLegal, AllTold, HasTouched, HasTouchedSince, HasEndedSince, IsLeft, HoldsLeft, after};
 ghost use Rattle.block_machine.specs.Confined.{IsGranted, IsConfined, IsHeld, WasAccepted, WithinLimits, MayChangeByte, MayChangeSector};
 ghost use Rattle.block_machine.specs.Durable.{IsVolatile, EveryPlugFinds};
-ghost use Rattle.block_machine.specs.Events.{Moment, Event, AllIssued, Happens, IsRun, IsStillStuck, EveryReadHolds, accepts_it, answers_it, issues_it, gives_id, replies_of, all_replies, moment_of, steps_of};
+ghost use Rattle.block_machine.specs.Events.{Moment, Event, AllIssued, Happens, IsRun, IsStillStuck, EveryReadHolds, accepts_it, answers_it, issues_it, gives_id, replies_of, all_replies, WasGiven, moment_of, steps_of};
 ghost use Rattle.block_machine.specs.Worked.{FindsTheFlushed, WaitsItsTurn, EndsWithAReset, MeetsTrouble, GoesWrong};
 
 /// One rule is the first that a request breaks.
@@ -134,11 +133,11 @@ pub fn replied_once<D>()
         → count_by (λ reply. reply.id.0 == id.0) (all_replies run) ≤ 1 }
 {}
 
-/// Each reply of a call has an id that an earlier submit gave.
+/// Each reply of a call tells a client of an id that an earlier submit of that client gave.
 pub fn replied_was_given<D>()
     ensures { (first : Moment) (past : List (Event D)) (event : Event D) (reply : Reply)
         → IsRun first (event ∷ past) → Contains (replies_of event.said) reply
-        → list_any (λ earlier. gives_id reply.id earlier.said) past ≡ true }
+        → WasGiven reply.id reply.client past }
 {}
 
 /// Where a run answers a request Ok, the device ended it, and since then it wasn't issued again.
