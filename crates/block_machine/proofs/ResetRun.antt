@@ -1,9 +1,7 @@
 -- A run in which a request hangs, is issued again by the third tick, and stays with a reset that is stuck.
 use Rattle.std.proofs.Common.{◌≡◌, ℕ, ◌<◌, ◌==◌, Bool, true, false, cond, List, [], ◌∷◌, ◌++◌, Option, Some, None, inl, inr, ⊎_elim, refl, sym, ap, subst, arith, eqb-true}
 use Rattle.std.proofs.lemmas.Bool.{false≢true}
-use Rattle.std.proofs.lemmas.List.Sorted.{IsPermutation-refl}
 use Rattle.std.specs.List.{Contains, count_by}
-use Rattle.std.specs.List.Sorted.{IsPermutation}
 use Rattle.ata_types.specs.declared.Port.{Port}
 use Rattle.ata_types.specs.declared.PortState.TheVariants.{Absent, Ready, Dead}
 use Rattle.ata_types.specs.declared.request.Outcome.{Outcome}
@@ -11,7 +9,7 @@ use Rattle.ata_types.specs.declared.request.Outcome.TheVariants as outcome
 use Rattle.block_machine.specs.Ports.{Evidence, SamePorts}
 use Rattle.block_machine.specs.State.{Pending, unanswered}
 use Rattle.block_machine.specs.Steps.{Step, Issue, Age, Again, Answer, Release, newly_accepted, issue, requeued}
-use Rattle.block_machine.specs.Events.{Moment, Service, Tick, Reset, Served, WasReset, Event, Tells, TellsDead, AgesOnce, IsHung, IsIssuedIn, RestartsHung, Happens, answers_of, is_age, reply_of, moment_of}
+use Rattle.block_machine.specs.Events.{Moment, Service, Tick, Reset, Served, WasReset, Event, TellsDead, AgesOnce, IsHung, IsIssuedIn, RestartsHung, Happens, is_age, reply_of, moment_of}
 use Rattle.block_machine.specs.Worked.{EndsWithAReset}
 use Rattle.block_machine.proofs.Members.{contains_none, contains_here, contains_cases}
 use Rattle.block_machine.proofs.Keeps.{same_port}

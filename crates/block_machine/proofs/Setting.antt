@@ -22,7 +22,7 @@ use Rattle.block_machine.specs.Rules.{IsNamed, DifferInName, IsCount, frames_for
 use Rattle.block_machine.specs.Refusals.{Situation, IsAcceptable}
 use Rattle.block_machine.specs.State.{Memory, Machine}
 use Rattle.block_machine.specs.Left.{IsRow, IsStart}
-use Rattle.block_machine.proofs.Members.{contains_none, contains_here, contains_cases}
+use Rattle.block_machine.proofs.Members.{contains_none, contains_cases}
 
 abbrev pub client : ClientId
 client = record { 0 = 1 }

@@ -1,6 +1,6 @@
 -- A run in which one port fails and another loses its disk.
-use Rattle.std.proofs.Common.{◌≡◌, ◌≢◌, ◌⊎◌, ℕ, ◌<◌, ◌||◌, ◌==◌, Bool, true, false, cond, suc, List, [], ◌∷◌, Ok, inl, inr, ⊎_elim, refl, sym, ap, ◌∙◌, subst, arith, eqb-true}
-use Rattle.std.proofs.lemmas.Bool.{false≢true, or_cases, cond-true, cond-false}
+use Rattle.std.proofs.Common.{◌≡◌, ◌⊎◌, ℕ, ◌<◌, ◌||◌, ◌==◌, Bool, true, false, cond, suc, List, [], ◌∷◌, Ok, inl, inr, ⊎_elim, refl, sym, ap, ◌∙◌, subst, arith, eqb-true}
+use Rattle.std.proofs.lemmas.Bool.{false≢true, or_cases, cond-true}
 use Rattle.std.proofs.lemmas.List.Sorted.{IsPermutation-append_comm}
 use Rattle.std.specs.List.{Contains}
 use Rattle.std.specs.Prelude.{slice_index_or}
@@ -19,7 +19,7 @@ use Rattle.block_machine.specs.Worked.{MeetsTrouble}
 use Rattle.block_machine.proofs.Members.{contains_none, contains_here, contains_there, contains_cases}
 use Rattle.block_machine.proofs.Keeps.{same_port}
 use Rattle.block_machine.proofs.Setting.{on, frame, row, two_rows, empty, empty_starts, acceptable}
-use Rattle.block_machine.proofs.Scene.{mode, id, one_sector, none, is_ready, is_dead, IsQuiet, row_zero, write_at, fit_read, new, none_waits, one_issued, none_there, one_told, none_told, emptied_at}
+use Rattle.block_machine.proofs.Scene.{mode, id, one_sector, none, is_ready, is_dead, IsQuiet, row_zero, write_at, fit_read, new, none_waits, none_there, one_told, none_told, emptied_at}
 
 -- ports 0 and 1 in these states, and no other port
 abbrev both : PortState → PortState → Port → PortState

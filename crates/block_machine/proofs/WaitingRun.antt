@@ -2,24 +2,18 @@
 use Rattle.std.proofs.Common.{List, [], ◌∷◌, Ok, inl, inr, ⊎_elim, refl, sym, ap, ◌∙◌, arith}
 use Rattle.std.proofs.lemmas.Bool.{false≢true}
 use Rattle.ata_types.specs.declared.Port.{Port}
+use Rattle.ata_types.specs.declared.PortState.TheVariants.{Ready}
 use Rattle.ata_types.specs.declared.request.Op.TheVariants.{Read, Write}
 use Rattle.ata_types.specs.declared.request.Outcome.TheVariants as outcome
 use Rattle.block_machine.specs.declared.due.Unanswered.{Unanswered}
-use Rattle.block_machine.specs.Due.{NoneDue}
-use Rattle.block_machine.specs.State.{Accepted, is_reader, unanswered}
+use Rattle.block_machine.specs.Due.{NoneDue, is_clear}
+use Rattle.block_machine.specs.State.{Block, Accepted, is_reader, unanswered}
 use Rattle.block_machine.specs.Steps.{Accept, Issue, Touch, End, Answer, newly_accepted, issue, touch}
 use Rattle.block_machine.specs.Events.{Submit, Service, Submitted, Served, Event, Happens, moment_of, situation_of}
 use Rattle.block_machine.specs.Worked.{WaitsItsTurn}
 use Rattle.block_machine.proofs.Members.{contains_none, contains_here, contains_there, contains_cases}
 use Rattle.block_machine.proofs.Dues.{issued_not_due}
 use Rattle.block_machine.proofs.Setting.{port, empty_starts, acceptable}
-use Rattle.block_machine.specs.Due.{NoneDue, is_clear}
-use Rattle.block_machine.specs.State.{Block, is_reader}
-use Rattle.std.proofs.lemmas.Bool.{false≢true}
-use Rattle.block_machine.specs.declared.due.Unanswered.{Unanswered}
-use Rattle.block_machine.proofs.Dues.{issued_not_due}
-use Rattle.block_machine.proofs.Setting.{acceptable}
-use Rattle.ata_types.specs.declared.PortState.TheVariants.{Ready}
 use Rattle.block_machine.proofs.Scene.{mode, first, id, call, reply, sector_request, done, served, IsQuiet, row_zero, fit_write, fit_read, new, one_issued, none_there, one_told, one_touched, ports_fit, none_dead, serviced, emptied_one}
 
 abbrev pub run0 : List (Event (Unit {0}))

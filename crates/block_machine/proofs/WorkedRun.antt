@@ -1,5 +1,5 @@
 -- A run in which a write is flushed and a later one isn't, and a read finds the one or the other after its disk was out.
-use Rattle.std.proofs.Common.{◌≡◌, ◌⊎◌, ℕ, ◌+◌, ◌-◌, ◌<◌, ◌&&◌, Bool, true, List, [], ◌∷◌, ◌++◌, slice_index, None, Ok, inl, inr, ⊎_elim, refl, sym, ap, ◌∙◌, subst, arith, le-leb, lt-ltb}
+use Rattle.std.proofs.Common.{◌≡◌, ◌⊎◌, ℕ, ◌+◌, ◌-◌, ◌<◌, ◌&&◌, true, List, [], ◌∷◌, ◌++◌, slice_index, None, Ok, inl, inr, ⊎_elim, refl, sym, ap, ◌∙◌, subst, arith, le-leb, lt-ltb}
 use Rattle.std.proofs.lemmas.Bool.{and_from, cond-true, false≢true}
 use Rattle.std.specs.List.{Contains}
 use Rattle.std.specs.Prelude.{nat_le, nat_lt}
