@@ -66,5 +66,5 @@ brought_from Absent old mid new a b h = (h.0, h.1, found h.2)
     found (inl none) = inl none
     found (inr m) = inr (m.0, λ none. m.1 (undisturbed_both a b none).1)
 brought_from Foreign old mid new a b h = h
-brought_from (Unfit n) old mid new a b h = h
+brought_from (Unfit n) old mid new a b h = (h.0, h.1, h.2, h.3, h.4, λ none. h.5 (undisturbed_both a b none).1)
 brought_from Dead old mid new a b h = h

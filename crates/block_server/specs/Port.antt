@@ -174,13 +174,15 @@ pub record Starts (old new : Device) : Type 0 where
 
 -- What stands behind each state that port 0 can have after it was brought up. Where it is ready, it runs with no trouble told;
 -- its link is up and SERR is clear, unless a disk came or went meanwhile. Where it is absent, it isn't there, or a wait found no
--- device though a COMRESET had ended, unless a disk came or went. Where it is unfit, a device was seen, and then stayed busy.
+-- device though a COMRESET had ended, unless a disk came or went. Where it is unfit, a device was seen, and then stayed busy,
+-- though a COMRESET had brought the link up and its first FIS had come, unless a disk came or went.
 abbrev pub IsBroughtUp : PortState → Device → Device → Type 0
 IsBroughtUp Ready old new = IsLone new × IsRunning new × IsSlotFree (new.port 0) 0 × IsCalm (new.port 0)
     × (IsUndisturbed old new → IsUp (new.port 0) × IsClear (new.port 0))
 IsBroughtUp Absent old new = IsLone new × IsResting (new.port 0)
     × ((bit new.pi 0 ≡ false) ⊎ (IsMissing new × (IsUndisturbed old new → IsComing (new.port 0))))
 IsBroughtUp (Unfit cause) old new = IsLone new × IsResting (new.port 0) × (cause ≡ 7) × IsLinked new × ((new.port 0).notes.busy_count ≡ 64)
+    × (IsUndisturbed old new → IsUp (new.port 0))
 IsBroughtUp Foreign old new = ⊥
 IsBroughtUp Dead old new = ⊥
 

@@ -1,3 +1,5 @@
+use Rattle.std.proofs.Common.{refl, ap}
+use Rattle.adapter.specs.Device.{Bases}
 use Rattle.block_server.proofs.Booting.{links_here}
 use Rattle.block_server.proofs.Coming.{link_then, undisturbed_both}
 use Rattle.block_server.proofs.Sparing.{spares_then}
@@ -52,4 +54,25 @@ returns-clause-state g c =
           let still = c.clear_errors.ensures.link.up cleared.0 up in
           let clear = c.clear_errors.ensures.clear cleared.0 up in
           (link.up cleared.1 still, link.clear cleared.1 still clear),
+    )
+
+pub returns-then-not-wait_until_ready-clause-state : goal.returns-then-not-wait_until_ready-clause-state
+returns-then-not-wait_until_ready-clause-state g c =
+    let b = c.wait_until_ready.ensures.links.booting in (
+      b.lone,
+      record { st = b.stopped.st; cr = b.stopped.cr; sact = b.stopped.sact; free = b.stopped.free; received = λ _. ap (λ (x : Bases). x.fb) b.stopped.bases },
+      refl,
+      c.wait_until_ready.ensures.linked,
+      c.wait_until_ready.ensures.busy c.if-not-wait_until_ready.true,
+      λ none.
+          let made = spares_then c.has_port.ensures.on.spares (spares_then c.program.ensures.spares c.receive.ensures.spares) in
+          let clears = c.clear_errors.ensures.links.spares in
+          let waits = c.wait_until_ready.ensures.links.spares in
+          let ends = spares_then clears waits in
+          let after_made = (undisturbed_both made (spares_then c.comreset.ensures.links.spares (spares_then c.wait_for_link.ensures.links.spares ends)) none).1 in
+          let reset = undisturbed_both c.comreset.ensures.links.spares (spares_then c.wait_for_link.ensures.links.spares ends) after_made in
+          let linked = undisturbed_both c.wait_for_link.ensures.links.spares ends reset.1 in
+          let cleared = undisturbed_both clears waits linked.1 in
+          let up = c.wait_for_link.ensures.up c.if-not-wait_for_link.false linked.0 (c.comreset.ensures.coming reset.0) in
+          c.wait_until_ready.ensures.link.up cleared.1 (c.clear_errors.ensures.link.up cleared.0 up),
     )
