@@ -246,7 +246,7 @@ impl<S: SectorStore> Adapter for Model<S> {
 impl<S: SectorStore> Stepped for Model<S> {
     /// Beside what every such adapter says: a fetch is refused only where it isn't possible; a move and an end only where
     /// they aren't, the store failed, or the tape has no memory; and a Finish over a store that never fails ends the
-    /// command.
+    /// command. What is queued stays queued, for the accesses that it was queued for.
     fn step(&mut self, s: &DeviceStep) -> bool
         ensures steps { Steps (device_at S.size S.told self.old) (device_at S.size S.told self.new) }
         ensures refused { result ≡ false → device_at S.size S.told self.new ≡ device_at S.size S.told self.old }
@@ -260,6 +260,8 @@ impl<S: SectorStore> Stepped for Model<S> {
             s.now ≡ DeviceStep.Done p slot → p.0 < 4 → slot.0 < 32 → Can (Done p.0 slot.0 flag t) (device_at S.size S.told self.old) → ⊥ }
         ensures finishes { result ≡ true → S.is_sure ≡ true → (device_at S.size S.told self.old).size ≤ 2 ^ 32 →
             (p : Port) (slot : Slot) → s.now ≡ DeviceStep.Finish p slot → IsFreeSlot ((device_at S.size S.told self.new).port p.0) slot.0 }
+        ensures queue { self.new.queue ≡ self.old.queue }
+        ensures accesses { self.new.accesses ≡ self.old.accesses }
     {
         self.do_step(s)
     }

@@ -1,6 +1,7 @@
 // One port of the model.
 ghost use Rattle.std.specs.Prelude.{◌≡◌};
 ghost use Rattle.adapter.specs.Idle.{IsIdlePort};
+ghost use Rattle.device_model.specs.Modelled.{IsReset};
 ghost use Rattle.device_model.specs.View.{Media, port_of};
 
 use adapter::Prd;
@@ -75,6 +76,7 @@ impl PortModel {
     pub fn new(present: bool) -> PortModel
         ensures idle { (m : Media) → IsIdlePort (port_of result m) }
         ensures present { result.present ≡ present }
+        ensures reset { (m : Media) → IsReset (port_of result m) }
     {
         PortModel {
             addresses: Addresses::default(),

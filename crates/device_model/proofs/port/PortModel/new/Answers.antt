@@ -12,3 +12,39 @@ returns-clause-idle c = λ m. record {
   sact = zero_bit;
   taken = slots_none 32;
 }
+
+pub returns-clause-reset : goal.returns-clause-reset
+returns-clause-reset c = λ m. record {
+  addresses = λ i. record {
+    clb = c.default.ensures.0 i;
+    fb = c.default.ensures.1.0 i;
+    clb_set = c.default.ensures.1.1.0 i;
+    clbu_set = c.default.ensures.1.1.1.0 i;
+    fb_set = c.default.ensures.1.1.1.1.0 i;
+    fbu_set = c.default.ensures.1.1.1.1.1 i;
+  };
+  tfd = refl;
+  sig = refl;
+  ssts_det = refl;
+  sctl_det = refl;
+  serr_n = refl;
+  serr_x = refl;
+  is = zero_bit;
+  fresh = refl;
+  link_due = refl;
+  notes = λ i. record {
+    st_set_at = c.default-2.ensures.0 i;
+    sctl_written_at = c.default-2.ensures.1.0 i;
+    last_cmd = c.default-2.ensures.1.1.0 i;
+    last_ssts = c.default-2.ensures.1.1.1.0 i;
+    last_tfd = c.default-2.ensures.1.1.1.1.0 i;
+    last_sig = c.default-2.ensures.1.1.1.1.1.0 i;
+    last_ci = c.default-2.ensures.1.1.1.1.1.1.0 i;
+    last_sact = c.default-2.ensures.1.1.1.1.1.1.1.0 i;
+    engine_count = c.default-2.ensures.1.1.1.1.1.1.1.1.0 i;
+    link_count = c.default-2.ensures.1.1.1.1.1.1.1.1.1.0 i;
+    busy_count = c.default-2.ensures.1.1.1.1.1.1.1.1.1.1.0 i;
+    command_count = c.default-2.ensures.1.1.1.1.1.1.1.1.1.1.1.0 i;
+    acknowledged = c.default-2.ensures.1.1.1.1.1.1.1.1.1.1.1.1 i;
+  };
+}
