@@ -29,75 +29,6 @@ use Rattle.std.specs.Vec.{vec_len}
 use Rattle.device_model.specs.declared.port.TakenRead.{TakenRead}
 use Rattle.device_model.proofs.Sectors.{zero_sector}
 
--- ---- pieces inside a memory
-
-pub pieces_inside : (size : ℕ) (xs : List Prd) → All (λ prd. prd.address + prd.bytes ≤ size) xs → (k : ℕ) → k < length (pieces xs) →
-    slice_index (pieces xs) k + 512 ≤ size
-pieces_inside size [] all k small = absurd (omega arith)
-pieces_inside size (x ∷ xs) all k small =
-    let front : List ℕ = cut x.address (x.bytes / 512) in
-    let n : length front ≡ x.bytes / 512 = cut_length x.address (x.bytes / 512) in
-    let here : x.address + x.bytes ≤ size = all 0 x (omega arith) in
-    let sizes = length-append front (pieces xs) in
-    elim (cases_lt k (length front)) [
-      | inl first ↦
-          let place : slice_index (front ++ pieces xs) k ≡ x.address + 512 * k =
-          get_or_append_left front (pieces xs) 0 k first ∙ cut_index x.address (x.bytes / 512) k (omega (arith, first, n)) in
-          omega (arith, place, first, n, here)
-      | inr past ↦
-          let place : slice_index (front ++ pieces xs) k ≡ slice_index (pieces xs) (k - length front) =
-          get_or-append_right front (pieces xs) (length front) k 0 refl past in
-          let rest = pieces_inside size xs (λ i d lt. all (suc i) d (omega (arith, lt))) (k - length front) (omega (arith, small, sizes, past)) in
-          omega (arith, place, rest)
-    ]
-
-pub left_covered : (r : TakenRead) (size sectors n end : ℕ) (o : Option ℕ) → n ≡ length (pieces r.prds) → end ≡ r.first + n → end ≤ sectors →
-    All (λ prd. prd.address + prd.bytes ≤ size) r.prds → SomeIff o (r.moved ≤ n) (n - r.moved) →
-    IfSome o (λ left. IsCovered (taken_of r) size sectors left)
-left_covered r size sectors n end None many is on_disk all none = tt
-left_covered r size sectors n end (Some left) many is on_disk all fits = record {
-  left_is = omega (arith, fits.0, fits.1, many);
-  on_disk = omega (arith, many, is, on_disk);
-  inside = pieces_inside size r.prds all;
-}
-
-module _ (h : Hardware) (p port slot sectors size : ℕ) (r : TakenRead) (e : p ≡ port) (sized : size ≡ vec_len h.memory) where
-  covers : (left : ℕ) → IsCovered (taken_of r) size sectors left → IsCovered (taken_of r) (length h.memory.items) sectors left
-  covers left covered =
-      let here : size ≡ length h.memory.items = let ok = h.memory.ok.0 in omega (arith, sized, ok) in
-      let P : ℕ → Type 0 = λ n. IsCovered (taken_of r) n sectors left in
-      subst P here covered
-
-  -- a read that may be taken is ready
-  pub ready_to_take : (result : Option ℕ) → IfSome result (λ left. IsCovered (taken_of r) size sectors left) → r.moved ≡ 0 →
-      ((m : Media) → MayTake (port_of (slice_index_or h.ports p blank) m) slot) →
-      Says (bytes_of h.memory.items) (slice_index_or h.ports p blank).addresses.clb slot (taken_of r).meaning (taken_of r).places →
-      IfSome result (λ left. (o : Outside) → IsReady (device_of h o) port slot sectors left)
-  ready_to_take None covered unmoved may says = tt
-  ready_to_take (Some left) covered unmoved may says =
-      λ (o : Outside).
-      let P : ℕ → Type 0 = λ q. IsReady (device_of h o) q slot sectors left in
-      let m = may (o.media p) in
-      subst P e
-      (record {
-        t = taken_of r;
-        read = refl;
-        covered = covers left covered;
-        begins = inr (
-          record { fetchable = m.fetchable; working = m.working; alone = m.alone; says = says },
-          ap (λ n. record (begun (taken_of r).meaning (taken_of r).places) { moved = n }) unmoved,
-        );
-      })
-
-  -- and so is one that is taken
-  pub ready_to_go : (result : Option ℕ) → IfSome result (λ left. IsCovered (taken_of r) size sectors left) → HoldsAt (slice_index_or h.ports p blank) slot r →
-      IfSome result (λ left. (o : Outside) → IsReady (device_of h o) port slot sectors left)
-  ready_to_go None covered holds = tt
-  ready_to_go (Some left) covered holds =
-      λ (o : Outside).
-      let P : ℕ → Type 0 = λ q. IsReady (device_of h o) q slot sectors left in
-      subst P e (record { t = taken_of r; read = refl; covered = covers left covered; begins = inl (holds.works (o.media p)) })
-
 -- ---- a read goes on
 
 module _ (port slot sectors : ℕ) where
@@ -201,7 +132,7 @@ held None t e = some-none e refl
 held (Some r) t e = (r, refl, sym (some_one e))
 
 -- a command that a port works on is a read that its slot holds
-holds : (h : Hardware) (o : Outside) (port slot : ℕ) (t : Taken) (operation : Operation) → WorksOn ((device_of h o).port port) slot t operation →
+pub holds : (h : Hardware) (o : Outside) (port slot : ℕ) (t : Taken) (operation : Operation) → WorksOn ((device_of h o).port port) slot t operation →
     (r : TakenRead) × HoldsAt (slice_index_or h.ports port blank) slot r × (t ≡ taken_of r)
 holds h o port slot t operation works =
     let p : PortModel = slice_index_or h.ports port blank in

@@ -8,4 +8,5 @@ pub mod SlotLemmas
 pub mod Stepping
 pub mod NewModel
 pub mod Finishing
+pub mod Ready
 pub mod Queueing

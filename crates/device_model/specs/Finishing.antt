@@ -1,22 +1,31 @@
 -- What has to hold that a command can be done to its end.
-use Rattle.std.specs.Prelude.{ℕ, ◌≡◌, ◌+◌, ◌<◌, ◌≤◌, ◌⊎◌, length, slice_index}
+use Rattle.std.specs.Prelude.{ℕ, ◌≡◌, ◌+◌, ◌*◌, ◌/◌, ◌<◌, ◌≤◌, ◌⊎◌, List, length, slice_index}
 use Rattle.std.specs.Vec.{vec_len, vec_capacity}
 use Rattle.adapter.specs.Device.{Taken, Device}
 use Rattle.adapter.specs.Steps.{Can, WorksOn, begun}
 use Rattle.adapter.specs.Steps.Step.{Fetch}
 use Rattle.adapter.specs.declared.command.Operation.TheVariants.{Read}
+use Rattle.adapter.specs.declared.command.Prd.{Prd}
 use Rattle.device_model.specs.declared.hardware.Hardware.{Hardware}
 
 -- the tape has memory for so many more entries
 abbrev pub HasRoom : Hardware → ℕ → Type 0
 HasRoom h n = vec_len h.tape + n ≤ vec_capacity h.tape
 
+-- each of these pieces is in a memory of this size
+abbrev pub AreInside : ℕ → List ℕ → Type 0
+AreInside size places = (k : ℕ) → k < length places → slice_index places k + 512 ≤ size
+
+-- each piece of this PRD is, if it has one
+abbrev pub IsInside : ℕ → Prd → Type 0
+IsInside size prd = 1 ≤ prd.bytes / 512 → prd.address + 512 * (prd.bytes / 512) ≤ size
+
 -- so many moves are left of this command; each of its pieces is in a memory of this size, and each of its sectors one of
 -- so many
 pub record IsCovered (t : Taken) (size sectors left : ℕ) : Type 0 where
   pub left_is : t.moved + left ≡ length t.places
   pub on_disk : t.meaning.first + length t.places ≤ sectors
-  pub inside : (k : ℕ) → k < length t.places → slice_index t.places k + 512 ≤ size
+  pub inside : AreInside size t.places
 
 -- the port works on a read of which so many moves are left, all of them possible
 pub record IsGoing (d : Device) (port slot sectors left : ℕ) : Type 0 where

@@ -9,7 +9,7 @@ ghost use Rattle.adapter.specs.Rules.{MayRead};
 ghost use Rattle.adapter.specs.Steps.{MayLinkUp, Steps, Can};
 ghost use Rattle.adapter.specs.Steps.Step.{Fetch, Move, Done};
 ghost use Rattle.adapter.specs.Asked.{DoesMove, GoesOn, Asked};
-ghost use Rattle.device_model.specs.Finishing.{HasRoom};
+ghost use Rattle.device_model.specs.Finishing.{HasRoom, IsReady};
 ghost use Rattle.device_model.specs.Queue.{DoesEach, due, not_due};
 ghost use Rattle.device_model.specs.Modelled.{device_at, cap_of, IsNew};
 
@@ -130,6 +130,8 @@ impl<S: SectorStore> Model<S> {
         ensures refused { result ≡ false → device_at S.size S.told self.new ≡ device_at S.size S.told self.old }
         ensures ends { result ≡ true → S.is_sure ≡ true → (device_at S.size S.told self.old).size ≤ 2 ^ 32 →
             IsFreeSlot ((device_at S.size S.told self.new).port port) slot }
+        ensures only { result ≡ false → S.is_sure ≡ true → (device_at S.size S.told self.old).size ≤ 2 ^ 32 → port ≡ 0 → (left : ℕ) →
+            HasRoom self.old.hardware (left + 1) → IsReady (device_at S.size S.told self.old) port slot (S.size self.old.disk0) left → ⊥ }
         ensures queue { self.new.queue ≡ self.old.queue }
         ensures accesses { self.new.accesses ≡ self.old.accesses }
     {
@@ -166,6 +168,9 @@ impl<S: SectorStore> Model<S> {
             s.now ≡ DeviceStep.Done p slot → p.0 < 4 → slot.0 < 32 → Can (Done p.0 slot.0 flag t) (device_at S.size S.told self.old) → ⊥ }
         ensures finishes { result ≡ true → S.is_sure ≡ true → (device_at S.size S.told self.old).size ≤ 2 ^ 32 →
             (p : Port) (slot : Slot) → s.now ≡ DeviceStep.Finish p slot → IsFreeSlot ((device_at S.size S.told self.new).port p.0) slot.0 }
+        ensures ready { result ≡ false → S.is_sure ≡ true → (device_at S.size S.told self.old).size ≤ 2 ^ 32 →
+            (p : Port) (slot : Slot) (left : ℕ) → s.now ≡ DeviceStep.Finish p slot → p.0 ≡ 0 → slot.0 < 32 → HasRoom self.old.hardware (left + 1) →
+            IsReady (device_at S.size S.told self.old) p.0 slot.0 (S.size self.old.disk0) left → ⊥ }
         ensures queue { self.new.queue ≡ self.old.queue }
         ensures accesses { self.new.accesses ≡ self.old.accesses }
     {
@@ -245,8 +250,8 @@ impl<S: SectorStore> Adapter for Model<S> {
 
 impl<S: SectorStore> Stepped for Model<S> {
     /// Beside what every such adapter says: a fetch is refused only where it isn't possible; a move and an end only where
-    /// they aren't, the store failed, or the tape has no memory; and a Finish over a store that never fails ends the
-    /// command. What is queued stays queued, for the accesses that it was queued for.
+    /// they aren't, the store failed, or the tape has no memory; a Finish over a store that never fails ends the command,
+    /// and on port 0, which alone has a disk, it is refused only where a move of it isn't possible or the tape has no memory. What is queued stays queued, for the accesses that it was queued for.
     fn step(&mut self, s: &DeviceStep) -> bool
         ensures steps { Steps (device_at S.size S.told self.old) (device_at S.size S.told self.new) }
         ensures refused { result ≡ false → device_at S.size S.told self.new ≡ device_at S.size S.told self.old }
@@ -260,6 +265,9 @@ impl<S: SectorStore> Stepped for Model<S> {
             s.now ≡ DeviceStep.Done p slot → p.0 < 4 → slot.0 < 32 → Can (Done p.0 slot.0 flag t) (device_at S.size S.told self.old) → ⊥ }
         ensures finishes { result ≡ true → S.is_sure ≡ true → (device_at S.size S.told self.old).size ≤ 2 ^ 32 →
             (p : Port) (slot : Slot) → s.now ≡ DeviceStep.Finish p slot → IsFreeSlot ((device_at S.size S.told self.new).port p.0) slot.0 }
+        ensures ready { result ≡ false → S.is_sure ≡ true → (device_at S.size S.told self.old).size ≤ 2 ^ 32 →
+            (p : Port) (slot : Slot) (left : ℕ) → s.now ≡ DeviceStep.Finish p slot → p.0 ≡ 0 → slot.0 < 32 → HasRoom self.old.hardware (left + 1) →
+            IsReady (device_at S.size S.told self.old) p.0 slot.0 (S.size self.old.disk0) left → ⊥ }
         ensures queue { self.new.queue ≡ self.old.queue }
         ensures accesses { self.new.accesses ≡ self.old.accesses }
     {

@@ -1,5 +1,5 @@
 // Steps that the hardware does when it is told.
-ghost use Rattle.std.specs.Prelude.{◌≡◌, ◌<◌, ◌≤◌, ◌+◌, ◌^◌, ◌++◌, ◌∷◌, [], true, false, ℕ, List, None, All, IfSome, length, slice_index, slice_index_or};
+ghost use Rattle.std.specs.Prelude.{◌≡◌, ◌<◌, ◌≤◌, ◌+◌, ◌^◌, ◌++◌, ◌∷◌, [], true, false, ℕ, List, None, Some, IfSome, length, slice_index, slice_index_or};
 ghost use Rattle.std.specs.Vec.{vec_len, vec_capacity};
 ghost use Rattle.adapter.specs.Commands.{Meaning};
 ghost use Rattle.adapter.specs.Device.{Taken};
@@ -7,7 +7,7 @@ ghost use Rattle.adapter.specs.Says.{pieces};
 ghost use Rattle.adapter.specs.Steps.{Can, after};
 ghost use Rattle.adapter.specs.Steps.Step.{Fetch as FetchStep, Move as MoveStep, Done as DoneStep};
 ghost use Rattle.adapter.specs.Asked.{DoesFetch, DoesDone};
-ghost use Rattle.device_model.specs.Finishing.{HasRoom, IsCovered, IsReady};
+ghost use Rattle.device_model.specs.Finishing.{HasRoom, IsInside, AreInside, IsCovered, IsReady};
 ghost use Rattle.device_model.specs.Slots.{HoldsAt, IsNext};
 ghost use Rattle.device_model.specs.View.{taken_of, blank};
 ghost use Rattle.device_model.specs.Whole.{Outside, device_of};
@@ -37,12 +37,22 @@ fn record(tape: &mut Vec<Entry>, entry: Entry) -> bool
     tape.push(entry).is_ok()
 }
 
-/// Whether each region is in a memory of this size.
+/// Whether each piece of a region is in a memory of this size.
+fn is_inside(prd: &Prd, size: usize) -> bool
+    ensures inside { result ≡ true → IsInside size prd.now }
+    ensures only { result ≡ false → IsInside size prd.now → ⊥ }
+{
+    let pieces = prd.bytes as usize / 512;
+    pieces == 0 || prd.address as usize + 512 * pieces <= size
+}
+
+/// Whether each piece of some regions is in a memory of this size.
 fn are_inside(prds: &[Prd; 128], size: usize) -> bool
-    ensures { result ≡ true → All (λ prd. prd.address + prd.bytes ≤ size) prds.now }
+    ensures inside { result ≡ true → AreInside size (pieces prds.now) }
+    ensures only { result ≡ false → AreInside size (pieces prds.now) → ⊥ }
 {
     for prd in prds {
-        if prd.address as usize + prd.bytes as usize > size {
+        if !is_inside(prd, size) {
             return false;
         }
     }
@@ -52,7 +62,8 @@ fn are_inside(prds: &[Prd; 128], size: usize) -> bool
 /// How many moves are left of a command, if each of its pieces has a place in a memory of this size and is one of so many
 /// sectors.
 fn left_of(read: &TakenRead, size: usize, sectors: u64) -> Option<u32>
-    ensures { IfSome result (λ left. IsCovered (taken_of read.now) size sectors left) }
+    ensures covered { IfSome result (λ left. IsCovered (taken_of read.now) size sectors left) }
+    ensures only { (left : ℕ) → IsCovered (taken_of read.now) size sectors left → result ≡ Some left }
 {
     let pieces = count_pieces(&read.prds);
     let end = read.first.checked_add(u64::from(pieces))?;
@@ -163,7 +174,8 @@ impl Hardware {
     pub fn moves_left(&self, port: u8, slot: u8, sectors: u64) -> Option<u32>
         requires port { port < 4 }
         requires slot { slot < 32 }
-        ensures { IfSome result (λ left. (o : Outside) → IsReady (device_of self.now o) port slot sectors left) }
+        ensures ready { IfSome result (λ left. (o : Outside) → IsReady (device_of self.now o) port slot sectors left) }
+        ensures only { (o : Outside) (left : ℕ) → IsReady (device_of self.now o) port slot sectors left → result ≡ Some left }
     {
         let place = usize::from(port);
         if may_take(&self.ports, place, slot) {

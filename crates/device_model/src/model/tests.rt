@@ -107,6 +107,28 @@ fn a_read_is_finished(rt: HostRuntime) -> Result<(), Fail> {
     Ok(())
 }
 
+// Nine sectors from 100, into 4608 bytes at 27e00h.
+#[test]
+fn a_read_of_nine_sectors_is_finished(rt: HostRuntime) -> Result<(), Fail> {
+    let mut model = issued(rt.alloc())?;
+    store(&mut model, 0x100c, &[9]);
+    store(&mut model, 0x1080, &[0, 0x7e, 2]);
+    store(&mut model, 0x108c, &[0xff, 0x11]);
+    assert!(rt; step(&mut model, FINISH));
+    for (at, byte) in [
+        (0x27dff, 0),
+        (0x27e00, 100),
+        (0x28dff, 107),
+        (0x28e00, 108),
+        (0x28fff, 108),
+    ] {
+        assert_eq!(rt; model.hardware.memory.get(at).copied(), Some(byte));
+    }
+    assert_eq!(rt; model.tape().len(), 10);
+    assert_eq!(rt; read(&mut model, PortReg::Ci), 0);
+    Ok(())
+}
+
 #[test]
 fn a_read_goes_step_by_step(rt: HostRuntime) -> Result<(), Fail> {
     let mut model = issued(rt.alloc())?;

@@ -1,7 +1,7 @@
-use Rattle.std.proofs.Common.{ℕ, ◌<◌, ◌≤◌, ◌+◌, slice_index_or}
+use Rattle.std.proofs.Common.{ℕ, ◌<◌, slice_index_or}
 use Rattle.adapter.specs.declared.command.Prd.{Prd}
+use Rattle.device_model.specs.Finishing.{IsInside}
 use Rattle.device_model.proofs.steps.are_inside.Given as goal
 
 abbrev pub invariant-loop-prd : goal.invariant-loop-prd
-invariant-loop-prd l =
-    (k : ℕ) → k < l.prd-index → (d : Prd) → (slice_index_or l.prds k d).address + (slice_index_or l.prds k d).bytes ≤ l.size
+invariant-loop-prd l = (k : ℕ) → k < l.prd-index → (d : Prd) → IsInside l.size (slice_index_or l.prds k d)

@@ -3,6 +3,7 @@ use Rattle.ata_types.specs.declared.Port.{Port}
 use Rattle.ata_types.specs.declared.Slot.{Slot}
 use Rattle.adapter.specs.Steps.{Can}
 use Rattle.adapter.specs.Steps.Step.{Fetch, Done}
+use Rattle.device_model.specs.Finishing.{IsReady}
 use Rattle.device_model.specs.Modelled.{device_at}
 use Rattle.device_model.proofs.model.Model.do_step.Goals as goal
 
@@ -27,3 +28,12 @@ returns-then-slot-lt32-3-clause-dones g c = λ no room p slot flag t is low smal
     let slots : slot ≡ c.in-Done.slot = cc in
     c.done.ensures.only no room _ flag t
     (subst (λ (s : Slot). Can (Done c.in-Done.port.0 s.0 flag t) d) slots (subst (λ (q : Port). Can (Done q.0 slot.0 flag t) d) ports can))
+
+pub returns-then-slot-lt32-4-clause-ready : goal.returns-then-slot-lt32-4-clause-ready
+returns-then-slot-lt32-4-clause-ready g c = λ no sure small p slot left is zero low room ready.
+    let d = device_at g.S.SectorStore.size g.S.SectorStore.told c.args.self.now in
+    let size = g.S.SectorStore.size c.args.self.now.disk0 in
+    let ports : p ≡ c.in-Finish.port = cc in
+    let slots : slot ≡ c.in-Finish.slot = cc in
+    c.finish.ensures.only no sure small (subst (λ (q : Port). q.0 ≡ 0) ports zero) left room
+    (subst (λ (s : Slot). IsReady d c.in-Finish.port.0 s.0 size left) slots (subst (λ (q : Port). IsReady d q.0 slot.0 size left) ports ready))

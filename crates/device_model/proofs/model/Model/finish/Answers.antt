@@ -1,4 +1,4 @@
-use Rattle.std.proofs.Common.{ℕ, suc, ◌≡◌, ◌≤◌, ◌+◌, ◌-◌, ◌∙◌, true, false, inl, inr, refl, sym, ap, subst, arith}
+use Rattle.std.proofs.Common.{ℕ, suc, ◌≡◌, ◌≤◌, ◌+◌, ◌-◌, ◌^◌, ◌∙◌, true, false, inl, inr, refl, sym, ap, subst, arith}
 use Rattle.std.specs.Global.{Vec}
 use Rattle.std.specs.Vec.{vec_len, vec_capacity}
 use Rattle.adapter.specs.Device.{Device}
@@ -7,8 +7,10 @@ use Rattle.adapter.specs.declared.tape.Entry.{Entry}
 use Rattle.device_model.specs.Finishing.{IsGoing, IsReady}
 use Rattle.device_model.specs.Modelled.{device_at}
 use Rattle.device_model.specs.Whole.{Outside, device_of, outside_of}
+use Rattle.adapter.proofs.Absurd.{true-false, some-none, some_one}
 use Rattle.adapter.proofs.Going.{goes_one, goes_next}
 use Rattle.device_model.proofs.Finishing.{fetched_goes, fetched_size, moved_goes, going_may_move, going_may_end, done_frees}
+use Rattle.device_model.proofs.model.Model.finish.Given.{Over}
 use Rattle.device_model.proofs.model.Model.finish.Goals as goal
 
 pub loop-piece-init : goal.loop-piece-init
@@ -35,7 +37,7 @@ loop-piece-init g c =
           let Q : ℕ → Type 0 = λ n. IsGoing new c.args.port c.args.slot c.sectors-sectors.result n in
           let all : c.in-Some.left ≡ c.in-Some.left - 0 = omega arith in
           subst Q all
-          (fetched_goes c.args.port c.args.slot c.sectors-sectors.result c.in-Some.left c.fetch-did.result _ new (subst P (sym kept) (c.in-Some.ensures o))
+          (fetched_goes c.args.port c.args.slot c.sectors-sectors.result c.in-Some.left c.fetch-did.result _ new (subst P (sym kept) (c.in-Some.ensures.ready o))
           (λ e. c.fetch-did.ensures.did e o) (λ e. c.fetch-did.ensures.refused e o) (λ e. c.fetch-did.ensures.only e o));
     }
 
@@ -64,8 +66,9 @@ pub returns-then-not-move_piece-clause-refused : goal.returns-then-not-move_piec
 returns-then-not-move_piece-clause-refused g c = λ e. c.move_piece.ensures.refused c.if-not-move_piece.true ∙ c.loop-piece.invariant.refused e
 
 -- a move that is left is possible, so it isn't refused
-pub returns-then-not-move_piece-clause-ends : goal.returns-then-not-move_piece-clause-ends
-returns-then-not-move_piece-clause-ends g c = λ _ sure small.
+move_is_done : (g : Over) (c : goal.Then-not-move_piece g) → g.S.SectorStore.is_sure ≡ true →
+    (device_at g.S.SectorStore.size g.S.SectorStore.told c.args.self.now).size ≤ 2 ^ 32 → ⊥
+move_is_done g c sure small =
     let m = c.loop-piece.self in
     let size = g.S.SectorStore.size m.disk0 in
     let told = g.S.SectorStore.told m.disk0 in
@@ -75,9 +78,14 @@ returns-then-not-move_piece-clause-ends g c = λ _ sure small.
     let next : c.in-Some.left - c.loop-piece._piece ≡ suc (c.in-Some.left - (c.loop-piece._piece + 1)) = omega (arith, c.loop-piece-test.true) in
     let going = subst Q (sym c.loop-piece.invariant.disk) (subst P next c.loop-piece.invariant.going) in
     let found = going_may_move m.hardware size told (g.S.SectorStore.told m.disk1) c.args.port c.args.slot (c.in-Some.left - (c.loop-piece._piece + 1)) c.if-port-ne0.false law going in
-    absurd
-    (c.move_piece.ensures.only c.if-not-move_piece.true sure (omega (arith, c.loop-piece.invariant.room)) (omega (arith, c.loop-piece.invariant.size, small))
-    found.0 found.1 found.2)
+    c.move_piece.ensures.only c.if-not-move_piece.true sure (omega (arith, c.loop-piece.invariant.room)) (omega (arith, c.loop-piece.invariant.size, small))
+    found.0 found.1 found.2
+
+pub returns-then-not-move_piece-clause-ends : goal.returns-then-not-move_piece-clause-ends
+returns-then-not-move_piece-clause-ends g c = λ _ sure small. absurd (move_is_done g c sure small)
+
+pub returns-then-not-move_piece-clause-only : goal.returns-then-not-move_piece-clause-only
+returns-then-not-move_piece-clause-only g c = λ _ sure small zero left room ready. move_is_done g c sure small
 
 pub returns-then-done-clause-ends : goal.returns-then-done-clause-ends
 returns-then-done-clause-ends g c = λ _ sure small.
@@ -88,15 +96,36 @@ returns-then-done-clause-ends g c = λ _ sure small.
     done_frees c.args.port c.args.slot c.sectors-sectors.result _ _ (subst P none c.loop-piece.invariant.going) (c.done.ensures.did c.if-done.true o)
 
 -- an end that is possible isn't refused
-pub returns-else-done-clause-ends : goal.returns-else-done-clause-ends
-returns-else-done-clause-ends g c = λ _ sure small.
+end_is_done : (g : Over) (c : goal.Else-done g) → ⊥
+end_is_done g c =
     let m = c.loop-piece.self in
     let o : Outside = outside_of (g.S.SectorStore.size m.disk0) (g.S.SectorStore.told m.disk0) (g.S.SectorStore.told m.disk1) in
     let P : ℕ → Type 0 = λ n. IsGoing (device_at g.S.SectorStore.size g.S.SectorStore.told m) c.args.port c.args.slot c.sectors-sectors.result n in
     let none : c.in-Some.left - c.loop-piece._piece ≡ 0 = omega (arith, c.loop-piece-test.false) in
     let going = subst P none c.loop-piece.invariant.going in
-    absurd
-    (c.done.ensures.only c.if-done.false (omega (arith, c.loop-piece.invariant.room)) o 0 going.t (going_may_end c.args.port c.args.slot c.sectors-sectors.result _ going))
+    c.done.ensures.only c.if-done.false (omega (arith, c.loop-piece.invariant.room)) o 0 going.t (going_may_end c.args.port c.args.slot c.sectors-sectors.result _ going)
+
+pub returns-else-done-clause-ends : goal.returns-else-done-clause-ends
+returns-else-done-clause-ends g c = λ _ sure small. absurd (end_is_done g c)
+
+pub returns-else-done-clause-only : goal.returns-else-done-clause-only
+returns-else-done-clause-only g c = λ _ sure small zero left room ready. end_is_done g c
+
+-- the moves that are left are found, and there is room for them
+pub returns-in_default-clause-only : goal.returns-in_default-clause-only
+returns-in_default-clause-only g c = λ _ sure small zero left room ready.
+    let m = c.args.self.now in
+    let o : Outside = outside_of (g.S.SectorStore.size m.disk0) (g.S.SectorStore.told m.disk0) (g.S.SectorStore.told m.disk1) in
+    let P : ℕ → Type 0 = λ n. IsReady (device_of m.hardware o) c.args.port c.args.slot n left in
+    some-none (c.moves_left.ensures.only o left (subst P (sym c.sectors-sectors.ensures) ready)) c.in_default.is
+
+pub returns-then-not-reserve-clause-only : goal.returns-then-not-reserve-clause-only
+returns-then-not-reserve-clause-only g c = λ _ sure small zero left room ready.
+    let m = c.args.self.now in
+    let o : Outside = outside_of (g.S.SectorStore.size m.disk0) (g.S.SectorStore.told m.disk0) (g.S.SectorStore.told m.disk1) in
+    let P : ℕ → Type 0 = λ n. IsReady (device_of m.hardware o) c.args.port c.args.slot n left in
+    let same = some_one (c.in-Some.ensures.only o left (subst P (sym c.sectors-sectors.ensures) ready)) in
+    true-false (c.reserve.ensures.enough (omega (arith, same, room))) c.if-not-reserve.true
 
 pub returns-then-not-reserve-clause-refused : goal.returns-then-not-reserve-clause-refused
 returns-then-not-reserve-clause-refused g c = λ _. c.reserve.ensures.same _

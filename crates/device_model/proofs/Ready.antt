@@ -1,0 +1,196 @@
+-- Where a read may be done to its end: which moves are left of it, and that each has its place.
+use Rattle.std.proofs.Common.{ℕ, Bool, true, false, zero, suc, ◌≡◌, ◌<◌, ◌≤◌, ◌+◌, ◌-◌, ◌*◌, ◌/◌, ◌⊎◌, List, [], ◌∷◌, ◌++◌, length, slice_index, slice_index_or, Option, None, Some, All, refl, sym, ◌∙◌, ap, subst, inl, inr, arith, length-append}
+use Rattle.std.proofs.lemmas.Bool.{cases_lt}
+use Rattle.std.proofs.lemmas.List.{get_or_append_left, get_or-append_right}
+use Rattle.std.specs.Prelude.{IfSome}
+use Rattle.std.specs.Option.{SomeIff}
+use Rattle.std.specs.Vec.{vec_len}
+use Rattle.adapter.specs.Device.{Taken}
+use Rattle.adapter.specs.Says.{Says, pieces, cut}
+use Rattle.adapter.specs.Steps.{Can, WorksOn, begun}
+use Rattle.adapter.specs.Steps.Step.{Fetch}
+use Rattle.adapter.specs.declared.command.Operation.TheVariants.{Read}
+use Rattle.adapter.specs.declared.command.Prd.{Prd}
+use Rattle.adapter.proofs.Absurd.{some-none, some_one}
+use Rattle.adapter.proofs.SaysLemmas.{says_meaning, says_places, cut_length, cut_index}
+use Rattle.device_model.specs.Finishing.{IsInside, AreInside, IsCovered, IsReady}
+use Rattle.device_model.specs.Fetched.{bytes_of}
+use Rattle.device_model.specs.Slots.{MayTake, HoldsAt}
+use Rattle.device_model.specs.View.{Media, port_of, taken_of, blank}
+use Rattle.device_model.specs.Whole.{Outside, device_of}
+use Rattle.device_model.specs.declared.port.PortModel.{PortModel}
+use Rattle.device_model.specs.declared.port.TakenRead.{TakenRead}
+use Rattle.device_model.specs.declared.hardware.Hardware.{Hardware}
+use Rattle.device_model.proofs.Finishing.{holds}
+use Rattle.device_model.proofs.Stepping.{fetch_takes, fetch_says}
+
+-- ---- pieces inside a memory
+
+module _ (size : ℕ) (x : Prd) (xs : List Prd) where
+  abbrev front : List ℕ
+  front = cut x.address (x.bytes / 512)
+
+  front_length : length front ≡ x.bytes / 512
+  front_length = cut_length x.address (x.bytes / 512)
+
+  in_front : (k : ℕ) → k < x.bytes / 512 → slice_index (pieces (x ∷ xs)) k ≡ x.address + 512 * k
+  in_front k small = get_or_append_left front (pieces xs) 0 k (omega (arith, small, front_length)) ∙ cut_index x.address (x.bytes / 512) k small
+
+  behind : (k : ℕ) → length front ≤ k → slice_index (pieces (x ∷ xs)) k ≡ slice_index (pieces xs) (k - length front)
+  behind k past = get_or-append_right front (pieces xs) (length front) k 0 refl past
+
+  -- the first one's pieces are inside, and so are the others'
+  inside_first : AreInside size (pieces (x ∷ xs)) → IsInside size x
+  inside_first all some =
+      let n : ℕ = x.bytes / 512 in
+      let sizes : length (pieces (x ∷ xs)) ≡ length front + length (pieces xs) = length-append front (pieces xs) in
+      let last = all (n - 1) (omega (arith, sizes, front_length, some)) in
+      let place = in_front (n - 1) (omega (arith, some)) in
+      omega (arith, last, place, some)
+
+  inside_rest : AreInside size (pieces (x ∷ xs)) → AreInside size (pieces xs)
+  inside_rest all k small =
+      let sizes : length (pieces (x ∷ xs)) ≡ length front + length (pieces xs) = length-append front (pieces xs) in
+      let here = all (length front + k) (omega (arith, sizes, small)) in
+      let place = behind (length front + k) (omega arith) in
+      let same : length front + k - length front ≡ k = omega arith in
+      let P : ℕ → Type 0 = λ i. slice_index (pieces (x ∷ xs)) (length front + k) ≡ slice_index (pieces xs) i in
+      let there = subst P same place in
+      omega (arith, here, there)
+
+  inside_both : IsInside size x → AreInside size (pieces xs) → AreInside size (pieces (x ∷ xs))
+  inside_both first rest k small =
+      let sizes : length (pieces (x ∷ xs)) ≡ length front + length (pieces xs) = length-append front (pieces xs) in
+      elim (cases_lt k (length front)) [
+        | inl here ↦
+            let place = in_front k (omega (arith, here, front_length)) in
+            let fits = first (omega (arith, here, front_length)) in
+            omega (arith, place, here, front_length, fits)
+        | inr past ↦
+            let there = rest (k - length front) (omega (arith, small, sizes, past)) in
+            omega (arith, behind k past, there)
+      ]
+
+pub all_inside : (size : ℕ) (xs : List Prd) → All (IsInside size) xs → AreInside size (pieces xs)
+all_inside size [] all k small = absurd (omega (arith, small))
+all_inside size (x ∷ xs) all k small =
+    inside_both size x xs (all 0 x (omega arith)) (all_inside size xs (λ i d lt. all (suc i) d (omega (arith, lt)))) k small
+
+pub inside_all : (size : ℕ) (xs : List Prd) → AreInside size (pieces xs) → All (IsInside size) xs
+inside_all size [] all k d small = absurd (omega (arith, small))
+inside_all size (x ∷ xs) all zero d small = inside_first size x xs all
+inside_all size (x ∷ xs) all (suc k) d small = inside_all size xs (inside_rest size x xs all) k d (omega (arith, small))
+
+-- ---- what is left
+
+pub left_covered : (r : TakenRead) (size sectors n end : ℕ) (o : Option ℕ) → n ≡ length (pieces r.prds) → end ≡ r.first + n → end ≤ sectors →
+    AreInside size (pieces r.prds) → SomeIff o (r.moved ≤ n) (n - r.moved) → IfSome o (λ left. IsCovered (taken_of r) size sectors left)
+left_covered r size sectors n end None many is on_disk all none = tt
+left_covered r size sectors n end (Some left) many is on_disk all fits = record {
+  left_is = omega (arith, fits.0, fits.1, many);
+  on_disk = omega (arith, many, is, on_disk);
+  inside = all;
+}
+
+pub left_is : (moved n left : ℕ) (o : Option ℕ) → moved + left ≡ n → SomeIff o (moved ≤ n) (n - moved) → o ≡ Some left
+left_is moved n left None is none = absurd (none (omega (arith, is)))
+left_is moved n left (Some x) is some = let same : x ≡ left = omega (arith, is, some.0, some.1) in ap Some same
+
+-- ---- what is ready: a read that may be taken, or one that is
+
+module _ (h : Hardware) (o : Outside) (p port slot sectors left : ℕ) (e : p ≡ port) (ready : IsReady (device_of h o) port slot sectors left) where
+  abbrev state : PortModel
+  state = slice_index_or h.ports p blank
+
+  pub ready_fetch : ((m : Media) → MayTake (port_of state m) slot) →
+      Can (Fetch port slot ready.t.meaning ready.t.places) (device_of h o) × (ready.t ≡ begun ready.t.meaning ready.t.places)
+  ready_fetch may = by ready.begins
+    where
+      by : WorksOn ((device_of h o).port port) slot ready.t Read
+          ⊎ (Can (Fetch port slot ready.t.meaning ready.t.places) (device_of h o) × (ready.t ≡ begun ready.t.meaning ready.t.places)) →
+          Can (Fetch port slot ready.t.meaning ready.t.places) (device_of h o) × (ready.t ≡ begun ready.t.meaning ready.t.places)
+      by (inl works) = some-none (ap (λ (q : ℕ). ((device_of h o).port q).taken slot) e ∙ works.taken) (may (o.media p)).fetchable.free
+      by (inr begins) = begins
+
+  pub ready_said : ((m : Media) → MayTake (port_of state m) slot) → Says (bytes_of h.memory.items) state.addresses.clb slot ready.t.meaning ready.t.places
+  ready_said may = fetch_says h o p port slot ready.t.meaning ready.t.places e (ready_fetch may).0
+
+  pub ready_held : ((m : Media) → MayTake (port_of state m) slot → ⊥) → (r : TakenRead) × HoldsAt state slot r × (ready.t ≡ taken_of r)
+  ready_held never = by ready.begins
+    where
+      by : WorksOn ((device_of h o).port port) slot ready.t Read
+          ⊎ (Can (Fetch port slot ready.t.meaning ready.t.places) (device_of h o) × (ready.t ≡ begun ready.t.meaning ready.t.places)) →
+          (r : TakenRead) × HoldsAt state slot r × (ready.t ≡ taken_of r)
+      by (inl works) =
+          let P : ℕ → Type 0 = λ q. (r : TakenRead) × HoldsAt (slice_index_or h.ports q blank) slot r × (ready.t ≡ taken_of r) in
+          subst P (sym e) (holds h o port slot ready.t Read works)
+      by (inr begins) = absurd (never (o.media p) (fetch_takes h o p port slot ready.t.meaning ready.t.places e ready.read begins.0))
+
+module _ (h : Hardware) (p port slot sectors size : ℕ) (r : TakenRead) (e : p ≡ port) (sized : size ≡ vec_len h.memory) where
+  memory_size : size ≡ length h.memory.items
+  memory_size = let ok = h.memory.ok.0 in omega (arith, sized, ok)
+
+  covers : (left : ℕ) → IsCovered (taken_of r) size sectors left → IsCovered (taken_of r) (length h.memory.items) sectors left
+  covers left covered =
+      let P : ℕ → Type 0 = λ n. IsCovered (taken_of r) n sectors left in
+      subst P memory_size covered
+
+  -- a read that may be taken is ready
+  pub ready_to_take : (result : Option ℕ) → IfSome result (λ left. IsCovered (taken_of r) size sectors left) → r.moved ≡ 0 →
+      ((m : Media) → MayTake (port_of (slice_index_or h.ports p blank) m) slot) →
+      Says (bytes_of h.memory.items) (slice_index_or h.ports p blank).addresses.clb slot (taken_of r).meaning (taken_of r).places →
+      IfSome result (λ left. (o : Outside) → IsReady (device_of h o) port slot sectors left)
+  ready_to_take None covered unmoved may says = tt
+  ready_to_take (Some left) covered unmoved may says =
+      λ (o : Outside).
+      let P : ℕ → Type 0 = λ q. IsReady (device_of h o) q slot sectors left in
+      let m = may (o.media p) in
+      subst P e
+      (record {
+        t = taken_of r;
+        read = refl;
+        covered = covers left covered;
+        begins = inr (
+          record { fetchable = m.fetchable; working = m.working; alone = m.alone; says = says },
+          ap (λ n. record (begun (taken_of r).meaning (taken_of r).places) { moved = n }) unmoved,
+        );
+      })
+
+  -- and so is one that is taken
+  pub ready_to_go : (result : Option ℕ) → IfSome result (λ left. IsCovered (taken_of r) size sectors left) → HoldsAt (slice_index_or h.ports p blank) slot r →
+      IfSome result (λ left. (o : Outside) → IsReady (device_of h o) port slot sectors left)
+  ready_to_go None covered holds = tt
+  ready_to_go (Some left) covered holds =
+      λ (o : Outside).
+      let P : ℕ → Type 0 = λ q. IsReady (device_of h o) q slot sectors left in
+      subst P e (record { t = taken_of r; read = refl; covered = covers left covered; begins = inl (holds.works (o.media p)) })
+
+  -- a read that is ready, as far as these are its moves
+  covers_back : (left : ℕ) (o : Outside) (ready : IsReady (device_of h o) port slot sectors left) → ready.t ≡ taken_of r → IsCovered (taken_of r) size sectors left
+  covers_back left o ready same =
+      let P : ℕ → Type 0 = λ n. IsCovered (taken_of r) n sectors left in
+      let Q : Taken → Type 0 = λ t. IsCovered t (length h.memory.items) sectors left in
+      subst P (sym memory_size) (subst Q same ready.covered)
+
+  -- where a read may be taken, one that is ready is the one that its slot's bytes say
+  pub ready_is_said : ((m : Media) → MayTake (port_of (slice_index_or h.ports p blank) m) slot) → r.moved ≡ 0 →
+      Says (bytes_of h.memory.items) (slice_index_or h.ports p blank).addresses.clb slot (taken_of r).meaning (taken_of r).places →
+      (o : Outside) (left : ℕ) → IsReady (device_of h o) port slot sectors left → IsCovered (taken_of r) size sectors left
+  ready_is_said may unmoved says o left ready =
+      let t : Taken = ready.t in
+      let memory = bytes_of h.memory.items in
+      let list = (slice_index_or h.ports p blank).addresses.clb in
+      let there = ready_said h o p port slot sectors left e ready may in
+      let meaning = says_meaning memory list slot t.meaning (taken_of r).meaning t.places (taken_of r).places there says in
+      let places = says_places memory list slot t.meaning (taken_of r).meaning t.places (taken_of r).places there says in
+      covers_back left o ready
+      ((ready_fetch h o p port slot sectors left e ready may).1
+      ∙ ((λ i. begun (meaning i) (places i)) ∙ ap (λ n. record (begun (taken_of r).meaning (taken_of r).places) { moved = n }) (sym unmoved)))
+
+  -- where it is taken, the one that its slot holds
+  pub ready_is_held : HoldsAt (slice_index_or h.ports p blank) slot r → ((m : Media) → MayTake (port_of (slice_index_or h.ports p blank) m) slot → ⊥) →
+      (o : Outside) (left : ℕ) → IsReady (device_of h o) port slot sectors left → IsCovered (taken_of r) size sectors left
+  ready_is_held here never o left ready =
+      let w = ready_held h o p port slot sectors left e ready never in
+      let same : r ≡ w.0 = some_one (sym here.held ∙ w.1.held) in
+      covers_back left o ready (w.2 ∙ ap taken_of (sym same))
