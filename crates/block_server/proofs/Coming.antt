@@ -12,7 +12,7 @@ use Rattle.adapter.specs.Steps.{Steps, restarted}
 use Rattle.adapter.specs.declared.tape.Entry.{Entry}
 use Rattle.adapter.proofs.Calls.{PutAt}
 use Rattle.adapter.proofs.Changed.{changed_same}
-use Rattle.block_server.specs.Port.{IsUp, IsComing, IsClear, IsCalm, KeepsLink, SparesClients}
+use Rattle.block_server.specs.Port.{IsUp, IsComing, IsUnlinked, IsClear, IsCalm, KeepsLink, SparesClients}
 use Rattle.block_server.specs.Told.{is_change, changes, IsUndisturbed}
 use Rattle.block_server.proofs.Linking.{LinkOn, up_on, clear_on, coming_on, steps_link, steps_calm}
 use Rattle.block_server.proofs.Told.{count_grows}
@@ -51,6 +51,9 @@ SameFace old new = (new.link_due ≡ old.link_due) × (new.fresh ≡ old.fresh) 
 
 pub up_face : (old new : PortState) → SameFace old new → IsUp old → IsUp new
 up_face old new f u = record { link = f.2 ∙ u.link; fresh = f.1 ∙ u.fresh; settled = f.0 ∙ u.settled }
+
+pub unlinked_face : (old new : PortState) → SameFace old new → IsUnlinked old → IsUnlinked new
+unlinked_face old new f u = (λ seen. u.0 (sym f.2 ∙ seen), f.0 ∙ u.1)
 
 coming_face : (old new : PortState) → SameFace old new → IsComing old → IsComing new
 coming_face old new f (inl w) = inl (f.2 ∙ w.0, f.0 ∙ w.1)

@@ -9,7 +9,7 @@ use Rattle.adapter.specs.declared.tape.Entry.TheVariants as entry
 use Rattle.adapter.proofs.Absurd.{true-false}
 use Rattle.adapter.proofs.Changed.{changed_other}
 use Rattle.adapter.proofs.KeptLemmas.{step_keeps}
-use Rattle.block_server.specs.Port.{IsUp, IsComing, IsClear, IsCalm, IsHealthy}
+use Rattle.block_server.specs.Port.{IsUp, IsComing, IsUnlinked, IsClear, IsCalm, IsHealthy}
 use Rattle.block_server.specs.Told.{is_change, is_failure, changes, failures, IsUndisturbed, IsUnharmed}
 use Rattle.block_server.proofs.Told.{count_grows, never_told, steps_relate, port_of, port_after, at_step}
 
@@ -40,6 +40,10 @@ up_on (inr c) u = c.up
 pub clear_on : {old new : PortState} → LinkOn old new → IsUp old → IsClear old → IsClear new
 clear_on (inl s) u c = (s.4 ∙ c.0, s.5 ∙ c.1)
 clear_on (inr o) u c = true-false o.due u.settled
+
+pub unlinked_on : {old new : PortState} → LinkOn old new → IsUnlinked old → IsUnlinked new
+unlinked_on (inl s) u = (λ seen. u.0 (sym s.3 ∙ seen), s.1 ∙ u.1)
+unlinked_on (inr c) u = true-false c.due u.1
 
 pub coming_on : {old new : PortState} → LinkOn old new → IsComing old → IsComing new
 coming_on (inl s) (inl w) = inl (s.3 ∙ w.0, s.1 ∙ w.1)

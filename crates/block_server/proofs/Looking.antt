@@ -1,6 +1,6 @@
 -- Readings, and writes that acknowledge, leave port 0 serving what it served.
 use Rattle.std.specs.Prelude.{count_by}
-use Rattle.std.proofs.Common.{List, ℕ, ◌≡◌, ◌≤◌, ◌%◌, length, Bool, true, false, ◌⊎◌, inl, inr, Option, None, Some, ◌||◌, refl, sym, ◌∙◌, ap, subst, arith, if◌then◌else◌}
+use Rattle.std.proofs.Common.{List, ℕ, ◌≡◌, ◌≢◌, ◌≤◌, ◌%◌, length, Bool, true, false, ◌⊎◌, inl, inr, Option, None, Some, ◌||◌, refl, sym, ◌∙◌, ap, subst, arith, if◌then◌else◌}
 use Rattle.hba_regs.specs.Bits.{bit}
 use Rattle.hba_regs.specs.declared.reg.PortReg.{PortReg}
 use Rattle.hba_regs.specs.declared.reg.PortReg.TheVariants.{Is, Ssts, Ci, Sact}
@@ -20,11 +20,11 @@ use Rattle.adapter.proofs.Changed.{changed_same}
 use Rattle.adapter.proofs.Calls.{KeepsAll, steps_keep_all, seen, SeenAt, put, PutAt}
 use Rattle.adapter.proofs.KeptLemmas.{SameEngine, same_engine, still, steps_keep}
 use Rattle.block_server.specs.Places.{places_of}
-use Rattle.block_server.specs.Port.{IsSlotFree, IsLone, IsRunning, Issued, meaning_of, HoldsRead, Serves, KeepsServing, Proceeds, IsHealthy, IsTroubled, FindsDone}
-use Rattle.block_server.specs.Told.{is_change, is_failure, is_read_end, changes, failures, IsUnharmed}
-use Rattle.block_server.proofs.Coming.{is_face}
+use Rattle.block_server.specs.Port.{IsSlotFree, IsLone, IsRunning, Issued, meaning_of, HoldsRead, Serves, KeepsServing, Proceeds, IsHealthy, IsTroubled, IsUnlinked, FindsDone}
+use Rattle.block_server.specs.Told.{is_change, is_failure, is_read_end, changes, failures, IsUndisturbed, IsUnharmed}
+use Rattle.block_server.proofs.Coming.{is_face, unlinked_face}
 use Rattle.block_server.proofs.Going.{SameWork, healthy_face, goes_then, goes_effect, steps_go}
-use Rattle.block_server.proofs.Linking.{steps_healthy}
+use Rattle.block_server.proofs.Linking.{unlinked_on, steps_link, steps_healthy}
 use Rattle.block_server.proofs.Moving.{moves_on}
 use Rattle.block_server.proofs.Sparing.{spares_on}
 use Rattle.block_server.proofs.Told.{count_grows}
@@ -149,6 +149,7 @@ pub record HealthOn (old new : Device) : Type 0 where
   pub changed : changes old ≤ changes new
   pub failed : failures old ≤ failures new
   pub healthy : IsUnharmed old new → IsHealthy (old.port 0) → IsHealthy (new.port 0)
+  pub unlinked : IsUndisturbed old new → IsUnlinked (old.port 0) → IsUnlinked (new.port 0)
   pub unset : (old.port 0).ci 0 ≡ false → (new.port 0).ci 0 ≡ false
 
 health_both : {old mid new : Device} → HealthOn old mid → HealthOn mid new → IsUnharmed old new → IsUnharmed old mid × IsUnharmed mid new
@@ -159,11 +160,15 @@ health_both a b u =
     let w = b.failed in
     ((omega (arith, x, y, u.0), omega (arith, z, w, u.1)), (omega (arith, x, y, u.0), omega (arith, z, w, u.1)))
 
+changes_both : {old mid new : Device} → HealthOn old mid → HealthOn mid new → IsUndisturbed old new → IsUndisturbed old mid × IsUndisturbed mid new
+changes_both a b u = let x = a.changed in let y = b.changed in (omega (arith, x, y, u), omega (arith, x, y, u))
+
 health_then : {old mid new : Device} → HealthOn old mid → HealthOn mid new → HealthOn old new
 health_then a b = record {
   changed = let x = a.changed in let y = b.changed in omega (arith, x, y);
   failed = let x = a.failed in let y = b.failed in omega (arith, x, y);
   healthy = λ u h. let n = health_both a b u in b.healthy n.1 (a.healthy n.0 h);
+  unlinked = λ u n. let both = changes_both a b u in b.unlinked both.1 (a.unlinked both.0 n);
   unset = λ clear. b.unset (a.unset clear);
 }
 
@@ -176,6 +181,7 @@ health_by old mid new after quiet steps effect tape work =
       changed = let g = count_grows is_change old.tape mid.tape k.gained k.tape in let t = told is_change in omega (arith, g, t);
       failed = let g = count_grows is_failure old.tape mid.tape k.gained k.tape in let t = told is_failure in omega (arith, g, t);
       healthy = λ u h. healthy_face (mid.port 0) (after.port 0) work.0 (steps_healthy old mid quiet steps (sym (told is_change) ∙ u.0, sym (told is_failure) ∙ u.1) h);
+      unlinked = λ u n. unlinked_face (mid.port 0) (after.port 0) work.0 (unlinked_on (steps_link old mid quiet steps (sym (told is_change) ∙ u)) n);
       unset = λ clear. work.1 ∙ (k.port 0).ci 0 clear;
     })
 
@@ -359,6 +365,12 @@ module _ (d0 d1 d2 d3 : Device) (l : IsLone d0) (run : IsRunning d0) (v w : ℕ)
     -- no bit of CI is set
     pub looked_unset : (d0.port 0).ci 0 ≡ false → (d4.port 0).ci 0 ≡ false
     looked_unset = (health_then one_on rest_on).unset
+
+    -- a link that is gone is seen to be
+    pub not_linked : IsUnlinked (d0.port 0) → IsUndisturbed d0 d4 → s % 16 ≢ 3
+    not_linked none u seen_it =
+        let shows = (seen (record { 0 = 0 }) Ssts s d3 d4 fourth looked_run.0.on.no_reset).shows in
+        ((health_then one_on rest_on).unlinked u none).0 (sym shows ∙ seen_it)
 
   -- on a port without trouble, none is seen
   module _ (d4 : Device) (s : ℕ) (fourth : Reads (px Ssts) s d3 d4) (h : IsHealthy (d0.port 0)) (u : IsUnharmed d0 d4) where

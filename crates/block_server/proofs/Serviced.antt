@@ -11,10 +11,11 @@ use Rattle.adapter.proofs.Runs.{Steps-one}
 use Rattle.dma_frames.specs.Table.{Table, LendsOnly}
 use Rattle.block_server.specs.Book.{IsKept, StandsBehind, served, issued_of}
 use Rattle.block_server.specs.Calls.{Services, done_reply}
-use Rattle.block_server.specs.Port.{IsLone, IsResting, IsHealthy, IsTroubled, Issued, Serves, Proceeds, frames_of, EndsAsShown, issued_now, MovesOnly}
-use Rattle.block_server.specs.Told.{reads_ended, IsUnharmed}
+use Rattle.block_server.specs.Port.{IsLone, IsResting, IsHealthy, IsTroubled, IsUnlinked, Issued, Serves, Proceeds, frames_of, EndsAsShown, issued_now, MovesOnly}
+use Rattle.block_server.specs.Told.{reads_ended, IsUndisturbed, IsUnharmed}
 use Rattle.block_server.specs.View.{ServerView}
 use Rattle.block_server.specs.declared.types.Accepted.{Accepted}
+use Rattle.block_server.proofs.Coming.{undisturbed_both}
 use Rattle.block_server.proofs.Going.{unharmed_both, steps_go, steps_rest, told}
 use Rattle.block_server.proofs.Linking.{steps_healthy}
 use Rattle.block_server.proofs.Moving.{moves_none, moves_then, moves_more_read, none_confined, step_moves}
@@ -89,6 +90,7 @@ module _ {A : Type 0} (device : A → Device) (s : ServerView A) (places : ℕ) 
     answers = inl (record { replies_are = none; book = refl; table = refl; issued = refl; ended = goes.ended });
     answered = λ ready issued healthy unharmed clear. absurd (never ready issued healthy unharmed clear);
     troubled = λ _. none;
+    unlinked = λ _ _. none;
     serves = serves;
     spares = goes.spares;
     moved = goes.moved;
@@ -98,10 +100,11 @@ module _ {A : Type 0} (device : A → Device) (s : ServerView A) (places : ℕ) 
   -- the first is answered, and the next is issued
   module _ (issued : s.issued ≡ true) (e : Accepted) (rest : List Accepted) (book_is : s.book ≡ e ∷ rest) (table : Table) (lends : LendsOnly s.table table e.loan.frames None)
       (middle : Device) (goes : Proceeds (served s.issued s.book) (device s.adapter) middle) (free : Serves None middle) where
-    pub services_first : (adapter : A) (again : Bool) (replies : List Reply) → replies ≡ done_reply e ∷ [] → (IsTroubled ((device s.adapter).port 0) → ⊥) → Proceeds None middle (device adapter) →
+    pub services_first : (adapter : A) (again : Bool) (replies : List Reply) → replies ≡ done_reply e ∷ [] → (IsTroubled ((device s.adapter).port 0) → ⊥) →
+        (IsUnlinked ((device s.adapter).port 0) → IsUndisturbed (device s.adapter) middle → ⊥) → Proceeds None middle (device adapter) →
         (again ≡ false → rest ≡ []) → (again ≡ true → rest ≢ []) → (again ≡ true → ((device adapter).port 0).ci 0 ≡ true) → Serves (served again rest) (device adapter) →
         Services device s (record s { adapter = adapter; table = table; book = rest; issued = again }) replies
-    services_first adapter again replies one calm next none some sent serves = record {
+    services_first adapter again replies one calm linked next none some sent serves = record {
       setup = record { grants = refl; owners = lends.owners; state = refl; sectors = refl };
       last = refl;
       answers = inr (record {
@@ -116,6 +119,7 @@ module _ {A : Type 0} (device : A → Device) (s : ServerView A) (places : ℕ) 
       });
       answered = λ _ _ _ _ _ nobody. let x : done_reply e ∷ [] ≡ [] = sym one ∙ nobody in cc;
       troubled = λ trouble. absurd (calm trouble);
+      unlinked = λ unlinked u. absurd (linked unlinked (undisturbed_both goes.spares next.spares u).0);
       serves = λ _. serves;
       spares = spares_then goes.spares (spares_less (frames_of (served s.issued s.book)) next.spares);
       moved = moves_then (served s.issued s.book) goes.moved (moves_more_read (served s.issued s.book) next.moved);

@@ -23,8 +23,8 @@ use Rattle.block_machine.specs.Refusals.{Situation, IsAcceptable, IsFirstRefusal
 use Rattle.dma_frames.specs.Table.{Run, owner_of, lent_to, LendsOnly, HasFrame}
 use Rattle.block_server.specs.Book.{served, unanswered_of}
 use Rattle.grants.specs.Rows.{SameRows}
-use Rattle.block_server.specs.Port.{IsBroughtUp, IsHealthy, IsTroubled, Issued, Serves, SparesClients, Proceeds, EndsAsShown, issued_now, MovesOnly, frames_of}
-use Rattle.block_server.specs.Told.{reads_ended, IsUnharmed}
+use Rattle.block_server.specs.Port.{IsBroughtUp, IsHealthy, IsTroubled, IsUnlinked, Issued, Serves, SparesClients, Proceeds, EndsAsShown, issued_now, MovesOnly, frames_of}
+use Rattle.block_server.specs.Told.{reads_ended, IsUndisturbed, IsUnharmed}
 use Rattle.block_server.specs.View.{ServerView}
 use Rattle.block_server.specs.declared.types.Accepted.{Accepted}
 
@@ -120,7 +120,8 @@ abbrev pub served_by : {A : Type 0} → ServerView A → Option Issued
 served_by s = served s.issued s.book
 
 -- Nobody is answered, or the first of the book is, which was done: on a port without trouble it is answered once its bit of CI
--- is clear; on one that tells trouble nobody is. No client frame changes but by the moves of the read that was served, and port 0 serves the first of the book.
+-- is clear; on one that tells trouble nobody is, nor on one whose link is gone, unless a disk came or went. No client frame
+-- changes but by the moves of the read that was served, and port 0 serves the first of the book.
 pub record Services {A : Type 0} (device : A → Device) (old new : ServerView A) (replies : List Reply) : Type 0 where
   pub setup : SameSetup old new
   pub last : new.last ≡ old.last
@@ -128,6 +129,7 @@ pub record Services {A : Type 0} (device : A → Device) (old new : ServerView A
   pub answered : old.state ≡ Ready → old.issued ≡ true → IsHealthy ((device old.adapter).port 0) → IsUnharmed (device old.adapter) (device new.adapter) →
       ((device old.adapter).port 0).ci 0 ≡ false → replies ≢ []
   pub troubled : IsTroubled ((device old.adapter).port 0) → replies ≡ []
+  pub unlinked : IsUnlinked ((device old.adapter).port 0) → IsUndisturbed (device old.adapter) (device new.adapter) → replies ≡ []
   pub serves : old.state ≡ Ready → Serves (served_by new) (device new.adapter)
   pub spares : SparesClients (frames_of (served_by old)) (device old.adapter) (device new.adapter)
   pub moved : MovesOnly (served_by old) (device old.adapter) (device new.adapter)

@@ -58,6 +58,10 @@ pub record IsUp (p : device.PortState) : Type 0 where
 abbrev pub IsComing : device.PortState → Type 0
 IsComing p = ((p.ssts_det ≡ 0) × (p.link_due ≡ true)) ⊎ IsUp p
 
+-- No device with a link is seen, and none is due to be.
+abbrev pub IsUnlinked : device.PortState → Type 0
+IsUnlinked p = (p.ssts_det ≢ 3) × (p.link_due ≡ false)
+
 -- SERR tells nothing of the link
 abbrev pub IsClear : device.PortState → Type 0
 IsClear p = (p.serr_n ≡ false) × (p.serr_x ≡ false)

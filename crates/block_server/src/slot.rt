@@ -1,8 +1,8 @@
 // One read in slot 0 of port 0: issuing it, and seeing that it is done.
 ghost use Rattle.std.specs.Prelude.{◌≡◌, ◌+◌, ◌*◌, ◌/◌, ◌%◌, ◌^◌, ◌<◌, ◌≤◌, ◌||◌, ◌&&◌, ◌==◌, not, true, false, None, Some, length, All};
 ghost use Rattle.hba_regs.specs.Bits.{bit};
-ghost use Rattle.block_server.specs.Port.{IsLone, IsRunning, HoldsRead, Serves, KeepsServing, FindsDone, Proceeds, IsHealthy, IsTroubled, Issued};
-ghost use Rattle.block_server.specs.Told.{IsUnharmed};
+ghost use Rattle.block_server.specs.Port.{IsLone, IsRunning, HoldsRead, Serves, KeepsServing, FindsDone, Proceeds, IsHealthy, IsTroubled, IsUnlinked, Issued};
+ghost use Rattle.block_server.specs.Told.{IsUndisturbed, IsUnharmed};
 
 use crate::command_table::{header, prds, table_bytes};
 use adapter::{Adapter, Command};
@@ -98,6 +98,7 @@ pub fn look<A: Adapter>(adapter: &mut A) -> bool
     ensures serves { KeepsServing (A.device adapter.old) (A.device adapter.new) }
     ensures unset { ((A.device adapter.old).port 0).ci 0 ≡ false → ((A.device adapter.new).port 0).ci 0 ≡ false }
     ensures troubled { IsTroubled ((A.device adapter.old).port 0) → result ≡ false }
+    ensures unlinked { IsUnlinked ((A.device adapter.old).port 0) → IsUndisturbed (A.device adapter.old) (A.device adapter.new) → result ≡ false }
     ensures undisturbed { IsHealthy ((A.device adapter.old).port 0) → IsUnharmed (A.device adapter.old) (A.device adapter.new) → result ≡ true }
 {
     let interrupts = PortInterrupts(adapter.read(Reg::Px(Port(0), PortReg::Is)));

@@ -1,6 +1,6 @@
-use Rattle.std.proofs.Common.{◌∙◌, Bool, not, ◌&&◌, ◌||◌, ◌≡◌, ◌⊎◌, inl, inr, true, false, refl, ap}
-use Rattle.std.proofs.lemmas.Bool.{eq-eqb}
-use Rattle.block_server.proofs.Looking.{steps_run, acknowledged, looked_run, looked_keep, reading_runs, interrupts_run, looked_unset, no_change, no_failure, linked, trouble_seen}
+use Rattle.std.proofs.Common.{ℕ, ◌≢◌, ◌==◌, ◌∙◌, Bool, not, ◌&&◌, ◌||◌, ◌≡◌, ◌⊎◌, inl, inr, true, false, refl, ap}
+use Rattle.std.proofs.lemmas.Bool.{eq-eqb, ne_eqb}
+use Rattle.block_server.proofs.Looking.{steps_run, acknowledged, looked_run, looked_keep, reading_runs, interrupts_run, looked_unset, no_change, no_failure, linked, not_linked, trouble_seen}
 use Rattle.block_server.proofs.slot.look.Goals as goal
 
 pub write-requires : goal.write-requires
@@ -32,6 +32,15 @@ returns-clause-unset g c =
 -- what is seen of a port where all is clear
 all_clear : (a b c d e f g : Bool) → a ≡ true → b ≡ false → c ≡ false → d ≡ false → e ≡ false → f ≡ false → g ≡ false → (a && not (b || c) && not (d || e || f || g)) ≡ true
 all_clear a b c d e f g h i j k l m n = rw (h, i, j, k, l, m, n) refl
+
+-- a device that isn't seen
+nothing_seen : (n : ℕ) (y z : Bool) → n ≢ 3 → ((n == 3) && y && z) ≡ false
+nothing_seen n y z other = rw (ne_eqb n 3 other) refl
+
+pub returns-clause-unlinked : goal.returns-clause-unlinked
+returns-clause-unlinked g c = λ none undisturbed.
+    c.is_undisturbed.ensures
+    ∙ nothing_seen _ _ _ (not_linked _ _ _ _ c.requires.lone c.requires.runs _ _ c.read.ensures c.write.ensures c.write-2.ensures _ _ c.read-2.ensures none undisturbed)
 
 pub returns-clause-undisturbed : goal.returns-clause-undisturbed
 returns-clause-undisturbed g c = λ healthy unharmed.

@@ -3,6 +3,7 @@ use Rattle.ata_types.specs.declared.request.Reply.{Reply}
 use Rattle.adapter.proofs.Absurd.{true-false}
 use Rattle.block_server.specs.Calls.{Services, done_reply}
 use Rattle.block_server.specs.View.{ServerView}
+use Rattle.block_server.proofs.Coming.{undisturbed_both}
 use Rattle.block_server.proofs.Going.{goes_then}
 use Rattle.block_server.proofs.Serviced.{found_goes, services_none, services_first}
 use Rattle.std.specs.List.{All}
@@ -93,7 +94,8 @@ returns g c =
     let s = seen c.self.inside in
     let places = vec_capacity c.self.inside.book in
     let looked = c.look.ensures.serves _ (answering.serving g.A.Adapter.device s places c.self.invariant c.in-Ready.is) in
-    let goes = goes_then (served s.issued s.book) looked.1 (found_goes g.A.Adapter.device s places c.self.invariant c.if-not-self.false _ _ c.is_done.ensures.goes_on looked.0) in
+    let found = found_goes g.A.Adapter.device s places c.self.invariant c.if-not-self.false _ _ c.is_done.ensures.goes_on looked.0 in
+    let goes = goes_then (served s.issued s.book) looked.1 found in
     let free = answering.is_free g.A.Adapter.device s places c.self.invariant c.in-Ready.is c.if-not-self.false _ _ looked.0 c.is_done.result c.is_done.ensures.found c.if-not-is_done.false in
     let rest = c.remove-loan.new.self.items in
     let book_is = answering.first_and_rest s.book rest c.remove-loan.result (c.self.invariant.some c.if-not-self.false) c.remove-loan.ensures.value c.remove-loan.ensures.items in
@@ -105,4 +107,5 @@ returns g c =
     subst Here c.self.view_is
     (services_first g.A.Adapter.device s places c.self.invariant c.if-not-self.false c.remove-loan.result rest book_is c.give_back.new.self c.give_back.ensures
     (g.A.Adapter.device c.is_done.new.adapter) goes free c.issue_first-self-inside.new.adapter c.issue_first-self-inside.result c.push.new.self.items (c.push.ensures.items ∙ ap (λ (replies : List Reply). replies ++ done_reply c.remove-loan.result ∷ []) c.new-replies.ensures)
-    (λ trouble. true-false c.if-not-look.false (c.look.ensures.troubled trouble)) next.goes_on (λ not. sym same ∙ next.none not) (λ is none. next.some is (same ∙ none)) next.issued (subst P same next.serves))
+    (λ trouble. true-false c.if-not-look.false (c.look.ensures.troubled trouble))
+    (λ none u. true-false c.if-not-look.false (c.look.ensures.unlinked none (undisturbed_both looked.1.spares found.spares u).0)) next.goes_on (λ not. sym same ∙ next.none not) (λ is none. next.some is (same ∙ none)) next.issued (subst P same next.serves))
