@@ -23,3 +23,4 @@ mod Running
 mod Serving
 mod Setting
 mod Zeros
+mod FirstServed
