@@ -17,6 +17,15 @@ const SECTORS: u32 = 256;
 /// The frames of the memory.
 const FRAMES: u16 = 256;
 
+/// The adapter and its disk.
+const CONFIG: ModelConfig = ModelConfig {
+    frames: FRAMES,
+    slots: 1,
+    ncq: false,
+    depth: 1,
+    trim: Trim::Full,
+};
+
 /// Client 1 owns frames 40 to 79, and client 2 frames 80 to 119.
 const OWNERS: [(ClientId, Frame, u16); 2] = [
     (ClientId(1), Frame(40), 40),
@@ -119,14 +128,7 @@ fn new_server(alloc: Global) -> Result<Server<Model<MemStore>>, Fault>
     ensures { IfOk result (λ s. (s.book ≡ []) × (s.issued ≡ false)) }
 {
     let setup = Setup::new(FRAMES, &OWNERS, &GRANTS)?;
-    let config = ModelConfig {
-        frames: FRAMES,
-        slots: 1,
-        ncq: false,
-        depth: 1,
-        trim: Trim::Full,
-    };
-    let Ok(model) = Model::new(alloc, config, disk(alloc)?, MemStore::new(alloc, 0)?) else {
+    let Ok(model) = Model::new(alloc, CONFIG, disk(alloc)?, MemStore::new(alloc, 0)?) else {
         return Err(Fault::NoMemory);
     };
     let Ok(server) = Server::first(alloc, &setup, model, SECTORS as u64) else {
@@ -154,6 +156,7 @@ mod tests {
     use adapter::{Adapter, Stepped};
     use ata_types::{FrameFault, MemFault, PortState, Refusal, RequestId, Rule};
     use block_server::laws::driver_bytes_are_free;
+    use hba_regs::{PortReg, Reg};
     use std::test::Fail;
 
     /// What is said of a read, if it is refused by a rule.
@@ -357,6 +360,69 @@ mod tests {
         let mut entry = [0; 16];
         adapter.load(0x1080, &mut entry);
         (header, fis, entry)
+    }
+
+    /// An adapter that counts the readings of port 0's PxSSTS and PxTFD.
+    #[derive(Drop)]
+    struct Counting<A> {
+        adapter: A,
+        statuses: u32,
+        task_files: u32,
+    }
+
+    impl<A: Adapter> Adapter for Counting<A> {
+        ghost device = { λ c. A.device c.adapter };
+
+        fn read(&mut self, r: Reg) -> u32 {
+            if r == Reg::Px(Port(0), PortReg::Ssts) {
+                self.statuses = self.statuses.saturating_add(1);
+            }
+            if r == Reg::Px(Port(0), PortReg::Tfd) {
+                self.task_files = self.task_files.saturating_add(1);
+            }
+            self.adapter.read(r)
+        }
+
+        fn write(&mut self, r: Reg, v: u32) {
+            self.adapter.write(r, v);
+        }
+
+        fn load(&mut self, addr: u32, out: &mut [u8]) {
+            self.adapter.load(addr, out);
+        }
+
+        fn store(&mut self, addr: u32, bytes: &[u8]) {
+            self.adapter.store(addr, bytes);
+        }
+    }
+
+    /// What port 0 is after a server was made over a model, and how often PxSSTS and PxTFD were read for it.
+    fn made_over(alloc: Global, unplugged: bool) -> Result<(PortState, u32, u32), Fail> {
+        let Ok(setup) = Setup::new(FRAMES, &OWNERS, &GRANTS) else {
+            return Err(Fail::from("the setup is wrong"));
+        };
+        let mut model = Model::new(alloc, CONFIG, disk(alloc)?, MemStore::new(alloc, 0)?)?;
+        if unplugged && !model.unplug() {
+            return Err(Fail::from("there is no disk"));
+        }
+        let counting = Counting {
+            adapter: model,
+            statuses: 0,
+            task_files: 0,
+        };
+        let Ok(server) = Server::first(alloc, &setup, counting, SECTORS as u64) else {
+            return Err(Fail::from("no memory"));
+        };
+        let state = server.state(Port(0));
+        let counting = server.close();
+        Ok((state, counting.statuses, counting.task_files))
+    }
+
+    #[test]
+    fn a_wait_for_a_link_is_64_readings(rt: HostRuntime) -> Result<(), Fail> {
+        assert_eq!(rt; made_over(rt.alloc(), true)?, (PortState::Absent, 64, 0));
+        assert_eq!(rt; made_over(rt.alloc(), false)?, (PortState::Ready, 1, 1));
+        Ok(())
     }
 
     #[test]

@@ -1,17 +1,19 @@
 -- Steps of the hardware, of a port by its index in the array.
-use Rattle.std.proofs.Common.{ℕ, ◌≡◌, ◌<◌, ◌≤◌, ◌+◌, List, [], ◌∷◌, ◌++◌, length, refl, sym, ◌∙◌, ap, subst, inl, arith, take, drop}
+use Rattle.std.proofs.Common.{ℕ, Bool, true, false, ◌≡◌, ◌<◌, ◌≤◌, ◌+◌, List, [], ◌∷◌, ◌++◌, length, refl, sym, ◌∙◌, ap, subst, inl, arith, take, drop}
 use Rattle.std.specs.Prelude.{slice_set, slice_index_or, Option, IfSome}
 use Rattle.std.specs.Global.{Vec}
 use Rattle.adapter.specs.Commands.{Meaning}
-use Rattle.adapter.specs.Device.{PortState, IsSector}
+use Rattle.adapter.specs.Device.{PortState, Device, IsSector}
+use Rattle.adapter.specs.Idle.{IsIdlePort, IsIdle}
 use Rattle.adapter.specs.Says.{Says, pieces}
 use Rattle.adapter.specs.Steps.{after, MayFetch, MayMove, IsWorking, IsAlone, with_fetch, with_move, with_done, done_entry, move_of, next_place}
-use Rattle.adapter.specs.Steps.Step.{Move}
+use Rattle.adapter.specs.Steps.Step.{Move, Unplug}
 use Rattle.adapter.specs.declared.command.Operation.TheVariants.{Read, Trim}
 use Rattle.adapter.specs.declared.command.Operation.{Operation}
 use Rattle.adapter.specs.declared.tape.Entry.{Entry}
 use Rattle.adapter.specs.declared.tape.Entry.TheVariants as entry
 use Rattle.adapter.specs.Asked.{DoesFetch, DoesDone}
+use Rattle.adapter.proofs.Changed.{changed_each}
 use Rattle.device_model.specs.Fetched.{bytes_of}
 use Rattle.device_model.specs.Slots.{MayTake, HoldsAt, IsNext}
 use Rattle.device_model.specs.View.{port_of, taken_of, blank}
@@ -52,6 +54,29 @@ fetch_takes h o p port slot m places e read may =
 pub fetch_says : (h : Hardware) (o : Outside) (p port slot : ℕ) (m : Meaning) (places : List ℕ) → p ≡ port →
     MayFetch (device_of h o) port slot m places → Says (bytes_of h.memory.items) (slice_index_or h.ports p blank).addresses.clb slot m places
 fetch_says h o p port slot m places e may = rw e may.says
+
+-- the disk is taken out
+pub unplugged : (h : Hardware) (o : Outside) (new : PortModel) (tape : Vec Entry) → 0 < length h.ports →
+    port_of new (o.media 0) ≡ record (port_of (slice_index_or h.ports 0 blank) (o.media 0)) { ssts_det = 0; present = false; fresh = false; serr_n = true } →
+    tape.items ≡ h.tape.items ++ entry.Unplug (record { 0 = 0 }) ∷ [] →
+    device_of (record h { ports = slice_set h.ports 0 new; tape = tape }) o ≡ after (Unplug 0) (device_of h o)
+unplugged h o new tape some is more = set_port_recorded h o 0 new _ tape (entry.Unplug (record { 0 = 0 })) some is more
+
+-- an idle adapter is idle without it
+pub unplugged_idle : (old new : Device) → new ≡ after (Unplug 0) old → IsIdle old → IsIdle new
+unplugged_idle old new is idle =
+    let P : Device → Type 0 = λ d. IsIdle d in
+    let here : PortState = record (old.port 0) { ssts_det = 0; present = false; fresh = false; serr_n = true } in
+    let was = idle.port 0 in
+    subst P (sym is) (record {
+      no_reset = idle.no_reset;
+      port = changed_each old.port 0 here (λ q p. IsIdlePort p)
+          (record { st = was.st; cr = was.cr; fre = was.fre; fr = was.fr; ci = was.ci; sact = was.sact; taken = was.taken }) idle.port;
+    })
+
+pub stays_idle : (did : Bool) (old new : Device) → (did ≡ true → new ≡ after (Unplug 0) old) → (did ≡ false → new ≡ old) → IsIdle old → IsIdle new
+stays_idle true old new is same idle = unplugged_idle old new (is refl) idle
+stays_idle false old new is same idle = let P : Device → Type 0 = λ d. IsIdle d in subst P (sym (same refl)) idle
 
 -- a command is at its end
 pub port_ends : (h : Hardware) (o : Outside) (p port slot : ℕ) (new : PortModel) (t : TakenRead) (tape : Vec Entry) → p ≡ port → p < length h.ports →

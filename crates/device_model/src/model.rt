@@ -6,8 +6,8 @@ ghost use Rattle.adapter.specs.Idle.{IsIdle, IsSane};
 ghost use Rattle.adapter.specs.OneCommand.{IsFreeSlot};
 ghost use Rattle.adapter.specs.Access.{Reads};
 ghost use Rattle.adapter.specs.Rules.{MayRead};
-ghost use Rattle.adapter.specs.Steps.{MayLinkUp, Steps, Can};
-ghost use Rattle.adapter.specs.Steps.Step.{Fetch, Move, Done};
+ghost use Rattle.adapter.specs.Steps.{MayLinkUp, Steps, Can, after};
+ghost use Rattle.adapter.specs.Steps.Step.{Fetch, Move, Done, Unplug};
 ghost use Rattle.adapter.specs.Asked.{DoesMove, GoesOn, Asked};
 ghost use Rattle.device_model.specs.Finishing.{HasRoom, IsReady};
 ghost use Rattle.device_model.specs.Queue.{DoesEach, due, not_due};
@@ -95,6 +95,20 @@ impl<S: SectorStore> Model<S> {
         self.queue
             .push(Queued { access, step })
             .map_err(|_full| NoMemory)
+    }
+
+    /// Takes the disk out of port 0; `false` says that there was none, or that the tape found no memory, and that nothing
+    /// changed.
+    pub fn unplug(&mut self) -> bool
+        ensures did { result ≡ true → Can (Unplug 0) (device_at S.size S.told self.old)
+            × (device_at S.size S.told self.new ≡ after (Unplug 0) (device_at S.size S.told self.old)) }
+        ensures refused { result ≡ false → device_at S.size S.told self.new ≡ device_at S.size S.told self.old }
+        ensures only { result ≡ false → HasRoom self.old.hardware 1 → Can (Unplug 0) (device_at S.size S.told self.old) → ⊥ }
+        ensures idle { IsIdle (device_at S.size S.told self.old) → IsIdle (device_at S.size S.told self.new) }
+        ensures queue { self.new.queue ≡ self.old.queue }
+        ensures accesses { self.new.accesses ≡ self.old.accesses }
+    {
+        self.hardware.unplug()
     }
 
     /// Moves the next piece of a slot's command; `false` says that it isn't possible, or that the store failed or the

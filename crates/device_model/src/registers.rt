@@ -1,5 +1,5 @@
 // What the registers of a port show, and what a write does.
-ghost use Rattle.std.specs.Prelude.{◌≡◌, ◌%◌, ◌<◌, ℕ, IsTrue, ◌↔◌, true};
+ghost use Rattle.std.specs.Prelude.{◌≡◌, ◌%◌, ◌<◌, ℕ, IsTrue, ◌↔◌, true, false};
 ghost use Rattle.adapter.specs.Steps.{MayLinkUp, with_link};
 ghost use Rattle.adapter.specs.Access.{PortShows, note, port_written, unacknowledged, counted as count_after, link_counted as link_count_after};
 ghost use Rattle.device_model.specs.View.{Media, port_of, Settles};
@@ -185,6 +185,16 @@ impl PortModel {
         self.serr_x = true;
         self.serr_n = true;
         self.link_due = false;
+    }
+
+    /// The disk is taken out (AHCI 1.3.1, 3.3.10 and 3.3.12).
+    pub fn unplug(&mut self)
+        ensures { (m : Media) → port_of self.new m ≡ record (port_of self.old m) { ssts_det = 0; present = false; fresh = false; serr_n = true } }
+    {
+        self.detected = false;
+        self.present = false;
+        self.fresh = false;
+        self.serr_n = true;
     }
 
     /// What the port does by itself.

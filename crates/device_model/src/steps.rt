@@ -5,7 +5,7 @@ ghost use Rattle.adapter.specs.Commands.{Meaning};
 ghost use Rattle.adapter.specs.Device.{Taken};
 ghost use Rattle.adapter.specs.Says.{pieces};
 ghost use Rattle.adapter.specs.Steps.{Can, after};
-ghost use Rattle.adapter.specs.Steps.Step.{Fetch as FetchStep, Move as MoveStep, Done as DoneStep};
+ghost use Rattle.adapter.specs.Steps.Step.{Fetch as FetchStep, Move as MoveStep, Done as DoneStep, Unplug as UnplugStep};
 ghost use Rattle.adapter.specs.Asked.{DoesFetch, DoesDone};
 ghost use Rattle.device_model.specs.Finishing.{HasRoom, IsInside, AreInside, IsCovered, IsReady};
 ghost use Rattle.device_model.specs.Slots.{HoldsAt, IsNext};
@@ -186,6 +186,19 @@ impl Hardware {
             let read = working_on(&self.ports, place, slot)?;
             left_of(read, self.memory.len(), sectors)
         }
+    }
+
+    /// The disk is taken out of port 0; `false` says that there was none, or that the tape found no memory.
+    pub fn unplug(&mut self) -> bool
+        ensures did { result ≡ true → (o : Outside) → Can (UnplugStep 0) (device_of self.old o) × (device_of self.new o ≡ after (UnplugStep 0) (device_of self.old o)) }
+        ensures refused { result ≡ false → (o : Outside) → device_of self.new o ≡ device_of self.old o }
+        ensures only { result ≡ false → HasRoom self.old 1 → (o : Outside) → Can (UnplugStep 0) (device_of self.old o) → ⊥ }
+    {
+        if !self.ports[0].present || !record(&mut self.tape, Entry::Unplug(Port(0))) {
+            return false;
+        }
+        self.ports[0].unplug();
+        true
     }
 
     /// Finds memory for more entries of the tape; `false` says that there was none.

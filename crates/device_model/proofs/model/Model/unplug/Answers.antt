@@ -1,0 +1,17 @@
+use Rattle.device_model.specs.Whole.{outside_of}
+use Rattle.device_model.proofs.Stepping.{stays_idle}
+use Rattle.device_model.proofs.model.Model.unplug.Goals as goal
+
+pub returns-clause-did : goal.returns-clause-did
+returns-clause-did g c = λ yes. c.unplug.ensures.did yes _
+
+pub returns-clause-refused : goal.returns-clause-refused
+returns-clause-refused g c = λ refused. c.unplug.ensures.refused refused _
+
+pub returns-clause-only : goal.returns-clause-only
+returns-clause-only g c = λ refused room may.
+    let m = c.args.self.now in
+    c.unplug.ensures.only refused room (outside_of (g.S.SectorStore.size m.disk0) (g.S.SectorStore.told m.disk0) (g.S.SectorStore.told m.disk1)) may
+
+pub returns-clause-idle : goal.returns-clause-idle
+returns-clause-idle g c = stays_idle c.unplug.result _ _ (λ yes. (c.unplug.ensures.did yes _).1) (λ refused. c.unplug.ensures.refused refused _)
