@@ -1,12 +1,11 @@
 -- The first read is one that port 0 serves.
-use Rattle.std.proofs.Common.{ℕ, zero, suc, ◌≡◌, ◌≢◌, ◌≤◌, ◌+◌, ◌*◌, true, false, List, [], ◌∷◌, Some, length, All, refl, sym, subst, arith, inl, inr}
+use Rattle.std.proofs.Common.{zero, suc, ◌≡◌, ◌≤◌, ◌+◌, ◌*◌, true, false, [], ◌∷◌, Some, length, All, refl, sym, subst, arith}
 use Rattle.ata_types.specs.declared.request.Frame.{Frame}
 use Rattle.adapter.specs.Device.{PortState}
 use Rattle.adapter.specs.FirstRead.{first_memory, quiet_port, reading_port, first_read}
 use Rattle.adapter.specs.Idle.{IsIdlePort}
 use Rattle.adapter.specs.Memory.{patched, bytes_at, changed}
 use Rattle.adapter.specs.Says.{Says}
-use Rattle.adapter.specs.Steps.{Steps}
 use Rattle.adapter.proofs.Absurd.{some-none}
 use Rattle.adapter.proofs.Changed.{changed_other}
 use Rattle.adapter.proofs.FirstRead.{first_says}

@@ -1,31 +1,26 @@
 -- A read that may be done is taken, goes on piece by piece, and ends.
-use Rattle.std.proofs.Common.{ℕ, Bool, true, false, suc, ◌≡◌, ◌<◌, ◌≤◌, ◌+◌, ◌-◌, ◌*◌, ◌/◌, ◌⊎◌, List, [], ◌∷◌, ◌++◌, length, slice_index, slice_index_or, Option, None, Some, All, refl, sym, ◌∙◌, ap, subst, inl, inr, arith, length-append}
-use Rattle.std.proofs.lemmas.Bool.{cases_lt}
-use Rattle.std.proofs.lemmas.List.{get_or_append_left, get_or-append_right}
-use Rattle.std.specs.Prelude.{IfSome, SomeIff, replicate, option_map, if◌then◌else◌}
+use Rattle.std.proofs.Common.{ℕ, Bool, true, false, suc, ◌≡◌, ◌<◌, ◌≤◌, ◌+◌, ◌⊎◌, List, length, slice_index, slice_index_or, Option, None, Some, refl, sym, ◌∙◌, ap, subst, inl, inr, arith}
+use Rattle.std.specs.Prelude.{IfSome, replicate, option_map, if◌then◌else◌}
 use Rattle.adapter.specs.Asked.{DoesFetch, DoesMove, DoesDone}
 use Rattle.adapter.specs.Commands.{Meaning, is_ranged}
 use Rattle.adapter.specs.Device.{Taken, PortState, Device, IsSector}
 use Rattle.adapter.specs.OneCommand.{IsFreeSlot}
-use Rattle.adapter.specs.Says.{Says, pieces, cut}
+use Rattle.adapter.specs.Says.{pieces}
 use Rattle.adapter.specs.Steps.{Can, WorksOn, begun, MayMove, Brings, next_sector, with_fetch, with_move, with_done, block_after}
 use Rattle.adapter.specs.Steps.Step.{Fetch, Move, Done}
 use Rattle.adapter.specs.declared.command.Operation.{Operation}
 use Rattle.adapter.specs.declared.command.Operation.TheVariants.{Read, Trim}
-use Rattle.adapter.specs.declared.command.Prd.{Prd}
 use Rattle.adapter.proofs.Absurd.{some-none, some_one}
 use Rattle.adapter.proofs.Changed.{changed_same}
 use Rattle.adapter.proofs.ReadDone.{still_working}
-use Rattle.adapter.proofs.SaysLemmas.{says_meaning, says_places, cut_length, cut_index}
+use Rattle.adapter.proofs.SaysLemmas.{says_meaning, says_places}
 use Rattle.device_model.specs.Finishing.{IsCovered, IsGoing, IsReady}
-use Rattle.device_model.specs.Fetched.{bytes_of}
 use Rattle.device_model.specs.Stores.{AreSectors}
-use Rattle.device_model.specs.Slots.{MayTake, HoldsAt}
-use Rattle.device_model.specs.View.{Media, port_of, taken_of, blank}
+use Rattle.device_model.specs.Slots.{HoldsAt}
+use Rattle.device_model.specs.View.{taken_of, blank}
 use Rattle.device_model.specs.Whole.{Outside, device_of, outside_of}
 use Rattle.device_model.specs.declared.port.PortModel.{PortModel}
 use Rattle.device_model.specs.declared.hardware.Hardware.{Hardware}
-use Rattle.std.specs.Vec.{vec_len}
 use Rattle.device_model.specs.declared.port.TakenRead.{TakenRead}
 use Rattle.device_model.proofs.Sectors.{zero_sector}
 

@@ -1,4 +1,4 @@
-use Rattle.std.proofs.Common.{rules, ◌≡◌, ◌≢◌, ◌<◌, ◌≤◌, false, refl, arith}
+use Rattle.std.proofs.Common.{rules, ◌≡◌, ◌≢◌, false, refl, arith}
 use Rattle.device_model.proofs.NewModel.{IsIdleModel, IsResetModel, blank_idle, ports_are, all_zero, disks_are, disks_told, zeros_small}
 use Rattle.device_model.proofs.model.Model.new.Goals as goal
 
