@@ -273,6 +273,12 @@ pub record MayScribble (p : PortState) (slot at : ℕ) (bytes : List ℕ) : Type
       ⊎ ((t : Taken) × (p.taken slot ≡ Some t) × (at ≡ p.bases.clb + 32 * slot + 4) × (length bytes ≡ 4))
   pub are_bytes : All (λ byte. byte < 256) bytes
 
+-- ---- Plug
+
+-- a disk of the same name has as many sectors as it had: the name says which disk it is
+abbrev pub IsKnownBy : Disk → Disk → Type 0
+IsKnownBy last disk = disk.name ≡ last.name → disk.size ≡ last.size
+
 -- ---- all steps: when each is possible
 
 abbrev pub Can : Step → Device → Type 0
@@ -288,6 +294,7 @@ Can (FrFall port) d = ((d.port port).fre ≡ false) × ((d.port port).cr ≡ fal
 Can (LinkUp port sig n) d = MayLinkUp (d.port port) sig
 Can (Unplug port) d = (d.port port).present ≡ true
 Can (Plug port disk) d = ((d.port port).present ≡ false) × IsDisk disk × (d.telling ≡ true → IsTold disk)
+    × IsKnownBy (d.port port).disk disk
 Can ResetEnds d = d.hr ≡ true
 Can (Scribble port slot at bytes) d = MayScribble (d.port port) slot at bytes
 

@@ -231,7 +231,7 @@ keeps_release m s = record {
     lent x (inr i) k lt = absurd (contains_none x i)
 
 -- the place of a frame that the list has
-place_of : (f : Frame) (frames : List Frame) → list_any (λ g. g.0 == f.0) frames ≡ true → (j : ℕ) × (j < length frames) × (frame_at frames j ≡ f)
+pub place_of : (f : Frame) (frames : List Frame) → list_any (λ g. g.0 == f.0) frames ≡ true → (j : ℕ) × (j < length frames) × (frame_at frames j ≡ f)
 place_of f [] h = absurd (false≢true h)
 place_of f (x ∷ xs) h = go (x.0 == f.0) refl (place_of f xs)
   where

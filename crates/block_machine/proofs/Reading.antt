@@ -91,7 +91,7 @@ put_other f f' at at' n bytes memory apart =
     let q = and_parts (leb at at') (ltb at' (at + n)) p.1 in
     apart (sym (same_frame f' f (eqb-true f'.0 f.0 p.0))) (leb-true at at' q.0) (ltb-true at' (at + n) q.1)))
 
-put_same : (f : Frame) (at n b : ℕ) (bytes : Block) (memory : Memory) → b < n → put_bytes f at n bytes memory f (at + b) ≡ bytes b
+pub put_same : (f : Frame) (at n b : ℕ) (bytes : Block) (memory : Memory) → b < n → put_bytes f at n bytes memory f (at + b) ≡ bytes b
 put_same f at n b bytes memory lt =
     cond-true ((f.0 == f.0) && (leb at (at + b) && ltb (at + b) (at + n))) (bytes (at + b - at)) (memory f (at + b))
     (and_from _ _ (eq-eqb f.0 f.0 refl) (and_from _ _ (le-leb at (at + b) (omega arith)) (lt-ltb (at + b) (at + n) (omega arith))))

@@ -1,0 +1,144 @@
+-- What the readings of CI and SACT tell of a running port.
+use Rattle.std.proofs.Common.{ℕ, ◌≡◌, ◌⊎◌, Bool, true, false, not, ◌&&◌, List, length, refl, sym, ◌∙◌, ap, subst, arith, inl, inr, ⊎_elim}
+use Rattle.std.specs.List.{Contains}
+use Rattle.ata_types.specs.declared.Port.{Port}
+use Rattle.ata_types.specs.declared.request.RequestId.{RequestId}
+use Rattle.hba_regs.specs.Bits.{bit}
+use Rattle.hba_regs.specs.declared.reg.Reg.TheVariants.{Px}
+use Rattle.hba_regs.specs.declared.reg.PortReg.TheVariants.{Ci, Sact}
+use Rattle.adapter.specs.Access.{Reads, Loads}
+use Rattle.adapter.specs.Commands.{is_queued}
+use Rattle.adapter.specs.Device.{Device}
+use Rattle.adapter.specs.Kept.{Keeps, KeepsOn}
+use Rattle.adapter.specs.Memory.{bytes_at}
+use Rattle.adapter.specs.declared.command.Operation.{Operation}
+use Rattle.adapter.proofs.Absurd.{true-false}
+use Rattle.adapter.proofs.Calls.{SeenAt, seen}
+use Rattle.adapter.proofs.KeptLemmas.{steps_keep}
+use Rattle.block_machine.specs.Left.{after}
+use Rattle.block_machine.specs.Histories.{IsReached, AddsSteps}
+use Rattle.block_machine.specs.State.{Machine}
+use Rattle.block_machine.specs.Steps.{NoneKept}
+use Rattle.block_machine.proofs.HistoryLemmas.{reached_more}
+use Rattle.block_machine.proofs.Keeps.{same_port}
+use Rattle.agreement.specs.Agrees.{Agrees}
+use Rattle.agreement.specs.Facts.{EndedIn, IsClear, Finds, FindsPage}
+use Rattle.agreement.specs.Follows.{Follows}
+use Rattle.agreement.specs.Places.{scratch_of}
+use Rattle.agreement.specs.Slots.{Use, Own, Serves, Uses, Stage, ServesRequest, Brought, OwnWaits, OwnTaken, OwnOver, ServesOwn, IsOver, IsServed}
+use Rattle.agreement.proofs.Accesses.{read_follows, load_follows}
+use Rattle.agreement.proofs.Following.{Follows-trans}
+use Rattle.agreement.proofs.Resting.{follows_rests, none_kept_on}
+
+both_clear : {A : Type 0} (q : Bool) {i c : Bool} → i ≡ true && not q → c ≡ true && q → i ≡ false → c ≡ false → A
+both_clear true a b e f = true-false b f
+both_clear false a b e f = true-false a e
+
+-- on a running port a slot whose two bits are clear has ended its request
+clear_is_ended : (uses : Uses) (m : Machine) (d : Device) (port : Port) (slot : ℕ) (id : RequestId) → Agrees uses m d → uses port.0 slot ≡ Serves id → (d.port port.0).st ≡ true →
+    (d.port port.0).ci slot ≡ false → (d.port port.0).sact slot ≡ false → IsClear (d.port port.0) slot × EndedIn m port id
+clear_is_ended uses m d port slot id a u st issued sact = by (subst (λ (v : Use). IsServed m d.memory d.tape (d.port port.0) port.0 slot v) u (a.slot port.0 slot))
+  where
+    by : ServesRequest m d.memory (d.port port.0) port.0 slot id → IsClear (d.port port.0) slot × EndedIn m port id
+    by h = of h.stage
+      where
+        booked : NoneKept m port → Contains m.book h.pending
+        booked none = ⊎_elim
+            (λ (x : Contains m.book h.pending × (h.pending.issued ≡ true)). x.0)
+            (λ (k : Contains m.kept h.pending). absurd (none h.pending k (same_port h.pending.request.port port h.port_is)))
+            h.moves
+
+        of : Stage d.memory (d.port port.0) port.0 slot h.pending h.command h.places → IsClear (d.port port.0) slot × EndedIn m port id
+        of (inl w) = true-false w.issued issued
+        of (inr (inl t)) = both_clear (is_queued h.command.operation)
+            (t.issued ∙ ap (λ (b : Bool). b && not (is_queued h.command.operation)) st)
+            (t.sact ∙ ap (λ (b : Bool). b && is_queued h.command.operation) st) issued sact
+        of (inr (inr (inl x))) = (
+          record { over = record { issued = issued; free = x.free }; sact = sact },
+          record {
+            pending = h.pending;
+            moves = h.moves;
+            id_is = h.id_is;
+            port_is = same_port h.pending.request.port port h.port_is;
+            ended = x.ended;
+            touched = x.touched;
+            booked = booked;
+          },
+        )
+        of (inr (inr (inr x))) = true-false st x.stopped
+
+pub done_is_found : (uses : Uses) (m : Machine) (port : Port) (ci sact : ℕ) (old mid new : Device) → IsReached m → Agrees uses m old → old.hr ≡ false → (old.port port.0).st ≡ true →
+    Reads (Px port Ci) ci old mid → Reads (Px port Sact) sact mid new → Finds uses m port ci sact old new
+done_is_found uses m port ci sact old mid new reached a h st one two =
+    let f : Follows uses m old mid = read_follows uses m (Px port Ci) ci old mid reached a one in
+    let g : Follows uses (after m f.steps) mid new = read_follows uses (after m f.steps) (Px port Sact) sact mid new (reached_more m f.steps reached f.may) f.agrees two in
+    let s : SeenAt port.0 Ci ci old mid = seen port Ci ci old mid one h in
+    let r : SeenAt port.0 Sact sact mid new = seen port Sact sact mid new two s.keeps.on.no_reset in
+    let all : Follows uses m old new = Follows-trans uses m old mid new f g in
+    record {
+      follows = all;
+      clear = λ slot id below u clear clear'.
+          clear_is_ended uses (after m all.steps) new port slot id all.agrees u
+          ((r.keeps.on.controls port.0).st ∙ (s.keeps.on.controls port.0).st ∙ st)
+          ((r.keeps.port port.0).ci slot (sym (s.shows slot below) ∙ clear))
+          (sym (r.shows slot below) ∙ clear');
+      kept = none_kept_on m (after m all.steps) port (follows_rests uses m old new all);
+    }
+
+-- from each machine that agrees
+pub done_adds : (uses : Uses) (port : Port) (ci sact : ℕ) (old mid new : Device) → old.hr ≡ false → (old.port port.0).st ≡ true → Reads (Px port Ci) ci old mid → Reads (Px port Sact) sact mid new →
+    AddsSteps (Agrees uses) old new (λ m steps. (found : Finds uses m port ci sact old new) × (steps ≡ found.follows.steps))
+done_adds uses port ci sact old mid new h st one two = record {
+  adds = λ m reached a. let x : Finds uses m port ci sact old new = done_is_found uses m port ci sact old mid new reached a h st one two in
+      (x.follows.steps, x.follows.may, x.follows.agrees, (x, refl));
+}
+
+-- ---- a page of the driver's own
+
+module _ (uses : Uses) (m : Machine) (d : Device) (port : ℕ) (o : Operation) (a : Agrees uses m d) (u : uses port 0 ≡ Own o) (st : (d.port port).st ≡ true) (issued : (d.port port).ci 0 ≡ false) where
+  own : ServesOwn d.memory d.tape (d.port port) port 0 o
+  own = subst (λ (v : Use). IsServed m d.memory d.tape (d.port port) port 0 v) u (a.slot port 0)
+
+  own_over : OwnOver d.memory d.tape (d.port port) port 0 own.command
+  own_over = of own.stage
+    where
+      of : OwnWaits (d.port port) 0 ⊎ (OwnTaken d.memory d.tape (d.port port) port 0 own.command ⊎ OwnOver d.memory d.tape (d.port port) port 0 own.command) → OwnOver d.memory d.tape (d.port port) port 0 own.command
+      of (inl w) = true-false w.issued issued
+      of (inr (inl t)) = true-false (t.issued ∙ st) issued
+      of (inr (inr x)) = x
+
+  own_brought : Brought d.memory d.tape port o (d.port port).notes.st_set_at
+  own_brought = ⊎_elim
+      (λ (z : (d.port port).st ≡ false). true-false st z)
+      (λ (b : Brought d.memory d.tape port own.command.operation (d.port port).notes.st_set_at). subst (λ (x : Operation). Brought d.memory d.tape port x (d.port port).notes.st_set_at) own.operation_is b)
+      own_over.brought
+
+  own_clear : IsClear (d.port port) 0
+  own_clear = record { over = own_over.over; sact = own.unqueued }
+
+pub page_is_read : (uses : Uses) (m : Machine) (port : Port) (o : Operation) (v : ℕ) (old new : Device) → IsReached m → Agrees uses m old → old.hr ≡ false → (old.port port.0).st ≡ true →
+    uses port.0 0 ≡ Own o → Reads (Px port Ci) v old new → bit v 0 ≡ false → FindsPage uses m port.0 o old new
+page_is_read uses m port o v old new reached a h st u call clear =
+    let f : Follows uses m old new = read_follows uses m (Px port Ci) v old new reached a call in
+    let s : SeenAt port.0 Ci v old new = seen port Ci v old new call h in
+    let now : (new.port port.0).st ≡ true = (s.keeps.on.controls port.0).st ∙ st in
+    let none : (new.port port.0).ci 0 ≡ false = sym (s.shows 0 (omega arith)) ∙ clear in
+    record {
+      follows = f;
+      clear = own_clear uses (after m f.steps) new port.0 o f.agrees u now none;
+      brought = own_brought uses (after m f.steps) new port.0 o f.agrees u now none;
+    }
+
+pub page_is_loaded : (uses : Uses) (m : Machine) (port : ℕ) (o : Operation) (bytes : List ℕ) (old new : Device) → IsReached m → Agrees uses m old → old.hr ≡ false → (old.port port).st ≡ true →
+    uses port 0 ≡ Own o → IsOver (old.port port) 0 → Loads (scratch_of port) bytes old new → length bytes ≡ 512 →
+    (page : FindsPage uses m port o old new) × (bytes ≡ page.brought.move.bytes)
+page_is_loaded uses m port o bytes old new reached a h st u over call size =
+    let f : Follows uses m old new = load_follows uses m (scratch_of port) bytes old new reached a call in
+    let k : Keeps old new = steps_keep call.steps in
+    let on : KeepsOn old new = k.on h in
+    let now : (new.port port).st ≡ true = (on.controls port).st ∙ st in
+    let none : (new.port port).ci 0 ≡ false = (k.port port).ci 0 over.issued in
+    let b : Brought new.memory new.tape port o (new.port port).notes.st_set_at = own_brought uses (after m f.steps) new port o f.agrees u now none in (
+      record { follows = f; clear = own_clear uses (after m f.steps) new port o f.agrees u now none; brought = b },
+      call.shows ∙ ap (bytes_at new.memory (scratch_of port)) size ∙ b.bytes,
+    )

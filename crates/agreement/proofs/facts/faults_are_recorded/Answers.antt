@@ -1,0 +1,22 @@
+use Rattle.agreement.proofs.Recording.{steps_recorded, stopped_recorded}
+use Rattle.agreement.proofs.Rewriting.{reads_recorded, writes_recorded}
+use Rattle.agreement.proofs.Witnesses.{first_recorded, first_failed}
+use Rattle.agreement.proofs.facts.faults_are_recorded.Goals as goal
+
+pub returns-clause-steps : goal.returns-clause-steps
+returns-clause-steps c = steps_recorded
+
+pub returns-clause-reads : goal.returns-clause-reads
+returns-clause-reads c = reads_recorded
+
+pub returns-clause-writes : goal.returns-clause-writes
+returns-clause-writes c = writes_recorded
+
+pub returns-clause-idle : goal.returns-clause-idle
+returns-clause-idle c = stopped_recorded
+
+pub returns-clause-runs : goal.returns-clause-runs
+returns-clause-runs c = first_recorded
+
+pub returns-clause-failed : goal.returns-clause-failed
+returns-clause-failed c = first_failed

@@ -1,0 +1,14 @@
+use Rattle.agreement.proofs.Awaiting.{comreset_begins, steps_awaited, reads_awaited, writes_awaited}
+use Rattle.agreement.proofs.facts.link_is_awaited.Goals as goal
+
+pub returns-clause-begins : goal.returns-clause-begins
+returns-clause-begins c = comreset_begins
+
+pub returns-clause-steps : goal.returns-clause-steps
+returns-clause-steps c = steps_awaited
+
+pub returns-clause-reads : goal.returns-clause-reads
+returns-clause-reads c = reads_awaited
+
+pub returns-clause-writes : goal.returns-clause-writes
+returns-clause-writes c = writes_awaited

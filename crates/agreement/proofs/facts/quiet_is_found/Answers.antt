@@ -1,0 +1,21 @@
+use Rattle.agreement.proofs.Starting.{clearing_unflags, reads_unflagged, writes_unflagged, quiet_is_found, steps_quiet}
+use Rattle.agreement.proofs.Witnesses.{second_quiet}
+use Rattle.agreement.proofs.facts.quiet_is_found.Goals as goal
+
+pub returns-clause-cleared : goal.returns-clause-cleared
+returns-clause-cleared c = clearing_unflags
+
+pub returns-clause-reads : goal.returns-clause-reads
+returns-clause-reads c = reads_unflagged
+
+pub returns-clause-writes : goal.returns-clause-writes
+returns-clause-writes c = writes_unflagged
+
+pub returns-clause-found : goal.returns-clause-found
+returns-clause-found c = quiet_is_found
+
+pub returns-clause-stays : goal.returns-clause-stays
+returns-clause-stays c = steps_quiet
+
+pub returns-clause-exists : goal.returns-clause-exists
+returns-clause-exists c = second_quiet

@@ -1,0 +1,5 @@
+use Rattle.agreement.proofs.Halting.{stop_is_found}
+use Rattle.agreement.proofs.facts.stop_is_found.Goals as goal
+
+pub returns : goal.returns
+returns c = stop_is_found

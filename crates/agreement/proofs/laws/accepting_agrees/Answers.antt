@@ -1,0 +1,5 @@
+use Rattle.agreement.proofs.Deciding.{accept_knows}
+use Rattle.agreement.proofs.laws.accepting_agrees.Goals as goal
+
+pub returns : goal.returns
+returns c = accept_knows

@@ -1,0 +1,5 @@
+use Rattle.agreement.proofs.Idling.{idle_knows}
+use Rattle.agreement.proofs.laws.an_idle_device_agrees.Goals as goal
+
+pub returns : goal.returns
+returns c = idle_knows

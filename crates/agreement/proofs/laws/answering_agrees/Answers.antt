@@ -1,0 +1,5 @@
+use Rattle.agreement.proofs.Deciding.{answer_knows}
+use Rattle.agreement.proofs.laws.answering_agrees.Goals as goal
+
+pub returns : goal.returns
+returns c = answer_knows

@@ -1,0 +1,5 @@
+use Rattle.agreement.proofs.Clients.{client_stores}
+use Rattle.agreement.proofs.laws.client_store_is_followed.Goals as goal
+
+pub returns : goal.returns
+returns c = client_stores

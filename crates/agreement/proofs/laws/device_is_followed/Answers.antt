@@ -1,0 +1,5 @@
+use Rattle.agreement.proofs.Following.{steps_follow}
+use Rattle.agreement.proofs.laws.device_is_followed.Goals as goal
+
+pub returns : goal.returns
+returns c = steps_follow

@@ -1,0 +1,5 @@
+use Rattle.agreement.proofs.Waiting.{steps_may}
+use Rattle.agreement.proofs.laws.due_stays.Goals as goal
+
+pub returns : goal.returns
+returns c = steps_may

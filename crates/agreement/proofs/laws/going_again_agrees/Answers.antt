@@ -1,0 +1,5 @@
+use Rattle.agreement.proofs.Deciding.{again_knows}
+use Rattle.agreement.proofs.laws.going_again_agrees.Goals as goal
+
+pub returns : goal.returns
+returns c = again_knows

@@ -1,0 +1,12 @@
+use Rattle.block_machine.proofs.EventLemmas.{after-append}
+use Rattle.block_machine.proofs.HistoryLemmas.{may-append, reached_more}
+use Rattle.agreement.proofs.laws.histories_go_on.Goals as goal
+
+pub returns-clause-reached : goal.returns-clause-reached
+returns-clause-reached c = reached_more
+
+pub returns-clause-may : goal.returns-clause-may
+returns-clause-may c = may-append
+
+pub returns-clause-after : goal.returns-clause-after
+returns-clause-after c = after-append

@@ -1,0 +1,5 @@
+use Rattle.agreement.proofs.Calling.{issue_follows}
+use Rattle.agreement.proofs.laws.issuing_is_followed.Goals as goal
+
+pub returns : goal.returns
+returns c = issue_follows

@@ -1,0 +1,5 @@
+use Rattle.agreement.proofs.Deciding.{keeping_knows}
+use Rattle.agreement.proofs.laws.keeping_agrees.Goals as goal
+
+pub returns : goal.returns
+returns c = keeping_knows

@@ -1,0 +1,5 @@
+use Rattle.agreement.proofs.Calling.{own_backed}
+use Rattle.agreement.proofs.laws.own_steps_are_backed.Goals as goal
+
+pub returns : goal.returns
+returns c = own_backed

@@ -1,0 +1,5 @@
+use Rattle.agreement.proofs.Permitting.{page_is_free}
+use Rattle.agreement.proofs.laws.pages_are_free.Goals as goal
+
+pub returns : goal.returns
+returns c = page_is_free

@@ -1,0 +1,5 @@
+use Rattle.agreement.proofs.Deciding.{park_knows}
+use Rattle.agreement.proofs.laws.parking_agrees.Goals as goal
+
+pub returns : goal.returns
+returns c = park_knows

@@ -1,0 +1,5 @@
+use Rattle.agreement.proofs.Deciding.{release_knows}
+use Rattle.agreement.proofs.laws.releasing_agrees.Goals as goal
+
+pub returns : goal.returns
+returns c = release_knows

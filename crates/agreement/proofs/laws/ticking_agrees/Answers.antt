@@ -1,0 +1,5 @@
+use Rattle.agreement.proofs.Deciding.{tick_knows}
+use Rattle.agreement.proofs.laws.ticking_agrees.Goals as goal
+
+pub returns : goal.returns
+returns c = tick_knows

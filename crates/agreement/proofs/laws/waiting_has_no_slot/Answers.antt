@@ -1,0 +1,5 @@
+use Rattle.agreement.proofs.Putting.{waiting_unserved}
+use Rattle.agreement.proofs.laws.waiting_has_no_slot.Goals as goal
+
+pub returns : goal.returns
+returns c = waiting_unserved

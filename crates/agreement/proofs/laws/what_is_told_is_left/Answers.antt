@@ -1,0 +1,8 @@
+use Rattle.agreement.proofs.Keeping.{told_is_left, block_is_left}
+use Rattle.agreement.proofs.laws.what_is_told_is_left.Goals as goal
+
+pub returns-clause-told : goal.returns-clause-told
+returns-clause-told c = told_is_left
+
+pub returns-clause-block : goal.returns-clause-block
+returns-clause-block c = block_is_left

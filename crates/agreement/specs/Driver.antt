@@ -1,0 +1,178 @@
+-- What the driver may store and write, what it knows, and what its calls add (this project's own).
+use Rattle.std.specs.Prelude.{ℕ, true, false, not, ◌≡◌, ◌≢◌, ◌⊎◌, ◌+◌, ◌*◌, ◌<◌, ◌≤◌, ◌++◌, List, [], ◌∷◌, length, None, Contains}
+use Rattle.ata_types.specs.declared.request.RequestId.{RequestId}
+use Rattle.hba_regs.specs.Bits.{bit}
+use Rattle.hba_regs.specs.declared.reg.Reg.{Reg}
+use Rattle.hba_regs.specs.declared.reg.Reg.TheVariants.{Px}
+use Rattle.hba_regs.specs.declared.reg.PortReg.TheVariants.{Clb, Cmd, Sact, Ci}
+use Rattle.adapter.specs.Commands.{Meaning, is_queued}
+use Rattle.adapter.specs.Memory.{changed}
+use Rattle.adapter.specs.Device as device
+use Rattle.adapter.specs.Device.{PortState, Device}
+use Rattle.adapter.specs.declared.command.Operation.{Operation}
+use Rattle.adapter.specs.declared.tape.Entry.{Entry}
+use Rattle.block_machine.specs.State.{Pending, Machine}
+use Rattle.block_machine.specs.declared.due.Mode.{Mode}
+use Rattle.block_machine.specs.Due.{is_plain}
+use Rattle.block_machine.specs.Steps.{Step, Issue, May}
+use Rattle.block_machine.specs.Left.{after, AllTold}
+use Rattle.block_machine.specs.Events.{AllMay, AllDevices}
+use Rattle.agreement.specs.Places.{list_of, received_of, table_of, scratch_of, IsTable, IsScratch}
+use Rattle.agreement.specs.Slots.{Free, Own, Serves, Uses, put, Told, Means, HasBlock, IsPlaced, op_of}
+use Rattle.agreement.specs.Agrees.{Agrees, HaveSlots}
+use Rattle.agreement.specs.Tape.{TellsAmong, PutsIn}
+
+-- ---- stores
+
+-- bytes of the header or of the table of a free slot
+pub record InFreeTable (uses : Uses) (at n : ℕ) : Type 0 where
+  pub port : ℕ
+  pub slot : ℕ
+  pub below : port < 4
+  pub slot_below : slot < 32
+  pub free : uses port slot ≡ Free
+  pub here : ((list_of port + 32 * slot ≤ at) × (at + n ≤ list_of port + 32 * slot + 32)) ⊎ ((table_of port slot ≤ at) × (at + n ≤ table_of port slot + 1024))
+
+-- bytes of the scratch frame of a port whose slot 0 is free
+pub record InFreeScratch (uses : Uses) (at n : ℕ) : Type 0 where
+  pub port : ℕ
+  pub below : port < 4
+  pub free : uses port 0 ≡ Free
+  pub from : scratch_of port ≤ at
+  pub to : at + n ≤ scratch_of port + 4096
+
+-- what the driver may store for itself
+abbrev pub MayStore : Uses → ℕ → ℕ → Type 0
+MayStore uses at n = InFreeTable uses at n ⊎ InFreeScratch uses at n
+
+-- ---- writes that leave the slots to their uses
+
+-- no slot of the port is used
+abbrev pub AllFree : Uses → ℕ → Type 0
+AllFree uses port = (slot : ℕ) → uses port slot ≡ Free
+
+-- A write of PxCMD sets ST on a port that runs or has no slot in use, and FRE where the received FIS area is in its place.
+pub record IsCommand (uses : Uses) (port v : ℕ) (p : PortState) : Type 0 where
+  pub start : bit v 0 ≡ true → (p.st ≡ true) ⊎ AllFree uses port
+  pub receive : bit v 4 ≡ true → (port < 4) × (p.bases.fb ≡ received_of port)
+
+-- What is asked of a write so that each slot goes on as it was used: PxCLB has the list's place, or no slot is used; PxSACT has
+-- bits of free slots alone, and PxCI none.
+abbrev pub LeavesUses : Uses → Reg → ℕ → Device → Type 0
+LeavesUses uses (Px port Clb) v d = (v ≡ list_of port.0) ⊎ AllFree uses port.0
+LeavesUses uses (Px port Cmd) v d = IsCommand uses port.0 v (d.port port.0)
+LeavesUses uses (Px port Sact) v d = (slot : ℕ) → (uses port.0 slot ≡ Free → ⊥) → bit v slot ≡ false
+LeavesUses uses (Px port Ci) v d = (slot : ℕ) → bit v slot ≡ false
+LeavesUses uses r v d = Unit {0}
+
+-- ---- what the driver knows, and what a call adds
+
+-- What the driver has put into the slots; by port, the requests that it took from their slots and hasn't decided on; and the
+-- device.
+pub record Known : Type 0 where
+  pub uses : Uses
+  pub parked : ℕ → List RequestId
+  pub device : Device
+
+-- the machine agrees with what the driver knows
+pub record Knows (m : Machine) (k : Known) : Type 0 where
+  pub agrees : Agrees k.uses m k.device
+  pub have : (port : ℕ) → HaveSlots k.uses m port (k.parked port)
+
+-- The tape's new entries tell of the device's steps among these; reads moved what their disks hold, where these tell it; and the
+-- disks that were put in are the device's.
+pub record IsBacked (old new : Device) (m : Machine) (steps : List Step) : Type 0 where
+  pub telling : new.telling ≡ old.telling
+  pub gained : List Entry
+  pub tape : new.tape ≡ old.tape ++ gained
+  pub tells : TellsAmong m gained steps
+  pub told : old.telling ≡ true → AllTold m steps
+  pub plugged : (port : ℕ) → (disks : List device.Disk) × ((new.port port).plugged ≡ (old.port port).plugged ++ disks) × PutsIn port disks steps
+
+-- The device backs the steps, and all of them are its own: the driver made none.
+pub record ByDevice (old new : Device) (m : Machine) (steps : List Step) : Type 0 where
+  pub backed : IsBacked old new m steps
+  pub only : AllDevices steps
+
+-- What the device leaves of what is not in use: all headers, but for PRDBC, and all tables; the scratch frame where slot 0 has no
+-- command of the driver's own; and the bits of SACT of free slots.
+pub record LeavesFree (uses : Uses) (old new : Device) : Type 0 where
+  pub tables : (port slot at : ℕ) → port < 4 → slot < 32 → IsTable port slot at → new.memory at ≡ old.memory at
+  pub scratch : (port at : ℕ) → port < 4 → ((o : Operation) → uses port 0 ≡ Own o → ⊥) → IsScratch port at → new.memory at ≡ old.memory at
+  pub sact : (port slot : ℕ) → uses port slot ≡ Free → (new.port port).sact slot ≡ (old.port port).sact slot
+
+-- ---- issuing
+
+-- The request is due; its slot is free, and usable in this mode, and a plain request's is slot 0; the slot's bytes say its command,
+-- which is queued exactly if the request is; a queued one has its bit of SACT and a plain one hasn't; and the value has the slot's
+-- bit alone.
+pub record IsPrepared (uses : Uses) (m : Machine) (d : Device) (port slot : ℕ) (mode : Mode) (e : Pending) (v : ℕ) : Type 0 where
+  pub may : May m (Issue mode e)
+  pub port_is : e.request.port.0 ≡ port
+  pub free : uses port slot ≡ Free
+  pub usable : slot < mode.usable
+  pub head : is_plain mode e.request.asked.op ≡ true → slot ≡ 0
+  pub started : (d.port port).st ≡ true
+  pub placed : IsPlaced (d.port port) port slot
+  pub command : Meaning
+  pub places : List ℕ
+  pub told : Told d.memory (d.port port).bases.clb port slot command places
+  pub means : Means port slot e.request command places
+  pub kind : is_queued command.operation ≡ not (is_plain mode e.request.asked.op)
+  pub block : HasBlock e.request.asked.op d.memory port e.request
+  pub sact : (d.port port).sact slot ≡ is_queued command.operation
+  pub here : bit v slot ≡ true
+  pub alone : (k : ℕ) → k ≢ slot → bit v k ≡ false
+
+-- The same for a command of the driver's own, in slot 0.
+pub record IsOwnPrepared (uses : Uses) (d : Device) (port : ℕ) (o : Operation) (v : ℕ) : Type 0 where
+  pub own : op_of o ≡ None
+  pub free : uses port 0 ≡ Free
+  pub started : (d.port port).st ≡ true
+  pub placed : IsPlaced (d.port port) port 0
+  pub command : Meaning
+  pub operation_is : command.operation ≡ o
+  pub told : Told d.memory (d.port port).bases.clb port 0 command (scratch_of port ∷ [])
+  pub unqueued : (d.port port).sact 0 ≡ false
+  pub known : (d.port port).notes.st_set_at ≤ length d.tape
+  pub here : bit v 0 ≡ true
+  pub alone : (k : ℕ) → k ≢ 0 → bit v k ≡ false
+
+-- What an access adds that ends with a step of the driver's own: steps of the device first, and then this one, after which the
+-- machine agrees with what the driver knows then.
+pub record EndsWith (k : Known) (m : Machine) (step : Step) (later : Known) : Type 0 where
+  pub steps : List Step
+  pub only : AllDevices steps
+  pub may : AllMay m (step ∷ steps)
+  pub backed : IsBacked k.device later.device m (step ∷ steps)
+  pub knows : Knows (after m (step ∷ steps)) later
+
+-- the driver knows that the slot serves the request
+abbrev pub serving : Known → ℕ → ℕ → RequestId → Device → Known
+serving k port slot id new = record k { uses = put k.uses port slot (Serves id); device = new }
+
+-- ---- deciding
+
+-- no slot serves the request
+abbrev pub HasNoSlot : Uses → RequestId → Type 0
+HasNoSlot uses id = (port slot : ℕ) → uses port slot ≡ Serves id → ⊥
+
+-- but for this request, what was parked is parked
+abbrev pub Forgets : RequestId → (ℕ → List RequestId) → (ℕ → List RequestId) → Type 0
+Forgets id parked later = (port : ℕ) (other : RequestId) → Contains (parked port) other → (other ≡ id → ⊥) → Contains (later port) other
+
+-- but for the kept requests, what was parked is parked
+abbrev pub ForgetsKept : Machine → (ℕ → List RequestId) → (ℕ → List RequestId) → Type 0
+ForgetsKept m parked later = (port : ℕ) (other : RequestId) → Contains (parked port) other → ((e : Pending) → Contains m.kept e → e.request.id ≢ other) → Contains (later port) other
+
+-- the slot was given up, and its request isn't decided yet
+abbrev pub parking : Known → ℕ → ℕ → RequestId → Known
+parking k port slot id = record k { uses = put k.uses port slot Free; parked = changed k.parked port (id ∷ k.parked port) }
+
+-- the slot was given up
+abbrev pub freeing : Known → ℕ → ℕ → Known
+freeing k port slot = record k { uses = put k.uses port slot Free }
+
+-- what the driver knows of a device that it takes over: no slot is used
+abbrev pub idle : Device → Known
+idle d = record { uses = λ port slot. Free; parked = λ port. []; device = d }

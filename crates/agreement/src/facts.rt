@@ -1,0 +1,173 @@
+// Laws of what a driver learns from the device, for the crates above: the clause is the theorem. Nothing calls these functions.
+ghost use Rattle.std.specs.Prelude.{ℕ, true, false, ◌≡◌, ◌≢◌, ◌≤◌, ◌+◌, ◌*◌, ◌/◌, ◌%◌, ◌++◌, List, length, drop, Some, None};
+ghost use Rattle.ata_types.specs.declared.Port.{Port};
+ghost use Rattle.ata_types.specs.declared.request.Frame.{Frame};
+ghost use Rattle.ata_types.specs.declared.request.RequestId.{RequestId};
+ghost use Rattle.hba_regs.specs.Bits.{bit};
+ghost use Rattle.hba_regs.specs.declared.reg.Reg.{Reg};
+ghost use Rattle.hba_regs.specs.declared.reg.Reg.TheVariants.{Ghc, Px};
+ghost use Rattle.hba_regs.specs.declared.reg.PortReg.TheVariants.{Is, Cmd, Tfd, Sctl, Ci, Sact};
+ghost use Rattle.adapter.specs.Access.{Reads, Writes, Loads};
+ghost use Rattle.adapter.specs.Device.{Device, PortState};
+ghost use Rattle.adapter.specs.Device.Halt.{HaltedPlain};
+ghost use Rattle.adapter.specs.FirstRead.{first_read};
+ghost use Rattle.adapter.specs.Idle.{IsIdle, IsIdlePort};
+ghost use Rattle.adapter.specs.Rules.{IsFree, MayWrite, Stays};
+ghost use Rattle.adapter.specs.Steps.{Steps};
+ghost use Rattle.adapter.specs.declared.command.Operation.{Operation};
+ghost use Rattle.adapter.specs.declared.tape.Entry.{Entry};
+ghost use Rattle.block_machine.specs.Histories.{IsReached, AddsSteps};
+ghost use Rattle.block_machine.specs.State.{Machine};
+ghost use Rattle.agreement.specs.Agrees.{Agrees};
+ghost use Rattle.agreement.specs.Facts.{IsHalted, IsReset, Finds, FindsPage, IsStill, AreOver, IsHealthy, Undisturbed, IsFaulted, ShowsFault, HasFaults, IsRecorded, IsAwaited, IsUnflagged, IsQuiet, KeepsRecord};
+ghost use Rattle.agreement.specs.Follows.{Follows};
+ghost use Rattle.agreement.specs.Places.{scratch_of};
+ghost use Rattle.agreement.specs.Slots.{Uses, Free, Own, Serves, IsOver};
+
+/// A port that has halted stays so, whatever the device does, also over a reset of the adapter that ends; and an idle port
+/// has halted.
+pub fn halted_stays()
+    ensures steps { (port : ℕ) (old new : Device) → Steps old new → IsHalted (old.port port) → IsHalted (new.port port) }
+    ensures idle { (p : PortState) → IsIdlePort p → IsHalted p }
+{}
+
+/// ST is 0 and CR is read 0: the port has halted.
+pub fn stop_is_found()
+    ensures { (uses : Uses) (m : Machine) (port : Port) (v : ℕ) (old new : Device) → IsReached m → Agrees uses m old
+        → (old.port port.0).st ≡ false → Reads (Px port Cmd) v old new → bit v 15 ≡ false
+        → IsHalted (new.port port.0) }
+{}
+
+/// While a reset of the adapter is pending, HR is read 0: each port is as a reset leaves it, and the machine follows.
+pub fn reset_is_found()
+    ensures reset { (v : ℕ) (old new : Device) → old.hr ≡ true → Reads Ghc v old new → bit v 0 ≡ false
+        → (port : ℕ) → IsReset (new.port port) }
+    ensures follows { (uses : Uses) (m : Machine) (v : ℕ) (old new : Device) → IsReached m → Agrees uses m old
+        → Reads Ghc v old new → Follows uses m old new }
+    ensures stays { (port : ℕ) (old new : Device) → Steps old new → IsReset (old.port port) → IsReset (new.port port) }
+    ensures idle { (p : PortState) → IsIdlePort p → IsReset p }
+{}
+
+/// CI and then SACT of a running port are read: each slot whose bits were clear in both has ended its request.
+pub fn done_is_found()
+    ensures finds { (uses : Uses) (m : Machine) (port : Port) (ci sact : ℕ) (old mid new : Device) → IsReached m → Agrees uses m old
+        → old.hr ≡ false → (old.port port.0).st ≡ true → Reads (Px port Ci) ci old mid → Reads (Px port Sact) sact mid new
+        → Finds uses m port ci sact old new }
+    ensures adds { (uses : Uses) (port : Port) (ci sact : ℕ) (old mid new : Device) → old.hr ≡ false → (old.port port.0).st ≡ true
+        → Reads (Px port Ci) ci old mid → Reads (Px port Sact) sact mid new
+        → AddsSteps (Agrees uses) old new (λ m steps. (found : Finds uses m port ci sact old new) × (steps ≡ found.follows.steps)) }
+{}
+
+/// CI of a running port with a command of the driver's own is read: once bit 0 is clear, the command has brought its page; and
+/// a load of the scratch frame then gives the bytes that the port's last command of this operation has moved.
+pub fn page_is_found()
+    ensures read { (uses : Uses) (m : Machine) (port : Port) (o : Operation) (v : ℕ) (old new : Device) → IsReached m → Agrees uses m old
+        → old.hr ≡ false → (old.port port.0).st ≡ true → uses port.0 0 ≡ Own o → Reads (Px port Ci) v old new → bit v 0 ≡ false
+        → FindsPage uses m port.0 o old new }
+    ensures load { (uses : Uses) (m : Machine) (port : ℕ) (o : Operation) (bytes : List ℕ) (old new : Device) → IsReached m → Agrees uses m old
+        → old.hr ≡ false → (old.port port).st ≡ true → uses port 0 ≡ Own o → IsOver (old.port port) 0
+        → Loads (scratch_of port) bytes old new → length bytes ≡ 512
+        → (page : FindsPage uses m port o old new) × (bytes ≡ page.brought.move.bytes) }
+{}
+
+/// Where the commands of a request are over, the device uses none of the frames that are lent to it any more, whatever it does;
+/// so they may leave the loan. (One slot alone serves a request.) Nor does it use a client's frame that is lent to nobody, nor any
+/// frame where it is idle. The bytes of such a frame may be loaded and stored.
+pub fn frames_are_still()
+    ensures lent { (uses : Uses) (m : Machine) (d : Device) (frame : Frame) (id : RequestId) → IsReached m → Agrees uses m d
+        → m.lent frame ≡ Some id → AreOver uses d id → Stays (IsStill frame) d }
+    ensures unlent { (uses : Uses) (m : Machine) (d : Device) (frame : Frame) → IsReached m → Agrees uses m d
+        → m.lent frame ≡ None → 40 ≤ frame.0 → Stays (IsStill frame) d }
+    ensures over { (uses : Uses) (m : Machine) (d : Device) (port slot : ℕ) (id : RequestId) → Agrees uses m d
+        → uses port slot ≡ Serves id → IsOver (d.port port) slot → AreOver uses d id }
+    ensures idle { (d : Device) (frame : Frame) → IsIdle d → Stays (IsStill frame) d }
+    ensures free { (d : Device) (frame : Frame) (offset n : ℕ) → Stays (IsStill frame) d → 4096 * frame.0 + 4096 ≤ d.size
+        → offset + n ≤ 4096 → Stays (IsFree (4096 * frame.0 + offset) n) d }
+{}
+
+/// While no reset is pending, a healthy port on which nothing goes wrong stays healthy, whatever else the device does, over
+/// readings, and over writes that neither clear ST nor write SCTL. There is one.
+pub fn healthy_stays()
+    ensures steps { (port : ℕ) (old new : Device) → old.hr ≡ false → Steps old new → Undisturbed port old new
+        → IsHealthy (old.port port) → IsHealthy (new.port port) }
+    ensures reads { (port : ℕ) (r : Reg) (v : ℕ) (old new : Device) → old.hr ≡ false → Reads r v old new → Undisturbed port old new
+        → IsHealthy (old.port port) → IsHealthy (new.port port) }
+    ensures writes { (port : Port) (r : Reg) (v : ℕ) (old new : Device) → old.hr ≡ false → (r ≡ Px port Cmd → bit v 0 ≡ true)
+        → r ≢ Px port Sctl → Writes r v old new → Undisturbed port.0 old new → IsHealthy (old.port port.0) → IsHealthy (new.port port.0) }
+    ensures exists { IsHealthy (first_read.port 0) }
+{}
+
+/// Where nothing goes wrong in each of two parts of a call, nothing does in the whole; and where nothing does in the whole,
+/// nothing does in the parts.
+pub fn calm_composes()
+    ensures none { (port : ℕ) (d : Device) → Undisturbed port d d }
+    ensures more { (port : ℕ) (old mid new : Device) → Undisturbed port old mid → Undisturbed port mid new → Undisturbed port old new }
+    ensures parts { (port : ℕ) (old mid new : Device) (early late : List Entry) → mid.tape ≡ old.tape ++ early
+        → new.tape ≡ mid.tape ++ late → Undisturbed port old new → Undisturbed port old mid × Undisturbed port mid new }
+{}
+
+/// The faults of a port since its ST was set stand on the tape, and the task file shows the last one: so it stays, whatever the
+/// device does, over readings, and over each write that may be made, where ST is set on a quiet port alone. So it is while ST
+/// is 0, on a port that runs, and on one that has failed.
+pub fn faults_are_recorded()
+    ensures steps { (port : ℕ) (old new : Device) → Steps old new → IsRecorded old.tape (old.port port) port
+        → IsRecorded new.tape (new.port port) port }
+    ensures reads { (port : ℕ) (r : Reg) (v : ℕ) (old new : Device) → Reads r v old new → IsRecorded old.tape (old.port port) port
+        → IsRecorded new.tape (new.port port) port }
+    ensures writes { (port : ℕ) (r : Reg) (v : ℕ) (old new : Device) → Stays (MayWrite r v) old → Stays (KeepsRecord r v) old
+        → Writes r v old new → IsRecorded old.tape (old.port port) port → IsRecorded new.tape (new.port port) port }
+    ensures idle { (tape : List Entry) (p : PortState) (port : ℕ) → p.st ≡ false → IsRecorded tape p port }
+    ensures runs { HasFaults first_read.tape (first_read.port 0) 0 }
+    ensures failed { (new : Device) × Steps first_read new × ((new.port 0).halt ≡ HaltedPlain) × HasFaults new.tape (new.port 0) 0 }
+{}
+
+/// From COMRESET until the link comes up the engine stands, and the task file shows DRQ: COMRESET begins it, and so it stays,
+/// whatever the device does, over readings, and over each write that may be made and keeps the record of faults.
+pub fn link_is_awaited()
+    ensures begins { (port : Port) (v : ℕ) (old new : Device) → (old.port port.0).cr ≡ false → v % 16 ≡ 1
+        → Writes (Px port Sctl) v old new → IsAwaited (new.port port.0) }
+    ensures steps { (port : ℕ) (old new : Device) → Steps old new → IsAwaited (old.port port) → IsAwaited (new.port port) }
+    ensures reads { (port : ℕ) (r : Reg) (v : ℕ) (old new : Device) → Reads r v old new → IsAwaited (old.port port)
+        → IsAwaited (new.port port) }
+    ensures writes { (port : ℕ) (r : Reg) (v : ℕ) (old new : Device) → Stays (MayWrite r v) old → Stays (KeepsRecord r v) old
+        → Writes r v old new → IsAwaited (old.port port) → IsAwaited (new.port port) }
+{}
+
+/// A port is quiet, so that ST may be set and faults go on to be recorded: PxIS is written with TFES while the engine stands,
+/// TFD is read without DRQ, and then it stays so, whatever the device does.
+pub fn quiet_is_found()
+    ensures cleared { (port : Port) (v : ℕ) (old new : Device) → (old.port port.0).cr ≡ false → bit v 30 ≡ true
+        → Writes (Px port Is) v old new → IsUnflagged (new.port port.0) }
+    ensures reads { (port : ℕ) (r : Reg) (v : ℕ) (old new : Device) → Reads r v old new → IsUnflagged (old.port port)
+        → IsUnflagged (new.port port) }
+    ensures writes { (port : ℕ) (r : Reg) (v : ℕ) (old new : Device) → ((p : Port) → r ≡ Px p Cmd → bit v 0 ≡ false)
+        → Writes r v old new → IsUnflagged (old.port port) → IsUnflagged (new.port port) }
+    ensures found { (port : Port) (v : ℕ) (old new : Device) → IsAwaited (old.port port.0) → IsUnflagged (old.port port.0)
+        → Reads (Px port Tfd) v old new → bit v 3 ≡ false → IsQuiet (new.port port.0) }
+    ensures stays { (port : ℕ) (old new : Device) → Steps old new → IsQuiet (old.port port) → IsQuiet (new.port port) }
+    ensures exists { IsQuiet (first_read.port 1) }
+{}
+
+/// A fault has halted a running port: TFES of PxIS tells it, and so it stays while ST is 1, whatever the device does, over readings,
+/// and over writes, PxIS among them. TFD then shows status and error of the port's last fault since ST was set; and the slot of that
+/// fault isn't a free one.
+pub fn fault_is_found()
+    ensures told { (port : Port) (v : ℕ) (old new : Device) → old.hr ≡ false → (old.port port.0).st ≡ true
+        → IsRecorded old.tape (old.port port.0) port.0 → Reads (Px port Is) v old new → bit v 30 ≡ true
+        → IsFaulted (new.port port.0).halt }
+    ensures steps { (port : ℕ) (old new : Device) → old.hr ≡ false → (old.port port).st ≡ true
+        → IsRecorded old.tape (old.port port) port → IsFaulted (old.port port).halt → Steps old new
+        → IsFaulted (new.port port).halt }
+    ensures reads { (port : ℕ) (r : Reg) (v : ℕ) (old new : Device) → old.hr ≡ false → (old.port port).st ≡ true
+        → IsRecorded old.tape (old.port port) port → IsFaulted (old.port port).halt → Reads r v old new
+        → IsFaulted (new.port port).halt }
+    ensures writes { (port : ℕ) (r : Reg) (v : ℕ) (old new : Device) → old.hr ≡ false → (old.port port).st ≡ true
+        → IsRecorded old.tape (old.port port) port → IsFaulted (old.port port).halt → Writes r v old new
+        → IsFaulted (new.port port).halt }
+    ensures shown { (port : Port) (v : ℕ) (old new : Device) → old.hr ≡ false → (old.port port.0).st ≡ true
+        → IsRecorded old.tape (old.port port.0) port.0 → IsFaulted (old.port port.0).halt → Reads (Px port Tfd) v old new
+        → (s : ShowsFault (drop (new.port port.0).notes.st_set_at new.tape) (new.port port.0) port.0)
+        × (v % 256 ≡ s.fault.status) × (v / 256 % 256 ≡ s.fault.error) }
+    ensures slot { (uses : Uses) (m : Machine) (d : Device) (port : ℕ) (entries : List Entry) → Agrees uses m d
+        → (s : ShowsFault entries (d.port port) port) → uses port s.fault.slot.0 ≢ Free }
+{}

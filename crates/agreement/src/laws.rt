@@ -1,0 +1,283 @@
+// Laws of the relation, for the crates above: the clause is the theorem. Nothing calls these functions.
+ghost use Rattle.std.specs.Prelude.{◌≡◌, ◌+◌, ◌*◌, ◌/◌, ◌%◌, ◌<◌, ◌≤◌, ◌∷◌, ◌++◌, ℕ, Bool, true, false, [], List, length, Contains};
+ghost use Rattle.ata_types.specs.declared.Port.{Port};
+ghost use Rattle.ata_types.specs.declared.request.ClientId.{ClientId};
+ghost use Rattle.ata_types.specs.declared.request.Frame.{Frame};
+ghost use Rattle.ata_types.specs.declared.request.Outcome.{Outcome};
+ghost use Rattle.ata_types.specs.declared.request.RequestId.{RequestId};
+ghost use Rattle.hba_regs.specs.declared.reg.PortReg.TheVariants.{Ci};
+ghost use Rattle.hba_regs.specs.declared.reg.Reg.TheVariants.{Px};
+ghost use Rattle.hba_regs.specs.declared.reg.Reg.{Reg};
+ghost use Rattle.adapter.specs.Access.{Reads, Writes, Loads, Stores};
+ghost use Rattle.adapter.specs.Commands.{Meaning};
+ghost use Rattle.adapter.specs.Device.{PortState, Device};
+ghost use Rattle.adapter.specs.Idle.{IsIdle};
+ghost use Rattle.adapter.specs.Rules.{IsFree, IsOn, HasPort, MayWrite, Stays};
+ghost use Rattle.adapter.specs.Steps.{Steps};
+ghost use Rattle.adapter.specs.declared.command.Operation.{Operation};
+ghost use Rattle.block_machine.specs.Events.{IsDevices, AllDevices, AllMay};
+ghost use Rattle.block_machine.specs.Histories.{IsReached, AddsSteps};
+ghost use Rattle.block_machine.specs.Left.{IsStart, after};
+ghost use Rattle.block_machine.specs.Refusals.{IsOpen};
+ghost use Rattle.block_machine.specs.State.{Accepted, Pending, Machine};
+ghost use Rattle.block_machine.specs.Steps.{Step, Accept, Issue, Age, Again, Answer, Release, Store, Load, May, after_step, stays};
+ghost use Rattle.block_machine.specs.declared.due.Mode.{Mode};
+ghost use Rattle.agreement.specs.Agrees.{Agrees, IsDiskOf, SameMemory, SameSectors, AreUnarmed};
+ghost use Rattle.agreement.specs.Driver.{MayStore, LeavesUses, LeavesFree, Known, Knows, IsBacked, ByDevice, IsPrepared, IsOwnPrepared, EndsWith, HasNoSlot, Forgets, ForgetsKept, serving, parking, freeing, idle};
+ghost use Rattle.agreement.specs.Follows.{Follows};
+ghost use Rattle.agreement.specs.Places.{list_of, scratch_of};
+ghost use Rattle.agreement.specs.Witness.{FirstIsKnown};
+ghost use Rattle.agreement.specs.Slots.{Use, Free, Own, Serves, Uses, put, Told, HasBlock, IsOver};
+
+/// Whatever the device does by itself, the machine follows: what the tape gains are steps of the machine that may come, and
+/// the two agree again. So it is while a reset of the adapter is pending, too, and after one that is stuck.
+pub fn device_is_followed()
+    ensures { (uses : Uses) (m : Machine) (old new : Device) → IsReached m → Agrees uses m old → Steps old new
+        → Follows uses m old new }
+{}
+
+/// What is followed is known, and told by the device alone.
+pub fn knowing_goes_on()
+    ensures { (k : Known) (m : Machine) (new : Device) → Knows m k → (f : Follows k.uses m k.device new)
+        → Knows (after m f.steps) (record k { device = new }) × ByDevice k.device new m f.steps }
+{}
+
+/// So it is over any reading of a register: the machine makes the device's steps and no others.
+pub fn reading_is_followed()
+    ensures { (k : Known) (r : Reg) (v : ℕ) (new : Device) → Reads r v k.device new
+        → AddsSteps Knows k (record k { device = new }) (ByDevice k.device new) }
+{}
+
+/// So it is over any load.
+pub fn loading_is_followed()
+    ensures { (k : Known) (at : ℕ) (bytes : List ℕ) (new : Device) → Loads at bytes k.device new
+        → AddsSteps Knows k (record k { device = new }) (ByDevice k.device new) }
+{}
+
+/// So it is over a store to the header or the table of a free slot, or to the scratch frame of a port whose slot 0 is free.
+pub fn storing_is_followed()
+    ensures { (k : Known) (at : ℕ) (bytes : List ℕ) (new : Device) → MayStore k.uses at (length bytes)
+        → Stores at bytes k.device new
+        → AddsSteps Knows k (record k { device = new }) (ByDevice k.device new) }
+{}
+
+/// So it is over a write of any register that leaves each slot to its use: where ST is cleared, what waited is given up, and
+/// what is taken goes on.
+pub fn writing_is_followed()
+    ensures { (k : Known) (r : Reg) (v : ℕ) (new : Device) → Stays (MayWrite r v) k.device
+        → LeavesUses k.uses r v k.device → Writes r v k.device new
+        → AddsSteps Knows k (record k { device = new }) (ByDevice k.device new) }
+{}
+
+/// What the device does between two accesses is followed in the same form.
+pub fn waiting_is_followed()
+    ensures { (k : Known) (new : Device) → Steps k.device new
+        → AddsSteps Knows k (record k { device = new }) (ByDevice k.device new) }
+{}
+
+/// The write of PxCI is the request's issue, whatever the device does before it: what was prepared stays so.
+pub fn issuing_is_followed()
+    ensures { (k : Known) (m : Machine) (port : Port) (slot : ℕ) (mode : Mode) (e : Pending) (v : ℕ) (new : Device)
+        → IsReached m → Knows m k → k.device.hr ≡ false
+        → IsPrepared k.uses m k.device port.0 slot mode e v → Writes (Px port Ci) v k.device new
+        → EndsWith k m (Issue mode e) (serving k port.0 slot e.request.id new) }
+{}
+
+/// The write of PxCI issues a command of the driver's own, which is no step of the machine.
+pub fn own_issuing_is_followed()
+    ensures { (k : Known) (port : Port) (o : Operation) (v : ℕ) (new : Device) → k.device.hr ≡ false
+        → IsOwnPrepared k.uses k.device port.0 o v → Writes (Px port Ci) v k.device new
+        → AddsSteps Knows k (record k { uses = put k.uses port.0 0 (Own o); device = new }) (ByDevice k.device new) }
+{}
+
+/// A client's store into its frame is the machine's.
+pub fn client_store_is_followed()
+    ensures { (k : Known) (m : Machine) (client : ClientId) (frame : Frame) (offset : ℕ) (bytes : List ℕ) (new : Device)
+        → IsReached m → Knows m k → May m (Store client frame offset bytes)
+        → Stores (4096 * frame.0 + offset) bytes k.device new
+        → EndsWith k m (Store client frame offset bytes) (record k { device = new }) }
+{}
+
+/// A client's load from its frame is the machine's: it is told the bytes that the machine's frame holds.
+pub fn client_load_is_followed()
+    ensures { (k : Known) (m : Machine) (client : ClientId) (frame : Frame) (offset : ℕ) (bytes : List ℕ) (new : Device)
+        → IsReached m → Knows m k → IsOpen m.owner m.lent client frame offset (length bytes)
+        → Loads (4096 * frame.0 + offset) bytes k.device new
+        → EndsWith k m (Load client frame offset bytes) (record k { device = new }) }
+{}
+
+/// One part of a call goes on after another; and accesses are parts.
+pub fn parts_compose()
+    ensures device { (a b c : Known) → AddsSteps Knows a b (ByDevice a.device b.device)
+        → AddsSteps Knows b c (ByDevice b.device c.device)
+        → AddsSteps Knows a c (ByDevice a.device c.device) }
+    ensures access { (a b : Known) → AddsSteps Knows a b (ByDevice a.device b.device)
+        → AddsSteps Knows a b (IsBacked a.device b.device) }
+    ensures parts { (a b c : Known) → AddsSteps Knows a b (IsBacked a.device b.device)
+        → AddsSteps Knows b c (IsBacked b.device c.device)
+        → AddsSteps Knows a c (IsBacked a.device c.device) }
+{}
+
+/// A step of the driver's own needs nothing of the device.
+pub fn own_steps_are_backed()
+    ensures { (d : Device) (m : Machine) (step : Step) → (IsDevices step → ⊥) → IsBacked d d m (step ∷ []) }
+{}
+
+/// What backs two stretches backs both; nothing is backed by nothing; and so with what the device does alone.
+pub fn backing_composes()
+    ensures none { (d : Device) (m : Machine) → IsBacked d d m [] }
+    ensures device { (old mid new : Device) (m : Machine) (early late : List Step) → ByDevice old mid m early
+        → ByDevice mid new (after m early) late → ByDevice old new m (late ++ early) }
+    ensures parts { (old mid new : Device) (m : Machine) (early late : List Step) → IsBacked old mid m early
+        → IsBacked mid new (after m early) late → IsBacked old new m (late ++ early) }
+{}
+
+/// A request that is accepted changes nothing of what the driver knows.
+pub fn accepting_agrees()
+    ensures { (k : Known) (m : Machine) (r : Accepted) → Knows m k → Knows (after_step m (Accept r)) k }
+{}
+
+/// Nor does a tick.
+pub fn ticking_agrees()
+    ensures { (k : Known) (m : Machine) (ready : Port → Bool) → Knows m k → Knows (after_step m (Age ready)) k }
+{}
+
+/// A slot whose command is over is given up, and its request is decided on later.
+pub fn parking_agrees()
+    ensures { (k : Known) (m : Machine) → Knows m k → (port slot : ℕ) → IsOver (k.device.port port) slot → (id : RequestId)
+        → k.uses port slot ≡ Serves id → Knows m (parking k port slot id) }
+{}
+
+/// So is one whose command was the driver's own.
+pub fn own_release_agrees()
+    ensures { (k : Known) (m : Machine) → Knows m k → (port slot : ℕ) → IsOver (k.device.port port) slot → (o : Operation)
+        → k.uses port slot ≡ Own o → Knows m (freeing k port slot) }
+{}
+
+/// A request that no slot serves may be answered: its frames are given back.
+pub fn answering_agrees()
+    ensures { (k : Known) (m : Machine) (e : Pending) (outcome : Outcome) (later : ℕ → List RequestId) → IsReached m
+        → Knows m k → Contains m.book e → stays e outcome ≡ false → HasNoSlot k.uses e.request.id
+        → Forgets e.request.id k.parked later
+        → Knows (after_step m (Answer e outcome)) (record k { parked = later }) }
+{}
+
+/// A request may be answered with its frames kept, in its slot or without one.
+pub fn keeping_agrees()
+    ensures { (k : Known) (m : Machine) (e : Pending) (outcome : Outcome) → IsReached m → Knows m k → Contains m.book e
+        → stays e outcome ≡ true → Knows (after_step m (Answer e outcome)) k }
+{}
+
+/// A request that no slot serves may wait again.
+pub fn going_again_agrees()
+    ensures { (k : Known) (m : Machine) (e : Pending) (later : ℕ → List RequestId) → IsReached m → Knows m k
+        → Contains m.book e → HasNoSlot k.uses e.request.id → Forgets e.request.id k.parked later
+        → Knows (after_step m (Again e)) (record k { parked = later }) }
+{}
+
+/// The frames of kept requests may be given back where no slot serves one of them; they aren't parked then.
+pub fn releasing_agrees()
+    ensures { (k : Known) (m : Machine) (later : ℕ → List RequestId) → IsReached m → Knows m k
+        → ((e : Pending) → Contains m.kept e → HasNoSlot k.uses e.request.id) → ForgetsKept m k.parked later
+        → Knows (after_step m Release) (record k { parked = later }) }
+{}
+
+/// No slot serves a request that waits.
+pub fn waiting_has_no_slot()
+    ensures { (uses : Uses) (m : Machine) (d : Device) → IsReached m → Agrees uses m d → (e : Pending) → Contains m.book e
+        → e.issued ≡ false → HasNoSlot uses e.request.id }
+{}
+
+/// While no reset is pending the device leaves alone what no slot uses.
+pub fn free_slots_are_left()
+    ensures { (uses : Uses) (m : Machine) (old new : Device) → IsReached m → Agrees uses m old → old.hr ≡ false
+        → Steps old new → LeavesFree uses old new }
+{}
+
+/// So the bytes of a slot that say a command go on saying it, and a trim's block stays where slot 0 has no command of the
+/// driver's own.
+pub fn what_is_told_is_left()
+    ensures told { (uses : Uses) (old new : Device) → LeavesFree uses old new → (port slot : ℕ) (c : Meaning)
+        (places : List ℕ) → port < 4 → slot < 32 → Told old.memory (list_of port) port slot c places
+        → Told new.memory (list_of port) port slot c places }
+    ensures block { (uses : Uses) (old new : Device) → LeavesFree uses old new → (port : ℕ) (r : Accepted) → port < 4
+        → ((o : Operation) → uses port 0 ≡ Own o → ⊥) → HasBlock r.asked.op old.memory port r
+        → HasBlock r.asked.op new.memory port r }
+{}
+
+/// A request that is due stays due, whatever the device does.
+pub fn due_stays()
+    ensures { (m : Machine) (steps : List Step) → IsReached m → AllDevices steps → AllMay m steps
+        → (mode : Mode) (e : Pending) → May m (Issue mode e) → May (after m steps) (Issue mode e) }
+{}
+
+/// A history goes on by steps that may come, and so do stretches of them.
+pub fn histories_go_on()
+    ensures reached { (m : Machine) (steps : List Step) → IsReached m → AllMay m steps → IsReached (after m steps) }
+    ensures may { (m : Machine) (late early : List Step) → AllMay m early → AllMay (after m early) late
+        → AllMay m (late ++ early) }
+    ensures after { (m : Machine) (late early : List Step) → after m (late ++ early) ≡ after (after m early) late }
+{}
+
+/// And what was prepared for it stays so.
+pub fn prepared_stays()
+    ensures { (uses : Uses) (m : Machine) (old new : Device) (port slot : ℕ) (mode : Mode) (e : Pending) (v : ℕ)
+        → IsReached m → Agrees uses m old → old.hr ≡ false → Steps old new → (f : Follows uses m old new)
+        → IsPrepared uses m old port slot mode e v → IsPrepared uses (after m f.steps) new port slot mode e v }
+{}
+
+/// A free slot without a bit of PxSACT has none later; so it is where a slot is given up, and where one is put to use.
+pub fn unarmed_stays()
+    ensures device { (uses : Uses) (old new : Device) (port : ℕ) → Steps old new → AreUnarmed uses (old.port port) port
+        → AreUnarmed uses (new.port port) port }
+    ensures given_up { (uses : Uses) (m : Machine) (d : Device) (port slot : ℕ) → Agrees uses m d → IsOver (d.port port) slot
+        → AreUnarmed uses (d.port port) port → AreUnarmed (put uses port slot Free) (d.port port) port }
+    ensures used { (uses : Uses) (p : PortState) (port slot : ℕ) (v : Use) → (v ≡ Free → ⊥) → AreUnarmed uses p port
+        → AreUnarmed (put uses port slot v) p port }
+{}
+
+/// What the driver may store for itself may be loaded and stored, whatever the device does first.
+pub fn own_bytes_are_free()
+    ensures { (uses : Uses) (m : Machine) (d : Device) → IsReached m → Agrees uses m d → (at n : ℕ) → at + n ≤ d.size
+        → MayStore uses at n → Stays (IsFree at n) d }
+{}
+
+/// So may the page that a command of the driver's own brought, once the command is over.
+pub fn pages_are_free()
+    ensures { (uses : Uses) (m : Machine) (d : Device) → IsReached m → Agrees uses m d → (port : ℕ) → port < 4
+        → scratch_of port + 512 ≤ d.size → IsOver (d.port port) 0 → Stays (IsFree (scratch_of port) 512) d }
+{}
+
+/// So may bytes of a client's frame that isn't lent, for its owner.
+pub fn client_bytes_are_free()
+    ensures { (uses : Uses) (m : Machine) (d : Device) → IsReached m → Agrees uses m d → (client : ClientId)
+        (frame : Frame) (offset n : ℕ) → 4096 * frame.0 + 4096 ≤ d.size
+        → IsOpen m.owner m.lent client frame offset n → Stays (IsFree (4096 * frame.0 + offset) n) d }
+{}
+
+/// The bit of PxCI of a slot with a prepared request may be written, whatever the device does first.
+pub fn issuing_is_permitted()
+    ensures { (uses : Uses) (m : Machine) (d : Device) → IsReached m → Agrees uses m d → (port : Port) (slot : ℕ)
+        (mode : Mode) (e : Pending) (v : ℕ) → IsOn d → HasPort d port.0 → slot ≤ d.cap / 256 % 32
+        → IsPrepared uses m d port.0 slot mode e v → Stays (MayWrite (Px port Ci) v) d }
+{}
+
+/// So may that of a command of the driver's own.
+pub fn own_issuing_is_permitted()
+    ensures { (uses : Uses) (m : Machine) (d : Device) → IsReached m → Agrees uses m d → (port : Port) (o : Operation)
+        (v : ℕ) → IsOn d → HasPort d port.0 → IsOwnPrepared uses d port.0 o v → Stays (MayWrite (Px port Ci) v) d }
+{}
+
+/// A device that is taken over idle agrees with a machine that has nothing in it, where both have the same disks and client
+/// frames.
+pub fn an_idle_device_agrees()
+    ensures { (m : Machine) (d : Device) → IsStart m → IsIdle d → ((port : ℕ) → IsDiskOf m (d.port port) port)
+        → SameMemory m d.memory
+        → (d.telling ≡ true → (port : ℕ) → SameSectors m (d.port port).disk port) → Knows m (idle d) }
+{}
+
+/// There is an adapter with its first read issued, and a machine that is reached and agrees with what its driver knows: so
+/// none of these laws is empty.
+pub fn a_first_read_agrees()
+    ensures { FirstIsKnown }
+{}
