@@ -6,7 +6,7 @@ use Rattle.ata_types.specs.declared.request.Frame.{Frame}
 use Rattle.ata_types.specs.declared.request.RequestId.{RequestId}
 use Rattle.ata_types.specs.declared.request.Outcome.TheVariants.{Ok, DeviceError, Aborted, Unplugged, PortDead}
 use Rattle.block_machine.specs.State.{Block, Memory, Pending, Machine, frame_at, is_reader}
-use Rattle.block_machine.specs.Steps.{Step, Accept, Touch, Answer, Release, Store, May, after_step, stays, unlend, is_lent_to, put_bytes, memory_after}
+use Rattle.block_machine.specs.Steps.{Step, Accept, Touch, Again, Answer, Release, Store, May, after_step, stays, unlend, is_lent_to, put_bytes, memory_after}
 use Rattle.block_machine.specs.Left.{after, IsLegal, IsStart, AllTold}
 use Rattle.block_machine.specs.Durable.{IsVolatile, EveryPlugFinds}
 use Rattle.block_machine.specs.Ports.{Ports, Evidence}
@@ -51,6 +51,7 @@ answer_whole old evidence ports (Answer e (DeviceError status error)) before l =
 answer_whole old evidence ports (Answer e Aborted) before l = (l.0, tt)
 answer_whole old evidence ports (Answer e Unplugged) before l = (l.0, tt)
 answer_whole old evidence ports (Answer e PortDead) before l = (l.0, tt)
+answer_whole old evidence ports (Again e) before l = (l.0, tt)
 answer_whole old evidence ports _ before l = (l, tt)
 
 call_whole : (old : Moment) (evidence : Evidence) (ports : Ports) (steps past : List Step) → AllLawful old evidence ports steps → AllWhole past → AllWhole (steps ++ past)

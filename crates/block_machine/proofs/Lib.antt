@@ -27,6 +27,9 @@ pub mod WorkedRun
 pub mod WaitingRun
 pub mod ResetRun
 pub mod TroubledRun
+pub mod TickedRun
+pub mod RebootedRun
+pub mod DyingRun
 pub mod KeptMatters
 pub mod HistoryLemmas
 pub mod Standing

@@ -14,24 +14,24 @@ use Rattle.block_machine.specs.Worked.{EndsWithAReset}
 use Rattle.block_machine.proofs.Members.{contains_none, contains_here, contains_cases}
 use Rattle.block_machine.proofs.Keeps.{same_port}
 use Rattle.block_machine.proofs.Setting.{port, frame, empty_starts}
-use Rattle.block_machine.proofs.Scene.{mode, ports, ports_in, at_port, first, none, call, at_here, is_ready, is_dead, ready_here, none_dead, emptied_one, one_issued, none_there, one_told, none_told, ports_fit}
+use Rattle.block_machine.proofs.Scene.{mode, ports, ports_in, at_port, first, none, call, at_here, is_ready, is_dead, ready_here, none_dead, emptied_one, one_issued, none_there, one_told, none_told, none_ended, none_unplugged, ports_fit}
 use Rattle.block_machine.proofs.WaitingRun.{write, run1, happens1}
 
 -- the ports that a tick ages
-abbrev aging : Port → Bool
+abbrev pub aging : Port → Bool
 aging p = p.0 == 0
 
-abbrev tick : List Step → Event (Unit {0})
+abbrev pub tick : List Step → Event (Unit {0})
 tick later = call Tick (Served []) (later ++ Age aging ∷ [])
 
-abbrev run2 : List (Event (Unit {0}))
+abbrev pub run2 : List (Event (Unit {0}))
 run2 = tick [] ∷ run1
 
-abbrev run3 : List (Event (Unit {0}))
+abbrev pub run3 : List (Event (Unit {0}))
 run3 = tick [] ∷ run2
 
 -- the write, issued so many ticks ago
-abbrev aged : ℕ → Pending
+abbrev pub aged : ℕ → Pending
 aged n = record (issue (newly_accepted write)) { age = n }
 
 abbrev waits : Pending
@@ -40,8 +40,15 @@ waits = requeued (aged 3)
 abbrev restarts : List Step
 restarts = Issue mode waits ∷ Again (aged 3) ∷ []
 
+-- the port's engine was seen to stop, or the adapter's reset to end
+abbrev pub halted : Evidence
+halted = record { faults = []; lost = []; gone = []; failed = []; stopped = port ∷ []; stuck = [] }
+
+abbrev restarting : Event (Unit {0})
+restarting = record (tick restarts) { evidence = halted }
+
 abbrev run4 : List (Event (Unit {0}))
-run4 = tick restarts ∷ run3
+run4 = restarting ∷ run3
 
 abbrev again : Pending
 again = issue waits
@@ -61,12 +68,19 @@ service = record { ask = Service; said = Served (reply_of (again, outcome.PortDe
 abbrev run6 : List (Event (Unit {0}))
 run6 = service ∷ run5
 
+-- the one port that is served
+pub stopped_here : (p : Port) → (p.0 == 0) ≡ true → Contains (port ∷ []) p
+stopped_here p here = contains_here port [] p (same_port p port (eqb-true p.0 0 here))
+
 abbrev reset : Event (Unit {0})
-reset = record { ask = Reset; said = WasReset (Some []); evidence = none; steps = Release ∷ []; ports = ports }
+reset = record { ask = Reset; said = WasReset (Some []); evidence = halted; steps = Release ∷ []; ports = ports }
+
+abbrev run7 : List (Event (Unit {0}))
+run7 = reset ∷ run6
 
 -- What holds of the parts.
 
-ages_once : (later : List Step) → count_by is_age later ≡ 0 → AgesOnce ports (later ++ Age aging ∷ [])
+pub ages_once : (later : List Step) → count_by is_age later ≡ 0 → AgesOnce ports (later ++ Age aging ∷ [])
 ages_once later once = record {
   ready = aging;
   is_ready = λ p. (at_here Ready p, ready_here p);
@@ -90,10 +104,11 @@ ticks old x only young new same = record {
   ports = λ p. inl (same p);
   again = λ e h. absurd (false≢true (only_age (Again e) h));
   answer = λ e o h. absurd (false≢true (only_age (Answer e o) h));
+  ended = λ p hung. absurd (not_hung old x only young p hung);
   anew = λ p hung. absurd (not_hung old x only young p hung);
 }
 
-happens2 : Happens (moment_of first run1) (tick [])
+pub happens2 : Happens (moment_of first run1) (tick [])
 happens2 = record {
   may = (tt, tt);
   belong = (tt, inr tt);
@@ -105,12 +120,13 @@ happens2 = record {
     none_told (Age aging ∷ []) refl,
     ages_once [] refl,
     ticks (moment_of first run1) (aged 0) refl (omega arith) (moment_of first run2) (λ p. (refl, refl, refl, refl, refl, refl)),
+    none_unplugged (Age aging ∷ []) (moment_of first run2).machine refl,
     λ p _. one_issued (unanswered (aged 1)) refl p,
     λ p _ ne e h. emptied_one (aged 1) refl p ne e h,
   );
 }
 
-happens3 : Happens (moment_of first run2) (tick [])
+pub happens3 : Happens (moment_of first run2) (tick [])
 happens3 = record {
   may = (tt, tt);
   belong = (tt, inr tt);
@@ -122,6 +138,7 @@ happens3 = record {
     none_told (Age aging ∷ []) refl,
     ages_once [] refl,
     ticks (moment_of first run2) (aged 1) refl (omega arith) (moment_of first run3) (λ p. (refl, refl, refl, refl, refl, refl)),
+    none_unplugged (Age aging ∷ []) (moment_of first run3).machine refl,
     λ p _. one_issued (unanswered (aged 2)) refl p,
     λ p _ ne e h. emptied_one (aged 2) refl p ne e h,
   );
@@ -129,7 +146,7 @@ happens3 = record {
 
 -- the third restarts it
 
-hung : IsHung (moment_of first run3) port
+pub hung : IsHung (moment_of first run3) port
 hung = record { ready = refl; pending = aged 2; here = contains_here (aged 2) [] (aged 2) refl; port_is = refl; issued = refl; old_enough = omega arith }
 
 abbrev again_of : Step → Option Pending
@@ -141,7 +158,7 @@ is_answer (Answer e o) = true
 is_answer _ = false
 
 -- a fact of each of the steps
-each_step : (P : Step → Type 0) → P (Issue mode waits) → P (Again (aged 3)) → P (Age aging) → (step : Step) → Contains (tick restarts).steps step → P step
+each_step : (P : Step → Type 0) → P (Issue mode waits) → P (Again (aged 3)) → P (Age aging) → (step : Step) → Contains restarting.steps step → P step
 each_step P a b c step h = ⊎_elim
     (λ same. subst P (sym same) a)
     (λ n. ⊎_elim
@@ -150,7 +167,7 @@ each_step P a b c step h = ⊎_elim
     (contains_cases (Again (aged 3)) (Age aging ∷ []) step n))
     (contains_cases (Issue mode waits) (Again (aged 3) ∷ Age aging ∷ []) step h)
 
-restarted : RestartsHung (moment_of first run3) none (tick restarts).steps (moment_of first run4)
+restarted : RestartsHung (moment_of first run3) halted restarting.steps (moment_of first run4)
 restarted = record {
   ports = λ p. inl (refl, refl, refl, refl, refl, refl);
   again = λ e h. each_step (λ step. (x : Pending) → again_of step ≡ Some x → IsHung (moment_of first run3) x.request.port)
@@ -159,8 +176,9 @@ restarted = record {
       (λ x q. absurd (none_some x q))
       (Again e) h e refl;
   answer = λ e o h. absurd (false≢true (sym (each_step (λ step. is_answer step ≡ false) refl refl refl (Answer e o) h)));
+  ended = λ p _. none_ended (moment_of first run3).machine restarting.steps refl p;
   anew = λ p _ e h _ _. ⊎_elim
-      (λ (same : e ≡ again). subst (λ (y : Pending). IsIssuedIn y.request.id (tick restarts).steps) (sym same) refl)
+      (λ (same : e ≡ again). subst (λ (y : Pending). IsIssuedIn y.request.id restarting.steps) (sym same) refl)
       (λ n. absurd (contains_none e n))
       (contains_cases again [] e h);
 }
@@ -171,7 +189,7 @@ restarted = record {
     some_same : (x : Pending) → Some (aged 3) ≡ Some x → aged 3 ≡ x
     some_same x q = cc
 
-happens4 : Happens (moment_of first run3) (tick restarts)
+happens4 : Happens (moment_of first run3) restarting
 happens4 = record {
   may = (
     ((tt, tt), (contains_here (aged 3) [] (aged 3) refl, refl, omega arith)),
@@ -179,22 +197,22 @@ happens4 = record {
   );
   belong = (((tt, inr tt), inr refl), inr (refl, refl));
   last = (((tt, λ id h i. false≢true i), λ id h i. false≢true i), λ id h i. false≢true i);
-  lawful = tt;
+  lawful = (tt, contains_here port [] port refl);
   fit = ports_fit Ready;
   disks = λ e o h i same. (refl, refl);
-  answered = (none_told (tick restarts).steps refl, ages_once restarts refl, restarted, λ p _. one_issued (unanswered again) refl p, λ p _ ne e h. emptied_one again refl p ne e h);
+  answered = (none_told restarting.steps refl, ages_once restarts refl, restarted, none_unplugged restarting.steps (moment_of first run4).machine refl, λ p _. one_issued (unanswered again) refl p, λ p _ ne e h. emptied_one again refl p ne e h);
 }
 
 -- The reset that is stuck, and what comes after it.
 
-dead_not_ready : {A : Type 0} (p : Port) → at_port Dead p ≡ Ready → A
+pub dead_not_ready : {A : Type 0} (p : Port) → at_port Dead p ≡ Ready → A
 dead_not_ready {A} p e = go (p.0 == 0) e
   where
     go : (b : Bool) → cond b Dead Absent ≡ Ready → A
     go true e = absurd (false≢true (ap is_ready e))
     go false e = absurd (false≢true (ap is_ready e))
 
-dead_here : (p : Port) → at_port Dead p ≡ Dead → Contains (port ∷ []) p
+pub dead_here : (p : Port) → at_port Dead p ≡ Dead → Contains (port ∷ []) p
 dead_here p e = contains_here port [] p (same_port p port (eqb-true p.0 0 (go (p.0 == 0) e)))
   where
     go : (b : Bool) → cond b Dead Absent ≡ Dead → b ≡ true
@@ -232,7 +250,8 @@ happens6 = record {
   disks = λ e o h i same. (refl, refl);
   answered = (
     one_told again outcome.PortDead service.steps refl (reply_of (again, outcome.PortDead)) refl,
-    record { dead = told_dead; lost = λ p ready. dead_not_ready p ready; grounded = tt; booted = λ p ready. dead_not_ready p ready },
+    record { dead = told_dead; grounded = tt; ready = λ p ready. dead_not_ready p ready },
+    none_unplugged service.steps (moment_of first run6).machine refl,
     λ p ready. dead_not_ready p ready,
     λ p. (λ ne e h. absurd (contains_none e h), (λ _. (refl, refl, refl, refl, refl, refl), λ alive. record { served = refl; stuck = λ dead. absurd (alive dead); disk = λ ready. dead_not_ready p ready })),
   );
@@ -249,8 +268,14 @@ happens7 = record {
   answered = (
     none_told reset.steps refl,
     record { later = []; earlier = []; split = refl; before = tt; once = refl },
+    none_unplugged reset.steps (moment_of first run7).machine refl,
     λ p _. none_there p,
-    λ p. (λ ne e h. absurd (contains_none e h), record { served = refl; stuck = λ e. none_dead p e; disk = λ ready. dead_not_ready p ready }, λ e h. absurd (contains_none e h)),
+    λ p. record {
+      emptied = λ ne e h. absurd (contains_none e h);
+      becomes = record { served = refl; stuck = λ e. none_dead p e; disk = λ ready. dead_not_ready p ready };
+      anew = λ e h. absurd (contains_none e h);
+      stopped = stopped_here p;
+    },
   );
 }
 
@@ -260,7 +285,7 @@ ends_with_a_reset = record {
   asked = run1;
   one = tick [];
   two = tick [];
-  three = tick restarts;
+  three = restarting;
   stuck = stuck;
   service = service;
   reset = reset;

@@ -13,11 +13,11 @@ use Rattle.ata_types.specs.declared.refusal.Refusal.TheVariants as refused
 use Rattle.ata_types.specs.declared.grant.GrantRow.{GrantRow}
 use Rattle.block_machine.specs.Rules.{IsNamed}
 use Rattle.block_machine.specs.Refusals.{IsAcceptable}
-use Rattle.block_machine.specs.Ports.{Ports, Evidence, SamePorts, AreFit, MayBecome, IsServiced, IsStuck}
+use Rattle.block_machine.specs.Ports.{Ports, Evidence, SamePorts, AreFit, IsServiced, IsStuck}
 use Rattle.block_machine.specs.State.{Accepted, Pending, Machine}
-use Rattle.block_machine.specs.Steps.{Step, Issue, Age, Touch, End, Answer, Release, IsNew, touch, mark_ended}
+use Rattle.block_machine.specs.Steps.{Step, Issue, Age, Touch, End, Again, Answer, Release, IsNew, touch, mark_ended}
 use Rattle.block_machine.specs.Left.{after}
-use Rattle.block_machine.specs.Events.{Moment, Ask, AllMay, Belong, IsEmptied, NoneKeepsIssue, Submit, StoreAt, LoadAt, Service, Tick, Reset, State, Device, Said, Submitted, Stored, Loaded, Served, WasReset, Shown, Stepped, Event, IsAnswered, Happens, AllLawful, AgesOnce, RestartsHung, ReleasesOnce, IssuesLast, IsRun, IsStillStuck, StaysStuck, accepts_of, is_age, is_release, issues_it, handles, moment_of, situation_of}
+use Rattle.block_machine.specs.Events.{Moment, Ask, AllMay, Belong, IsEmptied, IsRebooted, Submit, StoreAt, LoadAt, Service, Tick, Reset, State, Device, Said, Submitted, Stored, Loaded, Served, WasReset, Shown, Stepped, Event, IsAnswered, Happens, AllLawful, AgesOnce, RestartsHung, ReleasesOnce, IssuesLast, IsRun, IsStillStuck, StaysStuck, accepts_of, is_age, is_release, issues_it, handles, moment_of, situation_of}
 use Rattle.block_machine.proofs.Members.{contains_none, contains_cases, map_in}
 use Rattle.block_machine.proofs.Keeps.{at_keeps}
 use Rattle.block_machine.specs.Confined.{IsGranted}
@@ -58,7 +58,7 @@ data Kind {D : Type 0} (ask : Ask D) (said : Said) (old : Moment) (evidence : Ev
   Serves : is_tick ask ≡ false → is_reset ask ≡ false → ((port : Port) → IsEmptied new port × IsServiced old.ports evidence new.ports port) → Kind ask said old evidence steps new was
   Ticks : is_reset ask ≡ false → AgesOnce old.ports steps → RestartsHung old evidence steps new → ((port : Port) → old.ports.state port ≡ Ready → IsEmptied new port)
       → (was → StaysStuck ask said was) → Kind ask said old evidence steps new was
-  Resets : is_tick ask ≡ false → ReleasesOnce steps → ((port : Port) → IsEmptied new port × MayBecome old.ports evidence new.ports port × NoneKeepsIssue steps new.machine port) → Kind ask said old evidence steps new was
+  Resets : is_tick ask ≡ false → ReleasesOnce steps → ((port : Port) → IsRebooted old evidence steps new port) → Kind ask said old evidence steps new was
   Sticks : is_tick ask ≡ false → ((port : Port) → IsStuck old.ports evidence new.ports port) → StaysStuck ask said was → Kind ask said old evidence steps new was
 
 kind : {D : Type 0} (ask : Ask D) (said : Said) (old : Moment) (evidence : Evidence) (steps : List Step) (new : Moment) (was : Type 0) → IsAnswered ask said old evidence steps new → Kind ask said old evidence steps new was
@@ -71,9 +71,9 @@ kind (LoadAt c f o n) (Loaded (Err fault)) old evidence steps new was a = Leaves
 kind (State port) (Shown state) old evidence steps new was a = Leaves refl refl a.2 (λ w. w)
 kind (Device d) (Stepped true) old evidence steps new was a = Leaves refl refl a.1 (λ w. w)
 kind (Device d) (Stepped false) old evidence steps new was a = Leaves refl refl a.1 (λ w. w)
-kind Service (Served replies) old evidence steps new was a = Serves refl refl a.3
-kind Tick (Served replies) old evidence steps new was a = Ticks refl a.1 a.2 a.4 (λ w. w)
-kind Reset (WasReset (Some replies)) old evidence steps new was a = Resets refl a.1 a.3
+kind Service (Served replies) old evidence steps new was a = Serves refl refl a.4
+kind Tick (Served replies) old evidence steps new was a = Ticks refl a.1 a.2 a.5 (λ w. w)
+kind Reset (WasReset (Some replies)) old evidence steps new was a = Resets refl a.1 a.4
 kind Reset (WasReset None) old evidence steps new was a = Sticks refl a.1 tt
 kind ask said old evidence steps new was a = absurd a
 
@@ -165,7 +165,7 @@ placed_event ask said old evidence steps new was e fit here placed (Ticks r ages
     (λ h. absurd (false≢true (ap is_ready (sym dead.0) ∙ ap is_ready h.0.ready)))
     (hung.ports e.request.port))
     placed
-placed_event ask said old evidence steps new was e fit here placed (Resets t releases ports) = inl (emptied_ready new e here (ports e.request.port).0)
+placed_event ask said old evidence steps new was e fit here placed (Resets t releases ports) = inl (emptied_ready new e here (ports e.request.port).emptied)
 placed_event ask said old evidence steps new was e fit here placed (Sticks t ports keep) = inr (((ports e.request.port).1 (placed_served old.ports e.request.port was fit placed)).0, keep)
 
 pub unanswered_where_ready : {D : Type 0} (first : Moment) (run : List (Event D)) (e : Pending) → IsRun first run → Contains (moment_of first run).machine.book e
@@ -307,6 +307,7 @@ kept_from old evidence ports m (Answer p outcome.PortDead ∷ before) l e h = go
         (λ i. moved_kept ports m (Answer p outcome.PortDead) before e e refl refl (rest i))
         (contains_cases p (after m before).kept e h)
     go false h rest = moved_kept ports m (Answer p outcome.PortDead) before e e refl refl (rest h)
+kept_from old evidence ports m (Again p ∷ before) l e h = moved_kept ports m (Again p) before e e refl refl (kept_from old evidence ports m before l.0 e h)
 kept_from old evidence ports m (step ∷ before) l e h = moved_kept ports m step before e e refl refl (kept_from old evidence ports m before l e h)
 
 kept_event : {D : Type 0} (ask : Ask D) (said : Said) (old : Moment) (evidence : Evidence) (steps : List Step) (new : Moment) (port : Port) → AreFit old.ports

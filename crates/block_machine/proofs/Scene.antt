@@ -1,5 +1,5 @@
 -- What the worked runs are made of: ports, calls and requests, and what holds of them.
-use Rattle.std.proofs.Common.{◌≡◌, ◌≢◌, ℕ, ◌+◌, ◌<◌, ◌≤◌, true, false, not, List, [], ◌∷◌, slice_get, Some, is_some, ◌||◌, ◌==◌, eq-eqb, None, inr, ⊎_elim, refl, sym, ap, ◌∙◌, subst, arith, Bool, cond, eqb-true}
+use Rattle.std.proofs.Common.{◌≡◌, ◌≢◌, ℕ, ◌+◌, ◌<◌, ◌≤◌, true, false, not, List, [], ◌∷◌, ◌++◌, slice_get, Some, is_some, ◌||◌, ◌==◌, eq-eqb, None, inl, inr, ⊎_elim, refl, sym, ap, ◌∙◌, subst, arith, Bool, cond, eqb-true}
 use Rattle.std.proofs.lemmas.Bool.{false≢true, or_left, or_from, cond-true, cond-false}
 use Rattle.std.specs.List.{Contains, list_any}
 use Rattle.std.specs.List.Sorted.{IsPermutation}
@@ -26,9 +26,9 @@ use Rattle.block_machine.specs.Refusals.{IsOpen}
 use Rattle.block_machine.specs.Due.{NoneDue, is_flush}
 use Rattle.block_machine.specs.State.{Accepted, Pending, Machine, block_of, is_reader}
 use Rattle.block_machine.specs.Steps.{Step, Touch, End, Answer, newly_accepted, issue, touch, mark_ended, IsNew}
-use Rattle.block_machine.specs.Ports.{Ports, Evidence, AreFit, IsServiced}
-use Rattle.block_machine.specs.Events.{Moment, Ask, Said, Event, Tells, situation_of, answers_of, reply_of}
-use Rattle.block_machine.proofs.Members.{contains_none, contains_here, contains_cases, none_of}
+use Rattle.block_machine.specs.Ports.{Ports, Evidence, AreFit, SamePort, SamePorts, IsServiced}
+use Rattle.block_machine.specs.Events.{Moment, Ask, Said, Event, AllGrounded, AnswersEnded, AreTold, UnplugsAll, ServesReady, ServesPorts, Tells, situation_of, answers_of, reply_of}
+use Rattle.block_machine.proofs.Members.{contains_none, contains_here, contains_cases, append_in, none_of}
 use Rattle.block_machine.proofs.Keeps.{same_port}
 use Rattle.block_machine.proofs.Dues.{issued_not_due}
 use Rattle.block_machine.proofs.Setting.{client, on, port, frame, row, two_rows, request, empty, its_row, is_trim, IsFit, acceptable}
@@ -264,6 +264,62 @@ serviced p = (
   λ dead. none_dead p dead,
   λ _. record { served = refl; stuck = λ e. none_dead p e; disk = λ ready. inr (inr (ready, (refl, refl))) },
 )
+
+-- What a service does where it has nothing to do but to answer.
+
+-- the step answers otherwise than Ok
+abbrev pub is_refused : Step → Bool
+is_refused (Answer e outcome.Ok) = false
+is_refused (Answer e o) = true
+is_refused _ = false
+
+abbrev pub is_unplugged : Step → Bool
+is_unplugged (Answer e outcome.Unplugged) = true
+is_unplugged _ = false
+
+refused_or : (e : Pending) (o : Outcome) → is_refused (Answer e o) ≡ false → o ≡ outcome.Ok
+refused_or e outcome.Ok h = refl
+refused_or e (outcome.DeviceError status error) h = absurd (false≢true (sym h))
+refused_or e outcome.Aborted h = absurd (false≢true (sym h))
+refused_or e outcome.Unplugged h = absurd (false≢true (sym h))
+refused_or e outcome.PortDead h = absurd (false≢true (sym h))
+
+pub told_ok : (steps : List Step) → list_any is_refused steps ≡ false → (p : Port) → AreTold outcome.Ok steps p
+told_ok steps none p e o h here = inl (refused_or e o (none_of is_refused steps (Answer e o) none h))
+
+pub none_unplugged : (steps : List Step) (m : Machine) → list_any is_unplugged steps ≡ false → UnplugsAll steps m
+none_unplugged steps m none e o h i = absurd (false≢true (sym (none_of is_unplugged steps (Answer e outcome.Unplugged) none h)))
+
+pub none_ended : (m : Machine) (steps : List Step) → list_any (λ e. e.ended) m.book ≡ false → (p : Port) → AnswersEnded m steps p
+none_ended m steps none p e h here ended = absurd (false≢true (sym (none_of (λ (x : Pending). x.ended) m.book e none h) ∙ ended))
+
+-- what had ended is the last of the book, which is answered
+pub last_ended : (m : Machine) (steps : List Step) (others : List Pending) (one : Pending) → m.book ≡ others ++ one ∷ [] → list_any (λ e. e.ended) others ≡ false
+    → (done : Pending) → done.request ≡ one.request → Contains steps (Answer done outcome.Ok) → (p : Port) → AnswersEnded m steps p
+last_ended m steps others one is none done same told p e h here ended = ⊎_elim
+    (λ h. absurd (false≢true (sym (none_of (λ (x : Pending). x.ended) others e none h) ∙ ended)))
+    (λ (q : e ≡ one). (done, same ∙ ap (λ (x : Pending). x.request) (sym q), told))
+    (append_in others one e (subst (λ (es : List Pending). Contains es e) is h))
+
+-- a service with no evidence that leaves the port what it is
+pub calmly : (old new : Moment) (steps : List Step) (p : Port) → SamePort old.ports new.ports p → list_any is_refused steps ≡ false → AnswersEnded old.machine steps p → ServesReady old none steps new p
+calmly old new steps p same ok ended = record {
+  ended = ended;
+  lost = λ gone. absurd (contains_none p gone);
+  told = λ gone. absurd (contains_none p gone);
+  anew = λ trouble. ⊎_elim (λ failed. absurd (contains_none p failed)) (λ stopped. absurd (contains_none p stopped)) trouble;
+  booted = inl same;
+  calm = inr (same, told_ok steps ok p);
+}
+
+-- and one that leaves all ports what they are
+pub serves_calmly : (old new : Moment) (steps : List Step) → ((p : Port) → old.ports.state p ≡ Dead → ⊥) → SamePorts old.ports new.ports → AllGrounded none steps → list_any is_refused steps ≡ false
+    → ((p : Port) → AnswersEnded old.machine steps p) → ServesPorts old none steps new
+serves_calmly old new steps alive same grounded ok ended = record {
+  dead = λ e o h dead. absurd (alive e.request.port dead);
+  grounded = grounded;
+  ready = λ p _. calmly old new steps p (same p) ok (ended p);
+}
 
 -- where a port is ready, one request of it is no other port's
 pub emptied_at : (state : Port → PortState) (one : Pending) → state one.request.port ≡ Ready → (p : Port) → state p ≢ Ready → (e : Pending) → Contains (one ∷ []) e → e.request.port ≢ p

@@ -1,8 +1,8 @@
 -- A run in which one port fails and another loses its disk.
-use Rattle.std.proofs.Common.{◌≡◌, ◌⊎◌, ℕ, ◌<◌, ◌||◌, ◌==◌, Bool, true, false, cond, suc, List, [], ◌∷◌, Ok, inl, inr, ⊎_elim, refl, sym, ap, ◌∙◌, subst, arith, eqb-true}
+use Rattle.std.proofs.Common.{◌≡◌, ◌⊎◌, ℕ, ◌<◌, ◌||◌, ◌==◌, Bool, true, false, cond, zero, suc, List, [], ◌∷◌, map, Ok, inl, inr, ⊎_elim, refl, sym, ap, ◌∙◌, subst, arith, eqb-true, eq-eqb}
 use Rattle.std.proofs.lemmas.Bool.{false≢true, or_cases, cond-true}
 use Rattle.std.proofs.lemmas.List.Sorted.{IsPermutation-append_comm}
-use Rattle.std.specs.List.{Contains}
+use Rattle.std.specs.List.{Contains, list_any}
 use Rattle.std.specs.Prelude.{slice_index_or}
 use Rattle.ata_types.specs.declared.Port.{Port}
 use Rattle.ata_types.specs.declared.PortState.{PortState}
@@ -12,21 +12,21 @@ use Rattle.ata_types.specs.declared.request.Op.TheVariants.{Read, Write}
 use Rattle.ata_types.specs.declared.request.Outcome.{Outcome}
 use Rattle.ata_types.specs.declared.request.Outcome.TheVariants as outcome
 use Rattle.block_machine.specs.Ports.{Ports, Evidence, AreFit, IsServiced}
-use Rattle.block_machine.specs.State.{Accepted, Pending, Machine, unanswered}
-use Rattle.block_machine.specs.Steps.{Step, Accept, Issue, Again, Answer, Unplug, newly_accepted, issue, requeued}
-use Rattle.block_machine.specs.Events.{Moment, Submit, Service, Device, Submitted, Served, Stepped, Event, Happens, Tells, IsToldBefore, IsIssuedIn, moment_of, situation_of, steps_of, reply_of}
+use Rattle.block_machine.specs.State.{Accepted, Pending, Machine, unanswered, is_reader}
+use Rattle.block_machine.specs.Steps.{Step, Accept, Issue, Touch, End, Again, Answer, Unplug, newly_accepted, issue, touch, requeued}
+use Rattle.block_machine.specs.Events.{Moment, Submit, Service, Device, Submitted, Served, Stepped, Event, Happens, NoneKeepsIssue, ServesReady, UnplugsAll, Tells, IsToldBefore, IsIssuedIn, moment_after, moment_of, situation_of, steps_of, reply_of}
 use Rattle.block_machine.specs.Worked.{MeetsTrouble}
-use Rattle.block_machine.proofs.Members.{contains_none, contains_here, contains_there, contains_cases}
+use Rattle.block_machine.proofs.Members.{contains_none, contains_here, contains_there, contains_cases, none_of}
 use Rattle.block_machine.proofs.Keeps.{same_port}
 use Rattle.block_machine.proofs.Setting.{on, frame, row, two_rows, empty, empty_starts, acceptable}
-use Rattle.block_machine.proofs.Scene.{mode, id, one_sector, none, is_ready, is_dead, IsQuiet, row_zero, write_at, fit_read, new, none_waits, none_there, one_told, none_told, emptied_at}
+use Rattle.block_machine.proofs.Scene.{mode, id, one_sector, done, none, is_ready, is_dead, IsQuiet, row_zero, write_at, fit_read, new, none_waits, none_there, one_told, none_told, one_touched, none_ended, last_ended, none_unplugged, emptied_at}
 
 -- ports 0 and 1 in these states, and no other port
 abbrev both : PortState → PortState → Port → PortState
-both zero one p = cond (p.0 == 0) zero (cond (p.0 == 1) one Absent)
+both low high p = cond (p.0 == 0) low (cond (p.0 == 1) high Absent)
 
 abbrev ports_in : PortState → PortState → Ports
-ports_in zero one = record { served = λ p. p.0 == 0 || p.0 == 1; state = both zero one; serial = λ p. []; sectors = λ p. 200; trims = λ p. true; mode = λ p. mode }
+ports_in low high = record { served = λ p. p.0 == 0 || p.0 == 1; state = both low high; serial = λ p. []; sectors = λ p. 200; trims = λ p. true; mode = λ p. mode }
 
 abbrev first : Moment
 first = record { machine = empty; ports = ports_in Ready Ready }
@@ -55,11 +55,27 @@ again = one_sector 0 empty 3 Write 101 41
 abbrev run3 : List (Event (Unit {0}))
 run3 = submit again ∷ run2
 
+abbrev finished : Accepted
+finished = one_sector 0 empty 4 Write 102 43
+
+abbrev run4 : List (Event (Unit {0}))
+run4 = submit finished ∷ run3
+
+abbrev finishing : Pending
+finishing = issue (newly_accepted finished)
+
+-- the device ends it
+abbrev ending : Event (Unit {0})
+ending = record { ask = Device tt; said = Stepped true; evidence = none; steps = End (touch 0 finishing) ∷ Touch finishing 0 (finished.held 0) ∷ []; ports = ports_in Ready Ready }
+
+abbrev run5 : List (Event (Unit {0}))
+run5 = ending ∷ run4
+
 abbrev unplug : Event (Unit {0})
 unplug = record { ask = Device tt; said = Stepped true; evidence = none; steps = Unplug (on 1) ∷ []; ports = ports_in Ready Ready }
 
-abbrev run4 : List (Event (Unit {0}))
-run4 = unplug ∷ run3
+abbrev run6 : List (Event (Unit {0}))
+run6 = unplug ∷ run5
 
 -- the request that goes again, in its n-th issue
 abbrev tried : ℕ → Pending
@@ -76,7 +92,7 @@ abbrev trouble : Evidence
 trouble = record { faults = record { id = id 2; status = 65; error = 64 } ∷ []; lost = on 1 ∷ []; gone = on 1 ∷ []; failed = on 0 ∷ []; stopped = on 0 ∷ on 1 ∷ []; stuck = [] }
 
 abbrev requeuing : List Step
-requeuing = Again (tried 1) ∷ Answer failing (outcome.DeviceError 65 64) ∷ []
+requeuing = Again (tried 1) ∷ Answer failing (outcome.DeviceError 65 64) ∷ Answer (done finished) outcome.Ok ∷ []
 
 abbrev serving : List Step
 serving = Answer losing outcome.Unplugged ∷ Issue mode (requeued (tried 1)) ∷ requeuing
@@ -84,14 +100,14 @@ serving = Answer losing outcome.Unplugged ∷ Issue mode (requeued (tried 1)) �
 abbrev service : Event (Unit {0})
 service = record {
   ask = Service;
-  said = Served (reply_of (failing, outcome.DeviceError 65 64) ∷ reply_of (losing, outcome.Unplugged) ∷ []);
+  said = Served (reply_of (failing, outcome.DeviceError 65 64) ∷ reply_of (done finished, outcome.Ok) ∷ reply_of (losing, outcome.Unplugged) ∷ []);
   evidence = trouble;
   steps = serving;
   ports = ports_in Ready Absent;
 }
 
-abbrev run5 : List (Event (Unit {0}))
-run5 = service ∷ run4
+abbrev run7 : List (Event (Unit {0}))
+run7 = service ∷ run6
 
 -- port 0 failed, and was stopped
 abbrev failure : Evidence
@@ -101,30 +117,30 @@ failure = record { faults = []; lost = []; gone = []; failed = on 0 ∷ []; stop
 abbrev retry : ℕ → Event (Unit {0})
 retry n = record { ask = Service; said = Served []; evidence = failure; steps = Issue mode (requeued (tried n)) ∷ Again (tried n) ∷ []; ports = ports_in Ready Absent }
 
-abbrev run7 : List (Event (Unit {0}))
-run7 = retry 3 ∷ retry 2 ∷ run5
+abbrev run9 : List (Event (Unit {0}))
+run9 = retry 3 ∷ retry 2 ∷ run7
 
 abbrev abort : Event (Unit {0})
 abort = record { ask = Service; said = Served (reply_of (tried 4, outcome.Aborted) ∷ []); evidence = failure; steps = Answer (tried 4) outcome.Aborted ∷ []; ports = ports_in Ready Absent }
 
 -- What holds of the ports.
 
-not_dead : {A : Type 0} (zero one : PortState) → is_dead zero ≡ false → is_dead one ≡ false → (p : Port) → both zero one p ≡ Dead → A
-not_dead {A} zero one z o p e = go (p.0 == 0) (p.0 == 1) e
+not_dead : {A : Type 0} (low high : PortState) → is_dead low ≡ false → is_dead high ≡ false → (p : Port) → both low high p ≡ Dead → A
+not_dead {A} low high z o p e = go (p.0 == 0) (p.0 == 1) e
   where
-    go : (a b : Bool) → cond a zero (cond b one Absent) ≡ Dead → A
+    go : (a b : Bool) → cond a low (cond b high Absent) ≡ Dead → A
     go true b e = absurd (false≢true (sym z ∙ ap is_dead e))
     go false true e = absurd (false≢true (sym o ∙ ap is_dead e))
     go false false e = absurd (false≢true (ap is_dead e))
 
-fit : (zero one : PortState) → AreFit (ports_in zero one)
-fit zero one = record {
+fit : (low high : PortState) → AreFit (ports_in low high)
+fit low high = record {
   few = λ p e. ⊎_elim (λ q. let n = eqb-true p.0 0 q in omega (arith, n)) (λ q. let n = eqb-true p.0 1 q in omega (arith, n)) (or_cases (p.0 == 0) (p.0 == 1) e);
   absent = λ p. go (p.0 == 0) (p.0 == 1);
   slots = λ p e. (omega arith, omega arith, λ f. absurd (false≢true (sym f)));
 }
   where
-    go : (a b : Bool) → (a || b) ≡ false → cond a zero (cond b one Absent) ≡ Absent
+    go : (a b : Bool) → (a || b) ≡ false → cond a low (cond b high Absent) ≡ Absent
     go true b e = absurd (false≢true (sym e))
     go false true e = absurd (false≢true (sym e))
     go false false e = refl
@@ -138,6 +154,15 @@ still_ready p e = go (p.0 == 0) refl (p.0 == 1) refl e
     go false z true o e = inl (same_port p (on 1) (eqb-true p.0 1 o))
     go false z false o e = absurd (false≢true (ap is_ready e))
 
+-- and it is the one that is left
+zero_ready : (p : Port) → both Ready Absent p ≡ Ready → p ≡ on 0
+zero_ready p e = go (p.0 == 0) refl (p.0 == 1) e
+  where
+    go : (a : Bool) → (p.0 == 0) ≡ a → (b : Bool) → cond a Ready (cond b Absent Absent) ≡ Ready → p ≡ on 0
+    go true z b e = same_port p (on 0) (eqb-true p.0 0 z)
+    go false z true e = absurd (false≢true (ap is_ready e))
+    go false z false e = absurd (false≢true (ap is_ready e))
+
 -- a service that changes no port
 stays : (p : Port) → IsServiced (ports_in Ready Absent) failure (ports_in Ready Absent) p
 stays p = (
@@ -147,7 +172,7 @@ stays p = (
 
 -- one of them waits for nothing
 
-quiet : (p : ℕ) (m : Moment) → Contains two_rows (row p) → m.machine.rows ≡ two_rows → m.ports.state (on p) ≡ Ready → m.ports.sectors (on p) ≡ 200 → (situation_of m).unanswered (record { 0 = 1 }) < 16 → m.machine.next < 4 → IsQuiet p m
+quiet : (p : ℕ) (m : Moment) → Contains two_rows (row p) → m.machine.rows ≡ two_rows → m.ports.state (on p) ≡ Ready → m.ports.sectors (on p) ≡ 200 → (situation_of m).unanswered (record { 0 = 1 }) < 16 → m.machine.next < 5 → IsQuiet p m
 quiet p m mine rows ready size room next = record { rows = rows; mine = mine; ready = ready; size = size; room = room; few = omega (arith, next) }
 
 quiet0 : IsQuiet 1 (moment_of first run0)
@@ -158,6 +183,9 @@ quiet1 = quiet 0 (moment_of first run1) row_zero refl refl refl (omega arith) (o
 
 quiet2 : IsQuiet 0 (moment_of first run2)
 quiet2 = quiet 0 (moment_of first run2) row_zero refl refl refl (omega arith) (omega arith)
+
+quiet3 : IsQuiet 0 (moment_of first run3)
+quiet3 = quiet 0 (moment_of first run3) row_zero refl refl refl (omega arith) (omega arith)
 
 happens1 : Happens (moment_of first run0) (submit lost)
 happens1 = record {
@@ -176,6 +204,9 @@ second a b = contains_there a (b ∷ []) b (contains_here b [] b refl)
 
 third : {X : Type 0} (a b c : X) → Contains (a ∷ b ∷ c ∷ []) c
 third a b c = contains_there a (b ∷ c ∷ []) c (second b c)
+
+fourth : {X : Type 0} (a b c d : X) → Contains (a ∷ b ∷ c ∷ d ∷ []) d
+fourth a b c d = contains_there a (b ∷ c ∷ d ∷ []) d (third b c d)
 
 happens2 : Happens (moment_of first run1) (submit failed)
 happens2 = record {
@@ -199,8 +230,30 @@ happens3 = record {
   answered = (acceptable 0 (situation_of (moment_of first run2)) again.asked (write_at 0 (moment_of first run2) 101 41 quiet2 (omega arith) (omega arith) refl refl), (again, refl, refl), λ p. (refl, refl, refl, refl, refl, refl), λ p _. none_waits _ refl p);
 }
 
-happens4 : Happens (moment_of first run3) unplug
+happens4 : Happens (moment_of first run3) (submit finished)
 happens4 = record {
+  may = ((tt, new 0 (moment_of first run3) finished quiet3 (write_at 0 (moment_of first run3) 102 43 quiet3 (omega arith) (omega arith) refl refl) refl refl refl), (fourth losing failing (tried 1) (newly_accepted finished), record { here = fourth (unanswered losing) (unanswered failing) (unanswered (tried 1)) (unanswered (newly_accepted finished)); clear = refl; slot = λ _. omega arith }, λ e h. absurd (contains_none e h)));
+  belong = ((tt, inr refl), inr (refl, refl));
+  last = ((tt, λ id h i. false≢true i), λ id h i. false≢true i);
+  lawful = tt;
+  fit = fit Ready Ready;
+  disks = λ e o h i same. (refl, refl);
+  answered = (acceptable 0 (situation_of (moment_of first run3)) finished.asked (write_at 0 (moment_of first run3) 102 43 quiet3 (omega arith) (omega arith) refl refl), (finished, refl, refl), λ p. (refl, refl, refl, refl, refl, refl), λ p _. none_waits _ refl p);
+}
+
+happens5 : Happens (moment_of first run4) ending
+happens5 = record {
+  may = ((tt, (inl (fourth losing failing (tried 1) finishing, refl), omega arith, refl, omega arith, λ _ b lt. refl)), (inl (fourth losing failing (tried 1) (touch 0 finishing), refl), one_touched, refl));
+  belong = ((tt, inl tt), inl tt);
+  last = ((tt, λ id h i. false≢true i), λ id h i. false≢true i);
+  lawful = tt;
+  fit = fit Ready Ready;
+  disks = λ e o h i same. (refl, refl);
+  answered = (((tt, tt), tt), λ p. (refl, refl, refl, refl, refl, refl));
+}
+
+happens6 : Happens (moment_of first run5) unplug
+happens6 = record {
   may = (tt, refl);
   belong = (tt, inl tt);
   last = (tt, λ id h i. false≢true i);
@@ -222,49 +275,98 @@ left_anew n steps issued e h = ⊎_elim
 left_here : (n : ℕ) (e : Pending) → Contains (tried n ∷ []) e → e.request.port.0 ≡ 0
 left_here n e h = ⊎_elim (λ (same : e ≡ tried n). ap (λ (x : Pending). x.request.port.0) same) (λ none. absurd (contains_none e none)) (contains_cases (tried n) [] e h)
 
-abbrev both_told : List (Pending × Outcome)
-both_told = (failing, outcome.DeviceError 65 64) ∷ (losing, outcome.Unplugged) ∷ []
+abbrev all_told : List (Pending × Outcome)
+all_told = (failing, outcome.DeviceError 65 64) ∷ (done finished, outcome.Ok) ∷ (losing, outcome.Unplugged) ∷ []
 
-told_in_order : Tells serving (reply_of (failing, outcome.DeviceError 65 64) ∷ reply_of (losing, outcome.Unplugged) ∷ [])
+told_in_order : Tells serving (map reply_of all_told)
 told_in_order = record {
-  answers = both_told;
-  same = IsPermutation-append_comm ((failing, outcome.DeviceError 65 64) ∷ []) ((losing, outcome.Unplugged) ∷ []);
-  ordered = λ i j d lt below.
-      let zero : i ≡ 0 = omega (arith, lt, below) in
-      let one : j ≡ 1 = omega (arith, lt, below) in
-      subst (λ (x : ℕ). IsToldBefore (slice_index_or both_told x d) (slice_index_or both_told j d)) (sym zero)
-      (subst (λ (x : ℕ). IsToldBefore (slice_index_or both_told 0 d) (slice_index_or both_told x d)) (sym one) (inl (omega arith)));
+  answers = all_told;
+  same = IsPermutation-append_comm ((failing, outcome.DeviceError 65 64) ∷ (done finished, outcome.Ok) ∷ []) ((losing, outcome.Unplugged) ∷ []);
+  ordered = λ i j d lt below. go i j d lt below;
   told = refl;
 }
+  where
+    go : (i j : ℕ) (d : Pending × Outcome) → i < j → j < 3 → IsToldBefore (slice_index_or all_told i d) (slice_index_or all_told j d)
+    go zero (suc zero) d lt below = inr (refl, omega arith)
+    go zero (suc (suc zero)) d lt below = inl (omega arith)
+    go (suc zero) (suc (suc zero)) d lt below = inl (omega arith)
+    go i j d lt below = absurd (omega (arith, lt, below))
 
-happens5 : Happens (moment_of first run4) service
-happens5 = record {
+-- tests of steps
+
+-- the step answers a request of port 1 otherwise than Ok and Unplugged
+abbrev tells_other : Step → Bool
+tells_other (Answer e outcome.Ok) = false
+tells_other (Answer e outcome.Unplugged) = false
+tells_other (Answer e o) = e.request.port.0 == 1
+tells_other _ = false
+
+-- the step answers a request of port 0 Unplugged
+abbrev unplugs_zero : Step → Bool
+unplugs_zero (Answer e outcome.Unplugged) = e.request.port.0 == 0
+unplugs_zero _ = false
+
+told_one : (e : Pending) (o : Outcome) → e.request.port.0 ≡ 1 → tells_other (Answer e o) ≡ false → (o ≡ outcome.Ok) ⊎ (o ≡ outcome.Unplugged)
+told_one e outcome.Ok one h = inl refl
+told_one e outcome.Unplugged one h = inr refl
+told_one e (outcome.DeviceError status error) one h = absurd (false≢true (sym h ∙ eq-eqb e.request.port.0 1 one))
+told_one e outcome.Aborted one h = absurd (false≢true (sym h ∙ eq-eqb e.request.port.0 1 one))
+told_one e outcome.PortDead one h = absurd (false≢true (sym h ∙ eq-eqb e.request.port.0 1 one))
+
+-- what each ready port finds of it
+serves_ready : (p : Port) → both Ready Ready p ≡ Ready → ServesReady (moment_of first run6) trouble serving (moment_of first run7) p
+serves_ready p ready = record {
+  ended = last_ended (moment_of first run6).machine serving (losing ∷ failing ∷ tried 1 ∷ []) (done finished) refl refl (done finished) refl
+      (contains_there (Answer losing outcome.Unplugged) (Issue mode (requeued (tried 1)) ∷ requeuing) (Answer (done finished) outcome.Ok)
+      (fourth (Issue mode (requeued (tried 1))) (Again (tried 1)) (Answer failing (outcome.DeviceError 65 64)) (Answer (done finished) outcome.Ok))) p;
+  lost = λ gone e h q. other_port gone e h q;
+  told = λ gone. inl (λ e o h here. told_one e o (ap (λ (x : Port). x.0) (here ∙ only_one gone)) (none_of tells_other serving (Answer e o) refl h));
+  anew = λ _ e h _ _. left_anew 2 serving refl e h;
+  booted = inr (λ e h _ _. left_anew 2 serving refl e h);
+  calm = inl (⊎_elim (λ same. inr (inl (contains_here (on 1) [] p same))) (λ still. inl (contains_here (on 0) [] p (zero_ready p still))) (still_ready p ready));
+}
+  where
+    only_one : Contains (on 1 ∷ []) p → p ≡ on 1
+    only_one gone = ⊎_elim (λ same. same) (λ n. absurd (contains_none p n)) (contains_cases (on 1) [] p gone)
+
+    other_port : Contains (on 1 ∷ []) p → (e : Pending) → Contains (tried 2 ∷ []) e → e.request.port ≡ p → ⊥
+    other_port gone e h q = let at_zero = left_here 2 e h in let at_one = ap (λ (x : Port). x.0) (q ∙ only_one gone) in omega (arith, at_zero, at_one)
+
+-- port 1's alone are answered Unplugged
+unplugs_all : UnplugsAll serving (moment_of first run7).machine
+unplugs_all e o h i q = false≢true (sym (none_of unplugs_zero serving (Answer e outcome.Unplugged) refl h)
+    ∙ eq-eqb e.request.port.0 0 (ap (λ (x : Port). x.0) (sym q) ∙ left_here 2 o i))
+
+happens7 : Happens (moment_of first run6) service
+happens7 = record {
   may = (
     (
       (
-        (tt, contains_there losing (failing ∷ tried 1 ∷ []) failing (contains_here failing (tried 1 ∷ []) failing refl)),
+        ((tt, fourth losing failing (tried 1) (done finished)), contains_there losing (failing ∷ tried 1 ∷ []) failing (contains_here failing (tried 1 ∷ []) failing refl)),
         (second losing (tried 1), refl, omega arith),
       ),
       (second losing (requeued (tried 1)), record { here = second (unanswered losing) (unanswered (requeued (tried 1))); clear = refl; slot = λ _. omega arith }, λ e h. absurd (contains_none e h)),
     ),
     contains_here losing (tried 2 ∷ []) losing refl,
   );
-  belong = ((((tt, inr tt), inr refl), inr (refl, refl)), inr tt);
-  last = ((((tt, λ id h i. false≢true i), λ id h i. false≢true i), λ id h i. false≢true i), apart);
+  belong = (((((tt, inr tt), inr tt), inr refl), inr (refl, refl)), inr tt);
+  last = (((((tt, λ id h i. false≢true i), λ id h i. false≢true i), λ id h i. false≢true i), λ id h i. false≢true i), apart);
   lawful = (
-    (tt, (record { pending = failing; here = contains_there losing (failing ∷ tried 1 ∷ []) failing (contains_here failing (tried 1 ∷ []) failing refl); id_is = refl; issued = refl }, refl, contains_here _ [] _ refl, contains_here (on 0) (on 1 ∷ []) (on 0) refl)),
+    (
+      (
+        (tt, (record { pending = done finished; here = fourth losing failing (tried 1) (done finished); id_is = refl; issued = refl }, refl, one_touched, refl)),
+        (record { pending = failing; here = contains_there losing (failing ∷ tried 1 ∷ done finished ∷ []) failing (contains_here failing (tried 1 ∷ done finished ∷ []) failing refl); id_is = refl; issued = refl }, refl, contains_here _ [] _ refl, contains_here (on 0) (on 1 ∷ []) (on 0) refl),
+      ),
+      contains_here (on 0) (on 1 ∷ []) (on 0) refl,
+    ),
     (contains_here (on 1) [] (on 1) refl, λ _. second (on 0) (on 1)),
   );
   fit = fit Ready Absent;
   disks = λ e o h i same. (refl, refl);
   answered = (
     told_in_order,
-    record {
-      dead = λ e o i dead. not_dead Ready Ready refl refl e.request.port dead;
-      lost = λ p _ gone e h q. other_port p gone e h q;
-      grounded = (tt, contains_here (on 0) [] (on 0) refl);
-      booted = λ p _. inr (λ e h _ _. left_anew 2 serving refl e h);
-    },
+    record { dead = λ e o i dead. not_dead Ready Ready refl refl e.request.port dead; grounded = ((tt, contains_here (on 0) [] (on 0) refl), contains_here (on 0) [] (on 0) refl); ready = serves_ready },
+    unplugs_all,
     λ p _. none_waits _ refl p,
     λ p. (
       λ ne e h. emptied_at (both Ready Absent) (tried 2) refl p ne e h,
@@ -280,38 +382,44 @@ happens5 = record {
   );
 }
   where
-    apart : (id : RequestId) → (1 == id.0) ≡ true → IsIssuedIn id (Issue mode (requeued (tried 1)) ∷ Again (tried 1) ∷ Answer failing (outcome.DeviceError 65 64) ∷ []) → ⊥
+    apart : (id : RequestId) → (1 == id.0) ≡ true → IsIssuedIn id (Issue mode (requeued (tried 1)) ∷ requeuing) → ⊥
     apart id h i = ⊎_elim
         (λ three. let a = eqb-true 1 id.0 h in let b = eqb-true 3 id.0 three in omega (arith, a, b))
         (λ none. false≢true none)
         (or_cases (3 == id.0) false i)
 
-    other_port : (p : Port) → Contains (on 1 ∷ []) p → (e : Pending) → Contains (tried 2 ∷ []) e → e.request.port ≡ p → ⊥
-    other_port p gone e h q = ⊎_elim
-        (λ (same : p ≡ on 1). let zero = left_here 2 e h in let one = ap (λ (x : Port). x.0) (q ∙ same) in omega (arith, zero, one))
-        (λ n. contains_none p n)
-        (contains_cases (on 1) [] p gone)
-
 -- A service that issues the request again, and the one that aborts it.
+
+-- port 0 has failed, where no request had ended and none keeps its issue
+fails : (old new : Moment) (steps : List Step) (p : Port) → both Ready Absent p ≡ Ready → list_any (λ e. e.ended) old.machine.book ≡ false → NoneKeepsIssue steps new.machine p → ServesReady old failure steps new p
+fails old new steps p ready none anew = record {
+  ended = none_ended old.machine steps none p;
+  lost = λ gone. absurd (contains_none p gone);
+  told = λ gone. absurd (contains_none p gone);
+  anew = λ _. anew;
+  booted = inr anew;
+  calm = inl (inl (contains_here (on 0) [] p (zero_ready p ready)));
+}
 
 retried : (m : Machine) (n : ℕ) → n < 4 → Happens (record { machine = record m { book = tried n ∷ []; kept = [] }; ports = ports_in Ready Absent }) (retry n)
 retried m n few = record {
   may = ((tt, (contains_here (tried n) [] (tried n) refl, refl, few)), (contains_here (requeued (tried n)) [] (requeued (tried n)) refl, record { here = contains_here (unanswered (requeued (tried n))) [] (unanswered (requeued (tried n))) refl; clear = refl; slot = λ _. omega arith }, λ e h. absurd (contains_none e h)));
   belong = ((tt, inr refl), inr (refl, refl));
   last = ((tt, λ id h i. false≢true i), λ id h i. false≢true i);
-  lawful = tt;
+  lawful = (tt, contains_here (on 0) [] (on 0) refl);
   fit = fit Ready Absent;
   disks = λ e o h i same. (refl, refl);
   answered = (
     none_told (retry n).steps refl,
-    record { dead = λ e o i dead. not_dead Ready Absent refl refl e.request.port dead; lost = λ p _ gone. absurd (contains_none p gone); grounded = (tt, contains_here (on 0) [] (on 0) refl); booted = λ p _. inr (λ e h _ _. left_anew (suc n) (retry n).steps refl e h) },
+    record { dead = λ e o i dead. not_dead Ready Absent refl refl e.request.port dead; grounded = (tt, contains_here (on 0) [] (on 0) refl); ready = λ p ready. fails (record { machine = record m { book = tried n ∷ []; kept = [] }; ports = ports_in Ready Absent }) (moment_after (record { machine = record m { book = tried n ∷ []; kept = [] }; ports = ports_in Ready Absent }) (retry n)) (retry n).steps p ready refl (λ e h _ _. left_anew (suc n) (retry n).steps refl e h) },
+    none_unplugged (retry n).steps (moment_after (record { machine = record m { book = tried n ∷ []; kept = [] }; ports = ports_in Ready Absent }) (retry n)).machine refl,
     λ p _. none_waits _ refl p,
     λ p. (λ ne e h. emptied_at (both Ready Absent) (tried (suc n)) refl p ne e h, stays p),
   );
 }
 
-happens8 : Happens (moment_of first run7) abort
-happens8 = record {
+happens10 : Happens (moment_of first run9) abort
+happens10 = record {
   may = (tt, contains_here (tried 4) [] (tried 4) refl);
   belong = (tt, inr tt);
   last = (tt, λ id h i. false≢true i);
@@ -320,7 +428,8 @@ happens8 = record {
   disks = λ e o h i same. (refl, refl);
   answered = (
     one_told (tried 4) outcome.Aborted abort.steps refl (reply_of (tried 4, outcome.Aborted)) refl,
-    record { dead = λ e o i dead. not_dead Ready Absent refl refl e.request.port dead; lost = λ p _ gone. absurd (contains_none p gone); grounded = (tt, contains_here (on 0) [] (on 0) refl); booted = λ p _. inl (refl, refl, refl, refl, refl, refl) },
+    record { dead = λ e o i dead. not_dead Ready Absent refl refl e.request.port dead; grounded = (tt, contains_here (on 0) [] (on 0) refl); ready = λ p ready. fails (moment_of first run9) (moment_after (moment_of first run9) abort) abort.steps p ready refl (λ e h. absurd (contains_none e h)) },
+    none_unplugged abort.steps (moment_after (moment_of first run9) abort).machine refl,
     λ p _. none_there p,
     λ p. (λ ne e h. absurd (contains_none e h), stays p),
   );
@@ -329,26 +438,28 @@ happens8 = record {
 pub meets_trouble : MeetsTrouble
 meets_trouble = record {
   first = first;
-  asked = run4;
+  asked = run6;
   service = service;
   third = retry 2;
   fourth = retry 3;
   last = abort;
-  runs = (((((((((empty_starts, fit Ready Ready), happens1), happens2), happens3), happens4), happens5), retried (moment_of first run5).machine 2 (omega arith)), retried (moment_of first (retry 2 ∷ run5)).machine 3 (omega arith)), happens8);
-  told = ((((((((((((((((tt, tt), tt), tt), tt), tt), tt), tt), tt), tt), tt), tt), tt), tt), tt), tt), tt);
-  volatile = ((((((((((((((((tt, tt), tt), tt), tt), tt), tt), tt), tt), tt), tt), tt), tt), tt), tt), tt), tt);
+  runs = (((((((((((empty_starts, fit Ready Ready), happens1), happens2), happens3), happens4), happens5), happens6), happens7), retried (moment_of first run7).machine 2 (omega arith)), retried (moment_of first (retry 2 ∷ run7)).machine 3 (omega arith)), happens10);
+  told = (((((((((((((((((((((tt, tt), tt), tt), tt), tt), tt), tt), tt), λ e. absurd (false≢true (ap is_reader e))), tt), tt), tt), tt), tt), tt), tt), tt), tt), tt), tt), tt);
+  volatile = (((((((((((((((((((((tt, tt), tt), tt), tt), tt), tt), tt), tt), tt), tt), tt), tt), tt), tt), tt), tt), tt), tt), tt), tt), tt);
   lost = losing;
   failed = failing;
   again = tried 1;
+  ended = done finished;
   book = refl;
   issued = (refl, refl, refl);
+  had_ended = refl;
   apart = λ e. distinct (ap (λ (x : Port). x.0) e);
-  together = refl;
-  goes = contains_here (Unplug (on 1)) (steps_of run3) (Unplug (on 1)) refl;
+  together = (refl, refl);
+  goes = contains_here (Unplug (on 1)) (steps_of run5) (Unplug (on 1)) refl;
   serves = (refl, refl, refl, refl);
   tells = refl;
   requeues = contains_there (Answer losing outcome.Unplugged) (Issue mode (requeued (tried 1)) ∷ requeuing) (Again (tried 1))
-      (contains_there (Issue mode (requeued (tried 1))) requeuing (Again (tried 1)) (contains_here (Again (tried 1)) (Answer failing (outcome.DeviceError 65 64) ∷ []) (Again (tried 1)) refl));
+      (contains_there (Issue mode (requeued (tried 1))) requeuing (Again (tried 1)) (contains_here (Again (tried 1)) (Answer failing (outcome.DeviceError 65 64) ∷ Answer (done finished) outcome.Ok ∷ []) (Again (tried 1)) refl));
   absent = refl;
   ready = refl;
   anew = tried 2;

@@ -1,5 +1,5 @@
 -- A run in which a read waits for a write of its sector.
-use Rattle.std.proofs.Common.{List, [], ◌∷◌, Ok, inl, inr, ⊎_elim, refl, sym, ap, ◌∙◌, arith}
+use Rattle.std.proofs.Common.{true, List, [], ◌∷◌, Ok, inl, inr, ⊎_elim, refl, sym, ap, ◌∙◌, arith}
 use Rattle.std.proofs.lemmas.Bool.{false≢true}
 use Rattle.ata_types.specs.declared.Port.{Port}
 use Rattle.ata_types.specs.declared.PortState.TheVariants.{Ready}
@@ -9,12 +9,12 @@ use Rattle.block_machine.specs.declared.due.Unanswered.{Unanswered}
 use Rattle.block_machine.specs.Due.{NoneDue, is_clear}
 use Rattle.block_machine.specs.State.{Block, Accepted, is_reader, unanswered}
 use Rattle.block_machine.specs.Steps.{Accept, Issue, Touch, End, Answer, newly_accepted, issue, touch}
-use Rattle.block_machine.specs.Events.{Submit, Service, Submitted, Served, Event, Happens, moment_of, situation_of}
+use Rattle.block_machine.specs.Events.{Submit, Service, Device, Submitted, Served, Stepped, Event, Happens, moment_of, situation_of}
 use Rattle.block_machine.specs.Worked.{WaitsItsTurn}
 use Rattle.block_machine.proofs.Members.{contains_none, contains_here, contains_there, contains_cases}
 use Rattle.block_machine.proofs.Dues.{issued_not_due}
 use Rattle.block_machine.proofs.Setting.{port, empty_starts, acceptable}
-use Rattle.block_machine.proofs.Scene.{mode, first, id, call, reply, sector_request, done, served, IsQuiet, row_zero, fit_write, fit_read, new, one_issued, none_there, one_told, one_touched, ports_fit, none_dead, serviced, emptied_one}
+use Rattle.block_machine.proofs.Scene.{mode, first, id, call, reply, sector_request, done, served, IsQuiet, row_zero, fit_write, fit_read, new, one_issued, none_there, one_told, one_touched, ports_fit, none_dead, none_ended, last_ended, none_unplugged, serves_calmly, serviced, emptied_one}
 
 abbrev pub run0 : List (Event (Unit {0}))
 run0 = []
@@ -28,13 +28,13 @@ event1 = call (Submit write.asked) (Submitted (Ok (id 1))) (Issue mode (newly_ac
 abbrev pub run1 : List (Event (Unit {0}))
 run1 = event1 ∷ run0
 
-abbrev read : Accepted
+abbrev pub read : Accepted
 read = sector_request (moment_of first run1).machine 2 Read 41
 
 abbrev event2 : Event (Unit {0})
 event2 = call (Submit read.asked) (Submitted (Ok (id 2))) (Accept read ∷ [])
 
-abbrev run2 : List (Event (Unit {0}))
+abbrev pub run2 : List (Event (Unit {0}))
 run2 = event2 ∷ run1
 
 abbrev event3 : Event (Unit {0})
@@ -47,11 +47,18 @@ run3 = event3 ∷ run2
 abbrev moved : Block
 moved = (moment_of first run3).machine.disks port 100
 
+-- the device ends the read
 abbrev event4 : Event (Unit {0})
-event4 = call Service (Served (reply 2 ∷ [])) (Answer (done read) outcome.Ok ∷ End (touch 0 (issue (newly_accepted read))) ∷ Touch (issue (newly_accepted read)) 0 moved ∷ [])
+event4 = call (Device tt) (Stepped true) (End (touch 0 (issue (newly_accepted read))) ∷ Touch (issue (newly_accepted read)) 0 moved ∷ [])
 
 abbrev run4 : List (Event (Unit {0}))
 run4 = event4 ∷ run3
+
+abbrev event5 : Event (Unit {0})
+event5 = call Service (Served (reply 2 ∷ [])) (Answer (done read) outcome.Ok ∷ [])
+
+abbrev run5 : List (Event (Unit {0}))
+run5 = event5 ∷ run4
 
 quiet0 : IsQuiet 0 (moment_of first run0)
 quiet0 = record { rows = refl; mine = row_zero; ready = refl; size = refl; room = omega arith; few = omega arith }
@@ -71,11 +78,11 @@ happens1 = record {
 }
 
 -- the write in its slot, and the read after it
-abbrev book : List Unanswered
+abbrev pub book : List Unanswered
 book = unanswered (issue (newly_accepted write)) ∷ unanswered (newly_accepted read) ∷ []
 
 -- neither is due
-none_due : (p : Port) → NoneDue mode book p
+pub none_due : (p : Port) → NoneDue mode book p
 none_due p r here due = ⊎_elim
     (λ e. issued_not_due mode book r (ap (λ (x : Unanswered). x.issued) e) due)
     (λ i. ⊎_elim
@@ -84,7 +91,7 @@ none_due p r here due = ⊎_elim
     (contains_cases (unanswered (newly_accepted read)) [] r i))
     (contains_cases (unanswered (issue (newly_accepted write))) (unanswered (newly_accepted read) ∷ []) r due.here)
 
-happens2 : Happens (moment_of first run1) event2
+pub happens2 : Happens (moment_of first run1) event2
 happens2 = record {
   may = (tt, new 0 (moment_of first run1) read quiet1 (fit_read 0 (moment_of first run1) 41 quiet1 refl refl) refl refl refl);
   belong = (tt, inr refl);
@@ -112,29 +119,48 @@ happens3 = record {
   lawful = (tt, (record { pending = issue (newly_accepted write); here = contains_here (issue (newly_accepted write)) (newly_accepted read ∷ []) (issue (newly_accepted write)) refl; id_is = refl; issued = refl }, refl, one_touched, refl));
   fit = ports_fit Ready;
   disks = λ e o h i same. (refl, refl);
-  answered = (one_told (done write) outcome.Ok event3.steps refl (reply write.id.0) refl, record { dead = λ e o i dead. none_dead e.request.port dead; lost = λ p _ gone. absurd (contains_none p gone); grounded = tt; booted = λ p _. inl (refl, refl, refl, refl, refl, refl) }, λ p _. one_issued (unanswered (issue (newly_accepted read))) refl p, λ p. (λ ne e h. emptied_one (issue (newly_accepted read)) refl p ne e h, serviced p));
+  answered = (one_told (done write) outcome.Ok event3.steps refl (reply write.id.0) refl, serves_calmly (moment_of first run2) (moment_of first run3) event3.steps (λ p dead. none_dead p dead) (λ p. (refl, refl, refl, refl, refl, refl)) tt refl (none_ended (moment_of first run2).machine event3.steps refl), none_unplugged event3.steps (moment_of first run3).machine refl, λ p _. one_issued (unanswered (issue (newly_accepted read))) refl p, λ p. (λ ne e h. emptied_one (issue (newly_accepted read)) refl p ne e h, serviced p));
 }
 
 happens4 : Happens (moment_of first run3) event4
 happens4 = record {
-  may = (((tt, (inl (contains_here (issue (newly_accepted read)) [] (issue (newly_accepted read)) refl, refl), omega arith, refl, omega arith, λ e. absurd (false≢true (sym (ap is_reader e))))), (inl (contains_here (touch 0 (issue (newly_accepted read))) [] (touch 0 (issue (newly_accepted read))) refl, refl), one_touched, refl)), contains_here (done read) [] (done read) refl);
-  belong = (((tt, inl tt), inl tt), inr tt);
-  last = (((tt, λ id h i. false≢true i), λ id h i. false≢true i), λ id h i. false≢true i);
-  lawful = (tt, (record { pending = issue (newly_accepted read); here = contains_here (issue (newly_accepted read)) [] (issue (newly_accepted read)) refl; id_is = refl; issued = refl }, refl, one_touched, refl));
+  may = ((tt, (inl (contains_here (issue (newly_accepted read)) [] (issue (newly_accepted read)) refl, refl), omega arith, refl, omega arith, λ e. absurd (false≢true (sym (ap is_reader e))))), (inl (contains_here (touch 0 (issue (newly_accepted read))) [] (touch 0 (issue (newly_accepted read))) refl, refl), one_touched, refl));
+  belong = ((tt, inl tt), inl tt);
+  last = ((tt, λ id h i. false≢true i), λ id h i. false≢true i);
+  lawful = tt;
   fit = ports_fit Ready;
   disks = λ e o h i same. (refl, refl);
-  answered = (one_told (done read) outcome.Ok event4.steps refl (reply read.id.0) refl, record { dead = λ e o i dead. none_dead e.request.port dead; lost = λ p _ gone. absurd (contains_none p gone); grounded = tt; booted = λ p _. inl (refl, refl, refl, refl, refl, refl) }, λ p _. none_there p, λ p. (λ ne e h. absurd (contains_none e h), serviced p));
+  answered = (((tt, tt), tt), λ p. (refl, refl, refl, refl, refl, refl));
+}
+
+happens5 : Happens (moment_of first run4) event5
+happens5 = record {
+  may = (tt, contains_here (done read) [] (done read) refl);
+  belong = (tt, inr tt);
+  last = (tt, λ id h i. false≢true i);
+  lawful = (tt, (record { pending = done read; here = contains_here (done read) [] (done read) refl; id_is = refl; issued = refl }, refl, one_touched, refl));
+  fit = ports_fit Ready;
+  disks = λ e o h i same. (refl, refl);
+  answered = (
+    one_told (done read) outcome.Ok event5.steps refl (reply read.id.0) refl,
+    serves_calmly (moment_of first run4) (moment_of first run5) event5.steps (λ p dead. none_dead p dead) (λ p. (refl, refl, refl, refl, refl, refl)) tt refl
+        (last_ended (moment_of first run4).machine event5.steps [] (done read) refl refl (done read) refl (contains_here (Answer (done read) outcome.Ok) [] (Answer (done read) outcome.Ok) refl)),
+    none_unplugged event5.steps (moment_of first run5).machine refl,
+    λ p _. none_there p,
+    λ p. (λ ne e h. absurd (contains_none e h), serviced p),
+  );
 }
 
 pub waits_its_turn : WaitsItsTurn
 waits_its_turn = record {
   first = first;
-  run = run4;
-  runs = (((((empty_starts, ports_fit Ready), happens1), happens2), happens3), happens4);
+  run = run5;
+  runs = ((((((empty_starts, ports_fit Ready), happens1), happens2), happens3), happens4), happens5);
   told = ((((((((((tt, tt), tt), tt), λ e. absurd (false≢true (ap is_reader e))), tt), tt), tt), λ _ b lt. refl), tt), tt);
-  late = event4 ∷ [];
-  call = event3;
   early = run2;
+  call = event3;
+  ending = event4;
+  service = event5;
   comes = refl;
   issued = issue (newly_accepted write);
   waits = newly_accepted read;
@@ -149,6 +175,9 @@ waits_its_turn = record {
   mode = mode;
   issues = contains_here (Issue mode (newly_accepted read)) (served write) (Issue mode (newly_accepted read)) refl;
   last = done read;
-  answered = contains_here (Answer (done read) outcome.Ok) (End (touch 0 (issue (newly_accepted read))) ∷ Touch (issue (newly_accepted read)) 0 moved ∷ []) (Answer (done read) outcome.Ok) refl;
   its_too = refl;
+  alone = refl;
+  had_ended = refl;
+  serves = refl;
+  answered = contains_here (Answer (done read) outcome.Ok) [] (Answer (done read) outcome.Ok) refl;
 }

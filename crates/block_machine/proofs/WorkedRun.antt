@@ -15,7 +15,7 @@ use Rattle.block_machine.specs.Durable.{SameBytes, HeldSince}
 use Rattle.block_machine.specs.Worked.{FindsTheFlushed, MayComeBack, ReadsOneOf}
 use Rattle.block_machine.proofs.Members.{contains_none, contains_here, contains_there, contains_cases}
 use Rattle.block_machine.proofs.Setting.{client, port, frame, request, empty, empty_starts, acceptable}
-use Rattle.block_machine.proofs.Scene.{mode, first, none, ports_in, id, call, reply, sector_request, done, served, is_open, IsQuiet, row_zero, fit_write, fit_read, fit_flush, new, one_issued, none_there, one_told, none_told, one_touched, ports_fit, none_dead, serviced, ready_port, absent_not_ready, absent_not_dead}
+use Rattle.block_machine.proofs.Scene.{mode, first, none, ports_in, id, call, reply, sector_request, done, served, is_open, IsQuiet, row_zero, fit_write, fit_read, fit_flush, new, one_issued, none_there, one_told, none_told, one_touched, ports_fit, none_dead, none_ended, none_unplugged, serves_calmly, serviced, ready_port, absent_not_ready, absent_not_dead}
 
 abbrev run0 : List (Event (Unit {0}))
 run0 = []
@@ -180,7 +180,7 @@ happens3 = record {
   lawful = (tt, (record { pending = issue (newly_accepted write); here = contains_here (issue (newly_accepted write)) [] (issue (newly_accepted write)) refl; id_is = refl; issued = refl }, refl, one_touched, refl));
   fit = ports_fit Ready;
   disks = λ e o h i same. (refl, refl);
-  answered = (one_told (done write) outcome.Ok event3.steps refl (reply write.id.0) refl, record { dead = λ e o i dead. none_dead e.request.port dead; lost = λ p _ gone. absurd (contains_none p gone); grounded = tt; booted = λ p _. inl (refl, refl, refl, refl, refl, refl) }, λ p _. none_there p, λ p. (λ ne e h. absurd (contains_none e h), serviced p));
+  answered = (one_told (done write) outcome.Ok event3.steps refl (reply write.id.0) refl, serves_calmly (moment_of first run2) (moment_of first run3) event3.steps (λ p dead. none_dead p dead) (λ p. (refl, refl, refl, refl, refl, refl)) tt refl (none_ended (moment_of first run2).machine event3.steps refl), none_unplugged event3.steps (moment_of first run3).machine refl, λ p _. none_there p, λ p. (λ ne e h. absurd (contains_none e h), serviced p));
 }
 
 happens4 : Happens (moment_of first run3) event4
@@ -202,7 +202,7 @@ happens5 = record {
   lawful = (tt, (record { pending = issue (newly_accepted flush); here = contains_here (issue (newly_accepted flush)) [] (issue (newly_accepted flush)) refl; id_is = refl; issued = refl }, refl, (λ k lt. absurd (omega (arith, lt))), refl));
   fit = ports_fit Ready;
   disks = λ e o h i same. (refl, refl);
-  answered = (one_told (mark_ended (issue (newly_accepted flush))) outcome.Ok event5.steps refl (reply 2) refl, record { dead = λ e o i dead. none_dead e.request.port dead; lost = λ p _ gone. absurd (contains_none p gone); grounded = tt; booted = λ p _. inl (refl, refl, refl, refl, refl, refl) }, λ p _. none_there p, λ p. (λ ne e h. absurd (contains_none e h), serviced p));
+  answered = (one_told (mark_ended (issue (newly_accepted flush))) outcome.Ok event5.steps refl (reply 2) refl, serves_calmly (moment_of first run4) (moment_of first run5) event5.steps (λ p dead. none_dead p dead) (λ p. (refl, refl, refl, refl, refl, refl)) tt refl (none_ended (moment_of first run4).machine event5.steps refl), none_unplugged event5.steps (moment_of first run5).machine refl, λ p _. none_there p, λ p. (λ ne e h. absurd (contains_none e h), serviced p));
 }
 
 happens6 : Happens (moment_of first run5) event6
@@ -235,7 +235,7 @@ happens8 = record {
   lawful = (tt, (record { pending = issue (newly_accepted later); here = contains_here (issue (newly_accepted later)) [] (issue (newly_accepted later)) refl; id_is = refl; issued = refl }, refl, one_touched, refl));
   fit = ports_fit Ready;
   disks = λ e o h i same. (refl, refl);
-  answered = (one_told (done later) outcome.Ok event8.steps refl (reply later.id.0) refl, record { dead = λ e o i dead. none_dead e.request.port dead; lost = λ p _ gone. absurd (contains_none p gone); grounded = tt; booted = λ p _. inl (refl, refl, refl, refl, refl, refl) }, λ p _. none_there p, λ p. (λ ne e h. absurd (contains_none e h), serviced p));
+  answered = (one_told (done later) outcome.Ok event8.steps refl (reply later.id.0) refl, serves_calmly (moment_of first run7) (moment_of first run8) event8.steps (λ p dead. none_dead p dead) (λ p. (refl, refl, refl, refl, refl, refl)) tt refl (none_ended (moment_of first run7).machine event8.steps refl), none_unplugged event8.steps (moment_of first run8).machine refl, λ p _. none_there p, λ p. (λ ne e h. absurd (contains_none e h), serviced p));
 }
 
 happens9 : Happens (moment_of first run8) event9
@@ -259,7 +259,19 @@ happens10 = record {
   disks = λ e o h i same. (refl, refl);
   answered = (
     none_told [] refl,
-    record { dead = λ e o i dead. none_dead e.request.port dead; lost = λ p _ _ e h. absurd (contains_none e h); grounded = tt; booted = λ p _. inr (λ e h. absurd (contains_none e h)) },
+    record {
+      dead = λ e o i dead. none_dead e.request.port dead;
+      grounded = tt;
+      ready = λ p ready. record {
+        ended = none_ended (moment_of first run9).machine [] refl p;
+        lost = λ _ e h. absurd (contains_none e h);
+        told = λ _. inl (λ e o h. absurd (contains_none (Answer e o) h));
+        anew = λ _ e h. absurd (contains_none e h);
+        booted = inr (λ e h. absurd (contains_none e h));
+        calm = inl (inr (inl (contains_here port [] p (ready_port p ready))));
+      };
+    },
+    none_unplugged [] (moment_of first run10).machine refl,
     λ p _. none_there p,
     λ p. (
       λ ne e h. absurd (contains_none e h),
@@ -289,7 +301,8 @@ happens12 disk = record {
   disks = λ e o h i same. absurd (contains_none e h);
   answered = (
     none_told [] refl,
-    record { dead = λ e o i dead. absent_not_dead e.request.port dead; lost = λ p _ gone. absurd (contains_none p gone); grounded = tt; booted = λ p ready. absent_not_ready p ready },
+    record { dead = λ e o i dead. absent_not_dead e.request.port dead; grounded = tt; ready = λ p ready. absent_not_ready p ready },
+    none_unplugged [] (moment_of first (run12 disk)).machine refl,
     λ p _. none_there p,
     λ p. (
       λ ne e h. absurd (contains_none e h),
@@ -317,7 +330,7 @@ happens14 disk = record {
   lawful = (tt, (record { pending = issue (newly_accepted (read disk)); here = contains_here (issue (newly_accepted (read disk))) [] (issue (newly_accepted (read disk))) refl; id_is = refl; issued = refl }, refl, one_touched, refl));
   fit = ports_fit Ready;
   disks = λ e o h i same. (refl, refl);
-  answered = (one_told (done (read disk)) outcome.Ok (event14 disk).steps refl (reply 4) refl, record { dead = λ e o i dead. none_dead e.request.port dead; lost = λ p _ gone. absurd (contains_none p gone); grounded = tt; booted = λ p _. inl (refl, refl, refl, refl, refl, refl) }, λ p _. none_there p, λ p. (λ ne e h. absurd (contains_none e h), serviced p));
+  answered = (one_told (done (read disk)) outcome.Ok (event14 disk).steps refl (reply 4) refl, serves_calmly (moment_of first (run13 disk)) (moment_of first (run14 disk)) (event14 disk).steps (λ p dead. none_dead p dead) (λ p. (refl, refl, refl, refl, refl, refl)) tt refl (none_ended (moment_of first (run13 disk)).machine (event14 disk).steps refl), none_unplugged (event14 disk).steps (moment_of first (run14 disk)).machine refl, λ p _. none_there p, λ p. (λ ne e h. absurd (contains_none e h), serviced p));
 }
 
 loaded : (disk : Disk) (b : ℕ) → b < 1 → slice_index (disk 100 0 ∷ []) b ≡ (moment_of first (run14 disk)).machine.memory (frame 41) (0 + b)

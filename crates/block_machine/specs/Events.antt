@@ -192,10 +192,12 @@ IsLawful old evidence ports e outcome.Unplugged = Contains evidence.lost e.reque
 IsLawful old evidence ports e outcome.PortDead = (ports.state e.request.port ≡ Dead)
     × ((old.ports.state e.request.port ≡ Dead) ⊎ Contains evidence.stuck e.request.port)
 
--- each answer of the call is lawful, with these ports at its end
+-- Each answer of the call is lawful, with these ports at its end. And a request waits again only where its port stopped: else its
+-- command may still move.
 abbrev pub AllLawful : Moment → Evidence → Ports → List Step → Type 0
 AllLawful old evidence ports [] = Unit {0}
 AllLawful old evidence ports (Answer e o ∷ before) = AllLawful old evidence ports before × IsLawful old evidence ports e o
+AllLawful old evidence ports (Again e ∷ before) = AllLawful old evidence ports before × Contains evidence.stopped e.request.port
 AllLawful old evidence ports (step ∷ before) = AllLawful old evidence ports before
 
 -- the answers of a call, as they are told: by port, and then by id
@@ -253,6 +255,19 @@ pub record IsHung (old : Moment) (port : Port) : Type 0 where
 abbrev pub NoneKeepsIssue : List Step → Machine → Port → Type 0
 NoneKeepsIssue steps m port = (e : Pending) → Contains m.book e → e.request.port ≡ port → e.issued ≡ true → IsIssuedIn e.request.id steps
 
+-- Each request of the port that had ended when the call began is answered Ok. (More of it may have moved until then.)
+abbrev pub AnswersEnded : Machine → List Step → Port → Type 0
+AnswersEnded old steps port = (e : Pending) → Contains old.book e → e.request.port ≡ port → e.ended ≡ true
+    → (done : Pending) × (done.request ≡ e.request) × Contains steps (Answer done outcome.Ok)
+
+-- each answer to a request of the port is Ok, or this one
+abbrev pub AreTold : Outcome → List Step → Port → Type 0
+AreTold told steps port = (e : Pending) (o : Outcome) → Contains steps (Answer e o) → e.request.port ≡ port → (o ≡ outcome.Ok) ⊎ (o ≡ told)
+
+-- where a request is answered Unplugged, no request of its port is left unanswered
+abbrev pub UnplugsAll : List Step → Machine → Type 0
+UnplugsAll steps new = (e o : Pending) → Contains steps (Answer e outcome.Unplugged) → Contains new.book o → o.request.port ≢ e.request.port
+
 -- The tick comes first, and once, at the ports that are ready then.
 pub record AgesOnce (ports : Ports) (steps : List Step) : Type 0 where
   pub ready : Port → Bool
@@ -261,11 +276,13 @@ pub record AgesOnce (ports : Ports) (steps : List Step) : Type 0 where
   pub first : steps ≡ later ++ Age ready ∷ []
   pub once : count_by is_age later ≡ 0
 
--- A tick restarts each port that is hung, where no request then keeps its issue. With others it does nothing but issue.
+-- A tick restarts each port that is hung: what had ended there is answered Ok, and no request then keeps its issue. With other
+-- ports it does nothing but issue.
 pub record RestartsHung (old : Moment) (evidence : Evidence) (steps : List Step) (new : Moment) : Type 0 where
   pub ports : (port : Port) → SamePort old.ports new.ports port ⊎ (IsHung old port × MayBecome old.ports evidence new.ports port)
   pub again : (e : Pending) → Contains steps (Again e) → IsHung old e.request.port
   pub answer : (e : Pending) (o : Outcome) → Contains steps (Answer e o) → IsHung old e.request.port
+  pub ended : (port : Port) → IsHung old port → AnswersEnded old.machine steps port
   pub anew : (port : Port) → IsHung old port → NoneKeepsIssue steps new.machine port
 
 -- The kept requests' frames are given back once, before the server does anything else.
@@ -280,21 +297,50 @@ pub record ReleasesOnce (steps : List Step) : Type 0 where
 abbrev pub TellsDead : Moment → List Step → Type 0
 TellsDead old steps = (e : Pending) (o : Outcome) → Contains steps (Answer e o) → old.ports.state e.request.port ≡ Dead → o ≡ outcome.PortDead
 
--- requests wait again, or are aborted, on ports that failed
+-- requests wait again, are aborted, or have a fault told of them, on ports that failed
 abbrev pub AllGrounded : Evidence → List Step → Type 0
 AllGrounded evidence [] = Unit {0}
 AllGrounded evidence (Again e ∷ before) = AllGrounded evidence before × Contains evidence.failed e.request.port
 AllGrounded evidence (Answer e outcome.Aborted ∷ before) = AllGrounded evidence before × Contains evidence.failed e.request.port
+AllGrounded evidence (Answer e (outcome.DeviceError status error) ∷ before) = AllGrounded evidence before × Contains evidence.failed e.request.port
 AllGrounded evidence (step ∷ before) = AllGrounded evidence before
 
--- A service tells dead ports; it answers all requests of a ready port that had lost its disk when it began; it lets requests
--- wait again, or aborts them, where something failed; and it leaves none its issue on a ready port that it changes, which it
--- has booted.
+-- the step takes the port's disk out, or puts one in
+abbrev pub changes_disk : Port → Step → Bool
+changes_disk port (Unplug p) = p.0 == port.0
+changes_disk port (Replace p id size disk) = p.0 == port.0
+changes_disk port _ = false
+
+-- the port failed, or its disk had gone when the call began, or one goes or comes in it
+abbrev pub IsDisturbed : Evidence → List Step → Port → Type 0
+IsDisturbed evidence steps port = Contains evidence.failed port ⊎ Contains evidence.gone port ⊎ (list_any (changes_disk port) steps ≡ true)
+
+-- What a service does with a port that was ready when it began. What had ended is answered Ok. Where its disk had gone, the
+-- others are all answered, and all alike: Unplugged, or PortDead. Where it failed or was stopped, no request keeps its issue, and
+-- so where the port isn't what it was: it was booted then. And where nothing disturbs it, the port stays what it is, and nothing
+-- but Ok is told.
+pub record ServesReady (old : Moment) (evidence : Evidence) (steps : List Step) (new : Moment) (port : Port) : Type 0 where
+  pub ended : AnswersEnded old.machine steps port
+  pub lost : Contains evidence.gone port → (e : Pending) → Contains new.machine.book e → e.request.port ≢ port
+  pub told : Contains evidence.gone port → AreTold outcome.Unplugged steps port ⊎ AreTold outcome.PortDead steps port
+  pub anew : Contains evidence.failed port ⊎ Contains evidence.stopped port → NoneKeepsIssue steps new.machine port
+  pub booted : SamePort old.ports new.ports port ⊎ NoneKeepsIssue steps new.machine port
+  pub calm : IsDisturbed evidence steps port ⊎ (SamePort old.ports new.ports port × AreTold outcome.Ok steps port)
+
+-- A service tells dead ports, serves the ready ones, and lets requests wait again, aborts them, or tells faults of them, where
+-- something failed.
 pub record ServesPorts (old : Moment) (evidence : Evidence) (steps : List Step) (new : Moment) : Type 0 where
   pub dead : TellsDead old steps
-  pub lost : (port : Port) → old.ports.state port ≡ Ready → Contains evidence.gone port → (e : Pending) → Contains new.machine.book e → e.request.port ≢ port
   pub grounded : AllGrounded evidence steps
-  pub booted : (port : Port) → old.ports.state port ≡ Ready → SamePort old.ports new.ports port ⊎ NoneKeepsIssue steps new.machine port
+  pub ready : (port : Port) → old.ports.state port ≡ Ready → ServesReady old evidence steps new port
+
+-- What a reset that ends makes of each port: it boots it, none of its requests keeps an issue, none is unanswered where it isn't
+-- ready then, and a port that is served has stopped.
+pub record IsRebooted (old : Moment) (evidence : Evidence) (steps : List Step) (new : Moment) (port : Port) : Type 0 where
+  pub emptied : IsEmptied new port
+  pub becomes : MayBecome old.ports evidence new.ports port
+  pub anew : NoneKeepsIssue steps new.machine port
+  pub stopped : old.ports.served port ≡ true → Contains evidence.stopped port
 
 -- What is said of a call agrees with its steps, and the call did what was asked.
 abbrev pub IsAnswered : {D : Type 0} → Ask D → Said → Moment → Evidence → List Step → Moment → Type 0
@@ -314,12 +360,13 @@ IsAnswered (LoadAt client frame offset count) (Loaded (Ok bytes)) old evidence s
 IsAnswered (LoadAt client frame offset count) (Loaded (Err fault)) old evidence steps new =
     IsFirstMemFault old.machine.owner old.machine.lent client frame offset count fault
     × (steps ≡ []) × SamePorts old.ports new.ports
-IsAnswered Service (Served replies) old evidence steps new = Tells steps replies × ServesPorts old evidence steps new × AllIssued new
-    × ((port : Port) → IsEmptied new port × IsServiced old.ports evidence new.ports port)
+IsAnswered Service (Served replies) old evidence steps new = Tells steps replies × ServesPorts old evidence steps new
+    × UnplugsAll steps new.machine × AllIssued new × ((port : Port) → IsEmptied new port × IsServiced old.ports evidence new.ports port)
 IsAnswered Tick (Served replies) old evidence steps new = Tells steps replies × AgesOnce old.ports steps
-    × RestartsHung old evidence steps new × AllIssued new × ((port : Port) → old.ports.state port ≡ Ready → IsEmptied new port)
-IsAnswered Reset (WasReset (Some replies)) old evidence steps new = Tells steps replies × ReleasesOnce steps × AllIssued new
-    × ((port : Port) → IsEmptied new port × MayBecome old.ports evidence new.ports port × NoneKeepsIssue steps new.machine port)
+    × RestartsHung old evidence steps new × UnplugsAll steps new.machine × AllIssued new
+    × ((port : Port) → old.ports.state port ≡ Ready → IsEmptied new port)
+IsAnswered Reset (WasReset (Some replies)) old evidence steps new = Tells steps replies × ReleasesOnce steps
+    × UnplugsAll steps new.machine × AllIssued new × ((port : Port) → IsRebooted old evidence steps new port)
 IsAnswered Reset (WasReset None) old evidence steps new = AllDevices steps × ((port : Port) → IsStuck old.ports evidence new.ports port)
 IsAnswered (State port) (Shown state) old evidence steps new = (state ≡ old.ports.state port) × (steps ≡ []) × SamePorts old.ports new.ports
 IsAnswered (Device step) (Stepped true) old evidence steps new = AllDevices steps × SamePorts old.ports new.ports

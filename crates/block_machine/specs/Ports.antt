@@ -48,12 +48,12 @@ pub record Fault : Type 0 where
   pub status : ℕ
   pub error : ℕ
 
--- What the device vouches for in a call: the faults that it told; the ports that lost their disk or have another, when the
--- call began, in it, or at its end, or that end it neither dead nor ready with serial and size as before; of these, those
--- that had told so when it began, and had no other disk put in since; the ports that
--- failed in it (an error of theirs was read in PxIS); those that stopped in it (their engine was seen to stop, or the adapter
--- ended its reset); and the ports whose engine didn't stop in it, or whose adapter didn't end its reset. The layer that knows
--- the device backs each item.
+-- What the device vouches for in a call. `faults`: those that it told. `lost`: the ports that lost their disk or have another,
+-- when the call began, in it, or at its end, or that end it neither dead nor ready with serial and size as before. `gone`: of
+-- these, those that had told so when it began (PxSERR.N or X, or a DET other than 3), and had no other disk put in since.
+-- `failed`: the ports that had TFES, HBDS, HBFS or IFS in PxIS when the call began, or of which one was read in it. `stopped`:
+-- those whose engine was seen to stop in it, or whose adapter ended its reset. `stuck`: those whose engine didn't stop in it, or
+-- whose adapter didn't end its reset. The layer that knows the device backs each item.
 pub record Evidence : Type 0 where
   pub faults : List Fault
   pub lost : List Port

@@ -1,7 +1,7 @@
 -- What runs are that show that the laws speak of something.
 use Rattle.std.specs.Prelude.{◌≡◌, ◌≢◌, ◌⊎◌, ◌<◌, true, false, List, [], ◌∷◌, ◌++◌, map, Contains, Some, None}
 use Rattle.ata_types.specs.declared.Port.{Port}
-use Rattle.ata_types.specs.declared.PortState.TheVariants.{Absent, Ready}
+use Rattle.ata_types.specs.declared.PortState.TheVariants.{Absent, Ready, Dead}
 use Rattle.ata_types.specs.declared.request.Frame.{Frame}
 use Rattle.ata_types.specs.declared.request.Op.TheVariants.{Read, Flush}
 use Rattle.ata_types.specs.declared.request.Outcome.TheVariants.{Ok, DeviceError, Aborted, Unplugged, PortDead}
@@ -11,7 +11,7 @@ use Rattle.block_machine.specs.Due.{IsDue, conflict}
 use Rattle.block_machine.specs.Steps.{Step, Issue, Again, Answer, Unplug, Replace, May, AllTouched}
 use Rattle.block_machine.specs.Left.{after, IsStart, AllTold, HoldsLeft}
 use Rattle.block_machine.specs.Durable.{SameBytes, ComesBack, IsVolatile, IsFlushed}
-use Rattle.block_machine.specs.Events.{Moment, Event, Service, Tick, Served, WasReset, IsRun, accepts_of, reply_of, steps_of, moment_of}
+use Rattle.block_machine.specs.Events.{Moment, Event, Service, Tick, Reset, Served, WasReset, IsRun, accepts_of, reply_of, steps_of, moment_of}
 
 -- the disk that was last in at the port is put in again after this run, with these bytes
 abbrev pub same_again : Moment → List (Event (Unit {0})) → Port → Disk → Step
@@ -72,17 +72,18 @@ pub record FindsTheFlushed : Type 0 where
   pub lost : (disk : Disk) × MayComeBack first (service ∷ unplug ∷ early) write.port disk × SameBytes (disk (sector_of write 0)) (write.held 0)
 
 -- In a run of calls two requests are unanswered at once: one is issued, and the other waits for it. One call then answers the
--- one and issues the other, and a later one answers that too.
+-- one and issues the other. The device ends that, and a service then finds it ended and answers it too.
 pub record WaitsItsTurn : Type 0 where
   pub first : Moment
   pub run : List (Event (Unit {0}))
   pub runs : IsRun first run
   pub told : AllTold first.machine (steps_of run)
-  -- the run's events: these before that call, and these after
-  pub late : List (Event (Unit {0}))
-  pub call : Event (Unit {0})
+  -- the run's events: these before that call, and the two after it
   pub early : List (Event (Unit {0}))
-  pub comes : run ≡ late ++ call ∷ early
+  pub call : Event (Unit {0})
+  pub ending : Event (Unit {0})
+  pub service : Event (Unit {0})
+  pub comes : run ≡ service ∷ ending ∷ call ∷ early
   pub issued : Pending
   pub waits : Pending
   pub both : (moment_of first early).machine.book ≡ issued ∷ waits ∷ []
@@ -95,8 +96,11 @@ pub record WaitsItsTurn : Type 0 where
   pub mode : Mode
   pub issues : Contains call.steps (Issue mode waits)
   pub last : Pending
-  pub answered : Contains (steps_of late) (Answer last Ok)
   pub its_too : last.request ≡ waits.request
+  pub alone : (moment_of first (ending ∷ call ∷ early)).machine.book ≡ last ∷ []
+  pub had_ended : last.ended ≡ true
+  pub serves : service.ask ≡ Service
+  pub answered : Contains service.steps (Answer last Ok)
 
 -- In a run of calls three ticks go by after a request was issued, and the third issues it again. A reset is then stuck, and a
 -- service answers the request PortDead: it is kept, and its frame stays lent. A reset that ends gives the frame back.
@@ -129,9 +133,10 @@ pub record EndsWithAReset : Type 0 where
   pub freed : (moment_of first (reset ∷ service ∷ stuck ∷ three ∷ two ∷ one ∷ asked)).machine.lent frame ≡ None
   pub ready : (moment_of first (reset ∷ service ∷ stuck ∷ three ∷ two ∷ one ∷ asked)).ports.state again.request.port ≡ Ready
 
--- In a run of calls three requests are issued, one on one port and two on another, and the first port's disk is taken out. One
--- service then answers the first port's request Unplugged, and, since the other port failed too, tells the fault of the one
--- request there and issues the other anew. That fails with its port each time, and is aborted after its fourth issue.
+-- In a run of calls four requests are issued, one on one port and three on another. One of the three ends, and the first port's
+-- disk is taken out. One service then answers the first port's request Unplugged, and, since the other port failed too, answers
+-- what had ended there Ok, tells the fault of one request, and issues the last anew. That fails with its port each time, and is
+-- aborted after its fourth issue.
 pub record MeetsTrouble : Type 0 where
   pub first : Moment
   pub asked : List (Event (Unit {0}))
@@ -145,14 +150,16 @@ pub record MeetsTrouble : Type 0 where
   pub lost : Pending
   pub failed : Pending
   pub again : Pending
-  pub book : (moment_of first asked).machine.book ≡ lost ∷ failed ∷ again ∷ []
+  pub ended : Pending
+  pub book : (moment_of first asked).machine.book ≡ lost ∷ failed ∷ again ∷ ended ∷ []
   pub issued : (lost.issued ≡ true) × (failed.issued ≡ true) × (again.issued ≡ true)
+  pub had_ended : ended.ended ≡ true
   pub apart : lost.request.port ≢ failed.request.port
-  pub together : again.request.port ≡ failed.request.port
+  pub together : (again.request.port ≡ failed.request.port) × (ended.request.port ≡ failed.request.port)
   pub goes : Contains (steps_of asked) (Unplug lost.request.port)
   pub serves : (service.ask ≡ Service) × (third.ask ≡ Service) × (fourth.ask ≡ Service) × (last.ask ≡ Service)
-  -- the failed port's answer first, since its number is lower
-  pub tells : service.said ≡ Served (reply_of (failed, DeviceError 65 64) ∷ reply_of (lost, Unplugged) ∷ [])
+  -- the failed port's answers first, since its number is lower
+  pub tells : service.said ≡ Served (reply_of (failed, DeviceError 65 64) ∷ reply_of (ended, Ok) ∷ reply_of (lost, Unplugged) ∷ [])
   pub requeues : Contains service.steps (Again again)
   pub absent : (moment_of first (service ∷ asked)).ports.state lost.request.port ≡ Absent
   pub ready : (moment_of first (service ∷ asked)).ports.state failed.request.port ≡ Ready
@@ -168,6 +175,63 @@ pub record MeetsTrouble : Type 0 where
   pub frame : Frame
   pub its : again.request.asked.frames.items ≡ frame ∷ []
   pub freed : (moment_of first (last ∷ fourth ∷ third ∷ service ∷ asked)).machine.lent frame ≡ None
+
+-- In a run of calls a request is two ticks old, and ends then. The third tick finds its port hung, and answers it Ok.
+pub record EndsAtATick : Type 0 where
+  pub first : Moment
+  pub early : List (Event (Unit {0}))
+  pub ending : Event (Unit {0})
+  pub tick : Event (Unit {0})
+  pub runs : IsRun first (tick ∷ ending ∷ early)
+  pub ended : Pending
+  pub book : (moment_of first (ending ∷ early)).machine.book ≡ ended ∷ []
+  pub is_ended : (ended.ended ≡ true) × (ended.age ≡ 2)
+  pub ticks : tick.ask ≡ Tick
+  pub answers : tick.said ≡ Served (reply_of (ended, Ok) ∷ [])
+  pub none_left : (moment_of first (tick ∷ ending ∷ early)).machine.book ≡ []
+
+-- In a run of calls two requests are unanswered, one issued and one that waits for it, and the server is reset four times, with
+-- success. Three resets issue the one anew. The fourth aborts it, and issues the other.
+pub record GoesAgainInResets : Type 0 where
+  pub first : Moment
+  pub asked : List (Event (Unit {0}))
+  pub one : Event (Unit {0})
+  pub two : Event (Unit {0})
+  pub three : Event (Unit {0})
+  pub four : Event (Unit {0})
+  pub runs : IsRun first (four ∷ three ∷ two ∷ one ∷ asked)
+  pub resets : (one.ask ≡ Reset) × (two.ask ≡ Reset) × (three.ask ≡ Reset) × (four.ask ≡ Reset)
+  pub issued : Pending
+  pub waits : Pending
+  pub book : (moment_of first asked).machine.book ≡ issued ∷ waits ∷ []
+  pub once : (issued.issued ≡ true) × (issued.issues ≡ 1) × (waits.issued ≡ false)
+  pub anew : Pending
+  pub after_one : (moment_of first (one ∷ asked)).machine.book ≡ anew ∷ waits ∷ []
+  pub twice : (anew.request ≡ issued.request) × (anew.issued ≡ true) × (anew.issues ≡ 2)
+  pub spent : Pending
+  pub after_three : (moment_of first (three ∷ two ∷ one ∷ asked)).machine.book ≡ spent ∷ waits ∷ []
+  pub four_times : (spent.request ≡ issued.request) × (spent.issued ≡ true) × (spent.issues ≡ 4)
+  pub aborts : four.said ≡ WasReset (Some (reply_of (spent, Aborted) ∷ []))
+  pub turn : Pending
+  pub after_four : (moment_of first (four ∷ three ∷ two ∷ one ∷ asked)).machine.book ≡ turn ∷ []
+  pub issues : (turn.request ≡ waits.request) × (turn.issued ≡ true)
+
+-- In a run of calls a request is issued on a port that fails, and whose engine doesn't stop in the service that finds this: the
+-- request is answered PortDead, and its frame stays lent.
+pub record DiesInAService : Type 0 where
+  pub first : Moment
+  pub asked : List (Event (Unit {0}))
+  pub service : Event (Unit {0})
+  pub runs : IsRun first (service ∷ asked)
+  pub issued : Pending
+  pub book : (moment_of first asked).machine.book ≡ issued ∷ []
+  pub ready : (moment_of first asked).ports.state issued.request.port ≡ Ready
+  pub serves : service.ask ≡ Service
+  pub answers : service.said ≡ Served (reply_of (issued, PortDead) ∷ [])
+  pub dies : service.ports.state issued.request.port ≡ Dead
+  pub frame : Frame
+  pub its : issued.request.asked.frames.items ≡ frame ∷ []
+  pub lent : (moment_of first (service ∷ asked)).machine.lent frame ≡ Some issued.request.id
 
 -- The machine without the rule that nothing is issued while a kept request is left on the port.
 abbrev pub LooseMay : Machine → Step → Type 0

@@ -28,7 +28,7 @@ ghost use Rattle.block_machine.specs.Left.{IsStart, IsLegal, AllTold, HasTouched
 ghost use Rattle.block_machine.specs.Confined.{IsGranted, IsConfined, IsHeld, WasAccepted, WithinLimits, MayChangeByte, MayChangeSector};
 ghost use Rattle.block_machine.specs.Durable.{IsVolatile, EveryPlugFinds};
 ghost use Rattle.block_machine.specs.Events.{Moment, Event, AllIssued, Happens, IsRun, IsStillStuck, EveryReadHolds, accepts_it, answers_it, issues_it, gives_id, replies_of, all_replies, WasGiven, moment_of, steps_of};
-ghost use Rattle.block_machine.specs.Worked.{FindsTheFlushed, WaitsItsTurn, EndsWithAReset, MeetsTrouble, GoesWrong};
+ghost use Rattle.block_machine.specs.Worked.{FindsTheFlushed, WaitsItsTurn, EndsWithAReset, MeetsTrouble, EndsAtATick, GoesAgainInResets, DiesInAService, GoesWrong};
 
 /// One rule is the first that a request breaks.
 pub fn first_broken_rule_is_one()
@@ -328,6 +328,21 @@ pub fn a_waiting_run_exists()
 /// request, one that is issued anew and one that is aborted are told as they have to be.
 pub fn a_troubled_run_exists()
     ensures { MeetsTrouble }
+{}
+
+/// A run exists in which a tick answers a request that had ended.
+pub fn a_ticked_run_exists()
+    ensures { EndsAtATick }
+{}
+
+/// A run exists in which resets issue a request anew, abort it after its fourth issue, and issue one that waited for it.
+pub fn a_rebooted_run_exists()
+    ensures { GoesAgainInResets }
+{}
+
+/// A run exists in which a service finds that a port failed and doesn't stop.
+pub fn a_dying_run_exists()
+    ensures { DiesInAService }
 {}
 
 /// Without the rule on kept requests a read may go wrong.

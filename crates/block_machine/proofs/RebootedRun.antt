@@ -1,0 +1,130 @@
+-- A run in which resets issue a request anew, abort it in the end, and issue one that waited for it.
+use Rattle.std.proofs.Common.{◌≡◌, ◌≢◌, ℕ, ◌<◌, true, suc, List, [], ◌∷◌, Some, inr, ⊎_elim, refl, sym, ◌∙◌, subst, arith}
+use Rattle.std.proofs.lemmas.Bool.{false≢true}
+use Rattle.std.specs.List.{Contains}
+use Rattle.ata_types.specs.declared.Port.{Port}
+use Rattle.ata_types.specs.declared.PortState.TheVariants.{Ready}
+use Rattle.ata_types.specs.declared.request.Outcome.TheVariants as outcome
+use Rattle.block_machine.specs.Ports.{MayBecome}
+use Rattle.block_machine.specs.State.{Pending, Machine, unanswered}
+use Rattle.block_machine.specs.Steps.{Issue, Again, Answer, Release, newly_accepted, issue, requeued}
+use Rattle.block_machine.specs.Events.{Moment, Reset, WasReset, Event, Happens, IsIssuedIn, reply_of, moment_of, moment_after}
+use Rattle.block_machine.specs.Worked.{GoesAgainInResets}
+use Rattle.block_machine.proofs.Members.{contains_none, contains_here, contains_cases}
+use Rattle.block_machine.proofs.Setting.{port, empty_starts}
+use Rattle.block_machine.proofs.Scene.{mode, ports, at_port, first, one_issued, one_told, none_told, none_unplugged, ports_fit, none_dead}
+use Rattle.block_machine.proofs.WaitingRun.{write, read, run2, happens1, happens2, none_due}
+use Rattle.block_machine.proofs.ResetRun.{halted, stopped_here}
+
+-- the write, in its n-th issue
+abbrev tried : ℕ → Pending
+tried n = record (issue (newly_accepted write)) { issues = n }
+
+-- the read, which waits for it
+abbrev waits : Pending
+waits = newly_accepted read
+
+abbrev retry : ℕ → Event (Unit {0})
+retry n = record { ask = Reset; said = WasReset (Some []); evidence = halted; steps = Issue mode (requeued (tried n)) ∷ Again (tried n) ∷ Release ∷ []; ports = ports }
+
+abbrev run5 : List (Event (Unit {0}))
+run5 = retry 3 ∷ retry 2 ∷ retry 1 ∷ run2
+
+abbrev abort : Event (Unit {0})
+abort = record { ask = Reset; said = WasReset (Some (reply_of (tried 4, outcome.Aborted) ∷ [])); evidence = halted; steps = Issue mode waits ∷ Answer (tried 4) outcome.Aborted ∷ Release ∷ []; ports = ports }
+
+-- a book of this port's requests has none of a port that isn't ready
+emptied : (book : List Pending) → ((e : Pending) → Contains book e → e.request.port ≡ port) → (p : Port) → at_port Ready p ≢ Ready → (e : Pending) → Contains book e → e.request.port ≢ p
+emptied book mine p ne e h q = ne (subst (λ (x : Port). at_port Ready x ≡ Ready) (sym (mine e h) ∙ q) refl)
+
+becomes : (p : Port) → MayBecome ports halted ports p
+becomes p = record { served = refl; stuck = λ dead. none_dead p dead; disk = λ ready. inr (inr (ready, (refl, refl))) }
+
+two_of : (n : ℕ) (P : Pending → Type 0) → P (tried n) → P waits → (e : Pending) → Contains (tried n ∷ waits ∷ []) e → P e
+two_of n P a b e h = ⊎_elim
+    (λ (same : e ≡ tried n). subst P (sym same) a)
+    (λ i. ⊎_elim (λ (same : e ≡ waits). subst P (sym same) b) (λ none. absurd (contains_none e none)) (contains_cases waits [] e i))
+    (contains_cases (tried n) (waits ∷ []) e h)
+
+-- the moment before a reset
+abbrev before : Machine → ℕ → Moment
+before m n = record { machine = record m { book = tried n ∷ waits ∷ []; kept = [] }; ports = ports }
+
+again : (m : Machine) (n : ℕ) → n < 4 → Happens (before m n) (retry n)
+again m n few = record {
+  may = (
+    ((tt, tt), (contains_here (tried n) (waits ∷ []) (tried n) refl, refl, few)),
+    (contains_here (requeued (tried n)) (waits ∷ []) (requeued (tried n)) refl, record { here = contains_here (unanswered (requeued (tried n))) (unanswered waits ∷ []) (unanswered (requeued (tried n))) refl; clear = refl; slot = λ _. omega arith }, λ e h. absurd (contains_none e h)),
+  );
+  belong = (((tt, inr tt), inr refl), inr (refl, refl));
+  last = (((tt, λ id h i. false≢true i), λ id h i. false≢true i), λ id h i. false≢true i);
+  lawful = (tt, contains_here port [] port refl);
+  fit = ports_fit Ready;
+  disks = λ e o h i same. (refl, refl);
+  answered = (
+    none_told (retry n).steps refl,
+    record { later = Issue mode (requeued (tried n)) ∷ Again (tried n) ∷ []; earlier = []; split = refl; before = tt; once = refl },
+    none_unplugged (retry n).steps (moment_after (before m n) (retry n)).machine refl,
+    λ p _. none_due p,
+    λ p. record {
+      emptied = emptied (tried (suc n) ∷ waits ∷ []) (two_of (suc n) (λ e. e.request.port ≡ port) refl refl) p;
+      becomes = becomes p;
+      anew = λ e h _ issued. two_of (suc n) (λ x. x.issued ≡ true → IsIssuedIn x.request.id (retry n).steps) (λ _. refl) (λ t. absurd (false≢true t)) e h issued;
+      stopped = stopped_here p;
+    },
+  );
+}
+
+happens6 : Happens (moment_of first run5) abort
+happens6 = record {
+  may = (
+    ((tt, tt), contains_here (tried 4) (waits ∷ []) (tried 4) refl),
+    (contains_here waits [] waits refl, record { here = contains_here (unanswered waits) [] (unanswered waits) refl; clear = refl; slot = λ _. omega arith }, λ e h. absurd (contains_none e h)),
+  );
+  belong = (((tt, inr tt), inr tt), inr (refl, refl));
+  last = (((tt, λ id h i. false≢true i), λ id h i. false≢true i), λ id h i. false≢true i);
+  lawful = (tt, (record { pending = tried 4; here = contains_here (tried 4) (waits ∷ []) (tried 4) refl; id_is = refl; issued = refl }, refl, refl, contains_here port [] port refl));
+  fit = ports_fit Ready;
+  disks = λ e o h i same. (refl, refl);
+  answered = (
+    one_told (tried 4) outcome.Aborted abort.steps refl (reply_of (tried 4, outcome.Aborted)) refl,
+    record { later = Issue mode waits ∷ Answer (tried 4) outcome.Aborted ∷ []; earlier = []; split = refl; before = tt; once = refl },
+    none_unplugged abort.steps (moment_after (moment_of first run5) abort).machine refl,
+    λ p _. one_issued (unanswered (issue waits)) refl p,
+    λ p. record {
+      emptied = emptied (issue waits ∷ []) (λ e h. alone (λ x. x.request.port ≡ port) refl e h) p;
+      becomes = becomes p;
+      anew = λ e h _ _. alone (λ x. IsIssuedIn x.request.id abort.steps) refl e h;
+      stopped = stopped_here p;
+    },
+  );
+}
+  where
+    alone : (P : Pending → Type 0) → P (issue waits) → (e : Pending) → Contains (issue waits ∷ []) e → P e
+    alone P a e h = ⊎_elim (λ (same : e ≡ issue waits). subst P (sym same) a) (λ none. absurd (contains_none e none)) (contains_cases (issue waits) [] e h)
+
+pub goes_again_in_resets : GoesAgainInResets
+goes_again_in_resets = record {
+  first = first;
+  asked = run2;
+  one = retry 1;
+  two = retry 2;
+  three = retry 3;
+  four = abort;
+  runs = (((((((empty_starts, ports_fit Ready), happens1), happens2), again (moment_of first run2).machine 1 (omega arith)), again (moment_of first (retry 1 ∷ run2)).machine 2 (omega arith)), again (moment_of first (retry 2 ∷ retry 1 ∷ run2)).machine 3 (omega arith)), happens6);
+  resets = (refl, refl, refl, refl);
+  issued = tried 1;
+  waits = waits;
+  book = refl;
+  once = (refl, refl, refl);
+  anew = tried 2;
+  after_one = refl;
+  twice = (refl, refl, refl);
+  spent = tried 4;
+  after_three = refl;
+  four_times = (refl, refl, refl);
+  aborts = refl;
+  turn = issue waits;
+  after_four = refl;
+  issues = (refl, refl);
+}
