@@ -23,6 +23,7 @@ mod Clients
 mod Freeing
 mod Permitting
 mod Unarmed
+mod Counting
 mod Idling
 mod Witness
 mod Halting
