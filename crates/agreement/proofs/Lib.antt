@@ -26,6 +26,7 @@ mod Unarmed
 mod Counting
 mod Idling
 mod Witness
+mod Decided
 mod Halting
 mod Resting
 mod Finding

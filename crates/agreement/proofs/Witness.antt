@@ -29,7 +29,8 @@ use Rattle.block_machine.proofs.Setting.{client, port, frame, row, request, two_
 use Rattle.agreement.specs.Places.{place_in}
 use Rattle.agreement.specs.Slots.{Use, Free, Serves, Told, ServesRequest, IsServed}
 use Rattle.agreement.specs.Agrees.{Agrees, IsDiskOf, SameSectors, IsReceiving, HaveSlots}
-use Rattle.agreement.specs.Witness.{first_id, first_uses, FirstIsKnown}
+use Rattle.agreement.specs.Driver.{Knows}
+use Rattle.agreement.specs.Witness.{first_id, first_uses, first_known, FirstIsKnown}
 use Rattle.agreement.proofs.Acting.{changed_at}
 use Rattle.agreement.proofs.Putting.{put_same, put_cases, none_below}
 use Rattle.agreement.proofs.Quiet.{true_false}
@@ -96,13 +97,13 @@ is_new = record {
 abbrev plain : Mode
 plain = record { queued = false; usable = 1 }
 
-abbrev waits : Pending
+abbrev pub waits : Pending
 waits = newly_accepted accepted
 
-abbrev issued : Machine
+abbrev pub issued : Machine
 issued = after_step (after_step start (Accept accepted)) (Issue plain waits)
 
-reached : IsReached issued
+pub reached : IsReached issued
 reached = record {
   first = start;
   past = Issue plain waits ∷ Accept accepted ∷ [];
@@ -170,7 +171,7 @@ slot q k = changed_at (λ _. quiet_port) 0 reading_port (λ n p. IsServed issued
         (cases_eq k 0)
 
 -- whose slot it is
-served_at : (q k : ℕ) (id : RequestId) → first_uses q k ≡ Serves id → (q ≡ 0) × (k ≡ 0)
+pub served_at : (q k : ℕ) (id : RequestId) → first_uses q k ≡ Serves id → (q ≡ 0) × (k ≡ 0)
 served_at q k id u = ⊎_elim
     (λ (x : (q ≡ 0) × (k ≡ 0)). x)
     (λ x. let z : Free ≡ Serves id = sym x.1 ∙ u in absurd cc)
@@ -201,5 +202,8 @@ have q e may at_port = ⊎_elim
     inr (0, ap (λ (n : ℕ). first_uses n 0) zero_is ∙ put_same (λ _ _. Free) 0 0 (Serves first_id) ∙ ap (λ (x : Pending). Serves x.request.id) (sym same)))
     (λ z. absurd (contains_none e z)) may
 
+pub first_knows : Knows issued first_known
+first_knows = record { agrees = agrees; have = have }
+
 pub first_is_known : FirstIsKnown
-first_is_known = record { machine = issued; reached = reached; knows = record { agrees = agrees; have = have }; request = issue waits; moves = moves; id_is = refl }
+first_is_known = record { machine = issued; reached = reached; knows = first_knows; request = issue waits; moves = moves; id_is = refl }

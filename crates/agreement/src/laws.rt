@@ -27,7 +27,7 @@ ghost use Rattle.agreement.specs.Agrees.{Agrees, IsDiskOf, SameMemory, SameSecto
 ghost use Rattle.agreement.specs.Driver.{MayStore, LeavesUses, LeavesFree, Known, Knows, IsBacked, ByDevice, IsPrepared, IsOwnPrepared, EndsWith, HasNoSlot, Forgets, ForgetsKept, serving, parking, freeing, idle};
 ghost use Rattle.agreement.specs.Follows.{Follows};
 ghost use Rattle.agreement.specs.Places.{list_of, scratch_of};
-ghost use Rattle.agreement.specs.Witness.{FirstIsKnown};
+ghost use Rattle.agreement.specs.Witness.{FirstIsKnown, KeptIsKnown, ParkedIsKnown};
 ghost use Rattle.agreement.specs.Slots.{Use, Free, Own, Serves, Uses, put, serving_count, Told, HasBlock, IsOver};
 
 /// Whatever the device does by itself, the machine follows: what the tape gains are steps of the machine that may come, and
@@ -303,4 +303,15 @@ pub fn an_idle_device_agrees()
 /// none of these laws is empty.
 pub fn a_first_read_agrees()
     ensures { FirstIsKnown }
+{}
+
+/// There is such a machine that keeps the read: it was answered PortDead, with its frames lent and its command in the slot.
+pub fn a_kept_read_agrees()
+    ensures { KeptIsKnown }
+{}
+
+/// And there is one whose driver stopped the port, and took the read from its slot once the engine stood: the read may wait
+/// again.
+pub fn a_parked_read_agrees()
+    ensures { ParkedIsKnown }
 {}
