@@ -1,25 +1,52 @@
 -- What the driver of the first read knows (this project's own).
-use Rattle.std.specs.Prelude.{◌≡◌, [], Contains}
+use Rattle.std.specs.Prelude.{ℕ, false, ◌≡◌, [], Contains}
 use Rattle.ata_types.specs.declared.request.RequestId.{RequestId}
 use Rattle.hba_regs.specs.declared.reg.Reg.TheVariants.{Px}
-use Rattle.hba_regs.specs.declared.reg.PortReg.TheVariants.{Cmd}
+use Rattle.hba_regs.specs.declared.reg.PortReg.TheVariants.{Cmd, Ci}
 use Rattle.adapter.specs.Access.{Writes, written}
-use Rattle.adapter.specs.Device.{Device}
-use Rattle.adapter.specs.FirstRead.{first_read}
+use Rattle.adapter.specs.Device.{PortState, Device}
+use Rattle.adapter.specs.FirstRead.{first_memory, quiet_port, reading_port, first_read}
+use Rattle.adapter.specs.Memory.{changed}
 use Rattle.adapter.specs.Rules.{MayWrite, Stays}
 use Rattle.adapter.specs.Steps.{Steps, after}
 use Rattle.adapter.specs.Steps.Step.{Fall}
+use Rattle.block_machine.specs.declared.due.Mode.{Mode}
 use Rattle.block_machine.specs.Histories.{IsReached}
 use Rattle.block_machine.specs.State.{Pending, Machine}
 use Rattle.block_machine.specs.Steps.{Again, May, MayMove}
 use Rattle.agreement.specs.Agrees.{port_at}
-use Rattle.agreement.specs.Driver.{Known, Knows, HasNoSlot, parking}
+use Rattle.agreement.specs.Driver.{Known, Knows, IsPrepared, HasNoSlot, idle, parking}
 use Rattle.agreement.specs.Facts.{IsHalted}
 use Rattle.agreement.specs.Slots.{Free, Serves, Uses, put}
 
 -- request 1
 abbrev pub first_id : RequestId
 first_id = record { 0 = 1 }
+
+-- Port 0 runs with a disk, as in the first read, and no command is in a slot; an adapter with such a port, and these bytes in
+-- its memory.
+abbrev pub ready_port : PortState
+ready_port = record reading_port { ci = λ _. false }
+
+abbrev pub ready_with : (ℕ → ℕ) → Device
+ready_with memory = record first_read { memory = memory; port = changed (λ _. quiet_port) 0 ready_port }
+
+-- the device of the first read before its bit of PxCI was written
+abbrev pub prepared_read : Device
+prepared_read = ready_with first_memory
+
+-- A machine is reached that has accepted request 1, and agrees with a driver that has put it into no slot yet. All is there for
+-- the write of bit 0 of PxCI; the write is permitted, and gives the first read.
+pub record PreparedIsKnown : Type 0 where
+  pub machine : Machine
+  pub reached : IsReached machine
+  pub knows : Knows machine (idle prepared_read)
+  pub mode : Mode
+  pub request : Pending
+  pub id_is : request.request.id ≡ first_id
+  pub prepared : IsPrepared (idle prepared_read).uses machine prepared_read 0 0 mode request 1
+  pub permitted : Stays (MayWrite (Px (port_at 0) Ci) 1) prepared_read
+  pub writes : Writes (Px (port_at 0) Ci) 1 prepared_read first_read
 
 -- slot 0 of port 0 serves request 1, and no other slot is used
 abbrev pub first_uses : Uses

@@ -27,7 +27,7 @@ ghost use Rattle.agreement.specs.Agrees.{Agrees, IsDiskOf, SameMemory, SameSecto
 ghost use Rattle.agreement.specs.Driver.{MayStore, LeavesUses, LeavesFree, Known, Knows, IsBacked, ByDevice, IsPrepared, IsOwnPrepared, EndsWith, HasNoSlot, Forgets, ForgetsKept, serving, parking, freeing, idle};
 ghost use Rattle.agreement.specs.Follows.{Follows};
 ghost use Rattle.agreement.specs.Places.{list_of, scratch_of};
-ghost use Rattle.agreement.specs.Witness.{FirstIsKnown, KeptIsKnown, ParkedIsKnown};
+ghost use Rattle.agreement.specs.Witness.{PreparedIsKnown, FirstIsKnown, KeptIsKnown, ParkedIsKnown};
 ghost use Rattle.agreement.specs.Slots.{Use, Free, Own, Serves, Uses, put, serving_count, Told, HasBlock, IsOver};
 
 /// Whatever the device does by itself, the machine follows: what the tape gains are steps of the machine that may come, and
@@ -297,6 +297,12 @@ pub fn an_idle_device_agrees()
     ensures { (m : Machine) (d : Device) → IsStart m → IsIdle d → ((port : ℕ) → IsDiskOf m (d.port port) port)
         → SameMemory m d.memory
         → (d.telling ≡ true → (port : ℕ) → SameSectors m (d.port port).disk port) → Knows m (idle d) }
+{}
+
+/// There is an adapter whose first read is prepared, and a machine that is reached and agrees with it: the write of PxCI is
+/// permitted, and issues the read.
+pub fn a_prepared_read_agrees()
+    ensures { PreparedIsKnown }
 {}
 
 /// There is an adapter with its first read issued, and a machine that is reached and agrees with what its driver knows: so
