@@ -1,7 +1,8 @@
--- The first read's request when it is kept, and when it was taken from its slot.
+-- The first read's request when it was taken from its slot, and when it is kept.
 use Rattle.std.proofs.Common.{ℕ, ◌≡◌, ◌==◌, List, [], ◌∷◌, refl, sym, ◌∙◌, ap, subst, arith, inl, ⊎_elim}
 use Rattle.std.specs.List.{Contains}
 use Rattle.std.proofs.lemmas.Nat.Bits.{bit_at-pow_other, bit_at-zero}
+use Rattle.ata_types.specs.declared.request.RequestId.{RequestId}
 use Rattle.ata_types.specs.declared.request.Outcome.TheVariants.{PortDead}
 use Rattle.hba_regs.specs.Bits.{bit}
 use Rattle.hba_regs.specs.declared.reg.Reg.TheVariants.{Px}
@@ -17,12 +18,13 @@ use Rattle.adapter.specs.declared.tape.Entry.{Entry}
 use Rattle.adapter.proofs.KeptLemmas.{steps_keep}
 use Rattle.adapter.proofs.Runs.{Steps-refl, Steps-one}
 use Rattle.block_machine.specs.Left.{after}
+use Rattle.block_machine.specs.State.{Pending, Machine}
 use Rattle.block_machine.specs.Steps as machine
 use Rattle.block_machine.specs.Steps.{Answer, after_step, issue}
 use Rattle.block_machine.proofs.HistoryLemmas.{reached_more}
-use Rattle.block_machine.proofs.Members.{contains_here}
+use Rattle.block_machine.proofs.Members.{contains_here, contains_cases, contains_none}
 use Rattle.agreement.specs.Agrees.{Agrees, port_at}
-use Rattle.agreement.specs.Driver.{HasNoSlot, LeavesUses}
+use Rattle.agreement.specs.Driver.{Knows, HasNoSlot, LeavesUses}
 use Rattle.agreement.specs.Facts.{IsHalted}
 use Rattle.agreement.specs.Follows.{Follows}
 use Rattle.agreement.specs.Slots.{Free, Serves, put}
@@ -31,24 +33,12 @@ use Rattle.agreement.specs.Witness.{first_id, first_uses, first_known, KeptIsKno
 use Rattle.agreement.proofs.Deciding.{keeping_knows, park_knows}
 use Rattle.agreement.proofs.Putting.{put_same, put_cases}
 use Rattle.agreement.proofs.Quiet.{true_false, fall_follows}
-use Rattle.agreement.proofs.Witness.{waits, issued, reached, served_at, first_knows}
+use Rattle.agreement.proofs.Witness.{waits, issued, reached, first_knows}
 use Rattle.agreement.proofs.Writing.{written_agrees}
 
 -- the request is in the book
 booked : Contains issued.book (issue waits)
 booked = contains_here (issue waits) [] (issue waits) refl
-
--- ---- kept
-
-pub kept_is_known : KeptIsKnown
-kept_is_known = record {
-  machine = after_step issued (Answer (issue waits) PortDead);
-  reached = reached_more issued (Answer (issue waits) PortDead ∷ []) reached (tt, booked);
-  knows = keeping_knows first_known issued (issue waits) PortDead reached first_knows booked refl;
-  request = issue waits;
-  kept = booked;
-  id_is = refl;
-}
 
 -- ---- taken from its slot
 
@@ -91,6 +81,13 @@ stopped_halted : IsHalted (stopped_read.port 0)
 unfolding changed
 stopped_halted = record { st = refl; cr = refl; ci = λ slot. refl; taken = λ slot. refl }
 
+-- whose slot it is
+served_at : (q k : ℕ) (id : RequestId) → first_uses q k ≡ Serves id → (q ≡ 0) × (k ≡ 0)
+served_at q k id u = ⊎_elim
+    (λ (x : (q ≡ 0) × (k ≡ 0)). x)
+    (λ x. let z : Free ≡ Serves id = sym x.1 ∙ u in absurd cc)
+    (put_cases (λ _ _. Free) 0 0 (Serves first_id) q k)
+
 unserved : HasNoSlot parked_known.uses first_id
 unserved q k u = ⊎_elim
     (λ (h : (q ≡ 0) × (k ≡ 0)).
@@ -98,6 +95,11 @@ unserved q k u = ⊎_elim
     sym (put_same first_uses 0 0 Free) ∙ ap (λ (n : ℕ). put first_uses 0 0 Free n 0) (sym h.0) ∙ ap (λ (n : ℕ). put first_uses 0 0 Free q n) (sym h.1) ∙ u in absurd cc)
     (λ h. let w = served_at q k first_id (sym h.1 ∙ u) in h.0 w.0 w.1)
     (put_cases first_uses 0 0 Free q k)
+
+parked_knows : Knows issued parked_known
+parked_knows =
+    park_knows (record first_known { device = stopped_read }) issued (record { agrees = stopped_agrees; have = first_knows.have }) 0 0
+    (record { issued = stopped_halted.ci 0; free = stopped_halted.taken 0 }) first_id (put_same (λ _ _. Free) 0 0 (Serves first_id))
 
 pub parked_is_known : ParkedIsKnown
 parked_is_known = record {
@@ -107,10 +109,30 @@ parked_is_known = record {
   halted = stopped_halted;
   machine = issued;
   reached = reached;
-  knows = park_knows (record first_known { device = stopped_read }) issued (record { agrees = stopped_agrees; have = first_knows.have }) 0 0
-      (record { issued = stopped_halted.ci 0; free = stopped_halted.taken 0 }) first_id (put_same (λ _ _. Free) 0 0 (Serves first_id));
+  knows = parked_knows;
   unserved = unserved;
   request = issue waits;
   id_is = refl;
   may = (booked, refl, omega arith);
+}
+
+-- ---- kept
+
+abbrev keeping : Machine
+keeping = after_step issued (Answer (issue waits) PortDead)
+
+-- it keeps request 1 alone
+kept_one : (e : Pending) → Contains keeping.kept e → e.request.id ≡ first_id
+kept_one e h = ⊎_elim (λ (is : e ≡ issue waits). ap (λ (x : Pending). x.request.id) is) (λ i. absurd (contains_none e i)) (contains_cases (issue waits) [] e h)
+
+pub kept_is_known : KeptIsKnown
+kept_is_known = record {
+  machine = keeping;
+  reached = reached_more issued (Answer (issue waits) PortDead ∷ []) reached (tt, booked);
+  request = issue waits;
+  kept = booked;
+  id_is = refl;
+  knows = keeping_knows first_known issued (issue waits) PortDead reached first_knows booked refl;
+  taken = keeping_knows parked_known issued (issue waits) PortDead reached parked_knows booked refl;
+  unserved = λ e h q k u. unserved q k (u ∙ ap Serves (kept_one e h));
 }

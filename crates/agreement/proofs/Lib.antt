@@ -39,3 +39,4 @@ mod Awaiting
 mod Starting
 mod Faulted
 mod Witnesses
+mod Identified

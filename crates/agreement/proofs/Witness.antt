@@ -7,7 +7,6 @@ use Rattle.ata_types.specs.declared.PortState.TheVariants.{Ready}
 use Rattle.ata_types.specs.declared.request.Frame.{Frame}
 use Rattle.ata_types.specs.declared.request.Op.TheVariants.{Read, Trim}
 use Rattle.ata_types.specs.declared.request.Request.{Request}
-use Rattle.ata_types.specs.declared.request.RequestId.{RequestId}
 use Rattle.ata_types.specs.declared.refusal.Refusal.TheVariants as refused
 use Rattle.ata_types.specs.declared.grant.GrantRow.{GrantRow}
 use Rattle.hba_regs.specs.Bits.{bit}
@@ -39,7 +38,7 @@ use Rattle.agreement.specs.Agrees.{Agrees, port_at, IsDiskOf, SameSectors, IsRec
 use Rattle.agreement.specs.Driver.{Knows, IsPrepared, idle}
 use Rattle.agreement.specs.Witness.{first_id, first_uses, first_known, ready_port, ready_with, prepared_read, PreparedIsKnown, FirstIsKnown}
 use Rattle.agreement.proofs.Acting.{changed_at}
-use Rattle.agreement.proofs.Putting.{put_cases, issued_port, issue_agrees, issue_have}
+use Rattle.agreement.proofs.Putting.{issued_port, issue_agrees, issue_have}
 use Rattle.agreement.proofs.Deciding.{accept_knows}
 use Rattle.agreement.proofs.Permitting.{issue_is_permitted}
 use Rattle.agreement.proofs.Quiet.{true_false}
@@ -73,6 +72,9 @@ accepted = record { id = first_id; port = port; asked = asked; held = block_of s
 abbrev situation : Situation
 situation = record { rows = two_rows; owner = start.owner; lent = start.lent; state = λ p. Ready; sectors = λ p. 256; trims = λ p. true; unanswered = λ c. 0; next = 1 }
 
+read_no_trim : Read ≡ Trim → ⊥
+read_no_trim e = cc
+
 fits : IsFit 0 situation asked
 fits = record {
   rows = refl;
@@ -92,9 +94,6 @@ fits = record {
   few = omega arith;
   ids = omega arith;
 }
-  where
-    read_no_trim : Read ≡ Trim → ⊥
-    read_no_trim e = cc
 
 is_new : IsNew start accepted
 is_new = record {
@@ -154,13 +153,6 @@ told = record {
   few = (let h : little_from 0 4 (bytes_at first_memory 0 32) ≡ 5 + 0 + 65536 * length first_says.prds = first_says.header.first in let n = entries in omega (arith, h, n));
 }
 
--- whose slot it is
-pub served_at : (q k : ℕ) (id : RequestId) → first_uses q k ≡ Serves id → (q ≡ 0) × (k ≡ 0)
-served_at q k id u = ⊎_elim
-    (λ (x : (q ≡ 0) × (k ≡ 0)). x)
-    (λ x. let z : Free ≡ Serves id = sym x.1 ∙ u in absurd cc)
-    (put_cases (λ _ _. Free) 0 0 (Serves first_id) q k)
-
 tells : (k b : ℕ) → b < 512 → slice_index (sector_of k) b ≡ k
 unfolding sector_of
 tells k b bl = get_or-replicate 512 b k 0 bl
@@ -211,9 +203,6 @@ prepared = record {
   here = refl;
   alone = bit_one_other;
 }
-  where
-    read_no_trim : Read ≡ Trim → ⊥
-    read_no_trim e = cc
 
 -- the write gives the first read
 issued_port_is : issued_port ready_port 1 ≡ reading_port

@@ -27,7 +27,7 @@ ghost use Rattle.agreement.specs.Agrees.{Agrees, IsDiskOf, SameMemory, SameSecto
 ghost use Rattle.agreement.specs.Driver.{MayStore, LeavesUses, LeavesFree, Known, Knows, IsBacked, ByDevice, IsPrepared, IsOwnPrepared, EndsWith, HasNoSlot, Forgets, ForgetsKept, serving, parking, freeing, idle};
 ghost use Rattle.agreement.specs.Follows.{Follows};
 ghost use Rattle.agreement.specs.Places.{list_of, scratch_of};
-ghost use Rattle.agreement.specs.Witness.{PreparedIsKnown, FirstIsKnown, KeptIsKnown, ParkedIsKnown};
+ghost use Rattle.agreement.specs.Witness.{PreparedIsKnown, FirstIsKnown, KeptIsKnown, ParkedIsKnown, OwnIsKnown};
 ghost use Rattle.agreement.specs.Slots.{Use, Free, Own, Serves, Uses, put, serving_count, Told, HasBlock, IsOver};
 
 /// Whatever the device does by itself, the machine follows: what the tape gains are steps of the machine that may come, and
@@ -190,7 +190,7 @@ pub fn waiting_has_no_slot()
 {}
 
 /// Where no kept request is on the port, each slot that serves a request serves one of those that are issued there, and no two
-/// the same. So no more serve than are issued; and just as many, where each that is issued has a slot below n.
+/// the same. So no more serve than are issued; and just as many, where each that is issued has a slot, and these are below n.
 pub fn slots_are_counted()
     ensures most { (uses : Uses) (m : Machine) (d : Device) → IsReached m → Agrees uses m d → (port : Port) → NoneKept m port
         → (n : ℕ) → serving_count uses port.0 n ≤ issued_count (map unanswered m.book) port }
@@ -311,13 +311,20 @@ pub fn a_first_read_agrees()
     ensures { FirstIsKnown }
 {}
 
-/// There is such a machine that keeps the read: it was answered PortDead, with its frames lent and its command in the slot.
+/// There is one whose driver has stopped the port of that read, and has taken it from its slot once the engine stood: the read
+/// may wait again.
+pub fn a_parked_read_agrees()
+    ensures { ParkedIsKnown }
+{}
+
+/// There is one that keeps the read: it was answered PortDead, with its frames lent, while the slot serves it still; and once the
+/// driver has taken it from there, the frames may be given back.
 pub fn a_kept_read_agrees()
     ensures { KeptIsKnown }
 {}
 
-/// And there is one whose driver stopped the port, and took the read from its slot once the engine stood: the read may wait
-/// again.
-pub fn a_parked_read_agrees()
-    ensures { ParkedIsKnown }
+/// There is an adapter with a command of the driver's own, IDENTIFY DEVICE: prepared, issued by a write that is permitted, and over
+/// once its page has come; and a machine agrees with it all the way.
+pub fn an_own_command_agrees()
+    ensures { OwnIsKnown }
 {}
