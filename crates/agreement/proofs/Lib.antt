@@ -23,8 +23,10 @@ mod Clients
 mod Freeing
 mod Permitting
 mod Unarmed
+mod Counting
 mod Idling
 mod Witness
+mod Decided
 mod Halting
 mod Resting
 mod Finding
@@ -37,3 +39,4 @@ mod Awaiting
 mod Starting
 mod Faulted
 mod Witnesses
+mod Identified

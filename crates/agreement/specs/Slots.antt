@@ -1,5 +1,5 @@
 -- What the driver has put into the slots, and what a slot has to do with the request that it serves (this project's own).
-use Rattle.std.specs.Prelude.{ℕ, Bool, true, false, not, ◌&&◌, ◌≡◌, ◌⊎◌, ◌<◌, ◌≤◌, List, [], ◌∷◌, ◌++◌, length, Option, Some, None, slice_index, nat_lt, All}
+use Rattle.std.specs.Prelude.{ℕ, zero, suc, Bool, true, false, not, if◌then◌else◌, ◌&&◌, ◌≡◌, ◌⊎◌, ◌<◌, ◌≤◌, List, [], ◌∷◌, ◌++◌, length, Option, Some, None, slice_index, nat_lt, All}
 use Rattle.ata_types.specs.declared.request.Op.{Op}
 use Rattle.ata_types.specs.declared.request.Op.TheVariants.{Read, Write, Trim, Flush}
 use Rattle.ata_types.specs.declared.request.RequestId.{RequestId}
@@ -31,6 +31,17 @@ Uses = ℕ → ℕ → Use
 -- one slot put to another use
 abbrev pub put : Uses → ℕ → ℕ → Use → Uses
 put uses port slot u = changed uses port (changed (uses port) slot u)
+
+-- the slot serves a request
+abbrev pub is_serving : Use → Bool
+is_serving Free = false
+is_serving (Own o) = false
+is_serving (Serves id) = true
+
+-- how many of the port's slots below n serve a request
+abbrev pub serving_count : Uses → ℕ → ℕ → ℕ
+serving_count uses port zero = 0
+serving_count uses port (suc n) = if is_serving (uses port n) then suc (serving_count uses port n) else serving_count uses port n
 
 -- the client's operation that a command does; the driver's own do none
 abbrev pub op_of : Operation → Option Op

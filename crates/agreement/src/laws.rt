@@ -1,5 +1,5 @@
 // Laws of the relation, for the crates above: the clause is the theorem. Nothing calls these functions.
-ghost use Rattle.std.specs.Prelude.{◌≡◌, ◌+◌, ◌*◌, ◌/◌, ◌%◌, ◌<◌, ◌≤◌, ◌∷◌, ◌++◌, ℕ, Bool, true, false, [], List, length, Contains};
+ghost use Rattle.std.specs.Prelude.{◌≡◌, ◌+◌, ◌*◌, ◌/◌, ◌%◌, ◌<◌, ◌≤◌, ◌∷◌, ◌++◌, ℕ, Bool, true, false, [], List, length, map, Contains};
 ghost use Rattle.ata_types.specs.declared.Port.{Port};
 ghost use Rattle.ata_types.specs.declared.request.ClientId.{ClientId};
 ghost use Rattle.ata_types.specs.declared.request.Frame.{Frame};
@@ -15,19 +15,20 @@ ghost use Rattle.adapter.specs.Idle.{IsIdle};
 ghost use Rattle.adapter.specs.Rules.{IsFree, IsOn, HasPort, MayWrite, Stays};
 ghost use Rattle.adapter.specs.Steps.{Steps};
 ghost use Rattle.adapter.specs.declared.command.Operation.{Operation};
+ghost use Rattle.block_machine.specs.Due.{is_plain, issued_count};
 ghost use Rattle.block_machine.specs.Events.{IsDevices, AllDevices, AllMay};
 ghost use Rattle.block_machine.specs.Histories.{IsReached, AddsSteps};
 ghost use Rattle.block_machine.specs.Left.{IsStart, after};
 ghost use Rattle.block_machine.specs.Refusals.{IsOpen};
-ghost use Rattle.block_machine.specs.State.{Accepted, Pending, Machine};
-ghost use Rattle.block_machine.specs.Steps.{Step, Accept, Issue, Age, Again, Answer, Release, Store, Load, May, after_step, stays};
+ghost use Rattle.block_machine.specs.State.{Accepted, Pending, Machine, unanswered};
+ghost use Rattle.block_machine.specs.Steps.{Step, Accept, Issue, Age, Again, Answer, Release, Store, Load, May, NoneKept, after_step, stays};
 ghost use Rattle.block_machine.specs.declared.due.Mode.{Mode};
-ghost use Rattle.agreement.specs.Agrees.{Agrees, IsDiskOf, SameMemory, SameSectors, AreUnarmed};
+ghost use Rattle.agreement.specs.Agrees.{Agrees, IsDiskOf, SameMemory, SameSectors, HaveSlots, AreUnarmed};
 ghost use Rattle.agreement.specs.Driver.{MayStore, LeavesUses, LeavesFree, Known, Knows, IsBacked, ByDevice, IsPrepared, IsOwnPrepared, EndsWith, HasNoSlot, Forgets, ForgetsKept, serving, parking, freeing, idle};
 ghost use Rattle.agreement.specs.Follows.{Follows};
 ghost use Rattle.agreement.specs.Places.{list_of, scratch_of};
-ghost use Rattle.agreement.specs.Witness.{FirstIsKnown};
-ghost use Rattle.agreement.specs.Slots.{Use, Free, Own, Serves, Uses, put, Told, HasBlock, IsOver};
+ghost use Rattle.agreement.specs.Witness.{PreparedIsKnown, FirstIsKnown, KeptIsKnown, ParkedIsKnown, OwnIsKnown};
+ghost use Rattle.agreement.specs.Slots.{Use, Free, Own, Serves, Uses, put, serving_count, Told, HasBlock, IsOver};
 
 /// Whatever the device does by itself, the machine follows: what the tape gains are steps of the machine that may come, and
 /// the two agree again. So it is while a reset of the adapter is pending, too, and after one that is stuck.
@@ -188,6 +189,28 @@ pub fn waiting_has_no_slot()
         → e.issued ≡ false → HasNoSlot uses e.request.id }
 {}
 
+/// Where no kept request is on the port, each slot that serves a request serves one of those that are issued there, and no two
+/// the same. So no more serve than are issued; and just as many, where each that is issued has a slot, and these are below n.
+pub fn slots_are_counted()
+    ensures most { (uses : Uses) (m : Machine) (d : Device) → IsReached m → Agrees uses m d → (port : Port) → NoneKept m port
+        → (n : ℕ) → serving_count uses port.0 n ≤ issued_count (map unanswered m.book) port }
+    ensures all { (uses : Uses) (m : Machine) (d : Device) → IsReached m → Agrees uses m d → (port : Port) → NoneKept m port
+        → (n : ℕ) → HaveSlots uses m port.0 [] → ((slot : ℕ) (id : RequestId) → uses port.0 slot ≡ Serves id → slot < n)
+        → serving_count uses port.0 n ≡ issued_count (map unanswered m.book) port }
+{}
+
+/// So a request that is due finds a free slot, where slot 0 has no command of the driver's own: a plain one slot 0, and a queued
+/// one some slot that is usable.
+pub fn due_finds_free_slot()
+    ensures plain { (uses : Uses) (m : Machine) (d : Device) → IsReached m → Agrees uses m d → (mode : Mode) (e : Pending)
+        → May m (Issue mode e) → ((o : Operation) → uses e.request.port.0 0 ≡ Own o → ⊥)
+        → is_plain mode e.request.asked.op ≡ true → uses e.request.port.0 0 ≡ Free }
+    ensures queued { (uses : Uses) (m : Machine) (d : Device) → IsReached m → Agrees uses m d → (mode : Mode) (e : Pending)
+        → May m (Issue mode e) → ((o : Operation) → uses e.request.port.0 0 ≡ Own o → ⊥)
+        → is_plain mode e.request.asked.op ≡ false
+        → (slot : ℕ) × (slot < mode.usable) × (uses e.request.port.0 slot ≡ Free) }
+{}
+
 /// While no reset is pending the device leaves alone what no slot uses.
 pub fn free_slots_are_left()
     ensures { (uses : Uses) (m : Machine) (old new : Device) → IsReached m → Agrees uses m old → old.hr ≡ false
@@ -276,8 +299,32 @@ pub fn an_idle_device_agrees()
         → (d.telling ≡ true → (port : ℕ) → SameSectors m (d.port port).disk port) → Knows m (idle d) }
 {}
 
+/// There is an adapter whose first read is prepared, and a machine that is reached and agrees with it: the write of PxCI is
+/// permitted, and issues the read.
+pub fn a_prepared_read_agrees()
+    ensures { PreparedIsKnown }
+{}
+
 /// There is an adapter with its first read issued, and a machine that is reached and agrees with what its driver knows: so
 /// none of these laws is empty.
 pub fn a_first_read_agrees()
     ensures { FirstIsKnown }
+{}
+
+/// There is one whose driver has stopped the port of that read, and has taken it from its slot once the engine stood: the read
+/// may wait again.
+pub fn a_parked_read_agrees()
+    ensures { ParkedIsKnown }
+{}
+
+/// There is one that keeps the read: it was answered PortDead, with its frames lent, while the slot serves it still; and once the
+/// driver has taken it from there, the frames may be given back.
+pub fn a_kept_read_agrees()
+    ensures { KeptIsKnown }
+{}
+
+/// There is an adapter with a command of the driver's own, IDENTIFY DEVICE: prepared, issued by a write that is permitted, and over
+/// once its page has come; and a machine agrees with it all the way.
+pub fn an_own_command_agrees()
+    ensures { OwnIsKnown }
 {}

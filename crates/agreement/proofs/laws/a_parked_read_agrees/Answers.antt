@@ -1,0 +1,5 @@
+use Rattle.agreement.proofs.Decided.{parked_is_known}
+use Rattle.agreement.proofs.laws.a_parked_read_agrees.Goals as goal
+
+pub returns : goal.returns
+returns c = parked_is_known

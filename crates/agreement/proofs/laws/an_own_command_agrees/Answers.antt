@@ -1,0 +1,5 @@
+use Rattle.agreement.proofs.Identified.{own_is_known}
+use Rattle.agreement.proofs.laws.an_own_command_agrees.Goals as goal
+
+pub returns : goal.returns
+returns c = own_is_known

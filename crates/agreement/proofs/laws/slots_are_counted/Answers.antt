@@ -1,0 +1,8 @@
+use Rattle.agreement.proofs.Counting.{serving_most, serving_all}
+use Rattle.agreement.proofs.laws.slots_are_counted.Goals as goal
+
+pub returns-clause-most : goal.returns-clause-most
+returns-clause-most c = serving_most
+
+pub returns-clause-all : goal.returns-clause-all
+returns-clause-all c = serving_all
