@@ -7,7 +7,7 @@ use Rattle.ata_types.specs.declared.request.Outcome.TheVariants as outcome
 use Rattle.block_machine.specs.Ports.{Evidence}
 use Rattle.block_machine.specs.State.{Pending}
 use Rattle.block_machine.specs.Steps.{Answer, newly_accepted, issue}
-use Rattle.block_machine.specs.Events.{Service, Served, Event, Happens, reply_of, moment_of}
+use Rattle.block_machine.specs.Events.{Service, Served, Event, Happens, ServesReady, reply_of, moment_of}
 use Rattle.block_machine.specs.Worked.{DiesInAService}
 use Rattle.block_machine.proofs.Members.{contains_none, contains_here}
 use Rattle.block_machine.proofs.Setting.{port, frame, empty_starts}
@@ -41,14 +41,6 @@ happens2 = record {
     record {
       dead = λ e o h dead. none_dead e.request.port dead;
       grounded = tt;
-      ready = λ p ready. record {
-        ended = none_ended (moment_of first run1).machine service.steps refl p;
-        lost = λ gone. absurd (contains_none p gone);
-        told = λ gone. absurd (contains_none p gone);
-        anew = λ _ e h. absurd (contains_none e h);
-        booted = inr (λ e h. absurd (contains_none e h));
-        calm = inl (inl (contains_here port [] p (ready_port p ready)));
-      };
     },
     none_unplugged service.steps (moment_of first run2).machine refl,
     λ p ready. dead_not_ready p ready,
@@ -62,12 +54,23 @@ happens2 = record {
     dies : (p : Port) → first.ports.state p ≡ Ready → (ports_in Dead).state p ≡ Dead
     dies p ready = ap (ports_in Dead).state (ready_port p ready)
 
+notices : (p : Port) → first.ports.state p ≡ Ready → ServesReady (moment_of first run1) seen service.steps (moment_of first run2) p
+notices p ready = record {
+  ended = none_ended (moment_of first run1).machine service.steps refl p;
+  lost = λ gone. absurd (contains_none p gone);
+  told = λ gone. absurd (contains_none p gone);
+  anew = λ _ e h. absurd (contains_none e h);
+  booted = inr (λ e h. absurd (contains_none e h));
+  calm = inl (inl (contains_here port [] p (ready_port p ready)));
+}
+
 pub dies_in_a_service : DiesInAService
 dies_in_a_service = record {
   first = first;
   asked = run1;
   service = service;
   runs = (((empty_starts, ports_fit Ready), happens1), happens2);
+  heeds = ((tt, tt), notices);
   issued = issued;
   book = refl;
   ready = refl;

@@ -112,6 +112,7 @@ goes_again_in_resets = record {
   three = retry 3;
   four = abort;
   runs = (((((((empty_starts, ports_fit Ready), happens1), happens2), again (moment_of first run2).machine 1 (omega arith)), again (moment_of first (retry 1 ∷ run2)).machine 2 (omega arith)), again (moment_of first (retry 2 ∷ retry 1 ∷ run2)).machine 3 (omega arith)), happens6);
+  heeds = ((((((tt, tt), tt), tt), tt), tt), tt);
   resets = (refl, refl, refl, refl);
   issued = tried 1;
   waits = waits;

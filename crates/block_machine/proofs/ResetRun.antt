@@ -250,7 +250,7 @@ happens6 = record {
   disks = λ e o h i same. (refl, refl);
   answered = (
     one_told again outcome.PortDead service.steps refl (reply_of (again, outcome.PortDead)) refl,
-    record { dead = told_dead; grounded = tt; ready = λ p ready. dead_not_ready p ready },
+    record { dead = told_dead; grounded = tt },
     none_unplugged service.steps (moment_of first run6).machine refl,
     λ p ready. dead_not_ready p ready,
     λ p. (λ ne e h. absurd (contains_none e h), (λ _. (refl, refl, refl, refl, refl, refl), λ alive. record { served = refl; stuck = λ dead. absurd (alive dead); disk = λ ready. dead_not_ready p ready })),
@@ -290,6 +290,7 @@ ends_with_a_reset = record {
   service = service;
   reset = reset;
   runs = ((((((((empty_starts, ports_fit Ready), happens1), happens2), happens3), happens4), happens5), happens6), happens7);
+  heeds = (((((((tt, tt), tt), tt), tt), tt), λ p ready. dead_not_ready p ready), tt);
   ticks = (refl, refl, refl);
   aged = aged 2;
   old = refl;

@@ -27,7 +27,7 @@ use Rattle.block_machine.specs.Due.{NoneDue, is_flush}
 use Rattle.block_machine.specs.State.{Accepted, Pending, Machine, block_of, is_reader}
 use Rattle.block_machine.specs.Steps.{Step, Touch, End, Answer, newly_accepted, issue, touch, mark_ended, IsNew}
 use Rattle.block_machine.specs.Ports.{Ports, Evidence, AreFit, SamePort, SamePorts, IsServiced}
-use Rattle.block_machine.specs.Events.{Moment, Ask, Said, Event, AllGrounded, AnswersEnded, AreTold, UnplugsAll, ServesReady, ServesPorts, Tells, situation_of, answers_of, reply_of}
+use Rattle.block_machine.specs.Events.{Moment, Ask, Said, Event, AnswersEnded, AreTold, UnplugsAll, ServesReady, Tells, situation_of, answers_of, reply_of}
 use Rattle.block_machine.proofs.Members.{contains_none, contains_here, contains_cases, append_in, none_of}
 use Rattle.block_machine.proofs.Keeps.{same_port}
 use Rattle.block_machine.proofs.Dues.{issued_not_due}
@@ -313,13 +313,9 @@ calmly old new steps p same ok ended = record {
 }
 
 -- and one that leaves all ports what they are
-pub serves_calmly : (old new : Moment) (steps : List Step) → ((p : Port) → old.ports.state p ≡ Dead → ⊥) → SamePorts old.ports new.ports → AllGrounded none steps → list_any is_refused steps ≡ false
-    → ((p : Port) → AnswersEnded old.machine steps p) → ServesPorts old none steps new
-serves_calmly old new steps alive same grounded ok ended = record {
-  dead = λ e o h dead. absurd (alive e.request.port dead);
-  grounded = grounded;
-  ready = λ p _. calmly old new steps p (same p) ok (ended p);
-}
+pub all_calmly : (old new : Moment) (steps : List Step) → SamePorts old.ports new.ports → list_any is_refused steps ≡ false → ((p : Port) → AnswersEnded old.machine steps p)
+    → (p : Port) → old.ports.state p ≡ Ready → ServesReady old none steps new p
+all_calmly old new steps same ok ended p ready = calmly old new steps p (same p) ok (ended p)
 
 -- where a port is ready, one request of it is no other port's
 pub emptied_at : (state : Port → PortState) (one : Pending) → state one.request.port ≡ Ready → (p : Port) → state p ≢ Ready → (e : Pending) → Contains (one ∷ []) e → e.request.port ≢ p

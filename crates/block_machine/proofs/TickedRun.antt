@@ -106,6 +106,7 @@ ends_at_a_tick = record {
   ending = ending;
   tick = tick;
   runs = ((((((empty_starts, ports_fit Ready), happens1), happens2), happens3), happens4), happens5);
+  heeds = (((((tt, tt), tt), tt), tt), tt);
   ended = over;
   book = refl;
   is_ended = (refl, refl);

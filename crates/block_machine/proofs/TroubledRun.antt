@@ -365,7 +365,7 @@ happens7 = record {
   disks = λ e o h i same. (refl, refl);
   answered = (
     told_in_order,
-    record { dead = λ e o i dead. not_dead Ready Ready refl refl e.request.port dead; grounded = ((tt, contains_here (on 0) [] (on 0) refl), contains_here (on 0) [] (on 0) refl); ready = serves_ready },
+    record { dead = λ e o i dead. not_dead Ready Ready refl refl e.request.port dead; grounded = ((tt, contains_here (on 0) [] (on 0) refl), contains_here (on 0) [] (on 0) refl) },
     unplugs_all,
     λ p _. none_waits _ refl p,
     λ p. (
@@ -401,7 +401,14 @@ fails old new steps p ready none anew = record {
   calm = inl (inl (contains_here (on 0) [] p (zero_ready p ready)));
 }
 
-retried : (m : Machine) (n : ℕ) → n < 4 → Happens (record { machine = record m { book = tried n ∷ []; kept = [] }; ports = ports_in Ready Absent }) (retry n)
+-- the moment before such a service
+abbrev before : Machine → ℕ → Moment
+before m n = record { machine = record m { book = tried n ∷ []; kept = [] }; ports = ports_in Ready Absent }
+
+retry_heeds : (m : Machine) (n : ℕ) (p : Port) → both Ready Absent p ≡ Ready → ServesReady (before m n) failure (retry n).steps (moment_after (before m n) (retry n)) p
+retry_heeds m n p ready = fails (before m n) (moment_after (before m n) (retry n)) (retry n).steps p ready refl (λ e h _ _. left_anew (suc n) (retry n).steps refl e h)
+
+retried : (m : Machine) (n : ℕ) → n < 4 → Happens (before m n) (retry n)
 retried m n few = record {
   may = ((tt, (contains_here (tried n) [] (tried n) refl, refl, few)), (contains_here (requeued (tried n)) [] (requeued (tried n)) refl, record { here = contains_here (unanswered (requeued (tried n))) [] (unanswered (requeued (tried n))) refl; clear = refl; slot = λ _. omega arith }, λ e h. absurd (contains_none e h)));
   belong = ((tt, inr refl), inr (refl, refl));
@@ -411,8 +418,8 @@ retried m n few = record {
   disks = λ e o h i same. (refl, refl);
   answered = (
     none_told (retry n).steps refl,
-    record { dead = λ e o i dead. not_dead Ready Absent refl refl e.request.port dead; grounded = (tt, contains_here (on 0) [] (on 0) refl); ready = λ p ready. fails (record { machine = record m { book = tried n ∷ []; kept = [] }; ports = ports_in Ready Absent }) (moment_after (record { machine = record m { book = tried n ∷ []; kept = [] }; ports = ports_in Ready Absent }) (retry n)) (retry n).steps p ready refl (λ e h _ _. left_anew (suc n) (retry n).steps refl e h) },
-    none_unplugged (retry n).steps (moment_after (record { machine = record m { book = tried n ∷ []; kept = [] }; ports = ports_in Ready Absent }) (retry n)).machine refl,
+    record { dead = λ e o i dead. not_dead Ready Absent refl refl e.request.port dead; grounded = (tt, contains_here (on 0) [] (on 0) refl) },
+    none_unplugged (retry n).steps (moment_after (before m n) (retry n)).machine refl,
     λ p _. none_waits _ refl p,
     λ p. (λ ne e h. emptied_at (both Ready Absent) (tried (suc n)) refl p ne e h, stays p),
   );
@@ -428,7 +435,7 @@ happens10 = record {
   disks = λ e o h i same. (refl, refl);
   answered = (
     one_told (tried 4) outcome.Aborted abort.steps refl (reply_of (tried 4, outcome.Aborted)) refl,
-    record { dead = λ e o i dead. not_dead Ready Absent refl refl e.request.port dead; grounded = (tt, contains_here (on 0) [] (on 0) refl); ready = λ p ready. fails (moment_of first run9) (moment_after (moment_of first run9) abort) abort.steps p ready refl (λ e h. absurd (contains_none e h)) },
+    record { dead = λ e o i dead. not_dead Ready Absent refl refl e.request.port dead; grounded = (tt, contains_here (on 0) [] (on 0) refl) },
     none_unplugged abort.steps (moment_after (moment_of first run9) abort).machine refl,
     λ p _. none_there p,
     λ p. (λ ne e h. absurd (contains_none e h), stays p),
@@ -444,6 +451,7 @@ meets_trouble = record {
   fourth = retry 3;
   last = abort;
   runs = (((((((((((empty_starts, fit Ready Ready), happens1), happens2), happens3), happens4), happens5), happens6), happens7), retried (moment_of first run7).machine 2 (omega arith)), retried (moment_of first (retry 2 ∷ run7)).machine 3 (omega arith)), happens10);
+  heeds = ((((((((((tt, tt), tt), tt), tt), tt), tt), serves_ready), retry_heeds (moment_of first run7).machine 2), retry_heeds (moment_of first (retry 2 ∷ run7)).machine 3), λ p ready. fails (moment_of first run9) (moment_after (moment_of first run9) abort) abort.steps p ready refl (λ e h. absurd (contains_none e h)));
   told = (((((((((((((((((((((tt, tt), tt), tt), tt), tt), tt), tt), tt), λ e. absurd (false≢true (ap is_reader e))), tt), tt), tt), tt), tt), tt), tt), tt), tt), tt), tt), tt);
   volatile = (((((((((((((((((((((tt, tt), tt), tt), tt), tt), tt), tt), tt), tt), tt), tt), tt), tt), tt), tt), tt), tt), tt), tt), tt), tt);
   lost = losing;

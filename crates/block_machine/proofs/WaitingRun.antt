@@ -14,7 +14,7 @@ use Rattle.block_machine.specs.Worked.{WaitsItsTurn}
 use Rattle.block_machine.proofs.Members.{contains_none, contains_here, contains_there, contains_cases}
 use Rattle.block_machine.proofs.Dues.{issued_not_due}
 use Rattle.block_machine.proofs.Setting.{port, empty_starts, acceptable}
-use Rattle.block_machine.proofs.Scene.{mode, first, id, call, reply, sector_request, done, served, IsQuiet, row_zero, fit_write, fit_read, new, one_issued, none_there, one_told, one_touched, ports_fit, none_dead, none_ended, last_ended, none_unplugged, serves_calmly, serviced, emptied_one}
+use Rattle.block_machine.proofs.Scene.{mode, first, id, call, reply, sector_request, done, served, IsQuiet, row_zero, fit_write, fit_read, new, one_issued, none_there, one_told, one_touched, ports_fit, none_dead, none_ended, last_ended, none_unplugged, all_calmly, serviced, emptied_one}
 
 abbrev pub run0 : List (Event (Unit {0}))
 run0 = []
@@ -119,7 +119,7 @@ happens3 = record {
   lawful = (tt, (record { pending = issue (newly_accepted write); here = contains_here (issue (newly_accepted write)) (newly_accepted read ∷ []) (issue (newly_accepted write)) refl; id_is = refl; issued = refl }, refl, one_touched, refl));
   fit = ports_fit Ready;
   disks = λ e o h i same. (refl, refl);
-  answered = (one_told (done write) outcome.Ok event3.steps refl (reply write.id.0) refl, serves_calmly (moment_of first run2) (moment_of first run3) event3.steps (λ p dead. none_dead p dead) (λ p. (refl, refl, refl, refl, refl, refl)) tt refl (none_ended (moment_of first run2).machine event3.steps refl), none_unplugged event3.steps (moment_of first run3).machine refl, λ p _. one_issued (unanswered (issue (newly_accepted read))) refl p, λ p. (λ ne e h. emptied_one (issue (newly_accepted read)) refl p ne e h, serviced p));
+  answered = (one_told (done write) outcome.Ok event3.steps refl (reply write.id.0) refl, record { dead = λ e o i dead. none_dead e.request.port dead; grounded = tt }, none_unplugged event3.steps (moment_of first run3).machine refl, λ p _. one_issued (unanswered (issue (newly_accepted read))) refl p, λ p. (λ ne e h. emptied_one (issue (newly_accepted read)) refl p ne e h, serviced p));
 }
 
 happens4 : Happens (moment_of first run3) event4
@@ -143,8 +143,7 @@ happens5 = record {
   disks = λ e o h i same. (refl, refl);
   answered = (
     one_told (done read) outcome.Ok event5.steps refl (reply read.id.0) refl,
-    serves_calmly (moment_of first run4) (moment_of first run5) event5.steps (λ p dead. none_dead p dead) (λ p. (refl, refl, refl, refl, refl, refl)) tt refl
-        (last_ended (moment_of first run4).machine event5.steps [] (done read) refl refl (done read) refl (contains_here (Answer (done read) outcome.Ok) [] (Answer (done read) outcome.Ok) refl)),
+    record { dead = λ e o i dead. none_dead e.request.port dead; grounded = tt },
     none_unplugged event5.steps (moment_of first run5).machine refl,
     λ p _. none_there p,
     λ p. (λ ne e h. absurd (contains_none e h), serviced p),
@@ -156,6 +155,7 @@ waits_its_turn = record {
   first = first;
   run = run5;
   runs = ((((((empty_starts, ports_fit Ready), happens1), happens2), happens3), happens4), happens5);
+  heeds = (((((tt, tt), tt), all_calmly (moment_of first run2) (moment_of first run3) event3.steps (λ p. (refl, refl, refl, refl, refl, refl)) refl (none_ended (moment_of first run2).machine event3.steps refl)), tt), all_calmly (moment_of first run4) (moment_of first run5) event5.steps (λ p. (refl, refl, refl, refl, refl, refl)) refl (last_ended (moment_of first run4).machine event5.steps [] (done read) refl refl (done read) refl (contains_here (Answer (done read) outcome.Ok) [] (Answer (done read) outcome.Ok) refl)));
   told = ((((((((((tt, tt), tt), tt), λ e. absurd (false≢true (ap is_reader e))), tt), tt), tt), λ _ b lt. refl), tt), tt);
   early = run2;
   call = event3;

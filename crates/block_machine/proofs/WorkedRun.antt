@@ -3,6 +3,7 @@ use Rattle.std.proofs.Common.{◌≡◌, ◌⊎◌, ℕ, ◌+◌, ◌-◌, ◌<�
 use Rattle.std.proofs.lemmas.Bool.{and_from, cond-true, false≢true}
 use Rattle.std.specs.List.{Contains}
 use Rattle.std.specs.Prelude.{nat_le, nat_lt}
+use Rattle.ata_types.specs.declared.Port.{Port}
 use Rattle.ata_types.specs.declared.PortState.TheVariants.{Absent, Ready}
 use Rattle.ata_types.specs.declared.request.Op.TheVariants.{Read, Write, Flush}
 use Rattle.ata_types.specs.declared.request.Outcome.TheVariants as outcome
@@ -10,12 +11,12 @@ use Rattle.block_machine.specs.Due.{is_flush}
 use Rattle.block_machine.specs.Ports.{Evidence}
 use Rattle.block_machine.specs.State.{Block, Disk, Accepted, block_of, is_reader, unanswered}
 use Rattle.block_machine.specs.Steps.{Step, Accept, Issue, Touch, End, Answer, Unplug, Replace, Store, Load, newly_accepted, issue, touch, mark_ended}
-use Rattle.block_machine.specs.Events.{Submit, StoreAt, LoadAt, Service, Device, Submitted, Stored, Loaded, Served, Stepped, Event, Happens, IsRun, moment_of, situation_of, steps_of}
+use Rattle.block_machine.specs.Events.{Submit, StoreAt, LoadAt, Service, Device, Submitted, Stored, Loaded, Served, Stepped, Event, Happens, IsRun, ServesReady, AllHeed, moment_of, situation_of, steps_of}
 use Rattle.block_machine.specs.Durable.{SameBytes, HeldSince}
 use Rattle.block_machine.specs.Worked.{FindsTheFlushed, MayComeBack, ReadsOneOf}
 use Rattle.block_machine.proofs.Members.{contains_none, contains_here, contains_there, contains_cases}
 use Rattle.block_machine.proofs.Setting.{client, port, frame, request, empty, empty_starts, acceptable}
-use Rattle.block_machine.proofs.Scene.{mode, first, none, ports_in, id, call, reply, sector_request, done, served, is_open, IsQuiet, row_zero, fit_write, fit_read, fit_flush, new, one_issued, none_there, one_told, none_told, one_touched, ports_fit, none_dead, none_ended, none_unplugged, serves_calmly, serviced, ready_port, absent_not_ready, absent_not_dead}
+use Rattle.block_machine.proofs.Scene.{mode, first, none, at_port, ports_in, id, call, reply, sector_request, done, served, is_open, IsQuiet, row_zero, fit_write, fit_read, fit_flush, new, one_issued, none_there, one_told, none_told, one_touched, ports_fit, none_dead, none_ended, none_unplugged, all_calmly, serviced, ready_port, absent_not_ready, absent_not_dead}
 
 abbrev run0 : List (Event (Unit {0}))
 run0 = []
@@ -180,7 +181,7 @@ happens3 = record {
   lawful = (tt, (record { pending = issue (newly_accepted write); here = contains_here (issue (newly_accepted write)) [] (issue (newly_accepted write)) refl; id_is = refl; issued = refl }, refl, one_touched, refl));
   fit = ports_fit Ready;
   disks = λ e o h i same. (refl, refl);
-  answered = (one_told (done write) outcome.Ok event3.steps refl (reply write.id.0) refl, serves_calmly (moment_of first run2) (moment_of first run3) event3.steps (λ p dead. none_dead p dead) (λ p. (refl, refl, refl, refl, refl, refl)) tt refl (none_ended (moment_of first run2).machine event3.steps refl), none_unplugged event3.steps (moment_of first run3).machine refl, λ p _. none_there p, λ p. (λ ne e h. absurd (contains_none e h), serviced p));
+  answered = (one_told (done write) outcome.Ok event3.steps refl (reply write.id.0) refl, record { dead = λ e o i dead. none_dead e.request.port dead; grounded = tt }, none_unplugged event3.steps (moment_of first run3).machine refl, λ p _. none_there p, λ p. (λ ne e h. absurd (contains_none e h), serviced p));
 }
 
 happens4 : Happens (moment_of first run3) event4
@@ -202,7 +203,7 @@ happens5 = record {
   lawful = (tt, (record { pending = issue (newly_accepted flush); here = contains_here (issue (newly_accepted flush)) [] (issue (newly_accepted flush)) refl; id_is = refl; issued = refl }, refl, (λ k lt. absurd (omega (arith, lt))), refl));
   fit = ports_fit Ready;
   disks = λ e o h i same. (refl, refl);
-  answered = (one_told (mark_ended (issue (newly_accepted flush))) outcome.Ok event5.steps refl (reply 2) refl, serves_calmly (moment_of first run4) (moment_of first run5) event5.steps (λ p dead. none_dead p dead) (λ p. (refl, refl, refl, refl, refl, refl)) tt refl (none_ended (moment_of first run4).machine event5.steps refl), none_unplugged event5.steps (moment_of first run5).machine refl, λ p _. none_there p, λ p. (λ ne e h. absurd (contains_none e h), serviced p));
+  answered = (one_told (mark_ended (issue (newly_accepted flush))) outcome.Ok event5.steps refl (reply 2) refl, record { dead = λ e o i dead. none_dead e.request.port dead; grounded = tt }, none_unplugged event5.steps (moment_of first run5).machine refl, λ p _. none_there p, λ p. (λ ne e h. absurd (contains_none e h), serviced p));
 }
 
 happens6 : Happens (moment_of first run5) event6
@@ -235,7 +236,7 @@ happens8 = record {
   lawful = (tt, (record { pending = issue (newly_accepted later); here = contains_here (issue (newly_accepted later)) [] (issue (newly_accepted later)) refl; id_is = refl; issued = refl }, refl, one_touched, refl));
   fit = ports_fit Ready;
   disks = λ e o h i same. (refl, refl);
-  answered = (one_told (done later) outcome.Ok event8.steps refl (reply later.id.0) refl, serves_calmly (moment_of first run7) (moment_of first run8) event8.steps (λ p dead. none_dead p dead) (λ p. (refl, refl, refl, refl, refl, refl)) tt refl (none_ended (moment_of first run7).machine event8.steps refl), none_unplugged event8.steps (moment_of first run8).machine refl, λ p _. none_there p, λ p. (λ ne e h. absurd (contains_none e h), serviced p));
+  answered = (one_told (done later) outcome.Ok event8.steps refl (reply later.id.0) refl, record { dead = λ e o i dead. none_dead e.request.port dead; grounded = tt }, none_unplugged event8.steps (moment_of first run8).machine refl, λ p _. none_there p, λ p. (λ ne e h. absurd (contains_none e h), serviced p));
 }
 
 happens9 : Happens (moment_of first run8) event9
@@ -262,14 +263,6 @@ happens10 = record {
     record {
       dead = λ e o i dead. none_dead e.request.port dead;
       grounded = tt;
-      ready = λ p ready. record {
-        ended = none_ended (moment_of first run9).machine [] refl p;
-        lost = λ _ e h. absurd (contains_none e h);
-        told = λ _. inl (λ e o h. absurd (contains_none (Answer e o) h));
-        anew = λ _ e h. absurd (contains_none e h);
-        booted = inr (λ e h. absurd (contains_none e h));
-        calm = inl (inr (inl (contains_here port [] p (ready_port p ready))));
-      };
     },
     none_unplugged [] (moment_of first run10).machine refl,
     λ p _. none_there p,
@@ -301,7 +294,7 @@ happens12 disk = record {
   disks = λ e o h i same. absurd (contains_none e h);
   answered = (
     none_told [] refl,
-    record { dead = λ e o i dead. absent_not_dead e.request.port dead; grounded = tt; ready = λ p ready. absent_not_ready p ready },
+    record { dead = λ e o i dead. absent_not_dead e.request.port dead; grounded = tt },
     none_unplugged [] (moment_of first (run12 disk)).machine refl,
     λ p _. none_there p,
     λ p. (
@@ -330,7 +323,7 @@ happens14 disk = record {
   lawful = (tt, (record { pending = issue (newly_accepted (read disk)); here = contains_here (issue (newly_accepted (read disk))) [] (issue (newly_accepted (read disk))) refl; id_is = refl; issued = refl }, refl, one_touched, refl));
   fit = ports_fit Ready;
   disks = λ e o h i same. (refl, refl);
-  answered = (one_told (done (read disk)) outcome.Ok (event14 disk).steps refl (reply 4) refl, serves_calmly (moment_of first (run13 disk)) (moment_of first (run14 disk)) (event14 disk).steps (λ p dead. none_dead p dead) (λ p. (refl, refl, refl, refl, refl, refl)) tt refl (none_ended (moment_of first (run13 disk)).machine (event14 disk).steps refl), none_unplugged (event14 disk).steps (moment_of first (run14 disk)).machine refl, λ p _. none_there p, λ p. (λ ne e h. absurd (contains_none e h), serviced p));
+  answered = (one_told (done (read disk)) outcome.Ok (event14 disk).steps refl (reply 4) refl, record { dead = λ e o i dead. none_dead e.request.port dead; grounded = tt }, none_unplugged (event14 disk).steps (moment_of first (run14 disk)).machine refl, λ p _. none_there p, λ p. (λ ne e h. absurd (contains_none e h), serviced p));
 }
 
 loaded : (disk : Disk) (b : ℕ) → b < 1 → slice_index (disk 100 0 ∷ []) b ≡ (moment_of first (run14 disk)).machine.memory (frame 41) (0 + b)
@@ -349,6 +342,20 @@ happens15 disk = record {
 
 runs10 : IsRun first run10
 runs10 = (((((((((((empty_starts, ports_fit Ready), happens1), happens2), happens3), happens4), happens5), happens6), happens7), happens8), happens9), happens10)
+
+-- the service that notices
+notices : (p : Port) → at_port Ready p ≡ Ready → ServesReady (moment_of first run9) gone [] (moment_of first run10) p
+notices p ready = record {
+  ended = none_ended (moment_of first run9).machine [] refl p;
+  lost = λ _ e h. absurd (contains_none e h);
+  told = λ _. inl (λ e o h. absurd (contains_none (Answer e o) h));
+  anew = λ _ e h. absurd (contains_none e h);
+  booted = inr (λ e h. absurd (contains_none e h));
+  calm = inl (inr (inl (contains_here port [] p (ready_port p ready))));
+}
+
+heeds10 : AllHeed first run10
+heeds10 = ((((((((((tt, tt), tt), all_calmly (moment_of first run2) (moment_of first run3) event3.steps (λ p. (refl, refl, refl, refl, refl, refl)) refl (none_ended (moment_of first run2).machine event3.steps refl)), tt), all_calmly (moment_of first run4) (moment_of first run5) event5.steps (λ p. (refl, refl, refl, refl, refl, refl)) refl (none_ended (moment_of first run4).machine event5.steps refl)), tt), tt), all_calmly (moment_of first run7) (moment_of first run8) event8.steps (λ p. (refl, refl, refl, refl, refl, refl)) refl (none_ended (moment_of first run7).machine event8.steps refl)), tt), notices)
 
 -- What the sector held since the flush was ended: the bytes of the one write or of the other.
 since_flush : (block : Block) → HeldSince empty port 100 block (steps_of run10) → SameBytes block (write.held 0) ⊎ SameBytes block (later.held 0)
@@ -378,6 +385,7 @@ finds disk back = record {
   service = event12;
   late = event15 disk ∷ event14 disk ∷ event13 disk ∷ [];
   runs = (((((runs10, happens11 disk), happens12 disk), happens13 disk), happens14 disk), happens15 disk);
+  heeds = (((((heeds10, tt), λ p ready. absent_not_ready p ready), tt), all_calmly (moment_of first (run13 disk)) (moment_of first (run14 disk)) (event14 disk).steps (λ p. (refl, refl, refl, refl, refl, refl)) refl (none_ended (moment_of first (run13 disk)).machine (event14 disk).steps refl)), tt);
   told = ((((((((((((((((((((((((tt, tt), tt), tt), λ e. absurd (false≢true (ap is_reader e))), tt), tt), tt), tt), tt), tt), tt), tt), tt), λ e. absurd (false≢true (ap is_reader e))), tt), tt), tt), tt), tt), tt), λ _ b lt. refl), tt), tt), tt);
   volatile = ((((((((((((((((((((((((tt, tt), tt), tt), tt), tt), tt), tt), tt), tt), tt), tt), tt), tt), tt), tt), tt), tt), back), tt), tt), tt), tt), tt), tt);
   comes = refl;
@@ -407,6 +415,7 @@ finds_the_flushed = record {
   unplug = event9;
   service = event10;
   runs = runs10;
+  heeds = heeds10;
   write = write;
   flush = flush;
   later = later;

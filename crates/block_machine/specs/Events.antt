@@ -305,34 +305,10 @@ AllGrounded evidence (Answer e outcome.Aborted ∷ before) = AllGrounded evidenc
 AllGrounded evidence (Answer e (outcome.DeviceError status error) ∷ before) = AllGrounded evidence before × Contains evidence.failed e.request.port
 AllGrounded evidence (step ∷ before) = AllGrounded evidence before
 
--- the step takes the port's disk out, or puts one in
-abbrev pub changes_disk : Port → Step → Bool
-changes_disk port (Unplug p) = p.0 == port.0
-changes_disk port (Replace p id size disk) = p.0 == port.0
-changes_disk port _ = false
-
--- the port failed, or its disk had gone when the call began, or one goes or comes in it
-abbrev pub IsDisturbed : Evidence → List Step → Port → Type 0
-IsDisturbed evidence steps port = Contains evidence.failed port ⊎ Contains evidence.gone port ⊎ (list_any (changes_disk port) steps ≡ true)
-
--- What a service does with a port that was ready when it began. What had ended is answered Ok. Where its disk had gone, the
--- others are all answered, and all alike: Unplugged, or PortDead. Where it failed or was stopped, no request keeps its issue, and
--- so where the port isn't what it was: it was booted then. And where nothing disturbs it, the port stays what it is, and nothing
--- but Ok is told.
-pub record ServesReady (old : Moment) (evidence : Evidence) (steps : List Step) (new : Moment) (port : Port) : Type 0 where
-  pub ended : AnswersEnded old.machine steps port
-  pub lost : Contains evidence.gone port → (e : Pending) → Contains new.machine.book e → e.request.port ≢ port
-  pub told : Contains evidence.gone port → AreTold outcome.Unplugged steps port ⊎ AreTold outcome.PortDead steps port
-  pub anew : Contains evidence.failed port ⊎ Contains evidence.stopped port → NoneKeepsIssue steps new.machine port
-  pub booted : SamePort old.ports new.ports port ⊎ NoneKeepsIssue steps new.machine port
-  pub calm : IsDisturbed evidence steps port ⊎ (SamePort old.ports new.ports port × AreTold outcome.Ok steps port)
-
--- A service tells dead ports, serves the ready ones, and lets requests wait again, aborts them, or tells faults of them, where
--- something failed.
-pub record ServesPorts (old : Moment) (evidence : Evidence) (steps : List Step) (new : Moment) : Type 0 where
+-- A service tells dead ports, and lets requests wait again, aborts them, or tells faults of them, where something failed.
+pub record ServesPorts (old : Moment) (evidence : Evidence) (steps : List Step) : Type 0 where
   pub dead : TellsDead old steps
   pub grounded : AllGrounded evidence steps
-  pub ready : (port : Port) → old.ports.state port ≡ Ready → ServesReady old evidence steps new port
 
 -- What a reset that ends makes of each port: it boots it, none of its requests keeps an issue, none is unanswered where it isn't
 -- ready then, and a port that is served has stopped.
@@ -360,7 +336,7 @@ IsAnswered (LoadAt client frame offset count) (Loaded (Ok bytes)) old evidence s
 IsAnswered (LoadAt client frame offset count) (Loaded (Err fault)) old evidence steps new =
     IsFirstMemFault old.machine.owner old.machine.lent client frame offset count fault
     × (steps ≡ []) × SamePorts old.ports new.ports
-IsAnswered Service (Served replies) old evidence steps new = Tells steps replies × ServesPorts old evidence steps new
+IsAnswered Service (Served replies) old evidence steps new = Tells steps replies × ServesPorts old evidence steps
     × UnplugsAll steps new.machine × AllIssued new × ((port : Port) → IsEmptied new port × IsServiced old.ports evidence new.ports port)
 IsAnswered Tick (Served replies) old evidence steps new = Tells steps replies × AgesOnce old.ports steps
     × RestartsHung old evidence steps new × UnplugsAll steps new.machine × AllIssued new
@@ -396,6 +372,44 @@ moment_of first (event ∷ past) = moment_after (moment_of first past) event
 abbrev pub IsRun : {D : Type 0} → Moment → List (Event D) → Type 0
 IsRun first [] = IsStart first.machine × AreFit first.ports
 IsRun first (event ∷ past) = IsRun first past × Happens (moment_of first past) event
+
+-- ---- what a service makes of trouble
+
+-- the step takes the port's disk out, or puts one in
+abbrev pub changes_disk : Port → Step → Bool
+changes_disk port (Unplug p) = p.0 == port.0
+changes_disk port (Replace p id size disk) = p.0 == port.0
+changes_disk port _ = false
+
+-- the port failed, or its disk had gone when the call began, or one goes or comes in it
+abbrev pub IsDisturbed : Evidence → List Step → Port → Type 0
+IsDisturbed evidence steps port = Contains evidence.failed port ⊎ Contains evidence.gone port ⊎ (list_any (changes_disk port) steps ≡ true)
+
+-- What a service does with a port that was ready when it began. What had ended is answered Ok. Where its disk had gone, the
+-- others are all answered, and all alike: Unplugged, or PortDead. Where it failed or was stopped, no request keeps its issue, and
+-- so where the port isn't what it was: it was booted then. And where nothing disturbs it, the port stays what it is, and nothing
+-- but Ok is told.
+pub record ServesReady (old : Moment) (evidence : Evidence) (steps : List Step) (new : Moment) (port : Port) : Type 0 where
+  pub ended : AnswersEnded old.machine steps port
+  pub lost : Contains evidence.gone port → (e : Pending) → Contains new.machine.book e → e.request.port ≢ port
+  pub told : Contains evidence.gone port → AreTold outcome.Unplugged steps port ⊎ AreTold outcome.PortDead steps port
+  pub anew : Contains evidence.failed port ⊎ Contains evidence.stopped port → NoneKeepsIssue steps new.machine port
+  pub booted : SamePort old.ports new.ports port ⊎ NoneKeepsIssue steps new.machine port
+  pub calm : IsDisturbed evidence steps port ⊎ (SamePort old.ports new.ports port × AreTold outcome.Ok steps port)
+
+-- A call heeds what it finds: a service does so with each port that was ready when it began. (The other calls are bound by what
+-- they answer.)
+abbrev pub Heeds : {D : Type 0} → Ask D → Moment → Evidence → List Step → Moment → Type 0
+Heeds Service old evidence steps new = (port : Port) → old.ports.state port ≡ Ready → ServesReady old evidence steps new port
+Heeds _ old evidence steps new = Unit {0}
+
+-- each call of the run heeds what it finds
+abbrev pub AllHeed : {D : Type 0} → Moment → List (Event D) → Type 0
+AllHeed first [] = Unit {0}
+AllHeed first (event ∷ past) = AllHeed first past
+    × Heeds event.ask (moment_of first past) event.evidence event.steps (moment_of first (event ∷ past))
+
+-- ---- what a run gives
 
 -- what a call makes of it that the adapter didn't end a reset: this is so until a service, or a reset that ends
 abbrev pub StaysStuck : {D : Type 0} → Ask D → Said → Type 0 → Type 0

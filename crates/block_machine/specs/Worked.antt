@@ -11,7 +11,7 @@ use Rattle.block_machine.specs.Due.{IsDue, conflict}
 use Rattle.block_machine.specs.Steps.{Step, Issue, Again, Answer, Unplug, Replace, May, AllTouched}
 use Rattle.block_machine.specs.Left.{after, IsStart, AllTold, HoldsLeft}
 use Rattle.block_machine.specs.Durable.{SameBytes, ComesBack, IsVolatile, IsFlushed}
-use Rattle.block_machine.specs.Events.{Moment, Event, Service, Tick, Reset, Served, WasReset, IsRun, accepts_of, reply_of, steps_of, moment_of}
+use Rattle.block_machine.specs.Events.{Moment, Event, Service, Tick, Reset, Served, WasReset, IsRun, AllHeed, accepts_of, reply_of, steps_of, moment_of}
 
 -- the disk that was last in at the port is put in again after this run, with these bytes
 abbrev pub same_again : Moment → List (Event (Unit {0})) → Port → Disk → Step
@@ -28,6 +28,7 @@ pub record ReadsOneOf (first : Moment) (run : List (Event (Unit {0}))) (disk : D
   pub service : Event (Unit {0})
   pub late : List (Event (Unit {0}))
   pub runs : IsRun first (late ++ service ∷ plug ∷ run)
+  pub heeds : AllHeed first (late ++ service ∷ plug ∷ run)
   pub told : AllTold first.machine (steps_of (late ++ service ∷ plug ∷ run))
   pub volatile : IsVolatile first.machine (steps_of (late ++ service ∷ plug ∷ run))
   pub comes : plug.steps ≡ same_again first run one.port disk ∷ []
@@ -53,6 +54,7 @@ pub record FindsTheFlushed : Type 0 where
   pub unplug : Event (Unit {0})
   pub service : Event (Unit {0})
   pub runs : IsRun first (service ∷ unplug ∷ early)
+  pub heeds : AllHeed first (service ∷ unplug ∷ early)
   pub write : Accepted
   pub flush : Accepted
   pub later : Accepted
@@ -77,6 +79,7 @@ pub record WaitsItsTurn : Type 0 where
   pub first : Moment
   pub run : List (Event (Unit {0}))
   pub runs : IsRun first run
+  pub heeds : AllHeed first run
   pub told : AllTold first.machine (steps_of run)
   -- the run's events: these before that call, and the two after it
   pub early : List (Event (Unit {0}))
@@ -114,6 +117,7 @@ pub record EndsWithAReset : Type 0 where
   pub service : Event (Unit {0})
   pub reset : Event (Unit {0})
   pub runs : IsRun first (reset ∷ service ∷ stuck ∷ three ∷ two ∷ one ∷ asked)
+  pub heeds : AllHeed first (reset ∷ service ∷ stuck ∷ three ∷ two ∷ one ∷ asked)
   pub ticks : (one.ask ≡ Tick) × (two.ask ≡ Tick) × (three.ask ≡ Tick)
   pub aged : Pending
   pub old : (moment_of first (two ∷ one ∷ asked)).machine.book ≡ aged ∷ []
@@ -145,6 +149,7 @@ pub record MeetsTrouble : Type 0 where
   pub fourth : Event (Unit {0})
   pub last : Event (Unit {0})
   pub runs : IsRun first (last ∷ fourth ∷ third ∷ service ∷ asked)
+  pub heeds : AllHeed first (last ∷ fourth ∷ third ∷ service ∷ asked)
   pub told : AllTold first.machine (steps_of (last ∷ fourth ∷ third ∷ service ∷ asked))
   pub volatile : IsVolatile first.machine (steps_of (last ∷ fourth ∷ third ∷ service ∷ asked))
   pub lost : Pending
@@ -183,6 +188,7 @@ pub record EndsAtATick : Type 0 where
   pub ending : Event (Unit {0})
   pub tick : Event (Unit {0})
   pub runs : IsRun first (tick ∷ ending ∷ early)
+  pub heeds : AllHeed first (tick ∷ ending ∷ early)
   pub ended : Pending
   pub book : (moment_of first (ending ∷ early)).machine.book ≡ ended ∷ []
   pub is_ended : (ended.ended ≡ true) × (ended.age ≡ 2)
@@ -200,6 +206,7 @@ pub record GoesAgainInResets : Type 0 where
   pub three : Event (Unit {0})
   pub four : Event (Unit {0})
   pub runs : IsRun first (four ∷ three ∷ two ∷ one ∷ asked)
+  pub heeds : AllHeed first (four ∷ three ∷ two ∷ one ∷ asked)
   pub resets : (one.ask ≡ Reset) × (two.ask ≡ Reset) × (three.ask ≡ Reset) × (four.ask ≡ Reset)
   pub issued : Pending
   pub waits : Pending
@@ -223,6 +230,7 @@ pub record DiesInAService : Type 0 where
   pub asked : List (Event (Unit {0}))
   pub service : Event (Unit {0})
   pub runs : IsRun first (service ∷ asked)
+  pub heeds : AllHeed first (service ∷ asked)
   pub issued : Pending
   pub book : (moment_of first asked).machine.book ≡ issued ∷ []
   pub ready : (moment_of first asked).ports.state issued.request.port ≡ Ready
