@@ -17,7 +17,8 @@ use Rattle.adapter.specs.declared.tape.Entry.TheVariants as entry
 use Rattle.adapter.specs.declared.tape.Fault as tape_fault
 use Rattle.block_machine.specs.Left.{after}
 use Rattle.block_machine.specs.State.{Pending, Machine}
-use Rattle.block_machine.specs.Steps.{MayMove, AllTouched, NoneKept}
+use Rattle.block_machine.specs.Steps.{Step, MayMove, AllTouched, NoneKept}
+use Rattle.agreement.specs.Driver.{ByDevice}
 use Rattle.agreement.specs.Follows.{Follows}
 use Rattle.agreement.specs.Slots.{Serves, Uses, IsOver, Brought}
 
@@ -70,6 +71,11 @@ pub record FindsPage (uses : Uses) (m : Machine) (port : ℕ) (o : Operation) (o
   pub follows : Follows uses m old new
   pub clear : IsClear (new.port port) 0
   pub brought : Brought new.memory new.tape port o (new.port port).notes.st_set_at
+
+-- these are the steps by which the machine follows, and the device made them alone
+pub record AreStepsOf {uses : Uses} {m : Machine} {old new : Device} (follows : Follows uses m old new) (steps : List Step) : Type 0 where
+  pub same : steps ≡ follows.steps
+  pub device : ByDevice old new m steps
 
 -- ---- frames that the device leaves alone
 

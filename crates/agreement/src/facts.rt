@@ -19,7 +19,8 @@ ghost use Rattle.adapter.specs.declared.tape.Entry.{Entry};
 ghost use Rattle.block_machine.specs.Histories.{IsReached, AddsSteps};
 ghost use Rattle.block_machine.specs.State.{Machine};
 ghost use Rattle.agreement.specs.Agrees.{Agrees};
-ghost use Rattle.agreement.specs.Facts.{IsHalted, IsReset, Finds, FindsPage, IsStill, AreOver, IsHealthy, Undisturbed, IsFaulted, ShowsFault, HasFaults, IsRecorded, IsAwaited, IsUnflagged, IsQuiet, KeepsRecord};
+ghost use Rattle.agreement.specs.Driver.{Known, Knows};
+ghost use Rattle.agreement.specs.Facts.{IsHalted, IsReset, Finds, FindsPage, AreStepsOf, IsStill, AreOver, IsHealthy, Undisturbed, IsFaulted, ShowsFault, HasFaults, IsRecorded, IsAwaited, IsUnflagged, IsQuiet, KeepsRecord};
 ghost use Rattle.agreement.specs.Follows.{Follows};
 ghost use Rattle.agreement.specs.Places.{scratch_of};
 ghost use Rattle.agreement.specs.Slots.{Uses, Free, Own, Serves, IsOver};
@@ -48,18 +49,21 @@ pub fn reset_is_found()
     ensures idle { (p : PortState) → IsIdlePort p → IsReset p }
 {}
 
-/// CI and then SACT of a running port are read: each slot whose bits were clear in both has ended its request.
+/// CI and then SACT of a running port are read: each slot whose bits were clear in both has ended its request. The steps by which
+/// the machine follows are those of the two readings, and what the driver knows stays known.
 pub fn done_is_found()
     ensures finds { (uses : Uses) (m : Machine) (port : Port) (ci sact : ℕ) (old mid new : Device) → IsReached m → Agrees uses m old
         → old.hr ≡ false → (old.port port.0).st ≡ true → Reads (Px port Ci) ci old mid → Reads (Px port Sact) sact mid new
         → Finds uses m port ci sact old new }
-    ensures adds { (uses : Uses) (port : Port) (ci sact : ℕ) (old mid new : Device) → old.hr ≡ false → (old.port port.0).st ≡ true
-        → Reads (Px port Ci) ci old mid → Reads (Px port Sact) sact mid new
-        → AddsSteps (Agrees uses) old new (λ m steps. (found : Finds uses m port ci sact old new) × (steps ≡ found.follows.steps)) }
+    ensures adds { (k : Known) (port : Port) (ci sact : ℕ) (mid new : Device) → k.device.hr ≡ false → (k.device.port port.0).st ≡ true
+        → Reads (Px port Ci) ci k.device mid → Reads (Px port Sact) sact mid new
+        → AddsSteps Knows k (record k { device = new })
+        (λ m steps. (found : Finds k.uses m port ci sact k.device new) × AreStepsOf found.follows steps) }
 {}
 
 /// CI of a running port with a command of the driver's own is read: once bit 0 is clear, the command has brought its page; and
-/// a load of the scratch frame then gives the bytes that the port's last command of this operation has moved.
+/// a load of the scratch frame then gives the bytes that the port's last command of this operation has moved. The steps by which
+/// the machine follows are the device's, and what the driver knows stays known.
 pub fn page_is_found()
     ensures read { (uses : Uses) (m : Machine) (port : Port) (o : Operation) (v : ℕ) (old new : Device) → IsReached m → Agrees uses m old
         → old.hr ≡ false → (old.port port.0).st ≡ true → uses port.0 0 ≡ Own o → Reads (Px port Ci) v old new → bit v 0 ≡ false
@@ -68,6 +72,15 @@ pub fn page_is_found()
         → old.hr ≡ false → (old.port port).st ≡ true → uses port 0 ≡ Own o → IsOver (old.port port) 0
         → Loads (scratch_of port) bytes old new → length bytes ≡ 512
         → (page : FindsPage uses m port o old new) × (bytes ≡ page.brought.move.bytes) }
+    ensures read_adds { (k : Known) (port : Port) (o : Operation) (v : ℕ) (new : Device) → k.device.hr ≡ false
+        → (k.device.port port.0).st ≡ true → k.uses port.0 0 ≡ Own o → Reads (Px port Ci) v k.device new → bit v 0 ≡ false
+        → AddsSteps Knows k (record k { device = new })
+        (λ m steps. (page : FindsPage k.uses m port.0 o k.device new) × AreStepsOf page.follows steps) }
+    ensures load_adds { (k : Known) (port : ℕ) (o : Operation) (bytes : List ℕ) (new : Device) → k.device.hr ≡ false
+        → (k.device.port port).st ≡ true → k.uses port 0 ≡ Own o → IsOver (k.device.port port) 0
+        → Loads (scratch_of port) bytes k.device new → length bytes ≡ 512
+        → AddsSteps Knows k (record k { device = new })
+        (λ m steps. (page : FindsPage k.uses m port o k.device new) × AreStepsOf page.follows steps × (bytes ≡ page.brought.move.bytes)) }
 {}
 
 /// Where the commands of a request are over, the device uses none of the frames that are lent to it any more, whatever it does;
