@@ -37,3 +37,4 @@ mod Awaiting
 mod Starting
 mod Faulted
 mod Witnesses
+mod Allowing

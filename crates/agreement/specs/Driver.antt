@@ -1,5 +1,5 @@
 -- What the driver may store and write, what it knows, and what its calls add (this project's own).
-use Rattle.std.specs.Prelude.{ℕ, true, false, not, ◌≡◌, ◌≢◌, ◌⊎◌, ◌+◌, ◌*◌, ◌<◌, ◌≤◌, ◌++◌, List, [], ◌∷◌, length, None, Contains}
+use Rattle.std.specs.Prelude.{ℕ, Bool, true, false, not, ◌≡◌, ◌≢◌, ◌⊎◌, ◌+◌, ◌*◌, ◌<◌, ◌≤◌, ◌++◌, List, [], ◌∷◌, length, None, Contains}
 use Rattle.ata_types.specs.declared.request.RequestId.{RequestId}
 use Rattle.hba_regs.specs.Bits.{bit}
 use Rattle.hba_regs.specs.declared.reg.Reg.{Reg}
@@ -55,6 +55,12 @@ AllFree uses port = (slot : ℕ) → uses port slot ≡ Free
 pub record IsCommand (uses : Uses) (port v : ℕ) (p : PortState) : Type 0 where
   pub start : bit v 0 ≡ true → (p.st ≡ true) ⊎ AllFree uses port
   pub receive : bit v 4 ≡ true → (port < 4) × (p.bases.fb ≡ received_of port)
+
+-- a value of PxCMD with these bits ST and FRE, and the others as they were read
+pub record IsWith (st fre : Bool) (was v : ℕ) : Type 0 where
+  pub start : bit v 0 ≡ st
+  pub receive : bit v 4 ≡ fre
+  pub others : (place : ℕ) → place < 32 → place ≢ 0 → place ≢ 4 → bit v place ≡ bit was place
 
 -- What is asked of a write so that each slot goes on as it was used: PxCLB has the list's place, or no slot is used; PxSACT has
 -- bits of free slots alone, and PxCI none.

@@ -120,8 +120,8 @@ pub fn calm_composes()
 {}
 
 /// The faults of a port since its ST was set stand on the tape, and the task file shows the last one: so it stays, whatever the
-/// device does, over readings, and over each write that may be made, where ST is set on a quiet port alone. So it is while ST
-/// is 0, on a port that runs, and on one that has failed.
+/// device does, over readings, and over each write that may be made, where ST is set on a quiet port alone: what is asked of the
+/// write stays so until it is made. So it is while ST is 0, on a port that runs, and on one that has failed.
 pub fn faults_are_recorded()
     ensures steps { (port : ℕ) (old new : Device) → Steps old new → IsRecorded old.tape (old.port port) port
         → IsRecorded new.tape (new.port port) port }
@@ -129,6 +129,7 @@ pub fn faults_are_recorded()
         → IsRecorded new.tape (new.port port) port }
     ensures writes { (port : ℕ) (r : Reg) (v : ℕ) (old new : Device) → Stays (MayWrite r v) old → Stays (KeepsRecord r v) old
         → Writes r v old new → IsRecorded old.tape (old.port port) port → IsRecorded new.tape (new.port port) port }
+    ensures asked { (r : Reg) (v : ℕ) (d : Device) → d.hr ≡ false → KeepsRecord r v d → Stays (KeepsRecord r v) d }
     ensures idle { (tape : List Entry) (p : PortState) (port : ℕ) → p.st ≡ false → IsRecorded tape p port }
     ensures runs { HasFaults first_read.tape (first_read.port 0) 0 }
     ensures failed { (new : Device) × Steps first_read new × ((new.port 0).halt ≡ HaltedPlain) × HasFaults new.tape (new.port 0) 0 }

@@ -1,18 +1,19 @@
 // Laws of the relation, for the crates above: the clause is the theorem. Nothing calls these functions.
-ghost use Rattle.std.specs.Prelude.{◌≡◌, ◌+◌, ◌*◌, ◌/◌, ◌%◌, ◌<◌, ◌≤◌, ◌∷◌, ◌++◌, ℕ, Bool, true, false, [], List, length, Contains};
+ghost use Rattle.std.specs.Prelude.{◌≡◌, ◌≢◌, ◌+◌, ◌*◌, ◌/◌, ◌%◌, ◌<◌, ◌≤◌, ◌∷◌, ◌++◌, ℕ, Bool, true, false, [], List, length, Contains};
 ghost use Rattle.ata_types.specs.declared.Port.{Port};
 ghost use Rattle.ata_types.specs.declared.request.ClientId.{ClientId};
 ghost use Rattle.ata_types.specs.declared.request.Frame.{Frame};
 ghost use Rattle.ata_types.specs.declared.request.Outcome.{Outcome};
 ghost use Rattle.ata_types.specs.declared.request.RequestId.{RequestId};
-ghost use Rattle.hba_regs.specs.declared.reg.PortReg.TheVariants.{Ci};
+ghost use Rattle.hba_regs.specs.Bits.{bit};
+ghost use Rattle.hba_regs.specs.declared.reg.PortReg.TheVariants.{Clb, Clbu, Fb, Fbu, Cmd, Ci};
 ghost use Rattle.hba_regs.specs.declared.reg.Reg.TheVariants.{Px};
 ghost use Rattle.hba_regs.specs.declared.reg.Reg.{Reg};
 ghost use Rattle.adapter.specs.Access.{Reads, Writes, Loads, Stores};
 ghost use Rattle.adapter.specs.Commands.{Meaning};
 ghost use Rattle.adapter.specs.Device.{PortState, Device};
 ghost use Rattle.adapter.specs.Idle.{IsIdle};
-ghost use Rattle.adapter.specs.Rules.{IsFree, IsOn, HasPort, MayWrite, Stays};
+ghost use Rattle.adapter.specs.Rules.{IsFree, IsOn, HasPort, MayStart, MayReceive, MayStopReceiving, MayWrite, Stays};
 ghost use Rattle.adapter.specs.Steps.{Steps};
 ghost use Rattle.adapter.specs.declared.command.Operation.{Operation};
 ghost use Rattle.block_machine.specs.Events.{IsDevices, AllDevices, AllMay};
@@ -23,9 +24,9 @@ ghost use Rattle.block_machine.specs.State.{Accepted, Pending, Machine};
 ghost use Rattle.block_machine.specs.Steps.{Step, Accept, Issue, Age, Again, Answer, Release, Store, Load, May, after_step, stays};
 ghost use Rattle.block_machine.specs.declared.due.Mode.{Mode};
 ghost use Rattle.agreement.specs.Agrees.{Agrees, IsDiskOf, SameMemory, SameSectors, AreUnarmed};
-ghost use Rattle.agreement.specs.Driver.{MayStore, LeavesUses, LeavesFree, Known, Knows, IsBacked, ByDevice, IsPrepared, IsOwnPrepared, EndsWith, HasNoSlot, Forgets, ForgetsKept, serving, parking, freeing, idle};
+ghost use Rattle.agreement.specs.Driver.{MayStore, LeavesUses, IsWith, LeavesFree, Known, Knows, IsBacked, ByDevice, IsPrepared, IsOwnPrepared, EndsWith, HasNoSlot, Forgets, ForgetsKept, serving, parking, freeing, idle};
 ghost use Rattle.agreement.specs.Follows.{Follows};
-ghost use Rattle.agreement.specs.Places.{list_of, scratch_of};
+ghost use Rattle.agreement.specs.Places.{list_of, received_of, scratch_of};
 ghost use Rattle.agreement.specs.Witness.{FirstIsKnown};
 ghost use Rattle.agreement.specs.Slots.{Use, Free, Own, Serves, Uses, put, Told, HasBlock, IsOver};
 
@@ -253,6 +254,40 @@ pub fn client_bytes_are_free()
     ensures { (uses : Uses) (m : Machine) (d : Device) → IsReached m → Agrees uses m d → (client : ClientId)
         (frame : Frame) (offset n : ℕ) → 4096 * frame.0 + 4096 ≤ d.size
         → IsOpen m.owner m.lent client frame offset n → Stays (IsFree (4096 * frame.0 + offset) n) d }
+{}
+
+/// A write that may be made now, of any register but PxCI, may be made whatever the device does first; and it goes on to leave each
+/// slot to its use.
+pub fn writing_is_permitted()
+    ensures rules { (r : Reg) (v : ℕ) (d : Device) → ((port : Port) → r ≢ Px port Ci) → MayWrite r v d → Stays (MayWrite r v) d }
+    ensures uses { (uses : Uses) (r : Reg) (v : ℕ) (d : Device) → d.hr ≡ false → LeavesUses uses r v d
+        → Stays (LeavesUses uses r v) d }
+{}
+
+/// Where a port's engine stands its command list may be put into its place; and where it receives no FISes, the received FIS area may.
+pub fn placing_is_permitted()
+    ensures list { (d : Device) (port : Port) → IsOn d → HasPort d port.0 → (d.port port.0).st ≡ false → (d.port port.0).cr ≡ false
+        → list_of port.0 + 1024 ≤ d.size → Stays (MayWrite (Px port Clb) (list_of port.0)) d }
+    ensures list_upper { (d : Device) (port : Port) → IsOn d → HasPort d port.0 → (d.port port.0).st ≡ false
+        → (d.port port.0).cr ≡ false → Stays (MayWrite (Px port Clbu) 0) d }
+    ensures received { (d : Device) (port : Port) → IsOn d → HasPort d port.0 → (d.port port.0).fre ≡ false
+        → (d.port port.0).fr ≡ false → received_of port.0 + 256 ≤ d.size → Stays (MayWrite (Px port Fb) (received_of port.0)) d }
+    ensures received_upper { (d : Device) (port : Port) → IsOn d → HasPort d port.0 → (d.port port.0).fre ≡ false
+        → (d.port port.0).fr ≡ false → Stays (MayWrite (Px port Fbu) 0) d }
+{}
+
+/// PxCMD is read, and then it may be written back with ST set where the port may start; with ST clear always; with FRE set where the
+/// port may receive; and with FRE and ST clear where its engine stands.
+pub fn commanding_is_permitted()
+    ensures start { (port : Port) (was v : ℕ) (old new : Device) → IsOn old → HasPort old port.0 → Reads (Px port Cmd) was old new
+        → MayStart (new.port port.0) → IsWith true true was v → Stays (MayWrite (Px port Cmd) v) new }
+    ensures stop { (port : Port) (was v : ℕ) (old new : Device) → IsOn old → HasPort old port.0 → Reads (Px port Cmd) was old new
+        → IsWith false (bit was 4) was v → Stays (MayWrite (Px port Cmd) v) new }
+    ensures receive { (port : Port) (was v : ℕ) (old new : Device) → IsOn old → HasPort old port.0 → Reads (Px port Cmd) was old new
+        → MayReceive (new.port port.0) → IsWith (bit was 0) true was v → Stays (MayWrite (Px port Cmd) v) new }
+    ensures stop_receiving { (port : Port) (was v : ℕ) (old new : Device) → IsOn old → HasPort old port.0
+        → Reads (Px port Cmd) was old new → MayStopReceiving (new.port port.0) → IsWith false false was v
+        → Stays (MayWrite (Px port Cmd) v) new }
 {}
 
 /// The bit of PxCI of a slot with a prepared request may be written, whatever the device does first.
