@@ -128,7 +128,7 @@ pub narrow : (port k at n a : ℕ) → at ≤ a → a < at + n → ((list_of por
 narrow port k at n a low high (inl x) = inl (omega (arith, x.0, low), omega (arith, x.1, high))
 narrow port k at n a low high (inr x) = inr (omega (arith, x.0, low), omega (arith, x.1, high))
 
-store_table : (uses : Uses) (port slot at n a : ℕ) → (uses port slot ≡ Free → ⊥) → port < 4 → slot < 32 → MayStore uses at n → IsTable port slot a → at ≤ a → a < at + n → ⊥
+pub store_table : (uses : Uses) (port slot at n a : ℕ) → (uses port slot ≡ Free → ⊥) → port < 4 → slot < 32 → MayStore uses at n → IsTable port slot a → at ≤ a → a < at + n → ⊥
 store_table uses port slot at n a used below small (inl x) t low high =
     let r = table_in port slot a small t in
     let y = narrow x.port x.slot at n a low high x.here in

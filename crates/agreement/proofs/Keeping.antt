@@ -39,11 +39,21 @@ HasOwn uses port = (o : Operation) × (uses port 0 ≡ Own o)
 abbrev SameSact : Uses → Device → Device → Type 0
 SameSact uses old new = (port slot : ℕ) → uses port slot ≡ Free → (new.port port).sact slot ≡ (old.port port).sact slot
 
-same_bytes : (uses : Uses) (old new : Device) → new.memory ≡ old.memory → SameSact uses old new → LeavesFree uses old new
+pub same_bytes : (uses : Uses) (old new : Device) → new.memory ≡ old.memory → SameSact uses old new → LeavesFree uses old new
 same_bytes uses old new same sact = record {
   tables = λ port slot a below small t. ap (λ (f : ℕ → ℕ). f a) same;
   scratch = λ port a below own s. ap (λ (f : ℕ → ℕ). f a) same;
   sact = sact;
+}
+
+pub leaves_none : (uses : Uses) (d : Device) → LeavesFree uses d d
+leaves_none uses d = same_bytes uses d d refl (λ p s u. refl)
+
+pub leaves_more : (uses : Uses) (old mid new : Device) → LeavesFree uses old mid → LeavesFree uses mid new → LeavesFree uses old new
+leaves_more uses old mid new x y = record {
+  tables = λ p s at b c t. y.tables p s at b c t ∙ x.tables p s at b c t;
+  scratch = λ p at b o s. y.scratch p at b o s ∙ x.scratch p at b o s;
+  sact = λ p s u. y.sact p s u ∙ x.sact p s u;
 }
 
 patched_leaves : (uses : Uses) (old new : Device) (at : ℕ) (bytes : List ℕ) → MayChange (HasOwn uses) at (length bytes) → new.memory ≡ patched old.memory at bytes → SameSact uses old new → LeavesFree uses old new
@@ -136,17 +146,13 @@ module _ (uses : Uses) (m : Machine) (d : Device) (reached : IsReached m) (a : A
   step_leaves ResetEnds calm can = true_false can calm
 
 leads_leave : (uses : Uses) (m : Machine) (steps : List steps.Step) (old new : Device) → IsReached m → Agrees uses m old → old.hr ≡ false → Leads steps old new → LeavesFree uses old new
-leads_leave uses m [] old new r a calm e = same_bytes uses old new (ap (λ (d : Device). d.memory) e) (λ p s u. ap (λ (d : Device). (d.port p).sact s) e)
+leads_leave uses m [] old new r a calm e = subst (LeavesFree uses old) (sym e) (leaves_none uses old)
 leads_leave uses m (step ∷ steps) old new r a calm (can, lead) =
     let f : Follows uses m old (after step old) = step_follows uses m old step r a can in
     let x : LeavesFree uses old (after step old) = step_leaves uses m old r a step calm can in
     let k : Keeps old (after step old) = step_keeps step old can in
     let y : LeavesFree uses (after step old) new = leads_leave uses (left.after m f.steps) steps (after step old) new (reached_more m f.steps r f.may) f.agrees (k.on calm).no_reset lead in
-    record {
-      tables = λ p s at b c t. y.tables p s at b c t ∙ x.tables p s at b c t;
-      scratch = λ p at b o s. y.scratch p at b o s ∙ x.scratch p at b o s;
-      sact = λ p s u. y.sact p s u ∙ x.sact p s u;
-    }
+    leaves_more uses old (after step old) new x y
 
 pub steps_leave : (uses : Uses) (m : Machine) (old new : Device) → IsReached m → Agrees uses m old → old.hr ≡ false → Steps old new → LeavesFree uses old new
 steps_leave uses m old new r a calm s = leads_leave uses m s.steps old new r a calm s.lead

@@ -38,3 +38,4 @@ mod Starting
 mod Faulted
 mod Witnesses
 mod Allowing
+mod Leaving

@@ -19,7 +19,7 @@ use Rattle.block_machine.specs.Left.{after, AllTold}
 use Rattle.block_machine.specs.Events.{AllMay, AllDevices}
 use Rattle.agreement.specs.Places.{list_of, received_of, table_of, scratch_of, IsTable, IsScratch}
 use Rattle.agreement.specs.Slots.{Free, Own, Serves, Uses, put, Told, Means, HasBlock, IsPlaced, op_of}
-use Rattle.agreement.specs.Agrees.{Agrees, HaveSlots}
+use Rattle.agreement.specs.Agrees.{Agrees, HaveSlots, AreUnarmed}
 use Rattle.agreement.specs.Tape.{TellsAmong, PutsIn}
 
 -- ---- stores
@@ -106,6 +106,17 @@ pub record LeavesFree (uses : Uses) (old new : Device) : Type 0 where
   pub tables : (port slot at : ℕ) → port < 4 → slot < 32 → IsTable port slot at → new.memory at ≡ old.memory at
   pub scratch : (port at : ℕ) → port < 4 → ((o : Operation) → uses port 0 ≡ Own o → ⊥) → IsScratch port at → new.memory at ≡ old.memory at
   pub sact : (port slot : ℕ) → uses port slot ≡ Free → (new.port port).sact slot ≡ (old.port port).sact slot
+
+-- What is asked of a write so that free slots keep their bits of SACT: a write of PxSACT has none of theirs; and one of PxCMD
+-- leaves ST one, or ST is zero already, or they have no bits.
+abbrev pub KeepsFreeBits : Uses → Reg → ℕ → Device → Type 0
+KeepsFreeBits uses (Px port Sact) v d = (slot : ℕ) → uses port.0 slot ≡ Free → bit v slot ≡ false
+KeepsFreeBits uses (Px port Cmd) v d = (bit v 0 ≡ true) ⊎ (((d.port port.0).st ≡ false) ⊎ AreUnarmed uses (d.port port.0) port.0)
+KeepsFreeBits uses r v d = Unit {0}
+
+-- none of these n bytes is of the slot's header, but for PRDBC, or of its table
+abbrev pub MissesTable : ℕ → ℕ → ℕ → ℕ → Type 0
+MissesTable port slot at n = (place : ℕ) → IsTable port slot place → at ≤ place → place < at + n → ⊥
 
 -- ---- issuing
 

@@ -9,10 +9,11 @@ ghost use Rattle.hba_regs.specs.Bits.{bit};
 ghost use Rattle.hba_regs.specs.declared.reg.PortReg.TheVariants.{Clb, Clbu, Fb, Fbu, Cmd, Ci};
 ghost use Rattle.hba_regs.specs.declared.reg.Reg.TheVariants.{Px};
 ghost use Rattle.hba_regs.specs.declared.reg.Reg.{Reg};
-ghost use Rattle.adapter.specs.Access.{Reads, Writes, Loads, Stores};
+ghost use Rattle.adapter.specs.Access.{Reads, Writes, Loads, Stores, written};
 ghost use Rattle.adapter.specs.Commands.{Meaning};
 ghost use Rattle.adapter.specs.Device.{PortState, Device};
 ghost use Rattle.adapter.specs.Idle.{IsIdle};
+ghost use Rattle.adapter.specs.Memory.{patched};
 ghost use Rattle.adapter.specs.Rules.{IsFree, IsOn, HasPort, MayStart, MayReceive, MayStopReceiving, MayWrite, Stays};
 ghost use Rattle.adapter.specs.Steps.{Steps};
 ghost use Rattle.adapter.specs.declared.command.Operation.{Operation};
@@ -24,7 +25,7 @@ ghost use Rattle.block_machine.specs.State.{Accepted, Pending, Machine};
 ghost use Rattle.block_machine.specs.Steps.{Step, Accept, Issue, Age, Again, Answer, Release, Store, Load, May, after_step, stays};
 ghost use Rattle.block_machine.specs.declared.due.Mode.{Mode};
 ghost use Rattle.agreement.specs.Agrees.{Agrees, IsDiskOf, SameMemory, SameSectors, AreUnarmed};
-ghost use Rattle.agreement.specs.Driver.{MayStore, LeavesUses, IsWith, LeavesFree, Known, Knows, IsBacked, ByDevice, IsPrepared, IsOwnPrepared, EndsWith, HasNoSlot, Forgets, ForgetsKept, serving, parking, freeing, idle};
+ghost use Rattle.agreement.specs.Driver.{MayStore, LeavesUses, IsWith, LeavesFree, KeepsFreeBits, MissesTable, Known, Knows, IsBacked, ByDevice, IsPrepared, IsOwnPrepared, EndsWith, HasNoSlot, Forgets, ForgetsKept, serving, parking, freeing, idle};
 ghost use Rattle.agreement.specs.Follows.{Follows};
 ghost use Rattle.agreement.specs.Places.{list_of, received_of, scratch_of};
 ghost use Rattle.agreement.specs.Witness.{FirstIsKnown};
@@ -189,14 +190,33 @@ pub fn waiting_has_no_slot()
         → e.issued ≡ false → HasNoSlot uses e.request.id }
 {}
 
-/// While no reset is pending the device leaves alone what no slot uses.
+/// While no reset is pending the device leaves alone what no slot uses; so it is over readings and loads. A store and a write of a
+/// register leave of it what they would at once, had the device done nothing first; and each write but some of PxSACT and PxCMD
+/// leaves it as it was.
 pub fn free_slots_are_left()
-    ensures { (uses : Uses) (m : Machine) (old new : Device) → IsReached m → Agrees uses m old → old.hr ≡ false
+    ensures steps { (uses : Uses) (m : Machine) (old new : Device) → IsReached m → Agrees uses m old → old.hr ≡ false
         → Steps old new → LeavesFree uses old new }
+    ensures reads { (uses : Uses) (m : Machine) (old new : Device) → IsReached m → Agrees uses m old → old.hr ≡ false
+        → (r : Reg) (v : ℕ) → Reads r v old new → LeavesFree uses old new }
+    ensures loads { (uses : Uses) (m : Machine) (old new : Device) → IsReached m → Agrees uses m old → old.hr ≡ false
+        → (at : ℕ) (bytes : List ℕ) → Loads at bytes old new → LeavesFree uses old new }
+    ensures stores { (uses : Uses) (m : Machine) (old new : Device) → IsReached m → Agrees uses m old → old.hr ≡ false
+        → (at : ℕ) (bytes : List ℕ) → Stores at bytes old new
+        → LeavesFree uses (record old { memory = patched old.memory at bytes }) new }
+    ensures writes { (uses : Uses) (m : Machine) (old new : Device) → IsReached m → Agrees uses m old → old.hr ≡ false
+        → (r : Reg) (v : ℕ) → Writes r v old new → LeavesFree uses (written r v old) new }
+    ensures spared { (uses : Uses) (r : Reg) (v : ℕ) (d : Device) → KeepsFreeBits uses r v d → LeavesFree uses d (written r v d) }
+{}
+
+/// What is left over each of two stretches is left over both; and so it is over none.
+pub fn leaving_composes()
+    ensures none { (uses : Uses) (d : Device) → LeavesFree uses d d }
+    ensures more { (uses : Uses) (old mid new : Device) → LeavesFree uses old mid → LeavesFree uses mid new
+        → LeavesFree uses old new }
 {}
 
 /// So the bytes of a slot that say a command go on saying it, and a trim's block stays where slot 0 has no command of the
-/// driver's own.
+/// driver's own. A store beside the slot's header and table leaves what they say, as one does for a slot in use.
 pub fn what_is_told_is_left()
     ensures told { (uses : Uses) (old new : Device) → LeavesFree uses old new → (port slot : ℕ) (c : Meaning)
         (places : List ℕ) → port < 4 → slot < 32 → Told old.memory (list_of port) port slot c places
@@ -204,6 +224,12 @@ pub fn what_is_told_is_left()
     ensures block { (uses : Uses) (old new : Device) → LeavesFree uses old new → (port : ℕ) (r : Accepted) → port < 4
         → ((o : Operation) → uses port 0 ≡ Own o → ⊥) → HasBlock r.asked.op old.memory port r
         → HasBlock r.asked.op new.memory port r }
+    ensures beside { (uses : Uses) (at : ℕ) (bytes : List ℕ) (old new : Device)
+        → LeavesFree uses (record old { memory = patched old.memory at bytes }) new → (port slot : ℕ) (c : Meaning)
+        (places : List ℕ) → port < 4 → slot < 32 → MissesTable port slot at (length bytes)
+        → Told old.memory (list_of port) port slot c places → Told new.memory (list_of port) port slot c places }
+    ensures misses { (uses : Uses) (port slot at n : ℕ) → uses port slot ≢ Free → port < 4 → slot < 32 → MayStore uses at n
+        → MissesTable port slot at n }
 {}
 
 /// A request that is due stays due, whatever the device does.
@@ -227,9 +253,11 @@ pub fn prepared_stays()
         → IsPrepared uses m old port slot mode e v → IsPrepared uses (after m f.steps) new port slot mode e v }
 {}
 
-/// A free slot without a bit of PxSACT has none later; so it is where a slot is given up, and where one is put to use.
+/// A free slot without a bit of PxSACT has none later, nor wherever what no slot uses is left; so it is where a slot is given up, and where one is put to use.
 pub fn unarmed_stays()
     ensures device { (uses : Uses) (old new : Device) (port : ℕ) → Steps old new → AreUnarmed uses (old.port port) port
+        → AreUnarmed uses (new.port port) port }
+    ensures left { (uses : Uses) (old new : Device) (port : ℕ) → LeavesFree uses old new → AreUnarmed uses (old.port port) port
         → AreUnarmed uses (new.port port) port }
     ensures given_up { (uses : Uses) (m : Machine) (d : Device) (port slot : ℕ) → Agrees uses m d → IsOver (d.port port) slot
         → AreUnarmed uses (d.port port) port → AreUnarmed (put uses port slot Free) (d.port port) port }

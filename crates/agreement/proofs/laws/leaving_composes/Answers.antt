@@ -1,0 +1,8 @@
+use Rattle.agreement.proofs.Keeping.{leaves_none, leaves_more}
+use Rattle.agreement.proofs.laws.leaving_composes.Goals as goal
+
+pub returns-clause-none : goal.returns-clause-none
+returns-clause-none c = leaves_none
+
+pub returns-clause-more : goal.returns-clause-more
+returns-clause-more c = leaves_more
