@@ -70,10 +70,11 @@ weaken uses at n (inr (inl x)) = inr (inl x)
 weaken uses at n (inr (inr (inl x))) = absurd x.excepted
 weaken uses at n (inr (inr (inr x))) = inr (inr (inr x))
 
-module _ (uses : Uses) (m : Machine) (d : Device) (reached : IsReached m) (a : Agrees uses m d) where
-  one_port : (port : ℕ) (new : PortState) → ((slot : ℕ) → uses port slot ≡ Free → new.sact slot ≡ (d.port port).sact slot) → (q slot : ℕ) → uses q slot ≡ Free → (changed d.port port new q).sact slot ≡ (d.port q).sact slot
-  one_port port new same q slot = changed_at d.port port new (λ k p. uses k slot ≡ Free → p.sact slot ≡ (d.port k).sact slot) (same slot) (λ k _ _. refl) q
+-- one port changed, and its bits of SACT of free slots are the same
+pub one_port : (uses : Uses) (d : Device) (port : ℕ) (new : PortState) → ((slot : ℕ) → uses port slot ≡ Free → new.sact slot ≡ (d.port port).sact slot) → (q slot : ℕ) → uses q slot ≡ Free → (changed d.port port new q).sact slot ≡ (d.port q).sact slot
+one_port uses d port new same q slot = changed_at d.port port new (λ k p. uses k slot ≡ Free → p.sact slot ≡ (d.port k).sact slot) (same slot) (λ k _ _. refl) q
 
+module _ (uses : Uses) (m : Machine) (d : Device) (reached : IsReached m) (a : Agrees uses m d) where
   move_may : (port slot : ℕ) (t : Taken) (bytes : List ℕ) → MayMove d port slot t bytes → reads_memory t.meaning.operation ≡ false → MayChange (HasOwn uses) (next_place t) (length bytes)
   move_may port slot t bytes can plain = by (uses port slot) refl (a.slot port slot)
     where
@@ -120,9 +121,9 @@ module _ (uses : Uses) (m : Machine) (d : Device) (reached : IsReached m) (a : A
   move_leaves port slot t bytes can = by (reads_memory t.meaning.operation) refl
     where
       by : (b : Bool) → reads_memory t.meaning.operation ≡ b → LeavesFree uses d (after (Move port slot t bytes) d)
-      by true e = same_bytes uses d (after (Move port slot t bytes) d) (ap (λ (b : Bool). if b then d.memory else patched d.memory (next_place t) bytes) e) (one_port port _ (λ s f. refl))
+      by true e = same_bytes uses d (after (Move port slot t bytes) d) (ap (λ (b : Bool). if b then d.memory else patched d.memory (next_place t) bytes) e) (one_port uses d port _ (λ s f. refl))
       by false e = patched_leaves uses d (after (Move port slot t bytes) d) (next_place t) bytes (move_may port slot t bytes can e)
-          (ap (λ (b : Bool). if b then d.memory else patched d.memory (next_place t) bytes) e) (one_port port _ (λ s f. refl))
+          (ap (λ (b : Bool). if b then d.memory else patched d.memory (next_place t) bytes) e) (one_port uses d port _ (λ s f. refl))
 
   -- a slot that is taken isn't free
   not_free : (port slot : ℕ) (t : Taken) → (d.port port).taken slot ≡ Some t → uses port slot ≡ Free → ⊥
@@ -131,18 +132,18 @@ module _ (uses : Uses) (m : Machine) (d : Device) (reached : IsReached m) (a : A
   step_leaves : (step : steps.Step) → d.hr ≡ false → Can step d → LeavesFree uses d (after step d)
   step_leaves (Move port slot t bytes) calm can = move_leaves port slot t bytes can
   step_leaves (Scribble port slot at bytes) calm can = patched_leaves uses d (after (Scribble port slot at bytes) d) at bytes (weaken uses at (length bytes) (scribble_may uses m d a port slot at bytes can).0) refl (λ p s u. refl)
-  step_leaves (Done port slot flag t) calm can = same_bytes uses d (after (Done port slot flag t) d) refl (one_port port (with_done (d.port port) slot flag t.meaning.operation)
+  step_leaves (Done port slot flag t) calm can = same_bytes uses d (after (Done port slot flag t) d) refl (one_port uses d port (with_done (d.port port) slot flag t.meaning.operation)
       (λ s f. sact_other (is_queued t.meaning.operation) (d.port port).sact slot s (λ e. not_free port slot t can.works.taken (subst (λ (k : ℕ). uses port k ≡ Free) e f))))
-  step_leaves (Fetch port slot c places) calm can = same_bytes uses d (after (Fetch port slot c places) d) refl (one_port port _ (λ s f. refl))
-  step_leaves (FetchFault port slot queued kept_bits) calm can = same_bytes uses d (after (FetchFault port slot queued kept_bits) d) refl (one_port port _ (λ s f. refl))
-  step_leaves (Clear port slot t first count) calm can = same_bytes uses d (after (Clear port slot t first count) d) refl (one_port port _ (λ s f. refl))
-  step_leaves (Fault port slot error kept_bits t) calm can = same_bytes uses d (after (Fault port slot error kept_bits t) d) refl (one_port port _ (λ s f. refl))
-  step_leaves (Fatal port place) calm can = same_bytes uses d (after (Fatal port place) d) refl (one_port port _ (λ s f. refl))
-  step_leaves (Fall port) calm can = same_bytes uses d (after (Fall port) d) refl (one_port port _ (λ s f. refl))
-  step_leaves (FrFall port) calm can = same_bytes uses d (after (FrFall port) d) refl (one_port port _ (λ s f. refl))
-  step_leaves (LinkUp port sig n) calm can = same_bytes uses d (after (LinkUp port sig n) d) refl (one_port port _ (λ s f. refl))
-  step_leaves (Unplug port) calm can = same_bytes uses d (after (Unplug port) d) refl (one_port port _ (λ s f. refl))
-  step_leaves (Plug port disk) calm can = same_bytes uses d (after (Plug port disk) d) refl (one_port port _ (λ s f. refl))
+  step_leaves (Fetch port slot c places) calm can = same_bytes uses d (after (Fetch port slot c places) d) refl (one_port uses d port _ (λ s f. refl))
+  step_leaves (FetchFault port slot queued kept_bits) calm can = same_bytes uses d (after (FetchFault port slot queued kept_bits) d) refl (one_port uses d port _ (λ s f. refl))
+  step_leaves (Clear port slot t first count) calm can = same_bytes uses d (after (Clear port slot t first count) d) refl (one_port uses d port _ (λ s f. refl))
+  step_leaves (Fault port slot error kept_bits t) calm can = same_bytes uses d (after (Fault port slot error kept_bits t) d) refl (one_port uses d port _ (λ s f. refl))
+  step_leaves (Fatal port place) calm can = same_bytes uses d (after (Fatal port place) d) refl (one_port uses d port _ (λ s f. refl))
+  step_leaves (Fall port) calm can = same_bytes uses d (after (Fall port) d) refl (one_port uses d port _ (λ s f. refl))
+  step_leaves (FrFall port) calm can = same_bytes uses d (after (FrFall port) d) refl (one_port uses d port _ (λ s f. refl))
+  step_leaves (LinkUp port sig n) calm can = same_bytes uses d (after (LinkUp port sig n) d) refl (one_port uses d port _ (λ s f. refl))
+  step_leaves (Unplug port) calm can = same_bytes uses d (after (Unplug port) d) refl (one_port uses d port _ (λ s f. refl))
+  step_leaves (Plug port disk) calm can = same_bytes uses d (after (Plug port disk) d) refl (one_port uses d port _ (λ s f. refl))
   step_leaves ResetEnds calm can = true_false can calm
 
 leads_leave : (uses : Uses) (m : Machine) (steps : List steps.Step) (old new : Device) → IsReached m → Agrees uses m old → old.hr ≡ false → Leads steps old new → LeavesFree uses old new

@@ -23,7 +23,7 @@ use Rattle.agreement.specs.Agrees.{Agrees, AreUnarmed}
 use Rattle.agreement.specs.Driver.{LeavesFree, KeepsFreeBits, MissesTable, MayStore}
 use Rattle.agreement.proofs.Acting.{changed_at}
 use Rattle.agreement.proofs.Bytes.{store_table}
-use Rattle.agreement.proofs.Keeping.{same_bytes, leaves_none, leaves_more, steps_leave}
+use Rattle.agreement.proofs.Keeping.{same_bytes, leaves_none, leaves_more, one_port, steps_leave}
 use Rattle.agreement.proofs.Serving.{told_on}
 use Rattle.agreement.proofs.Writing.{or_false}
 
@@ -32,13 +32,8 @@ unarmed_left uses old new port l unarmed slot free = l.sact port slot free ∙ u
 
 -- ---- readings, loads and stores
 
--- one port changed, and its SACT with it or not
-module _ (uses : Uses) (d : Device) (p : ℕ) (new : PortState) (same : (slot : ℕ) → uses p slot ≡ Free → new.sact slot ≡ (d.port p).sact slot) where
-  sact_at : (q slot : ℕ) → uses q slot ≡ Free → (changed d.port p new q).sact slot ≡ (d.port q).sact slot
-  sact_at q slot = changed_at d.port p new (λ k x. uses k slot ≡ Free → x.sact slot ≡ (d.port k).sact slot) (same slot) (λ k _ _. refl) q
-
 noted_leaves : (uses : Uses) (r : Reg) (v : ℕ) (d : Device) → LeavesFree uses d (noted r v d)
-noted_leaves uses (Px p r) v d = same_bytes uses d (noted (Px p r) v d) refl (sact_at uses d p.0 _ (λ s u. refl))
+noted_leaves uses (Px p r) v d = same_bytes uses d (noted (Px p r) v d) refl (one_port uses d p.0 _ (λ s u. refl))
 noted_leaves uses Cap v d = leaves_none uses d
 noted_leaves uses Ghc v d = leaves_none uses d
 noted_leaves uses adapter.Is v d = leaves_none uses d
@@ -185,7 +180,7 @@ port_spares uses Serr v tape port d x slot free = refl
 port_spares uses Ci v tape port d x slot free = refl
 
 pub write_spares : (uses : Uses) (r : Reg) (v : ℕ) (d : Device) → KeepsFreeBits uses r v d → LeavesFree uses d (written r v d)
-write_spares uses (Px p r) v d x = same_bytes uses d (written (Px p r) v d) refl (sact_at uses d p.0 _ (port_spares uses r v (length d.tape) p.0 d x))
+write_spares uses (Px p r) v d x = same_bytes uses d (written (Px p r) v d) refl (one_port uses d p.0 _ (port_spares uses r v (length d.tape) p.0 d x))
 write_spares uses adapter.Is v d x = same_bytes uses d (written adapter.Is v d) refl (λ q slot u. acknowledged_sact (bit v q) (d.port q) slot)
 write_spares uses Cap v d x = leaves_none uses d
 write_spares uses Ghc v d x = same_bytes uses d (written Ghc v d) refl (λ q slot u. refl)

@@ -39,3 +39,4 @@ mod Faulted
 mod Witnesses
 mod Allowing
 mod Leaving
+mod Showing

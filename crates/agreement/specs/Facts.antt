@@ -6,7 +6,7 @@ use Rattle.ata_types.specs.declared.request.RequestId.{RequestId}
 use Rattle.hba_regs.specs.Bits.{bit}
 use Rattle.hba_regs.specs.declared.reg.Reg.{Reg}
 use Rattle.hba_regs.specs.declared.reg.Reg.TheVariants.{Px}
-use Rattle.hba_regs.specs.declared.reg.PortReg.TheVariants.{Cmd, Sctl}
+use Rattle.hba_regs.specs.declared.reg.PortReg.TheVariants.{Is, Cmd, Sctl, Serr}
 use Rattle.adapter.specs.Device.{Halt, PortState, Device}
 use Rattle.adapter.specs.Device.Halt.{NotHalted, HaltedPlain, HaltedQueued}
 use Rattle.adapter.specs.Rules.{InUse}
@@ -118,6 +118,23 @@ pub record Undisturbed (port : ℕ) (old new : Device) : Type 0 where
   pub gained : List Entry
   pub tape : new.tape ≡ old.tape ++ gained
   pub calm : All (λ e. IsDisturbance port e → ⊥) gained
+
+-- no bit of PxSERR or PxIS tells of trouble: neither N and X, nor IFS, HBDS, HBFS and TFES, which are 27 to 30
+pub record ShowsNoTrouble (p : PortState) : Type 0 where
+  pub serr_n : p.serr_n ≡ false
+  pub serr_x : p.serr_x ≡ false
+  pub quiet : (place : ℕ) → 27 ≤ place → place ≤ 30 → p.is place ≡ false
+
+-- A value of PxIS tells of none: neither PCS, which shows X, and PRCS, which shows N, nor those four (AHCI 1.3.1, 3.3.5).
+pub record TellsNoTrouble (v : ℕ) : Type 0 where
+  pub change : bit v 6 ≡ false
+  pub ready : bit v 22 ≡ false
+  pub quiet : (place : ℕ) → 27 ≤ place → place ≤ 30 → bit v place ≡ false
+
+-- a write clears no bit that tells of the port's trouble
+pub record ClearsNoTrouble (port : Port) (r : Reg) (v : ℕ) : Type 0 where
+  pub is : r ≡ Px port Is → (place : ℕ) → 27 ≤ place → place ≤ 30 → bit v place ≡ false
+  pub serr : r ≡ Px port Serr → (bit v 16 ≡ false) × (bit v 26 ≡ false)
 
 -- ---- faults since ST was set
 

@@ -6,8 +6,8 @@ ghost use Rattle.ata_types.specs.declared.request.RequestId.{RequestId};
 ghost use Rattle.hba_regs.specs.Bits.{bit};
 ghost use Rattle.hba_regs.specs.declared.reg.Reg.{Reg};
 ghost use Rattle.hba_regs.specs.declared.reg.Reg.TheVariants.{Ghc, Px};
-ghost use Rattle.hba_regs.specs.declared.reg.PortReg.TheVariants.{Is, Cmd, Tfd, Sctl, Ci, Sact};
-ghost use Rattle.adapter.specs.Access.{Reads, Writes, Loads};
+ghost use Rattle.hba_regs.specs.declared.reg.PortReg.TheVariants.{Is, Cmd, Tfd, Sctl, Serr, Ci, Sact};
+ghost use Rattle.adapter.specs.Access.{Reads, Writes, Loads, Stores};
 ghost use Rattle.adapter.specs.Device.{Device, PortState};
 ghost use Rattle.adapter.specs.Device.Halt.{HaltedPlain};
 ghost use Rattle.adapter.specs.FirstRead.{first_read};
@@ -20,7 +20,7 @@ ghost use Rattle.block_machine.specs.Histories.{IsReached, AddsSteps};
 ghost use Rattle.block_machine.specs.State.{Machine};
 ghost use Rattle.agreement.specs.Agrees.{Agrees};
 ghost use Rattle.agreement.specs.Driver.{Known, Knows};
-ghost use Rattle.agreement.specs.Facts.{IsHalted, IsReset, Finds, FindsPage, AreStepsOf, IsStill, AreOver, IsHealthy, Undisturbed, IsFaulted, ShowsFault, HasFaults, IsRecorded, IsAwaited, IsUnflagged, IsQuiet, KeepsRecord};
+ghost use Rattle.agreement.specs.Facts.{IsHalted, IsReset, Finds, FindsPage, AreStepsOf, IsStill, AreOver, IsHealthy, Undisturbed, ShowsNoTrouble, TellsNoTrouble, ClearsNoTrouble, IsFaulted, ShowsFault, HasFaults, IsRecorded, IsAwaited, IsUnflagged, IsQuiet, KeepsRecord};
 ghost use Rattle.agreement.specs.Follows.{Follows};
 ghost use Rattle.agreement.specs.Places.{scratch_of};
 ghost use Rattle.agreement.specs.Slots.{Uses, Free, Own, Serves, IsOver};
@@ -80,7 +80,8 @@ pub fn page_is_found()
         → (k.device.port port).st ≡ true → k.uses port 0 ≡ Own o → IsOver (k.device.port port) 0
         → Loads (scratch_of port) bytes k.device new → length bytes ≡ 512
         → AddsSteps Knows k (record k { device = new })
-        (λ m steps. (page : FindsPage k.uses m port o k.device new) × AreStepsOf page.follows steps × (bytes ≡ page.brought.move.bytes)) }
+        (λ m steps. (page : FindsPage k.uses m port o k.device new) × AreStepsOf page.follows steps
+        × (bytes ≡ page.brought.move.bytes)) }
 {}
 
 /// Where the commands of a request are over, the device uses none of the frames that are lent to it any more, whatever it does;
@@ -108,6 +109,32 @@ pub fn healthy_stays()
     ensures writes { (port : Port) (r : Reg) (v : ℕ) (old new : Device) → old.hr ≡ false → (r ≡ Px port Cmd → bit v 0 ≡ true)
         → r ≢ Px port Sctl → Writes r v old new → Undisturbed port.0 old new → IsHealthy (old.port port.0) → IsHealthy (new.port port.0) }
     ensures exists { IsHealthy (first_read.port 0) }
+{}
+
+/// While no reset is pending, whatever goes wrong on a port sets a bit of PxIS or of PxSERR, which stays until the driver clears it:
+/// where none is set, none was, and nothing went wrong. PxIS alone tells of each, and a healthy port has none; so where it is read
+/// with none, or with none of its own and then PxSERR with none, a port that was healthy is so still when PxIS is read.
+pub fn trouble_is_shown()
+    ensures steps { (port : ℕ) (old new : Device) → old.hr ≡ false → Steps old new → ShowsNoTrouble (new.port port)
+        → ShowsNoTrouble (old.port port) × Undisturbed port old new }
+    ensures reads { (port : ℕ) (r : Reg) (v : ℕ) (old new : Device) → old.hr ≡ false → Reads r v old new
+        → ShowsNoTrouble (new.port port) → ShowsNoTrouble (old.port port) × Undisturbed port old new }
+    ensures stores { (port at : ℕ) (bytes : List ℕ) (old new : Device) → old.hr ≡ false → Stores at bytes old new
+        → ShowsNoTrouble (new.port port) → ShowsNoTrouble (old.port port) × Undisturbed port old new }
+    ensures writes { (port : Port) (r : Reg) (v : ℕ) (old new : Device) → old.hr ≡ false → ClearsNoTrouble port r v
+        → Writes r v old new → ShowsNoTrouble (new.port port.0) → ShowsNoTrouble (old.port port.0) × Undisturbed port.0 old new }
+    ensures told { (port : Port) (v : ℕ) (old new : Device) → old.hr ≡ false → Reads (Px port Is) v old new → TellsNoTrouble v
+        → ShowsNoTrouble (new.port port.0) }
+    ensures tells { (port : Port) (v : ℕ) (old new : Device) → old.hr ≡ false → Reads (Px port Is) v old new
+        → ShowsNoTrouble (new.port port.0) → TellsNoTrouble v }
+    ensures back { (port : Port) (v : ℕ) → TellsNoTrouble v → ClearsNoTrouble port (Px port Is) v }
+    ensures healthy { (p : PortState) → IsHealthy p → ShowsNoTrouble p }
+    ensures found { (port : Port) (v : ℕ) (old new : Device) → old.hr ≡ false → Reads (Px port Is) v old new → TellsNoTrouble v
+        → IsHealthy (old.port port.0) → Undisturbed port.0 old new × IsHealthy (new.port port.0) }
+    ensures both { (port : Port) (v errors : ℕ) (old mid new : Device) → old.hr ≡ false → Reads (Px port Is) v old mid
+        → Reads (Px port Serr) errors mid new → ((place : ℕ) → 27 ≤ place → place ≤ 30 → bit v place ≡ false)
+        → bit errors 16 ≡ false → bit errors 26 ≡ false → IsHealthy (old.port port.0)
+        → Undisturbed port.0 old mid × IsHealthy (mid.port port.0) }
 {}
 
 /// Where nothing goes wrong in each of two parts of a call, nothing does in the whole; and where nothing does in the whole,
@@ -163,8 +190,8 @@ pub fn quiet_is_found()
 {}
 
 /// A fault has halted a running port: TFES of PxIS tells it, and so it stays while ST is 1, whatever the device does, over readings,
-/// and over writes, PxIS among them. TFD then shows status and error of the port's last fault since ST was set; and the slot of that
-/// fault isn't a free one.
+/// and over writes, PxIS among them. TFD then shows status and error of the port's last fault since ST was set. And where the machine
+/// agrees with the device, the slot of a fault that the task file shows, which is still in use, isn't a free one.
 pub fn fault_is_found()
     ensures told { (port : Port) (v : ℕ) (old new : Device) → old.hr ≡ false → (old.port port.0).st ≡ true
         → IsRecorded old.tape (old.port port.0) port.0 → Reads (Px port Is) v old new → bit v 30 ≡ true
