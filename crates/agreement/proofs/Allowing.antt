@@ -1,5 +1,6 @@
 -- A write that may be made may be made later.
-use Rattle.std.proofs.Common.{ℕ, ◌≡◌, ◌≢◌, ◌<◌, ◌≤◌, ◌+◌, ◌%◌, ◌||◌, Bool, true, false, refl, sym, ◌∙◌, ap, arith, inl, inr, ⊎_elim}
+use Rattle.std.proofs.Common.{ℕ, ◌≡◌, ◌≢◌, ◌⊎◌, ◌<◌, ◌≤◌, ◌+◌, ◌%◌, ◌||◌, Bool, true, false, refl, sym, ◌∙◌, ap, arith, inl, inr, ⊎_elim}
+use Rattle.std.proofs.lemmas.Bool.{cases_eq}
 use Rattle.ata_types.specs.declared.Port.{Port}
 use Rattle.hba_regs.specs.Bits.{bit}
 use Rattle.hba_regs.specs.declared.reg.Reg.{Reg}
@@ -7,12 +8,12 @@ use Rattle.hba_regs.specs.declared.reg.Reg.TheVariants.{Cap, Ghc, Pi, Vs, Cap2, 
 use Rattle.hba_regs.specs.declared.reg.Reg.TheVariants as adapter
 use Rattle.hba_regs.specs.declared.reg.PortReg.{PortReg}
 use Rattle.hba_regs.specs.declared.reg.PortReg.TheVariants.{Clb, Clbu, Fb, Fbu, Is, Ie, Cmd, Tfd, Sig, Ssts, Sctl, Serr, Sact, Ci}
-use Rattle.adapter.specs.Access.{Reads}
+use Rattle.adapter.specs.Access.{Reads, Writes}
 use Rattle.adapter.specs.Device.{Bases, Notes, PortState, Device}
 use Rattle.adapter.specs.Kept.{Keeps, KeepsOn, KeepsPort, KeepsControls}
 use Rattle.adapter.specs.Rules.{IsOn, HasPort, MayStart, MayReceive, MayStopReceiving, MayCommand, MayWritePort, MayWrite, Stays}
 use Rattle.adapter.proofs.Absurd.{true-false}
-use Rattle.adapter.proofs.Calls.{SeenAt, seen, on_after, on_stays}
+use Rattle.adapter.proofs.Calls.{SeenAt, seen, PutAt, put, on_after, on_stays}
 use Rattle.adapter.proofs.KeptLemmas.{steps_keep}
 use Rattle.agreement.specs.Driver.{LeavesUses, AllFree, IsWith}
 use Rattle.agreement.specs.Facts.{KeepsRecord, IsQuiet}
@@ -218,3 +219,24 @@ module _ (port : Port) (was v : ℕ) (old new : Device) (on : IsOn old) (there :
     stop_receiving = λ b. inr (ready, x.start);
     others = others false false x;
   })
+
+-- ---- IS, after PxIS
+
+module _ (port : Port) (v : ℕ) (old new : Device) (on : IsOn old) (call : Writes (Px port Is) v old new) where
+  wrote : PutAt port.0 Is v old new
+  wrote = put port Is v old new call on.no_reset
+
+  acknowledged_here : (q : ℕ) → q ≡ port.0 → (new.port q).notes.acknowledged ≡ true
+  acknowledged_here q e = ap (λ (k : ℕ). (new.port k).notes.acknowledged) e ∙ ap (λ (p : PortState). p.notes.acknowledged) wrote.here
+
+  acknowledged_still : (q : ℕ) → (old.port q).notes.acknowledged ≡ true → (new.port q).notes.acknowledged ≡ true
+  acknowledged_still q was = ⊎_elim
+      (acknowledged_here q)
+      (λ (ne : q ≡ port.0 → ⊥). ap (λ (p : PortState). p.notes.acknowledged) (wrote.others q ne) ∙ (ap (λ (n : Notes). n.acknowledged) (wrote.notes q) ∙ was))
+      (cases_eq q port.0)
+
+  pub acknowledging_may : (ports : ℕ) → ((q : ℕ) → q < 32 → bit ports q ≡ true → (q ≡ port.0) ⊎ ((old.port q).notes.acknowledged ≡ true)) → Stays (MayWrite adapter.Is ports) new
+  acknowledging_may ports h = write_stays adapter.Is ports new (λ p e. cc) (
+    record { ae = wrote.ae ∙ on.ae; no_reset = wrote.hr },
+    λ q small set. ⊎_elim (acknowledged_here q) (acknowledged_still q) (h q small set),
+  )

@@ -1,13 +1,14 @@
 // Laws of the relation, for the crates above: the clause is the theorem. Nothing calls these functions.
-ghost use Rattle.std.specs.Prelude.{◌≡◌, ◌≢◌, ◌+◌, ◌*◌, ◌/◌, ◌%◌, ◌<◌, ◌≤◌, ◌∷◌, ◌++◌, ℕ, Bool, true, false, [], List, length, Contains};
+ghost use Rattle.std.specs.Prelude.{◌≡◌, ◌≢◌, ◌⊎◌, ◌+◌, ◌*◌, ◌/◌, ◌%◌, ◌<◌, ◌≤◌, ◌∷◌, ◌++◌, ℕ, Bool, true, false, [], List, length, Contains};
 ghost use Rattle.ata_types.specs.declared.Port.{Port};
 ghost use Rattle.ata_types.specs.declared.request.ClientId.{ClientId};
 ghost use Rattle.ata_types.specs.declared.request.Frame.{Frame};
 ghost use Rattle.ata_types.specs.declared.request.Outcome.{Outcome};
 ghost use Rattle.ata_types.specs.declared.request.RequestId.{RequestId};
 ghost use Rattle.hba_regs.specs.Bits.{bit};
-ghost use Rattle.hba_regs.specs.declared.reg.PortReg.TheVariants.{Clb, Clbu, Fb, Fbu, Cmd, Ci};
+ghost use Rattle.hba_regs.specs.declared.reg.PortReg.TheVariants.{Clb, Clbu, Fb, Fbu, Is, Cmd, Ci};
 ghost use Rattle.hba_regs.specs.declared.reg.Reg.TheVariants.{Px};
+ghost use Rattle.hba_regs.specs.declared.reg.Reg.TheVariants as adapter;
 ghost use Rattle.hba_regs.specs.declared.reg.Reg.{Reg};
 ghost use Rattle.adapter.specs.Access.{Reads, Writes, Loads, Stores, written};
 ghost use Rattle.adapter.specs.Commands.{Meaning};
@@ -316,6 +317,13 @@ pub fn commanding_is_permitted()
     ensures stop_receiving { (port : Port) (was v : ℕ) (old new : Device) → IsOn old → HasPort old port.0
         → Reads (Px port Cmd) was old new → MayStopReceiving (new.port port.0) → IsWith false false was v
         → Stays (MayWrite (Px port Cmd) v) new }
+{}
+
+/// PxIS is written, and then the port's bit of IS may be, with those of ports whose PxIS was written since their own bits were.
+pub fn acknowledging_is_permitted()
+    ensures { (port : Port) (v : ℕ) (old new : Device) → IsOn old → Writes (Px port Is) v old new
+        → (ports : ℕ) → ((q : ℕ) → q < 32 → bit ports q ≡ true → (q ≡ port.0) ⊎ ((old.port q).notes.acknowledged ≡ true))
+        → Stays (MayWrite adapter.Is ports) new }
 {}
 
 /// The bit of PxCI of a slot with a prepared request may be written, whatever the device does first.
