@@ -15,7 +15,7 @@ use Rattle.adapter.specs.Rules.{IsOn, HasPort, MayStart, MayReceive, MayStopRece
 use Rattle.adapter.proofs.Absurd.{true-false}
 use Rattle.adapter.proofs.Calls.{SeenAt, seen, PutAt, put, on_after, on_stays}
 use Rattle.adapter.proofs.KeptLemmas.{steps_keep}
-use Rattle.agreement.specs.Driver.{LeavesUses, AllFree, IsWith}
+use Rattle.agreement.specs.Driver.{LeavesUses, AllFree, IsWrittenBack}
 use Rattle.agreement.specs.Facts.{KeepsRecord, IsQuiet}
 use Rattle.agreement.specs.Places.{list_of, received_of}
 use Rattle.agreement.specs.Slots.{Uses}
@@ -185,10 +185,10 @@ module _ (port : Port) (was v : ℕ) (old new : Device) (on : IsOn old) (there :
     x,
   )
 
-  others : (st fre : Bool) → IsWith st fre was v → (place : ℕ) → place < 32 → place ≢ 0 → place ≢ 4 → bit v place ≡ bit (new.port port.0).notes.last_cmd place
+  others : (st fre : Bool) → IsWrittenBack st fre was v → (place : ℕ) → place < 32 → place ≢ 0 → place ≢ 4 → bit v place ≡ bit (new.port port.0).notes.last_cmd place
   others st fre x place small start receive = x.others place small start receive ∙ ap (λ (n : Notes). bit n.last_cmd place) (sym here.notes)
 
-  pub starting_may : MayStart (new.port port.0) → IsWith true true was v → Stays (MayWrite (Px port Cmd) v) new
+  pub starting_may : MayStart (new.port port.0) → IsWrittenBack true true was v → Stays (MayWrite (Px port Cmd) v) new
   starting_may ready x = may (record {
     start = λ b. inr ready;
     receive = λ b. inl ready.receives;
@@ -196,7 +196,7 @@ module _ (port : Port) (was v : ℕ) (old new : Device) (on : IsOn old) (there :
     others = others true true x;
   })
 
-  pub stopping_may : IsWith false (bit was 4) was v → Stays (MayWrite (Px port Cmd) v) new
+  pub stopping_may : IsWrittenBack false (bit was 4) was v → Stays (MayWrite (Px port Cmd) v) new
   stopping_may x = may (record {
     start = λ b. true-false b x.start;
     receive = λ b. inl (sym here.shows.1 ∙ (sym x.receive ∙ b));
@@ -204,7 +204,7 @@ module _ (port : Port) (was v : ℕ) (old new : Device) (on : IsOn old) (there :
     others = others false (bit was 4) x;
   })
 
-  pub receiving_may : MayReceive (new.port port.0) → IsWith (bit was 0) true was v → Stays (MayWrite (Px port Cmd) v) new
+  pub receiving_may : MayReceive (new.port port.0) → IsWrittenBack (bit was 0) true was v → Stays (MayWrite (Px port Cmd) v) new
   receiving_may ready x = may (record {
     start = λ b. inl (sym here.shows.0 ∙ (sym x.start ∙ b));
     receive = λ b. inr ready;
@@ -212,7 +212,7 @@ module _ (port : Port) (was v : ℕ) (old new : Device) (on : IsOn old) (there :
     others = others (bit was 0) true x;
   })
 
-  pub no_receiving_may : MayStopReceiving (new.port port.0) → IsWith false false was v → Stays (MayWrite (Px port Cmd) v) new
+  pub no_receiving_may : MayStopReceiving (new.port port.0) → IsWrittenBack false false was v → Stays (MayWrite (Px port Cmd) v) new
   no_receiving_may ready x = may (record {
     start = λ b. true-false b x.start;
     receive = λ b. true-false b x.receive;

@@ -11,24 +11,49 @@ use Rattle.adapter.specs.Commands.{Meaning}
 use Rattle.adapter.specs.Device.{PortState, Device}
 use Rattle.adapter.specs.Kept.{KeepsOn}
 use Rattle.adapter.specs.Memory.{patched, changed}
+use Rattle.adapter.specs.declared.command.Operation.{Operation}
 use Rattle.adapter.proofs.Absurd.{true-false}
 use Rattle.adapter.proofs.Changed.{changed_same, changed_other}
 use Rattle.adapter.proofs.KeptLemmas.{steps_keep}
 use Rattle.adapter.proofs.MemoryLemmas.{patched_apart}
 use Rattle.block_machine.specs.Histories.{IsReached}
-use Rattle.block_machine.specs.State.{Machine}
+use Rattle.block_machine.specs.State.{Accepted, Machine}
 use Rattle.agreement.specs.Places.{list_of}
-use Rattle.agreement.specs.Slots.{Told, Free, Uses}
+use Rattle.agreement.specs.Slots.{Told, HasBlock, Use, Free, Own, Uses, put}
 use Rattle.agreement.specs.Agrees.{Agrees, AreUnarmed}
-use Rattle.agreement.specs.Driver.{LeavesFree, KeepsFreeBits, MissesTable, MayStore}
+use Rattle.agreement.specs.Driver.{LeavesFree, KeepsFreeBits, MissesTable, MissesScratch, MayStore}
 use Rattle.agreement.proofs.Acting.{changed_at}
-use Rattle.agreement.proofs.Bytes.{store_table}
+use Rattle.agreement.proofs.Bytes.{store_table, store_scratch}
 use Rattle.agreement.proofs.Keeping.{same_bytes, leaves_none, leaves_more, one_port, steps_leave}
-use Rattle.agreement.proofs.Serving.{told_on}
+use Rattle.agreement.proofs.Putting.{put_same, put_cases}
+use Rattle.agreement.proofs.Serving.{told_on, block_on}
 use Rattle.agreement.proofs.Writing.{or_false}
 
 pub unarmed_left : (uses : Uses) (old new : Device) (port : ℕ) → LeavesFree uses old new → AreUnarmed uses (old.port port) port → AreUnarmed uses (new.port port) port
 unarmed_left uses old new port l unarmed slot free = l.sact port slot free ∙ unarmed slot free
+
+-- a free slot is put to use
+module _ (uses : Uses) (port slot : ℕ) (u : Use) (old new : Device) (free : uses port slot ≡ Free) (used : u ≢ Free) (l : LeavesFree uses old new) where
+  not_own : (q : ℕ) (o : Operation) → ((p : Operation) → put uses port slot u q 0 ≡ Own p → ⊥) → uses q 0 ≡ Own o → ⊥
+  not_own q o own e = ⊎_elim
+      (λ (x : (q ≡ port) × (0 ≡ slot)).
+      let z : Own o ≡ Free = sym e ∙ (ap (λ (k : ℕ). uses k 0) x.0 ∙ (ap (λ (k : ℕ). uses port k) x.1 ∙ free)) in cc)
+      (λ (x : (q ≡ port → 0 ≡ slot → ⊥) × (put uses port slot u q 0 ≡ uses q 0)). own o (x.1 ∙ e))
+      (put_cases uses port slot u q 0)
+
+  free_still : (q k : ℕ) → put uses port slot u q k ≡ Free → uses q k ≡ Free
+  free_still q k e = ⊎_elim
+      (λ (x : (q ≡ port) × (k ≡ slot)).
+      absurd (used (sym (put_same uses port slot u) ∙ (ap (λ (n : ℕ). put uses port slot u port n) (sym x.1) ∙ (ap (λ (n : ℕ). put uses port slot u n k) (sym x.0) ∙ e)))))
+      (λ (x : (q ≡ port → k ≡ slot → ⊥) × (put uses port slot u q k ≡ uses q k)). sym x.1 ∙ e)
+      (put_cases uses port slot u q k)
+
+  pub leaves_used : LeavesFree (put uses port slot u) old new
+  leaves_used = record {
+    tables = l.tables;
+    scratch = λ q at below own s. l.scratch q at below (λ o e. not_own q o own e) s;
+    sact = λ q k e. l.sact q k (free_still q k e);
+  }
 
 -- ---- readings, loads and stores
 
@@ -199,3 +224,12 @@ pub told_beside : (uses : Uses) (at : ℕ) (bytes : List ℕ) (old new : Device)
 told_beside uses at bytes old new l port slot c places below small misses told =
     told_on old.memory new.memory (list_of port) (list_of port) port slot c places refl refl
     (λ place t. l.tables port slot place below small t ∙ patched_apart old.memory at bytes place (misses place t)) told
+
+pub store_misses_scratch : (uses : Uses) (port at n : ℕ) → uses port 0 ≢ Free → port < 4 → MayStore uses at n → MissesScratch port at n
+store_misses_scratch uses port at n used below may place t low high = store_scratch uses port at n place below used may t low high
+
+pub block_beside : (uses : Uses) (at : ℕ) (bytes : List ℕ) (old new : Device) → LeavesFree uses (record old { memory = patched old.memory at bytes }) new → (port : ℕ) (r : Accepted) → port < 4 →
+    ((o : Operation) → uses port 0 ≡ Own o → ⊥) → MissesScratch port at (length bytes) → HasBlock r.asked.op old.memory port r → HasBlock r.asked.op new.memory port r
+block_beside uses at bytes old new l port r below own misses block =
+    block_on r.asked.op old.memory new.memory port r
+    (λ _ place s. l.scratch port place below own s ∙ patched_apart old.memory at bytes place (misses place s)) block

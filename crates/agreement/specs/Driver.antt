@@ -57,7 +57,7 @@ pub record IsCommand (uses : Uses) (port v : ℕ) (p : PortState) : Type 0 where
   pub receive : bit v 4 ≡ true → (port < 4) × (p.bases.fb ≡ received_of port)
 
 -- a value of PxCMD with these bits ST and FRE, and the others as they were read
-pub record IsWith (st fre : Bool) (was v : ℕ) : Type 0 where
+pub record IsWrittenBack (st fre : Bool) (was v : ℕ) : Type 0 where
   pub start : bit v 0 ≡ st
   pub receive : bit v 4 ≡ fre
   pub others : (place : ℕ) → place < 32 → place ≢ 0 → place ≢ 4 → bit v place ≡ bit was place
@@ -117,6 +117,10 @@ KeepsFreeBits uses r v d = Unit {0}
 -- none of these n bytes is of the slot's header, but for PRDBC, or of its table
 abbrev pub MissesTable : ℕ → ℕ → ℕ → ℕ → Type 0
 MissesTable port slot at n = (place : ℕ) → IsTable port slot place → at ≤ place → place < at + n → ⊥
+
+-- nor is any of the port's scratch frame
+abbrev pub MissesScratch : ℕ → ℕ → ℕ → Type 0
+MissesScratch port at n = (place : ℕ) → IsScratch port place → at ≤ place → place < at + n → ⊥
 
 -- ---- issuing
 

@@ -26,7 +26,7 @@ ghost use Rattle.block_machine.specs.State.{Accepted, Pending, Machine};
 ghost use Rattle.block_machine.specs.Steps.{Step, Accept, Issue, Age, Again, Answer, Release, Store, Load, May, after_step, stays};
 ghost use Rattle.block_machine.specs.declared.due.Mode.{Mode};
 ghost use Rattle.agreement.specs.Agrees.{Agrees, IsDiskOf, SameMemory, SameSectors, AreUnarmed};
-ghost use Rattle.agreement.specs.Driver.{MayStore, LeavesUses, IsWith, LeavesFree, KeepsFreeBits, MissesTable, Known, Knows, IsBacked, ByDevice, IsPrepared, IsOwnPrepared, EndsWith, HasNoSlot, Forgets, ForgetsKept, serving, parking, freeing, idle};
+ghost use Rattle.agreement.specs.Driver.{MayStore, LeavesUses, IsWrittenBack, LeavesFree, KeepsFreeBits, MissesTable, MissesScratch, Known, Knows, IsBacked, ByDevice, IsPrepared, IsOwnPrepared, EndsWith, HasNoSlot, Forgets, ForgetsKept, serving, parking, freeing, idle};
 ghost use Rattle.agreement.specs.Follows.{Follows};
 ghost use Rattle.agreement.specs.Places.{list_of, received_of, scratch_of};
 ghost use Rattle.agreement.specs.Witness.{FirstIsKnown};
@@ -209,15 +209,18 @@ pub fn free_slots_are_left()
     ensures spared { (uses : Uses) (r : Reg) (v : ℕ) (d : Device) → KeepsFreeBits uses r v d → LeavesFree uses d (written r v d) }
 {}
 
-/// What is left over each of two stretches is left over both; and so it is over none.
+/// What is left over each of two stretches is left over both; and so it is over none. What is left while a slot is free, is left
+/// where it is put to use.
 pub fn leaving_composes()
     ensures none { (uses : Uses) (d : Device) → LeavesFree uses d d }
     ensures more { (uses : Uses) (old mid new : Device) → LeavesFree uses old mid → LeavesFree uses mid new
         → LeavesFree uses old new }
+    ensures used { (uses : Uses) (port slot : ℕ) (u : Use) (old new : Device) → uses port slot ≡ Free → u ≢ Free
+        → LeavesFree uses old new → LeavesFree (put uses port slot u) old new }
 {}
 
 /// So the bytes of a slot that say a command go on saying it, and a trim's block stays where slot 0 has no command of the
-/// driver's own. A store beside the slot's header and table leaves what they say, as one does for a slot in use.
+/// driver's own. A store beside them leaves them, too; and one for a free slot is beside what belongs to a slot in use.
 pub fn what_is_told_is_left()
     ensures told { (uses : Uses) (old new : Device) → LeavesFree uses old new → (port slot : ℕ) (c : Meaning)
         (places : List ℕ) → port < 4 → slot < 32 → Told old.memory (list_of port) port slot c places
@@ -231,6 +234,12 @@ pub fn what_is_told_is_left()
         → Told old.memory (list_of port) port slot c places → Told new.memory (list_of port) port slot c places }
     ensures misses { (uses : Uses) (port slot at n : ℕ) → uses port slot ≢ Free → port < 4 → slot < 32 → MayStore uses at n
         → MissesTable port slot at n }
+    ensures block_beside { (uses : Uses) (at : ℕ) (bytes : List ℕ) (old new : Device)
+        → LeavesFree uses (record old { memory = patched old.memory at bytes }) new → (port : ℕ) (r : Accepted) → port < 4
+        → ((o : Operation) → uses port 0 ≡ Own o → ⊥) → MissesScratch port at (length bytes)
+        → HasBlock r.asked.op old.memory port r → HasBlock r.asked.op new.memory port r }
+    ensures misses_scratch { (uses : Uses) (port at n : ℕ) → uses port 0 ≢ Free → port < 4 → MayStore uses at n
+        → MissesScratch port at n }
 {}
 
 /// A request that is due stays due, whatever the device does.
@@ -309,13 +318,13 @@ pub fn placing_is_permitted()
 /// port may receive; and with FRE and ST clear where its engine stands.
 pub fn commanding_is_permitted()
     ensures start { (port : Port) (was v : ℕ) (old new : Device) → IsOn old → HasPort old port.0 → Reads (Px port Cmd) was old new
-        → MayStart (new.port port.0) → IsWith true true was v → Stays (MayWrite (Px port Cmd) v) new }
+        → MayStart (new.port port.0) → IsWrittenBack true true was v → Stays (MayWrite (Px port Cmd) v) new }
     ensures stop { (port : Port) (was v : ℕ) (old new : Device) → IsOn old → HasPort old port.0 → Reads (Px port Cmd) was old new
-        → IsWith false (bit was 4) was v → Stays (MayWrite (Px port Cmd) v) new }
+        → IsWrittenBack false (bit was 4) was v → Stays (MayWrite (Px port Cmd) v) new }
     ensures receive { (port : Port) (was v : ℕ) (old new : Device) → IsOn old → HasPort old port.0 → Reads (Px port Cmd) was old new
-        → MayReceive (new.port port.0) → IsWith (bit was 0) true was v → Stays (MayWrite (Px port Cmd) v) new }
+        → MayReceive (new.port port.0) → IsWrittenBack (bit was 0) true was v → Stays (MayWrite (Px port Cmd) v) new }
     ensures stop_receiving { (port : Port) (was v : ℕ) (old new : Device) → IsOn old → HasPort old port.0
-        → Reads (Px port Cmd) was old new → MayStopReceiving (new.port port.0) → IsWith false false was v
+        → Reads (Px port Cmd) was old new → MayStopReceiving (new.port port.0) → IsWrittenBack false false was v
         → Stays (MayWrite (Px port Cmd) v) new }
 {}
 
