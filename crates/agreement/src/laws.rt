@@ -8,7 +8,7 @@ ghost use Rattle.ata_types.specs.declared.request.RequestId.{RequestId};
 ghost use Rattle.hba_regs.specs.Bits.{bit};
 ghost use Rattle.hba_regs.specs.declared.reg.PortReg.TheVariants.{Clb, Clbu, Fb, Fbu, Is, Cmd, Ci};
 ghost use Rattle.hba_regs.specs.declared.reg.Reg.TheVariants.{Px};
-ghost use Rattle.hba_regs.specs.declared.reg.Reg.TheVariants as adapter;
+ghost use Rattle.hba_regs.specs.declared.reg.Reg.TheVariants as registers;
 ghost use Rattle.hba_regs.specs.declared.reg.Reg.{Reg};
 ghost use Rattle.adapter.specs.Access.{Reads, Writes, Loads, Stores, written};
 ghost use Rattle.adapter.specs.Commands.{Meaning};
@@ -263,7 +263,8 @@ pub fn prepared_stays()
         → IsPrepared uses m old port slot mode e v → IsPrepared uses (after m f.steps) new port slot mode e v }
 {}
 
-/// A free slot without a bit of PxSACT has none later, nor wherever what no slot uses is left; so it is where a slot is given up, and where one is put to use.
+/// A free slot without a bit of PxSACT has none later, nor wherever what no slot uses is left; so it is where a slot is given up,
+/// and where one is put to use.
 pub fn unarmed_stays()
     ensures device { (uses : Uses) (old new : Device) (port : ℕ) → Steps old new → AreUnarmed uses (old.port port) port
         → AreUnarmed uses (new.port port) port }
@@ -332,7 +333,7 @@ pub fn commanding_is_permitted()
 pub fn acknowledging_is_permitted()
     ensures { (port : Port) (v : ℕ) (old new : Device) → IsOn old → Writes (Px port Is) v old new
         → (ports : ℕ) → ((q : ℕ) → q < 32 → bit ports q ≡ true → (q ≡ port.0) ⊎ ((old.port q).notes.acknowledged ≡ true))
-        → Stays (MayWrite adapter.Is ports) new }
+        → Stays (MayWrite registers.Is ports) new }
 {}
 
 /// The bit of PxCI of a slot with a prepared request may be written, whatever the device does first.
