@@ -128,7 +128,7 @@ pub narrow : (port k at n a : ℕ) → at ≤ a → a < at + n → ((list_of por
 narrow port k at n a low high (inl x) = inl (omega (arith, x.0, low), omega (arith, x.1, high))
 narrow port k at n a low high (inr x) = inr (omega (arith, x.0, low), omega (arith, x.1, high))
 
-store_table : (uses : Uses) (port slot at n a : ℕ) → (uses port slot ≡ Free → ⊥) → port < 4 → slot < 32 → MayStore uses at n → IsTable port slot a → at ≤ a → a < at + n → ⊥
+pub store_table : (uses : Uses) (port slot at n a : ℕ) → (uses port slot ≡ Free → ⊥) → port < 4 → slot < 32 → MayStore uses at n → IsTable port slot a → at ≤ a → a < at + n → ⊥
 store_table uses port slot at n a used below small (inl x) t low high =
     let r = table_in port slot a small t in
     let y = narrow x.port x.slot at n a low high x.here in
@@ -142,7 +142,7 @@ store_table uses port slot at n a used below small (inr x) t low high =
     let e : port ≡ x.port = same_port port x.port a r.0 (omega (arith, r.1)) (omega (arith, x.from, low)) (omega (arith, x.to, high)) in
     omega (arith, e, r.1, x.from, low)
 
-store_scratch : (uses : Uses) (port at n a : ℕ) → port < 4 → (uses port 0 ≡ Free → ⊥) → MayStore uses at n → IsScratch port a → at ≤ a → a < at + n → ⊥
+pub store_scratch : (uses : Uses) (port at n a : ℕ) → port < 4 → (uses port 0 ≡ Free → ⊥) → MayStore uses at n → IsScratch port a → at ≤ a → a < at + n → ⊥
 store_scratch uses port at n a below used (inl x) s low high =
     let y = in_free x.port x.slot a x.slot_below (narrow x.port x.slot at n a low high x.here) in
     let e : port ≡ x.port = same_port port x.port a (omega (arith, s.0)) (omega (arith, s.1)) y.0 (omega (arith, y.1)) in

@@ -22,11 +22,13 @@ use Rattle.block_machine.specs.Steps.{NoneKept}
 use Rattle.block_machine.proofs.HistoryLemmas.{reached_more}
 use Rattle.block_machine.proofs.Keeps.{same_port}
 use Rattle.agreement.specs.Agrees.{Agrees}
-use Rattle.agreement.specs.Facts.{EndedIn, IsClear, Finds, FindsPage}
+use Rattle.agreement.specs.Driver.{Known, Knows}
+use Rattle.agreement.specs.Facts.{EndedIn, IsClear, Finds, FindsPage, AreStepsOf}
 use Rattle.agreement.specs.Follows.{Follows}
 use Rattle.agreement.specs.Places.{scratch_of}
 use Rattle.agreement.specs.Slots.{Use, Own, Serves, Uses, Stage, ServesRequest, Brought, OwnWaits, OwnTaken, OwnOver, ServesOwn, IsOver, IsServed}
 use Rattle.agreement.proofs.Accesses.{read_follows, load_follows}
+use Rattle.agreement.proofs.Adding.{knowing_goes_on}
 use Rattle.agreement.proofs.Following.{Follows-trans}
 use Rattle.agreement.proofs.Resting.{follows_rests, none_kept_on}
 
@@ -85,13 +87,22 @@ done_is_found uses m port ci sact old mid new reached a h st one two =
       kept = none_kept_on m (after m all.steps) port (follows_rests uses m old new all);
     }
 
--- from each machine that agrees
-pub done_adds : (uses : Uses) (port : Port) (ci sact : ℕ) (old mid new : Device) → old.hr ≡ false → (old.port port.0).st ≡ true → Reads (Px port Ci) ci old mid → Reads (Px port Sact) sact mid new →
-    AddsSteps (Agrees uses) old new (λ m steps. (found : Finds uses m port ci sact old new) × (steps ≡ found.follows.steps))
-done_adds uses port ci sact old mid new h st one two = record {
-  adds = λ m reached a. let x : Finds uses m port ci sact old new = done_is_found uses m port ci sact old mid new reached a h st one two in
-      (x.follows.steps, x.follows.may, x.follows.agrees, (x, refl));
+-- what is found in following, from each machine that agrees
+pub found_adds : (k : Known) (new : Device) (Found : Machine → Type 0) → (follows : (m : Machine) → Found m → Follows k.uses m k.device new) →
+    ((m : Machine) → IsReached m → Agrees k.uses m k.device → Found m) → AddsSteps Knows k (record k { device = new }) (λ m steps. (found : Found m) × AreStepsOf (follows m found) steps)
+found_adds k new Found follows finds = record {
+  adds = λ m reached x.
+      let found : Found m = finds m reached x.agrees in
+      let f : Follows k.uses m k.device new = follows m found in
+      let y = knowing_goes_on k m new x f in
+      (f.steps, f.may, y.0, (found, record { same = refl; device = y.1 }));
 }
+
+pub done_adds : (k : Known) (port : Port) (ci sact : ℕ) (mid new : Device) → k.device.hr ≡ false → (k.device.port port.0).st ≡ true → Reads (Px port Ci) ci k.device mid → Reads (Px port Sact) sact mid new →
+    AddsSteps Knows k (record k { device = new }) (λ m steps. (found : Finds k.uses m port ci sact k.device new) × AreStepsOf found.follows steps)
+done_adds k port ci sact mid new h st one two =
+    found_adds k new (λ m. Finds k.uses m port ci sact k.device new) (λ m found. found.follows)
+    (λ m reached a. done_is_found k.uses m port ci sact k.device mid new reached a h st one two)
 
 -- ---- a page of the driver's own
 
@@ -142,3 +153,19 @@ page_is_loaded uses m port o bytes old new reached a h st u over call size =
       record { follows = f; clear = own_clear uses (after m f.steps) new port o f.agrees u now none; brought = b },
       call.shows ∙ ap (bytes_at new.memory (scratch_of port)) size ∙ b.bytes,
     )
+
+-- from each machine that agrees
+pub page_read_adds : (k : Known) (port : Port) (o : Operation) (v : ℕ) (new : Device) → k.device.hr ≡ false → (k.device.port port.0).st ≡ true → k.uses port.0 0 ≡ Own o →
+    Reads (Px port Ci) v k.device new → bit v 0 ≡ false →
+    AddsSteps Knows k (record k { device = new }) (λ m steps. (page : FindsPage k.uses m port.0 o k.device new) × AreStepsOf page.follows steps)
+page_read_adds k port o v new h st u call clear =
+    found_adds k new (λ m. FindsPage k.uses m port.0 o k.device new) (λ m page. page.follows)
+    (λ m reached a. page_is_read k.uses m port o v k.device new reached a h st u call clear)
+
+pub page_load_adds : (k : Known) (port : ℕ) (o : Operation) (bytes : List ℕ) (new : Device) → k.device.hr ≡ false → (k.device.port port).st ≡ true → k.uses port 0 ≡ Own o →
+    IsOver (k.device.port port) 0 → Loads (scratch_of port) bytes k.device new → length bytes ≡ 512 →
+    AddsSteps Knows k (record k { device = new }) (λ m steps. (page : FindsPage k.uses m port o k.device new) × AreStepsOf page.follows steps × (bytes ≡ page.brought.move.bytes))
+page_load_adds k port o bytes new h st u over call size =
+    let all = found_adds k new (λ m. (page : FindsPage k.uses m port o k.device new) × (bytes ≡ page.brought.move.bytes)) (λ m found. found.0.follows)
+    (λ m reached a. page_is_loaded k.uses m port o bytes k.device new reached a h st u over call size) in
+    record { adds = λ m reached x. let y = all.adds m reached x in (y.0, y.1, y.2, (y.3.0.0, y.3.1, y.3.0.1)) }

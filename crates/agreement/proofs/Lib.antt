@@ -40,3 +40,6 @@ mod Starting
 mod Faulted
 mod Witnesses
 mod Identified
+mod Allowing
+mod Leaving
+mod Showing

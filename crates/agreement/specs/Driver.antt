@@ -1,5 +1,5 @@
 -- What the driver may store and write, what it knows, and what its calls add (this project's own).
-use Rattle.std.specs.Prelude.{ℕ, true, false, not, ◌≡◌, ◌≢◌, ◌⊎◌, ◌+◌, ◌*◌, ◌<◌, ◌≤◌, ◌++◌, List, [], ◌∷◌, length, None, Contains}
+use Rattle.std.specs.Prelude.{ℕ, Bool, true, false, not, ◌≡◌, ◌≢◌, ◌⊎◌, ◌+◌, ◌*◌, ◌<◌, ◌≤◌, ◌++◌, List, [], ◌∷◌, length, None, Contains}
 use Rattle.ata_types.specs.declared.request.RequestId.{RequestId}
 use Rattle.hba_regs.specs.Bits.{bit}
 use Rattle.hba_regs.specs.declared.reg.Reg.{Reg}
@@ -19,7 +19,7 @@ use Rattle.block_machine.specs.Left.{after, AllTold}
 use Rattle.block_machine.specs.Events.{AllMay, AllDevices}
 use Rattle.agreement.specs.Places.{list_of, received_of, table_of, scratch_of, IsTable, IsScratch}
 use Rattle.agreement.specs.Slots.{Free, Own, Serves, Uses, put, Told, Means, HasBlock, IsPlaced, op_of}
-use Rattle.agreement.specs.Agrees.{Agrees, HaveSlots}
+use Rattle.agreement.specs.Agrees.{Agrees, HaveSlots, AreUnarmed}
 use Rattle.agreement.specs.Tape.{TellsAmong, PutsIn}
 
 -- ---- stores
@@ -55,6 +55,12 @@ AllFree uses port = (slot : ℕ) → uses port slot ≡ Free
 pub record IsCommand (uses : Uses) (port v : ℕ) (p : PortState) : Type 0 where
   pub start : bit v 0 ≡ true → (p.st ≡ true) ⊎ AllFree uses port
   pub receive : bit v 4 ≡ true → (port < 4) × (p.bases.fb ≡ received_of port)
+
+-- a value of PxCMD with these bits ST and FRE, and the others as they were read
+pub record IsWrittenBack (st fre : Bool) (was v : ℕ) : Type 0 where
+  pub start : bit v 0 ≡ st
+  pub receive : bit v 4 ≡ fre
+  pub others : (place : ℕ) → place < 32 → place ≢ 0 → place ≢ 4 → bit v place ≡ bit was place
 
 -- What is asked of a write so that each slot goes on as it was used: PxCLB has the list's place, or no slot is used; PxSACT has
 -- bits of free slots alone, and PxCI none.
@@ -100,6 +106,21 @@ pub record LeavesFree (uses : Uses) (old new : Device) : Type 0 where
   pub tables : (port slot at : ℕ) → port < 4 → slot < 32 → IsTable port slot at → new.memory at ≡ old.memory at
   pub scratch : (port at : ℕ) → port < 4 → ((o : Operation) → uses port 0 ≡ Own o → ⊥) → IsScratch port at → new.memory at ≡ old.memory at
   pub sact : (port slot : ℕ) → uses port slot ≡ Free → (new.port port).sact slot ≡ (old.port port).sact slot
+
+-- What is asked of a write so that free slots keep their bits of SACT: a write of PxSACT has none of theirs; and one of PxCMD
+-- leaves ST one, or ST is zero already, or they have no bits.
+abbrev pub KeepsFreeBits : Uses → Reg → ℕ → Device → Type 0
+KeepsFreeBits uses (Px port Sact) v d = (slot : ℕ) → uses port.0 slot ≡ Free → bit v slot ≡ false
+KeepsFreeBits uses (Px port Cmd) v d = (bit v 0 ≡ true) ⊎ (((d.port port.0).st ≡ false) ⊎ AreUnarmed uses (d.port port.0) port.0)
+KeepsFreeBits uses r v d = Unit {0}
+
+-- none of these n bytes is of the slot's header, but for PRDBC, or of its table
+abbrev pub MissesTable : ℕ → ℕ → ℕ → ℕ → Type 0
+MissesTable port slot at n = (place : ℕ) → IsTable port slot place → at ≤ place → place < at + n → ⊥
+
+-- nor is any of the port's scratch frame
+abbrev pub MissesScratch : ℕ → ℕ → ℕ → Type 0
+MissesScratch port at n = (place : ℕ) → IsScratch port place → at ≤ place → place < at + n → ⊥
 
 -- ---- issuing
 

@@ -6,7 +6,7 @@ use Rattle.ata_types.specs.declared.request.RequestId.{RequestId}
 use Rattle.hba_regs.specs.Bits.{bit}
 use Rattle.hba_regs.specs.declared.reg.Reg.{Reg}
 use Rattle.hba_regs.specs.declared.reg.Reg.TheVariants.{Px}
-use Rattle.hba_regs.specs.declared.reg.PortReg.TheVariants.{Cmd, Sctl}
+use Rattle.hba_regs.specs.declared.reg.PortReg.TheVariants.{Is, Cmd, Sctl, Serr}
 use Rattle.adapter.specs.Device.{Halt, PortState, Device}
 use Rattle.adapter.specs.Device.Halt.{NotHalted, HaltedPlain, HaltedQueued}
 use Rattle.adapter.specs.Rules.{InUse}
@@ -17,7 +17,8 @@ use Rattle.adapter.specs.declared.tape.Entry.TheVariants as entry
 use Rattle.adapter.specs.declared.tape.Fault as tape_fault
 use Rattle.block_machine.specs.Left.{after}
 use Rattle.block_machine.specs.State.{Pending, Machine}
-use Rattle.block_machine.specs.Steps.{MayMove, AllTouched, NoneKept}
+use Rattle.block_machine.specs.Steps.{Step, MayMove, AllTouched, NoneKept}
+use Rattle.agreement.specs.Driver.{ByDevice}
 use Rattle.agreement.specs.Follows.{Follows}
 use Rattle.agreement.specs.Slots.{Serves, Uses, IsOver, Brought}
 
@@ -71,6 +72,11 @@ pub record FindsPage (uses : Uses) (m : Machine) (port : ℕ) (o : Operation) (o
   pub clear : IsClear (new.port port) 0
   pub brought : Brought new.memory new.tape port o (new.port port).notes.st_set_at
 
+-- these are the steps by which the machine follows, and the device made them alone
+pub record AreStepsOf {uses : Uses} {m : Machine} {old new : Device} (follows : Follows uses m old new) (steps : List Step) : Type 0 where
+  pub same : steps ≡ follows.steps
+  pub device : ByDevice old new m steps
+
 -- ---- frames that the device leaves alone
 
 -- The device uses no byte of the frame: none is of a header, a table or a place of a command that is issued or taken, or of a
@@ -112,6 +118,23 @@ pub record Undisturbed (port : ℕ) (old new : Device) : Type 0 where
   pub gained : List Entry
   pub tape : new.tape ≡ old.tape ++ gained
   pub calm : All (λ e. IsDisturbance port e → ⊥) gained
+
+-- no bit of PxSERR or PxIS tells of trouble: neither N and X, nor IFS, HBDS, HBFS and TFES, which are 27 to 30
+pub record ShowsNoTrouble (p : PortState) : Type 0 where
+  pub serr_n : p.serr_n ≡ false
+  pub serr_x : p.serr_x ≡ false
+  pub quiet : (place : ℕ) → 27 ≤ place → place ≤ 30 → p.is place ≡ false
+
+-- A value of PxIS tells of none: neither PCS, which shows X, and PRCS, which shows N, nor those four (AHCI 1.3.1, 3.3.5).
+pub record TellsNoTrouble (v : ℕ) : Type 0 where
+  pub change : bit v 6 ≡ false
+  pub ready : bit v 22 ≡ false
+  pub quiet : (place : ℕ) → 27 ≤ place → place ≤ 30 → bit v place ≡ false
+
+-- a write clears no bit that tells of the port's trouble
+pub record ClearsNoTrouble (port : Port) (r : Reg) (v : ℕ) : Type 0 where
+  pub is : r ≡ Px port Is → (place : ℕ) → 27 ≤ place → place ≤ 30 → bit v place ≡ false
+  pub serr : r ≡ Px port Serr → (bit v 16 ≡ false) × (bit v 26 ≡ false)
 
 -- ---- faults since ST was set
 

@@ -6,8 +6,8 @@ ghost use Rattle.ata_types.specs.declared.request.RequestId.{RequestId};
 ghost use Rattle.hba_regs.specs.Bits.{bit};
 ghost use Rattle.hba_regs.specs.declared.reg.Reg.{Reg};
 ghost use Rattle.hba_regs.specs.declared.reg.Reg.TheVariants.{Ghc, Px};
-ghost use Rattle.hba_regs.specs.declared.reg.PortReg.TheVariants.{Is, Cmd, Tfd, Sctl, Ci, Sact};
-ghost use Rattle.adapter.specs.Access.{Reads, Writes, Loads};
+ghost use Rattle.hba_regs.specs.declared.reg.PortReg.TheVariants.{Is, Cmd, Tfd, Sctl, Serr, Ci, Sact};
+ghost use Rattle.adapter.specs.Access.{Reads, Writes, Loads, Stores};
 ghost use Rattle.adapter.specs.Device.{Device, PortState};
 ghost use Rattle.adapter.specs.Device.Halt.{HaltedPlain};
 ghost use Rattle.adapter.specs.FirstRead.{first_read};
@@ -19,7 +19,8 @@ ghost use Rattle.adapter.specs.declared.tape.Entry.{Entry};
 ghost use Rattle.block_machine.specs.Histories.{IsReached, AddsSteps};
 ghost use Rattle.block_machine.specs.State.{Machine};
 ghost use Rattle.agreement.specs.Agrees.{Agrees};
-ghost use Rattle.agreement.specs.Facts.{IsHalted, IsReset, Finds, FindsPage, IsStill, AreOver, IsHealthy, Undisturbed, IsFaulted, ShowsFault, HasFaults, IsRecorded, IsAwaited, IsUnflagged, IsQuiet, KeepsRecord};
+ghost use Rattle.agreement.specs.Driver.{Known, Knows};
+ghost use Rattle.agreement.specs.Facts.{IsHalted, IsReset, Finds, FindsPage, AreStepsOf, IsStill, AreOver, IsHealthy, Undisturbed, ShowsNoTrouble, TellsNoTrouble, ClearsNoTrouble, IsFaulted, ShowsFault, HasFaults, IsRecorded, IsAwaited, IsUnflagged, IsQuiet, KeepsRecord};
 ghost use Rattle.agreement.specs.Follows.{Follows};
 ghost use Rattle.agreement.specs.Places.{scratch_of};
 ghost use Rattle.agreement.specs.Slots.{Uses, Free, Own, Serves, IsOver};
@@ -48,18 +49,21 @@ pub fn reset_is_found()
     ensures idle { (p : PortState) → IsIdlePort p → IsReset p }
 {}
 
-/// CI and then SACT of a running port are read: each slot whose bits were clear in both has ended its request.
+/// CI and then SACT of a running port are read: each slot whose bits were clear in both has ended its request. The steps by which
+/// the machine follows are those of the two readings, and what the driver knows stays known.
 pub fn done_is_found()
     ensures finds { (uses : Uses) (m : Machine) (port : Port) (ci sact : ℕ) (old mid new : Device) → IsReached m → Agrees uses m old
         → old.hr ≡ false → (old.port port.0).st ≡ true → Reads (Px port Ci) ci old mid → Reads (Px port Sact) sact mid new
         → Finds uses m port ci sact old new }
-    ensures adds { (uses : Uses) (port : Port) (ci sact : ℕ) (old mid new : Device) → old.hr ≡ false → (old.port port.0).st ≡ true
-        → Reads (Px port Ci) ci old mid → Reads (Px port Sact) sact mid new
-        → AddsSteps (Agrees uses) old new (λ m steps. (found : Finds uses m port ci sact old new) × (steps ≡ found.follows.steps)) }
+    ensures adds { (k : Known) (port : Port) (ci sact : ℕ) (mid new : Device) → k.device.hr ≡ false → (k.device.port port.0).st ≡ true
+        → Reads (Px port Ci) ci k.device mid → Reads (Px port Sact) sact mid new
+        → AddsSteps Knows k (record k { device = new })
+        (λ m steps. (found : Finds k.uses m port ci sact k.device new) × AreStepsOf found.follows steps) }
 {}
 
 /// CI of a running port with a command of the driver's own is read: once bit 0 is clear, the command has brought its page; and
-/// a load of the scratch frame then gives the bytes that the port's last command of this operation has moved.
+/// a load of the scratch frame then gives the bytes that the port's last command of this operation has moved. The steps by which
+/// the machine follows are the device's, and what the driver knows stays known.
 pub fn page_is_found()
     ensures read { (uses : Uses) (m : Machine) (port : Port) (o : Operation) (v : ℕ) (old new : Device) → IsReached m → Agrees uses m old
         → old.hr ≡ false → (old.port port.0).st ≡ true → uses port.0 0 ≡ Own o → Reads (Px port Ci) v old new → bit v 0 ≡ false
@@ -68,6 +72,16 @@ pub fn page_is_found()
         → old.hr ≡ false → (old.port port).st ≡ true → uses port 0 ≡ Own o → IsOver (old.port port) 0
         → Loads (scratch_of port) bytes old new → length bytes ≡ 512
         → (page : FindsPage uses m port o old new) × (bytes ≡ page.brought.move.bytes) }
+    ensures read_adds { (k : Known) (port : Port) (o : Operation) (v : ℕ) (new : Device) → k.device.hr ≡ false
+        → (k.device.port port.0).st ≡ true → k.uses port.0 0 ≡ Own o → Reads (Px port Ci) v k.device new → bit v 0 ≡ false
+        → AddsSteps Knows k (record k { device = new })
+        (λ m steps. (page : FindsPage k.uses m port.0 o k.device new) × AreStepsOf page.follows steps) }
+    ensures load_adds { (k : Known) (port : ℕ) (o : Operation) (bytes : List ℕ) (new : Device) → k.device.hr ≡ false
+        → (k.device.port port).st ≡ true → k.uses port 0 ≡ Own o → IsOver (k.device.port port) 0
+        → Loads (scratch_of port) bytes k.device new → length bytes ≡ 512
+        → AddsSteps Knows k (record k { device = new })
+        (λ m steps. (page : FindsPage k.uses m port o k.device new) × AreStepsOf page.follows steps
+        × (bytes ≡ page.brought.move.bytes)) }
 {}
 
 /// Where the commands of a request are over, the device uses none of the frames that are lent to it any more, whatever it does;
@@ -97,6 +111,32 @@ pub fn healthy_stays()
     ensures exists { IsHealthy (first_read.port 0) }
 {}
 
+/// While no reset is pending, whatever goes wrong on a port sets a bit of PxIS or of PxSERR, which stays until the driver clears it:
+/// where none is set, none was, and nothing went wrong. PxIS alone tells of each, and a healthy port has none; so where it is read
+/// with none, or with none of its own and then PxSERR with none, a port that was healthy is so still when PxIS is read.
+pub fn trouble_is_shown()
+    ensures steps { (port : ℕ) (old new : Device) → old.hr ≡ false → Steps old new → ShowsNoTrouble (new.port port)
+        → ShowsNoTrouble (old.port port) × Undisturbed port old new }
+    ensures reads { (port : ℕ) (r : Reg) (v : ℕ) (old new : Device) → old.hr ≡ false → Reads r v old new
+        → ShowsNoTrouble (new.port port) → ShowsNoTrouble (old.port port) × Undisturbed port old new }
+    ensures stores { (port at : ℕ) (bytes : List ℕ) (old new : Device) → old.hr ≡ false → Stores at bytes old new
+        → ShowsNoTrouble (new.port port) → ShowsNoTrouble (old.port port) × Undisturbed port old new }
+    ensures writes { (port : Port) (r : Reg) (v : ℕ) (old new : Device) → old.hr ≡ false → ClearsNoTrouble port r v
+        → Writes r v old new → ShowsNoTrouble (new.port port.0) → ShowsNoTrouble (old.port port.0) × Undisturbed port.0 old new }
+    ensures told { (port : Port) (v : ℕ) (old new : Device) → old.hr ≡ false → Reads (Px port Is) v old new → TellsNoTrouble v
+        → ShowsNoTrouble (new.port port.0) }
+    ensures tells { (port : Port) (v : ℕ) (old new : Device) → old.hr ≡ false → Reads (Px port Is) v old new
+        → ShowsNoTrouble (new.port port.0) → TellsNoTrouble v }
+    ensures back { (port : Port) (v : ℕ) → TellsNoTrouble v → ClearsNoTrouble port (Px port Is) v }
+    ensures healthy { (p : PortState) → IsHealthy p → ShowsNoTrouble p }
+    ensures found { (port : Port) (v : ℕ) (old new : Device) → old.hr ≡ false → Reads (Px port Is) v old new → TellsNoTrouble v
+        → IsHealthy (old.port port.0) → Undisturbed port.0 old new × IsHealthy (new.port port.0) }
+    ensures both { (port : Port) (v errors : ℕ) (old mid new : Device) → old.hr ≡ false → Reads (Px port Is) v old mid
+        → Reads (Px port Serr) errors mid new → ((place : ℕ) → 27 ≤ place → place ≤ 30 → bit v place ≡ false)
+        → bit errors 16 ≡ false → bit errors 26 ≡ false → IsHealthy (old.port port.0)
+        → Undisturbed port.0 old mid × IsHealthy (mid.port port.0) }
+{}
+
 /// Where nothing goes wrong in each of two parts of a call, nothing does in the whole; and where nothing does in the whole,
 /// nothing does in the parts.
 pub fn calm_composes()
@@ -107,8 +147,8 @@ pub fn calm_composes()
 {}
 
 /// The faults of a port since its ST was set stand on the tape, and the task file shows the last one: so it stays, whatever the
-/// device does, over readings, and over each write that may be made, where ST is set on a quiet port alone. So it is while ST
-/// is 0, on a port that runs, and on one that has failed.
+/// device does, over readings, and over each write that may be made, where ST is set on a quiet port alone: what is asked of the
+/// write stays so until it is made. So it is while ST is 0, on a port that runs, and on one that has failed.
 pub fn faults_are_recorded()
     ensures steps { (port : ℕ) (old new : Device) → Steps old new → IsRecorded old.tape (old.port port) port
         → IsRecorded new.tape (new.port port) port }
@@ -116,6 +156,7 @@ pub fn faults_are_recorded()
         → IsRecorded new.tape (new.port port) port }
     ensures writes { (port : ℕ) (r : Reg) (v : ℕ) (old new : Device) → Stays (MayWrite r v) old → Stays (KeepsRecord r v) old
         → Writes r v old new → IsRecorded old.tape (old.port port) port → IsRecorded new.tape (new.port port) port }
+    ensures asked { (r : Reg) (v : ℕ) (d : Device) → d.hr ≡ false → KeepsRecord r v d → Stays (KeepsRecord r v) d }
     ensures idle { (tape : List Entry) (p : PortState) (port : ℕ) → p.st ≡ false → IsRecorded tape p port }
     ensures runs { HasFaults first_read.tape (first_read.port 0) 0 }
     ensures failed { (new : Device) × Steps first_read new × ((new.port 0).halt ≡ HaltedPlain) × HasFaults new.tape (new.port 0) 0 }
@@ -149,8 +190,8 @@ pub fn quiet_is_found()
 {}
 
 /// A fault has halted a running port: TFES of PxIS tells it, and so it stays while ST is 1, whatever the device does, over readings,
-/// and over writes, PxIS among them. TFD then shows status and error of the port's last fault since ST was set; and the slot of that
-/// fault isn't a free one.
+/// and over writes, PxIS among them. TFD then shows status and error of the port's last fault since ST was set. And where the machine
+/// agrees with the device, the slot of a fault that the task file shows, which is still in use, isn't a free one.
 pub fn fault_is_found()
     ensures told { (port : Port) (v : ℕ) (old new : Device) → old.hr ≡ false → (old.port port.0).st ≡ true
         → IsRecorded old.tape (old.port port.0) port.0 → Reads (Px port Is) v old new → bit v 30 ≡ true

@@ -1,18 +1,21 @@
 // Laws of the relation, for the crates above: the clause is the theorem. Nothing calls these functions.
-ghost use Rattle.std.specs.Prelude.{◌≡◌, ◌+◌, ◌*◌, ◌/◌, ◌%◌, ◌<◌, ◌≤◌, ◌∷◌, ◌++◌, ℕ, Bool, true, false, [], List, length, map, Contains};
+ghost use Rattle.std.specs.Prelude.{◌≡◌, ◌+◌, ◌*◌, ◌/◌, ◌%◌, ◌<◌, ◌≤◌, ◌∷◌, ◌++◌, ℕ, Bool, true, false, [], List, length, map, Contains, ◌≢◌, ◌⊎◌};
 ghost use Rattle.ata_types.specs.declared.Port.{Port};
 ghost use Rattle.ata_types.specs.declared.request.ClientId.{ClientId};
 ghost use Rattle.ata_types.specs.declared.request.Frame.{Frame};
 ghost use Rattle.ata_types.specs.declared.request.Outcome.{Outcome};
 ghost use Rattle.ata_types.specs.declared.request.RequestId.{RequestId};
-ghost use Rattle.hba_regs.specs.declared.reg.PortReg.TheVariants.{Ci};
+ghost use Rattle.hba_regs.specs.Bits.{bit};
+ghost use Rattle.hba_regs.specs.declared.reg.PortReg.TheVariants.{Clb, Clbu, Fb, Fbu, Is, Cmd, Ci};
 ghost use Rattle.hba_regs.specs.declared.reg.Reg.TheVariants.{Px};
+ghost use Rattle.hba_regs.specs.declared.reg.Reg.TheVariants as registers;
 ghost use Rattle.hba_regs.specs.declared.reg.Reg.{Reg};
-ghost use Rattle.adapter.specs.Access.{Reads, Writes, Loads, Stores};
+ghost use Rattle.adapter.specs.Access.{Reads, Writes, Loads, Stores, written};
 ghost use Rattle.adapter.specs.Commands.{Meaning};
 ghost use Rattle.adapter.specs.Device.{PortState, Device};
 ghost use Rattle.adapter.specs.Idle.{IsIdle};
-ghost use Rattle.adapter.specs.Rules.{IsFree, IsOn, HasPort, MayWrite, Stays};
+ghost use Rattle.adapter.specs.Memory.{patched};
+ghost use Rattle.adapter.specs.Rules.{IsFree, IsOn, HasPort, MayStart, MayReceive, MayStopReceiving, MayWrite, Stays};
 ghost use Rattle.adapter.specs.Steps.{Steps};
 ghost use Rattle.adapter.specs.declared.command.Operation.{Operation};
 ghost use Rattle.block_machine.specs.Due.{is_plain, issued_count};
@@ -24,9 +27,9 @@ ghost use Rattle.block_machine.specs.State.{Accepted, Pending, Machine, unanswer
 ghost use Rattle.block_machine.specs.Steps.{Step, Accept, Issue, Age, Again, Answer, Release, Store, Load, May, NoneKept, after_step, stays};
 ghost use Rattle.block_machine.specs.declared.due.Mode.{Mode};
 ghost use Rattle.agreement.specs.Agrees.{Agrees, IsDiskOf, SameMemory, SameSectors, HaveSlots, AreUnarmed};
-ghost use Rattle.agreement.specs.Driver.{MayStore, LeavesUses, LeavesFree, Known, Knows, IsBacked, ByDevice, IsPrepared, IsOwnPrepared, EndsWith, HasNoSlot, Forgets, ForgetsKept, serving, parking, freeing, idle};
+ghost use Rattle.agreement.specs.Driver.{MayStore, LeavesUses, LeavesFree, Known, Knows, IsBacked, ByDevice, IsPrepared, IsOwnPrepared, EndsWith, HasNoSlot, Forgets, ForgetsKept, serving, parking, freeing, idle, IsWrittenBack, KeepsFreeBits, MissesTable, MissesScratch};
 ghost use Rattle.agreement.specs.Follows.{Follows};
-ghost use Rattle.agreement.specs.Places.{list_of, scratch_of};
+ghost use Rattle.agreement.specs.Places.{list_of, scratch_of, received_of};
 ghost use Rattle.agreement.specs.Witness.{PreparedIsKnown, FirstIsKnown, KeptIsKnown, ParkedIsKnown, OwnIsKnown};
 ghost use Rattle.agreement.specs.Slots.{Use, Free, Own, Serves, Uses, put, serving_count, Told, HasBlock, IsOver};
 
@@ -211,14 +214,36 @@ pub fn due_finds_free_slot()
         → (slot : ℕ) × (slot < mode.usable) × (uses e.request.port.0 slot ≡ Free) }
 {}
 
-/// While no reset is pending the device leaves alone what no slot uses.
+/// While no reset is pending the device leaves alone what no slot uses; so it is over readings and loads. A store and a write of a
+/// register leave of it what they would at once, had the device done nothing first; and each write but some of PxSACT and PxCMD
+/// leaves it as it was.
 pub fn free_slots_are_left()
-    ensures { (uses : Uses) (m : Machine) (old new : Device) → IsReached m → Agrees uses m old → old.hr ≡ false
+    ensures steps { (uses : Uses) (m : Machine) (old new : Device) → IsReached m → Agrees uses m old → old.hr ≡ false
         → Steps old new → LeavesFree uses old new }
+    ensures reads { (uses : Uses) (m : Machine) (old new : Device) → IsReached m → Agrees uses m old → old.hr ≡ false
+        → (r : Reg) (v : ℕ) → Reads r v old new → LeavesFree uses old new }
+    ensures loads { (uses : Uses) (m : Machine) (old new : Device) → IsReached m → Agrees uses m old → old.hr ≡ false
+        → (at : ℕ) (bytes : List ℕ) → Loads at bytes old new → LeavesFree uses old new }
+    ensures stores { (uses : Uses) (m : Machine) (old new : Device) → IsReached m → Agrees uses m old → old.hr ≡ false
+        → (at : ℕ) (bytes : List ℕ) → Stores at bytes old new
+        → LeavesFree uses (record old { memory = patched old.memory at bytes }) new }
+    ensures writes { (uses : Uses) (m : Machine) (old new : Device) → IsReached m → Agrees uses m old → old.hr ≡ false
+        → (r : Reg) (v : ℕ) → Writes r v old new → LeavesFree uses (written r v old) new }
+    ensures spared { (uses : Uses) (r : Reg) (v : ℕ) (d : Device) → KeepsFreeBits uses r v d → LeavesFree uses d (written r v d) }
+{}
+
+/// What is left over each of two stretches is left over both; and so it is over none. What is left while a slot is free, is left
+/// where it is put to use.
+pub fn leaving_composes()
+    ensures none { (uses : Uses) (d : Device) → LeavesFree uses d d }
+    ensures more { (uses : Uses) (old mid new : Device) → LeavesFree uses old mid → LeavesFree uses mid new
+        → LeavesFree uses old new }
+    ensures used { (uses : Uses) (port slot : ℕ) (u : Use) (old new : Device) → uses port slot ≡ Free → u ≢ Free
+        → LeavesFree uses old new → LeavesFree (put uses port slot u) old new }
 {}
 
 /// So the bytes of a slot that say a command go on saying it, and a trim's block stays where slot 0 has no command of the
-/// driver's own.
+/// driver's own. A store beside them leaves them, too; and one for a free slot is beside what belongs to a slot in use.
 pub fn what_is_told_is_left()
     ensures told { (uses : Uses) (old new : Device) → LeavesFree uses old new → (port slot : ℕ) (c : Meaning)
         (places : List ℕ) → port < 4 → slot < 32 → Told old.memory (list_of port) port slot c places
@@ -226,6 +251,18 @@ pub fn what_is_told_is_left()
     ensures block { (uses : Uses) (old new : Device) → LeavesFree uses old new → (port : ℕ) (r : Accepted) → port < 4
         → ((o : Operation) → uses port 0 ≡ Own o → ⊥) → HasBlock r.asked.op old.memory port r
         → HasBlock r.asked.op new.memory port r }
+    ensures beside { (uses : Uses) (at : ℕ) (bytes : List ℕ) (old new : Device)
+        → LeavesFree uses (record old { memory = patched old.memory at bytes }) new → (port slot : ℕ) (c : Meaning)
+        (places : List ℕ) → port < 4 → slot < 32 → MissesTable port slot at (length bytes)
+        → Told old.memory (list_of port) port slot c places → Told new.memory (list_of port) port slot c places }
+    ensures misses { (uses : Uses) (port slot at n : ℕ) → uses port slot ≢ Free → port < 4 → slot < 32 → MayStore uses at n
+        → MissesTable port slot at n }
+    ensures block_beside { (uses : Uses) (at : ℕ) (bytes : List ℕ) (old new : Device)
+        → LeavesFree uses (record old { memory = patched old.memory at bytes }) new → (port : ℕ) (r : Accepted) → port < 4
+        → ((o : Operation) → uses port 0 ≡ Own o → ⊥) → MissesScratch port at (length bytes)
+        → HasBlock r.asked.op old.memory port r → HasBlock r.asked.op new.memory port r }
+    ensures misses_scratch { (uses : Uses) (port at n : ℕ) → uses port 0 ≢ Free → port < 4 → MayStore uses at n
+        → MissesScratch port at n }
 {}
 
 /// A request that is due stays due, whatever the device does.
@@ -249,9 +286,12 @@ pub fn prepared_stays()
         → IsPrepared uses m old port slot mode e v → IsPrepared uses (after m f.steps) new port slot mode e v }
 {}
 
-/// A free slot without a bit of PxSACT has none later; so it is where a slot is given up, and where one is put to use.
+/// A free slot without a bit of PxSACT has none later, nor wherever what no slot uses is left; so it is where a slot is given up,
+/// and where one is put to use.
 pub fn unarmed_stays()
     ensures device { (uses : Uses) (old new : Device) (port : ℕ) → Steps old new → AreUnarmed uses (old.port port) port
+        → AreUnarmed uses (new.port port) port }
+    ensures left { (uses : Uses) (old new : Device) (port : ℕ) → LeavesFree uses old new → AreUnarmed uses (old.port port) port
         → AreUnarmed uses (new.port port) port }
     ensures given_up { (uses : Uses) (m : Machine) (d : Device) (port slot : ℕ) → Agrees uses m d → IsOver (d.port port) slot
         → AreUnarmed uses (d.port port) port → AreUnarmed (put uses port slot Free) (d.port port) port }
@@ -276,6 +316,47 @@ pub fn client_bytes_are_free()
     ensures { (uses : Uses) (m : Machine) (d : Device) → IsReached m → Agrees uses m d → (client : ClientId)
         (frame : Frame) (offset n : ℕ) → 4096 * frame.0 + 4096 ≤ d.size
         → IsOpen m.owner m.lent client frame offset n → Stays (IsFree (4096 * frame.0 + offset) n) d }
+{}
+
+/// A write that may be made now, of any register but PxCI, may be made whatever the device does first; and it goes on to leave each
+/// slot to its use.
+pub fn writing_is_permitted()
+    ensures rules { (r : Reg) (v : ℕ) (d : Device) → ((port : Port) → r ≢ Px port Ci) → MayWrite r v d → Stays (MayWrite r v) d }
+    ensures uses { (uses : Uses) (r : Reg) (v : ℕ) (d : Device) → d.hr ≡ false → LeavesUses uses r v d
+        → Stays (LeavesUses uses r v) d }
+{}
+
+/// Where a port's engine stands its command list may be put into its place; and where it receives no FISes, the received FIS area may.
+pub fn placing_is_permitted()
+    ensures list { (d : Device) (port : Port) → IsOn d → HasPort d port.0 → (d.port port.0).st ≡ false → (d.port port.0).cr ≡ false
+        → list_of port.0 + 1024 ≤ d.size → Stays (MayWrite (Px port Clb) (list_of port.0)) d }
+    ensures list_upper { (d : Device) (port : Port) → IsOn d → HasPort d port.0 → (d.port port.0).st ≡ false
+        → (d.port port.0).cr ≡ false → Stays (MayWrite (Px port Clbu) 0) d }
+    ensures received { (d : Device) (port : Port) → IsOn d → HasPort d port.0 → (d.port port.0).fre ≡ false
+        → (d.port port.0).fr ≡ false → received_of port.0 + 256 ≤ d.size → Stays (MayWrite (Px port Fb) (received_of port.0)) d }
+    ensures received_upper { (d : Device) (port : Port) → IsOn d → HasPort d port.0 → (d.port port.0).fre ≡ false
+        → (d.port port.0).fr ≡ false → Stays (MayWrite (Px port Fbu) 0) d }
+{}
+
+/// PxCMD is read, and then it may be written back with ST set where the port may start; with ST clear always; with FRE set where the
+/// port may receive; and with FRE and ST clear where its engine stands.
+pub fn commanding_is_permitted()
+    ensures start { (port : Port) (was v : ℕ) (old new : Device) → IsOn old → HasPort old port.0 → Reads (Px port Cmd) was old new
+        → MayStart (new.port port.0) → IsWrittenBack true true was v → Stays (MayWrite (Px port Cmd) v) new }
+    ensures stop { (port : Port) (was v : ℕ) (old new : Device) → IsOn old → HasPort old port.0 → Reads (Px port Cmd) was old new
+        → IsWrittenBack false (bit was 4) was v → Stays (MayWrite (Px port Cmd) v) new }
+    ensures receive { (port : Port) (was v : ℕ) (old new : Device) → IsOn old → HasPort old port.0 → Reads (Px port Cmd) was old new
+        → MayReceive (new.port port.0) → IsWrittenBack (bit was 0) true was v → Stays (MayWrite (Px port Cmd) v) new }
+    ensures stop_receiving { (port : Port) (was v : ℕ) (old new : Device) → IsOn old → HasPort old port.0
+        → Reads (Px port Cmd) was old new → MayStopReceiving (new.port port.0) → IsWrittenBack false false was v
+        → Stays (MayWrite (Px port Cmd) v) new }
+{}
+
+/// PxIS is written, and then the port's bit of IS may be, with those of ports whose PxIS was written since their own bits were.
+pub fn acknowledging_is_permitted()
+    ensures { (port : Port) (v : ℕ) (old new : Device) → IsOn old → Writes (Px port Is) v old new
+        → (ports : ℕ) → ((q : ℕ) → q < 32 → bit ports q ≡ true → (q ≡ port.0) ⊎ ((old.port q).notes.acknowledged ≡ true))
+        → Stays (MayWrite registers.Is ports) new }
 {}
 
 /// The bit of PxCI of a slot with a prepared request may be written, whatever the device does first.

@@ -1,3 +1,4 @@
+use Rattle.agreement.proofs.Allowing.{record_stays}
 use Rattle.agreement.proofs.Recording.{steps_recorded, stopped_recorded}
 use Rattle.agreement.proofs.Rewriting.{reads_recorded, writes_recorded}
 use Rattle.agreement.proofs.Witnesses.{first_recorded, first_failed}
@@ -20,3 +21,6 @@ returns-clause-runs c = first_recorded
 
 pub returns-clause-failed : goal.returns-clause-failed
 returns-clause-failed c = first_failed
+
+pub returns-clause-asked : goal.returns-clause-asked
+returns-clause-asked c = record_stays

@@ -1,5 +1,21 @@
 use Rattle.agreement.proofs.Keeping.{steps_leave}
+use Rattle.agreement.proofs.Leaving.{reads_leave, loads_leave, stores_leave, writes_leave, write_spares}
 use Rattle.agreement.proofs.laws.free_slots_are_left.Goals as goal
 
-pub returns : goal.returns
-returns c = steps_leave
+pub returns-clause-steps : goal.returns-clause-steps
+returns-clause-steps c = steps_leave
+
+pub returns-clause-reads : goal.returns-clause-reads
+returns-clause-reads c = reads_leave
+
+pub returns-clause-loads : goal.returns-clause-loads
+returns-clause-loads c = loads_leave
+
+pub returns-clause-stores : goal.returns-clause-stores
+returns-clause-stores c = stores_leave
+
+pub returns-clause-writes : goal.returns-clause-writes
+returns-clause-writes c = writes_leave
+
+pub returns-clause-spared : goal.returns-clause-spared
+returns-clause-spared c = write_spares

@@ -1,3 +1,4 @@
+use Rattle.agreement.proofs.Leaving.{unarmed_left}
 use Rattle.agreement.proofs.Unarmed.{unarmed_stays, giving_up_unarmed, putting_unarmed}
 use Rattle.agreement.proofs.laws.unarmed_stays.Goals as goal
 
@@ -9,3 +10,6 @@ returns-clause-given_up c = giving_up_unarmed
 
 pub returns-clause-used : goal.returns-clause-used
 returns-clause-used c = putting_unarmed
+
+pub returns-clause-left : goal.returns-clause-left
+returns-clause-left c = unarmed_left

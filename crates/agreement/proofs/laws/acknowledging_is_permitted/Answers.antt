@@ -1,0 +1,5 @@
+use Rattle.agreement.proofs.Allowing.{acknowledging_may}
+use Rattle.agreement.proofs.laws.acknowledging_is_permitted.Goals as goal
+
+pub returns : goal.returns
+returns c = acknowledging_may
