@@ -1,83 +1,145 @@
--- A run in which a port fails, and its engine doesn't stop.
-use Rattle.std.proofs.Common.{◌≡◌, List, [], ◌∷◌, inl, inr, refl, ap}
+-- A run in which a port fails, is stopped, and gets stuck in its boot.
+use Rattle.std.proofs.Common.{◌≡◌, ℕ, ◌<◌, zero, suc, List, [], ◌∷◌, map, Ok, inl, inr, ⊎_elim, refl, ap, arith}
 use Rattle.std.proofs.lemmas.Bool.{false≢true}
+use Rattle.std.proofs.lemmas.List.Sorted.{IsPermutation-append_comm}
+use Rattle.std.specs.List.{Contains}
+use Rattle.std.specs.Prelude.{slice_index_or}
 use Rattle.ata_types.specs.declared.Port.{Port}
 use Rattle.ata_types.specs.declared.PortState.TheVariants.{Ready, Dead}
+use Rattle.ata_types.specs.declared.request.Op.TheVariants.{Write}
+use Rattle.ata_types.specs.declared.request.Outcome.{Outcome}
 use Rattle.ata_types.specs.declared.request.Outcome.TheVariants as outcome
 use Rattle.block_machine.specs.Ports.{Evidence}
-use Rattle.block_machine.specs.State.{Pending}
-use Rattle.block_machine.specs.Steps.{Answer, newly_accepted, issue}
-use Rattle.block_machine.specs.Events.{Service, Served, Event, Happens, ServesReady, reply_of, moment_of}
+use Rattle.block_machine.specs.State.{Accepted, Pending, unanswered}
+use Rattle.block_machine.specs.Steps.{Accept, Issue, Answer, newly_accepted, issue}
+use Rattle.block_machine.specs.Events.{Submit, Service, Submitted, Served, Event, Happens, ServesReady, Tells, IsToldBefore, reply_of, moment_of, situation_of}
 use Rattle.block_machine.specs.Worked.{DiesInAService}
-use Rattle.block_machine.proofs.Members.{contains_none, contains_here}
-use Rattle.block_machine.proofs.Setting.{port, frame, empty_starts}
-use Rattle.block_machine.proofs.Scene.{ports_in, first, ready_port, one_told, none_ended, none_unplugged, ports_fit, none_dead}
+use Rattle.block_machine.proofs.Members.{contains_none, contains_here, contains_there, contains_cases}
+use Rattle.block_machine.proofs.Setting.{port, frame, empty_starts, acceptable}
+use Rattle.block_machine.proofs.Scene.{mode, id, call, one_sector, ports_in, first, ready_port, IsQuiet, row_zero, write_at, new, none_waits, none_ended, none_unplugged, one_fault, ports_fit, none_dead}
 use Rattle.block_machine.proofs.WaitingRun.{write, run1, happens1}
 use Rattle.block_machine.proofs.ResetRun.{dead_not_ready, dead_here}
 
-abbrev issued : Pending
-issued = issue (newly_accepted write)
+-- a write of another sector
+abbrev other : Accepted
+other = one_sector 0 (moment_of first run1).machine 2 Write 101 41
 
--- the port failed, and its engine didn't stop
-abbrev seen : Evidence
-seen = record { faults = []; lost = []; gone = []; failed = port ∷ []; stopped = []; stuck = port ∷ [] }
-
-abbrev service : Event (Unit {0})
-service = record { ask = Service; said = Served (reply_of (issued, outcome.PortDead) ∷ []); evidence = seen; steps = Answer issued outcome.PortDead ∷ []; ports = ports_in Dead }
+abbrev submit : Event (Unit {0})
+submit = call (Submit other.asked) (Submitted (Ok (id 2))) (Issue mode (newly_accepted other) ∷ Accept other ∷ [])
 
 abbrev run2 : List (Event (Unit {0}))
-run2 = service ∷ run1
+run2 = submit ∷ run1
 
-happens2 : Happens (moment_of first run1) service
+abbrev failing : Pending
+failing = issue (newly_accepted write)
+
+abbrev kept : Pending
+kept = issue (newly_accepted other)
+
+-- the port failed and told a fault; it was stopped, and got stuck then
+abbrev seen : Evidence
+seen = record { faults = record { id = id 1; status = 65; error = 64 } ∷ []; lost = []; gone = []; failed = port ∷ []; stopped = port ∷ []; stuck = port ∷ [] }
+
+abbrev told : List (Pending × Outcome)
+told = (failing, outcome.DeviceError 65 64) ∷ (kept, outcome.PortDead) ∷ []
+
+abbrev service : Event (Unit {0})
+service = record { ask = Service; said = Served (map reply_of told); evidence = seen; steps = Answer kept outcome.PortDead ∷ Answer failing (outcome.DeviceError 65 64) ∷ []; ports = ports_in Dead }
+
+abbrev run3 : List (Event (Unit {0}))
+run3 = service ∷ run2
+
+quiet : IsQuiet 0 (moment_of first run1)
+quiet = record { rows = refl; mine = row_zero; ready = refl; size = refl; room = omega arith; few = omega arith }
+
+second : {X : Type 0} (a b : X) → Contains (a ∷ b ∷ []) b
+second a b = contains_there a (b ∷ []) b (contains_here b [] b refl)
+
+happens2 : Happens (moment_of first run1) submit
 happens2 = record {
-  may = (tt, contains_here issued [] issued refl);
-  belong = (tt, inr tt);
-  last = (tt, λ id h i. false≢true i);
-  lawful = (tt, (refl, inr (contains_here port [] port refl)));
-  fit = ports_fit Dead;
+  may = ((tt, new 0 (moment_of first run1) other quiet (write_at 0 (moment_of first run1) 101 41 quiet (omega arith) (omega arith) refl refl) refl refl refl), (second failing (newly_accepted other), record { here = second (unanswered failing) (unanswered (newly_accepted other)); clear = refl; slot = λ _. omega arith }, λ e h. absurd (contains_none e h)));
+  belong = ((tt, inr refl), inr (refl, refl));
+  last = ((tt, λ id h i. false≢true i), λ id h i. false≢true i);
+  lawful = tt;
+  fit = ports_fit Ready refl;
   disks = λ e o h i same. (refl, refl);
-  answered = (
-    one_told issued outcome.PortDead service.steps refl (reply_of (issued, outcome.PortDead)) refl,
-    record {
-      dead = λ e o h dead. none_dead e.request.port dead;
-      grounded = tt;
-    },
-    none_unplugged service.steps (moment_of first run2).machine refl,
-    λ p ready. dead_not_ready p ready,
-    λ p. (
-      λ ne e h. absurd (contains_none e h),
-      (λ dead. none_dead p dead, λ _. record { served = refl; stuck = dead_here p; disk = λ ready. inr (inl (dies p ready)) }),
-    ),
-  );
+  answered = (acceptable 0 (situation_of (moment_of first run1)) other.asked (write_at 0 (moment_of first run1) 101 41 quiet (omega arith) (omega arith) refl refl), (other, refl, refl), λ p. (refl, refl, refl, refl, refl, refl), λ p _. none_waits _ refl p);
+}
+
+tells : Tells service.steps (map reply_of told)
+tells = record {
+  answers = told;
+  same = IsPermutation-append_comm ((failing, outcome.DeviceError 65 64) ∷ []) ((kept, outcome.PortDead) ∷ []);
+  ordered = go;
+  told = refl;
 }
   where
-    dies : (p : Port) → first.ports.state p ≡ Ready → (ports_in Dead).state p ≡ Dead
-    dies p ready = ap (ports_in Dead).state (ready_port p ready)
+    go : (i j : ℕ) (d : Pending × Outcome) → i < j → j < 2 → IsToldBefore (slice_index_or told i d) (slice_index_or told j d)
+    go zero (suc zero) d lt below = inr (refl, omega arith)
+    go i j d lt below = absurd (omega (arith, lt, below))
 
-notices : (p : Port) → first.ports.state p ≡ Ready → ServesReady (moment_of first run1) seen service.steps (moment_of first run2) p
+happens3 : Happens (moment_of first run2) service
+happens3 = record {
+  may = ((tt, contains_here failing (kept ∷ []) failing refl), contains_here kept [] kept refl);
+  belong = ((tt, inr tt), inr tt);
+  last = ((tt, λ id h i. false≢true i), λ id h i. false≢true i);
+  lawful = (
+    (tt, (record { pending = failing; here = contains_here failing (kept ∷ []) failing refl; id_is = refl; issued = refl }, refl, contains_here _ [] _ refl, contains_here port [] port refl)),
+    (refl, inr (contains_here port [] port refl)),
+  );
+  fit = ports_fit Dead refl;
+  disks = λ e o h i same. (refl, refl);
+  answered = record {
+    tells = tells;
+    dead = λ e o h dead. none_dead e.request.port dead;
+    grounded = (tt, contains_here port [] port refl);
+    unplugs = none_unplugged service.steps (moment_of first run3).machine refl;
+    issues = λ p ready. dead_not_ready p ready;
+    emptied = λ p ne e h. absurd (contains_none e h);
+    becomes = λ p. (λ dead. none_dead p dead, λ _. record { served = refl; stuck = dead_here p; dies = λ h. dies p h; disk = λ ready. inr (inl (ap (ports_in Dead).state (ready_port p ready))) });
+    disk = λ p _ ready. dead_not_ready p ready;
+  };
+}
+  where
+    only : (x p : Port) → Contains (x ∷ []) p → p ≡ x
+    only x p h = ⊎_elim (λ same. same) (λ n. absurd (contains_none p n)) (contains_cases x [] p h)
+
+    dies : (p : Port) → Contains (port ∷ []) p → (ports_in Dead).state p ≡ Dead
+    dies p h = ap (ports_in Dead).state (only port p h)
+
+notices : (p : Port) → first.ports.state p ≡ Ready → ServesReady (moment_of first run2) seen service.steps (moment_of first run3) p
 notices p ready = record {
-  ended = none_ended (moment_of first run1).machine service.steps refl p;
-  lost = λ gone. absurd (contains_none p gone);
+  ended = none_ended (moment_of first run2).machine service.steps refl p;
+  emptied = λ gone. absurd (contains_none p gone);
   told = λ gone. absurd (contains_none p gone);
+  interrupts = λ _. inl (contains_here port [] p (ready_port p ready));
   anew = λ _ e h. absurd (contains_none e h);
   booted = inr (λ e h. absurd (contains_none e h));
+  single = one_fault (Answer kept outcome.PortDead ∷ []) (Answer failing (outcome.DeviceError 65 64)) [] refl refl p;
   calm = inl (inl (contains_here port [] p (ready_port p ready)));
 }
 
 pub dies_in_a_service : DiesInAService
 dies_in_a_service = record {
   first = first;
-  asked = run1;
+  asked = run2;
   service = service;
-  runs = (((empty_starts, ports_fit Ready), happens1), happens2);
-  heeds = ((tt, tt), notices);
-  issued = issued;
+  runs = ((((empty_starts, ports_fit Ready refl), happens1), happens2), happens3);
+  heeds = (((tt, tt), tt), notices);
+  failed = failing;
+  kept = kept;
   book = refl;
+  issued = (refl, refl);
+  together = refl;
   ready = refl;
   serves = refl;
+  fails = contains_here port [] port refl;
+  stops = contains_here port [] port refl;
+  sticks = contains_here port [] port refl;
   answers = refl;
   dies = refl;
-  frame = frame 40;
+  stays = refl;
+  frame = frame 41;
   its = refl;
   lent = refl;
 }

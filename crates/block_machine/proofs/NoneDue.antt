@@ -99,9 +99,9 @@ issued_event {D} (LoadAt c f o n) (Loaded (Err fault)) old evidence steps ports 
 issued_event {D} (State p) (Shown state) old evidence steps ports a b fit all = issued_still old (left old steps ports) (idle_steps {D = D} (State p) ports old.machine steps refl b) a.2 all
 issued_event {D} (Device d) (Stepped true) old evidence steps ports a b fit all = issued_still old (left old steps ports) (idle_steps {D = D} (Device d) ports old.machine steps refl b) a.1 all
 issued_event {D} (Device d) (Stepped false) old evidence steps ports a b fit all = issued_still old (left old steps ports) (idle_steps {D = D} (Device d) ports old.machine steps refl b) a.1 all
-issued_event Service (Served replies) old evidence steps ports a b fit all = a.3
-issued_event Tick (Served replies) old evidence steps ports a b fit all = a.4
-issued_event Reset (WasReset (Some replies)) old evidence steps ports a b fit all = a.3
+issued_event Service (Served replies) old evidence steps ports a b fit all = a.issues
+issued_event Tick (Served replies) old evidence steps ports a b fit all = a.issues
+issued_event Reset (WasReset (Some replies)) old evidence steps ports a b fit all = a.issues
 issued_event Reset (WasReset None) old evidence steps ports a b fit all = issued_stuck old (left old steps ports) evidence fit a.1
 issued_event ask said old evidence steps ports a b fit all = absurd a
 

@@ -112,9 +112,9 @@ answered_was_accepted first run late early e outcome r split =
 -- a call tells the answers of its steps, or gives no reply
 told_or_none : {D : Type 0} (ask : Ask D) (said : Said) (old : Moment) (evidence : Evidence) (steps : List Step) (new : Moment) → IsAnswered ask said old evidence steps new
     → (Tells steps (replies_of said) × (is_submit ask ≡ false)) ⊎ (replies_of said ≡ [])
-told_or_none Service (Served replies) old evidence steps new a = inl (a.0, refl)
-told_or_none Tick (Served replies) old evidence steps new a = inl (a.0, refl)
-told_or_none Reset (WasReset (Some replies)) old evidence steps new a = inl (a.0, refl)
+told_or_none Service (Served replies) old evidence steps new a = inl (a.tells, refl)
+told_or_none Tick (Served replies) old evidence steps new a = inl (a.tells, refl)
+told_or_none Reset (WasReset (Some replies)) old evidence steps new a = inl (a.tells, refl)
 told_or_none ask (Served replies) old evidence steps new a = absurd a
 told_or_none ask (WasReset (Some replies)) old evidence steps new a = absurd a
 told_or_none ask said old evidence steps new a = inr refl

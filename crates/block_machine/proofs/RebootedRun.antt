@@ -1,5 +1,5 @@
 -- A run in which resets issue a request anew, abort it in the end, and issue one that waited for it.
-use Rattle.std.proofs.Common.{◌≡◌, ◌≢◌, ℕ, ◌<◌, true, suc, List, [], ◌∷◌, Some, inr, ⊎_elim, refl, sym, ◌∙◌, subst, arith}
+use Rattle.std.proofs.Common.{◌≡◌, ℕ, ◌<◌, true, suc, List, [], ◌∷◌, Some, inr, ⊎_elim, refl, sym, subst, arith}
 use Rattle.std.proofs.lemmas.Bool.{false≢true}
 use Rattle.std.specs.List.{Contains}
 use Rattle.ata_types.specs.declared.Port.{Port}
@@ -12,7 +12,7 @@ use Rattle.block_machine.specs.Events.{Moment, Reset, WasReset, Event, Happens, 
 use Rattle.block_machine.specs.Worked.{GoesAgainInResets}
 use Rattle.block_machine.proofs.Members.{contains_none, contains_here, contains_cases}
 use Rattle.block_machine.proofs.Setting.{port, empty_starts}
-use Rattle.block_machine.proofs.Scene.{mode, ports, at_port, first, one_issued, one_told, none_told, none_unplugged, ports_fit, none_dead}
+use Rattle.block_machine.proofs.Scene.{mode, ports, first, one_issued, one_told, none_told, none_unplugged, finds_none, emptied_of, only_one, ports_fit, none_dead}
 use Rattle.block_machine.proofs.WaitingRun.{write, read, run2, happens1, happens2, none_due}
 use Rattle.block_machine.proofs.ResetRun.{halted, stopped_here}
 
@@ -33,12 +33,8 @@ run5 = retry 3 ∷ retry 2 ∷ retry 1 ∷ run2
 abbrev abort : Event (Unit {0})
 abort = record { ask = Reset; said = WasReset (Some (reply_of (tried 4, outcome.Aborted) ∷ [])); evidence = halted; steps = Issue mode waits ∷ Answer (tried 4) outcome.Aborted ∷ Release ∷ []; ports = ports }
 
--- a book of this port's requests has none of a port that isn't ready
-emptied : (book : List Pending) → ((e : Pending) → Contains book e → e.request.port ≡ port) → (p : Port) → at_port Ready p ≢ Ready → (e : Pending) → Contains book e → e.request.port ≢ p
-emptied book mine p ne e h q = ne (subst (λ (x : Port). at_port Ready x ≡ Ready) (sym (mine e h) ∙ q) refl)
-
 becomes : (p : Port) → MayBecome ports halted ports p
-becomes p = record { served = refl; stuck = λ dead. none_dead p dead; disk = λ ready. inr (inr (ready, (refl, refl))) }
+becomes p = record { served = refl; stuck = λ dead. none_dead p dead; dies = λ h. absurd (contains_none p h); disk = λ ready. inr (inr (ready, (refl, refl))) }
 
 two_of : (n : ℕ) (P : Pending → Type 0) → P (tried n) → P waits → (e : Pending) → Contains (tried n ∷ waits ∷ []) e → P e
 two_of n P a b e h = ⊎_elim
@@ -59,20 +55,22 @@ again m n few = record {
   belong = (((tt, inr tt), inr refl), inr (refl, refl));
   last = (((tt, λ id h i. false≢true i), λ id h i. false≢true i), λ id h i. false≢true i);
   lawful = (tt, contains_here port [] port refl);
-  fit = ports_fit Ready;
+  fit = ports_fit Ready refl;
   disks = λ e o h i same. (refl, refl);
-  answered = (
-    none_told (retry n).steps refl,
-    record { later = Issue mode (requeued (tried n)) ∷ Again (tried n) ∷ []; earlier = []; split = refl; before = tt; once = refl },
-    none_unplugged (retry n).steps (moment_after (before m n) (retry n)).machine refl,
-    λ p _. none_due p,
-    λ p. record {
-      emptied = emptied (tried (suc n) ∷ waits ∷ []) (two_of (suc n) (λ e. e.request.port ≡ port) refl refl) p;
+  answered = record {
+    tells = none_told (retry n).steps refl;
+    releases = record { later = Issue mode (requeued (tried n)) ∷ Again (tried n) ∷ []; earlier = []; split = refl; before = tt; once = refl };
+    unplugs = none_unplugged (retry n).steps (moment_after (before m n) (retry n)).machine refl;
+    finds = finds_none (retry n).steps ports ports refl;
+    issues = λ p _. none_due p;
+    reboots = λ p. record {
+      emptied = emptied_of (tried (suc n) ∷ waits ∷ []) (two_of (suc n) (λ e. e.request.port ≡ port) refl refl) p;
       becomes = becomes p;
       anew = λ e h _ issued. two_of (suc n) (λ x. x.issued ≡ true → IsIssuedIn x.request.id (retry n).steps) (λ _. refl) (λ t. absurd (false≢true t)) e h issued;
       stopped = stopped_here p;
-    },
-  );
+      disk = λ ne ready. absurd (ne ready);
+    };
+  };
 }
 
 happens6 : Happens (moment_of first run5) abort
@@ -84,24 +82,23 @@ happens6 = record {
   belong = (((tt, inr tt), inr tt), inr (refl, refl));
   last = (((tt, λ id h i. false≢true i), λ id h i. false≢true i), λ id h i. false≢true i);
   lawful = (tt, (record { pending = tried 4; here = contains_here (tried 4) (waits ∷ []) (tried 4) refl; id_is = refl; issued = refl }, refl, refl, contains_here port [] port refl));
-  fit = ports_fit Ready;
+  fit = ports_fit Ready refl;
   disks = λ e o h i same. (refl, refl);
-  answered = (
-    one_told (tried 4) outcome.Aborted abort.steps refl (reply_of (tried 4, outcome.Aborted)) refl,
-    record { later = Issue mode waits ∷ Answer (tried 4) outcome.Aborted ∷ []; earlier = []; split = refl; before = tt; once = refl },
-    none_unplugged abort.steps (moment_after (moment_of first run5) abort).machine refl,
-    λ p _. one_issued (unanswered (issue waits)) refl p,
-    λ p. record {
-      emptied = emptied (issue waits ∷ []) (λ e h. alone (λ x. x.request.port ≡ port) refl e h) p;
+  answered = record {
+    tells = one_told (tried 4) outcome.Aborted abort.steps refl (reply_of (tried 4, outcome.Aborted)) refl;
+    releases = record { later = Issue mode waits ∷ Answer (tried 4) outcome.Aborted ∷ []; earlier = []; split = refl; before = tt; once = refl };
+    unplugs = none_unplugged abort.steps (moment_after (moment_of first run5) abort).machine refl;
+    finds = finds_none abort.steps ports ports refl;
+    issues = λ p _. one_issued (unanswered (issue waits)) refl p;
+    reboots = λ p. record {
+      emptied = emptied_of (issue waits ∷ []) (only_one (issue waits) (λ x. x.request.port ≡ port) refl) p;
       becomes = becomes p;
-      anew = λ e h _ _. alone (λ x. IsIssuedIn x.request.id abort.steps) refl e h;
+      anew = λ e h _ _. only_one (issue waits) (λ x. IsIssuedIn x.request.id abort.steps) refl e h;
       stopped = stopped_here p;
-    },
-  );
+      disk = λ ne ready. absurd (ne ready);
+    };
+  };
 }
-  where
-    alone : (P : Pending → Type 0) → P (issue waits) → (e : Pending) → Contains (issue waits ∷ []) e → P e
-    alone P a e h = ⊎_elim (λ (same : e ≡ issue waits). subst P (sym same) a) (λ none. absurd (contains_none e none)) (contains_cases (issue waits) [] e h)
 
 pub goes_again_in_resets : GoesAgainInResets
 goes_again_in_resets = record {
@@ -111,7 +108,7 @@ goes_again_in_resets = record {
   two = retry 2;
   three = retry 3;
   four = abort;
-  runs = (((((((empty_starts, ports_fit Ready), happens1), happens2), again (moment_of first run2).machine 1 (omega arith)), again (moment_of first (retry 1 ∷ run2)).machine 2 (omega arith)), again (moment_of first (retry 2 ∷ retry 1 ∷ run2)).machine 3 (omega arith)), happens6);
+  runs = (((((((empty_starts, ports_fit Ready refl), happens1), happens2), again (moment_of first run2).machine 1 (omega arith)), again (moment_of first (retry 1 ∷ run2)).machine 2 (omega arith)), again (moment_of first (retry 2 ∷ retry 1 ∷ run2)).machine 3 (omega arith)), happens6);
   heeds = ((((((tt, tt), tt), tt), tt), tt), tt);
   resets = (refl, refl, refl, refl);
   issued = tried 1;

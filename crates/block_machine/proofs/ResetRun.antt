@@ -14,7 +14,7 @@ use Rattle.block_machine.specs.Worked.{EndsWithAReset}
 use Rattle.block_machine.proofs.Members.{contains_none, contains_here, contains_cases}
 use Rattle.block_machine.proofs.Keeps.{same_port}
 use Rattle.block_machine.proofs.Setting.{port, frame, empty_starts}
-use Rattle.block_machine.proofs.Scene.{mode, ports, ports_in, at_port, first, none, call, at_here, is_ready, is_dead, ready_here, none_dead, emptied_one, one_issued, none_there, one_told, none_told, none_ended, none_unplugged, ports_fit}
+use Rattle.block_machine.proofs.Scene.{mode, ports, ports_in, at_port, first, none, call, at_here, is_ready, is_dead, ready_here, none_dead, emptied_one, one_issued, none_there, one_told, none_told, none_ended, none_unplugged, finds_none, ready_port, ports_fit}
 use Rattle.block_machine.proofs.WaitingRun.{write, run1, happens1}
 
 -- the ports that a tick ages
@@ -105,6 +105,9 @@ ticks old x only young new same = record {
   again = λ e h. absurd (false≢true (only_age (Again e) h));
   answer = λ e o h. absurd (false≢true (only_age (Answer e o) h));
   ended = λ p hung. absurd (not_hung old x only young p hung);
+  interrupts = λ p hung. absurd (not_hung old x only young p hung);
+  spares = λ p i. absurd (⊎_elim (contains_none p) (contains_none p) i);
+  finds = finds_none (Age aging ∷ []) old.ports new.ports refl;
   anew = λ p hung. absurd (not_hung old x only young p hung);
 }
 
@@ -114,16 +117,16 @@ happens2 = record {
   belong = (tt, inr tt);
   last = (tt, λ id h i. false≢true i);
   lawful = tt;
-  fit = ports_fit Ready;
+  fit = ports_fit Ready refl;
   disks = λ e o h i same. (refl, refl);
-  answered = (
-    none_told (Age aging ∷ []) refl,
-    ages_once [] refl,
-    ticks (moment_of first run1) (aged 0) refl (omega arith) (moment_of first run2) (λ p. (refl, refl, refl, refl, refl, refl)),
-    none_unplugged (Age aging ∷ []) (moment_of first run2).machine refl,
-    λ p _. one_issued (unanswered (aged 1)) refl p,
-    λ p _ ne e h. emptied_one (aged 1) refl p ne e h,
-  );
+  answered = record {
+    tells = none_told (Age aging ∷ []) refl;
+    ages = ages_once [] refl;
+    restarts = ticks (moment_of first run1) (aged 0) refl (omega arith) (moment_of first run2) (λ p. (refl, refl, refl, refl, refl, refl));
+    unplugs = none_unplugged (Age aging ∷ []) (moment_of first run2).machine refl;
+    issues = λ p _. one_issued (unanswered (aged 1)) refl p;
+    emptied = λ p _ ne e h. emptied_one (aged 1) refl p ne e h;
+  };
 }
 
 pub happens3 : Happens (moment_of first run2) (tick [])
@@ -132,16 +135,16 @@ happens3 = record {
   belong = (tt, inr tt);
   last = (tt, λ id h i. false≢true i);
   lawful = tt;
-  fit = ports_fit Ready;
+  fit = ports_fit Ready refl;
   disks = λ e o h i same. (refl, refl);
-  answered = (
-    none_told (Age aging ∷ []) refl,
-    ages_once [] refl,
-    ticks (moment_of first run2) (aged 1) refl (omega arith) (moment_of first run3) (λ p. (refl, refl, refl, refl, refl, refl)),
-    none_unplugged (Age aging ∷ []) (moment_of first run3).machine refl,
-    λ p _. one_issued (unanswered (aged 2)) refl p,
-    λ p _ ne e h. emptied_one (aged 2) refl p ne e h,
-  );
+  answered = record {
+    tells = none_told (Age aging ∷ []) refl;
+    ages = ages_once [] refl;
+    restarts = ticks (moment_of first run2) (aged 1) refl (omega arith) (moment_of first run3) (λ p. (refl, refl, refl, refl, refl, refl));
+    unplugs = none_unplugged (Age aging ∷ []) (moment_of first run3).machine refl;
+    issues = λ p _. one_issued (unanswered (aged 2)) refl p;
+    emptied = λ p _ ne e h. emptied_one (aged 2) refl p ne e h;
+  };
 }
 
 -- the third restarts it
@@ -177,6 +180,12 @@ restarted = record {
       (Again e) h e refl;
   answer = λ e o h. absurd (false≢true (sym (each_step (λ step. is_answer step ≡ false) refl refl refl (Answer e o) h)));
   ended = λ p _. none_ended (moment_of first run3).machine restarting.steps refl p;
+  interrupts = λ p h. inl (contains_here port [] p (ready_port p h.ready));
+  spares = λ p i. ⊎_elim
+      (λ h. ⊎_elim (λ (same : p ≡ port). subst (λ (x : Port). IsHung (moment_of first run3) x) (sym same) hung) (λ n. absurd (contains_none p n)) (contains_cases port [] p h))
+      (λ h. absurd (contains_none p h))
+      i;
+  finds = finds_none restarting.steps ports ports refl;
   anew = λ p _ e h _ _. ⊎_elim
       (λ (same : e ≡ again). subst (λ (y : Pending). IsIssuedIn y.request.id restarting.steps) (sym same) refl)
       (λ n. absurd (contains_none e n))
@@ -198,9 +207,16 @@ happens4 = record {
   belong = (((tt, inr tt), inr refl), inr (refl, refl));
   last = (((tt, λ id h i. false≢true i), λ id h i. false≢true i), λ id h i. false≢true i);
   lawful = (tt, contains_here port [] port refl);
-  fit = ports_fit Ready;
+  fit = ports_fit Ready refl;
   disks = λ e o h i same. (refl, refl);
-  answered = (none_told restarting.steps refl, ages_once restarts refl, restarted, none_unplugged restarting.steps (moment_of first run4).machine refl, λ p _. one_issued (unanswered again) refl p, λ p _ ne e h. emptied_one again refl p ne e h);
+  answered = record {
+    tells = none_told restarting.steps refl;
+    ages = ages_once restarts refl;
+    restarts = restarted;
+    unplugs = none_unplugged restarting.steps (moment_of first run4).machine refl;
+    issues = λ p _. one_issued (unanswered again) refl p;
+    emptied = λ p _ ne e h. emptied_one again refl p ne e h;
+  };
 }
 
 -- The reset that is stuck, and what comes after it.
@@ -225,7 +241,7 @@ happens5 = record {
   belong = tt;
   last = tt;
   lawful = tt;
-  fit = ports_fit Dead;
+  fit = ports_fit Dead refl;
   disks = λ e o h i same. (refl, refl);
   answered = (tt, λ p. (refl, λ here. let dead = at_here Dead p here in (dead, dead_here p dead), (refl, refl)));
 }
@@ -246,15 +262,18 @@ happens6 = record {
   belong = (tt, inr tt);
   last = (tt, λ id h i. false≢true i);
   lawful = (tt, (refl, inl refl));
-  fit = ports_fit Dead;
+  fit = ports_fit Dead refl;
   disks = λ e o h i same. (refl, refl);
-  answered = (
-    one_told again outcome.PortDead service.steps refl (reply_of (again, outcome.PortDead)) refl,
-    record { dead = told_dead; grounded = tt },
-    none_unplugged service.steps (moment_of first run6).machine refl,
-    λ p ready. dead_not_ready p ready,
-    λ p. (λ ne e h. absurd (contains_none e h), (λ _. (refl, refl, refl, refl, refl, refl), λ alive. record { served = refl; stuck = λ dead. absurd (alive dead); disk = λ ready. dead_not_ready p ready })),
-  );
+  answered = record {
+    tells = one_told again outcome.PortDead service.steps refl (reply_of (again, outcome.PortDead)) refl;
+    dead = told_dead;
+    grounded = tt;
+    unplugs = none_unplugged service.steps (moment_of first run6).machine refl;
+    issues = λ p ready. dead_not_ready p ready;
+    emptied = λ p ne e h. absurd (contains_none e h);
+    becomes = λ p. (λ _. (refl, refl, refl, refl, refl, refl), λ alive. record { served = refl; stuck = λ dead. absurd (alive dead); dies = λ h. absurd (contains_none p h); disk = λ ready. dead_not_ready p ready });
+    disk = λ p _ ready. dead_not_ready p ready;
+  };
 }
 
 happens7 : Happens (moment_of first run6) reset
@@ -263,20 +282,22 @@ happens7 = record {
   belong = (tt, inr tt);
   last = (tt, λ id h i. false≢true i);
   lawful = tt;
-  fit = ports_fit Ready;
+  fit = ports_fit Ready refl;
   disks = λ e o h i same. (refl, refl);
-  answered = (
-    none_told reset.steps refl,
-    record { later = []; earlier = []; split = refl; before = tt; once = refl },
-    none_unplugged reset.steps (moment_of first run7).machine refl,
-    λ p _. none_there p,
-    λ p. record {
+  answered = record {
+    tells = none_told reset.steps refl;
+    releases = record { later = []; earlier = []; split = refl; before = tt; once = refl };
+    unplugs = none_unplugged reset.steps (moment_of first run7).machine refl;
+    finds = finds_none reset.steps (ports_in Dead) ports refl;
+    issues = λ p _. none_there p;
+    reboots = λ p. record {
       emptied = λ ne e h. absurd (contains_none e h);
-      becomes = record { served = refl; stuck = λ e. none_dead p e; disk = λ ready. dead_not_ready p ready };
+      becomes = record { served = refl; stuck = λ e. none_dead p e; dies = λ h. absurd (contains_none p h); disk = λ ready. dead_not_ready p ready };
       anew = λ e h. absurd (contains_none e h);
       stopped = stopped_here p;
-    },
-  );
+      disk = λ _ ready. inl refl;
+    };
+  };
 }
 
 pub ends_with_a_reset : EndsWithAReset
@@ -289,7 +310,7 @@ ends_with_a_reset = record {
   stuck = stuck;
   service = service;
   reset = reset;
-  runs = ((((((((empty_starts, ports_fit Ready), happens1), happens2), happens3), happens4), happens5), happens6), happens7);
+  runs = ((((((((empty_starts, ports_fit Ready refl), happens1), happens2), happens3), happens4), happens5), happens6), happens7);
   heeds = (((((((tt, tt), tt), tt), tt), tt), λ p ready. dead_not_ready p ready), tt);
   ticks = (refl, refl, refl);
   aged = aged 2;

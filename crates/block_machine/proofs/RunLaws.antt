@@ -71,9 +71,9 @@ kind (LoadAt c f o n) (Loaded (Err fault)) old evidence steps new was a = Leaves
 kind (State port) (Shown state) old evidence steps new was a = Leaves refl refl a.2 (λ w. w)
 kind (Device d) (Stepped true) old evidence steps new was a = Leaves refl refl a.1 (λ w. w)
 kind (Device d) (Stepped false) old evidence steps new was a = Leaves refl refl a.1 (λ w. w)
-kind Service (Served replies) old evidence steps new was a = Serves refl refl a.4
-kind Tick (Served replies) old evidence steps new was a = Ticks refl a.1 a.2 a.5 (λ w. w)
-kind Reset (WasReset (Some replies)) old evidence steps new was a = Resets refl a.1 a.4
+kind Service (Served replies) old evidence steps new was a = Serves refl refl (λ port. (a.emptied port, a.becomes port))
+kind Tick (Served replies) old evidence steps new was a = Ticks refl a.ages a.restarts a.emptied (λ w. w)
+kind Reset (WasReset (Some replies)) old evidence steps new was a = Resets refl a.releases a.reboots
 kind Reset (WasReset None) old evidence steps new was a = Sticks refl a.1 tt
 kind ask said old evidence steps new was a = absurd a
 

@@ -1,13 +1,13 @@
 -- What the worked runs are made of: ports, calls and requests, and what holds of them.
-use Rattle.std.proofs.Common.{◌≡◌, ◌≢◌, ℕ, ◌+◌, ◌<◌, ◌≤◌, true, false, not, List, [], ◌∷◌, ◌++◌, slice_get, Some, is_some, ◌||◌, ◌==◌, eq-eqb, None, inl, inr, ⊎_elim, refl, sym, ap, ◌∙◌, subst, arith, Bool, cond, eqb-true}
-use Rattle.std.proofs.lemmas.Bool.{false≢true, or_left, or_from, cond-true, cond-false}
-use Rattle.std.specs.List.{Contains, list_any}
+use Rattle.std.proofs.Common.{◌≡◌, ◌≢◌, ℕ, ◌+◌, ◌<◌, ◌≤◌, true, false, not, List, [], ◌∷◌, ◌++◌, map, slice_get, Some, is_some, ◌||◌, ◌==◌, eq-eqb, None, inl, inr, ⊎_elim, refl, sym, ap, ◌∙◌, subst, arith, Bool, cond, eqb-true}
+use Rattle.std.proofs.lemmas.Bool.{false≢true, or_left, or_from, or_parts, false_from_ne_true, cond-true, cond-false}
+use Rattle.std.specs.List.{Contains, list_any, count_by}
 use Rattle.std.specs.List.Sorted.{IsPermutation}
 use Rattle.std.proofs.lemmas.Option.{slice_get_within, get_or_from_slice_get}
 use Rattle.std.proofs.lemmas.List.Sorted.{IsPermutation-refl}
 use Rattle.ata_types.specs.declared.Port.{Port}
 use Rattle.ata_types.specs.declared.PortState.{PortState}
-use Rattle.ata_types.specs.declared.PortState.TheVariants.{Absent, Ready, Dead}
+use Rattle.ata_types.specs.declared.PortState.TheVariants.{Absent, Ready, Unfit, Dead}
 use Rattle.ata_types.specs.declared.request.Frame.{Frame}
 use Rattle.ata_types.specs.declared.request.RequestId.{RequestId}
 use Rattle.ata_types.specs.declared.request.Reply.{Reply}
@@ -24,11 +24,12 @@ use Rattle.ata_types.specs.Grant.{Allows}
 use Rattle.block_machine.specs.Rules.{IsCount, frames_for}
 use Rattle.block_machine.specs.Refusals.{IsOpen}
 use Rattle.block_machine.specs.Due.{NoneDue, is_flush}
-use Rattle.block_machine.specs.State.{Accepted, Pending, Machine, block_of, is_reader}
+use Rattle.block_machine.specs.State.{Accepted, Pending, Machine, block_of, is_reader, unanswered}
 use Rattle.block_machine.specs.Steps.{Step, Touch, End, Answer, newly_accepted, issue, touch, mark_ended, IsNew}
 use Rattle.block_machine.specs.Ports.{Ports, Evidence, AreFit, SamePort, SamePorts, IsServiced}
-use Rattle.block_machine.specs.Events.{Moment, Ask, Said, Event, AnswersEnded, AreTold, UnplugsAll, ServesReady, Tells, situation_of, answers_of, reply_of}
+use Rattle.block_machine.specs.Events.{Moment, Ask, Said, Event, AllGrounded, AnswersEnded, AreTold, UnplugsAll, FindsAnother, IsService, ServesReady, tells_fault, Tells, situation_of, answers_of, reply_of}
 use Rattle.block_machine.proofs.Members.{contains_none, contains_here, contains_cases, append_in, none_of}
+use Rattle.block_machine.proofs.Counting.{count_cons, count_append}
 use Rattle.block_machine.proofs.Keeps.{same_port}
 use Rattle.block_machine.proofs.Dues.{issued_not_due}
 use Rattle.block_machine.proofs.Setting.{client, on, port, frame, row, two_rows, request, empty, its_row, is_trim, IsFit, acceptable}
@@ -205,12 +206,21 @@ none_told steps only = record {
 pub one_touched : (i : ℕ) → i < 1 → ((i == 0) || false) ≡ true
 one_touched i lt = or_left _ _ (eq-eqb i 0 (omega arith))
 
-pub ports_fit : (state : PortState) → AreFit (ports_in state)
-ports_fit state = record {
+abbrev pub is_unfit : PortState → Bool
+is_unfit (Unfit cause) = true
+is_unfit _ = false
+
+pub ports_fit : (state : PortState) → is_unfit state ≡ false → AreFit (ports_in state)
+ports_fit state known = record {
   few = λ p e. let zero = eqb-true p.0 0 e in omega (arith, zero);
   absent = λ p e. cond-false (p.0 == 0) state Absent e;
   slots = λ p e. (omega arith, omega arith, λ f. absurd (false≢true (sym f)));
+  causes = λ p cause e. go cause (p.0 == 0) e;
 }
+  where
+    go : (cause : ℕ) (b : Bool) → cond b state Absent ≡ Unfit cause → (1 ≤ cause) × (cause ≤ 9)
+    go cause true e = absurd (false≢true (sym known ∙ ap is_unfit e))
+    go cause false e = absurd (false≢true (ap is_unfit e))
 
 -- where port 0 is in a state, and where another is
 pub at_here : (state : PortState) (p : Port) → (p.0 == 0) ≡ true → at_port state p ≡ state
@@ -262,7 +272,7 @@ none_dead {A} p e = go (p.0 == 0) e
 pub serviced : (p : Port) → IsServiced ports none ports p
 serviced p = (
   λ dead. none_dead p dead,
-  λ _. record { served = refl; stuck = λ e. none_dead p e; disk = λ ready. inr (inr (ready, (refl, refl))) },
+  λ _. record { served = refl; stuck = λ e. none_dead p e; dies = λ h. absurd (contains_none p h); disk = λ ready. inr (inr (ready, (refl, refl))) },
 )
 
 -- What a service does where it has nothing to do but to answer.
@@ -287,8 +297,58 @@ refused_or e outcome.PortDead h = absurd (false≢true (sym h))
 pub told_ok : (steps : List Step) → list_any is_refused steps ≡ false → (p : Port) → AreTold outcome.Ok steps p
 told_ok steps none p e o h here = inl (refused_or e o (none_of is_refused steps (Answer e o) none h))
 
+pub never_unplugged : {A : Type 0} (steps : List Step) → list_any is_unplugged steps ≡ false → (e : Pending) → Contains steps (Answer e outcome.Unplugged) → A
+never_unplugged steps none e h = absurd (false≢true (sym (none_of is_unplugged steps (Answer e outcome.Unplugged) none h)))
+
 pub none_unplugged : (steps : List Step) (m : Machine) → list_any is_unplugged steps ≡ false → UnplugsAll steps m
-none_unplugged steps m none e o h i = absurd (false≢true (sym (none_of is_unplugged steps (Answer e outcome.Unplugged) none h)))
+none_unplugged steps m none = record {
+  emptied = λ e other h i. never_unplugged steps none e h;
+  alike = λ e other h i. never_unplugged steps none e h;
+}
+
+pub finds_none : (steps : List Step) (old new : Ports) → list_any is_unplugged steps ≡ false → FindsAnother steps old new
+finds_none steps old new none e h = never_unplugged steps none e h
+
+-- the step tells a fault, or that a port is dead
+abbrev pub is_fault : Step → Bool
+is_fault (Answer e (outcome.DeviceError status error)) = true
+is_fault _ = false
+
+abbrev pub is_told_dead : Step → Bool
+is_told_dead (Answer e outcome.PortDead) = true
+is_told_dead _ = false
+
+its_fault : (p : Port) (step : Step) → tells_fault p step ≡ true → is_fault step ≡ true
+its_fault p (Answer e (outcome.DeviceError status error)) h = refl
+its_fault p _ h = absurd (false≢true h)
+
+fault_refused : (step : Step) → is_fault step ≡ true → is_refused step ≡ true
+fault_refused (Answer e (outcome.DeviceError status error)) h = refl
+fault_refused _ h = absurd (false≢true h)
+
+-- where each step fails a test that those which tell a fault pass, none does
+counts_none : (passes : Step → Bool) (p : Port) → ((step : Step) → tells_fault p step ≡ true → passes step ≡ true) → (steps : List Step) → list_any passes steps ≡ false → count_by (tells_fault p) steps ≡ 0
+counts_none passes p pass [] none = refl
+counts_none passes p pass (step ∷ before) none =
+    let o = or_parts (passes step) (list_any passes before) none in
+    let rest = counts_none passes p pass before o.1 in
+    let zero : ◌≡◌ {A = ℕ} (cond (tells_fault p step) 1 0) 0 = ap (λ (b : Bool). cond {A = ℕ} b 1 0) (false_from_ne_true _ (λ t. false≢true (sym o.0 ∙ pass step t))) in
+    omega (arith, rest, zero, count_cons (tells_fault p) step before)
+
+pub no_faults : (steps : List Step) → list_any is_fault steps ≡ false → (p : Port) → count_by (tells_fault p) steps ≡ 0
+no_faults steps none p = counts_none is_fault p (its_fault p) steps none
+
+-- one fault, and no other
+pub one_fault : (late : List Step) (step : Step) (early : List Step) → list_any is_fault late ≡ false → list_any is_fault early ≡ false → (p : Port) → count_by (tells_fault p) (late ++ step ∷ early) ≤ 1
+one_fault late step early before after p =
+    let a = no_faults late before p in
+    let b = no_faults early after p in
+    let c = at_most (tells_fault p step) in
+    omega (arith, a, b, c, count_append (tells_fault p) late (step ∷ early), count_cons (tells_fault p) step early)
+  where
+    at_most : (b : Bool) → cond b 1 0 ≤ 1
+    at_most true = omega arith
+    at_most false = omega arith
 
 pub none_ended : (m : Machine) (steps : List Step) → list_any (λ e. e.ended) m.book ≡ false → (p : Port) → AnswersEnded m steps p
 none_ended m steps none p e h here ended = absurd (false≢true (sym (none_of (λ (x : Pending). x.ended) m.book e none h) ∙ ended))
@@ -305,17 +365,42 @@ last_ended m steps others one is none done same told p e h here ended = ⊎_elim
 pub calmly : (old new : Moment) (steps : List Step) (p : Port) → SamePort old.ports new.ports p → list_any is_refused steps ≡ false → AnswersEnded old.machine steps p → ServesReady old none steps new p
 calmly old new steps p same ok ended = record {
   ended = ended;
-  lost = λ gone. absurd (contains_none p gone);
+  emptied = λ gone. absurd (contains_none p gone);
   told = λ gone. absurd (contains_none p gone);
+  interrupts = λ trouble. ⊎_elim (λ failed. absurd (contains_none p failed)) (λ gone. absurd (contains_none p gone)) trouble;
   anew = λ trouble. ⊎_elim (λ failed. absurd (contains_none p failed)) (λ stopped. absurd (contains_none p stopped)) trouble;
   booted = inl same;
-  calm = inr (same, told_ok steps ok p);
+  single = let zero = counts_none is_refused p (λ step t. fault_refused step (its_fault p step t)) steps ok in omega (arith, zero);
+  calm = inr (record { same = same; told = told_ok steps ok p; uninterrupted = λ i. ⊎_elim (contains_none p) (contains_none p) i });
 }
 
 -- and one that leaves all ports what they are
 pub all_calmly : (old new : Moment) (steps : List Step) → SamePorts old.ports new.ports → list_any is_refused steps ≡ false → ((p : Port) → AnswersEnded old.machine steps p)
     → (p : Port) → old.ports.state p ≡ Ready → ServesReady old none steps new p
 all_calmly old new steps same ok ended p ready = calmly old new steps p (same p) ok (ended p)
+
+-- a book of this port's requests has none of a port that isn't ready
+pub emptied_of : (book : List Pending) → ((e : Pending) → Contains book e → e.request.port ≡ port) → (p : Port) → at_port Ready p ≢ Ready → (e : Pending) → Contains book e → e.request.port ≢ p
+emptied_of book mine p ne e h q = ne (subst (λ (x : Port). at_port Ready x ≡ Ready) (sym (mine e h) ∙ q) refl)
+
+-- a service with no evidence, of a server whose one port stays ready
+pub plain_service : (old new : Machine) (steps : List Step) (replies : List Reply) → Tells steps replies → list_any is_unplugged steps ≡ false → AllGrounded none steps
+    → ((p : Port) → NoneDue mode (map unanswered new.book) p) → ((e : Pending) → Contains new.book e → e.request.port ≡ port)
+    → IsService (record { machine = old; ports = ports }) none steps replies (record { machine = new; ports = ports })
+plain_service old new steps replies tells plugged grounded issues mine = record {
+  tells = tells;
+  dead = λ e o h dead. none_dead e.request.port dead;
+  grounded = grounded;
+  unplugs = none_unplugged steps new plugged;
+  issues = λ p _. issues p;
+  emptied = emptied_of new.book mine;
+  becomes = serviced;
+  disk = λ p ne ready. absurd (ne ready);
+}
+
+-- of the one request of a book, or of none
+pub only_one : (one : Pending) (P : Pending → Type 0) → P one → (e : Pending) → Contains (one ∷ []) e → P e
+only_one one P a e h = ⊎_elim (λ (same : e ≡ one). subst P (sym same) a) (λ n. absurd (contains_none e n)) (contains_cases one [] e h)
 
 -- where a port is ready, one request of it is no other port's
 pub emptied_at : (state : Port → PortState) (one : Pending) → state one.request.port ≡ Ready → (p : Port) → state p ≢ Ready → (e : Pending) → Contains (one ∷ []) e → e.request.port ≢ p

@@ -12,7 +12,7 @@ use Rattle.block_machine.specs.Events.{Tick, Device, Served, Stepped, Event, IsH
 use Rattle.block_machine.specs.Worked.{EndsAtATick}
 use Rattle.block_machine.proofs.Members.{contains_none, contains_here, contains_cases}
 use Rattle.block_machine.proofs.Setting.{port, empty_starts}
-use Rattle.block_machine.proofs.Scene.{first, ports, call, none_there, one_told, none_unplugged, last_ended, one_touched, ports_fit}
+use Rattle.block_machine.proofs.Scene.{first, ports, call, ready_port, none_there, one_told, none_unplugged, finds_none, last_ended, one_touched, ports_fit}
 use Rattle.block_machine.proofs.WaitingRun.{write, happens1}
 use Rattle.block_machine.proofs.ResetRun.{aging, aged, halted, run3, happens2, happens3, ages_once}
 
@@ -42,7 +42,7 @@ happens4 = record {
   belong = ((tt, inl tt), inl tt);
   last = ((tt, λ id h i. false≢true i), λ id h i. false≢true i);
   lawful = tt;
-  fit = ports_fit Ready;
+  fit = ports_fit Ready refl;
   disks = λ e o h i same. (refl, refl);
   answered = (((tt, tt), tt), λ p. (refl, refl, refl, refl, refl, refl));
 }
@@ -73,6 +73,12 @@ restarted = record {
       (Answer e o) h e o refl;
   ended = λ p _. last_ended (moment_of first run4).machine tick.steps [] over refl refl older_still refl (contains_here (Answer older_still outcome.Ok) (Age aging ∷ []) (Answer older_still outcome.Ok) refl) p;
   anew = λ p _ e h. absurd (contains_none e h);
+  interrupts = λ p h. inl (contains_here port [] p (ready_port p h.ready));
+  spares = λ p i. ⊎_elim
+      (λ h. ⊎_elim (λ (same : p ≡ port). subst (λ (x : Port). IsHung (moment_of first run4) x) (sym same) hung) (λ n. absurd (contains_none p n)) (contains_cases port [] p h))
+      (λ h. absurd (contains_none p h))
+      i;
+  finds = finds_none tick.steps ports ports refl;
 }
   where
     each : (P : Step → Type 0) → P (Answer older_still outcome.Ok) → P (Age aging) → (step : Step) → Contains tick.steps step → P step
@@ -87,16 +93,16 @@ happens5 = record {
   belong = ((tt, inr tt), inr (inr refl));
   last = ((tt, λ id h i. false≢true i), λ id h i. false≢true i);
   lawful = (tt, (record { pending = over; here = contains_here over [] over refl; id_is = refl; issued = refl }, refl, one_touched, refl));
-  fit = ports_fit Ready;
+  fit = ports_fit Ready refl;
   disks = λ e o h i same. (refl, refl);
-  answered = (
-    one_told older_still outcome.Ok tick.steps refl (reply_of (older_still, outcome.Ok)) refl,
-    ages_once (Answer older_still outcome.Ok ∷ []) refl,
-    restarted,
-    none_unplugged tick.steps (moment_of first run5).machine refl,
-    λ p _. none_there p,
-    λ p _ ne e h. absurd (contains_none e h),
-  );
+  answered = record {
+    tells = one_told older_still outcome.Ok tick.steps refl (reply_of (older_still, outcome.Ok)) refl;
+    ages = ages_once (Answer older_still outcome.Ok ∷ []) refl;
+    restarts = restarted;
+    unplugs = none_unplugged tick.steps (moment_of first run5).machine refl;
+    issues = λ p _. none_there p;
+    emptied = λ p _ ne e h. absurd (contains_none e h);
+  };
 }
 
 pub ends_at_a_tick : EndsAtATick
@@ -105,9 +111,14 @@ ends_at_a_tick = record {
   early = run3;
   ending = ending;
   tick = tick;
-  runs = ((((((empty_starts, ports_fit Ready), happens1), happens2), happens3), happens4), happens5);
+  runs = ((((((empty_starts, ports_fit Ready refl), happens1), happens2), happens3), happens4), happens5);
   heeds = (((((tt, tt), tt), tt), tt), tt);
+  aged = aged 2;
+  old = refl;
+  not_ended = (refl, refl);
+  told_to = refl;
   ended = over;
+  same = refl;
   book = refl;
   is_ended = (refl, refl);
   ticks = refl;

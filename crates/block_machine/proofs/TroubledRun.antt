@@ -1,12 +1,12 @@
 -- A run in which one port fails and another loses its disk.
-use Rattle.std.proofs.Common.{◌≡◌, ◌⊎◌, ℕ, ◌<◌, ◌||◌, ◌==◌, Bool, true, false, cond, zero, suc, List, [], ◌∷◌, map, Ok, inl, inr, ⊎_elim, refl, sym, ap, ◌∙◌, subst, arith, eqb-true, eq-eqb}
+use Rattle.std.proofs.Common.{◌≡◌, ◌⊎◌, ℕ, ◌<◌, ◌≤◌, ◌||◌, ◌==◌, Bool, true, false, cond, zero, suc, List, [], ◌∷◌, map, Ok, inl, inr, ⊎_elim, refl, sym, ap, ◌∙◌, subst, arith, eqb-true, eq-eqb}
 use Rattle.std.proofs.lemmas.Bool.{false≢true, or_cases, cond-true}
 use Rattle.std.proofs.lemmas.List.Sorted.{IsPermutation-append_comm}
 use Rattle.std.specs.List.{Contains, list_any}
 use Rattle.std.specs.Prelude.{slice_index_or}
 use Rattle.ata_types.specs.declared.Port.{Port}
 use Rattle.ata_types.specs.declared.PortState.{PortState}
-use Rattle.ata_types.specs.declared.PortState.TheVariants.{Absent, Ready, Dead}
+use Rattle.ata_types.specs.declared.PortState.TheVariants.{Absent, Ready, Unfit, Dead}
 use Rattle.ata_types.specs.declared.request.RequestId.{RequestId}
 use Rattle.ata_types.specs.declared.request.Op.TheVariants.{Read, Write}
 use Rattle.ata_types.specs.declared.request.Outcome.{Outcome}
@@ -19,7 +19,7 @@ use Rattle.block_machine.specs.Worked.{MeetsTrouble}
 use Rattle.block_machine.proofs.Members.{contains_none, contains_here, contains_there, contains_cases, none_of}
 use Rattle.block_machine.proofs.Keeps.{same_port}
 use Rattle.block_machine.proofs.Setting.{on, frame, row, two_rows, empty, empty_starts, acceptable}
-use Rattle.block_machine.proofs.Scene.{mode, id, one_sector, done, none, is_ready, is_dead, IsQuiet, row_zero, write_at, fit_read, new, none_waits, none_there, one_told, none_told, one_touched, none_ended, last_ended, none_unplugged, emptied_at}
+use Rattle.block_machine.proofs.Scene.{mode, id, one_sector, done, none, is_ready, is_dead, IsQuiet, row_zero, write_at, fit_read, new, none_waits, none_there, one_told, none_told, one_touched, none_ended, last_ended, none_unplugged, is_unfit, is_fault, is_told_dead, no_faults, one_fault, emptied_at}
 
 -- ports 0 and 1 in these states, and no other port
 abbrev both : PortState → PortState → Port → PortState
@@ -133,13 +133,19 @@ not_dead {A} low high z o p e = go (p.0 == 0) (p.0 == 1) e
     go false true e = absurd (false≢true (sym o ∙ ap is_dead e))
     go false false e = absurd (false≢true (ap is_dead e))
 
-fit : (low high : PortState) → AreFit (ports_in low high)
-fit low high = record {
+fit : (low high : PortState) → is_unfit low ≡ false → is_unfit high ≡ false → AreFit (ports_in low high)
+fit low high l h = record {
   few = λ p e. ⊎_elim (λ q. let n = eqb-true p.0 0 q in omega (arith, n)) (λ q. let n = eqb-true p.0 1 q in omega (arith, n)) (or_cases (p.0 == 0) (p.0 == 1) e);
   absent = λ p. go (p.0 == 0) (p.0 == 1);
   slots = λ p e. (omega arith, omega arith, λ f. absurd (false≢true (sym f)));
+  causes = λ p cause e. unfit cause (p.0 == 0) (p.0 == 1) e;
 }
   where
+    unfit : (cause : ℕ) (a b : Bool) → cond a low (cond b high Absent) ≡ Unfit cause → (1 ≤ cause) × (cause ≤ 9)
+    unfit cause true b e = absurd (false≢true (sym l ∙ ap is_unfit e))
+    unfit cause false true e = absurd (false≢true (sym h ∙ ap is_unfit e))
+    unfit cause false false e = absurd (false≢true (ap is_unfit e))
+
     go : (a b : Bool) → (a || b) ≡ false → cond a low (cond b high Absent) ≡ Absent
     go true b e = absurd (false≢true (sym e))
     go false true e = absurd (false≢true (sym e))
@@ -167,7 +173,7 @@ zero_ready p e = go (p.0 == 0) refl (p.0 == 1) e
 stays : (p : Port) → IsServiced (ports_in Ready Absent) failure (ports_in Ready Absent) p
 stays p = (
   λ dead. not_dead Ready Absent refl refl p dead,
-  λ _. record { served = refl; stuck = λ dead. not_dead Ready Absent refl refl p dead; disk = λ ready. inr (inr (ready, (refl, refl))) },
+  λ _. record { served = refl; stuck = λ dead. not_dead Ready Absent refl refl p dead; dies = λ h. absurd (contains_none p h); disk = λ ready. inr (inr (ready, (refl, refl))) },
 )
 
 -- one of them waits for nothing
@@ -193,7 +199,7 @@ happens1 = record {
   belong = ((tt, inr refl), inr (refl, refl));
   last = ((tt, λ id h i. false≢true i), λ id h i. false≢true i);
   lawful = tt;
-  fit = fit Ready Ready;
+  fit = fit Ready Ready refl refl;
   disks = λ e o h i same. (refl, refl);
   answered = (acceptable 1 (situation_of (moment_of first run0)) lost.asked (fit_read 1 (moment_of first run0) 42 quiet0 refl refl), (lost, refl, refl), λ p. (refl, refl, refl, refl, refl, refl), λ p _. none_waits _ refl p);
 }
@@ -214,7 +220,7 @@ happens2 = record {
   belong = ((tt, inr refl), inr (refl, refl));
   last = ((tt, λ id h i. false≢true i), λ id h i. false≢true i);
   lawful = tt;
-  fit = fit Ready Ready;
+  fit = fit Ready Ready refl refl;
   disks = λ e o h i same. (refl, refl);
   answered = (acceptable 0 (situation_of (moment_of first run1)) failed.asked (write_at 0 (moment_of first run1) 100 40 quiet1 (omega arith) (omega arith) refl refl), (failed, refl, refl), λ p. (refl, refl, refl, refl, refl, refl), λ p _. none_waits _ refl p);
 }
@@ -225,7 +231,7 @@ happens3 = record {
   belong = ((tt, inr refl), inr (refl, refl));
   last = ((tt, λ id h i. false≢true i), λ id h i. false≢true i);
   lawful = tt;
-  fit = fit Ready Ready;
+  fit = fit Ready Ready refl refl;
   disks = λ e o h i same. (refl, refl);
   answered = (acceptable 0 (situation_of (moment_of first run2)) again.asked (write_at 0 (moment_of first run2) 101 41 quiet2 (omega arith) (omega arith) refl refl), (again, refl, refl), λ p. (refl, refl, refl, refl, refl, refl), λ p _. none_waits _ refl p);
 }
@@ -236,7 +242,7 @@ happens4 = record {
   belong = ((tt, inr refl), inr (refl, refl));
   last = ((tt, λ id h i. false≢true i), λ id h i. false≢true i);
   lawful = tt;
-  fit = fit Ready Ready;
+  fit = fit Ready Ready refl refl;
   disks = λ e o h i same. (refl, refl);
   answered = (acceptable 0 (situation_of (moment_of first run3)) finished.asked (write_at 0 (moment_of first run3) 102 43 quiet3 (omega arith) (omega arith) refl refl), (finished, refl, refl), λ p. (refl, refl, refl, refl, refl, refl), λ p _. none_waits _ refl p);
 }
@@ -247,7 +253,7 @@ happens5 = record {
   belong = ((tt, inl tt), inl tt);
   last = ((tt, λ id h i. false≢true i), λ id h i. false≢true i);
   lawful = tt;
-  fit = fit Ready Ready;
+  fit = fit Ready Ready refl refl;
   disks = λ e o h i same. (refl, refl);
   answered = (((tt, tt), tt), λ p. (refl, refl, refl, refl, refl, refl));
 }
@@ -258,7 +264,7 @@ happens6 = record {
   belong = (tt, inl tt);
   last = (tt, λ id h i. false≢true i);
   lawful = tt;
-  fit = fit Ready Ready;
+  fit = fit Ready Ready refl refl;
   disks = λ e o h i same. (refl, refl);
   answered = ((tt, tt), λ p. (refl, refl, refl, refl, refl, refl));
 }
@@ -319,10 +325,12 @@ serves_ready p ready = record {
   ended = last_ended (moment_of first run6).machine serving (losing ∷ failing ∷ tried 1 ∷ []) (done finished) refl refl (done finished) refl
       (contains_there (Answer losing outcome.Unplugged) (Issue mode (requeued (tried 1)) ∷ requeuing) (Answer (done finished) outcome.Ok)
       (fourth (Issue mode (requeued (tried 1))) (Again (tried 1)) (Answer failing (outcome.DeviceError 65 64)) (Answer (done finished) outcome.Ok))) p;
-  lost = λ gone e h q. other_port gone e h q;
+  emptied = λ gone e h q. other_port gone e h q;
   told = λ gone. inl (λ e o h here. told_one e o (ap (λ (x : Port). x.0) (here ∙ only_one gone)) (none_of tells_other serving (Answer e o) refl h));
+  interrupts = λ _. inl (⊎_elim (λ (same : p ≡ on 1). contains_there (on 0) (on 1 ∷ []) p (contains_here (on 1) [] p same)) (λ still. contains_here (on 0) (on 1 ∷ []) p (zero_ready p still)) (still_ready p ready));
   anew = λ _ e h _ _. left_anew 2 serving refl e h;
   booted = inr (λ e h _ _. left_anew 2 serving refl e h);
+  single = one_fault (Answer losing outcome.Unplugged ∷ Issue mode (requeued (tried 1)) ∷ Again (tried 1) ∷ []) (Answer failing (outcome.DeviceError 65 64)) (Answer (done finished) outcome.Ok ∷ []) refl refl p;
   calm = inl (⊎_elim (λ same. inr (inl (contains_here (on 1) [] p same))) (λ still. inl (contains_here (on 0) [] p (zero_ready p still))) (still_ready p ready));
 }
   where
@@ -334,8 +342,11 @@ serves_ready p ready = record {
 
 -- port 1's alone are answered Unplugged
 unplugs_all : UnplugsAll serving (moment_of first run7).machine
-unplugs_all e o h i q = false≢true (sym (none_of unplugs_zero serving (Answer e outcome.Unplugged) refl h)
-    ∙ eq-eqb e.request.port.0 0 (ap (λ (x : Port). x.0) (sym q) ∙ left_here 2 o i))
+unplugs_all = record {
+  emptied = λ e other h i q. false≢true (sym (none_of unplugs_zero serving (Answer e outcome.Unplugged) refl h)
+      ∙ eq-eqb e.request.port.0 0 (ap (λ (x : Port). x.0) (sym q) ∙ left_here 2 other i));
+  alike = λ e other h i. absurd (false≢true (sym (none_of is_told_dead serving (Answer other outcome.PortDead) refl i)));
+}
 
 happens7 : Happens (moment_of first run6) service
 happens7 = record {
@@ -361,25 +372,26 @@ happens7 = record {
     ),
     (contains_here (on 1) [] (on 1) refl, λ _. second (on 0) (on 1)),
   );
-  fit = fit Ready Absent;
+  fit = fit Ready Absent refl refl;
   disks = λ e o h i same. (refl, refl);
-  answered = (
-    told_in_order,
-    record { dead = λ e o i dead. not_dead Ready Ready refl refl e.request.port dead; grounded = ((tt, contains_here (on 0) [] (on 0) refl), contains_here (on 0) [] (on 0) refl) },
-    unplugs_all,
-    λ p _. none_waits _ refl p,
-    λ p. (
-      λ ne e h. emptied_at (both Ready Absent) (tried 2) refl p ne e h,
-      (
-        λ dead. not_dead Ready Ready refl refl p dead,
-        λ _. record {
-          served = refl;
-          stuck = λ dead. not_dead Ready Absent refl refl p dead;
-          disk = λ ready. ⊎_elim (λ same. inl (contains_here (on 1) [] p same)) (λ still. inr (inr (still, (refl, refl)))) (still_ready p ready);
-        },
-      ),
-    ),
-  );
+  answered = record {
+    tells = told_in_order;
+    dead = λ e o i dead. not_dead Ready Ready refl refl e.request.port dead;
+    grounded = ((tt, contains_here (on 0) [] (on 0) refl), contains_here (on 0) [] (on 0) refl);
+    unplugs = unplugs_all;
+    issues = λ p _. none_waits _ refl p;
+    emptied = λ p ne e h. emptied_at (both Ready Absent) (tried 2) refl p ne e h;
+    becomes = λ p. (
+      λ dead. not_dead Ready Ready refl refl p dead,
+      λ _. record {
+        served = refl;
+        stuck = λ dead. not_dead Ready Absent refl refl p dead;
+        dies = λ h. absurd (contains_none p h);
+        disk = λ ready. ⊎_elim (λ same. inl (contains_here (on 1) [] p same)) (λ still. inr (inr (still, (refl, refl)))) (still_ready p ready);
+      },
+    );
+    disk = λ p ne ready. absurd (ne (subst (λ (x : Port). both Ready Ready x ≡ Ready) (sym (zero_ready p ready)) refl));
+  };
 }
   where
     apart : (id : RequestId) → (1 == id.0) ≡ true → IsIssuedIn id (Issue mode (requeued (tried 1)) ∷ requeuing) → ⊥
@@ -391,13 +403,16 @@ happens7 = record {
 -- A service that issues the request again, and the one that aborts it.
 
 -- port 0 has failed, where no request had ended and none keeps its issue
-fails : (old new : Moment) (steps : List Step) (p : Port) → both Ready Absent p ≡ Ready → list_any (λ e. e.ended) old.machine.book ≡ false → NoneKeepsIssue steps new.machine p → ServesReady old failure steps new p
-fails old new steps p ready none anew = record {
+fails : (old new : Moment) (steps : List Step) (p : Port) → both Ready Absent p ≡ Ready → list_any (λ e. e.ended) old.machine.book ≡ false → list_any is_fault steps ≡ false
+    → NoneKeepsIssue steps new.machine p → ServesReady old failure steps new p
+fails old new steps p ready none faults anew = record {
   ended = none_ended old.machine steps none p;
-  lost = λ gone. absurd (contains_none p gone);
+  emptied = λ gone. absurd (contains_none p gone);
   told = λ gone. absurd (contains_none p gone);
+  interrupts = λ _. inl (contains_here (on 0) [] p (zero_ready p ready));
   anew = λ _. anew;
   booted = inr anew;
+  single = let zero = no_faults steps faults p in omega (arith, zero);
   calm = inl (inl (contains_here (on 0) [] p (zero_ready p ready)));
 }
 
@@ -406,7 +421,7 @@ abbrev before : Machine → ℕ → Moment
 before m n = record { machine = record m { book = tried n ∷ []; kept = [] }; ports = ports_in Ready Absent }
 
 retry_heeds : (m : Machine) (n : ℕ) (p : Port) → both Ready Absent p ≡ Ready → ServesReady (before m n) failure (retry n).steps (moment_after (before m n) (retry n)) p
-retry_heeds m n p ready = fails (before m n) (moment_after (before m n) (retry n)) (retry n).steps p ready refl (λ e h _ _. left_anew (suc n) (retry n).steps refl e h)
+retry_heeds m n p ready = fails (before m n) (moment_after (before m n) (retry n)) (retry n).steps p ready refl refl (λ e h _ _. left_anew (suc n) (retry n).steps refl e h)
 
 retried : (m : Machine) (n : ℕ) → n < 4 → Happens (before m n) (retry n)
 retried m n few = record {
@@ -414,15 +429,18 @@ retried m n few = record {
   belong = ((tt, inr refl), inr (refl, refl));
   last = ((tt, λ id h i. false≢true i), λ id h i. false≢true i);
   lawful = (tt, contains_here (on 0) [] (on 0) refl);
-  fit = fit Ready Absent;
+  fit = fit Ready Absent refl refl;
   disks = λ e o h i same. (refl, refl);
-  answered = (
-    none_told (retry n).steps refl,
-    record { dead = λ e o i dead. not_dead Ready Absent refl refl e.request.port dead; grounded = (tt, contains_here (on 0) [] (on 0) refl) },
-    none_unplugged (retry n).steps (moment_after (before m n) (retry n)).machine refl,
-    λ p _. none_waits _ refl p,
-    λ p. (λ ne e h. emptied_at (both Ready Absent) (tried (suc n)) refl p ne e h, stays p),
-  );
+  answered = record {
+    tells = none_told (retry n).steps refl;
+    dead = λ e o i dead. not_dead Ready Absent refl refl e.request.port dead;
+    grounded = (tt, contains_here (on 0) [] (on 0) refl);
+    unplugs = none_unplugged (retry n).steps (moment_after (before m n) (retry n)).machine refl;
+    issues = λ p _. none_waits _ refl p;
+    emptied = λ p ne e h. emptied_at (both Ready Absent) (tried (suc n)) refl p ne e h;
+    becomes = stays;
+    disk = λ p ne ready. absurd (ne ready);
+  };
 }
 
 happens10 : Happens (moment_of first run9) abort
@@ -431,15 +449,18 @@ happens10 = record {
   belong = (tt, inr tt);
   last = (tt, λ id h i. false≢true i);
   lawful = (tt, (record { pending = tried 4; here = contains_here (tried 4) [] (tried 4) refl; id_is = refl; issued = refl }, refl, refl, contains_here (on 0) [] (on 0) refl));
-  fit = fit Ready Absent;
+  fit = fit Ready Absent refl refl;
   disks = λ e o h i same. (refl, refl);
-  answered = (
-    one_told (tried 4) outcome.Aborted abort.steps refl (reply_of (tried 4, outcome.Aborted)) refl,
-    record { dead = λ e o i dead. not_dead Ready Absent refl refl e.request.port dead; grounded = (tt, contains_here (on 0) [] (on 0) refl) },
-    none_unplugged abort.steps (moment_after (moment_of first run9) abort).machine refl,
-    λ p _. none_there p,
-    λ p. (λ ne e h. absurd (contains_none e h), stays p),
-  );
+  answered = record {
+    tells = one_told (tried 4) outcome.Aborted abort.steps refl (reply_of (tried 4, outcome.Aborted)) refl;
+    dead = λ e o i dead. not_dead Ready Absent refl refl e.request.port dead;
+    grounded = (tt, contains_here (on 0) [] (on 0) refl);
+    unplugs = none_unplugged abort.steps (moment_after (moment_of first run9) abort).machine refl;
+    issues = λ p _. none_there p;
+    emptied = λ p ne e h. absurd (contains_none e h);
+    becomes = stays;
+    disk = λ p ne ready. absurd (ne ready);
+  };
 }
 
 pub meets_trouble : MeetsTrouble
@@ -450,8 +471,8 @@ meets_trouble = record {
   third = retry 2;
   fourth = retry 3;
   last = abort;
-  runs = (((((((((((empty_starts, fit Ready Ready), happens1), happens2), happens3), happens4), happens5), happens6), happens7), retried (moment_of first run7).machine 2 (omega arith)), retried (moment_of first (retry 2 ∷ run7)).machine 3 (omega arith)), happens10);
-  heeds = ((((((((((tt, tt), tt), tt), tt), tt), tt), serves_ready), retry_heeds (moment_of first run7).machine 2), retry_heeds (moment_of first (retry 2 ∷ run7)).machine 3), λ p ready. fails (moment_of first run9) (moment_after (moment_of first run9) abort) abort.steps p ready refl (λ e h. absurd (contains_none e h)));
+  runs = (((((((((((empty_starts, fit Ready Ready refl refl), happens1), happens2), happens3), happens4), happens5), happens6), happens7), retried (moment_of first run7).machine 2 (omega arith)), retried (moment_of first (retry 2 ∷ run7)).machine 3 (omega arith)), happens10);
+  heeds = ((((((((((tt, tt), tt), tt), tt), tt), tt), serves_ready), retry_heeds (moment_of first run7).machine 2), retry_heeds (moment_of first (retry 2 ∷ run7)).machine 3), λ p ready. fails (moment_of first run9) (moment_after (moment_of first run9) abort) abort.steps p ready refl refl (λ e h. absurd (contains_none e h)));
   told = (((((((((((((((((((((tt, tt), tt), tt), tt), tt), tt), tt), tt), λ e. absurd (false≢true (ap is_reader e))), tt), tt), tt), tt), tt), tt), tt), tt), tt), tt), tt), tt);
   volatile = (((((((((((((((((((((tt, tt), tt), tt), tt), tt), tt), tt), tt), tt), tt), tt), tt), tt), tt), tt), tt), tt), tt), tt), tt), tt);
   lost = losing;
@@ -459,7 +480,7 @@ meets_trouble = record {
   again = tried 1;
   ended = done finished;
   book = refl;
-  issued = (refl, refl, refl);
+  issued = (refl, refl, refl, refl);
   had_ended = refl;
   apart = λ e. distinct (ap (λ (x : Port). x.0) e);
   together = (refl, refl);

@@ -1,5 +1,5 @@
 -- A run in which a read waits for a write of its sector.
-use Rattle.std.proofs.Common.{true, List, [], ◌∷◌, Ok, inl, inr, ⊎_elim, refl, sym, ap, ◌∙◌, arith}
+use Rattle.std.proofs.Common.{◌≡◌, true, List, [], ◌∷◌, Ok, inl, inr, ⊎_elim, refl, sym, ap, ◌∙◌, arith}
 use Rattle.std.proofs.lemmas.Bool.{false≢true}
 use Rattle.ata_types.specs.declared.Port.{Port}
 use Rattle.ata_types.specs.declared.PortState.TheVariants.{Ready}
@@ -14,7 +14,7 @@ use Rattle.block_machine.specs.Worked.{WaitsItsTurn}
 use Rattle.block_machine.proofs.Members.{contains_none, contains_here, contains_there, contains_cases}
 use Rattle.block_machine.proofs.Dues.{issued_not_due}
 use Rattle.block_machine.proofs.Setting.{port, empty_starts, acceptable}
-use Rattle.block_machine.proofs.Scene.{mode, first, id, call, reply, sector_request, done, served, IsQuiet, row_zero, fit_write, fit_read, new, one_issued, none_there, one_told, one_touched, ports_fit, none_dead, none_ended, last_ended, none_unplugged, all_calmly, serviced, emptied_one}
+use Rattle.block_machine.proofs.Scene.{mode, first, id, call, reply, sector_request, done, served, IsQuiet, row_zero, fit_write, fit_read, new, one_issued, none_there, one_told, one_touched, ports_fit, none_ended, last_ended, all_calmly, plain_service, only_one}
 
 abbrev pub run0 : List (Event (Unit {0}))
 run0 = []
@@ -72,7 +72,7 @@ happens1 = record {
   belong = ((tt, inr refl), inr (refl, refl));
   last = ((tt, λ id h i. false≢true i), λ id h i. false≢true i);
   lawful = tt;
-  fit = ports_fit Ready;
+  fit = ports_fit Ready refl;
   disks = λ e o h i same. (refl, refl);
   answered = (acceptable 0 (situation_of (moment_of first run0)) write.asked (fit_write (moment_of first run0) 40 quiet0 refl refl), (write, refl, refl), λ p. (refl, refl, refl, refl, refl, refl), λ p _. one_issued (unanswered (issue (newly_accepted write))) refl p);
 }
@@ -97,7 +97,7 @@ happens2 = record {
   belong = (tt, inr refl);
   last = (tt, λ id h i. false≢true i);
   lawful = tt;
-  fit = ports_fit Ready;
+  fit = ports_fit Ready refl;
   disks = λ e o h i same. (refl, refl);
   answered = (acceptable 0 (situation_of (moment_of first run1)) read.asked (fit_read 0 (moment_of first run1) 41 quiet1 refl refl), (read, refl, refl), λ p. (refl, refl, refl, refl, refl, refl), λ p _. none_due p);
 }
@@ -117,9 +117,9 @@ happens3 = record {
   belong = ((((tt, inl tt), inl tt), inr tt), inr (refl, refl));
   last = ((((tt, λ id h i. false≢true i), λ id h i. false≢true i), λ id h i. false≢true i), λ id h i. false≢true i);
   lawful = (tt, (record { pending = issue (newly_accepted write); here = contains_here (issue (newly_accepted write)) (newly_accepted read ∷ []) (issue (newly_accepted write)) refl; id_is = refl; issued = refl }, refl, one_touched, refl));
-  fit = ports_fit Ready;
+  fit = ports_fit Ready refl;
   disks = λ e o h i same. (refl, refl);
-  answered = (one_told (done write) outcome.Ok event3.steps refl (reply write.id.0) refl, record { dead = λ e o i dead. none_dead e.request.port dead; grounded = tt }, none_unplugged event3.steps (moment_of first run3).machine refl, λ p _. one_issued (unanswered (issue (newly_accepted read))) refl p, λ p. (λ ne e h. emptied_one (issue (newly_accepted read)) refl p ne e h, serviced p));
+  answered = plain_service (moment_of first run2).machine (moment_of first run3).machine event3.steps (reply 1 ∷ []) (one_told (done write) outcome.Ok event3.steps refl (reply 1) refl) refl tt (λ p. one_issued (unanswered (issue (newly_accepted read))) refl p) (only_one (issue (newly_accepted read)) (λ e. e.request.port ≡ port) refl);
 }
 
 happens4 : Happens (moment_of first run3) event4
@@ -128,7 +128,7 @@ happens4 = record {
   belong = ((tt, inl tt), inl tt);
   last = ((tt, λ id h i. false≢true i), λ id h i. false≢true i);
   lawful = tt;
-  fit = ports_fit Ready;
+  fit = ports_fit Ready refl;
   disks = λ e o h i same. (refl, refl);
   answered = (((tt, tt), tt), λ p. (refl, refl, refl, refl, refl, refl));
 }
@@ -139,22 +139,16 @@ happens5 = record {
   belong = (tt, inr tt);
   last = (tt, λ id h i. false≢true i);
   lawful = (tt, (record { pending = done read; here = contains_here (done read) [] (done read) refl; id_is = refl; issued = refl }, refl, one_touched, refl));
-  fit = ports_fit Ready;
+  fit = ports_fit Ready refl;
   disks = λ e o h i same. (refl, refl);
-  answered = (
-    one_told (done read) outcome.Ok event5.steps refl (reply read.id.0) refl,
-    record { dead = λ e o i dead. none_dead e.request.port dead; grounded = tt },
-    none_unplugged event5.steps (moment_of first run5).machine refl,
-    λ p _. none_there p,
-    λ p. (λ ne e h. absurd (contains_none e h), serviced p),
-  );
+  answered = plain_service (moment_of first run4).machine (moment_of first run5).machine event5.steps (reply 2 ∷ []) (one_told (done read) outcome.Ok event5.steps refl (reply 2) refl) refl tt (λ p. none_there p) (λ e h. absurd (contains_none e h));
 }
 
 pub waits_its_turn : WaitsItsTurn
 waits_its_turn = record {
   first = first;
   run = run5;
-  runs = ((((((empty_starts, ports_fit Ready), happens1), happens2), happens3), happens4), happens5);
+  runs = ((((((empty_starts, ports_fit Ready refl), happens1), happens2), happens3), happens4), happens5);
   heeds = (((((tt, tt), tt), all_calmly (moment_of first run2) (moment_of first run3) event3.steps (λ p. (refl, refl, refl, refl, refl, refl)) refl (none_ended (moment_of first run2).machine event3.steps refl)), tt), all_calmly (moment_of first run4) (moment_of first run5) event5.steps (λ p. (refl, refl, refl, refl, refl, refl)) refl (last_ended (moment_of first run4).machine event5.steps [] (done read) refl refl (done read) refl (contains_here (Answer (done read) outcome.Ok) [] (Answer (done read) outcome.Ok) refl)));
   told = ((((((((((tt, tt), tt), tt), λ e. absurd (false≢true (ap is_reader e))), tt), tt), tt), λ _ b lt. refl), tt), tt);
   early = run2;
@@ -174,6 +168,10 @@ waits_its_turn = record {
   its = refl;
   mode = mode;
   issues = contains_here (Issue mode (newly_accepted read)) (served write) (Issue mode (newly_accepted read)) refl;
+  running = issue (newly_accepted read);
+  issued_too = refl;
+  not_ended = (refl, refl);
+  told_to = refl;
   last = done read;
   its_too = refl;
   alone = refl;

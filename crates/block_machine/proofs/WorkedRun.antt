@@ -16,7 +16,7 @@ use Rattle.block_machine.specs.Durable.{SameBytes, HeldSince}
 use Rattle.block_machine.specs.Worked.{FindsTheFlushed, MayComeBack, ReadsOneOf}
 use Rattle.block_machine.proofs.Members.{contains_none, contains_here, contains_there, contains_cases}
 use Rattle.block_machine.proofs.Setting.{client, port, frame, request, empty, empty_starts, acceptable}
-use Rattle.block_machine.proofs.Scene.{mode, first, none, at_port, ports_in, id, call, reply, sector_request, done, served, is_open, IsQuiet, row_zero, fit_write, fit_read, fit_flush, new, one_issued, none_there, one_told, none_told, one_touched, ports_fit, none_dead, none_ended, none_unplugged, all_calmly, serviced, ready_port, absent_not_ready, absent_not_dead}
+use Rattle.block_machine.proofs.Scene.{mode, first, none, at_port, ports_in, id, call, reply, sector_request, done, served, is_open, IsQuiet, row_zero, fit_write, fit_read, fit_flush, new, one_issued, none_there, one_told, none_told, one_touched, ports_fit, none_dead, none_ended, none_unplugged, all_calmly, plain_service, ready_port, absent_not_ready, absent_not_dead}
 
 abbrev run0 : List (Event (Unit {0}))
 run0 = []
@@ -157,7 +157,7 @@ happens1 = record {
   belong = (tt, inr (refl, refl, refl, refl));
   last = (tt, λ id h i. false≢true i);
   lawful = tt;
-  fit = ports_fit Ready;
+  fit = ports_fit Ready refl;
   disks = λ e o h i same. (refl, refl);
   answered = (is_open (moment_of first run0).machine 40 0 1 refl refl (omega arith), refl, λ p. (refl, refl, refl, refl, refl, refl));
 }
@@ -168,7 +168,7 @@ happens2 = record {
   belong = ((tt, inr refl), inr (refl, refl));
   last = ((tt, λ id h i. false≢true i), λ id h i. false≢true i);
   lawful = tt;
-  fit = ports_fit Ready;
+  fit = ports_fit Ready refl;
   disks = λ e o h i same. (refl, refl);
   answered = (acceptable 0 (situation_of (moment_of first run1)) write.asked (fit_write (moment_of first run1) 40 quiet1 refl refl), (write, refl, refl), λ p. (refl, refl, refl, refl, refl, refl), λ p _. one_issued (unanswered (issue (newly_accepted write))) refl p);
 }
@@ -179,9 +179,9 @@ happens3 = record {
   belong = (((tt, inl tt), inl tt), inr tt);
   last = (((tt, λ id h i. false≢true i), λ id h i. false≢true i), λ id h i. false≢true i);
   lawful = (tt, (record { pending = issue (newly_accepted write); here = contains_here (issue (newly_accepted write)) [] (issue (newly_accepted write)) refl; id_is = refl; issued = refl }, refl, one_touched, refl));
-  fit = ports_fit Ready;
+  fit = ports_fit Ready refl;
   disks = λ e o h i same. (refl, refl);
-  answered = (one_told (done write) outcome.Ok event3.steps refl (reply write.id.0) refl, record { dead = λ e o i dead. none_dead e.request.port dead; grounded = tt }, none_unplugged event3.steps (moment_of first run3).machine refl, λ p _. none_there p, λ p. (λ ne e h. absurd (contains_none e h), serviced p));
+  answered = plain_service (moment_of first run2).machine (moment_of first run3).machine event3.steps (reply 1 ∷ []) (one_told (done write) outcome.Ok event3.steps refl (reply 1) refl) refl tt (λ p. none_there p) (λ e h. absurd (contains_none e h));
 }
 
 happens4 : Happens (moment_of first run3) event4
@@ -190,7 +190,7 @@ happens4 = record {
   belong = ((tt, inr refl), inr (refl, refl));
   last = ((tt, λ id h i. false≢true i), λ id h i. false≢true i);
   lawful = tt;
-  fit = ports_fit Ready;
+  fit = ports_fit Ready refl;
   disks = λ e o h i same. (refl, refl);
   answered = (acceptable 0 (situation_of (moment_of first run3)) flush.asked (fit_flush (moment_of first run3) quiet3), (flush, refl, refl), λ p. (refl, refl, refl, refl, refl, refl), λ p _. one_issued (unanswered (issue (newly_accepted flush))) refl p);
 }
@@ -201,9 +201,9 @@ happens5 = record {
   belong = ((tt, inl tt), inr tt);
   last = ((tt, λ id h i. false≢true i), λ id h i. false≢true i);
   lawful = (tt, (record { pending = issue (newly_accepted flush); here = contains_here (issue (newly_accepted flush)) [] (issue (newly_accepted flush)) refl; id_is = refl; issued = refl }, refl, (λ k lt. absurd (omega (arith, lt))), refl));
-  fit = ports_fit Ready;
+  fit = ports_fit Ready refl;
   disks = λ e o h i same. (refl, refl);
-  answered = (one_told (mark_ended (issue (newly_accepted flush))) outcome.Ok event5.steps refl (reply 2) refl, record { dead = λ e o i dead. none_dead e.request.port dead; grounded = tt }, none_unplugged event5.steps (moment_of first run5).machine refl, λ p _. none_there p, λ p. (λ ne e h. absurd (contains_none e h), serviced p));
+  answered = plain_service (moment_of first run4).machine (moment_of first run5).machine event5.steps (reply 2 ∷ []) (one_told (mark_ended (issue (newly_accepted flush))) outcome.Ok event5.steps refl (reply 2) refl) refl tt (λ p. none_there p) (λ e h. absurd (contains_none e h));
 }
 
 happens6 : Happens (moment_of first run5) event6
@@ -212,7 +212,7 @@ happens6 = record {
   belong = (tt, inr (refl, refl, refl, refl));
   last = (tt, λ id h i. false≢true i);
   lawful = tt;
-  fit = ports_fit Ready;
+  fit = ports_fit Ready refl;
   disks = λ e o h i same. (refl, refl);
   answered = (is_open (moment_of first run5).machine 40 0 1 refl refl (omega arith), refl, λ p. (refl, refl, refl, refl, refl, refl));
 }
@@ -223,7 +223,7 @@ happens7 = record {
   belong = ((tt, inr refl), inr (refl, refl));
   last = ((tt, λ id h i. false≢true i), λ id h i. false≢true i);
   lawful = tt;
-  fit = ports_fit Ready;
+  fit = ports_fit Ready refl;
   disks = λ e o h i same. (refl, refl);
   answered = (acceptable 0 (situation_of (moment_of first run6)) later.asked (fit_write (moment_of first run6) 40 quiet6 refl refl), (later, refl, refl), λ p. (refl, refl, refl, refl, refl, refl), λ p _. one_issued (unanswered (issue (newly_accepted later))) refl p);
 }
@@ -234,9 +234,9 @@ happens8 = record {
   belong = (((tt, inl tt), inl tt), inr tt);
   last = (((tt, λ id h i. false≢true i), λ id h i. false≢true i), λ id h i. false≢true i);
   lawful = (tt, (record { pending = issue (newly_accepted later); here = contains_here (issue (newly_accepted later)) [] (issue (newly_accepted later)) refl; id_is = refl; issued = refl }, refl, one_touched, refl));
-  fit = ports_fit Ready;
+  fit = ports_fit Ready refl;
   disks = λ e o h i same. (refl, refl);
-  answered = (one_told (done later) outcome.Ok event8.steps refl (reply later.id.0) refl, record { dead = λ e o i dead. none_dead e.request.port dead; grounded = tt }, none_unplugged event8.steps (moment_of first run8).machine refl, λ p _. none_there p, λ p. (λ ne e h. absurd (contains_none e h), serviced p));
+  answered = plain_service (moment_of first run7).machine (moment_of first run8).machine event8.steps (reply 3 ∷ []) (one_told (done later) outcome.Ok event8.steps refl (reply 3) refl) refl tt (λ p. none_there p) (λ e h. absurd (contains_none e h));
 }
 
 happens9 : Happens (moment_of first run8) event9
@@ -245,7 +245,7 @@ happens9 = record {
   belong = (tt, inl tt);
   last = (tt, λ id h i. false≢true i);
   lawful = tt;
-  fit = ports_fit Ready;
+  fit = ports_fit Ready refl;
   disks = λ e o h i same. (refl, refl);
   answered = ((tt, tt), λ p. (refl, refl, refl, refl, refl, refl));
 }
@@ -256,21 +256,18 @@ happens10 = record {
   belong = tt;
   last = tt;
   lawful = tt;
-  fit = ports_fit Absent;
+  fit = ports_fit Absent refl;
   disks = λ e o h i same. (refl, refl);
-  answered = (
-    none_told [] refl,
-    record {
-      dead = λ e o i dead. none_dead e.request.port dead;
-      grounded = tt;
-    },
-    none_unplugged [] (moment_of first run10).machine refl,
-    λ p _. none_there p,
-    λ p. (
-      λ ne e h. absurd (contains_none e h),
-      (λ dead. none_dead p dead, λ _. record { served = refl; stuck = λ dead. absent_not_dead p dead; disk = λ ready. inl (contains_here port [] p (ready_port p ready)) }),
-    ),
-  );
+  answered = record {
+    tells = none_told [] refl;
+    dead = λ e o i dead. none_dead e.request.port dead;
+    grounded = tt;
+    unplugs = none_unplugged [] (moment_of first run10).machine refl;
+    issues = λ p _. none_there p;
+    emptied = λ p ne e h. absurd (contains_none e h);
+    becomes = λ p. (λ dead. none_dead p dead, λ _. record { served = refl; stuck = λ dead. absent_not_dead p dead; dies = λ h. absurd (contains_none p h); disk = λ ready. inl (contains_here port [] p (ready_port p ready)) });
+    disk = λ p _ ready. absent_not_ready p ready;
+  };
 }
 
 happens11 : (disk : Disk) → Happens (moment_of first run10) (event11 disk)
@@ -279,10 +276,14 @@ happens11 disk = record {
   belong = (tt, inl tt);
   last = (tt, λ id h i. false≢true i);
   lawful = tt;
-  fit = ports_fit Absent;
+  fit = ports_fit Absent refl;
   disks = λ e o h i same. (refl, refl);
   answered = ((tt, tt), λ p. (refl, refl, refl, refl, refl, refl));
 }
+
+-- the port that gets ready has the disk that was put in
+present : (p : Port) → at_port Ready p ≡ Ready → (moment_of first (run11 (λ k b. 0))).machine.present p ≡ true
+present p ready = ap (moment_of first (run11 (λ k b. 0))).machine.present (ready_port p ready)
 
 happens12 : (disk : Disk) → Happens (moment_of first (run11 disk)) event12
 happens12 disk = record {
@@ -290,18 +291,18 @@ happens12 disk = record {
   belong = tt;
   last = tt;
   lawful = tt;
-  fit = ports_fit Ready;
+  fit = ports_fit Ready refl;
   disks = λ e o h i same. absurd (contains_none e h);
-  answered = (
-    none_told [] refl,
-    record { dead = λ e o i dead. absent_not_dead e.request.port dead; grounded = tt },
-    none_unplugged [] (moment_of first (run12 disk)).machine refl,
-    λ p _. none_there p,
-    λ p. (
-      λ ne e h. absurd (contains_none e h),
-      (λ dead. absent_not_dead p dead, λ _. record { served = refl; stuck = λ dead. none_dead p dead; disk = λ ready. absent_not_ready p ready }),
-    ),
-  );
+  answered = record {
+    tells = none_told [] refl;
+    dead = λ e o i dead. absent_not_dead e.request.port dead;
+    grounded = tt;
+    unplugs = none_unplugged [] (moment_of first (run12 disk)).machine refl;
+    issues = λ p _. none_there p;
+    emptied = λ p ne e h. absurd (contains_none e h);
+    becomes = λ p. (λ dead. absent_not_dead p dead, λ _. record { served = refl; stuck = λ dead. none_dead p dead; dies = λ h. absurd (contains_none p h); disk = λ ready. absent_not_ready p ready });
+    disk = λ p _ ready. inl (present p ready);
+  };
 }
 
 happens13 : (disk : Disk) → Happens (moment_of first (run12 disk)) (event13 disk)
@@ -310,7 +311,7 @@ happens13 disk = record {
   belong = ((tt, inr refl), inr (refl, refl));
   last = ((tt, λ id h i. false≢true i), λ id h i. false≢true i);
   lawful = tt;
-  fit = ports_fit Ready;
+  fit = ports_fit Ready refl;
   disks = λ e o h i same. (refl, refl);
   answered = (acceptable 0 (situation_of (moment_of first (run12 disk))) (read disk).asked (fit_read 0 (moment_of first (run12 disk)) 41 (quiet12 disk) refl refl), (read disk, refl, refl), λ p. (refl, refl, refl, refl, refl, refl), λ p _. one_issued (unanswered (issue (newly_accepted (read disk)))) refl p);
 }
@@ -321,9 +322,9 @@ happens14 disk = record {
   belong = (((tt, inl tt), inl tt), inr tt);
   last = (((tt, λ id h i. false≢true i), λ id h i. false≢true i), λ id h i. false≢true i);
   lawful = (tt, (record { pending = issue (newly_accepted (read disk)); here = contains_here (issue (newly_accepted (read disk))) [] (issue (newly_accepted (read disk))) refl; id_is = refl; issued = refl }, refl, one_touched, refl));
-  fit = ports_fit Ready;
+  fit = ports_fit Ready refl;
   disks = λ e o h i same. (refl, refl);
-  answered = (one_told (done (read disk)) outcome.Ok (event14 disk).steps refl (reply 4) refl, record { dead = λ e o i dead. none_dead e.request.port dead; grounded = tt }, none_unplugged (event14 disk).steps (moment_of first (run14 disk)).machine refl, λ p _. none_there p, λ p. (λ ne e h. absurd (contains_none e h), serviced p));
+  answered = plain_service (moment_of first (run13 disk)).machine (moment_of first (run14 disk)).machine (event14 disk).steps (reply 4 ∷ []) (one_told (done (read disk)) outcome.Ok (event14 disk).steps refl (reply 4) refl) refl tt (λ p. none_there p) (λ e h. absurd (contains_none e h));
 }
 
 loaded : (disk : Disk) (b : ℕ) → b < 1 → slice_index (disk 100 0 ∷ []) b ≡ (moment_of first (run14 disk)).machine.memory (frame 41) (0 + b)
@@ -335,22 +336,24 @@ happens15 disk = record {
   belong = (tt, inr (refl, refl, refl, refl));
   last = (tt, λ id h i. false≢true i);
   lawful = tt;
-  fit = ports_fit Ready;
+  fit = ports_fit Ready refl;
   disks = λ e o h i same. (refl, refl);
   answered = (is_open (moment_of first (run14 disk)).machine 41 0 1 refl refl (omega arith), refl, λ p. (refl, refl, refl, refl, refl, refl));
 }
 
 runs10 : IsRun first run10
-runs10 = (((((((((((empty_starts, ports_fit Ready), happens1), happens2), happens3), happens4), happens5), happens6), happens7), happens8), happens9), happens10)
+runs10 = (((((((((((empty_starts, ports_fit Ready refl), happens1), happens2), happens3), happens4), happens5), happens6), happens7), happens8), happens9), happens10)
 
 -- the service that notices
 notices : (p : Port) → at_port Ready p ≡ Ready → ServesReady (moment_of first run9) gone [] (moment_of first run10) p
 notices p ready = record {
   ended = none_ended (moment_of first run9).machine [] refl p;
-  lost = λ _ e h. absurd (contains_none e h);
+  emptied = λ _ e h. absurd (contains_none e h);
   told = λ _. inl (λ e o h. absurd (contains_none (Answer e o) h));
+  interrupts = λ _. inl (contains_here port [] p (ready_port p ready));
   anew = λ _ e h. absurd (contains_none e h);
   booted = inr (λ e h. absurd (contains_none e h));
+  single = omega arith;
   calm = inl (inr (inl (contains_here port [] p (ready_port p ready))));
 }
 

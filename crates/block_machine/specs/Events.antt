@@ -180,8 +180,8 @@ pub record WasIssued (m : Machine) (id : RequestId) : Type 0 where
 
 -- What stands behind each outcome. An Ok, a fault and an abort are of a request that was issued when the call began. Of an Ok
 -- each sector was touched since the last issue, and it was ended. A fault is told of a request that is issued. An abort comes
--- after four issues, and leaves the port ready. An issued request is given up only where its port stopped: else its frames may
--- still be written. And PortDead leaves the port dead: it was so when the call began, or its engine or adapter is stuck.
+-- after four issues, and leaves the port ready. An issued request's frames are given back only where it ended or its port stopped:
+-- else they may still be written. And PortDead leaves the port dead: it was so when the call began, or its engine or adapter is stuck.
 abbrev pub IsLawful : Moment → Evidence → Ports → Pending → Outcome → Type 0
 IsLawful old evidence ports e outcome.Ok = WasIssued old.machine e.request.id × (e.issued ≡ true) × AllTouched e × (e.ended ≡ true)
 IsLawful old evidence ports e (outcome.DeviceError status error) = WasIssued old.machine e.request.id × (e.issued ≡ true)
@@ -237,7 +237,7 @@ AllIssued m = (port : Port) → m.ports.state port ≡ Ready → NoneDue (m.port
 abbrev pub IsEmptied : Moment → Port → Type 0
 IsEmptied m port = m.ports.state port ≢ Ready → (e : Pending) → Contains m.machine.book e → e.request.port ≢ port
 
--- a request that was unanswered when the call began, and still is, has the disk that it was accepted for
+-- a request that was unanswered when the call began, and still is, is on a port that shows serial and size as it did then
 abbrev pub KeepsDisks : Moment → Moment → Type 0
 KeepsDisks old new = (e o : Pending) → Contains new.machine.book e → Contains old.machine.book o → o.request.id ≡ e.request.id
     → SameDisk old.ports new.ports e.request.port
@@ -255,7 +255,14 @@ pub record IsHung (old : Moment) (port : Port) : Type 0 where
 abbrev pub NoneKeepsIssue : List Step → Machine → Port → Type 0
 NoneKeepsIssue steps m port = (e : Pending) → Contains m.book e → e.request.port ≡ port → e.issued ≡ true → IsIssuedIn e.request.id steps
 
--- Each request of the port that had ended when the call began is answered Ok. (More of it may have moved until then.)
+-- the step takes the port's disk out, or puts one in
+abbrev pub changes_disk : Port → Step → Bool
+changes_disk port (Unplug p) = p.0 == port.0
+changes_disk port (Replace p id size disk) = p.0 == port.0
+changes_disk port _ = false
+
+-- Each request of the port that had ended when the call began is answered Ok. (`done` is that request: the machine would let a
+-- sector of it be touched once more until then, though no device does.)
 abbrev pub AnswersEnded : Machine → List Step → Port → Type 0
 AnswersEnded old steps port = (e : Pending) → Contains old.book e → e.request.port ≡ port → e.ended ≡ true
     → (done : Pending) × (done.request ≡ e.request) × Contains steps (Answer done outcome.Ok)
@@ -264,9 +271,25 @@ AnswersEnded old steps port = (e : Pending) → Contains old.book e → e.reques
 abbrev pub AreTold : Outcome → List Step → Port → Type 0
 AreTold told steps port = (e : Pending) (o : Outcome) → Contains steps (Answer e o) → e.request.port ≡ port → (o ≡ outcome.Ok) ⊎ (o ≡ told)
 
--- where a request is answered Unplugged, no request of its port is left unanswered
-abbrev pub UnplugsAll : List Step → Machine → Type 0
-UnplugsAll steps new = (e o : Pending) → Contains steps (Answer e outcome.Unplugged) → Contains new.book o → o.request.port ≢ e.request.port
+-- Where a request is answered Unplugged, no request of its port is left unanswered, and none is answered PortDead.
+pub record UnplugsAll (steps : List Step) (new : Machine) : Type 0 where
+  pub emptied : (e other : Pending) → Contains steps (Answer e outcome.Unplugged) → Contains new.book other → other.request.port ≢ e.request.port
+  pub alike : (e other : Pending) → Contains steps (Answer e outcome.Unplugged) → Contains steps (Answer other outcome.PortDead) → other.request.port ≢ e.request.port
+
+-- the port was stopped, or got stuck
+abbrev pub IsInterrupted : Evidence → Port → Type 0
+IsInterrupted evidence port = Contains evidence.stopped port ⊎ Contains evidence.stuck port
+
+-- Where a request is told Unplugged, its port is neither dead nor ready with serial and size as before: a restart, or a reset, lets
+-- requests go again where it finds the same disk.
+abbrev pub FindsAnother : List Step → Ports → Ports → Type 0
+FindsAnother steps old new = (e : Pending) → Contains steps (Answer e outcome.Unplugged)
+    → (new.state e.request.port ≢ Dead) × (new.state e.request.port ≡ Ready → SameDisk old new e.request.port → ⊥)
+
+-- A port that gets ready in the call had a disk when it began, or gets one in it.
+abbrev pub HadDisk : Moment → List Step → Moment → Port → Type 0
+HadDisk old steps new port = old.ports.state port ≢ Ready → new.ports.state port ≡ Ready
+    → (old.machine.present port ≡ true) ⊎ (list_any (changes_disk port) steps ≡ true)
 
 -- The tick comes first, and once, at the ports that are ready then.
 pub record AgesOnce (ports : Ports) (steps : List Step) : Type 0 where
@@ -276,14 +299,17 @@ pub record AgesOnce (ports : Ports) (steps : List Step) : Type 0 where
   pub first : steps ≡ later ++ Age ready ∷ []
   pub once : count_by is_age later ≡ 0
 
--- A tick restarts each port that is hung: what had ended there is answered Ok, and no request then keeps its issue. With other
--- ports it does nothing but issue.
+-- A tick restarts each port that is hung, and no other: what had ended there is answered Ok, and no request then keeps its issue.
+-- Other ports stay what they are, and nothing is answered there.
 pub record RestartsHung (old : Moment) (evidence : Evidence) (steps : List Step) (new : Moment) : Type 0 where
   pub ports : (port : Port) → SamePort old.ports new.ports port ⊎ (IsHung old port × MayBecome old.ports evidence new.ports port)
   pub again : (e : Pending) → Contains steps (Again e) → IsHung old e.request.port
   pub answer : (e : Pending) (o : Outcome) → Contains steps (Answer e o) → IsHung old e.request.port
   pub ended : (port : Port) → IsHung old port → AnswersEnded old.machine steps port
   pub anew : (port : Port) → IsHung old port → NoneKeepsIssue steps new.machine port
+  pub interrupts : (port : Port) → IsHung old port → IsInterrupted evidence port
+  pub spares : (port : Port) → IsInterrupted evidence port → IsHung old port
+  pub finds : FindsAnother steps old.ports new.ports
 
 -- The kept requests' frames are given back once, before the server does anything else.
 pub record ReleasesOnce (steps : List Step) : Type 0 where
@@ -305,10 +331,26 @@ AllGrounded evidence (Answer e outcome.Aborted ∷ before) = AllGrounded evidenc
 AllGrounded evidence (Answer e (outcome.DeviceError status error) ∷ before) = AllGrounded evidence before × Contains evidence.failed e.request.port
 AllGrounded evidence (step ∷ before) = AllGrounded evidence before
 
--- A service tells dead ports, and lets requests wait again, aborts them, or tells faults of them, where something failed.
-pub record ServesPorts (old : Moment) (evidence : Evidence) (steps : List Step) : Type 0 where
+-- What a service says and does. It tells dead ports; it lets requests wait again, aborts them, or tells faults of them, where
+-- something failed; and it leaves no request unanswered where the port isn't ready.
+pub record IsService (old : Moment) (evidence : Evidence) (steps : List Step) (replies : List Reply) (new : Moment) : Type 0 where
+  pub tells : Tells steps replies
   pub dead : TellsDead old steps
   pub grounded : AllGrounded evidence steps
+  pub unplugs : UnplugsAll steps new.machine
+  pub issues : AllIssued new
+  pub emptied : (port : Port) → IsEmptied new port
+  pub becomes : (port : Port) → IsServiced old.ports evidence new.ports port
+  pub disk : (port : Port) → HadDisk old steps new port
+
+-- What a tick says and does.
+pub record IsTick (old : Moment) (evidence : Evidence) (steps : List Step) (replies : List Reply) (new : Moment) : Type 0 where
+  pub tells : Tells steps replies
+  pub ages : AgesOnce old.ports steps
+  pub restarts : RestartsHung old evidence steps new
+  pub unplugs : UnplugsAll steps new.machine
+  pub issues : AllIssued new
+  pub emptied : (port : Port) → old.ports.state port ≡ Ready → IsEmptied new port
 
 -- What a reset that ends makes of each port: it boots it, none of its requests keeps an issue, none is unanswered where it isn't
 -- ready then, and a port that is served has stopped.
@@ -317,6 +359,16 @@ pub record IsRebooted (old : Moment) (evidence : Evidence) (steps : List Step) (
   pub becomes : MayBecome old.ports evidence new.ports port
   pub anew : NoneKeepsIssue steps new.machine port
   pub stopped : old.ports.served port ≡ true → Contains evidence.stopped port
+  pub disk : HadDisk old steps new port
+
+-- What a reset that ends says and does.
+pub record IsReset (old : Moment) (evidence : Evidence) (steps : List Step) (replies : List Reply) (new : Moment) : Type 0 where
+  pub tells : Tells steps replies
+  pub releases : ReleasesOnce steps
+  pub unplugs : UnplugsAll steps new.machine
+  pub finds : FindsAnother steps old.ports new.ports
+  pub issues : AllIssued new
+  pub reboots : (port : Port) → IsRebooted old evidence steps new port
 
 -- What is said of a call agrees with its steps, and the call did what was asked.
 abbrev pub IsAnswered : {D : Type 0} → Ask D → Said → Moment → Evidence → List Step → Moment → Type 0
@@ -336,13 +388,9 @@ IsAnswered (LoadAt client frame offset count) (Loaded (Ok bytes)) old evidence s
 IsAnswered (LoadAt client frame offset count) (Loaded (Err fault)) old evidence steps new =
     IsFirstMemFault old.machine.owner old.machine.lent client frame offset count fault
     × (steps ≡ []) × SamePorts old.ports new.ports
-IsAnswered Service (Served replies) old evidence steps new = Tells steps replies × ServesPorts old evidence steps
-    × UnplugsAll steps new.machine × AllIssued new × ((port : Port) → IsEmptied new port × IsServiced old.ports evidence new.ports port)
-IsAnswered Tick (Served replies) old evidence steps new = Tells steps replies × AgesOnce old.ports steps
-    × RestartsHung old evidence steps new × UnplugsAll steps new.machine × AllIssued new
-    × ((port : Port) → old.ports.state port ≡ Ready → IsEmptied new port)
-IsAnswered Reset (WasReset (Some replies)) old evidence steps new = Tells steps replies × ReleasesOnce steps
-    × UnplugsAll steps new.machine × AllIssued new × ((port : Port) → IsRebooted old evidence steps new port)
+IsAnswered Service (Served replies) old evidence steps new = IsService old evidence steps replies new
+IsAnswered Tick (Served replies) old evidence steps new = IsTick old evidence steps replies new
+IsAnswered Reset (WasReset (Some replies)) old evidence steps new = IsReset old evidence steps replies new
 IsAnswered Reset (WasReset None) old evidence steps new = AllDevices steps × ((port : Port) → IsStuck old.ports evidence new.ports port)
 IsAnswered (State port) (Shown state) old evidence steps new = (state ≡ old.ports.state port) × (steps ≡ []) × SamePorts old.ports new.ports
 IsAnswered (Device step) (Stepped true) old evidence steps new = AllDevices steps × SamePorts old.ports new.ports
@@ -375,27 +423,34 @@ IsRun first (event ∷ past) = IsRun first past × Happens (moment_of first past
 
 -- ---- what a service makes of trouble
 
--- the step takes the port's disk out, or puts one in
-abbrev pub changes_disk : Port → Step → Bool
-changes_disk port (Unplug p) = p.0 == port.0
-changes_disk port (Replace p id size disk) = p.0 == port.0
-changes_disk port _ = false
-
 -- the port failed, or its disk had gone when the call began, or one goes or comes in it
 abbrev pub IsDisturbed : Evidence → List Step → Port → Type 0
 IsDisturbed evidence steps port = Contains evidence.failed port ⊎ Contains evidence.gone port ⊎ (list_any (changes_disk port) steps ≡ true)
 
--- What a service does with a port that was ready when it began. What had ended is answered Ok. Where its disk had gone, the
--- others are all answered, and all alike: Unplugged, or PortDead. Where it failed or was stopped, no request keeps its issue, and
--- so where the port isn't what it was: it was booted then. And where nothing disturbs it, the port stays what it is, and nothing
--- but Ok is told.
+-- the step tells a fault of a request of the port
+abbrev pub tells_fault : Port → Step → Bool
+tells_fault port (Answer e (outcome.DeviceError status error)) = e.request.port.0 == port.0
+tells_fault port _ = false
+
+-- Nothing interrupts the port: it stays what it is, and nothing but Ok is told.
+pub record IsCalm (old : Ports) (evidence : Evidence) (steps : List Step) (new : Ports) (port : Port) : Type 0 where
+  pub same : SamePort old new port
+  pub told : AreTold outcome.Ok steps port
+  pub uninterrupted : IsInterrupted evidence port → ⊥
+
+-- What a service owes a port that was ready when it began. What had ended is answered Ok. Where the port's disk had gone, all its
+-- requests are answered, and those that aren't Ok are all told Unplugged, or all PortDead. Where that is so, or it failed, the port
+-- is stopped, or gets stuck. Where it failed or was stopped, no request keeps its issue, and so where the port isn't what it was:
+-- it was booted then. One fault is told at most. And where nothing disturbs it, the port is left in peace.
 pub record ServesReady (old : Moment) (evidence : Evidence) (steps : List Step) (new : Moment) (port : Port) : Type 0 where
   pub ended : AnswersEnded old.machine steps port
-  pub lost : Contains evidence.gone port → (e : Pending) → Contains new.machine.book e → e.request.port ≢ port
+  pub emptied : Contains evidence.gone port → (e : Pending) → Contains new.machine.book e → e.request.port ≢ port
   pub told : Contains evidence.gone port → AreTold outcome.Unplugged steps port ⊎ AreTold outcome.PortDead steps port
+  pub interrupts : Contains evidence.failed port ⊎ Contains evidence.gone port → IsInterrupted evidence port
   pub anew : Contains evidence.failed port ⊎ Contains evidence.stopped port → NoneKeepsIssue steps new.machine port
   pub booted : SamePort old.ports new.ports port ⊎ NoneKeepsIssue steps new.machine port
-  pub calm : IsDisturbed evidence steps port ⊎ (SamePort old.ports new.ports port × AreTold outcome.Ok steps port)
+  pub single : count_by (tells_fault port) steps ≤ 1
+  pub calm : IsDisturbed evidence steps port ⊎ IsCalm old.ports evidence steps new.ports port
 
 -- A call heeds what it finds: a service does so with each port that was ready when it began. (The other calls are bound by what
 -- they answer.)

@@ -2,7 +2,7 @@
 use Rattle.std.specs.Prelude.{◌≡◌, ◌≢◌, ◌⊎◌, ℕ, ◌<◌, ◌≤◌, Bool, true, false, List, Contains}
 use Rattle.ata_types.specs.declared.Port.{Port}
 use Rattle.ata_types.specs.declared.PortState.{PortState}
-use Rattle.ata_types.specs.declared.PortState.TheVariants.{Absent, Ready, Dead}
+use Rattle.ata_types.specs.declared.PortState.TheVariants.{Absent, Ready, Unfit, Dead}
 use Rattle.ata_types.specs.declared.request.RequestId.{RequestId}
 use Rattle.block_machine.specs.declared.due.Mode.{Mode}
 
@@ -22,12 +22,13 @@ pub record Ports : Type 0 where
 abbrev pub IsMode : Mode → Type 0
 IsMode mode = (1 ≤ mode.usable) × (mode.usable ≤ 32) × (mode.queued ≡ false → mode.usable ≡ 1)
 
--- What ports are between any two calls: at most four are served. (A mode is known of a ready port alone: the disk's own page
--- tells it.)
+-- What ports are between any two calls: at most four are served, and there are nine causes to be unfit. (A mode is known of a
+-- ready port alone: the disk's own page tells it.)
 pub record AreFit (ports : Ports) : Type 0 where
   pub few : (port : Port) → ports.served port ≡ true → port.0 < 4
   pub absent : (port : Port) → ports.served port ≡ false → ports.state port ≡ Absent
   pub slots : (port : Port) → ports.state port ≡ Ready → IsMode (ports.mode port)
+  pub causes : (port : Port) (cause : ℕ) → ports.state port ≡ Unfit cause → (1 ≤ cause) × (cause ≤ 9)
 
 -- the port is what it was
 abbrev pub SamePort : Ports → Ports → Port → Type 0
@@ -48,12 +49,16 @@ pub record Fault : Type 0 where
   pub status : ℕ
   pub error : ℕ
 
--- What the device vouches for in a call. `faults`: those that it told. `lost`: the ports that lost their disk or have another,
--- when the call began, in it, or at its end, or that end it neither dead nor ready with serial and size as before. `gone`: of
--- these, those that had told so when it began (PxSERR.N or X, or a DET other than 3), and had no other disk put in since.
--- `failed`: the ports that had TFES, HBDS, HBFS or IFS in PxIS when the call began, or of which one was read in it. `stopped`:
--- those whose engine was seen to stop in it, or whose adapter ended its reset. `stuck`: those whose engine didn't stop in it, or
--- whose adapter didn't end its reset. The layer that knows the device backs each item.
+-- What the device vouches for in a call.
+-- `faults`: of requests, each named with its bytes by the task file, or by the log page, that was read in the call.
+-- `lost`: ports that had N or X of PxSERR set, or a DET other than 3, when the call began; ports of which a disk went or came in
+-- it; and ports that end it neither dead nor ready with serial and size as when they were last ready.
+-- `gone`: of these, those that had N or X set when the call began, or a DET other than 3 and no disk was put in in the call.
+-- `failed`: ports that had TFES, HBDS, HBFS or IFS in PxIS when the call began, or of which one was read in it.
+-- `stopped`: ports whose CR was read 0 in it after ST was cleared, and those of an adapter that ended its reset in it.
+-- `stuck`: ports whose CR or FR was read 1 as often as a wait may read it, and those of an adapter that didn't end its reset.
+-- A port may be in both of these: stopped first, and stuck later. `faults` and `lost` may name fewer; the others name all. The
+-- layer that knows the device backs each.
 pub record Evidence : Type 0 where
   pub faults : List Fault
   pub lost : List Port
@@ -62,11 +67,12 @@ pub record Evidence : Type 0 where
   pub stopped : List Port
   pub stuck : List Port
 
--- What a call that looks at the port, or boots it, may make of it: a port that is dead after it is stuck; and one that was
+-- What a call that looks at the port, or boots it, may make of it: a port is dead after it where it got stuck; and one that was
 -- ready and isn't lost is dead, or still ready with its disk.
 pub record MayBecome (old : Ports) (evidence : Evidence) (new : Ports) (port : Port) : Type 0 where
   pub served : new.served port ≡ old.served port
   pub stuck : new.state port ≡ Dead → Contains evidence.stuck port
+  pub dies : Contains evidence.stuck port → new.state port ≡ Dead
   pub disk : old.state port ≡ Ready
       → Contains evidence.lost port ⊎ ((new.state port ≡ Dead) ⊎ ((new.state port ≡ Ready) × SameDisk old new port))
 

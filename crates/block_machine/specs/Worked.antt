@@ -11,7 +11,7 @@ use Rattle.block_machine.specs.Due.{IsDue, conflict}
 use Rattle.block_machine.specs.Steps.{Step, Issue, Again, Answer, Unplug, Replace, May, AllTouched}
 use Rattle.block_machine.specs.Left.{after, IsStart, AllTold, HoldsLeft}
 use Rattle.block_machine.specs.Durable.{SameBytes, ComesBack, IsVolatile, IsFlushed}
-use Rattle.block_machine.specs.Events.{Moment, Event, Service, Tick, Reset, Served, WasReset, IsRun, AllHeed, accepts_of, reply_of, steps_of, moment_of}
+use Rattle.block_machine.specs.Events.{Moment, Event, Service, Tick, Reset, Device, Served, WasReset, IsRun, AllHeed, accepts_of, reply_of, steps_of, moment_of}
 
 -- the disk that was last in at the port is put in again after this run, with these bytes
 abbrev pub same_again : Moment → List (Event (Unit {0})) → Port → Disk → Step
@@ -74,7 +74,7 @@ pub record FindsTheFlushed : Type 0 where
   pub lost : (disk : Disk) × MayComeBack first (service ∷ unplug ∷ early) write.port disk × SameBytes (disk (sector_of write 0)) (write.held 0)
 
 -- In a run of calls two requests are unanswered at once: one is issued, and the other waits for it. One call then answers the
--- one and issues the other. The device ends that, and a service then finds it ended and answers it too.
+-- one and issues the other. The device is told to end that, and a service then finds it ended and answers it too.
 pub record WaitsItsTurn : Type 0 where
   pub first : Moment
   pub run : List (Event (Unit {0}))
@@ -98,6 +98,10 @@ pub record WaitsItsTurn : Type 0 where
   pub its : done.request ≡ issued.request
   pub mode : Mode
   pub issues : Contains call.steps (Issue mode waits)
+  pub running : Pending
+  pub issued_too : (moment_of first (call ∷ early)).machine.book ≡ running ∷ []
+  pub not_ended : (running.request ≡ waits.request) × (running.ended ≡ false)
+  pub told_to : ending.ask ≡ Device tt
   pub last : Pending
   pub its_too : last.request ≡ waits.request
   pub alone : (moment_of first (ending ∷ call ∷ early)).machine.book ≡ last ∷ []
@@ -157,7 +161,7 @@ pub record MeetsTrouble : Type 0 where
   pub again : Pending
   pub ended : Pending
   pub book : (moment_of first asked).machine.book ≡ lost ∷ failed ∷ again ∷ ended ∷ []
-  pub issued : (lost.issued ≡ true) × (failed.issued ≡ true) × (again.issued ≡ true)
+  pub issued : (lost.issued ≡ true) × (failed.issued ≡ true) × (again.issued ≡ true) × (ended.issued ≡ true)
   pub had_ended : ended.ended ≡ true
   pub apart : lost.request.port ≢ failed.request.port
   pub together : (again.request.port ≡ failed.request.port) × (ended.request.port ≡ failed.request.port)
@@ -181,7 +185,8 @@ pub record MeetsTrouble : Type 0 where
   pub its : again.request.asked.frames.items ≡ frame ∷ []
   pub freed : (moment_of first (last ∷ fourth ∷ third ∷ service ∷ asked)).machine.lent frame ≡ None
 
--- In a run of calls a request is two ticks old, and ends then. The third tick finds its port hung, and answers it Ok.
+-- In a run of calls a request is two ticks old, and the device is told to end it. The third tick finds its port hung, and answers
+-- the request Ok.
 pub record EndsAtATick : Type 0 where
   pub first : Moment
   pub early : List (Event (Unit {0}))
@@ -189,7 +194,12 @@ pub record EndsAtATick : Type 0 where
   pub tick : Event (Unit {0})
   pub runs : IsRun first (tick ∷ ending ∷ early)
   pub heeds : AllHeed first (tick ∷ ending ∷ early)
+  pub aged : Pending
+  pub old : (moment_of first early).machine.book ≡ aged ∷ []
+  pub not_ended : (aged.ended ≡ false) × (aged.age ≡ 2)
+  pub told_to : ending.ask ≡ Device tt
   pub ended : Pending
+  pub same : ended.request ≡ aged.request
   pub book : (moment_of first (ending ∷ early)).machine.book ≡ ended ∷ []
   pub is_ended : (ended.ended ≡ true) × (ended.age ≡ 2)
   pub ticks : tick.ask ≡ Tick
@@ -223,23 +233,30 @@ pub record GoesAgainInResets : Type 0 where
   pub after_four : (moment_of first (four ∷ three ∷ two ∷ one ∷ asked)).machine.book ≡ turn ∷ []
   pub issues : (turn.request ≡ waits.request) × (turn.issued ≡ true)
 
--- In a run of calls a request is issued on a port that fails, and whose engine doesn't stop in the service that finds this: the
--- request is answered PortDead, and its frame stays lent.
+-- In a run of calls two requests are issued on a port that fails. A service stops it, tells the fault of the one request, and boots
+-- it; it gets stuck in that. So the other request is answered PortDead, and its frame stays lent.
 pub record DiesInAService : Type 0 where
   pub first : Moment
   pub asked : List (Event (Unit {0}))
   pub service : Event (Unit {0})
   pub runs : IsRun first (service ∷ asked)
   pub heeds : AllHeed first (service ∷ asked)
-  pub issued : Pending
-  pub book : (moment_of first asked).machine.book ≡ issued ∷ []
-  pub ready : (moment_of first asked).ports.state issued.request.port ≡ Ready
+  pub failed : Pending
+  pub kept : Pending
+  pub book : (moment_of first asked).machine.book ≡ failed ∷ kept ∷ []
+  pub issued : (failed.issued ≡ true) × (kept.issued ≡ true)
+  pub together : kept.request.port ≡ failed.request.port
+  pub ready : (moment_of first asked).ports.state kept.request.port ≡ Ready
   pub serves : service.ask ≡ Service
-  pub answers : service.said ≡ Served (reply_of (issued, PortDead) ∷ [])
-  pub dies : service.ports.state issued.request.port ≡ Dead
+  pub fails : Contains service.evidence.failed kept.request.port
+  pub stops : Contains service.evidence.stopped kept.request.port
+  pub sticks : Contains service.evidence.stuck kept.request.port
+  pub answers : service.said ≡ Served (reply_of (failed, DeviceError 65 64) ∷ reply_of (kept, PortDead) ∷ [])
+  pub dies : service.ports.state kept.request.port ≡ Dead
+  pub stays : (moment_of first (service ∷ asked)).machine.kept ≡ kept ∷ []
   pub frame : Frame
-  pub its : issued.request.asked.frames.items ≡ frame ∷ []
-  pub lent : (moment_of first (service ∷ asked)).machine.lent frame ≡ Some issued.request.id
+  pub its : kept.request.asked.frames.items ≡ frame ∷ []
+  pub lent : (moment_of first (service ∷ asked)).machine.lent frame ≡ Some kept.request.id
 
 -- The machine without the rule that nothing is issued while a kept request is left on the port.
 abbrev pub LooseMay : Machine → Step → Type 0
