@@ -37,3 +37,5 @@ mod Awaiting
 mod Starting
 mod Faulted
 mod Witnesses
+mod Sparing
+mod Parking

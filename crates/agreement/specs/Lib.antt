@@ -6,3 +6,4 @@ pub mod Follows
 pub mod Driver
 pub mod Witness
 pub mod Facts
+pub mod Spares

@@ -1,5 +1,5 @@
 // Laws of the relation, for the crates above: the clause is the theorem. Nothing calls these functions.
-ghost use Rattle.std.specs.Prelude.{◌≡◌, ◌+◌, ◌*◌, ◌/◌, ◌%◌, ◌<◌, ◌≤◌, ◌∷◌, ◌++◌, ℕ, Bool, true, false, [], List, length, Contains};
+ghost use Rattle.std.specs.Prelude.{◌≡◌, ◌+◌, ◌*◌, ◌/◌, ◌%◌, ◌<◌, ◌≤◌, ◌∷◌, ◌++◌, ℕ, Bool, true, false, [], List, length, map, Some, Contains};
 ghost use Rattle.ata_types.specs.declared.Port.{Port};
 ghost use Rattle.ata_types.specs.declared.request.ClientId.{ClientId};
 ghost use Rattle.ata_types.specs.declared.request.Frame.{Frame};
@@ -19,13 +19,14 @@ ghost use Rattle.block_machine.specs.Events.{IsDevices, AllDevices, AllMay};
 ghost use Rattle.block_machine.specs.Histories.{IsReached, AddsSteps};
 ghost use Rattle.block_machine.specs.Left.{IsStart, after};
 ghost use Rattle.block_machine.specs.Refusals.{IsOpen};
-ghost use Rattle.block_machine.specs.State.{Accepted, Pending, Machine};
-ghost use Rattle.block_machine.specs.Steps.{Step, Accept, Issue, Age, Again, Answer, Release, Store, Load, May, after_step, stays};
+ghost use Rattle.block_machine.specs.State.{Accepted, Pending, Machine, unanswered};
+ghost use Rattle.block_machine.specs.Steps.{Step, Accept, Issue, Age, Again, Answer, Release, Store, Load, May, MayMove, after_step, stays};
 ghost use Rattle.block_machine.specs.declared.due.Mode.{Mode};
-ghost use Rattle.agreement.specs.Agrees.{Agrees, IsDiskOf, SameMemory, SameSectors, AreUnarmed};
+ghost use Rattle.agreement.specs.Agrees.{Agrees, IsDiskOf, SameMemory, SameSectors, AreApart, AreUnarmed};
 ghost use Rattle.agreement.specs.Driver.{MayStore, LeavesUses, LeavesFree, Known, Knows, IsBacked, ByDevice, IsPrepared, IsOwnPrepared, EndsWith, HasNoSlot, Forgets, ForgetsKept, serving, parking, freeing, idle};
 ghost use Rattle.agreement.specs.Follows.{Follows};
 ghost use Rattle.agreement.specs.Places.{list_of, scratch_of};
+ghost use Rattle.agreement.specs.Spares.{IsFurther, AllFurther, SparesBook};
 ghost use Rattle.agreement.specs.Witness.{FirstIsKnown};
 ghost use Rattle.agreement.specs.Slots.{Use, Free, Own, Serves, Uses, put, Told, HasBlock, IsOver};
 
@@ -148,6 +149,23 @@ pub fn parking_agrees()
         → k.uses port slot ≡ Serves id → Knows m (parking k port slot id) }
 {}
 
+/// A slot that is put to another use has it, and every other slot goes on as it was used.
+pub fn putting_is_of_one_slot()
+    ensures here { (uses : Uses) (port slot : ℕ) (u : Use) → put uses port slot u port slot ≡ u }
+    ensures others { (uses : Uses) (port slot : ℕ) (u : Use) (other_port other_slot : ℕ)
+        → (other_port ≡ port → other_slot ≡ slot → ⊥) → put uses port slot u other_port other_slot ≡ uses other_port other_slot }
+{}
+
+/// Once the slot of a request is parked, no slot serves it, and it is among the parked; nor does a slot then serve a request
+/// that none served before.
+pub fn parking_frees()
+    ensures frees { (k : Known) (port slot : ℕ) (id : RequestId) → AreApart k.uses → k.uses port slot ≡ Serves id
+        → HasNoSlot (parking k port slot id).uses id }
+    ensures leaves { (k : Known) (port slot : ℕ) (id other : RequestId) → HasNoSlot k.uses other
+        → HasNoSlot (parking k port slot id).uses other }
+    ensures parks { (k : Known) (port slot : ℕ) (id : RequestId) → Contains ((parking k port slot id).parked port) id }
+{}
+
 /// So is one whose command was the driver's own.
 pub fn own_release_agrees()
     ensures { (k : Known) (m : Machine) → Knows m k → (port slot : ℕ) → IsOver (k.device.port port) slot → (o : Operation)
@@ -209,6 +227,23 @@ pub fn what_is_told_is_left()
 pub fn due_stays()
     ensures { (m : Machine) (steps : List Step) → IsReached m → AllDevices steps → AllMay m steps
         → (mode : Mode) (e : Pending) → May m (Issue mode e) → May (after m steps) (Issue mode e) }
+{}
+
+/// The device's own steps leave the machine's grants and owners, its loans and its next id; and the same requests are unanswered
+/// and kept, in the same order, each as far as it was, or further. So what is due is the same. A frame that isn't lent to a
+/// request that the device may move keeps its bytes.
+pub fn steps_spare_the_book()
+    ensures spares { (m : Machine) (steps : List Step) → AllDevices steps → SparesBook m (after m steps) }
+    ensures none { (m : Machine) → SparesBook m m }
+    ensures more { (a b c : Machine) → SparesBook a b → SparesBook b c → SparesBook a c }
+    ensures due { (old new : List Pending) → AllFurther old new → map unanswered new ≡ map unanswered old }
+    ensures later { (old new : List Pending) (e : Pending) → AllFurther old new → Contains old e
+        → (x : Pending) × Contains new x × IsFurther e x }
+    ensures before { (old new : List Pending) (e : Pending) → AllFurther old new → Contains new e
+        → (x : Pending) × Contains old x × IsFurther x e }
+    ensures frames { (m : Machine) (steps : List Step) (frame : Frame) → IsReached m → AllDevices steps → AllMay m steps
+        → ((e : Pending) → MayMove m e → m.lent frame ≡ Some e.request.id → ⊥)
+        → (b : ℕ) → (after m steps).memory frame b ≡ m.memory frame b }
 {}
 
 /// A history goes on by steps that may come, and so do stretches of them.
