@@ -205,7 +205,7 @@ written_healthy port Vs v d on other h = h
 written_healthy port Cap2 v d on other h = h
 written_healthy port Bohc v d on other h = h
 
-written_tape : (r : Reg) (v : ℕ) (d : Device) → (written r v d).tape ≡ d.tape
+pub written_tape : (r : Reg) (v : ℕ) (d : Device) → (written r v d).tape ≡ d.tape
 written_tape (Px p r) v d = refl
 written_tape adapter.Is v d = refl
 written_tape Cap v d = refl

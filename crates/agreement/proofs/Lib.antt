@@ -39,3 +39,4 @@ mod Faulted
 mod Witnesses
 mod Sparing
 mod Parking
+mod Paging

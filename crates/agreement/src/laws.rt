@@ -1,5 +1,5 @@
 // Laws of the relation, for the crates above: the clause is the theorem. Nothing calls these functions.
-ghost use Rattle.std.specs.Prelude.{◌≡◌, ◌+◌, ◌*◌, ◌/◌, ◌%◌, ◌<◌, ◌≤◌, ◌∷◌, ◌++◌, ℕ, Bool, true, false, [], List, length, map, Some, Contains};
+ghost use Rattle.std.specs.Prelude.{◌≡◌, ◌+◌, ◌*◌, ◌/◌, ◌%◌, ◌<◌, ◌≤◌, ◌∷◌, ◌++◌, ℕ, Bool, true, false, [], List, length, map, None, Some, All, Contains};
 ghost use Rattle.ata_types.specs.declared.Port.{Port};
 ghost use Rattle.ata_types.specs.declared.request.ClientId.{ClientId};
 ghost use Rattle.ata_types.specs.declared.request.Frame.{Frame};
@@ -8,13 +8,14 @@ ghost use Rattle.ata_types.specs.declared.request.RequestId.{RequestId};
 ghost use Rattle.hba_regs.specs.declared.reg.PortReg.TheVariants.{Ci};
 ghost use Rattle.hba_regs.specs.declared.reg.Reg.TheVariants.{Px};
 ghost use Rattle.hba_regs.specs.declared.reg.Reg.{Reg};
-ghost use Rattle.adapter.specs.Access.{Reads, Writes, Loads, Stores};
+ghost use Rattle.adapter.specs.Access.{Access, Does, Reads, Writes, Loads, Stores};
 ghost use Rattle.adapter.specs.Commands.{Meaning};
 ghost use Rattle.adapter.specs.Device.{PortState, Device};
 ghost use Rattle.adapter.specs.Idle.{IsIdle};
 ghost use Rattle.adapter.specs.Rules.{IsFree, IsOn, HasPort, MayWrite, Stays};
 ghost use Rattle.adapter.specs.Steps.{Steps};
 ghost use Rattle.adapter.specs.declared.command.Operation.{Operation};
+ghost use Rattle.adapter.specs.declared.tape.Entry.{Entry};
 ghost use Rattle.block_machine.specs.Events.{IsDevices, AllDevices, AllMay};
 ghost use Rattle.block_machine.specs.Histories.{IsReached, AddsSteps};
 ghost use Rattle.block_machine.specs.Left.{IsStart, after};
@@ -28,7 +29,8 @@ ghost use Rattle.agreement.specs.Follows.{Follows};
 ghost use Rattle.agreement.specs.Places.{list_of, scratch_of};
 ghost use Rattle.agreement.specs.Spares.{IsFurther, AllFurther, SparesBook};
 ghost use Rattle.agreement.specs.Witness.{FirstIsKnown};
-ghost use Rattle.agreement.specs.Slots.{Use, Free, Own, Serves, Uses, put, Told, HasBlock, IsOver};
+ghost use Rattle.agreement.specs.Slots.{Use, Free, Own, Serves, Uses, put, op_of, Told, HasBlock, IsOver, IsMove};
+ghost use Rattle.agreement.specs.Tape.{OneAtMost};
 
 /// Whatever the device does by itself, the machine follows: what the tape gains are steps of the machine that may come, and
 /// the two agree again. So it is while a reset of the adapter is pending, too, and after one that is stuck.
@@ -210,6 +212,23 @@ pub fn waiting_has_no_slot()
 pub fn free_slots_are_left()
     ensures { (uses : Uses) (m : Machine) (old new : Device) → IsReached m → Agrees uses m old → old.hr ≡ false
         → Steps old new → LeavesFree uses old new }
+{}
+
+/// A page comes only where slot 0 of its port has that command of the driver's own, which isn't over; and one at most comes for it,
+/// whatever the device does, also while a reset is pending. So it is over each access.
+pub fn pages_come_when_asked()
+    ensures steps { (uses : Uses) (m : Machine) (old new : Device) (port : ℕ) (o : Operation) (gained : List Entry) → IsReached m
+        → Agrees uses m old → Steps old new → new.tape ≡ old.tape ++ gained → op_of o ≡ None
+        → (uses port 0 ≡ Own o → IsOver (old.port port) 0) → All (λ e. IsMove port o e → ⊥) gained }
+    ensures access { (uses : Uses) (m : Machine) (access : Access) (old new : Device) (port : ℕ) (o : Operation)
+        (gained : List Entry) → IsReached m → Agrees uses m old → Does access old new → new.tape ≡ old.tape ++ gained
+        → op_of o ≡ None → (uses port 0 ≡ Own o → IsOver (old.port port) 0) → All (λ e. IsMove port o e → ⊥) gained }
+    ensures once { (uses : Uses) (m : Machine) (old new : Device) (port : ℕ) (o : Operation) (gained : List Entry) → IsReached m
+        → Agrees uses m old → Steps old new → new.tape ≡ old.tape ++ gained → op_of o ≡ None
+        → OneAtMost (IsMove port o) gained }
+    ensures access_once { (uses : Uses) (m : Machine) (access : Access) (old new : Device) (port : ℕ) (o : Operation)
+        (gained : List Entry) → IsReached m → Agrees uses m old → Does access old new → new.tape ≡ old.tape ++ gained
+        → op_of o ≡ None → OneAtMost (IsMove port o) gained }
 {}
 
 /// So the bytes of a slot that say a command go on saying it, and a trim's block stays where slot 0 has no command of the
