@@ -44,7 +44,7 @@ calm_right port [] late h = h
 calm_right port (e ∷ early) late h = calm_right port early late (All-tail (λ e. IsDisturbance port e → ⊥) e (early ++ late) h)
 
 -- what two parts gained is what the whole did
-gained_parts : (old mid new early late all : List Entry) → mid ≡ old ++ early → new ≡ mid ++ late → new ≡ old ++ all → all ≡ early ++ late
+pub gained_parts : (old mid new early late all : List Entry) → mid ≡ old ++ early → new ≡ mid ++ late → new ≡ old ++ all → all ≡ early ++ late
 gained_parts old mid new early late all a b c =
     append_cancel_left old all (early ++ late) (sym c ∙ b ∙ ap (λ (t : List Entry). t ++ late) a ∙ append_assoc old early late)
 

@@ -40,3 +40,4 @@ mod Witnesses
 mod Sparing
 mod Parking
 mod Paging
+mod Crossing

@@ -1,11 +1,10 @@
 -- The pages that come are those of the driver's own commands, one for each.
-use Rattle.std.proofs.Common.{ℕ, ◌≡◌, ◌⊎◌, ◌<◌, ◌+◌, ◌++◌, false, List, [], ◌∷◌, length, Option, Some, None, refl, sym, ◌∙◌, ap, subst, arith, inl, inr, ⊎_elim, append_assoc, append-nil}
+use Rattle.std.proofs.Common.{ℕ, ◌≡◌, ◌⊎◌, ◌<◌, ◌+◌, ◌++◌, false, List, [], ◌∷◌, length, Option, Some, None, refl, sym, ◌∙◌, ap, subst, arith, inl, inr, ⊎_elim, append-nil}
 use Rattle.std.specs.Prelude.{All}
 use Rattle.std.proofs.lemmas.Bool.{cases_eq}
 use Rattle.std.proofs.lemmas.List.{append_cancel_left}
 use Rattle.std.proofs.lemmas.List.Elements.{All-nil, All-cons, All-append}
 use Rattle.adapter.specs.Access.{Access, Does}
-use Rattle.adapter.specs.Access.Access.{Reading, Writing, Loading, Storing}
 use Rattle.adapter.specs.Commands.{Meaning, is_queued}
 use Rattle.adapter.specs.Device.{Taken, PortState, Device}
 use Rattle.adapter.specs.Kept.{KeepsPort}
@@ -28,10 +27,10 @@ use Rattle.agreement.specs.Follows.{Follows}
 use Rattle.agreement.specs.Places.{scratch_of}
 use Rattle.agreement.specs.Slots.{Use, Free, Own, Serves, Uses, IsMove, OwnWaits, OwnTaken, OwnOver, ServesOwn, IsOver, IsServed, op_of}
 use Rattle.agreement.specs.Tape.{OneAtMost}
-use Rattle.agreement.proofs.Accesses.{noted_tape}
+use Rattle.agreement.proofs.Crossing.{access_steps}
 use Rattle.agreement.proofs.Ending.{own_clear}
 use Rattle.agreement.proofs.Following.{step_follows}
-use Rattle.agreement.proofs.Healthy.{at_port, written_tape}
+use Rattle.agreement.proofs.Healthy.{at_port, gained_parts}
 use Rattle.agreement.proofs.Moving.{TakenAs, taken_as}
 use Rattle.agreement.proofs.Taking.{none_op, own_plain}
 
@@ -212,11 +211,6 @@ module _ (uses : Uses) (port : ℕ) (o : Operation) (own : op_of o ≡ None) whe
   no_pages : NonePages port o []
   no_pages = All-nil (λ e. IsMove port o e → ⊥)
 
-  -- what a list of steps gains is what its first step gained, and then the others
-  parts : (old mid new : Device) (first later gained : List Entry) → mid.tape ≡ old.tape ++ first → new.tape ≡ mid.tape ++ later → new.tape ≡ old.tape ++ gained → gained ≡ first ++ later
-  parts old mid new first later gained a b c =
-      append_cancel_left old.tape gained (first ++ later) (sym c ∙ b ∙ ap (λ (t : List Entry). t ++ later) a ∙ append_assoc old.tape first later)
-
   nothing_gained : (d new : Device) (gained : List Entry) → new ≡ d → new.tape ≡ d.tape ++ gained → gained ≡ []
   nothing_gained d new gained e is = sym (append_cancel_left d.tape [] gained (append-nil d.tape ∙ ap (λ (x : Device). x.tape) (sym e) ∙ is))
 
@@ -226,7 +220,7 @@ module _ (uses : Uses) (port : ℕ) (o : Operation) (own : op_of o ≡ None) whe
   leads_none m (step ∷ steps) old new r a (can, lead) spent gained is =
       let f : Follows uses m old (after step old) = step_follows uses m old step r a can in
       let later = steps_keep (record { steps = steps; lead = lead }) in
-      subst (NonePages port o) (sym (parts old (after step old) new f.gained later.gained gained f.tape later.tape is))
+      subst (NonePages port o) (sym (gained_parts old.tape (after step old).tape new.tape f.gained later.gained gained f.tape later.tape is))
       (All-append (λ e. IsMove port o e → ⊥) f.gained later.gained
       (first f.gained (step_gains uses m old a port o own step can f.gained f.tape))
       (leads_none (left.after m f.steps) steps (after step old) new (reached_more m f.steps r f.may) f.agrees lead (λ u. step_spent uses m old a port o own u step can (spent u)) later.gained later.tape))
@@ -240,7 +234,7 @@ module _ (uses : Uses) (port : ℕ) (o : Operation) (own : op_of o ≡ None) whe
   leads_once m (step ∷ steps) old new r a (can, lead) gained is =
       let f : Follows uses m old (after step old) = step_follows uses m old step r a can in
       let later = steps_keep (record { steps = steps; lead = lead }) in
-      subst (OneAtMost (IsMove port o)) (sym (parts old (after step old) new f.gained later.gained gained f.tape later.tape is))
+      subst (OneAtMost (IsMove port o)) (sym (gained_parts old.tape (after step old).tape new.tape f.gained later.gained gained f.tape later.tape is))
       (first f.gained later.gained (step_gains uses m old a port o own step can f.gained f.tape)
       (λ spent. leads_none (left.after m f.steps) steps (after step old) new (reached_more m f.steps r f.may) f.agrees lead (λ u. spent) later.gained later.tape)
       (leads_once (left.after m f.steps) steps (after step old) new (reached_more m f.steps r f.may) f.agrees lead later.gained later.tape))
@@ -250,13 +244,6 @@ module _ (uses : Uses) (port : ℕ) (o : Operation) (own : op_of o ≡ None) whe
       first entries later (inr (x, e, brings)) none once = subst (λ (l : List Entry). OneAtMost (IsMove port o) (l ++ later)) (sym e) (λ k. none (brings k).spent, once)
 
 -- ---- accesses
-
--- the device's steps in an access, which alone gain entries
-pub access_steps : (access : Access) (old new : Device) → Does access old new → (mid : Device) × Steps old mid × (new.tape ≡ mid.tape)
-access_steps (Reading r v) old new x = (x.mid, x.steps, ap (λ (d : Device). d.tape) x.effect ∙ noted_tape r v x.mid)
-access_steps (Writing r v) old new x = (x.mid, x.steps, ap (λ (d : Device). d.tape) x.effect ∙ written_tape r v x.mid)
-access_steps (Loading at bytes) old new x = (new, x.steps, refl)
-access_steps (Storing at bytes) old new x = (x.mid, x.steps, ap (λ (d : Device). d.tape) x.effect)
 
 pub pages_asked : (uses : Uses) (m : Machine) (old new : Device) (port : ℕ) (o : Operation) (gained : List Entry) → IsReached m → Agrees uses m old → Steps old new → new.tape ≡ old.tape ++ gained → op_of o ≡ None →
     (uses port 0 ≡ Own o → IsOver (old.port port) 0) → All (λ e. IsMove port o e → ⊥) gained

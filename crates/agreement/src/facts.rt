@@ -24,10 +24,14 @@ ghost use Rattle.agreement.specs.Follows.{Follows};
 ghost use Rattle.agreement.specs.Places.{scratch_of};
 ghost use Rattle.agreement.specs.Slots.{Uses, Free, Own, Serves, IsOver};
 
-/// A port that has halted stays so, whatever the device does, also over a reset of the adapter that ends; and an idle port
-/// has halted.
+/// A port that has halted stays so, whatever the device does, also over a reset of the adapter that ends, over readings, and over
+/// each write that may be made and doesn't set its ST; and an idle port has halted.
 pub fn halted_stays()
     ensures steps { (port : ℕ) (old new : Device) → Steps old new → IsHalted (old.port port) → IsHalted (new.port port) }
+    ensures reads { (port : ℕ) (r : Reg) (v : ℕ) (old new : Device) → Reads r v old new → IsHalted (old.port port)
+        → IsHalted (new.port port) }
+    ensures writes { (port : Port) (r : Reg) (v : ℕ) (old new : Device) → Stays (MayWrite r v) old
+        → (r ≡ Px port Cmd → bit v 0 ≡ false) → Writes r v old new → IsHalted (old.port port.0) → IsHalted (new.port port.0) }
     ensures idle { (p : PortState) → IsIdlePort p → IsHalted p }
 {}
 
@@ -38,13 +42,19 @@ pub fn stop_is_found()
         → IsHalted (new.port port.0) }
 {}
 
-/// While a reset of the adapter is pending, HR is read 0: each port is as a reset leaves it, and the machine follows.
+/// While a reset of the adapter is pending, HR is read 0: each port is as a reset leaves it, and the machine follows. So a port
+/// stays, whatever the device does, over readings, and over each write that may be made and sets neither its ST nor its FRE.
 pub fn reset_is_found()
     ensures reset { (v : ℕ) (old new : Device) → old.hr ≡ true → Reads Ghc v old new → bit v 0 ≡ false
         → (port : ℕ) → IsReset (new.port port) }
     ensures follows { (uses : Uses) (m : Machine) (v : ℕ) (old new : Device) → IsReached m → Agrees uses m old
         → Reads Ghc v old new → Follows uses m old new }
     ensures stays { (port : ℕ) (old new : Device) → Steps old new → IsReset (old.port port) → IsReset (new.port port) }
+    ensures reads { (port : ℕ) (r : Reg) (v : ℕ) (old new : Device) → Reads r v old new → IsReset (old.port port)
+        → IsReset (new.port port) }
+    ensures writes { (port : Port) (r : Reg) (v : ℕ) (old new : Device) → Stays (MayWrite r v) old
+        → (r ≡ Px port Cmd → (bit v 0 ≡ false) × (bit v 4 ≡ false)) → Writes r v old new → IsReset (old.port port.0)
+        → IsReset (new.port port.0) }
     ensures idle { (p : PortState) → IsIdlePort p → IsReset p }
 {}
 
@@ -134,17 +144,22 @@ pub fn link_is_awaited()
 {}
 
 /// A port is quiet, so that ST may be set and faults go on to be recorded: PxIS is written with TFES while the engine stands,
-/// TFD is read without DRQ, and then it stays so, whatever the device does.
+/// TFD is read without DRQ, and then it stays so, whatever the device does, over readings, and over writes that neither set its ST
+/// nor send COMRESET on it.
 pub fn quiet_is_found()
     ensures cleared { (port : Port) (v : ℕ) (old new : Device) → (old.port port.0).cr ≡ false → bit v 30 ≡ true
         → Writes (Px port Is) v old new → IsUnflagged (new.port port.0) }
     ensures reads { (port : ℕ) (r : Reg) (v : ℕ) (old new : Device) → Reads r v old new → IsUnflagged (old.port port)
         → IsUnflagged (new.port port) }
-    ensures writes { (port : ℕ) (r : Reg) (v : ℕ) (old new : Device) → ((p : Port) → r ≡ Px p Cmd → bit v 0 ≡ false)
-        → Writes r v old new → IsUnflagged (old.port port) → IsUnflagged (new.port port) }
+    ensures writes { (port : Port) (r : Reg) (v : ℕ) (old new : Device) → (r ≡ Px port Cmd → bit v 0 ≡ false)
+        → Writes r v old new → IsUnflagged (old.port port.0) → IsUnflagged (new.port port.0) }
     ensures found { (port : Port) (v : ℕ) (old new : Device) → IsAwaited (old.port port.0) → IsUnflagged (old.port port.0)
         → Reads (Px port Tfd) v old new → bit v 3 ≡ false → IsQuiet (new.port port.0) }
     ensures stays { (port : ℕ) (old new : Device) → Steps old new → IsQuiet (old.port port) → IsQuiet (new.port port) }
+    ensures stays_read { (port : ℕ) (r : Reg) (v : ℕ) (old new : Device) → Reads r v old new → IsQuiet (old.port port)
+        → IsQuiet (new.port port) }
+    ensures stays_written { (port : Port) (r : Reg) (v : ℕ) (old new : Device) → (r ≡ Px port Cmd → bit v 0 ≡ false)
+        → (r ≡ Px port Sctl → v % 16 ≢ 1) → Writes r v old new → IsQuiet (old.port port.0) → IsQuiet (new.port port.0) }
     ensures exists { IsQuiet (first_read.port 1) }
 {}
 

@@ -5,7 +5,8 @@ ghost use Rattle.ata_types.specs.declared.request.ClientId.{ClientId};
 ghost use Rattle.ata_types.specs.declared.request.Frame.{Frame};
 ghost use Rattle.ata_types.specs.declared.request.Outcome.{Outcome};
 ghost use Rattle.ata_types.specs.declared.request.RequestId.{RequestId};
-ghost use Rattle.hba_regs.specs.declared.reg.PortReg.TheVariants.{Ci};
+ghost use Rattle.hba_regs.specs.Bits.{bit};
+ghost use Rattle.hba_regs.specs.declared.reg.PortReg.TheVariants.{Ci, Sact};
 ghost use Rattle.hba_regs.specs.declared.reg.Reg.TheVariants.{Px};
 ghost use Rattle.hba_regs.specs.declared.reg.Reg.{Reg};
 ghost use Rattle.adapter.specs.Access.{Access, Does, Reads, Writes, Loads, Stores};
@@ -280,10 +281,16 @@ pub fn prepared_stays()
         → IsPrepared uses m old port slot mode e v → IsPrepared uses (after m f.steps) new port slot mode e v }
 {}
 
-/// A free slot without a bit of PxSACT has none later; so it is where a slot is given up, and where one is put to use.
+/// A free slot without a bit of PxSACT has none later; so it is over readings, and over writes, but for one of PxSACT with a bit of
+/// a free slot; and so it is where a slot is given up, and where one is put to use.
 pub fn unarmed_stays()
     ensures device { (uses : Uses) (old new : Device) (port : ℕ) → Steps old new → AreUnarmed uses (old.port port) port
         → AreUnarmed uses (new.port port) port }
+    ensures reads { (uses : Uses) (port : ℕ) (r : Reg) (v : ℕ) (old new : Device) → Reads r v old new
+        → AreUnarmed uses (old.port port) port → AreUnarmed uses (new.port port) port }
+    ensures writes { (uses : Uses) (port : Port) (r : Reg) (v : ℕ) (old new : Device)
+        → (r ≡ Px port Sact → (slot : ℕ) → uses port.0 slot ≡ Free → bit v slot ≡ false) → Writes r v old new
+        → AreUnarmed uses (old.port port.0) port.0 → AreUnarmed uses (new.port port.0) port.0 }
     ensures given_up { (uses : Uses) (m : Machine) (d : Device) (port slot : ℕ) → Agrees uses m d → IsOver (d.port port) slot
         → AreUnarmed uses (d.port port) port → AreUnarmed (put uses port slot Free) (d.port port) port }
     ensures used { (uses : Uses) (p : PortState) (port slot : ℕ) (v : Use) → (v ≡ Free → ⊥) → AreUnarmed uses p port

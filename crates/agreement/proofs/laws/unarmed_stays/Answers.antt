@@ -1,4 +1,4 @@
-use Rattle.agreement.proofs.Unarmed.{unarmed_stays, giving_up_unarmed, putting_unarmed}
+use Rattle.agreement.proofs.Unarmed.{unarmed_stays, unarmed_reads, unarmed_writes, giving_up_unarmed, putting_unarmed}
 use Rattle.agreement.proofs.laws.unarmed_stays.Goals as goal
 
 pub returns-clause-device : goal.returns-clause-device
@@ -9,3 +9,9 @@ returns-clause-given_up c = giving_up_unarmed
 
 pub returns-clause-used : goal.returns-clause-used
 returns-clause-used c = putting_unarmed
+
+pub returns-clause-reads : goal.returns-clause-reads
+returns-clause-reads c = unarmed_reads
+
+pub returns-clause-writes : goal.returns-clause-writes
+returns-clause-writes c = unarmed_writes
