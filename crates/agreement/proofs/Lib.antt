@@ -41,3 +41,5 @@ mod Sparing
 mod Parking
 mod Paging
 mod Crossing
+mod Gaining
+mod Linking

@@ -30,7 +30,8 @@ use Rattle.agreement.specs.Tape.{OneAtMost}
 use Rattle.agreement.proofs.Crossing.{access_steps}
 use Rattle.agreement.proofs.Ending.{own_clear}
 use Rattle.agreement.proofs.Following.{step_follows}
-use Rattle.agreement.proofs.Healthy.{at_port, gained_parts}
+use Rattle.agreement.proofs.Gaining.{NoneOf, gained_parts}
+use Rattle.agreement.proofs.Healthy.{at_port}
 use Rattle.agreement.proofs.Moving.{TakenAs, taken_as}
 use Rattle.agreement.proofs.Taking.{none_op, own_plain}
 
@@ -203,31 +204,27 @@ module _ (uses : Uses) (m : Machine) (d : Device) (a : Agrees uses m d) (port : 
 
 -- ---- lists of steps
 
--- no such entry
-abbrev NonePages : ℕ → Operation → List Entry → Type 0
-NonePages port o entries = All (λ e. IsMove port o e → ⊥) entries
-
 module _ (uses : Uses) (port : ℕ) (o : Operation) (own : op_of o ≡ None) where
-  no_pages : NonePages port o []
+  no_pages : NoneOf (IsMove port o) []
   no_pages = All-nil (λ e. IsMove port o e → ⊥)
 
   nothing_gained : (d new : Device) (gained : List Entry) → new ≡ d → new.tape ≡ d.tape ++ gained → gained ≡ []
   nothing_gained d new gained e is = sym (append_cancel_left d.tape [] gained (append-nil d.tape ∙ ap (λ (x : Device). x.tape) (sym e) ∙ is))
 
   leads_none : (m : Machine) (steps : List steps.Step) (old new : Device) → IsReached m → Agrees uses m old → Leads steps old new → (uses port 0 ≡ Own o → IsSpent (old.port port)) → (gained : List Entry) → new.tape ≡ old.tape ++ gained →
-      NonePages port o gained
-  leads_none m [] old new r a e spent gained is = subst (NonePages port o) (sym (nothing_gained old new gained e is)) no_pages
+      NoneOf (IsMove port o) gained
+  leads_none m [] old new r a e spent gained is = subst (NoneOf (IsMove port o)) (sym (nothing_gained old new gained e is)) no_pages
   leads_none m (step ∷ steps) old new r a (can, lead) spent gained is =
       let f : Follows uses m old (after step old) = step_follows uses m old step r a can in
       let later = steps_keep (record { steps = steps; lead = lead }) in
-      subst (NonePages port o) (sym (gained_parts old.tape (after step old).tape new.tape f.gained later.gained gained f.tape later.tape is))
+      subst (NoneOf (IsMove port o)) (sym (gained_parts old.tape (after step old).tape new.tape f.gained later.gained gained f.tape later.tape is))
       (All-append (λ e. IsMove port o e → ⊥) f.gained later.gained
       (first f.gained (step_gains uses m old a port o own step can f.gained f.tape))
       (leads_none (left.after m f.steps) steps (after step old) new (reached_more m f.steps r f.may) f.agrees lead (λ u. step_spent uses m old a port o own u step can (spent u)) later.gained later.tape))
     where
-      first : (entries : List Entry) → Gains uses m old a port o own (after step old) entries → NonePages port o entries
-      first entries (inl e) = subst (NonePages port o) (sym e) no_pages
-      first entries (inr (x, e, brings)) = subst (NonePages port o) (sym e) (All-cons (λ y. IsMove port o y → ⊥) x [] (λ k. let b = brings k in b.unspent (spent b.asked)) no_pages)
+      first : (entries : List Entry) → Gains uses m old a port o own (after step old) entries → NoneOf (IsMove port o) entries
+      first entries (inl e) = subst (NoneOf (IsMove port o)) (sym e) no_pages
+      first entries (inr (x, e, brings)) = subst (NoneOf (IsMove port o)) (sym e) (All-cons (λ y. IsMove port o y → ⊥) x [] (λ k. let b = brings k in b.unspent (spent b.asked)) no_pages)
 
   leads_once : (m : Machine) (steps : List steps.Step) (old new : Device) → IsReached m → Agrees uses m old → Leads steps old new → (gained : List Entry) → new.tape ≡ old.tape ++ gained → OneAtMost (IsMove port o) gained
   leads_once m [] old new r a e gained is = subst (OneAtMost (IsMove port o)) (sym (nothing_gained old new gained e is)) tt
@@ -239,7 +236,7 @@ module _ (uses : Uses) (port : ℕ) (o : Operation) (own : op_of o ≡ None) whe
       (λ spent. leads_none (left.after m f.steps) steps (after step old) new (reached_more m f.steps r f.may) f.agrees lead (λ u. spent) later.gained later.tape)
       (leads_once (left.after m f.steps) steps (after step old) new (reached_more m f.steps r f.may) f.agrees lead later.gained later.tape))
     where
-      first : (entries later : List Entry) → Gains uses m old a port o own (after step old) entries → (IsSpent ((after step old).port port) → NonePages port o later) → OneAtMost (IsMove port o) later → OneAtMost (IsMove port o) (entries ++ later)
+      first : (entries later : List Entry) → Gains uses m old a port o own (after step old) entries → (IsSpent ((after step old).port port) → NoneOf (IsMove port o) later) → OneAtMost (IsMove port o) later → OneAtMost (IsMove port o) (entries ++ later)
       first entries later (inl e) none once = subst (λ (l : List Entry). OneAtMost (IsMove port o) (l ++ later)) (sym e) once
       first entries later (inr (x, e, brings)) none once = subst (λ (l : List Entry). OneAtMost (IsMove port o) (l ++ later)) (sym e) (λ k. none (brings k).spent, once)
 

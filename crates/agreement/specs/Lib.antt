@@ -7,3 +7,4 @@ pub mod Driver
 pub mod Witness
 pub mod Facts
 pub mod Spares
+pub mod Links

@@ -7,7 +7,7 @@ ghost use Rattle.hba_regs.specs.Bits.{bit};
 ghost use Rattle.hba_regs.specs.declared.reg.Reg.{Reg};
 ghost use Rattle.hba_regs.specs.declared.reg.Reg.TheVariants.{Ghc, Px};
 ghost use Rattle.hba_regs.specs.declared.reg.PortReg.TheVariants.{Is, Cmd, Tfd, Sctl, Ci, Sact};
-ghost use Rattle.adapter.specs.Access.{Reads, Writes, Loads};
+ghost use Rattle.adapter.specs.Access.{Access, Does, Reads, Writes, Loads};
 ghost use Rattle.adapter.specs.Device.{Device, PortState};
 ghost use Rattle.adapter.specs.Device.Halt.{HaltedPlain};
 ghost use Rattle.adapter.specs.FirstRead.{first_read};
@@ -21,6 +21,7 @@ ghost use Rattle.block_machine.specs.State.{Machine};
 ghost use Rattle.agreement.specs.Agrees.{Agrees};
 ghost use Rattle.agreement.specs.Facts.{IsHalted, IsReset, Finds, FindsPage, IsStill, AreOver, IsHealthy, Undisturbed, IsFaulted, ShowsFault, HasFaults, IsRecorded, IsAwaited, IsUnflagged, IsQuiet, KeepsRecord};
 ghost use Rattle.agreement.specs.Follows.{Follows};
+ghost use Rattle.agreement.specs.Links.{SparesRegister, LeavesControls, PlugsNone, SameDisk, LeavesLink};
 ghost use Rattle.agreement.specs.Places.{scratch_of};
 ghost use Rattle.agreement.specs.Slots.{Uses, Free, Own, Serves, IsOver};
 
@@ -114,6 +115,41 @@ pub fn calm_composes()
     ensures more { (port : ℕ) (old mid new : Device) → Undisturbed port old mid → Undisturbed port mid new → Undisturbed port old new }
     ensures parts { (port : ℕ) (old mid new : Device) (early late : List Entry) → mid.tape ≡ old.tape ++ early
         → new.tape ≡ mid.tape ++ late → Undisturbed port old new → Undisturbed port old mid × Undisturbed port mid new }
+{}
+
+/// While no reset is pending, what the driver has written of a port's controls stays over each access but a write of the register: ST
+/// and FRE, and when ST was set; DET of PxSCTL, and when it was written; and the addresses.
+pub fn controls_stay()
+    ensures { (port : Port) (access : Access) (old new : Device) → old.hr ≡ false → Does access old new
+        → LeavesControls access port (old.port port.0) (new.port port.0) }
+{}
+
+/// Where the tape tells of no disk of the port that goes or comes in two parts of a call, it tells of none in the whole, and the other
+/// way round; where nothing goes wrong, it tells of none either.
+pub fn plugging_composes()
+    ensures none { (port : ℕ) (d : Device) → PlugsNone port d d }
+    ensures more { (port : ℕ) (old mid new : Device) → PlugsNone port old mid → PlugsNone port mid new → PlugsNone port old new }
+    ensures parts { (port : ℕ) (old mid new : Device) (early late : List Entry) → mid.tape ≡ old.tape ++ early
+        → new.tape ≡ mid.tape ++ late → PlugsNone port old new → PlugsNone port old mid × PlugsNone port mid new }
+    ensures calm { (port : ℕ) (old new : Device) → Undisturbed port old new → PlugsNone port old new }
+{}
+
+/// Where the tape tells of no disk of the port that goes or comes, the same disk is in, or out, whatever else the device does, also
+/// over a reset of the adapter that ends, and over each access.
+pub fn disk_stays()
+    ensures steps { (port : ℕ) (old new : Device) → Steps old new → PlugsNone port old new
+        → SameDisk (old.port port) (new.port port) }
+    ensures access { (port : ℕ) (access : Access) (old new : Device) → Does access old new → PlugsNone port old new
+        → SameDisk (old.port port) (new.port port) }
+{}
+
+/// Where no disk of the port goes or comes either, and no reset is pending, the port's link stays as it was, or one that was due has
+/// come up: whatever the device does, and over each access but a write of PxSCTL.
+pub fn link_stays()
+    ensures steps { (port : ℕ) (old new : Device) → old.hr ≡ false → Steps old new → PlugsNone port old new
+        → LeavesLink (old.port port) (new.port port) }
+    ensures access { (port : Port) (access : Access) (old new : Device) → old.hr ≡ false → SparesRegister (Px port Sctl) access
+        → Does access old new → PlugsNone port.0 old new → LeavesLink (old.port port.0) (new.port port.0) }
 {}
 
 /// The faults of a port since its ST was set stand on the tape, and the task file shows the last one: so it stays, whatever the
