@@ -29,9 +29,6 @@ use Rattle.agreement.proofs.Gaining.{NoneOf, gains_nothing, gains_more, gains_pa
 
 -- ---- lists of entries
 
-abbrev IsCalm : ℕ → List Entry → Type 0
-IsCalm port entries = NoneOf (IsDisturbance port) entries
-
 pub undisturbed_none : (port : ℕ) (d : Device) → Undisturbed port d d
 undisturbed_none port d = let g = gains_nothing (IsDisturbance port) d in record { gained = g.0; tape = g.1; calm = g.2 }
 
@@ -81,7 +78,7 @@ healthy_with : (p : PortState) (bases : Bases) (fre fr : Bool) (taken : ℕ → 
 healthy_with p bases fre fr taken ci sact tfd disk notes h =
     healthy_flagged p bases fre fr taken ci sact p.is tfd disk p.serr_n p.serr_x p.halt notes h.running h.serr_n h.serr_x h.quiet h
 
-module _ (port : ℕ) (d : Device) (gained : List Entry) (calm : IsCalm port gained) (h : IsHealthy (d.port port)) where
+module _ (port : ℕ) (d : Device) (gained : List Entry) (calm : NoneOf (IsDisturbance port) gained) (h : IsHealthy (d.port port)) where
   -- no place of an error is one of a command's end
   no_error : (flag place : ℕ) → (flag ≡ 0) ⊎ (flag ≡ 1) ⊎ (flag ≡ 3) → 27 ≤ place → place ≡ flag → ⊥
   no_error flag place (inl z) low e = omega (arith, z, low, e)

@@ -43,3 +43,4 @@ mod Paging
 mod Crossing
 mod Gaining
 mod Linking
+mod Telling

@@ -204,7 +204,7 @@ written_link first Ci v tape p other h = link_on first p _ refl refl refl refl r
 written_link first _ v tape p other h = h
 
 -- a write of the port's register is of another one
-spared : (port : Port) (r q : PortReg) (access : Access) (v : ℕ) → SparesRegister (Px port q) access → access ≡ Writing (Px port r) v → r ≢ q
+pub spared : (port : Port) (r q : PortReg) (access : Access) (v : ℕ) → SparesRegister (Px port q) access → access ≡ Writing (Px port r) v → r ≢ q
 spared port r q access v spares is e = subst (SparesRegister (Px port q)) is spares (ap (Px port) e)
 
 pub access_link : (port : Port) (access : Access) (old new : Device) → old.hr ≡ false → SparesRegister (Px port Sctl) access → Does access old new → PlugsNone port.0 old new → LeavesLink (old.port port.0) (new.port port.0)

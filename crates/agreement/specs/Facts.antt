@@ -113,6 +113,11 @@ pub record Undisturbed (port : ℕ) (old new : Device) : Type 0 where
   pub tape : new.tape ≡ old.tape ++ gained
   pub calm : All (λ e. IsDisturbance port e → ⊥) gained
 
+-- no flag of the port tells of one: neither N of PxSERR nor IFS, HBDS, HBFS or TFES of PxIS
+pub record IsCalm (p : PortState) : Type 0 where
+  pub serr_n : p.serr_n ≡ false
+  pub quiet : (place : ℕ) → 27 ≤ place → place ≤ 30 → p.is place ≡ false
+
 -- ---- faults since ST was set
 
 -- a fault has halted the port, by a plain or by a queued command

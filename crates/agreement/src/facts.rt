@@ -6,7 +6,7 @@ ghost use Rattle.ata_types.specs.declared.request.RequestId.{RequestId};
 ghost use Rattle.hba_regs.specs.Bits.{bit};
 ghost use Rattle.hba_regs.specs.declared.reg.Reg.{Reg};
 ghost use Rattle.hba_regs.specs.declared.reg.Reg.TheVariants.{Ghc, Px};
-ghost use Rattle.hba_regs.specs.declared.reg.PortReg.TheVariants.{Is, Cmd, Tfd, Sctl, Ci, Sact};
+ghost use Rattle.hba_regs.specs.declared.reg.PortReg.TheVariants.{Is, Cmd, Tfd, Sctl, Serr, Ci, Sact};
 ghost use Rattle.adapter.specs.Access.{Access, Does, Reads, Writes, Loads};
 ghost use Rattle.adapter.specs.Device.{Device, PortState};
 ghost use Rattle.adapter.specs.Device.Halt.{HaltedPlain};
@@ -19,7 +19,7 @@ ghost use Rattle.adapter.specs.declared.tape.Entry.{Entry};
 ghost use Rattle.block_machine.specs.Histories.{IsReached, AddsSteps};
 ghost use Rattle.block_machine.specs.State.{Machine};
 ghost use Rattle.agreement.specs.Agrees.{Agrees};
-ghost use Rattle.agreement.specs.Facts.{IsHalted, IsReset, Finds, FindsPage, IsStill, AreOver, IsHealthy, Undisturbed, IsFaulted, ShowsFault, HasFaults, IsRecorded, IsAwaited, IsUnflagged, IsQuiet, KeepsRecord};
+ghost use Rattle.agreement.specs.Facts.{IsHalted, IsReset, Finds, FindsPage, IsStill, AreOver, IsHealthy, Undisturbed, IsCalm, IsFaulted, ShowsFault, HasFaults, IsRecorded, IsAwaited, IsUnflagged, IsQuiet, KeepsRecord};
 ghost use Rattle.agreement.specs.Follows.{Follows};
 ghost use Rattle.agreement.specs.Links.{SparesRegister, LeavesControls, PlugsNone, SameDisk, LeavesLink};
 ghost use Rattle.agreement.specs.Places.{scratch_of};
@@ -132,6 +132,31 @@ pub fn plugging_composes()
     ensures parts { (port : ℕ) (old mid new : Device) (early late : List Entry) → mid.tape ≡ old.tape ++ early
         → new.tape ≡ mid.tape ++ late → PlugsNone port old new → PlugsNone port old mid × PlugsNone port mid new }
     ensures calm { (port : ℕ) (old new : Device) → Undisturbed port old new → PlugsNone port old new }
+{}
+
+/// While no reset is pending, N of PxSERR tells each disk that goes or comes, until PxSERR is written: where it is read 0, or is 0 after
+/// the device's steps or an access, no disk of the port went or came, and it was 0 before.
+pub fn plugging_is_found()
+    ensures steps { (port : ℕ) (old new : Device) → old.hr ≡ false → Steps old new → (new.port port).serr_n ≡ false
+        → PlugsNone port old new }
+    ensures access { (port : Port) (access : Access) (old new : Device) → old.hr ≡ false
+        → SparesRegister (Px port Serr) access → Does access old new → (new.port port.0).serr_n ≡ false
+        → ((old.port port.0).serr_n ≡ false) × PlugsNone port.0 old new }
+    ensures read { (port : Port) (v : ℕ) (old new : Device) → old.hr ≡ false → Reads (Px port Serr) v old new
+        → bit v 16 ≡ false → ((new.port port.0).serr_n ≡ false) × PlugsNone port.0 old new }
+{}
+
+/// And so a calm port tells that nothing went wrong, until PxSERR or PxIS is written: where PxIS is read with none of the flags, or the
+/// port is calm after the device's steps or an access, nothing has gone wrong, and it was calm before.
+pub fn calm_is_found()
+    ensures steps { (port : ℕ) (old new : Device) → old.hr ≡ false → Steps old new → IsCalm (new.port port)
+        → Undisturbed port old new }
+    ensures access { (port : Port) (access : Access) (old new : Device) → old.hr ≡ false
+        → SparesRegister (Px port Serr) access → SparesRegister (Px port Is) access → Does access old new
+        → IsCalm (new.port port.0) → IsCalm (old.port port.0) × Undisturbed port.0 old new }
+    ensures read { (port : Port) (v : ℕ) (old new : Device) → old.hr ≡ false → Reads (Px port Is) v old new
+        → bit v 22 ≡ false → ((place : ℕ) → 27 ≤ place → place ≤ 30 → bit v place ≡ false)
+        → IsCalm (new.port port.0) × Undisturbed port.0 old new }
 {}
 
 /// Where the tape tells of no disk of the port that goes or comes, the same disk is in, or out, whatever else the device does, also
