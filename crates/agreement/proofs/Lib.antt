@@ -44,3 +44,4 @@ mod Crossing
 mod Gaining
 mod Linking
 mod Telling
+mod Lasting

@@ -1,4 +1,4 @@
--- What the device and accesses leave of a port's controls, of its disk and of its link (this project's own).
+-- What the device and accesses leave of the adapter, of a port's controls, of its disk and of its link (this project's own).
 use Rattle.std.specs.Prelude.{ℕ, true, false, ◌≡◌, ◌≢◌, ◌⊎◌, ◌++◌, List, All}
 use Rattle.ata_types.specs.declared.Port.{Port}
 use Rattle.hba_regs.specs.declared.reg.Reg.{Reg}
@@ -14,6 +14,15 @@ use Rattle.adapter.specs.declared.tape.Entry.TheVariants as entry
 abbrev pub SparesRegister : Reg → Access → Type 0
 SparesRegister r (Writing other v) = other ≢ r
 SparesRegister r access = Unit {0}
+
+-- ---- the adapter
+
+-- the same memory, capabilities and ports, and disks that tell their sectors as they did
+pub record SameAdapter (old new : Device) : Type 0 where
+  pub telling : new.telling ≡ old.telling
+  pub size : new.size ≡ old.size
+  pub cap : new.cap ≡ old.cap
+  pub pi : new.pi ≡ old.pi
 
 -- ---- what the driver has written
 

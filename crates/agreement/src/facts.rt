@@ -7,12 +7,13 @@ ghost use Rattle.hba_regs.specs.Bits.{bit};
 ghost use Rattle.hba_regs.specs.declared.reg.Reg.{Reg};
 ghost use Rattle.hba_regs.specs.declared.reg.Reg.TheVariants.{Ghc, Px};
 ghost use Rattle.hba_regs.specs.declared.reg.PortReg.TheVariants.{Is, Cmd, Tfd, Sctl, Serr, Ci, Sact};
+ghost use Rattle.adapter.specs.Access.Access.{Writing};
 ghost use Rattle.adapter.specs.Access.{Access, Does, Reads, Writes, Loads};
 ghost use Rattle.adapter.specs.Device.{Device, PortState};
 ghost use Rattle.adapter.specs.Device.Halt.{HaltedPlain};
 ghost use Rattle.adapter.specs.FirstRead.{first_read};
 ghost use Rattle.adapter.specs.Idle.{IsIdle, IsIdlePort};
-ghost use Rattle.adapter.specs.Rules.{IsFree, MayWrite, Stays};
+ghost use Rattle.adapter.specs.Rules.{IsFree, IsOn, MayWrite, Stays};
 ghost use Rattle.adapter.specs.Steps.{Steps};
 ghost use Rattle.adapter.specs.declared.command.Operation.{Operation};
 ghost use Rattle.adapter.specs.declared.tape.Entry.{Entry};
@@ -21,7 +22,7 @@ ghost use Rattle.block_machine.specs.State.{Machine};
 ghost use Rattle.agreement.specs.Agrees.{Agrees};
 ghost use Rattle.agreement.specs.Facts.{IsHalted, IsReset, Finds, FindsPage, IsStill, AreOver, IsHealthy, Undisturbed, IsCalm, IsFaulted, ShowsFault, HasFaults, IsRecorded, IsAwaited, IsUnflagged, IsQuiet, KeepsRecord};
 ghost use Rattle.agreement.specs.Follows.{Follows};
-ghost use Rattle.agreement.specs.Links.{SparesRegister, LeavesControls, PlugsNone, SameDisk, LeavesLink};
+ghost use Rattle.agreement.specs.Links.{SparesRegister, SameAdapter, LeavesControls, PlugsNone, SameDisk, LeavesLink};
 ghost use Rattle.agreement.specs.Places.{scratch_of};
 ghost use Rattle.agreement.specs.Slots.{Uses, Free, Own, Serves, IsOver};
 
@@ -115,6 +116,14 @@ pub fn calm_composes()
     ensures more { (port : ℕ) (old mid new : Device) → Undisturbed port old mid → Undisturbed port mid new → Undisturbed port old new }
     ensures parts { (port : ℕ) (old mid new : Device) (early late : List Entry) → mid.tape ≡ old.tape ++ early
         → new.tape ≡ mid.tape ++ late → Undisturbed port old new → Undisturbed port old mid × Undisturbed port mid new }
+{}
+
+/// What the adapter is stays over each access: its memory's size, its capabilities and its ports. One that is switched on, with no reset
+/// pending, stays so over each access but a write of GHC that clears AE or sets HR.
+pub fn adapter_stays()
+    ensures same { (access : Access) (old new : Device) → Does access old new → SameAdapter old new }
+    ensures on { (access : Access) (old new : Device) → IsOn old
+        → ((v : ℕ) → access ≡ Writing Ghc v → (bit v 31 ≡ true) × (bit v 0 ≡ false)) → Does access old new → IsOn new }
 {}
 
 /// While no reset is pending, what the driver has written of a port's controls stays over each access but a write of the register: ST
