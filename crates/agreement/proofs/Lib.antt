@@ -45,3 +45,4 @@ mod Gaining
 mod Linking
 mod Telling
 mod Lasting
+mod Finished

@@ -17,10 +17,13 @@ ghost use Rattle.adapter.specs.Rules.{IsFree, IsOn, MayWrite, Stays};
 ghost use Rattle.adapter.specs.Steps.{Steps};
 ghost use Rattle.adapter.specs.declared.command.Operation.{Operation};
 ghost use Rattle.adapter.specs.declared.tape.Entry.{Entry};
+ghost use Rattle.block_machine.specs.Events.{AllDevices};
 ghost use Rattle.block_machine.specs.Histories.{IsReached, AddsSteps};
+ghost use Rattle.block_machine.specs.Left.{after};
 ghost use Rattle.block_machine.specs.State.{Machine};
+ghost use Rattle.block_machine.specs.Steps.{Step};
 ghost use Rattle.agreement.specs.Agrees.{Agrees};
-ghost use Rattle.agreement.specs.Facts.{IsHalted, IsReset, Finds, FindsPage, IsStill, AreOver, IsHealthy, Undisturbed, IsCalm, IsFaulted, ShowsFault, HasFaults, IsRecorded, IsAwaited, IsUnflagged, IsQuiet, KeepsRecord};
+ghost use Rattle.agreement.specs.Facts.{IsHalted, IsReset, EndedIn, IsClear, Finds, FindsPage, IsStill, AreOver, IsHealthy, Undisturbed, IsCalm, IsFaulted, ShowsFault, HasFaults, IsRecorded, IsAwaited, IsUnflagged, IsQuiet, KeepsRecord};
 ghost use Rattle.agreement.specs.Follows.{Follows};
 ghost use Rattle.agreement.specs.Links.{SparesRegister, SameAdapter, LeavesControls, PlugsNone, SameDisk, LeavesLink};
 ghost use Rattle.agreement.specs.Places.{scratch_of};
@@ -68,6 +71,24 @@ pub fn done_is_found()
     ensures adds { (uses : Uses) (port : Port) (ci sact : ℕ) (old mid new : Device) → old.hr ≡ false → (old.port port.0).st ≡ true
         → Reads (Px port Ci) ci old mid → Reads (Px port Sact) sact mid new
         → AddsSteps (Agrees uses) old new (λ m steps. (found : Finds uses m port ci sact old new) × (steps ≡ found.follows.steps)) }
+{}
+
+/// A slot's command that is over stays so, and so do its clear bits, whatever the device does, and over each access that doesn't write
+/// the slot's bit of PxCI or PxSACT; and a request that was ended stays so over the device's own steps.
+pub fn over_stays()
+    ensures over { (port slot : ℕ) (old new : Device) → Steps old new → IsOver (old.port port) slot
+        → IsOver (new.port port) slot }
+    ensures over_access { (port : Port) (slot : ℕ) (access : Access) (old new : Device)
+        → ((v : ℕ) → access ≡ Writing (Px port Ci) v → bit v slot ≡ false) → Does access old new
+        → IsOver (old.port port.0) slot → IsOver (new.port port.0) slot }
+    ensures clear { (port slot : ℕ) (old new : Device) → Steps old new → IsClear (old.port port) slot
+        → IsClear (new.port port) slot }
+    ensures clear_access { (port : Port) (slot : ℕ) (access : Access) (old new : Device)
+        → ((v : ℕ) → access ≡ Writing (Px port Ci) v → bit v slot ≡ false)
+        → ((v : ℕ) → access ≡ Writing (Px port Sact) v → bit v slot ≡ false) → Does access old new
+        → IsClear (old.port port.0) slot → IsClear (new.port port.0) slot }
+    ensures ended { (m : Machine) (steps : List Step) (port : Port) (id : RequestId) → AllDevices steps → EndedIn m port id
+        → EndedIn (after m steps) port id }
 {}
 
 /// CI of a running port with a command of the driver's own is read: once bit 0 is clear, the command has brought its page; and
