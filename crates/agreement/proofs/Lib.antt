@@ -26,7 +26,6 @@ mod Unarmed
 mod Idling
 mod Witness
 mod Halting
-mod Resting
 mod Finding
 mod Lending
 mod Stilling

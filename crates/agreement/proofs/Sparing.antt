@@ -2,10 +2,12 @@
 use Rattle.std.proofs.Common.{ℕ, ◌≡◌, ◌*◌, ◌/◌, ◌%◌, Bool, true, false, List, [], ◌∷◌, map, Some, refl, sym, ◌∙◌, ap, subst, arith, inl, inr, ⊎_elim}
 use Rattle.std.specs.List.{Contains}
 use Rattle.std.proofs.lemmas.Bool.{cond-true, cond-false, or_right}
+use Rattle.ata_types.specs.declared.Port.{Port}
 use Rattle.ata_types.specs.declared.request.Frame.{Frame}
 use Rattle.ata_types.specs.declared.request.RequestId.{RequestId}
-use Rattle.block_machine.specs.State.{Block, Memory, Pending, Machine, frame_at, unanswered, is_reader}
-use Rattle.block_machine.specs.Steps.{Step, Accept, Issue, Touch, End, Age, Again, Answer, Release, Unplug, Replace, Store, Load, May, MayMove, after_step, at, touch, mark_ended, put_bytes, memory_after}
+use Rattle.adapter.specs.Device.{Device}
+use Rattle.block_machine.specs.State.{Accepted, Block, Memory, Pending, Machine, frame_at, unanswered, is_reader}
+use Rattle.block_machine.specs.Steps.{Step, Accept, Issue, Touch, End, Age, Again, Answer, Release, Unplug, Replace, Store, Load, May, MayMove, NoneKept, after_step, at, touch, mark_ended, put_bytes, memory_after}
 use Rattle.block_machine.specs.Left.{after}
 use Rattle.block_machine.specs.Events.{IsDevices, AllDevices, AllMay}
 use Rattle.block_machine.specs.Histories.{IsReached}
@@ -15,7 +17,10 @@ use Rattle.block_machine.proofs.Reading.{put_other}
 use Rattle.block_machine.proofs.Sound.{Sound}
 use Rattle.block_machine.proofs.Standing.{standing}
 use Rattle.block_machine.proofs.Trace.{runs_lives}
+use Rattle.agreement.specs.Follows.{Follows}
+use Rattle.agreement.specs.Slots.{Uses}
 use Rattle.agreement.specs.Spares.{IsFurther, AllFurther, SparesBook}
+use Rattle.agreement.proofs.Waiting.{tells_device}
 
 -- ---- requests
 
@@ -184,3 +189,14 @@ frames_stay m (step ∷ before) frame r is may none b =
     step_frames (after m before) (standing (after m before) (reached_more m before r may.0)).sound step is.1 may.1 frame
     (unmoved_on m (after m before) frame (steps_spare m before is.0) none) b
     ∙ frames_stay m before frame r is.0 may.0 none b
+
+-- ---- a machine that follows
+
+pub follows_spare : (uses : Uses) (m : Machine) (old new : Device) → (f : Follows uses m old new) → SparesBook m (after m f.steps)
+follows_spare uses m old new f = steps_spare m f.steps (tells_device m f.gained f.steps f.tells)
+
+-- where no request of the port is kept, none is later
+pub none_kept_on : (m n : Machine) (port : Port) → SparesBook m n → NoneKept m port → NoneKept n port
+none_kept_on m n port s none e i is =
+    let q = found_before m.kept n.kept e s.kept i in
+    none q.0 q.1 (ap (λ (r : Accepted). r.port) (sym q.2.request) ∙ is)
