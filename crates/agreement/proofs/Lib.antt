@@ -45,3 +45,4 @@ mod Linking
 mod Telling
 mod Lasting
 mod Finished
+mod Setting

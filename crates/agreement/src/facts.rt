@@ -6,7 +6,7 @@ ghost use Rattle.ata_types.specs.declared.request.RequestId.{RequestId};
 ghost use Rattle.hba_regs.specs.Bits.{bit};
 ghost use Rattle.hba_regs.specs.declared.reg.Reg.{Reg};
 ghost use Rattle.hba_regs.specs.declared.reg.Reg.TheVariants.{Ghc, Px};
-ghost use Rattle.hba_regs.specs.declared.reg.PortReg.TheVariants.{Is, Cmd, Tfd, Sctl, Serr, Ci, Sact};
+ghost use Rattle.hba_regs.specs.declared.reg.PortReg.TheVariants.{Clb, Clbu, Fb, Fbu, Is, Cmd, Tfd, Sctl, Serr, Ci, Sact};
 ghost use Rattle.adapter.specs.Access.Access.{Writing};
 ghost use Rattle.adapter.specs.Access.{Access, Does, Reads, Writes, Loads};
 ghost use Rattle.adapter.specs.Device.{Device, PortState};
@@ -152,6 +152,26 @@ pub fn adapter_stays()
 pub fn controls_stay()
     ensures { (port : Port) (access : Access) (old new : Device) → old.hr ≡ false → Does access old new
         → LeavesControls access port (old.port port.0) (new.port port.0) }
+{}
+
+/// And a write of the register sets it: ST and FRE of PxCMD, and with ST going to 1 also CR, and when it was set; DET of PxSCTL, and when
+/// it was written; and the addresses.
+pub fn controls_are_set()
+    ensures command { (port : Port) (v : ℕ) (old new : Device) → Writes (Px port Cmd) v old new
+        → ((new.port port.0).st ≡ bit v 0) × ((new.port port.0).fre ≡ bit v 4) }
+    ensures start { (port : Port) (v : ℕ) (old new : Device) → (old.port port.0).st ≡ false → bit v 0 ≡ true
+        → Writes (Px port Cmd) v old new
+        → ((new.port port.0).cr ≡ true) × ((new.port port.0).notes.st_set_at ≡ length new.tape) }
+    ensures control { (port : Port) (v : ℕ) (old new : Device) → Writes (Px port Sctl) v old new
+        → ((new.port port.0).sctl_det ≡ v % 16) × ((new.port port.0).notes.sctl_written_at ≡ length new.tape) }
+    ensures list { (port : Port) (v : ℕ) (old new : Device) → Writes (Px port Clb) v old new
+        → ((new.port port.0).bases.clb ≡ v) × ((new.port port.0).bases.clb_set ≡ true) }
+    ensures list_upper { (port : Port) (v : ℕ) (old new : Device) → Writes (Px port Clbu) v old new
+        → (new.port port.0).bases.clbu_set ≡ true }
+    ensures received { (port : Port) (v : ℕ) (old new : Device) → Writes (Px port Fb) v old new
+        → ((new.port port.0).bases.fb ≡ v) × ((new.port port.0).bases.fb_set ≡ true) }
+    ensures received_upper { (port : Port) (v : ℕ) (old new : Device) → Writes (Px port Fbu) v old new
+        → (new.port port.0).bases.fbu_set ≡ true }
 {}
 
 /// Where the tape tells of no disk of the port that goes or comes in two parts of a call, it tells of none in the whole, and the other
