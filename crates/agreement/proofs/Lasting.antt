@@ -1,9 +1,9 @@
 -- What accesses leave of the adapter.
-use Rattle.std.proofs.Common.{ℕ, ◌≡◌, Bool, true, false, ◌||◌, refl, sym, ◌∙◌, ap, subst}
+use Rattle.std.proofs.Common.{ℕ, ◌≡◌, List, Bool, true, false, ◌||◌, refl, sym, ◌∙◌, ap, subst}
 use Rattle.hba_regs.specs.Bits.{bit}
 use Rattle.hba_regs.specs.declared.reg.Reg.{Reg}
 use Rattle.hba_regs.specs.declared.reg.Reg.TheVariants.{Cap, Ghc, Is, Pi, Vs, Cap2, Bohc, Px}
-use Rattle.adapter.specs.Access.{Access, Does, noted, written}
+use Rattle.adapter.specs.Access.{Access, Does, Stores, noted, written}
 use Rattle.adapter.specs.Access.Access.{Reading, Writing, Loading, Storing}
 use Rattle.adapter.specs.Device.{Device}
 use Rattle.adapter.specs.Kept.{Keeps}
@@ -80,3 +80,14 @@ access_on (Reading r v) old new on keeps x = subst IsOn (sym x.effect) (noted_sw
 access_on (Writing r v) old new on keeps x = subst IsOn (sym x.effect) (written_switched_on r v x.mid (λ e. keeps v (ap (λ (z : Reg). Writing z v) e)) (steps_on old x.mid x.steps on))
 access_on (Loading at bytes) old new on keeps x = steps_on old new x.steps on
 access_on (Storing at bytes) old new on keeps x = let s = steps_on old x.mid x.steps on in subst IsOn (sym x.effect) (record { ae = s.ae; no_reset = s.no_reset })
+
+-- ---- what a store leaves
+
+pub store_leaves : (at : ℕ) (bytes : List ℕ) (old new : Device) → Stores at bytes old new → (mid : Device) × Steps old mid × ((port : ℕ) → new.port port ≡ mid.port port) × (new.tape ≡ mid.tape) × (new.hr ≡ mid.hr)
+store_leaves at bytes old new x = (
+  x.mid,
+  x.steps,
+  λ port. ap (λ (d : Device). d.port port) x.effect,
+  ap (λ (d : Device). d.tape) x.effect,
+  ap (λ (d : Device). d.hr) x.effect,
+)

@@ -8,7 +8,7 @@ ghost use Rattle.hba_regs.specs.declared.reg.Reg.{Reg};
 ghost use Rattle.hba_regs.specs.declared.reg.Reg.TheVariants.{Ghc, Px};
 ghost use Rattle.hba_regs.specs.declared.reg.PortReg.TheVariants.{Clb, Clbu, Fb, Fbu, Is, Cmd, Tfd, Sctl, Serr, Ci, Sact};
 ghost use Rattle.adapter.specs.Access.Access.{Writing};
-ghost use Rattle.adapter.specs.Access.{Access, Does, Reads, Writes, Loads};
+ghost use Rattle.adapter.specs.Access.{Access, Does, Reads, Writes, Loads, Stores};
 ghost use Rattle.adapter.specs.Device.{Device, PortState};
 ghost use Rattle.adapter.specs.Device.Halt.{HaltedPlain};
 ghost use Rattle.adapter.specs.FirstRead.{first_read};
@@ -145,6 +145,15 @@ pub fn adapter_stays()
     ensures same { (access : Access) (old new : Device) → Does access old new → SameAdapter old new }
     ensures on { (access : Access) (old new : Device) → IsOn old
         → ((v : ℕ) → access ≡ Writing Ghc v → (bit v 31 ≡ true) × (bit v 0 ≡ false)) → Does access old new → IsOn new }
+{}
+
+/// A load is steps of the device, and a store is such steps with memory changed after them: so what holds of ports and of the tape over
+/// the device's steps holds over loads and stores.
+pub fn loads_and_stores_leave_ports()
+    ensures load { (at : ℕ) (bytes : List ℕ) (old new : Device) → Loads at bytes old new → Steps old new }
+    ensures store { (at : ℕ) (bytes : List ℕ) (old new : Device) → Stores at bytes old new
+        → (mid : Device) × Steps old mid × ((port : ℕ) → new.port port ≡ mid.port port) × (new.tape ≡ mid.tape)
+        × (new.hr ≡ mid.hr) }
 {}
 
 /// While no reset is pending, what the driver has written of a port's controls stays over each access but a write of the register: ST
