@@ -39,9 +39,6 @@ use Rattle.agreement.proofs.Taking.{none_op, own_plain}
 abbrev IsSpent : PortState → Type 0
 IsSpent p = IsOver p 0 ⊎ ((t : Taken) × (p.taken 0 ≡ Some t) × (t.moved ≡ length t.places))
 
-own_same : {o w : Operation} → Own o ≡ Own w → o ≡ w
-own_same e = cc
-
 -- ---- a step
 
 module _ (uses : Uses) (m : Machine) (d : Device) (a : Agrees uses m d) (port : ℕ) (o : Operation) (own : op_of o ≡ None) where

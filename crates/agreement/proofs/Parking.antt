@@ -10,7 +10,7 @@ use Rattle.agreement.specs.Slots.{Free, Serves, Uses, put}
 use Rattle.agreement.proofs.Putting.{put_same, put_cases, serves_not_free}
 
 -- a slot that serves a request still was another, and served it
-pub still_serves : (uses : Uses) (port slot p s : ℕ) (id : RequestId) → put uses port slot Free p s ≡ Serves id → (p ≡ port → s ≡ slot → ⊥) × (uses p s ≡ Serves id)
+still_serves : (uses : Uses) (port slot p s : ℕ) (id : RequestId) → put uses port slot Free p s ≡ Serves id → (p ≡ port → s ≡ slot → ⊥) × (uses p s ≡ Serves id)
 still_serves uses port slot p s id u = ⊎_elim
     (λ (here : (p ≡ port) × (s ≡ slot)). serves_not_free u
     (subst (λ (q : ℕ). put uses port slot Free q s ≡ Free) (sym here.0) (subst (λ (k : ℕ). put uses port slot Free port k ≡ Free) (sym here.1) (put_same uses port slot Free))))

@@ -123,18 +123,6 @@ plugs : (port : ℕ) (p : PortState) (gained : List Entry) → Raises port p gai
 plugs port p gained (inl e) untold = subst (NoneOf (IsPlugging port)) (sym e) (All-nil (λ e. IsPlugging port e → ⊥))
 plugs port p gained (inr (x, e, tells, notes)) untold = subst (NoneOf (IsPlugging port)) (sym e) (All-cons (λ e. IsPlugging port e → ⊥) x [] (λ k. untold (notes k)) (All-nil (λ e. IsPlugging port e → ⊥)))
 
-pub calm_undisturbed : (port : ℕ) (old new : Device) → old.hr ≡ false → Steps old new → IsCalm (new.port port) → Undisturbed port old new
-calm_undisturbed port old new off s calm =
-    let k : Keeps old new = steps_keep s in
-    record { gained = k.gained; tape = k.tape; calm = leads_untold port (IsDisturbance port) IsTold told_on (disturbs port) s.steps old new off s.lead (told_calm (new.port port) calm) k.gained k.tape }
-
-pub noted_plugs : (port : ℕ) (old new : Device) → old.hr ≡ false → Steps old new → (new.port port).serr_n ≡ false → PlugsNone port old new
-noted_plugs port old new off s clear =
-    let k : Keeps old new = steps_keep s in
-    record { gained = k.gained; tape = k.tape; none = leads_untold port (IsPlugging port) IsNoted (λ p new c n. c.serr_n n) (plugs port) s.steps old new off s.lead (λ n. true-false n clear) k.gained k.tape }
-
--- ---- accesses
-
 -- a flag that only rises and is clear was clear before
 clear_before : (a b : Bool) → (a ≡ true → b ≡ true) → b ≡ false → a ≡ false
 clear_before false b rises clear = refl
@@ -145,6 +133,22 @@ calm_before p new k calm = record {
   serr_n = clear_before p.serr_n new.serr_n k.serr_n calm.serr_n;
   quiet = λ place low up. clear_before (p.is place) (new.is place) (k.is place) (calm.quiet place low up);
 }
+
+pub calm_undisturbed : (port : ℕ) (old new : Device) → old.hr ≡ false → Steps old new → IsCalm (new.port port) → IsCalm (old.port port) × Undisturbed port old new
+calm_undisturbed port old new off s calm =
+    let k : Keeps old new = steps_keep s in (
+      calm_before (old.port port) (new.port port) ((k.on off).controls port) calm,
+      record { gained = k.gained; tape = k.tape; calm = leads_untold port (IsDisturbance port) IsTold told_on (disturbs port) s.steps old new off s.lead (told_calm (new.port port) calm) k.gained k.tape },
+    )
+
+pub noted_plugs : (port : ℕ) (old new : Device) → old.hr ≡ false → Steps old new → (new.port port).serr_n ≡ false → ((old.port port).serr_n ≡ false) × PlugsNone port old new
+noted_plugs port old new off s clear =
+    let k : Keeps old new = steps_keep s in (
+      clear_before (old.port port).serr_n (new.port port).serr_n ((k.on off).controls port).serr_n clear,
+      record { gained = k.gained; tape = k.tape; none = leads_untold port (IsPlugging port) IsNoted (λ p new c n. c.serr_n n) (plugs port) s.steps old new off s.lead (λ n. true-false n clear) k.gained k.tape },
+    )
+
+-- ---- accesses
 
 -- the flags are those of a port that an access finds
 abbrev SameFlags : Access → Port → PortState → PortState → Type 0
@@ -183,9 +187,8 @@ pub access_plugs : (port : Port) (access : Access) (old new : Device) → old.hr
 access_plugs port access old new off spares x clear =
     let s = access_steps access old new x in
     let before : (s.0.port port.0).serr_n ≡ false = sym (effect_flags port access old new x spares).0 ∙ clear in
-    let plugs : PlugsNone port.0 old s.0 = noted_plugs port.0 old s.0 off s.1 before in
-    let k : KeepsControls (old.port port.0) (s.0.port port.0) = ((steps_keep s.1).on off).controls port.0 in
-    (clear_before (old.port port.0).serr_n (s.0.port port.0).serr_n k.serr_n before, record { gained = plugs.gained; tape = s.2 ∙ plugs.tape; none = plugs.none })
+    let found = noted_plugs port.0 old s.0 off s.1 before in
+    (found.0, record { gained = found.1.gained; tape = s.2 ∙ found.1.tape; none = found.1.none })
 
 pub access_undisturbed : (port : Port) (access : Access) (old new : Device) → old.hr ≡ false → SparesRegister (Px port Serr) access → SparesRegister (Px port Is) access → Does access old new → IsCalm (new.port port.0) →
     IsCalm (old.port port.0) × Undisturbed port.0 old new
@@ -196,9 +199,8 @@ access_undisturbed port access old new off serr interrupts x calm =
       serr_n = sym same.0 ∙ calm.serr_n;
       quiet = λ place low up. ap (λ (f : ℕ → Bool). f place) (sym (same.1 interrupts)) ∙ calm.quiet place low up;
     } in
-    let u : Undisturbed port.0 old s.0 = calm_undisturbed port.0 old s.0 off s.1 before in
-    let k : KeepsControls (old.port port.0) (s.0.port port.0) = ((steps_keep s.1).on off).controls port.0 in
-    (calm_before (old.port port.0) (s.0.port port.0) k before, record { gained = u.gained; tape = s.2 ∙ u.tape; calm = u.calm })
+    let found = calm_undisturbed port.0 old s.0 off s.1 before in
+    (found.0, record { gained = found.1.gained; tape = s.2 ∙ found.1.tape; calm = found.1.calm })
 
 -- ---- what is read
 
@@ -216,15 +218,18 @@ place_shown place low up v p shows clear = sym same ∙ sym (shows place is_one)
     is_one = or_right (nat_eq place 0 || nat_eq place 1 || nat_eq place 3 || nat_eq place 6 || nat_eq place 22) (nat_le 27 place && nat_le place 30) both
 
 pub read_undisturbed : (port : Port) (v : ℕ) (old new : Device) → old.hr ≡ false → Reads (Px port Is) v old new → bit v 22 ≡ false → ((place : ℕ) → 27 ≤ place → place ≤ 30 → bit v place ≡ false) →
-    IsCalm (new.port port.0) × Undisturbed port.0 old new
+    IsCalm (new.port port.0) × IsCalm (old.port port.0) × Undisturbed port.0 old new
 read_undisturbed port v old new off x n errors =
     let calm : IsCalm (x.mid.port port.0) = record { serr_n = sym (x.shows 22 refl) ∙ n; quiet = λ place low up. place_shown place low up v (x.mid.port port.0) x.shows (errors place low up) } in
     let is : new.port port.0 ≡ record (x.mid.port port.0) { notes = note Is v (x.mid.port port.0) } = ap (λ (d : Device). d.port port.0) x.effect ∙ changed_same x.mid.port port.0 _ in
     let after : IsCalm (new.port port.0) = subst IsCalm (sym is) (record { serr_n = calm.serr_n; quiet = calm.quiet }) in
-    (after, (access_undisturbed port (Reading (Px port Is) v) old new off tt tt x after).1)
+    let found = access_undisturbed port (Reading (Px port Is) v) old new off tt tt x after in
+    (after, found.0, found.1)
 
-pub read_plugs : (port : Port) (v : ℕ) (old new : Device) → old.hr ≡ false → Reads (Px port Serr) v old new → bit v 16 ≡ false → ((new.port port.0).serr_n ≡ false) × PlugsNone port.0 old new
+pub read_plugs : (port : Port) (v : ℕ) (old new : Device) → old.hr ≡ false → Reads (Px port Serr) v old new → bit v 16 ≡ false →
+    ((new.port port.0).serr_n ≡ false) × ((old.port port.0).serr_n ≡ false) × PlugsNone port.0 old new
 read_plugs port v old new off x clear =
     let is : new.port port.0 ≡ record (x.mid.port port.0) { notes = note Serr v (x.mid.port port.0) } = ap (λ (d : Device). d.port port.0) x.effect ∙ changed_same x.mid.port port.0 _ in
     let n : (new.port port.0).serr_n ≡ false = ap (λ (p : PortState). p.serr_n) is ∙ sym x.shows.0 ∙ clear in
-    (n, (access_plugs port (Reading (Px port Serr) v) old new off tt x n).1)
+    let found = access_plugs port (Reading (Px port Serr) v) old new off tt x n in
+    (n, found.0, found.1)

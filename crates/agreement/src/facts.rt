@@ -193,29 +193,30 @@ pub fn plugging_composes()
     ensures calm { (port : ℕ) (old new : Device) → Undisturbed port old new → PlugsNone port old new }
 {}
 
-/// While no reset is pending, N of PxSERR tells each disk that goes or comes, until PxSERR is written: where it is read 0, or is 0 after
-/// the device's steps or an access, no disk of the port went or came, and it was 0 before.
+/// While no reset is pending, N of PxSERR tells each disk that goes or comes, until PxSERR is written: where it is 0 after the device's
+/// steps or an access, or is read 0, no disk of the port went or came, and it was 0 before.
 pub fn plugging_is_found()
     ensures steps { (port : ℕ) (old new : Device) → old.hr ≡ false → Steps old new → (new.port port).serr_n ≡ false
-        → PlugsNone port old new }
+        → ((old.port port).serr_n ≡ false) × PlugsNone port old new }
     ensures access { (port : Port) (access : Access) (old new : Device) → old.hr ≡ false
         → SparesRegister (Px port Serr) access → Does access old new → (new.port port.0).serr_n ≡ false
         → ((old.port port.0).serr_n ≡ false) × PlugsNone port.0 old new }
     ensures read { (port : Port) (v : ℕ) (old new : Device) → old.hr ≡ false → Reads (Px port Serr) v old new
-        → bit v 16 ≡ false → ((new.port port.0).serr_n ≡ false) × PlugsNone port.0 old new }
+        → bit v 16 ≡ false
+        → ((new.port port.0).serr_n ≡ false) × ((old.port port.0).serr_n ≡ false) × PlugsNone port.0 old new }
 {}
 
-/// And so a calm port tells that nothing went wrong, until PxSERR or PxIS is written: where PxIS is read with none of the flags, or the
-/// port is calm after the device's steps or an access, nothing has gone wrong, and it was calm before.
+/// And so a calm port tells that nothing went wrong, until PxSERR or PxIS is written: where the port is calm after the device's steps or
+/// an access, or PxIS is read with none of the flags, nothing went wrong, and it was calm before.
 pub fn calm_is_found()
     ensures steps { (port : ℕ) (old new : Device) → old.hr ≡ false → Steps old new → IsCalm (new.port port)
-        → Undisturbed port old new }
+        → IsCalm (old.port port) × Undisturbed port old new }
     ensures access { (port : Port) (access : Access) (old new : Device) → old.hr ≡ false
         → SparesRegister (Px port Serr) access → SparesRegister (Px port Is) access → Does access old new
         → IsCalm (new.port port.0) → IsCalm (old.port port.0) × Undisturbed port.0 old new }
     ensures read { (port : Port) (v : ℕ) (old new : Device) → old.hr ≡ false → Reads (Px port Is) v old new
         → bit v 22 ≡ false → ((place : ℕ) → 27 ≤ place → place ≤ 30 → bit v place ≡ false)
-        → IsCalm (new.port port.0) × Undisturbed port.0 old new }
+        → IsCalm (new.port port.0) × IsCalm (old.port port.0) × Undisturbed port.0 old new }
 {}
 
 /// Where the tape tells of no disk of the port that goes or comes, the same disk is in, or out, whatever else the device does, also
