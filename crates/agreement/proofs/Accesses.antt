@@ -35,27 +35,27 @@ effect_on uses others m old mid new f telling tape plugged agrees = record {
   agrees = agrees;
 }
 
--- a reading doesn't touch when ST was set
-note_since : (r : PortReg) (v : ℕ) (p : PortState) → (note r v p).st_set_at ≡ p.notes.st_set_at
-note_since px.Clb v p = refl
-note_since px.Clbu v p = refl
-note_since px.Fb v p = refl
-note_since px.Fbu v p = refl
-note_since px.Is v p = refl
-note_since px.Ie v p = refl
-note_since px.Cmd v p = refl
-note_since px.Tfd v p = refl
-note_since px.Sig v p = refl
-note_since px.Ssts v p = refl
-note_since px.Sctl v p = refl
-note_since px.Serr v p = refl
-note_since px.Sact v p = refl
-note_since px.Ci v p = refl
+-- a reading doesn't touch when ST was set, nor when SCTL was written
+pub note_times : (r : PortReg) (v : ℕ) (p : PortState) → ((note r v p).st_set_at ≡ p.notes.st_set_at) × ((note r v p).sctl_written_at ≡ p.notes.sctl_written_at)
+note_times px.Clb v p = (refl, refl)
+note_times px.Clbu v p = (refl, refl)
+note_times px.Fb v p = (refl, refl)
+note_times px.Fbu v p = (refl, refl)
+note_times px.Is v p = (refl, refl)
+note_times px.Ie v p = (refl, refl)
+note_times px.Cmd v p = (refl, refl)
+note_times px.Tfd v p = (refl, refl)
+note_times px.Sig v p = (refl, refl)
+note_times px.Ssts v p = (refl, refl)
+note_times px.Sctl v p = (refl, refl)
+note_times px.Serr v p = (refl, refl)
+note_times px.Sact v p = (refl, refl)
+note_times px.Ci v p = (refl, refl)
 
 noted_agrees : (uses : Uses) (m : Machine) (r : Reg) (v : ℕ) (d : Device) → Agrees uses m d → Agrees uses m (noted r v d)
 noted_agrees uses m (Px port r) v d a =
     quiet_port uses m d a port.0 _ d.tape (SameFixed-refl uses d.memory d.tape)
-    (record { slots = λ k. record { issued = refl; sact = refl; taken = refl; st = refl; cr = refl; since = note_since r v (d.port port.0); list = refl }; fre = refl; received_at = refl; present = refl; disk = refl })
+    (record { slots = λ k. record { issued = refl; sact = refl; taken = refl; st = refl; cr = refl; since = (note_times r v (d.port port.0)).0; list = refl }; fre = refl; received_at = refl; present = refl; disk = refl })
 noted_agrees uses m Cap v d a = a
 noted_agrees uses m Ghc v d a = a
 noted_agrees uses m Is v d a = a

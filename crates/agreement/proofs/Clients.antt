@@ -9,13 +9,12 @@ use Rattle.adapter.specs.Access.{Loads, Stores}
 use Rattle.adapter.specs.Device.{Device}
 use Rattle.adapter.specs.Memory.{patched}
 use Rattle.adapter.proofs.MemoryLemmas.{bytes_index}
-use Rattle.block_machine.specs.Events.{IsDevices, AllDevices}
 use Rattle.block_machine.specs.Histories.{IsReached}
 use Rattle.block_machine.specs.Left as left
 use Rattle.block_machine.specs.Left.{IsStart}
 use Rattle.block_machine.specs.Refusals.{IsOpen}
 use Rattle.block_machine.specs.State.{Machine}
-use Rattle.block_machine.specs.Steps.{Step, Accept, Issue, Touch, End, Age, Again, Answer, Release, Unplug, Replace, Store, Load, May, after_step}
+use Rattle.block_machine.specs.Steps.{Store, Load, May, after_step}
 use Rattle.block_machine.proofs.Configured.{owners_stay}
 use Rattle.block_machine.proofs.Limits.{owned}
 use Rattle.block_machine.proofs.HistoryLemmas.{reached_more}
@@ -29,37 +28,17 @@ use Rattle.agreement.proofs.Calling.{own_backed}
 use Rattle.agreement.proofs.Following.{steps_follow}
 use Rattle.agreement.proofs.Patching.{memory_put}
 use Rattle.agreement.proofs.Serving.{SameSlot-refl, GainsNone-refl, NoPort, slot_on}
+use Rattle.agreement.proofs.Sparing.{follows_spare}
 use Rattle.agreement.proofs.Waiting.{tells_device, follows_have}
 
 -- ---- loans and owners stay while the device goes on
 
-step_lent : (m : Machine) (step : Step) → IsDevices step → ((after_step m step).lent ≡ m.lent) × ((after_step m step).owner ≡ m.owner)
-step_lent m (Touch e i block) is = (refl, refl)
-step_lent m (End e) is = (refl, refl)
-step_lent m (Unplug port) is = (refl, refl)
-step_lent m (Replace port name size disk) is = (refl, refl)
-step_lent m (Accept r) is = absurd is
-step_lent m (Issue mode e) is = absurd is
-step_lent m (Age ready) is = absurd is
-step_lent m (Again e) is = absurd is
-step_lent m (Answer e outcome) is = absurd is
-step_lent m Release is = absurd is
-step_lent m (Store client frame offset bytes) is = absurd is
-step_lent m (Load client frame offset bytes) is = absurd is
-
-steps_lent : (m : Machine) (steps : List Step) → AllDevices steps → ((left.after m steps).lent ≡ m.lent) × ((left.after m steps).owner ≡ m.owner)
-steps_lent m [] is = (refl, refl)
-steps_lent m (step ∷ before) is =
-    let a = step_lent (left.after m before) step is.1 in
-    let b = steps_lent m before is.0 in
-    (a.0 ∙ b.0, a.1 ∙ b.1)
-
 pub open_stays : (uses : Uses) (m : Machine) (old new : Device) (f : Follows uses m old new) (client : ClientId) (frame : Frame) (offset n : ℕ) → IsOpen m.owner m.lent client frame offset n →
     IsOpen (left.after m f.steps).owner (left.after m f.steps).lent client frame offset n
 open_stays uses m old new f client frame offset n opens =
-    let s = steps_lent m f.steps (tells_device m f.gained f.steps f.tells) in
-    subst (λ (o : Frame → Option ClientId). IsOpen o (left.after m f.steps).lent client frame offset n) (sym s.1)
-    (subst (λ (l : Frame → Option RequestId). IsOpen m.owner l client frame offset n) (sym s.0) opens)
+    let s = follows_spare uses m old new f in
+    subst (λ (o : Frame → Option ClientId). IsOpen o (left.after m f.steps).lent client frame offset n) (sym s.owner)
+    (subst (λ (l : Frame → Option RequestId). IsOpen m.owner l client frame offset n) (sym s.lent) opens)
 
 -- the frame is a client's, and the bytes are in it
 pub open_in : (m : Machine) → IsReached m → (client : ClientId) (frame : Frame) (offset n : ℕ) → IsOpen m.owner m.lent client frame offset n → (40 ≤ frame.0) × (offset + n ≤ 4096)

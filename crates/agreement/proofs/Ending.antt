@@ -42,7 +42,7 @@ sact_clear false true f slot h = h
 sact_clear false false f slot h = h
 sact_clear true st f slot h = changed_same f slot false
 
-own_clear : (queued : Bool) (f : ℕ → Bool) (slot : ℕ) → queued ≡ false → (if queued then f else changed f slot false) slot ≡ false
+pub own_clear : (queued : Bool) (f : ℕ → Bool) (slot : ℕ) → queued ≡ false → (if queued then f else changed f slot false) slot ≡ false
 own_clear false f slot h = changed_same f slot false
 own_clear true f slot h = absurd (let e : true ≡ false = h in cc)
 

@@ -30,7 +30,7 @@ use Rattle.agreement.specs.Slots.{Use, Own, Serves, Uses, Stage, ServesRequest, 
 use Rattle.agreement.proofs.Accesses.{read_follows, load_follows}
 use Rattle.agreement.proofs.Adding.{knowing_goes_on}
 use Rattle.agreement.proofs.Following.{Follows-trans}
-use Rattle.agreement.proofs.Resting.{follows_rests, none_kept_on}
+use Rattle.agreement.proofs.Sparing.{follows_spare, none_kept_on}
 
 both_clear : {A : Type 0} (q : Bool) {i c : Bool} → i ≡ true && not q → c ≡ true && q → i ≡ false → c ≡ false → A
 both_clear true a b e f = true-false b f
@@ -84,7 +84,7 @@ done_is_found uses m port ci sact old mid new reached a h st one two =
           ((r.keeps.on.controls port.0).st ∙ (s.keeps.on.controls port.0).st ∙ st)
           ((r.keeps.port port.0).ci slot (sym (s.shows slot below) ∙ clear))
           (sym (r.shows slot below) ∙ clear');
-      kept = none_kept_on m (after m all.steps) port (follows_rests uses m old new all);
+      kept = none_kept_on m (after m all.steps) port (follows_spare uses m old new all);
     }
 
 -- what is found in following, from each machine that agrees

@@ -1,13 +1,17 @@
 -- A port whose engine has stopped.
-use Rattle.std.proofs.Common.{ℕ, ◌≡◌, ◌⊎◌, true, false, List, [], ◌∷◌, refl, sym, ◌∙◌, ap, subst, inl, inr}
+use Rattle.std.proofs.Common.{ℕ, ◌≡◌, ◌⊎◌, Bool, true, false, List, [], ◌∷◌, length, Option, refl, sym, ◌∙◌, ap, subst, inl, inr}
 use Rattle.ata_types.specs.declared.Port.{Port}
 use Rattle.hba_regs.specs.Bits.{bit}
+use Rattle.hba_regs.specs.declared.reg.Reg.{Reg}
 use Rattle.hba_regs.specs.declared.reg.Reg.TheVariants.{Ghc, Px}
+use Rattle.hba_regs.specs.declared.reg.PortReg.{PortReg}
+use Rattle.hba_regs.specs.declared.reg.PortReg.TheVariants as px
 use Rattle.hba_regs.specs.declared.reg.PortReg.TheVariants.{Cmd}
-use Rattle.adapter.specs.Access.{Reads, note}
-use Rattle.adapter.specs.Device.{PortState, Device}
+use Rattle.adapter.specs.Access.{Reads, Writes, note, port_written, with_st, with_fre, unacknowledged}
+use Rattle.adapter.specs.Device.{Taken, PortState, Device}
 use Rattle.adapter.specs.Idle.{IsIdlePort}
 use Rattle.adapter.specs.Kept.{KeepsPort}
+use Rattle.adapter.specs.Rules.{MayWrite, MayWritePort, Stays}
 use Rattle.adapter.specs.Steps.{Step, after, Leads, Steps}
 use Rattle.adapter.specs.Steps.Step.{Fetch, FetchFault, Move, Clear, Done, Fault, Fatal, Fall, FrFall, LinkUp, Unplug, Plug, ResetEnds, Scribble}
 use Rattle.adapter.proofs.Absurd.{true-false}
@@ -16,11 +20,13 @@ use Rattle.adapter.proofs.KeptLemmas.{steps_keep}
 use Rattle.block_machine.specs.State.{Machine}
 use Rattle.block_machine.specs.Histories.{IsReached}
 use Rattle.block_machine.specs.Left as left
-use Rattle.agreement.specs.Agrees.{Agrees}
+use Rattle.agreement.specs.Agrees.{Agrees, port_at}
 use Rattle.agreement.specs.Facts.{IsHalted, IsReset}
 use Rattle.agreement.specs.Follows.{Follows}
 use Rattle.agreement.specs.Slots.{Use, Free, Own, Serves, Uses, Stage, OwnWaits, OwnTaken, OwnOver, IsOver, IsServed}
+use Rattle.agreement.proofs.Crossing.{noted_on, written_on}
 use Rattle.agreement.proofs.Following.{steps_follow}
+use Rattle.agreement.proofs.Unarmed.{if_false}
 
 -- ---- it stays so
 
@@ -41,6 +47,98 @@ idle_halted p i = record { st = i.st; cr = i.cr; ci = i.ci; taken = i.taken }
 
 pub idle_reset : (p : PortState) → IsIdlePort p → IsReset p
 idle_reset p i = record { halted = idle_halted p i; sact = i.sact; fre = i.fre; fr = i.fr }
+
+-- ---- over readings and writes
+
+-- a port is as its engine says
+same_halted : (p new : PortState) → new.st ≡ p.st → new.cr ≡ p.cr → new.ci ≡ p.ci → new.taken ≡ p.taken → IsHalted p → IsHalted new
+same_halted p new st cr ci taken h = record {
+  st = st ∙ h.st;
+  cr = cr ∙ h.cr;
+  ci = λ s. ap (λ (f : ℕ → Bool). f s) ci ∙ h.ci s;
+  taken = λ s. ap (λ (f : ℕ → Option Taken). f s) taken ∙ h.taken s;
+}
+
+same_reset : (p new : PortState) → new.sact ≡ p.sact → new.fre ≡ p.fre → new.fr ≡ p.fr → IsReset p → IsHalted new → IsReset new
+same_reset p new sact fre fr h halted = record { halted = halted; sact = λ s. ap (λ (f : ℕ → Bool). f s) sact ∙ h.sact s; fre = fre ∙ h.fre; fr = fr ∙ h.fr }
+
+noted_halted : (p : PortState) (r : PortReg) (v : ℕ) → IsHalted p → IsHalted (record p { notes = note r v p })
+noted_halted p r v h = same_halted p _ refl refl refl refl h
+
+noted_reset : (p : PortState) (r : PortReg) (v : ℕ) → IsReset p → IsReset (record p { notes = note r v p })
+noted_reset p r v h = same_reset p _ refl refl refl h (noted_halted p r v h.halted)
+
+unacknowledged_halted : (p : PortState) → IsHalted p → IsHalted (unacknowledged p)
+unacknowledged_halted p h = same_halted p _ refl refl refl refl h
+
+unacknowledged_reset : (p : PortState) → IsReset p → IsReset (unacknowledged p)
+unacknowledged_reset p h = same_reset p _ refl refl refl h (unacknowledged_halted p h.halted)
+
+-- ST stays 0
+module _ (v tape : ℕ) (p : PortState) (off : bit v 0 ≡ false) where
+  stopped_halted : IsHalted p → IsHalted (port_written Cmd v tape p)
+  stopped_halted h = subst (λ (b : Bool). IsHalted (with_fre (bit v 4) (with_st b tape p))) (sym off)
+      (record { st = refl; cr = h.cr; ci = λ s. if_false p.st p.ci s (h.ci s); taken = h.taken })
+
+  stopped_reset : bit v 4 ≡ false → IsReset p → IsReset (port_written Cmd v tape p)
+  stopped_reset fre h = record {
+    halted = stopped_halted h.halted;
+    sact = λ s. subst (λ (b : Bool). (with_fre (bit v 4) (with_st b tape p)).sact s ≡ false) (sym off) (if_false p.st p.sact s (h.sact s));
+    fre = fre;
+    fr = subst (λ (b : Bool). (with_fre b (with_st (bit v 0) tape p)).fr ≡ false) (sym fre) (subst (λ (b : Bool). (with_st b tape p).fr ≡ false) (sym off) h.fr);
+  }
+
+port_halted : (r : PortReg) (v : ℕ) (d : Device) (p : PortState) → MayWritePort r v d p → (r ≡ Cmd → bit v 0 ≡ false) → IsHalted p → IsHalted (port_written r v (length d.tape) p)
+port_halted Cmd v d p may off h = stopped_halted v (length d.tape) p (off refl) h
+port_halted px.Ci v d p may off h = true-false may.running h.st
+port_halted px.Clb v d p may off h = same_halted p _ refl refl refl refl h
+port_halted px.Clbu v d p may off h = same_halted p _ refl refl refl refl h
+port_halted px.Fb v d p may off h = same_halted p _ refl refl refl refl h
+port_halted px.Fbu v d p may off h = same_halted p _ refl refl refl refl h
+port_halted px.Is v d p may off h = same_halted p _ refl refl refl refl h
+port_halted px.Sctl v d p may off h = same_halted p _ refl refl refl refl h
+port_halted px.Serr v d p may off h = same_halted p _ refl refl refl refl h
+port_halted px.Sact v d p may off h = same_halted p _ refl refl refl refl h
+port_halted _ v d p may off h = h
+
+port_reset : (r : PortReg) (v : ℕ) (d : Device) (p : PortState) → MayWritePort r v d p → (r ≡ Cmd → (bit v 0 ≡ false) × (bit v 4 ≡ false)) → IsReset p → IsReset (port_written r v (length d.tape) p)
+port_reset Cmd v d p may off h = stopped_reset v (length d.tape) p (off refl).0 (off refl).1 h
+port_reset px.Sact v d p may off h = true-false may h.halted.st
+port_reset px.Ci v d p may off h = true-false may.running h.halted.st
+port_reset px.Clb v d p may off h = same_reset p _ refl refl refl h (port_halted px.Clb v d p may (λ e. (off e).0) h.halted)
+port_reset px.Clbu v d p may off h = same_reset p _ refl refl refl h (port_halted px.Clbu v d p may (λ e. (off e).0) h.halted)
+port_reset px.Fb v d p may off h = same_reset p _ refl refl refl h (port_halted px.Fb v d p may (λ e. (off e).0) h.halted)
+port_reset px.Fbu v d p may off h = same_reset p _ refl refl refl h (port_halted px.Fbu v d p may (λ e. (off e).0) h.halted)
+port_reset px.Is v d p may off h = same_reset p _ refl refl refl h (port_halted px.Is v d p may (λ e. (off e).0) h.halted)
+port_reset px.Sctl v d p may off h = same_reset p _ refl refl refl h (port_halted px.Sctl v d p may (λ e. (off e).0) h.halted)
+port_reset px.Serr v d p may off h = same_reset p _ refl refl refl h (port_halted px.Serr v d p may (λ e. (off e).0) h.halted)
+port_reset _ v d p may off h = h
+
+pub halted_reads : (port : ℕ) (r : Reg) (v : ℕ) (old new : Device) → Reads r v old new → IsHalted (old.port port) → IsHalted (new.port port)
+halted_reads port r v old new x h =
+    subst (λ (d : Device). IsHalted (d.port port)) (sym x.effect) (noted_on IsHalted (port_at port) noted_halted r v x.mid (halted_stays port old x.mid x.steps h))
+
+pub reset_reads : (port : ℕ) (r : Reg) (v : ℕ) (old new : Device) → Reads r v old new → IsReset (old.port port) → IsReset (new.port port)
+reset_reads port r v old new x h =
+    subst (λ (d : Device). IsReset (d.port port)) (sym x.effect) (noted_on IsReset (port_at port) noted_reset r v x.mid (reset_stays port old x.mid x.steps h))
+
+-- what may be written in a port's register
+may_port : (port : Port) (r : Reg) (q : PortReg) (v : ℕ) (d : Device) → r ≡ Px port q → MayWrite r v d → MayWritePort q v d (d.port port.0)
+may_port port r q v d is may = let w : MayWrite (Px port q) v d = subst (λ (z : Reg). MayWrite z v d) is may in w.2
+
+pub halted_writes : (port : Port) (r : Reg) (v : ℕ) (old new : Device) → Stays (MayWrite r v) old → (r ≡ Px port Cmd → bit v 0 ≡ false) → Writes r v old new → IsHalted (old.port port.0) → IsHalted (new.port port.0)
+halted_writes port r v old new may off x h =
+    subst (λ (d : Device). IsHalted (d.port port.0)) (sym x.effect)
+    (written_on IsHalted port noted_halted unacknowledged_halted r v x.mid
+    (λ q is. port_halted q v x.mid (x.mid.port port.0) (may_port port r q v x.mid is (may x.mid x.steps)) (λ c. off (is ∙ ap (Px port) c)))
+    (halted_stays port.0 old x.mid x.steps h))
+
+pub reset_writes : (port : Port) (r : Reg) (v : ℕ) (old new : Device) → Stays (MayWrite r v) old → (r ≡ Px port Cmd → (bit v 0 ≡ false) × (bit v 4 ≡ false)) → Writes r v old new → IsReset (old.port port.0) → IsReset (new.port port.0)
+reset_writes port r v old new may off x h =
+    subst (λ (d : Device). IsReset (d.port port.0)) (sym x.effect)
+    (written_on IsReset port noted_reset unacknowledged_reset r v x.mid
+    (λ q is. port_reset q v x.mid (x.mid.port port.0) (may_port port r q v x.mid is (may x.mid x.steps)) (λ c. off (is ∙ ap (Px port) c)))
+    (reset_stays port.0 old x.mid x.steps h))
 
 -- ---- CR is read 0
 

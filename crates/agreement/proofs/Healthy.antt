@@ -1,8 +1,6 @@
 -- A port on which nothing goes wrong.
-use Rattle.std.proofs.Common.{ℕ, ◌≡◌, ◌≢◌, ◌⊎◌, ◌≤◌, not, length, ◌++◌, Bool, true, false, List, [], ◌∷◌, Option, refl, sym, ◌∙◌, ap, subst, arith, inl, inr, append_assoc, append-nil}
-use Rattle.std.specs.Prelude.{All, if◌then◌else◌}
-use Rattle.std.proofs.lemmas.List.{append_cancel_left}
-use Rattle.std.proofs.lemmas.List.Elements.{All-nil, All-cons, All-head, All-tail, All-append}
+use Rattle.std.proofs.Common.{ℕ, ◌≡◌, ◌≢◌, ◌⊎◌, ◌≤◌, not, length, ◌++◌, Bool, true, false, List, [], ◌∷◌, Option, refl, sym, ◌∙◌, ap, subst, arith, inl, inr}
+use Rattle.std.specs.Prelude.{if◌then◌else◌}
 use Rattle.hba_regs.specs.declared.reg.Reg.{Reg}
 use Rattle.hba_regs.specs.Bits.{bit}
 use Rattle.hba_regs.specs.declared.reg.Reg.TheVariants.{Cap, Ghc, Pi, Vs, Cap2, Bohc, Px}
@@ -27,42 +25,23 @@ use Rattle.adapter.proofs.KeptLemmas.{step_keeps, steps_keep}
 use Rattle.agreement.specs.Facts.{IsHealthy, IsDisturbance, Undisturbed}
 use Rattle.agreement.proofs.Accesses.{noted_tape}
 use Rattle.agreement.proofs.Acting.{changed_at}
+use Rattle.agreement.proofs.Gaining.{NoneOf, gains_nothing, gains_more, gains_parts, gained_none}
 
 -- ---- lists of entries
 
-abbrev IsCalm : ℕ → List Entry → Type 0
-IsCalm port entries = All (λ e. IsDisturbance port e → ⊥) entries
-
-calm_left : (port : ℕ) (early late : List Entry) → IsCalm port (early ++ late) → IsCalm port early
-calm_left port [] late h = All-nil (λ e. IsDisturbance port e → ⊥)
-calm_left port (e ∷ early) late h =
-    All-cons (λ e. IsDisturbance port e → ⊥) e early (All-head (λ e. IsDisturbance port e → ⊥) e (early ++ late) h)
-    (calm_left port early late (All-tail (λ e. IsDisturbance port e → ⊥) e (early ++ late) h))
-
-calm_right : (port : ℕ) (early late : List Entry) → IsCalm port (early ++ late) → IsCalm port late
-calm_right port [] late h = h
-calm_right port (e ∷ early) late h = calm_right port early late (All-tail (λ e. IsDisturbance port e → ⊥) e (early ++ late) h)
-
--- what two parts gained is what the whole did
-gained_parts : (old mid new early late all : List Entry) → mid ≡ old ++ early → new ≡ mid ++ late → new ≡ old ++ all → all ≡ early ++ late
-gained_parts old mid new early late all a b c =
-    append_cancel_left old all (early ++ late) (sym c ∙ b ∙ ap (λ (t : List Entry). t ++ late) a ∙ append_assoc old early late)
-
 pub undisturbed_none : (port : ℕ) (d : Device) → Undisturbed port d d
-undisturbed_none port d = record { gained = []; tape = sym (append-nil d.tape); calm = All-nil (λ e. IsDisturbance port e → ⊥) }
+undisturbed_none port d = let g = gains_nothing (IsDisturbance port) d in record { gained = g.0; tape = g.1; calm = g.2 }
 
 pub undisturbed_more : (port : ℕ) (old mid new : Device) → Undisturbed port old mid → Undisturbed port mid new → Undisturbed port old new
-undisturbed_more port old mid new a b = record {
-  gained = a.gained ++ b.gained;
-  tape = b.tape ∙ (ap (λ (t : List Entry). t ++ b.gained) a.tape ∙ append_assoc old.tape a.gained b.gained);
-  calm = All-append (λ e. IsDisturbance port e → ⊥) a.gained b.gained a.calm b.calm;
-}
+undisturbed_more port old mid new a b =
+    let g = gains_more (IsDisturbance port) old mid new (a.gained, a.tape, a.calm) (b.gained, b.tape, b.calm) in
+    record { gained = g.0; tape = g.1; calm = g.2 }
 
 pub undisturbed_parts : (port : ℕ) (old mid new : Device) (early late : List Entry) → mid.tape ≡ old.tape ++ early → new.tape ≡ mid.tape ++ late → Undisturbed port old new →
     Undisturbed port old mid × Undisturbed port mid new
 undisturbed_parts port old mid new early late a b h =
-    let calm : IsCalm port (early ++ late) = subst (IsCalm port) (gained_parts old.tape mid.tape new.tape early late h.gained a b h.tape) h.calm in
-    (record { gained = early; tape = a; calm = calm_left port early late calm }, record { gained = late; tape = b; calm = calm_right port early late calm })
+    let g = gains_parts (IsDisturbance port) old mid new early late a b (h.gained, h.tape, h.calm) in
+    (record { gained = g.0.0; tape = g.0.1; calm = g.0.2 }, record { gained = g.1.0; tape = g.1.1; calm = g.1.2 })
 
 -- ---- a step
 
@@ -99,12 +78,7 @@ healthy_with : (p : PortState) (bases : Bases) (fre fr : Bool) (taken : ℕ → 
 healthy_with p bases fre fr taken ci sact tfd disk notes h =
     healthy_flagged p bases fre fr taken ci sact p.is tfd disk p.serr_n p.serr_x p.halt notes h.running h.serr_n h.serr_x h.quiet h
 
--- an entry that the tape gained is no disturbance
-gained_calm : (port : ℕ) (tape : List Entry) (e : Entry) (gained : List Entry) → tape ++ e ∷ [] ≡ tape ++ gained → IsCalm port gained → IsDisturbance port e → ⊥
-gained_calm port tape e gained is calm =
-    All-head (λ e. IsDisturbance port e → ⊥) e [] (subst (IsCalm port) (sym (append_cancel_left tape (e ∷ []) gained is)) calm)
-
-module _ (port : ℕ) (d : Device) (gained : List Entry) (calm : IsCalm port gained) (h : IsHealthy (d.port port)) where
+module _ (port : ℕ) (d : Device) (gained : List Entry) (calm : NoneOf (IsDisturbance port) gained) (h : IsHealthy (d.port port)) where
   -- no place of an error is one of a command's end
   no_error : (flag place : ℕ) → (flag ≡ 0) ⊎ (flag ≡ 1) ⊎ (flag ≡ 3) → 27 ≤ place → place ≡ flag → ⊥
   no_error flag place (inl z) low e = omega (arith, z, low, e)
@@ -115,7 +89,7 @@ module _ (port : ℕ) (d : Device) (gained : List Entry) (calm : IsCalm port gai
   step_healthy (Fetch p slot c places) off can is = at_port IsHealthy IsHealthy d p port _ h
       (λ e x. healthy_with (d.port p) _ _ _ _ _ _ _ _ _ x) (λ ne x. x)
   step_healthy (FetchFault p slot queued kept_bits) off can is = at_port IsHealthy IsHealthy d p port _ h
-      (λ e x. absurd (gained_calm port d.tape _ gained is calm e)) (λ ne x. x)
+      (λ e x. absurd (gained_none (IsDisturbance port) d.tape _ gained is calm e)) (λ ne x. x)
   step_healthy (Move p slot t bytes) off can is = at_port IsHealthy IsHealthy d p port _ h
       (λ e x. healthy_with (d.port p) _ _ _ _ _ _ _ _ _ x) (λ ne x. x)
   step_healthy (Clear p slot t first count) off can is = at_port IsHealthy IsHealthy d p port _ h
@@ -123,17 +97,17 @@ module _ (port : ℕ) (d : Device) (gained : List Entry) (calm : IsCalm port gai
   step_healthy (Done p slot flag t) off can is = at_port IsHealthy IsHealthy d p port _ h
       (λ e x. healthy_flagged (d.port p) _ _ _ _ _ _ _ _ _ _ _ _ _ refl x.serr_n x.serr_x (λ place low up. changed_other (d.port p).is flag true place (no_error flag place can.shown low) ∙ x.quiet place low up) x) (λ ne x. x)
   step_healthy (Fault p slot error kept_bits t) off can is = at_port IsHealthy IsHealthy d p port _ h
-      (λ e x. absurd (gained_calm port d.tape _ gained is calm e)) (λ ne x. x)
+      (λ e x. absurd (gained_none (IsDisturbance port) d.tape _ gained is calm e)) (λ ne x. x)
   step_healthy (Fatal p place) off can is = at_port IsHealthy IsHealthy d p port _ h
-      (λ e x. absurd (gained_calm port d.tape _ gained is calm e)) (λ ne x. x)
+      (λ e x. absurd (gained_none (IsDisturbance port) d.tape _ gained is calm e)) (λ ne x. x)
   step_healthy (Fall p) off can is = at_port IsHealthy IsHealthy d p port _ h (λ e x. true-false x.st can.0) (λ ne x. x)
   step_healthy (FrFall p) off can is = at_port IsHealthy IsHealthy d p port _ h
       (λ e x. healthy_with (d.port p) _ _ _ _ _ _ _ _ _ x) (λ ne x. x)
   step_healthy (LinkUp p sig n) off can is = at_port IsHealthy IsHealthy d p port _ h (λ e x. true-false can.due x.linked) (λ ne x. x)
   step_healthy (Unplug p) off can is = at_port IsHealthy IsHealthy d p port _ h
-      (λ e x. absurd (gained_calm port d.tape _ gained is calm e)) (λ ne x. x)
+      (λ e x. absurd (gained_none (IsDisturbance port) d.tape _ gained is calm e)) (λ ne x. x)
   step_healthy (Plug p disk) off can is = at_port IsHealthy IsHealthy d p port _ h
-      (λ e x. absurd (gained_calm port d.tape _ gained is calm e)) (λ ne x. x)
+      (λ e x. absurd (gained_none (IsDisturbance port) d.tape _ gained is calm e)) (λ ne x. x)
   step_healthy ResetEnds off can is = true-false can off
   step_healthy (Scribble p slot at bytes) off can is = h
 

@@ -28,7 +28,6 @@ mod Idling
 mod Witness
 mod Decided
 mod Halting
-mod Resting
 mod Finding
 mod Lending
 mod Stilling
@@ -43,3 +42,13 @@ mod Identified
 mod Allowing
 mod Leaving
 mod Showing
+mod Sparing
+mod Parking
+mod Paging
+mod Crossing
+mod Gaining
+mod Linking
+mod Telling
+mod Lasting
+mod Finished
+mod Setting

@@ -6,9 +6,8 @@ use Rattle.hba_regs.specs.Bits.{bit}
 use Rattle.hba_regs.specs.declared.reg.Reg.{Reg}
 use Rattle.hba_regs.specs.declared.reg.Reg.TheVariants.{Cap, Ghc, Pi, Vs, Cap2, Bohc, Px}
 use Rattle.hba_regs.specs.declared.reg.Reg.TheVariants as adapter
-use Rattle.hba_regs.specs.declared.reg.PortReg.{PortReg}
 use Rattle.hba_regs.specs.declared.reg.PortReg.TheVariants.{Clb, Clbu, Fb, Fbu, Is, Ie, Cmd, Tfd, Sig, Ssts, Sctl, Serr, Sact, Ci}
-use Rattle.adapter.specs.Access.{Reads, Writes, noted, written, port_written, with_st, with_fre, unacknowledged, note}
+use Rattle.adapter.specs.Access.{Reads, Writes, noted, written, port_written, with_st, with_fre, unacknowledged}
 use Rattle.adapter.specs.Device.{PortState, Device}
 use Rattle.adapter.specs.Memory.{changed}
 use Rattle.adapter.specs.Rules.{MayWrite, Stays}
@@ -16,32 +15,15 @@ use Rattle.adapter.specs.Steps.{restarted}
 use Rattle.adapter.specs.declared.tape.Entry.{Entry}
 use Rattle.adapter.proofs.Absurd.{true-false}
 use Rattle.agreement.specs.Facts.{IsRecorded, IsQuiet, KeepsRecord}
-use Rattle.agreement.proofs.Accesses.{noted_tape}
+use Rattle.agreement.proofs.Accesses.{noted_tape, note_times}
 use Rattle.agreement.proofs.Healthy.{at_port}
 use Rattle.agreement.proofs.Recording.{SameRecord, same_with, recorded_on, restarted_faulted, steps_recorded, stopped_recorded}
 
 -- ---- readings
 
--- no reading notes when ST was set
-note_set_at : (r : PortReg) (v : ℕ) (p : PortState) → (note r v p).st_set_at ≡ p.notes.st_set_at
-note_set_at Clb v p = refl
-note_set_at Clbu v p = refl
-note_set_at Fb v p = refl
-note_set_at Fbu v p = refl
-note_set_at Is v p = refl
-note_set_at Ie v p = refl
-note_set_at Cmd v p = refl
-note_set_at Tfd v p = refl
-note_set_at Sig v p = refl
-note_set_at Ssts v p = refl
-note_set_at Sctl v p = refl
-note_set_at Serr v p = refl
-note_set_at Sact v p = refl
-note_set_at Ci v p = refl
-
 noted_recorded : (port : ℕ) (r : Reg) (v : ℕ) (d : Device) → IsRecorded d.tape (d.port port) port → IsRecorded d.tape ((noted r v d).port port) port
 noted_recorded port (Px p r) v d h = at_port (λ x. IsRecorded d.tape x port) (λ x. IsRecorded d.tape x port) d p.0 port _ h
-    (λ e x. recorded_on d.tape (d.port p.0) _ port (record { st = refl; set_at = note_set_at r v (d.port p.0); linked = refl; flag = λ f. f; halt = refl; tfd = refl; used = λ slot u. u }) x)
+    (λ e x. recorded_on d.tape (d.port p.0) _ port (record { st = refl; set_at = (note_times r v (d.port p.0)).0; linked = refl; flag = λ f. f; halt = refl; tfd = refl; used = λ slot u. u }) x)
     (λ ne x. x)
 noted_recorded port Cap v d h = h
 noted_recorded port Ghc v d h = h

@@ -29,7 +29,7 @@ use Rattle.agreement.proofs.Healthy.{undisturbed_none, undisturbed_more, healthy
 
 -- ---- the bits
 
-was_false : (a b : Bool) → (a ≡ true → b ≡ true) → b ≡ false → a ≡ false
+pub was_false : (a b : Bool) → (a ≡ true → b ≡ true) → b ≡ false → a ≡ false
 was_false true b rises clear = true-false (rises refl) clear
 was_false false b rises clear = refl
 

@@ -1,16 +1,16 @@
 -- What must hold where ST is set, and what a fault shows.
-use Rattle.std.proofs.Common.{ℕ, ◌≡◌, ◌≢◌, ◌⊎◌, ◌%◌, ◌==◌, Bool, true, false, not, ◌||◌, length, refl, sym, ◌∙◌, ap, subst, arith, inl, inr, ⊎_elim}
-use Rattle.std.specs.Prelude.{if◌then◌else◌, nat_eq}
+use Rattle.std.proofs.Common.{ℕ, ◌≡◌, ◌≢◌, ◌⊎◌, ◌%◌, ◌==◌, Bool, true, false, not, ◌&&◌, ◌||◌, length, refl, sym, ◌∙◌, ap, subst, arith, inl, inr, ⊎_elim}
+use Rattle.std.specs.Prelude.{nat_eq}
 use Rattle.std.specs.Int.{bit_at}
 use Rattle.std.proofs.lemmas.Bool.{cases_Bool, and_left, and_right}
 use Rattle.std.proofs.Common.{eqb-true}
 use Rattle.ata_types.specs.declared.Port.{Port}
 use Rattle.hba_regs.specs.Bits.{bit}
 use Rattle.hba_regs.specs.declared.reg.Reg.{Reg}
-use Rattle.hba_regs.specs.declared.reg.Reg.TheVariants.{Cap, Ghc, Pi, Vs, Cap2, Bohc, Px}
-use Rattle.hba_regs.specs.declared.reg.Reg.TheVariants as adapter
+use Rattle.hba_regs.specs.declared.reg.Reg.TheVariants.{Px}
+use Rattle.hba_regs.specs.declared.reg.PortReg.{PortReg}
 use Rattle.hba_regs.specs.declared.reg.PortReg.TheVariants.{Clb, Clbu, Fb, Fbu, Is, Ie, Cmd, Tfd, Sig, Ssts, Sctl, Serr, Sact, Ci}
-use Rattle.adapter.specs.Access.{Reads, Writes, noted, written, port_written, with_st, with_fre, unacknowledged, note}
+use Rattle.adapter.specs.Access.{Reads, Writes, port_written, with_st, with_fre, note}
 use Rattle.adapter.specs.Device.{PortState, Device}
 use Rattle.adapter.specs.Kept.{KeepsPort}
 use Rattle.adapter.specs.Steps.{Step, Can, after, Steps}
@@ -18,7 +18,9 @@ use Rattle.adapter.specs.Steps.Step.{Fetch, FetchFault, Move, Clear, Done, Fault
 use Rattle.adapter.proofs.Absurd.{true-false}
 use Rattle.adapter.proofs.Changed.{changed_same}
 use Rattle.adapter.proofs.KeptLemmas.{steps_keep}
+use Rattle.agreement.specs.Agrees.{port_at}
 use Rattle.agreement.specs.Facts.{IsAwaited, IsUnflagged, IsQuiet}
+use Rattle.agreement.proofs.Crossing.{noted_on, written_on}
 use Rattle.agreement.proofs.Awaiting.{leads_keep, steps_awaited, steps_unflagged}
 use Rattle.agreement.proofs.Healthy.{at_port}
 
@@ -60,19 +62,9 @@ steps_quiet port old new s q =
 
 -- ---- TFES over readings and writes
 
-noted_unflagged : (port : ℕ) (r : Reg) (v : ℕ) (d : Device) → IsUnflagged (d.port port) → IsUnflagged ((noted r v d).port port)
-noted_unflagged port (Px p r) v d h = at_port IsUnflagged IsUnflagged d p.0 port _ h (λ e x. x) (λ ne x. x)
-noted_unflagged port Cap v d h = h
-noted_unflagged port Ghc v d h = h
-noted_unflagged port adapter.Is v d h = h
-noted_unflagged port Pi v d h = h
-noted_unflagged port Vs v d h = h
-noted_unflagged port Cap2 v d h = h
-noted_unflagged port Bohc v d h = h
-
 pub reads_unflagged : (port : ℕ) (r : Reg) (v : ℕ) (old new : Device) → Reads r v old new → IsUnflagged (old.port port) → IsUnflagged (new.port port)
-reads_unflagged port r v old new call h =
-    subst (λ (d : Device). IsUnflagged (d.port port)) (sym call.effect) (noted_unflagged port r v call.mid (steps_unflagged port old call.mid call.steps h))
+reads_unflagged port r v old new x h =
+    subst (λ (d : Device). IsUnflagged (d.port port)) (sym x.effect) (noted_on IsUnflagged (port_at port) (λ p q w y. y) r v x.mid (steps_unflagged port old x.mid x.steps h))
 
 -- PxIS is written with bit 30
 pub clearing_unflags : (port : Port) (v : ℕ) (old new : Device) → (old.port port.0).cr ≡ false → bit v 30 ≡ true → Writes (Px port Is) v old new → IsUnflagged (new.port port.0)
@@ -84,36 +76,65 @@ clearing_unflags port v old new cr set call =
 stopped_unflagged : (p : PortState) (v tape : ℕ) → bit v 0 ≡ false → IsUnflagged p → IsUnflagged (port_written Cmd v tape p)
 stopped_unflagged p v tape off h = subst (λ (b : Bool). IsUnflagged (with_fre (bit v 4) (with_st b tape p))) (sym off) h
 
-written_unflagged : (port : ℕ) (d : Device) (r : Reg) (v : ℕ) → ((p : Port) → r ≡ Px p Cmd → bit v 0 ≡ false) → IsUnflagged (d.port port) → IsUnflagged ((written r v d).port port)
-written_unflagged port d Ghc v off h = h
-written_unflagged port d adapter.Is v off h = by (bit v port)
-  where
-    by : (b : Bool) → IsUnflagged (if b then unacknowledged (d.port port) else d.port port)
-    by true = h
-    by false = h
-written_unflagged port d (Px p Cmd) v off h = at_port IsUnflagged IsUnflagged d p.0 port _ h (λ e x. stopped_unflagged (d.port p.0) v (length d.tape) (off p refl) x) (λ ne x. x)
-written_unflagged port d (Px p Is) v off h = at_port IsUnflagged IsUnflagged d p.0 port _ h (λ e x. (x.0, and_left ((d.port p.0).is 30) (not (bit v 30)) x.1)) (λ ne x. x)
-written_unflagged port d (Px p Clb) v off h = at_port IsUnflagged IsUnflagged d p.0 port _ h (λ e x. x) (λ ne x. x)
-written_unflagged port d (Px p Clbu) v off h = at_port IsUnflagged IsUnflagged d p.0 port _ h (λ e x. x) (λ ne x. x)
-written_unflagged port d (Px p Fb) v off h = at_port IsUnflagged IsUnflagged d p.0 port _ h (λ e x. x) (λ ne x. x)
-written_unflagged port d (Px p Fbu) v off h = at_port IsUnflagged IsUnflagged d p.0 port _ h (λ e x. x) (λ ne x. x)
-written_unflagged port d (Px p Ie) v off h = at_port IsUnflagged IsUnflagged d p.0 port _ h (λ e x. x) (λ ne x. x)
-written_unflagged port d (Px p Tfd) v off h = at_port IsUnflagged IsUnflagged d p.0 port _ h (λ e x. x) (λ ne x. x)
-written_unflagged port d (Px p Sig) v off h = at_port IsUnflagged IsUnflagged d p.0 port _ h (λ e x. x) (λ ne x. x)
-written_unflagged port d (Px p Ssts) v off h = at_port IsUnflagged IsUnflagged d p.0 port _ h (λ e x. x) (λ ne x. x)
-written_unflagged port d (Px p Sctl) v off h = at_port IsUnflagged IsUnflagged d p.0 port _ h (λ e x. x) (λ ne x. x)
-written_unflagged port d (Px p Serr) v off h = at_port IsUnflagged IsUnflagged d p.0 port _ h (λ e x. x) (λ ne x. x)
-written_unflagged port d (Px p Sact) v off h = at_port IsUnflagged IsUnflagged d p.0 port _ h (λ e x. x) (λ ne x. x)
-written_unflagged port d (Px p Ci) v off h = at_port IsUnflagged IsUnflagged d p.0 port _ h (λ e x. x) (λ ne x. x)
-written_unflagged port d Cap v off h = h
-written_unflagged port d Pi v off h = h
-written_unflagged port d Vs v off h = h
-written_unflagged port d Cap2 v off h = h
-written_unflagged port d Bohc v off h = h
+port_unflagged : (r : PortReg) (v tape : ℕ) (p : PortState) → (r ≡ Cmd → bit v 0 ≡ false) → IsUnflagged p → IsUnflagged (port_written r v tape p)
+port_unflagged Cmd v tape p off h = stopped_unflagged p v tape (off refl) h
+port_unflagged Is v tape p off h = (h.0, and_left (p.is 30) (not (bit v 30)) h.1)
+port_unflagged Clb v tape p off h = h
+port_unflagged Clbu v tape p off h = h
+port_unflagged Fb v tape p off h = h
+port_unflagged Fbu v tape p off h = h
+port_unflagged Ie v tape p off h = h
+port_unflagged Tfd v tape p off h = h
+port_unflagged Sig v tape p off h = h
+port_unflagged Ssts v tape p off h = h
+port_unflagged Sctl v tape p off h = h
+port_unflagged Serr v tape p off h = h
+port_unflagged Sact v tape p off h = h
+port_unflagged Ci v tape p off h = h
 
-pub writes_unflagged : (port : ℕ) (r : Reg) (v : ℕ) (old new : Device) → ((p : Port) → r ≡ Px p Cmd → bit v 0 ≡ false) → Writes r v old new → IsUnflagged (old.port port) → IsUnflagged (new.port port)
-writes_unflagged port r v old new off call h =
-    subst (λ (d : Device). IsUnflagged (d.port port)) (sym call.effect) (written_unflagged port call.mid r v off (steps_unflagged port old call.mid call.steps h))
+pub writes_unflagged : (port : Port) (r : Reg) (v : ℕ) (old new : Device) → (r ≡ Px port Cmd → bit v 0 ≡ false) → Writes r v old new → IsUnflagged (old.port port.0) → IsUnflagged (new.port port.0)
+writes_unflagged port r v old new off x h =
+    subst (λ (d : Device). IsUnflagged (d.port port.0)) (sym x.effect)
+    (written_on IsUnflagged port (λ p q w y. y) (λ p y. y) r v x.mid
+    (λ q is. port_unflagged q v (length x.mid.tape) (x.mid.port port.0) (λ c. off (is ∙ ap (Px port) c)))
+    (steps_unflagged port.0 old x.mid x.steps h))
+
+-- ---- no link is due, over readings and writes
+
+linked_quiet : (p : PortState) → IsUnflagged p → IsLinked p → IsQuiet p
+linked_quiet p u l = record { unflagged = u; linked = l.0; no_comreset = l.1 }
+
+stopped_linked : (p : PortState) (v tape : ℕ) → bit v 0 ≡ false → IsLinked p → IsLinked (port_written Cmd v tape p)
+stopped_linked p v tape off h = subst (λ (b : Bool). IsLinked (with_fre (bit v 4) (with_st b tape p))) (sym off) h
+
+port_linked : (r : PortReg) (v tape : ℕ) (p : PortState) → (r ≡ Cmd → bit v 0 ≡ false) → (r ≡ Sctl → v % 16 ≢ 1) → IsLinked p → IsLinked (port_written r v tape p)
+port_linked Cmd v tape p off sends h = stopped_linked p v tape (off refl) h
+port_linked Sctl v tape p off sends h = (neither p.link_due (nat_eq p.sctl_det 1 && nat_eq (v % 16) 0) h.0 (and_left (nat_eq p.sctl_det 1) (nat_eq (v % 16) 0) (not_one p.sctl_det h.1)), sends refl)
+port_linked Is v tape p off sends h = h
+port_linked Clb v tape p off sends h = h
+port_linked Clbu v tape p off sends h = h
+port_linked Fb v tape p off sends h = h
+port_linked Fbu v tape p off sends h = h
+port_linked Ie v tape p off sends h = h
+port_linked Tfd v tape p off sends h = h
+port_linked Sig v tape p off sends h = h
+port_linked Ssts v tape p off sends h = h
+port_linked Serr v tape p off sends h = h
+port_linked Sact v tape p off sends h = h
+port_linked Ci v tape p off sends h = h
+
+pub reads_quiet : (port : ℕ) (r : Reg) (v : ℕ) (old new : Device) → Reads r v old new → IsQuiet (old.port port) → IsQuiet (new.port port)
+reads_quiet port r v old new x q =
+    linked_quiet (new.port port) (reads_unflagged port r v old new x q.unflagged)
+    (subst (λ (d : Device). IsLinked (d.port port)) (sym x.effect) (noted_on IsLinked (port_at port) (λ p z w y. y) r v x.mid (steps_linked port old x.mid x.steps (q.linked, q.no_comreset))))
+
+pub writes_quiet : (port : Port) (r : Reg) (v : ℕ) (old new : Device) → (r ≡ Px port Cmd → bit v 0 ≡ false) → (r ≡ Px port Sctl → v % 16 ≢ 1) → Writes r v old new → IsQuiet (old.port port.0) → IsQuiet (new.port port.0)
+writes_quiet port r v old new off sends x q =
+    linked_quiet (new.port port.0) (writes_unflagged port r v old new off x q.unflagged)
+    (subst (λ (d : Device). IsLinked (d.port port.0)) (sym x.effect)
+    (written_on IsLinked port (λ p z w y. y) (λ p y. y) r v x.mid
+    (λ z is. port_linked z v (length x.mid.tape) (x.mid.port port.0) (λ c. off (is ∙ ap (Px port) c)) (λ c. sends (is ∙ ap (Px port) c)))
+    (steps_linked port.0 old x.mid x.steps (q.linked, q.no_comreset))))
 
 -- ---- the task file is read
 

@@ -1,5 +1,5 @@
 -- Frames that the device leaves alone.
-use Rattle.std.proofs.Common.{ℕ, ◌≡◌, ◌⊎◌, ◌<◌, ◌≤◌, ◌+◌, ◌*◌, ◌/◌, true, List, [], ◌∷◌, length, slice_index, Some, None, refl, sym, ◌∙◌, ap, subst, arith, inl, inr, ⊎_elim}
+use Rattle.std.proofs.Common.{ℕ, ◌≡◌, ◌⊎◌, ◌<◌, ◌≤◌, ◌+◌, ◌*◌, ◌/◌, true, List, [], ◌∷◌, length, slice_index, Option, Some, None, refl, sym, ◌∙◌, ap, subst, arith, inl, inr, ⊎_elim}
 use Rattle.ata_types.specs.declared.request.Frame.{Frame}
 use Rattle.ata_types.specs.declared.request.Op.{Op}
 use Rattle.ata_types.specs.declared.request.Op.TheVariants.{Read, Write, Trim, Flush}
@@ -24,10 +24,11 @@ use Rattle.agreement.specs.Facts.{IsStill, AreOver}
 use Rattle.agreement.specs.Follows.{Follows}
 use Rattle.agreement.specs.Places.{scratch_of, place_in}
 use Rattle.agreement.specs.Slots.{Use, Free, Own, Serves, Uses, Told, IsPlaced, ArePlaces, ServesRequest, OwnWaits, OwnTaken, OwnOver, IsOver, IsServed}
+use Rattle.agreement.specs.Spares.{SparesBook}
 use Rattle.agreement.proofs.Following.{steps_follow}
 use Rattle.agreement.proofs.Lending.{lent_clients}
 use Rattle.agreement.proofs.Moving.{TakenAs, taken_as}
-use Rattle.agreement.proofs.Resting.{Rests, follows_rests}
+use Rattle.agreement.proofs.Sparing.{follows_spare}
 
 -- a slot with nothing issued or taken is not in use
 pub over_unused : (p : PortState) (slot : ℕ) → IsOver p slot → InUse p slot → ⊥
@@ -124,10 +125,10 @@ module _ (uses : Uses) (m : Machine) (d : Device) (a : Agrees uses m d) (reached
 still_stays : (uses : Uses) (m : Machine) (d : Device) (frame : Frame) → IsReached m → Agrees uses m d → 40 ≤ frame.0 → ((id : RequestId) → m.lent frame ≡ Some id → AreOver uses d id) → Stays (IsStill frame) d
 still_stays uses m d frame reached a high over mid s =
     let f : Follows uses m d mid = steps_follow uses m d mid reached a s in
-    let rests : Rests m (left.after m f.steps) = follows_rests uses m d mid f in
+    let spares : SparesBook m (left.after m f.steps) = follows_spare uses m d mid f in
     still_now uses (left.after m f.steps) mid f.agrees (reached_more m f.steps reached f.may) frame high (λ id lent port slot u.
     let k : KeepsPort (d.port port) (mid.port port) = (steps_keep s).port port in
-    let o : IsOver (d.port port) slot = over id (sym (rests.lent frame) ∙ lent) port slot u in
+    let o : IsOver (d.port port) slot = over id (ap (λ (lent : Frame → Option RequestId). lent frame) (sym spares.lent) ∙ lent) port slot u in
     record { issued = k.ci slot o.issued; free = k.free slot o.issued o.free })
 
 pub lent_is_still : (uses : Uses) (m : Machine) (d : Device) (frame : Frame) (id : RequestId) → IsReached m → Agrees uses m d → m.lent frame ≡ Some id → AreOver uses d id → Stays (IsStill frame) d

@@ -1,13 +1,23 @@
 -- Bits of SACT of slots that no command uses.
-use Rattle.std.proofs.Common.{ℕ, ◌≡◌, false, refl, sym, ◌∙◌, ap, subst, inl, inr, ⊎_elim}
+use Rattle.std.proofs.Common.{ℕ, ◌≡◌, Bool, true, false, ◌||◌, length, refl, sym, ◌∙◌, ap, subst, inl, inr, ⊎_elim}
+use Rattle.std.specs.Prelude.{if◌then◌else◌}
+use Rattle.ata_types.specs.declared.Port.{Port}
+use Rattle.hba_regs.specs.Bits.{bit}
+use Rattle.hba_regs.specs.declared.reg.Reg.{Reg}
+use Rattle.hba_regs.specs.declared.reg.Reg.TheVariants.{Px}
+use Rattle.hba_regs.specs.declared.reg.PortReg.{PortReg}
+use Rattle.hba_regs.specs.declared.reg.PortReg.TheVariants as px
+use Rattle.adapter.specs.Access.{Reads, Writes, note, port_written, with_st}
 use Rattle.adapter.specs.Device.{PortState, Device}
-use Rattle.adapter.specs.Steps.{Steps}
+use Rattle.adapter.specs.Steps.{Steps, restarted}
 use Rattle.adapter.proofs.KeptLemmas.{steps_keep}
 use Rattle.block_machine.specs.State.{Machine}
 use Rattle.agreement.specs.Slots.{Use, Free, Own, Serves, Uses, put, Stage, IsOver, IsServed}
-use Rattle.agreement.specs.Agrees.{Agrees, AreUnarmed}
+use Rattle.agreement.specs.Agrees.{Agrees, AreUnarmed, port_at}
+use Rattle.agreement.proofs.Crossing.{noted_on, written_on}
 use Rattle.agreement.proofs.Putting.{put_same, put_cases}
 use Rattle.agreement.proofs.Quiet.{some_none, true_false}
+use Rattle.agreement.proofs.Writing.{or_false}
 
 pub unarmed_stays : (uses : Uses) (old new : Device) (port : ℕ) → Steps old new → AreUnarmed uses (old.port port) port → AreUnarmed uses (new.port port) port
 unarmed_stays uses old new port s u slot free = ((steps_keep s).port port).sact slot (u slot free)
@@ -45,3 +55,51 @@ putting_unarmed uses p port slot v used u k free = ⊎_elim
     (λ (q : (port ≡ port) × (k ≡ slot)). absurd (used (sym (put_same uses port slot v) ∙ ap (λ (n : ℕ). put uses port slot v port n) (sym q.1) ∙ free)))
     (λ (q : (port ≡ port → k ≡ slot → ⊥) × (put uses port slot v port k ≡ uses port k)). u k (sym q.1 ∙ free))
     (put_cases uses port slot v port k)
+
+-- ---- over readings and writes
+
+-- bits that are cleared or stay
+pub if_false : (b : Bool) (f : ℕ → Bool) (s : ℕ) → f s ≡ false → (if b then (λ _. false) else f) s ≡ false
+if_false true f s h = refl
+if_false false f s h = h
+
+module _ (uses : Uses) (port : Port) where
+  reading_unarmed : (p : PortState) (r : PortReg) (v : ℕ) → AreUnarmed uses p port.0 → AreUnarmed uses (record p { notes = note r v p }) port.0
+  reading_unarmed p r v u = u
+
+  command_unarmed : (st : Bool) (tape : ℕ) (p : PortState) → AreUnarmed uses p port.0 → AreUnarmed uses (with_st st tape p) port.0
+  command_unarmed false tape p u = λ slot free. if_false p.st p.sact slot (u slot free)
+  command_unarmed true tape p u = by p.st
+    where
+      by : (b : Bool) → AreUnarmed uses (if b then p else record p { st = true; cr = true; broken = false; halt = restarted p.halt; notes = record p.notes { st_set_at = tape } }) port.0
+      by true = u
+      by false = u
+
+  writing_unarmed : (r : PortReg) (v tape : ℕ) (p : PortState) → (r ≡ px.Sact → (slot : ℕ) → uses port.0 slot ≡ Free → bit v slot ≡ false) → AreUnarmed uses p port.0 → AreUnarmed uses (port_written r v tape p) port.0
+  writing_unarmed px.Sact v tape p arms u = λ slot free. ap (λ (b : Bool). p.sact slot || b) (arms refl slot free) ∙ or_false (p.sact slot) ∙ u slot free
+  writing_unarmed px.Cmd v tape p arms u = command_unarmed (bit v 0) tape p u
+  writing_unarmed px.Clb v tape p arms u = u
+  writing_unarmed px.Clbu v tape p arms u = u
+  writing_unarmed px.Fb v tape p arms u = u
+  writing_unarmed px.Fbu v tape p arms u = u
+  writing_unarmed px.Is v tape p arms u = u
+  writing_unarmed px.Ie v tape p arms u = u
+  writing_unarmed px.Tfd v tape p arms u = u
+  writing_unarmed px.Sig v tape p arms u = u
+  writing_unarmed px.Ssts v tape p arms u = u
+  writing_unarmed px.Sctl v tape p arms u = u
+  writing_unarmed px.Serr v tape p arms u = u
+  writing_unarmed px.Ci v tape p arms u = u
+
+pub unarmed_reads : (uses : Uses) (port : ℕ) (r : Reg) (v : ℕ) (old new : Device) → Reads r v old new → AreUnarmed uses (old.port port) port → AreUnarmed uses (new.port port) port
+unarmed_reads uses port r v old new x u =
+    subst (λ (d : Device). AreUnarmed uses (d.port port) port) (sym x.effect)
+    (noted_on (λ (p : PortState). AreUnarmed uses p port) (port_at port) (reading_unarmed uses (port_at port)) r v x.mid (unarmed_stays uses old x.mid port x.steps u))
+
+pub unarmed_writes : (uses : Uses) (port : Port) (r : Reg) (v : ℕ) (old new : Device) → (r ≡ Px port px.Sact → (slot : ℕ) → uses port.0 slot ≡ Free → bit v slot ≡ false) → Writes r v old new →
+    AreUnarmed uses (old.port port.0) port.0 → AreUnarmed uses (new.port port.0) port.0
+unarmed_writes uses port r v old new arms x u =
+    subst (λ (d : Device). AreUnarmed uses (d.port port.0) port.0) (sym x.effect)
+    (written_on (λ (p : PortState). AreUnarmed uses p port.0) port (reading_unarmed uses port) (λ p h. h) r v x.mid
+    (λ q is. writing_unarmed uses port q v (length x.mid.tape) (x.mid.port port.0) (λ c. arms (is ∙ ap (Px port) c)))
+    (unarmed_stays uses old x.mid port.0 x.steps u))

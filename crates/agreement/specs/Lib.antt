@@ -6,3 +6,5 @@ pub mod Follows
 pub mod Driver
 pub mod Witness
 pub mod Facts
+pub mod Spares
+pub mod Links

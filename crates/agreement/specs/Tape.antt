@@ -1,5 +1,5 @@
 -- What an entry of the tape is to the block machine (this project's own).
-use Rattle.std.specs.Prelude.{ℕ, zero, suc, ◌≡◌, ◌≢◌, ◌⊎◌, ◌+◌, ◌/◌, ◌<◌, ◌≤◌, List, [], ◌∷◌, ◌++◌, Option, Some, None, slice_index}
+use Rattle.std.specs.Prelude.{ℕ, zero, suc, ◌≡◌, ◌≢◌, ◌⊎◌, ◌+◌, ◌/◌, ◌<◌, ◌≤◌, List, [], ◌∷◌, ◌++◌, Option, Some, None, All, slice_index}
 use Rattle.ata_types.specs.declared.Port.{Port}
 use Rattle.ata_types.specs.declared.request.Op.{Op}
 use Rattle.ata_types.specs.declared.request.Op.TheVariants.{Read, Write, Trim, Flush}
@@ -99,6 +99,11 @@ abbrev pub Tells : Machine → List Entry → List Step → Type 0
 Tells m [] steps = steps ≡ []
 Tells m (entry ∷ entries) steps =
     (first : List Step) × (rest : List Step) × TellsEntry m entry first × Tells (after m first) entries rest × (steps ≡ rest ++ first)
+
+-- at most one of the entries is of this kind
+abbrev pub OneAtMost : (Entry → Type 0) → List Entry → Type 0
+OneAtMost IsKind [] = Unit {0}
+OneAtMost IsKind (entry ∷ entries) = (IsKind entry → All (λ e. IsKind e → ⊥) entries) × OneAtMost IsKind entries
 
 -- ---- which disks were put in
 

@@ -6,29 +6,38 @@ ghost use Rattle.ata_types.specs.declared.request.RequestId.{RequestId};
 ghost use Rattle.hba_regs.specs.Bits.{bit};
 ghost use Rattle.hba_regs.specs.declared.reg.Reg.{Reg};
 ghost use Rattle.hba_regs.specs.declared.reg.Reg.TheVariants.{Ghc, Px};
-ghost use Rattle.hba_regs.specs.declared.reg.PortReg.TheVariants.{Is, Cmd, Tfd, Sctl, Serr, Ci, Sact};
-ghost use Rattle.adapter.specs.Access.{Reads, Writes, Loads, Stores};
+ghost use Rattle.hba_regs.specs.declared.reg.PortReg.TheVariants.{Is, Cmd, Tfd, Sctl, Serr, Ci, Sact, Clb, Clbu, Fb, Fbu};
+ghost use Rattle.adapter.specs.Access.{Reads, Writes, Loads, Stores, Access, Does};
+ghost use Rattle.adapter.specs.Access.Access.{Writing};
 ghost use Rattle.adapter.specs.Device.{Device, PortState};
 ghost use Rattle.adapter.specs.Device.Halt.{HaltedPlain};
 ghost use Rattle.adapter.specs.FirstRead.{first_read};
 ghost use Rattle.adapter.specs.Idle.{IsIdle, IsIdlePort};
-ghost use Rattle.adapter.specs.Rules.{IsFree, MayWrite, Stays};
+ghost use Rattle.adapter.specs.Rules.{IsFree, IsOn, MayWrite, Stays};
 ghost use Rattle.adapter.specs.Steps.{Steps};
 ghost use Rattle.adapter.specs.declared.command.Operation.{Operation};
 ghost use Rattle.adapter.specs.declared.tape.Entry.{Entry};
+ghost use Rattle.block_machine.specs.Events.{AllDevices};
 ghost use Rattle.block_machine.specs.Histories.{IsReached, AddsSteps};
+ghost use Rattle.block_machine.specs.Left.{after};
 ghost use Rattle.block_machine.specs.State.{Machine};
+ghost use Rattle.block_machine.specs.Steps.{Step};
 ghost use Rattle.agreement.specs.Agrees.{Agrees};
 ghost use Rattle.agreement.specs.Driver.{Known, Knows};
-ghost use Rattle.agreement.specs.Facts.{IsHalted, IsReset, Finds, FindsPage, AreStepsOf, IsStill, AreOver, IsHealthy, Undisturbed, ShowsNoTrouble, TellsNoTrouble, ClearsNoTrouble, IsFaulted, ShowsFault, HasFaults, IsRecorded, IsAwaited, IsUnflagged, IsQuiet, KeepsRecord};
+ghost use Rattle.agreement.specs.Facts.{IsHalted, IsReset, Finds, FindsPage, AreStepsOf, IsStill, AreOver, IsHealthy, Undisturbed, ShowsNoTrouble, TellsNoTrouble, ClearsNoTrouble, IsFaulted, ShowsFault, HasFaults, IsRecorded, IsAwaited, IsUnflagged, IsQuiet, KeepsRecord, EndedIn, IsClear};
 ghost use Rattle.agreement.specs.Follows.{Follows};
+ghost use Rattle.agreement.specs.Links.{SparesRegister, SameAdapter, LeavesControls, PlugsNone, SameDisk, LeavesLink};
 ghost use Rattle.agreement.specs.Places.{scratch_of};
 ghost use Rattle.agreement.specs.Slots.{Uses, Free, Own, Serves, IsOver};
 
-/// A port that has halted stays so, whatever the device does, also over a reset of the adapter that ends; and an idle port
-/// has halted.
+/// A port that has halted stays so, whatever the device does, also over a reset of the adapter that ends, over readings, and over
+/// each write that may be made and doesn't set its ST; and an idle port has halted.
 pub fn halted_stays()
     ensures steps { (port : ℕ) (old new : Device) → Steps old new → IsHalted (old.port port) → IsHalted (new.port port) }
+    ensures reads { (port : ℕ) (r : Reg) (v : ℕ) (old new : Device) → Reads r v old new → IsHalted (old.port port)
+        → IsHalted (new.port port) }
+    ensures writes { (port : Port) (r : Reg) (v : ℕ) (old new : Device) → Stays (MayWrite r v) old
+        → (r ≡ Px port Cmd → bit v 0 ≡ false) → Writes r v old new → IsHalted (old.port port.0) → IsHalted (new.port port.0) }
     ensures idle { (p : PortState) → IsIdlePort p → IsHalted p }
 {}
 
@@ -39,13 +48,19 @@ pub fn stop_is_found()
         → IsHalted (new.port port.0) }
 {}
 
-/// While a reset of the adapter is pending, HR is read 0: each port is as a reset leaves it, and the machine follows.
+/// While a reset of the adapter is pending, HR is read 0: each port is as a reset leaves it, and the machine follows. So a port
+/// stays, whatever the device does, over readings, and over each write that may be made and sets neither its ST nor its FRE.
 pub fn reset_is_found()
     ensures reset { (v : ℕ) (old new : Device) → old.hr ≡ true → Reads Ghc v old new → bit v 0 ≡ false
         → (port : ℕ) → IsReset (new.port port) }
     ensures follows { (uses : Uses) (m : Machine) (v : ℕ) (old new : Device) → IsReached m → Agrees uses m old
         → Reads Ghc v old new → Follows uses m old new }
     ensures stays { (port : ℕ) (old new : Device) → Steps old new → IsReset (old.port port) → IsReset (new.port port) }
+    ensures reads { (port : ℕ) (r : Reg) (v : ℕ) (old new : Device) → Reads r v old new → IsReset (old.port port)
+        → IsReset (new.port port) }
+    ensures writes { (port : Port) (r : Reg) (v : ℕ) (old new : Device) → Stays (MayWrite r v) old
+        → (r ≡ Px port Cmd → (bit v 0 ≡ false) × (bit v 4 ≡ false)) → Writes r v old new → IsReset (old.port port.0)
+        → IsReset (new.port port.0) }
     ensures idle { (p : PortState) → IsIdlePort p → IsReset p }
 {}
 
@@ -59,6 +74,24 @@ pub fn done_is_found()
         → Reads (Px port Ci) ci k.device mid → Reads (Px port Sact) sact mid new
         → AddsSteps Knows k (record k { device = new })
         (λ m steps. (found : Finds k.uses m port ci sact k.device new) × AreStepsOf found.follows steps) }
+{}
+
+/// A slot's command that is over stays so, and so do its clear bits, whatever the device does, and over each access that doesn't write
+/// the slot's bit of PxCI or PxSACT; and a request that was ended stays so over the device's own steps.
+pub fn over_stays()
+    ensures over { (port slot : ℕ) (old new : Device) → Steps old new → IsOver (old.port port) slot
+        → IsOver (new.port port) slot }
+    ensures over_access { (port : Port) (slot : ℕ) (access : Access) (old new : Device)
+        → ((v : ℕ) → access ≡ Writing (Px port Ci) v → bit v slot ≡ false) → Does access old new
+        → IsOver (old.port port.0) slot → IsOver (new.port port.0) slot }
+    ensures clear { (port slot : ℕ) (old new : Device) → Steps old new → IsClear (old.port port) slot
+        → IsClear (new.port port) slot }
+    ensures clear_access { (port : Port) (slot : ℕ) (access : Access) (old new : Device)
+        → ((v : ℕ) → access ≡ Writing (Px port Ci) v → bit v slot ≡ false)
+        → ((v : ℕ) → access ≡ Writing (Px port Sact) v → bit v slot ≡ false) → Does access old new
+        → IsClear (old.port port.0) slot → IsClear (new.port port.0) slot }
+    ensures ended { (m : Machine) (steps : List Step) (port : Port) (id : RequestId) → AllDevices steps → EndedIn m port id
+        → EndedIn (after m steps) port id }
 {}
 
 /// CI of a running port with a command of the driver's own is read: once bit 0 is clear, the command has brought its page; and
@@ -146,6 +179,91 @@ pub fn calm_composes()
         → new.tape ≡ mid.tape ++ late → Undisturbed port old new → Undisturbed port old mid × Undisturbed port mid new }
 {}
 
+/// What the adapter is stays over each access: its memory's size, its capabilities and its ports. One that is switched on, with no reset
+/// pending, stays so over each access but a write of GHC that clears AE or sets HR.
+pub fn adapter_stays()
+    ensures same { (access : Access) (old new : Device) → Does access old new → SameAdapter old new }
+    ensures on { (access : Access) (old new : Device) → IsOn old
+        → ((v : ℕ) → access ≡ Writing Ghc v → (bit v 31 ≡ true) × (bit v 0 ≡ false)) → Does access old new → IsOn new }
+{}
+
+/// A load is steps of the device, and a store is such steps with memory changed after them: so what holds of ports and of the tape over
+/// the device's steps holds over loads and stores.
+pub fn loads_and_stores_leave_ports()
+    ensures load { (at : ℕ) (bytes : List ℕ) (old new : Device) → Loads at bytes old new → Steps old new }
+    ensures store { (at : ℕ) (bytes : List ℕ) (old new : Device) → Stores at bytes old new
+        → (mid : Device) × Steps old mid × ((port : ℕ) → new.port port ≡ mid.port port) × (new.tape ≡ mid.tape)
+        × (new.hr ≡ mid.hr) }
+{}
+
+/// While no reset is pending, what the driver has written of a port's controls stays over each access but a write of the register: ST
+/// and FRE, and when ST was set; DET of PxSCTL, and when it was written; and the addresses.
+pub fn controls_stay()
+    ensures { (port : Port) (access : Access) (old new : Device) → old.hr ≡ false → Does access old new
+        → LeavesControls access port (old.port port.0) (new.port port.0) }
+{}
+
+/// And a write of the register sets it: ST and FRE of PxCMD, and with ST going to 1 also CR, and when it was set; DET of PxSCTL, and when
+/// it was written; and the addresses.
+pub fn controls_are_set()
+    ensures command { (port : Port) (v : ℕ) (old new : Device) → Writes (Px port Cmd) v old new
+        → ((new.port port.0).st ≡ bit v 0) × ((new.port port.0).fre ≡ bit v 4) }
+    ensures start { (port : Port) (v : ℕ) (old new : Device) → (old.port port.0).st ≡ false → bit v 0 ≡ true
+        → Writes (Px port Cmd) v old new
+        → ((new.port port.0).cr ≡ true) × ((new.port port.0).notes.st_set_at ≡ length new.tape) }
+    ensures control { (port : Port) (v : ℕ) (old new : Device) → Writes (Px port Sctl) v old new
+        → ((new.port port.0).sctl_det ≡ v % 16) × ((new.port port.0).notes.sctl_written_at ≡ length new.tape) }
+    ensures list { (port : Port) (v : ℕ) (old new : Device) → Writes (Px port Clb) v old new
+        → ((new.port port.0).bases.clb ≡ v) × ((new.port port.0).bases.clb_set ≡ true) }
+    ensures list_upper { (port : Port) (v : ℕ) (old new : Device) → Writes (Px port Clbu) v old new
+        → (new.port port.0).bases.clbu_set ≡ true }
+    ensures received { (port : Port) (v : ℕ) (old new : Device) → Writes (Px port Fb) v old new
+        → ((new.port port.0).bases.fb ≡ v) × ((new.port port.0).bases.fb_set ≡ true) }
+    ensures received_upper { (port : Port) (v : ℕ) (old new : Device) → Writes (Px port Fbu) v old new
+        → (new.port port.0).bases.fbu_set ≡ true }
+{}
+
+/// Where the tape tells of no disk of the port that goes or comes in two parts of a call, it tells of none in the whole, and the other
+/// way round; where nothing goes wrong, it tells of none either.
+pub fn plugging_composes()
+    ensures none { (port : ℕ) (d : Device) → PlugsNone port d d }
+    ensures more { (port : ℕ) (old mid new : Device) → PlugsNone port old mid → PlugsNone port mid new → PlugsNone port old new }
+    ensures parts { (port : ℕ) (old mid new : Device) (early late : List Entry) → mid.tape ≡ old.tape ++ early
+        → new.tape ≡ mid.tape ++ late → PlugsNone port old new → PlugsNone port old mid × PlugsNone port mid new }
+    ensures calm { (port : ℕ) (old new : Device) → Undisturbed port old new → PlugsNone port old new }
+{}
+
+/// While no reset is pending, N of PxSERR tells each disk that goes or comes, until PxSERR is written: where it is 0 after the device's
+/// steps or an access, or is read 0, no disk of the port went or came, and it was 0 before.
+pub fn plugging_is_found()
+    ensures steps { (port : ℕ) (old new : Device) → old.hr ≡ false → Steps old new → (new.port port).serr_n ≡ false
+        → ((old.port port).serr_n ≡ false) × PlugsNone port old new }
+    ensures access { (port : Port) (access : Access) (old new : Device) → old.hr ≡ false
+        → SparesRegister (Px port Serr) access → Does access old new → (new.port port.0).serr_n ≡ false
+        → ((old.port port.0).serr_n ≡ false) × PlugsNone port.0 old new }
+    ensures read { (port : Port) (v : ℕ) (old new : Device) → old.hr ≡ false → Reads (Px port Serr) v old new
+        → bit v 16 ≡ false
+        → ((new.port port.0).serr_n ≡ false) × ((old.port port.0).serr_n ≡ false) × PlugsNone port.0 old new }
+{}
+
+/// Where the tape tells of no disk of the port that goes or comes, the same disk is in, or out, whatever else the device does, also
+/// over a reset of the adapter that ends, and over each access.
+pub fn disk_stays()
+    ensures steps { (port : ℕ) (old new : Device) → Steps old new → PlugsNone port old new
+        → SameDisk (old.port port) (new.port port) }
+    ensures access { (port : ℕ) (access : Access) (old new : Device) → Does access old new → PlugsNone port old new
+        → SameDisk (old.port port) (new.port port) }
+{}
+
+/// Where no disk of the port goes or comes either, and no reset is pending, the port's link stays as it was, or one that was due has
+/// come up: whatever the device does, and over each access but a write of PxSCTL.
+pub fn link_stays()
+    ensures steps { (port : ℕ) (old new : Device) → old.hr ≡ false → Steps old new → PlugsNone port old new
+        → LeavesLink (old.port port) (new.port port) }
+    ensures access { (port : Port) (access : Access) (old new : Device) → old.hr ≡ false → SparesRegister (Px port Sctl) access
+        → Does access old new → PlugsNone port.0 old new → LeavesLink (old.port port.0) (new.port port.0) }
+{}
+
 /// The faults of a port since its ST was set stand on the tape, and the task file shows the last one: so it stays, whatever the
 /// device does, over readings, and over each write that may be made, where ST is set on a quiet port alone: what is asked of the
 /// write stays so until it is made. So it is while ST is 0, on a port that runs, and on one that has failed.
@@ -175,17 +293,22 @@ pub fn link_is_awaited()
 {}
 
 /// A port is quiet, so that ST may be set and faults go on to be recorded: PxIS is written with TFES while the engine stands,
-/// TFD is read without DRQ, and then it stays so, whatever the device does.
+/// TFD is read without DRQ, and then it stays so, whatever the device does, over readings, and over writes that neither set its ST
+/// nor send COMRESET on it.
 pub fn quiet_is_found()
     ensures cleared { (port : Port) (v : ℕ) (old new : Device) → (old.port port.0).cr ≡ false → bit v 30 ≡ true
         → Writes (Px port Is) v old new → IsUnflagged (new.port port.0) }
     ensures reads { (port : ℕ) (r : Reg) (v : ℕ) (old new : Device) → Reads r v old new → IsUnflagged (old.port port)
         → IsUnflagged (new.port port) }
-    ensures writes { (port : ℕ) (r : Reg) (v : ℕ) (old new : Device) → ((p : Port) → r ≡ Px p Cmd → bit v 0 ≡ false)
-        → Writes r v old new → IsUnflagged (old.port port) → IsUnflagged (new.port port) }
+    ensures writes { (port : Port) (r : Reg) (v : ℕ) (old new : Device) → (r ≡ Px port Cmd → bit v 0 ≡ false)
+        → Writes r v old new → IsUnflagged (old.port port.0) → IsUnflagged (new.port port.0) }
     ensures found { (port : Port) (v : ℕ) (old new : Device) → IsAwaited (old.port port.0) → IsUnflagged (old.port port.0)
         → Reads (Px port Tfd) v old new → bit v 3 ≡ false → IsQuiet (new.port port.0) }
     ensures stays { (port : ℕ) (old new : Device) → Steps old new → IsQuiet (old.port port) → IsQuiet (new.port port) }
+    ensures stays_read { (port : ℕ) (r : Reg) (v : ℕ) (old new : Device) → Reads r v old new → IsQuiet (old.port port)
+        → IsQuiet (new.port port) }
+    ensures stays_written { (port : Port) (r : Reg) (v : ℕ) (old new : Device) → (r ≡ Px port Cmd → bit v 0 ≡ false)
+        → (r ≡ Px port Sctl → v % 16 ≢ 1) → Writes r v old new → IsQuiet (old.port port.0) → IsQuiet (new.port port.0) }
     ensures exists { IsQuiet (first_read.port 1) }
 {}
 

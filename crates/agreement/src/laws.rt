@@ -1,16 +1,16 @@
 // Laws of the relation, for the crates above: the clause is the theorem. Nothing calls these functions.
-ghost use Rattle.std.specs.Prelude.{◌≡◌, ◌+◌, ◌*◌, ◌/◌, ◌%◌, ◌<◌, ◌≤◌, ◌∷◌, ◌++◌, ℕ, Bool, true, false, [], List, length, map, Contains, ◌≢◌, ◌⊎◌};
+ghost use Rattle.std.specs.Prelude.{◌≡◌, ◌+◌, ◌*◌, ◌/◌, ◌%◌, ◌<◌, ◌≤◌, ◌∷◌, ◌++◌, ℕ, Bool, true, false, [], List, length, map, Contains, ◌≢◌, ◌⊎◌, None, Some, All};
 ghost use Rattle.ata_types.specs.declared.Port.{Port};
 ghost use Rattle.ata_types.specs.declared.request.ClientId.{ClientId};
 ghost use Rattle.ata_types.specs.declared.request.Frame.{Frame};
 ghost use Rattle.ata_types.specs.declared.request.Outcome.{Outcome};
 ghost use Rattle.ata_types.specs.declared.request.RequestId.{RequestId};
 ghost use Rattle.hba_regs.specs.Bits.{bit};
-ghost use Rattle.hba_regs.specs.declared.reg.PortReg.TheVariants.{Clb, Clbu, Fb, Fbu, Is, Cmd, Ci};
+ghost use Rattle.hba_regs.specs.declared.reg.PortReg.TheVariants.{Clb, Clbu, Fb, Fbu, Is, Cmd, Ci, Sact};
 ghost use Rattle.hba_regs.specs.declared.reg.Reg.TheVariants.{Px};
 ghost use Rattle.hba_regs.specs.declared.reg.Reg.TheVariants as registers;
 ghost use Rattle.hba_regs.specs.declared.reg.Reg.{Reg};
-ghost use Rattle.adapter.specs.Access.{Reads, Writes, Loads, Stores, written};
+ghost use Rattle.adapter.specs.Access.{Reads, Writes, Loads, Stores, written, Access, Does};
 ghost use Rattle.adapter.specs.Commands.{Meaning};
 ghost use Rattle.adapter.specs.Device.{PortState, Device};
 ghost use Rattle.adapter.specs.Idle.{IsIdle};
@@ -19,19 +19,22 @@ ghost use Rattle.adapter.specs.Rules.{IsFree, IsOn, HasPort, MayStart, MayReceiv
 ghost use Rattle.adapter.specs.Steps.{Steps};
 ghost use Rattle.adapter.specs.declared.command.Operation.{Operation};
 ghost use Rattle.block_machine.specs.Due.{is_plain, issued_count};
+ghost use Rattle.adapter.specs.declared.tape.Entry.{Entry};
 ghost use Rattle.block_machine.specs.Events.{IsDevices, AllDevices, AllMay};
 ghost use Rattle.block_machine.specs.Histories.{IsReached, AddsSteps};
 ghost use Rattle.block_machine.specs.Left.{IsStart, after};
 ghost use Rattle.block_machine.specs.Refusals.{IsOpen};
 ghost use Rattle.block_machine.specs.State.{Accepted, Pending, Machine, unanswered};
-ghost use Rattle.block_machine.specs.Steps.{Step, Accept, Issue, Age, Again, Answer, Release, Store, Load, May, NoneKept, after_step, stays};
+ghost use Rattle.block_machine.specs.Steps.{Step, Accept, Issue, Age, Again, Answer, Release, Store, Load, May, NoneKept, after_step, stays, MayMove};
 ghost use Rattle.block_machine.specs.declared.due.Mode.{Mode};
-ghost use Rattle.agreement.specs.Agrees.{Agrees, IsDiskOf, SameMemory, SameSectors, HaveSlots, AreUnarmed};
+ghost use Rattle.agreement.specs.Agrees.{Agrees, IsDiskOf, SameMemory, SameSectors, HaveSlots, AreUnarmed, AreApart};
 ghost use Rattle.agreement.specs.Driver.{MayStore, LeavesUses, LeavesFree, Known, Knows, IsBacked, ByDevice, IsPrepared, IsOwnPrepared, EndsWith, HasNoSlot, Forgets, ForgetsKept, serving, parking, freeing, idle, IsWrittenBack, KeepsFreeBits, MissesTable, MissesScratch};
 ghost use Rattle.agreement.specs.Follows.{Follows};
 ghost use Rattle.agreement.specs.Places.{list_of, scratch_of, received_of};
 ghost use Rattle.agreement.specs.Witness.{PreparedIsKnown, FirstIsKnown, KeptIsKnown, ParkedIsKnown, OwnIsKnown};
-ghost use Rattle.agreement.specs.Slots.{Use, Free, Own, Serves, Uses, put, serving_count, Told, HasBlock, IsOver};
+ghost use Rattle.agreement.specs.Slots.{Use, Free, Own, Serves, Uses, put, serving_count, Told, HasBlock, IsOver, op_of, IsMove};
+ghost use Rattle.agreement.specs.Spares.{IsFurther, AllFurther, SparesBook};
+ghost use Rattle.agreement.specs.Tape.{OneAtMost};
 
 /// Whatever the device does by itself, the machine follows: what the tape gains are steps of the machine that may come, and
 /// the two agree again. So it is while a reset of the adapter is pending, too, and after one that is stuck.
@@ -152,6 +155,23 @@ pub fn parking_agrees()
         → k.uses port slot ≡ Serves id → Knows m (parking k port slot id) }
 {}
 
+/// A slot that is put to another use has it, and every other slot goes on as it was used.
+pub fn putting_is_of_one_slot()
+    ensures here { (uses : Uses) (port slot : ℕ) (u : Use) → put uses port slot u port slot ≡ u }
+    ensures others { (uses : Uses) (port slot : ℕ) (u : Use) (other_port other_slot : ℕ)
+        → (other_port ≡ port → other_slot ≡ slot → ⊥) → put uses port slot u other_port other_slot ≡ uses other_port other_slot }
+{}
+
+/// Once the slot of a request is parked, no slot serves it, and it is among the parked; nor does a slot then serve a request
+/// that none served before.
+pub fn parking_frees()
+    ensures frees { (k : Known) (port slot : ℕ) (id : RequestId) → AreApart k.uses → k.uses port slot ≡ Serves id
+        → HasNoSlot (parking k port slot id).uses id }
+    ensures leaves { (k : Known) (port slot : ℕ) (id other : RequestId) → HasNoSlot k.uses other
+        → HasNoSlot (parking k port slot id).uses other }
+    ensures parks { (k : Known) (port slot : ℕ) (id : RequestId) → Contains ((parking k port slot id).parked port) id }
+{}
+
 /// So is one whose command was the driver's own.
 pub fn own_release_agrees()
     ensures { (k : Known) (m : Machine) → Knows m k → (port slot : ℕ) → IsOver (k.device.port port) slot → (o : Operation)
@@ -242,6 +262,23 @@ pub fn leaving_composes()
         → LeavesFree uses old new → LeavesFree (put uses port slot u) old new }
 {}
 
+/// A page comes only where slot 0 of its port has that command of the driver's own, which isn't over; and one at most comes for it,
+/// whatever the device does, also while a reset is pending. So it is over each access.
+pub fn pages_come_when_asked()
+    ensures steps { (uses : Uses) (m : Machine) (old new : Device) (port : ℕ) (o : Operation) (gained : List Entry) → IsReached m
+        → Agrees uses m old → Steps old new → new.tape ≡ old.tape ++ gained → op_of o ≡ None
+        → (uses port 0 ≡ Own o → IsOver (old.port port) 0) → All (λ e. IsMove port o e → ⊥) gained }
+    ensures access { (uses : Uses) (m : Machine) (access : Access) (old new : Device) (port : ℕ) (o : Operation)
+        (gained : List Entry) → IsReached m → Agrees uses m old → Does access old new → new.tape ≡ old.tape ++ gained
+        → op_of o ≡ None → (uses port 0 ≡ Own o → IsOver (old.port port) 0) → All (λ e. IsMove port o e → ⊥) gained }
+    ensures once { (uses : Uses) (m : Machine) (old new : Device) (port : ℕ) (o : Operation) (gained : List Entry) → IsReached m
+        → Agrees uses m old → Steps old new → new.tape ≡ old.tape ++ gained → op_of o ≡ None
+        → OneAtMost (IsMove port o) gained }
+    ensures access_once { (uses : Uses) (m : Machine) (access : Access) (old new : Device) (port : ℕ) (o : Operation)
+        (gained : List Entry) → IsReached m → Agrees uses m old → Does access old new → new.tape ≡ old.tape ++ gained
+        → op_of o ≡ None → OneAtMost (IsMove port o) gained }
+{}
+
 /// So the bytes of a slot that say a command go on saying it, and a trim's block stays where slot 0 has no command of the
 /// driver's own. A store beside them leaves them, too; and one for a free slot is beside what belongs to a slot in use.
 pub fn what_is_told_is_left()
@@ -271,6 +308,23 @@ pub fn due_stays()
         → (mode : Mode) (e : Pending) → May m (Issue mode e) → May (after m steps) (Issue mode e) }
 {}
 
+/// The device's own steps leave the machine's grants and owners, its loans and its next id; and the same requests are unanswered
+/// and kept, in the same order, each as far as it was, or further. So what is due is the same. A frame that isn't lent to a
+/// request that the device may move keeps its bytes.
+pub fn steps_spare_the_book()
+    ensures spares { (m : Machine) (steps : List Step) → AllDevices steps → SparesBook m (after m steps) }
+    ensures none { (m : Machine) → SparesBook m m }
+    ensures more { (a b c : Machine) → SparesBook a b → SparesBook b c → SparesBook a c }
+    ensures due { (old new : List Pending) → AllFurther old new → map unanswered new ≡ map unanswered old }
+    ensures later { (old new : List Pending) (e : Pending) → AllFurther old new → Contains old e
+        → (x : Pending) × Contains new x × IsFurther e x }
+    ensures before { (old new : List Pending) (e : Pending) → AllFurther old new → Contains new e
+        → (x : Pending) × Contains old x × IsFurther x e }
+    ensures frames { (m : Machine) (steps : List Step) (frame : Frame) → IsReached m → AllDevices steps → AllMay m steps
+        → ((e : Pending) → MayMove m e → m.lent frame ≡ Some e.request.id → ⊥)
+        → (b : ℕ) → (after m steps).memory frame b ≡ m.memory frame b }
+{}
+
 /// A history goes on by steps that may come, and so do stretches of them.
 pub fn histories_go_on()
     ensures reached { (m : Machine) (steps : List Step) → IsReached m → AllMay m steps → IsReached (after m steps) }
@@ -286,13 +340,18 @@ pub fn prepared_stays()
         → IsPrepared uses m old port slot mode e v → IsPrepared uses (after m f.steps) new port slot mode e v }
 {}
 
-/// A free slot without a bit of PxSACT has none later, nor wherever what no slot uses is left; so it is where a slot is given up,
-/// and where one is put to use.
+/// A free slot without a bit of PxSACT has none later, nor wherever what no slot uses is left; so it is over readings, and over
+/// writes, but for one of PxSACT with a bit of a free slot; and so it is where a slot is given up, and where one is put to use.
 pub fn unarmed_stays()
     ensures device { (uses : Uses) (old new : Device) (port : ℕ) → Steps old new → AreUnarmed uses (old.port port) port
         → AreUnarmed uses (new.port port) port }
     ensures left { (uses : Uses) (old new : Device) (port : ℕ) → LeavesFree uses old new → AreUnarmed uses (old.port port) port
         → AreUnarmed uses (new.port port) port }
+    ensures reads { (uses : Uses) (port : ℕ) (r : Reg) (v : ℕ) (old new : Device) → Reads r v old new
+        → AreUnarmed uses (old.port port) port → AreUnarmed uses (new.port port) port }
+    ensures writes { (uses : Uses) (port : Port) (r : Reg) (v : ℕ) (old new : Device)
+        → (r ≡ Px port Sact → (slot : ℕ) → uses port.0 slot ≡ Free → bit v slot ≡ false) → Writes r v old new
+        → AreUnarmed uses (old.port port.0) port.0 → AreUnarmed uses (new.port port.0) port.0 }
     ensures given_up { (uses : Uses) (m : Machine) (d : Device) (port slot : ℕ) → Agrees uses m d → IsOver (d.port port) slot
         → AreUnarmed uses (d.port port) port → AreUnarmed (put uses port slot Free) (d.port port) port }
     ensures used { (uses : Uses) (p : PortState) (port slot : ℕ) (v : Use) → (v ≡ Free → ⊥) → AreUnarmed uses p port

@@ -1,4 +1,4 @@
-use Rattle.agreement.proofs.Starting.{clearing_unflags, reads_unflagged, writes_unflagged, quiet_is_found, steps_quiet}
+use Rattle.agreement.proofs.Starting.{clearing_unflags, reads_unflagged, writes_unflagged, quiet_is_found, steps_quiet, reads_quiet, writes_quiet}
 use Rattle.agreement.proofs.Witnesses.{second_quiet}
 use Rattle.agreement.proofs.facts.quiet_is_found.Goals as goal
 
@@ -19,3 +19,9 @@ returns-clause-stays c = steps_quiet
 
 pub returns-clause-exists : goal.returns-clause-exists
 returns-clause-exists c = second_quiet
+
+pub returns-clause-stays_read : goal.returns-clause-stays_read
+returns-clause-stays_read c = reads_quiet
+
+pub returns-clause-stays_written : goal.returns-clause-stays_written
+returns-clause-stays_written c = writes_quiet

@@ -1,6 +1,6 @@
 use Rattle.hba_regs.specs.declared.reg.Reg.TheVariants.{Ghc}
 use Rattle.agreement.proofs.Accesses.{read_follows}
-use Rattle.agreement.proofs.Halting.{reset_is_found, reset_stays, idle_reset}
+use Rattle.agreement.proofs.Halting.{reset_is_found, reset_stays, reset_reads, reset_writes, idle_reset}
 use Rattle.agreement.proofs.facts.reset_is_found.Goals as goal
 
 pub returns-clause-reset : goal.returns-clause-reset
@@ -14,3 +14,9 @@ returns-clause-stays c = reset_stays
 
 pub returns-clause-idle : goal.returns-clause-idle
 returns-clause-idle c = idle_reset
+
+pub returns-clause-reads : goal.returns-clause-reads
+returns-clause-reads c = reset_reads
+
+pub returns-clause-writes : goal.returns-clause-writes
+returns-clause-writes c = reset_writes

@@ -1,5 +1,5 @@
 use Rattle.agreement.proofs.Leaving.{unarmed_left}
-use Rattle.agreement.proofs.Unarmed.{unarmed_stays, giving_up_unarmed, putting_unarmed}
+use Rattle.agreement.proofs.Unarmed.{unarmed_stays, giving_up_unarmed, putting_unarmed, unarmed_reads, unarmed_writes}
 use Rattle.agreement.proofs.laws.unarmed_stays.Goals as goal
 
 pub returns-clause-device : goal.returns-clause-device
@@ -13,3 +13,9 @@ returns-clause-used c = putting_unarmed
 
 pub returns-clause-left : goal.returns-clause-left
 returns-clause-left c = unarmed_left
+
+pub returns-clause-reads : goal.returns-clause-reads
+returns-clause-reads c = unarmed_reads
+
+pub returns-clause-writes : goal.returns-clause-writes
+returns-clause-writes c = unarmed_writes

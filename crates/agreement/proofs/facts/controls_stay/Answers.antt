@@ -1,0 +1,5 @@
+use Rattle.agreement.proofs.Linking.{access_controls}
+use Rattle.agreement.proofs.facts.controls_stay.Goals as goal
+
+pub returns : goal.returns
+returns c = access_controls

@@ -1,0 +1,17 @@
+use Rattle.agreement.proofs.Finished.{steps_over, access_over, steps_clear, access_clear, ended_stays}
+use Rattle.agreement.proofs.facts.over_stays.Goals as goal
+
+pub returns-clause-over : goal.returns-clause-over
+returns-clause-over c = steps_over
+
+pub returns-clause-over_access : goal.returns-clause-over_access
+returns-clause-over_access c = access_over
+
+pub returns-clause-clear : goal.returns-clause-clear
+returns-clause-clear c = steps_clear
+
+pub returns-clause-clear_access : goal.returns-clause-clear_access
+returns-clause-clear_access c = access_clear
+
+pub returns-clause-ended : goal.returns-clause-ended
+returns-clause-ended c = ended_stays

@@ -1,0 +1,8 @@
+use Rattle.agreement.proofs.Putting.{put_same, put_other}
+use Rattle.agreement.proofs.laws.putting_is_of_one_slot.Goals as goal
+
+pub returns-clause-here : goal.returns-clause-here
+returns-clause-here c = put_same
+
+pub returns-clause-others : goal.returns-clause-others
+returns-clause-others c = put_other
