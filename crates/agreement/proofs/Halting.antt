@@ -21,7 +21,7 @@ use Rattle.block_machine.specs.State.{Machine}
 use Rattle.block_machine.specs.Histories.{IsReached}
 use Rattle.block_machine.specs.Left as left
 use Rattle.agreement.specs.Agrees.{Agrees, port_at}
-use Rattle.agreement.specs.Facts.{IsHalted, IsReset}
+use Rattle.agreement.specs.Facts.{IsHalted, IsAfterReset}
 use Rattle.agreement.specs.Follows.{Follows}
 use Rattle.agreement.specs.Slots.{Use, Free, Own, Serves, Uses, Stage, OwnWaits, OwnTaken, OwnOver, IsOver, IsServed}
 use Rattle.agreement.proofs.Crossing.{noted_on, written_on}
@@ -33,19 +33,19 @@ use Rattle.agreement.proofs.Unarmed.{if_false}
 pub halted_on : {old new : PortState} → KeepsPort old new → IsHalted old → IsHalted new
 halted_on k h = record { st = k.st h.st; cr = k.cr h.cr; ci = λ s. k.ci s (h.ci s); taken = k.idle h.cr h.taken }
 
-pub reset_on : {old new : PortState} → KeepsPort old new → IsReset old → IsReset new
+pub reset_on : {old new : PortState} → KeepsPort old new → IsAfterReset old → IsAfterReset new
 reset_on k h = record { halted = halted_on k h.halted; sact = λ s. k.sact s (h.sact s); fre = k.fre h.fre; fr = k.fr h.fr }
 
 pub halted_stays : (port : ℕ) (old new : Device) → Steps old new → IsHalted (old.port port) → IsHalted (new.port port)
 halted_stays port old new s h = halted_on ((steps_keep s).port port) h
 
-pub reset_stays : (port : ℕ) (old new : Device) → Steps old new → IsReset (old.port port) → IsReset (new.port port)
+pub reset_stays : (port : ℕ) (old new : Device) → Steps old new → IsAfterReset (old.port port) → IsAfterReset (new.port port)
 reset_stays port old new s h = reset_on ((steps_keep s).port port) h
 
 pub idle_halted : (p : PortState) → IsIdlePort p → IsHalted p
 idle_halted p i = record { st = i.st; cr = i.cr; ci = i.ci; taken = i.taken }
 
-pub idle_reset : (p : PortState) → IsIdlePort p → IsReset p
+pub idle_reset : (p : PortState) → IsIdlePort p → IsAfterReset p
 idle_reset p i = record { halted = idle_halted p i; sact = i.sact; fre = i.fre; fr = i.fr }
 
 -- ---- over readings and writes
@@ -59,19 +59,19 @@ same_halted p new st cr ci taken h = record {
   taken = λ s. ap (λ (f : ℕ → Option Taken). f s) taken ∙ h.taken s;
 }
 
-same_reset : (p new : PortState) → new.sact ≡ p.sact → new.fre ≡ p.fre → new.fr ≡ p.fr → IsReset p → IsHalted new → IsReset new
+same_reset : (p new : PortState) → new.sact ≡ p.sact → new.fre ≡ p.fre → new.fr ≡ p.fr → IsAfterReset p → IsHalted new → IsAfterReset new
 same_reset p new sact fre fr h halted = record { halted = halted; sact = λ s. ap (λ (f : ℕ → Bool). f s) sact ∙ h.sact s; fre = fre ∙ h.fre; fr = fr ∙ h.fr }
 
 noted_halted : (p : PortState) (r : PortReg) (v : ℕ) → IsHalted p → IsHalted (record p { notes = note r v p })
 noted_halted p r v h = same_halted p _ refl refl refl refl h
 
-noted_reset : (p : PortState) (r : PortReg) (v : ℕ) → IsReset p → IsReset (record p { notes = note r v p })
+noted_reset : (p : PortState) (r : PortReg) (v : ℕ) → IsAfterReset p → IsAfterReset (record p { notes = note r v p })
 noted_reset p r v h = same_reset p _ refl refl refl h (noted_halted p r v h.halted)
 
 unacknowledged_halted : (p : PortState) → IsHalted p → IsHalted (unacknowledged p)
 unacknowledged_halted p h = same_halted p _ refl refl refl refl h
 
-unacknowledged_reset : (p : PortState) → IsReset p → IsReset (unacknowledged p)
+unacknowledged_reset : (p : PortState) → IsAfterReset p → IsAfterReset (unacknowledged p)
 unacknowledged_reset p h = same_reset p _ refl refl refl h (unacknowledged_halted p h.halted)
 
 -- ST stays 0
@@ -80,7 +80,7 @@ module _ (v tape : ℕ) (p : PortState) (off : bit v 0 ≡ false) where
   stopped_halted h = subst (λ (b : Bool). IsHalted (with_fre (bit v 4) (with_st b tape p))) (sym off)
       (record { st = refl; cr = h.cr; ci = λ s. if_false p.st p.ci s (h.ci s); taken = h.taken })
 
-  stopped_reset : bit v 4 ≡ false → IsReset p → IsReset (port_written Cmd v tape p)
+  stopped_reset : bit v 4 ≡ false → IsAfterReset p → IsAfterReset (port_written Cmd v tape p)
   stopped_reset fre h = record {
     halted = stopped_halted h.halted;
     sact = λ s. subst (λ (b : Bool). (with_fre (bit v 4) (with_st b tape p)).sact s ≡ false) (sym off) (if_false p.st p.sact s (h.sact s));
@@ -101,7 +101,7 @@ port_halted px.Serr v d p may off h = same_halted p _ refl refl refl refl h
 port_halted px.Sact v d p may off h = same_halted p _ refl refl refl refl h
 port_halted _ v d p may off h = h
 
-port_reset : (r : PortReg) (v : ℕ) (d : Device) (p : PortState) → MayWritePort r v d p → (r ≡ Cmd → (bit v 0 ≡ false) × (bit v 4 ≡ false)) → IsReset p → IsReset (port_written r v (length d.tape) p)
+port_reset : (r : PortReg) (v : ℕ) (d : Device) (p : PortState) → MayWritePort r v d p → (r ≡ Cmd → (bit v 0 ≡ false) × (bit v 4 ≡ false)) → IsAfterReset p → IsAfterReset (port_written r v (length d.tape) p)
 port_reset Cmd v d p may off h = stopped_reset v (length d.tape) p (off refl).0 (off refl).1 h
 port_reset px.Sact v d p may off h = true-false may h.halted.st
 port_reset px.Ci v d p may off h = true-false may.running h.halted.st
@@ -118,9 +118,9 @@ pub halted_reads : (port : ℕ) (r : Reg) (v : ℕ) (old new : Device) → Reads
 halted_reads port r v old new x h =
     subst (λ (d : Device). IsHalted (d.port port)) (sym x.effect) (noted_on IsHalted (port_at port) noted_halted r v x.mid (halted_stays port old x.mid x.steps h))
 
-pub reset_reads : (port : ℕ) (r : Reg) (v : ℕ) (old new : Device) → Reads r v old new → IsReset (old.port port) → IsReset (new.port port)
+pub reset_reads : (port : ℕ) (r : Reg) (v : ℕ) (old new : Device) → Reads r v old new → IsAfterReset (old.port port) → IsAfterReset (new.port port)
 reset_reads port r v old new x h =
-    subst (λ (d : Device). IsReset (d.port port)) (sym x.effect) (noted_on IsReset (port_at port) noted_reset r v x.mid (reset_stays port old x.mid x.steps h))
+    subst (λ (d : Device). IsAfterReset (d.port port)) (sym x.effect) (noted_on IsAfterReset (port_at port) noted_reset r v x.mid (reset_stays port old x.mid x.steps h))
 
 -- what may be written in a port's register
 may_port : (port : Port) (r : Reg) (q : PortReg) (v : ℕ) (d : Device) → r ≡ Px port q → MayWrite r v d → MayWritePort q v d (d.port port.0)
@@ -133,10 +133,10 @@ halted_writes port r v old new may off x h =
     (λ q is. port_halted q v x.mid (x.mid.port port.0) (may_port port r q v x.mid is (may x.mid x.steps)) (λ c. off (is ∙ ap (Px port) c)))
     (halted_stays port.0 old x.mid x.steps h))
 
-pub reset_writes : (port : Port) (r : Reg) (v : ℕ) (old new : Device) → Stays (MayWrite r v) old → (r ≡ Px port Cmd → (bit v 0 ≡ false) × (bit v 4 ≡ false)) → Writes r v old new → IsReset (old.port port.0) → IsReset (new.port port.0)
+pub reset_writes : (port : Port) (r : Reg) (v : ℕ) (old new : Device) → Stays (MayWrite r v) old → (r ≡ Px port Cmd → (bit v 0 ≡ false) × (bit v 4 ≡ false)) → Writes r v old new → IsAfterReset (old.port port.0) → IsAfterReset (new.port port.0)
 reset_writes port r v old new may off x h =
-    subst (λ (d : Device). IsReset (d.port port.0)) (sym x.effect)
-    (written_on IsReset port noted_reset unacknowledged_reset r v x.mid
+    subst (λ (d : Device). IsAfterReset (d.port port.0)) (sym x.effect)
+    (written_on IsAfterReset port noted_reset unacknowledged_reset r v x.mid
     (λ q is. port_reset q v x.mid (x.mid.port port.0) (may_port port r q v x.mid is (may x.mid x.steps)) (λ c. off (is ∙ ap (Px port) c)))
     (reset_stays port.0 old x.mid x.steps h))
 
@@ -176,11 +176,11 @@ stop_is_found uses m port v old new reached a st call clear =
 
 -- ---- HR is read 0
 
-reset_left : (d : Device) (port : ℕ) → IsReset ((after ResetEnds d).port port)
+reset_left : (d : Device) (port : ℕ) → IsAfterReset ((after ResetEnds d).port port)
 reset_left d port = record { halted = record { st = refl; cr = refl; ci = λ s. refl; taken = λ s. refl }; sact = λ s. refl; fre = refl; fr = refl }
 
 -- the reset ends in some step, and what it leaves stays
-leads_reset : (steps : List Step) (old new : Device) → old.hr ≡ true → new.hr ≡ false → Leads steps old new → (port : ℕ) → IsReset (new.port port)
+leads_reset : (steps : List Step) (old new : Device) → old.hr ≡ true → new.hr ≡ false → Leads steps old new → (port : ℕ) → IsAfterReset (new.port port)
 leads_reset [] old new on off e port = true-false on (sym (ap (λ (d : Device). d.hr) e) ∙ off)
 leads_reset (ResetEnds ∷ steps) old new on off (can, lead) port = reset_stays port (after ResetEnds old) new (record { steps = steps; lead = lead }) (reset_left old port)
 leads_reset (Fetch p slot c places ∷ steps) old new on off (can, lead) port = leads_reset steps (after (Fetch p slot c places) old) new on off lead port
@@ -197,6 +197,6 @@ leads_reset (Unplug p ∷ steps) old new on off (can, lead) port = leads_reset s
 leads_reset (Plug p disk ∷ steps) old new on off (can, lead) port = leads_reset steps (after (Plug p disk) old) new on off lead port
 leads_reset (Scribble p slot at bytes ∷ steps) old new on off (can, lead) port = leads_reset steps (after (Scribble p slot at bytes) old) new on off lead port
 
-pub reset_is_found : (v : ℕ) (old new : Device) → old.hr ≡ true → Reads Ghc v old new → bit v 0 ≡ false → (port : ℕ) → IsReset (new.port port)
+pub reset_is_found : (v : ℕ) (old new : Device) → old.hr ≡ true → Reads Ghc v old new → bit v 0 ≡ false → (port : ℕ) → IsAfterReset (new.port port)
 reset_is_found v old new on call clear port =
-    subst (λ (d : Device). IsReset (d.port port)) (sym call.effect) (leads_reset call.steps.steps old call.mid on (sym call.shows.0 ∙ clear) call.steps.lead port)
+    subst (λ (d : Device). IsAfterReset (d.port port)) (sym call.effect) (leads_reset call.steps.steps old call.mid on (sym call.shows.0 ∙ clear) call.steps.lead port)

@@ -20,7 +20,7 @@ use Rattle.adapter.proofs.Absurd.{true-false}
 use Rattle.adapter.proofs.KeptLemmas.{step_keeps, steps_keep}
 use Rattle.agreement.specs.Agrees.{port_at}
 use Rattle.agreement.specs.Facts.{IsDisturbance, Undisturbed}
-use Rattle.agreement.specs.Links.{SparesRegister, LeavesControls, IsPlugging, PlugsNone, SameDisk, SameLink, ComesUp, LeavesLink}
+use Rattle.agreement.specs.Links.{SparesRegister, LeavesControls, IsPlugging, PlugsNone, LeavesDisk, SameLink, ComesUp, LeavesLink}
 use Rattle.agreement.proofs.Accesses.{note_times}
 use Rattle.agreement.proofs.Crossing.{access_steps, effect_keeps}
 use Rattle.agreement.proofs.Gaining.{NoneOf, gains_nothing, gains_more, gains_parts, gained_none, none_narrower}
@@ -55,10 +55,10 @@ undisturbed_plugs port old new u = record { gained = u.gained; tape = u.tape; no
 
 -- ---- the disk
 
-disk_refl : (p : PortState) → SameDisk p p
+disk_refl : (p : PortState) → LeavesDisk p p
 disk_refl p = record { present = refl; plugged = refl; name = refl; size = refl }
 
-disk_on : (p q new : PortState) → new.present ≡ q.present → new.plugged ≡ q.plugged → new.disk.name ≡ q.disk.name → new.disk.size ≡ q.disk.size → SameDisk p q → SameDisk p new
+disk_on : (p q new : PortState) → new.present ≡ q.present → new.plugged ≡ q.plugged → new.disk.name ≡ q.disk.name → new.disk.size ≡ q.disk.size → LeavesDisk p q → LeavesDisk p new
 disk_on p q new present plugged name size h = record { present = present ∙ h.present; plugged = plugged ∙ h.plugged; name = name ∙ h.name; size = size ∙ h.size }
 
 -- a move changes sectors alone
@@ -74,7 +74,7 @@ moved_disk operation.ReadLog disk sector bytes = (refl, refl)
 
 module _ (first : PortState) (port : ℕ) (d : Device) (gained : List Entry) (none : NoneOf (IsPlugging port) gained) where
   abbrev Stays : PortState → Type 0
-  Stays p = SameDisk first p
+  Stays p = LeavesDisk first p
 
   step_disk : (step : Step) → (after step d).tape ≡ d.tape ++ gained → Stays (d.port port) → Stays ((after step d).port port)
   step_disk (Fetch p slot c places) is h = at_port Stays Stays d p port _ h (λ e x. disk_on first _ _ refl refl refl refl x) (λ ne x. x)
@@ -93,26 +93,26 @@ module _ (first : PortState) (port : ℕ) (d : Device) (gained : List Entry) (no
   step_disk ResetEnds is h = disk_on first (d.port port) _ refl refl refl refl h
   step_disk (Scribble p slot at bytes) is h = h
 
-leads_disk : (first : PortState) (port : ℕ) (steps : List Step) (old new : Device) → Leads steps old new → PlugsNone port old new → SameDisk first (old.port port) → SameDisk first (new.port port)
-leads_disk first port [] old new e plugs h = subst (λ (d : Device). SameDisk first (d.port port)) (sym e) h
+leads_disk : (first : PortState) (port : ℕ) (steps : List Step) (old new : Device) → Leads steps old new → PlugsNone port old new → LeavesDisk first (old.port port) → LeavesDisk first (new.port port)
+leads_disk first port [] old new e plugs h = subst (λ (d : Device). LeavesDisk first (d.port port)) (sym e) h
 leads_disk first port (step ∷ steps) old new (can, lead) plugs h =
     let k : Keeps old (after step old) = step_keeps step old can in
     let l : Keeps (after step old) new = steps_keep (record { steps = steps; lead = lead }) in
     let parts = plugs_parts port old (after step old) new k.gained l.gained k.tape l.tape plugs in
     leads_disk first port steps (after step old) new lead parts.1 (step_disk first port old parts.0.gained parts.0.none step parts.0.tape h)
 
-pub steps_disk : (port : ℕ) (old new : Device) → Steps old new → PlugsNone port old new → SameDisk (old.port port) (new.port port)
+pub steps_disk : (port : ℕ) (old new : Device) → Steps old new → PlugsNone port old new → LeavesDisk (old.port port) (new.port port)
 steps_disk port old new s plugs = leads_disk (old.port port) port s.steps old new s.lead plugs (disk_refl (old.port port))
 
-command_disk : (first : PortState) (v tape : ℕ) (p : PortState) → SameDisk first p → SameDisk first (port_written Cmd v tape p)
+command_disk : (first : PortState) (v tape : ℕ) (p : PortState) → LeavesDisk first p → LeavesDisk first (port_written Cmd v tape p)
 command_disk first v tape p h = by (bit v 0) p.st refl
   where
-    by : (b s : Bool) → p.st ≡ s → SameDisk first (with_fre (bit v 4) (with_st b tape p))
+    by : (b s : Bool) → p.st ≡ s → LeavesDisk first (with_fre (bit v 4) (with_st b tape p))
     by false s is = disk_on first p _ refl refl refl refl h
-    by true true is = subst (λ (x : PortState). SameDisk first (with_fre (bit v 4) x)) (sym (cond-true p.st p _ is)) (disk_on first p _ refl refl refl refl h)
-    by true false is = subst (λ (x : PortState). SameDisk first (with_fre (bit v 4) x)) (sym (cond-false p.st p _ is)) (disk_on first p _ refl refl refl refl h)
+    by true true is = subst (λ (x : PortState). LeavesDisk first (with_fre (bit v 4) x)) (sym (cond-true p.st p _ is)) (disk_on first p _ refl refl refl refl h)
+    by true false is = subst (λ (x : PortState). LeavesDisk first (with_fre (bit v 4) x)) (sym (cond-false p.st p _ is)) (disk_on first p _ refl refl refl refl h)
 
-written_disk : (first : PortState) (r : PortReg) (v tape : ℕ) (p : PortState) → SameDisk first p → SameDisk first (port_written r v tape p)
+written_disk : (first : PortState) (r : PortReg) (v tape : ℕ) (p : PortState) → LeavesDisk first p → LeavesDisk first (port_written r v tape p)
 written_disk first Cmd v tape p h = command_disk first v tape p h
 written_disk first Clb v tape p h = disk_on first p _ refl refl refl refl h
 written_disk first Clbu v tape p h = disk_on first p _ refl refl refl refl h
@@ -129,10 +129,10 @@ written_disk first _ v tape p h = h
 plugs_before : (port : ℕ) (old mid new : Device) → new.tape ≡ mid.tape → PlugsNone port old new → PlugsNone port old mid
 plugs_before port old mid new same plugs = record { gained = plugs.gained; tape = sym same ∙ plugs.tape; none = plugs.none }
 
-pub access_disk : (port : ℕ) (access : Access) (old new : Device) → Does access old new → PlugsNone port old new → SameDisk (old.port port) (new.port port)
+pub access_disk : (port : ℕ) (access : Access) (old new : Device) → Does access old new → PlugsNone port old new → LeavesDisk (old.port port) (new.port port)
 access_disk port access old new x plugs =
     let s = access_steps access old new x in
-    effect_keeps (SameDisk (old.port port)) (port_at port) (λ p r v h. disk_on (old.port port) p _ refl refl refl refl h) (λ p h. disk_on (old.port port) p _ refl refl refl refl h) access old new x
+    effect_keeps (LeavesDisk (old.port port)) (port_at port) (λ p r v h. disk_on (old.port port) p _ refl refl refl refl h) (λ p h. disk_on (old.port port) p _ refl refl refl refl h) access old new x
     (λ r v mid is steps h. written_disk (old.port port) r v (length mid.tape) (mid.port port) h)
     (steps_disk port old s.0 s.1 (plugs_before port old s.0 new s.2 plugs))
 

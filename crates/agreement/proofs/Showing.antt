@@ -22,7 +22,7 @@ use Rattle.adapter.proofs.Calls.{SeenAt, seen}
 use Rattle.adapter.proofs.Changed.{changed_same}
 use Rattle.adapter.proofs.KeptLemmas.{step_keeps, steps_keep}
 use Rattle.block_machine.proofs.Keeps.{same_port}
-use Rattle.agreement.specs.Facts.{IsHealthy, IsDisturbance, Undisturbed, ShowsNoTrouble, TellsNoTrouble, ClearsNoTrouble}
+use Rattle.agreement.specs.Facts.{RunsWell, IsDisturbance, Undisturbed, ShowsNoTrouble, TellsNoTrouble, ClearsNoTrouble}
 use Rattle.agreement.proofs.Accesses.{noted_tape}
 use Rattle.agreement.proofs.Acting.{changed_at}
 use Rattle.agreement.proofs.Healthy.{undisturbed_none, undisturbed_more, healthy_reads, written_tape}
@@ -238,7 +238,7 @@ module _ (port : Port) (v : ℕ) (old new : Device) (off : old.hr ≡ false) (ca
     quiet = λ place low up. shown_place v (new.port port.0) here.shows place low up ∙ h.quiet place low up;
   }
 
-  pub calm_is_found : TellsNoTrouble v → IsHealthy (old.port port.0) → Undisturbed port.0 old new × IsHealthy (new.port port.0)
+  pub calm_is_found : TellsNoTrouble v → RunsWell (old.port port.0) → Undisturbed port.0 old new × RunsWell (new.port port.0)
   calm_is_found h healthy =
       let x = reads_show port.0 (Px port Is) v old new off call (told_calm h) in
       (x.1, healthy_reads port.0 (Px port Is) v old new off call x.1 healthy)
@@ -247,12 +247,12 @@ module _ (port : Port) (v : ℕ) (old new : Device) (off : old.hr ≡ false) (ca
 pub back_clears : (port : Port) (v : ℕ) → TellsNoTrouble v → ClearsNoTrouble port (Px port Is) v
 back_clears port v h = record { is = λ _. h.quiet; serr = λ e. absurd (let z : Px port Is ≡ Px port Serr = e in cc) }
 
-pub healthy_shows : (p : PortState) → IsHealthy p → ShowsNoTrouble p
+pub healthy_shows : (p : PortState) → RunsWell p → ShowsNoTrouble p
 healthy_shows p h = record { serr_n = h.serr_n; serr_x = h.serr_x; quiet = h.quiet }
 
 -- PxIS, and then PxSERR
 pub pair_is_found : (port : Port) (v errors : ℕ) (old mid new : Device) → old.hr ≡ false → Reads (Px port Is) v old mid → Reads (Px port Serr) errors mid new →
-    ((place : ℕ) → 27 ≤ place → place ≤ 30 → bit v place ≡ false) → bit errors 16 ≡ false → bit errors 26 ≡ false → IsHealthy (old.port port.0) → Undisturbed port.0 old mid × IsHealthy (mid.port port.0)
+    ((place : ℕ) → 27 ≤ place → place ≤ 30 → bit v place ≡ false) → bit errors 16 ≡ false → bit errors 26 ≡ false → RunsWell (old.port port.0) → Undisturbed port.0 old mid × RunsWell (mid.port port.0)
 pair_is_found port v errors old mid new off one two quiet n x healthy =
     let a : SeenAt port.0 Is v old mid = seen port Is v old mid one off in
     let b : SeenAt port.0 Serr errors mid new = seen port Serr errors mid new two a.keeps.on.no_reset in

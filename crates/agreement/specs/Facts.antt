@@ -33,7 +33,7 @@ pub record IsHalted (p : PortState) : Type 0 where
 
 -- A port after a reset of its adapter: halted, with no bit of SACT, and the engine that receives FISes is stopped, too
 -- (AHCI 1.3.1, 10.4.3).
-pub record IsReset (p : PortState) : Type 0 where
+pub record IsAfterReset (p : PortState) : Type 0 where
   pub halted : IsHalted p
   pub sact : (slot : ℕ) → p.sact slot ≡ false
   pub fre : p.fre ≡ false
@@ -92,7 +92,7 @@ AreOver uses d id = (port slot : ℕ) → uses port slot ≡ Serves id → IsOve
 
 -- The port runs, its disk is there with its link up and no other link due, no error has stopped it, and no bit of PxSERR or
 -- PxIS tells of one: neither N and X, nor IFS, HBDS, HBFS and TFES, which are 27 to 30.
-pub record IsHealthy (p : PortState) : Type 0 where
+pub record RunsWell (p : PortState) : Type 0 where
   pub st : p.st ≡ true
   pub cr : p.cr ≡ true
   pub det : p.ssts_det ≡ 3

@@ -53,7 +53,7 @@ pub record PlugsNone (port : ℕ) (old new : Device) : Type 0 where
   pub none : All (λ e. IsPlugging port e → ⊥) gained
 
 -- the same disk is in, or out, with as many sectors
-pub record SameDisk (old new : PortState) : Type 0 where
+pub record LeavesDisk (old new : PortState) : Type 0 where
   pub present : new.present ≡ old.present
   pub plugged : new.plugged ≡ old.plugged
   pub name : new.disk.name ≡ old.disk.name

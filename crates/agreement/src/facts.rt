@@ -24,9 +24,9 @@ ghost use Rattle.block_machine.specs.State.{Machine};
 ghost use Rattle.block_machine.specs.Steps.{Step};
 ghost use Rattle.agreement.specs.Agrees.{Agrees};
 ghost use Rattle.agreement.specs.Driver.{Known, Knows};
-ghost use Rattle.agreement.specs.Facts.{IsHalted, IsReset, Finds, FindsPage, AreStepsOf, IsStill, AreOver, IsHealthy, Undisturbed, ShowsNoTrouble, TellsNoTrouble, ClearsNoTrouble, IsFaulted, ShowsFault, HasFaults, IsRecorded, IsAwaited, IsUnflagged, IsQuiet, KeepsRecord, EndedIn, IsClear};
+ghost use Rattle.agreement.specs.Facts.{IsHalted, IsAfterReset, Finds, FindsPage, AreStepsOf, IsStill, AreOver, RunsWell, Undisturbed, ShowsNoTrouble, TellsNoTrouble, ClearsNoTrouble, IsFaulted, ShowsFault, HasFaults, IsRecorded, IsAwaited, IsUnflagged, IsQuiet, KeepsRecord, EndedIn, IsClear};
 ghost use Rattle.agreement.specs.Follows.{Follows};
-ghost use Rattle.agreement.specs.Links.{SparesRegister, SameAdapter, LeavesControls, PlugsNone, SameDisk, LeavesLink};
+ghost use Rattle.agreement.specs.Links.{SparesRegister, SameAdapter, LeavesControls, PlugsNone, LeavesDisk, LeavesLink};
 ghost use Rattle.agreement.specs.Places.{scratch_of};
 ghost use Rattle.agreement.specs.Slots.{Uses, Free, Own, Serves, IsOver};
 
@@ -52,16 +52,16 @@ pub fn stop_is_found()
 /// stays, whatever the device does, over readings, and over each write that may be made and sets neither its ST nor its FRE.
 pub fn reset_is_found()
     ensures reset { (v : ℕ) (old new : Device) → old.hr ≡ true → Reads Ghc v old new → bit v 0 ≡ false
-        → (port : ℕ) → IsReset (new.port port) }
+        → (port : ℕ) → IsAfterReset (new.port port) }
     ensures follows { (uses : Uses) (m : Machine) (v : ℕ) (old new : Device) → IsReached m → Agrees uses m old
         → Reads Ghc v old new → Follows uses m old new }
-    ensures stays { (port : ℕ) (old new : Device) → Steps old new → IsReset (old.port port) → IsReset (new.port port) }
-    ensures reads { (port : ℕ) (r : Reg) (v : ℕ) (old new : Device) → Reads r v old new → IsReset (old.port port)
-        → IsReset (new.port port) }
+    ensures stays { (port : ℕ) (old new : Device) → Steps old new → IsAfterReset (old.port port) → IsAfterReset (new.port port) }
+    ensures reads { (port : ℕ) (r : Reg) (v : ℕ) (old new : Device) → Reads r v old new → IsAfterReset (old.port port)
+        → IsAfterReset (new.port port) }
     ensures writes { (port : Port) (r : Reg) (v : ℕ) (old new : Device) → Stays (MayWrite r v) old
-        → (r ≡ Px port Cmd → (bit v 0 ≡ false) × (bit v 4 ≡ false)) → Writes r v old new → IsReset (old.port port.0)
-        → IsReset (new.port port.0) }
-    ensures idle { (p : PortState) → IsIdlePort p → IsReset p }
+        → (r ≡ Px port Cmd → (bit v 0 ≡ false) × (bit v 4 ≡ false)) → Writes r v old new → IsAfterReset (old.port port.0)
+        → IsAfterReset (new.port port.0) }
+    ensures idle { (p : PortState) → IsIdlePort p → IsAfterReset p }
 {}
 
 /// CI and then SACT of a running port are read: each slot whose bits were clear in both has ended its request. The steps by which
@@ -136,12 +136,12 @@ pub fn frames_are_still()
 /// readings, and over writes that neither clear ST nor write SCTL. There is one.
 pub fn healthy_stays()
     ensures steps { (port : ℕ) (old new : Device) → old.hr ≡ false → Steps old new → Undisturbed port old new
-        → IsHealthy (old.port port) → IsHealthy (new.port port) }
+        → RunsWell (old.port port) → RunsWell (new.port port) }
     ensures reads { (port : ℕ) (r : Reg) (v : ℕ) (old new : Device) → old.hr ≡ false → Reads r v old new → Undisturbed port old new
-        → IsHealthy (old.port port) → IsHealthy (new.port port) }
+        → RunsWell (old.port port) → RunsWell (new.port port) }
     ensures writes { (port : Port) (r : Reg) (v : ℕ) (old new : Device) → old.hr ≡ false → (r ≡ Px port Cmd → bit v 0 ≡ true)
-        → r ≢ Px port Sctl → Writes r v old new → Undisturbed port.0 old new → IsHealthy (old.port port.0) → IsHealthy (new.port port.0) }
-    ensures exists { IsHealthy (first_read.port 0) }
+        → r ≢ Px port Sctl → Writes r v old new → Undisturbed port.0 old new → RunsWell (old.port port.0) → RunsWell (new.port port.0) }
+    ensures exists { RunsWell (first_read.port 0) }
 {}
 
 /// While no reset is pending, whatever goes wrong on a port sets a bit of PxIS or of PxSERR, which stays until the driver clears it:
@@ -161,13 +161,13 @@ pub fn trouble_is_shown()
     ensures tells { (port : Port) (v : ℕ) (old new : Device) → old.hr ≡ false → Reads (Px port Is) v old new
         → ShowsNoTrouble (new.port port.0) → TellsNoTrouble v }
     ensures back { (port : Port) (v : ℕ) → TellsNoTrouble v → ClearsNoTrouble port (Px port Is) v }
-    ensures healthy { (p : PortState) → IsHealthy p → ShowsNoTrouble p }
+    ensures healthy { (p : PortState) → RunsWell p → ShowsNoTrouble p }
     ensures found { (port : Port) (v : ℕ) (old new : Device) → old.hr ≡ false → Reads (Px port Is) v old new → TellsNoTrouble v
-        → IsHealthy (old.port port.0) → Undisturbed port.0 old new × IsHealthy (new.port port.0) }
+        → RunsWell (old.port port.0) → Undisturbed port.0 old new × RunsWell (new.port port.0) }
     ensures both { (port : Port) (v errors : ℕ) (old mid new : Device) → old.hr ≡ false → Reads (Px port Is) v old mid
         → Reads (Px port Serr) errors mid new → ((place : ℕ) → 27 ≤ place → place ≤ 30 → bit v place ≡ false)
-        → bit errors 16 ≡ false → bit errors 26 ≡ false → IsHealthy (old.port port.0)
-        → Undisturbed port.0 old mid × IsHealthy (mid.port port.0) }
+        → bit errors 16 ≡ false → bit errors 26 ≡ false → RunsWell (old.port port.0)
+        → Undisturbed port.0 old mid × RunsWell (mid.port port.0) }
 {}
 
 /// Where nothing goes wrong in each of two parts of a call, nothing does in the whole; and where nothing does in the whole,
@@ -250,9 +250,9 @@ pub fn plugging_is_found()
 /// over a reset of the adapter that ends, and over each access.
 pub fn disk_stays()
     ensures steps { (port : ℕ) (old new : Device) → Steps old new → PlugsNone port old new
-        → SameDisk (old.port port) (new.port port) }
+        → LeavesDisk (old.port port) (new.port port) }
     ensures access { (port : ℕ) (access : Access) (old new : Device) → Does access old new → PlugsNone port old new
-        → SameDisk (old.port port) (new.port port) }
+        → LeavesDisk (old.port port) (new.port port) }
 {}
 
 /// Where no disk of the port goes or comes either, and no reset is pending, the port's link stays as it was, or one that was due has

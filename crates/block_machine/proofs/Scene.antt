@@ -27,7 +27,7 @@ use Rattle.block_machine.specs.Due.{NoneDue, is_flush}
 use Rattle.block_machine.specs.State.{Accepted, Pending, Machine, block_of, is_reader, unanswered}
 use Rattle.block_machine.specs.Steps.{Step, Touch, End, Answer, newly_accepted, issue, touch, mark_ended, IsNew}
 use Rattle.block_machine.specs.Ports.{Ports, Evidence, AreFit, SamePort, SamePorts, IsServiced}
-use Rattle.block_machine.specs.Events.{Moment, Ask, Said, Event, AllGrounded, AnswersEnded, AreTold, UnplugsAll, FindsAnother, IsService, ServesReady, tells_fault, Tells, situation_of, answers_of, reply_of}
+use Rattle.block_machine.specs.Events.{Moment, Ask, Said, Event, AllGrounded, AnswersEnded, AreTold, UnplugsAll, FindsAnother, AnswersService, ServesReady, tells_fault, Tells, situation_of, answers_of, reply_of}
 use Rattle.block_machine.proofs.Members.{contains_none, contains_here, contains_cases, append_in, none_of}
 use Rattle.block_machine.proofs.Counting.{count_cons, count_append}
 use Rattle.block_machine.proofs.Keeps.{same_port}
@@ -386,7 +386,7 @@ emptied_of book mine p ne e h q = ne (subst (λ (x : Port). at_port Ready x ≡ 
 -- a service with no evidence, of a server whose one port stays ready
 pub plain_service : (old new : Machine) (steps : List Step) (replies : List Reply) → Tells steps replies → list_any is_unplugged steps ≡ false → AllGrounded none steps
     → ((p : Port) → NoneDue mode (map unanswered new.book) p) → ((e : Pending) → Contains new.book e → e.request.port ≡ port)
-    → IsService (record { machine = old; ports = ports }) none steps replies (record { machine = new; ports = ports })
+    → AnswersService (record { machine = old; ports = ports }) none steps replies (record { machine = new; ports = ports })
 plain_service old new steps replies tells plugged grounded issues mine = record {
   tells = tells;
   dead = λ e o h dead. none_dead e.request.port dead;

@@ -333,7 +333,7 @@ AllGrounded evidence (step ∷ before) = AllGrounded evidence before
 
 -- What a service says and does. It tells dead ports; it lets requests wait again, aborts them, or tells faults of them, where
 -- something failed; and it leaves no request unanswered where the port isn't ready.
-pub record IsService (old : Moment) (evidence : Evidence) (steps : List Step) (replies : List Reply) (new : Moment) : Type 0 where
+pub record AnswersService (old : Moment) (evidence : Evidence) (steps : List Step) (replies : List Reply) (new : Moment) : Type 0 where
   pub tells : Tells steps replies
   pub dead : TellsDead old steps
   pub grounded : AllGrounded evidence steps
@@ -344,7 +344,7 @@ pub record IsService (old : Moment) (evidence : Evidence) (steps : List Step) (r
   pub disk : (port : Port) → HadDisk old steps new port
 
 -- What a tick says and does.
-pub record IsTick (old : Moment) (evidence : Evidence) (steps : List Step) (replies : List Reply) (new : Moment) : Type 0 where
+pub record AnswersTick (old : Moment) (evidence : Evidence) (steps : List Step) (replies : List Reply) (new : Moment) : Type 0 where
   pub tells : Tells steps replies
   pub ages : AgesOnce old.ports steps
   pub restarts : RestartsHung old evidence steps new
@@ -362,7 +362,7 @@ pub record IsRebooted (old : Moment) (evidence : Evidence) (steps : List Step) (
   pub disk : HadDisk old steps new port
 
 -- What a reset that ends says and does.
-pub record IsReset (old : Moment) (evidence : Evidence) (steps : List Step) (replies : List Reply) (new : Moment) : Type 0 where
+pub record AnswersReset (old : Moment) (evidence : Evidence) (steps : List Step) (replies : List Reply) (new : Moment) : Type 0 where
   pub tells : Tells steps replies
   pub releases : ReleasesOnce steps
   pub unplugs : UnplugsAll steps new.machine
@@ -388,9 +388,9 @@ IsAnswered (LoadAt client frame offset count) (Loaded (Ok bytes)) old evidence s
 IsAnswered (LoadAt client frame offset count) (Loaded (Err fault)) old evidence steps new =
     IsFirstMemFault old.machine.owner old.machine.lent client frame offset count fault
     × (steps ≡ []) × SamePorts old.ports new.ports
-IsAnswered Service (Served replies) old evidence steps new = IsService old evidence steps replies new
-IsAnswered Tick (Served replies) old evidence steps new = IsTick old evidence steps replies new
-IsAnswered Reset (WasReset (Some replies)) old evidence steps new = IsReset old evidence steps replies new
+IsAnswered Service (Served replies) old evidence steps new = AnswersService old evidence steps replies new
+IsAnswered Tick (Served replies) old evidence steps new = AnswersTick old evidence steps replies new
+IsAnswered Reset (WasReset (Some replies)) old evidence steps new = AnswersReset old evidence steps replies new
 IsAnswered Reset (WasReset None) old evidence steps new = AllDevices steps × ((port : Port) → IsStuck old.ports evidence new.ports port)
 IsAnswered (State port) (Shown state) old evidence steps new = (state ≡ old.ports.state port) × (steps ≡ []) × SamePorts old.ports new.ports
 IsAnswered (Device step) (Stepped true) old evidence steps new = AllDevices steps × SamePorts old.ports new.ports
@@ -433,7 +433,7 @@ tells_fault port (Answer e (outcome.DeviceError status error)) = e.request.port.
 tells_fault port _ = false
 
 -- Nothing interrupts the port: it stays what it is, and nothing but Ok is told.
-pub record IsCalm (old : Ports) (evidence : Evidence) (steps : List Step) (new : Ports) (port : Port) : Type 0 where
+pub record IsLeftAlone (old : Ports) (evidence : Evidence) (steps : List Step) (new : Ports) (port : Port) : Type 0 where
   pub same : SamePort old new port
   pub told : AreTold outcome.Ok steps port
   pub uninterrupted : IsInterrupted evidence port → ⊥
@@ -450,7 +450,7 @@ pub record ServesReady (old : Moment) (evidence : Evidence) (steps : List Step) 
   pub anew : Contains evidence.failed port ⊎ Contains evidence.stopped port → NoneKeepsIssue steps new.machine port
   pub booted : SamePort old.ports new.ports port ⊎ NoneKeepsIssue steps new.machine port
   pub single : count_by (tells_fault port) steps ≤ 1
-  pub calm : IsDisturbed evidence steps port ⊎ IsCalm old.ports evidence steps new.ports port
+  pub calm : IsDisturbed evidence steps port ⊎ IsLeftAlone old.ports evidence steps new.ports port
 
 -- A call heeds what it finds: a service does so with each port that was ready when it began. (The other calls are bound by what
 -- they answer.)
