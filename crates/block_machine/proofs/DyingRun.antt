@@ -1,4 +1,4 @@
--- A run in which a port fails, is stopped, and gets stuck in its boot.
+-- A run in which a port meets a fatal error, is stopped, and gets stuck in its boot.
 use Rattle.std.proofs.Common.{◌≡◌, ℕ, ◌<◌, zero, suc, List, [], ◌∷◌, map, Ok, inl, inr, ⊎_elim, refl, ap, arith}
 use Rattle.std.proofs.lemmas.Bool.{false≢true}
 use Rattle.std.proofs.lemmas.List.Sorted.{IsPermutation-append_comm}
@@ -16,7 +16,7 @@ use Rattle.block_machine.specs.Events.{Submit, Service, Submitted, Served, Event
 use Rattle.block_machine.specs.Worked.{DiesInAService}
 use Rattle.block_machine.proofs.Members.{contains_none, contains_here, contains_there, contains_cases}
 use Rattle.block_machine.proofs.Setting.{port, frame, empty_starts, acceptable}
-use Rattle.block_machine.proofs.Scene.{mode, id, call, one_sector, ports_in, first, ready_port, IsQuiet, row_zero, write_at, new, none_waits, none_ended, none_unplugged, one_fault, ports_fit, none_dead}
+use Rattle.block_machine.proofs.Scene.{mode, id, call, one_sector, ports_in, first, ready_port, IsQuiet, row_zero, write_at, new, none_waits, none_ended, none_unplugged, no_faults, ports_fit, none_dead}
 use Rattle.block_machine.proofs.WaitingRun.{write, run1, happens1}
 use Rattle.block_machine.proofs.ResetRun.{dead_not_ready, dead_here}
 
@@ -30,21 +30,21 @@ submit = call (Submit other.asked) (Submitted (Ok (id 2))) (Issue mode (newly_ac
 abbrev run2 : List (Event (Unit {0}))
 run2 = submit ∷ run1
 
-abbrev failing : Pending
-failing = issue (newly_accepted write)
+abbrev one : Pending
+one = issue (newly_accepted write)
 
-abbrev kept : Pending
-kept = issue (newly_accepted other)
+abbrev two : Pending
+two = issue (newly_accepted other)
 
--- the port failed and told a fault; it was stopped, and got stuck then
+-- the port met a fatal error; it was stopped, and got stuck then
 abbrev seen : Evidence
-seen = record { faults = record { id = id 1; status = 65; error = 64 } ∷ []; lost = []; gone = []; failed = port ∷ []; stopped = port ∷ []; stuck = port ∷ [] }
+seen = record { faults = []; lost = []; gone = []; failed = port ∷ []; fatal = port ∷ []; stopped = port ∷ []; stuck = port ∷ [] }
 
 abbrev told : List (Pending × Outcome)
-told = (failing, outcome.DeviceError 65 64) ∷ (kept, outcome.PortDead) ∷ []
+told = (one, outcome.PortDead) ∷ (two, outcome.PortDead) ∷ []
 
 abbrev service : Event (Unit {0})
-service = record { ask = Service; said = Served (map reply_of told); evidence = seen; steps = Answer kept outcome.PortDead ∷ Answer failing (outcome.DeviceError 65 64) ∷ []; ports = ports_in Dead }
+service = record { ask = Service; said = Served (map reply_of told); evidence = seen; steps = Answer two outcome.PortDead ∷ Answer one outcome.PortDead ∷ []; ports = ports_in Dead }
 
 abbrev run3 : List (Event (Unit {0}))
 run3 = service ∷ run2
@@ -57,7 +57,7 @@ second a b = contains_there a (b ∷ []) b (contains_here b [] b refl)
 
 happens2 : Happens (moment_of first run1) submit
 happens2 = record {
-  may = ((tt, new 0 (moment_of first run1) other quiet (write_at 0 (moment_of first run1) 101 41 quiet (omega arith) (omega arith) refl refl) refl refl refl), (second failing (newly_accepted other), record { here = second (unanswered failing) (unanswered (newly_accepted other)); clear = refl; slot = λ _. omega arith }, λ e h. absurd (contains_none e h)));
+  may = ((tt, new 0 (moment_of first run1) other quiet (write_at 0 (moment_of first run1) 101 41 quiet (omega arith) (omega arith) refl refl) refl refl refl), (second one (newly_accepted other), record { here = second (unanswered one) (unanswered (newly_accepted other)); clear = refl; slot = λ _. omega arith }, λ e h. absurd (contains_none e h)));
   belong = ((tt, inr refl), inr (refl, refl));
   last = ((tt, λ id h i. false≢true i), λ id h i. false≢true i);
   lawful = tt;
@@ -69,7 +69,7 @@ happens2 = record {
 tells : Tells service.steps (map reply_of told)
 tells = record {
   answers = told;
-  same = IsPermutation-append_comm ((failing, outcome.DeviceError 65 64) ∷ []) ((kept, outcome.PortDead) ∷ []);
+  same = IsPermutation-append_comm ((one, outcome.PortDead) ∷ []) ((two, outcome.PortDead) ∷ []);
   ordered = go;
   told = refl;
 }
@@ -80,19 +80,16 @@ tells = record {
 
 happens3 : Happens (moment_of first run2) service
 happens3 = record {
-  may = ((tt, contains_here failing (kept ∷ []) failing refl), contains_here kept [] kept refl);
+  may = ((tt, contains_here one (two ∷ []) one refl), contains_here two [] two refl);
   belong = ((tt, inr tt), inr tt);
   last = ((tt, λ id h i. false≢true i), λ id h i. false≢true i);
-  lawful = (
-    (tt, (record { pending = failing; here = contains_here failing (kept ∷ []) failing refl; id_is = refl; issued = refl }, refl, contains_here _ [] _ refl, contains_here port [] port refl)),
-    (refl, inr (contains_here port [] port refl)),
-  );
+  lawful = ((tt, (refl, inr (contains_here port [] port refl))), (refl, inr (contains_here port [] port refl)));
   fit = ports_fit Dead refl;
   disks = λ e o h i same. (refl, refl);
   answered = record {
     tells = tells;
     dead = λ e o h dead. none_dead e.request.port dead;
-    grounded = (tt, contains_here port [] port refl);
+    grounded = tt;
     unplugs = none_unplugged service.steps (moment_of first run3).machine refl;
     issues = λ p ready. dead_not_ready p ready;
     emptied = λ p ne e h. absurd (contains_none e h);
@@ -114,8 +111,9 @@ notices p ready = record {
   told = λ gone. absurd (contains_none p gone);
   interrupts = λ _. inl (contains_here port [] p (ready_port p ready));
   anew = λ _ e h. absurd (contains_none e h);
-  booted = inr (λ e h. absurd (contains_none e h));
-  single = one_fault (Answer kept outcome.PortDead ∷ []) (Answer failing (outcome.DeviceError 65 64)) [] refl refl p;
+  changes = inr (inl (contains_here port [] p (ready_port p ready)));
+  single = let zero = no_faults service.steps refl p in omega (arith, zero);
+  fatal = λ _. no_faults service.steps refl p;
   calm = inl (inl (contains_here port [] p (ready_port p ready)));
 }
 
@@ -126,8 +124,8 @@ dies_in_a_service = record {
   service = service;
   runs = ((((empty_starts, ports_fit Ready refl), happens1), happens2), happens3);
   heeds = (((tt, tt), tt), notices);
-  failed = failing;
-  kept = kept;
+  one = one;
+  two = two;
   book = refl;
   issued = (refl, refl);
   together = refl;
@@ -138,7 +136,7 @@ dies_in_a_service = record {
   sticks = contains_here port [] port refl;
   answers = refl;
   dies = refl;
-  stays = refl;
+  stay = refl;
   frame = frame 41;
   its = refl;
   lent = refl;

@@ -42,7 +42,7 @@ restarts = Issue mode waits ∷ Again (aged 3) ∷ []
 
 -- the port's engine was seen to stop, or the adapter's reset to end
 abbrev pub halted : Evidence
-halted = record { faults = []; lost = []; gone = []; failed = []; stopped = port ∷ []; stuck = [] }
+halted = record { faults = []; lost = []; gone = []; failed = []; fatal = []; stopped = port ∷ []; stuck = [] }
 
 abbrev restarting : Event (Unit {0})
 restarting = record (tick restarts) { evidence = halted }
@@ -54,7 +54,7 @@ abbrev again : Pending
 again = issue waits
 
 abbrev seen : Evidence
-seen = record { faults = []; lost = []; gone = []; failed = []; stopped = []; stuck = port ∷ [] }
+seen = record { faults = []; lost = []; gone = []; failed = []; fatal = []; stopped = []; stuck = port ∷ [] }
 
 abbrev stuck : Event (Unit {0})
 stuck = record { ask = Reset; said = WasReset None; evidence = seen; steps = []; ports = ports_in Dead }

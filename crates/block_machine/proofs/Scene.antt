@@ -54,7 +54,7 @@ abbrev pub id : ℕ → RequestId
 id n = record { 0 = n }
 
 abbrev pub none : Evidence
-none = record { faults = []; lost = []; gone = []; failed = []; stopped = []; stuck = [] }
+none = record { faults = []; lost = []; gone = []; failed = []; fatal = []; stopped = []; stuck = [] }
 
 abbrev pub call : Ask (Unit {0}) → Said → List Step → Event (Unit {0})
 call ask said steps = record { ask = ask; said = said; evidence = none; steps = steps; ports = ports }
@@ -369,7 +369,8 @@ calmly old new steps p same ok ended = record {
   told = λ gone. absurd (contains_none p gone);
   interrupts = λ trouble. ⊎_elim (λ failed. absurd (contains_none p failed)) (λ gone. absurd (contains_none p gone)) trouble;
   anew = λ trouble. ⊎_elim (λ failed. absurd (contains_none p failed)) (λ stopped. absurd (contains_none p stopped)) trouble;
-  booted = inl same;
+  changes = inl same;
+  fatal = λ h. absurd (contains_none p h);
   single = let zero = counts_none is_refused p (λ step t. fault_refused step (its_fault p step t)) steps ok in omega (arith, zero);
   calm = inr (record { same = same; told = told_ok steps ok p; uninterrupted = λ i. ⊎_elim (contains_none p) (contains_none p) i });
 }

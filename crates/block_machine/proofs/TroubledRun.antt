@@ -89,7 +89,7 @@ losing = issue (newly_accepted lost)
 
 -- port 0 failed and told a fault, and port 1 told that its disk went; both were stopped
 abbrev trouble : Evidence
-trouble = record { faults = record { id = id 2; status = 65; error = 64 } ∷ []; lost = on 1 ∷ []; gone = on 1 ∷ []; failed = on 0 ∷ []; stopped = on 0 ∷ on 1 ∷ []; stuck = [] }
+trouble = record { faults = record { id = id 2; status = 65; error = 64 } ∷ []; lost = on 1 ∷ []; gone = on 1 ∷ []; failed = on 0 ∷ []; fatal = []; stopped = on 0 ∷ on 1 ∷ []; stuck = [] }
 
 abbrev requeuing : List Step
 requeuing = Again (tried 1) ∷ Answer failing (outcome.DeviceError 65 64) ∷ Answer (done finished) outcome.Ok ∷ []
@@ -111,7 +111,7 @@ run7 = service ∷ run6
 
 -- port 0 failed, and was stopped
 abbrev failure : Evidence
-failure = record { faults = []; lost = []; gone = []; failed = on 0 ∷ []; stopped = on 0 ∷ []; stuck = [] }
+failure = record { faults = []; lost = []; gone = []; failed = on 0 ∷ []; fatal = []; stopped = on 0 ∷ []; stuck = [] }
 
 -- a service that issues it again
 abbrev retry : ℕ → Event (Unit {0})
@@ -319,6 +319,10 @@ told_one e (outcome.DeviceError status error) one h = absurd (false≢true (sym 
 told_one e outcome.Aborted one h = absurd (false≢true (sym h ∙ eq-eqb e.request.port.0 1 one))
 told_one e outcome.PortDead one h = absurd (false≢true (sym h ∙ eq-eqb e.request.port.0 1 one))
 
+-- both ready ports were stopped
+stopped : (p : Port) → both Ready Ready p ≡ Ready → Contains (on 0 ∷ on 1 ∷ []) p
+stopped p ready = ⊎_elim (λ (same : p ≡ on 1). contains_there (on 0) (on 1 ∷ []) p (contains_here (on 1) [] p same)) (λ still. contains_here (on 0) (on 1 ∷ []) p (zero_ready p still)) (still_ready p ready)
+
 -- what each ready port finds of it
 serves_ready : (p : Port) → both Ready Ready p ≡ Ready → ServesReady (moment_of first run6) trouble serving (moment_of first run7) p
 serves_ready p ready = record {
@@ -327,9 +331,10 @@ serves_ready p ready = record {
       (fourth (Issue mode (requeued (tried 1))) (Again (tried 1)) (Answer failing (outcome.DeviceError 65 64)) (Answer (done finished) outcome.Ok))) p;
   emptied = λ gone e h q. other_port gone e h q;
   told = λ gone. inl (λ e o h here. told_one e o (ap (λ (x : Port). x.0) (here ∙ only_one gone)) (none_of tells_other serving (Answer e o) refl h));
-  interrupts = λ _. inl (⊎_elim (λ (same : p ≡ on 1). contains_there (on 0) (on 1 ∷ []) p (contains_here (on 1) [] p same)) (λ still. contains_here (on 0) (on 1 ∷ []) p (zero_ready p still)) (still_ready p ready));
+  interrupts = λ _. inl (stopped p ready);
   anew = λ _ e h _ _. left_anew 2 serving refl e h;
-  booted = inr (λ e h _ _. left_anew 2 serving refl e h);
+  changes = inr (inl (stopped p ready));
+  fatal = λ h. absurd (contains_none p h);
   single = one_fault (Answer losing outcome.Unplugged ∷ Issue mode (requeued (tried 1)) ∷ Again (tried 1) ∷ []) (Answer failing (outcome.DeviceError 65 64)) (Answer (done finished) outcome.Ok ∷ []) refl refl p;
   calm = inl (⊎_elim (λ same. inr (inl (contains_here (on 1) [] p same))) (λ still. inl (contains_here (on 0) [] p (zero_ready p still))) (still_ready p ready));
 }
@@ -411,7 +416,8 @@ fails old new steps p ready none faults anew = record {
   told = λ gone. absurd (contains_none p gone);
   interrupts = λ _. inl (contains_here (on 0) [] p (zero_ready p ready));
   anew = λ _. anew;
-  booted = inr anew;
+  changes = inr (inl (contains_here (on 0) [] p (zero_ready p ready)));
+  fatal = λ h. absurd (contains_none p h);
   single = let zero = no_faults steps faults p in omega (arith, zero);
   calm = inl (inl (contains_here (on 0) [] p (zero_ready p ready)));
 }

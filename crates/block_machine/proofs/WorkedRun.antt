@@ -91,7 +91,7 @@ run9 = event9 ∷ run8
 
 -- what the device vouches for where port 0 told that its disk went
 abbrev gone : Evidence
-gone = record { faults = []; lost = port ∷ []; gone = port ∷ []; failed = []; stopped = port ∷ []; stuck = [] }
+gone = record { faults = []; lost = port ∷ []; gone = port ∷ []; failed = []; fatal = []; stopped = port ∷ []; stuck = [] }
 
 -- a service notices
 abbrev event10 : Event (Unit {0})
@@ -107,9 +107,12 @@ event11 disk = record { ask = Device tt; said = Stepped true; evidence = none; s
 abbrev run11 : Disk → List (Event (Unit {0}))
 run11 disk = event11 disk ∷ run10
 
--- a service boots the port
+-- a service boots the port, which it stops first
+abbrev booting : Evidence
+booting = record { faults = []; lost = port ∷ []; gone = []; failed = []; fatal = []; stopped = port ∷ []; stuck = [] }
+
 abbrev event12 : Event (Unit {0})
-event12 = call Service (Served []) []
+event12 = record { ask = Service; said = Served []; evidence = booting; steps = []; ports = ports_in Ready }
 
 abbrev run12 : Disk → List (Event (Unit {0}))
 run12 disk = event12 ∷ run11 disk
@@ -352,7 +355,8 @@ notices p ready = record {
   told = λ _. inl (λ e o h. absurd (contains_none (Answer e o) h));
   interrupts = λ _. inl (contains_here port [] p (ready_port p ready));
   anew = λ _ e h. absurd (contains_none e h);
-  booted = inr (λ e h. absurd (contains_none e h));
+  changes = inr (inl (contains_here port [] p (ready_port p ready)));
+  fatal = λ h. absurd (contains_none p h);
   single = omega arith;
   calm = inl (inr (inl (contains_here port [] p (ready_port p ready))));
 }

@@ -178,7 +178,8 @@ pub record WasIssued (m : Machine) (id : RequestId) : Type 0 where
   pub id_is : pending.request.id ≡ id
   pub issued : pending.issued ≡ true
 
--- What stands behind each outcome. An Ok, a fault and an abort are of a request that was issued when the call began. Of an Ok
+-- What stands behind each outcome. An Ok, a fault and an abort are of a request that was issued when the call began; Unplugged is of
+-- one on a port that was lost. Of an Ok
 -- each sector was touched since the last issue, and it was ended. A fault is told of a request that is issued. An abort comes
 -- after four issues, and leaves the port ready. An issued request's frames are given back only where it ended or its port stopped:
 -- else they may still be written. And PortDead leaves the port dead: it was so when the call began, or its engine or adapter is stuck.
@@ -332,7 +333,8 @@ AllGrounded evidence (Answer e (outcome.DeviceError status error) ∷ before) = 
 AllGrounded evidence (step ∷ before) = AllGrounded evidence before
 
 -- What a service says and does. It tells dead ports; it lets requests wait again, aborts them, or tells faults of them, where
--- something failed; and it leaves no request unanswered where the port isn't ready.
+-- something failed; it issues what is due; it leaves no request unanswered where the port isn't ready; and it makes of each port
+-- what it may.
 pub record AnswersService (old : Moment) (evidence : Evidence) (steps : List Step) (replies : List Reply) (new : Moment) : Type 0 where
   pub tells : Tells steps replies
   pub dead : TellsDead old steps
@@ -353,7 +355,7 @@ pub record AnswersTick (old : Moment) (evidence : Evidence) (steps : List Step) 
   pub emptied : (port : Port) → old.ports.state port ≡ Ready → IsEmptied new port
 
 -- What a reset that ends makes of each port: it boots it, none of its requests keeps an issue, none is unanswered where it isn't
--- ready then, and a port that is served has stopped.
+-- ready then, a port that is served has stopped, and one that gets ready had a disk.
 pub record IsRebooted (old : Moment) (evidence : Evidence) (steps : List Step) (new : Moment) (port : Port) : Type 0 where
   pub emptied : IsEmptied new port
   pub becomes : MayBecome old.ports evidence new.ports port
@@ -423,7 +425,7 @@ IsRun first (event ∷ past) = IsRun first past × Happens (moment_of first past
 
 -- ---- what a service makes of trouble
 
--- the port failed, or its disk had gone when the call began, or one goes or comes in it
+-- the port failed, or its link had told of a change when the call began, or a disk goes or comes in it
 abbrev pub IsDisturbed : Evidence → List Step → Port → Type 0
 IsDisturbed evidence steps port = Contains evidence.failed port ⊎ Contains evidence.gone port ⊎ (list_any (changes_disk port) steps ≡ true)
 
@@ -438,18 +440,19 @@ pub record IsLeftAlone (old : Ports) (evidence : Evidence) (steps : List Step) (
   pub told : AreTold outcome.Ok steps port
   pub uninterrupted : IsInterrupted evidence port → ⊥
 
--- What a service owes a port that was ready when it began. What had ended is answered Ok. Where the port's disk had gone, all its
--- requests are answered, and those that aren't Ok are all told Unplugged, or all PortDead. Where that is so, or it failed, the port
--- is stopped, or gets stuck. Where it failed or was stopped, no request keeps its issue, and so where the port isn't what it was:
--- it was booted then. One fault is told at most. And where nothing disturbs it, the port is left in peace.
+-- What a service owes a port that was ready when it began. What had ended is answered Ok. Where the port's link had told of a
+-- change, all its requests are answered, and those that aren't Ok are all told Unplugged, or all PortDead. Where that is so, or it
+-- failed, the port is stopped, or gets stuck; and so where it isn't what it was. Where it failed or was stopped, no request keeps
+-- its issue. One fault is told at most, and none where an error was fatal. And where nothing disturbs it, the port is left alone.
 pub record ServesReady (old : Moment) (evidence : Evidence) (steps : List Step) (new : Moment) (port : Port) : Type 0 where
   pub ended : AnswersEnded old.machine steps port
   pub emptied : Contains evidence.gone port → (e : Pending) → Contains new.machine.book e → e.request.port ≢ port
   pub told : Contains evidence.gone port → AreTold outcome.Unplugged steps port ⊎ AreTold outcome.PortDead steps port
   pub interrupts : Contains evidence.failed port ⊎ Contains evidence.gone port → IsInterrupted evidence port
+  pub changes : SamePort old.ports new.ports port ⊎ IsInterrupted evidence port
   pub anew : Contains evidence.failed port ⊎ Contains evidence.stopped port → NoneKeepsIssue steps new.machine port
-  pub booted : SamePort old.ports new.ports port ⊎ NoneKeepsIssue steps new.machine port
   pub single : count_by (tells_fault port) steps ≤ 1
+  pub fatal : Contains evidence.fatal port → count_by (tells_fault port) steps ≡ 0
   pub calm : IsDisturbed evidence steps port ⊎ IsLeftAlone old.ports evidence steps new.ports port
 
 -- A call heeds what it finds: a service does so with each port that was ready when it began. (The other calls are bound by what

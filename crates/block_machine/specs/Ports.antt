@@ -52,23 +52,27 @@ pub record Fault : Type 0 where
 -- What the device vouches for in a call.
 -- `faults`: of requests, each named with its bytes by the task file, or by the log page, that was read in the call.
 -- `lost`: ports that had N or X of PxSERR set, or a DET other than 3, when the call began; ports of which a disk went or came in
--- it; and ports that end it neither dead nor ready with serial and size as when they were last ready.
--- `gone`: of these, those that had N or X set when the call began, or a DET other than 3 and no disk was put in in the call.
--- `failed`: ports that had TFES, HBDS, HBFS or IFS in PxIS when the call began, or of which one was read in it.
--- `stopped`: ports whose CR was read 0 in it after ST was cleared, and those of an adapter that ended its reset in it.
--- `stuck`: ports whose CR or FR was read 1 as often as a wait may read it, and those of an adapter that didn't end its reset.
--- A port may be in both of these: stopped first, and stuck later. `faults` and `lost` may name fewer; the others name all. The
--- layer that knows the device backs each.
+-- it; and ports that end it neither dead nor ready with serial and size as when they were last ready before it.
+-- `gone`: ports that were ready when the call began, and had N or X set then; or a DET other than 3, where no disk was put in in
+-- the call.
+-- `failed`: ports that were ready when the call began, and had TFES, HBDS, HBFS or IFS in PxIS then, or of which one was read in
+-- it. `fatal`: those of them where it was HBDS, HBFS or IFS.
+-- `stopped`: ports whose CR was read 0 in the call after ST was cleared; and the served ports, where the call is a reset that ended.
+-- `stuck`: ports of which a wait of the call read CR, or FR, as 1 at each of its 64 readings; and the served ports, where the call
+-- is a reset that the adapter didn't end.
+-- A port may be in both of these: stopped first, and stuck later. `faults` and `lost` may leave some out; the others name all.
+-- The layer that knows the device backs each.
 pub record Evidence : Type 0 where
   pub faults : List Fault
   pub lost : List Port
   pub gone : List Port
   pub failed : List Port
+  pub fatal : List Port
   pub stopped : List Port
   pub stuck : List Port
 
--- What a call that looks at the port, or boots it, may make of it: a port is dead after it where it got stuck; and one that was
--- ready and isn't lost is dead, or still ready with its disk.
+-- What a call that looks at the port, or boots it, may make of it: a port is served as it was; it is dead after the call exactly
+-- where it got stuck in it; and one that was ready and isn't lost is dead, or still ready with its disk.
 pub record MayBecome (old : Ports) (evidence : Evidence) (new : Ports) (port : Port) : Type 0 where
   pub served : new.served port ≡ old.served port
   pub stuck : new.state port ≡ Dead → Contains evidence.stuck port
@@ -76,7 +80,7 @@ pub record MayBecome (old : Ports) (evidence : Evidence) (new : Ports) (port : P
   pub disk : old.state port ≡ Ready
       → Contains evidence.lost port ⊎ ((new.state port ≡ Dead) ⊎ ((new.state port ≡ Ready) × SameDisk old new port))
 
--- What a service may make of it: a dead port stays what it is, since a reset alone ends that, and nothing new stands behind it;
+-- What a service may make of it: a dead port stays what it is, since a reset alone ends that;
 -- another becomes what a call that looks at it may make of it.
 abbrev pub IsServiced : Ports → Evidence → Ports → Port → Type 0
 IsServiced old evidence new port = (old.state port ≡ Dead → SamePort old new port) × (old.state port ≢ Dead → MayBecome old evidence new port)

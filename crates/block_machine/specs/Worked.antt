@@ -233,30 +233,30 @@ pub record GoesAgainInResets : Type 0 where
   pub after_four : (moment_of first (four ∷ three ∷ two ∷ one ∷ asked)).machine.book ≡ turn ∷ []
   pub issues : (turn.request ≡ waits.request) × (turn.issued ≡ true)
 
--- In a run of calls two requests are issued on a port that fails. A service stops it, tells the fault of the one request, and boots
--- it; it gets stuck in that. So the other request is answered PortDead, and its frame stays lent.
+-- In a run of calls two requests are issued on a port that meets a fatal error. A service stops it and boots it, and it gets stuck
+-- in that. So the requests are answered PortDead, and their frames stay lent.
 pub record DiesInAService : Type 0 where
   pub first : Moment
   pub asked : List (Event (Unit {0}))
   pub service : Event (Unit {0})
   pub runs : IsRun first (service ∷ asked)
   pub heeds : AllHeed first (service ∷ asked)
-  pub failed : Pending
-  pub kept : Pending
-  pub book : (moment_of first asked).machine.book ≡ failed ∷ kept ∷ []
-  pub issued : (failed.issued ≡ true) × (kept.issued ≡ true)
-  pub together : kept.request.port ≡ failed.request.port
-  pub ready : (moment_of first asked).ports.state kept.request.port ≡ Ready
+  pub one : Pending
+  pub two : Pending
+  pub book : (moment_of first asked).machine.book ≡ one ∷ two ∷ []
+  pub issued : (one.issued ≡ true) × (two.issued ≡ true)
+  pub together : two.request.port ≡ one.request.port
+  pub ready : (moment_of first asked).ports.state one.request.port ≡ Ready
   pub serves : service.ask ≡ Service
-  pub fails : Contains service.evidence.failed kept.request.port
-  pub stops : Contains service.evidence.stopped kept.request.port
-  pub sticks : Contains service.evidence.stuck kept.request.port
-  pub answers : service.said ≡ Served (reply_of (failed, DeviceError 65 64) ∷ reply_of (kept, PortDead) ∷ [])
-  pub dies : service.ports.state kept.request.port ≡ Dead
-  pub stays : (moment_of first (service ∷ asked)).machine.kept ≡ kept ∷ []
+  pub fails : Contains service.evidence.fatal one.request.port
+  pub stops : Contains service.evidence.stopped one.request.port
+  pub sticks : Contains service.evidence.stuck one.request.port
+  pub answers : service.said ≡ Served (reply_of (one, PortDead) ∷ reply_of (two, PortDead) ∷ [])
+  pub dies : service.ports.state one.request.port ≡ Dead
+  pub stay : (moment_of first (service ∷ asked)).machine.kept ≡ two ∷ one ∷ []
   pub frame : Frame
-  pub its : kept.request.asked.frames.items ≡ frame ∷ []
-  pub lent : (moment_of first (service ∷ asked)).machine.lent frame ≡ Some kept.request.id
+  pub its : two.request.asked.frames.items ≡ frame ∷ []
+  pub lent : (moment_of first (service ∷ asked)).machine.lent frame ≡ Some two.request.id
 
 -- The machine without the rule that nothing is issued while a kept request is left on the port.
 abbrev pub LooseMay : Machine → Step → Type 0

@@ -340,7 +340,7 @@ pub fn a_rebooted_run_exists()
     ensures { GoesAgainInResets }
 {}
 
-/// A run exists in which a port fails, is stopped by a service, and gets stuck in its boot.
+/// A run exists in which a port meets a fatal error, is stopped by a service, and gets stuck in its boot.
 pub fn a_dying_run_exists()
     ensures { DiesInAService }
 {}
