@@ -91,6 +91,10 @@ touched_request : (e : Pending) (from n : ℕ) → (touched_by e from n).request
 touched_request e from zero = refl
 touched_request e from (suc n) = touched_request e from n
 
+touched_ended : (e : Pending) (from n : ℕ) → (touched_by e from n).ended ≡ e.ended
+touched_ended e from zero = refl
+touched_ended e from (suc n) = touched_ended e from n
+
 touched_upto : (e : Pending) (from n : ℕ) → UpTo e.touched from → UpTo (touched_by e from n).touched (from + n)
 touched_upto e from zero h = subst (λ (k : ℕ). UpTo e.touched k) (let q : from ≡ from + 0 = omega arith in q) h
 touched_upto e from (suc n) h =
@@ -296,6 +300,7 @@ module _ (uses : Uses) (m : Machine) (d : Device) (a : Agrees uses m d) (port sl
                 sact = x.sact;
                 progress = subst (λ (o : Op). Progress o d.memory port (touched_by h.pending t.cleared count) (record t { cleared = t.cleared + count })) (sym (ap (λ (j : Accepted). j.asked.op) (touched_request h.pending t.cleared count) ∙ op))
                     (touched_upto h.pending t.cleared count was.0, inr ((let mv : t.moved ≡ length t.places = can.moved in let r : t.moved ≡ 1 = omega (arith, mv, one_place) in r), subst (λ (j : Accepted). MeansRange t.block j) (sym (touched_request h.pending t.cleared count)) range));
+                unended = touched_ended h.pending t.cleared count ∙ x.unended;
               }));
             });
         fre = refl;

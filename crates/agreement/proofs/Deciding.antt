@@ -40,10 +40,10 @@ module _ (memory : ℕ → ℕ) (p : PortState) (port slot : ℕ) (e : Pending) 
   progress_of Flush t h = h
 
   stage_of : Stage memory p port slot e c places → Stage memory p port slot (record e { issues = issues; age = age; issued = issued }) c places
-  stage_of (inl w) = inl (record { started = w.started; issued = w.issued; free = w.free; sact = w.sact; block = w.block; untouched = w.untouched })
-  stage_of (inr (inl t)) = inr (inl (record { command = t.command; taken = t.taken; meaning = t.meaning; places_are = t.places_are; running = t.running; issued = t.issued; sact = t.sact; progress = progress_of e.request.asked.op t.command t.progress }))
+  stage_of (inl w) = inl (record { started = w.started; issued = w.issued; free = w.free; sact = w.sact; block = w.block; untouched = w.untouched; unended = w.unended })
+  stage_of (inr (inl t)) = inr (inl (record { command = t.command; taken = t.taken; meaning = t.meaning; places_are = t.places_are; running = t.running; issued = t.issued; sact = t.sact; progress = progress_of e.request.asked.op t.command t.progress; unended = t.unended }))
   stage_of (inr (inr (inl x))) = inr (inr (inl (record { issued = x.issued; sact = x.sact; free = x.free; ended = x.ended; touched = x.touched })))
-  stage_of (inr (inr (inr x))) = inr (inr (inr x))
+  stage_of (inr (inr (inr x))) = inr (inr (inr (record { stopped = x.stopped; issued = x.issued; sact = x.sact; free = x.free; unended = x.unended })))
 
 -- each request that may move may so afterwards, perhaps older or issued more often
 pub record GoesOn (m m' : Machine) (e : Pending) : Type 0 where

@@ -52,12 +52,13 @@ pub record TakenAs (memory : ℕ → ℕ) (p : PortState) (port slot : ℕ) (e :
   pub issued : p.ci slot ≡ p.st && not (is_queued c.operation)
   pub sact : p.sact slot ≡ p.st && is_queued c.operation
   pub progress : Progress e.request.asked.op memory port e t
+  pub unended : e.ended ≡ false
 
 pub taken_as : (memory : ℕ → ℕ) (p : PortState) (port slot : ℕ) (e : Pending) (c : Meaning) (places : List ℕ) (t : Taken) → p.taken slot ≡ Some t → Stage memory p port slot e c places → TakenAs memory p port slot e c places t
 taken_as memory p port slot e c places t is (inl w) = some_none is w.free
 taken_as memory p port slot e c places t is (inr (inl x)) =
     subst (λ (u : Taken). TakenAs memory p port slot e c places u) (some_same (sym x.taken ∙ is))
-    (record { meaning = x.meaning; places_are = x.places_are; running = x.running; issued = x.issued; sact = x.sact; progress = x.progress })
+    (record { meaning = x.meaning; places_are = x.places_are; running = x.running; issued = x.issued; sact = x.sact; progress = x.progress; unended = x.unended })
 taken_as memory p port slot e c places t is (inr (inr (inl x))) = some_none is x.free
 taken_as memory p port slot e c places t is (inr (inr (inr x))) = some_none is x.free
 
@@ -109,10 +110,10 @@ module _ (uses : Uses) (m : Machine) (d : Device) (a : Agrees uses m d) (reached
     means = means_taken port slot h.pending.request h.command t.meaning h.places t.places x.meaning x.places_are h.means
 
     -- the slot after a sector of a read or write
-    moved_slot : (m' : Machine) (memory' : ℕ → ℕ) (later : List Entry) (disk : Disk) (e' : Pending) (t' : Taken) → SameTable d.memory memory' port slot → machine.MayMove m' e' → e'.request ≡ h.pending.request →
+    moved_slot : (m' : Machine) (memory' : ℕ → ℕ) (later : List Entry) (disk : Disk) (e' : Pending) (t' : Taken) → SameTable d.memory memory' port slot → machine.MayMove m' e' → e'.request ≡ h.pending.request → e'.ended ≡ h.pending.ended →
         t'.meaning ≡ t.meaning → t'.places ≡ t.places → Progress e'.request.asked.op memory' port e' t' →
         IsServed m' memory' later (record (d.port port) { taken = changed (d.port port).taken slot (Some t'); disk = disk }) port slot (Serves id)
-    moved_slot m' memory' later disk e' t' tables moves request meaning places progress = record {
+    moved_slot m' memory' later disk e' t' tables moves request ended meaning places progress = record {
       pending = e';
       moves = moves;
       id_is = ap (λ (r : state.Accepted). r.id) request ∙ h.id_is;
@@ -131,6 +132,7 @@ module _ (uses : Uses) (m : Machine) (d : Device) (a : Agrees uses m d) (reached
         issued = x.issued;
         sact = x.sact;
         progress = progress;
+        unended = ended ∙ x.unended;
       }));
     }
 
@@ -242,7 +244,7 @@ module _ (uses : Uses) (m : Machine) (d : Device) (a : Agrees uses m d) (reached
           others = others_same (d.port port).disk _;
           here = subst (λ (v : Use). IsServed (after_step m (Touch h.pending t.moved (slice_index bytes))) new_memory later (record (d.port port) { taken = changed (d.port port).taken slot (Some (record t { moved = t.moved + 1 })); disk = (d.port port).disk }) port slot v) (sym u)
               (moved_slot (after_step m (Touch h.pending t.moved (slice_index bytes))) new_memory later (d.port port).disk (touch t.moved h.pending) (record t { moved = t.moved + 1 })
-              (fixed.tables port slot serves_used h.placed.port_below h.placed.slot_below) (touch_moves m h.pending t.moved (slice_index bytes) h.moves) refl refl refl progress);
+              (fixed.tables port slot serves_used h.placed.port_below h.placed.slot_below) (touch_moves m h.pending t.moved (slice_index bytes) h.moves) refl refl refl refl progress);
           fre = refl;
           received_at = refl;
           present = refl;
@@ -312,7 +314,7 @@ module _ (uses : Uses) (m : Machine) (d : Device) (a : Agrees uses m d) (reached
           others = others_same _ _;
           here = subst (λ (v : Use). IsServed (after_step m (Touch h.pending t.moved (slice_index bytes))) d.memory (d.tape ++ entry.Move (move_of port slot t bytes) ∷ []) (record (d.port port) { taken = changed (d.port port).taken slot (Some (record t { moved = t.moved + 1 })); disk = disk_with (d.port port).disk (next_sector t) bytes }) port slot v) (sym u)
               (moved_slot (after_step m (Touch h.pending t.moved (slice_index bytes))) d.memory (d.tape ++ entry.Move (move_of port slot t bytes) ∷ []) (disk_with (d.port port).disk (next_sector t) bytes) (touch t.moved h.pending) (record t { moved = t.moved + 1 })
-              (λ _ _. refl) (touch_moves m h.pending t.moved (slice_index bytes) h.moves) refl refl refl progressed);
+              (λ _ _. refl) (touch_moves m h.pending t.moved (slice_index bytes) h.moves) refl refl refl refl progressed);
           fre = refl;
           received_at = refl;
           present = refl;
@@ -373,7 +375,7 @@ module _ (uses : Uses) (m : Machine) (d : Device) (a : Agrees uses m d) (reached
           fixed = fixed_more uses d.memory d.tape (entry.Move (move_of port slot t bytes)) (clients_move uses m d a port slot t bytes Trim o);
           others = others_same _ _;
           here = subst (λ (v : Use). IsServed m d.memory (d.tape ++ entry.Move (move_of port slot t bytes) ∷ []) (record (d.port port) { taken = changed (d.port port).taken slot (Some (record t { moved = t.moved + 1; block = bytes })); disk = (d.port port).disk }) port slot v) (sym u)
-              (moved_slot m d.memory (d.tape ++ entry.Move (move_of port slot t bytes) ∷ []) (d.port port).disk h.pending (record t { moved = t.moved + 1; block = bytes }) (λ _ _. refl) h.moves refl refl refl fetched);
+              (moved_slot m d.memory (d.tape ++ entry.Move (move_of port slot t bytes) ∷ []) (d.port port).disk h.pending (record t { moved = t.moved + 1; block = bytes }) (λ _ _. refl) h.moves refl refl refl refl fetched);
           fre = refl;
           received_at = refl;
           present = refl;

@@ -184,6 +184,7 @@ module _ (uses : Uses) (m : Machine) (d : Device) (reached : IsReached m) (a : A
       sact = x.sact;
       block = x.block;
       untouched = λ i. sym (none_below i);
+      unended = refl;
     });
   }
 

@@ -213,9 +213,10 @@ module _ (uses : Uses) (m : Machine) (d : Device) (a : Agrees uses m d) where
         issued = t.issued ∙ ap (λ (b : Bool). b && not (is_queued h.command.operation)) st;
         sact = t.sact ∙ ap (λ (b : Bool). b && is_queued h.command.operation) st;
         free = refl;
+        unended = t.unended;
       })))
       stage (inr (inr (inl x))) = inr (inr (inl (record { issued = x.issued; sact = x.sact; free = refl; ended = x.ended; touched = x.touched })))
-      stage (inr (inr (inr x))) = inr (inr (inr (record { stopped = x.stopped; issued = x.issued; sact = x.sact; free = refl })))
+      stage (inr (inr (inr x))) = inr (inr (inr (record { stopped = x.stopped; issued = x.issued; sact = x.sact; free = refl; unended = x.unended })))
 
   pub fall_follows : (port : ℕ) → (d.port port).st ≡ false → Follows uses m d (after (Fall port) d)
   fall_follows port st = silent _ refl refl (same_plugged d port _ refl) (record {
@@ -253,10 +254,15 @@ module _ (uses : Uses) (m : Machine) (d : Device) (a : Agrees uses m d) where
     stage = ended h.stage;
   }
     where
+      dropped : h.pending.ended ≡ false → Stage d.memory (with_reset (d.port port)) port k h.pending h.command h.places
+      dropped unended = inr (inr (inr (record { stopped = refl; issued = refl; sact = refl; free = refl; unended = unended })))
+
       -- what had ended has ended still
       ended : Stage d.memory (d.port port) port k h.pending h.command h.places → Stage d.memory (with_reset (d.port port)) port k h.pending h.command h.places
+      ended (inl w) = dropped w.unended
+      ended (inr (inl t)) = dropped t.unended
       ended (inr (inr (inl x))) = inr (inr (inl (record { issued = refl; sact = refl; free = refl; ended = x.ended; touched = x.touched })))
-      ended _ = inr (inr (inr (record { stopped = refl; issued = refl; sact = refl; free = refl })))
+      ended (inr (inr (inr x))) = dropped x.unended
 
   pub reset_follows : Follows uses m d (after ResetEnds d)
   reset_follows = silent _ refl refl (λ q. refl) (record {

@@ -119,6 +119,7 @@ module _ (memory new_memory : ℕ → ℕ) (p new : PortState) (port slot : ℕ)
     sact = same.sact ∙ w.sact;
     block = block_on e.request.asked.op memory new_memory port e.request scratch w.block;
     untouched = w.untouched;
+    unended = w.unended;
   }
 
   taken_on : (e : Pending) (c : Meaning) (places : List ℕ) → (e.request.asked.op ≡ Trim → SameScratch memory new_memory port) → IsTaken memory p port slot e c places → IsTaken new_memory new port slot e c places
@@ -131,6 +132,7 @@ module _ (memory new_memory : ℕ → ℕ) (p new : PortState) (port slot : ℕ)
     issued = same.issued ∙ w.issued ∙ ap (λ (st : Bool). st && not (is_queued c.operation)) (sym same.st);
     sact = same.sact ∙ w.sact ∙ ap (λ (st : Bool). st && is_queued c.operation) (sym same.st);
     progress = progress_on e.request.asked.op memory new_memory port e w.command scratch w.progress;
+    unended = w.unended;
   }
 
   pub stage_on : (e : Pending) (c : Meaning) (places : List ℕ) → (e.request.asked.op ≡ Trim → SameScratch memory new_memory port) → Stage memory p port slot e c places → Stage new_memory new port slot e c places
@@ -148,6 +150,7 @@ module _ (memory new_memory : ℕ → ℕ) (p new : PortState) (port slot : ℕ)
     issued = same.issued ∙ x.issued;
     sact = same.sact ∙ x.sact;
     free = same.taken ∙ x.free;
+    unended = x.unended;
   })))
 
   -- and so does one of the driver's own

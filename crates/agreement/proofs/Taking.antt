@@ -130,6 +130,7 @@ module _ (uses : Uses) (m : Machine) (d : Device) (a : Agrees uses m d) (port sl
               issued = fallen_if (is_queued c.operation) (d.port port).ci slot can.fetchable.issued ∙ ap not queued ∙ ap (λ (st : Bool). st && not (is_queued h.command.operation)) (sym can.fetchable.st);
               sact = x.sact ∙ ap (λ (st : Bool). st && is_queued h.command.operation) (sym can.fetchable.st);
               progress = started h.pending.request.asked.op d.memory port h.pending c places x.block x.untouched;
+              unended = x.unended;
             }))
         of (inr (inl x)) = some_none x.taken can.fetchable.free
         of (inr (inr (inl x))) = true_false can.fetchable.issued x.issued

@@ -148,6 +148,7 @@ module _ (uses : Uses) (m : Machine) (d : Device) (a : Agrees uses m d) (port : 
         issued = fallen_bit (d.port port).st (d.port port).ci k (λ s. true_false w.started s);
         sact = fallen_bit (d.port port).st (d.port port).sact k (λ s. true_false w.started s);
         free = w.free;
+        unended = w.unended;
       })))
       stage (inr (inl t)) = inr (inl (record {
         command = t.command;
@@ -158,6 +159,7 @@ module _ (uses : Uses) (m : Machine) (d : Device) (a : Agrees uses m d) (port : 
         issued = fallen_bit (d.port port).st (d.port port).ci k (λ s. t.issued ∙ ap (λ (b : Bool). b && not (is_queued h.command.operation)) s);
         sact = fallen_bit (d.port port).st (d.port port).sact k (λ s. t.sact ∙ ap (λ (b : Bool). b && is_queued h.command.operation) s);
         progress = t.progress;
+        unended = t.unended;
       }))
       stage (inr (inr (inl x))) = inr (inr (inl (record {
         issued = fallen_bit (d.port port).st (d.port port).ci k (λ _. x.issued);
@@ -171,6 +173,7 @@ module _ (uses : Uses) (m : Machine) (d : Device) (a : Agrees uses m d) (port : 
         issued = fallen_bit (d.port port).st (d.port port).ci k (λ _. x.issued);
         sact = fallen_bit (d.port port).st (d.port port).sact k (λ _. x.sact);
         free = x.free;
+        unended = x.unended;
       })))
 
   receives : (v tape : ℕ) (b : Bool) → (bit v 4 ≡ true → (port < 4) × ((d.port port).bases.fb ≡ received_of port)) → (new : PortState) → new.fre ≡ bit v 4 → new.bases.fb ≡ (d.port port).bases.fb → new.fre ≡ true → IsReceiving new port

@@ -97,7 +97,7 @@ abbrev pub HasBlock : Op → (ℕ → ℕ) → ℕ → Accepted → Type 0
 HasBlock Trim memory port r = MeansRange (bytes_at memory (scratch_of port) 512) r
 HasBlock _ memory port r = Unit {0}
 
--- issued, and not taken yet
+-- issued, and not taken yet: the request isn't ended
 pub record Waits (memory : ℕ → ℕ) (p : PortState) (port slot : ℕ) (e : Pending) (c : Meaning) : Type 0 where
   pub started : p.st ≡ true
   pub issued : p.ci slot ≡ true
@@ -105,6 +105,7 @@ pub record Waits (memory : ℕ → ℕ) (p : PortState) (port slot : ℕ) (e : P
   pub sact : p.sact slot ≡ is_queued c.operation
   pub block : HasBlock e.request.asked.op memory port e.request
   pub untouched : UpTo e.touched 0
+  pub unended : e.ended ≡ false
 
 -- what a taken command has moved, or cleared, was touched
 abbrev pub Progress : Op → (ℕ → ℕ) → ℕ → Pending → Taken → Type 0
@@ -116,7 +117,7 @@ Progress Trim memory port e t =
     ⊎ ((t.moved ≡ 1) × MeansRange t.block e.request))
 Progress Flush memory port e t = Unit {0}
 
--- taken by the device
+-- taken by the device: the request isn't ended, also where all its sectors were touched
 pub record IsTaken (memory : ℕ → ℕ) (p : PortState) (port slot : ℕ) (e : Pending) (c : Meaning) (places : List ℕ) : Type 0 where
   pub command : Taken
   pub taken : p.taken slot ≡ Some command
@@ -126,6 +127,7 @@ pub record IsTaken (memory : ℕ → ℕ) (p : PortState) (port slot : ℕ) (e :
   pub issued : p.ci slot ≡ p.st && not (is_queued c.operation)
   pub sact : p.sact slot ≡ p.st && is_queued c.operation
   pub progress : Progress e.request.asked.op memory port e command
+  pub unended : e.ended ≡ false
 
 -- ended, its bits clear
 pub record IsEnded (p : PortState) (slot : ℕ) (e : Pending) : Type 0 where
@@ -135,17 +137,18 @@ pub record IsEnded (p : PortState) (slot : ℕ) (e : Pending) : Type 0 where
   pub ended : e.ended ≡ true
   pub touched : AllTouched e
 
--- given up by the device: ST was cleared before it was taken, or CR fell before it ended
-pub record IsDropped (p : PortState) (slot : ℕ) : Type 0 where
+-- given up by the device before it ended: ST was cleared before it was taken, CR fell, or a reset of the adapter ended
+pub record IsDropped (p : PortState) (slot : ℕ) (e : Pending) : Type 0 where
   pub stopped : p.st ≡ false
   pub issued : p.ci slot ≡ false
   pub sact : p.sact slot ≡ false
   pub free : p.taken slot ≡ None
+  pub unended : e.ended ≡ false
 
 -- a request's command waits, is taken, has ended, or was given up
 abbrev pub Stage : (ℕ → ℕ) → PortState → ℕ → ℕ → Pending → Meaning → List ℕ → Type 0
 Stage memory p port slot e c places =
-    Waits memory p port slot e c ⊎ (IsTaken memory p port slot e c places ⊎ (IsEnded p slot e ⊎ IsDropped p slot))
+    Waits memory p port slot e c ⊎ (IsTaken memory p port slot e c places ⊎ (IsEnded p slot e ⊎ IsDropped p slot e))
 
 -- The slot serves the request of this id: its bytes say the request's command.
 pub record ServesRequest (m : Machine) (memory : ℕ → ℕ) (p : PortState) (port slot : ℕ) (id : RequestId) : Type 0 where
