@@ -1,4 +1,4 @@
--- What the readings of CI and SACT tell of a running port.
+-- Which requests have ended, and what the readings of CI and SACT tell of a running port.
 use Rattle.std.proofs.Common.{ℕ, ◌≡◌, ◌⊎◌, Bool, true, false, not, ◌&&◌, List, length, refl, sym, ◌∙◌, ap, subst, arith, inl, inr, ⊎_elim}
 use Rattle.std.specs.List.{Contains}
 use Rattle.ata_types.specs.declared.Port.{Port}
@@ -17,16 +17,18 @@ use Rattle.adapter.proofs.Calls.{SeenAt, seen}
 use Rattle.adapter.proofs.KeptLemmas.{steps_keep}
 use Rattle.block_machine.specs.Left.{after}
 use Rattle.block_machine.specs.Histories.{IsReached, AddsSteps}
-use Rattle.block_machine.specs.State.{Machine}
-use Rattle.block_machine.specs.Steps.{NoneKept}
+use Rattle.block_machine.specs.State.{Pending, Machine}
+use Rattle.block_machine.specs.Steps.{MayMove}
 use Rattle.block_machine.proofs.HistoryLemmas.{reached_more}
 use Rattle.block_machine.proofs.Keeps.{same_port}
+use Rattle.block_machine.proofs.Standing.{standing}
+use Rattle.block_machine.proofs.Trace.{living_one, runs_lives}
 use Rattle.agreement.specs.Agrees.{Agrees}
 use Rattle.agreement.specs.Driver.{Known, Knows}
 use Rattle.agreement.specs.Facts.{EndedIn, IsClear, Finds, FindsPage, AreStepsOf}
 use Rattle.agreement.specs.Follows.{Follows}
 use Rattle.agreement.specs.Places.{scratch_of}
-use Rattle.agreement.specs.Slots.{Use, Own, Serves, Uses, Stage, ServesRequest, Brought, OwnWaits, OwnTaken, OwnOver, ServesOwn, IsOver, IsServed}
+use Rattle.agreement.specs.Slots.{Use, Own, Serves, Uses, IsEnded, Stage, ServesRequest, Brought, OwnWaits, OwnTaken, OwnOver, ServesOwn, IsOver, IsServed}
 use Rattle.agreement.proofs.Accesses.{read_follows, load_follows}
 use Rattle.agreement.proofs.Adding.{knowing_goes_on}
 use Rattle.agreement.proofs.Following.{Follows-trans}
@@ -36,37 +38,56 @@ both_clear : {A : Type 0} (q : Bool) {i c : Bool} → i ≡ true && not q → c 
 both_clear true a b e f = true-false b f
 both_clear false a b e f = true-false a e
 
+-- a slot whose command has ended is clear, and its request has ended
+is_ended : (m : Machine) (d : Device) (port : Port) (slot : ℕ) (id : RequestId) (h : ServesRequest m d.memory (d.port port.0) port.0 slot id) → IsEnded (d.port port.0) slot h.pending →
+    IsClear (d.port port.0) slot × EndedIn m port id
+is_ended m d port slot id h x = (
+  record { over = record { issued = x.issued; free = x.free }; sact = x.sact },
+  record {
+    pending = h.pending;
+    moves = h.moves;
+    id_is = h.id_is;
+    port_is = same_port h.pending.request.port port h.port_is;
+    ended = x.ended;
+    touched = x.touched;
+    booked = λ none. ⊎_elim
+        (λ (z : Contains m.book h.pending × (h.pending.issued ≡ true)). z.0)
+        (λ (k : Contains m.kept h.pending). absurd (none h.pending k (same_port h.pending.request.port port h.port_is)))
+        h.moves;
+  },
+)
+
+-- so it is where the request has ended
+pub ended_is_clear : (uses : Uses) (m : Machine) (d : Device) (port : Port) (slot : ℕ) (e : Pending) → IsReached m → Agrees uses m d → MayMove m e → e.ended ≡ true → uses port.0 slot ≡ Serves e.request.id →
+    IsClear (d.port port.0) slot × EndedIn m port e.request.id
+ended_is_clear uses m d port slot e reached a moves ended u = by (subst (λ (v : Use). IsServed m d.memory d.tape (d.port port.0) port.0 slot v) u (a.slot port.0 slot))
+  where
+    by : ServesRequest m d.memory (d.port port.0) port.0 slot e.request.id → IsClear (d.port port.0) slot × EndedIn m port e.request.id
+    by h = of h.stage
+      where
+        its : h.pending.ended ≡ true
+        its = ap (λ (y : Pending). y.ended) (living_one m (standing m reached).sound h.pending e (runs_lives m h.pending h.moves) (runs_lives m e moves) (ap (λ (i : RequestId). i.0) h.id_is)) ∙ ended
+
+        of : Stage d.memory (d.port port.0) port.0 slot h.pending h.command h.places → IsClear (d.port port.0) slot × EndedIn m port e.request.id
+        of (inl w) = true-false its w.unended
+        of (inr (inl t)) = true-false its t.unended
+        of (inr (inr (inl x))) = is_ended m d port slot e.request.id h x
+        of (inr (inr (inr x))) = true-false its x.unended
+
 -- on a running port a slot whose two bits are clear has ended its request
-clear_is_ended : (uses : Uses) (m : Machine) (d : Device) (port : Port) (slot : ℕ) (id : RequestId) → Agrees uses m d → uses port.0 slot ≡ Serves id → (d.port port.0).st ≡ true →
+pub clear_is_ended : (uses : Uses) (m : Machine) (d : Device) (port : Port) (slot : ℕ) (id : RequestId) → Agrees uses m d → uses port.0 slot ≡ Serves id → (d.port port.0).st ≡ true →
     (d.port port.0).ci slot ≡ false → (d.port port.0).sact slot ≡ false → IsClear (d.port port.0) slot × EndedIn m port id
 clear_is_ended uses m d port slot id a u st issued sact = by (subst (λ (v : Use). IsServed m d.memory d.tape (d.port port.0) port.0 slot v) u (a.slot port.0 slot))
   where
     by : ServesRequest m d.memory (d.port port.0) port.0 slot id → IsClear (d.port port.0) slot × EndedIn m port id
     by h = of h.stage
       where
-        booked : NoneKept m port → Contains m.book h.pending
-        booked none = ⊎_elim
-            (λ (x : Contains m.book h.pending × (h.pending.issued ≡ true)). x.0)
-            (λ (k : Contains m.kept h.pending). absurd (none h.pending k (same_port h.pending.request.port port h.port_is)))
-            h.moves
-
         of : Stage d.memory (d.port port.0) port.0 slot h.pending h.command h.places → IsClear (d.port port.0) slot × EndedIn m port id
         of (inl w) = true-false w.issued issued
         of (inr (inl t)) = both_clear (is_queued h.command.operation)
             (t.issued ∙ ap (λ (b : Bool). b && not (is_queued h.command.operation)) st)
             (t.sact ∙ ap (λ (b : Bool). b && is_queued h.command.operation) st) issued sact
-        of (inr (inr (inl x))) = (
-          record { over = record { issued = issued; free = x.free }; sact = sact },
-          record {
-            pending = h.pending;
-            moves = h.moves;
-            id_is = h.id_is;
-            port_is = same_port h.pending.request.port port h.port_is;
-            ended = x.ended;
-            touched = x.touched;
-            booked = booked;
-          },
-        )
+        of (inr (inr (inl x))) = is_ended m d port slot id h x
         of (inr (inr (inr x))) = true-false st x.stopped
 
 pub done_is_found : (uses : Uses) (m : Machine) (port : Port) (ci sact : ℕ) (old mid new : Device) → IsReached m → Agrees uses m old → old.hr ≡ false → (old.port port.0).st ≡ true →

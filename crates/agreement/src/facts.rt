@@ -20,8 +20,8 @@ ghost use Rattle.adapter.specs.declared.tape.Entry.{Entry};
 ghost use Rattle.block_machine.specs.Events.{AllDevices};
 ghost use Rattle.block_machine.specs.Histories.{IsReached, AddsSteps};
 ghost use Rattle.block_machine.specs.Left.{after};
-ghost use Rattle.block_machine.specs.State.{Machine};
-ghost use Rattle.block_machine.specs.Steps.{Step};
+ghost use Rattle.block_machine.specs.State.{Pending, Machine};
+ghost use Rattle.block_machine.specs.Steps.{Step, MayMove};
 ghost use Rattle.agreement.specs.Agrees.{Agrees};
 ghost use Rattle.agreement.specs.Driver.{Known, Knows};
 ghost use Rattle.agreement.specs.Facts.{IsHalted, IsAfterReset, Finds, FindsPage, AreStepsOf, IsStill, AreOver, RunsWell, Undisturbed, ShowsNoTrouble, TellsNoTrouble, ClearsNoTrouble, IsFaulted, ShowsFault, HasFaults, IsRecorded, IsAwaited, IsUnflagged, IsQuiet, KeepsRecord, EndedIn, IsClear};
@@ -74,6 +74,17 @@ pub fn done_is_found()
         → Reads (Px port Ci) ci k.device mid → Reads (Px port Sact) sact mid new
         → AddsSteps Knows k (record k { device = new })
         (λ m steps. (found : Finds k.uses m port ci sact k.device new) × AreStepsOf found.follows steps) }
+{}
+
+/// A request that has ended leaves its slot clear, also where ST is 0. And on a running port a slot that serves a request and whose
+/// bits are both clear has ended it.
+pub fn ended_is_clear()
+    ensures clears { (uses : Uses) (m : Machine) (d : Device) (port : Port) (slot : ℕ) (e : Pending) → IsReached m → Agrees uses m d
+        → MayMove m e → e.ended ≡ true → uses port.0 slot ≡ Serves e.request.id
+        → IsClear (d.port port.0) slot × EndedIn m port e.request.id }
+    ensures ends { (uses : Uses) (m : Machine) (d : Device) (port : Port) (slot : ℕ) (id : RequestId) → Agrees uses m d
+        → uses port.0 slot ≡ Serves id → (d.port port.0).st ≡ true → (d.port port.0).ci slot ≡ false
+        → (d.port port.0).sact slot ≡ false → IsClear (d.port port.0) slot × EndedIn m port id }
 {}
 
 /// A slot's command that is over stays so, and so do its clear bits, whatever the device does, and over each access that doesn't write

@@ -171,11 +171,11 @@ keeps_answer m e b s h w = record {
   order = λ x a r l. s.order x a (answered_runs m e b h w x r) (answered_lives m e b h a l);
 }
   where
-    kept_one : (b : Bool) (x y : Pending) → Contains (answered m e b).kept x → Contains (answered m e b).kept y → x.request.id.0 ≡ y.request.id.0 → x.request ≡ y.request
+    kept_one : (b : Bool) (x y : Pending) → Contains (answered m e b).kept x → Contains (answered m e b).kept y → x.request.id.0 ≡ y.request.id.0 → x ≡ y
     kept_one true x y i j eq = both (contains_cases e m.kept x i) (contains_cases e m.kept y j)
       where
-        both : (x ≡ e) ⊎ Contains m.kept x → (y ≡ e) ⊎ Contains m.kept y → x.request ≡ y.request
-        both (inl p) (inl q) = ap (λ (z : Pending). z.request) (p ∙ sym q)
+        both : (x ≡ e) ⊎ Contains m.kept x → (y ≡ e) ⊎ Contains m.kept y → x ≡ y
+        both (inl p) (inl q) = p ∙ sym q
         both (inl p) (inr q) = absurd (s.apart e y h q (ap (λ (z : Pending). z.request.id.0) (sym p) ∙ eq))
         both (inr p) (inl q) = absurd (s.apart e x h p (ap (λ (z : Pending). z.request.id.0) (sym q) ∙ sym eq))
         both (inr p) (inr q) = s.kept_one x y p q eq

@@ -16,7 +16,7 @@ IsDistinct frames = (i j : ℕ) → j < i → i < length frames → frame_at fra
 pub record Sound (m : Machine) : Type 0 where
   pub below : (e : Pending) → IsLiving m e → e.request.id.0 < m.next
   pub one : (a b : Pending) → Contains m.book a → Contains m.book b → a.request.id.0 ≡ b.request.id.0 → a ≡ b
-  pub kept_one : (a b : Pending) → Contains m.kept a → Contains m.kept b → a.request.id.0 ≡ b.request.id.0 → a.request ≡ b.request
+  pub kept_one : (a b : Pending) → Contains m.kept a → Contains m.kept b → a.request.id.0 ≡ b.request.id.0 → a ≡ b
   pub apart : (a b : Pending) → Contains m.book a → Contains m.kept b → a.request.id.0 ≡ b.request.id.0 → ⊥
   pub lent : (e : Pending) → IsLiving m e → IsLentAll m.lent e.request
   pub distinct : (e : Pending) → IsLiving m e → IsDistinct e.request.asked.frames.items
@@ -78,7 +78,7 @@ carried f g m n c o s = record {
       let q = c.kept b hb in
       let jp : a.request ≡ p.0.request = ap (λ (x : Pending). x.request) p.2 ∙ c.g_keeps p.0 in
       let jq : b.request ≡ q.0.request = ap (λ (x : Pending). x.request) q.2 ∙ c.g_keeps q.0 in
-      jp ∙ s.kept_one p.0 q.0 p.1 q.1 (ap (λ (j : Accepted). j.id.0) (sym jp) ∙ eq ∙ ap (λ (j : Accepted). j.id.0) jq) ∙ sym jq;
+      p.2 ∙ ap g (s.kept_one p.0 q.0 p.1 q.1 (ap (λ (j : Accepted). j.id.0) (sym jp) ∙ eq ∙ ap (λ (j : Accepted). j.id.0) jq)) ∙ sym q.2;
   apart = λ a b ha hb eq.
       let p = c.book a ha in
       let q = c.kept b hb in

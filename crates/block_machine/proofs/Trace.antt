@@ -63,11 +63,15 @@ pub next_grows : (m : Machine) (step : Step) → m.next ≤ (after_step m step).
 next_grows m (Accept request) = omega arith
 next_grows m _ = le_refl _
 
+-- one living request has each id
+pub living_one : (m : Machine) → Sound m → (a b : Pending) → IsLiving m a → IsLiving m b → a.request.id.0 ≡ b.request.id.0 → a ≡ b
+living_one m s a b (inl i) (inl j) eq = s.one a b i j eq
+living_one m s a b (inl i) (inr j) eq = absurd (s.apart a b i j eq)
+living_one m s a b (inr i) (inl j) eq = absurd (s.apart b a j i (sym eq))
+living_one m s a b (inr i) (inr j) eq = s.kept_one a b i j eq
+
 pub lives_one : (m : Machine) → Sound m → (a b : Pending) → IsLiving m a → IsLiving m b → a.request.id.0 ≡ b.request.id.0 → a.request ≡ b.request
-lives_one m s a b (inl i) (inl j) eq = ap (λ (x : Pending). x.request) (s.one a b i j eq)
-lives_one m s a b (inl i) (inr j) eq = absurd (s.apart a b i j eq)
-lives_one m s a b (inr i) (inl j) eq = absurd (s.apart b a j i (sym eq))
-lives_one m s a b (inr i) (inr j) eq = s.kept_one a b i j eq
+lives_one m s a b i j eq = ap (λ (x : Pending). x.request) (living_one m s a b i j eq)
 
 pub runs_lives : (m : Machine) (e : Pending) → MayMove m e → IsLiving m e
 runs_lives m e (inl h) = inl h.0
