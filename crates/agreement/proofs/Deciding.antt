@@ -2,6 +2,7 @@
 use Rattle.std.proofs.Common.{ℕ, suc, ◌≡◌, ◌≢◌, ◌⊎◌, Bool, true, false, not, ◌&&◌, ◌++◌, ◌==◌, map, List, [], ◌∷◌, refl, sym, ◌∙◌, ap, subst, inl, inr, ⊎_elim, cond, eqb-true}
 use Rattle.std.specs.List.{Contains}
 use Rattle.std.proofs.lemmas.Bool.{cases_eq, cond-true, cond-false}
+use Rattle.std.proofs.lemmas.List.Elements.{Contains-append_left}
 use Rattle.ata_types.specs.declared.Port.{Port}
 use Rattle.ata_types.specs.declared.request.Op.{Op}
 use Rattle.ata_types.specs.declared.request.Op.TheVariants.{Read, Write, Trim, Flush}
@@ -96,7 +97,7 @@ pub accept_knows : (k : Known) (m : Machine) (r : Accepted) → Knows m k → Kn
 accept_knows k m r x = record {
   agrees = agrees_on k.uses m (after_step m (Accept r)) k.device x.agrees (record { present = refl; ids = refl; sizes = refl; disks = refl; memory = refl })
       (λ q s id u e is may. goes_on_same m (after_step m (Accept r)) e (⊎_elim
-      (λ (z : Contains m.book e × (e.issued ≡ true)). inl (into_append m.book (newly_accepted r) e z.0, z.1))
+      (λ (z : Contains m.book e × (e.issued ≡ true)). inl (Contains-append_left m.book (newly_accepted r ∷ []) e z.0, z.1))
       (λ (z : Contains m.kept e). inr z) may));
   have = λ q y may at_port. x.have q y (⊎_elim
       (λ (z : Contains (m.book ++ newly_accepted r ∷ []) y × (y.issued ≡ true)). ⊎_elim
@@ -105,23 +106,19 @@ accept_knows k m r x = record {
       (append_in m.book (newly_accepted r) y z.0))
       (λ (z : Contains m.kept y). inr z) may) at_port;
 }
-  where
-    into_append : (es : List Pending) (n e : Pending) → Contains es e → Contains (es ++ n ∷ []) e
-    into_append [] n e c = absurd (contains_none e c)
-    into_append (y ∷ ys) n e c = ⊎_elim
-        (λ (w : e ≡ y). contains_here y (ys ++ n ∷ []) e w)
-        (λ (w : Contains ys e). contains_there y (ys ++ n ∷ []) e (into_append ys n e w))
-        (contains_cases y ys e c)
 
 -- ---- a tick
 
-older_issued : (ready : Port → Bool) (e : Pending) → (b : Bool) → (e.issued && ready e.request.port) ≡ b → older ready e ≡ record e { age = (older ready e).age }
-older_issued ready e true h =
-    let is : older ready e ≡ record e { age = suc e.age } = cond-true (e.issued && ready e.request.port) (record e { age = suc e.age }) e h in
-    is ∙ ap (λ (n : ℕ). record e { age = n }) (ap (λ (x : Pending). x.age) (sym is))
-older_issued ready e false h =
-    let is : older ready e ≡ e = cond-false (e.issued && ready e.request.port) (record e { age = suc e.age }) e h in
-    is ∙ ap (λ (n : ℕ). record e { age = n }) (ap (λ (x : Pending). x.age) (sym is))
+-- a tick changes a request's age alone
+pub older_is : (ready : Port → Bool) (e : Pending) → older ready e ≡ record e { age = (older ready e).age }
+older_is ready e = by (e.issued && ready e.request.port) refl
+  where
+    aged : (age : ℕ) → older ready e ≡ record e { age = age } → older ready e ≡ record e { age = (older ready e).age }
+    aged age is = is ∙ ap (λ (n : ℕ). record e { age = n }) (ap (λ (x : Pending). x.age) (sym is))
+
+    by : (b : Bool) → (e.issued && ready e.request.port) ≡ b → older ready e ≡ record e { age = (older ready e).age }
+    by true h = aged (suc e.age) (cond-true (e.issued && ready e.request.port) (record e { age = suc e.age }) e h)
+    by false h = aged e.age (cond-false (e.issued && ready e.request.port) (record e { age = suc e.age }) e h)
 
 pub tick_knows : (k : Known) (m : Machine) (ready : Port → Bool) → Knows m k → Knows (after_step m (Age ready)) k
 tick_knows k m ready x = record {
@@ -130,28 +127,25 @@ tick_knows k m ready x = record {
   have = λ q y may at_port. ⊎_elim
       (λ (z : Contains (map (older ready) m.book) y × (y.issued ≡ true)).
       let w = map_in (older ready) m.book y z.0 in
-      let same : y ≡ record w.0 { age = (older ready w.0).age } = w.2 ∙ older_is w.0 in
+      let same : y ≡ record w.0 { age = (older ready w.0).age } = w.2 ∙ older_is ready w.0 in
       subst (λ (r : Accepted). Contains (k.parked q) r.id ⊎ ((slot : ℕ) × (k.uses q slot ≡ Serves r.id))) (sym (ap (λ (e : Pending). e.request) same))
       (x.have q w.0 (inl (w.1, ap (λ (e : Pending). e.issued) (sym same) ∙ z.1)) (ap (λ (e : Pending). e.request.port.0) (sym same) ∙ at_port)))
       (λ (z : Contains m.kept y). x.have q y (inr z) at_port) may;
 }
   where
-    older_is : (e : Pending) → older ready e ≡ record e { age = (older ready e).age }
-    older_is e = older_issued ready e (e.issued && ready e.request.port) refl
-
     goes : (e : Pending) → MayMove m e → GoesOn m (after_step m (Age ready)) e
     goes e may = ⊎_elim
         (λ (z : Contains m.book e × (e.issued ≡ true)). record {
           issues = e.issues;
           age = (older ready e).age;
           issued = e.issued;
-          moves = inl (subst (λ (y : Pending). Contains (map (older ready) m.book) y) (older_is e) (into_map (older ready) m.book e z.0), z.1);
+          moves = inl (subst (λ (y : Pending). Contains (map (older ready) m.book) y) (older_is ready e) (into_map (older ready) m.book e z.0), z.1);
         })
         (λ (z : Contains m.kept e). goes_on_same m (after_step m (Age ready)) e (inr z)) may
 
 -- ---- a request is decided
 
-without_into : (id : RequestId) (es : List Pending) (e : Pending) → e.request.id ≢ id → Contains es e → Contains (without id es) e
+pub without_into : (id : RequestId) (es : List Pending) (e : Pending) → e.request.id ≢ id → Contains es e → Contains (without id es) e
 without_into id [] e ne c = absurd (contains_none e c)
 without_into id (y ∷ ys) e ne c = go (y.request.id.0 == id.0) refl (λ w. without_into id ys e ne w)
   where

@@ -1,6 +1,8 @@
--- What the device's own steps leave of the machine (this project's own).
-use Rattle.std.specs.Prelude.{ℕ, true, ◌≡◌, List, [], ◌∷◌}
+-- What steps leave of the machine: the device's own, and those of another request (this project's own).
+use Rattle.std.specs.Prelude.{ℕ, true, ◌≡◌, ◌≢◌, List, [], ◌∷◌}
+use Rattle.ata_types.specs.declared.request.RequestId.{RequestId}
 use Rattle.block_machine.specs.State.{Pending, Machine}
+use Rattle.block_machine.specs.Steps.{Step, Issue, Touch, End, Again, Answer}
 
 -- The same request, issued as often and as long ago: it is as far as it was, or further.
 pub record IsFurther (old new : Pending) : Type 0 where
@@ -25,3 +27,13 @@ pub record SparesBook (m later : Machine) : Type 0 where
   pub next : later.next ≡ m.next
   pub book : AllFurther m.book later.book
   pub kept : AllFurther m.kept later.kept
+
+-- The step isn't of the request of this id: it issues, touches, ends, puts back or answers none, or another. (A tick and Release are
+-- of none.)
+abbrev pub IsOfAnother : RequestId → Step → Type 0
+IsOfAnother id (Issue mode e) = e.request.id ≢ id
+IsOfAnother id (Touch e i block) = e.request.id ≢ id
+IsOfAnother id (End e) = e.request.id ≢ id
+IsOfAnother id (Again e) = e.request.id ≢ id
+IsOfAnother id (Answer e outcome) = e.request.id ≢ id
+IsOfAnother id step = Unit {0}

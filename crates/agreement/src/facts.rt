@@ -21,13 +21,14 @@ ghost use Rattle.block_machine.specs.Events.{AllDevices};
 ghost use Rattle.block_machine.specs.Histories.{IsReached, AddsSteps};
 ghost use Rattle.block_machine.specs.Left.{after};
 ghost use Rattle.block_machine.specs.State.{Pending, Machine};
-ghost use Rattle.block_machine.specs.Steps.{Step, MayMove};
+ghost use Rattle.block_machine.specs.Steps.{Step, Release, MayMove, NoneKept, after_step};
 ghost use Rattle.agreement.specs.Agrees.{Agrees};
 ghost use Rattle.agreement.specs.Driver.{Known, Knows};
 ghost use Rattle.agreement.specs.Facts.{IsHalted, IsAfterReset, Finds, FindsPage, AreStepsOf, IsStill, AreOver, RunsWell, Undisturbed, ShowsNoTrouble, TellsNoTrouble, ClearsNoTrouble, IsFaulted, ShowsFault, HasFaults, IsRecorded, IsAwaited, IsUnflagged, IsQuiet, KeepsRecord, EndedIn, IsClear};
 ghost use Rattle.agreement.specs.Follows.{Follows};
 ghost use Rattle.agreement.specs.Links.{SparesRegister, SameAdapter, LeavesControls, PlugsNone, LeavesDisk, LeavesLink};
 ghost use Rattle.agreement.specs.Places.{scratch_of};
+ghost use Rattle.agreement.specs.Spares.{IsOfAnother};
 ghost use Rattle.agreement.specs.Slots.{Uses, Free, Own, Serves, IsOver};
 
 /// A port that has halted stays so, whatever the device does, also over a reset of the adapter that ends, over readings, and over
@@ -88,7 +89,8 @@ pub fn ended_is_clear()
 {}
 
 /// A slot's command that is over stays so, and so do its clear bits, whatever the device does, and over each access that doesn't write
-/// the slot's bit of PxCI or PxSACT; and a request that was ended stays so over the device's own steps.
+/// the slot's bit of PxCI or PxSACT. And a request that was ended stays so over the device's own steps, and over each step that isn't
+/// of it, so that several that were found ended are answered one after another; Release alone gives back what is kept.
 pub fn over_stays()
     ensures over { (port slot : ℕ) (old new : Device) → Steps old new → IsOver (old.port port) slot
         → IsOver (new.port port) slot }
@@ -103,6 +105,10 @@ pub fn over_stays()
         → IsClear (old.port port.0) slot → IsClear (new.port port.0) slot }
     ensures ended { (m : Machine) (steps : List Step) (port : Port) (id : RequestId) → AllDevices steps → EndedIn m port id
         → EndedIn (after m steps) port id }
+    ensures ended_beside { (m : Machine) (step : Step) (port : Port) (id : RequestId) → IsOfAnother id step → step ≢ Release
+        → EndedIn m port id → EndedIn (after_step m step) port id }
+    ensures ended_released { (m : Machine) (port : Port) (id : RequestId) → NoneKept m port → EndedIn m port id
+        → EndedIn (after_step m Release) port id }
 {}
 
 /// CI of a running port with a command of the driver's own is read: once bit 0 is clear, the command has brought its page; and

@@ -33,7 +33,7 @@ ghost use Rattle.agreement.specs.Follows.{Follows};
 ghost use Rattle.agreement.specs.Places.{list_of, scratch_of, received_of};
 ghost use Rattle.agreement.specs.Witness.{PreparedIsKnown, FirstIsKnown, KeptIsKnown, ParkedIsKnown, OwnIsKnown};
 ghost use Rattle.agreement.specs.Slots.{Use, Free, Own, Serves, Uses, put, serving_count, Told, HasBlock, IsOver, op_of, IsMove};
-ghost use Rattle.agreement.specs.Spares.{IsFurther, AllFurther, SparesBook};
+ghost use Rattle.agreement.specs.Spares.{IsFurther, AllFurther, SparesBook, IsOfAnother};
 ghost use Rattle.agreement.specs.Tape.{OneAtMost};
 
 /// Whatever the device does by itself, the machine follows: what the tape gains are steps of the machine that may come, and
@@ -323,6 +323,19 @@ pub fn steps_spare_the_book()
     ensures frames { (m : Machine) (steps : List Step) (frame : Frame) → IsReached m → AllDevices steps → AllMay m steps
         → ((e : Pending) → MayMove m e → m.lent frame ≡ Some e.request.id → ⊥)
         → (b : ℕ) → (after m steps).memory frame b ≡ m.memory frame b }
+{}
+
+/// A step leaves each request that it isn't of as it was, in the book and among the kept ones: but a tick makes it older, and Release
+/// gives back all that are kept. An answer that keeps no frames leaves the kept ones as they were.
+pub fn others_are_spared()
+    ensures book { (m : Machine) (step : Step) (e : Pending) → IsOfAnother e.request.id step
+        → ((ready : Port → Bool) → step ≢ Age ready) → Contains m.book e → Contains (after_step m step).book e }
+    ensures aged { (m : Machine) (ready : Port → Bool) (e : Pending) → Contains m.book e
+        → (age : ℕ) × Contains (after_step m (Age ready)).book (record e { age = age }) }
+    ensures kept { (m : Machine) (step : Step) (e : Pending) → IsOfAnother e.request.id step → step ≢ Release
+        → Contains m.kept e → Contains (after_step m step).kept e }
+    ensures none_kept { (m : Machine) (e : Pending) (outcome : Outcome) → stays e outcome ≡ false
+        → (after_step m (Answer e outcome)).kept ≡ m.kept }
 {}
 
 /// A history goes on by steps that may come, and so do stretches of them.

@@ -1,4 +1,5 @@
 use Rattle.agreement.proofs.Finished.{steps_over, access_over, steps_clear, access_clear, ended_stays}
+use Rattle.agreement.proofs.Others.{stays_ended, ended_released}
 use Rattle.agreement.proofs.facts.over_stays.Goals as goal
 
 pub returns-clause-over : goal.returns-clause-over
@@ -15,3 +16,9 @@ returns-clause-clear_access c = access_clear
 
 pub returns-clause-ended : goal.returns-clause-ended
 returns-clause-ended c = ended_stays
+
+pub returns-clause-ended_beside : goal.returns-clause-ended_beside
+returns-clause-ended_beside c = stays_ended
+
+pub returns-clause-ended_released : goal.returns-clause-ended_released
+returns-clause-ended_released c = ended_released
