@@ -88,6 +88,17 @@ unserving uses port (suc n) lt = go (is_serving (uses port n)) refl (unserving u
 
 -- ---- requests that are issued, by slot
 
+-- where none is kept on the port, a slot that serves a request serves one that is issued in the book
+pub issued_one : (uses : Uses) (m : Machine) (d : Device) → Agrees uses m d → (port : Port) → NoneKept m port → (slot : ℕ) (id : RequestId) → uses port.0 slot ≡ Serves id →
+    (e : Pending) × Contains m.book e × (e.issued ≡ true) × (e.request.id ≡ id) × (e.request.port ≡ port)
+issued_one uses m d a port none slot id u =
+    let h : ServesRequest m d.memory (d.port port.0) port.0 slot id = subst (λ (v : Use). IsServed m d.memory d.tape (d.port port.0) port.0 slot v) u (a.slot port.0 slot) in
+    let here : h.pending.request.port ≡ port = same_port h.pending.request.port port h.port_is in
+    ⊎_elim
+    (λ (r : Contains m.book h.pending × (h.pending.issued ≡ true)). (h.pending, r.0, r.1, h.id_is, here))
+    (λ (r : Contains m.kept h.pending). absurd (none h.pending r here))
+    h.moves
+
 module _ (uses : Uses) (m : Machine) (d : Device) (reached : IsReached m) (a : Agrees uses m d) (port : Port) (none : NoneKept m port) where
   abbrev book : List Unanswered
   book = map unanswered m.book
@@ -105,16 +116,13 @@ module _ (uses : Uses) (m : Machine) (d : Device) (reached : IsReached m) (a : A
   -- what a slot serves is one of these
   served_one : (slot : ℕ) (id : RequestId) → uses port.0 slot ≡ Serves id → (e : Unanswered) × In e book × (is_issued e ≡ true) × (e.id ≡ id)
   served_one slot id u =
-      let h : ServesRequest m d.memory (d.port port.0) port.0 slot id = subst (λ (v : Use). IsServed m d.memory d.tape (d.port port.0) port.0 slot v) u (a.slot port.0 slot) in
-      ⊎_elim
-      (λ (r : Contains m.book h.pending × (h.pending.issued ≡ true)). (
-        unanswered h.pending,
-        in_from book (unanswered h.pending) (into_map unanswered m.book h.pending r.0),
-        and_from (h.pending.request.port.0 == port.0) h.pending.issued (eq-eqb h.pending.request.port.0 port.0 h.port_is) r.1,
-        h.id_is,
-      ))
-      (λ (r : Contains m.kept h.pending). absurd (none h.pending r (same_port h.pending.request.port port h.port_is)))
-      h.moves
+      let s = issued_one uses m d a port none slot id u in
+      (
+        unanswered s.0,
+        in_from book (unanswered s.0) (into_map unanswered m.book s.0 s.1),
+        and_from (s.0.request.port.0 == port.0) s.0.issued (eq-eqb s.0.request.port.0 port.0 (ap (λ (p : Port). p.0) s.4)) s.2,
+        s.3,
+      )
 
   -- no slot below n serves what slot n serves
   not_below : (n : ℕ) (id : RequestId) → uses port.0 n ≡ Serves id → some_serves uses port.0 n id.0 ≡ false

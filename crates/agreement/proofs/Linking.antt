@@ -224,10 +224,10 @@ module _ (access : Access) (port : Port) (first : PortState) where
   abbrev Controls : PortState → Type 0
   Controls p = LeavesControls access port first p
 
-  controls_on : (p new : PortState) → new.st ≡ p.st → new.fre ≡ p.fre → new.notes.st_set_at ≡ p.notes.st_set_at → new.sctl_det ≡ p.sctl_det → new.notes.sctl_written_at ≡ p.notes.sctl_written_at → new.bases ≡ p.bases →
+  controls_on : (p new : PortState) → new.st ≡ p.st → new.fre ≡ p.fre → new.notes.st_set_at ≡ p.notes.st_set_at → new.cr ≡ p.cr → new.sctl_det ≡ p.sctl_det → new.notes.sctl_written_at ≡ p.notes.sctl_written_at → new.bases ≡ p.bases →
       Controls p → Controls new
-  controls_on p new st fre set det written bases h = record {
-    command = λ s. (st ∙ (h.command s).0, fre ∙ (h.command s).1, set ∙ (h.command s).2);
+  controls_on p new st fre set cr det written bases h = record {
+    command = λ s. (st ∙ (h.command s).0, fre ∙ (h.command s).1, set ∙ (h.command s).2, λ on runs. cr ∙ (h.command s).3 on runs);
     control = λ s. (det ∙ (h.control s).0, written ∙ (h.control s).1);
     list = λ s. (ap (λ (b : Bases). b.clb) bases ∙ (h.list s).0, ap (λ (b : Bases). b.clb_set) bases ∙ (h.list s).1);
     list_upper = λ s. ap (λ (b : Bases). b.clbu_set) bases ∙ h.list_upper s;
@@ -236,7 +236,7 @@ module _ (access : Access) (port : Port) (first : PortState) where
   }
 
   noted_controls : (p : PortState) (r : PortReg) (v : ℕ) → Controls p → Controls (record p { notes = note r v p })
-  noted_controls p r v h = controls_on p _ refl refl (note_times r v p).0 refl (note_times r v p).1 refl h
+  noted_controls p r v h = controls_on p _ refl refl (note_times r v p).0 refl refl (note_times r v p).1 refl h
 
   -- PxCMD leaves the others
   command_controls : (v tape : ℕ) (p : PortState) → (SparesRegister (Px port Cmd) access → ⊥) → Controls p → Controls (port_written Cmd v tape p)
@@ -264,10 +264,10 @@ module _ (access : Access) (port : Port) (first : PortState) where
   written_controls Clbu v tape p here h = record { command = h.command; control = h.control; list = h.list; list_upper = λ s. absurd (here s); received = h.received; received_upper = h.received_upper }
   written_controls Fb v tape p here h = record { command = h.command; control = h.control; list = h.list; list_upper = h.list_upper; received = λ s. absurd (here s); received_upper = h.received_upper }
   written_controls Fbu v tape p here h = record { command = h.command; control = h.control; list = h.list; list_upper = h.list_upper; received = h.received; received_upper = λ s. absurd (here s) }
-  written_controls Is v tape p here h = controls_on p _ refl refl refl refl refl refl h
-  written_controls Serr v tape p here h = controls_on p _ refl refl refl refl refl refl h
-  written_controls Sact v tape p here h = controls_on p _ refl refl refl refl refl refl h
-  written_controls Ci v tape p here h = controls_on p _ refl refl refl refl refl refl h
+  written_controls Is v tape p here h = controls_on p _ refl refl refl refl refl refl refl h
+  written_controls Serr v tape p here h = controls_on p _ refl refl refl refl refl refl refl h
+  written_controls Sact v tape p here h = controls_on p _ refl refl refl refl refl refl refl h
+  written_controls Ci v tape p here h = controls_on p _ refl refl refl refl refl refl refl h
   written_controls _ v tape p here h = h
 
 pub access_controls : (port : Port) (access : Access) (old new : Device) → old.hr ≡ false → Does access old new → LeavesControls access port (old.port port.0) (new.port port.0)
@@ -275,10 +275,10 @@ access_controls port access old new off x =
     let s = access_steps access old new x in
     let k : Keeps old s.0 = steps_keep s.1 in
     let c : KeepsControls (old.port port.0) (s.0.port port.0) = (k.on off).controls port.0 in
-    effect_keeps (LeavesControls access port (old.port port.0)) port (noted_controls access port (old.port port.0)) (λ p h. controls_on access port (old.port port.0) p _ refl refl refl refl refl refl h) access old new x
+    effect_keeps (LeavesControls access port (old.port port.0)) port (noted_controls access port (old.port port.0)) (λ p h. controls_on access port (old.port port.0) p _ refl refl refl refl refl refl refl h) access old new x
     (λ r v mid is steps h. written_controls access port (old.port port.0) r v (length mid.tape) (mid.port port.0) (λ spares. spared port r r access v spares is refl) h)
     (record {
-      command = λ s. (c.st, c.fre, ap (λ (n : Notes). n.st_set_at) (k.notes port.0));
+      command = λ s. (c.st, c.fre, ap (λ (n : Notes). n.st_set_at) (k.notes port.0), c.runs);
       control = λ s. (c.sctl_det, ap (λ (n : Notes). n.sctl_written_at) (k.notes port.0));
       list = λ s. (ap (λ (b : Bases). b.clb) (k.port port.0).bases, ap (λ (b : Bases). b.clb_set) (k.port port.0).bases);
       list_upper = λ s. ap (λ (b : Bases). b.clbu_set) (k.port port.0).bases;

@@ -43,6 +43,14 @@ put_cases uses port slot u p s = ⊎_elim
     (λ (n : p ≡ port → ⊥). inr ((λ e _. n e), put_other uses port slot u p s (λ e _. n e)))
     (cases_eq p port)
 
+-- a slot that serves a request then was put to it, or is another, which served it before
+pub put_served : (uses : Uses) (port slot : ℕ) (u : Use) (p s : ℕ) (id : RequestId) → put uses port slot u p s ≡ Serves id →
+    ((p ≡ port) × (s ≡ slot) × (u ≡ Serves id)) ⊎ ((p ≡ port → s ≡ slot → ⊥) × (uses p s ≡ Serves id))
+put_served uses port slot u p s id e = ⊎_elim
+    (λ (q : (p ≡ port) × (s ≡ slot)). inl (q.0, q.1, sym (put_same uses port slot u) ∙ ap (λ (k : ℕ). put uses port slot u k slot) (sym q.0) ∙ ap (λ (k : ℕ). put uses port slot u p k) (sym q.1) ∙ e))
+    (λ (q : (p ≡ port → s ≡ slot → ⊥) × (put uses port slot u p s ≡ uses p s)). inr (q.0, sym q.1 ∙ e))
+    (put_cases uses port slot u p s)
+
 pub serves_same : {a b : RequestId} → Serves a ≡ Serves b → a ≡ b
 serves_same e = cc
 
@@ -70,20 +78,15 @@ pub record Puts (uses : Uses) (m m' : Machine) (d : Device) (ports : ℕ → Por
   pub disk : (q : ℕ) → (ports q).disk ≡ (d.port q).disk
 
 module _ (uses : Uses) (m m' : Machine) (d : Device) (a : Agrees uses m d) (ports : ℕ → PortState) (port slot : ℕ) (u : Use) (x : Puts uses m m' d ports port slot u) where
-  where_served : (p s : ℕ) (id : RequestId) → put uses port slot u p s ≡ Serves id → ((p ≡ port) × (s ≡ slot) × (u ≡ Serves id)) ⊎ (uses p s ≡ Serves id)
-  where_served p s id e = ⊎_elim
-      (λ (q : (p ≡ port) × (s ≡ slot)). inl (q.0, q.1, sym (put_same uses port slot u) ∙ ap (λ (k : ℕ). put uses port slot u k slot) (sym q.0) ∙ ap (λ (k : ℕ). put uses port slot u p k) (sym q.1) ∙ e))
-      (λ (q : (p ≡ port → s ≡ slot → ⊥) × (put uses port slot u p s ≡ uses p s)). inr (sym q.1 ∙ e))
-      (put_cases uses port slot u p s)
-
   apart_now : (p s p' s' : ℕ) (id : RequestId) → put uses port slot u p s ≡ Serves id → put uses port slot u p' s' ≡ Serves id → (p ≡ p') × (s ≡ s')
-  apart_now p s p' s' id e f = both (where_served p s id e) (where_served p' s' id f)
+  apart_now p s p' s' id e f = both (put_served uses port slot u p s id e) (put_served uses port slot u p' s' id f)
     where
-      both : ((p ≡ port) × (s ≡ slot) × (u ≡ Serves id)) ⊎ (uses p s ≡ Serves id) → ((p' ≡ port) × (s' ≡ slot) × (u ≡ Serves id)) ⊎ (uses p' s' ≡ Serves id) → (p ≡ p') × (s ≡ s')
+      both : ((p ≡ port) × (s ≡ slot) × (u ≡ Serves id)) ⊎ ((p ≡ port → s ≡ slot → ⊥) × (uses p s ≡ Serves id))
+          → ((p' ≡ port) × (s' ≡ slot) × (u ≡ Serves id)) ⊎ ((p' ≡ port → s' ≡ slot → ⊥) × (uses p' s' ≡ Serves id)) → (p ≡ p') × (s ≡ s')
       both (inl i) (inl j) = (i.0 ∙ sym j.0, i.1 ∙ sym j.1)
-      both (inl i) (inr j) = absurd (x.apart p' s' id i.2 j)
-      both (inr i) (inl j) = absurd (x.apart p s id j.2 i)
-      both (inr i) (inr j) = a.apart p s p' s' id i j
+      both (inl i) (inr j) = absurd (x.apart p' s' id i.2 j.1)
+      both (inr i) (inl j) = absurd (x.apart p s id j.2 i.1)
+      both (inr i) (inr j) = a.apart p s p' s' id i.1 j.1
 
   slot_now : (p s : ℕ) → IsServed m' d.memory d.tape (ports p) p s (put uses port slot u p s)
   slot_now p s = ⊎_elim

@@ -26,11 +26,12 @@ pub record SameAdapter (old new : Device) : Type 0 where
 
 -- ---- what the driver has written
 
--- Each control of the port that the access doesn't write is as the driver left it: ST and FRE of PxCMD, and when ST was set; DET of
--- PxSCTL, and when it was written; and the addresses.
+-- Each control of the port that the access doesn't write is as the driver left it: ST and FRE of PxCMD, and when ST was set, and a
+-- port that runs goes on running; DET of PxSCTL, and when it was written; and the addresses.
 pub record LeavesControls (access : Access) (port : Port) (old new : PortState) : Type 0 where
   pub command : SparesRegister (Px port Cmd) access
       → (new.st ≡ old.st) × (new.fre ≡ old.fre) × (new.notes.st_set_at ≡ old.notes.st_set_at)
+      × (old.st ≡ true → old.cr ≡ true → new.cr ≡ true)
   pub control : SparesRegister (Px port Sctl) access
       → (new.sctl_det ≡ old.sctl_det) × (new.notes.sctl_written_at ≡ old.notes.sctl_written_at)
   pub list : SparesRegister (Px port Clb) access → (new.bases.clb ≡ old.bases.clb) × (new.bases.clb_set ≡ old.bases.clb_set)

@@ -214,7 +214,7 @@ pub fn loads_and_stores_leave_ports()
 {}
 
 /// While no reset is pending, what the driver has written of a port's controls stays over each access but a write of the register: ST
-/// and FRE, and when ST was set; DET of PxSCTL, and when it was written; and the addresses.
+/// and FRE, and when ST was set, and a port that runs goes on running; DET of PxSCTL, and when it was written; and the addresses.
 pub fn controls_stay()
     ensures { (port : Port) (access : Access) (old new : Device) → old.hr ≡ false → Does access old new
         → LeavesControls access port (old.port port.0) (new.port port.0) }
@@ -272,8 +272,8 @@ pub fn disk_stays()
         → LeavesDisk (old.port port) (new.port port) }
 {}
 
-/// Where no disk of the port goes or comes either, and no reset is pending, the port's link stays as it was, or one that was due has
-/// come up: whatever the device does, and over each access but a write of PxSCTL.
+/// Where the tape tells of no disk of the port that goes or comes, and no reset is pending, the port's link stays as it was, or one that
+/// was due has come up: whatever else the device does, and over each access but a write of PxSCTL.
 pub fn link_stays()
     ensures steps { (port : ℕ) (old new : Device) → old.hr ≡ false → Steps old new → PlugsNone port old new
         → LeavesLink (old.port port) (new.port port) }

@@ -155,11 +155,14 @@ pub fn parking_agrees()
         → k.uses port slot ≡ Serves id → Knows m (parking k port slot id) }
 {}
 
-/// A slot that is put to another use has it, and every other slot goes on as it was used.
+/// A slot that is put to another use has it, and every other slot goes on as it was used. So a request that no slot serves has none
+/// then either, unless the slot is put to it.
 pub fn putting_is_of_one_slot()
     ensures here { (uses : Uses) (port slot : ℕ) (u : Use) → put uses port slot u port slot ≡ u }
     ensures others { (uses : Uses) (port slot : ℕ) (u : Use) (other_port other_slot : ℕ)
         → (other_port ≡ port → other_slot ≡ slot → ⊥) → put uses port slot u other_port other_slot ≡ uses other_port other_slot }
+    ensures unserved { (uses : Uses) (port slot : ℕ) (u : Use) (id : RequestId) → HasNoSlot uses id
+        → ((other : RequestId) → u ≡ Serves other → other ≢ id) → HasNoSlot (put uses port slot u) id }
 {}
 
 /// Once the slot of a request is parked, no slot serves it, and it is among the parked; nor does a slot then serve a request
@@ -199,7 +202,7 @@ pub fn going_again_agrees()
         → Knows (after_step m (Again e)) (record k { parked = later }) }
 {}
 
-/// The frames of kept requests may be given back where no slot serves one of them; they aren't parked then.
+/// The frames of kept requests may be given back where no slot serves one of them. Those that were parked needn't be so any more.
 pub fn releasing_agrees()
     ensures { (k : Known) (m : Machine) (later : ℕ → List RequestId) → IsReached m → Knows m k
         → ((e : Pending) → Contains m.kept e → HasNoSlot k.uses e.request.id) → ForgetsKept m k.parked later
@@ -217,6 +220,9 @@ pub fn waiting_has_no_slot()
 pub fn slots_are_counted()
     ensures most { (uses : Uses) (m : Machine) (d : Device) → IsReached m → Agrees uses m d → (port : Port) → NoneKept m port
         → (n : ℕ) → serving_count uses port.0 n ≤ issued_count (map unanswered m.book) port }
+    ensures issued { (uses : Uses) (m : Machine) (d : Device) → Agrees uses m d → (port : Port) → NoneKept m port
+        → (slot : ℕ) (id : RequestId) → uses port.0 slot ≡ Serves id
+        → (e : Pending) × Contains m.book e × (e.issued ≡ true) × (e.request.id ≡ id) × (e.request.port ≡ port) }
     ensures all { (uses : Uses) (m : Machine) (d : Device) → IsReached m → Agrees uses m d → (port : Port) → NoneKept m port
         → (n : ℕ) → HaveSlots uses m port.0 [] → ((slot : ℕ) (id : RequestId) → uses port.0 slot ≡ Serves id → slot < n)
         → serving_count uses port.0 n ≡ issued_count (map unanswered m.book) port }
@@ -390,8 +396,8 @@ pub fn client_bytes_are_free()
         → IsOpen m.owner m.lent client frame offset n → Stays (IsFree (4096 * frame.0 + offset) n) d }
 {}
 
-/// A write that may be made now, of any register but PxCI, may be made whatever the device does first; and it goes on to leave each
-/// slot to its use.
+/// A write that may be made now, of any register but PxCI, may be made whatever the device does first; and, while no reset is pending,
+/// one that leaves each slot to its use goes on to.
 pub fn writing_is_permitted()
     ensures rules { (r : Reg) (v : ℕ) (d : Device) → ((port : Port) → r ≢ Px port Ci) → MayWrite r v d → Stays (MayWrite r v) d }
     ensures uses { (uses : Uses) (r : Reg) (v : ℕ) (d : Device) → d.hr ≡ false → LeavesUses uses r v d

@@ -1,4 +1,5 @@
 use Rattle.agreement.proofs.Putting.{put_same, put_other}
+use Rattle.agreement.proofs.Parking.{put_unserved}
 use Rattle.agreement.proofs.laws.putting_is_of_one_slot.Goals as goal
 
 pub returns-clause-here : goal.returns-clause-here
@@ -6,3 +7,6 @@ returns-clause-here c = put_same
 
 pub returns-clause-others : goal.returns-clause-others
 returns-clause-others c = put_other
+
+pub returns-clause-unserved : goal.returns-clause-unserved
+returns-clause-unserved c = put_unserved

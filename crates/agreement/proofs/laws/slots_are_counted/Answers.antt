@@ -1,4 +1,4 @@
-use Rattle.agreement.proofs.Counting.{serving_most, serving_all}
+use Rattle.agreement.proofs.Counting.{serving_most, issued_one, serving_all}
 use Rattle.agreement.proofs.laws.slots_are_counted.Goals as goal
 
 pub returns-clause-most : goal.returns-clause-most
@@ -6,3 +6,6 @@ returns-clause-most c = serving_most
 
 pub returns-clause-all : goal.returns-clause-all
 returns-clause-all c = serving_all
+
+pub returns-clause-issued : goal.returns-clause-issued
+returns-clause-issued c = issued_one
