@@ -68,15 +68,13 @@ healthy_flagged p bases fre fr taken ci sact is tfd disk serr_n serr_x halt note
   linked = h.linked;
   running = running;
   whole = h.whole;
-  serr_n = n;
-  serr_x = x;
-  quiet = quiet;
+  quiet = record { serr_n = n; serr_x = x; quiet = quiet };
 }
 
 healthy_with : (p : PortState) (bases : Bases) (fre fr : Bool) (taken : ℕ → Option Taken) (ci sact : ℕ → Bool) (tfd : ℕ) (disk : Disk) (notes : Notes) → RunsWell p →
     RunsWell (record p { bases = bases; fre = fre; fr = fr; taken = taken; ci = ci; sact = sact; tfd = tfd; disk = disk; notes = notes })
 healthy_with p bases fre fr taken ci sact tfd disk notes h =
-    healthy_flagged p bases fre fr taken ci sact p.is tfd disk p.serr_n p.serr_x p.halt notes h.running h.serr_n h.serr_x h.quiet h
+    healthy_flagged p bases fre fr taken ci sact p.is tfd disk p.serr_n p.serr_x p.halt notes h.running h.quiet.serr_n h.quiet.serr_x h.quiet.quiet h
 
 module _ (port : ℕ) (d : Device) (gained : List Entry) (calm : NoneOf (IsDisturbance port) gained) (h : RunsWell (d.port port)) where
   -- no place of an error is one of a command's end
@@ -95,7 +93,7 @@ module _ (port : ℕ) (d : Device) (gained : List Entry) (calm : NoneOf (IsDistu
   step_healthy (Clear p slot t first count) off can is = at_port RunsWell RunsWell d p port _ h
       (λ e x. healthy_with (d.port p) _ _ _ _ _ _ _ _ _ x) (λ ne x. x)
   step_healthy (Done p slot flag t) off can is = at_port RunsWell RunsWell d p port _ h
-      (λ e x. healthy_flagged (d.port p) _ _ _ _ _ _ _ _ _ _ _ _ _ refl x.serr_n x.serr_x (λ place low up. changed_other (d.port p).is flag true place (no_error flag place can.shown low) ∙ x.quiet place low up) x) (λ ne x. x)
+      (λ e x. healthy_flagged (d.port p) _ _ _ _ _ _ _ _ _ _ _ _ _ refl x.quiet.serr_n x.quiet.serr_x (λ place low up. changed_other (d.port p).is flag true place (no_error flag place can.shown low) ∙ x.quiet.quiet place low up) x) (λ ne x. x)
   step_healthy (Fault p slot error kept_bits t) off can is = at_port RunsWell RunsWell d p port _ h
       (λ e x. absurd (gained_none (IsDisturbance port) d.tape _ gained is calm e)) (λ ne x. x)
   step_healthy (Fatal p place) off can is = at_port RunsWell RunsWell d p port _ h
@@ -149,8 +147,8 @@ port_healthy Cmd v tape p on other h =
     subst (λ (b : Bool). RunsWell (with_fre (bit v 4) (with_st b tape p))) (sym (on refl))
     (subst (λ (x : PortState). RunsWell (with_fre (bit v 4) x)) (sym (cond-true p.st p _ h.st)) (healthy_with p _ _ _ _ _ _ _ _ _ h))
 port_healthy Sctl v tape p on other h = absurd (other refl)
-port_healthy Serr v tape p on other h = healthy_flagged p _ _ _ _ _ _ _ _ _ _ _ _ _ h.running (and_left p.serr_n (not (bit v 16)) h.serr_n) (and_left p.serr_x (not (bit v 26)) h.serr_x) h.quiet h
-port_healthy Is v tape p on other h = healthy_flagged p _ _ _ _ _ _ _ _ _ _ _ _ _ h.running h.serr_n h.serr_x (λ place low up. and_left (p.is place) (not (bit v place)) (h.quiet place low up)) h
+port_healthy Serr v tape p on other h = healthy_flagged p _ _ _ _ _ _ _ _ _ _ _ _ _ h.running (and_left p.serr_n (not (bit v 16)) h.quiet.serr_n) (and_left p.serr_x (not (bit v 26)) h.quiet.serr_x) h.quiet.quiet h
+port_healthy Is v tape p on other h = healthy_flagged p _ _ _ _ _ _ _ _ _ _ _ _ _ h.running h.quiet.serr_n h.quiet.serr_x (λ place low up. and_left (p.is place) (not (bit v place)) (h.quiet.quiet place low up)) h
 port_healthy Clb v tape p on other h = healthy_with p _ _ _ _ _ _ _ _ _ h
 port_healthy Clbu v tape p on other h = healthy_with p _ _ _ _ _ _ _ _ _ h
 port_healthy Fb v tape p on other h = healthy_with p _ _ _ _ _ _ _ _ _ h
@@ -208,7 +206,5 @@ first_healthy = subst RunsWell (sym (changed_same (λ _. quiet_port) 0 reading_p
   linked = refl;
   running = refl;
   whole = refl;
-  serr_n = refl;
-  serr_x = refl;
-  quiet = λ place low up. refl;
+  quiet = record { serr_n = refl; serr_x = refl; quiet = λ place low up. refl };
 })

@@ -248,7 +248,7 @@ pub back_clears : (port : Port) (v : ℕ) → TellsNoTrouble v → ClearsNoTroub
 back_clears port v h = record { is = λ _. h.quiet; serr = λ e. absurd (let z : Px port Is ≡ Px port Serr = e in cc) }
 
 pub healthy_shows : (p : PortState) → RunsWell p → ShowsNoTrouble p
-healthy_shows p h = record { serr_n = h.serr_n; serr_x = h.serr_x; quiet = h.quiet }
+healthy_shows p h = h.quiet
 
 -- PxIS, and then PxSERR
 pub pair_is_found : (port : Port) (v errors : ℕ) (old mid new : Device) → old.hr ≡ false → Reads (Px port Is) v old mid → Reads (Px port Serr) errors mid new →

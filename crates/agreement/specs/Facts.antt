@@ -90,8 +90,13 @@ AreOver uses d id = (port slot : ℕ) → uses port slot ≡ Serves id → IsOve
 
 -- ---- a port on which nothing goes wrong
 
--- The port runs, its disk is there with its link up and no other link due, no error has stopped it, and no bit of PxSERR or
--- PxIS tells of one: neither N and X, nor IFS, HBDS, HBFS and TFES, which are 27 to 30.
+-- no bit of PxSERR or PxIS tells of trouble: neither N and X, nor IFS, HBDS, HBFS and TFES, which are 27 to 30
+pub record ShowsNoTrouble (p : PortState) : Type 0 where
+  pub serr_n : p.serr_n ≡ false
+  pub serr_x : p.serr_x ≡ false
+  pub quiet : (place : ℕ) → 27 ≤ place → place ≤ 30 → p.is place ≡ false
+
+-- The port runs, its disk is there with its link up and no other link due, no error has stopped it, and no bit tells of one.
 pub record RunsWell (p : PortState) : Type 0 where
   pub st : p.st ≡ true
   pub cr : p.cr ≡ true
@@ -101,9 +106,7 @@ pub record RunsWell (p : PortState) : Type 0 where
   pub linked : p.link_due ≡ false
   pub running : p.halt ≡ NotHalted
   pub whole : p.broken ≡ false
-  pub serr_n : p.serr_n ≡ false
-  pub serr_x : p.serr_x ≡ false
-  pub quiet : (place : ℕ) → 27 ≤ place → place ≤ 30 → p.is place ≡ false
+  pub quiet : ShowsNoTrouble p
 
 -- a fault or a fatal error of the port, or its disk goes or comes
 abbrev pub IsDisturbance : ℕ → Entry → Type 0
@@ -118,12 +121,6 @@ pub record Undisturbed (port : ℕ) (old new : Device) : Type 0 where
   pub gained : List Entry
   pub tape : new.tape ≡ old.tape ++ gained
   pub calm : All (λ e. IsDisturbance port e → ⊥) gained
-
--- no bit of PxSERR or PxIS tells of trouble: neither N and X, nor IFS, HBDS, HBFS and TFES, which are 27 to 30
-pub record ShowsNoTrouble (p : PortState) : Type 0 where
-  pub serr_n : p.serr_n ≡ false
-  pub serr_x : p.serr_x ≡ false
-  pub quiet : (place : ℕ) → 27 ≤ place → place ≤ 30 → p.is place ≡ false
 
 -- A value of PxIS tells of none: neither PCS, which shows X, and PRCS, which shows N, nor those four (AHCI 1.3.1, 3.3.5).
 pub record TellsNoTrouble (v : ℕ) : Type 0 where
