@@ -53,3 +53,4 @@ mod Lasting
 mod Finished
 mod Setting
 mod Others
+mod Issued

@@ -1,5 +1,5 @@
 // Laws of what a driver learns from the device, for the crates above: the clause is the theorem. Nothing calls these functions.
-ghost use Rattle.std.specs.Prelude.{ℕ, true, false, ◌≡◌, ◌≢◌, ◌≤◌, ◌+◌, ◌*◌, ◌/◌, ◌%◌, ◌++◌, List, length, drop, Some, None};
+ghost use Rattle.std.specs.Prelude.{ℕ, true, false, ◌≡◌, ◌≢◌, ◌≤◌, ◌+◌, ◌*◌, ◌/◌, ◌%◌, ◌++◌, List, length, drop, Some, None, Contains};
 ghost use Rattle.ata_types.specs.declared.Port.{Port};
 ghost use Rattle.ata_types.specs.declared.request.Frame.{Frame};
 ghost use Rattle.ata_types.specs.declared.request.RequestId.{RequestId};
@@ -77,9 +77,10 @@ pub fn done_is_found()
         (λ m steps. (found : Finds k.uses m port ci sact k.device new) × AreStepsOf found.follows steps) }
 {}
 
-/// A request that has ended leaves its slot clear, also where ST is 0. And on a running port a slot that serves a request and whose
-/// bits are both clear has ended it.
+/// A request of the book that has ended is issued still. One that may move and has ended leaves its slot clear, also where ST is 0. And
+/// on a running port a slot that serves a request and whose bits are both clear has ended it.
 pub fn ended_is_clear()
+    ensures issued { (m : Machine) (e : Pending) → IsReached m → Contains m.book e → e.ended ≡ true → e.issued ≡ true }
     ensures clears { (uses : Uses) (m : Machine) (d : Device) (port : Port) (slot : ℕ) (e : Pending) → IsReached m → Agrees uses m d
         → MayMove m e → e.ended ≡ true → uses port.0 slot ≡ Serves e.request.id
         → IsClear (d.port port.0) slot × EndedIn m port e.request.id }

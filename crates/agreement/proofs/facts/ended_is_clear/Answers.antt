@@ -1,4 +1,5 @@
 use Rattle.agreement.proofs.Finding.{ended_is_clear, clear_is_ended}
+use Rattle.agreement.proofs.Issued.{ended_is_issued}
 use Rattle.agreement.proofs.facts.ended_is_clear.Goals as goal
 
 pub returns-clause-clears : goal.returns-clause-clears
@@ -6,3 +7,6 @@ returns-clause-clears c = ended_is_clear
 
 pub returns-clause-ends : goal.returns-clause-ends
 returns-clause-ends c = clear_is_ended
+
+pub returns-clause-issued : goal.returns-clause-issued
+returns-clause-issued c = ended_is_issued
