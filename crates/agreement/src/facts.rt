@@ -28,8 +28,8 @@ ghost use Rattle.agreement.specs.Facts.{IsHalted, IsAfterReset, Finds, FindsPage
 ghost use Rattle.agreement.specs.Follows.{Follows};
 ghost use Rattle.agreement.specs.Links.{SparesRegister, SameAdapter, LeavesControls, PlugsNone, LeavesDisk, LeavesLink};
 ghost use Rattle.agreement.specs.Places.{scratch_of};
-ghost use Rattle.agreement.specs.Spares.{IsOfAnother};
 ghost use Rattle.agreement.specs.Slots.{Uses, Free, Own, Serves, IsOver};
+ghost use Rattle.agreement.specs.Spares.{IsOfAnother};
 
 /// A port that has halted stays so, whatever the device does, also over a reset of the adapter that ends, over readings, and over
 /// each write that may be made and doesn't set its ST; and an idle port has halted.
