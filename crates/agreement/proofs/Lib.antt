@@ -12,12 +12,12 @@ mod Clearing
 mod Ending
 mod Following
 mod Accesses
-mod Waiting
+pub mod Waiting
 mod Writing
-mod Adding
+pub mod Adding
 mod Putting
 mod Keeping
-mod Calling
+pub mod Calling
 mod Deciding
 mod Clients
 mod Freeing
@@ -29,7 +29,7 @@ mod Witness
 mod Decided
 mod Halting
 mod Resting
-mod Finding
+pub mod Finding
 mod Lending
 mod Stilling
 mod Healthy
@@ -40,6 +40,6 @@ mod Starting
 mod Faulted
 mod Witnesses
 mod Identified
-mod Allowing
+pub mod Allowing
 mod Leaving
 mod Showing

@@ -24,3 +24,6 @@ mod Serving
 mod Setting
 mod Zeros
 mod FirstServed
+mod Following
+mod Finding
+mod Sending
