@@ -4,6 +4,7 @@ use Rattle.hba_regs.specs.declared.reg.Reg.{Reg}
 use Rattle.adapter.specs.Access.{Reads, Writes, Stores}
 use Rattle.adapter.specs.Device.{Device}
 use Rattle.adapter.specs.Rules.{MayWrite, Stays}
+use Rattle.adapter.proofs.Runs.{Steps-refl}
 use Rattle.block_machine.specs.Events.{AllMay}
 use Rattle.block_machine.specs.Left.{after}
 use Rattle.block_machine.specs.State.{Machine}
@@ -12,7 +13,7 @@ use Rattle.block_machine.proofs.EventLemmas.{after-append}
 use Rattle.block_machine.proofs.HistoryLemmas.{may-append}
 use Rattle.agreement.specs.Driver.{Known, Knows, ByDevice, EndsWith, LeavesUses}
 use Rattle.agreement.specs.Slots.{Uses}
-use Rattle.agreement.proofs.Adding.{accesses_then, backed_then, read_adds, store_adds, write_adds}
+use Rattle.agreement.proofs.Adding.{accesses_then, backed_then, device_adds, read_adds, store_adds, write_adds}
 use Rattle.agreement.proofs.Waiting.{device_append}
 use Rattle.block_server.specs.Followed.{known, AnyUse, IsFreeThere, IsFollowed}
 
@@ -21,6 +22,9 @@ use Rattle.block_server.specs.Followed.{known, AnyUse, IsFreeThere, IsFollowed}
 pub followed_then : (IsUsed : Uses → Type 0) (old mid new : Device) → IsFollowed IsUsed old mid → IsFollowed IsUsed mid new → IsFollowed IsUsed old new
 followed_then IsUsed old mid new a b uses parked is =
     accesses_then (known uses parked old) (known uses parked mid) (known uses parked new) (a uses parked is) (b uses parked is)
+
+pub nothing_followed : (d : Device) → IsFollowed AnyUse d d
+nothing_followed d uses parked is = device_adds (known uses parked d) d (Steps-refl d)
 
 -- what is followed however the slots are used
 pub followed_so : (IsUsed : Uses → Type 0) (old new : Device) → IsFollowed AnyUse old new → IsFollowed IsUsed old new

@@ -27,3 +27,4 @@ mod FirstServed
 mod Following
 mod Finding
 mod Sending
+mod Bringing
