@@ -1,12 +1,11 @@
 -- The accesses that bring port 0 up may be made, and are followed by the block machine.
-use Rattle.std.proofs.Common.{ℕ, ◌≡◌, ◌≢◌, ◌⊎◌, ◌<◌, ◌%◌, true, false, inl, inr, refl, ◌∙◌, ap, arith, lit<}
+use Rattle.std.proofs.Common.{ℕ, ◌≡◌, ◌≢◌, ◌⊎◌, ◌<◌, ◌%◌, true, false, inr, refl, ◌∙◌, ap, arith, lit<}
 use Rattle.hba_regs.specs.Bits.{bit}
 use Rattle.hba_regs.specs.declared.reg.PortReg.TheVariants.{Clb, Clbu, Fb, Fbu, Is, Cmd, Sctl, Serr}
 use Rattle.adapter.specs.Access.{Reads, Writes}
 use Rattle.adapter.specs.Device.{Bases, Notes, Device}
 use Rattle.adapter.specs.Rules.{MayWrite, Stays}
 use Rattle.adapter.proofs.Absurd.{true-false}
-use Rattle.agreement.specs.Places.{received_of}
 use Rattle.agreement.proofs.Allowing.{write_stays}
 use Rattle.block_server.specs.Followed.{AnyUse, NoneUsed, IsFollowed}
 use Rattle.block_server.specs.Port.{programmed, IsBooting, IsLinked, IsNotBusy}

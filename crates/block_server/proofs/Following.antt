@@ -15,20 +15,20 @@ use Rattle.agreement.specs.Driver.{Known, Knows, ByDevice, EndsWith, LeavesUses}
 use Rattle.agreement.specs.Slots.{Uses}
 use Rattle.agreement.proofs.Adding.{accesses_then, backed_then, device_adds, read_adds, store_adds, write_adds}
 use Rattle.agreement.proofs.Waiting.{device_append}
-use Rattle.block_server.specs.Followed.{known, AnyUse, IsFreeThere, IsFollowed}
+use Rattle.block_server.specs.Followed.{known, AnyUse, SlotIsFree, IsFollowed}
 
 -- ---- one stretch after another
 
-pub followed_then : (IsUsed : Uses → Type 0) (old mid new : Device) → IsFollowed IsUsed old mid → IsFollowed IsUsed mid new → IsFollowed IsUsed old new
-followed_then IsUsed old mid new a b uses parked is =
+pub followed_then : (Fits : Uses → Type 0) (old mid new : Device) → IsFollowed Fits old mid → IsFollowed Fits mid new → IsFollowed Fits old new
+followed_then Fits old mid new a b uses parked is =
     accesses_then (known uses parked old) (known uses parked mid) (known uses parked new) (a uses parked is) (b uses parked is)
 
 pub nothing_followed : (d : Device) → IsFollowed AnyUse d d
 nothing_followed d uses parked is = device_adds (known uses parked d) d (Steps-refl d)
 
 -- what is followed however the slots are used
-pub followed_so : (IsUsed : Uses → Type 0) (old new : Device) → IsFollowed AnyUse old new → IsFollowed IsUsed old new
-followed_so IsUsed old new a uses parked is = a uses parked tt
+pub followed_so : (Fits : Uses → Type 0) (old new : Device) → IsFollowed AnyUse old new → IsFollowed Fits old new
+followed_so Fits old new a uses parked is = a uses parked tt
 
 -- a stretch of the device's steps, and then one that ends with the driver's step
 pub ends_then : (k later : Known) (mid : Device) (m : Machine) (step : Step) (early : List Step) → AllMay m early → ByDevice k.device mid m early →
@@ -46,13 +46,13 @@ ends_then k later mid m step early may device x = record {
 pub reading_followed : (r : Reg) (v : ℕ) (old new : Device) → Reads r v old new → IsFollowed AnyUse old new
 reading_followed r v old new call uses parked is = read_adds (known uses parked old) r v new call
 
-pub writing_followed : (IsUsed : Uses → Type 0) (r : Reg) (v : ℕ) (old new : Device) → Stays (MayWrite r v) old →
-    ((uses : Uses) → IsUsed uses → LeavesUses uses r v old) → Writes r v old new → IsFollowed IsUsed old new
-writing_followed IsUsed r v old new may leaves call uses parked is = write_adds (known uses parked old) r v new may (leaves uses is) call
+pub writing_followed : (Fits : Uses → Type 0) (r : Reg) (v : ℕ) (old new : Device) → Stays (MayWrite r v) old →
+    ((uses : Uses) → Fits uses → LeavesUses uses r v old) → Writes r v old new → IsFollowed Fits old new
+writing_followed Fits r v old new may leaves call uses parked is = write_adds (known uses parked old) r v new may (leaves uses is) call
 
 -- a store to header or table of slot 0
 pub storing_followed : (at : ℕ) (bytes : List ℕ) (old new : Device) → (at + length bytes ≤ 32) ⊎ ((4096 ≤ at) × (at + length bytes ≤ 5120)) →
-    Stores at bytes old new → IsFollowed IsFreeThere old new
+    Stores at bytes old new → IsFollowed SlotIsFree old new
 storing_followed at bytes old new here call uses parked free =
     store_adds (known uses parked old) at bytes new (inl (record { port = 0; slot = 0; below = lit< tt; slot_below = lit< tt; free = free; here = of here })) call
   where

@@ -18,7 +18,7 @@ use Rattle.agreement.specs.Places.{place_in}
 use Rattle.agreement.specs.Slots.{Free, Uses, ArePlaces, Told, HasBlock}
 use Rattle.agreement.proofs.Calling.{issue_follows}
 use Rattle.agreement.proofs.Waiting.{steps_may}
-use Rattle.block_server.specs.Followed.{known, IsFreeThere, IsFollowed, IsReadOf, IssuesRead}
+use Rattle.block_server.specs.Followed.{known, SlotIsFree, IsFollowed, IsReadOf, IssuesRead}
 use Rattle.block_server.specs.Places.{place_of, places_of}
 use Rattle.block_server.specs.Port.{Issued, meaning_of, HoldsRead, Serves}
 use Rattle.block_server.proofs.Following.{ends_then}
@@ -64,7 +64,7 @@ module _ (r : Issued) (e : Pending) (is : IsReadOf r e) where
   }
 
 -- slot 0 was written, and then its bit of CI
-pub read_issued : (r : Issued) (old mid new : Device) → IsFollowed IsFreeThere old mid → Serves None mid → HoldsRead r mid → Writes (px Ci) 1 mid new → IssuesRead r old new
+pub read_issued : (r : Issued) (old mid new : Device) → IsFollowed SlotIsFree old mid → Serves None mid → HoldsRead r mid → Writes (px Ci) 1 mid new → IssuesRead r old new
 read_issued r old mid new followed s h call uses parked m mode e reached knows free may plain usable is =
     let x = (followed uses parked free).adds m reached knows in
     let later : Machine = after m x.0 in

@@ -1,5 +1,5 @@
 -- What a stretch of accesses is to the block machine: its steps (this project's own).
-use Rattle.std.specs.Prelude.{ℕ, Bool, true, ◌≡◌, ◌<◌, List}
+use Rattle.std.specs.Prelude.{ℕ, Bool, true, ◌≡◌, ◌<◌, List, [], ◌∷◌}
 use Rattle.ata_types.specs.declared.request.Op.TheVariants.{Read}
 use Rattle.ata_types.specs.declared.request.RequestId.{RequestId}
 use Rattle.adapter.specs.Device.{Device}
@@ -13,7 +13,9 @@ use Rattle.agreement.specs.Agrees.{port_at}
 use Rattle.agreement.specs.Driver.{Known, Knows, ByDevice, EndsWith, AllFree, serving}
 use Rattle.agreement.specs.Facts.{EndedIn}
 use Rattle.agreement.specs.Slots.{Free, Serves, Uses, IsOver}
+use Rattle.block_server.specs.Book.{issued_of}
 use Rattle.block_server.specs.Port.{Issued}
+use Rattle.block_server.specs.declared.types.Accepted.{Accepted}
 
 -- what the driver knows: the use of each slot, the requests that it took from their slots, and the device
 abbrev pub known : Uses → (ℕ → List RequestId) → Device → Known
@@ -24,18 +26,18 @@ known uses parked d = record { uses = uses; parked = parked; device = d }
 abbrev pub AnyUse : Uses → Type 0
 AnyUse uses = Unit {0}
 
-abbrev pub IsFreeThere : Uses → Type 0
-IsFreeThere uses = uses 0 0 ≡ Free
+abbrev pub SlotIsFree : Uses → Type 0
+SlotIsFree uses = uses 0 0 ≡ Free
 
 abbrev pub NoneUsed : Uses → Type 0
 NoneUsed uses = AllFree uses 0
 
 -- ---- stretches of accesses
 
--- From each machine that agrees with what the driver knows, where slots are used in such a way, steps of the device alone lead
--- to one that agrees with the same and with the new device.
+-- From each machine that agrees with what the driver knows, where the uses of slots fit, steps of the device alone lead to one
+-- that agrees with the same and with the new device.
 abbrev pub IsFollowed : (Uses → Type 0) → Device → Device → Type 0
-IsFollowed IsUsed old new = (uses : Uses) (parked : ℕ → List RequestId) → IsUsed uses
+IsFollowed Fits old new = (uses : Uses) (parked : ℕ → List RequestId) → Fits uses
     → AddsSteps Knows (known uses parked old) (known uses parked new) (ByDevice old new)
 
 -- The steps are the device's. Where slot 0's request was found done, the slot's command is over and the request has ended; and no
@@ -64,3 +66,8 @@ abbrev pub IssuesRead : Issued → Device → Device → Type 0
 IssuesRead r old new = (uses : Uses) (parked : ℕ → List RequestId) (m : Machine) (mode : Mode) (e : Pending) → IsReached m
     → Knows m (known uses parked old) → uses 0 0 ≡ Free → May m (Issue mode e) → is_plain mode Read ≡ true → 0 < mode.usable
     → IsReadOf r e → EndsWith (known uses parked old) m (Issue mode e) (serving (known uses parked old) 0 0 e.request.id new)
+
+-- the first of the book is issued so; where there is none, the device is as it was
+abbrev pub IssuesFirst : List Accepted → Device → Device → Type 0
+IssuesFirst [] old new = new ≡ old
+IssuesFirst (e ∷ es) old new = IssuesRead (issued_of e) old new
