@@ -19,7 +19,7 @@ mod Putting
 mod Keeping
 pub mod Calling
 mod Deciding
-mod Clients
+pub mod Clients
 mod Freeing
 mod Permitting
 mod Unarmed

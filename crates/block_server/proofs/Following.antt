@@ -1,9 +1,12 @@
 -- Accesses are followed by the block machine, one after another.
-use Rattle.std.proofs.Common.{ℕ, ◌+◌, ◌≤◌, ◌⊎◌, ◌++◌, List, ◌∷◌, length, inl, inr, sym, subst, arith, lit<}
+use Rattle.std.proofs.Common.{ℕ, ◌+◌, ◌*◌, ◌≤◌, ◌⊎◌, ◌++◌, List, ◌∷◌, length, inl, inr, sym, subst, arith, lit<}
+use Rattle.ata_types.specs.declared.request.ClientId.{ClientId}
+use Rattle.ata_types.specs.declared.request.Frame.{Frame}
 use Rattle.hba_regs.specs.declared.reg.Reg.{Reg}
-use Rattle.adapter.specs.Access.{Reads, Writes, Stores}
+use Rattle.adapter.specs.Access.{Reads, Writes, Loads, Stores}
 use Rattle.adapter.specs.Device.{Device}
 use Rattle.adapter.specs.Rules.{MayWrite, Stays}
+use Rattle.adapter.specs.Steps.{Steps}
 use Rattle.adapter.proofs.Runs.{Steps-refl}
 use Rattle.block_machine.specs.Events.{AllMay}
 use Rattle.block_machine.specs.Left.{after}
@@ -14,8 +17,9 @@ use Rattle.block_machine.proofs.HistoryLemmas.{may-append}
 use Rattle.agreement.specs.Driver.{Known, Knows, ByDevice, EndsWith, LeavesUses}
 use Rattle.agreement.specs.Slots.{Uses}
 use Rattle.agreement.proofs.Adding.{accesses_then, backed_then, device_adds, read_adds, store_adds, write_adds}
+use Rattle.agreement.proofs.Clients.{client_loads}
 use Rattle.agreement.proofs.Waiting.{device_append}
-use Rattle.block_server.specs.Followed.{known, AnyUse, SlotIsFree, IsFollowed}
+use Rattle.block_server.specs.Followed.{known, AnyUse, SlotIsFree, IsFollowed, LoadsBytes}
 
 -- ---- one stretch after another
 
@@ -23,8 +27,11 @@ pub followed_then : (Fits : Uses → Type 0) (old mid new : Device) → IsFollow
 followed_then Fits old mid new a b uses parked is =
     accesses_then (known uses parked old) (known uses parked mid) (known uses parked new) (a uses parked is) (b uses parked is)
 
+pub steps_followed : (old new : Device) → Steps old new → IsFollowed AnyUse old new
+steps_followed old new steps uses parked is = device_adds (known uses parked old) new steps
+
 pub nothing_followed : (d : Device) → IsFollowed AnyUse d d
-nothing_followed d uses parked is = device_adds (known uses parked d) d (Steps-refl d)
+nothing_followed d = steps_followed d d (Steps-refl d)
 
 -- what is followed however the slots are used
 pub followed_so : (Fits : Uses → Type 0) (old new : Device) → IsFollowed AnyUse old new → IsFollowed Fits old new
@@ -49,6 +56,11 @@ reading_followed r v old new call uses parked is = read_adds (known uses parked 
 pub writing_followed : (Fits : Uses → Type 0) (r : Reg) (v : ℕ) (old new : Device) → Stays (MayWrite r v) old →
     ((uses : Uses) → Fits uses → LeavesUses uses r v old) → Writes r v old new → IsFollowed Fits old new
 writing_followed Fits r v old new may leaves call uses parked is = write_adds (known uses parked old) r v new may (leaves uses is) call
+
+-- a client's load
+pub loading_followed : (client : ClientId) (frame : Frame) (offset : ℕ) (bytes : List ℕ) (old new : Device) → Loads (4096 * frame.0 + offset) bytes old new →
+    LoadsBytes client frame offset bytes old new
+loading_followed client frame offset bytes old new call uses parked m reached knows may = client_loads (known uses parked old) m client frame offset bytes new reached knows may call
 
 -- a store to header or table of slot 0
 pub storing_followed : (at : ℕ) (bytes : List ℕ) (old new : Device) → (at + length bytes ≤ 32) ⊎ ((4096 ≤ at) × (at + length bytes ≤ 5120)) →

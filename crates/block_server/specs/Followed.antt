@@ -1,13 +1,16 @@
 -- What a stretch of accesses is to the block machine: its steps (this project's own).
-use Rattle.std.specs.Prelude.{ℕ, Bool, true, ◌≡◌, ◌<◌, List, [], ◌∷◌}
+use Rattle.std.specs.Prelude.{ℕ, Bool, true, ◌≡◌, ◌<◌, List, [], ◌∷◌, length}
+use Rattle.ata_types.specs.declared.request.ClientId.{ClientId}
+use Rattle.ata_types.specs.declared.request.Frame.{Frame}
 use Rattle.ata_types.specs.declared.request.Op.TheVariants.{Read}
 use Rattle.ata_types.specs.declared.request.RequestId.{RequestId}
 use Rattle.adapter.specs.Device.{Device}
 use Rattle.block_machine.specs.Due.{is_plain}
 use Rattle.block_machine.specs.Histories.{IsReached, AddsSteps}
 use Rattle.block_machine.specs.Left.{after}
+use Rattle.block_machine.specs.Refusals.{IsOpen}
 use Rattle.block_machine.specs.State.{Pending, Machine}
-use Rattle.block_machine.specs.Steps.{Step, Issue, May, NoneKept}
+use Rattle.block_machine.specs.Steps.{Step, Issue, Load, May, NoneKept}
 use Rattle.block_machine.specs.declared.due.Mode.{Mode}
 use Rattle.agreement.specs.Agrees.{port_at}
 use Rattle.agreement.specs.Driver.{Known, Knows, ByDevice, EndsWith, AllFree, serving}
@@ -71,3 +74,9 @@ IssuesRead r old new = (uses : Uses) (parked : ℕ → List RequestId) (m : Mach
 abbrev pub IssuesFirst : List Accepted → Device → Device → Type 0
 IssuesFirst [] old new = new ≡ old
 IssuesFirst (e ∷ es) old new = IssuesRead (issued_of e) old new
+
+-- Where the machine lets the client load so many bytes of its frame: steps of the device, and then the load of these.
+abbrev pub LoadsBytes : ClientId → Frame → ℕ → List ℕ → Device → Device → Type 0
+LoadsBytes client frame offset bytes old new = (uses : Uses) (parked : ℕ → List RequestId) (m : Machine) → IsReached m
+    → Knows m (known uses parked old) → IsOpen m.owner m.lent client frame offset (length bytes)
+    → EndsWith (known uses parked old) m (Load client frame offset bytes) (known uses parked new)
