@@ -24,3 +24,7 @@ mod Serving
 mod Setting
 mod Zeros
 mod FirstServed
+mod Following
+mod Finding
+mod Sending
+mod Bringing

@@ -2,6 +2,7 @@ pub mod Bytes
 pub mod Places
 pub mod Told
 pub mod Port
+pub mod Followed
 pub mod View
 pub mod Book
 pub mod Setup

@@ -1,5 +1,5 @@
 // The server.
-ghost use Rattle.std.specs.Prelude.{◌≡◌, ◌≢◌, ◌<◌, ◌+◌, ◌↔◌, IsTrue, IfOk, IfErr, MatchOption};
+ghost use Rattle.std.specs.Prelude.{◌≡◌, ◌≢◌, ◌<◌, ◌+◌, ◌↔◌, IsTrue, OnOk, IfOk, IfErr, MatchOption};
 
 use crate::book::{give_all_back, issue_first};
 use crate::lookup::{owns, unanswered};
@@ -53,6 +53,7 @@ impl<A: Adapter> Model for Server<A> {
 impl<A: Adapter> Server<A> {
     ghost use Rattle.block_machine.specs.Refusals.{IsAcceptable, IsFirstRefusal};
     ghost use Rattle.block_server.specs.Calls.{IsReadyFor, IsNew, state_of, situation_of, Accepts, Submits, AnswersFirst, Services, LoadsFrame, SameServer};
+    ghost use Rattle.block_server.specs.Followed.{LoadsBytes};
 
     /// A server of the port's disk, which has so many sectors: port 0 is brought up, and nothing is asked yet. Provisional:
     /// the number of sectors isn't read from the disk.
@@ -212,7 +213,8 @@ impl<A: Adapter> Server<A> {
         offset: u32,
         out: &mut [u8],
     ) -> Result<(), MemFault>
-        ensures { LoadsFrame A.device self.old self.new client frame offset out.old out.new result }
+        ensures loads { LoadsFrame A.device self.old self.new client frame offset out.old out.new result }
+        ensures followed { OnOk result (LoadsBytes client frame offset out.new (A.device self.old.adapter) (A.device self.new.adapter)) }
     {
         if !owns(&self.table, client, frame) {
             return Err(MemFault::FrameForeign);
@@ -250,10 +252,12 @@ impl<A: Adapter> Server<A> {
 
 impl<A: Stepped> Server<A> {
     ghost use Rattle.block_server.specs.Calls.{StepsDevice};
+    ghost use Rattle.block_server.specs.Followed.{AnyUse, IsFollowed};
 
     /// Has the device do a step, if that is possible.
     pub fn device(&mut self, step: &DeviceStep) -> bool
-        ensures { StepsDevice A.device self.old self.new step.now result }
+        ensures steps { StepsDevice A.device self.old self.new step.now result }
+        ensures followed { IsFollowed AnyUse (A.device self.old.adapter) (A.device self.new.adapter) }
     {
         self.adapter.step(step)
     }

@@ -7,6 +7,8 @@ use Rattle.block_server.specs.Calls.{SameServer, served_by}
 use Rattle.block_server.specs.Port.{Proceeds}
 use Rattle.block_server.specs.Seen.{seen}
 use Rattle.block_server.specs.View.{ServerView}
+use Rattle.block_server.specs.Followed.{LoadsBytes}
+use Rattle.block_server.proofs.Following.{loading_followed}
 use Rattle.block_server.proofs.Serviced.{kept_goes}
 use Rattle.block_server.proofs.Loading.{frame_loads, frame_opens, kept_after, none_if_not_some}
 use Rattle.block_server.proofs.server.Server.client_load.Goals as goal
@@ -20,8 +22,8 @@ load-requires g c =
 pub invariant_of-self : goal.invariant_of-self
 invariant_of-self g c = kept_after g.A.Adapter.device (seen c.self.inside) (vec_capacity c.self.inside.book) c.self.invariant c.load.new.self c.load.ensures.steps
 
-pub returns : goal.returns
-returns g c =
+pub returns-clause-loads : goal.returns-clause-loads
+returns-clause-loads g c =
     let s = seen c.self.inside in
     let owner = c.owns.ensures.0 c.if-not-owns.false in
     let lent = sym c.lent_to.ensures ∙ none_if_not_some c.lent_to.result (sym c.is_some.ensures ∙ c.if-is_some.false) in
@@ -36,3 +38,9 @@ returns g c =
       refl,
       kept_goes g.A.Adapter.device s (vec_capacity c.self.inside.book) c.self.invariant (g.A.Adapter.device c.load.new.self) c.load.ensures.steps,
     )
+
+pub returns-clause-followed : goal.returns-clause-followed
+returns-clause-followed g c =
+    let P : ServerView g.row.A.Denot → Type 0 = λ v.
+    LoadsBytes c.args.client c.args.frame c.args.offset c.load.new.out (g.A.Adapter.device v.adapter) (g.A.Adapter.device c.load.new.self) in
+    subst P c.self.view_is (loading_followed _ _ _ _ _ _ c.load.ensures)
