@@ -42,7 +42,7 @@ mod Identified
 pub mod Allowing
 mod Leaving
 mod Showing
-mod Sparing
+pub mod Sparing
 mod Parking
 mod Paging
 mod Crossing

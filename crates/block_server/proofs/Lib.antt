@@ -28,3 +28,4 @@ mod Following
 mod Finding
 mod Sending
 mod Bringing
+mod Histories

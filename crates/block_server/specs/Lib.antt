@@ -9,3 +9,4 @@ pub mod Setup
 pub mod Calls
 pub mod Running
 pub mod Seen
+pub mod History

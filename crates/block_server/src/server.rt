@@ -251,13 +251,15 @@ impl<A: Adapter> Server<A> {
 }
 
 impl<A: Stepped> Server<A> {
+    ghost use Rattle.block_machine.specs.Events.{Device as Told, Stepped};
+    ghost use Rattle.block_machine.specs.Histories.{Adds};
     ghost use Rattle.block_server.specs.Calls.{StepsDevice};
-    ghost use Rattle.block_server.specs.Followed.{AnyUse, IsFollowed};
+    ghost use Rattle.block_server.specs.History.{Begins, Ties, Stands};
 
     /// Has the device do a step, if that is possible.
     pub fn device(&mut self, step: &DeviceStep) -> bool
         ensures steps { StepsDevice A.device self.old self.new step.now result }
-        ensures followed { IsFollowed AnyUse (A.device self.old.adapter) (A.device self.new.adapter) }
+        ensures adds { Adds Begins Ties (Stands A.device) self.old self.new (Told step.now) (Stepped result) }
     {
         self.adapter.step(step)
     }
