@@ -24,14 +24,17 @@ use Rattle.block_server.specs.declared.types.Accepted.{Accepted}
 abbrev pub known : Uses → (ℕ → List RequestId) → Device → Known
 known uses parked d = record { uses = uses; parked = parked; device = d }
 
--- ---- how slots may be used meanwhile: in any way; slot 0 of port 0 not; no slot of port 0
+-- ---- how the slots may be used meanwhile
 
+-- in any way
 abbrev pub AnyUse : Uses → Type 0
 AnyUse uses = Unit {0}
 
+-- with slot 0 of port 0 free
 abbrev pub SlotIsFree : Uses → Type 0
 SlotIsFree uses = uses 0 0 ≡ Free
 
+-- with no slot of port 0 used
 abbrev pub NoneUsed : Uses → Type 0
 NoneUsed uses = AllFree uses 0
 
