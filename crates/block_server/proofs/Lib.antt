@@ -29,3 +29,4 @@ mod Finding
 mod Sending
 mod Bringing
 mod Histories
+mod Leading

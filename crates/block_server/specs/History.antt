@@ -1,6 +1,7 @@
 -- The server as a history of the block machine: what it is to the machine between two calls (this project's own).
-use Rattle.std.specs.Prelude.{ℕ, Bool, true, false, ◌≡◌, ◌+◌, ◌==◌, List, [], ◌∷◌, Option, Some, None}
-use Rattle.ata_types.specs.declared.request.ClientId.{ClientId}
+use Rattle.std.specs.Prelude.{ℕ, Bool, true, false, ◌≡◌, ◌+◌, ◌==◌, List, [], ◌∷◌, Option, Some, None, Ok, Err}
+use Rattle.std.specs.declared.result.Result.{Result}
+use Rattle.ata_types.specs.declared.refusal.MemFault.{MemFault}
 use Rattle.ata_types.specs.declared.request.Frame.{Frame}
 use Rattle.ata_types.specs.declared.request.Op.TheVariants.{Read}
 use Rattle.ata_types.specs.declared.request.RequestId.{RequestId}
@@ -11,7 +12,7 @@ use Rattle.block_machine.specs.declared.due.Mode.{Mode}
 use Rattle.block_machine.specs.Ports.{Ports, Evidence}
 use Rattle.block_machine.specs.State.{Pending}
 use Rattle.block_machine.specs.State as machine
-use Rattle.block_machine.specs.Events.{Device as Told, Stepped}
+use Rattle.block_machine.specs.Events.{Device as Told, Said, Loaded, Stepped}
 use Rattle.block_machine.specs.Histories.{Instant, Happening}
 use Rattle.agreement.specs.Agrees.{port_at}
 use Rattle.agreement.specs.Slots.{Free, Serves, Uses, put}
@@ -91,6 +92,11 @@ Begins first = Knows first.moment.machine (idle first.device)
 -- no evidence: nothing that the server does rests on any
 abbrev pub no_evidence : Evidence
 no_evidence = record { faults = []; lost = []; gone = []; failed = []; fatal = []; stopped = []; stuck = [] }
+
+-- what a load of a client's bytes says
+abbrev pub load_said : Result (Unit {0}) MemFault → List ℕ → Said
+load_said (Ok done) bytes = Loaded (Ok bytes)
+load_said (Err fault) bytes = Loaded (Err fault)
 
 -- The device's part in a call: the tape backs the machine's steps, and it did the step that it was told, or nothing.
 pub record Ties (old : Instant Device) (h : Happening Device DeviceStep) : Type 0 where

@@ -1,5 +1,5 @@
 // The server.
-ghost use Rattle.std.specs.Prelude.{◌≡◌, ◌≢◌, ◌<◌, ◌+◌, ◌↔◌, IsTrue, OnOk, IfOk, IfErr, MatchOption};
+ghost use Rattle.std.specs.Prelude.{◌≡◌, ◌≢◌, ◌<◌, ◌+◌, ◌↔◌, IsTrue, IfOk, IfErr, MatchOption, length};
 
 use crate::book::{give_all_back, issue_first};
 use crate::lookup::{owns, unanswered};
@@ -53,7 +53,9 @@ impl<A: Adapter> Model for Server<A> {
 impl<A: Adapter> Server<A> {
     ghost use Rattle.block_machine.specs.Refusals.{IsAcceptable, IsFirstRefusal};
     ghost use Rattle.block_server.specs.Calls.{IsReadyFor, IsNew, state_of, situation_of, Accepts, Submits, AnswersFirst, Services, LoadsFrame, SameServer};
-    ghost use Rattle.block_server.specs.Followed.{LoadsBytes};
+    ghost use Rattle.block_machine.specs.Events.{LoadAt};
+    ghost use Rattle.block_machine.specs.Histories.{Adds};
+    ghost use Rattle.block_server.specs.History.{Begins, Ties, Stands, load_said};
 
     /// A server of the port's disk, which has so many sectors: port 0 is brought up, and nothing is asked yet. Provisional:
     /// the number of sectors isn't read from the disk.
@@ -214,7 +216,7 @@ impl<A: Adapter> Server<A> {
         out: &mut [u8],
     ) -> Result<(), MemFault>
         ensures loads { LoadsFrame A.device self.old self.new client frame offset out.old out.new result }
-        ensures followed { OnOk result (LoadsBytes client frame offset out.new (A.device self.old.adapter) (A.device self.new.adapter)) }
+        ensures adds { Adds Begins Ties (Stands A.device) self.old self.new (LoadAt client frame offset (length out.old)) (load_said result out.new) }
     {
         if !owns(&self.table, client, frame) {
             return Err(MemFault::FrameForeign);
