@@ -18,7 +18,7 @@ pub mod Adding
 mod Putting
 mod Keeping
 pub mod Calling
-mod Deciding
+pub mod Deciding
 pub mod Clients
 mod Freeing
 mod Permitting

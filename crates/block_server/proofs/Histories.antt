@@ -1,22 +1,20 @@
 -- Calls add events to histories.
-use Rattle.std.proofs.Common.{ℕ, ◌≡◌, ◌⊎◌, ◌==◌, Bool, true, false, List, [], ◌∷◌, ◌++◌, refl, sym, ap, ◌∙◌, subst, inl, inr, length}
+use Rattle.std.proofs.Common.{◌≡◌, Bool, true, false, List, [], ◌∷◌, refl, sym, ap, ◌∙◌, subst, inl}
 use Rattle.std.proofs.lemmas.Bool.{false≢true}
 use Rattle.ata_types.specs.declared.Port.{Port}
 use Rattle.ata_types.specs.declared.request.RequestId.{RequestId}
 use Rattle.adapter.specs.Asked.{Asked}
 use Rattle.adapter.specs.Device.{Device}
-use Rattle.adapter.specs.Steps.{Steps}
 use Rattle.adapter.specs.declared.access.DeviceStep.{DeviceStep}
 use Rattle.block_machine.specs.Left.{after}
 use Rattle.block_machine.specs.Ports.{Ports, Evidence, AreFit, SamePorts, SameDisk}
-use Rattle.block_machine.specs.State.{Pending, Machine}
-use Rattle.block_machine.specs.State as machine
+use Rattle.block_machine.specs.State.{Pending}
 use Rattle.block_machine.specs.Steps.{Step, Issue, Again, Answer}
-use Rattle.block_machine.specs.Events.{Moment, Ask, Device as Told, Said, Stepped, Event, AllMay, IsDevices, AllDevices, Belong, IssuesLast, AllLawful, Happens, handles, moment_after}
-use Rattle.block_machine.specs.Histories.{Instant, Happening, now, IsHistory, IsReached, Leads, Adds}
+use Rattle.block_machine.specs.Events.{Moment, Ask, Device as Told, Said, Stepped, IsDevices, AllDevices, Belong, IssuesLast, AllLawful, handles}
+use Rattle.block_machine.specs.Histories.{Instant, Happening, now, IsHistory, Leads, Adds}
 use Rattle.block_machine.proofs.HistoryLemmas.{history_reaches}
-use Rattle.agreement.specs.Driver.{Known, Knows, IsBacked, ByDevice}
-use Rattle.agreement.specs.Spares.{IsFurther, AllFurther, SparesBook}
+use Rattle.agreement.specs.Driver.{Knows, IsBacked, ByDevice}
+use Rattle.agreement.specs.Spares.{AllFurther}
 use Rattle.agreement.proofs.Adding.{device_adds, nothing_backed}
 use Rattle.agreement.proofs.Sparing.{steps_spare}
 use Rattle.block_server.specs.Calls.{StepsDevice}
@@ -112,8 +110,7 @@ module _ {A : Type 0} (device : A → Device) where
           let at : Stands device old s = leads.stands in
           let more = (device_adds (known_of device s) (device adapter) told.steps).adds old.moment.machine (history_reaches Begins Ties first past leads.history) at.knows in
           let steps : List Step = more.0 in
-          let by : ByDevice (device s.adapter) (device adapter) old.moment.machine steps = more.3 in
-          (
+          let by : ByDevice (device s.adapter) (device adapter) old.moment.machine steps = more.3 in (
             record { event = record { ask = Told step; said = Stepped true; evidence = no_evidence; steps = steps; ports = ports_of s }; device = device adapter },
             refl,
             refl,

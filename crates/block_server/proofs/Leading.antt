@@ -1,5 +1,5 @@
 -- A client's load adds an event to each history.
-use Rattle.std.proofs.Common.{ℕ, ◌≡◌, ◌+◌, ◌*◌, ◌<◌, arith, Bool, true, false, List, [], ◌∷◌, Option, Some, None, Ok, Err, refl, sym, ap, ◌∙◌, subst, inl, inr, length}
+use Rattle.std.proofs.Common.{ℕ, ◌≡◌, ◌+◌, ◌<◌, arith, Bool, true, false, List, [], ◌∷◌, Option, Some, Ok, Err, refl, sym, ap, ◌∙◌, subst, inr, length}
 use Rattle.std.proofs.lemmas.Bool.{false≢true}
 use Rattle.std.specs.Prelude.{IsSome}
 use Rattle.ata_types.specs.declared.refusal.MemFault.{MemFault}
@@ -14,10 +14,10 @@ use Rattle.block_machine.specs.Left.{after}
 use Rattle.block_machine.specs.Ports.{AreFit}
 use Rattle.block_machine.specs.Refusals.{MemApplies, mem_fault_number, IsOpen, IsFirstMemFault}
 use Rattle.block_machine.specs.Steps.{Step, Load, Store}
-use Rattle.block_machine.specs.Events.{Moment, Ask, LoadAt, Device as Told, Said, Loaded, Stepped, AllMay, AllDevices, Belong, IssuesLast, AllLawful, IsAnswered, transfers_of}
+use Rattle.block_machine.specs.Events.{Ask, LoadAt, Device as Told, Said, Loaded, Stepped, AllMay, AllDevices, Belong, IssuesLast, AllLawful, IsAnswered, transfers_of}
 use Rattle.block_machine.specs.Histories.{Instant, Happening, now, Leads, Adds}
 use Rattle.block_machine.proofs.HistoryLemmas.{history_reaches}
-use Rattle.agreement.specs.Driver.{Knows, IsBacked, EndsWith}
+use Rattle.agreement.specs.Driver.{IsBacked, EndsWith}
 use Rattle.agreement.proofs.Adding.{nothing_backed}
 use Rattle.dma_frames.specs.Table.{owner_of, lent_to}
 use Rattle.block_server.specs.Followed.{LoadsBytes}
@@ -149,10 +149,9 @@ module _ {A : Type 0} (device : A → Device) where
     refuses_on count fault is first past leads =
         let old : Instant Device = now first past in
         let at : Stands device old s = leads.stands in
-        lead_on first past s s (LoadAt client frame offset count) (Loaded (Err fault)) [] leads refl refl refl tt tt tt tt
-        (
+        lead_on first past s s (LoadAt client frame offset count) (Loaded (Err fault)) [] leads refl refl refl tt tt tt tt (
           subst (λ owner. IsFirstMemFault owner old.moment.machine.lent client frame offset count fault) (sym (owner_is old s at))
-          (subst (λ lent. IsFirstMemFault (owner_of s.table) lent client frame offset count fault) (sym (lent_is old s at)) is),
+              (subst (λ lent. IsFirstMemFault (owner_of s.table) lent client frame offset count fault) (sym (lent_is old s at)) is),
           refl,
           ports_same old.moment.ports (ports_of s) at.ports_are,
         )

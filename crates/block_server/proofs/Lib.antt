@@ -30,3 +30,4 @@ mod Sending
 mod Bringing
 mod Histories
 mod Leading
+mod Submitting

@@ -1,5 +1,5 @@
 // The server.
-ghost use Rattle.std.specs.Prelude.{◌≡◌, ◌≢◌, ◌<◌, ◌+◌, ◌↔◌, IsTrue, IfOk, IfErr, MatchOption, length};
+ghost use Rattle.std.specs.Prelude.{◌≡◌, ◌≢◌, ◌<◌, ◌+◌, ◌↔◌, IsTrue, IfOk, IfErr, MatchOption, Ok, length};
 
 use crate::book::{give_all_back, issue_first};
 use crate::lookup::{owns, unanswered};
@@ -53,7 +53,7 @@ impl<A: Adapter> Model for Server<A> {
 impl<A: Adapter> Server<A> {
     ghost use Rattle.block_machine.specs.Refusals.{IsAcceptable, IsFirstRefusal};
     ghost use Rattle.block_server.specs.Calls.{IsReadyFor, IsNew, state_of, situation_of, Accepts, Submits, AnswersFirst, Services, LoadsFrame, SameServer};
-    ghost use Rattle.block_machine.specs.Events.{LoadAt};
+    ghost use Rattle.block_machine.specs.Events.{Submit, Submitted, LoadAt};
     ghost use Rattle.block_machine.specs.Histories.{Adds};
     ghost use Rattle.block_server.specs.History.{Begins, Ties, Stands, load_said};
 
@@ -148,7 +148,8 @@ impl<A: Adapter> Server<A> {
     /// Puts the request last into the book, lends it its frames, and issues it if it is the first.
     fn accept(&mut self, r: &Request) -> RequestId
         requires { IsAcceptable (situation_of self.old) r.now }
-        ensures { Accepts A.device self.old self.new r.now result }
+        ensures accepts { Accepts A.device self.old self.new r.now result }
+        ensures adds { Adds Begins Ties (Stands A.device) self.old self.new (Submit r.now) (Submitted (Ok result)) }
     {
         let id = RequestId(self.last + 1);
         let loan = self.table.lend(r.client, r.frames.as_slice(), id);
@@ -170,7 +171,8 @@ impl<A: Adapter> Server<A> {
     /// Asks for a request. It is accepted exactly where no refusal applies, and then answered by a later `service`; its
     /// frames are lent until then. Where refusals apply, the first of them is told, and nothing changes.
     pub fn submit(&mut self, r: &Request) -> Result<RequestId, Refusal>
-        ensures { Submits A.device self.old self.new r.now result }
+        ensures submits { Submits A.device self.old self.new r.now result }
+        ensures adds { Adds Begins Ties (Stands A.device) self.old self.new (Submit r.now) (Submitted result) }
     {
         if let Some(refusal) = self.refusal(r) {
             return Err(refusal);
