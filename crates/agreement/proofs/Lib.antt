@@ -12,14 +12,14 @@ mod Clearing
 mod Ending
 mod Following
 mod Accesses
-mod Waiting
+pub mod Waiting
 mod Writing
-mod Adding
+pub mod Adding
 mod Putting
 mod Keeping
-mod Calling
-mod Deciding
-mod Clients
+pub mod Calling
+pub mod Deciding
+pub mod Clients
 mod Freeing
 mod Permitting
 mod Unarmed
@@ -28,7 +28,7 @@ mod Idling
 mod Witness
 mod Decided
 mod Halting
-mod Finding
+pub mod Finding
 mod Lending
 mod Stilling
 mod Healthy
@@ -39,10 +39,10 @@ mod Starting
 mod Faulted
 mod Witnesses
 mod Identified
-mod Allowing
+pub mod Allowing
 mod Leaving
 mod Showing
-mod Sparing
+pub mod Sparing
 mod Parking
 mod Paging
 mod Crossing

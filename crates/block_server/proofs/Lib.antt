@@ -24,3 +24,10 @@ mod Serving
 mod Setting
 mod Zeros
 mod FirstServed
+mod Following
+mod Finding
+mod Sending
+mod Bringing
+mod Histories
+mod Leading
+mod Submitting

@@ -2,6 +2,7 @@
 ghost use Rattle.std.specs.Prelude.{◌≡◌, ◌≢◌, true, false, List, None, [], All, AllPairs};
 ghost use Rattle.ata_types.specs.declared.grant.GrantRow.{GrantRow};
 ghost use Rattle.block_server.specs.Book.{IsAccepted, IsEarlier, served};
+ghost use Rattle.block_server.specs.Followed.{IssuesFirst};
 ghost use Rattle.block_server.specs.Port.{Serves, Proceeds};
 ghost use Rattle.dma_frames.specs.Table.{Table};
 
@@ -19,6 +20,7 @@ pub fn issue_first<A: Adapter>(adapter: &mut A, book: &[Accepted]) -> bool
     ensures some { result ≡ true → book.now ≢ [] }
     ensures issued { result ≡ true → ((A.device adapter.new).port 0).ci 0 ≡ true }
     ensures goes_on { Proceeds None (A.device adapter.old) (A.device adapter.new) }
+    ensures followed { IssuesFirst book.now (A.device adapter.old) (A.device adapter.new) }
 {
     let Some(next) = book.first() else {
         return false;

@@ -1,5 +1,5 @@
 // The server.
-ghost use Rattle.std.specs.Prelude.{◌≡◌, ◌≢◌, ◌<◌, ◌+◌, ◌↔◌, IsTrue, IfOk, IfErr, MatchOption};
+ghost use Rattle.std.specs.Prelude.{◌≡◌, ◌≢◌, ◌<◌, ◌+◌, ◌↔◌, IsTrue, IfOk, IfErr, MatchOption, Ok, length};
 
 use crate::book::{give_all_back, issue_first};
 use crate::lookup::{owns, unanswered};
@@ -53,6 +53,9 @@ impl<A: Adapter> Model for Server<A> {
 impl<A: Adapter> Server<A> {
     ghost use Rattle.block_machine.specs.Refusals.{IsAcceptable, IsFirstRefusal};
     ghost use Rattle.block_server.specs.Calls.{IsReadyFor, IsNew, state_of, situation_of, Accepts, Submits, AnswersFirst, Services, LoadsFrame, SameServer};
+    ghost use Rattle.block_machine.specs.Events.{Submit, Submitted, LoadAt};
+    ghost use Rattle.block_machine.specs.Histories.{Adds};
+    ghost use Rattle.block_server.specs.History.{Begins, Ties, Stands, load_said};
 
     /// A server of the port's disk, which has so many sectors: port 0 is brought up, and nothing is asked yet. Provisional:
     /// the number of sectors isn't read from the disk.
@@ -145,7 +148,8 @@ impl<A: Adapter> Server<A> {
     /// Puts the request last into the book, lends it its frames, and issues it if it is the first.
     fn accept(&mut self, r: &Request) -> RequestId
         requires { IsAcceptable (situation_of self.old) r.now }
-        ensures { Accepts A.device self.old self.new r.now result }
+        ensures accepts { Accepts A.device self.old self.new r.now result }
+        ensures adds { Adds Begins Ties (Stands A.device) self.old self.new (Submit r.now) (Submitted (Ok result)) }
     {
         let id = RequestId(self.last + 1);
         let loan = self.table.lend(r.client, r.frames.as_slice(), id);
@@ -167,7 +171,8 @@ impl<A: Adapter> Server<A> {
     /// Asks for a request. It is accepted exactly where no refusal applies, and then answered by a later `service`; its
     /// frames are lent until then. Where refusals apply, the first of them is told, and nothing changes.
     pub fn submit(&mut self, r: &Request) -> Result<RequestId, Refusal>
-        ensures { Submits A.device self.old self.new r.now result }
+        ensures submits { Submits A.device self.old self.new r.now result }
+        ensures adds { Adds Begins Ties (Stands A.device) self.old self.new (Submit r.now) (Submitted result) }
     {
         if let Some(refusal) = self.refusal(r) {
             return Err(refusal);
@@ -212,7 +217,8 @@ impl<A: Adapter> Server<A> {
         offset: u32,
         out: &mut [u8],
     ) -> Result<(), MemFault>
-        ensures { LoadsFrame A.device self.old self.new client frame offset out.old out.new result }
+        ensures loads { LoadsFrame A.device self.old self.new client frame offset out.old out.new result }
+        ensures adds { Adds Begins Ties (Stands A.device) self.old self.new (LoadAt client frame offset (length out.old)) (load_said result out.new) }
     {
         if !owns(&self.table, client, frame) {
             return Err(MemFault::FrameForeign);
@@ -249,11 +255,15 @@ impl<A: Adapter> Server<A> {
 }
 
 impl<A: Stepped> Server<A> {
+    ghost use Rattle.block_machine.specs.Events.{Device as Told, Stepped};
+    ghost use Rattle.block_machine.specs.Histories.{Adds};
     ghost use Rattle.block_server.specs.Calls.{StepsDevice};
+    ghost use Rattle.block_server.specs.History.{Begins, Ties, Stands};
 
     /// Has the device do a step, if that is possible.
     pub fn device(&mut self, step: &DeviceStep) -> bool
-        ensures { StepsDevice A.device self.old self.new step.now result }
+        ensures steps { StepsDevice A.device self.old self.new step.now result }
+        ensures adds { Adds Begins Ties (Stands A.device) self.old self.new (Told step.now) (Stepped result) }
     {
         self.adapter.step(step)
     }

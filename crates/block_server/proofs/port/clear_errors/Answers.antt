@@ -1,18 +1,19 @@
-use Rattle.std.proofs.Common.{true}
-use Rattle.block_server.proofs.Booting.{steps_boot, serr_links, is_links, links_then, links_here}
+use Rattle.hba_regs.specs.declared.reg.PortReg.TheVariants.{Is, Serr}
+use Rattle.block_server.specs.Followed.{AnyUse}
+use Rattle.block_server.proofs.Booting.{serr_links, is_links, links_then, links_here}
+use Rattle.block_server.proofs.Bringing.{serr_may, is_may}
 use Rattle.block_server.proofs.Coming.{link_then, undisturbed_both}
+use Rattle.block_server.proofs.Following.{followed_then, writing_followed}
+use Rattle.block_server.proofs.PortLemmas.{px}
 use Rattle.block_server.proofs.port.clear_errors.Goals as goal
 
 pub write-requires : goal.write-requires
-write-requires g c = λ mid steps.
-    let h = steps_boot _ _ _ true c.requires.links.booting steps in
-    (h.lone.on, h.there, tt)
+write-requires g c = serr_may _ c.requires.links.booting 0xffffffff
 
 pub write-requires-2 : goal.write-requires-2
-write-requires-2 g c = λ mid steps.
+write-requires-2 g c =
     let first = serr_links _ _ c.requires.links c.requires.linked c.write.ensures in
-    let h = steps_boot _ _ _ true first.0.booting steps in
-    (h.lone.on, h.there, tt)
+    is_may _ first.0.booting 0xffffffff
 
 pub returns-clause-links : goal.returns-clause-links
 returns-clause-links g c =
@@ -44,3 +45,9 @@ returns-clause-calm g c =
     let first = serr_links _ _ c.requires.links c.requires.linked c.write.ensures in
     let second = is_links _ _ (links_here _ _ first.0) first.1 c.write-2.ensures in
     second.3
+
+pub returns-clause-followed : goal.returns-clause-followed
+returns-clause-followed g c =
+    let first = serr_links _ _ c.requires.links c.requires.linked c.write.ensures in
+    followed_then AnyUse _ _ _ (writing_followed AnyUse (px Serr) 0xffffffff _ _ (serr_may _ c.requires.links.booting 0xffffffff) (λ uses is. tt) c.write.ensures)
+    (writing_followed AnyUse (px Is) 0xffffffff _ _ (is_may _ first.0.booting 0xffffffff) (λ uses is. tt) c.write-2.ensures)

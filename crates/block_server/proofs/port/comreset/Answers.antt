@@ -1,20 +1,22 @@
-use Rattle.std.proofs.Common.{refl, inl, inr, true, ap}
+use Rattle.std.proofs.Common.{refl, inl, inr, ap}
+use Rattle.hba_regs.specs.declared.reg.PortReg.TheVariants.{Sctl}
 use Rattle.adapter.specs.Device.{PortState}
 use Rattle.block_server.proofs.Coming.{comreset_coming, undisturbed_both}
 use Rattle.block_server.proofs.Sparing.{spares_then}
-use Rattle.block_server.proofs.Booting.{steps_boot, sctl_boots}
+use Rattle.block_server.specs.Followed.{AnyUse}
+use Rattle.block_server.proofs.Booting.{sctl_boots}
+use Rattle.block_server.proofs.Bringing.{sctl_may}
+use Rattle.block_server.proofs.Following.{followed_then, writing_followed}
+use Rattle.block_server.proofs.PortLemmas.{px}
 use Rattle.block_server.proofs.port.comreset.Goals as goal
 
 pub write-requires : goal.write-requires
-write-requires g c = λ mid steps.
-    let h = steps_boot _ _ _ true c.requires steps in
-    (h.lone.on, h.there, (h.stopped.st, inr refl))
+write-requires g c = sctl_may _ c.requires 1 (inr refl)
 
 pub write-requires-2 : goal.write-requires-2
-write-requires-2 g c = λ mid steps.
+write-requires-2 g c =
     let first = sctl_boots _ _ 1 c.requires c.write.ensures in
-    let h = steps_boot _ _ _ true first.0.booting steps in
-    (h.lone.on, h.there, (h.stopped.st, inl refl))
+    sctl_may _ first.0.booting 0 (inl refl)
 
 pub returns-clause-links : goal.returns-clause-links
 returns-clause-links g c =
@@ -27,3 +29,9 @@ returns-clause-coming g c = λ none.
     let first = sctl_boots _ _ 1 c.requires c.write.ensures in
     let second = sctl_boots _ _ 0 first.0.booting c.write-2.ensures in
     comreset_coming _ _ _ c.requires.lone.on.no_reset first.0.booting.lone.on.no_reset first.1 second.1 (undisturbed_both first.0.spares second.0.spares none).1
+
+pub returns-clause-followed : goal.returns-clause-followed
+returns-clause-followed g c =
+    let first = sctl_boots _ _ 1 c.requires c.write.ensures in
+    followed_then AnyUse _ _ _ (writing_followed AnyUse (px Sctl) 1 _ _ (sctl_may _ c.requires 1 (inr refl)) (λ uses is. tt) c.write.ensures)
+    (writing_followed AnyUse (px Sctl) 0 _ _ (sctl_may _ first.0.booting 0 (inl refl)) (λ uses is. tt) c.write-2.ensures)

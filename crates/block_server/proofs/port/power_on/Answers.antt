@@ -1,5 +1,11 @@
+use Rattle.hba_regs.specs.declared.reg.Reg.TheVariants.{Ghc}
+use Rattle.block_server.specs.Followed.{AnyUse}
 use Rattle.block_server.proofs.Booting.{switched_on}
+use Rattle.block_server.proofs.Following.{writing_followed}
 use Rattle.block_server.proofs.port.power_on.Goals as goal
 
-pub returns : goal.returns
-returns g c = switched_on _ _ c.requires.idle c.requires.room c.write.ensures
+pub returns-clause-on : goal.returns-clause-on
+returns-clause-on g c = switched_on _ _ c.requires.idle c.requires.room c.write.ensures
+
+pub returns-clause-followed : goal.returns-clause-followed
+returns-clause-followed g c = writing_followed AnyUse Ghc 0x80000000 _ _ (λ mid steps. tt) (λ uses is. tt) c.write.ensures

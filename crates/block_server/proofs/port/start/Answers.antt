@@ -1,27 +1,21 @@
-use Rattle.std.proofs.Common.{◌%◌, ◌∙◌, ap, arith, lit<, true}
-use Rattle.hba_regs.specs.Bits.{bit}
-use Rattle.adapter.specs.Device.{Notes}
-use Rattle.adapter.proofs.KeptLemmas.{steps_keep}
-use Rattle.block_server.proofs.Booting.{steps_boot, read_boots, start_runs, may_start}
+use Rattle.std.proofs.Common.{◌∙◌, arith, lit<, true}
+use Rattle.block_server.proofs.Booting.{read_boots, start_runs}
+use Rattle.block_server.proofs.Bringing.{starting_may, starting_followed}
 use Rattle.block_server.proofs.Coming.{link_then, reading_link}
 use Rattle.block_server.proofs.Sparing.{spares_then}
 use Rattle.block_server.proofs.port.start.Goals as goal
 
 pub write-requires : goal.write-requires
-write-requires g c = λ mid steps.
-    let r = read_boots _ _ _ _ _ true c.requires.booting c.read.ensures in
-    let h = steps_boot _ _ _ true r.0.booting steps in
-    let k = steps_keep steps in
-    let same = k.notes 0 ∙ r.1.notes in
-    let noted = ap (λ (n : Notes). n.last_cmd) same in
-    let receives = r.1.shows.1 ∙ r.0.booting.stopped.fre in
-    let linked = ap (λ (n : Notes). n.last_ssts % 16) same ∙ c.requires.linked in
-    let busy = ap (λ (n : Notes). bit n.last_tfd 7) same ∙ c.requires.ready.0 in
-    let asks = ap (λ (n : Notes). bit n.last_tfd 3) same ∙ c.requires.ready.1 in
-    (h.lone.on, h.there, may_start _ c.read.result _ h.stopped noted receives c.with_start.ensures.set c.with_start.ensures.others linked (busy, asks))
+write-requires g c =
+    starting_may _ _ _ _ c.read.ensures c.requires.booting c.requires.linked c.requires.ready c.with_start.ensures.set c.with_start.ensures.others
 
-pub returns : goal.returns
-returns g c =
+pub returns-clause-followed : goal.returns-clause-followed
+returns-clause-followed g c =
+    starting_followed _ _ _ _ c.read.ensures c.requires.booting c.requires.linked c.requires.ready c.with_start.ensures.set c.with_start.ensures.others
+    _ c.write.ensures
+
+pub returns-clause-starts : goal.returns-clause-starts
+returns-clause-starts g c =
     let r = read_boots _ _ _ _ _ true c.requires.booting c.read.ensures in
     let receives = r.1.shows.1 ∙ r.0.booting.stopped.fre in
     let fre = c.with_start.ensures.others 4 (lit< tt) (λ e. absurd (omega (arith, e))) ∙ receives in

@@ -1,10 +1,12 @@
 use Rattle.std.proofs.Common.{arith}
 use Rattle.block_server.proofs.Booting.{link_found, link_again}
 use Rattle.block_server.proofs.Coming.{link_none}
+use Rattle.block_server.specs.Followed.{AnyUse}
+use Rattle.block_server.proofs.Following.{followed_then, nothing_followed, reading_followed}
 use Rattle.block_server.proofs.port.wait_for_link.Goals as goal
 
 pub loop-reading-init : goal.loop-reading-init
-loop-reading-init g c = record { links = c.requires; link = link_none _; low = omega arith; high = λ h. absurd (omega arith); far = λ h. absurd (omega arith) }
+loop-reading-init g c = record { links = c.requires; link = link_none _; low = omega arith; high = λ h. absurd (omega arith); far = λ h. absurd (omega arith); followed = nothing_followed _ }
 
 pub read-requires : goal.read-requires
 read-requires g c = let b = c.loop-reading.invariant.links.booting in (b.lone.on, b.there)
@@ -41,3 +43,11 @@ returns-clause-link g c = c.loop-reading.invariant.link
 
 pub returns-clause-missing : goal.returns-clause-missing
 returns-clause-missing g c = λ _. let w = c.loop-reading.invariant in (w.far (omega arith), omega (arith, w.low, w.high (omega arith)))
+
+pub returns-then-detection-eq-DEVICE_WITH_LINK-clause-followed :
+    goal.returns-then-detection-eq-DEVICE_WITH_LINK-clause-followed
+returns-then-detection-eq-DEVICE_WITH_LINK-clause-followed g c =
+    followed_then AnyUse _ _ _ c.loop-reading.invariant.followed (reading_followed _ _ _ _ c.read.ensures)
+
+pub returns-clause-followed : goal.returns-clause-followed
+returns-clause-followed g c = c.loop-reading.invariant.followed

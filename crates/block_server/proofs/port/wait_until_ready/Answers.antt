@@ -1,10 +1,12 @@
 use Rattle.std.proofs.Common.{arith, sym, ◌∙◌}
 use Rattle.block_server.proofs.Booting.{ready_found, busy_again}
 use Rattle.block_server.proofs.Coming.{link_none}
+use Rattle.block_server.specs.Followed.{AnyUse}
+use Rattle.block_server.proofs.Following.{followed_then, nothing_followed, reading_followed}
 use Rattle.block_server.proofs.port.wait_until_ready.Goals as goal
 
 pub loop-reading-init : goal.loop-reading-init
-loop-reading-init g c = record { links = c.requires.links; link = link_none _; linked = c.requires.linked; low = omega arith; high = λ h. absurd (omega arith) }
+loop-reading-init g c = record { links = c.requires.links; link = link_none _; linked = c.requires.linked; low = omega arith; high = λ h. absurd (omega arith); followed = nothing_followed _ }
 
 pub read-requires : goal.read-requires
 read-requires g c = let b = c.loop-reading.invariant.links.booting in (b.lone.on, b.there)
@@ -40,3 +42,10 @@ returns-clause-link g c = c.loop-reading.invariant.link
 
 pub returns-clause-busy : goal.returns-clause-busy
 returns-clause-busy g c = λ _. let w = c.loop-reading.invariant in omega (arith, w.low, w.high (omega arith))
+
+pub returns-then-not-is_occupied-clause-followed : goal.returns-then-not-is_occupied-clause-followed
+returns-then-not-is_occupied-clause-followed g c =
+    followed_then AnyUse _ _ _ c.loop-reading.invariant.followed (reading_followed _ _ _ _ c.read.ensures)
+
+pub returns-clause-followed : goal.returns-clause-followed
+returns-clause-followed g c = c.loop-reading.invariant.followed

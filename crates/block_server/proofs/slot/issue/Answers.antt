@@ -2,6 +2,7 @@ use Rattle.std.proofs.Common.{None}
 use Rattle.block_server.proofs.Going.{goes_then}
 use Rattle.block_server.proofs.Issuing.{none_after, may_issue}
 use Rattle.block_server.proofs.Looking.{issue_serves}
+use Rattle.block_server.proofs.Sending.{read_issued}
 use Rattle.block_server.proofs.Serving.{steps_hold}
 use Rattle.block_server.proofs.slot.issue.Goals as goal
 
@@ -21,3 +22,7 @@ returns-clause-issued g c = (issue_serves _ _ _ c.write_read.ensures.serves c.wr
 pub returns-clause-goes_on : goal.returns-clause-goes_on
 returns-clause-goes_on g c =
     goes_then None c.write_read.ensures.goes_on (issue_serves _ _ _ c.write_read.ensures.serves c.write_read.ensures.holds c.write.ensures).2
+
+pub returns-clause-followed : goal.returns-clause-followed
+returns-clause-followed g c =
+    read_issued _ _ _ _ c.write_read.ensures.followed c.write_read.ensures.serves c.write_read.ensures.holds c.write.ensures

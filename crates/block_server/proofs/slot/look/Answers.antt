@@ -1,20 +1,14 @@
 use Rattle.std.proofs.Common.{ℕ, ◌≢◌, ◌==◌, ◌∙◌, Bool, not, ◌&&◌, ◌||◌, ◌≡◌, ◌⊎◌, inl, inr, true, false, refl, ap}
 use Rattle.std.proofs.lemmas.Bool.{eq-eqb, ne_eqb}
-use Rattle.block_server.proofs.Looking.{steps_run, acknowledged, looked_run, looked_keep, reading_runs, interrupts_run, looked_unset, no_change, no_failure, linked, not_linked, trouble_seen}
+use Rattle.block_server.proofs.Finding.{clearing_may, acknowledging_may, looking_followed}
+use Rattle.block_server.proofs.Looking.{looked_run, looked_keep, looked_unset, no_change, no_failure, linked, not_linked, trouble_seen}
 use Rattle.block_server.proofs.slot.look.Goals as goal
 
 pub write-requires : goal.write-requires
-write-requires g c = λ mid steps.
-    let first = reading_runs _ _ c.requires.lone.on.no_reset _ c.read.result c.requires.lone c.requires.runs c.read.ensures in
-    let h = steps_run _ mid first.0.on.no_reset first.0 first.1 steps in
-    (h.0.on, h.1.there, tt)
+write-requires g c = clearing_may _ _ c.requires.lone c.requires.runs _ c.read.ensures c.read.result
 
 pub write-requires-2 : goal.write-requires-2
-write-requires-2 g c = λ mid steps.
-    let first = reading_runs _ _ c.requires.lone.on.no_reset _ c.read.result c.requires.lone c.requires.runs c.read.ensures in
-    let second = interrupts_run _ _ first.0.on.no_reset _ first.0 first.1 c.write.ensures in
-    let h = steps_run _ mid second.0.on.no_reset second.0 second.1 steps in
-    (h.0.on, acknowledged _ _ mid _ first.0.on.no_reset c.write.ensures steps)
+write-requires-2 g c = acknowledging_may _ _ c.requires.lone c.requires.runs _ c.read.ensures _ _ c.write.ensures
 
 pub read-requires-2 : goal.read-requires-2
 read-requires-2 g c =
@@ -28,6 +22,10 @@ returns-clause-serves g c =
 pub returns-clause-unset : goal.returns-clause-unset
 returns-clause-unset g c =
     looked_unset _ _ _ _ c.requires.lone c.requires.runs _ _ c.read.ensures c.write.ensures c.write-2.ensures _ _ c.read-2.ensures
+
+pub returns-clause-followed : goal.returns-clause-followed
+returns-clause-followed g c =
+    looking_followed _ _ c.requires.lone c.requires.runs _ c.read.ensures _ _ c.write.ensures _ _ _ c.write-2.ensures c.read-2.ensures
 
 -- what is seen of a port where all is clear
 all_clear : (a b c d e f g : Bool) → a ≡ true → b ≡ false → c ≡ false → d ≡ false → e ≡ false → f ≡ false → g ≡ false → (a && not (b || c) && not (d || e || f || g)) ≡ true

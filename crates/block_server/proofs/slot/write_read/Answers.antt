@@ -8,6 +8,8 @@ use Rattle.adapter.specs.declared.command.Operation.TheVariants.{Read}
 use Rattle.block_server.specs.Bytes.{part}
 use Rattle.block_server.specs.Places.{places_of}
 use Rattle.block_server.specs.Port.{Issued}
+use Rattle.block_server.specs.Followed.{SlotIsFree}
+use Rattle.block_server.proofs.Following.{followed_then, storing_followed}
 use Rattle.block_server.proofs.Going.{goes_then, store_goes}
 use Rattle.block_server.proofs.Issuing.{IsRead, Stored, may_store, stored, read_stored}
 use Rattle.block_server.proofs.slot.write_read.Goals as goal
@@ -65,3 +67,15 @@ returns-clause-goes_on g c =
     let says = c.header.ensures.says.size in
     goes_then None (store_goes 4096 _ _ _ c.requires.serves c.store.ensures (omega (arith, number, len, size, frames, few)))
     (store_goes 0 _ _ _ first.serves c.store-2.ensures (omega (arith, says)))
+
+pub returns-clause-followed : goal.returns-clause-followed
+returns-clause-followed g c =
+    let number = c.prds-prds.ensures.number in
+    let len = c.len.ensures.value in
+    let size = length-take (128 + 16 * c.len.result) c.table_bytes-table.result in
+    let frames = c.requires.frames in
+    let few = c.requires.few in
+    let says = c.header.ensures.says.size in
+    followed_then SlotIsFree _ _ _
+    (storing_followed 4096 _ _ _ (inr (omega arith, omega (arith, number, len, size, frames, few))) c.store.ensures)
+    (storing_followed 0 _ _ _ (inl (omega (arith, says))) c.store-2.ensures)

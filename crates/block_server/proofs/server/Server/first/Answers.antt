@@ -12,7 +12,7 @@ new-table-requires-clause-apart g c = subst (AllPairs AreApart) (sym c.owners.en
 pub invariant_of-result : goal.invariant_of-result
 invariant_of-result g c =
     new_is_kept g.A.Adapter.device c.bring_up-state.new.adapter c.new-table.result c.bring_up-state.result c.args.sectors c.in-Ok.grants
-    c.grants.ensures.fits c.requires.ready.room (c.bring_up-state.ensures.spares.size ∙ c.power_on.ensures.spares.size)
+    c.grants.ensures.fits c.requires.ready.room (c.bring_up-state.ensures.spares.size ∙ c.power_on.ensures.on.spares.size)
     (rw c.grants.ensures.grants at c.in-Ok.ensures.rows) (rw c.owners.ensures.owners at c.new-table.ensures.only) _ c.bring_up-state.ensures.state
     c.in-Ok-with_capacity.book.items c.in-Ok-with_capacity.ensures.items (vec_capacity c.in-Ok-with_capacity.book) (let e = c.in-Ok-with_capacity.ensures.exact in omega (arith, e))
 
@@ -26,6 +26,6 @@ returns-clause-made g c = rw (← c.owners.ensures.owners, ← c.grants.ensures.
   owned = c.new-table.ensures.owned;
   only = c.new-table.ensures.only;
   free = c.new-table.ensures.free;
-  spares = spares_then c.power_on.ensures.spares c.bring_up-state.ensures.spares;
-  brought_up = brought_from c.bring_up-state.result _ _ _ c.power_on.ensures.spares c.bring_up-state.ensures.spares c.bring_up-state.ensures.state;
+  spares = spares_then c.power_on.ensures.on.spares c.bring_up-state.ensures.spares;
+  brought_up = brought_from c.bring_up-state.result _ _ _ c.power_on.ensures.on.spares c.bring_up-state.ensures.spares c.bring_up-state.ensures.state;
 })

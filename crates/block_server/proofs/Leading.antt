@@ -1,0 +1,163 @@
+-- A client's load adds an event to each history.
+use Rattle.std.proofs.Common.{ℕ, ◌≡◌, ◌+◌, ◌<◌, arith, Bool, true, false, List, [], ◌∷◌, Option, Some, Ok, Err, refl, sym, ap, ◌∙◌, subst, inr, length}
+use Rattle.std.proofs.lemmas.Bool.{false≢true}
+use Rattle.std.specs.Prelude.{IsSome}
+use Rattle.ata_types.specs.declared.refusal.MemFault.{MemFault}
+use Rattle.ata_types.specs.declared.refusal.MemFault.TheVariants.{FrameForeign, FrameLent, OutsideFrame}
+use Rattle.ata_types.specs.declared.request.ClientId.{ClientId}
+use Rattle.ata_types.specs.declared.request.Frame.{Frame}
+use Rattle.ata_types.specs.declared.request.RequestId.{RequestId}
+use Rattle.adapter.specs.Device.{Device}
+use Rattle.adapter.specs.declared.access.DeviceStep.{DeviceStep}
+use Rattle.adapter.proofs.Changed.{fun_ext}
+use Rattle.block_machine.specs.Left.{after}
+use Rattle.block_machine.specs.Ports.{AreFit}
+use Rattle.block_machine.specs.Refusals.{MemApplies, mem_fault_number, IsOpen, IsFirstMemFault}
+use Rattle.block_machine.specs.Steps.{Step, Load, Store}
+use Rattle.block_machine.specs.Events.{Ask, LoadAt, Device as Told, Said, Loaded, Stepped, AllMay, AllDevices, Belong, IssuesLast, AllLawful, IsAnswered, transfers_of}
+use Rattle.block_machine.specs.Histories.{Instant, Happening, now, Leads, Adds}
+use Rattle.block_machine.proofs.HistoryLemmas.{history_reaches}
+use Rattle.agreement.specs.Driver.{IsBacked, EndsWith}
+use Rattle.agreement.proofs.Adding.{nothing_backed}
+use Rattle.dma_frames.specs.Table.{owner_of, lent_to}
+use Rattle.block_server.specs.Followed.{LoadsBytes}
+use Rattle.block_server.specs.History.{Begins, Stands, Ties, known_of, ports_of, no_evidence}
+use Rattle.block_server.specs.View.{ServerView}
+use Rattle.block_server.proofs.Histories.{devices_belong, devices_last, devices_lawful, history_fit, ports_same, disks_same, stands_on}
+
+-- ---- an event
+
+abbrev pub is_told : Ask DeviceStep → Bool
+is_told (Told step) = true
+is_told ask = false
+
+abbrev pub is_stepped : Said → Bool
+is_stepped (Stepped done) = true
+is_stepped said = false
+
+-- the device's steps move no client's bytes
+devices_transfer : (steps : List Step) → AllDevices steps → transfers_of steps ≡ []
+devices_transfer [] a = refl
+devices_transfer (Store c f o bytes ∷ before) a = absurd a.1
+devices_transfer (Load c f o bytes ∷ before) a = absurd a.1
+devices_transfer (step ∷ before) a = devices_transfer before a.0
+
+-- ---- the first cause against an access
+
+module _ (owner : Frame → Option ClientId) (lent : Frame → Option RequestId) (client : ClientId) (frame : Frame) (offset count : ℕ) where
+  pub first_foreign : (owner frame ≡ Some client → ⊥) → IsFirstMemFault owner lent client frame offset count FrameForeign
+  first_foreign other = (other, before)
+    where
+      before : (fault : MemFault) → mem_fault_number fault < 1 → MemApplies owner lent client frame offset count fault → ⊥
+      before FrameForeign lt h = omega (arith, lt)
+      before FrameLent lt h = omega (arith, lt)
+      before OutsideFrame lt h = omega (arith, lt)
+
+  pub first_lent : owner frame ≡ Some client → IsSome (lent frame) → IsFirstMemFault owner lent client frame offset count FrameLent
+  first_lent own out = (out, before)
+    where
+      before : (fault : MemFault) → mem_fault_number fault < 2 → MemApplies owner lent client frame offset count fault → ⊥
+      before FrameForeign lt h = h own
+      before FrameLent lt h = omega (arith, lt)
+      before OutsideFrame lt h = omega (arith, lt)
+
+  pub first_outside : owner frame ≡ Some client → (IsSome (lent frame) → ⊥) → 4096 < offset + count → IsFirstMemFault owner lent client frame offset count OutsideFrame
+  first_outside own free far = (far, before)
+    where
+      before : (fault : MemFault) → mem_fault_number fault < 3 → MemApplies owner lent client frame offset count fault → ⊥
+      before FrameForeign lt h = h own
+      before FrameLent lt h = free h
+      before OutsideFrame lt h = omega (arith, lt)
+
+module _ {A : Type 0} (device : A → Device) where
+  -- a call that isn't one of the device, with what its event needs
+  pub lead_on : (first : Instant Device) (past : List (Happening Device DeviceStep)) (s new : ServerView A) (ask : Ask DeviceStep) (said : Said) (steps : List Step)
+      → (leads : Leads Begins Ties (Stands device) first past s) → is_told ask ≡ false → is_stepped said ≡ false → ports_of new ≡ ports_of s
+      → AllMay (now first past).moment.machine steps → Belong ask (ports_of new) steps → IssuesLast steps
+      → AllLawful (now first past).moment no_evidence (ports_of new) steps
+      → IsAnswered ask said (now first past).moment no_evidence steps (record { machine = after (now first past).moment.machine steps; ports = ports_of new })
+      → IsBacked (device s.adapter) (device new.adapter) (now first past).moment.machine steps
+      → Stands device (record { device = device new.adapter; moment = record { machine = after (now first past).moment.machine steps; ports = ports_of new } }) new
+      → (h : Happening Device DeviceStep) × (h.event.ask ≡ ask) × (h.event.said ≡ said) × Leads Begins Ties (Stands device) first (h ∷ past) new
+  lead_on first past s new ask said steps leads other silent same may belong last lawful answered backed stands =
+      let old : Instant Device = now first past in
+      let at : Stands device old s = leads.stands in
+      let ports : old.moment.ports ≡ ports_of new = at.ports_are ∙ sym same in (
+        record { event = record { ask = ask; said = said; evidence = no_evidence; steps = steps; ports = ports_of new }; device = device new.adapter },
+        refl,
+        refl,
+        record {
+          history = (
+            leads.history,
+            record {
+              may = may;
+              belong = belong;
+              last = last;
+              lawful = lawful;
+              fit = subst AreFit ports (history_fit Begins Ties first past leads.history);
+              disks = λ e o h i same. disks_same old.moment.ports (ports_of new) ports e.request.port;
+              answered = answered;
+            },
+            record {
+              backed = subst (λ (d : Device). IsBacked d (device new.adapter) old.moment.machine steps) (sym at.device_is) backed;
+              asked = λ step e said. absurd (false≢true (sym other ∙ ap is_told e));
+              refused = λ e. absurd (false≢true (sym silent ∙ ap is_stepped e));
+              evidence = refl;
+            },
+          );
+          stands = stands;
+        },
+      )
+
+  pub owner_is : (old : Instant Device) (s : ServerView A) → Stands device old s → old.moment.machine.owner ≡ owner_of s.table
+  owner_is old s at = fun_ext at.owner
+
+  pub lent_is : (old : Instant Device) (s : ServerView A) → Stands device old s → old.moment.machine.lent ≡ lent_to s.table
+  lent_is old s at = fun_ext at.lent
+
+  -- ---- a load
+
+  module _ (s : ServerView A) (adapter : A) (client : ClientId) (frame : Frame) (offset : ℕ) where
+    loads_on : (count : ℕ) (bytes : List ℕ) → length bytes ≡ count → IsOpen (owner_of s.table) (lent_to s.table) client frame offset count → LoadsBytes client frame offset bytes (device s.adapter) (device adapter)
+        → (first : Instant Device) (past : List (Happening Device DeviceStep)) → Leads Begins Ties (Stands device) first past s
+        → (h : Happening Device DeviceStep) × (h.event.ask ≡ LoadAt client frame offset count) × (h.event.said ≡ Loaded (Ok bytes)) × Leads Begins Ties (Stands device) first (h ∷ past) (record s { adapter = adapter })
+    loads_on count bytes long opens followed first past leads =
+        let old : Instant Device = now first past in
+        let at : Stands device old s = leads.stands in
+        let here : IsOpen old.moment.machine.owner old.moment.machine.lent client frame offset count =
+        subst (λ owner. IsOpen owner old.moment.machine.lent client frame offset count) (sym (owner_is old s at))
+        (subst (λ lent. IsOpen (owner_of s.table) lent client frame offset count) (sym (lent_is old s at)) opens) in
+        let k = known_of device s in
+        let x : EndsWith k old.moment.machine (Load client frame offset bytes) (record k { device = device adapter }) =
+        followed k.uses k.parked old.moment.machine (history_reaches Begins Ties first past leads.history) at.knows
+        (subst (λ (n : ℕ). IsOpen old.moment.machine.owner old.moment.machine.lent client frame offset n) (sym long) here) in
+        lead_on first past s (record s { adapter = adapter }) (LoadAt client frame offset count) (Loaded (Ok bytes)) (Load client frame offset bytes ∷ x.steps) leads refl refl refl x.may
+        (devices_belong {D = DeviceStep} (LoadAt client frame offset count) (ports_of s) x.steps x.only, inr (refl, refl, refl, long))
+        (devices_last x.steps x.only, λ id h i. false≢true h)
+        (devices_lawful old.moment no_evidence (ports_of s) x.steps x.only)
+        (here, ap (λ (rest : List (List ℕ)). bytes ∷ rest) (devices_transfer x.steps x.only), ports_same old.moment.ports (ports_of s) at.ports_are)
+        x.backed
+        (stands_on device old s adapter x.steps at x.only x.knows)
+
+    pub load_adds : (count : ℕ) (bytes : List ℕ) → length bytes ≡ count → IsOpen (owner_of s.table) (lent_to s.table) client frame offset count → LoadsBytes client frame offset bytes (device s.adapter) (device adapter)
+        → Adds Begins Ties (Stands device) s (record s { adapter = adapter }) (LoadAt client frame offset count) (Loaded (Ok bytes))
+    load_adds count bytes long opens followed = record { adds = loads_on count bytes long opens followed }
+
+    refuses_on : (count : ℕ) (fault : MemFault) → IsFirstMemFault (owner_of s.table) (lent_to s.table) client frame offset count fault
+        → (first : Instant Device) (past : List (Happening Device DeviceStep)) → Leads Begins Ties (Stands device) first past s
+        → (h : Happening Device DeviceStep) × (h.event.ask ≡ LoadAt client frame offset count) × (h.event.said ≡ Loaded (Err fault)) × Leads Begins Ties (Stands device) first (h ∷ past) s
+    refuses_on count fault is first past leads =
+        let old : Instant Device = now first past in
+        let at : Stands device old s = leads.stands in
+        lead_on first past s s (LoadAt client frame offset count) (Loaded (Err fault)) [] leads refl refl refl tt tt tt tt (
+          subst (λ owner. IsFirstMemFault owner old.moment.machine.lent client frame offset count fault) (sym (owner_is old s at))
+              (subst (λ lent. IsFirstMemFault (owner_of s.table) lent client frame offset count fault) (sym (lent_is old s at)) is),
+          refl,
+          ports_same old.moment.ports (ports_of s) at.ports_are,
+        )
+        (nothing_backed (device s.adapter) old.moment.machine)
+        (stands_on device old s s.adapter [] at tt at.knows)
+
+    pub refusal_adds : (count : ℕ) (fault : MemFault) → IsFirstMemFault (owner_of s.table) (lent_to s.table) client frame offset count fault
+        → Adds Begins Ties (Stands device) s s (LoadAt client frame offset count) (Loaded (Err fault))
+    refusal_adds count fault is = record { adds = refuses_on count fault is }

@@ -1,0 +1,85 @@
+-- What a stretch of accesses is to the block machine: its steps (this project's own).
+use Rattle.std.specs.Prelude.{ℕ, Bool, true, ◌≡◌, ◌<◌, List, [], ◌∷◌, length}
+use Rattle.ata_types.specs.declared.request.ClientId.{ClientId}
+use Rattle.ata_types.specs.declared.request.Frame.{Frame}
+use Rattle.ata_types.specs.declared.request.Op.TheVariants.{Read}
+use Rattle.ata_types.specs.declared.request.RequestId.{RequestId}
+use Rattle.adapter.specs.Device.{Device}
+use Rattle.block_machine.specs.Due.{is_plain}
+use Rattle.block_machine.specs.Histories.{IsReached, AddsSteps}
+use Rattle.block_machine.specs.Left.{after}
+use Rattle.block_machine.specs.Refusals.{IsOpen}
+use Rattle.block_machine.specs.State.{Pending, Machine}
+use Rattle.block_machine.specs.Steps.{Step, Issue, Load, May, NoneKept}
+use Rattle.block_machine.specs.declared.due.Mode.{Mode}
+use Rattle.agreement.specs.Agrees.{port_at}
+use Rattle.agreement.specs.Driver.{Known, Knows, ByDevice, EndsWith, AllFree, serving}
+use Rattle.agreement.specs.Facts.{EndedIn}
+use Rattle.agreement.specs.Slots.{Free, Serves, Uses, IsOver}
+use Rattle.block_server.specs.Book.{issued_of}
+use Rattle.block_server.specs.Port.{Issued}
+use Rattle.block_server.specs.declared.types.Accepted.{Accepted}
+
+-- what the driver knows: the use of each slot, the requests that it took from their slots, and the device
+abbrev pub known : Uses → (ℕ → List RequestId) → Device → Known
+known uses parked d = record { uses = uses; parked = parked; device = d }
+
+-- ---- how the slots may be used meanwhile
+
+-- in any way
+abbrev pub AnyUse : Uses → Type 0
+AnyUse uses = Unit {0}
+
+-- with slot 0 of port 0 free
+abbrev pub SlotIsFree : Uses → Type 0
+SlotIsFree uses = uses 0 0 ≡ Free
+
+-- with no slot of port 0 used
+abbrev pub NoneUsed : Uses → Type 0
+NoneUsed uses = AllFree uses 0
+
+-- ---- stretches of accesses
+
+-- From each machine that agrees with what the driver knows, where the uses of slots fit, steps of the device alone lead to one
+-- that agrees with the same and with the new device.
+abbrev pub IsFollowed : (Uses → Type 0) → Device → Device → Type 0
+IsFollowed Fits old new = (uses : Uses) (parked : ℕ → List RequestId) → Fits uses
+    → AddsSteps Knows (known uses parked old) (known uses parked new) (ByDevice old new)
+
+-- The steps are the device's. Where slot 0's request was found done, the slot's command is over and the request has ended; and no
+-- request of the port was kept meanwhile.
+pub record FindsEnd (done : Bool) (id : RequestId) (old new : Device) (m : Machine) (steps : List Step) : Type 0 where
+  pub device : ByDevice old new m steps
+  pub ended : done ≡ true → IsOver (new.port 0) 0 × EndedIn (after m steps) (port_at 0) id
+  pub kept : NoneKept m (port_at 0) → NoneKept (after m steps) (port_at 0)
+
+-- So the machine follows where slot 0 of port 0 serves a request.
+abbrev pub FindsRead : Bool → Device → Device → Type 0
+FindsRead done old new = (uses : Uses) (parked : ℕ → List RequestId) (id : RequestId) → uses 0 0 ≡ Serves id
+    → AddsSteps Knows (known uses parked old) (known uses parked new) (FindsEnd done id old new)
+
+-- the request is this read, on port 0
+pub record IsReadOf (r : Issued) (e : Pending) : Type 0 where
+  pub port : e.request.port ≡ port_at 0
+  pub operation : e.request.asked.op ≡ Read
+  pub first : e.request.asked.first.0 ≡ r.first
+  pub count : e.request.asked.count ≡ r.count
+  pub frames : e.request.asked.frames.items ≡ r.frames
+
+-- Where a request that is this read is due on port 0, plain, and slot 0 is free: steps of the device, and then the request's
+-- issue, lead to a machine that agrees with a driver whose slot 0 serves it.
+abbrev pub IssuesRead : Issued → Device → Device → Type 0
+IssuesRead r old new = (uses : Uses) (parked : ℕ → List RequestId) (m : Machine) (mode : Mode) (e : Pending) → IsReached m
+    → Knows m (known uses parked old) → uses 0 0 ≡ Free → May m (Issue mode e) → is_plain mode Read ≡ true → 0 < mode.usable
+    → IsReadOf r e → EndsWith (known uses parked old) m (Issue mode e) (serving (known uses parked old) 0 0 e.request.id new)
+
+-- the first of the book is issued so; where there is none, the device is as it was
+abbrev pub IssuesFirst : List Accepted → Device → Device → Type 0
+IssuesFirst [] old new = new ≡ old
+IssuesFirst (e ∷ es) old new = IssuesRead (issued_of e) old new
+
+-- Where the machine lets the client load so many bytes of its frame: steps of the device, and then the load of these.
+abbrev pub LoadsBytes : ClientId → Frame → ℕ → List ℕ → Device → Device → Type 0
+LoadsBytes client frame offset bytes old new = (uses : Uses) (parked : ℕ → List RequestId) (m : Machine) → IsReached m
+    → Knows m (known uses parked old) → IsOpen m.owner m.lent client frame offset (length bytes)
+    → EndsWith (known uses parked old) m (Load client frame offset bytes) (known uses parked new)

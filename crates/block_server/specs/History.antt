@@ -1,0 +1,106 @@
+-- The server as a history of the block machine: what it is to the machine between two calls (this project's own).
+use Rattle.std.specs.Prelude.{ℕ, Bool, true, false, ◌≡◌, ◌+◌, ◌==◌, List, [], ◌∷◌, Option, Some, None, Ok, Err}
+use Rattle.std.specs.declared.result.Result.{Result}
+use Rattle.ata_types.specs.declared.refusal.MemFault.{MemFault}
+use Rattle.ata_types.specs.declared.request.Frame.{Frame}
+use Rattle.ata_types.specs.declared.request.Op.TheVariants.{Read}
+use Rattle.ata_types.specs.declared.request.RequestId.{RequestId}
+use Rattle.adapter.specs.Asked.{Asked}
+use Rattle.adapter.specs.Device.{Device}
+use Rattle.adapter.specs.declared.access.DeviceStep.{DeviceStep}
+use Rattle.block_machine.specs.declared.due.Mode.{Mode}
+use Rattle.block_machine.specs.Ports.{Ports, Evidence}
+use Rattle.block_machine.specs.State.{Pending}
+use Rattle.block_machine.specs.State as machine
+use Rattle.block_machine.specs.Events.{Device as Told, Said, Loaded, Stepped}
+use Rattle.block_machine.specs.Histories.{Instant, Happening}
+use Rattle.agreement.specs.Agrees.{port_at}
+use Rattle.agreement.specs.Slots.{Free, Serves, Uses, put}
+use Rattle.agreement.specs.Driver.{Known, Knows, IsBacked, idle}
+use Rattle.dma_frames.specs.Table.{owner_of, lent_to}
+use Rattle.block_server.specs.Calls.{state_of}
+use Rattle.block_server.specs.View.{ServerView}
+use Rattle.block_server.specs.declared.types.Accepted.{Accepted}
+
+-- ---- what the server knows of the device
+
+-- slot 0 of port 0 serves the request of this id, or no slot is used
+abbrev pub uses_of : Option RequestId → Uses
+uses_of None = λ port slot. Free
+uses_of (Some id) = put (λ port slot. Free) 0 0 (Serves id)
+
+-- the request that is served: the first of the book, once it is issued
+abbrev pub served_id : Bool → List Accepted → Option RequestId
+served_id true (e ∷ es) = Some e.id
+served_id _ _ = None
+
+abbrev pub known_of : {A : Type 0} → (A → Device) → ServerView A → Known
+known_of device s = record { uses = uses_of (served_id s.issued s.book); parked = λ port. []; device = device s.adapter }
+
+-- ---- the machine that stands for it
+
+-- the machine's request is this read of the book
+pub record IsEntry (e : Accepted) (r : machine.Accepted) : Type 0 where
+  pub id : r.id ≡ e.id
+  pub port : r.port ≡ port_at 0
+  pub op : r.asked.op ≡ Read
+  pub client : r.asked.client ≡ e.client
+  pub first : r.asked.first ≡ e.first
+  pub count : r.asked.count ≡ e.count
+  pub frames : r.asked.frames.items ≡ e.loan.frames
+
+-- the same requests in the same order; the first is issued, or not, and the others aren't
+abbrev pub IsBook : Bool → List Accepted → List Pending → Type 0
+IsBook issued [] pending = pending ≡ []
+IsBook issued (e ∷ es) [] = ⊥
+IsBook issued (e ∷ es) (pending ∷ rest) = IsEntry e pending.request × (pending.issued ≡ issued) × IsBook false es rest
+
+-- commands are plain, and one slot is used
+abbrev pub plain_mode : Mode
+plain_mode = record { queued = false; usable = 1 }
+
+-- Port 0 is served, and is to clients what the server says. Nothing is known of the disk's serial.
+abbrev pub ports_of : {A : Type 0} → ServerView A → Ports
+ports_of s = record {
+  served = λ port. port.0 == 0;
+  state = state_of s;
+  serial = λ port. [];
+  sectors = λ port. s.sectors;
+  trims = λ port. false;
+  mode = λ port. plain_mode;
+}
+
+-- An instant of a history is where the server stands: the device is its adapter's, the ports are what it says, and the machine
+-- agrees with what it knows of the device, and has its book, its grants, its owners, its loans and its next id.
+pub record Stands {A : Type 0} (device : A → Device) (now : Instant Device) (s : ServerView A) : Type 0 where
+  pub device_is : now.device ≡ device s.adapter
+  pub ports_are : now.moment.ports ≡ ports_of s
+  pub knows : Knows now.moment.machine (known_of device s)
+  pub book : IsBook s.issued s.book now.moment.machine.book
+  pub kept : now.moment.machine.kept ≡ []
+  pub rows : now.moment.machine.rows ≡ s.grants
+  pub owner : (frame : Frame) → now.moment.machine.owner frame ≡ owner_of s.table frame
+  pub lent : (frame : Frame) → now.moment.machine.lent frame ≡ lent_to s.table frame
+  pub next : now.moment.machine.next ≡ s.last + 1
+
+-- ---- histories of the server
+
+-- what a new server leaves: no slot is used, and the machine has the device's disks and the clients' frames
+abbrev pub Begins : Instant Device → Type 0
+Begins first = Knows first.moment.machine (idle first.device)
+
+-- no evidence: nothing that the server does rests on any
+abbrev pub no_evidence : Evidence
+no_evidence = record { faults = []; lost = []; gone = []; failed = []; fatal = []; stopped = []; stuck = [] }
+
+-- what a load of a client's bytes says
+abbrev pub load_said : Result (Unit {0}) MemFault → List ℕ → Said
+load_said (Ok done) bytes = Loaded (Ok bytes)
+load_said (Err fault) bytes = Loaded (Err fault)
+
+-- The device's part in a call: the tape backs the machine's steps, and it did the step that it was told, or nothing.
+pub record Ties (old : Instant Device) (h : Happening Device DeviceStep) : Type 0 where
+  pub backed : IsBacked old.device h.device old.moment.machine h.event.steps
+  pub asked : (step : DeviceStep) → h.event.ask ≡ Told step → h.event.said ≡ Stepped true → Asked step old.device h.device
+  pub refused : h.event.said ≡ Stepped false → h.device ≡ old.device
+  pub evidence : h.event.evidence ≡ no_evidence
