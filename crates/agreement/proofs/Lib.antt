@@ -52,3 +52,4 @@ mod Telling
 mod Lasting
 mod Finished
 mod Setting
+mod Erring

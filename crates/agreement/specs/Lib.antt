@@ -8,3 +8,4 @@ pub mod Witness
 pub mod Facts
 pub mod Spares
 pub mod Links
+pub mod Errors

@@ -24,6 +24,7 @@ ghost use Rattle.block_machine.specs.State.{Machine};
 ghost use Rattle.block_machine.specs.Steps.{Step};
 ghost use Rattle.agreement.specs.Agrees.{Agrees};
 ghost use Rattle.agreement.specs.Driver.{Known, Knows};
+ghost use Rattle.agreement.specs.Errors.{KeepsErrors, NoneComes, ChangesByDisks};
 ghost use Rattle.agreement.specs.Facts.{IsHalted, IsAfterReset, Finds, FindsPage, AreStepsOf, IsStill, AreOver, RunsWell, Undisturbed, ShowsNoTrouble, TellsNoTrouble, ClearsNoTrouble, IsFaulted, ShowsFault, HasFaults, IsRecorded, IsAwaited, IsUnflagged, IsQuiet, KeepsRecord, EndedIn, IsClear};
 ghost use Rattle.agreement.specs.Follows.{Follows};
 ghost use Rattle.agreement.specs.Links.{SparesRegister, SameAdapter, LeavesControls, PlugsNone, LeavesDisk, LeavesLink};
@@ -334,4 +335,40 @@ pub fn fault_is_found()
         × (v % 256 ≡ s.fault.status) × (v / 256 % 256 ≡ s.fault.error) }
     ensures slot { (uses : Uses) (m : Machine) (d : Device) (port : ℕ) (entries : List Entry) → Agrees uses m d
         → (s : ShowsFault entries (d.port port) port) → uses port s.fault.slot.0 ≢ Free }
+{}
+
+/// While no reset is pending, each bit of PxIS that is set stays so until PxIS is written, and N and X of PxSERR until that is: whatever
+/// the device does, and over each access.
+pub fn errors_are_kept()
+    ensures steps { (port : ℕ) (old new : Device) → old.hr ≡ false → Steps old new → KeepsErrors (old.port port) (new.port port) }
+    ensures causes { (port : Port) (access : Access) (old new : Device) → old.hr ≡ false → SparesRegister (Px port Is) access
+        → Does access old new → (place : ℕ) → (old.port port.0).is place ≡ true → (new.port port.0).is place ≡ true }
+    ensures errors { (port : Port) (access : Access) (old new : Device) → old.hr ≡ false → SparesRegister (Px port Serr) access
+        → Does access old new
+        → ((old.port port.0).serr_n ≡ true → (new.port port.0).serr_n ≡ true)
+        × ((old.port port.0).serr_x ≡ true → (new.port port.0).serr_x ≡ true) }
+{}
+
+/// While no reset is pending and no link of the port is due, N of PxSERR rises for a disk that goes or comes alone, and X for one that
+/// comes alone; and where PxSSTS.DET is 3 and no disk has come, it was 3 before, and none has gone: whatever the device does, and over
+/// each access. No link is due then either, but after a write of PxSCTL.
+pub fn errors_rise_by_disks()
+    ensures steps { (port : ℕ) (old new : Device) → old.hr ≡ false → (old.port port).link_due ≡ false → Steps old new
+        → ChangesByDisks port old new }
+    ensures access { (port : Port) (access : Access) (old new : Device) → old.hr ≡ false → (old.port port.0).link_due ≡ false
+        → Does access old new → ChangesByDisks port.0 old new }
+    ensures due { (port : ℕ) (old new : Device) → old.hr ≡ false → (old.port port).link_due ≡ false → Steps old new
+        → (new.port port).link_due ≡ false }
+    ensures due_access { (port : Port) (access : Access) (old new : Device) → old.hr ≡ false → (old.port port.0).link_due ≡ false
+        → SparesRegister (Px port Sctl) access → Does access old new → (new.port port.0).link_due ≡ false }
+{}
+
+/// Where the tape tells of no disk of the port that comes in two parts of a call, it tells of none in the whole, and the other way
+/// round; where none goes or comes, none comes.
+pub fn coming_composes()
+    ensures none { (port : ℕ) (d : Device) → NoneComes port d d }
+    ensures more { (port : ℕ) (old mid new : Device) → NoneComes port old mid → NoneComes port mid new → NoneComes port old new }
+    ensures parts { (port : ℕ) (old mid new : Device) (early late : List Entry) → mid.tape ≡ old.tape ++ early
+        → new.tape ≡ mid.tape ++ late → NoneComes port old new → NoneComes port old mid × NoneComes port mid new }
+    ensures plugs { (port : ℕ) (old new : Device) → PlugsNone port old new → NoneComes port old new }
 {}

@@ -1,0 +1,30 @@
+-- What tells of a port's errors, and of its disks that come (this project's own).
+use Rattle.std.specs.Prelude.{ℕ, true, false, ◌≡◌, ◌++◌, List, All}
+use Rattle.adapter.specs.Device.{PortState, Device}
+use Rattle.adapter.specs.declared.tape.Entry.{Entry}
+use Rattle.adapter.specs.declared.tape.Entry.TheVariants as entry
+use Rattle.agreement.specs.Links.{PlugsNone}
+
+-- each bit of PxIS that is set stays so, and so do N and X of PxSERR
+pub record KeepsErrors (old new : PortState) : Type 0 where
+  pub is : (place : ℕ) → old.is place ≡ true → new.is place ≡ true
+  pub serr_n : old.serr_n ≡ true → new.serr_n ≡ true
+  pub serr_x : old.serr_x ≡ true → new.serr_x ≡ true
+
+-- a disk of the port comes
+abbrev pub IsComing : ℕ → Entry → Type 0
+IsComing port (entry.Plug at name) = at.0 ≡ port
+IsComing port _ = ⊥
+
+-- the tape gained no entry of a disk of the port that comes
+pub record NoneComes (port : ℕ) (old new : Device) : Type 0 where
+  pub gained : List Entry
+  pub tape : new.tape ≡ old.tape ++ gained
+  pub none : All (λ e. IsComing port e → ⊥) gained
+
+-- N of PxSERR rises for a disk that goes or comes alone, and X for one that comes alone. Where no disk has come and PxSSTS.DET is 3,
+-- it was 3 before, and none has gone.
+pub record ChangesByDisks (port : ℕ) (old new : Device) : Type 0 where
+  pub serr_n : PlugsNone port old new → (old.port port).serr_n ≡ false → (new.port port).serr_n ≡ false
+  pub serr_x : NoneComes port old new → (old.port port).serr_x ≡ false → (new.port port).serr_x ≡ false
+  pub det : NoneComes port old new → (new.port port).ssts_det ≡ 3 → ((old.port port).ssts_det ≡ 3) × PlugsNone port old new
