@@ -53,3 +53,4 @@ mod Lasting
 mod Finished
 mod Setting
 mod Erring
+mod Resetting

@@ -24,9 +24,8 @@ ghost use Rattle.block_machine.specs.State.{Machine};
 ghost use Rattle.block_machine.specs.Steps.{Step};
 ghost use Rattle.agreement.specs.Agrees.{Agrees};
 ghost use Rattle.agreement.specs.Driver.{Known, Knows};
-ghost use Rattle.agreement.specs.Errors.{KeepsErrors, NoneComes, ChangesByDisks};
+ghost use Rattle.agreement.specs.Errors.{KeepsErrors, NoneComes, ChangesByDisks, IsReset, IsCleared};
 ghost use Rattle.agreement.specs.Facts.{IsHalted, IsAfterReset, Finds, FindsPage, AreStepsOf, IsStill, AreOver, RunsWell, Undisturbed, ShowsNoTrouble, TellsNoTrouble, ClearsNoTrouble, IsFaulted, ShowsFault, HasFaults, IsRecorded, IsAwaited, IsUnflagged, IsQuiet, KeepsRecord, EndedIn, IsClear};
-ghost use Rattle.agreement.specs.Follows.{Follows};
 ghost use Rattle.agreement.specs.Links.{SparesRegister, SameAdapter, LeavesControls, PlugsNone, LeavesDisk, LeavesLink};
 ghost use Rattle.agreement.specs.Places.{scratch_of};
 ghost use Rattle.agreement.specs.Slots.{Uses, Free, Own, Serves, IsOver};
@@ -49,13 +48,18 @@ pub fn stop_is_found()
         → IsHalted (new.port port.0) }
 {}
 
-/// While a reset of the adapter is pending, HR is read 0: each port is as a reset leaves it, and the machine follows. So a port
-/// stays, whatever the device does, over readings, and over each write that may be made and sets neither its ST nor its FRE.
+/// HR of GHC begins a reset of the adapter, and is read 1 while it is pending. Once it is read 0, each port is as the reset left it,
+/// but for what the device did since: its engines stand, no bit of PxIS is set, and what comes since sets N or X. Its engines stand on,
+/// whatever the device does, over readings, and over each write that may be made and sets neither its ST nor its FRE.
 pub fn reset_is_found()
+    ensures begins { (v : ℕ) (old new : Device) → bit v 0 ≡ true → Writes Ghc v old new → new.hr ≡ true }
+    ensures told { (v : ℕ) (old new : Device) → Reads Ghc v old new → (new.hr ≡ bit v 0) × (new.ae ≡ bit v 31) }
     ensures reset { (v : ℕ) (old new : Device) → old.hr ≡ true → Reads Ghc v old new → bit v 0 ≡ false
         → (port : ℕ) → IsAfterReset (new.port port) }
-    ensures follows { (uses : Uses) (m : Machine) (v : ℕ) (old new : Device) → IsReached m → Agrees uses m old
-        → Reads Ghc v old new → Follows uses m old new }
+    ensures left { (v : ℕ) (old new : Device) → old.hr ≡ true → Reads Ghc v old new → bit v 0 ≡ false
+        → (mid : Device) × (mid.hr ≡ false) × ((port : ℕ) → IsReset (mid.port port)) × Steps mid new }
+    ensures cleared { (v : ℕ) (old new : Device) → old.hr ≡ true → Reads Ghc v old new → bit v 0 ≡ false
+        → (port : ℕ) → IsCleared (new.port port) }
     ensures stays { (port : ℕ) (old new : Device) → Steps old new → IsAfterReset (old.port port) → IsAfterReset (new.port port) }
     ensures reads { (port : ℕ) (r : Reg) (v : ℕ) (old new : Device) → Reads r v old new → IsAfterReset (old.port port)
         → IsAfterReset (new.port port) }
@@ -188,6 +192,11 @@ pub fn adapter_stays()
         → ((v : ℕ) → access ≡ Writing Ghc v → (bit v 31 ≡ true) × (bit v 0 ≡ false)) → Does access old new → IsOn new }
 {}
 
+/// While no reset is pending, a write of GHC with AE and without HR switches the adapter on.
+pub fn switching_on()
+    ensures { (v : ℕ) (old new : Device) → old.hr ≡ false → bit v 31 ≡ true → bit v 0 ≡ false → Writes Ghc v old new → IsOn new }
+{}
+
 /// A load is steps of the device, and a store is such steps with memory changed after them: so what holds of ports and of the tape over
 /// the device's steps holds over loads and stores.
 pub fn loads_and_stores_leave_ports()
@@ -281,8 +290,9 @@ pub fn faults_are_recorded()
     ensures failed { (new : Device) × Steps first_read new × ((new.port 0).halt ≡ HaltedPlain) × HasFaults new.tape (new.port 0) 0 }
 {}
 
-/// From COMRESET until the link comes up the engine stands, and the task file shows DRQ: COMRESET begins it, and so it stays,
-/// whatever the device does, over readings, and over each write that may be made and keeps the record of faults.
+/// From COMRESET until the link comes up the engine stands, and the task file shows DRQ: COMRESET begins it, and so does a reset of the
+/// adapter; and so it stays, whatever the device does, over readings, and over each write that may be made and keeps the record of
+/// faults. So it is where no link is due and PxSCTL.DET isn't 1, as on a port that runs.
 pub fn link_is_awaited()
     ensures begins { (port : Port) (v : ℕ) (old new : Device) → (old.port port.0).cr ≡ false → v % 16 ≡ 1
         → Writes (Px port Sctl) v old new → IsAwaited (new.port port.0) }
@@ -291,6 +301,10 @@ pub fn link_is_awaited()
         → IsAwaited (new.port port) }
     ensures writes { (port : ℕ) (r : Reg) (v : ℕ) (old new : Device) → Stays (MayWrite r v) old → Stays (KeepsRecord r v) old
         → Writes r v old new → IsAwaited (old.port port) → IsAwaited (new.port port) }
+    ensures reset { (v : ℕ) (old new : Device) → old.hr ≡ true → Reads Ghc v old new → bit v 0 ≡ false
+        → (port : ℕ) → IsAwaited (new.port port) }
+    ensures undue { (p : PortState) → p.link_due ≡ false → p.sctl_det ≢ 1 → IsAwaited p }
+    ensures runs { IsAwaited (first_read.port 0) }
 {}
 
 /// A port is quiet, so that ST may be set and faults go on to be recorded: PxIS is written with TFES while the engine stands,
@@ -299,6 +313,7 @@ pub fn link_is_awaited()
 pub fn quiet_is_found()
     ensures cleared { (port : Port) (v : ℕ) (old new : Device) → (old.port port.0).cr ≡ false → bit v 30 ≡ true
         → Writes (Px port Is) v old new → IsUnflagged (new.port port.0) }
+    ensures steps { (port : ℕ) (old new : Device) → Steps old new → IsUnflagged (old.port port) → IsUnflagged (new.port port) }
     ensures reads { (port : ℕ) (r : Reg) (v : ℕ) (old new : Device) → Reads r v old new → IsUnflagged (old.port port)
         → IsUnflagged (new.port port) }
     ensures writes { (port : Port) (r : Reg) (v : ℕ) (old new : Device) → (r ≡ Px port Cmd → bit v 0 ≡ false)

@@ -13,6 +13,7 @@ ghost use Rattle.hba_regs.specs.declared.reg.Reg.{Reg};
 ghost use Rattle.adapter.specs.Access.{Reads, Writes, Loads, Stores, written, Access, Does};
 ghost use Rattle.adapter.specs.Commands.{Meaning};
 ghost use Rattle.adapter.specs.Device.{PortState, Device};
+ghost use Rattle.adapter.specs.FirstRead.{first_read};
 ghost use Rattle.adapter.specs.Idle.{IsIdle};
 ghost use Rattle.adapter.specs.Memory.{patched};
 ghost use Rattle.adapter.specs.Rules.{IsFree, IsOn, HasPort, MayStart, MayReceive, MayStopReceiving, MayWrite, Stays};
@@ -341,7 +342,8 @@ pub fn prepared_stays()
 {}
 
 /// A free slot without a bit of PxSACT has none later, nor wherever what no slot uses is left; so it is over readings, and over
-/// writes, but for one of PxSACT with a bit of a free slot; and so it is where a slot is given up, and where one is put to use.
+/// writes, but for one of PxSACT with a bit of a free slot; and so it is where a slot is given up, and where one is put to use. So it
+/// is of each port of an idle adapter.
 pub fn unarmed_stays()
     ensures device { (uses : Uses) (old new : Device) (port : ℕ) → Steps old new → AreUnarmed uses (old.port port) port
         → AreUnarmed uses (new.port port) port }
@@ -356,6 +358,8 @@ pub fn unarmed_stays()
         → AreUnarmed uses (d.port port) port → AreUnarmed (put uses port slot Free) (d.port port) port }
     ensures used { (uses : Uses) (p : PortState) (port slot : ℕ) (v : Use) → (v ≡ Free → ⊥) → AreUnarmed uses p port
         → AreUnarmed (put uses port slot v) p port }
+    ensures idle { (uses : Uses) (d : Device) (port : ℕ) → IsIdle d → AreUnarmed uses (d.port port) port }
+    ensures runs { (uses : Uses) → AreUnarmed uses (first_read.port 0) 0 }
 {}
 
 /// What the driver may store for itself may be loaded and stored, whatever the device does first.
