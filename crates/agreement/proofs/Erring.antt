@@ -54,7 +54,7 @@ plugs_come port old new p = record { gained = p.gained; tape = p.tape; none = no
     narrower (entry.Fatal at) x = absurd x
 
 -- before the effect of an access the tape has what it has after it
-comes_before : (port : ℕ) (old mid new : Device) → new.tape ≡ mid.tape → NoneComes port old new → NoneComes port old mid
+pub comes_before : (port : ℕ) (old mid new : Device) → new.tape ≡ mid.tape → NoneComes port old new → NoneComes port old mid
 comes_before port old mid new same h = record { gained = h.gained; tape = sym same ∙ h.tape; none = h.none }
 
 -- ---- a step while no link is due

@@ -54,3 +54,4 @@ mod Finished
 mod Setting
 mod Erring
 mod Resetting
+mod Silent

@@ -1,4 +1,4 @@
--- What tells of a port's errors, of its disks that come, and of a reset (this project's own).
+-- What tells of a port's errors, of its disks that come, of a reset, and of its engine's work (this project's own).
 use Rattle.std.specs.Prelude.{ℕ, true, false, ◌≡◌, ◌++◌, List, All}
 use Rattle.adapter.specs.Device.{PortState, Device}
 use Rattle.adapter.specs.declared.tape.Entry.{Entry}
@@ -49,3 +49,14 @@ pub record IsCleared (p : PortState) : Type 0 where
   pub is : (place : ℕ) → p.is place ≡ false
   pub sctl_det : p.sctl_det ≡ 0
   pub calm : p.serr_x ≡ false → (p.ssts_det ≡ 0) × (p.tfd ≡ 0x7f) × (p.sig ≡ 0xffffffff)
+
+-- ---- the engine's work
+
+-- the entry is a move, a clearing, an end, a fault or a fatal error of the port's
+abbrev pub IsWork : ℕ → Entry → Type 0
+IsWork port (entry.Move move) = move.port.0 ≡ port
+IsWork port (entry.Clear clear) = clear.port.0 ≡ port
+IsWork port (entry.Done done) = done.port.0 ≡ port
+IsWork port (entry.Fault fault) = fault.port.0 ≡ port
+IsWork port (entry.Fatal at) = at.0 ≡ port
+IsWork port _ = ⊥

@@ -1,5 +1,5 @@
 // Laws of what a driver learns from the device, for the crates above: the clause is the theorem. Nothing calls these functions.
-ghost use Rattle.std.specs.Prelude.{ℕ, true, false, ◌≡◌, ◌≢◌, ◌≤◌, ◌+◌, ◌*◌, ◌/◌, ◌%◌, ◌++◌, List, length, drop, Some, None};
+ghost use Rattle.std.specs.Prelude.{ℕ, true, false, ◌≡◌, ◌≢◌, ◌≤◌, ◌+◌, ◌*◌, ◌/◌, ◌%◌, ◌++◌, List, length, drop, Some, None, All};
 ghost use Rattle.ata_types.specs.declared.Port.{Port};
 ghost use Rattle.ata_types.specs.declared.request.Frame.{Frame};
 ghost use Rattle.ata_types.specs.declared.request.RequestId.{RequestId};
@@ -24,7 +24,7 @@ ghost use Rattle.block_machine.specs.State.{Machine};
 ghost use Rattle.block_machine.specs.Steps.{Step};
 ghost use Rattle.agreement.specs.Agrees.{Agrees};
 ghost use Rattle.agreement.specs.Driver.{Known, Knows};
-ghost use Rattle.agreement.specs.Errors.{KeepsErrors, NoneComes, ChangesByDisks, IsReset, IsCleared};
+ghost use Rattle.agreement.specs.Errors.{KeepsErrors, NoneComes, ChangesByDisks, IsReset, IsCleared, IsWork};
 ghost use Rattle.agreement.specs.Facts.{IsHalted, IsAfterReset, Finds, FindsPage, AreStepsOf, IsStill, AreOver, RunsWell, Undisturbed, ShowsNoTrouble, TellsNoTrouble, ClearsNoTrouble, IsFaulted, ShowsFault, HasFaults, IsRecorded, IsAwaited, IsUnflagged, IsQuiet, KeepsRecord, EndedIn, IsClear};
 ghost use Rattle.agreement.specs.Links.{SparesRegister, SameAdapter, LeavesControls, PlugsNone, LeavesDisk, LeavesLink};
 ghost use Rattle.agreement.specs.Places.{scratch_of};
@@ -386,4 +386,18 @@ pub fn coming_composes()
     ensures parts { (port : ℕ) (old mid new : Device) (early late : List Entry) → mid.tape ≡ old.tape ++ early
         → new.tape ≡ mid.tape ++ late → NoneComes port old new → NoneComes port old mid × NoneComes port mid new }
     ensures plugs { (port : ℕ) (old new : Device) → PlugsNone port old new → NoneComes port old new }
+{}
+
+/// While a port's engine stands, no move, clearing, end, fault or fatal error of the port comes; and where no disk comes either, the disk
+/// holds what it did: whatever the device does, also over a reset of the adapter that ends, and over each access, also the write of ST
+/// itself.
+pub fn halted_is_silent()
+    ensures steps { (port : ℕ) (old new : Device) (gained : List Entry) → (old.port port).cr ≡ false → Steps old new
+        → new.tape ≡ old.tape ++ gained → All (λ e. IsWork port e → ⊥) gained }
+    ensures access { (port : ℕ) (access : Access) (old new : Device) (gained : List Entry) → (old.port port).cr ≡ false
+        → Does access old new → new.tape ≡ old.tape ++ gained → All (λ e. IsWork port e → ⊥) gained }
+    ensures disk { (port : ℕ) (old new : Device) → (old.port port).cr ≡ false → Steps old new → NoneComes port old new
+        → (new.port port).disk ≡ (old.port port).disk }
+    ensures disk_access { (port : ℕ) (access : Access) (old new : Device) → (old.port port).cr ≡ false → Does access old new
+        → NoneComes port old new → (new.port port).disk ≡ (old.port port).disk }
 {}
