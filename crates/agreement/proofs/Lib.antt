@@ -55,3 +55,4 @@ mod Setting
 mod Erring
 mod Resetting
 mod Silent
+mod Resending

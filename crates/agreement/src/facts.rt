@@ -401,3 +401,22 @@ pub fn halted_is_silent()
     ensures disk_access { (port : ℕ) (access : Access) (old new : Device) → (old.port port).cr ≡ false → Does access old new
         → NoneComes port old new → (new.port port).disk ≡ (old.port port).disk }
 {}
+
+/// A write of PxSCTL with DET 1 sends COMRESET: no device shows in PxSSTS, and the status is 7Fh. While no reset is pending, one with
+/// DET 0 after it makes the link due, and no other write of PxSCTL does.
+pub fn link_is_reset()
+    ensures comreset { (port : Port) (v : ℕ) (old new : Device) → v % 16 ≡ 1 → Writes (Px port Sctl) v old new
+        → ((new.port port.0).ssts_det ≡ 0) × ((new.port port.0).tfd % 256 ≡ 0x7f) }
+    ensures due { (port : Port) (v : ℕ) (old new : Device) → old.hr ≡ false → (old.port port.0).sctl_det ≡ 1 → v % 16 ≡ 0
+        → Writes (Px port Sctl) v old new → (new.port port.0).link_due ≡ true }
+    ensures undue { (port : Port) (v : ℕ) (old new : Device) → old.hr ≡ false → (old.port port.0).link_due ≡ false
+        → ((old.port port.0).sctl_det ≡ 1 → v % 16 ≢ 0) → Writes (Px port Sctl) v old new → (new.port port.0).link_due ≡ false }
+{}
+
+/// A write of PxSERR clears N and X where it has their bits, 16 and 26, and one of PxIS clears each bit that it has.
+pub fn errors_are_cleared()
+    ensures errors { (port : Port) (v : ℕ) (old new : Device) → Writes (Px port Serr) v old new
+        → (bit v 16 ≡ true → (new.port port.0).serr_n ≡ false) × (bit v 26 ≡ true → (new.port port.0).serr_x ≡ false) }
+    ensures causes { (port : Port) (v : ℕ) (old new : Device) → Writes (Px port Is) v old new → (place : ℕ) → bit v place ≡ true
+        → (new.port port.0).is place ≡ false }
+{}
