@@ -199,7 +199,7 @@ access_change port access old new off undue x =
     let c : ChangesByDisks port.0 old s.0 = steps_change port.0 old s.0 off undue s.1 in
     let first : PortState = s.0.port port.0 in
     let u : Unraised first (new.port port.0) =
-        effect_keeps (Unraised first) port (λ p r v h. h) (λ p h. h) access old new x (λ r v mid is steps h. written_unraised first r v (length mid.tape) (mid.port port.0) h) (λ n. n, λ x. x, λ up. up) in
+    effect_keeps (Unraised first) port (λ p r v h. h) (λ p h. h) access old new x (λ r v mid is steps h. written_unraised first r v (length mid.tape) (mid.port port.0) h) (λ n. n, λ x. x, λ up. up) in
     record {
       serr_n = λ none h. u.0 (c.serr_n (plugs_before port.0 old s.0 new s.2 none) h);
       serr_x = λ none h. u.1 (c.serr_x (comes_before port.0 old s.0 new s.2 none) h);

@@ -56,3 +56,4 @@ mod Erring
 mod Resetting
 mod Silent
 mod Resending
+mod Noting

@@ -9,3 +9,4 @@ pub mod Facts
 pub mod Spares
 pub mod Links
 pub mod Errors
+pub mod Noted

@@ -6,8 +6,9 @@ ghost use Rattle.ata_types.specs.declared.request.RequestId.{RequestId};
 ghost use Rattle.hba_regs.specs.Bits.{bit};
 ghost use Rattle.hba_regs.specs.declared.reg.Reg.{Reg};
 ghost use Rattle.hba_regs.specs.declared.reg.Reg.TheVariants.{Ghc, Px};
-ghost use Rattle.hba_regs.specs.declared.reg.PortReg.TheVariants.{Is, Cmd, Tfd, Sctl, Serr, Ci, Sact, Clb, Clbu, Fb, Fbu};
-ghost use Rattle.adapter.specs.Access.{Reads, Writes, Loads, Stores, Access, Does};
+ghost use Rattle.hba_regs.specs.declared.reg.PortReg.TheVariants.{Is, Cmd, Tfd, Sig, Ssts, Sctl, Serr, Ci, Sact, Clb, Clbu, Fb, Fbu};
+ghost use Rattle.hba_regs.specs.declared.reg.PortReg.{PortReg};
+ghost use Rattle.adapter.specs.Access.{Reads, Writes, Loads, Stores, Access, Does, PortShows, note};
 ghost use Rattle.adapter.specs.Access.Access.{Writing};
 ghost use Rattle.adapter.specs.Device.{Device, PortState};
 ghost use Rattle.adapter.specs.Device.Halt.{HaltedPlain};
@@ -27,6 +28,7 @@ ghost use Rattle.agreement.specs.Driver.{Known, Knows};
 ghost use Rattle.agreement.specs.Errors.{KeepsErrors, NoneComes, ChangesByDisks, IsReset, IsCleared, IsWork};
 ghost use Rattle.agreement.specs.Facts.{IsHalted, IsAfterReset, Finds, FindsPage, AreStepsOf, IsStill, AreOver, RunsWell, Undisturbed, ShowsNoTrouble, TellsNoTrouble, ClearsNoTrouble, IsFaulted, ShowsFault, HasFaults, IsRecorded, IsAwaited, IsUnflagged, IsQuiet, KeepsRecord, EndedIn, IsClear};
 ghost use Rattle.agreement.specs.Links.{SparesRegister, SameAdapter, LeavesControls, PlugsNone, LeavesDisk, LeavesLink};
+ghost use Rattle.agreement.specs.Noted.{LeavesNotes};
 ghost use Rattle.agreement.specs.Places.{scratch_of};
 ghost use Rattle.agreement.specs.Slots.{Uses, Free, Own, Serves, IsOver};
 
@@ -419,4 +421,33 @@ pub fn errors_are_cleared()
         → (bit v 16 ≡ true → (new.port port.0).serr_n ≡ false) × (bit v 26 ≡ true → (new.port port.0).serr_x ≡ false) }
     ensures causes { (port : Port) (v : ℕ) (old new : Device) → Writes (Px port Is) v old new → (place : ℕ) → bit v place ≡ true
         → (new.port port.0).is place ≡ false }
+{}
+
+/// A reading of a port's register notes the value as the last one read. While no reset is pending it also counts as the driver's limits
+/// on readings in a row ask, and shows what the port has then.
+pub fn notes_are_set()
+    ensures command { (port : Port) (v : ℕ) (old new : Device) → Reads (Px port Cmd) v old new
+        → (new.port port.0).notes.last_cmd ≡ v }
+    ensures link { (port : Port) (v : ℕ) (old new : Device) → Reads (Px port Ssts) v old new
+        → (new.port port.0).notes.last_ssts ≡ v }
+    ensures file { (port : Port) (v : ℕ) (old new : Device) → Reads (Px port Tfd) v old new
+        → (new.port port.0).notes.last_tfd ≡ v }
+    ensures issued { (port : Port) (v : ℕ) (old new : Device) → Reads (Px port Ci) v old new
+        → (new.port port.0).notes.last_ci ≡ v }
+    ensures active { (port : Port) (v : ℕ) (old new : Device) → Reads (Px port Sact) v old new
+        → (new.port port.0).notes.last_sact ≡ v }
+    ensures signature { (port : Port) (v : ℕ) (old new : Device) → Reads (Px port Sig) v old new
+        → (new.port port.0).notes.last_sig ≡ v }
+    ensures counts { (port : Port) (r : PortReg) (v : ℕ) (old new : Device) → old.hr ≡ false → Reads (Px port r) v old new
+        → (new.port port.0).notes ≡ note r v (old.port port.0) }
+    ensures shows { (port : Port) (r : PortReg) (v : ℕ) (old new : Device) → old.hr ≡ false → Reads (Px port r) v old new
+        → PortShows r v (new.port port.0) }
+{}
+
+/// What the readings of a port noted stays, whatever the device does, and over each access: each value but for a reading of its
+/// register, and so its count; those of the link, of busy and of the command also but for a write of PxSCTL.
+pub fn notes_stay()
+    ensures steps { (port : ℕ) (old new : Device) → Steps old new → (new.port port).notes ≡ (old.port port).notes }
+    ensures access { (port : Port) (access : Access) (old new : Device) → Does access old new
+        → LeavesNotes access port (old.port port.0).notes (new.port port.0).notes }
 {}
