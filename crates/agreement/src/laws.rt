@@ -401,18 +401,18 @@ pub fn placing_is_permitted()
         → (d.port port.0).fr ≡ false → Stays (MayWrite (Px port Fbu) 0) d }
 {}
 
-/// PxCMD is read, and then it may be written back with ST set where the port may start; with ST clear always; with FRE set where the
-/// port may receive; and with FRE and ST clear where its engine stands.
+/// PxCMD may be written as it was last read, but for ST and FRE: with ST set where the port may start; with ST clear and FRE as it is;
+/// with FRE set and ST as it is where the port may receive; and with FRE and ST clear where its engine stands.
 pub fn commanding_is_permitted()
-    ensures start { (port : Port) (was v : ℕ) (old new : Device) → IsOn old → HasPort old port.0 → Reads (Px port Cmd) was old new
-        → MayStart (new.port port.0) → IsWrittenBack true true was v → Stays (MayWrite (Px port Cmd) v) new }
-    ensures stop { (port : Port) (was v : ℕ) (old new : Device) → IsOn old → HasPort old port.0 → Reads (Px port Cmd) was old new
-        → IsWrittenBack false (bit was 4) was v → Stays (MayWrite (Px port Cmd) v) new }
-    ensures receive { (port : Port) (was v : ℕ) (old new : Device) → IsOn old → HasPort old port.0 → Reads (Px port Cmd) was old new
-        → MayReceive (new.port port.0) → IsWrittenBack (bit was 0) true was v → Stays (MayWrite (Px port Cmd) v) new }
-    ensures stop_receiving { (port : Port) (was v : ℕ) (old new : Device) → IsOn old → HasPort old port.0
-        → Reads (Px port Cmd) was old new → MayStopReceiving (new.port port.0) → IsWrittenBack false false was v
-        → Stays (MayWrite (Px port Cmd) v) new }
+    ensures start { (port : Port) (was v : ℕ) (d : Device) → IsOn d → HasPort d port.0 → (d.port port.0).notes.last_cmd ≡ was
+        → MayStart (d.port port.0) → IsWrittenBack true true was v → Stays (MayWrite (Px port Cmd) v) d }
+    ensures stop { (port : Port) (was v : ℕ) (d : Device) → IsOn d → HasPort d port.0 → (d.port port.0).notes.last_cmd ≡ was
+        → IsWrittenBack false (d.port port.0).fre was v → Stays (MayWrite (Px port Cmd) v) d }
+    ensures receive { (port : Port) (was v : ℕ) (d : Device) → IsOn d → HasPort d port.0 → (d.port port.0).notes.last_cmd ≡ was
+        → MayReceive (d.port port.0) → IsWrittenBack (d.port port.0).st true was v → Stays (MayWrite (Px port Cmd) v) d }
+    ensures stop_receiving { (port : Port) (was v : ℕ) (d : Device) → IsOn d → HasPort d port.0
+        → (d.port port.0).notes.last_cmd ≡ was → MayStopReceiving (d.port port.0) → IsWrittenBack false false was v
+        → Stays (MayWrite (Px port Cmd) v) d }
 {}
 
 /// PxIS is written, and then the port's bit of IS may be, with those of ports whose PxIS was written since their own bits were.
