@@ -23,7 +23,7 @@ pub record NoneComes (port : ℕ) (old new : Device) : Type 0 where
   pub tape : new.tape ≡ old.tape ++ gained
   pub none : All (λ e. IsComing port e → ⊥) gained
 
--- N of PxSERR rises for a disk that goes or comes alone, and X for one that comes alone. Where no disk has come and PxSSTS.DET is 3,
+-- N of PxSERR rises only for a disk that goes or comes, and X only for one that comes. Where no disk has come and PxSSTS.DET is 3,
 -- it was 3 before, and none has gone.
 pub record ChangesByDisks (port : ℕ) (old new : Device) : Type 0 where
   pub serr_n : PlugsNone port old new → (old.port port).serr_n ≡ false → (new.port port).serr_n ≡ false

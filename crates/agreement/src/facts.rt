@@ -366,8 +366,8 @@ pub fn errors_are_kept()
         × ((old.port port.0).serr_x ≡ true → (new.port port.0).serr_x ≡ true) }
 {}
 
-/// While no reset is pending and no link of the port is due, N of PxSERR rises for a disk that goes or comes alone, and X for one that
-/// comes alone; and where PxSSTS.DET is 3 and no disk has come, it was 3 before, and none has gone: whatever the device does, and over
+/// While no reset is pending and no link of the port is due, N of PxSERR rises only for a disk that goes or comes, and X only for one
+/// that comes; and where PxSSTS.DET is 3 and no disk has come, it was 3 before, and none has gone: whatever the device does, and over
 /// each access. No link is due then either, but after a write of PxSCTL.
 pub fn errors_rise_by_disks()
     ensures steps { (port : ℕ) (old new : Device) → old.hr ≡ false → (old.port port).link_due ≡ false → Steps old new
@@ -423,8 +423,8 @@ pub fn errors_are_cleared()
         → (new.port port.0).is place ≡ false }
 {}
 
-/// A reading of a port's register notes the value as the last one read. While no reset is pending it also counts as the driver's limits
-/// on readings in a row ask, and shows what the port has then.
+/// A reading of a port's register notes the value as the last one read. While no reset is pending it counts the readings in a row, too,
+/// as the adapter's notes do, and shows what the port has then.
 pub fn notes_are_set()
     ensures command { (port : Port) (v : ℕ) (old new : Device) → Reads (Px port Cmd) v old new
         → (new.port port.0).notes.last_cmd ≡ v }
