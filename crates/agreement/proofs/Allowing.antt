@@ -8,12 +8,12 @@ use Rattle.hba_regs.specs.declared.reg.Reg.TheVariants.{Cap, Ghc, Pi, Vs, Cap2, 
 use Rattle.hba_regs.specs.declared.reg.Reg.TheVariants as adapter
 use Rattle.hba_regs.specs.declared.reg.PortReg.{PortReg}
 use Rattle.hba_regs.specs.declared.reg.PortReg.TheVariants.{Clb, Clbu, Fb, Fbu, Is, Ie, Cmd, Tfd, Sig, Ssts, Sctl, Serr, Sact, Ci}
-use Rattle.adapter.specs.Access.{Reads, Writes}
+use Rattle.adapter.specs.Access.{Writes}
 use Rattle.adapter.specs.Device.{Bases, Notes, PortState, Device}
 use Rattle.adapter.specs.Kept.{Keeps, KeepsOn, KeepsPort, KeepsControls}
 use Rattle.adapter.specs.Rules.{IsOn, HasPort, MayStart, MayReceive, MayStopReceiving, MayCommand, MayWritePort, MayWrite, Stays}
 use Rattle.adapter.proofs.Absurd.{true-false}
-use Rattle.adapter.proofs.Calls.{SeenAt, seen, PutAt, put, on_after, on_stays}
+use Rattle.adapter.proofs.Calls.{PutAt, put, on_after, on_stays}
 use Rattle.adapter.proofs.KeptLemmas.{steps_keep}
 use Rattle.agreement.specs.Driver.{LeavesUses, AllFree, IsWrittenBack}
 use Rattle.agreement.specs.Facts.{KeepsRecord, IsQuiet}
@@ -172,23 +172,16 @@ module _ (d : Device) (port : Port) (on : IsOn d) (there : HasPort d port.0) whe
     pub received_upper_may : Stays (MayWrite (Px port Fbu) 0) d
     received_upper_may = write_stays (Px port Fbu) 0 d (λ p e. cc) (on, there, (fr, fre, refl))
 
--- ---- PxCMD, as it was read but for ST and FRE
+-- ---- PxCMD, as it was last read but for ST and FRE
 
-module _ (port : Port) (was v : ℕ) (old new : Device) (on : IsOn old) (there : HasPort old port.0) (call : Reads (Px port Cmd) was old new) where
-  here : SeenAt port.0 Cmd was old new
-  here = seen port Cmd was old new call on.no_reset
+module _ (port : Port) (was v : ℕ) (d : Device) (on : IsOn d) (there : HasPort d port.0) (last : (d.port port.0).notes.last_cmd ≡ was) where
+  may : MayCommand (d.port port.0) v → Stays (MayWrite (Px port Cmd) v) d
+  may x = write_stays (Px port Cmd) v d (λ p e. cc) (on, there, x)
 
-  may : MayCommand (new.port port.0) v → Stays (MayWrite (Px port Cmd) v) new
-  may x = write_stays (Px port Cmd) v new (λ p e. cc) (
-    on_after on here.keeps.on,
-    (there.0, ap (λ (n : ℕ). bit n port.0) here.keeps.pi ∙ there.1),
-    x,
-  )
+  others : (st fre : Bool) → IsWrittenBack st fre was v → (place : ℕ) → place < 32 → place ≢ 0 → place ≢ 4 → bit v place ≡ bit (d.port port.0).notes.last_cmd place
+  others st fre x place small start receive = x.others place small start receive ∙ ap (λ (n : ℕ). bit n place) (sym last)
 
-  others : (st fre : Bool) → IsWrittenBack st fre was v → (place : ℕ) → place < 32 → place ≢ 0 → place ≢ 4 → bit v place ≡ bit (new.port port.0).notes.last_cmd place
-  others st fre x place small start receive = x.others place small start receive ∙ ap (λ (n : Notes). bit n.last_cmd place) (sym here.notes)
-
-  pub starting_may : MayStart (new.port port.0) → IsWrittenBack true true was v → Stays (MayWrite (Px port Cmd) v) new
+  pub starting_may : MayStart (d.port port.0) → IsWrittenBack true true was v → Stays (MayWrite (Px port Cmd) v) d
   starting_may ready x = may (record {
     start = λ b. inr ready;
     receive = λ b. inl ready.receives;
@@ -196,23 +189,23 @@ module _ (port : Port) (was v : ℕ) (old new : Device) (on : IsOn old) (there :
     others = others true true x;
   })
 
-  pub stopping_may : IsWrittenBack false (bit was 4) was v → Stays (MayWrite (Px port Cmd) v) new
+  pub stopping_may : IsWrittenBack false (d.port port.0).fre was v → Stays (MayWrite (Px port Cmd) v) d
   stopping_may x = may (record {
     start = λ b. true-false b x.start;
-    receive = λ b. inl (sym here.shows.1 ∙ (sym x.receive ∙ b));
-    stop_receiving = λ b. inl (sym here.shows.1 ∙ (sym x.receive ∙ b));
-    others = others false (bit was 4) x;
+    receive = λ b. inl (sym x.receive ∙ b);
+    stop_receiving = λ b. inl (sym x.receive ∙ b);
+    others = others false (d.port port.0).fre x;
   })
 
-  pub receiving_may : MayReceive (new.port port.0) → IsWrittenBack (bit was 0) true was v → Stays (MayWrite (Px port Cmd) v) new
+  pub receiving_may : MayReceive (d.port port.0) → IsWrittenBack (d.port port.0).st true was v → Stays (MayWrite (Px port Cmd) v) d
   receiving_may ready x = may (record {
-    start = λ b. inl (sym here.shows.0 ∙ (sym x.start ∙ b));
+    start = λ b. inl (sym x.start ∙ b);
     receive = λ b. inr ready;
     stop_receiving = λ b. true-false x.receive b;
-    others = others (bit was 0) true x;
+    others = others (d.port port.0).st true x;
   })
 
-  pub no_receiving_may : MayStopReceiving (new.port port.0) → IsWrittenBack false false was v → Stays (MayWrite (Px port Cmd) v) new
+  pub no_receiving_may : MayStopReceiving (d.port port.0) → IsWrittenBack false false was v → Stays (MayWrite (Px port Cmd) v) d
   no_receiving_may ready x = may (record {
     start = λ b. true-false b x.start;
     receive = λ b. true-false b x.receive;

@@ -176,27 +176,33 @@ stop_is_found uses m port v old new reached a st call clear =
 
 -- ---- HR is read 0
 
-reset_left : (d : Device) (port : ℕ) → IsAfterReset ((after ResetEnds d).port port)
+pub reset_left : (d : Device) (port : ℕ) → IsAfterReset ((after ResetEnds d).port port)
 reset_left d port = record { halted = record { st = refl; cr = refl; ci = λ s. refl; taken = λ s. refl }; sact = λ s. refl; fre = refl; fr = refl }
 
--- the reset ends in some step, and what it leaves stays
-leads_reset : (steps : List Step) (old new : Device) → old.hr ≡ true → new.hr ≡ false → Leads steps old new → (port : ℕ) → IsAfterReset (new.port port)
-leads_reset [] old new on off e port = true-false on (sym (ap (λ (d : Device). d.hr) e) ∙ off)
-leads_reset (ResetEnds ∷ steps) old new on off (can, lead) port = reset_stays port (after ResetEnds old) new (record { steps = steps; lead = lead }) (reset_left old port)
-leads_reset (Fetch p slot c places ∷ steps) old new on off (can, lead) port = leads_reset steps (after (Fetch p slot c places) old) new on off lead port
-leads_reset (FetchFault p slot queued kept_bits ∷ steps) old new on off (can, lead) port = leads_reset steps (after (FetchFault p slot queued kept_bits) old) new on off lead port
-leads_reset (Move p slot t bytes ∷ steps) old new on off (can, lead) port = leads_reset steps (after (Move p slot t bytes) old) new on off lead port
-leads_reset (Clear p slot t first count ∷ steps) old new on off (can, lead) port = leads_reset steps (after (Clear p slot t first count) old) new on off lead port
-leads_reset (Done p slot flag t ∷ steps) old new on off (can, lead) port = leads_reset steps (after (Done p slot flag t) old) new on off lead port
-leads_reset (Fault p slot error kept_bits t ∷ steps) old new on off (can, lead) port = leads_reset steps (after (Fault p slot error kept_bits t) old) new on off lead port
-leads_reset (Fatal p place ∷ steps) old new on off (can, lead) port = leads_reset steps (after (Fatal p place) old) new on off lead port
-leads_reset (Fall p ∷ steps) old new on off (can, lead) port = leads_reset steps (after (Fall p) old) new on off lead port
-leads_reset (FrFall p ∷ steps) old new on off (can, lead) port = leads_reset steps (after (FrFall p) old) new on off lead port
-leads_reset (LinkUp p sig n ∷ steps) old new on off (can, lead) port = leads_reset steps (after (LinkUp p sig n) old) new on off lead port
-leads_reset (Unplug p ∷ steps) old new on off (can, lead) port = leads_reset steps (after (Unplug p) old) new on off lead port
-leads_reset (Plug p disk ∷ steps) old new on off (can, lead) port = leads_reset steps (after (Plug p disk) old) new on off lead port
-leads_reset (Scribble p slot at bytes ∷ steps) old new on off (can, lead) port = leads_reset steps (after (Scribble p slot at bytes) old) new on off lead port
+-- the reset ends in some step, and others come after it
+reset_ends : (steps : List Step) (old new : Device) → old.hr ≡ true → new.hr ≡ false → Leads steps old new → (mid : Device) × Steps (after ResetEnds mid) new
+reset_ends [] old new on off e = true-false on (sym (ap (λ (d : Device). d.hr) e) ∙ off)
+reset_ends (ResetEnds ∷ steps) old new on off (can, lead) = (old, record { steps = steps; lead = lead })
+reset_ends (Fetch p slot c places ∷ steps) old new on off (can, lead) = reset_ends steps (after (Fetch p slot c places) old) new on off lead
+reset_ends (FetchFault p slot queued kept_bits ∷ steps) old new on off (can, lead) = reset_ends steps (after (FetchFault p slot queued kept_bits) old) new on off lead
+reset_ends (Move p slot t bytes ∷ steps) old new on off (can, lead) = reset_ends steps (after (Move p slot t bytes) old) new on off lead
+reset_ends (Clear p slot t first count ∷ steps) old new on off (can, lead) = reset_ends steps (after (Clear p slot t first count) old) new on off lead
+reset_ends (Done p slot flag t ∷ steps) old new on off (can, lead) = reset_ends steps (after (Done p slot flag t) old) new on off lead
+reset_ends (Fault p slot error kept_bits t ∷ steps) old new on off (can, lead) = reset_ends steps (after (Fault p slot error kept_bits t) old) new on off lead
+reset_ends (Fatal p place ∷ steps) old new on off (can, lead) = reset_ends steps (after (Fatal p place) old) new on off lead
+reset_ends (Fall p ∷ steps) old new on off (can, lead) = reset_ends steps (after (Fall p) old) new on off lead
+reset_ends (FrFall p ∷ steps) old new on off (can, lead) = reset_ends steps (after (FrFall p) old) new on off lead
+reset_ends (LinkUp p sig n ∷ steps) old new on off (can, lead) = reset_ends steps (after (LinkUp p sig n) old) new on off lead
+reset_ends (Unplug p ∷ steps) old new on off (can, lead) = reset_ends steps (after (Unplug p) old) new on off lead
+reset_ends (Plug p disk ∷ steps) old new on off (can, lead) = reset_ends steps (after (Plug p disk) old) new on off lead
+reset_ends (Scribble p slot at bytes ∷ steps) old new on off (can, lead) = reset_ends steps (after (Scribble p slot at bytes) old) new on off lead
 
+pub reset_read : (v : ℕ) (old new : Device) → old.hr ≡ true → Reads Ghc v old new → bit v 0 ≡ false → (mid : Device) × Steps (after ResetEnds mid) new
+reset_read v old new on call clear =
+    subst (λ (d : Device). (mid : Device) × Steps (after ResetEnds mid) d) (sym call.effect) (reset_ends call.steps.steps old call.mid on (sym call.shows.0 ∙ clear) call.steps.lead)
+
+-- what it leaves stays
 pub reset_is_found : (v : ℕ) (old new : Device) → old.hr ≡ true → Reads Ghc v old new → bit v 0 ≡ false → (port : ℕ) → IsAfterReset (new.port port)
 reset_is_found v old new on call clear port =
-    subst (λ (d : Device). IsAfterReset (d.port port)) (sym call.effect) (leads_reset call.steps.steps old call.mid on (sym call.shows.0 ∙ clear) call.steps.lead port)
+    let s = reset_read v old new on call clear in
+    reset_stays port (after ResetEnds s.0) new s.1 (reset_left s.0 port)

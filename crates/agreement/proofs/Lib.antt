@@ -54,3 +54,8 @@ mod Finished
 mod Setting
 mod Others
 mod Issued
+mod Erring
+mod Resetting
+mod Silent
+mod Resending
+mod Noting

@@ -126,7 +126,7 @@ written_disk first Ci v tape p h = disk_on first p _ refl refl refl refl h
 written_disk first _ v tape p h = h
 
 -- before the effect of an access the tape has what it has after it
-plugs_before : (port : ℕ) (old mid new : Device) → new.tape ≡ mid.tape → PlugsNone port old new → PlugsNone port old mid
+pub plugs_before : (port : ℕ) (old mid new : Device) → new.tape ≡ mid.tape → PlugsNone port old new → PlugsNone port old mid
 plugs_before port old mid new same plugs = record { gained = plugs.gained; tape = sym same ∙ plugs.tape; none = plugs.none }
 
 pub access_disk : (port : ℕ) (access : Access) (old new : Device) → Does access old new → PlugsNone port old new → LeavesDisk (old.port port) (new.port port)

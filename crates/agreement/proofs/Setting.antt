@@ -17,7 +17,7 @@ port_is : (port : Port) (r : PortReg) (v : ℕ) (old new : Device) (x : Writes (
 port_is port r v old new x = ap (λ (d : Device). d.port port.0) x.effect ∙ changed_same x.mid.port port.0 _
 
 -- and what is seen of it
-seen : (P : PortState → Type 0) (port : Port) (r : PortReg) (v : ℕ) (old new : Device) (x : Writes (Px port r) v old new) → P (port_written r v (length x.mid.tape) (x.mid.port port.0)) → P (new.port port.0)
+pub seen : (P : PortState → Type 0) (port : Port) (r : PortReg) (v : ℕ) (old new : Device) (x : Writes (Px port r) v old new) → P (port_written r v (length x.mid.tape) (x.mid.port port.0)) → P (new.port port.0)
 seen P port r v old new x h = subst P (sym (port_is port r v old new x)) h
 
 -- the write adds nothing to the tape

@@ -1,18 +1,16 @@
 -- A flag of a port tells of each disk that goes or comes.
-use Rattle.std.proofs.Common.{ℕ, ◌≡◌, ◌⊎◌, ◌≤◌, ◌++◌, ◌||◌, Bool, true, false, List, [], ◌∷◌, refl, sym, ◌∙◌, ap, subst, arith, inl, inr, ⊎_elim, append-nil, ne_eqb, length, ◌≢◌}
-use Rattle.std.specs.Prelude.{nat_eq, nat_le, ◌&&◌}
-use Rattle.std.proofs.lemmas.Bool.{cond-true, cond-false, or_right, le-leb}
+use Rattle.std.proofs.Common.{ℕ, ◌≡◌, ◌⊎◌, ◌++◌, Bool, true, false, List, [], ◌∷◌, refl, sym, ◌∙◌, ap, subst, inl, inr, append-nil, length, ◌≢◌}
 use Rattle.std.proofs.lemmas.List.{append_cancel_left}
 use Rattle.std.proofs.lemmas.List.Elements.{All-nil, All-cons, All-append}
 use Rattle.ata_types.specs.declared.Port.{Port}
 use Rattle.hba_regs.specs.Bits.{bit}
 use Rattle.hba_regs.specs.declared.reg.Reg.TheVariants.{Px}
 use Rattle.hba_regs.specs.declared.reg.PortReg.{PortReg}
-use Rattle.hba_regs.specs.declared.reg.PortReg.TheVariants.{Clb, Clbu, Fb, Fbu, Is, Cmd, Sctl, Serr, Sact, Ci}
-use Rattle.adapter.specs.Access.{Access, Does, Reads, PortShows, shown_interrupt, is_cause, note, port_written, with_st, with_fre}
+use Rattle.hba_regs.specs.declared.reg.PortReg.TheVariants.{Cmd, Serr}
+use Rattle.adapter.specs.Access.{Access, Does, Reads, note, port_written}
 use Rattle.adapter.specs.Access.Access.{Reading}
 use Rattle.adapter.specs.Device.{PortState, Device}
-use Rattle.adapter.specs.Kept.{Keeps, KeepsControls}
+use Rattle.adapter.specs.Kept.{Keeps}
 use Rattle.adapter.specs.Memory.{changed}
 use Rattle.adapter.specs.Steps.{Step, Can, after, Leads, Steps}
 use Rattle.adapter.specs.Steps.Step.{Fetch, FetchFault, Move, Clear, Done, Fault, Fatal, Fall, FrFall, LinkUp, Unplug, Plug, ResetEnds, Scribble}
@@ -22,6 +20,7 @@ use Rattle.adapter.proofs.Changed.{changed_same}
 use Rattle.adapter.proofs.KeptLemmas.{step_keeps, steps_keep}
 use Rattle.agreement.specs.Links.{SparesRegister, IsPlugging, PlugsNone}
 use Rattle.agreement.proofs.Crossing.{access_steps, effect_keeps}
+use Rattle.agreement.proofs.Erring.{command_beside}
 use Rattle.agreement.proofs.Gaining.{NoneOf, gained_parts}
 use Rattle.agreement.proofs.Linking.{spared}
 use Rattle.agreement.proofs.Showing.{was_false}
@@ -100,17 +99,9 @@ noted_plugs port old new off s clear =
 abbrev SameFlag : PortState → PortState → Type 0
 SameFlag first p = p.serr_n ≡ first.serr_n
 
-command_flag : (first : PortState) (v tape : ℕ) (p : PortState) → SameFlag first p → SameFlag first (port_written Cmd v tape p)
-command_flag first v tape p h = by (bit v 0) p.st refl
-  where
-    by : (b s : Bool) → p.st ≡ s → SameFlag first (with_fre (bit v 4) (with_st b tape p))
-    by false s is = h
-    by true true is = subst (λ (x : PortState). SameFlag first (with_fre (bit v 4) x)) (sym (cond-true p.st p _ is)) h
-    by true false is = subst (λ (x : PortState). SameFlag first (with_fre (bit v 4) x)) (sym (cond-false p.st p _ is)) h
-
 written_flag : (first : PortState) (r : PortReg) (v tape : ℕ) (p : PortState) → r ≢ Serr → SameFlag first p → SameFlag first (port_written r v tape p)
 written_flag first Serr v tape p other h = absurd (other refl)
-written_flag first Cmd v tape p other h = command_flag first v tape p h
+written_flag first Cmd v tape p other h = (command_beside v tape p).1 ∙ h
 written_flag first _ v tape p other h = h
 
 effect_flag : (port : Port) (access : Access) (old new : Device) (x : Does access old new) → SparesRegister (Px port Serr) access → SameFlag ((access_steps access old new x).0.port port.0) (new.port port.0)

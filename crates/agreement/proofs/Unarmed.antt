@@ -9,6 +9,9 @@ use Rattle.hba_regs.specs.declared.reg.PortReg.{PortReg}
 use Rattle.hba_regs.specs.declared.reg.PortReg.TheVariants as px
 use Rattle.adapter.specs.Access.{Reads, Writes, note, port_written, with_st}
 use Rattle.adapter.specs.Device.{PortState, Device}
+use Rattle.adapter.specs.FirstRead.{first_read}
+use Rattle.adapter.specs.Idle.{IsIdle}
+use Rattle.adapter.specs.Memory.{changed}
 use Rattle.adapter.specs.Steps.{Steps, restarted}
 use Rattle.adapter.proofs.KeptLemmas.{steps_keep}
 use Rattle.block_machine.specs.State.{Machine}
@@ -103,3 +106,12 @@ unarmed_writes uses port r v old new arms x u =
     (written_on (λ (p : PortState). AreUnarmed uses p port.0) port (reading_unarmed uses port) (λ p h. h) r v x.mid
     (λ q is. writing_unarmed uses port q v (length x.mid.tape) (x.mid.port port.0) (λ c. arms (is ∙ ap (Px port) c)))
     (unarmed_stays uses old x.mid port.0 x.steps u))
+
+-- ---- ports without a bit
+
+pub idle_unarmed : (uses : Uses) (d : Device) (port : ℕ) → IsIdle d → AreUnarmed uses (d.port port) port
+idle_unarmed uses d port i slot free = (i.port port).sact slot
+
+pub first_unarmed : (uses : Uses) → AreUnarmed uses (first_read.port 0) 0
+unfolding changed
+first_unarmed uses slot free = refl

@@ -8,3 +8,5 @@ pub mod Witness
 pub mod Facts
 pub mod Spares
 pub mod Links
+pub mod Errors
+pub mod Noted

@@ -1,13 +1,14 @@
 // Laws of what a driver learns from the device, for the crates above: the clause is the theorem. Nothing calls these functions.
-ghost use Rattle.std.specs.Prelude.{ℕ, true, false, ◌≡◌, ◌≢◌, ◌≤◌, ◌+◌, ◌*◌, ◌/◌, ◌%◌, ◌++◌, List, length, drop, Some, None, Contains};
+ghost use Rattle.std.specs.Prelude.{ℕ, true, false, ◌≡◌, ◌≢◌, ◌≤◌, ◌+◌, ◌*◌, ◌/◌, ◌%◌, ◌++◌, List, length, drop, Some, None, Contains, All};
 ghost use Rattle.ata_types.specs.declared.Port.{Port};
 ghost use Rattle.ata_types.specs.declared.request.Frame.{Frame};
 ghost use Rattle.ata_types.specs.declared.request.RequestId.{RequestId};
 ghost use Rattle.hba_regs.specs.Bits.{bit};
 ghost use Rattle.hba_regs.specs.declared.reg.Reg.{Reg};
 ghost use Rattle.hba_regs.specs.declared.reg.Reg.TheVariants.{Ghc, Px};
-ghost use Rattle.hba_regs.specs.declared.reg.PortReg.TheVariants.{Is, Cmd, Tfd, Sctl, Serr, Ci, Sact, Clb, Clbu, Fb, Fbu};
-ghost use Rattle.adapter.specs.Access.{Reads, Writes, Loads, Stores, Access, Does};
+ghost use Rattle.hba_regs.specs.declared.reg.PortReg.TheVariants.{Is, Cmd, Tfd, Sig, Ssts, Sctl, Serr, Ci, Sact, Clb, Clbu, Fb, Fbu};
+ghost use Rattle.hba_regs.specs.declared.reg.PortReg.{PortReg};
+ghost use Rattle.adapter.specs.Access.{Reads, Writes, Loads, Stores, Access, Does, PortShows, note};
 ghost use Rattle.adapter.specs.Access.Access.{Writing};
 ghost use Rattle.adapter.specs.Device.{Device, PortState};
 ghost use Rattle.adapter.specs.Device.Halt.{HaltedPlain};
@@ -24,9 +25,10 @@ ghost use Rattle.block_machine.specs.State.{Pending, Machine};
 ghost use Rattle.block_machine.specs.Steps.{Step, Release, MayMove, NoneKept, after_step};
 ghost use Rattle.agreement.specs.Agrees.{Agrees};
 ghost use Rattle.agreement.specs.Driver.{Known, Knows};
+ghost use Rattle.agreement.specs.Errors.{KeepsErrors, NoneComes, ChangesByDisks, IsReset, IsCleared, IsWork};
 ghost use Rattle.agreement.specs.Facts.{IsHalted, IsAfterReset, Finds, FindsPage, AreStepsOf, IsStill, AreOver, RunsWell, Undisturbed, ShowsNoTrouble, TellsNoTrouble, ClearsNoTrouble, IsFaulted, ShowsFault, HasFaults, IsRecorded, IsAwaited, IsUnflagged, IsQuiet, KeepsRecord, EndedIn, IsClear};
-ghost use Rattle.agreement.specs.Follows.{Follows};
 ghost use Rattle.agreement.specs.Links.{SparesRegister, SameAdapter, LeavesControls, PlugsNone, LeavesDisk, LeavesLink};
+ghost use Rattle.agreement.specs.Noted.{LeavesNotes};
 ghost use Rattle.agreement.specs.Places.{scratch_of};
 ghost use Rattle.agreement.specs.Slots.{Uses, Free, Own, Serves, IsOver};
 ghost use Rattle.agreement.specs.Spares.{IsOfAnother};
@@ -49,13 +51,18 @@ pub fn stop_is_found()
         → IsHalted (new.port port.0) }
 {}
 
-/// While a reset of the adapter is pending, HR is read 0: each port is as a reset leaves it, and the machine follows. So a port
-/// stays, whatever the device does, over readings, and over each write that may be made and sets neither its ST nor its FRE.
+/// HR of GHC begins a reset of the adapter, and is read 1 while it is pending. Once it is read 0, each port is as the reset left it,
+/// but for what the device did since: its engines stand, no bit of PxIS is set, and what comes since sets N or X. Its engines stand on,
+/// whatever the device does, over readings, and over each write that may be made and sets neither its ST nor its FRE.
 pub fn reset_is_found()
+    ensures begins { (v : ℕ) (old new : Device) → bit v 0 ≡ true → Writes Ghc v old new → new.hr ≡ true }
+    ensures told { (v : ℕ) (old new : Device) → Reads Ghc v old new → (new.hr ≡ bit v 0) × (new.ae ≡ bit v 31) }
     ensures reset { (v : ℕ) (old new : Device) → old.hr ≡ true → Reads Ghc v old new → bit v 0 ≡ false
         → (port : ℕ) → IsAfterReset (new.port port) }
-    ensures follows { (uses : Uses) (m : Machine) (v : ℕ) (old new : Device) → IsReached m → Agrees uses m old
-        → Reads Ghc v old new → Follows uses m old new }
+    ensures left { (v : ℕ) (old new : Device) → old.hr ≡ true → Reads Ghc v old new → bit v 0 ≡ false
+        → (mid : Device) × (mid.hr ≡ false) × ((port : ℕ) → IsReset (mid.port port)) × Steps mid new }
+    ensures cleared { (v : ℕ) (old new : Device) → old.hr ≡ true → Reads Ghc v old new → bit v 0 ≡ false
+        → (port : ℕ) → IsCleared (new.port port) }
     ensures stays { (port : ℕ) (old new : Device) → Steps old new → IsAfterReset (old.port port) → IsAfterReset (new.port port) }
     ensures reads { (port : ℕ) (r : Reg) (v : ℕ) (old new : Device) → Reads r v old new → IsAfterReset (old.port port)
         → IsAfterReset (new.port port) }
@@ -205,6 +212,11 @@ pub fn adapter_stays()
         → ((v : ℕ) → access ≡ Writing Ghc v → (bit v 31 ≡ true) × (bit v 0 ≡ false)) → Does access old new → IsOn new }
 {}
 
+/// While no reset is pending, a write of GHC with AE and without HR switches the adapter on.
+pub fn switching_on()
+    ensures { (v : ℕ) (old new : Device) → old.hr ≡ false → bit v 31 ≡ true → bit v 0 ≡ false → Writes Ghc v old new → IsOn new }
+{}
+
 /// A load is steps of the device, and a store is such steps with memory changed after them: so what holds of ports and of the tape over
 /// the device's steps holds over loads and stores.
 pub fn loads_and_stores_leave_ports()
@@ -298,8 +310,9 @@ pub fn faults_are_recorded()
     ensures failed { (new : Device) × Steps first_read new × ((new.port 0).halt ≡ HaltedPlain) × HasFaults new.tape (new.port 0) 0 }
 {}
 
-/// From COMRESET until the link comes up the engine stands, and the task file shows DRQ: COMRESET begins it, and so it stays,
-/// whatever the device does, over readings, and over each write that may be made and keeps the record of faults.
+/// From COMRESET until the link comes up the engine stands, and the task file shows DRQ: COMRESET begins it, and so does a reset of the
+/// adapter; and so it stays, whatever the device does, over readings, and over each write that may be made and keeps the record of
+/// faults. So it is where no link is due and PxSCTL.DET isn't 1, as on a port that runs.
 pub fn link_is_awaited()
     ensures begins { (port : Port) (v : ℕ) (old new : Device) → (old.port port.0).cr ≡ false → v % 16 ≡ 1
         → Writes (Px port Sctl) v old new → IsAwaited (new.port port.0) }
@@ -308,6 +321,10 @@ pub fn link_is_awaited()
         → IsAwaited (new.port port) }
     ensures writes { (port : ℕ) (r : Reg) (v : ℕ) (old new : Device) → Stays (MayWrite r v) old → Stays (KeepsRecord r v) old
         → Writes r v old new → IsAwaited (old.port port) → IsAwaited (new.port port) }
+    ensures reset { (v : ℕ) (old new : Device) → old.hr ≡ true → Reads Ghc v old new → bit v 0 ≡ false
+        → (port : ℕ) → IsAwaited (new.port port) }
+    ensures undue { (p : PortState) → p.link_due ≡ false → p.sctl_det ≢ 1 → IsAwaited p }
+    ensures runs { IsAwaited (first_read.port 0) }
 {}
 
 /// A port is quiet, so that ST may be set and faults go on to be recorded: PxIS is written with TFES while the engine stands,
@@ -316,6 +333,7 @@ pub fn link_is_awaited()
 pub fn quiet_is_found()
     ensures cleared { (port : Port) (v : ℕ) (old new : Device) → (old.port port.0).cr ≡ false → bit v 30 ≡ true
         → Writes (Px port Is) v old new → IsUnflagged (new.port port.0) }
+    ensures steps { (port : ℕ) (old new : Device) → Steps old new → IsUnflagged (old.port port) → IsUnflagged (new.port port) }
     ensures reads { (port : ℕ) (r : Reg) (v : ℕ) (old new : Device) → Reads r v old new → IsUnflagged (old.port port)
         → IsUnflagged (new.port port) }
     ensures writes { (port : Port) (r : Reg) (v : ℕ) (old new : Device) → (r ≡ Px port Cmd → bit v 0 ≡ false)
@@ -352,4 +370,102 @@ pub fn fault_is_found()
         × (v % 256 ≡ s.fault.status) × (v / 256 % 256 ≡ s.fault.error) }
     ensures slot { (uses : Uses) (m : Machine) (d : Device) (port : ℕ) (entries : List Entry) → Agrees uses m d
         → (s : ShowsFault entries (d.port port) port) → uses port s.fault.slot.0 ≢ Free }
+{}
+
+/// While no reset is pending, each bit of PxIS that is set stays so until PxIS is written, and N and X of PxSERR until that is: whatever
+/// the device does, and over each access.
+pub fn errors_are_kept()
+    ensures steps { (port : ℕ) (old new : Device) → old.hr ≡ false → Steps old new → KeepsErrors (old.port port) (new.port port) }
+    ensures causes { (port : Port) (access : Access) (old new : Device) → old.hr ≡ false → SparesRegister (Px port Is) access
+        → Does access old new → (place : ℕ) → (old.port port.0).is place ≡ true → (new.port port.0).is place ≡ true }
+    ensures errors { (port : Port) (access : Access) (old new : Device) → old.hr ≡ false → SparesRegister (Px port Serr) access
+        → Does access old new
+        → ((old.port port.0).serr_n ≡ true → (new.port port.0).serr_n ≡ true)
+        × ((old.port port.0).serr_x ≡ true → (new.port port.0).serr_x ≡ true) }
+{}
+
+/// While no reset is pending and no link of the port is due, N of PxSERR rises only for a disk that goes or comes, and X only for one
+/// that comes; and where PxSSTS.DET is 3 and no disk has come, it was 3 before, and none has gone: whatever the device does, and over
+/// each access. No link is due then either, but after a write of PxSCTL.
+pub fn errors_rise_by_disks()
+    ensures steps { (port : ℕ) (old new : Device) → old.hr ≡ false → (old.port port).link_due ≡ false → Steps old new
+        → ChangesByDisks port old new }
+    ensures access { (port : Port) (access : Access) (old new : Device) → old.hr ≡ false → (old.port port.0).link_due ≡ false
+        → Does access old new → ChangesByDisks port.0 old new }
+    ensures due { (port : ℕ) (old new : Device) → old.hr ≡ false → (old.port port).link_due ≡ false → Steps old new
+        → (new.port port).link_due ≡ false }
+    ensures due_access { (port : Port) (access : Access) (old new : Device) → old.hr ≡ false → (old.port port.0).link_due ≡ false
+        → SparesRegister (Px port Sctl) access → Does access old new → (new.port port.0).link_due ≡ false }
+{}
+
+/// Where the tape tells of no disk of the port that comes in two parts of a call, it tells of none in the whole, and the other way
+/// round; where none goes or comes, none comes.
+pub fn coming_composes()
+    ensures none { (port : ℕ) (d : Device) → NoneComes port d d }
+    ensures more { (port : ℕ) (old mid new : Device) → NoneComes port old mid → NoneComes port mid new → NoneComes port old new }
+    ensures parts { (port : ℕ) (old mid new : Device) (early late : List Entry) → mid.tape ≡ old.tape ++ early
+        → new.tape ≡ mid.tape ++ late → NoneComes port old new → NoneComes port old mid × NoneComes port mid new }
+    ensures plugs { (port : ℕ) (old new : Device) → PlugsNone port old new → NoneComes port old new }
+{}
+
+/// While a port's engine stands, no move, clearing, end, fault or fatal error of the port comes; and where no disk comes either, the disk
+/// holds what it did: whatever the device does, also over a reset of the adapter that ends, and over each access, also the write of ST
+/// itself.
+pub fn halted_is_silent()
+    ensures steps { (port : ℕ) (old new : Device) (gained : List Entry) → (old.port port).cr ≡ false → Steps old new
+        → new.tape ≡ old.tape ++ gained → All (λ e. IsWork port e → ⊥) gained }
+    ensures access { (port : ℕ) (access : Access) (old new : Device) (gained : List Entry) → (old.port port).cr ≡ false
+        → Does access old new → new.tape ≡ old.tape ++ gained → All (λ e. IsWork port e → ⊥) gained }
+    ensures disk { (port : ℕ) (old new : Device) → (old.port port).cr ≡ false → Steps old new → NoneComes port old new
+        → (new.port port).disk ≡ (old.port port).disk }
+    ensures disk_access { (port : ℕ) (access : Access) (old new : Device) → (old.port port).cr ≡ false → Does access old new
+        → NoneComes port old new → (new.port port).disk ≡ (old.port port).disk }
+{}
+
+/// A write of PxSCTL with DET 1 sends COMRESET: no device shows in PxSSTS, and the status is 7Fh. While no reset is pending, one with
+/// DET 0 after it makes the link due, and no other write of PxSCTL does.
+pub fn link_is_reset()
+    ensures comreset { (port : Port) (v : ℕ) (old new : Device) → v % 16 ≡ 1 → Writes (Px port Sctl) v old new
+        → ((new.port port.0).ssts_det ≡ 0) × ((new.port port.0).tfd % 256 ≡ 0x7f) }
+    ensures due { (port : Port) (v : ℕ) (old new : Device) → old.hr ≡ false → (old.port port.0).sctl_det ≡ 1 → v % 16 ≡ 0
+        → Writes (Px port Sctl) v old new → (new.port port.0).link_due ≡ true }
+    ensures undue { (port : Port) (v : ℕ) (old new : Device) → old.hr ≡ false → (old.port port.0).link_due ≡ false
+        → ((old.port port.0).sctl_det ≡ 1 → v % 16 ≢ 0) → Writes (Px port Sctl) v old new → (new.port port.0).link_due ≡ false }
+{}
+
+/// A write of PxSERR clears N and X where it has their bits, 16 and 26, and one of PxIS clears each bit that it has.
+pub fn errors_are_cleared()
+    ensures errors { (port : Port) (v : ℕ) (old new : Device) → Writes (Px port Serr) v old new
+        → (bit v 16 ≡ true → (new.port port.0).serr_n ≡ false) × (bit v 26 ≡ true → (new.port port.0).serr_x ≡ false) }
+    ensures causes { (port : Port) (v : ℕ) (old new : Device) → Writes (Px port Is) v old new → (place : ℕ) → bit v place ≡ true
+        → (new.port port.0).is place ≡ false }
+{}
+
+/// A reading of a port's register notes the value as the last one read. While no reset is pending it counts the readings in a row, too,
+/// as the adapter's notes do, and shows what the port has then.
+pub fn notes_are_set()
+    ensures command { (port : Port) (v : ℕ) (old new : Device) → Reads (Px port Cmd) v old new
+        → (new.port port.0).notes.last_cmd ≡ v }
+    ensures link { (port : Port) (v : ℕ) (old new : Device) → Reads (Px port Ssts) v old new
+        → (new.port port.0).notes.last_ssts ≡ v }
+    ensures file { (port : Port) (v : ℕ) (old new : Device) → Reads (Px port Tfd) v old new
+        → (new.port port.0).notes.last_tfd ≡ v }
+    ensures issued { (port : Port) (v : ℕ) (old new : Device) → Reads (Px port Ci) v old new
+        → (new.port port.0).notes.last_ci ≡ v }
+    ensures active { (port : Port) (v : ℕ) (old new : Device) → Reads (Px port Sact) v old new
+        → (new.port port.0).notes.last_sact ≡ v }
+    ensures signature { (port : Port) (v : ℕ) (old new : Device) → Reads (Px port Sig) v old new
+        → (new.port port.0).notes.last_sig ≡ v }
+    ensures counts { (port : Port) (r : PortReg) (v : ℕ) (old new : Device) → old.hr ≡ false → Reads (Px port r) v old new
+        → (new.port port.0).notes ≡ note r v (old.port port.0) }
+    ensures shows { (port : Port) (r : PortReg) (v : ℕ) (old new : Device) → old.hr ≡ false → Reads (Px port r) v old new
+        → PortShows r v (new.port port.0) }
+{}
+
+/// What the readings of a port noted stays, whatever the device does, and over each access: each value but for a reading of its
+/// register, and so its count; those of the link, of busy and of the command also but for a write of PxSCTL.
+pub fn notes_stay()
+    ensures steps { (port : ℕ) (old new : Device) → Steps old new → (new.port port).notes ≡ (old.port port).notes }
+    ensures access { (port : Port) (access : Access) (old new : Device) → Does access old new
+        → LeavesNotes access port (old.port port.0).notes (new.port port.0).notes }
 {}

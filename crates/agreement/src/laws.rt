@@ -13,6 +13,7 @@ ghost use Rattle.hba_regs.specs.declared.reg.Reg.{Reg};
 ghost use Rattle.adapter.specs.Access.{Reads, Writes, Loads, Stores, written, Access, Does};
 ghost use Rattle.adapter.specs.Commands.{Meaning};
 ghost use Rattle.adapter.specs.Device.{PortState, Device};
+ghost use Rattle.adapter.specs.FirstRead.{first_read};
 ghost use Rattle.adapter.specs.Idle.{IsIdle};
 ghost use Rattle.adapter.specs.Memory.{patched};
 ghost use Rattle.adapter.specs.Rules.{IsFree, IsOn, HasPort, MayStart, MayReceive, MayStopReceiving, MayWrite, Stays};
@@ -360,7 +361,8 @@ pub fn prepared_stays()
 {}
 
 /// A free slot without a bit of PxSACT has none later, nor wherever what no slot uses is left; so it is over readings, and over
-/// writes, but for one of PxSACT with a bit of a free slot; and so it is where a slot is given up, and where one is put to use.
+/// writes, but for one of PxSACT with a bit of a free slot; and so it is where a slot is given up, and where one is put to use. So it
+/// is of each port of an idle adapter.
 pub fn unarmed_stays()
     ensures device { (uses : Uses) (old new : Device) (port : ℕ) → Steps old new → AreUnarmed uses (old.port port) port
         → AreUnarmed uses (new.port port) port }
@@ -375,6 +377,8 @@ pub fn unarmed_stays()
         → AreUnarmed uses (d.port port) port → AreUnarmed (put uses port slot Free) (d.port port) port }
     ensures used { (uses : Uses) (p : PortState) (port slot : ℕ) (v : Use) → (v ≡ Free → ⊥) → AreUnarmed uses p port
         → AreUnarmed (put uses port slot v) p port }
+    ensures idle { (uses : Uses) (d : Device) (port : ℕ) → IsIdle d → AreUnarmed uses (d.port port) port }
+    ensures runs { (uses : Uses) → AreUnarmed uses (first_read.port 0) 0 }
 {}
 
 /// What the driver may store for itself may be loaded and stored, whatever the device does first.
@@ -416,18 +420,18 @@ pub fn placing_is_permitted()
         → (d.port port.0).fr ≡ false → Stays (MayWrite (Px port Fbu) 0) d }
 {}
 
-/// PxCMD is read, and then it may be written back with ST set where the port may start; with ST clear always; with FRE set where the
-/// port may receive; and with FRE and ST clear where its engine stands.
+/// PxCMD may be written as it was last read, but for ST and FRE: with ST set where the port may start; with ST clear and FRE as it is;
+/// with FRE set and ST as it is where the port may receive; and with FRE and ST clear where its engine stands.
 pub fn commanding_is_permitted()
-    ensures start { (port : Port) (was v : ℕ) (old new : Device) → IsOn old → HasPort old port.0 → Reads (Px port Cmd) was old new
-        → MayStart (new.port port.0) → IsWrittenBack true true was v → Stays (MayWrite (Px port Cmd) v) new }
-    ensures stop { (port : Port) (was v : ℕ) (old new : Device) → IsOn old → HasPort old port.0 → Reads (Px port Cmd) was old new
-        → IsWrittenBack false (bit was 4) was v → Stays (MayWrite (Px port Cmd) v) new }
-    ensures receive { (port : Port) (was v : ℕ) (old new : Device) → IsOn old → HasPort old port.0 → Reads (Px port Cmd) was old new
-        → MayReceive (new.port port.0) → IsWrittenBack (bit was 0) true was v → Stays (MayWrite (Px port Cmd) v) new }
-    ensures stop_receiving { (port : Port) (was v : ℕ) (old new : Device) → IsOn old → HasPort old port.0
-        → Reads (Px port Cmd) was old new → MayStopReceiving (new.port port.0) → IsWrittenBack false false was v
-        → Stays (MayWrite (Px port Cmd) v) new }
+    ensures start { (port : Port) (was v : ℕ) (d : Device) → IsOn d → HasPort d port.0 → (d.port port.0).notes.last_cmd ≡ was
+        → MayStart (d.port port.0) → IsWrittenBack true true was v → Stays (MayWrite (Px port Cmd) v) d }
+    ensures stop { (port : Port) (was v : ℕ) (d : Device) → IsOn d → HasPort d port.0 → (d.port port.0).notes.last_cmd ≡ was
+        → IsWrittenBack false (d.port port.0).fre was v → Stays (MayWrite (Px port Cmd) v) d }
+    ensures receive { (port : Port) (was v : ℕ) (d : Device) → IsOn d → HasPort d port.0 → (d.port port.0).notes.last_cmd ≡ was
+        → MayReceive (d.port port.0) → IsWrittenBack (d.port port.0).st true was v → Stays (MayWrite (Px port Cmd) v) d }
+    ensures stop_receiving { (port : Port) (was v : ℕ) (d : Device) → IsOn d → HasPort d port.0
+        → (d.port port.0).notes.last_cmd ≡ was → MayStopReceiving (d.port port.0) → IsWrittenBack false false was v
+        → Stays (MayWrite (Px port Cmd) v) d }
 {}
 
 /// PxIS is written, and then the port's bit of IS may be, with those of ports whose PxIS was written since their own bits were.

@@ -1,3 +1,4 @@
+use Rattle.agreement.proofs.Resetting.{reset_awaits, undue_awaited, first_awaited}
 use Rattle.agreement.proofs.Awaiting.{comreset_begins, steps_awaited, reads_awaited, writes_awaited}
 use Rattle.agreement.proofs.facts.link_is_awaited.Goals as goal
 
@@ -12,3 +13,12 @@ returns-clause-reads c = reads_awaited
 
 pub returns-clause-writes : goal.returns-clause-writes
 returns-clause-writes c = writes_awaited
+
+pub returns-clause-reset : goal.returns-clause-reset
+returns-clause-reset c = reset_awaits
+
+pub returns-clause-undue : goal.returns-clause-undue
+returns-clause-undue c = undue_awaited
+
+pub returns-clause-runs : goal.returns-clause-runs
+returns-clause-runs c = first_awaited

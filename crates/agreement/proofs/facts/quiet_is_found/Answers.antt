@@ -1,3 +1,4 @@
+use Rattle.agreement.proofs.Awaiting.{steps_unflagged}
 use Rattle.agreement.proofs.Starting.{clearing_unflags, reads_unflagged, writes_unflagged, quiet_is_found, steps_quiet, reads_quiet, writes_quiet}
 use Rattle.agreement.proofs.Witnesses.{second_quiet}
 use Rattle.agreement.proofs.facts.quiet_is_found.Goals as goal
@@ -25,3 +26,6 @@ returns-clause-stays_read c = reads_quiet
 
 pub returns-clause-stays_written : goal.returns-clause-stays_written
 returns-clause-stays_written c = writes_quiet
+
+pub returns-clause-steps : goal.returns-clause-steps
+returns-clause-steps c = steps_unflagged

@@ -1,5 +1,5 @@
 use Rattle.agreement.proofs.Leaving.{unarmed_left}
-use Rattle.agreement.proofs.Unarmed.{unarmed_stays, giving_up_unarmed, putting_unarmed, unarmed_reads, unarmed_writes}
+use Rattle.agreement.proofs.Unarmed.{unarmed_stays, giving_up_unarmed, putting_unarmed, unarmed_reads, unarmed_writes, idle_unarmed, first_unarmed}
 use Rattle.agreement.proofs.laws.unarmed_stays.Goals as goal
 
 pub returns-clause-device : goal.returns-clause-device
@@ -19,3 +19,9 @@ returns-clause-reads c = unarmed_reads
 
 pub returns-clause-writes : goal.returns-clause-writes
 returns-clause-writes c = unarmed_writes
+
+pub returns-clause-idle : goal.returns-clause-idle
+returns-clause-idle c = idle_unarmed
+
+pub returns-clause-runs : goal.returns-clause-runs
+returns-clause-runs c = first_unarmed

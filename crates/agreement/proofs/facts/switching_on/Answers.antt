@@ -1,0 +1,5 @@
+use Rattle.agreement.proofs.Resetting.{switched_on}
+use Rattle.agreement.proofs.facts.switching_on.Goals as goal
+
+pub returns : goal.returns
+returns c = switched_on
