@@ -116,8 +116,7 @@ module _ (uses : Uses) (m : Machine) (d : Device) (reached : IsReached m) (a : A
   -- what a slot serves is one of these
   served_one : (slot : ℕ) (id : RequestId) → uses port.0 slot ≡ Serves id → (e : Unanswered) × In e book × (is_issued e ≡ true) × (e.id ≡ id)
   served_one slot id u =
-      let s = issued_one uses m d a port none slot id u in
-      (
+      let s = issued_one uses m d a port none slot id u in (
         unanswered s.0,
         in_from book (unanswered s.0) (into_map unanswered m.book s.0 s.1),
         and_from (s.0.request.port.0 == port.0) s.0.issued (eq-eqb s.0.request.port.0 port.0 (ap (λ (p : Port). p.0) s.4)) s.2,

@@ -13,7 +13,7 @@ use Rattle.adapter.specs.Steps.{Step, Can, after, Steps}
 use Rattle.adapter.specs.Steps.Step.{Fetch, FetchFault, Move, Clear, Done, Fault, Fatal, Fall, FrFall, LinkUp, Unplug, Plug, ResetEnds, Scribble}
 use Rattle.adapter.proofs.Absurd.{true-false}
 use Rattle.adapter.proofs.KeptLemmas.{steps_keep}
-use Rattle.agreement.specs.Errors.{IsReset, IsCleared}
+use Rattle.agreement.specs.Errors.{IsLeftByReset, IsCleared}
 use Rattle.agreement.specs.Facts.{IsAwaited}
 use Rattle.agreement.proofs.Awaiting.{leads_keep, steps_awaited}
 use Rattle.agreement.proofs.Halting.{reset_left, reset_read}
@@ -38,7 +38,7 @@ switched_on v old new off set none call =
 
 -- ---- what a reset leaves
 
-reset_port : (d : Device) (port : ℕ) → IsReset ((after ResetEnds d).port port)
+reset_port : (d : Device) (port : ℕ) → IsLeftByReset ((after ResetEnds d).port port)
 reset_port d port = record {
   stopped = reset_left d port;
   is = λ place. refl;
@@ -50,7 +50,7 @@ reset_port d port = record {
   sig = refl;
 }
 
-pub reset_leaves : (v : ℕ) (old new : Device) → old.hr ≡ true → Reads Ghc v old new → bit v 0 ≡ false → (mid : Device) × (mid.hr ≡ false) × ((port : ℕ) → IsReset (mid.port port)) × Steps mid new
+pub reset_leaves : (v : ℕ) (old new : Device) → old.hr ≡ true → Reads Ghc v old new → bit v 0 ≡ false → (mid : Device) × (mid.hr ≡ false) × ((port : ℕ) → IsLeftByReset (mid.port port)) × Steps mid new
 reset_leaves v old new on call clear = let s = reset_read v old new on call clear in (after ResetEnds s.0, refl, reset_port s.0, s.1)
 
 -- and what goes on while CR is 0

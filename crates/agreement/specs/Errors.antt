@@ -33,7 +33,7 @@ pub record ChangesByDisks (port : ℕ) (old new : Device) : Type 0 where
 -- ---- a reset
 
 -- A port as a reset of its adapter leaves it, before anything else comes (AHCI 1.3.1, 3.3 and 10.4.3).
-pub record IsReset (p : PortState) : Type 0 where
+pub record IsLeftByReset (p : PortState) : Type 0 where
   pub stopped : IsAfterReset p
   pub is : (place : ℕ) → p.is place ≡ false
   pub serr_n : p.serr_n ≡ false

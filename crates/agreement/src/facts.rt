@@ -25,7 +25,7 @@ ghost use Rattle.block_machine.specs.State.{Pending, Machine};
 ghost use Rattle.block_machine.specs.Steps.{Step, Release, MayMove, NoneKept, after_step};
 ghost use Rattle.agreement.specs.Agrees.{Agrees};
 ghost use Rattle.agreement.specs.Driver.{Known, Knows};
-ghost use Rattle.agreement.specs.Errors.{KeepsErrors, NoneComes, ChangesByDisks, IsReset, IsCleared, IsWork};
+ghost use Rattle.agreement.specs.Errors.{KeepsErrors, NoneComes, ChangesByDisks, IsLeftByReset, IsCleared, IsWork};
 ghost use Rattle.agreement.specs.Facts.{IsHalted, IsAfterReset, Finds, FindsPage, AreStepsOf, IsStill, AreOver, RunsWell, Undisturbed, ShowsNoTrouble, TellsNoTrouble, ClearsNoTrouble, IsFaulted, ShowsFault, HasFaults, IsRecorded, IsAwaited, IsUnflagged, IsQuiet, KeepsRecord, EndedIn, IsClear};
 ghost use Rattle.agreement.specs.Links.{SparesRegister, SameAdapter, LeavesControls, PlugsNone, LeavesDisk, LeavesLink};
 ghost use Rattle.agreement.specs.Noted.{LeavesNotes};
@@ -60,7 +60,7 @@ pub fn reset_is_found()
     ensures reset { (v : ℕ) (old new : Device) → old.hr ≡ true → Reads Ghc v old new → bit v 0 ≡ false
         → (port : ℕ) → IsAfterReset (new.port port) }
     ensures left { (v : ℕ) (old new : Device) → old.hr ≡ true → Reads Ghc v old new → bit v 0 ≡ false
-        → (mid : Device) × (mid.hr ≡ false) × ((port : ℕ) → IsReset (mid.port port)) × Steps mid new }
+        → (mid : Device) × (mid.hr ≡ false) × ((port : ℕ) → IsLeftByReset (mid.port port)) × Steps mid new }
     ensures cleared { (v : ℕ) (old new : Device) → old.hr ≡ true → Reads Ghc v old new → bit v 0 ≡ false
         → (port : ℕ) → IsCleared (new.port port) }
     ensures stays { (port : ℕ) (old new : Device) → Steps old new → IsAfterReset (old.port port) → IsAfterReset (new.port port) }
