@@ -1,7 +1,7 @@
 -- One more event.
 use Rattle.std.proofs.Common.{List, [], ◌∷◌, ◌++◌, refl, subst}
 use Rattle.adapter.specs.Device.{Device}
-use Rattle.block_server.specs.Running.{Answers, Ran}
+use Rattle.block_server.specs.Running.{Answered, Ran}
 use Rattle.block_server.specs.View.{ServerView}
 use Rattle.block_server.specs.declared.types.Event.{Event}
 use Rattle.block_server.specs.declared.types.Said.{Said}
@@ -11,9 +11,9 @@ module _ {A : Type 0} (device : A → Device) where
   ran_none s = refl
 
   pub ran_more : (old mid new : ServerView A) (events : List Event) (said : List Said) (event : Event) (one : Said) →
-      Ran device old mid events said → Answers device event one mid new → Ran device old new (events ++ event ∷ []) (said ++ one ∷ [])
+      Ran device old mid events said → Answered device event one mid new → Ran device old new (events ++ event ∷ []) (said ++ one ∷ [])
   ran_more old mid new [] [] event one ran answers =
-      let P : ServerView A → Type 0 = λ s. Answers device event one s new in
+      let P : ServerView A → Type 0 = λ s. Answered device event one s new in
       (new, subst P ran answers, refl)
   ran_more old mid new [] (s ∷ said) event one ran answers = absurd ran
   ran_more old mid new (e ∷ events) [] event one ran answers = absurd ran

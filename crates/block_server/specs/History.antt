@@ -1,5 +1,5 @@
 -- The server as a history of the block machine: what it is to the machine between two calls (this project's own).
-use Rattle.std.specs.Prelude.{ℕ, Bool, true, false, ◌≡◌, ◌+◌, ◌==◌, List, [], ◌∷◌, Option, Some, None, Ok, Err}
+use Rattle.std.specs.Prelude.{ℕ, Bool, true, false, ◌≡◌, ◌+◌, ◌==◌, ◌++◌, min, map, reverse, List, [], ◌∷◌, Option, Some, None, Ok, Err}
 use Rattle.std.specs.declared.result.Result.{Result}
 use Rattle.ata_types.specs.declared.refusal.MemFault.{MemFault}
 use Rattle.ata_types.specs.declared.request.Frame.{Frame}
@@ -12,8 +12,8 @@ use Rattle.block_machine.specs.declared.due.Mode.{Mode}
 use Rattle.block_machine.specs.Ports.{Ports, Evidence}
 use Rattle.block_machine.specs.State.{Pending}
 use Rattle.block_machine.specs.State as machine
-use Rattle.block_machine.specs.Events.{Device as Told, Said, Loaded, Stepped}
-use Rattle.block_machine.specs.Histories.{Instant, Happening}
+use Rattle.block_machine.specs.Events.{Ask, Submit, LoadAt, Service, State, Device as Told, Said, Submitted, Loaded, Served, Shown, Stepped}
+use Rattle.block_machine.specs.Histories.{Instant, Happening, Leads}
 use Rattle.agreement.specs.Agrees.{port_at}
 use Rattle.agreement.specs.Slots.{Free, Serves, Uses, put}
 use Rattle.agreement.specs.Driver.{Known, Knows, IsBacked, idle}
@@ -21,6 +21,10 @@ use Rattle.dma_frames.specs.Table.{owner_of, lent_to}
 use Rattle.block_server.specs.Calls.{state_of}
 use Rattle.block_server.specs.View.{ServerView}
 use Rattle.block_server.specs.declared.types.Accepted.{Accepted}
+use Rattle.block_server.specs.declared.types.Event.{Event}
+use Rattle.block_server.specs.declared.types.Event.TheVariants as calls
+use Rattle.block_server.specs.declared.types.Said as told
+use Rattle.block_server.specs.declared.types.Said.TheVariants as said
 
 -- ---- what the server knows of the device
 
@@ -104,3 +108,29 @@ pub record Ties (old : Instant Device) (h : Happening Device DeviceStep) : Type 
   pub asked : (step : DeviceStep) → h.event.ask ≡ Told step → h.event.said ≡ Stepped true → Asked step old.device h.device
   pub refused : h.event.said ≡ Stepped false → h.device ≡ old.device
   pub evidence : h.event.evidence ≡ no_evidence
+
+-- ---- lists of calls
+
+-- the call of a list, as the machine is asked; a load is of at most 64 bytes
+abbrev pub ask_of : Event → Ask DeviceStep
+ask_of (calls.Submit r) = Submit r
+ask_of (calls.ClientLoad client frame offset count) = LoadAt client frame offset (min count 64)
+ask_of calls.Service = Service
+ask_of (calls.State port) = State port
+ask_of (calls.Device step) = Told step
+
+-- what it said
+abbrev pub said_of : told.Said → Said
+said_of (said.Submitted result) = Submitted result
+said_of (said.Loaded (Ok bytes)) = Loaded (Ok bytes.items)
+said_of (said.Loaded (Err fault)) = Loaded (Err fault)
+said_of (said.Served replies) = Served replies.items
+said_of (said.State state) = Shown state
+said_of (said.Stepped done) = Stepped done
+
+-- To each history that leads to the old server these calls add their events, one each, in their order (the newest first), and the
+-- longer history leads to the new server.
+pub record AddsAll {A : Type 0} (device : A → Device) (old new : ServerView A) (events : List Event) (told : List told.Said) : Type 0 where
+  pub adds : (first : Instant Device) (past : List (Happening Device DeviceStep)) → Leads Begins Ties (Stands device) first past old
+      → (more : List (Happening Device DeviceStep)) × Leads Begins Ties (Stands device) first (more ++ past) new
+      × (map (λ h. h.event.ask) more ≡ reverse (map ask_of events)) × (map (λ h. h.event.said) more ≡ reverse (map said_of told))

@@ -7,6 +7,6 @@ pub mod View
 pub mod Book
 pub mod Setup
 pub mod Calls
+pub mod History
 pub mod Running
 pub mod Seen
-pub mod History

@@ -9,6 +9,8 @@ use Rattle.block_machine.specs.Refusals.{IsOpen, IsFirstMemFault}
 use Rattle.dma_frames.specs.Table.{owner_of, lent_to}
 use Rattle.block_server.specs.Port.{Proceeds}
 use Rattle.block_server.specs.Calls.{state_of, served_by, SameServer, Submits, Services, StepsDevice}
+use Rattle.block_machine.specs.Histories.{Adds}
+use Rattle.block_server.specs.History.{Begins, Ties, Stands, ask_of, said_of}
 use Rattle.block_server.specs.View.{ServerView}
 use Rattle.block_server.specs.declared.types.Event.{Event}
 use Rattle.block_server.specs.declared.types.Event.TheVariants.{Submit, ClientLoad, Service, State, Device as Step}
@@ -36,10 +38,15 @@ Answers device (State port) (said.State state) old new = (state ≡ state_of old
 Answers device (Step step) (said.Stepped done) old new = StepsDevice device old new step done
 Answers device _ _ old new = ⊥
 
+-- so the call was made, and adds its event to each history of the server
+pub record Answered {A : Type 0} (device : A → Device) (event : Event) (one : Said) (old new : ServerView A) : Type 0 where
+  pub answers : Answers device event one old new
+  pub adds : Adds Begins Ties (Stands device) old new (ask_of event) (said_of one)
+
 -- the events lead from the one server to the other, and say this in turn
 abbrev pub Ran : {A : Type 0} → (A → Device) → ServerView A → ServerView A → List Event → List Said → Type 0
 Ran device old new [] [] = new ≡ old
-Ran {A} device old new (event ∷ events) (one ∷ more) = (mid : ServerView A) × Answers device event one old mid × Ran device mid new events more
+Ran {A} device old new (event ∷ events) (one ∷ more) = (mid : ServerView A) × Answered device event one old mid × Ran device mid new events more
 Ran device old new _ _ = ⊥
 
 -- what was said stands at the end of the list

@@ -11,6 +11,9 @@ use ata_types::{ClientId, Frame, MemFault};
 const FEW: usize = 64;
 
 impl<A: Adapter> Server<A> {
+    ghost use Rattle.block_machine.specs.Events.{LoadAt};
+    ghost use Rattle.block_machine.specs.Histories.{Adds};
+    ghost use Rattle.block_server.specs.History.{Begins, Ties, Stands, said_of};
     ghost use Rattle.block_server.specs.Running.{TellsBytes, RefusesBytes};
 
     /// At most 64 bytes of a frame.
@@ -23,6 +26,7 @@ impl<A: Adapter> Server<A> {
     ) -> Result<ArrayVec<u8, 64>, MemFault>
         ensures ok { IfOk result (λ bytes. TellsBytes A.device self.old self.new client frame offset (min count 64) bytes.items) }
         ensures err { IfErr result (RefusesBytes self.old self.new client frame offset (min count 64)) }
+        ensures adds { Adds Begins Ties (Stands A.device) self.old self.new (LoadAt client frame offset (min count 64)) (said_of (Said.Loaded result)) }
     {
         let mut buffer = [0; FEW];
         let part = &mut buffer[..(count as usize).min(FEW)];
@@ -34,11 +38,11 @@ impl<A: Adapter> Server<A> {
 }
 
 impl<A: Stepped> Server<A> {
-    ghost use Rattle.block_server.specs.Running.{Answers, RanInto};
+    ghost use Rattle.block_server.specs.Running.{Answered, RanInto};
 
     /// Makes the call.
     fn answer(&mut self, event: &Event) -> Said
-        ensures { Answers A.device event.now result self.old self.new }
+        ensures { Answered A.device event.now result self.old self.new }
     {
         match event {
             Event::Submit(request) => Said::Submitted(self.submit(request)),
