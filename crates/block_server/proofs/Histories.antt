@@ -30,7 +30,7 @@ pub devices_belong : {D : Type 0} (ask : Ask D) (ports : Ports) (steps : List St
 devices_belong ask ports [] a = tt
 devices_belong ask ports (step ∷ before) a = (devices_belong ask ports before a.0, inl a.1)
 
-not_handled : (id : RequestId) (step : Step) → IsDevices step → handles id step ≡ true → ⊥
+pub not_handled : (id : RequestId) (step : Step) → IsDevices step → handles id step ≡ true → ⊥
 not_handled id (Issue mode e) d h = absurd d
 not_handled id (Again e) d h = absurd d
 not_handled id (Answer e o) d h = absurd d
@@ -48,7 +48,7 @@ devices_lawful old evidence ports (step ∷ before) a = devices_lawful old evide
 
 -- ---- the book over them
 
-book_further : (issued : Bool) (book : List Accepted) (olds news : List Pending) → AllFurther olds news → IsBook issued book olds → IsBook issued book news
+pub book_further : (issued : Bool) (book : List Accepted) (olds news : List Pending) → AllFurther olds news → IsBook issued book olds → IsBook issued book news
 book_further issued [] olds news further is = none olds further is
   where
     none : (olds : List Pending) → AllFurther olds news → olds ≡ [] → news ≡ []
@@ -61,7 +61,7 @@ book_further issued (e ∷ es) (old ∷ olds) (new ∷ news) further is =
 -- ---- histories
 
 -- the ports of a history are fit
-history_fit : {D E : Type 0} (Begins : Instant D → Type 0) (Agrees : Instant D → Happening D E → Type 0) (first : Instant D) (past : List (Happening D E))
+pub history_fit : {D E : Type 0} (Begins : Instant D → Type 0) (Agrees : Instant D → Happening D E → Type 0) (first : Instant D) (past : List (Happening D E))
     → IsHistory Begins Agrees first past → AreFit (now first past).moment.ports
 history_fit Begins Agrees first [] h = h.0.1
 history_fit Begins Agrees first (x ∷ past) h = h.1.fit
@@ -84,7 +84,7 @@ done_of said = false
 
 module _ {A : Type 0} (device : A → Device) where
   -- where the server stands after steps of the device
-  stands_on : (old : Instant Device) (s : ServerView A) (adapter : A) (steps : List Step) → Stands device old s → AllDevices steps
+  pub stands_on : (old : Instant Device) (s : ServerView A) (adapter : A) (steps : List Step) → Stands device old s → AllDevices steps
       → Knows (after old.moment.machine steps) (record (known_of device s) { device = device adapter })
       → Stands device (record { device = device adapter; moment = record { machine = after old.moment.machine steps; ports = ports_of s } }) (record s { adapter = adapter })
   stands_on old s adapter steps at own knows =

@@ -29,3 +29,5 @@ mod Finding
 mod Sending
 mod Bringing
 mod Histories
+mod Servicing
+mod Answered
