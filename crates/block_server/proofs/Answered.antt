@@ -4,7 +4,6 @@ use Rattle.std.specs.Prelude.{if◌then◌else◌, nat_eq}
 use Rattle.std.specs.List.{All, AllPairs, Contains}
 use Rattle.std.proofs.lemmas.List.Elements.{All-head}
 use Rattle.ata_types.specs.declared.Port.{Port}
-use Rattle.ata_types.specs.declared.PortState.{PortState}
 use Rattle.ata_types.specs.declared.PortState.TheVariants.{Absent, Ready, Dead}
 use Rattle.ata_types.specs.declared.request.ClientId.{ClientId}
 use Rattle.ata_types.specs.declared.request.Frame.{Frame}
@@ -19,7 +18,7 @@ use Rattle.block_machine.specs.Left.{after}
 use Rattle.block_machine.specs.Ports.{Ports, AreFit, IsServiced}
 use Rattle.block_machine.specs.State.{Pending, Machine}
 use Rattle.block_machine.specs.Steps.{Step, Issue, Answer, NoneKept, after_step, without}
-use Rattle.block_machine.specs.Events.{Moment, Ask, Said, Service, Served, Stepped, Device as Told, AllMay, AllDevices, IsLawful, WasIssued, Tells, reply_of}
+use Rattle.block_machine.specs.Events.{Moment, Service, Served, Stepped, Device as Told, AllMay, AllDevices, IsLawful, Tells}
 use Rattle.block_machine.specs.Histories.{Instant, Happening, now, IsReached, Leads, Adds, AddsSteps}
 use Rattle.block_machine.proofs.EventLemmas.{after-append}
 use Rattle.block_machine.proofs.HistoryLemmas.{history_reaches, reached_more, may-append, steps_then}
@@ -29,7 +28,7 @@ use Rattle.block_machine.proofs.Standing.{standing}
 use Rattle.agreement.specs.Agrees.{port_at}
 use Rattle.agreement.specs.Driver.{Known, Knows, IsBacked, ByDevice, HasNoSlot, Forgets, parking}
 use Rattle.agreement.specs.Facts.{EndedIn}
-use Rattle.agreement.specs.Slots.{Free, Serves, Uses, put}
+use Rattle.agreement.specs.Slots.{Free, Serves, Uses}
 use Rattle.agreement.specs.Spares.{AllFurther, SparesBook}
 use Rattle.agreement.proofs.Adding.{backed_then, told_then, nothing_backed}
 use Rattle.agreement.proofs.Calling.{own_backed}
@@ -37,10 +36,10 @@ use Rattle.agreement.proofs.Deciding.{park_knows, answer_knows}
 use Rattle.agreement.proofs.Parking.{parking_frees}
 use Rattle.agreement.proofs.Putting.{put_same}
 use Rattle.agreement.proofs.Sparing.{steps_spare, none_kept_on}
-use Rattle.dma_frames.specs.Table.{Table, owner_of, lent_to, LendsOnly}
+use Rattle.dma_frames.specs.Table.{Table, lent_to, LendsOnly}
 use Rattle.block_server.specs.Book.{IsKept, IsAccepted, IsEarlier}
 use Rattle.block_server.specs.Calls.{state_of, done_reply}
-use Rattle.block_server.specs.Followed.{AnyUse, IsFollowed, FindsEnd, FindsRead, IsReadOf, IssuesFirst}
+use Rattle.block_server.specs.Followed.{AnyUse, IsFollowed, FindsEnd, FindsRead, IssuesFirst}
 use Rattle.block_server.specs.History.{Begins, Stands, Ties, IsEntry, IsBook, uses_of, served_id, known_of, ports_of, plain_mode, no_evidence}
 use Rattle.block_server.specs.View.{ServerView}
 use Rattle.block_server.specs.declared.types.Accepted.{Accepted}

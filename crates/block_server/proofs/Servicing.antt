@@ -1,36 +1,29 @@
 -- A service adds an event to histories: what its steps are, and what they leave.
-use Rattle.std.proofs.Common.{ℕ, zero, suc, ◌≡◌, ◌≢◌, ◌⊎◌, ◌≤◌, ◌==◌, ◌||◌, Bool, true, false, not, cond, List, [], ◌∷◌, ◌++◌, length, map, get_or, Option, Some, None, refl, sym, ap, ◌∙◌, subst, inl, inr, ⊎_elim, arith, append-nil, eqb-true, eq-eqb, le-ltb}
-use Rattle.std.specs.Prelude.{if◌then◌else◌}
+use Rattle.std.proofs.Common.{ℕ, zero, suc, ◌≡◌, ◌≢◌, ◌≤◌, ◌==◌, Bool, true, false, not, cond, List, [], ◌∷◌, ◌++◌, length, map, get_or, Option, Some, None, refl, sym, ap, ◌∙◌, subst, inl, inr, ⊎_elim, arith, eqb-true, eq-eqb, le-ltb}
 use Rattle.std.specs.List.{All, AllPairs, Contains, list_any}
 use Rattle.std.proofs.lemmas.Bool.{false≢true, cond-true, or_cases, or_from, or_left, and_from, and_right, both_ways}
 use Rattle.std.proofs.lemmas.List.{get_or_default}
 use Rattle.std.proofs.lemmas.List.Elements.{All-head, All-tail, All-contains}
 use Rattle.ata_types.specs.declared.Port.{Port}
-use Rattle.ata_types.specs.declared.PortState.{PortState}
-use Rattle.ata_types.specs.declared.PortState.TheVariants.{Absent, Ready, Dead}
+use Rattle.ata_types.specs.declared.PortState.TheVariants.{Ready}
 use Rattle.ata_types.specs.declared.request.Frame.{Frame}
 use Rattle.ata_types.specs.declared.request.Outcome.{Outcome}
 use Rattle.ata_types.specs.declared.request.Outcome.TheVariants.{Ok}
-use Rattle.ata_types.specs.declared.request.Reply.{Reply}
 use Rattle.ata_types.specs.declared.request.RequestId.{RequestId}
-use Rattle.adapter.specs.Device.{Device}
-use Rattle.adapter.specs.Memory.{changed}
 use Rattle.adapter.specs.declared.access.DeviceStep.{DeviceStep}
-use Rattle.adapter.proofs.Changed.{fun_ext, changed_each}
+use Rattle.adapter.proofs.Changed.{fun_ext}
 use Rattle.block_machine.specs.declared.due.Mode.{Mode}
 use Rattle.block_machine.specs.declared.due.Unanswered.{Unanswered}
 use Rattle.block_machine.specs.Due.{NoneDue, IsDue, holds_back, is_plain}
-use Rattle.block_machine.specs.Left.{after}
-use Rattle.block_machine.specs.Ports.{Ports, IsServiced}
+use Rattle.block_machine.specs.Ports.{Ports}
 use Rattle.block_machine.specs.State.{Pending, Machine, unanswered}
-use Rattle.block_machine.specs.State as machine
-use Rattle.block_machine.specs.Steps.{Step, Issue, Again, Answer, May, NoneKept, IsLiving, after_step, at, issue, without, unlend, is_lent_to}
-use Rattle.block_machine.specs.Events.{Moment, Ask, Service, AllMay, IsDevices, AllDevices, Belong, IsIssuedIn, IssuesLast, IsLawful, AllLawful, AllGrounded, answers_of, issues_it}
+use Rattle.block_machine.specs.Steps.{Step, Issue, Again, Answer, May, IsLiving, at, issue, without, unlend, is_lent_to}
+use Rattle.block_machine.specs.Events.{Moment, Service, IsDevices, AllDevices, Belong, IsIssuedIn, IssuesLast, IsLawful, AllLawful, AllGrounded, answers_of, issues_it}
 use Rattle.block_machine.specs.Histories.{IsReached}
 use Rattle.block_machine.proofs.Counting.{unheld}
-use Rattle.block_machine.proofs.Members.{contains_none, contains_here, contains_there, contains_cases, map_in, into_map, at_cases}
+use Rattle.block_machine.proofs.Members.{contains_none, contains_here, contains_cases, map_in, at_cases}
 use Rattle.agreement.specs.Agrees.{port_at}
-use Rattle.agreement.specs.Slots.{Free, Serves, Use, put}
+use Rattle.agreement.specs.Slots.{Free, Serves, put}
 use Rattle.agreement.proofs.Lending.{lent_own}
 use Rattle.agreement.proofs.Putting.{put_same, put_cases}
 use Rattle.dma_frames.specs.Table.{Table, lent_to, LendsOnly}
