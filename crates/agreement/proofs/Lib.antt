@@ -15,7 +15,7 @@ mod Accesses
 pub mod Waiting
 mod Writing
 pub mod Adding
-mod Putting
+pub mod Putting
 mod Keeping
 pub mod Calling
 pub mod Deciding
@@ -29,7 +29,7 @@ mod Witness
 mod Decided
 mod Halting
 pub mod Finding
-mod Lending
+pub mod Lending
 mod Stilling
 mod Healthy
 mod Recording
@@ -43,7 +43,7 @@ pub mod Allowing
 mod Leaving
 mod Showing
 pub mod Sparing
-mod Parking
+pub mod Parking
 mod Paging
 mod Crossing
 mod Gaining

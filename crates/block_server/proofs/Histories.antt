@@ -28,7 +28,7 @@ pub devices_belong : {D : Type 0} (ask : Ask D) (ports : Ports) (steps : List St
 devices_belong ask ports [] a = tt
 devices_belong ask ports (step ∷ before) a = (devices_belong ask ports before a.0, inl a.1)
 
-not_handled : (id : RequestId) (step : Step) → IsDevices step → handles id step ≡ true → ⊥
+pub not_handled : (id : RequestId) (step : Step) → IsDevices step → handles id step ≡ true → ⊥
 not_handled id (Issue mode e) d h = absurd d
 not_handled id (Again e) d h = absurd d
 not_handled id (Answer e o) d h = absurd d

@@ -31,3 +31,5 @@ mod Bringing
 mod Histories
 mod Leading
 mod Submitting
+mod Servicing
+mod Answered

@@ -1,10 +1,23 @@
 -- One more event.
-use Rattle.std.proofs.Common.{List, [], ◌∷◌, ◌++◌, refl, subst}
+use Rattle.std.proofs.Common.{List, [], ◌∷◌, ◌++◌, map, reverse, refl, sym, ap, ◌∙◌, subst, append_assoc}
+use mathlib.Core.List.{map-append, reverse-append}
+use Rattle.ata_types.specs.declared.Port.{Port}
+use Rattle.ata_types.specs.declared.PortState.{PortState}
 use Rattle.adapter.specs.Device.{Device}
-use Rattle.block_server.specs.Running.{Answered, Ran}
+use Rattle.adapter.specs.declared.access.DeviceStep.{DeviceStep}
+use Rattle.block_machine.specs.Events.{Ask, State, Shown}
+use Rattle.block_machine.specs.Events as events
+use Rattle.block_machine.specs.Ports.{Ports}
+use Rattle.block_machine.specs.Histories.{Instant, Happening, now, Leads, Adds}
+use Rattle.agreement.proofs.Adding.{nothing_backed}
+use Rattle.block_server.specs.Calls.{state_of}
+use Rattle.block_server.specs.History.{Begins, Ties, Stands, AddsAll, ask_of, said_of, ports_of}
+use Rattle.block_server.specs.Running.{Answered, Ran, RanInto}
 use Rattle.block_server.specs.View.{ServerView}
 use Rattle.block_server.specs.declared.types.Event.{Event}
 use Rattle.block_server.specs.declared.types.Said.{Said}
+use Rattle.block_server.proofs.Histories.{ports_same, stands_on}
+use Rattle.block_server.proofs.Leading.{lead_on}
 
 module _ {A : Type 0} (device : A → Device) where
   pub ran_none : (s : ServerView A) → Ran device s s [] []
@@ -19,3 +32,36 @@ module _ {A : Type 0} (device : A → Device) where
   ran_more old mid new (e ∷ events) [] event one ran answers = absurd ran
   ran_more old mid new (e ∷ events) (s ∷ said) event one ran answers =
       (ran.0, ran.1, ran_more ran.0 mid new events said event one ran.2 answers)
+
+  pub adds_none : (s : ServerView A) → AddsAll device s s [] []
+  adds_none s = record { adds = λ first past leads. ([], leads, refl, refl) }
+
+  pub adds_more : (old mid new : ServerView A) (events : List Event) (said : List Said) (event : Event) (one : Said) →
+      AddsAll device old mid events said → Answered device event one mid new → AddsAll device old new (events ++ event ∷ []) (said ++ one ∷ [])
+  adds_more old mid new events said event one all answered = record {
+    adds = λ first past leads.
+        let x = all.adds first past leads in
+        let y = answered.adds.adds first (x.0 ++ past) x.1 in (
+          y.0 ∷ x.0,
+          y.3,
+          ap (λ (a : Ask DeviceStep). a ∷ map (λ h. h.event.ask) x.0) y.1 ∙ ap (λ (l : List (Ask DeviceStep)). ask_of event ∷ l) x.2 ∙ sym (last_first ask_of events event),
+          ap (λ (a : events.Said). a ∷ map (λ h. h.event.said) x.0) y.2 ∙ ap (λ (l : List events.Said). said_of one ∷ l) x.3 ∙ sym (last_first said_of said one),
+        );
+  }
+    where
+      last_first : {X Y : Type 0} (f : X → Y) (xs : List X) (x : X) → reverse (map f (xs ++ x ∷ [])) ≡ f x ∷ reverse (map f xs)
+      last_first f xs x = ap reverse (map-append f xs (x ∷ [])) ∙ reverse-append (map f xs) (f x ∷ [])
+
+  -- a look at a port's state
+  pub shown_adds : (s : ServerView A) (port : Port) (state : PortState) → state ≡ state_of s port → Adds Begins Ties (Stands device) s s (State port) (Shown state)
+  shown_adds s port state is = record { adds = adds }
+    where
+      adds : (first : Instant Device) (past : List (Happening Device DeviceStep)) → Leads Begins Ties (Stands device) first past s
+          → (h : Happening Device DeviceStep) × (h.event.ask ≡ State port) × (h.event.said ≡ Shown state) × Leads Begins Ties (Stands device) first (h ∷ past) s
+      adds first past leads =
+          let old : Instant Device = now first past in
+          let at : Stands device old s = leads.stands in
+          lead_on device first past s s (State port) (Shown state) [] leads refl refl refl tt tt tt tt
+          (is ∙ ap (λ (ports : Ports). ports.state port) (sym at.ports_are), refl, ports_same old.moment.ports (ports_of s) at.ports_are)
+          (nothing_backed (device s.adapter) old.moment.machine)
+          (stands_on device old s s.adapter [] at tt at.knows)

@@ -10,7 +10,7 @@ use Rattle.dma_frames.specs.Table.{owner_of, lent_to}
 use Rattle.block_server.specs.Port.{Proceeds}
 use Rattle.block_server.specs.Calls.{state_of, served_by, SameServer, Submits, Services, StepsDevice}
 use Rattle.block_machine.specs.Histories.{Adds}
-use Rattle.block_server.specs.History.{Begins, Ties, Stands, ask_of, said_of}
+use Rattle.block_server.specs.History.{Begins, Ties, Stands, AddsAll, ask_of, said_of}
 use Rattle.block_server.specs.View.{ServerView}
 use Rattle.block_server.specs.declared.types.Event.{Event}
 use Rattle.block_server.specs.declared.types.Event.TheVariants.{Submit, ClientLoad, Service, State, Device as Step}
@@ -49,8 +49,9 @@ Ran device old new [] [] = new ≡ old
 Ran {A} device old new (event ∷ events) (one ∷ more) = (mid : ServerView A) × Answered device event one old mid × Ran device mid new events more
 Ran device old new _ _ = ⊥
 
--- what was said stands at the end of the list
+-- What was said stands at the end of the list, and the calls add their events to each history of the server.
 pub record RanInto {A : Type 0} (device : A → Device) (old new : ServerView A) (events : List Event) (before after : List Said) : Type 0 where
   pub said : List Said
   pub told : after ≡ before ++ said
   pub ran : Ran device old new events said
+  pub adds : AddsAll device old new events said

@@ -51,11 +51,14 @@ impl<A: Adapter> Model for Server<A> {
 }
 
 impl<A: Adapter> Server<A> {
+    ghost use Rattle.block_machine.specs.Events.{Service, Served};
+    ghost use Rattle.block_machine.specs.Histories.{Adds};
     ghost use Rattle.block_machine.specs.Refusals.{IsAcceptable, IsFirstRefusal};
     ghost use Rattle.block_server.specs.Calls.{IsReadyFor, IsNew, state_of, situation_of, Accepts, Submits, AnswersFirst, Services, LoadsFrame, SameServer};
     ghost use Rattle.block_machine.specs.Events.{Submit, Submitted, LoadAt};
     ghost use Rattle.block_machine.specs.Histories.{Adds};
     ghost use Rattle.block_server.specs.History.{Begins, Ties, Stands, load_said};
+    ghost use Rattle.block_server.specs.Followed.{LoadsBytes};
 
     /// A server of the port's disk, which has so many sectors: port 0 is brought up, and nothing is asked yet. Provisional:
     /// the number of sectors isn't read from the disk.
@@ -183,7 +186,8 @@ impl<A: Adapter> Server<A> {
     /// Looks at the port. Where its read is done, that is answered, its frames are given back, and the next is issued. A call
     /// that sees the port disturbed answers nothing.
     pub fn service(&mut self) -> Replies
-        ensures { Services A.device self.old self.new result.items }
+        ensures services { Services A.device self.old self.new result.items }
+        ensures adds { Adds Begins Ties (Stands A.device) self.old self.new Service (Served result.items) }
     {
         let mut replies = Replies::new();
         let PortState::Ready = self.state else {

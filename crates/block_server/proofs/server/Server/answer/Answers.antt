@@ -1,12 +1,11 @@
-use Rattle.std.proofs.Common.{rules, ◌≡◌, ◌<◌, ◌≤◌, ◌+◌, OnOk, IfOk, IfErr, IsOk, length, take, min, vec_len, ℕ, ◌-◌, ◌*◌, ◌/◌, ◌%◌, Bool, true, false, nat_eq, nat_lt, List, [], ◌∷◌, ◌++◌, slice_index_or, slice_set, bit_and, bit_or, Fits, w8, w32, w64, Bor, MutBor}
-use Rattle.std.specs.Vec.{vec_capacity}
-use Rattle.block_server.specs.Running.{Answered, RanInto}
+use Rattle.std.proofs.Common.{refl, sym, subst}
+use Rattle.block_server.specs.Running.{Answered}
+use Rattle.block_server.specs.declared.types.Event.{Event}
+use Rattle.block_server.specs.declared.types.Said.TheVariants.{State}
+use Rattle.block_server.proofs.Running.{shown_adds}
 use Rattle.block_server.proofs.server.Server.answer.Goals as goal
 
--- src/run.rt:44:5
-pub returns-in-Service : goal.returns-in-Service
-returns-in-Service g c = ?
-
--- src/run.rt:44:5
 pub returns-in-State : goal.returns-in-State
-returns-in-State g c = ?
+returns-in-State g c =
+    let P : Event → Type 0 = λ event. Answered g.A.Adapter.device event (State c.state.result) c.args.self.now c.args.self.now in
+    subst P (sym c.in-State.is) (record { answers = (c.state.ensures, refl); adds = shown_adds g.A.Adapter.device c.args.self.now c.in-State.port c.state.result c.state.ensures })

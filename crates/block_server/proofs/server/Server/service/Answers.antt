@@ -1,12 +1,18 @@
-use Rattle.std.proofs.Common.{refl, sym, ◌∙◌, ap, subst, List, [], ◌∷◌, ◌++◌}
+use Rattle.std.proofs.Common.{Bool, true, refl, sym, ◌∙◌, ap, subst, List, [], ◌∷◌, ◌++◌}
 use Rattle.ata_types.specs.declared.request.Reply.{Reply}
 use Rattle.adapter.proofs.Absurd.{true-false}
 use Rattle.block_server.specs.Calls.{Services, done_reply}
 use Rattle.block_server.specs.View.{ServerView}
 use Rattle.block_server.proofs.Coming.{undisturbed_both}
 use Rattle.block_server.proofs.Going.{goes_then}
+use Rattle.block_server.proofs.Answered.{nothing_adds, unfinished_adds, answering_adds, found_adds}
 use Rattle.block_server.proofs.Serviced.{found_goes, services_none, services_first}
 use Rattle.std.specs.List.{All}
+use Rattle.agreement.proofs.Adding.{nothing_backed}
+use Rattle.block_machine.specs.Events.{Service, Served}
+use Rattle.block_machine.specs.Histories.{Adds}
+use Rattle.block_server.specs.Followed.{FindsRead, IssuesFirst}
+use Rattle.block_server.specs.History.{Begins, Ties, Stands, uses_of, served_id}
 use Rattle.std.specs.Vec.{vec_capacity}
 use Rattle.block_server.specs.Book.{IsAccepted, served}
 use Rattle.block_server.specs.Port.{Serves}
@@ -25,8 +31,17 @@ invariant_of-self-then-not-is_done g c =
     answering.kept_on g.A.Adapter.device s places c.self.invariant c.in-Ready.is c.is_done.new.adapter (goes.spares.size ∙ looked.1.spares.size)
     (answering.not_done g.A.Adapter.device s places c.self.invariant c.in-Ready.is c.if-not-self.false _ _ looked.0 c.is_done.result c.is_done.ensures.found c.if-not-is_done.true)
 
-pub returns-then-not-look : goal.returns-then-not-look
-returns-then-not-look g c =
+pub returns-in_default-clause-adds : goal.returns-in_default-clause-adds
+returns-in_default-clause-adds g c =
+    let s = seen c.self.inside in
+    let device = g.A.Adapter.device in
+    let Here : ServerView g.row.A.Denot → Type 0 = λ v. Adds Begins Ties (Stands device) v v Service (Served c.new-replies.result.items) in
+    let Said : List Reply → Type 0 = λ replies. Adds Begins Ties (Stands device) s s Service (Served replies) in
+    subst Here c.self.view_is (subst Said (sym c.new-replies.ensures) (nothing_adds device s (vec_capacity c.self.inside.book) c.self.invariant s.adapter
+    (record { adds = λ m reached knows. ([], tt, knows, record { backed = nothing_backed (device s.adapter) m; only = tt }) })))
+
+pub returns-then-not-look-clause-services : goal.returns-then-not-look-clause-services
+returns-then-not-look-clause-services g c =
     let s = seen c.self.inside in
     let places = vec_capacity c.self.inside.book in
     let looked = c.look.ensures.serves _ (answering.serving g.A.Adapter.device s places c.self.invariant c.in-Ready.is) in
@@ -49,6 +64,25 @@ returns-then-not-look g c =
           (λ _. answering.not_done g.A.Adapter.device s places c.self.invariant c.in-Ready.is w.if-not-self.false _ _ looked.0 w.is_done.result w.is_done.ensures.found w.if-not-is_done.true)
           (goes_then (served s.issued s.book) looked.1 goes)
           (λ _ issued healthy unharmed clear. true-false (w.is_done.ensures.seen (c.look.ensures.unset clear)) w.if-not-is_done.true))
+    ])
+
+pub returns-then-not-look-clause-adds : goal.returns-then-not-look-clause-adds
+returns-then-not-look-clause-adds g c =
+    let s = seen c.self.inside in
+    let places = vec_capacity c.self.inside.book in
+    let device = g.A.Adapter.device in
+    let Here : ServerView g.row.A.Denot → Type 0 = λ v. Adds Begins Ties (Stands device) v c.then-not-look.self Service (Served c.new-replies.result.items) in
+    let There : ServerView g.row.A.Denot → Type 0 = λ v. Adds Begins Ties (Stands device) s v Service (Served c.new-replies.result.items) in
+    let Said : g.row.A.Denot → List Reply → Type 0 = λ adapter replies. Adds Begins Ties (Stands device) s (record s { adapter = adapter }) Service (Served replies) in
+    let looked = nothing_adds device s places c.self.invariant c.look.new.adapter (c.look.ensures.followed (uses_of (served_id s.issued s.book)) (λ port. []) tt) in
+    subst Here c.self.view_is (
+    elim c.then-not-look.branch [
+      | then-not-look-via-then-not-look w ↦ subst There (sym w.self-is) (subst (Said c.look.new.adapter) (sym c.new-replies.ensures) looked)
+      | then-not-look-via-else-not-look+then-not-self w ↦ subst There (sym w.self-is) (subst (Said c.look.new.adapter) (sym c.new-replies.ensures) looked)
+      | then-not-look-via-else-not-look+else-not-self+then-not-is_done w ↦
+          subst There (sym w.self-is)
+          (subst (Said w.is_done.new.adapter) (sym c.new-replies.ensures)
+          (unfinished_adds device s places c.self.invariant w.if-not-self.false w.is_done.new.adapter (device c.look.new.adapter) w.is_done.result c.look.ensures.followed w.is_done.ensures.followed))
     ])
 
 pub issue_first-self-inside-requires-clause-serves :
@@ -89,8 +123,8 @@ invariant_of-self-2 g c =
     (let P : List Accepted → Type 0 = λ book. Serves (served c.issue_first-self-inside.result book) (g.A.Adapter.device c.issue_first-self-inside.new.adapter) in subst P same next.serves)
     (vec_capacity c.remove-loan.new.self) c.remove-loan.ensures.capacity
 
-pub returns : goal.returns
-returns g c =
+pub returns-clause-services : goal.returns-clause-services
+returns-clause-services g c =
     let s = seen c.self.inside in
     let places = vec_capacity c.self.inside.book in
     let looked = c.look.ensures.serves _ (answering.serving g.A.Adapter.device s places c.self.invariant c.in-Ready.is) in
@@ -109,3 +143,29 @@ returns g c =
     (g.A.Adapter.device c.is_done.new.adapter) goes free c.issue_first-self-inside.new.adapter c.issue_first-self-inside.result c.push.new.self.items (c.push.ensures.items ∙ ap (λ (replies : List Reply). replies ++ done_reply c.remove-loan.result ∷ []) c.new-replies.ensures)
     (λ trouble. true-false c.if-not-look.false (c.look.ensures.troubled trouble))
     (λ none u. true-false c.if-not-look.false (c.look.ensures.unlinked none (undisturbed_both looked.1.spares found.spares u).0)) next.goes_on (λ not. sym same ∙ next.none not) (λ is none. next.some is (same ∙ none)) next.issued (subst P same next.serves))
+
+pub returns-clause-adds : goal.returns-clause-adds
+returns-clause-adds g c =
+    let s = seen c.self.inside in
+    let places = vec_capacity c.self.inside.book in
+    let device = g.A.Adapter.device in
+    let e = c.remove-loan.result in
+    let rest = c.remove-loan.new.self.items in
+    let book_is = answering.first_and_rest s.book rest e (c.self.invariant.some c.if-not-self.false) c.remove-loan.ensures.value c.remove-loan.ensures.items in
+    let next = c.issue_first-self-inside.ensures in
+    let same = c.deref.ensures.value in
+    let old = device s.adapter in
+    let looked = device c.look.new.adapter in
+    let middle = device c.is_done.new.adapter in
+    let new = c.issue_first-self-inside.new.adapter in
+    let again = c.issue_first-self-inside.result in
+    let Finds : Bool → Type 0 = λ done. FindsRead done looked middle in
+    let Issues : List Accepted → Type 0 = λ book. IssuesFirst book middle (device new) in
+    let after : ServerView g.row.A.Denot = record s { adapter = new; table = c.give_back.new.self; book = rest; issued = again } in
+    let Here : ServerView g.row.A.Denot → Type 0 = λ v. Adds Begins Ties (Stands device) v after Service (Served c.push.new.self.items) in
+    let Said : List Reply → Type 0 = λ replies. Adds Begins Ties (Stands device) s after Service (Served replies) in
+    let replies_are = c.push.ensures.items ∙ ap (λ (replies : List Reply). replies ++ done_reply e ∷ []) c.new-replies.ensures in
+    subst Here c.self.view_is (subst Said (sym replies_are)
+    (answering_adds device s places c.self.invariant c.in-Ready.is c.if-not-self.false e rest book_is c.give_back.new.self c.give_back.ensures middle
+    (found_adds e.id old looked middle true c.look.ensures.followed (subst Finds c.if-not-is_done.false c.is_done.ensures.followed))
+    new again (λ not. sym same ∙ next.none not) (λ is none. next.some is (same ∙ none)) (subst Issues same next.followed)))
