@@ -1,18 +1,18 @@
 -- One more event.
-use Rattle.std.proofs.Common.{List, [], ◌∷◌, ◌++◌, map, reverse, refl, sym, ap, ◌∙◌, subst, append_assoc}
+use Rattle.std.proofs.Common.{◌≡◌, List, [], ◌∷◌, ◌++◌, map, reverse, refl, sym, ap, ◌∙◌, subst}
 use mathlib.Core.List.{map-append, reverse-append}
 use Rattle.ata_types.specs.declared.Port.{Port}
 use Rattle.ata_types.specs.declared.PortState.{PortState}
 use Rattle.adapter.specs.Device.{Device}
 use Rattle.adapter.specs.declared.access.DeviceStep.{DeviceStep}
 use Rattle.block_machine.specs.Events.{Ask, State, Shown}
-use Rattle.block_machine.specs.Events as events
+use Rattle.block_machine.specs.Events as machine_events
 use Rattle.block_machine.specs.Ports.{Ports}
 use Rattle.block_machine.specs.Histories.{Instant, Happening, now, Leads, Adds}
 use Rattle.agreement.proofs.Adding.{nothing_backed}
 use Rattle.block_server.specs.Calls.{state_of}
 use Rattle.block_server.specs.History.{Begins, Ties, Stands, AddsAll, ask_of, said_of, ports_of}
-use Rattle.block_server.specs.Running.{Answered, Ran, RanInto}
+use Rattle.block_server.specs.Running.{Answered, Ran}
 use Rattle.block_server.specs.View.{ServerView}
 use Rattle.block_server.specs.declared.types.Event.{Event}
 use Rattle.block_server.specs.declared.types.Said.{Said}
@@ -45,7 +45,7 @@ module _ {A : Type 0} (device : A → Device) where
           y.0 ∷ x.0,
           y.3,
           ap (λ (a : Ask DeviceStep). a ∷ map (λ h. h.event.ask) x.0) y.1 ∙ ap (λ (l : List (Ask DeviceStep)). ask_of event ∷ l) x.2 ∙ sym (last_first ask_of events event),
-          ap (λ (a : events.Said). a ∷ map (λ h. h.event.said) x.0) y.2 ∙ ap (λ (l : List events.Said). said_of one ∷ l) x.3 ∙ sym (last_first said_of said one),
+          ap (λ (a : machine_events.Said). a ∷ map (λ h. h.event.said) x.0) y.2 ∙ ap (λ (l : List machine_events.Said). said_of one ∷ l) x.3 ∙ sym (last_first said_of said one),
         );
   }
     where

@@ -192,9 +192,9 @@ book_issued id [] es other is = ap (map (at id issue)) is
 book_issued id (e ∷ book) [] other is = absurd is
 book_issued id (e ∷ book) (p ∷ ps) other is =
     let same : at id issue p ≡ p = ⊎_elim
-        (λ q. absurd (All-head (λ (x : Accepted). x.id.0 ≢ id.0) e book other (ap (λ (i : RequestId). i.0) (sym is.0.id) ∙ q.0)))
-        (λ q. q.1)
-        (at_cases id issue p) in (
+    (λ q. absurd (All-head (λ (x : Accepted). x.id.0 ≢ id.0) e book other (ap (λ (i : RequestId). i.0) (sym is.0.id) ∙ q.0)))
+    (λ q. q.1)
+    (at_cases id issue p) in (
       subst (λ (y : Pending). IsEntry e y.request) (sym same) is.0,
       ap (λ (y : Pending). y.issued) same ∙ is.1,
       book_issued id book ps (All-tail (λ (x : Accepted). x.id.0 ≢ id.0) e book other) is.2,
