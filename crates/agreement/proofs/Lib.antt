@@ -10,7 +10,7 @@ mod Moving
 mod Moves
 mod Clearing
 mod Ending
-mod Following
+pub mod Following
 mod Accesses
 pub mod Waiting
 mod Writing

@@ -33,3 +33,4 @@ mod Leading
 mod Submitting
 mod Servicing
 mod Answered
+mod Holding

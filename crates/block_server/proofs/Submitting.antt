@@ -3,8 +3,7 @@ use Rattle.std.proofs.Common.{ℕ, suc, ◌≡◌, ◌≢◌, ◌+◌, ◌^◌, 
 use Rattle.std.specs.List.{Contains, list_any}
 use Rattle.std.specs.Prelude.{nat_lt, if◌then◌else◌, slice_index_or}
 use Rattle.std.proofs.lemmas.List.Elements.{All-contains}
-use Rattle.std.proofs.lemmas.Bool.{false≢true, false_from_ne_true, or_cases, and_from, cond-true, cond-false, cases_lt}
-use Rattle.ata_types.specs.declared.Port.{Port}
+use Rattle.std.proofs.lemmas.Bool.{false≢true, false_from_ne_true, or_cases, cond-true, cond-false, cases_lt}
 use Rattle.ata_types.specs.declared.PortState.TheVariants.{Ready}
 use Rattle.ata_types.specs.declared.grant.GrantRow.{GrantRow}
 use Rattle.ata_types.specs.declared.refusal.Refusal.{Refusal}
@@ -18,7 +17,7 @@ use Rattle.ata_types.specs.declared.request.RequestId.{RequestId}
 use Rattle.adapter.specs.Device.{Device}
 use Rattle.adapter.specs.declared.access.DeviceStep.{DeviceStep}
 use Rattle.block_machine.specs.declared.due.Unanswered.{Unanswered}
-use Rattle.block_machine.specs.Due.{NoneDue, IsDue, is_plain, is_clear, holds_back, conflict, issued_count}
+use Rattle.block_machine.specs.Due.{NoneDue, IsDue, is_plain, is_clear, holds_back, conflict}
 use Rattle.block_machine.specs.Left.{after}
 use Rattle.block_machine.specs.Ports.{Ports, Evidence}
 use Rattle.block_machine.specs.Refusals.{IsAcceptable, IsFirstRefusal}
@@ -33,8 +32,7 @@ use Rattle.block_machine.specs.Events.{Moment, AllIssued}
 use Rattle.block_machine.specs.Histories.{Instant, Happening, now, Leads, Adds}
 use Rattle.block_machine.proofs.Counting.{count_cons}
 use Rattle.block_machine.proofs.Keeps.{same_port}
-use Rattle.block_machine.proofs.Limits.{finds_slot}
-use Rattle.block_machine.proofs.Members.{contains_none, contains_here, contains_there, contains_cases, map_in, some_in}
+use Rattle.block_machine.proofs.Members.{contains_none, contains_here, contains_there, some_in}
 use Rattle.block_machine.proofs.EventLemmas.{after-append}
 use Rattle.block_machine.proofs.HistoryLemmas.{history_reaches, reached_more, may-append}
 use Rattle.agreement.specs.Agrees.{port_at}
@@ -56,17 +54,9 @@ use Rattle.block_server.proofs.Accepting as accepting
 use Rattle.block_server.proofs.Histories.{book_further, ports_same, stands_on}
 use Rattle.block_server.proofs.Leading.{lead_on}
 use Rattle.block_server.proofs.Ruling as ruling
+use Rattle.block_server.proofs.Servicing.{none_due}
 
 -- ---- the book and the machine's
-
--- each of the machine's requests is on port 0
-pub all_on_port : (issued : Bool) (entries : List Accepted) (pending : List Pending) → IsBook issued entries pending → (e : Pending) → Contains pending e → e.request.port ≡ port_at 0
-all_on_port issued [] pending is e here = absurd (contains_none e (subst (λ (es : List Pending). Contains es e) is here))
-all_on_port issued (x ∷ xs) [] is e here = absurd is
-all_on_port issued (x ∷ xs) (p ∷ ps) is e here = ⊎_elim
-    (λ (same : e ≡ p). ap (λ (y : Pending). y.request.port) same ∙ is.0.port)
-    (λ later. all_on_port false xs ps is.2 e later)
-    (contains_cases p ps e here)
 
 -- a client has as many requests in both
 pub as_many : (issued : Bool) (entries : List Accepted) (pending : List Pending) → IsBook issued entries pending → (client : ClientId) → steps.unanswered_of pending client ≡ book.unanswered_of entries client.0
@@ -82,24 +72,6 @@ all_plain Read = refl
 all_plain Write = refl
 all_plain Trim = refl
 all_plain Flush = refl
-
--- nothing is due where the first is issued, or where there is nothing
-pub none_due : (issued : Bool) (entries : List Accepted) (pending : List Pending) → IsBook issued entries pending → (issued ≡ false → entries ≡ []) → (port : Port) → NoneDue plain_mode (map unanswered pending) port
-none_due issued [] pending is due port r on now = contains_none r (subst (λ (es : List Pending). Contains (map unanswered es) r) is now.here)
-none_due issued (x ∷ xs) [] is due port r on now = absurd is
-none_due issued (x ∷ xs) (p ∷ ps) is due port r on now =
-    let us : List Unanswered = map unanswered (p ∷ ps) in
-    let none : issued_count us r.port ≡ 0 = (finds_slot plain_mode us r now).0 (all_plain r.op) in
-    let from = map_in unanswered (p ∷ ps) r now.here in
-    let there : r.port ≡ port_at 0 = ap (λ (u : Unanswered). u.port) from.2 ∙ all_on_port issued (x ∷ xs) (p ∷ ps) is from.0 from.1 in
-    let set : p.issued ≡ true = is.1 ∙ is_issued issued due in
-    let counts : ◌≡◌ {A = ℕ} (cond (p.request.port.0 == r.port.0 && p.issued) 1 0) 1 =
-    ap (λ (b : Bool). cond {A = ℕ} b 1 0) (and_from _ _ (eq-eqb p.request.port.0 r.port.0 (ap (λ (q : Port). q.0) (is.0.port ∙ sym there))) set) in
-    omega (arith, none, counts, count_cons (λ (o : Unanswered). o.port.0 == r.port.0 && o.issued) (unanswered p) (map unanswered ps))
-  where
-    is_issued : (b : Bool) → (b ≡ false → x ∷ xs ≡ []) → b ≡ true
-    is_issued true due = refl
-    is_issued false due = let e : x ∷ xs ≡ [] = due refl in cc
 
 module _ {A : Type 0} (device : A → Device) where
   -- what a request meets is the same in both
@@ -285,7 +257,7 @@ module _ {A : Type 0} (device : A → Device) (s : ServerView A) (places : ℕ) 
         push_more s.book m.book (accepted_as r id) (steps.newly_accepted request) some (subst (λ (b : Bool). IsBook b s.book m.book) issued at.book) entry refl in
         lead_on device first past s (more s.adapter) (events.Submit r) (events.Submitted (Ok id)) (steps.Accept request ∷ []) leads refl refl refl
         (tt, fresh) (tt, inr refl) (tt, λ other h i. false≢true h) tt
-        (allowed, (request, refl, refl), ports_same old.moment.ports (ports_of s) at.ports_are, λ port ready. none_due true (s.book ++ accepted_as r id ∷ []) next.book longer (λ e. absurd (false≢true (sym e))) port)
+        (allowed, (request, refl, refl), ports_same old.moment.ports (ports_of s) at.ports_are, λ port ready. none_due true (s.book ++ accepted_as r id ∷ []) next.book (λ e. absurd (false≢true (sym e))) longer port)
         (own_backed (device s.adapter) m (steps.Accept request) (λ x. x))
         (record {
           device_is = refl;
@@ -334,7 +306,7 @@ module _ {A : Type 0} (device : A → Device) (s : ServerView A) (places : ℕ) 
           allowed,
           (request, accepts_on x.steps (steps.Accept request ∷ []) x.only, refl),
           ports_same old.moment.ports (ports_of s) at.ports_are,
-          λ port here. subst (λ (es : machine.Machine). NoneDue plain_mode (map unanswered es.book) port) (sym split) (none_due true (s.book ++ accepted_as r id ∷ []) _ longer (λ no. absurd (false≢true (sym no))) port),
+          λ port here. subst (λ (es : machine.Machine). NoneDue plain_mode (map unanswered es.book) port) (sym split) (none_due true (s.book ++ accepted_as r id ∷ []) _ (λ no. absurd (false≢true (sym no))) longer port),
         )
         (backed_then (device s.adapter) (device s.adapter) (device adapter) m (steps.Accept request ∷ []) (steps.Issue plain_mode e ∷ x.steps) (own_backed (device s.adapter) m (steps.Accept request) (λ y. y)) x.backed)
         (subst (λ (n : machine.Machine). Stands device (record { device = device adapter; moment = record { machine = n; ports = ports_of s } }) (more adapter)) (sym split) (record {

@@ -93,7 +93,7 @@ pub record Stands {A : Type 0} (device : A → Device) (now : Instant Device) (s
 abbrev pub Begins : Instant Device → Type 0
 Begins first = Knows first.moment.machine (idle first.device)
 
--- no evidence: nothing that the server does rests on any
+-- No evidence is given: nothing that the server does rests on any. (So these histories don't claim that a service heeds trouble.)
 abbrev pub no_evidence : Evidence
 no_evidence = record { faults = []; lost = []; gone = []; failed = []; fatal = []; stopped = []; stuck = [] }
 

@@ -1,8 +1,12 @@
 // Laws of the definitions, for callers: the clause is the theorem. These functions do nothing.
-ghost use Rattle.std.specs.Prelude.{ℕ, ◌+◌, ◌≤◌, ◌⊎◌, ◌∷◌, [], None, Some};
+ghost use Rattle.std.specs.Prelude.{ℕ, ◌≡◌, true, List, ◌+◌, ◌≤◌, ◌⊎◌, ◌∷◌, [], None, Some};
 ghost use Rattle.adapter.specs.Device.{Device};
 ghost use Rattle.adapter.specs.FirstRead.{first_read};
 ghost use Rattle.adapter.specs.Rules.{IsFree, Stays};
+ghost use Rattle.adapter.specs.declared.access.DeviceStep.{DeviceStep};
+ghost use Rattle.block_machine.specs.Events.{IsRun, EveryReadHolds};
+ghost use Rattle.block_machine.specs.Histories.{Instant, Happening, IsHistory, events_of};
+ghost use Rattle.block_server.specs.History.{Begins, Ties};
 ghost use Rattle.block_server.specs.Port.{Serves, IsHealthy};
 
 /// While port 0 serves no read, the driver may load and store all bytes of its own 40 frames but those of the received FIS
@@ -16,4 +20,19 @@ pub fn driver_bytes_are_free()
 pub fn a_served_read_exists()
     ensures serves { Serves (Some (record { first = 100; count = 8; frames = record { 0 = 40 } ∷ [] })) first_read }
     ensures healthy { IsHealthy (first_read.port 0) }
+{}
+
+/// The calls of a history of the server are a run of the block machine. So its laws on runs hold of them: each request that is
+/// issued was accepted and broke no rule, each touch is of an accepted request's own sector at a frame that is lent to it, and
+/// others.
+pub fn histories_are_runs()
+    ensures { (first : Instant Device) (past : List (Happening Device DeviceStep)) → IsHistory Begins Ties first past
+        → IsRun first.moment (events_of past) }
+{}
+
+/// Where the adapter's disks tell their sectors, each read of a history that was answered Ok has, at the end of the call that
+/// answered it, what was left: the disk's bytes, as no write is there yet.
+pub fn reads_hold()
+    ensures { (first : Instant Device) (past : List (Happening Device DeviceStep)) → IsHistory Begins Ties first past
+        → first.device.telling ≡ true → EveryReadHolds first.moment (events_of past) }
 {}
