@@ -26,8 +26,8 @@ stays_booked m (Again x) e other tick here = into_other requeued x.request.id m.
 stays_booked m (Answer x outcome) e other tick here = without_into x.request.id m.book e (λ same. other (sym same)) here
 stays_booked m _ e other tick here = here
 
-pub ages : (m : Machine) (ready : Port → Bool) (e : Pending) → Contains m.book e → (age : ℕ) × Contains (after_step m (Age ready)).book (record e { age = age })
-ages m ready e here = ((older ready e).age, subst (λ (y : Pending). Contains (map (older ready) m.book) y) (older_is ready e) (into_map (older ready) m.book e here))
+pub ages : (m : Machine) (ready : Port → Bool) (e : Pending) → Contains m.book e → Contains (after_step m (Age ready)).book (older ready e)
+ages m ready e here = into_map (older ready) m.book e here
 
 pub stays_kept : (m : Machine) (step : Step) (e : Pending) → IsOfAnother e.request.id step → step ≢ Release → Contains m.kept e → Contains (after_step m step).kept e
 stays_kept m (Touch x i block) e other more here = into_other (touch i) x.request.id m.kept e (λ same. other (sym same)) here
@@ -47,7 +47,7 @@ keeps_none m e outcome gives = cond-false (stays e outcome) (e ∷ m.kept) m.kep
 
 -- perhaps a tick older
 stays_aged : (m : Machine) (step : Step) (e : Pending) → IsOfAnother e.request.id step → Contains m.book e → (age : ℕ) × Contains (after_step m step).book (record e { age = age })
-stays_aged m (Age ready) e other here = ages m ready e here
+stays_aged m (Age ready) e other here = ((older ready e).age, subst (λ (y : Pending). Contains (map (older ready) m.book) y) (older_is ready e) (ages m ready e here))
 stays_aged m step e other here = (e.age, stays_booked m step e other (λ ready same. absurd cc) here)
 
 pub stays_ended : (m : Machine) (step : Step) (port : Port) (id : RequestId) → IsOfAnother id step → step ≢ Release → EndedIn m port id → EndedIn (after_step m step) port id

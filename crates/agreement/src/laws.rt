@@ -26,7 +26,7 @@ ghost use Rattle.block_machine.specs.Histories.{IsReached, AddsSteps};
 ghost use Rattle.block_machine.specs.Left.{IsStart, after};
 ghost use Rattle.block_machine.specs.Refusals.{IsOpen};
 ghost use Rattle.block_machine.specs.State.{Accepted, Pending, Machine, unanswered};
-ghost use Rattle.block_machine.specs.Steps.{Step, Accept, Issue, Age, Again, Answer, Release, Store, Load, May, NoneKept, after_step, stays, MayMove};
+ghost use Rattle.block_machine.specs.Steps.{Step, Accept, Issue, Age, Again, Answer, Release, Store, Load, May, NoneKept, older, after_step, stays, MayMove};
 ghost use Rattle.block_machine.specs.declared.due.Mode.{Mode};
 ghost use Rattle.agreement.specs.Agrees.{Agrees, IsDiskOf, SameMemory, SameSectors, HaveSlots, AreUnarmed, AreApart};
 ghost use Rattle.agreement.specs.Driver.{MayStore, LeavesUses, LeavesFree, Known, Knows, IsBacked, ByDevice, IsPrepared, IsOwnPrepared, EndsWith, HasNoSlot, Forgets, ForgetsKept, serving, parking, freeing, idle, IsWrittenBack, KeepsFreeBits, MissesTable, MissesScratch};
@@ -338,7 +338,7 @@ pub fn others_are_spared()
     ensures book { (m : Machine) (step : Step) (e : Pending) → IsOfAnother e.request.id step
         → ((ready : Port → Bool) → step ≢ Age ready) → Contains m.book e → Contains (after_step m step).book e }
     ensures aged { (m : Machine) (ready : Port → Bool) (e : Pending) → Contains m.book e
-        → (age : ℕ) × Contains (after_step m (Age ready)).book (record e { age = age }) }
+        → Contains (after_step m (Age ready)).book (older ready e) }
     ensures kept { (m : Machine) (step : Step) (e : Pending) → IsOfAnother e.request.id step → step ≢ Release
         → Contains m.kept e → Contains (after_step m step).kept e }
     ensures none_kept { (m : Machine) (e : Pending) (outcome : Outcome) → stays e outcome ≡ false

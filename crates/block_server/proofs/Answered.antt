@@ -1,5 +1,6 @@
 -- A service as an event of histories, where nobody is answered and where the first of the book is.
 use Rattle.std.proofs.Common.{ℕ, ◌≡◌, ◌≢◌, Bool, true, false, List, [], ◌∷◌, ◌++◌, get_or, Option, Some, None, refl, sym, ap, ◌∙◌, subst, inl, inr, ⊎_elim, arith, append-nil}
+use Rattle.std.proofs.lemmas.Bool.{false≢true}
 use Rattle.std.specs.Prelude.{if◌then◌else◌, nat_eq}
 use Rattle.std.specs.List.{All, AllPairs, Contains}
 use Rattle.std.proofs.lemmas.List.Elements.{All-head}
@@ -18,7 +19,7 @@ use Rattle.block_machine.specs.Left.{after}
 use Rattle.block_machine.specs.Ports.{Ports, AreFit, IsServiced}
 use Rattle.block_machine.specs.State.{Pending, Machine}
 use Rattle.block_machine.specs.Steps.{Step, Issue, Answer, NoneKept, after_step, without}
-use Rattle.block_machine.specs.Events.{Moment, Service, Served, Stepped, Device as Told, AllMay, AllDevices, IsLawful, Tells}
+use Rattle.block_machine.specs.Events.{Moment, Service, Served, Device as Told, AllMay, AllDevices, IsLawful, Tells}
 use Rattle.block_machine.specs.Histories.{Instant, Happening, now, IsReached, Leads, Adds, AddsSteps}
 use Rattle.block_machine.proofs.EventLemmas.{after-append}
 use Rattle.block_machine.proofs.HistoryLemmas.{history_reaches, reached_more, may-append, steps_then}
@@ -186,8 +187,11 @@ module _ {A : Type 0} (device : A → Device) (s : ServerView A) where
             record {
               backed = subst (λ (d : Device). IsBacked d (device new.adapter) old.moment.machine steps) (sym at.device_is) backed;
               asked = λ step e. absurd (let x : Service ≡ Told step = e in cc);
-              refused = λ said. absurd (let x : Served replies ≡ Stepped false = said in cc);
-              evidence = refl;
+              refused = λ r. absurd (false≢true r);
+              evidence = record { faults = refl; lost = refl; stopped = refl; stuck = refl };
+              uses = (known_of device new).uses;
+              parked = (known_of device new).parked;
+              knows = stands.knows;
             },
           );
           stands = stands;

@@ -130,8 +130,11 @@ module _ {A : Type 0} (device : A → Device) where
                   backed = subst (λ (d : Device). IsBacked d (device adapter) old.moment.machine steps) (sym at.device_is) by.backed;
                   asked = λ other e said. subst (λ (x : DeviceStep). Asked x old.device (device adapter)) (ap (told_of other) e)
                       (subst (λ (d : Device). Asked step d (device adapter)) (sym at.device_is) (told.asked refl));
-                  refused = λ said. absurd (false≢true (sym (ap done_of said)));
-                  evidence = refl;
+                  refused = λ r. absurd (false≢true r);
+                  evidence = record { faults = refl; lost = refl; stopped = refl; stuck = refl };
+                  uses = (known_of device s).uses;
+                  parked = (known_of device s).parked;
+                  knows = more.2;
                 },
               );
               stands = stands_on old s adapter steps at by.only more.2;
@@ -159,8 +162,11 @@ module _ {A : Type 0} (device : A → Device) where
                 record {
                   backed = subst (λ (d : Device). IsBacked old.device d old.moment.machine []) (at.device_is ∙ sym same) (nothing_backed old.device old.moment.machine);
                   asked = λ other e said. absurd (false≢true (ap done_of said));
-                  refused = λ said. same ∙ sym at.device_is;
-                  evidence = refl;
+                  refused = λ r. same ∙ sym at.device_is;
+                  evidence = record { faults = refl; lost = refl; stopped = refl; stuck = refl };
+                  uses = (known_of device s).uses;
+                  parked = (known_of device s).parked;
+                  knows = subst (λ (d : Device). Knows old.moment.machine (record (known_of device s) { device = d })) (sym same) at.knows;
                 },
               );
               stands = stands_on old s adapter [] at tt (subst (λ (d : Device). Knows old.moment.machine (record (known_of device s) { device = d })) (sym same) at.knows);

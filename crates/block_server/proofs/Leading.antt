@@ -14,14 +14,14 @@ use Rattle.block_machine.specs.Left.{after}
 use Rattle.block_machine.specs.Ports.{AreFit}
 use Rattle.block_machine.specs.Refusals.{MemApplies, mem_fault_number, IsOpen, IsFirstMemFault}
 use Rattle.block_machine.specs.Steps.{Step, Load, Store}
-use Rattle.block_machine.specs.Events.{Ask, LoadAt, Device as Told, Said, Loaded, Stepped, AllMay, AllDevices, Belong, IssuesLast, AllLawful, IsAnswered, transfers_of}
+use Rattle.block_machine.specs.Events.{Ask, LoadAt, Device as Told, Said, Loaded, AllMay, AllDevices, Belong, IssuesLast, AllLawful, IsAnswered, transfers_of}
 use Rattle.block_machine.specs.Histories.{Instant, Happening, now, Leads, Adds}
 use Rattle.block_machine.proofs.HistoryLemmas.{history_reaches}
 use Rattle.agreement.specs.Driver.{IsBacked, EndsWith}
 use Rattle.agreement.proofs.Adding.{nothing_backed}
 use Rattle.dma_frames.specs.Table.{owner_of, lent_to}
 use Rattle.block_server.specs.Followed.{LoadsBytes}
-use Rattle.block_server.specs.History.{Begins, Stands, Ties, known_of, ports_of, no_evidence}
+use Rattle.block_server.specs.History.{Begins, Stands, Ties, is_refusal, known_of, ports_of, no_evidence}
 use Rattle.block_server.specs.View.{ServerView}
 use Rattle.block_server.proofs.Histories.{devices_belong, devices_last, devices_lawful, history_fit, ports_same, disks_same, stands_on}
 
@@ -30,10 +30,6 @@ use Rattle.block_server.proofs.Histories.{devices_belong, devices_last, devices_
 abbrev pub is_told : Ask DeviceStep → Bool
 is_told (Told step) = true
 is_told ask = false
-
-abbrev pub is_stepped : Said → Bool
-is_stepped (Stepped done) = true
-is_stepped said = false
 
 -- the device's steps move no client's bytes
 devices_transfer : (steps : List Step) → AllDevices steps → transfers_of steps ≡ []
@@ -72,14 +68,14 @@ module _ (owner : Frame → Option ClientId) (lent : Frame → Option RequestId)
 module _ {A : Type 0} (device : A → Device) where
   -- a call that isn't one of the device, with what its event needs
   pub lead_on : (first : Instant Device) (past : List (Happening Device DeviceStep)) (s new : ServerView A) (ask : Ask DeviceStep) (said : Said) (steps : List Step)
-      → (leads : Leads Begins Ties (Stands device) first past s) → is_told ask ≡ false → is_stepped said ≡ false → ports_of new ≡ ports_of s
+      → (leads : Leads Begins Ties (Stands device) first past s) → is_told ask ≡ false → (is_refusal said ≡ true → device new.adapter ≡ device s.adapter) → ports_of new ≡ ports_of s
       → AllMay (now first past).moment.machine steps → Belong ask (ports_of new) steps → IssuesLast steps
       → AllLawful (now first past).moment no_evidence (ports_of new) steps
       → IsAnswered ask said (now first past).moment no_evidence steps (record { machine = after (now first past).moment.machine steps; ports = ports_of new })
       → IsBacked (device s.adapter) (device new.adapter) (now first past).moment.machine steps
       → Stands device (record { device = device new.adapter; moment = record { machine = after (now first past).moment.machine steps; ports = ports_of new } }) new
       → (h : Happening Device DeviceStep) × (h.event.ask ≡ ask) × (h.event.said ≡ said) × Leads Begins Ties (Stands device) first (h ∷ past) new
-  lead_on first past s new ask said steps leads other silent same may belong last lawful answered backed stands =
+  lead_on first past s new ask said steps leads other still same may belong last lawful answered backed stands =
       let old : Instant Device = now first past in
       let at : Stands device old s = leads.stands in
       let ports : old.moment.ports ≡ ports_of new = at.ports_are ∙ sym same in (
@@ -101,8 +97,11 @@ module _ {A : Type 0} (device : A → Device) where
             record {
               backed = subst (λ (d : Device). IsBacked d (device new.adapter) old.moment.machine steps) (sym at.device_is) backed;
               asked = λ step e said. absurd (false≢true (sym other ∙ ap is_told e));
-              refused = λ e. absurd (false≢true (sym silent ∙ ap is_stepped e));
-              evidence = refl;
+              refused = λ r. still r ∙ sym at.device_is;
+              evidence = record { faults = refl; lost = refl; stopped = refl; stuck = refl };
+              uses = (known_of device new).uses;
+              parked = (known_of device new).parked;
+              knows = stands.knows;
             },
           );
           stands = stands;
@@ -131,7 +130,7 @@ module _ {A : Type 0} (device : A → Device) where
         let x : EndsWith k old.moment.machine (Load client frame offset bytes) (record k { device = device adapter }) =
         followed k.uses k.parked old.moment.machine (history_reaches Begins Ties first past leads.history) at.knows
         (subst (λ (n : ℕ). IsOpen old.moment.machine.owner old.moment.machine.lent client frame offset n) (sym long) here) in
-        lead_on first past s (record s { adapter = adapter }) (LoadAt client frame offset count) (Loaded (Ok bytes)) (Load client frame offset bytes ∷ x.steps) leads refl refl refl x.may
+        lead_on first past s (record s { adapter = adapter }) (LoadAt client frame offset count) (Loaded (Ok bytes)) (Load client frame offset bytes ∷ x.steps) leads refl (λ r. absurd (false≢true r)) refl x.may
         (devices_belong {D = DeviceStep} (LoadAt client frame offset count) (ports_of s) x.steps x.only, inr (refl, refl, refl, long))
         (devices_last x.steps x.only, λ id h i. false≢true h)
         (devices_lawful old.moment no_evidence (ports_of s) x.steps x.only)
@@ -149,7 +148,7 @@ module _ {A : Type 0} (device : A → Device) where
     refuses_on count fault is first past leads =
         let old : Instant Device = now first past in
         let at : Stands device old s = leads.stands in
-        lead_on first past s s (LoadAt client frame offset count) (Loaded (Err fault)) [] leads refl refl refl tt tt tt tt (
+        lead_on first past s s (LoadAt client frame offset count) (Loaded (Err fault)) [] leads refl (λ r. refl) refl tt tt tt tt (
           subst (λ owner. IsFirstMemFault owner old.moment.machine.lent client frame offset count fault) (sym (owner_is old s at))
               (subst (λ lent. IsFirstMemFault (owner_of s.table) lent client frame offset count fault) (sym (lent_is old s at)) is),
           refl,

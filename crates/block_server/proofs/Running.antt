@@ -1,5 +1,6 @@
 -- One more event.
 use Rattle.std.proofs.Common.{◌≡◌, List, [], ◌∷◌, ◌++◌, map, reverse, refl, sym, ap, ◌∙◌, subst}
+use Rattle.std.proofs.lemmas.Bool.{false≢true}
 use mathlib.Core.List.{map-append, reverse-append}
 use Rattle.ata_types.specs.declared.Port.{Port}
 use Rattle.ata_types.specs.declared.PortState.{PortState}
@@ -61,7 +62,7 @@ module _ {A : Type 0} (device : A → Device) where
       adds first past leads =
           let old : Instant Device = now first past in
           let at : Stands device old s = leads.stands in
-          lead_on device first past s s (State port) (Shown state) [] leads refl refl refl tt tt tt tt
+          lead_on device first past s s (State port) (Shown state) [] leads refl (λ r. absurd (false≢true r)) refl tt tt tt tt
           (is ∙ ap (λ (ports : Ports). ports.state port) (sym at.ports_are), refl, ports_same old.moment.ports (ports_of s) at.ports_are)
           (nothing_backed (device s.adapter) old.moment.machine)
           (stands_on device old s s.adapter [] at tt at.knows)

@@ -255,7 +255,7 @@ module _ {A : Type 0} (device : A → Device) (s : ServerView A) (places : ℕ) 
         let some : s.book ≢ [] = inv.some issued in
         let longer : IsBook true (s.book ++ accepted_as r id ∷ []) next.book =
         push_more s.book m.book (accepted_as r id) (steps.newly_accepted request) some (subst (λ (b : Bool). IsBook b s.book m.book) issued at.book) entry refl in
-        lead_on device first past s (more s.adapter) (events.Submit r) (events.Submitted (Ok id)) (steps.Accept request ∷ []) leads refl refl refl
+        lead_on device first past s (more s.adapter) (events.Submit r) (events.Submitted (Ok id)) (steps.Accept request ∷ []) leads refl (λ r. absurd (false≢true r)) refl
         (tt, fresh) (tt, inr refl) (tt, λ other h i. false≢true h) tt
         (allowed, (request, refl, refl), ports_same old.moment.ports (ports_of s) at.ports_are, λ port ready. none_due true (s.book ++ accepted_as r id ∷ []) next.book (λ e. absurd (false≢true (sym e))) longer port)
         (own_backed (device s.adapter) m (steps.Accept request) (λ x. x))
@@ -298,7 +298,7 @@ module _ {A : Type 0} (device : A → Device) (s : ServerView A) (places : ℕ) 
         let longer : IsBook true (s.book ++ accepted_as r id ∷ []) (after next (steps.Issue plain_mode e ∷ x.steps)).book =
         subst (λ (es : List Accepted). IsBook true (es ++ accepted_as r id ∷ []) (after next (steps.Issue plain_mode e ∷ x.steps)).book) (sym empty) one in
         let ready : s.state ≡ Ready = accepting.is_ready device s places inv r acc in
-        lead_on device first past s (more adapter) (events.Submit r) (events.Submitted (Ok id)) all leads refl refl refl
+        lead_on device first past s (more adapter) (events.Submit r) (events.Submitted (Ok id)) all leads refl (λ r. absurd (false≢true r)) refl
         (may-append m (steps.Issue plain_mode e ∷ x.steps) (steps.Accept request ∷ []) (tt, fresh) x.may)
         (belong_on {D = DeviceStep} (events.Submit r) (ports_of s) x.steps (steps.Accept request ∷ []) x.only (tt, inr refl), inr (ready, refl))
         (last_on x.steps (steps.Accept request ∷ []) x.only (tt, λ other h i. false≢true h), λ other h i. none_issued other x.steps (steps.Accept request ∷ []) x.only (λ j. false≢true j) i)
@@ -347,7 +347,7 @@ refused_adds {A} device s r refusal is = record { adds = refuses }
     refuses first past leads =
         let old : Instant Device = now first past in
         let at : Stands device old s = leads.stands in
-        lead_on device first past s s (events.Submit r) (events.Submitted (Err refusal)) [] leads refl refl refl tt tt tt tt
+        lead_on device first past s s (events.Submit r) (events.Submitted (Err refusal)) [] leads refl (λ r. refl) refl tt tt tt tt
         (subst (λ (x : refusals.Situation). IsFirstRefusal x r refusal) (sym (situation_is device old s at)) is, refl, ports_same old.moment.ports (ports_of s) at.ports_are)
         (nothing_backed (device s.adapter) old.moment.machine)
         (stands_on device old s s.adapter [] at tt at.knows)

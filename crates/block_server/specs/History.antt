@@ -12,7 +12,7 @@ use Rattle.block_machine.specs.declared.due.Mode.{Mode}
 use Rattle.block_machine.specs.Ports.{Ports, Evidence}
 use Rattle.block_machine.specs.State.{Pending}
 use Rattle.block_machine.specs.State as machine
-use Rattle.block_machine.specs.Events.{Ask, Submit, LoadAt, Service, State, Device as Told, Said, Submitted, Loaded, Served, Shown, Stepped}
+use Rattle.block_machine.specs.Events.{Ask, Submit, LoadAt, Service, State, Device as Told, Said, Submitted, Loaded, Served, Shown, Stepped, moment_after}
 use Rattle.block_machine.specs.Histories.{Instant, Happening, Leads}
 use Rattle.agreement.specs.Agrees.{port_at}
 use Rattle.agreement.specs.Slots.{Free, Serves, Uses, put}
@@ -63,7 +63,8 @@ IsBook issued (e ∷ es) (pending ∷ rest) = IsEntry e pending.request × (pend
 abbrev pub plain_mode : Mode
 plain_mode = record { queued = false; usable = 1 }
 
--- Port 0 is served, and is to clients what the server says. Nothing is known of the disk's serial.
+-- Port 0 is served, and is to clients what the server says. The server doesn't ask the disk: of its serial nothing is shown, and
+-- its size is the number that the server was given.
 abbrev pub ports_of : {A : Type 0} → ServerView A → Ports
 ports_of s = record {
   served = λ port. port.0 == 0;
@@ -93,7 +94,15 @@ pub record Stands {A : Type 0} (device : A → Device) (now : Instant Device) (s
 abbrev pub Begins : Instant Device → Type 0
 Begins first = Knows first.moment.machine (idle first.device)
 
--- No evidence is given: nothing that the server does rests on any. (So these histories don't claim that a service heeds trouble.)
+-- Nothing is given that an answer may rest on. (The other lists, of ports that failed or whose link told of a change, ask something
+-- of a service. No history here claims that, and they are left open.)
+pub record RestsOnNone (evidence : Evidence) : Type 0 where
+  pub faults : evidence.faults ≡ []
+  pub lost : evidence.lost ≡ []
+  pub stopped : evidence.stopped ≡ []
+  pub stuck : evidence.stuck ≡ []
+
+-- no item in any list
 abbrev pub no_evidence : Evidence
 no_evidence = record { faults = []; lost = []; gone = []; failed = []; fatal = []; stopped = []; stuck = [] }
 
@@ -102,12 +111,23 @@ abbrev pub load_said : Result (Unit {0}) MemFault → List ℕ → Said
 load_said (Ok done) bytes = Loaded (Ok bytes)
 load_said (Err fault) bytes = Loaded (Err fault)
 
--- The device's part in a call: the tape backs the machine's steps, and it did the step that it was told, or nothing.
+-- the call refuses what it was asked
+abbrev pub is_refusal : Said → Bool
+is_refusal (Submitted (Err refusal)) = true
+is_refusal (Loaded (Err fault)) = true
+is_refusal (Stepped false) = true
+is_refusal said = false
+
+-- The device's part in a call: the tape backs the machine's steps; it did the step that it was told, and nothing where the call is
+-- refused; no answer rests on evidence; and after it the machine agrees with a driver of the device.
 pub record Ties (old : Instant Device) (h : Happening Device DeviceStep) : Type 0 where
   pub backed : IsBacked old.device h.device old.moment.machine h.event.steps
   pub asked : (step : DeviceStep) → h.event.ask ≡ Told step → h.event.said ≡ Stepped true → Asked step old.device h.device
-  pub refused : h.event.said ≡ Stepped false → h.device ≡ old.device
-  pub evidence : h.event.evidence ≡ no_evidence
+  pub refused : is_refusal h.event.said ≡ true → h.device ≡ old.device
+  pub evidence : RestsOnNone h.event.evidence
+  pub uses : Uses
+  pub parked : ℕ → List RequestId
+  pub knows : Knows (moment_after old.moment h.event).machine (record { uses = uses; parked = parked; device = h.device })
 
 -- ---- lists of calls
 
