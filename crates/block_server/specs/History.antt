@@ -109,6 +109,10 @@ pub record Ties (old : Instant Device) (h : Happening Device DeviceStep) : Type 
   pub refused : h.event.said ≡ Stepped false → h.device ≡ old.device
   pub evidence : h.event.evidence ≡ no_evidence
 
+-- a history without calls leads to the server
+abbrev pub HasBegun : {A : Type 0} → (A → Device) → ServerView A → Type 0
+HasBegun device s = (first : Instant Device) × Leads Begins Ties (Stands device) first [] s
+
 -- ---- lists of calls
 
 -- the call of a list, as the machine is asked; a load is of at most 64 bytes
