@@ -54,7 +54,9 @@ module _ (rows : List GrantRow) (place : ℕ) (row : GrantRow) (right : AreRows 
 
   wrong_spoils : (fault : GrantFault) → HasGrantFault (take place rows) row fault → ⊥
   wrong_spoils grant.Client wrong = wrong (read.client_from, read.client_to)
+  wrong_spoils grant.Number wrong = omega (arith, read.number, wrong)
   wrong_spoils grant.Port wrong = wrong read.port
+  wrong_spoils grant.NoSectors wrong = omega (arith, read.some, wrong)
   wrong_spoils grant.Sectors wrong = omega (arith, read.sectors)
   wrong_spoils grant.Rights wrong = wrong (read.no_write, read.no_trim, read.no_flush)
   wrong_spoils grant.Twice one = pair_at DifferInName rows place one.0 row one.1 right.names there one.2 one.3 one.4

@@ -26,11 +26,14 @@ served _ _ = None
 abbrev pub unanswered_of : List Accepted → ℕ → ℕ
 unanswered_of book client = count_by (λ e. e.client.0 == client) book
 
--- A grant that this server can serve: of a client 1 to 8, on port 0, of sectors below 2^48, and with no right but to read.
+-- A grant that this server can serve: of a client 1 to 8, under a number of 63 or less, on port 0, of one sector at least, all of
+-- them below 2^48, and with no right but to read.
 pub record IsReadGrant (row : GrantRow) : Type 0 where
   pub client_from : 1 ≤ row.client.0
   pub client_to : row.client.0 ≤ 8
+  pub number : row.number ≤ 63
   pub port : row.port.0 ≡ 0
+  pub some : 1 ≤ row.count
   pub sectors : row.first.0 + row.count ≤ 2 ^ 48
   pub no_write : row.rights.write ≡ false
   pub no_trim : row.rights.trim ≡ false

@@ -129,6 +129,10 @@ pub record Ties (old : Instant Device) (h : Happening Device DeviceStep) : Type 
   pub parked : ℕ → List RequestId
   pub knows : Knows (moment_after old.moment h.event).machine (record { uses = uses; parked = parked; device = h.device })
 
+-- a history without calls leads to the server
+abbrev pub HasBegun : {A : Type 0} → (A → Device) → ServerView A → Type 0
+HasBegun device s = (first : Instant Device) × Leads Begins Ties (Stands device) first [] s
+
 -- ---- lists of calls
 
 -- the call of a list, as the machine is asked; a load is of at most 64 bytes

@@ -84,7 +84,9 @@ HasRunFault frames earlier r run.Overlap = Any (λ other. Meet other r) earlier
 -- the fault is one of a grant that comes after these
 abbrev pub HasGrantFault : List GrantRow → GrantRow → GrantFault → Type 0
 HasGrantFault earlier row grant.Client = IsClient row.client → ⊥
+HasGrantFault earlier row grant.Number = 63 < row.number
 HasGrantFault earlier row grant.Port = row.port.0 ≢ 0
+HasGrantFault earlier row grant.NoSectors = row.count ≡ 0
 HasGrantFault earlier row grant.Sectors = 2 ^ 48 < row.first.0 + row.count
 HasGrantFault earlier row grant.Rights = ReadsAlone row.rights → ⊥
 HasGrantFault earlier row grant.Twice = Any (λ other. Names other.client other.number row) earlier
@@ -98,10 +100,12 @@ run_fault_number run.Overlap = 3
 -- and so for grants
 abbrev pub grant_fault_number : GrantFault → ℕ
 grant_fault_number grant.Client = 1
-grant_fault_number grant.Port = 2
-grant_fault_number grant.Sectors = 3
-grant_fault_number grant.Rights = 4
-grant_fault_number grant.Twice = 5
+grant_fault_number grant.Number = 2
+grant_fault_number grant.Port = 3
+grant_fault_number grant.NoSectors = 4
+grant_fault_number grant.Sectors = 5
+grant_fault_number grant.Rights = 6
+grant_fault_number grant.Twice = 7
 
 -- the fault is the run's, and none before it is
 abbrev pub IsFirstRunFault : ℕ → List Run → Run → RunFault → Type 0

@@ -17,6 +17,9 @@ const CLIENTS: u8 = 8;
 
 const MOST_GRANTS: usize = 64;
 
+/// The highest number that a grant may have.
+const HIGHEST_NUMBER: u8 = 63;
+
 /// One past the last sector of the largest disk.
 const SECTORS_END: u128 = 1 << 48;
 
@@ -68,8 +71,12 @@ pub enum RunFault {
 pub enum GrantFault {
     /// Its client isn't one of 1 to 8.
     Client,
+    /// Its number is above 63.
+    Number,
     /// Its port isn't port 0.
     Port,
+    /// It has no sectors.
+    NoSectors,
     /// Its sectors go past 2^48.
     Sectors,
     /// It has another right than to read, and this server serves reads alone.
@@ -83,8 +90,8 @@ impl<'a> Setup<'a> {
 
     /// A setup of a memory of so many frames (41 to 1024), of runs of frames, each by its owner (1 to 8), its first frame
     /// (40 or above) and its number of frames (1 or more, within the memory), no frame in two of them, and of at most 64
-    /// grants: to read alone, of a client 1 to 8, on port 0, within 2^48 sectors, and none with client and number of
-    /// another.
+    /// grants: to read alone, of a client 1 to 8, under a number of 63 or less, on port 0, of one sector or more within 2^48
+    /// sectors, and none with client and number of another.
     ///
     /// Of several faults the first is told: the memory's, then that of the run at the least place, then the number of
     /// grants, then the fault of the grant at the least place; of one run or one grant that which its type names first.
@@ -194,8 +201,14 @@ fn check_row(earlier: &[GrantRow], row: &GrantRow) -> Result<(), GrantFault>
     if !is_client(row.client) {
         return Err(GrantFault::Client);
     }
+    if row.number > HIGHEST_NUMBER {
+        return Err(GrantFault::Number);
+    }
     if row.port.0 != 0 {
         return Err(GrantFault::Port);
+    }
+    if row.count == 0 {
+        return Err(GrantFault::NoSectors);
     }
     if row.first.0 as u128 + row.count as u128 > SECTORS_END {
         return Err(GrantFault::Sectors);
@@ -357,6 +370,11 @@ mod tests {
             }]),
             client
         );
+        let number = Some((0, GrantFault::Number));
+        assert_eq!(rt;
+            grant_fault(&[GrantRow { number: 64, ..ROW }]),
+            number
+        );
         let port = Some((0, GrantFault::Port));
         assert_eq!(rt;
             grant_fault(&[GrantRow {
@@ -365,6 +383,8 @@ mod tests {
             }]),
             port
         );
+        let none = Some((0, GrantFault::NoSectors));
+        assert_eq!(rt; grant_fault(&[GrantRow { count: 0, ..ROW }]), none);
         let sectors = Some((0, GrantFault::Sectors));
         assert_eq!(rt;
             grant_fault(&[GrantRow {
