@@ -24,7 +24,7 @@ mod Freeing
 mod Permitting
 mod Unarmed
 mod Counting
-mod Idling
+pub mod Idling
 mod Witness
 mod Decided
 mod Halting

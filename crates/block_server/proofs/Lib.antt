@@ -4,6 +4,7 @@ mod Booking
 mod Booting
 mod Cover
 mod Covering
+mod Beginning
 mod Making
 mod Parts
 mod Issuing

@@ -6,7 +6,7 @@ use Rattle.ata_types.specs.declared.request.Frame.{Frame}
 use Rattle.ata_types.specs.declared.request.Op.TheVariants.{Read}
 use Rattle.ata_types.specs.declared.request.RequestId.{RequestId}
 use Rattle.adapter.specs.Asked.{Asked}
-use Rattle.adapter.specs.Device.{Device}
+use Rattle.adapter.specs.Device.{IsTold, Device}
 use Rattle.adapter.specs.declared.access.DeviceStep.{DeviceStep}
 use Rattle.block_machine.specs.declared.due.Mode.{Mode}
 use Rattle.block_machine.specs.Ports.{Ports, Evidence}
@@ -108,6 +108,14 @@ pub record Ties (old : Instant Device) (h : Happening Device DeviceStep) : Type 
   pub asked : (step : DeviceStep) → h.event.ask ≡ Told step → h.event.said ≡ Stepped true → Asked step old.device h.device
   pub refused : h.event.said ≡ Stepped false → h.device ≡ old.device
   pub evidence : h.event.evidence ≡ no_evidence
+
+-- disks tell their sectors if the adapter is one that tells
+abbrev pub TellsDisks : Device → Type 0
+TellsDisks d = d.telling ≡ true → (port : ℕ) → IsTold (d.port port).disk
+
+-- a history without calls leads to the server
+abbrev pub HasBegun : {A : Type 0} → (A → Device) → ServerView A → Type 0
+HasBegun device s = (first : Instant Device) × Leads Begins Ties (Stands device) first [] s
 
 -- ---- lists of calls
 

@@ -371,10 +371,7 @@ mod tests {
             client
         );
         let number = Some((0, GrantFault::Number));
-        assert_eq!(rt;
-            grant_fault(&[GrantRow { number: 64, ..ROW }]),
-            number
-        );
+        assert_eq!(rt; grant_fault(&[GrantRow { number: 64, ..ROW }]), number);
         let port = Some((0, GrantFault::Port));
         assert_eq!(rt;
             grant_fault(&[GrantRow {

@@ -39,6 +39,7 @@ impl Grants {
         requires names { AllPairs DifferInName rows.now }
         ensures rows { IfOk result (SameRows rows.now) }
         ensures names { IfOk result (AllPairs DifferInName) }
+        ensures few { IfOk result (λ kept. length kept ≤ 64) }
     {
         let rows = Vec::from_slice(alloc, rows)?;
         Ok(Grants { rows })
