@@ -8,7 +8,7 @@ use Rattle.ata_types.specs.declared.grant.GrantRow.{GrantRow}
 use Rattle.ata_types.specs.declared.request.ClientId.{ClientId}
 use Rattle.ata_types.specs.declared.request.Frame.{Frame}
 use Rattle.ata_types.specs.declared.request.RequestId.{RequestId}
-use Rattle.adapter.specs.Device.{IsTold, Device}
+use Rattle.adapter.specs.Device.{Device}
 use Rattle.adapter.specs.Idle.{IsIdle}
 use Rattle.agreement.specs.Agrees.{SameSectors}
 use Rattle.agreement.specs.Driver.{Knows, idle}
@@ -24,11 +24,12 @@ use Rattle.dma_frames.specs.Table.{Run, Table, owner_of, lent_to, HasFrame}
 use Rattle.grants.specs.Rows.{SameRows}
 use Rattle.block_server.specs.Book.{IsReadGrant}
 use Rattle.block_server.specs.Followed.{NoneUsed, IsFollowed}
-use Rattle.block_server.specs.History.{HasBegun, ports_of}
+use Rattle.block_server.specs.History.{TellsDisks, HasBegun, ports_of}
 use Rattle.block_server.specs.Port.{IsBroughtUp}
 use Rattle.block_server.specs.Setup.{SetupView, IsSetup, IsClient, HasClientFrames}
 use Rattle.block_server.specs.View.{ServerView}
 use Rattle.block_server.specs.declared.types.Accepted.{Accepted}
+use Rattle.block_server.proofs.Making.{made}
 
 -- ---- the machine of an idle device
 
@@ -54,7 +55,7 @@ machine_of d rows owner = record {
 }
 
 machine_knows : (d : Device) (rows : List GrantRow) (owner : Frame → Option ClientId) → IsStart (machine_of d rows owner) → IsIdle d
-    → (d.telling ≡ true → (port : ℕ) → IsTold (d.port port).disk) → Knows (machine_of d rows owner) (idle d)
+    → TellsDisks d → Knows (machine_of d rows owner) (idle d)
 machine_knows d rows owner start is told =
     idle_knows (machine_of d rows owner) d start is (λ q. record { present = refl; id = refl; size = refl }) (λ f b low small. refl) sectors
   where
@@ -110,8 +111,8 @@ read_row row r = record {
 }
 
 module _ {A : Type 0} (device : A → Device) (adapter : A) (table : Table) (state : PortState) (sectors : ℕ) (grants : List GrantRow) where
-  abbrev made : List Accepted → ServerView A
-  made book = record { adapter = adapter; grants = grants; table = table; state = state; sectors = sectors; book = book; issued = false; last = 0 }
+  abbrev new : List Accepted → ServerView A
+  new = made device adapter table state sectors grants
 
   module _ (given : SetupView) (setup : IsSetup given) (rows : SameRows given.grants grants) (names : AllPairs DifferInName grants) (few : length grants ≤ 64)
       (only : (f : Frame) (client : ClientId) → owner_of table f ≡ Some client → (run : Run) × Contains given.owners run × HasFrame run f × (run.0 ≡ client)) where
@@ -131,9 +132,9 @@ module _ {A : Type 0} (device : A → Device) (adapter : A) (table : Table) (sta
           (its.0, its.1, omega (arith, inside.0, run.2.0), omega (arith, inside.2, run.2.1, setup.memory.1));
     }
 
-    pub new_has_begun : (old : Device) → IsIdle old → (old.telling ≡ true → (port : ℕ) → IsTold (old.port port).disk) → IsFollowed NoneUsed old (device adapter)
+    pub new_has_begun : (old : Device) → IsIdle old → TellsDisks old → IsFollowed NoneUsed old (device adapter)
         → (mid : Device) → IsBroughtUp state mid (device adapter) → ((f : Frame) → lent_to table f ≡ None) → (book : List Accepted) → book ≡ []
-        → HasBegun device (record { adapter = adapter; grants = grants; table = table; state = state; sectors = sectors; book = book; issued = false; last = 0 })
+        → HasBegun device (new book)
     new_has_begun old is told followed mid brought free book none =
         let m = machine_of old grants (owner_of table) in
         let start = setup_starts old in
@@ -142,11 +143,11 @@ module _ {A : Type 0} (device : A → Device) (adapter : A) (table : Table) (sta
         let later = after m x.0 in
         let spares = steps_spare m x.0 x.3.only in
         let begun = start_on m later start spares in
-        let P : List Accepted → Type 0 = λ b. HasBegun device (made b) in
+        let P : List Accepted → Type 0 = λ b. HasBegun device (new b) in
         subst P (sym none) (
-          record { device = device adapter; moment = record { machine = later; ports = ports_of (made []) } },
+          record { device = device adapter; moment = record { machine = later; ports = ports_of (new []) } },
           record {
-            history = ((begun, brought_fit (made []) mid (device adapter) brought), x.2);
+            history = ((begun, brought_fit (new []) mid (device adapter) brought), x.2);
             stands = record {
               device_is = refl;
               ports_are = refl;

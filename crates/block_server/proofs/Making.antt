@@ -29,7 +29,7 @@ stands (Unfit n) old d h = (h.0, h.1)
 stands Dead old d h = absurd h
 
 module _ {A : Type 0} (device : A → Device) (adapter : A) (table : Table) (state : PortState) (sectors : ℕ) (grants : List GrantRow) where
-  abbrev made : List Accepted → ServerView A
+  abbrev pub made : List Accepted → ServerView A
   made book = record { adapter = adapter; grants = grants; table = table; state = state; sectors = sectors; book = book; issued = false; last = 0 }
 
   pub new_is_kept : {size : ℕ} {given : SetupView} → IsSetup given → 4096 * given.frames ≤ size → (device adapter).size ≡ size → SameRows given.grants grants →

@@ -15,7 +15,7 @@ use Rattle.ata_types.specs.declared.request.Request.{Request}
 use Rattle.ata_types.specs.declared.request.RequestId.{RequestId}
 use Rattle.adapter.specs.Access.{Loads}
 use Rattle.adapter.specs.Asked.{Asked}
-use Rattle.adapter.specs.Device.{IsTold, Device}
+use Rattle.adapter.specs.Device.{Device}
 use Rattle.adapter.specs.Idle.{IsIdle}
 use Rattle.adapter.specs.Steps.{Steps}
 use Rattle.adapter.specs.declared.access.DeviceStep.{DeviceStep}
@@ -30,11 +30,10 @@ use Rattle.block_server.specs.declared.types.Accepted.{Accepted}
 
 -- ---- the maker
 
--- the adapter is idle and has the frames, and its disks tell their sectors if it is one that tells
+-- the adapter is idle and has the frames
 pub record IsReadyFor (frames : ℕ) (d : Device) : Type 0 where
   pub idle : IsIdle d
   pub room : 4096 * frames ≤ d.size
-  pub told : d.telling ≡ true → (port : ℕ) → IsTold (d.port port).disk
 
 -- ---- where a request stands
 

@@ -57,7 +57,7 @@ impl<A: Adapter> Server<A> {
     ghost use Rattle.block_server.specs.Calls.{IsReadyFor, IsNew, state_of, situation_of, Accepts, Submits, AnswersFirst, Services, LoadsFrame, SameServer};
     ghost use Rattle.block_machine.specs.Events.{Submit, Submitted, LoadAt};
     ghost use Rattle.block_machine.specs.Histories.{Adds};
-    ghost use Rattle.block_server.specs.History.{Begins, Ties, Stands, HasBegun, load_said};
+    ghost use Rattle.block_server.specs.History.{Begins, Ties, Stands, TellsDisks, HasBegun, load_said};
     ghost use Rattle.block_server.specs.Followed.{LoadsBytes};
 
     /// A server of the port's disk, which has so many sectors: port 0 is brought up, and nothing is asked yet. Provisional:
@@ -72,7 +72,7 @@ impl<A: Adapter> Server<A> {
     ) -> Result<Self, (ServerError, A)>
         requires ready { IsReadyFor setup.now.frames (A.device adapter) }
         ensures made { IfOk result (λ s. IsNew A.device setup.now.owners setup.now.grants adapter sectors s) }
-        ensures begins { IfOk result (λ s. HasBegun A.device s) }
+        ensures begins { IfOk result (λ s. TellsDisks (A.device adapter) → HasBegun A.device s) }
         ensures refused { IfErr result (λ e. (e.0 ≡ ServerError.NoMemory) × (e.1 ≡ adapter)) }
     {
         let Ok(grants) = Grants::from_rows(alloc, setup.grants()) else {
