@@ -12,7 +12,7 @@ use Rattle.block_machine.specs.Events.{Moment, Reset, WasReset, Event, Happens, 
 use Rattle.block_machine.specs.Worked.{GoesAgainInResets}
 use Rattle.block_machine.proofs.Members.{contains_none, contains_here, contains_cases}
 use Rattle.block_machine.proofs.Setting.{port, empty_starts}
-use Rattle.block_machine.proofs.Scene.{mode, ports, first, one_issued, one_told, none_told, none_unplugged, finds_none, emptied_of, only_one, ports_fit, none_dead}
+use Rattle.block_machine.proofs.Scene.{mode, ports, first, one_issued, one_told, none_told, none_unplugged, finds_none, emptied_of, only_one, ports_fit, none_dead, spares_ports}
 use Rattle.block_machine.proofs.WaitingRun.{write, read, run2, happens1, happens2, none_due}
 use Rattle.block_machine.proofs.ResetRun.{halted, stopped_here}
 
@@ -34,7 +34,7 @@ abbrev abort : Event (Unit {0})
 abort = record { ask = Reset; said = WasReset (Some (reply_of (tried 4, outcome.Aborted) ∷ [])); evidence = halted; steps = Issue mode waits ∷ Answer (tried 4) outcome.Aborted ∷ Release ∷ []; ports = ports }
 
 becomes : (p : Port) → MayBecome ports halted ports p
-becomes p = record { served = refl; stuck = λ dead. none_dead p dead; dies = λ h. absurd (contains_none p h); disk = λ ready. inr (inr (ready, (refl, refl))) }
+becomes p = record { served = refl; stuck = λ dead. none_dead p dead; dies = λ h. absurd (contains_none p h); disk = λ ready. inr (inr (ready, (refl, refl))); keeps = λ _. (refl, refl) }
 
 two_of : (n : ℕ) (P : Pending → Type 0) → P (tried n) → P waits → (e : Pending) → Contains (tried n ∷ waits ∷ []) e → P e
 two_of n P a b e h = ⊎_elim
@@ -81,7 +81,7 @@ happens6 = record {
   );
   belong = (((tt, inr tt), inr tt), inr (refl, refl));
   last = (((tt, λ id h i. false≢true i), λ id h i. false≢true i), λ id h i. false≢true i);
-  lawful = (tt, (record { pending = tried 4; here = contains_here (tried 4) (waits ∷ []) (tried 4) refl; id_is = refl; issued = refl }, refl, refl, contains_here port [] port refl));
+  lawful = (tt, (record { pending = tried 4; here = contains_here (tried 4) (waits ∷ []) (tried 4) refl; id_is = refl; issued = refl }, refl, refl, contains_here port [] port refl, (refl, refl)));
   fit = ports_fit Ready refl;
   disks = λ e o h i same. (refl, refl);
   answered = record {
@@ -109,7 +109,7 @@ goes_again_in_resets = record {
   three = retry 3;
   four = abort;
   runs = (((((((empty_starts, ports_fit Ready refl), happens1), happens2), again (moment_of first run2).machine 1 (omega arith)), again (moment_of first (retry 1 ∷ run2)).machine 2 (omega arith)), again (moment_of first (retry 2 ∷ retry 1 ∷ run2)).machine 3 (omega arith)), happens6);
-  heeds = ((((((tt, tt), tt), tt), tt), tt), tt);
+  heeds = ((((((tt, spares_ports), spares_ports), tt), tt), tt), tt);
   resets = (refl, refl, refl, refl);
   issued = tried 1;
   waits = waits;

@@ -14,7 +14,7 @@ use Rattle.block_machine.specs.Worked.{EndsWithAReset}
 use Rattle.block_machine.proofs.Members.{contains_none, contains_here, contains_cases}
 use Rattle.block_machine.proofs.Keeps.{same_port}
 use Rattle.block_machine.proofs.Setting.{port, frame, empty_starts}
-use Rattle.block_machine.proofs.Scene.{mode, ports, ports_in, at_port, first, none, call, at_here, is_ready, is_dead, ready_here, none_dead, emptied_one, one_issued, none_there, one_told, none_told, none_ended, none_unplugged, finds_none, ready_port, ports_fit}
+use Rattle.block_machine.proofs.Scene.{mode, ports, ports_in, at_port, first, none, call, at_here, is_ready, is_dead, ready_here, none_dead, emptied_one, one_issued, none_there, one_told, none_told, none_ended, none_unplugged, finds_none, ready_port, restarts_here, spares_ports, only_one, ports_fit}
 use Rattle.block_machine.proofs.WaitingRun.{write, run1, happens1}
 
 -- the ports that a tick ages
@@ -90,25 +90,25 @@ ages_once later once = record {
 }
 
 -- a tick before the third leaves the port alone
-not_hung : (m : Moment) (x : Pending) → m.machine.book ≡ x ∷ [] → x.age < 2 → (p : Port) → IsHung m p → ⊥
-not_hung m x only young p hung = ⊎_elim
-    (λ (same : hung.pending ≡ x). let age = ap (λ (y : Pending). y.age) same in let enough = hung.old_enough in omega (arith, age, enough, young))
-    (λ n. contains_none hung.pending n)
-    (contains_cases x [] hung.pending (subst (λ (es : List Pending). Contains es hung.pending) only hung.here))
+abbrev pub IsYoung : Moment → Type 0
+IsYoung m = (e : Pending) → Contains m.machine.book e → e.age < 2
+
+not_hung : (m : Moment) → IsYoung m → (p : Port) → IsHung m p → ⊥
+not_hung m young p hung = let age = young hung.pending hung.here in let enough = hung.old_enough in omega (arith, age, enough)
 
 only_age : (step : Step) → Contains (Age aging ∷ []) step → is_age step ≡ true
 only_age step h = ⊎_elim (λ same. ap is_age same) (λ n. absurd (contains_none step n)) (contains_cases (Age aging) [] step h)
 
-ticks : (old : Moment) (x : Pending) → old.machine.book ≡ x ∷ [] → x.age < 2 → (new : Moment) → SamePorts old.ports new.ports → RestartsHung old none (Age aging ∷ []) new
-ticks old x only young new same = record {
-  ports = λ p. inl (same p);
+pub ticks : (old : Moment) → IsYoung old → (new : Moment) → SamePorts old.ports new.ports → RestartsHung old none (Age aging ∷ []) new
+ticks old young new same = record {
+  ports = λ p. inl (not_hung old young p, same p);
   again = λ e h. absurd (false≢true (only_age (Again e) h));
   answer = λ e o h. absurd (false≢true (only_age (Answer e o) h));
-  ended = λ p hung. absurd (not_hung old x only young p hung);
-  interrupts = λ p hung. absurd (not_hung old x only young p hung);
+  ended = λ p hung. absurd (not_hung old young p hung);
+  interrupts = λ p hung. absurd (not_hung old young p hung);
   spares = λ p i. absurd (⊎_elim (contains_none p) (contains_none p) i);
   finds = finds_none (Age aging ∷ []) old.ports new.ports refl;
-  anew = λ p hung. absurd (not_hung old x only young p hung);
+  anew = λ p hung. absurd (not_hung old young p hung);
 }
 
 pub happens2 : Happens (moment_of first run1) (tick [])
@@ -122,7 +122,7 @@ happens2 = record {
   answered = record {
     tells = none_told (Age aging ∷ []) refl;
     ages = ages_once [] refl;
-    restarts = ticks (moment_of first run1) (aged 0) refl (omega arith) (moment_of first run2) (λ p. (refl, refl, refl, refl, refl, refl));
+    restarts = ticks (moment_of first run1) (only_one (aged 0) (λ e. e.age < 2) (omega arith)) (moment_of first run2) (λ p. (refl, refl, refl, refl, refl, refl));
     unplugs = none_unplugged (Age aging ∷ []) (moment_of first run2).machine refl;
     issues = λ p _. one_issued (unanswered (aged 1)) refl p;
     emptied = λ p _ ne e h. emptied_one (aged 1) refl p ne e h;
@@ -140,7 +140,7 @@ happens3 = record {
   answered = record {
     tells = none_told (Age aging ∷ []) refl;
     ages = ages_once [] refl;
-    restarts = ticks (moment_of first run2) (aged 1) refl (omega arith) (moment_of first run3) (λ p. (refl, refl, refl, refl, refl, refl));
+    restarts = ticks (moment_of first run2) (only_one (aged 1) (λ e. e.age < 2) (omega arith)) (moment_of first run3) (λ p. (refl, refl, refl, refl, refl, refl));
     unplugs = none_unplugged (Age aging ∷ []) (moment_of first run3).machine refl;
     issues = λ p _. one_issued (unanswered (aged 2)) refl p;
     emptied = λ p _ ne e h. emptied_one (aged 2) refl p ne e h;
@@ -172,7 +172,7 @@ each_step P a b c step h = ⊎_elim
 
 restarted : RestartsHung (moment_of first run3) halted restarting.steps (moment_of first run4)
 restarted = record {
-  ports = λ p. inl (refl, refl, refl, refl, refl, refl);
+  ports = restarts_here (moment_of first run3).machine halted refl hung;
   again = λ e h. each_step (λ step. (x : Pending) → again_of step ≡ Some x → IsHung (moment_of first run3) x.request.port)
       (λ x q. absurd (none_some x q))
       (λ x q. let same : aged 3 ≡ x = some_same x q in subst (λ (y : Pending). IsHung (moment_of first run3) y.request.port) same hung)
@@ -271,7 +271,7 @@ happens6 = record {
     unplugs = none_unplugged service.steps (moment_of first run6).machine refl;
     issues = λ p ready. dead_not_ready p ready;
     emptied = λ p ne e h. absurd (contains_none e h);
-    becomes = λ p. (λ _. (refl, refl, refl, refl, refl, refl), λ alive. record { served = refl; stuck = λ dead. absurd (alive dead); dies = λ h. absurd (contains_none p h); disk = λ ready. dead_not_ready p ready });
+    becomes = λ p. (λ _. (refl, refl, refl, refl, refl, refl), λ alive. record { served = refl; stuck = λ dead. absurd (alive dead); dies = λ h. absurd (contains_none p h); disk = λ ready. dead_not_ready p ready; keeps = λ _. (refl, refl) });
     disk = λ p _ ready. dead_not_ready p ready;
   };
 }
@@ -292,7 +292,7 @@ happens7 = record {
     issues = λ p _. none_there p;
     reboots = λ p. record {
       emptied = λ ne e h. absurd (contains_none e h);
-      becomes = record { served = refl; stuck = λ e. none_dead p e; dies = λ h. absurd (contains_none p h); disk = λ ready. dead_not_ready p ready };
+      becomes = record { served = refl; stuck = λ e. none_dead p e; dies = λ h. absurd (contains_none p h); disk = λ ready. dead_not_ready p ready; keeps = λ _. (refl, refl) };
       anew = λ e h. absurd (contains_none e h);
       stopped = stopped_here p;
       disk = λ _ ready. inl refl;
@@ -311,7 +311,7 @@ ends_with_a_reset = record {
   service = service;
   reset = reset;
   runs = ((((((((empty_starts, ports_fit Ready refl), happens1), happens2), happens3), happens4), happens5), happens6), happens7);
-  heeds = (((((((tt, tt), tt), tt), tt), tt), λ p ready. dead_not_ready p ready), tt);
+  heeds = (((((((tt, spares_ports), tt), tt), tt), tt), λ p ready. dead_not_ready p ready), tt);
   ticks = (refl, refl, refl);
   aged = aged 2;
   old = refl;

@@ -161,7 +161,7 @@ placed_event ask said old evidence steps new was e fit here placed (Serves t r p
 placed_event ask said old evidence steps new was e fit here placed (Ticks r ages hung empty keep) = ⊎_elim
     (λ ready. inl (emptied_ready new e here (empty e.request.port ready)))
     (λ dead. ⊎_elim
-    (λ same. inr (same.1 ∙ dead.0, keep dead.1))
+    (λ same. inr (same.1.1 ∙ dead.0, keep dead.1))
     (λ h. absurd (false≢true (ap is_ready (sym dead.0) ∙ ap is_ready h.0.ready)))
     (hung.ports e.request.port))
     placed
@@ -315,7 +315,7 @@ kept_event : {D : Type 0} (ask : Ask D) (said : Said) (old : Moment) (evidence :
 kept_event ask said old evidence steps new port fit none dead (Leaves t r same keep) = (same port).1 ∙ dead
 kept_event ask said old evidence steps new port fit none dead (Serves t r ports) = ((ports port).1.0 dead).1 ∙ dead
 kept_event ask said old evidence steps new port fit none dead (Ticks r ages hung empty keep) = ⊎_elim
-    (λ same. same.1 ∙ dead)
+    (λ same. same.1.1 ∙ dead)
     (λ h. absurd (false≢true (ap is_ready (sym dead) ∙ ap is_ready h.0.ready)))
     (hung.ports port)
 kept_event ask said old evidence steps new port fit none dead (Resets t releases ports) =

@@ -1,5 +1,5 @@
 -- What the worked runs are made of: ports, calls and requests, and what holds of them.
-use Rattle.std.proofs.Common.{◌≡◌, ◌≢◌, ℕ, ◌+◌, ◌<◌, ◌≤◌, true, false, not, List, [], ◌∷◌, ◌++◌, map, slice_get, Some, is_some, ◌||◌, ◌==◌, eq-eqb, None, inl, inr, ⊎_elim, refl, sym, ap, ◌∙◌, subst, arith, Bool, cond, eqb-true}
+use Rattle.std.proofs.Common.{◌≡◌, ◌≢◌, ◌⊎◌, ℕ, ◌+◌, ◌<◌, ◌≤◌, true, false, not, List, [], ◌∷◌, ◌++◌, map, slice_get, Some, is_some, ◌||◌, ◌==◌, eq-eqb, None, inl, inr, ⊎_elim, refl, sym, ap, ◌∙◌, subst, arith, Bool, cond, eqb-true}
 use Rattle.std.proofs.lemmas.Bool.{false≢true, or_left, or_from, or_parts, false_from_ne_true, cond-true, cond-false}
 use Rattle.std.specs.List.{Contains, list_any, count_by}
 use Rattle.std.specs.List.Sorted.{IsPermutation}
@@ -26,8 +26,8 @@ use Rattle.block_machine.specs.Refusals.{IsOpen}
 use Rattle.block_machine.specs.Due.{NoneDue, is_flush}
 use Rattle.block_machine.specs.State.{Accepted, Pending, Machine, block_of, is_reader, unanswered}
 use Rattle.block_machine.specs.Steps.{Step, Touch, End, Answer, newly_accepted, issue, touch, mark_ended, IsNew}
-use Rattle.block_machine.specs.Ports.{Ports, Evidence, AreFit, SamePort, SamePorts, IsServiced}
-use Rattle.block_machine.specs.Events.{Moment, Ask, Said, Event, AllGrounded, AnswersEnded, AreTold, UnplugsAll, FindsAnother, AnswersService, ServesReady, tells_fault, Tells, situation_of, answers_of, reply_of}
+use Rattle.block_machine.specs.Ports.{Ports, Evidence, AreFit, SamePort, SamePorts, MayBecome, IsServiced}
+use Rattle.block_machine.specs.Events.{Moment, Ask, Said, Event, IsHung, IsInterrupted, AllGrounded, AnswersEnded, AreTold, UnplugsAll, FindsAnother, AnswersService, ServesReady, tells_fault, Tells, situation_of, answers_of, reply_of}
 use Rattle.block_machine.proofs.Members.{contains_none, contains_here, contains_cases, append_in, none_of}
 use Rattle.block_machine.proofs.Counting.{count_cons, count_append}
 use Rattle.block_machine.proofs.Keeps.{same_port}
@@ -272,8 +272,42 @@ none_dead {A} p e = go (p.0 == 0) e
 pub serviced : (p : Port) → IsServiced ports none ports p
 serviced p = (
   λ dead. none_dead p dead,
-  λ _. record { served = refl; stuck = λ e. none_dead p e; dies = λ h. absurd (contains_none p h); disk = λ ready. inr (inr (ready, (refl, refl))) },
+  λ _. record { served = refl; stuck = λ e. none_dead p e; dies = λ h. absurd (contains_none p h); disk = λ ready. inr (inr (ready, (refl, refl))); keeps = λ _. (refl, refl) },
 )
+
+-- a port that no call got stuck stays ready
+pub stay_ready : (evidence : Evidence) → evidence.stuck ≡ [] → (p : Port) → MayBecome ports evidence ports p
+stay_ready evidence none p = record {
+  served = refl;
+  stuck = λ dead. none_dead p dead;
+  dies = λ h. absurd (contains_none p (subst (λ (stuck : List Port). Contains stuck p) none h));
+  disk = λ ready. inr (inr (ready, (refl, refl)));
+  keeps = λ _. (refl, refl);
+}
+
+-- what a tick makes of each port where port 0 is hung: that becomes what it may, in this state, and the others stay as they are
+pub restarts_into : (m : Machine) (state : PortState) (evidence : Evidence) → IsHung (record { machine = m; ports = ports }) port → ((p : Port) → MayBecome ports evidence (ports_in state) p)
+    → (p : Port) → ((IsHung (record { machine = m; ports = ports }) p → ⊥) × SamePort ports (ports_in state) p) ⊎ (IsHung (record { machine = m; ports = ports }) p × MayBecome ports evidence (ports_in state) p)
+restarts_into m state evidence hung becomes p = go (p.0 == 0) refl
+  where
+    old : Moment
+    old = record { machine = m; ports = ports }
+
+    go : (b : Bool) → (p.0 == 0) ≡ b → ((IsHung old p → ⊥) × SamePort ports (ports_in state) p) ⊎ (IsHung old p × MayBecome ports evidence (ports_in state) p)
+    go true e = inr (subst (λ (x : Port). IsHung old x) (sym (same_port p port (eqb-true p.0 0 e))) hung, becomes p)
+    go false e = inl (
+      λ h. false≢true (sym e ∙ eq-eqb p.0 0 (ap (λ (x : Port). x.0) (ready_port p h.ready))),
+      (refl, cond-false (p.0 == 0) state Absent e ∙ sym (cond-false (p.0 == 0) Ready Absent e), refl, refl, refl, refl),
+    )
+
+-- a tick that restarts port 0 and finds it ready again
+pub restarts_here : (m : Machine) (evidence : Evidence) → evidence.stuck ≡ [] → IsHung (record { machine = m; ports = ports }) port
+    → (p : Port) → ((IsHung (record { machine = m; ports = ports }) p → ⊥) × SamePort ports ports p) ⊎ (IsHung (record { machine = m; ports = ports }) p × MayBecome ports evidence ports p)
+restarts_here m evidence none hung = restarts_into m Ready evidence hung (stay_ready evidence none)
+
+-- a call without evidence interrupts no port
+pub spares_ports : (p : Port) → IsInterrupted none p → ⊥
+spares_ports p i = ⊎_elim (contains_none p) (contains_none p) i
 
 -- What a service does where it has nothing to do but to answer.
 

@@ -12,7 +12,7 @@ use Rattle.block_machine.specs.Events.{Tick, Device, Served, Stepped, Event, IsH
 use Rattle.block_machine.specs.Worked.{EndsAtATick}
 use Rattle.block_machine.proofs.Members.{contains_none, contains_here, contains_cases}
 use Rattle.block_machine.proofs.Setting.{port, empty_starts}
-use Rattle.block_machine.proofs.Scene.{first, ports, call, ready_port, none_there, one_told, none_unplugged, finds_none, last_ended, one_touched, ports_fit}
+use Rattle.block_machine.proofs.Scene.{first, ports, call, ready_port, none_there, one_told, none_unplugged, finds_none, last_ended, one_touched, restarts_here, spares_ports, ports_fit}
 use Rattle.block_machine.proofs.WaitingRun.{write, happens1}
 use Rattle.block_machine.proofs.ResetRun.{aging, aged, halted, run3, happens2, happens3, ages_once}
 
@@ -65,7 +65,7 @@ port_of _ = port
 
 restarted : RestartsHung (moment_of first run4) halted tick.steps (moment_of first run5)
 restarted = record {
-  ports = λ p. inl (refl, refl, refl, refl, refl, refl);
+  ports = restarts_here (moment_of first run4).machine halted refl hung;
   again = λ e h. absurd (false≢true (sym (each (λ step. is_again step ≡ false) refl refl (Again e) h)));
   answer = λ e o h. each (λ step. (x : Pending) (a : Outcome) → step ≡ Answer x a → IsHung (moment_of first run4) x.request.port)
       (λ x a q. subst (λ (y : Step). IsHung (moment_of first run4) (port_of y)) q hung)
@@ -112,7 +112,7 @@ ends_at_a_tick = record {
   ending = ending;
   tick = tick;
   runs = ((((((empty_starts, ports_fit Ready refl), happens1), happens2), happens3), happens4), happens5);
-  heeds = (((((tt, tt), tt), tt), tt), tt);
+  heeds = (((((tt, spares_ports), tt), tt), spares_ports), tt);
   aged = aged 2;
   old = refl;
   not_ended = (refl, refl);

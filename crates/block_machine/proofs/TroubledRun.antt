@@ -19,7 +19,7 @@ use Rattle.block_machine.specs.Worked.{MeetsTrouble}
 use Rattle.block_machine.proofs.Members.{contains_none, contains_here, contains_there, contains_cases, none_of}
 use Rattle.block_machine.proofs.Keeps.{same_port}
 use Rattle.block_machine.proofs.Setting.{on, frame, row, two_rows, empty, empty_starts, acceptable}
-use Rattle.block_machine.proofs.Scene.{mode, id, one_sector, done, none, is_ready, is_dead, IsQuiet, row_zero, write_at, fit_read, new, none_waits, none_there, one_told, none_told, one_touched, none_ended, last_ended, none_unplugged, is_unfit, is_fault, is_told_dead, no_faults, one_fault, emptied_at}
+use Rattle.block_machine.proofs.Scene.{mode, id, one_sector, done, none, is_ready, is_dead, IsQuiet, row_zero, write_at, fit_read, new, none_waits, none_there, one_told, none_told, one_touched, none_ended, last_ended, none_unplugged, is_unfit, is_fault, is_told_dead, spares_ports, no_faults, one_fault, emptied_at}
 
 -- ports 0 and 1 in these states, and no other port
 abbrev both : PortState → PortState → Port → PortState
@@ -173,7 +173,7 @@ zero_ready p e = go (p.0 == 0) refl (p.0 == 1) e
 stays : (p : Port) → IsServiced (ports_in Ready Absent) failure (ports_in Ready Absent) p
 stays p = (
   λ dead. not_dead Ready Absent refl refl p dead,
-  λ _. record { served = refl; stuck = λ dead. not_dead Ready Absent refl refl p dead; dies = λ h. absurd (contains_none p h); disk = λ ready. inr (inr (ready, (refl, refl))) },
+  λ _. record { served = refl; stuck = λ dead. not_dead Ready Absent refl refl p dead; dies = λ h. absurd (contains_none p h); disk = λ ready. inr (inr (ready, (refl, refl))); keeps = λ _. (refl, refl) },
 )
 
 -- one of them waits for nothing
@@ -375,7 +375,7 @@ happens7 = record {
       ),
       contains_here (on 0) (on 1 ∷ []) (on 0) refl,
     ),
-    (contains_here (on 1) [] (on 1) refl, λ _. second (on 0) (on 1)),
+    (contains_here (on 1) [] (on 1) refl, second (on 0) (on 1)),
   );
   fit = fit Ready Absent refl refl;
   disks = λ e o h i same. (refl, refl);
@@ -393,6 +393,7 @@ happens7 = record {
         stuck = λ dead. not_dead Ready Absent refl refl p dead;
         dies = λ h. absurd (contains_none p h);
         disk = λ ready. ⊎_elim (λ same. inl (contains_here (on 1) [] p same)) (λ still. inr (inr (still, (refl, refl)))) (still_ready p ready);
+        keeps = λ _. (refl, refl);
       },
     );
     disk = λ p ne ready. absurd (ne (subst (λ (x : Port). both Ready Ready x ≡ Ready) (sym (zero_ready p ready)) refl));
@@ -454,7 +455,7 @@ happens10 = record {
   may = (tt, contains_here (tried 4) [] (tried 4) refl);
   belong = (tt, inr tt);
   last = (tt, λ id h i. false≢true i);
-  lawful = (tt, (record { pending = tried 4; here = contains_here (tried 4) [] (tried 4) refl; id_is = refl; issued = refl }, refl, refl, contains_here (on 0) [] (on 0) refl));
+  lawful = (tt, (record { pending = tried 4; here = contains_here (tried 4) [] (tried 4) refl; id_is = refl; issued = refl }, refl, refl, contains_here (on 0) [] (on 0) refl, (refl, refl)));
   fit = fit Ready Absent refl refl;
   disks = λ e o h i same. (refl, refl);
   answered = record {
@@ -478,7 +479,7 @@ meets_trouble = record {
   fourth = retry 3;
   last = abort;
   runs = (((((((((((empty_starts, fit Ready Ready refl refl), happens1), happens2), happens3), happens4), happens5), happens6), happens7), retried (moment_of first run7).machine 2 (omega arith)), retried (moment_of first (retry 2 ∷ run7)).machine 3 (omega arith)), happens10);
-  heeds = ((((((((((tt, tt), tt), tt), tt), tt), tt), serves_ready), retry_heeds (moment_of first run7).machine 2), retry_heeds (moment_of first (retry 2 ∷ run7)).machine 3), λ p ready. fails (moment_of first run9) (moment_after (moment_of first run9) abort) abort.steps p ready refl refl (λ e h. absurd (contains_none e h)));
+  heeds = ((((((((((tt, spares_ports), spares_ports), spares_ports), spares_ports), spares_ports), spares_ports), serves_ready), retry_heeds (moment_of first run7).machine 2), retry_heeds (moment_of first (retry 2 ∷ run7)).machine 3), λ p ready. fails (moment_of first run9) (moment_after (moment_of first run9) abort) abort.steps p ready refl refl (λ e h. absurd (contains_none e h)));
   told = (((((((((((((((((((((tt, tt), tt), tt), tt), tt), tt), tt), tt), λ e. absurd (false≢true (ap is_reader e))), tt), tt), tt), tt), tt), tt), tt), tt), tt), tt), tt), tt);
   volatile = (((((((((((((((((((((tt, tt), tt), tt), tt), tt), tt), tt), tt), tt), tt), tt), tt), tt), tt), tt), tt), tt), tt), tt), tt), tt);
   lost = losing;

@@ -16,7 +16,7 @@ use Rattle.block_machine.specs.Durable.{SameBytes, HeldSince}
 use Rattle.block_machine.specs.Worked.{FindsTheFlushed, MayComeBack, ReadsOneOf}
 use Rattle.block_machine.proofs.Members.{contains_none, contains_here, contains_there, contains_cases}
 use Rattle.block_machine.proofs.Setting.{client, port, frame, request, empty, empty_starts, acceptable}
-use Rattle.block_machine.proofs.Scene.{mode, first, none, at_port, ports_in, id, call, reply, sector_request, done, served, is_open, IsQuiet, row_zero, fit_write, fit_read, fit_flush, new, one_issued, none_there, one_told, none_told, one_touched, ports_fit, none_dead, none_ended, none_unplugged, all_calmly, plain_service, ready_port, absent_not_ready, absent_not_dead}
+use Rattle.block_machine.proofs.Scene.{mode, first, none, at_port, ports_in, id, call, reply, sector_request, done, served, is_open, IsQuiet, row_zero, fit_write, fit_read, fit_flush, new, one_issued, none_there, one_told, none_told, one_touched, ports_fit, none_dead, none_ended, none_unplugged, all_calmly, plain_service, ready_port, spares_ports, absent_not_ready, absent_not_dead}
 
 abbrev run0 : List (Event (Unit {0}))
 run0 = []
@@ -268,7 +268,7 @@ happens10 = record {
     unplugs = none_unplugged [] (moment_of first run10).machine refl;
     issues = λ p _. none_there p;
     emptied = λ p ne e h. absurd (contains_none e h);
-    becomes = λ p. (λ dead. none_dead p dead, λ _. record { served = refl; stuck = λ dead. absent_not_dead p dead; dies = λ h. absurd (contains_none p h); disk = λ ready. inl (contains_here port [] p (ready_port p ready)) });
+    becomes = λ p. (λ dead. none_dead p dead, λ _. record { served = refl; stuck = λ dead. absent_not_dead p dead; dies = λ h. absurd (contains_none p h); disk = λ ready. inl (contains_here port [] p (ready_port p ready)); keeps = λ _. (refl, refl) });
     disk = λ p _ ready. absent_not_ready p ready;
   };
 }
@@ -303,7 +303,7 @@ happens12 disk = record {
     unplugs = none_unplugged [] (moment_of first (run12 disk)).machine refl;
     issues = λ p _. none_there p;
     emptied = λ p ne e h. absurd (contains_none e h);
-    becomes = λ p. (λ dead. absent_not_dead p dead, λ _. record { served = refl; stuck = λ dead. none_dead p dead; dies = λ h. absurd (contains_none p h); disk = λ ready. absent_not_ready p ready });
+    becomes = λ p. (λ dead. absent_not_dead p dead, λ _. record { served = refl; stuck = λ dead. none_dead p dead; dies = λ h. absurd (contains_none p h); disk = λ ready. absent_not_ready p ready; keeps = λ _. (refl, refl) });
     disk = λ p _ ready. inl (present p ready);
   };
 }
@@ -362,7 +362,7 @@ notices p ready = record {
 }
 
 heeds10 : AllHeed first run10
-heeds10 = ((((((((((tt, tt), tt), all_calmly (moment_of first run2) (moment_of first run3) event3.steps (λ p. (refl, refl, refl, refl, refl, refl)) refl (none_ended (moment_of first run2).machine event3.steps refl)), tt), all_calmly (moment_of first run4) (moment_of first run5) event5.steps (λ p. (refl, refl, refl, refl, refl, refl)) refl (none_ended (moment_of first run4).machine event5.steps refl)), tt), tt), all_calmly (moment_of first run7) (moment_of first run8) event8.steps (λ p. (refl, refl, refl, refl, refl, refl)) refl (none_ended (moment_of first run7).machine event8.steps refl)), tt), notices)
+heeds10 = ((((((((((tt, spares_ports), spares_ports), all_calmly (moment_of first run2) (moment_of first run3) event3.steps (λ p. (refl, refl, refl, refl, refl, refl)) refl (none_ended (moment_of first run2).machine event3.steps refl)), spares_ports), all_calmly (moment_of first run4) (moment_of first run5) event5.steps (λ p. (refl, refl, refl, refl, refl, refl)) refl (none_ended (moment_of first run4).machine event5.steps refl)), spares_ports), spares_ports), all_calmly (moment_of first run7) (moment_of first run8) event8.steps (λ p. (refl, refl, refl, refl, refl, refl)) refl (none_ended (moment_of first run7).machine event8.steps refl)), spares_ports), notices)
 
 -- What the sector held since the flush was ended: the bytes of the one write or of the other.
 since_flush : (block : Block) → HeldSince empty port 100 block (steps_of run10) → SameBytes block (write.held 0) ⊎ SameBytes block (later.held 0)
@@ -392,7 +392,7 @@ finds disk back = record {
   service = event12;
   late = event15 disk ∷ event14 disk ∷ event13 disk ∷ [];
   runs = (((((runs10, happens11 disk), happens12 disk), happens13 disk), happens14 disk), happens15 disk);
-  heeds = (((((heeds10, tt), λ p ready. absent_not_ready p ready), tt), all_calmly (moment_of first (run13 disk)) (moment_of first (run14 disk)) (event14 disk).steps (λ p. (refl, refl, refl, refl, refl, refl)) refl (none_ended (moment_of first (run13 disk)).machine (event14 disk).steps refl)), tt);
+  heeds = (((((heeds10, spares_ports), λ p ready. absent_not_ready p ready), spares_ports), all_calmly (moment_of first (run13 disk)) (moment_of first (run14 disk)) (event14 disk).steps (λ p. (refl, refl, refl, refl, refl, refl)) refl (none_ended (moment_of first (run13 disk)).machine (event14 disk).steps refl)), spares_ports);
   told = ((((((((((((((((((((((((tt, tt), tt), tt), λ e. absurd (false≢true (ap is_reader e))), tt), tt), tt), tt), tt), tt), tt), tt), tt), λ e. absurd (false≢true (ap is_reader e))), tt), tt), tt), tt), tt), tt), λ _ b lt. refl), tt), tt), tt);
   volatile = ((((((((((((((((((((((((tt, tt), tt), tt), tt), tt), tt), tt), tt), tt), tt), tt), tt), tt), tt), tt), tt), tt), back), tt), tt), tt), tt), tt), tt);
   comes = refl;

@@ -188,8 +188,8 @@ IsLawful old evidence ports e outcome.Ok = WasIssued old.machine e.request.id ×
 IsLawful old evidence ports e (outcome.DeviceError status error) = WasIssued old.machine e.request.id × (e.issued ≡ true)
     × Contains evidence.faults (record { id = e.request.id; status = status; error = error }) × Contains evidence.stopped e.request.port
 IsLawful old evidence ports e outcome.Aborted = WasIssued old.machine e.request.id × (e.issues ≡ 4) × (ports.state e.request.port ≡ Ready)
-    × Contains evidence.stopped e.request.port
-IsLawful old evidence ports e outcome.Unplugged = Contains evidence.lost e.request.port × (e.issued ≡ true → Contains evidence.stopped e.request.port)
+    × Contains evidence.stopped e.request.port × SameDisk old.ports ports e.request.port
+IsLawful old evidence ports e outcome.Unplugged = Contains evidence.lost e.request.port × Contains evidence.stopped e.request.port
 IsLawful old evidence ports e outcome.PortDead = (ports.state e.request.port ≡ Dead)
     × ((old.ports.state e.request.port ≡ Dead) ⊎ Contains evidence.stuck e.request.port)
 
@@ -281,7 +281,7 @@ pub record UnplugsAll (steps : List Step) (new : Machine) : Type 0 where
 abbrev pub IsInterrupted : Evidence → Port → Type 0
 IsInterrupted evidence port = Contains evidence.stopped port ⊎ Contains evidence.stuck port
 
--- Where a request is told Unplugged, its port is neither dead nor ready with serial and size as before: a restart, or a reset, lets
+-- Where a request is told Unplugged, its port is neither dead nor ready with serial and size as before: a tick, or a reset, lets
 -- requests go again where it finds the same disk.
 abbrev pub FindsAnother : List Step → Ports → Ports → Type 0
 FindsAnother steps old new = (e : Pending) → Contains steps (Answer e outcome.Unplugged)
@@ -303,7 +303,8 @@ pub record AgesOnce (ports : Ports) (steps : List Step) : Type 0 where
 -- A tick restarts each port that is hung, and no other: what had ended there is answered Ok, and no request then keeps its issue.
 -- Other ports stay what they are, and nothing is answered there.
 pub record RestartsHung (old : Moment) (evidence : Evidence) (steps : List Step) (new : Moment) : Type 0 where
-  pub ports : (port : Port) → SamePort old.ports new.ports port ⊎ (IsHung old port × MayBecome old.ports evidence new.ports port)
+  pub ports : (port : Port) → ((IsHung old port → ⊥) × SamePort old.ports new.ports port)
+      ⊎ (IsHung old port × MayBecome old.ports evidence new.ports port)
   pub again : (e : Pending) → Contains steps (Again e) → IsHung old e.request.port
   pub answer : (e : Pending) (o : Outcome) → Contains steps (Answer e o) → IsHung old e.request.port
   pub ended : (port : Port) → IsHung old port → AnswersEnded old.machine steps port
@@ -333,8 +334,9 @@ AllGrounded evidence (Answer e (outcome.DeviceError status error) ∷ before) = 
 AllGrounded evidence (step ∷ before) = AllGrounded evidence before
 
 -- What a service says and does. It tells dead ports; it lets requests wait again, aborts them, or tells faults of them, where
--- something failed; it issues what is due; it leaves no request unanswered where the port isn't ready; and it makes of each port
--- what it may.
+-- something failed; where it tells one of a port's requests Unplugged, it leaves none of that port's unanswered; it issues what is
+-- due; it leaves no request unanswered where the port isn't ready; it makes of each port what it may; and one that gets ready had
+-- a disk, or got it.
 pub record AnswersService (old : Moment) (evidence : Evidence) (steps : List Step) (replies : List Reply) (new : Moment) : Type 0 where
   pub tells : Tells steps replies
   pub dead : TellsDead old steps
@@ -355,7 +357,7 @@ pub record AnswersTick (old : Moment) (evidence : Evidence) (steps : List Step) 
   pub emptied : (port : Port) → old.ports.state port ≡ Ready → IsEmptied new port
 
 -- What a reset that ends makes of each port: it boots it, none of its requests keeps an issue, none is unanswered where it isn't
--- ready then, a port that is served has stopped, and one that gets ready had a disk.
+-- ready then, a port that is served has stopped, and one that gets ready had a disk, or got it.
 pub record IsRebooted (old : Moment) (evidence : Evidence) (steps : List Step) (new : Moment) (port : Port) : Type 0 where
   pub emptied : IsEmptied new port
   pub becomes : MayBecome old.ports evidence new.ports port
@@ -443,7 +445,8 @@ pub record IsLeftAlone (old : Ports) (evidence : Evidence) (steps : List Step) (
 -- What a service owes a port that was ready when it began. What had ended is answered Ok. Where the port's link had told of a
 -- change, all its requests are answered, and those that aren't Ok are all told Unplugged, or all PortDead. Where that is so, or it
 -- failed, the port is stopped, or gets stuck; and so where it isn't what it was. Where it failed or was stopped, no request keeps
--- its issue. One fault is told at most, and none where an error was fatal. And where nothing disturbs it, the port is left alone.
+-- its issue. One fault is told at most, and none where an error was fatal, which is a failure, too. And where nothing disturbs it,
+-- the port is left alone.
 pub record ServesReady (old : Moment) (evidence : Evidence) (steps : List Step) (new : Moment) (port : Port) : Type 0 where
   pub ended : AnswersEnded old.machine steps port
   pub emptied : Contains evidence.gone port → (e : Pending) → Contains new.machine.book e → e.request.port ≢ port
@@ -452,14 +455,16 @@ pub record ServesReady (old : Moment) (evidence : Evidence) (steps : List Step) 
   pub changes : SamePort old.ports new.ports port ⊎ IsInterrupted evidence port
   pub anew : Contains evidence.failed port ⊎ Contains evidence.stopped port → NoneKeepsIssue steps new.machine port
   pub single : count_by (tells_fault port) steps ≤ 1
-  pub fatal : Contains evidence.fatal port → count_by (tells_fault port) steps ≡ 0
+  pub fatal : Contains evidence.fatal port → Contains evidence.failed port × (count_by (tells_fault port) steps ≡ 0)
   pub calm : IsDisturbed evidence steps port ⊎ IsLeftAlone old.ports evidence steps new.ports port
 
--- A call heeds what it finds: a service does so with each port that was ready when it began. (The other calls are bound by what
--- they answer.)
+-- A call heeds what it finds: a service does so with each port that was ready when it began. A tick and a reset are bound by what
+-- they answer; and no other call stops a port, or gets one stuck.
 abbrev pub Heeds : {D : Type 0} → Ask D → Moment → Evidence → List Step → Moment → Type 0
 Heeds Service old evidence steps new = (port : Port) → old.ports.state port ≡ Ready → ServesReady old evidence steps new port
-Heeds _ old evidence steps new = Unit {0}
+Heeds Tick old evidence steps new = Unit {0}
+Heeds Reset old evidence steps new = Unit {0}
+Heeds _ old evidence steps new = (port : Port) → IsInterrupted evidence port → ⊥
 
 -- each call of the run heeds what it finds
 abbrev pub AllHeed : {D : Type 0} → Moment → List (Event D) → Type 0

@@ -138,7 +138,7 @@ never_dead s port ready dead = by (nat_eq port.0 0) dead
 serviced_same : (old new : Ports) → old ≡ new → (port : Port) → IsServiced old no_evidence new port
 serviced_same old new is port = subst (λ (ports : Ports). IsServiced old no_evidence ports port) is (
   λ dead. (refl, refl, refl, refl, refl, refl),
-  λ lives. record { served = refl; stuck = λ dead. absurd (lives dead); dies = λ h. absurd (contains_none port h); disk = λ ready. inr (inr (ready, (refl, refl))) },
+  λ lives. record { served = refl; stuck = λ dead. absurd (lives dead); dies = λ h. absurd (contains_none port h); disk = λ ready. inr (inr (ready, (refl, refl))); keeps = λ _. (refl, refl) },
 )
 
 not_unplugged : Unplugged ≡ Ok → ⊥
