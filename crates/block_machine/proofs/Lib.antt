@@ -27,6 +27,7 @@ pub mod WorkedRun
 pub mod WaitingRun
 pub mod ResetRun
 pub mod TroubledRun
+pub mod UnpluggedRun
 pub mod TickedRun
 pub mod RebootedRun
 pub mod DyingRun

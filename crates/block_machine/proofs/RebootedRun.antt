@@ -1,7 +1,6 @@
 -- A run in which resets issue a request anew, abort it in the end, and issue one that waited for it.
-use Rattle.std.proofs.Common.{◌≡◌, ℕ, ◌<◌, true, suc, List, [], ◌∷◌, Some, inr, ⊎_elim, refl, sym, subst, arith}
+use Rattle.std.proofs.Common.{◌≡◌, ℕ, ◌<◌, true, suc, List, [], ◌∷◌, Some, inr, refl, arith}
 use Rattle.std.proofs.lemmas.Bool.{false≢true}
-use Rattle.std.specs.List.{Contains}
 use Rattle.ata_types.specs.declared.Port.{Port}
 use Rattle.ata_types.specs.declared.PortState.TheVariants.{Ready}
 use Rattle.ata_types.specs.declared.request.Outcome.TheVariants as outcome
@@ -10,9 +9,9 @@ use Rattle.block_machine.specs.State.{Pending, Machine, unanswered}
 use Rattle.block_machine.specs.Steps.{Issue, Again, Answer, Release, newly_accepted, issue, requeued}
 use Rattle.block_machine.specs.Events.{Moment, Reset, WasReset, Event, Happens, IsIssuedIn, reply_of, moment_of, moment_after}
 use Rattle.block_machine.specs.Worked.{GoesAgainInResets}
-use Rattle.block_machine.proofs.Members.{contains_none, contains_here, contains_cases}
+use Rattle.block_machine.proofs.Members.{contains_none, contains_here}
 use Rattle.block_machine.proofs.Setting.{port, empty_starts}
-use Rattle.block_machine.proofs.Scene.{mode, ports, first, one_issued, one_told, none_told, none_unplugged, finds_none, emptied_of, only_one, ports_fit, none_dead, spares_ports}
+use Rattle.block_machine.proofs.Scene.{mode, ports, first, one_issued, one_told, none_told, none_unplugged, finds_none, emptied_of, only_one, of_two, ports_fit, none_dead, spares_ports}
 use Rattle.block_machine.proofs.WaitingRun.{write, read, run2, happens1, happens2, none_due}
 use Rattle.block_machine.proofs.ResetRun.{halted, stopped_here}
 
@@ -36,12 +35,6 @@ abort = record { ask = Reset; said = WasReset (Some (reply_of (tried 4, outcome.
 becomes : (p : Port) → MayBecome ports halted ports p
 becomes p = record { served = refl; stuck = λ dead. none_dead p dead; dies = λ h. absurd (contains_none p h); disk = λ ready. inr (inr (ready, (refl, refl))); keeps = λ _. (refl, refl) }
 
-two_of : (n : ℕ) (P : Pending → Type 0) → P (tried n) → P waits → (e : Pending) → Contains (tried n ∷ waits ∷ []) e → P e
-two_of n P a b e h = ⊎_elim
-    (λ (same : e ≡ tried n). subst P (sym same) a)
-    (λ i. ⊎_elim (λ (same : e ≡ waits). subst P (sym same) b) (λ none. absurd (contains_none e none)) (contains_cases waits [] e i))
-    (contains_cases (tried n) (waits ∷ []) e h)
-
 -- the moment before a reset
 abbrev before : Machine → ℕ → Moment
 before m n = record { machine = record m { book = tried n ∷ waits ∷ []; kept = [] }; ports = ports }
@@ -64,9 +57,9 @@ again m n few = record {
     finds = finds_none (retry n).steps ports ports refl;
     issues = λ p _. none_due p;
     reboots = λ p. record {
-      emptied = emptied_of (tried (suc n) ∷ waits ∷ []) (two_of (suc n) (λ e. e.request.port ≡ port) refl refl) p;
+      emptied = emptied_of (tried (suc n) ∷ waits ∷ []) (of_two (tried (suc n)) waits (λ e. e.request.port ≡ port) refl refl) p;
       becomes = becomes p;
-      anew = λ e h _ issued. two_of (suc n) (λ x. x.issued ≡ true → IsIssuedIn x.request.id (retry n).steps) (λ _. refl) (λ t. absurd (false≢true t)) e h issued;
+      anew = λ e h _ issued. of_two (tried (suc n)) waits (λ x. x.issued ≡ true → IsIssuedIn x.request.id (retry n).steps) (λ _. refl) (λ t. absurd (false≢true t)) e h issued;
       stopped = stopped_here p;
       disk = λ ne ready. absurd (ne ready);
     };

@@ -437,6 +437,13 @@ plain_service old new steps replies tells plugged grounded issues mine = record 
 pub only_one : (one : Pending) (P : Pending → Type 0) → P one → (e : Pending) → Contains (one ∷ []) e → P e
 only_one one P a e h = ⊎_elim (λ (same : e ≡ one). subst P (sym same) a) (λ n. absurd (contains_none e n)) (contains_cases one [] e h)
 
+-- of the two requests of a book
+pub of_two : (a b : Pending) (P : Pending → Type 0) → P a → P b → (e : Pending) → Contains (a ∷ b ∷ []) e → P e
+of_two a b P x y e h = ⊎_elim
+    (λ (same : e ≡ a). subst P (sym same) x)
+    (λ i. only_one b P y e i)
+    (contains_cases a (b ∷ []) e h)
+
 -- where a port is ready, one request of it is no other port's
 pub emptied_at : (state : Port → PortState) (one : Pending) → state one.request.port ≡ Ready → (p : Port) → state p ≢ Ready → (e : Pending) → Contains (one ∷ []) e → e.request.port ≢ p
 emptied_at state one ready p ne e h q = ⊎_elim

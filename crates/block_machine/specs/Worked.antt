@@ -206,6 +206,31 @@ pub record EndsAtATick : Type 0 where
   pub answers : tick.said ≡ Served (reply_of (ended, Ok) ∷ [])
   pub none_left : (moment_of first (tick ∷ ending ∷ early)).machine.book ≡ []
 
+-- In a run of calls two requests are unanswered, one issued two ticks ago and one that waits for it, and their disk is taken out. No
+-- service notices, but the third tick, which finds the port hung: it answers both Unplugged, and the port is absent then.
+pub record IsTakenOutBeforeATick : Type 0 where
+  pub first : Moment
+  pub early : List (Event (Unit {0}))
+  pub going : Event (Unit {0})
+  pub tick : Event (Unit {0})
+  pub runs : IsRun first (tick ∷ going ∷ early)
+  pub heeds : AllHeed first (tick ∷ going ∷ early)
+  pub issued : Pending
+  pub waits : Pending
+  pub book : (moment_of first early).machine.book ≡ issued ∷ waits ∷ []
+  pub old : (issued.issued ≡ true) × (issued.age ≡ 2) × (issued.ended ≡ false) × (waits.issued ≡ false)
+  pub told_to : going.ask ≡ Device tt
+  pub goes : going.steps ≡ Unplug issued.request.port ∷ []
+  pub ticks : tick.ask ≡ Tick
+  pub tells : tick.said ≡ Served (reply_of (issued, Unplugged) ∷ reply_of (waits, Unplugged) ∷ [])
+  pub lost : (Contains tick.evidence.lost issued.request.port) × (Contains tick.evidence.stopped issued.request.port)
+  pub absent : (moment_of first (tick ∷ going ∷ early)).ports.state issued.request.port ≡ Absent
+  pub none_left : (moment_of first (tick ∷ going ∷ early)).machine.book ≡ []
+  pub frame : Frame
+  pub its : issued.request.asked.frames.items ≡ frame ∷ []
+  pub lent : (moment_of first (going ∷ early)).machine.lent frame ≡ Some issued.request.id
+  pub freed : (moment_of first (tick ∷ going ∷ early)).machine.lent frame ≡ None
+
 -- In a run of calls two requests are unanswered, one issued and one that waits for it, and the server is reset four times, with
 -- success. Three resets issue the one anew. The fourth aborts it, and issues the other.
 pub record GoesAgainInResets : Type 0 where

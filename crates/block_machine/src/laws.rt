@@ -28,7 +28,7 @@ ghost use Rattle.block_machine.specs.Left.{IsStart, IsLegal, AllTold, HasTouched
 ghost use Rattle.block_machine.specs.Confined.{IsGranted, IsConfined, IsHeld, WasAccepted, WithinLimits, MayChangeByte, MayChangeSector};
 ghost use Rattle.block_machine.specs.Durable.{IsVolatile, EveryPlugFinds};
 ghost use Rattle.block_machine.specs.Events.{Moment, Event, AllIssued, Happens, IsRun, IsStillStuck, EveryReadHolds, accepts_it, answers_it, issues_it, gives_id, replies_of, all_replies, WasGiven, moment_of, steps_of};
-ghost use Rattle.block_machine.specs.Worked.{FindsTheFlushed, WaitsItsTurn, EndsWithAReset, MeetsTrouble, EndsAtATick, GoesAgainInResets, DiesInAService, GoesWrong};
+ghost use Rattle.block_machine.specs.Worked.{FindsTheFlushed, WaitsItsTurn, EndsWithAReset, MeetsTrouble, EndsAtATick, IsTakenOutBeforeATick, GoesAgainInResets, DiesInAService, GoesWrong};
 
 /// One rule is the first that a request breaks.
 pub fn first_broken_rule_is_one()
@@ -333,6 +333,11 @@ pub fn a_troubled_run_exists()
 /// A run exists in which a tick answers a request that had ended.
 pub fn a_ticked_run_exists()
     ensures { EndsAtATick }
+{}
+
+/// A run exists in which a tick finds a port hung whose disk was taken out, and tells its requests Unplugged, issued or not.
+pub fn an_unplugged_run_exists()
+    ensures { IsTakenOutBeforeATick }
 {}
 
 /// A run exists in which resets issue a request anew, abort it after its fourth issue, and issue one that waited for it.
