@@ -29,7 +29,6 @@ mod Witness
 mod Decided
 mod Halting
 pub mod Finding
-pub mod Lending
 mod Stilling
 mod Healthy
 mod Recording

@@ -26,7 +26,7 @@ use Rattle.agreement.specs.Places.{scratch_of, place_in}
 use Rattle.agreement.specs.Slots.{Use, Free, Own, Serves, Uses, Told, IsPlaced, ArePlaces, ServesRequest, OwnWaits, OwnTaken, OwnOver, IsOver, IsServed}
 use Rattle.agreement.specs.Spares.{SparesBook}
 use Rattle.agreement.proofs.Following.{steps_follow}
-use Rattle.agreement.proofs.Lending.{lent_clients}
+use Rattle.block_machine.proofs.Lending.{lent_clients}
 use Rattle.agreement.proofs.Moving.{TakenAs, taken_as}
 use Rattle.agreement.proofs.Sparing.{follows_spare}
 

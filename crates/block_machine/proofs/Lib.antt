@@ -13,6 +13,7 @@ pub mod Dues
 pub mod Accepts
 pub mod Lasting
 pub mod Configured
+pub mod Lending
 pub mod Limits
 pub mod Changes
 pub mod Touching

@@ -41,6 +41,10 @@ pub record IsConfined (start : Machine) (history : List Step) (r : Accepted) (i 
   pub framed : MovesBytes r.asked.op → i / 8 < length r.asked.frames.items
   pub lent : MovesBytes r.asked.op → (after start history).lent (frame_at r.asked.frames.items (i / 8)) ≡ Some r.id
 
+-- the frame is one of the request's
+abbrev pub HasFrame : Accepted → Frame → Type 0
+HasFrame r frame = (i : ℕ) × (i < length r.asked.frames.items) × (frame_at r.asked.frames.items i ≡ frame)
+
 -- The frames hold what they held at acceptance, but for the sectors of a read: so a write's hold its bytes.
 abbrev pub IsHeld : Machine → Accepted → Type 0
 IsHeld m r = (i b : ℕ) → (is_reader r.asked.op ≡ true → r.asked.count ≤ i) → i < 8 * length r.asked.frames.items → b < 512

@@ -25,9 +25,10 @@ ghost use Rattle.block_machine.specs.Due.{IsDue, IsInOrder, overlap, is_due, is_
 ghost use Rattle.block_machine.specs.State.{Block, Accepted, Pending, Machine, frame_at, sector_of, unanswered};
 ghost use Rattle.block_machine.specs.Steps.{Step, Touch, Issue, Answer, May, after_step, IsNew, IsLiving, AllTouched};
 ghost use Rattle.block_machine.specs.Left.{IsStart, IsLegal, AllTold, HasTouched, HasTouchedSince, HasEndedSince, IsLeft, HoldsLeft, after};
-ghost use Rattle.block_machine.specs.Confined.{IsGranted, IsConfined, IsHeld, WasAccepted, WithinLimits, MayChangeByte, MayChangeSector};
+ghost use Rattle.block_machine.specs.Confined.{IsGranted, IsConfined, IsHeld, HasFrame, WasAccepted, WithinLimits, MayChangeByte, MayChangeSector};
 ghost use Rattle.block_machine.specs.Durable.{IsVolatile, EveryPlugFinds};
 ghost use Rattle.block_machine.specs.Events.{Moment, Event, AllIssued, Happens, IsRun, IsStillStuck, EveryReadHolds, accepts_it, answers_it, issues_it, gives_id, replies_of, all_replies, WasGiven, moment_of, steps_of};
+ghost use Rattle.block_machine.specs.Histories.{IsReached};
 ghost use Rattle.block_machine.specs.Worked.{FindsTheFlushed, WaitsItsTurn, EndsWithAReset, MeetsTrouble, EndsAtATick, IsTakenOutBeforeATick, GoesAgainInResets, DiesInAService, GoesWrong};
 
 /// One rule is the first that a request breaks.
@@ -209,6 +210,30 @@ pub fn sectors_change_by()
     ensures { (m : Machine) (step : Step) (port : Port) (sector place : ℕ)
         → (after_step m step).disks port sector place ≢ m.disks port sector place
         → MayChangeSector step port sector }
+{}
+
+/// The steps of a run are a legal history, which leads to the run's machine: so the laws on histories of steps hold of runs.
+/// Among them: each touch of a sector in it is of an accepted request's own sector, at a frame that is lent to it; and each
+/// request that it issues was accepted, when it broke no rule, and its frames are still lent to it.
+pub fn runs_are_legal<D>()
+    ensures legal { (first : Moment) (run : List (Event D)) → IsRun first run
+        → IsStart first.machine × IsLegal first.machine (steps_of run)
+        × ((moment_of first run).machine ≡ after first.machine (steps_of run)) }
+    ensures touches { (first : Moment) (run : List (Event D)) (late early : List Step) (e : Pending) (i : ℕ) (block : Block)
+        → IsRun first run → steps_of run ≡ late ++ Touch e i block ∷ early
+        → IsConfined first.machine early e.request i }
+    ensures issues { (first : Moment) (run : List (Event D)) (late early : List Step) (mode : Mode) (e : Pending)
+        → IsRun first run → steps_of run ≡ late ++ Issue mode e ∷ early
+        → WasAccepted first.machine early e.request
+        × ((i : ℕ) → i < length e.request.asked.frames.items
+        → (after first.machine early).lent
+        (frame_at e.request.asked.frames.items i) ≡ Some e.request.id) }
+{}
+
+/// A frame that is lent to a request which is unanswered or kept is one of its own.
+pub fn lent_frame_is_its_own()
+    ensures { (m : Machine) (frame : Frame) (e : Pending) → IsReached m → IsLiving m e
+        → m.lent frame ≡ Some e.request.id → HasFrame e.request frame }
 {}
 
 /// Each touch of a sector is of an accepted request's own sector, at a frame that is lent to it.

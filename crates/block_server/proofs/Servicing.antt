@@ -24,7 +24,7 @@ use Rattle.block_machine.proofs.Counting.{unheld}
 use Rattle.block_machine.proofs.Members.{contains_none, contains_here, contains_cases, map_in, at_cases}
 use Rattle.agreement.specs.Agrees.{port_at}
 use Rattle.agreement.specs.Slots.{Free, Serves, put}
-use Rattle.agreement.proofs.Lending.{lent_own}
+use Rattle.block_machine.proofs.Lending.{lent_own}
 use Rattle.agreement.proofs.Putting.{put_same, put_cases}
 use Rattle.dma_frames.specs.Table.{Table, lent_to, LendsOnly}
 use Rattle.block_server.specs.Book.{IsEarlier}

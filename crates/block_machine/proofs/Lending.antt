@@ -1,5 +1,5 @@
 -- Only frames of clients are lent, and each to a request that has it.
-use Rattle.std.proofs.Common.{ℕ, ◌≡◌, ◌⊎◌, ◌<◌, ◌≤◌, ◌==◌, Bool, true, false, List, [], ◌∷◌, length, Option, Some, None, refl, sym, ◌∙◌, ap, subst, inl, inr, ⊎_elim}
+use Rattle.std.proofs.Common.{◌≡◌, ◌⊎◌, ◌≤◌, ◌==◌, Bool, true, false, List, [], ◌∷◌, Option, Some, None, refl, sym, ◌∙◌, ap, subst, inl, inr, ⊎_elim}
 use Rattle.std.specs.Prelude.{if◌then◌else◌}
 use Rattle.std.specs.List.{list_any}
 use Rattle.std.proofs.lemmas.Bool.{cond-true, cond-false}
@@ -7,8 +7,7 @@ use Rattle.ata_types.specs.declared.request.Frame.{Frame}
 use Rattle.ata_types.specs.declared.request.RequestId.{RequestId}
 use Rattle.ata_types.specs.declared.refusal.FrameFault.TheVariants.{FrameForeign}
 use Rattle.ata_types.specs.declared.refusal.Rule.TheVariants.{Frames}
-use Rattle.adapter.proofs.Absurd.{some-none}
-use Rattle.block_machine.specs.Confined.{WasAccepted}
+use Rattle.block_machine.specs.Confined.{WasAccepted, HasFrame}
 use Rattle.block_machine.specs.State.{Accepted, Pending, Machine, frame_at}
 use Rattle.block_machine.specs.Steps.{Step, Accept, Answer, Release, May, IsLiving, after_step, stays, unlend, is_lent_to}
 use Rattle.block_machine.specs.Left.{after, IsStart, IsLegal}
@@ -19,13 +18,12 @@ use Rattle.block_machine.proofs.Keeps.{get_frame, place_of}
 use Rattle.block_machine.proofs.Limits.{owned}
 use Rattle.block_machine.proofs.Trace.{Comes}
 
--- the frame is one of the request's
-abbrev HasFrame : Accepted → Frame → Type 0
-HasFrame r f = (i : ℕ) × (i < length r.asked.frames.items) × (frame_at r.asked.frames.items i ≡ f)
-
 -- it was lent before, or to the request that comes
 abbrev IsComing : Machine → Step → Frame → RequestId → Type 0
 IsComing m step f id = (m.lent f ≡ Some id) ⊎ ((r : Accepted) × Comes m step r × (r.id ≡ id) × HasFrame r f)
+
+some-none : {A B : Type 0} {o : Option B} {x : B} → o ≡ Some x → o ≡ None → A
+some-none {A} {B} {o} {x} h k = absurd (let e : Some x ≡ None = sym h ∙ k in cc)
 
 -- where nothing or the loan as it was is there now
 as_was : (b : Bool) (lent : Option RequestId) (id : RequestId) → (if b then None else lent) ≡ Some id → lent ≡ Some id
