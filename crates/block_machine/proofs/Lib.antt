@@ -38,4 +38,5 @@ pub mod Standing
 pub mod PlainDue
 pub mod PlainRules
 pub mod PlainLeft
+pub mod Started
 pub mod Staying

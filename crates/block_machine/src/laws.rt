@@ -230,6 +230,12 @@ pub fn runs_are_legal<D>()
         (frame_at e.request.asked.frames.items i) ≡ Some e.request.id) }
 {}
 
+/// An unanswered request that has ended is issued.
+pub fn ended_is_issued()
+    ensures { (m : Machine) (e : Pending) → IsReached m → Contains m.book e → e.ended ≡ true
+        → e.issued ≡ true }
+{}
+
 /// A frame that is lent to a request which is unanswered or kept is one of its own.
 pub fn lent_frame_is_its_own()
     ensures { (m : Machine) (frame : Frame) (e : Pending) → IsReached m → IsLiving m e
