@@ -10,6 +10,7 @@ mod Moving
 mod Moves
 mod Clearing
 mod Ending
+pub mod Cleared
 pub mod Following
 mod Accesses
 pub mod Waiting

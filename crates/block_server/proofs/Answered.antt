@@ -14,12 +14,14 @@ use Rattle.ata_types.specs.declared.request.Reply.{Reply}
 use Rattle.ata_types.specs.declared.request.RequestId.{RequestId}
 use Rattle.adapter.specs.Device.{Device}
 use Rattle.adapter.specs.declared.access.DeviceStep.{DeviceStep}
+use Rattle.adapter.specs.Access.{IsDriven}
+use Rattle.adapter.proofs.Calls.{driven_none, driven_then}
 use Rattle.adapter.proofs.Changed.{changed_each}
 use Rattle.block_machine.specs.Left.{after}
 use Rattle.block_machine.specs.Ports.{Ports, AreFit, IsServiced}
 use Rattle.block_machine.specs.State.{Pending, Machine}
 use Rattle.block_machine.specs.Steps.{Step, Issue, Answer, NoneKept, after_step, without}
-use Rattle.block_machine.specs.Events.{Moment, Service, Served, Device as Told, AllMay, AllDevices, IsLawful, Tells}
+use Rattle.block_machine.specs.Events.{Moment, Service, Served, Device as Told, AllMay, AllDevices, IsLawful, AnswersEnded, Tells}
 use Rattle.block_machine.specs.Histories.{Instant, Happening, now, IsReached, Leads, Adds, AddsSteps}
 use Rattle.block_machine.proofs.EventLemmas.{after-append}
 use Rattle.block_machine.proofs.HistoryLemmas.{history_reaches, reached_more, may-append, steps_then}
@@ -41,11 +43,14 @@ use Rattle.dma_frames.specs.Table.{Table, lent_to, LendsOnly}
 use Rattle.block_server.specs.Book.{IsKept, IsAccepted, IsEarlier}
 use Rattle.block_server.specs.Calls.{state_of, done_reply}
 use Rattle.block_server.specs.Followed.{AnyUse, IsFollowed, FindsEnd, FindsRead, IssuesFirst}
-use Rattle.block_server.specs.History.{Begins, Stands, Ties, IsEntry, IsBook, uses_of, served_id, known_of, ports_of, plain_mode, no_evidence}
+use Rattle.block_server.specs.History.{Begins, Stands, Ties, GoesWell, IsEntry, IsBook, uses_of, served_id, known_of, ports_of, plain_mode, no_evidence}
+use Rattle.block_server.specs.Port.{IsHealthy}
+use Rattle.block_server.specs.Told.{IsUnharmed}
 use Rattle.block_server.specs.View.{ServerView}
 use Rattle.block_server.specs.declared.types.Accepted.{Accepted}
 use Rattle.block_server.proofs.Booking.{ordered_rest}
-use Rattle.block_server.proofs.Histories.{book_further, history_fit, disks_same, stands_on}
+use Rattle.block_server.proofs.Heeding.{names_none, service_heeds, ended_served}
+use Rattle.block_server.proofs.Histories.{book_further, history_fit, ports_same, disks_same, stands_on}
 use Rattle.block_server.proofs.Servicing.{AreServices, IssuesNone, no_steps, none_issued, devices_then, issue_then, answer_then, devices_issue_none, book_entry, Begun, begun, none_due, others_differ, book_without, first_without, first_issued, next_may, given_back, given_up}
 
 -- what the server knows where slot 0 serves this request, or none
@@ -57,7 +62,7 @@ known_at id d = record { uses = uses_of id; parked = λ port. []; device = d }
 pub found_adds : (id : RequestId) (old mid new : Device) (done : Bool) → IsFollowed AnyUse old mid → FindsRead done mid new →
     AddsSteps Knows (known_at (Some id) old) (known_at (Some id) new) (FindsEnd done id old new)
 found_adds id old mid new done looks reads =
-    steps_then (FindsEnd done id old new) (looks (uses_of (Some id)) (λ port. []) tt) (reads (uses_of (Some id)) (λ port. []) id (put_same (λ port slot. Free) 0 0 (Serves id)))
+    steps_then (FindsEnd done id old new) (looks.adds (uses_of (Some id)) (λ port. []) tt) (reads.adds (uses_of (Some id)) (λ port. []) id (put_same (λ port slot. Free) 0 0 (Serves id)))
     (λ m early late p q. record {
       device = told_then old mid new m early late p q.device;
       ended = λ is. let z = q.ended is in (z.0, subst (λ (n : Machine). EndedIn n (port_at 0) id) (sym (after-append m late early)) z.1);
@@ -102,7 +107,7 @@ next_issued s m old new true (e ∷ rest) ready reached knows kept ordered book 
     let b = begun false e rest m.book book in
     let p : Pending = b.first in
     let there : IsBook false (e ∷ rest) (p ∷ b.later) = subst (λ (es : List Pending). IsBook false (e ∷ rest) es) b.is book in
-    let y = issues (uses_of None) (λ port. []) m plain_mode p reached knows refl (next_may m e rest p b.later b.is kept ordered there) refl (omega arith) (record {
+    let y = issues.issues (uses_of None) (λ port. []) m plain_mode p reached knows refl (next_may m e rest p b.later b.is kept ordered there) refl (omega arith) (record {
       port = b.entry.port;
       operation = b.entry.op;
       first = ap (λ x. x.0) b.entry.first;
@@ -126,6 +131,11 @@ next_issued s m old new true (e ∷ rest) ready reached knows kept ordered book 
           (devices_then first (ports_of s) answers base y.steps y.only x);
     }
 
+-- accesses issue the first
+issues_driven : (book : List Accepted) (old new : Device) → IssuesFirst book old new → IsDriven old new
+issues_driven [] old new same = subst (λ (d : Device). IsDriven old d) (sym same) (driven_none old)
+issues_driven (e ∷ book) old new issues = issues.driven
+
 -- ---- the event
 
 never_dead : {A : Type 0} (s : ServerView A) (port : Port) → s.state ≡ Ready → state_of s port ≡ Dead → ⊥
@@ -147,13 +157,14 @@ not_unplugged h = cc
 module _ {A : Type 0} (device : A → Device) (s : ServerView A) where
   -- steps of a service lead to where the server stands after it
   ends : (new : ServerView A) (replies : List Reply) (answers : List (Pending × Outcome)) → (new.issued ≡ false → new.book ≡ []) → (new.issued ≡ true → s.state ≡ Ready) →
-      ((e : Pending) (o : Outcome) → Contains answers (e, o) → (o ≡ Ok) × (s.state ≡ Ready)) →
+      ((e : Pending) (o : Outcome) → Contains answers (e, o) → (o ≡ Ok) × (s.state ≡ Ready)) → IsDriven (device s.adapter) (device new.adapter) →
       (first : Instant Device) (past : List (Happening Device DeviceStep)) → Leads Begins Ties (Stands device) first past s → (steps : List Step) →
       AllMay (now first past).moment.machine steps → AreServices (now first past).moment (ports_of s) answers steps → Tells steps replies →
+      (GoesWell (device s.adapter) (device new.adapter) → (port : Port) → AnswersEnded (now first past).moment.machine steps port) →
       IsBacked (device s.adapter) (device new.adapter) (now first past).moment.machine steps →
       Stands device (record { device = device new.adapter; moment = record { machine = after (now first past).moment.machine steps; ports = ports_of s } }) new →
       (h : Happening Device DeviceStep) × (h.event.ask ≡ Service) × (h.event.said ≡ Served replies) × Leads Begins Ties (Stands device) first (h ∷ past) new
-  ends new replies answers due ready calm first past leads steps may services tells backed stands =
+  ends new replies answers due ready calm driven first past leads steps may services tells ended backed stands =
       let old : Instant Device = now first past in
       let at : Stands device old s = leads.stands in
       let m : Machine = after old.moment.machine steps in (
@@ -188,7 +199,13 @@ module _ {A : Type 0} (device : A → Device) (s : ServerView A) where
               backed = subst (λ (d : Device). IsBacked d (device new.adapter) old.moment.machine steps) (sym at.device_is) backed;
               asked = λ step e. absurd (let x : Service ≡ Told step = e in cc);
               refused = λ r. absurd (false≢true r);
+              came = subst (λ (d : Device). IsDriven d (device new.adapter)) (sym at.device_is) driven;
               evidence = record { faults = refl; lost = refl; stopped = refl; stuck = refl };
+              heeds = λ well. (
+                names_none,
+                service_heeds DeviceStep old.moment (record { machine = m; ports = ports_of s }) steps (ports_same old.moment.ports (ports_of s) at.ports_are)
+                    (λ e o h. (calm e o (services.told e o h)).0) (ended (subst (λ (d : Device). GoesWell d (device new.adapter)) at.device_is well)),
+              );
               uses = (known_of device new).uses;
               parked = (known_of device new).parked;
               knows = stands.knows;
@@ -205,11 +222,16 @@ module _ {A : Type 0} (device : A → Device) (s : ServerView A) where
           let none : (after (now first past).moment.machine steps).book ≡ [] = subst (λ (book : List Accepted). IsBook new.issued book (after (now first past).moment.machine steps).book) (due is) stands.book in
           contains_none e (subst (λ (es : List Pending). Contains es e) none h)
 
+  -- nobody is answered only where port 0 didn't go well, or the bit of CI of what is served stood when the call began
+  abbrev pub Unanswered : Device → Type 0
+  Unanswered new = s.state ≡ Ready → s.issued ≡ true → IsHealthy ((device s.adapter).port 0) → IsUnharmed (device s.adapter) new → ((device s.adapter).port 0).ci 0 ≡ false → ⊥
+
   module _ (places : ℕ) (inv : IsKept device s places) where
     -- the device alone did steps
-    pub nothing_adds : (adapter : A) → AddsSteps Knows (known_of device s) (record (known_of device s) { device = device adapter }) (ByDevice (device s.adapter) (device adapter)) →
+    pub nothing_adds : (adapter : A) → IsDriven (device s.adapter) (device adapter) → Unanswered (device adapter) →
+        AddsSteps Knows (known_of device s) (record (known_of device s) { device = device adapter }) (ByDevice (device s.adapter) (device adapter)) →
         Adds Begins Ties (Stands device) s (record s { adapter = adapter }) Service (Served [])
-    nothing_adds adapter goes = record {
+    nothing_adds adapter driven unanswered goes = record {
       adds = λ first past leads.
           let old : Instant Device = now first past in
           let at : Stands device old s = leads.stands in
@@ -217,8 +239,12 @@ module _ {A : Type 0} (device : A → Device) (s : ServerView A) where
           let own : AllDevices more.0 = more.3.only in
           let services : AreServices old.moment (ports_of s) [] more.0 =
           subst (λ (steps : List Step). AreServices old.moment (ports_of s) [] steps) (append-nil more.0) (devices_then old.moment (ports_of s) [] [] more.0 own (no_steps old.moment (ports_of s))) in
-          ends (record s { adapter = adapter }) [] [] inv.due inv.ready (λ e o h. absurd (contains_none (e, o) h)) first past leads more.0 more.1 services
-          (none_told more.0 services.answers_are) more.3.backed (stands_on device old s adapter more.0 at own more.2);
+          ends (record s { adapter = adapter }) [] [] inv.due inv.ready (λ e o h. absurd (contains_none (e, o) h)) driven first past leads more.0 more.1 services
+          (none_told more.0 services.answers_are)
+          (λ well port e h here ended.
+          let was = ended_served device old s at (history_reaches Begins Ties first past leads.history) e h ended in
+          absurd (unanswered (inv.ready was.0) was.0 well.healthy well.unharmed was.2))
+          more.3.backed (stands_on device old s adapter more.0 at own more.2);
     }
 
     -- the request that is served
@@ -230,12 +256,12 @@ module _ {A : Type 0} (device : A → Device) (s : ServerView A) where
         by b (e ∷ book) is some = (e.id, ap (λ (c : Bool). served_id c (e ∷ book)) is)
 
     -- its read isn't done
-    pub unfinished_adds : s.issued ≡ true → (adapter : A) (mid : Device) (done : Bool) → IsFollowed AnyUse (device s.adapter) mid → FindsRead done mid (device adapter) →
+    pub unfinished_adds : s.issued ≡ true → (adapter : A) → Unanswered (device adapter) → (mid : Device) (done : Bool) → IsFollowed AnyUse (device s.adapter) mid → FindsRead done mid (device adapter) →
         Adds Begins Ties (Stands device) s (record s { adapter = adapter }) Service (Served [])
-    unfinished_adds issued adapter mid done looks reads =
+    unfinished_adds issued adapter unanswered mid done looks reads =
         let served = served_one issued in
         let goes = found_adds served.0 (device s.adapter) mid (device adapter) done looks reads in
-        nothing_adds adapter (subst (λ (o : Option RequestId). AddsSteps Knows (known_at o (device s.adapter)) (known_at o (device adapter)) (ByDevice (device s.adapter) (device adapter))) (sym served.1)
+        nothing_adds adapter (driven_then looks.driven reads.driven) unanswered (subst (λ (o : Option RequestId). AddsSteps Knows (known_at o (device s.adapter)) (known_at o (device adapter)) (ByDevice (device s.adapter) (device adapter))) (sym served.1)
         (record { adds = λ m r k. let y = goes.adds m r k in (y.0, y.1, y.2, y.3.device) }))
 
     module _ (ready : s.state ≡ Ready) (issued : s.issued ≡ true) (e : Accepted) (rest : List Accepted) (book_is : s.book ≡ e ∷ rest) (table : Table) (lends : LendsOnly s.table table e.loan.frames None) where
@@ -245,7 +271,7 @@ module _ {A : Type 0} (device : A → Device) (s : ServerView A) where
       lent : All (λ f. lent_to s.table f ≡ Some e.id) e.loan.frames
       lent = (All-head (IsAccepted s.grants s.table) e rest (subst (λ (book : List Accepted). All (IsAccepted s.grants s.table) book) book_is inv.accepted)).lent
 
-      module _ (first : Instant Device) (past : List (Happening Device DeviceStep)) (leads : Leads Begins Ties (Stands device) first past s) (middle : Device)
+      module _ (first : Instant Device) (past : List (Happening Device DeviceStep)) (leads : Leads Begins Ties (Stands device) first past s) (middle : Device) (driven : IsDriven (device s.adapter) middle)
           (goes : AddsSteps Knows (known_at (Some e.id) (device s.adapter)) (known_at (Some e.id) middle) (FindsEnd true e.id (device s.adapter) middle)) where
         abbrev old : Instant Device
         old = now first past
@@ -340,6 +366,20 @@ module _ {A : Type 0} (device : A → Device) (s : ServerView A) where
         abbrev base : List Step
         base = Answer x Ok ∷ early
 
+        -- the first of the book is the same request before and after
+        same_request : x.request ≡ was.first.request
+        same_request = ap (λ (y : Pending). y.request) its
+            ∙ (subst (λ (olds : List Pending). AllFurther olds (is.first ∷ is.later)) was.is (subst (λ (news : List Pending). AllFurther m.book news) is.is spares.book)).0.request
+
+        -- what had ended is that request
+        had_ended : (y : Pending) → Contains m.book y → y.ended ≡ true → x.request ≡ y.request
+        had_ended y h ended_then =
+            let served = ended_served device old s at reached y h ended_then in
+            let id_is : e.id ≡ y.request.id = (let q : Some e.id ≡ Some y.request.id = sym (ap (λ (b : Bool). served_id b (e ∷ rest)) issued ∙ refl) ∙ sym (ap (λ (book : List Accepted). served_id s.issued book) book_is) ∙ served.1 in cc) in
+            same_request ∙ ap (λ (z : Pending). z.request)
+            ((standing m reached).sound.one was.first y (subst (λ (es : List Pending). Contains es was.first) (sym was.is) (contains_here was.first was.later was.first refl)) h
+            (ap (λ (i : RequestId). i.0) (was.entry.id ∙ id_is)))
+
         lawful : IsLawful old.moment no_evidence (ports_of s) x Ok
         lawful = (
           record {
@@ -365,7 +405,7 @@ module _ {A : Type 0} (device : A → Device) (s : ServerView A) where
 
         -- ---- and the next is issued
 
-        event : (adapter : A) (again : Bool) → (again ≡ false → rest ≡ []) → (again ≡ true → rest ≢ []) → IssuesFirst rest middle (device adapter) →
+        event : (adapter : A) (again : Bool) → (again ≡ false → rest ≡ []) → (again ≡ true → rest ≢ []) → (issues : IssuesFirst rest middle (device adapter)) →
             (h : Happening Device DeviceStep) × (h.event.ask ≡ Service) × (h.event.said ≡ Served (done_reply e ∷ []))
             × Leads Begins Ties (Stands device) first (h ∷ past) (record s { adapter = adapter; table = table; book = rest; issued = again })
         event adapter again none some issues =
@@ -375,8 +415,10 @@ module _ {A : Type 0} (device : A → Device) (s : ServerView A) where
             let new : ServerView A = record s { adapter = adapter; table = table; book = rest; issued = again } in
             ends new (done_reply e ∷ []) ((x, Ok) ∷ []) none (λ _. ready)
             (λ y o h. ⊎_elim (λ (q : (y, o) ≡ (x, Ok)). (ap (λ (a : Pending × Outcome). a.1) q, ready)) (λ i. absurd (contains_none (y, o) i)) (contains_cases (x, Ok) [] (y, o) h))
+            (driven_then driven (issues_driven rest middle (device adapter) issues))
             first past leads (next.steps ++ base) (may-append m next.steps base (more.1, here) next.may) all
             (one_told x Ok (next.steps ++ base) all.answers_are (done_reply e) (λ i. record { id = sym entry.id i; client = sym entry.client i; outcome = Ok }))
+            (λ well port y h on ended_then. (x, had_ended y h ended_then, all.given x Ok (contains_here (x, Ok) [] (x, Ok) refl)))
             (backed_then (device s.adapter) middle (device adapter) m base next.steps backed next.backed)
             (subst (λ (n : Machine). Stands device (record { device = device adapter; moment = record { machine = n; ports = ports_of s } }) new) (sym after_all) (record {
               device_is = refl;
@@ -392,7 +434,7 @@ module _ {A : Type 0} (device : A → Device) (s : ServerView A) where
             }))
 
       -- the first was done, and the next is issued
-      pub answering_adds : (middle : Device) → AddsSteps Knows (known_at (Some e.id) (device s.adapter)) (known_at (Some e.id) middle) (FindsEnd true e.id (device s.adapter) middle) →
+      pub answering_adds : (middle : Device) → IsDriven (device s.adapter) middle → AddsSteps Knows (known_at (Some e.id) (device s.adapter)) (known_at (Some e.id) middle) (FindsEnd true e.id (device s.adapter) middle) →
           (adapter : A) (again : Bool) → (again ≡ false → rest ≡ []) → (again ≡ true → rest ≢ []) → IssuesFirst rest middle (device adapter) →
           Adds Begins Ties (Stands device) s (record s { adapter = adapter; table = table; book = rest; issued = again }) Service (Served (done_reply e ∷ []))
-      answering_adds middle goes adapter again none some issues = record { adds = λ first past leads. event first past leads middle goes adapter again none some issues }
+      answering_adds middle driven goes adapter again none some issues = record { adds = λ first past leads. event first past leads middle driven goes adapter again none some issues }

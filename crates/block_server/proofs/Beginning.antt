@@ -138,7 +138,7 @@ module _ {A : Type 0} (device : A → Device) (adapter : A) (table : Table) (sta
     new_has_begun old is told followed mid brought free book none =
         let m = machine_of old grants (owner_of table) in
         let start = setup_starts old in
-        let x = (followed (λ port slot. Free) (λ port. []) (λ slot. refl)).adds m (record { first = m; past = []; starts = start; legal = tt; is = refl })
+        let x = (followed.adds (λ port slot. Free) (λ port. []) (λ slot. refl)).adds m (record { first = m; past = []; starts = start; legal = tt; is = refl })
         (machine_knows old grants (owner_of table) start is told) in
         let later = after m x.0 in
         let spares = steps_spare m x.0 x.3.only in

@@ -4,8 +4,10 @@ use Rattle.hba_regs.specs.Bits.{bit}
 use Rattle.hba_regs.specs.declared.reg.PortReg.TheVariants.{Is, Ssts, Ci, Sact}
 use Rattle.hba_regs.specs.declared.reg.Reg.TheVariants as adapter
 use Rattle.adapter.specs.Access.{Reads, Writes}
+use Rattle.adapter.specs.Access.Access.{Reading}
 use Rattle.adapter.specs.Device.{Device}
 use Rattle.adapter.specs.Rules.{MayWrite, Stays}
+use Rattle.adapter.proofs.Calls.{driven_one, driven_then}
 use Rattle.block_machine.specs.Left.{after}
 use Rattle.block_machine.specs.Steps.{Step, NoneKept}
 use Rattle.agreement.specs.Agrees.{port_at}
@@ -44,19 +46,22 @@ module _ (d0 d1 : Device) (l : IsLone d0) (run : IsRunning d0) (v : ℕ) (first 
 
 pub read_found : (done : Bool) (old mid new : Device) → IsLone old → IsRunning old → (issued active : ℕ) → Reads (px Ci) issued old mid → Reads (px Sact) active mid new →
     (done ≡ true → (bit issued 0 ≡ false) × (bit active 0 ≡ false)) → FindsRead done old new
-read_found done old mid new l run issued active first second clear uses parked id serves = record {
-  adds = λ m reached knows.
-      let y = (done_adds (known uses parked old) (port_at 0) issued active mid new l.on.no_reset run.st first second).adds m reached knows in (
-        y.0,
-        y.1,
-        y.2,
-        record {
-          device = y.3.1.device;
-          ended = λ is.
-              let bits = clear is in
-              let found = y.3.0.clear 0 id (lit< tt) serves bits.0 bits.1 in
-              (found.0.over, subst (λ (steps : List Step). EndedIn (after m steps) (port_at 0) id) (sym y.3.1.same) found.1);
-          kept = λ none. subst (λ (steps : List Step). NoneKept (after m steps) (port_at 0)) (sym y.3.1.same) (y.3.0.kept none);
-        },
-      );
+read_found done old mid new l run issued active first second clear = record {
+  driven = driven_then (driven_one (Reading (px Ci) issued) old mid first) (driven_one (Reading (px Sact) active) mid new second);
+  adds = λ uses parked id serves. record {
+    adds = λ m reached knows.
+        let y = (done_adds (known uses parked old) (port_at 0) issued active mid new l.on.no_reset run.st first second).adds m reached knows in (
+          y.0,
+          y.1,
+          y.2,
+          record {
+            device = y.3.1.device;
+            ended = λ is.
+                let bits = clear is in
+                let found = y.3.0.clear 0 id (lit< tt) serves bits.0 bits.1 in
+                (found.0.over, subst (λ (steps : List Step). EndedIn (after m steps) (port_at 0) id) (sym y.3.1.same) found.1);
+            kept = λ none. subst (λ (steps : List Step). NoneKept (after m steps) (port_at 0)) (sym y.3.1.same) (y.3.0.kept none);
+          },
+        );
+  };
 }

@@ -4,9 +4,10 @@ use Rattle.ata_types.specs.declared.request.ClientId.{ClientId}
 use Rattle.ata_types.specs.declared.request.Frame.{Frame}
 use Rattle.hba_regs.specs.declared.reg.Reg.{Reg}
 use Rattle.adapter.specs.Access.{Reads, Writes, Loads, Stores}
+use Rattle.adapter.specs.Access.Access.{Reading, Writing, Loading, Storing}
 use Rattle.adapter.specs.Device.{Device}
 use Rattle.adapter.specs.Rules.{MayWrite, Stays}
-use Rattle.adapter.specs.Steps.{Steps}
+use Rattle.adapter.proofs.Calls.{driven_none, driven_one, driven_then}
 use Rattle.adapter.proofs.Runs.{Steps-refl}
 use Rattle.block_machine.specs.Events.{AllMay}
 use Rattle.block_machine.specs.Left.{after}
@@ -24,18 +25,17 @@ use Rattle.block_server.specs.Followed.{known, AnyUse, SlotIsFree, IsFollowed, L
 -- ---- one stretch after another
 
 pub followed_then : (Fits : Uses → Type 0) (old mid new : Device) → IsFollowed Fits old mid → IsFollowed Fits mid new → IsFollowed Fits old new
-followed_then Fits old mid new a b uses parked is =
-    accesses_then (known uses parked old) (known uses parked mid) (known uses parked new) (a uses parked is) (b uses parked is)
-
-pub steps_followed : (old new : Device) → Steps old new → IsFollowed AnyUse old new
-steps_followed old new steps uses parked is = device_adds (known uses parked old) new steps
+followed_then Fits old mid new a b = record {
+  driven = driven_then a.driven b.driven;
+  adds = λ uses parked is. accesses_then (known uses parked old) (known uses parked mid) (known uses parked new) (a.adds uses parked is) (b.adds uses parked is);
+}
 
 pub nothing_followed : (d : Device) → IsFollowed AnyUse d d
-nothing_followed d = steps_followed d d (Steps-refl d)
+nothing_followed d = record { driven = driven_none d; adds = λ uses parked is. device_adds (known uses parked d) d (Steps-refl d) }
 
 -- what is followed however the slots are used
 pub followed_so : (Fits : Uses → Type 0) (old new : Device) → IsFollowed AnyUse old new → IsFollowed Fits old new
-followed_so Fits old new a uses parked is = a uses parked tt
+followed_so Fits old new a = record { driven = a.driven; adds = λ uses parked is. a.adds uses parked tt }
 
 -- a stretch of the device's steps, and then one that ends with the driver's step
 pub ends_then : (k later : Known) (mid : Device) (m : Machine) (step : Step) (early : List Step) → AllMay m early → ByDevice k.device mid m early →
@@ -51,22 +51,31 @@ ends_then k later mid m step early may device x = record {
 -- ---- one access
 
 pub reading_followed : (r : Reg) (v : ℕ) (old new : Device) → Reads r v old new → IsFollowed AnyUse old new
-reading_followed r v old new call uses parked is = read_adds (known uses parked old) r v new call
+reading_followed r v old new call = record { driven = driven_one (Reading r v) old new call; adds = λ uses parked is. read_adds (known uses parked old) r v new call }
 
 pub writing_followed : (Fits : Uses → Type 0) (r : Reg) (v : ℕ) (old new : Device) → Stays (MayWrite r v) old →
     ((uses : Uses) → Fits uses → LeavesUses uses r v old) → Writes r v old new → IsFollowed Fits old new
-writing_followed Fits r v old new may leaves call uses parked is = write_adds (known uses parked old) r v new may (leaves uses is) call
+writing_followed Fits r v old new may leaves call = record {
+  driven = driven_one (Writing r v) old new call;
+  adds = λ uses parked is. write_adds (known uses parked old) r v new may (leaves uses is) call;
+}
 
 -- a client's load
 pub loading_followed : (client : ClientId) (frame : Frame) (offset : ℕ) (bytes : List ℕ) (old new : Device) → Loads (4096 * frame.0 + offset) bytes old new →
     LoadsBytes client frame offset bytes old new
-loading_followed client frame offset bytes old new call uses parked m reached knows may = client_loads (known uses parked old) m client frame offset bytes new reached knows may call
+loading_followed client frame offset bytes old new call = record {
+  driven = driven_one (Loading (4096 * frame.0 + offset) bytes) old new call;
+  loads = λ uses parked m reached knows may. client_loads (known uses parked old) m client frame offset bytes new reached knows may call;
+}
 
 -- a store to header or table of slot 0
 pub storing_followed : (at : ℕ) (bytes : List ℕ) (old new : Device) → (at + length bytes ≤ 32) ⊎ ((4096 ≤ at) × (at + length bytes ≤ 5120)) →
     Stores at bytes old new → IsFollowed SlotIsFree old new
-storing_followed at bytes old new here call uses parked free =
-    store_adds (known uses parked old) at bytes new (inl (record { port = 0; slot = 0; below = lit< tt; slot_below = lit< tt; free = free; here = of here })) call
+storing_followed at bytes old new here call = record {
+  driven = driven_one (Storing at bytes) old new call;
+  adds = λ uses parked free.
+      store_adds (known uses parked old) at bytes new (inl (record { port = 0; slot = 0; below = lit< tt; slot_below = lit< tt; free = free; here = of here })) call;
+}
   where
     of : (at + length bytes ≤ 32) ⊎ ((4096 ≤ at) × (at + length bytes ≤ 5120)) → ((0 ≤ at) × (at + length bytes ≤ 32)) ⊎ ((4096 ≤ at) × (at + length bytes ≤ 5120))
     of (inl low) = inl (omega arith, low)

@@ -5,7 +5,9 @@ use Rattle.ata_types.specs.declared.Port.{Port}
 use Rattle.ata_types.specs.declared.request.RequestId.{RequestId}
 use Rattle.adapter.specs.Asked.{Asked}
 use Rattle.adapter.specs.Device.{Device}
+use Rattle.adapter.specs.Steps.{Steps}
 use Rattle.adapter.specs.declared.access.DeviceStep.{DeviceStep}
+use Rattle.adapter.proofs.Runs.{Steps-refl}
 use Rattle.block_machine.specs.Left.{after}
 use Rattle.block_machine.specs.Ports.{Ports, Evidence, AreFit, SamePorts, SameDisk}
 use Rattle.block_machine.specs.State.{Pending}
@@ -21,6 +23,7 @@ use Rattle.block_server.specs.Calls.{StepsDevice}
 use Rattle.block_server.specs.History.{Begins, Stands, Ties, IsEntry, IsBook, known_of, ports_of, no_evidence}
 use Rattle.block_server.specs.View.{ServerView}
 use Rattle.block_server.specs.declared.types.Accepted.{Accepted}
+use Rattle.block_server.proofs.Heeding.{names_none, spared}
 
 -- ---- the device's own steps in a call
 
@@ -131,7 +134,9 @@ module _ {A : Type 0} (device : A → Device) where
                   asked = λ other e said. subst (λ (x : DeviceStep). Asked x old.device (device adapter)) (ap (told_of other) e)
                       (subst (λ (d : Device). Asked step d (device adapter)) (sym at.device_is) (told.asked refl));
                   refused = λ r. absurd (false≢true r);
+                  came = subst (λ (d : Device). Steps d (device adapter)) (sym at.device_is) told.steps;
                   evidence = record { faults = refl; lost = refl; stopped = refl; stuck = refl };
+                  heeds = λ well. (names_none, spared);
                   uses = (known_of device s).uses;
                   parked = (known_of device s).parked;
                   knows = more.2;
@@ -163,7 +168,9 @@ module _ {A : Type 0} (device : A → Device) where
                   backed = subst (λ (d : Device). IsBacked old.device d old.moment.machine []) (at.device_is ∙ sym same) (nothing_backed old.device old.moment.machine);
                   asked = λ other e said. absurd (false≢true (ap done_of said));
                   refused = λ r. same ∙ sym at.device_is;
+                  came = subst (λ (d : Device). Steps old.device d) (at.device_is ∙ sym same) (Steps-refl old.device);
                   evidence = record { faults = refl; lost = refl; stopped = refl; stuck = refl };
+                  heeds = λ well. (names_none, spared);
                   uses = (known_of device s).uses;
                   parked = (known_of device s).parked;
                   knows = subst (λ (d : Device). Knows old.moment.machine (record (known_of device s) { device = d })) (sym same) at.knows;

@@ -9,20 +9,22 @@ use Rattle.ata_types.specs.declared.request.Frame.{Frame}
 use Rattle.ata_types.specs.declared.request.RequestId.{RequestId}
 use Rattle.adapter.specs.Device.{Device}
 use Rattle.adapter.specs.declared.access.DeviceStep.{DeviceStep}
+use Rattle.adapter.proofs.Calls.{driven_none}
 use Rattle.adapter.proofs.Changed.{fun_ext}
 use Rattle.block_machine.specs.Left.{after}
 use Rattle.block_machine.specs.Ports.{AreFit}
 use Rattle.block_machine.specs.Refusals.{MemApplies, mem_fault_number, IsOpen, IsFirstMemFault}
 use Rattle.block_machine.specs.Steps.{Step, Load, Store}
-use Rattle.block_machine.specs.Events.{Ask, LoadAt, Device as Told, Said, Loaded, AllMay, AllDevices, Belong, IssuesLast, AllLawful, IsAnswered, transfers_of}
+use Rattle.block_machine.specs.Events.{Ask, LoadAt, Device as Told, Said, Loaded, AllMay, AllDevices, Belong, IssuesLast, AllLawful, IsAnswered, Heeds, transfers_of}
 use Rattle.block_machine.specs.Histories.{Instant, Happening, now, Leads, Adds}
 use Rattle.block_machine.proofs.HistoryLemmas.{history_reaches}
 use Rattle.agreement.specs.Driver.{IsBacked, EndsWith}
 use Rattle.agreement.proofs.Adding.{nothing_backed}
 use Rattle.dma_frames.specs.Table.{owner_of, lent_to}
 use Rattle.block_server.specs.Followed.{LoadsBytes}
-use Rattle.block_server.specs.History.{Begins, Stands, Ties, is_refusal, known_of, ports_of, no_evidence}
+use Rattle.block_server.specs.History.{Begins, Stands, Ties, CameBy, is_refusal, known_of, ports_of, no_evidence}
 use Rattle.block_server.specs.View.{ServerView}
+use Rattle.block_server.proofs.Heeding.{names_none, spared}
 use Rattle.block_server.proofs.Histories.{devices_belong, devices_last, devices_lawful, history_fit, ports_same, disks_same, stands_on}
 
 -- ---- an event
@@ -72,10 +74,12 @@ module _ {A : Type 0} (device : A → Device) where
       → AllMay (now first past).moment.machine steps → Belong ask (ports_of new) steps → IssuesLast steps
       → AllLawful (now first past).moment no_evidence (ports_of new) steps
       → IsAnswered ask said (now first past).moment no_evidence steps (record { machine = after (now first past).moment.machine steps; ports = ports_of new })
+      → CameBy ask (device s.adapter) (device new.adapter)
+      → Heeds ask (now first past).moment no_evidence steps (record { machine = after (now first past).moment.machine steps; ports = ports_of new })
       → IsBacked (device s.adapter) (device new.adapter) (now first past).moment.machine steps
       → Stands device (record { device = device new.adapter; moment = record { machine = after (now first past).moment.machine steps; ports = ports_of new } }) new
       → (h : Happening Device DeviceStep) × (h.event.ask ≡ ask) × (h.event.said ≡ said) × Leads Begins Ties (Stands device) first (h ∷ past) new
-  lead_on first past s new ask said steps leads other still same may belong last lawful answered backed stands =
+  lead_on first past s new ask said steps leads other still same may belong last lawful answered came heeds backed stands =
       let old : Instant Device = now first past in
       let at : Stands device old s = leads.stands in
       let ports : old.moment.ports ≡ ports_of new = at.ports_are ∙ sym same in (
@@ -98,7 +102,9 @@ module _ {A : Type 0} (device : A → Device) where
               backed = subst (λ (d : Device). IsBacked d (device new.adapter) old.moment.machine steps) (sym at.device_is) backed;
               asked = λ step e said. absurd (false≢true (sym other ∙ ap is_told e));
               refused = λ r. still r ∙ sym at.device_is;
+              came = subst (λ (d : Device). CameBy ask d (device new.adapter)) (sym at.device_is) came;
               evidence = record { faults = refl; lost = refl; stopped = refl; stuck = refl };
+              heeds = λ well. (names_none, heeds);
               uses = (known_of device new).uses;
               parked = (known_of device new).parked;
               knows = stands.knows;
@@ -128,13 +134,15 @@ module _ {A : Type 0} (device : A → Device) where
         (subst (λ lent. IsOpen (owner_of s.table) lent client frame offset count) (sym (lent_is old s at)) opens) in
         let k = known_of device s in
         let x : EndsWith k old.moment.machine (Load client frame offset bytes) (record k { device = device adapter }) =
-        followed k.uses k.parked old.moment.machine (history_reaches Begins Ties first past leads.history) at.knows
+        followed.loads k.uses k.parked old.moment.machine (history_reaches Begins Ties first past leads.history) at.knows
         (subst (λ (n : ℕ). IsOpen old.moment.machine.owner old.moment.machine.lent client frame offset n) (sym long) here) in
         lead_on first past s (record s { adapter = adapter }) (LoadAt client frame offset count) (Loaded (Ok bytes)) (Load client frame offset bytes ∷ x.steps) leads refl (λ r. absurd (false≢true r)) refl x.may
         (devices_belong {D = DeviceStep} (LoadAt client frame offset count) (ports_of s) x.steps x.only, inr (refl, refl, refl, long))
         (devices_last x.steps x.only, λ id h i. false≢true h)
         (devices_lawful old.moment no_evidence (ports_of s) x.steps x.only)
         (here, ap (λ (rest : List (List ℕ)). bytes ∷ rest) (devices_transfer x.steps x.only), ports_same old.moment.ports (ports_of s) at.ports_are)
+        followed.driven
+        spared
         x.backed
         (stands_on device old s adapter x.steps at x.only x.knows)
 
@@ -154,6 +162,8 @@ module _ {A : Type 0} (device : A → Device) where
           refl,
           ports_same old.moment.ports (ports_of s) at.ports_are,
         )
+        (driven_none (device s.adapter))
+        spared
         (nothing_backed (device s.adapter) old.moment.machine)
         (stands_on device old s s.adapter [] at tt at.knows)
 

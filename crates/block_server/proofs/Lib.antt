@@ -29,6 +29,7 @@ mod Following
 mod Finding
 mod Sending
 mod Bringing
+mod Heeding
 mod Histories
 mod Leading
 mod Submitting

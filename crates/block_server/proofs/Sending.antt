@@ -5,7 +5,9 @@ use Rattle.ata_types.specs.declared.request.Op.{Op}
 use Rattle.ata_types.specs.declared.request.Op.TheVariants.{Read}
 use Rattle.hba_regs.specs.declared.reg.PortReg.TheVariants.{Ci}
 use Rattle.adapter.specs.Access.{Writes}
+use Rattle.adapter.specs.Access.Access.{Writing}
 use Rattle.adapter.specs.Device.{Bases, Device}
+use Rattle.adapter.proofs.Calls.{driven_one, driven_then}
 use Rattle.block_machine.specs.Due.{is_plain}
 use Rattle.block_machine.specs.Left.{after}
 use Rattle.block_machine.specs.State.{Pending, Machine}
@@ -65,10 +67,13 @@ module _ (r : Issued) (e : Pending) (is : IsReadOf r e) where
 
 -- slot 0 was written, and then its bit of CI
 pub read_issued : (r : Issued) (old mid new : Device) → IsFollowed SlotIsFree old mid → Serves None mid → HoldsRead r mid → Writes (px Ci) 1 mid new → IssuesRead r old new
-read_issued r old mid new followed s h call uses parked m mode e reached knows free may plain usable is =
-    let x = (followed uses parked free).adds m reached knows in
-    let later : Machine = after m x.0 in
-    let due : May later (Issue mode e) = steps_may m x.0 reached x.3.only x.1 mode e may in
-    ends_then (known uses parked old) (serving (known uses parked old) 0 0 e.request.id new) mid m (Issue mode e) x.0 x.1 x.3
-    (issue_follows (known uses parked mid) later (port_at 0) 0 mode e 1 new (reached_more m x.0 reached x.1) x.2 s.0.on.no_reset
-    (read_prepared r e is uses later mid mode s h free due plain usable) call)
+read_issued r old mid new followed s h call = record {
+  driven = driven_then followed.driven (driven_one (Writing (px Ci) 1) mid new call);
+  issues = λ uses parked m mode e reached knows free may plain usable is.
+      let x = (followed.adds uses parked free).adds m reached knows in
+      let later : Machine = after m x.0 in
+      let due : May later (Issue mode e) = steps_may m x.0 reached x.3.only x.1 mode e may in
+      ends_then (known uses parked old) (serving (known uses parked old) 0 0 e.request.id new) mid m (Issue mode e) x.0 x.1 x.3
+      (issue_follows (known uses parked mid) later (port_at 0) 0 mode e 1 new (reached_more m x.0 reached x.1) x.2 s.0.on.no_reset
+      (read_prepared r e is uses later mid mode s h free due plain usable) call);
+}

@@ -21,7 +21,7 @@ use Rattle.block_machine.specs.Steps.{Step, Issue, Again, Answer, May, IsLiving,
 use Rattle.block_machine.specs.Events.{Moment, Service, IsDevices, AllDevices, Belong, IsIssuedIn, IssuesLast, IsLawful, AllLawful, AllGrounded, answers_of, issues_it}
 use Rattle.block_machine.specs.Histories.{IsReached}
 use Rattle.block_machine.proofs.Counting.{unheld}
-use Rattle.block_machine.proofs.Members.{contains_none, contains_here, contains_cases, map_in, at_cases}
+use Rattle.block_machine.proofs.Members.{contains_none, contains_here, contains_there, contains_cases, map_in, at_cases}
 use Rattle.agreement.specs.Agrees.{port_at}
 use Rattle.agreement.specs.Slots.{Free, Serves, put}
 use Rattle.block_machine.proofs.Lending.{lent_own}
@@ -42,13 +42,14 @@ pub record AreServices (old : Moment) (ports : Ports) (answers : List (Pending �
   pub grounded : AllGrounded no_evidence steps
   pub answers_are : answers_of steps ≡ answers
   pub told : (e : Pending) (o : Outcome) → Contains steps (Answer e o) → Contains answers (e, o)
+  pub given : (e : Pending) (o : Outcome) → Contains answers (e, o) → Contains steps (Answer e o)
 
 -- none of them issues a request
 abbrev pub IssuesNone : List Step → Type 0
 IssuesNone steps = (id : RequestId) → IsIssuedIn id steps → ⊥
 
 pub no_steps : (old : Moment) (ports : Ports) → AreServices old ports [] []
-no_steps old ports = record { belong = tt; last = tt; lawful = tt; grounded = tt; answers_are = refl; told = λ e o h. absurd (contains_none (Answer e o) h) }
+no_steps old ports = record { belong = tt; last = tt; lawful = tt; grounded = tt; answers_are = refl; told = λ e o h. absurd (contains_none (Answer e o) h); given = λ e o h. absurd (contains_none (e, o) h) }
 
 pub none_issued : IssuesNone []
 none_issued id h = false≢true h
@@ -86,6 +87,7 @@ module _ (old : Moment) (ports : Ports) (answers : List (Pending × Outcome)) (b
             (λ (q : Answer e o ≡ step). absurd (subst IsDevices (sym q) is.1))
             (λ (i : Contains (late ++ base) (Answer e o)). y.told e o i)
             (contains_cases step (late ++ base) (Answer e o) h);
+        given = λ e o h. contains_there step (late ++ base) (Answer e o) (y.given e o h);
       }
 
   pub issue_then : (mode : Mode) (e : Pending) → ports.state e.request.port ≡ Ready → ports.mode e.request.port ≡ mode → IssuesNone base → AreServices old ports answers base →
@@ -100,6 +102,7 @@ module _ (old : Moment) (ports : Ports) (answers : List (Pending × Outcome)) (b
         (λ (q : Answer y o ≡ Issue mode e). let z : Answer y o ≡ Issue mode e = q in absurd cc)
         (λ (i : Contains base (Answer y o)). x.told y o i)
         (contains_cases (Issue mode e) base (Answer y o) h);
+    given = λ y o h. contains_there (Issue mode e) base (Answer y o) (x.given y o h);
   }
 
 pub answer_then : (old : Moment) (ports : Ports) (base : List Step) (e : Pending) → IsLawful old no_evidence ports e Ok → IssuesNone base → AreServices old ports [] base →
@@ -114,6 +117,10 @@ answer_then old ports base e lawful none x = record {
       (λ (q : Answer y o ≡ Answer e Ok). contains_here (e, Ok) [] (y, o) (same q))
       (λ (i : Contains base (Answer y o)). absurd (contains_none (y, o) (x.told y o i)))
       (contains_cases (Answer e Ok) base (Answer y o) h);
+  given = λ y o h. ⊎_elim
+      (λ (q : (y, o) ≡ (e, Ok)). contains_here (Answer e Ok) base (Answer y o) (ap (λ (a : Pending × Outcome). Answer a.0 a.1) q))
+      (λ i. absurd (contains_none (y, o) i))
+      (contains_cases (e, Ok) [] (y, o) h);
 }
   where
     same : {y : Pending} {o : Outcome} → Answer y o ≡ Answer e Ok → ◌≡◌ {A = Pending × Outcome} (y, o) (e, Ok)

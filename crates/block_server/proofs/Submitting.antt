@@ -16,6 +16,7 @@ use Rattle.ata_types.specs.declared.request.Request.{Request}
 use Rattle.ata_types.specs.declared.request.RequestId.{RequestId}
 use Rattle.adapter.specs.Device.{Device}
 use Rattle.adapter.specs.declared.access.DeviceStep.{DeviceStep}
+use Rattle.adapter.proofs.Calls.{driven_none}
 use Rattle.block_machine.specs.declared.due.Unanswered.{Unanswered}
 use Rattle.block_machine.specs.Due.{NoneDue, IsDue, is_plain, is_clear, holds_back, conflict}
 use Rattle.block_machine.specs.Left.{after}
@@ -51,6 +52,7 @@ use Rattle.block_server.specs.History.{Begins, Ties, Stands, IsEntry, IsBook, pl
 use Rattle.block_server.specs.View.{ServerView}
 use Rattle.block_server.specs.declared.types.Accepted.{Accepted}
 use Rattle.block_server.proofs.Accepting as accepting
+use Rattle.block_server.proofs.Heeding.{spared}
 use Rattle.block_server.proofs.Histories.{book_further, ports_same, stands_on}
 use Rattle.block_server.proofs.Leading.{lead_on}
 use Rattle.block_server.proofs.Ruling as ruling
@@ -258,6 +260,8 @@ module _ {A : Type 0} (device : A → Device) (s : ServerView A) (places : ℕ) 
         lead_on device first past s (more s.adapter) (events.Submit r) (events.Submitted (Ok id)) (steps.Accept request ∷ []) leads refl (λ r. absurd (false≢true r)) refl
         (tt, fresh) (tt, inr refl) (tt, λ other h i. false≢true h) tt
         (allowed, (request, refl, refl), ports_same old.moment.ports (ports_of s) at.ports_are, λ port ready. none_due true (s.book ++ accepted_as r id ∷ []) next.book (λ e. absurd (false≢true (sym e))) longer port)
+        (driven_none (device s.adapter))
+        spared
         (own_backed (device s.adapter) m (steps.Accept request) (λ x. x))
         (record {
           device_is = refl;
@@ -288,7 +292,7 @@ module _ {A : Type 0} (device : A → Device) (s : ServerView A) (places : ℕ) 
           λ kept here. absurd (contains_none kept (subst (λ (es : List Pending). Contains es kept) at.kept here)),
         ) in
         let reached = reached_more m (steps.Accept request ∷ []) (history_reaches Begins Ties first past leads.history) (tt, fresh) in
-        let x = followed (uses_of None) (λ port. []) next plain_mode e reached unused refl may refl (omega arith) (record { port = refl; operation = entry.op; first = refl; count = refl; frames = refl }) in
+        let x = followed.issues (uses_of None) (λ port. []) next plain_mode e reached unused refl may refl (omega arith) (record { port = refl; operation = entry.op; first = refl; count = refl; frames = refl }) in
         let all : List Step = steps.Issue plain_mode e ∷ (x.steps ++ steps.Accept request ∷ []) in
         let split : after m all ≡ after next (steps.Issue plain_mode e ∷ x.steps) = after-append m (steps.Issue plain_mode e ∷ x.steps) (steps.Accept request ∷ []) in
         let spares = steps_spare next x.steps x.only in
@@ -308,6 +312,8 @@ module _ {A : Type 0} (device : A → Device) (s : ServerView A) (places : ℕ) 
           ports_same old.moment.ports (ports_of s) at.ports_are,
           λ port here. subst (λ (es : machine.Machine). NoneDue plain_mode (map unanswered es.book) port) (sym split) (none_due true (s.book ++ accepted_as r id ∷ []) _ (λ no. absurd (false≢true (sym no))) longer port),
         )
+        followed.driven
+        spared
         (backed_then (device s.adapter) (device s.adapter) (device adapter) m (steps.Accept request ∷ []) (steps.Issue plain_mode e ∷ x.steps) (own_backed (device s.adapter) m (steps.Accept request) (λ y. y)) x.backed)
         (subst (λ (n : machine.Machine). Stands device (record { device = device adapter; moment = record { machine = n; ports = ports_of s } }) (more adapter)) (sym split) (record {
           device_is = refl;
@@ -349,5 +355,7 @@ refused_adds {A} device s r refusal is = record { adds = refuses }
         let at : Stands device old s = leads.stands in
         lead_on device first past s s (events.Submit r) (events.Submitted (Err refusal)) [] leads refl (λ r. refl) refl tt tt tt tt
         (subst (λ (x : refusals.Situation). IsFirstRefusal x r refusal) (sym (situation_is device old s at)) is, refl, ports_same old.moment.ports (ports_of s) at.ports_are)
+        (driven_none (device s.adapter))
+        spared
         (nothing_backed (device s.adapter) old.moment.machine)
         (stands_on device old s s.adapter [] at tt at.knows)

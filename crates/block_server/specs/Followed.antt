@@ -4,6 +4,7 @@ use Rattle.ata_types.specs.declared.request.ClientId.{ClientId}
 use Rattle.ata_types.specs.declared.request.Frame.{Frame}
 use Rattle.ata_types.specs.declared.request.Op.TheVariants.{Read}
 use Rattle.ata_types.specs.declared.request.RequestId.{RequestId}
+use Rattle.adapter.specs.Access.{IsDriven}
 use Rattle.adapter.specs.Device.{Device}
 use Rattle.block_machine.specs.Due.{is_plain}
 use Rattle.block_machine.specs.Histories.{IsReached, AddsSteps}
@@ -40,11 +41,12 @@ NoneUsed uses = AllFree uses 0
 
 -- ---- stretches of accesses
 
--- From each machine that agrees with what the driver knows, where the uses of slots fit, steps of the device alone lead to one
--- that agrees with the same and with the new device.
-abbrev pub IsFollowed : (Uses → Type 0) → Device → Device → Type 0
-IsFollowed Fits old new = (uses : Uses) (parked : ℕ → List RequestId) → Fits uses
-    → AddsSteps Knows (known uses parked old) (known uses parked new) (ByDevice old new)
+-- Accesses led from the old device to the new. And from each machine that agrees with what the driver knows, where the uses of
+-- slots fit, steps of the device alone lead to one that agrees with the same and with the new device.
+pub record IsFollowed (Fits : Uses → Type 0) (old new : Device) : Type 0 where
+  pub driven : IsDriven old new
+  pub adds : (uses : Uses) (parked : ℕ → List RequestId) → Fits uses
+      → AddsSteps Knows (known uses parked old) (known uses parked new) (ByDevice old new)
 
 -- The steps are the device's. Where slot 0's request was found done, the slot's command is over and the request has ended; and no
 -- request of the port was kept meanwhile.
@@ -53,10 +55,11 @@ pub record FindsEnd (done : Bool) (id : RequestId) (old new : Device) (m : Machi
   pub ended : done ≡ true → IsOver (new.port 0) 0 × EndedIn (after m steps) (port_at 0) id
   pub kept : NoneKept m (port_at 0) → NoneKept (after m steps) (port_at 0)
 
--- So the machine follows where slot 0 of port 0 serves a request.
-abbrev pub FindsRead : Bool → Device → Device → Type 0
-FindsRead done old new = (uses : Uses) (parked : ℕ → List RequestId) (id : RequestId) → uses 0 0 ≡ Serves id
-    → AddsSteps Knows (known uses parked old) (known uses parked new) (FindsEnd done id old new)
+-- Accesses led there, and so the machine follows where slot 0 of port 0 serves a request.
+pub record FindsRead (done : Bool) (old new : Device) : Type 0 where
+  pub driven : IsDriven old new
+  pub adds : (uses : Uses) (parked : ℕ → List RequestId) (id : RequestId) → uses 0 0 ≡ Serves id
+      → AddsSteps Knows (known uses parked old) (known uses parked new) (FindsEnd done id old new)
 
 -- the request is this read, on port 0
 pub record IsReadOf (r : Issued) (e : Pending) : Type 0 where
@@ -66,20 +69,23 @@ pub record IsReadOf (r : Issued) (e : Pending) : Type 0 where
   pub count : e.request.asked.count ≡ r.count
   pub frames : e.request.asked.frames.items ≡ r.frames
 
--- Where a request that is this read is due on port 0, plain, and slot 0 is free: steps of the device, and then the request's
--- issue, lead to a machine that agrees with a driver whose slot 0 serves it.
-abbrev pub IssuesRead : Issued → Device → Device → Type 0
-IssuesRead r old new = (uses : Uses) (parked : ℕ → List RequestId) (m : Machine) (mode : Mode) (e : Pending) → IsReached m
-    → Knows m (known uses parked old) → uses 0 0 ≡ Free → May m (Issue mode e) → is_plain mode Read ≡ true → 0 < mode.usable
-    → IsReadOf r e → EndsWith (known uses parked old) m (Issue mode e) (serving (known uses parked old) 0 0 e.request.id new)
+-- Accesses led there. Where a request that is this read is due on port 0, plain, and slot 0 is free: steps of the device, and
+-- then the request's issue, lead to a machine that agrees with a driver whose slot 0 serves it.
+pub record IssuesRead (r : Issued) (old new : Device) : Type 0 where
+  pub driven : IsDriven old new
+  pub issues : (uses : Uses) (parked : ℕ → List RequestId) (m : Machine) (mode : Mode) (e : Pending) → IsReached m
+      → Knows m (known uses parked old) → uses 0 0 ≡ Free → May m (Issue mode e) → is_plain mode Read ≡ true → 0 < mode.usable
+      → IsReadOf r e → EndsWith (known uses parked old) m (Issue mode e) (serving (known uses parked old) 0 0 e.request.id new)
 
 -- the first of the book is issued so; where there is none, the device is as it was
 abbrev pub IssuesFirst : List Accepted → Device → Device → Type 0
 IssuesFirst [] old new = new ≡ old
 IssuesFirst (e ∷ es) old new = IssuesRead (issued_of e) old new
 
--- Where the machine lets the client load so many bytes of its frame: steps of the device, and then the load of these.
-abbrev pub LoadsBytes : ClientId → Frame → ℕ → List ℕ → Device → Device → Type 0
-LoadsBytes client frame offset bytes old new = (uses : Uses) (parked : ℕ → List RequestId) (m : Machine) → IsReached m
-    → Knows m (known uses parked old) → IsOpen m.owner m.lent client frame offset (length bytes)
-    → EndsWith (known uses parked old) m (Load client frame offset bytes) (known uses parked new)
+-- Accesses led there. Where the machine lets the client load so many bytes of its frame: steps of the device, and then the load of
+-- these.
+pub record LoadsBytes (client : ClientId) (frame : Frame) (offset : ℕ) (bytes : List ℕ) (old new : Device) : Type 0 where
+  pub driven : IsDriven old new
+  pub loads : (uses : Uses) (parked : ℕ → List RequestId) (m : Machine) → IsReached m
+      → Knows m (known uses parked old) → IsOpen m.owner m.lent client frame offset (length bytes)
+      → EndsWith (known uses parked old) m (Load client frame offset bytes) (known uses parked new)

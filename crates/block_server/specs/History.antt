@@ -5,20 +5,24 @@ use Rattle.ata_types.specs.declared.refusal.MemFault.{MemFault}
 use Rattle.ata_types.specs.declared.request.Frame.{Frame}
 use Rattle.ata_types.specs.declared.request.Op.TheVariants.{Read}
 use Rattle.ata_types.specs.declared.request.RequestId.{RequestId}
+use Rattle.adapter.specs.Access.{IsDriven}
 use Rattle.adapter.specs.Asked.{Asked}
 use Rattle.adapter.specs.Device.{IsTold, Device}
+use Rattle.adapter.specs.Steps.{Steps}
 use Rattle.adapter.specs.declared.access.DeviceStep.{DeviceStep}
 use Rattle.block_machine.specs.declared.due.Mode.{Mode}
 use Rattle.block_machine.specs.Ports.{Ports, Evidence}
 use Rattle.block_machine.specs.State.{Pending}
 use Rattle.block_machine.specs.State as machine
-use Rattle.block_machine.specs.Events.{Ask, Submit, LoadAt, Service, State, Device as Told, Said, Submitted, Loaded, Served, Shown, Stepped, moment_after}
+use Rattle.block_machine.specs.Events.{Ask, Submit, LoadAt, Service, State, Device as Told, Said, Submitted, Loaded, Served, Shown, Stepped, Heeds, moment_after}
 use Rattle.block_machine.specs.Histories.{Instant, Happening, Leads}
 use Rattle.agreement.specs.Agrees.{port_at}
 use Rattle.agreement.specs.Slots.{Free, Serves, Uses, put}
 use Rattle.agreement.specs.Driver.{Known, Knows, IsBacked, idle}
 use Rattle.dma_frames.specs.Table.{owner_of, lent_to}
 use Rattle.block_server.specs.Calls.{state_of}
+use Rattle.block_server.specs.Port.{IsHealthy}
+use Rattle.block_server.specs.Told.{IsUnharmed}
 use Rattle.block_server.specs.View.{ServerView}
 use Rattle.block_server.specs.declared.types.Accepted.{Accepted}
 use Rattle.block_server.specs.declared.types.Event.{Event}
@@ -95,12 +99,18 @@ abbrev pub Begins : Instant Device → Type 0
 Begins first = Knows first.moment.machine (idle first.device)
 
 -- Nothing is given that an answer may rest on. (The other lists, of ports that failed or whose link told of a change, ask something
--- of a service. No history here claims that, and they are left open.)
+-- of a service. They are empty where port 0 goes well, and else left open.)
 pub record RestsOnNone (evidence : Evidence) : Type 0 where
   pub faults : evidence.faults ≡ []
   pub lost : evidence.lost ≡ []
   pub stopped : evidence.stopped ≡ []
   pub stuck : evidence.stuck ≡ []
+
+-- No port is named whose link had told of a change, or that failed.
+pub record NamesNone (evidence : Evidence) : Type 0 where
+  pub gone : evidence.gone ≡ []
+  pub failed : evidence.failed ≡ []
+  pub fatal : evidence.fatal ≡ []
 
 -- no item in any list
 abbrev pub no_evidence : Evidence
@@ -118,13 +128,27 @@ is_refusal (Loaded (Err fault)) = true
 is_refusal (Stepped false) = true
 is_refusal said = false
 
--- The device's part in a call: the tape backs the machine's steps; it did the step that it was told, and nothing where the call is
--- refused; no answer rests on evidence; and after it the machine agrees with a driver of the device.
+-- Accesses of the driver led from the one device to the other; where the call is one for the device, its own steps did.
+abbrev pub CameBy : Ask DeviceStep → Device → Device → Type 0
+CameBy (Told step) old new = Steps old new
+CameBy _ old new = IsDriven old new
+
+-- Port 0 tells no trouble when the call begins, and in the call no disk of it comes or goes and nothing fails.
+pub record GoesWell (old new : Device) : Type 0 where
+  pub healthy : IsHealthy (old.port 0)
+  pub unharmed : IsUnharmed old new
+
+-- The device's part in a call: accesses, or its own steps, led there, and the tape backs the machine's steps; it did the step that
+-- it was told, and nothing where the call is refused; no answer rests on evidence; where port 0 goes well, the call heeds what it
+-- finds: so a service answers what had ended; and after it the machine agrees with a driver of the device.
 pub record Ties (old : Instant Device) (h : Happening Device DeviceStep) : Type 0 where
+  pub came : CameBy h.event.ask old.device h.device
   pub backed : IsBacked old.device h.device old.moment.machine h.event.steps
   pub asked : (step : DeviceStep) → h.event.ask ≡ Told step → h.event.said ≡ Stepped true → Asked step old.device h.device
   pub refused : is_refusal h.event.said ≡ true → h.device ≡ old.device
   pub evidence : RestsOnNone h.event.evidence
+  pub heeds : GoesWell old.device h.device → NamesNone h.event.evidence
+      × Heeds h.event.ask old.moment h.event.evidence h.event.steps (moment_after old.moment h.event)
   pub uses : Uses
   pub parked : ℕ → List RequestId
   pub knows : Knows (moment_after old.moment h.event).machine (record { uses = uses; parked = parked; device = h.device })
