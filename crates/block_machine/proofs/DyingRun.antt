@@ -16,7 +16,7 @@ use Rattle.block_machine.specs.Events.{Submit, Service, Submitted, Served, Event
 use Rattle.block_machine.specs.Worked.{DiesInAService}
 use Rattle.block_machine.proofs.Members.{contains_none, contains_here, contains_there, contains_cases}
 use Rattle.block_machine.proofs.Setting.{port, frame, empty_starts, acceptable}
-use Rattle.block_machine.proofs.Scene.{mode, id, call, one_sector, ports_in, first, ready_port, spares_ports, IsQuiet, row_zero, write_at, new, none_waits, none_ended, none_unplugged, no_faults, ports_fit, none_dead}
+use Rattle.block_machine.proofs.Scene.{mode, id, call, one_sector, ports_in, first, ready_port, shows_none, changed_here, spares_ports, IsQuiet, row_zero, write_at, new, none_waits, none_ended, none_unplugged, no_faults, ports_fit, none_dead}
 use Rattle.block_machine.proofs.WaitingRun.{write, run1, happens1}
 use Rattle.block_machine.proofs.ResetRun.{dead_not_ready, dead_here}
 
@@ -93,8 +93,8 @@ happens3 = record {
     unplugs = none_unplugged service.steps (moment_of first run3).machine refl;
     issues = λ p ready. dead_not_ready p ready;
     emptied = λ p ne e h. absurd (contains_none e h);
-    becomes = λ p. (λ dead. none_dead p dead, λ _. record { served = refl; stuck = dead_here p; dies = λ h. dies p h; disk = λ ready. inr (inl (ap (ports_in Dead).state (ready_port p ready))); keeps = λ _. (refl, refl) });
-    disk = λ p _ ready. dead_not_ready p ready;
+    becomes = λ p. (λ dead. none_dead p dead, λ _. (record { served = refl; stuck = dead_here p; dies = λ h. dies p h; disk = λ ready. inr (inl (ap (ports_in Dead).state (ready_port p ready))); keeps = λ _. (refl, refl) }, changed_here Ready Dead seen (inl (contains_here port [] port refl)) p));
+    disk = λ p. inr (λ shows. shows_none Dead (λ s. s) p shows);
   };
 }
   where
@@ -113,6 +113,7 @@ notices p ready = record {
   anew = λ _ e h. absurd (contains_none e h);
   changes = inr (inl (contains_here port [] p (ready_port p ready)));
   single = let zero = no_faults service.steps refl p in omega (arith, zero);
+  disk = λ shows. shows_none Dead (λ s. s) p shows;
   fatal = λ _. (contains_here port [] p (ready_port p ready), no_faults service.steps refl p);
   calm = inl (inl (contains_here port [] p (ready_port p ready)));
 }

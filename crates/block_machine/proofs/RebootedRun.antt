@@ -1,5 +1,5 @@
 -- A run in which resets issue a request anew, abort it in the end, and issue one that waited for it.
-use Rattle.std.proofs.Common.{◌≡◌, ℕ, ◌<◌, true, suc, List, [], ◌∷◌, Some, inr, refl, arith}
+use Rattle.std.proofs.Common.{◌≡◌, ℕ, ◌<◌, true, suc, List, [], ◌∷◌, Some, inl, inr, refl, arith}
 use Rattle.std.proofs.lemmas.Bool.{false≢true}
 use Rattle.ata_types.specs.declared.Port.{Port}
 use Rattle.ata_types.specs.declared.PortState.TheVariants.{Ready}
@@ -39,8 +39,8 @@ becomes p = record { served = refl; stuck = λ dead. none_dead p dead; dies = λ
 abbrev before : Machine → ℕ → Moment
 before m n = record { machine = record m { book = tried n ∷ waits ∷ []; kept = [] }; ports = ports }
 
-again : (m : Machine) (n : ℕ) → n < 4 → Happens (before m n) (retry n)
-again m n few = record {
+again : (m : Machine) (n : ℕ) → ((p : Port) → m.present p ≡ true) → n < 4 → Happens (before m n) (retry n)
+again m n present few = record {
   may = (
     ((tt, tt), (contains_here (tried n) (waits ∷ []) (tried n) refl, refl, few)),
     (contains_here (requeued (tried n)) (waits ∷ []) (requeued (tried n)) refl, record { here = contains_here (unanswered (requeued (tried n))) (unanswered waits ∷ []) (unanswered (requeued (tried n))) refl; clear = refl; slot = λ _. omega arith }, λ e h. absurd (contains_none e h)),
@@ -61,7 +61,7 @@ again m n few = record {
       becomes = becomes p;
       anew = λ e h _ issued. of_two (tried (suc n)) waits (λ x. x.issued ≡ true → IsIssuedIn x.request.id (retry n).steps) (λ _. refl) (λ t. absurd (false≢true t)) e h issued;
       stopped = stopped_here p;
-      disk = λ ne ready. absurd (ne ready);
+      disk = λ _. inl (present p);
     };
   };
 }
@@ -88,7 +88,7 @@ happens6 = record {
       becomes = becomes p;
       anew = λ e h _ _. only_one (issue waits) (λ x. IsIssuedIn x.request.id abort.steps) refl e h;
       stopped = stopped_here p;
-      disk = λ ne ready. absurd (ne ready);
+      disk = λ _. inl refl;
     };
   };
 }
@@ -101,7 +101,7 @@ goes_again_in_resets = record {
   two = retry 2;
   three = retry 3;
   four = abort;
-  runs = (((((((empty_starts, ports_fit Ready refl), happens1), happens2), again (moment_of first run2).machine 1 (omega arith)), again (moment_of first (retry 1 ∷ run2)).machine 2 (omega arith)), again (moment_of first (retry 2 ∷ retry 1 ∷ run2)).machine 3 (omega arith)), happens6);
+  runs = (((((((empty_starts, ports_fit Ready refl), happens1), happens2), again (moment_of first run2).machine 1 (λ p. refl) (omega arith)), again (moment_of first (retry 1 ∷ run2)).machine 2 (λ p. refl) (omega arith)), again (moment_of first (retry 2 ∷ retry 1 ∷ run2)).machine 3 (λ p. refl) (omega arith)), happens6);
   heeds = ((((((tt, spares_ports), spares_ports), tt), tt), tt), tt);
   resets = (refl, refl, refl, refl);
   issued = tried 1;

@@ -108,6 +108,7 @@ ticks old young new same = record {
   interrupts = λ p hung. absurd (not_hung old young p hung);
   spares = λ p i. absurd (⊎_elim (contains_none p) (contains_none p) i);
   finds = finds_none (Age aging ∷ []) old.ports new.ports refl;
+  disk = λ p hung. absurd (not_hung old young p hung);
   anew = λ p hung. absurd (not_hung old young p hung);
 }
 
@@ -186,6 +187,7 @@ restarted = record {
       (λ h. absurd (contains_none p h))
       i;
   finds = finds_none restarting.steps ports ports refl;
+  disk = λ p _ _. inl refl;
   anew = λ p _ e h _ _. ⊎_elim
       (λ (same : e ≡ again). subst (λ (y : Pending). IsIssuedIn y.request.id restarting.steps) (sym same) refl)
       (λ n. absurd (contains_none e n))
@@ -271,8 +273,8 @@ happens6 = record {
     unplugs = none_unplugged service.steps (moment_of first run6).machine refl;
     issues = λ p ready. dead_not_ready p ready;
     emptied = λ p ne e h. absurd (contains_none e h);
-    becomes = λ p. (λ _. (refl, refl, refl, refl, refl, refl), λ alive. record { served = refl; stuck = λ dead. absurd (alive dead); dies = λ h. absurd (contains_none p h); disk = λ ready. dead_not_ready p ready; keeps = λ _. (refl, refl) });
-    disk = λ p _ ready. dead_not_ready p ready;
+    becomes = λ p. (λ _. (refl, refl, refl, refl, refl, refl), λ alive. (record { served = refl; stuck = λ dead. absurd (alive dead); dies = λ h. absurd (contains_none p h); disk = λ ready. dead_not_ready p ready; keeps = λ _. (refl, refl) }, inl (refl, refl, refl, refl, refl, refl)));
+    disk = λ p. inl (refl, refl, refl, refl, refl, refl);
   };
 }
 
@@ -295,7 +297,7 @@ happens7 = record {
       becomes = record { served = refl; stuck = λ e. none_dead p e; dies = λ h. absurd (contains_none p h); disk = λ ready. dead_not_ready p ready; keeps = λ _. (refl, refl) };
       anew = λ e h. absurd (contains_none e h);
       stopped = stopped_here p;
-      disk = λ _ ready. inl refl;
+      disk = λ _. inl refl;
     };
   };
 }

@@ -26,8 +26,8 @@ use Rattle.block_machine.specs.Refusals.{IsOpen}
 use Rattle.block_machine.specs.Due.{NoneDue, is_flush}
 use Rattle.block_machine.specs.State.{Accepted, Pending, Machine, block_of, is_reader, unanswered}
 use Rattle.block_machine.specs.Steps.{Step, Touch, End, Answer, newly_accepted, issue, touch, mark_ended, IsNew}
-use Rattle.block_machine.specs.Ports.{Ports, Evidence, AreFit, SamePort, SamePorts, MayBecome, IsServiced}
-use Rattle.block_machine.specs.Events.{Moment, Ask, Said, Event, IsHung, IsInterrupted, AllGrounded, AnswersEnded, AreTold, UnplugsAll, FindsAnother, AnswersService, ServesReady, tells_fault, Tells, situation_of, answers_of, reply_of}
+use Rattle.block_machine.specs.Ports.{Ports, Evidence, AreFit, SamePort, SamePorts, IsInterrupted, MayBecome, IsServiced}
+use Rattle.block_machine.specs.Events.{Moment, Ask, Said, Event, ShowsDisk, IsHung, AllGrounded, AnswersEnded, AreTold, UnplugsAll, FindsAnother, AnswersService, ServesReady, tells_fault, Tells, situation_of, answers_of, reply_of}
 use Rattle.block_machine.proofs.Members.{contains_none, contains_here, contains_cases, append_in, none_of}
 use Rattle.block_machine.proofs.Counting.{count_cons, count_append}
 use Rattle.block_machine.proofs.Keeps.{same_port}
@@ -272,8 +272,31 @@ none_dead {A} p e = go (p.0 == 0) e
 pub serviced : (p : Port) → IsServiced ports none ports p
 serviced p = (
   λ dead. none_dead p dead,
-  λ _. record { served = refl; stuck = λ e. none_dead p e; dies = λ h. absurd (contains_none p h); disk = λ ready. inr (inr (ready, (refl, refl))); keeps = λ _. (refl, refl) },
+  λ _. (
+    record { served = refl; stuck = λ e. none_dead p e; dies = λ h. absurd (contains_none p h); disk = λ ready. inr (inr (ready, (refl, refl))); keeps = λ _. (refl, refl) },
+    inl (refl, refl, refl, refl, refl, refl),
+  ),
 )
+
+-- where port 0 has a disk, each ready port has
+pub in_ready : (m : Machine) → m.present port ≡ true → (p : Port) → at_port Ready p ≡ Ready → m.present p ≡ true
+in_ready m present p ready = ap m.present (ready_port p ready) ∙ present
+
+-- a state of port 0 that shows no disk shows none at any port
+pub shows_none : {A : Type 0} (state : PortState) → (ShowsDisk state → ⊥) → (p : Port) → ShowsDisk (at_port state p) → A
+shows_none {A} state none p shows = go (p.0 == 0) shows
+  where
+    go : (b : Bool) → ShowsDisk (cond b state Absent) → A
+    go true s = absurd (none s)
+    go false s = absurd s
+
+-- where port 0 was interrupted, the others are what they were
+pub changed_here : (old new : PortState) (evidence : Evidence) → IsInterrupted evidence port → (p : Port) → SamePort (ports_in old) (ports_in new) p ⊎ IsInterrupted evidence p
+changed_here old new evidence here p = go (p.0 == 0) refl
+  where
+    go : (b : Bool) → (p.0 == 0) ≡ b → SamePort (ports_in old) (ports_in new) p ⊎ IsInterrupted evidence p
+    go true e = inr (subst (λ (x : Port). IsInterrupted evidence x) (sym (same_port p port (eqb-true p.0 0 e))) here)
+    go false e = inl (refl, cond-false (p.0 == 0) new Absent e ∙ sym (cond-false (p.0 == 0) old Absent e), refl, refl, refl, refl)
 
 -- a port that no call got stuck stays ready
 pub stay_ready : (evidence : Evidence) → evidence.stuck ≡ [] → (p : Port) → MayBecome ports evidence ports p
@@ -396,8 +419,8 @@ last_ended m steps others one is none done same told p e h here ended = ⊎_elim
     (append_in others one e (subst (λ (es : List Pending). Contains es e) is h))
 
 -- a service with no evidence that leaves the port what it is
-pub calmly : (old new : Moment) (steps : List Step) (p : Port) → SamePort old.ports new.ports p → list_any is_refused steps ≡ false → AnswersEnded old.machine steps p → ServesReady old none steps new p
-calmly old new steps p same ok ended = record {
+pub calmly : (old new : Moment) (steps : List Step) (p : Port) → old.machine.present p ≡ true → SamePort old.ports new.ports p → list_any is_refused steps ≡ false → AnswersEnded old.machine steps p → ServesReady old none steps new p
+calmly old new steps p present same ok ended = record {
   ended = ended;
   emptied = λ gone. absurd (contains_none p gone);
   told = λ gone. absurd (contains_none p gone);
@@ -405,14 +428,15 @@ calmly old new steps p same ok ended = record {
   anew = λ trouble. ⊎_elim (λ failed. absurd (contains_none p failed)) (λ stopped. absurd (contains_none p stopped)) trouble;
   changes = inl same;
   fatal = λ h. absurd (contains_none p h);
+  disk = λ _. inl present;
   single = let zero = counts_none is_refused p (λ step t. fault_refused step (its_fault p step t)) steps ok in omega (arith, zero);
   calm = inr (record { same = same; told = told_ok steps ok p; uninterrupted = λ i. ⊎_elim (contains_none p) (contains_none p) i });
 }
 
 -- and one that leaves all ports what they are
-pub all_calmly : (old new : Moment) (steps : List Step) → SamePorts old.ports new.ports → list_any is_refused steps ≡ false → ((p : Port) → AnswersEnded old.machine steps p)
+pub all_calmly : (old new : Moment) (steps : List Step) → ((p : Port) → old.ports.state p ≡ Ready → old.machine.present p ≡ true) → SamePorts old.ports new.ports → list_any is_refused steps ≡ false → ((p : Port) → AnswersEnded old.machine steps p)
     → (p : Port) → old.ports.state p ≡ Ready → ServesReady old none steps new p
-all_calmly old new steps same ok ended p ready = calmly old new steps p (same p) ok (ended p)
+all_calmly old new steps present same ok ended p ready = calmly old new steps p (present p ready) (same p) ok (ended p)
 
 -- a book of this port's requests has none of a port that isn't ready
 pub emptied_of : (book : List Pending) → ((e : Pending) → Contains book e → e.request.port ≡ port) → (p : Port) → at_port Ready p ≢ Ready → (e : Pending) → Contains book e → e.request.port ≢ p
@@ -430,7 +454,7 @@ plain_service old new steps replies tells plugged grounded issues mine = record 
   issues = λ p _. issues p;
   emptied = emptied_of new.book mine;
   becomes = serviced;
-  disk = λ p ne ready. absurd (ne ready);
+  disk = λ p. inl (refl, refl, refl, refl, refl, refl);
 }
 
 -- of the one request of a book, or of none

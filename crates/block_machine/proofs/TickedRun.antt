@@ -79,6 +79,7 @@ restarted = record {
       (λ h. absurd (contains_none p h))
       i;
   finds = finds_none tick.steps ports ports refl;
+  disk = λ p _ _. inl refl;
 }
   where
     each : (P : Step → Type 0) → P (Answer older_still outcome.Ok) → P (Age aging) → (step : Step) → Contains tick.steps step → P step

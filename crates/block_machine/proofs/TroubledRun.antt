@@ -1,6 +1,6 @@
 -- A run in which one port fails and another loses its disk.
 use Rattle.std.proofs.Common.{◌≡◌, ◌⊎◌, ℕ, ◌<◌, ◌≤◌, ◌||◌, ◌==◌, Bool, true, false, cond, zero, suc, List, [], ◌∷◌, map, Ok, inl, inr, ⊎_elim, refl, sym, ap, ◌∙◌, subst, arith, eqb-true, eq-eqb}
-use Rattle.std.proofs.lemmas.Bool.{false≢true, or_cases, cond-true}
+use Rattle.std.proofs.lemmas.Bool.{false≢true, or_cases, cond-true, cond-false}
 use Rattle.std.proofs.lemmas.List.Sorted.{IsPermutation-append_comm}
 use Rattle.std.specs.List.{Contains, list_any}
 use Rattle.std.specs.Prelude.{slice_index_or}
@@ -11,10 +11,10 @@ use Rattle.ata_types.specs.declared.request.RequestId.{RequestId}
 use Rattle.ata_types.specs.declared.request.Op.TheVariants.{Read, Write}
 use Rattle.ata_types.specs.declared.request.Outcome.{Outcome}
 use Rattle.ata_types.specs.declared.request.Outcome.TheVariants as outcome
-use Rattle.block_machine.specs.Ports.{Ports, Evidence, AreFit, IsServiced}
+use Rattle.block_machine.specs.Ports.{Ports, Evidence, AreFit, SamePort, IsInterrupted, IsServiced}
 use Rattle.block_machine.specs.State.{Accepted, Pending, Machine, unanswered, is_reader}
 use Rattle.block_machine.specs.Steps.{Step, Accept, Issue, Touch, End, Again, Answer, Unplug, newly_accepted, issue, touch, requeued}
-use Rattle.block_machine.specs.Events.{Moment, Submit, Service, Device, Submitted, Served, Stepped, Event, Happens, NoneKeepsIssue, ServesReady, UnplugsAll, Tells, IsToldBefore, IsIssuedIn, moment_after, moment_of, situation_of, steps_of, reply_of}
+use Rattle.block_machine.specs.Events.{Moment, Submit, Service, Device, Submitted, Served, Stepped, Event, Happens, NoneKeepsIssue, ServesReady, UnplugsAll, Tells, IsToldBefore, IsIssuedIn, moment_after, moment_of, situation_of, steps_of, reply_of, ShowsDisk}
 use Rattle.block_machine.specs.Worked.{MeetsTrouble}
 use Rattle.block_machine.proofs.Members.{contains_none, contains_here, contains_there, contains_cases, none_of}
 use Rattle.block_machine.proofs.Keeps.{same_port}
@@ -169,11 +169,40 @@ zero_ready p e = go (p.0 == 0) refl (p.0 == 1) e
     go false z true e = absurd (false≢true (ap is_ready e))
     go false z false e = absurd (false≢true (ap is_ready e))
 
+-- where port 0 has a disk, each port that shows one has
+in_zero : (m : Machine) → m.present (on 0) ≡ true → (p : Port) → ShowsDisk (both Ready Absent p) → m.present p ≡ true
+in_zero m present p shows = go (p.0 == 0) refl (p.0 == 1) shows
+  where
+    go : (a : Bool) → (p.0 == 0) ≡ a → (b : Bool) → ShowsDisk (cond a Ready (cond b Absent Absent)) → m.present p ≡ true
+    go true z b s = ap m.present (same_port p (on 0) (eqb-true p.0 0 z)) ∙ present
+    go false z true s = absurd s
+    go false z false s = absurd s
+
+-- a port that isn't interrupted is what it was where port 1 loses its disk
+changed_there : (evidence : Evidence) → Contains evidence.stopped (on 1) → (p : Port) → SamePort (ports_in Ready Ready) (ports_in Ready Absent) p ⊎ IsInterrupted evidence p
+changed_there evidence here p = go (p.0 == 0) refl (p.0 == 1) refl
+  where
+    go : (a : Bool) → (p.0 == 0) ≡ a → (b : Bool) → (p.0 == 1) ≡ b → SamePort (ports_in Ready Ready) (ports_in Ready Absent) p ⊎ IsInterrupted evidence p
+    go true z b o = inl (refl, cond-true (p.0 == 0) Ready (cond (p.0 == 1) Absent Absent) z ∙ sym (cond-true (p.0 == 0) Ready (cond (p.0 == 1) Ready Absent) z), refl, refl, refl, refl)
+    go false z true o = inr (inl (subst (λ (x : Port). Contains evidence.stopped x) (sym (same_port p (on 1) (eqb-true p.0 1 o))) here))
+    go false z false o = inl (
+      refl,
+      cond-false (p.0 == 0) Ready (cond (p.0 == 1) Absent Absent) z ∙ cond-false (p.0 == 1) Absent Absent o
+          ∙ sym (cond-false (p.0 == 0) Ready (cond (p.0 == 1) Ready Absent) z ∙ cond-false (p.0 == 1) Ready Absent o),
+      refl,
+      refl,
+      refl,
+      refl,
+    )
+
 -- a service that changes no port
 stays : (p : Port) → IsServiced (ports_in Ready Absent) failure (ports_in Ready Absent) p
 stays p = (
   λ dead. not_dead Ready Absent refl refl p dead,
-  λ _. record { served = refl; stuck = λ dead. not_dead Ready Absent refl refl p dead; dies = λ h. absurd (contains_none p h); disk = λ ready. inr (inr (ready, (refl, refl))); keeps = λ _. (refl, refl) },
+  λ _. (
+    record { served = refl; stuck = λ dead. not_dead Ready Absent refl refl p dead; dies = λ h. absurd (contains_none p h); disk = λ ready. inr (inr (ready, (refl, refl))); keeps = λ _. (refl, refl) },
+    inl (refl, refl, refl, refl, refl, refl),
+  ),
 )
 
 -- one of them waits for nothing
@@ -326,6 +355,7 @@ stopped p ready = ⊎_elim (λ (same : p ≡ on 1). contains_there (on 0) (on 1 
 -- what each ready port finds of it
 serves_ready : (p : Port) → both Ready Ready p ≡ Ready → ServesReady (moment_of first run6) trouble serving (moment_of first run7) p
 serves_ready p ready = record {
+  disk = λ shows. inl (in_zero (moment_of first run6).machine refl p shows);
   ended = last_ended (moment_of first run6).machine serving (losing ∷ failing ∷ tried 1 ∷ []) (done finished) refl refl (done finished) refl
       (contains_there (Answer losing outcome.Unplugged) (Issue mode (requeued (tried 1)) ∷ requeuing) (Answer (done finished) outcome.Ok)
       (fourth (Issue mode (requeued (tried 1))) (Again (tried 1)) (Answer failing (outcome.DeviceError 65 64)) (Answer (done finished) outcome.Ok))) p;
@@ -388,15 +418,18 @@ happens7 = record {
     emptied = λ p ne e h. emptied_at (both Ready Absent) (tried 2) refl p ne e h;
     becomes = λ p. (
       λ dead. not_dead Ready Ready refl refl p dead,
-      λ _. record {
-        served = refl;
-        stuck = λ dead. not_dead Ready Absent refl refl p dead;
-        dies = λ h. absurd (contains_none p h);
-        disk = λ ready. ⊎_elim (λ same. inl (contains_here (on 1) [] p same)) (λ still. inr (inr (still, (refl, refl)))) (still_ready p ready);
-        keeps = λ _. (refl, refl);
-      },
+      λ _. (
+        record {
+          served = refl;
+          stuck = λ dead. not_dead Ready Absent refl refl p dead;
+          dies = λ h. absurd (contains_none p h);
+          disk = λ ready. ⊎_elim (λ same. inl (contains_here (on 1) [] p same)) (λ still. inr (inr (still, (refl, refl)))) (still_ready p ready);
+          keeps = λ _. (refl, refl);
+        },
+        changed_there service.evidence (second (on 0) (on 1)) p,
+      ),
     );
-    disk = λ p ne ready. absurd (ne (subst (λ (x : Port). both Ready Ready x ≡ Ready) (sym (zero_ready p ready)) refl));
+    disk = λ p. inr (λ shows. inl (in_zero (moment_of first run6).machine refl p shows));
   };
 }
   where
@@ -409,9 +442,10 @@ happens7 = record {
 -- A service that issues the request again, and the one that aborts it.
 
 -- port 0 has failed, where no request had ended and none keeps its issue
-fails : (old new : Moment) (steps : List Step) (p : Port) → both Ready Absent p ≡ Ready → list_any (λ e. e.ended) old.machine.book ≡ false → list_any is_fault steps ≡ false
+fails : (old new : Moment) (steps : List Step) (p : Port) → both Ready Absent p ≡ Ready → old.machine.present (on 0) ≡ true → list_any (λ e. e.ended) old.machine.book ≡ false → list_any is_fault steps ≡ false
     → NoneKeepsIssue steps new.machine p → ServesReady old failure steps new p
-fails old new steps p ready none faults anew = record {
+fails old new steps p ready present none faults anew = record {
+  disk = λ _. inl (ap old.machine.present (zero_ready p ready) ∙ present);
   ended = none_ended old.machine steps none p;
   emptied = λ gone. absurd (contains_none p gone);
   told = λ gone. absurd (contains_none p gone);
@@ -427,8 +461,8 @@ fails old new steps p ready none faults anew = record {
 abbrev before : Machine → ℕ → Moment
 before m n = record { machine = record m { book = tried n ∷ []; kept = [] }; ports = ports_in Ready Absent }
 
-retry_heeds : (m : Machine) (n : ℕ) (p : Port) → both Ready Absent p ≡ Ready → ServesReady (before m n) failure (retry n).steps (moment_after (before m n) (retry n)) p
-retry_heeds m n p ready = fails (before m n) (moment_after (before m n) (retry n)) (retry n).steps p ready refl refl (λ e h _ _. left_anew (suc n) (retry n).steps refl e h)
+retry_heeds : (m : Machine) (n : ℕ) → m.present (on 0) ≡ true → (p : Port) → both Ready Absent p ≡ Ready → ServesReady (before m n) failure (retry n).steps (moment_after (before m n) (retry n)) p
+retry_heeds m n in_before p ready = fails (before m n) (moment_after (before m n) (retry n)) (retry n).steps p ready in_before refl refl (λ e h _ _. left_anew (suc n) (retry n).steps refl e h)
 
 retried : (m : Machine) (n : ℕ) → n < 4 → Happens (before m n) (retry n)
 retried m n few = record {
@@ -446,7 +480,7 @@ retried m n few = record {
     issues = λ p _. none_waits _ refl p;
     emptied = λ p ne e h. emptied_at (both Ready Absent) (tried (suc n)) refl p ne e h;
     becomes = stays;
-    disk = λ p ne ready. absurd (ne ready);
+    disk = λ p. inl (refl, refl, refl, refl, refl, refl);
   };
 }
 
@@ -466,7 +500,7 @@ happens10 = record {
     issues = λ p _. none_there p;
     emptied = λ p ne e h. absurd (contains_none e h);
     becomes = stays;
-    disk = λ p ne ready. absurd (ne ready);
+    disk = λ p. inl (refl, refl, refl, refl, refl, refl);
   };
 }
 
@@ -479,7 +513,7 @@ meets_trouble = record {
   fourth = retry 3;
   last = abort;
   runs = (((((((((((empty_starts, fit Ready Ready refl refl), happens1), happens2), happens3), happens4), happens5), happens6), happens7), retried (moment_of first run7).machine 2 (omega arith)), retried (moment_of first (retry 2 ∷ run7)).machine 3 (omega arith)), happens10);
-  heeds = ((((((((((tt, spares_ports), spares_ports), spares_ports), spares_ports), spares_ports), spares_ports), serves_ready), retry_heeds (moment_of first run7).machine 2), retry_heeds (moment_of first (retry 2 ∷ run7)).machine 3), λ p ready. fails (moment_of first run9) (moment_after (moment_of first run9) abort) abort.steps p ready refl refl (λ e h. absurd (contains_none e h)));
+  heeds = ((((((((((tt, spares_ports), spares_ports), spares_ports), spares_ports), spares_ports), spares_ports), serves_ready), retry_heeds (moment_of first run7).machine 2 refl), retry_heeds (moment_of first (retry 2 ∷ run7)).machine 3 refl), λ p ready. fails (moment_of first run9) (moment_after (moment_of first run9) abort) abort.steps p ready refl refl refl (λ e h. absurd (contains_none e h)));
   told = (((((((((((((((((((((tt, tt), tt), tt), tt), tt), tt), tt), tt), λ e. absurd (false≢true (ap is_reader e))), tt), tt), tt), tt), tt), tt), tt), tt), tt), tt), tt), tt);
   volatile = (((((((((((((((((((((tt, tt), tt), tt), tt), tt), tt), tt), tt), tt), tt), tt), tt), tt), tt), tt), tt), tt), tt), tt), tt), tt);
   lost = losing;

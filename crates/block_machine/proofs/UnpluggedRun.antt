@@ -15,7 +15,7 @@ use Rattle.block_machine.specs.Events.{Moment, Tick, Device, Served, Stepped, Ev
 use Rattle.block_machine.specs.Worked.{IsTakenOutBeforeATick}
 use Rattle.block_machine.proofs.Members.{contains_none, contains_here, contains_cases, none_of}
 use Rattle.block_machine.proofs.Setting.{port, frame, empty_starts}
-use Rattle.block_machine.proofs.Scene.{first, ports, ports_in, call, none_told, ready_port, spares_ports, restarts_into, is_told_dead, emptied_of, of_two, none_ended, none_unplugged, absent_not_ready, absent_not_dead, ports_fit}
+use Rattle.block_machine.proofs.Scene.{first, ports, ports_in, call, none_told, ready_port, spares_ports, restarts_into, shows_none, is_told_dead, emptied_of, of_two, none_ended, none_unplugged, absent_not_ready, absent_not_dead, ports_fit}
 use Rattle.block_machine.proofs.WaitingRun.{read, run2, happens1, happens2, none_due}
 use Rattle.block_machine.proofs.ResetRun.{aging, aged, ages_once, ticks}
 use Rattle.block_machine.proofs.ResetRun as reset_run
@@ -130,6 +130,7 @@ restarted = record {
       (λ h. absurd (contains_none p h))
       i;
   finds = λ e h. (λ dead. absent_not_dead e.request.port dead, λ ready. absent_not_ready e.request.port ready);
+  disk = λ p _ shows. shows_none Absent (λ s. s) p shows;
 }
 
 told_in_order : Tells tick.steps (map reply_of told)

@@ -14,7 +14,7 @@ use Rattle.block_machine.specs.Worked.{WaitsItsTurn}
 use Rattle.block_machine.proofs.Members.{contains_none, contains_here, contains_there, contains_cases}
 use Rattle.block_machine.proofs.Dues.{issued_not_due}
 use Rattle.block_machine.proofs.Setting.{port, empty_starts, acceptable}
-use Rattle.block_machine.proofs.Scene.{mode, first, id, call, reply, sector_request, done, served, IsQuiet, row_zero, fit_write, fit_read, new, one_issued, none_there, one_told, one_touched, ports_fit, none_ended, last_ended, all_calmly, plain_service, only_one, spares_ports}
+use Rattle.block_machine.proofs.Scene.{mode, first, id, call, reply, sector_request, done, served, IsQuiet, row_zero, fit_write, fit_read, new, one_issued, none_there, one_told, one_touched, ports_fit, none_ended, last_ended, all_calmly, plain_service, only_one, in_ready, spares_ports}
 
 abbrev pub run0 : List (Event (Unit {0}))
 run0 = []
@@ -149,7 +149,7 @@ waits_its_turn = record {
   first = first;
   run = run5;
   runs = ((((((empty_starts, ports_fit Ready refl), happens1), happens2), happens3), happens4), happens5);
-  heeds = (((((tt, spares_ports), spares_ports), all_calmly (moment_of first run2) (moment_of first run3) event3.steps (λ p. (refl, refl, refl, refl, refl, refl)) refl (none_ended (moment_of first run2).machine event3.steps refl)), spares_ports), all_calmly (moment_of first run4) (moment_of first run5) event5.steps (λ p. (refl, refl, refl, refl, refl, refl)) refl (last_ended (moment_of first run4).machine event5.steps [] (done read) refl refl (done read) refl (contains_here (Answer (done read) outcome.Ok) [] (Answer (done read) outcome.Ok) refl)));
+  heeds = (((((tt, spares_ports), spares_ports), all_calmly (moment_of first run2) (moment_of first run3) event3.steps (in_ready (moment_of first run2).machine refl) (λ p. (refl, refl, refl, refl, refl, refl)) refl (none_ended (moment_of first run2).machine event3.steps refl)), spares_ports), all_calmly (moment_of first run4) (moment_of first run5) event5.steps (in_ready (moment_of first run4).machine refl) (λ p. (refl, refl, refl, refl, refl, refl)) refl (last_ended (moment_of first run4).machine event5.steps [] (done read) refl refl (done read) refl (contains_here (Answer (done read) outcome.Ok) [] (Answer (done read) outcome.Ok) refl)));
   told = ((((((((((tt, tt), tt), tt), λ e. absurd (false≢true (ap is_reader e))), tt), tt), tt), λ _ b lt. refl), tt), tt);
   early = run2;
   call = event3;

@@ -1,5 +1,5 @@
 -- A run in which a write is flushed and a later one isn't, and a read finds the one or the other after its disk was out.
-use Rattle.std.proofs.Common.{◌≡◌, ◌⊎◌, ℕ, ◌+◌, ◌-◌, ◌<◌, ◌&&◌, true, List, [], ◌∷◌, ◌++◌, slice_index, None, Ok, inl, inr, ⊎_elim, refl, sym, ap, ◌∙◌, subst, arith, le-leb, lt-ltb}
+use Rattle.std.proofs.Common.{Bool, false, cond, ◌==◌, ◌≡◌, ◌⊎◌, ℕ, ◌+◌, ◌-◌, ◌<◌, ◌&&◌, true, List, [], ◌∷◌, ◌++◌, slice_index, None, Ok, inl, inr, ⊎_elim, refl, sym, ap, ◌∙◌, subst, arith, le-leb, lt-ltb}
 use Rattle.std.proofs.lemmas.Bool.{and_from, cond-true, false≢true}
 use Rattle.std.specs.List.{Contains}
 use Rattle.std.specs.Prelude.{nat_le, nat_lt}
@@ -11,12 +11,12 @@ use Rattle.block_machine.specs.Due.{is_flush}
 use Rattle.block_machine.specs.Ports.{Evidence}
 use Rattle.block_machine.specs.State.{Block, Disk, Accepted, block_of, is_reader, unanswered}
 use Rattle.block_machine.specs.Steps.{Step, Accept, Issue, Touch, End, Answer, Unplug, Replace, Store, Load, newly_accepted, issue, touch, mark_ended}
-use Rattle.block_machine.specs.Events.{Submit, StoreAt, LoadAt, Service, Device, Submitted, Stored, Loaded, Served, Stepped, Event, Happens, IsRun, ServesReady, AllHeed, moment_of, situation_of, steps_of}
+use Rattle.block_machine.specs.Events.{Submit, StoreAt, LoadAt, Service, Device, Submitted, Stored, Loaded, Served, Stepped, Event, Happens, IsRun, ServesReady, AllHeed, moment_of, situation_of, steps_of, ShowsDisk}
 use Rattle.block_machine.specs.Durable.{SameBytes, HeldSince}
 use Rattle.block_machine.specs.Worked.{FindsTheFlushed, MayComeBack, ReadsOneOf}
 use Rattle.block_machine.proofs.Members.{contains_none, contains_here, contains_there, contains_cases}
 use Rattle.block_machine.proofs.Setting.{client, port, frame, request, empty, empty_starts, acceptable}
-use Rattle.block_machine.proofs.Scene.{mode, first, none, at_port, ports_in, id, call, reply, sector_request, done, served, is_open, IsQuiet, row_zero, fit_write, fit_read, fit_flush, new, one_issued, none_there, one_told, none_told, one_touched, ports_fit, none_dead, none_ended, none_unplugged, all_calmly, plain_service, ready_port, spares_ports, absent_not_ready, absent_not_dead}
+use Rattle.block_machine.proofs.Scene.{mode, first, none, at_port, ports_in, id, call, reply, sector_request, done, served, is_open, IsQuiet, row_zero, fit_write, fit_read, fit_flush, new, one_issued, none_there, one_told, none_told, one_touched, ports_fit, none_dead, none_ended, none_unplugged, all_calmly, plain_service, ready_port, in_ready, shows_none, changed_here, spares_ports, absent_not_ready, absent_not_dead}
 
 abbrev run0 : List (Event (Unit {0}))
 run0 = []
@@ -268,8 +268,8 @@ happens10 = record {
     unplugs = none_unplugged [] (moment_of first run10).machine refl;
     issues = λ p _. none_there p;
     emptied = λ p ne e h. absurd (contains_none e h);
-    becomes = λ p. (λ dead. none_dead p dead, λ _. record { served = refl; stuck = λ dead. absent_not_dead p dead; dies = λ h. absurd (contains_none p h); disk = λ ready. inl (contains_here port [] p (ready_port p ready)); keeps = λ _. (refl, refl) });
-    disk = λ p _ ready. absent_not_ready p ready;
+    becomes = λ p. (λ dead. none_dead p dead, λ _. (record { served = refl; stuck = λ dead. absent_not_dead p dead; dies = λ h. absurd (contains_none p h); disk = λ ready. inl (contains_here port [] p (ready_port p ready)); keeps = λ _. (refl, refl) }, changed_here Ready Absent gone (inl (contains_here port [] port refl)) p));
+    disk = λ p. inr (λ shows. shows_none Absent (λ s. s) p shows);
   };
 }
 
@@ -283,6 +283,13 @@ happens11 disk = record {
   disks = λ e o h i same. (refl, refl);
   answered = ((tt, tt), λ p. (refl, refl, refl, refl, refl, refl));
 }
+
+shows_ready : (p : Port) → ShowsDisk (at_port Ready p) → at_port Ready p ≡ Ready
+shows_ready p shows = go (p.0 == 0) shows
+  where
+    go : (b : Bool) → ShowsDisk (cond b Ready Absent) → cond b Ready Absent ≡ Ready
+    go true s = refl
+    go false s = absurd s
 
 -- the port that gets ready has the disk that was put in
 present : (p : Port) → at_port Ready p ≡ Ready → (moment_of first (run11 (λ k b. 0))).machine.present p ≡ true
@@ -303,8 +310,8 @@ happens12 disk = record {
     unplugs = none_unplugged [] (moment_of first (run12 disk)).machine refl;
     issues = λ p _. none_there p;
     emptied = λ p ne e h. absurd (contains_none e h);
-    becomes = λ p. (λ dead. absent_not_dead p dead, λ _. record { served = refl; stuck = λ dead. none_dead p dead; dies = λ h. absurd (contains_none p h); disk = λ ready. absent_not_ready p ready; keeps = λ _. (refl, refl) });
-    disk = λ p _ ready. inl (present p ready);
+    becomes = λ p. (λ dead. absent_not_dead p dead, λ _. (record { served = refl; stuck = λ dead. none_dead p dead; dies = λ h. absurd (contains_none p h); disk = λ ready. absent_not_ready p ready; keeps = λ _. (refl, refl) }, changed_here Absent Ready booting (inl (contains_here port [] port refl)) p));
+    disk = λ p. inr (λ shows. inl (present p (shows_ready p shows)));
   };
 }
 
@@ -356,13 +363,14 @@ notices p ready = record {
   interrupts = λ _. inl (contains_here port [] p (ready_port p ready));
   anew = λ _ e h. absurd (contains_none e h);
   changes = inr (inl (contains_here port [] p (ready_port p ready)));
+  disk = λ shows. shows_none Absent (λ s. s) p shows;
   fatal = λ h. absurd (contains_none p h);
   single = omega arith;
   calm = inl (inr (inl (contains_here port [] p (ready_port p ready))));
 }
 
 heeds10 : AllHeed first run10
-heeds10 = ((((((((((tt, spares_ports), spares_ports), all_calmly (moment_of first run2) (moment_of first run3) event3.steps (λ p. (refl, refl, refl, refl, refl, refl)) refl (none_ended (moment_of first run2).machine event3.steps refl)), spares_ports), all_calmly (moment_of first run4) (moment_of first run5) event5.steps (λ p. (refl, refl, refl, refl, refl, refl)) refl (none_ended (moment_of first run4).machine event5.steps refl)), spares_ports), spares_ports), all_calmly (moment_of first run7) (moment_of first run8) event8.steps (λ p. (refl, refl, refl, refl, refl, refl)) refl (none_ended (moment_of first run7).machine event8.steps refl)), spares_ports), notices)
+heeds10 = ((((((((((tt, spares_ports), spares_ports), all_calmly (moment_of first run2) (moment_of first run3) event3.steps (in_ready (moment_of first run2).machine refl) (λ p. (refl, refl, refl, refl, refl, refl)) refl (none_ended (moment_of first run2).machine event3.steps refl)), spares_ports), all_calmly (moment_of first run4) (moment_of first run5) event5.steps (in_ready (moment_of first run4).machine refl) (λ p. (refl, refl, refl, refl, refl, refl)) refl (none_ended (moment_of first run4).machine event5.steps refl)), spares_ports), spares_ports), all_calmly (moment_of first run7) (moment_of first run8) event8.steps (in_ready (moment_of first run7).machine refl) (λ p. (refl, refl, refl, refl, refl, refl)) refl (none_ended (moment_of first run7).machine event8.steps refl)), spares_ports), notices)
 
 -- What the sector held since the flush was ended: the bytes of the one write or of the other.
 since_flush : (block : Block) → HeldSince empty port 100 block (steps_of run10) → SameBytes block (write.held 0) ⊎ SameBytes block (later.held 0)
@@ -392,7 +400,7 @@ finds disk back = record {
   service = event12;
   late = event15 disk ∷ event14 disk ∷ event13 disk ∷ [];
   runs = (((((runs10, happens11 disk), happens12 disk), happens13 disk), happens14 disk), happens15 disk);
-  heeds = (((((heeds10, spares_ports), λ p ready. absent_not_ready p ready), spares_ports), all_calmly (moment_of first (run13 disk)) (moment_of first (run14 disk)) (event14 disk).steps (λ p. (refl, refl, refl, refl, refl, refl)) refl (none_ended (moment_of first (run13 disk)).machine (event14 disk).steps refl)), spares_ports);
+  heeds = (((((heeds10, spares_ports), λ p ready. absent_not_ready p ready), spares_ports), all_calmly (moment_of first (run13 disk)) (moment_of first (run14 disk)) (event14 disk).steps (in_ready (moment_of first (run13 disk)).machine refl) (λ p. (refl, refl, refl, refl, refl, refl)) refl (none_ended (moment_of first (run13 disk)).machine (event14 disk).steps refl)), spares_ports);
   told = ((((((((((((((((((((((((tt, tt), tt), tt), λ e. absurd (false≢true (ap is_reader e))), tt), tt), tt), tt), tt), tt), tt), tt), tt), λ e. absurd (false≢true (ap is_reader e))), tt), tt), tt), tt), tt), tt), λ _ b lt. refl), tt), tt), tt);
   volatile = ((((((((((((((((((((((((tt, tt), tt), tt), tt), tt), tt), tt), tt), tt), tt), tt), tt), tt), tt), tt), tt), tt), back), tt), tt), tt), tt), tt), tt);
   comes = refl;

@@ -5,7 +5,7 @@ use Rattle.std.specs.Prelude.{◌≡◌, ◌≢◌, ◌⊎◌, ℕ, ◌<◌, ◌
 use Rattle.std.specs.List.{list_any}
 use Rattle.ata_types.specs.declared.Port.{Port}
 use Rattle.ata_types.specs.declared.PortState.{PortState}
-use Rattle.ata_types.specs.declared.PortState.TheVariants.{Ready, Dead}
+use Rattle.ata_types.specs.declared.PortState.TheVariants.{Ready, Foreign, Unfit, Dead}
 use Rattle.ata_types.specs.declared.request.ClientId.{ClientId}
 use Rattle.ata_types.specs.declared.request.Frame.{Frame}
 use Rattle.ata_types.specs.declared.request.RequestId.{RequestId}
@@ -18,7 +18,7 @@ use Rattle.ata_types.specs.declared.refusal.Refusal.{Refusal}
 use Rattle.ata_types.specs.declared.refusal.MemFault.{MemFault}
 use Rattle.block_machine.specs.Refusals.{Situation, IsAcceptable, IsFirstRefusal, IsOpen, IsFirstMemFault}
 use Rattle.block_machine.specs.Due.{NoneDue}
-use Rattle.block_machine.specs.Ports.{Ports, AreFit, SamePort, SamePorts, SameDisk, Evidence, MayBecome, IsServiced, IsStuck}
+use Rattle.block_machine.specs.Ports.{Ports, AreFit, SamePort, SamePorts, SameDisk, Evidence, IsInterrupted, MayBecome, IsServiced, IsStuck}
 use Rattle.block_machine.specs.State.{Memory, Accepted, Pending, Machine, unanswered}
 use Rattle.block_machine.specs.Steps.{Step, Accept, Issue, Touch, End, Age, Again, Answer, Release, Unplug, Replace, Store, Load, May, AllTouched, unanswered_of}
 use Rattle.block_machine.specs.Left.{after, IsStart, HoldsLeft}
@@ -277,19 +277,22 @@ pub record UnplugsAll (steps : List Step) (new : Machine) : Type 0 where
   pub emptied : (e other : Pending) → Contains steps (Answer e outcome.Unplugged) → Contains new.book other → other.request.port ≢ e.request.port
   pub alike : (e other : Pending) → Contains steps (Answer e outcome.Unplugged) → Contains steps (Answer other outcome.PortDead) → other.request.port ≢ e.request.port
 
--- the port was stopped, or got stuck
-abbrev pub IsInterrupted : Evidence → Port → Type 0
-IsInterrupted evidence port = Contains evidence.stopped port ⊎ Contains evidence.stuck port
-
 -- Where a request is told Unplugged, its port is neither dead nor ready with serial and size as before: a tick, or a reset, lets
 -- requests go again where it finds the same disk.
 abbrev pub FindsAnother : List Step → Ports → Ports → Type 0
 FindsAnother steps old new = (e : Pending) → Contains steps (Answer e outcome.Unplugged)
     → (new.state e.request.port ≢ Dead) × (new.state e.request.port ≡ Ready → SameDisk old new e.request.port → ⊥)
 
--- A port that gets ready in the call had a disk when it began, or gets one in it.
+-- the state is one of a port in which a boot found a disk
+abbrev pub ShowsDisk : PortState → Type 0
+ShowsDisk Ready = Unit {0}
+ShowsDisk Foreign = Unit {0}
+ShowsDisk (Unfit cause) = Unit {0}
+ShowsDisk _ = ⊥
+
+-- Where the port shows a disk after the call, it had one when the call began, or one went or came in it.
 abbrev pub HadDisk : Moment → List Step → Moment → Port → Type 0
-HadDisk old steps new port = old.ports.state port ≢ Ready → new.ports.state port ≡ Ready
+HadDisk old steps new port = ShowsDisk (new.ports.state port)
     → (old.machine.present port ≡ true) ⊎ (list_any (changes_disk port) steps ≡ true)
 
 -- The tick comes first, and once, at the ports that are ready then.
@@ -300,8 +303,8 @@ pub record AgesOnce (ports : Ports) (steps : List Step) : Type 0 where
   pub first : steps ≡ later ++ Age ready ∷ []
   pub once : count_by is_age later ≡ 0
 
--- A tick restarts each port that is hung, and no other: what had ended there is answered Ok, and no request then keeps its issue.
--- Other ports stay what they are, and nothing is answered there.
+-- A tick restarts each port that is hung, and no other: what had ended there is answered Ok, no request then keeps its issue, and it
+-- shows a disk only where one was in. Other ports stay what they are, and nothing is answered there.
 pub record RestartsHung (old : Moment) (evidence : Evidence) (steps : List Step) (new : Moment) : Type 0 where
   pub ports : (port : Port) → ((IsHung old port → ⊥) × SamePort old.ports new.ports port)
       ⊎ (IsHung old port × MayBecome old.ports evidence new.ports port)
@@ -312,6 +315,7 @@ pub record RestartsHung (old : Moment) (evidence : Evidence) (steps : List Step)
   pub interrupts : (port : Port) → IsHung old port → IsInterrupted evidence port
   pub spares : (port : Port) → IsInterrupted evidence port → IsHung old port
   pub finds : FindsAnother steps old.ports new.ports
+  pub disk : (port : Port) → IsHung old port → HadDisk old steps new port
 
 -- The kept requests' frames are given back once, before the server does anything else.
 pub record ReleasesOnce (steps : List Step) : Type 0 where
@@ -335,8 +339,8 @@ AllGrounded evidence (step ∷ before) = AllGrounded evidence before
 
 -- What a service says and does. It tells dead ports; it lets requests wait again, aborts them, or tells faults of them, where
 -- something failed; where it tells one of a port's requests Unplugged, it leaves none of that port's unanswered; it issues what is
--- due; it leaves no request unanswered where the port isn't ready; it makes of each port what it may; and one that gets ready had
--- a disk, or got it.
+-- due; it leaves no request unanswered where the port isn't ready; it makes of each port what it may; and one that it changed
+-- shows a disk only where one was in.
 pub record AnswersService (old : Moment) (evidence : Evidence) (steps : List Step) (replies : List Reply) (new : Moment) : Type 0 where
   pub tells : Tells steps replies
   pub dead : TellsDead old steps
@@ -345,7 +349,7 @@ pub record AnswersService (old : Moment) (evidence : Evidence) (steps : List Ste
   pub issues : AllIssued new
   pub emptied : (port : Port) → IsEmptied new port
   pub becomes : (port : Port) → IsServiced old.ports evidence new.ports port
-  pub disk : (port : Port) → HadDisk old steps new port
+  pub disk : (port : Port) → SamePort old.ports new.ports port ⊎ HadDisk old steps new port
 
 -- What a tick says and does.
 pub record AnswersTick (old : Moment) (evidence : Evidence) (steps : List Step) (replies : List Reply) (new : Moment) : Type 0 where
@@ -357,7 +361,7 @@ pub record AnswersTick (old : Moment) (evidence : Evidence) (steps : List Step) 
   pub emptied : (port : Port) → old.ports.state port ≡ Ready → IsEmptied new port
 
 -- What a reset that ends makes of each port: it boots it, none of its requests keeps an issue, none is unanswered where it isn't
--- ready then, a port that is served has stopped, and one that gets ready had a disk, or got it.
+-- ready then, a port that is served has stopped, and one that shows a disk had it, or got it.
 pub record IsRebooted (old : Moment) (evidence : Evidence) (steps : List Step) (new : Moment) (port : Port) : Type 0 where
   pub emptied : IsEmptied new port
   pub becomes : MayBecome old.ports evidence new.ports port
@@ -445,8 +449,8 @@ pub record IsLeftAlone (old : Ports) (evidence : Evidence) (steps : List Step) (
 -- What a service owes a port that was ready when it began. What had ended is answered Ok. Where the port's link had told of a
 -- change, all its requests are answered, and those that aren't Ok are all told Unplugged, or all PortDead. Where that is so, or it
 -- failed, the port is stopped, or gets stuck; and so where it isn't what it was. Where it failed or was stopped, no request keeps
--- its issue. One fault is told at most, and none where an error was fatal, which is a failure, too. And where nothing disturbs it,
--- the port is left alone.
+-- its issue. One fault is told at most, and none where an error was fatal, which is a failure, too. It shows a disk after the call
+-- only where one was in. And where nothing disturbs it, the port is left alone.
 pub record ServesReady (old : Moment) (evidence : Evidence) (steps : List Step) (new : Moment) (port : Port) : Type 0 where
   pub ended : AnswersEnded old.machine steps port
   pub emptied : Contains evidence.gone port → (e : Pending) → Contains new.machine.book e → e.request.port ≢ port
@@ -456,6 +460,7 @@ pub record ServesReady (old : Moment) (evidence : Evidence) (steps : List Step) 
   pub anew : Contains evidence.failed port ⊎ Contains evidence.stopped port → NoneKeepsIssue steps new.machine port
   pub single : count_by (tells_fault port) steps ≤ 1
   pub fatal : Contains evidence.fatal port → Contains evidence.failed port × (count_by (tells_fault port) steps ≡ 0)
+  pub disk : HadDisk old steps new port
   pub calm : IsDisturbed evidence steps port ⊎ IsLeftAlone old.ports evidence steps new.ports port
 
 -- A call heeds what it finds: a service does so with each port that was ready when it began. A tick and a reset are bound by what

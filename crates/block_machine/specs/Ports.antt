@@ -6,7 +6,8 @@ use Rattle.ata_types.specs.declared.PortState.TheVariants.{Absent, Ready, Unfit,
 use Rattle.ata_types.specs.declared.request.RequestId.{RequestId}
 use Rattle.block_machine.specs.declared.due.Mode.{Mode}
 
--- What the ports are. The four last things are those of the disk that the port is ready with, or was last ready with.
+-- What the ports are. Serial and sectors are those of the disk that the port is ready with, or was last ready with; the two last
+-- things are known of a ready port alone.
 pub record Ports : Type 0 where
   -- whether adapter and configuration have the port; one that they lack is absent for good
   pub served : Port → Bool
@@ -71,9 +72,13 @@ pub record Evidence : Type 0 where
   pub stopped : List Port
   pub stuck : List Port
 
+-- the port was stopped, or got stuck
+abbrev pub IsInterrupted : Evidence → Port → Type 0
+IsInterrupted evidence port = Contains evidence.stopped port ⊎ Contains evidence.stuck port
+
 -- What a call that looks at the port, or boots it, may make of it: a port is served as it was; it is dead after the call exactly
--- where it got stuck in it; one that was ready and isn't lost is dead, or still ready with its disk; and one that isn't ready
--- remembers the disk that it was last ready with.
+-- where it got stuck in it; one that was ready and isn't lost is dead, or still ready with its disk (which is what `lost` means);
+-- and one that isn't ready remembers the disk that it was last ready with.
 pub record MayBecome (old : Ports) (evidence : Evidence) (new : Ports) (port : Port) : Type 0 where
   pub served : new.served port ≡ old.served port
   pub stuck : new.state port ≡ Dead → Contains evidence.stuck port
@@ -83,9 +88,10 @@ pub record MayBecome (old : Ports) (evidence : Evidence) (new : Ports) (port : P
   pub keeps : new.state port ≢ Ready → SameDisk old new port
 
 -- What a service may make of it: a dead port stays what it is, since a reset alone ends that;
--- another becomes what a call that looks at it may make of it.
+-- another becomes what a call that looks at it may make of it, and is what it was unless it was stopped, or got stuck.
 abbrev pub IsServiced : Ports → Evidence → Ports → Port → Type 0
-IsServiced old evidence new port = (old.state port ≡ Dead → SamePort old new port) × (old.state port ≢ Dead → MayBecome old evidence new port)
+IsServiced old evidence new port = (old.state port ≡ Dead → SamePort old new port)
+    × (old.state port ≢ Dead → MayBecome old evidence new port × (SamePort old new port ⊎ IsInterrupted evidence port))
 
 -- What a reset that was stuck makes of it: a served port is dead, for which there is evidence, and remembers its disk.
 abbrev pub IsStuck : Ports → Evidence → Ports → Port → Type 0

@@ -49,7 +49,7 @@ use Rattle.block_server.specs.Told.{IsUnharmed}
 use Rattle.block_server.specs.View.{ServerView}
 use Rattle.block_server.specs.declared.types.Accepted.{Accepted}
 use Rattle.block_server.proofs.Booking.{ordered_rest}
-use Rattle.block_server.proofs.Heeding.{names_none, service_heeds, ended_served}
+use Rattle.block_server.proofs.Heeding.{names_none, service_heeds, present_ready, ended_served}
 use Rattle.block_server.proofs.Histories.{book_further, history_fit, ports_same, disks_same, stands_on}
 use Rattle.block_server.proofs.Servicing.{AreServices, IssuesNone, no_steps, none_issued, devices_then, issue_then, answer_then, devices_issue_none, book_entry, Begun, begun, none_due, others_differ, book_without, first_without, first_issued, next_may, given_back, given_up}
 
@@ -148,7 +148,10 @@ never_dead s port ready dead = by (nat_eq port.0 0) dead
 serviced_same : (old new : Ports) → old ≡ new → (port : Port) → IsServiced old no_evidence new port
 serviced_same old new is port = subst (λ (ports : Ports). IsServiced old no_evidence ports port) is (
   λ dead. (refl, refl, refl, refl, refl, refl),
-  λ lives. record { served = refl; stuck = λ dead. absurd (lives dead); dies = λ h. absurd (contains_none port h); disk = λ ready. inr (inr (ready, (refl, refl))); keeps = λ _. (refl, refl) },
+  λ lives. (
+    record { served = refl; stuck = λ dead. absurd (lives dead); dies = λ h. absurd (contains_none port h); disk = λ ready. inr (inr (ready, (refl, refl))); keeps = λ _. (refl, refl) },
+    inl (refl, refl, refl, refl, refl, refl),
+  ),
 )
 
 not_unplugged : Unplugged ≡ Ok → ⊥
@@ -192,7 +195,7 @@ module _ {A : Type 0} (device : A → Device) (s : ServerView A) where
                 issues = λ port is. none_due new.issued new.book m.book due stands.book port;
                 emptied = λ port other e h here. empty port other e h here (new.issued) refl;
                 becomes = serviced_same old.moment.ports (ports_of s) at.ports_are;
-                disk = λ port other is. absurd (other (ap (λ (ports : Ports). ports.state port) at.ports_are ∙ is));
+                disk = λ port. inl (ports_same old.moment.ports (ports_of s) at.ports_are port);
               };
             },
             record {
@@ -203,7 +206,8 @@ module _ {A : Type 0} (device : A → Device) (s : ServerView A) where
               evidence = record { faults = refl; lost = refl; stopped = refl; stuck = refl };
               heeds = λ well. (
                 names_none,
-                service_heeds DeviceStep old.moment (record { machine = m; ports = ports_of s }) steps (ports_same old.moment.ports (ports_of s) at.ports_are)
+                service_heeds DeviceStep old.moment (record { machine = m; ports = ports_of s }) steps
+                    (present_ready device old s at (ap (λ (d : Device). (d.port 0).present) (sym at.device_is) ∙ well.present)) (ports_same old.moment.ports (ports_of s) at.ports_are)
                     (λ e o h. (calm e o (services.told e o h)).0) (ended (subst (λ (d : Device). GoesWell d (device new.adapter)) at.device_is well)),
               );
               uses = (known_of device new).uses;

@@ -1,21 +1,24 @@
 -- A service answers what had ended, and heeds what it finds where nothing disturbs the port.
-use Rattle.std.proofs.Common.{◌≡◌, Bool, true, false, List, [], ◌∷◌, Option, Some, refl, sym, ap, ◌∙◌, subst, ⊎_elim}
+use Rattle.std.proofs.Common.{ℕ, ◌≡◌, Bool, true, false, List, [], ◌∷◌, Option, Some, refl, sym, ap, ◌∙◌, subst, ⊎_elim, ◌==◌, eqb-true}
 use Rattle.std.proofs.lemmas.Bool.{false≢true, or_from}
 use Rattle.std.specs.List.{Contains, list_any}
+use Rattle.std.specs.Prelude.{if◌then◌else◌, nat_eq}
 use Rattle.ata_types.specs.declared.Port.{Port}
+use Rattle.ata_types.specs.declared.PortState.{PortState}
+use Rattle.ata_types.specs.declared.PortState.TheVariants.{Absent, Ready}
 use Rattle.ata_types.specs.declared.request.Outcome.{Outcome}
 use Rattle.ata_types.specs.declared.request.Outcome.TheVariants.{Ok}
 use Rattle.ata_types.specs.declared.request.RequestId.{RequestId}
 use Rattle.adapter.specs.Device.{Device}
-use Rattle.block_machine.specs.Ports.{SamePorts}
+use Rattle.block_machine.specs.Ports.{Ports, SamePorts, IsInterrupted}
 use Rattle.block_machine.specs.State.{Pending}
 use Rattle.block_machine.specs.Steps.{Step, Answer}
-use Rattle.block_machine.specs.Events.{Moment, Service, AnswersEnded, Heeds, IsInterrupted}
+use Rattle.block_machine.specs.Events.{Moment, Service, AnswersEnded, Heeds}
 use Rattle.block_machine.specs.Histories.{Instant, IsReached}
 use Rattle.block_machine.proofs.Members.{contains_none, contains_here, contains_there, contains_cases}
 use Rattle.block_machine.proofs.Scene.{is_refused, all_calmly}
 use Rattle.block_machine.proofs.Started.{ended_issued}
-use Rattle.agreement.specs.Agrees.{Agrees}
+use Rattle.agreement.specs.Agrees.{Agrees, port_at}
 use Rattle.agreement.specs.Slots.{Free, Serves}
 use Rattle.agreement.proofs.Cleared.{ended_clear}
 use Rattle.agreement.proofs.Putting.{put_same}
@@ -66,6 +69,20 @@ module _ {A : Type 0} (device : A → Device) (old : Instant Device) (s : Server
 
 -- ---- a service heeds
 
+-- port 0 alone is ready
+ready_zero : (s : PortState) (port : Port) → (if nat_eq port.0 0 then s else Absent) ≡ Ready → port ≡ port_at 0
+ready_zero s port ready = by (port.0 == 0) refl ready
+  where
+    by : (b : Bool) → (port.0 == 0) ≡ b → (if b then s else Absent) ≡ Ready → port ≡ port_at 0
+    by true q r = ap (λ (n : ℕ). record { 0 = n }) (eqb-true port.0 0 q)
+    by false q r = let x : Absent ≡ Ready = r in cc
+
+-- its disk is in where the device has one
+pub present_ready : {A : Type 0} (device : A → Device) (old : Instant Device) (s : ServerView A) → Stands device old s → ((device s.adapter).port 0).present ≡ true
+    → (port : Port) → old.moment.ports.state port ≡ Ready → old.moment.machine.present port ≡ true
+present_ready device old s at present port ready =
+    ap old.moment.machine.present (ready_zero s.state port (ap (λ (ports : Ports). ports.state port) (sym at.ports_are) ∙ ready)) ∙ (at.knows.agrees.disk 0).present ∙ present
+
 none_refused : (steps : List Step) → ((e : Pending) (o : Outcome) → Contains steps (Answer e o) → o ≡ Ok) → list_any is_refused steps ≡ false
 none_refused [] ok = refl
 none_refused (Answer e o ∷ before) ok =
@@ -73,6 +90,6 @@ none_refused (Answer e o ∷ before) ok =
     (none_refused before (λ x y h. ok x y (contains_there (Answer e o) before (Answer x y) h)))
 none_refused (step ∷ before) ok = none_refused before (λ x y h. ok x y (contains_there step before (Answer x y) h))
 
-pub service_heeds : (D : Type 0) (old new : Moment) (steps : List Step) → SamePorts old.ports new.ports → ((e : Pending) (o : Outcome) → Contains steps (Answer e o) → o ≡ Ok)
+pub service_heeds : (D : Type 0) (old new : Moment) (steps : List Step) → ((port : Port) → old.ports.state port ≡ Ready → old.machine.present port ≡ true) → SamePorts old.ports new.ports → ((e : Pending) (o : Outcome) → Contains steps (Answer e o) → o ≡ Ok)
     → ((port : Port) → AnswersEnded old.machine steps port) → Heeds {D = D} Service old no_evidence steps new
-service_heeds D old new steps same ok ended = all_calmly old new steps same (none_refused steps ok) ended
+service_heeds D old new steps present same ok ended = all_calmly old new steps present same (none_refused steps ok) ended
