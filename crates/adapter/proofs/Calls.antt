@@ -20,7 +20,7 @@ driven_none d = record { accesses = []; all = refl }
 pub driven_one : (access : Access) (old new : Device) → Does access old new → IsDriven old new
 driven_one access old new does = record { accesses = access ∷ []; all = (new, does, refl) }
 
-does_append : (first then : List Access) (old mid new : Device) → DoesAll first old mid → DoesAll then mid new → DoesAll (first ++ then) old new
+pub does_append : (first then : List Access) (old mid new : Device) → DoesAll first old mid → DoesAll then mid new → DoesAll (first ++ then) old new
 does_append [] then old mid new e rest = let P : Device → Type 0 = λ d. DoesAll then d new in subst P e rest
 does_append (access ∷ accesses) then old mid new (one, does, more) rest = (one, does, does_append accesses then one mid new more rest)
 

@@ -49,12 +49,12 @@ mod Crossing
 mod Gaining
 mod Linking
 mod Telling
-mod Lasting
+pub mod Lasting
 mod Finished
 mod Setting
 mod Others
 mod Issued
-mod Erring
+pub mod Erring
 mod Resetting
 mod Silent
 mod Resending

@@ -23,7 +23,7 @@ use Rattle.block_machine.specs.State.{Disk, Pending, Machine}
 use Rattle.dma_frames.specs.Table.{Run, Table, owner_of, lent_to, HasFrame}
 use Rattle.grants.specs.Rows.{SameRows}
 use Rattle.block_server.specs.Book.{IsReadGrant}
-use Rattle.block_server.specs.Followed.{NoneUsed, IsFollowed}
+use Rattle.block_server.specs.Followed.{AnyAccess, NoneUsed, IsFollowed}
 use Rattle.block_server.specs.History.{TellsDisks, HasBegun, ports_of}
 use Rattle.block_server.specs.Port.{IsBroughtUp}
 use Rattle.block_server.specs.Setup.{SetupView, IsSetup, IsClient, HasClientFrames}
@@ -132,7 +132,7 @@ module _ {A : Type 0} (device : A → Device) (adapter : A) (table : Table) (sta
           (its.0, its.1, omega (arith, inside.0, run.2.0), omega (arith, inside.2, run.2.1, setup.memory.1));
     }
 
-    pub new_has_begun : (old : Device) → IsIdle old → TellsDisks old → IsFollowed NoneUsed old (device adapter)
+    pub new_has_begun : (old : Device) → IsIdle old → TellsDisks old → IsFollowed AnyAccess NoneUsed old (device adapter)
         → (mid : Device) → IsBroughtUp state mid (device adapter) → ((f : Frame) → lent_to table f ≡ None) → (book : List Accepted) → book ≡ []
         → HasBegun device (new book)
     new_has_begun old is told followed mid brought free book none =

@@ -15,7 +15,7 @@ use Rattle.adapter.specs.Steps.{Steps}
 use Rattle.adapter.proofs.Absurd.{true-false}
 use Rattle.adapter.proofs.Calls.{KeepsAll, steps_keep_all, seen, SeenAt, put, PutAt}
 use Rattle.adapter.proofs.KeptLemmas.{steps_keep}
-use Rattle.block_server.specs.Followed.{AnyUse, IsFollowed}
+use Rattle.block_server.specs.Followed.{AnyAccess, AnyUse, IsFollowed}
 use Rattle.block_server.specs.Port.{IsOutsideArea, IsClear, IsCalm, IsUp, IsComing, SparesClients, KeepsLink, programmed, IsLone, IsStopped, IsBooting, Boots, Links, IsLinked, IsNotBusy, IsSwitchedOn, Starts}
 use Rattle.block_server.specs.Told.{IsUndisturbed}
 use Rattle.block_server.proofs.PortLemmas.{px, idle_after, lone_after, booting_after, lone_put, there_put, booting_put, received, HasStarted, started}
@@ -281,7 +281,7 @@ pub record IsLinkingStill (start : Device) (n : ℕ) (d : Device) : Type 0 where
   pub low : n ≤ (d.port 0).notes.link_count
   pub high : 0 < n → (d.port 0).notes.link_count ≤ 64
   pub far : 0 < n → (d.port 0).notes.last_ssts % 16 ≢ 3
-  pub followed : IsFollowed AnyUse start d
+  pub followed : IsFollowed AnyAccess AnyUse start d
 
 -- so many readings of TFD showed BSY or DRQ
 pub record IsBusyStill (start : Device) (n : ℕ) (d : Device) : Type 0 where
@@ -290,7 +290,7 @@ pub record IsBusyStill (start : Device) (n : ℕ) (d : Device) : Type 0 where
   pub linked : IsLinked d
   pub low : n ≤ (d.port 0).notes.busy_count
   pub high : 0 < n → (d.port 0).notes.busy_count ≤ 64
-  pub followed : IsFollowed AnyUse start d
+  pub followed : IsFollowed AnyAccess AnyUse start d
 
 module _ (old new : Device) (r : PortReg) (v : ℕ) (l : Links old old) (call : Reads (px r) v old new) where
   pub reading_links : Links old new × SeenAt 0 r v old new
@@ -358,7 +358,7 @@ module _ (start d e : Device) (v : ℕ) where
         low = rw count one.0;
         high = λ _. rw count one.1;
         far = λ _ e. far (sym (ap (λ (k : Notes). k.last_ssts % 16) r.1.notes) ∙ e);
-        followed = followed_then AnyUse start d e w.followed (reading_followed (px Ssts) v d e call);
+        followed = followed_then AnyAccess AnyUse start d e w.followed (reading_followed (px Ssts) v d e call);
       }
 
   -- what TFD was read as stands beside a port whose SSTS was read before
@@ -385,5 +385,5 @@ module _ (start d e : Device) (v : ℕ) where
         linked = ap (λ (k : ℕ). k % 16) t.1 ∙ w.linked;
         low = rw count one.0;
         high = λ _. rw count one.1;
-        followed = followed_then AnyUse start d e w.followed (reading_followed (px Tfd) v d e call);
+        followed = followed_then AnyAccess AnyUse start d e w.followed (reading_followed (px Tfd) v d e call);
       }

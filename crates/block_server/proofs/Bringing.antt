@@ -7,7 +7,7 @@ use Rattle.adapter.specs.Device.{Bases, Notes, Device}
 use Rattle.adapter.specs.Rules.{MayWrite, Stays}
 use Rattle.adapter.proofs.Absurd.{true-false}
 use Rattle.agreement.proofs.Allowing.{write_stays}
-use Rattle.block_server.specs.Followed.{AnyUse, NoneUsed, IsFollowed}
+use Rattle.block_server.specs.Followed.{AnyAccess, AnyUse, NoneUsed, IsFollowed}
 use Rattle.block_server.specs.Port.{programmed, IsBooting, IsLinked, IsNotBusy}
 use Rattle.block_server.proofs.Booting.{steps_boot, read_boots, may_receive, may_start}
 use Rattle.block_server.proofs.Following.{followed_then, followed_so, reading_followed, writing_followed}
@@ -59,11 +59,11 @@ module _ (old mid : Device) (read v : ℕ) (first : Reads (px Cmd) read old mid)
           may_receive (mid.port 0) read v r.0.booting.stopped (ap (λ (n : Notes). n.last_cmd) r.1.notes) (r.1.shows.0 ∙ r.0.booting.stopped.st) set others,
         )
 
-    pub receiving_followed : (new : Device) → Writes (px Cmd) v mid new → IsFollowed AnyUse old new
+    pub receiving_followed : (new : Device) → Writes (px Cmd) v mid new → IsFollowed AnyAccess AnyUse old new
     receiving_followed new second =
         let r = read_boots old mid Cmd read programmed false h first in
         let st : bit v 0 ≡ false = others 0 (lit< tt) (λ e. absurd (omega (arith, e))) ∙ (r.1.shows.0 ∙ r.0.booting.stopped.st) in
-        followed_then AnyUse old mid new (reading_followed (px Cmd) read old mid first)
+        followed_then AnyAccess AnyUse old mid new (reading_followed (px Cmd) read old mid first)
         (writing_followed AnyUse (px Cmd) v mid new receiving_may
         (λ uses is. record { start = λ on. true-false on st; receive = λ _. (lit< tt, ap (λ (b : Bases). b.fb) r.0.booting.stopped.bases) }) second)
 
@@ -82,9 +82,9 @@ module _ (old mid : Device) (read v : ℕ) (first : Reads (px Cmd) read old mid)
               (ap (λ (n : Notes). bit n.last_tfd 7) same ∙ ready.0, ap (λ (n : Notes). bit n.last_tfd 3) same ∙ ready.1),
         )
 
-    pub starting_followed : (new : Device) → Writes (px Cmd) v mid new → IsFollowed NoneUsed old new
+    pub starting_followed : (new : Device) → Writes (px Cmd) v mid new → IsFollowed AnyAccess NoneUsed old new
     starting_followed new second =
         let r = read_boots old mid Cmd read programmed true h first in
-        followed_then NoneUsed old mid new (followed_so NoneUsed old mid (reading_followed (px Cmd) read old mid first))
+        followed_then AnyAccess NoneUsed old mid new (followed_so NoneUsed old mid (reading_followed (px Cmd) read old mid first))
         (writing_followed NoneUsed (px Cmd) v mid new starting_may
         (λ uses free. record { start = λ _. inr free; receive = λ _. (lit< tt, ap (λ (b : Bases). b.fb) r.0.booting.stopped.bases) }) second)

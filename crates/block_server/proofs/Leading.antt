@@ -9,7 +9,6 @@ use Rattle.ata_types.specs.declared.request.Frame.{Frame}
 use Rattle.ata_types.specs.declared.request.RequestId.{RequestId}
 use Rattle.adapter.specs.Device.{Device}
 use Rattle.adapter.specs.declared.access.DeviceStep.{DeviceStep}
-use Rattle.adapter.proofs.Calls.{driven_none}
 use Rattle.adapter.proofs.Changed.{fun_ext}
 use Rattle.block_machine.specs.Left.{after}
 use Rattle.block_machine.specs.Ports.{AreFit}
@@ -21,9 +20,10 @@ use Rattle.block_machine.proofs.HistoryLemmas.{history_reaches}
 use Rattle.agreement.specs.Driver.{IsBacked, EndsWith}
 use Rattle.agreement.proofs.Adding.{nothing_backed}
 use Rattle.dma_frames.specs.Table.{owner_of, lent_to}
-use Rattle.block_server.specs.Followed.{LoadsBytes}
+use Rattle.block_server.specs.Followed.{LeavesErrors, LoadsBytes}
 use Rattle.block_server.specs.History.{Begins, Stands, Ties, CameBy, is_refusal, known_of, ports_of, no_evidence}
 use Rattle.block_server.specs.View.{ServerView}
+use Rattle.block_server.proofs.Driving.{by_none}
 use Rattle.block_server.proofs.Heeding.{names_none, spared}
 use Rattle.block_server.proofs.Histories.{devices_belong, devices_last, devices_lawful, history_fit, ports_same, disks_same, stands_on}
 
@@ -162,7 +162,7 @@ module _ {A : Type 0} (device : A → Device) where
           refl,
           ports_same old.moment.ports (ports_of s) at.ports_are,
         )
-        (driven_none (device s.adapter))
+        (by_none LeavesErrors (device s.adapter))
         spared
         (nothing_backed (device s.adapter) old.moment.machine)
         (stands_on device old s s.adapter [] at tt at.knows)

@@ -29,6 +29,7 @@ mod Following
 mod Finding
 mod Sending
 mod Bringing
+mod Driving
 mod Heeding
 mod Histories
 mod Leading

@@ -6,18 +6,19 @@ use Rattle.ata_types.specs.declared.Port.{Port}
 use Rattle.ata_types.specs.declared.PortState.{PortState}
 use Rattle.adapter.specs.Device.{Device}
 use Rattle.adapter.specs.declared.access.DeviceStep.{DeviceStep}
-use Rattle.adapter.proofs.Calls.{driven_none}
 use Rattle.block_machine.specs.Events.{Ask, State, Shown}
 use Rattle.block_machine.specs.Events as machine_events
 use Rattle.block_machine.specs.Ports.{Ports}
 use Rattle.block_machine.specs.Histories.{Instant, Happening, now, Leads, Adds}
 use Rattle.agreement.proofs.Adding.{nothing_backed}
 use Rattle.block_server.specs.Calls.{state_of}
+use Rattle.block_server.specs.Followed.{LeavesErrors}
 use Rattle.block_server.specs.History.{Begins, Ties, Stands, AddsAll, ask_of, said_of, ports_of}
 use Rattle.block_server.specs.Running.{Answered, Ran}
 use Rattle.block_server.specs.View.{ServerView}
 use Rattle.block_server.specs.declared.types.Event.{Event}
 use Rattle.block_server.specs.declared.types.Said.{Said}
+use Rattle.block_server.proofs.Driving.{by_none}
 use Rattle.block_server.proofs.Heeding.{spared}
 use Rattle.block_server.proofs.Histories.{ports_same, stands_on}
 use Rattle.block_server.proofs.Leading.{lead_on}
@@ -66,7 +67,7 @@ module _ {A : Type 0} (device : A → Device) where
           let at : Stands device old s = leads.stands in
           lead_on device first past s s (State port) (Shown state) [] leads refl (λ r. absurd (false≢true r)) refl tt tt tt tt
           (is ∙ ap (λ (ports : Ports). ports.state port) (sym at.ports_are), refl, ports_same old.moment.ports (ports_of s) at.ports_are)
-          (driven_none (device s.adapter))
+          (by_none LeavesErrors (device s.adapter))
           spared
           (nothing_backed (device s.adapter) old.moment.machine)
           (stands_on device old s s.adapter [] at tt at.knows)

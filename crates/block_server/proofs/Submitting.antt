@@ -16,7 +16,6 @@ use Rattle.ata_types.specs.declared.request.Request.{Request}
 use Rattle.ata_types.specs.declared.request.RequestId.{RequestId}
 use Rattle.adapter.specs.Device.{Device}
 use Rattle.adapter.specs.declared.access.DeviceStep.{DeviceStep}
-use Rattle.adapter.proofs.Calls.{driven_none}
 use Rattle.block_machine.specs.declared.due.Unanswered.{Unanswered}
 use Rattle.block_machine.specs.Due.{NoneDue, IsDue, is_plain, is_clear, holds_back, conflict}
 use Rattle.block_machine.specs.Left.{after}
@@ -47,11 +46,12 @@ use Rattle.dma_frames.specs.Loan.{Lending}
 use Rattle.dma_frames.specs.Table.{Table, owner_of, lent_to, LendsOnly}
 use Rattle.block_server.specs.Book as book
 use Rattle.block_server.specs.Calls.{situation_of, accepted_as}
-use Rattle.block_server.specs.Followed.{IssuesRead}
+use Rattle.block_server.specs.Followed.{LeavesErrors, IssuesRead}
 use Rattle.block_server.specs.History.{Begins, Ties, Stands, IsEntry, IsBook, plain_mode, ports_of, known_of, uses_of, served_id, no_evidence}
 use Rattle.block_server.specs.View.{ServerView}
 use Rattle.block_server.specs.declared.types.Accepted.{Accepted}
 use Rattle.block_server.proofs.Accepting as accepting
+use Rattle.block_server.proofs.Driving.{by_none}
 use Rattle.block_server.proofs.Heeding.{spared}
 use Rattle.block_server.proofs.Histories.{book_further, ports_same, stands_on}
 use Rattle.block_server.proofs.Leading.{lead_on}
@@ -260,7 +260,7 @@ module _ {A : Type 0} (device : A → Device) (s : ServerView A) (places : ℕ) 
         lead_on device first past s (more s.adapter) (events.Submit r) (events.Submitted (Ok id)) (steps.Accept request ∷ []) leads refl (λ r. absurd (false≢true r)) refl
         (tt, fresh) (tt, inr refl) (tt, λ other h i. false≢true h) tt
         (allowed, (request, refl, refl), ports_same old.moment.ports (ports_of s) at.ports_are, λ port ready. none_due true (s.book ++ accepted_as r id ∷ []) next.book (λ e. absurd (false≢true (sym e))) longer port)
-        (driven_none (device s.adapter))
+        (by_none LeavesErrors (device s.adapter))
         spared
         (own_backed (device s.adapter) m (steps.Accept request) (λ x. x))
         (record {
@@ -355,7 +355,7 @@ refused_adds {A} device s r refusal is = record { adds = refuses }
         let at : Stands device old s = leads.stands in
         lead_on device first past s s (events.Submit r) (events.Submitted (Err refusal)) [] leads refl (λ r. refl) refl tt tt tt tt
         (subst (λ (x : refusals.Situation). IsFirstRefusal x r refusal) (sym (situation_is device old s at)) is, refl, ports_same old.moment.ports (ports_of s) at.ports_are)
-        (driven_none (device s.adapter))
+        (by_none LeavesErrors (device s.adapter))
         spared
         (nothing_backed (device s.adapter) old.moment.machine)
         (stands_on device old s s.adapter [] at tt at.knows)

@@ -1,10 +1,12 @@
 -- What a stretch of accesses is to the block machine: its steps (this project's own).
-use Rattle.std.specs.Prelude.{ℕ, Bool, true, ◌≡◌, ◌<◌, List, [], ◌∷◌, length}
+use Rattle.std.specs.Prelude.{ℕ, Bool, true, ◌≡◌, ◌<◌, List, [], ◌∷◌, length, All}
 use Rattle.ata_types.specs.declared.request.ClientId.{ClientId}
 use Rattle.ata_types.specs.declared.request.Frame.{Frame}
 use Rattle.ata_types.specs.declared.request.Op.TheVariants.{Read}
 use Rattle.ata_types.specs.declared.request.RequestId.{RequestId}
-use Rattle.adapter.specs.Access.{IsDriven}
+use Rattle.hba_regs.specs.declared.reg.Reg.TheVariants.{Ghc, Px}
+use Rattle.hba_regs.specs.declared.reg.PortReg.TheVariants.{Is, Serr}
+use Rattle.adapter.specs.Access.{Access, DoesAll}
 use Rattle.adapter.specs.Device.{Device}
 use Rattle.block_machine.specs.Due.{is_plain}
 use Rattle.block_machine.specs.Histories.{IsReached, AddsSteps}
@@ -16,6 +18,7 @@ use Rattle.block_machine.specs.declared.due.Mode.{Mode}
 use Rattle.agreement.specs.Agrees.{port_at}
 use Rattle.agreement.specs.Driver.{Known, Knows, ByDevice, EndsWith, AllFree, serving}
 use Rattle.agreement.specs.Facts.{EndedIn}
+use Rattle.agreement.specs.Links.{SparesRegister}
 use Rattle.agreement.specs.Slots.{Free, Serves, Uses, IsOver}
 use Rattle.block_server.specs.Book.{issued_of}
 use Rattle.block_server.specs.Port.{Issued}
@@ -39,12 +42,36 @@ SlotIsFree uses = uses 0 0 ≡ Free
 abbrev pub NoneUsed : Uses → Type 0
 NoneUsed uses = AllFree uses 0
 
+-- ---- accesses
+
+-- Accesses of this kind, by the driver, led from the old device to the new.
+pub record IsDrivenBy (May : Access → Type 0) (old new : Device) : Type 0 where
+  pub accesses : List Access
+  pub all : DoesAll accesses old new
+  pub only : All May accesses
+
+-- any access
+abbrev pub AnyAccess : Access → Type 0
+AnyAccess access = Unit {0}
+
+-- It writes neither GHC nor port 0's PxSERR, in which N and X tell of disks that went or came.
+abbrev pub LeavesChanges : Access → Type 0
+LeavesChanges access = SparesRegister Ghc access × SparesRegister (Px (port_at 0) Serr) access
+
+-- Nor does it write PxIS, which tells of errors.
+abbrev pub LeavesErrors : Access → Type 0
+LeavesErrors access = LeavesChanges access × SparesRegister (Px (port_at 0) Is) access
+
+-- N and X of port 0's PxSERR stay set where they are
+abbrev pub KeepsChanges : Device → Device → Type 0
+KeepsChanges old new = ((old.port 0).serr_n ≡ true → (new.port 0).serr_n ≡ true) × ((old.port 0).serr_x ≡ true → (new.port 0).serr_x ≡ true)
+
 -- ---- stretches of accesses
 
--- Accesses led from the old device to the new. And from each machine that agrees with what the driver knows, where the uses of
+-- Accesses of this kind led from the old device to the new. And from each machine that agrees with what the driver knows, where the uses of
 -- slots fit, steps of the device alone lead to one that agrees with the same and with the new device.
-pub record IsFollowed (Fits : Uses → Type 0) (old new : Device) : Type 0 where
-  pub driven : IsDriven old new
+pub record IsFollowed (May : Access → Type 0) (Fits : Uses → Type 0) (old new : Device) : Type 0 where
+  pub driven : IsDrivenBy May old new
   pub adds : (uses : Uses) (parked : ℕ → List RequestId) → Fits uses
       → AddsSteps Knows (known uses parked old) (known uses parked new) (ByDevice old new)
 
@@ -55,9 +82,9 @@ pub record FindsEnd (done : Bool) (id : RequestId) (old new : Device) (m : Machi
   pub ended : done ≡ true → IsOver (new.port 0) 0 × EndedIn (after m steps) (port_at 0) id
   pub kept : NoneKept m (port_at 0) → NoneKept (after m steps) (port_at 0)
 
--- Accesses led there, and so the machine follows where slot 0 of port 0 serves a request.
+-- Accesses that leave errors led there, and so the machine follows where slot 0 of port 0 serves a request.
 pub record FindsRead (done : Bool) (old new : Device) : Type 0 where
-  pub driven : IsDriven old new
+  pub driven : IsDrivenBy LeavesErrors old new
   pub adds : (uses : Uses) (parked : ℕ → List RequestId) (id : RequestId) → uses 0 0 ≡ Serves id
       → AddsSteps Knows (known uses parked old) (known uses parked new) (FindsEnd done id old new)
 
@@ -69,10 +96,10 @@ pub record IsReadOf (r : Issued) (e : Pending) : Type 0 where
   pub count : e.request.asked.count ≡ r.count
   pub frames : e.request.asked.frames.items ≡ r.frames
 
--- Accesses led there. Where a request that is this read is due on port 0, plain, and slot 0 is free: steps of the device, and
+-- Accesses that leave errors led there. Where a request that is this read is due on port 0, plain, and slot 0 is free: steps of the device, and
 -- then the request's issue, lead to a machine that agrees with a driver whose slot 0 serves it.
 pub record IssuesRead (r : Issued) (old new : Device) : Type 0 where
-  pub driven : IsDriven old new
+  pub driven : IsDrivenBy LeavesErrors old new
   pub issues : (uses : Uses) (parked : ℕ → List RequestId) (m : Machine) (mode : Mode) (e : Pending) → IsReached m
       → Knows m (known uses parked old) → uses 0 0 ≡ Free → May m (Issue mode e) → is_plain mode Read ≡ true → 0 < mode.usable
       → IsReadOf r e → EndsWith (known uses parked old) m (Issue mode e) (serving (known uses parked old) 0 0 e.request.id new)
@@ -82,10 +109,10 @@ abbrev pub IssuesFirst : List Accepted → Device → Device → Type 0
 IssuesFirst [] old new = new ≡ old
 IssuesFirst (e ∷ es) old new = IssuesRead (issued_of e) old new
 
--- Accesses led there. Where the machine lets the client load so many bytes of its frame: steps of the device, and then the load of
+-- Accesses that leave errors led there. Where the machine lets the client load so many bytes of its frame: steps of the device, and then the load of
 -- these.
 pub record LoadsBytes (client : ClientId) (frame : Frame) (offset : ℕ) (bytes : List ℕ) (old new : Device) : Type 0 where
-  pub driven : IsDriven old new
+  pub driven : IsDrivenBy LeavesErrors old new
   pub loads : (uses : Uses) (parked : ℕ → List RequestId) (m : Machine) → IsReached m
       → Knows m (known uses parked old) → IsOpen m.owner m.lent client frame offset (length bytes)
       → EndsWith (known uses parked old) m (Load client frame offset bytes) (known uses parked new)

@@ -5,7 +5,6 @@ use Rattle.ata_types.specs.declared.refusal.MemFault.{MemFault}
 use Rattle.ata_types.specs.declared.request.Frame.{Frame}
 use Rattle.ata_types.specs.declared.request.Op.TheVariants.{Read}
 use Rattle.ata_types.specs.declared.request.RequestId.{RequestId}
-use Rattle.adapter.specs.Access.{IsDriven}
 use Rattle.adapter.specs.Asked.{Asked}
 use Rattle.adapter.specs.Device.{IsTold, Device}
 use Rattle.adapter.specs.Steps.{Steps}
@@ -21,6 +20,7 @@ use Rattle.agreement.specs.Slots.{Free, Serves, Uses, put}
 use Rattle.agreement.specs.Driver.{Known, Knows, IsBacked, idle}
 use Rattle.dma_frames.specs.Table.{owner_of, lent_to}
 use Rattle.block_server.specs.Calls.{state_of}
+use Rattle.block_server.specs.Followed.{IsDrivenBy, LeavesChanges, LeavesErrors}
 use Rattle.block_server.specs.Port.{IsHealthy}
 use Rattle.block_server.specs.Told.{IsUnharmed}
 use Rattle.block_server.specs.View.{ServerView}
@@ -128,10 +128,12 @@ is_refusal (Loaded (Err fault)) = true
 is_refusal (Stepped false) = true
 is_refusal said = false
 
--- Accesses of the driver led from the one device to the other; where the call is one for the device, its own steps did.
+-- Accesses of the driver led from the one device to the other: of a service, such as leave changes, and of another call such as leave
+-- errors, too. Where the call is one for the device, its own steps led there.
 abbrev pub CameBy : Ask DeviceStep → Device → Device → Type 0
 CameBy (Told step) old new = Steps old new
-CameBy _ old new = IsDriven old new
+CameBy Service old new = IsDrivenBy LeavesChanges old new
+CameBy _ old new = IsDrivenBy LeavesErrors old new
 
 -- Port 0 has its disk and tells no trouble when the call begins; and in the call no disk of it comes or goes, and nothing fails.
 pub record GoesWell (old new : Device) : Type 0 where

@@ -2,10 +2,12 @@
 ghost use Rattle.std.specs.Prelude.{ℕ, ◌≡◌, true, List, ◌+◌, ◌≤◌, ◌⊎◌, ◌∷◌, [], None, Some};
 ghost use Rattle.adapter.specs.Device.{Device};
 ghost use Rattle.adapter.specs.FirstRead.{first_read};
-ghost use Rattle.adapter.specs.Rules.{IsFree, Stays};
+ghost use Rattle.adapter.specs.Rules.{IsFree, IsOn, Stays};
+ghost use Rattle.agreement.specs.Errors.{KeepsErrors};
 ghost use Rattle.adapter.specs.declared.access.DeviceStep.{DeviceStep};
 ghost use Rattle.block_machine.specs.Events.{IsRun, EveryReadHolds};
 ghost use Rattle.block_machine.specs.Histories.{Instant, Happening, IsHistory, events_of};
+ghost use Rattle.block_server.specs.Followed.{IsDrivenBy, LeavesChanges, LeavesErrors, KeepsChanges};
 ghost use Rattle.block_server.specs.History.{Begins, Ties};
 ghost use Rattle.block_server.specs.Port.{Serves, IsHealthy};
 
@@ -35,4 +37,11 @@ pub fn histories_are_runs()
 pub fn reads_hold()
     ensures { (first : Instant Device) (past : List (Happening Device DeviceStep)) → IsHistory Begins Ties first past
         → first.device.telling ≡ true → EveryReadHolds first.moment (events_of past) }
+{}
+
+/// What tells of trouble isn't hidden. While the adapter is on, N and X of port 0's PxSERR stay set where they are set, over the
+/// accesses of each call; and each bit of its PxIS, too, but over those of a service.
+pub fn trouble_stays_told()
+    ensures changes { (old new : Device) → IsOn old → IsDrivenBy LeavesChanges old new → KeepsChanges old new }
+    ensures errors { (old new : Device) → IsOn old → IsDrivenBy LeavesErrors old new → KeepsErrors (old.port 0) (new.port 0) }
 {}

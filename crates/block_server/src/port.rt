@@ -3,7 +3,7 @@ ghost use Rattle.std.specs.Prelude.{◌≡◌, ◌≤◌, ◌||◌, true, false,
 ghost use Rattle.hba_regs.specs.Bits.{bit};
 ghost use Rattle.adapter.specs.Idle.{IsIdle, IsIdlePort};
 ghost use Rattle.adapter.specs.Rules.{HasPort};
-ghost use Rattle.block_server.specs.Followed.{AnyUse, NoneUsed, IsFollowed};
+ghost use Rattle.block_server.specs.Followed.{AnyAccess, AnyUse, NoneUsed, IsFollowed};
 ghost use Rattle.block_server.specs.Port.{programmed, IsLone, IsBooting, Boots, Links, IsLinked, IsNotBusy, IsMissing, IsSwitchedOn, Starts, IsUp, IsComing, IsClear, IsCalm, KeepsLink, SparesClients, IsBroughtUp};
 ghost use Rattle.block_server.specs.Told.{IsUndisturbed};
 
@@ -23,7 +23,7 @@ pub fn power_on<A: Adapter>(adapter: &mut A)
     requires idle { IsIdle (A.device adapter.old) }
     requires room { 163840 ≤ (A.device adapter.old).size }
     ensures on { IsSwitchedOn (A.device adapter.old) (A.device adapter.new) }
-    ensures followed { IsFollowed AnyUse (A.device adapter.old) (A.device adapter.new) }
+    ensures followed { IsFollowed AnyAccess AnyUse (A.device adapter.old) (A.device adapter.new) }
 {
     adapter.write(Reg::Ghc, GlobalControl::AE.0);
 }
@@ -34,7 +34,7 @@ fn has_port<A: Adapter>(adapter: &mut A) -> bool
     requires idle { IsIdlePort ((A.device adapter.old).port 0) }
     ensures on { IsSwitchedOn (A.device adapter.old) (A.device adapter.new) }
     ensures there { result ≡ bit (A.device adapter.new).pi 0 }
-    ensures followed { IsFollowed AnyUse (A.device adapter.old) (A.device adapter.new) }
+    ensures followed { IsFollowed AnyAccess AnyUse (A.device adapter.old) (A.device adapter.new) }
 {
     is_set(adapter.read(Reg::Pi), 0)
 }
@@ -45,7 +45,7 @@ fn program<A: Adapter>(adapter: &mut A)
     requires there { HasPort (A.device adapter.old) 0 }
     requires idle { IsIdlePort ((A.device adapter.old).port 0) }
     ensures boots { Boots programmed false (A.device adapter.old) (A.device adapter.new) }
-    ensures followed { IsFollowed AnyUse (A.device adapter.old) (A.device adapter.new) }
+    ensures followed { IsFollowed AnyAccess AnyUse (A.device adapter.old) (A.device adapter.new) }
 {
     adapter.write(Reg::Px(Port(0), PortReg::Clb), 0);
     adapter.write(Reg::Px(Port(0), PortReg::Clbu), 0);
@@ -57,7 +57,7 @@ fn program<A: Adapter>(adapter: &mut A)
 fn receive<A: Adapter>(adapter: &mut A)
     requires { IsBooting programmed false (A.device adapter.old) }
     ensures boots { Boots programmed true (A.device adapter.old) (A.device adapter.new) }
-    ensures followed { IsFollowed AnyUse (A.device adapter.old) (A.device adapter.new) }
+    ensures followed { IsFollowed AnyAccess AnyUse (A.device adapter.old) (A.device adapter.new) }
 {
     let command = PortCommand(adapter.read(Reg::Px(Port(0), PortReg::Cmd)));
     adapter.write(Reg::Px(Port(0), PortReg::Cmd), command.with_receive().0);
@@ -68,7 +68,7 @@ fn comreset<A: Adapter>(adapter: &mut A)
     requires { IsBooting programmed true (A.device adapter.old) }
     ensures links { Links (A.device adapter.old) (A.device adapter.new) }
     ensures coming { IsUndisturbed (A.device adapter.old) (A.device adapter.new) → IsComing ((A.device adapter.new).port 0) }
-    ensures followed { IsFollowed AnyUse (A.device adapter.old) (A.device adapter.new) }
+    ensures followed { IsFollowed AnyAccess AnyUse (A.device adapter.old) (A.device adapter.new) }
 {
     adapter.write(Reg::Px(Port(0), PortReg::Sctl), SataControl::SEND_COMRESET);
     adapter.write(Reg::Px(Port(0), PortReg::Sctl), SataControl::NO_ACTION);
@@ -82,7 +82,7 @@ fn wait_for_link<A: Adapter>(adapter: &mut A) -> bool
     ensures linked { result ≡ true → IsLinked (A.device adapter.new) }
     ensures up { result ≡ true → IsUndisturbed (A.device adapter.old) (A.device adapter.new) → IsComing ((A.device adapter.old).port 0) → IsUp ((A.device adapter.new).port 0) }
     ensures missing { result ≡ false → IsMissing (A.device adapter.new) }
-    ensures followed { IsFollowed AnyUse (A.device adapter.old) (A.device adapter.new) }
+    ensures followed { IsFollowed AnyAccess AnyUse (A.device adapter.old) (A.device adapter.new) }
 {
     for _reading in 0..READINGS {
         let status = SataStatus(adapter.read(Reg::Px(Port(0), PortReg::Ssts)));
@@ -102,7 +102,7 @@ fn clear_errors<A: Adapter>(adapter: &mut A)
     ensures link { KeepsLink (A.device adapter.old) (A.device adapter.new) }
     ensures clear { IsUndisturbed (A.device adapter.old) (A.device adapter.new) → IsUp ((A.device adapter.old).port 0) → IsClear ((A.device adapter.new).port 0) }
     ensures calm { IsCalm ((A.device adapter.new).port 0) }
-    ensures followed { IsFollowed AnyUse (A.device adapter.old) (A.device adapter.new) }
+    ensures followed { IsFollowed AnyAccess AnyUse (A.device adapter.old) (A.device adapter.new) }
 {
     adapter.write(Reg::Px(Port(0), PortReg::Serr), ALL_ONES);
     adapter.write(Reg::Px(Port(0), PortReg::Is), ALL_ONES);
@@ -124,7 +124,7 @@ fn wait_until_ready<A: Adapter>(adapter: &mut A) -> bool
     ensures link { KeepsLink (A.device adapter.old) (A.device adapter.new) }
     ensures ready { result ≡ true → IsNotBusy (A.device adapter.new) }
     ensures busy { result ≡ false → ((A.device adapter.new).port 0).notes.busy_count ≡ 64 }
-    ensures followed { IsFollowed AnyUse (A.device adapter.old) (A.device adapter.new) }
+    ensures followed { IsFollowed AnyAccess AnyUse (A.device adapter.old) (A.device adapter.new) }
 {
     for _reading in 0..READINGS {
         let task_file = TaskFile(adapter.read(Reg::Px(Port(0), PortReg::Tfd)));
@@ -141,7 +141,7 @@ fn start<A: Adapter>(adapter: &mut A)
     requires linked { IsLinked (A.device adapter.old) }
     requires ready { IsNotBusy (A.device adapter.old) }
     ensures starts { Starts (A.device adapter.old) (A.device adapter.new) }
-    ensures followed { IsFollowed NoneUsed (A.device adapter.old) (A.device adapter.new) }
+    ensures followed { IsFollowed AnyAccess NoneUsed (A.device adapter.old) (A.device adapter.new) }
 {
     let command = PortCommand(adapter.read(Reg::Px(Port(0), PortReg::Cmd)));
     adapter.write(Reg::Px(Port(0), PortReg::Cmd), command.with_start().0);
@@ -154,7 +154,7 @@ pub fn bring_up<A: Adapter>(adapter: &mut A) -> PortState
     requires idle { IsIdlePort ((A.device adapter.old).port 0) }
     ensures spares { SparesClients [] (A.device adapter.old) (A.device adapter.new) }
     ensures state { IsBroughtUp result (A.device adapter.old) (A.device adapter.new) }
-    ensures followed { IsFollowed NoneUsed (A.device adapter.old) (A.device adapter.new) }
+    ensures followed { IsFollowed AnyAccess NoneUsed (A.device adapter.old) (A.device adapter.new) }
 {
     if !has_port(adapter) {
         return PortState::Absent;

@@ -2,7 +2,7 @@ use Rattle.std.proofs.Common.{refl, ap}
 use Rattle.adapter.specs.Device.{Bases}
 use Rattle.block_server.proofs.Booting.{links_here}
 use Rattle.block_server.proofs.Coming.{link_then, undisturbed_both}
-use Rattle.block_server.specs.Followed.{AnyUse, NoneUsed}
+use Rattle.block_server.specs.Followed.{AnyAccess, AnyUse, NoneUsed}
 use Rattle.block_server.proofs.Following.{followed_then, followed_so}
 use Rattle.block_server.proofs.Sparing.{spares_then}
 use Rattle.block_server.proofs.port.bring_up.Goals as goal
@@ -84,18 +84,18 @@ returns-then-not-has_port-clause-followed g c = followed_so NoneUsed _ _ c.has_p
 
 pub returns-then-not-wait_for_link-clause-followed : goal.returns-then-not-wait_for_link-clause-followed
 returns-then-not-wait_for_link-clause-followed g c =
-    followed_so NoneUsed _ _ (followed_then AnyUse _ _ _ c.has_port.ensures.followed (followed_then AnyUse _ _ _ c.program.ensures.followed
-    (followed_then AnyUse _ _ _ c.receive.ensures.followed (followed_then AnyUse _ _ _ c.comreset.ensures.followed c.wait_for_link.ensures.followed))))
+    followed_so NoneUsed _ _ (followed_then AnyAccess AnyUse _ _ _ c.has_port.ensures.followed (followed_then AnyAccess AnyUse _ _ _ c.program.ensures.followed
+    (followed_then AnyAccess AnyUse _ _ _ c.receive.ensures.followed (followed_then AnyAccess AnyUse _ _ _ c.comreset.ensures.followed c.wait_for_link.ensures.followed))))
 
 pub returns-then-not-wait_until_ready-clause-followed : goal.returns-then-not-wait_until_ready-clause-followed
 returns-then-not-wait_until_ready-clause-followed g c =
-    followed_so NoneUsed _ _ (followed_then AnyUse _ _ _ c.has_port.ensures.followed (followed_then AnyUse _ _ _ c.program.ensures.followed
-    (followed_then AnyUse _ _ _ c.receive.ensures.followed (followed_then AnyUse _ _ _ c.comreset.ensures.followed
-    (followed_then AnyUse _ _ _ c.wait_for_link.ensures.followed (followed_then AnyUse _ _ _ c.clear_errors.ensures.followed c.wait_until_ready.ensures.followed))))))
+    followed_so NoneUsed _ _ (followed_then AnyAccess AnyUse _ _ _ c.has_port.ensures.followed (followed_then AnyAccess AnyUse _ _ _ c.program.ensures.followed
+    (followed_then AnyAccess AnyUse _ _ _ c.receive.ensures.followed (followed_then AnyAccess AnyUse _ _ _ c.comreset.ensures.followed
+    (followed_then AnyAccess AnyUse _ _ _ c.wait_for_link.ensures.followed (followed_then AnyAccess AnyUse _ _ _ c.clear_errors.ensures.followed c.wait_until_ready.ensures.followed))))))
 
 pub returns-clause-followed : goal.returns-clause-followed
 returns-clause-followed g c =
-    let waited = followed_then AnyUse _ _ _ c.has_port.ensures.followed (followed_then AnyUse _ _ _ c.program.ensures.followed
-    (followed_then AnyUse _ _ _ c.receive.ensures.followed (followed_then AnyUse _ _ _ c.comreset.ensures.followed
-    (followed_then AnyUse _ _ _ c.wait_for_link.ensures.followed (followed_then AnyUse _ _ _ c.clear_errors.ensures.followed c.wait_until_ready.ensures.followed))))) in
-    followed_then NoneUsed _ _ _ (followed_so NoneUsed _ _ waited) c.start.ensures.followed
+    let waited = followed_then AnyAccess AnyUse _ _ _ c.has_port.ensures.followed (followed_then AnyAccess AnyUse _ _ _ c.program.ensures.followed
+    (followed_then AnyAccess AnyUse _ _ _ c.receive.ensures.followed (followed_then AnyAccess AnyUse _ _ _ c.comreset.ensures.followed
+    (followed_then AnyAccess AnyUse _ _ _ c.wait_for_link.ensures.followed (followed_then AnyAccess AnyUse _ _ _ c.clear_errors.ensures.followed c.wait_until_ready.ensures.followed))))) in
+    followed_then AnyAccess NoneUsed _ _ _ (followed_so NoneUsed _ _ waited) c.start.ensures.followed

@@ -1,5 +1,5 @@
 use Rattle.hba_regs.specs.declared.reg.PortReg.TheVariants.{Is, Serr}
-use Rattle.block_server.specs.Followed.{AnyUse}
+use Rattle.block_server.specs.Followed.{AnyAccess, AnyUse}
 use Rattle.block_server.proofs.Booting.{serr_links, is_links, links_then, links_here}
 use Rattle.block_server.proofs.Bringing.{serr_may, is_may}
 use Rattle.block_server.proofs.Coming.{link_then, undisturbed_both}
@@ -49,5 +49,5 @@ returns-clause-calm g c =
 pub returns-clause-followed : goal.returns-clause-followed
 returns-clause-followed g c =
     let first = serr_links _ _ c.requires.links c.requires.linked c.write.ensures in
-    followed_then AnyUse _ _ _ (writing_followed AnyUse (px Serr) 0xffffffff _ _ (serr_may _ c.requires.links.booting 0xffffffff) (λ uses is. tt) c.write.ensures)
+    followed_then AnyAccess AnyUse _ _ _ (writing_followed AnyUse (px Serr) 0xffffffff _ _ (serr_may _ c.requires.links.booting 0xffffffff) (λ uses is. tt) c.write.ensures)
     (writing_followed AnyUse (px Is) 0xffffffff _ _ (is_may _ first.0.booting 0xffffffff) (λ uses is. tt) c.write-2.ensures)

@@ -3,7 +3,7 @@ use Rattle.hba_regs.specs.declared.reg.PortReg.TheVariants.{Sctl}
 use Rattle.adapter.specs.Device.{PortState}
 use Rattle.block_server.proofs.Coming.{comreset_coming, undisturbed_both}
 use Rattle.block_server.proofs.Sparing.{spares_then}
-use Rattle.block_server.specs.Followed.{AnyUse}
+use Rattle.block_server.specs.Followed.{AnyAccess, AnyUse}
 use Rattle.block_server.proofs.Booting.{sctl_boots}
 use Rattle.block_server.proofs.Bringing.{sctl_may}
 use Rattle.block_server.proofs.Following.{followed_then, writing_followed}
@@ -33,5 +33,5 @@ returns-clause-coming g c = λ none.
 pub returns-clause-followed : goal.returns-clause-followed
 returns-clause-followed g c =
     let first = sctl_boots _ _ 1 c.requires c.write.ensures in
-    followed_then AnyUse _ _ _ (writing_followed AnyUse (px Sctl) 1 _ _ (sctl_may _ c.requires 1 (inr refl)) (λ uses is. tt) c.write.ensures)
+    followed_then AnyAccess AnyUse _ _ _ (writing_followed AnyUse (px Sctl) 1 _ _ (sctl_may _ c.requires 1 (inr refl)) (λ uses is. tt) c.write.ensures)
     (writing_followed AnyUse (px Sctl) 0 _ _ (sctl_may _ first.0.booting 0 (inl refl)) (λ uses is. tt) c.write-2.ensures)

@@ -1,6 +1,6 @@
 use Rattle.std.proofs.Common.{inl, refl, false}
 use Rattle.hba_regs.specs.declared.reg.PortReg.TheVariants.{Clb, Clbu, Fb, Fbu}
-use Rattle.block_server.specs.Followed.{AnyUse}
+use Rattle.block_server.specs.Followed.{AnyAccess, AnyUse}
 use Rattle.block_server.proofs.Booting.{booting_idle, boots_then, clb_boots, clbu_boots, fb_boots, fbu_boots}
 use Rattle.block_server.proofs.Bringing.{clb_may, clbu_may, fb_may, fbu_may}
 use Rattle.block_server.proofs.Following.{followed_then, writing_followed}
@@ -42,7 +42,7 @@ returns-clause-followed g c =
     let first = clb_boots _ _ _ 0 here c.write.ensures in
     let second = clbu_boots _ _ _ 0 first.booting c.write-2.ensures in
     let third = fb_boots _ _ _ 1024 second.booting c.write-3.ensures in
-    followed_then AnyUse _ _ _ (writing_followed AnyUse (px Clb) 0 _ _ (clb_may _ _ here) (λ uses is. inl refl) c.write.ensures)
-    (followed_then AnyUse _ _ _ (writing_followed AnyUse (px Clbu) 0 _ _ (clbu_may _ _ first.booting) (λ uses is. tt) c.write-2.ensures)
-    (followed_then AnyUse _ _ _ (writing_followed AnyUse (px Fb) 1024 _ _ (fb_may _ _ second.booting) (λ uses is. tt) c.write-3.ensures)
+    followed_then AnyAccess AnyUse _ _ _ (writing_followed AnyUse (px Clb) 0 _ _ (clb_may _ _ here) (λ uses is. inl refl) c.write.ensures)
+    (followed_then AnyAccess AnyUse _ _ _ (writing_followed AnyUse (px Clbu) 0 _ _ (clbu_may _ _ first.booting) (λ uses is. tt) c.write-2.ensures)
+    (followed_then AnyAccess AnyUse _ _ _ (writing_followed AnyUse (px Fb) 1024 _ _ (fb_may _ _ second.booting) (λ uses is. tt) c.write-3.ensures)
     (writing_followed AnyUse (px Fbu) 0 _ _ (fbu_may _ _ third.booting) (λ uses is. tt) c.write-4.ensures)))

@@ -1,7 +1,7 @@
 use Rattle.std.proofs.Common.{arith}
 use Rattle.block_server.proofs.Booting.{link_found, link_again}
 use Rattle.block_server.proofs.Coming.{link_none}
-use Rattle.block_server.specs.Followed.{AnyUse}
+use Rattle.block_server.specs.Followed.{AnyAccess, AnyUse}
 use Rattle.block_server.proofs.Following.{followed_then, nothing_followed, reading_followed}
 use Rattle.block_server.proofs.port.wait_for_link.Goals as goal
 
@@ -47,7 +47,7 @@ returns-clause-missing g c = λ _. let w = c.loop-reading.invariant in (w.far (o
 pub returns-then-detection-eq-DEVICE_WITH_LINK-clause-followed :
     goal.returns-then-detection-eq-DEVICE_WITH_LINK-clause-followed
 returns-then-detection-eq-DEVICE_WITH_LINK-clause-followed g c =
-    followed_then AnyUse _ _ _ c.loop-reading.invariant.followed (reading_followed _ _ _ _ c.read.ensures)
+    followed_then AnyAccess AnyUse _ _ _ c.loop-reading.invariant.followed (reading_followed _ _ _ _ c.read.ensures)
 
 pub returns-clause-followed : goal.returns-clause-followed
 returns-clause-followed g c = c.loop-reading.invariant.followed

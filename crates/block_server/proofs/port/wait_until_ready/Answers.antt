@@ -1,7 +1,7 @@
 use Rattle.std.proofs.Common.{arith, sym, ◌∙◌}
 use Rattle.block_server.proofs.Booting.{ready_found, busy_again}
 use Rattle.block_server.proofs.Coming.{link_none}
-use Rattle.block_server.specs.Followed.{AnyUse}
+use Rattle.block_server.specs.Followed.{AnyAccess, AnyUse}
 use Rattle.block_server.proofs.Following.{followed_then, nothing_followed, reading_followed}
 use Rattle.block_server.proofs.port.wait_until_ready.Goals as goal
 
@@ -45,7 +45,7 @@ returns-clause-busy g c = λ _. let w = c.loop-reading.invariant in omega (arith
 
 pub returns-then-not-is_occupied-clause-followed : goal.returns-then-not-is_occupied-clause-followed
 returns-then-not-is_occupied-clause-followed g c =
-    followed_then AnyUse _ _ _ c.loop-reading.invariant.followed (reading_followed _ _ _ _ c.read.ensures)
+    followed_then AnyAccess AnyUse _ _ _ c.loop-reading.invariant.followed (reading_followed _ _ _ _ c.read.ensures)
 
 pub returns-clause-followed : goal.returns-clause-followed
 returns-clause-followed g c = c.loop-reading.invariant.followed

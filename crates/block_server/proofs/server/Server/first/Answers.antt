@@ -2,7 +2,7 @@ use Rattle.std.proofs.Common.{refl, ◌∙◌, arith, sym, subst}
 use Rattle.std.specs.List.{AllPairs}
 use Rattle.std.specs.Vec.{vec_capacity}
 use Rattle.dma_frames.specs.Table.{AreApart}
-use Rattle.block_server.specs.Followed.{NoneUsed}
+use Rattle.block_server.specs.Followed.{AnyAccess, NoneUsed}
 use Rattle.block_server.proofs.Beginning.{new_has_begun}
 use Rattle.block_server.proofs.Following.{followed_then, followed_so}
 use Rattle.block_server.proofs.Making.{brought_from, new_is_kept}
@@ -38,5 +38,5 @@ returns-clause-begins g c told =
     new_has_begun g.A.Adapter.device c.bring_up-state.new.adapter c.new-table.result c.bring_up-state.result c.args.sectors c.in-Ok.grants c.args.setup.now
     c.grants.ensures.fits (rw c.grants.ensures.grants at c.in-Ok.ensures.rows) c.in-Ok.ensures.names c.in-Ok.ensures.few
     (rw c.owners.ensures.owners at c.new-table.ensures.only) _ c.requires.ready.idle told
-    (followed_then NoneUsed _ _ _ (followed_so NoneUsed _ _ c.power_on.ensures.followed) c.bring_up-state.ensures.followed) _ c.bring_up-state.ensures.state
+    (followed_then AnyAccess NoneUsed _ _ _ (followed_so NoneUsed _ _ c.power_on.ensures.followed) c.bring_up-state.ensures.followed) _ c.bring_up-state.ensures.state
     c.new-table.ensures.free c.in-Ok-with_capacity.book.items c.in-Ok-with_capacity.ensures.items

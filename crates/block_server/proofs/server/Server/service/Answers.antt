@@ -1,7 +1,7 @@
 use Rattle.std.proofs.Common.{Bool, true, refl, sym, ◌∙◌, ap, subst, List, [], ◌∷◌, ◌++◌}
 use Rattle.ata_types.specs.declared.request.Reply.{Reply}
 use Rattle.adapter.proofs.Absurd.{true-false}
-use Rattle.adapter.proofs.Calls.{driven_none, driven_then}
+use Rattle.block_server.proofs.Driving.{by_none, by_then, by_less}
 use Rattle.block_server.specs.Calls.{Services, done_reply}
 use Rattle.block_server.specs.View.{ServerView}
 use Rattle.block_server.proofs.Coming.{undisturbed_both}
@@ -12,7 +12,7 @@ use Rattle.std.specs.List.{All}
 use Rattle.agreement.proofs.Adding.{nothing_backed}
 use Rattle.block_machine.specs.Events.{Service, Served}
 use Rattle.block_machine.specs.Histories.{Adds}
-use Rattle.block_server.specs.Followed.{FindsRead, IssuesFirst}
+use Rattle.block_server.specs.Followed.{LeavesChanges, FindsRead, IssuesFirst}
 use Rattle.block_server.specs.History.{Begins, Ties, Stands, uses_of, served_id}
 use Rattle.std.specs.Vec.{vec_capacity}
 use Rattle.block_server.specs.Book.{IsAccepted, served}
@@ -39,7 +39,7 @@ returns-in_default-clause-adds g c =
     let Here : ServerView g.row.A.Denot → Type 0 = λ v. Adds Begins Ties (Stands device) v v Service (Served c.new-replies.result.items) in
     let Said : List Reply → Type 0 = λ replies. Adds Begins Ties (Stands device) s s Service (Served replies) in
     subst Here c.self.view_is (subst Said (sym c.new-replies.ensures) (nothing_adds device s (vec_capacity c.self.inside.book) c.self.invariant s.adapter
-    (driven_none (device s.adapter)) (λ ready issued healthy unharmed clear. c.in_default.not-Ready ready)
+    (by_none LeavesChanges (device s.adapter)) (λ ready issued healthy unharmed clear. c.in_default.not-Ready ready)
     (record { adds = λ m reached knows. ([], tt, knows, record { backed = nothing_backed (device s.adapter) m; only = tt }) })))
 
 pub returns-then-not-look-clause-services : goal.returns-then-not-look-clause-services
@@ -174,6 +174,6 @@ returns-clause-adds g c =
     let replies_are = c.push.ensures.items ∙ ap (λ (replies : List Reply). replies ++ done_reply e ∷ []) c.new-replies.ensures in
     subst Here c.self.view_is (subst Said (sym replies_are)
     (answering_adds device s places c.self.invariant c.in-Ready.is c.if-not-self.false e rest book_is c.give_back.new.self c.give_back.ensures middle
-    (driven_then c.look.ensures.followed.driven (subst Finds c.if-not-is_done.false c.is_done.ensures.followed).driven)
+    (by_then c.look.ensures.followed.driven (by_less (subst Finds c.if-not-is_done.false c.is_done.ensures.followed).driven))
     (found_adds e.id old looked middle true c.look.ensures.followed (subst Finds c.if-not-is_done.false c.is_done.ensures.followed))
     new again (λ not. sym same ∙ next.none not) (λ is none. next.some is (same ∙ none)) (subst Issues same next.followed)))
