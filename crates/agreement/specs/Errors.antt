@@ -42,6 +42,8 @@ pub record IsLeftByReset (p : PortState) : Type 0 where
   pub ssts_det : p.ssts_det ≡ 0
   pub tfd : p.tfd ≡ 0x7f
   pub sig : p.sig ≡ 0xffffffff
+  pub fresh : p.fresh ≡ false
+  pub broken : p.broken ≡ false
 
 -- What a port shows after it while its engine stands: no bit of PxIS, and PxSCTL.DET 0; and until X tells of a disk or a link that
 -- came, no device in PxSSTS, and task file and signature as the reset left them.

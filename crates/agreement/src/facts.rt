@@ -52,15 +52,16 @@ pub fn stop_is_found()
 {}
 
 /// HR of GHC begins a reset of the adapter, and is read 1 while it is pending. Once it is read 0, each port is as the reset left it,
-/// but for what the device did since: its engines stand, no bit of PxIS is set, and what comes since sets N or X. Its engines stand on,
-/// whatever the device does, over readings, and over each write that may be made and sets neither its ST nor its FRE.
+/// but for what the device did since, which alone made steps before it, too: its engines stand, no bit of PxIS is set, and what comes
+/// since sets N or X. Its engines stand on, whatever the device does, over readings, and over each write that may be made and sets
+/// neither its ST nor its FRE. A port is after a reset exactly if it is idle.
 pub fn reset_is_found()
     ensures begins { (v : ℕ) (old new : Device) → bit v 0 ≡ true → Writes Ghc v old new → new.hr ≡ true }
     ensures told { (v : ℕ) (old new : Device) → Reads Ghc v old new → (new.hr ≡ bit v 0) × (new.ae ≡ bit v 31) }
     ensures reset { (v : ℕ) (old new : Device) → old.hr ≡ true → Reads Ghc v old new → bit v 0 ≡ false
         → (port : ℕ) → IsAfterReset (new.port port) }
     ensures left { (v : ℕ) (old new : Device) → old.hr ≡ true → Reads Ghc v old new → bit v 0 ≡ false
-        → (mid : Device) × (mid.hr ≡ false) × ((port : ℕ) → IsLeftByReset (mid.port port)) × Steps mid new }
+        → (mid : Device) × (mid.hr ≡ false) × ((port : ℕ) → IsLeftByReset (mid.port port)) × Steps mid new × Steps old mid }
     ensures cleared { (v : ℕ) (old new : Device) → old.hr ≡ true → Reads Ghc v old new → bit v 0 ≡ false
         → (port : ℕ) → IsCleared (new.port port) }
     ensures stays { (port : ℕ) (old new : Device) → Steps old new → IsAfterReset (old.port port) → IsAfterReset (new.port port) }
@@ -70,6 +71,7 @@ pub fn reset_is_found()
         → (r ≡ Px port Cmd → (bit v 0 ≡ false) × (bit v 4 ≡ false)) → Writes r v old new → IsAfterReset (old.port port.0)
         → IsAfterReset (new.port port.0) }
     ensures idle { (p : PortState) → IsIdlePort p → IsAfterReset p }
+    ensures is_idle { (p : PortState) → IsAfterReset p → IsIdlePort p }
 {}
 
 /// CI and then SACT of a running port are read: each slot whose bits were clear in both has ended its request. The steps by which
