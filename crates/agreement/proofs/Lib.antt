@@ -59,3 +59,6 @@ mod Resetting
 mod Silent
 mod Resending
 mod Noting
+mod ComingUp
+mod Running
+mod Booting

@@ -1,5 +1,5 @@
 -- What tells of a port's errors, of its disks that come, of a reset, and of its engine's work (this project's own).
-use Rattle.std.specs.Prelude.{ℕ, true, false, ◌≡◌, ◌++◌, List, All}
+use Rattle.std.specs.Prelude.{ℕ, true, false, ◌≡◌, ◌≤◌, ◌++◌, List, All}
 use Rattle.adapter.specs.Device.{PortState, Device}
 use Rattle.adapter.specs.declared.tape.Entry.{Entry}
 use Rattle.adapter.specs.declared.tape.Entry.TheVariants as entry
@@ -29,6 +29,12 @@ pub record ChangesByDisks (port : ℕ) (old new : Device) : Type 0 where
   pub serr_n : PlugsNone port old new → (old.port port).serr_n ≡ false → (new.port port).serr_n ≡ false
   pub serr_x : NoneComes port old new → (old.port port).serr_x ≡ false → (new.port port).serr_x ≡ false
   pub det : NoneComes port old new → (new.port port).ssts_det ≡ 3 → ((old.port port).ssts_det ≡ 3) × PlugsNone port old new
+
+-- Each bit that tells of trouble is clear still if it was: N and X of PxSERR, and 27 to 30 of PxIS.
+pub record StaysClear (old new : PortState) : Type 0 where
+  pub serr_n : old.serr_n ≡ false → new.serr_n ≡ false
+  pub serr_x : old.serr_x ≡ false → new.serr_x ≡ false
+  pub is : (place : ℕ) → 27 ≤ place → place ≤ 30 → old.is place ≡ false → new.is place ≡ false
 
 -- ---- a reset
 

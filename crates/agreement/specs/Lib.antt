@@ -10,3 +10,4 @@ pub mod Spares
 pub mod Links
 pub mod Errors
 pub mod Noted
+pub mod Started

@@ -25,13 +25,14 @@ ghost use Rattle.block_machine.specs.State.{Pending, Machine};
 ghost use Rattle.block_machine.specs.Steps.{Step, Release, MayMove, NoneKept, after_step};
 ghost use Rattle.agreement.specs.Agrees.{Agrees};
 ghost use Rattle.agreement.specs.Driver.{Known, Knows};
-ghost use Rattle.agreement.specs.Errors.{KeepsErrors, NoneComes, ChangesByDisks, IsLeftByReset, IsCleared, IsWork};
+ghost use Rattle.agreement.specs.Errors.{KeepsErrors, NoneComes, ChangesByDisks, StaysClear, IsLeftByReset, IsCleared, IsWork};
 ghost use Rattle.agreement.specs.Facts.{IsHalted, IsAfterReset, Finds, FindsPage, AreStepsOf, IsStill, AreOver, RunsWell, Undisturbed, ShowsNoTrouble, TellsNoTrouble, ClearsNoTrouble, IsFaulted, ShowsFault, HasFaults, IsRecorded, IsAwaited, IsUnflagged, IsQuiet, KeepsRecord, EndedIn, IsClear};
 ghost use Rattle.agreement.specs.Links.{SparesRegister, SameAdapter, LeavesControls, PlugsNone, LeavesDisk, LeavesLink};
 ghost use Rattle.agreement.specs.Noted.{LeavesNotes};
 ghost use Rattle.agreement.specs.Places.{scratch_of};
 ghost use Rattle.agreement.specs.Slots.{Uses, Free, Own, Serves, IsOver};
 ghost use Rattle.agreement.specs.Spares.{IsOfAnother};
+ghost use Rattle.agreement.specs.Started.{IsUp, IsComingUp, IsStarted, SetsNoStart, ClearsNoStart};
 
 /// A port that has halted stays so, whatever the device does, also over a reset of the adapter that ends, over readings, and over
 /// each write that may be made and doesn't set its ST; and an idle port has halted.
@@ -195,6 +196,61 @@ pub fn trouble_is_shown()
         → Reads (Px port Serr) errors mid new → ((place : ℕ) → 27 ≤ place → place ≤ 30 → bit v place ≡ false)
         → bit errors 16 ≡ false → bit errors 26 ≡ false → RunsWell (old.port port.0)
         → Undisturbed port.0 old mid × RunsWell (mid.port port.0) }
+{}
+
+/// From COMRESET or a reset of the adapter on, while the engine stands and the tape tells of no disk of the port that comes: where
+/// PxSSTS.DET is read 3, the link is up. Whatever the device does, also over a reset that ends, and over each access that doesn't set ST.
+/// So it is where no device shows. A link that is up stays so, too, but for a write of PxSCTL, where no disk goes or comes.
+pub fn link_comes_up()
+    ensures comreset { (port : Port) (v : ℕ) (old new : Device) → (old.port port.0).cr ≡ false → v % 16 ≡ 1
+        → Writes (Px port Sctl) v old new → IsComingUp (new.port port.0) }
+    ensures reset { (v : ℕ) (old new : Device) → old.hr ≡ true → Reads Ghc v old new → bit v 0 ≡ false
+        → (port : ℕ) → NoneComes port old new → IsComingUp (new.port port) }
+    ensures unlinked { (p : PortState) → p.cr ≡ false → p.ssts_det ≢ 3 → IsComingUp p }
+    ensures steps { (port : ℕ) (old new : Device) → NoneComes port old new → Steps old new → IsComingUp (old.port port)
+        → IsComingUp (new.port port) }
+    ensures access { (port : Port) (access : Access) (old new : Device) → SetsNoStart port access → Does access old new
+        → NoneComes port.0 old new → IsComingUp (old.port port.0) → IsComingUp (new.port port.0) }
+    ensures found { (port : Port) (v : ℕ) (old new : Device) → NoneComes port.0 old new → Reads (Px port Ssts) v old new
+        → v % 16 ≡ 3 → IsComingUp (old.port port.0) → IsUp (new.port port.0) }
+    ensures stays { (port : ℕ) (old new : Device) → old.hr ≡ false → (old.port port).cr ≡ false → PlugsNone port old new
+        → Steps old new → IsUp (old.port port) → IsUp (new.port port) }
+    ensures stays_access { (port : Port) (access : Access) (old new : Device) → old.hr ≡ false → (old.port port.0).cr ≡ false
+        → SetsNoStart port access → SparesRegister (Px port Sctl) access → PlugsNone port.0 old new → Does access old new
+        → IsUp (old.port port.0) → IsUp (new.port port.0) }
+{}
+
+/// ST is set while the engine stands and the link is up, no reset is pending, and the tape tells of no disk that goes or comes: the port is
+/// started. So it stays, unless the tape tells of a disturbance of the port, whatever else the device does, and over each access that
+/// neither clears ST nor writes PxSCTL. Where no bit tells of trouble, it runs well; and so it does where PxIS is read with none. So where
+/// ST is set with the link up, and PxIS is read with no trouble after that, the port runs well, whatever the tape tells.
+pub fn running_well_is_found()
+    ensures starts { (port : Port) (v : ℕ) (old new : Device) → old.hr ≡ false → (old.port port.0).st ≡ false
+        → (old.port port.0).cr ≡ false → bit v 0 ≡ true → Writes (Px port Cmd) v old new → IsUp (old.port port.0)
+        → PlugsNone port.0 old new → IsStarted (new.port port.0) }
+    ensures steps { (port : ℕ) (old new : Device) → old.hr ≡ false → Undisturbed port old new → Steps old new
+        → IsStarted (old.port port) → IsStarted (new.port port) }
+    ensures access { (port : Port) (access : Access) (old new : Device) → old.hr ≡ false → ClearsNoStart port access
+        → SparesRegister (Px port Sctl) access → Undisturbed port.0 old new → Does access old new
+        → IsStarted (old.port port.0) → IsStarted (new.port port.0) }
+    ensures well { (p : PortState) → IsStarted p → ShowsNoTrouble p → RunsWell p }
+    ensures started { (p : PortState) → RunsWell p → IsStarted p }
+    ensures told { (port : Port) (v : ℕ) (old new : Device) → old.hr ≡ false → Reads (Px port Is) v old new → TellsNoTrouble v
+        → IsStarted (old.port port.0) → RunsWell (new.port port.0) }
+    ensures found { (port : Port) (v causes : ℕ) (old mid new : Device) → old.hr ≡ false → (old.port port.0).st ≡ false
+        → (old.port port.0).cr ≡ false → bit v 0 ≡ true → IsUp (old.port port.0) → Writes (Px port Cmd) v old mid
+        → Reads (Px port Is) causes mid new → TellsNoTrouble causes → RunsWell (new.port port.0) }
+{}
+
+/// While no reset is pending and no link of the port is due, as on a port that runs: each bit that tells of trouble and is clear stays so,
+/// unless the tape tells of a disturbance of the port, whatever else the device does, and over each access. So where none is set, none
+/// is then.
+pub fn cleared_stays()
+    ensures steps { (port : ℕ) (old new : Device) → old.hr ≡ false → (old.port port).link_due ≡ false → Undisturbed port old new
+        → Steps old new → StaysClear (old.port port) (new.port port) }
+    ensures access { (port : Port) (access : Access) (old new : Device) → old.hr ≡ false → (old.port port.0).link_due ≡ false
+        → Undisturbed port.0 old new → Does access old new → StaysClear (old.port port.0) (new.port port.0) }
+    ensures none { (p new : PortState) → StaysClear p new → ShowsNoTrouble p → ShowsNoTrouble new }
 {}
 
 /// Where nothing goes wrong in each of two parts of a call, nothing does in the whole; and where nothing does in the whole,
