@@ -62,3 +62,4 @@ mod Noting
 mod ComingUp
 mod Running
 mod Booting
+mod Ended

@@ -18,7 +18,7 @@ use Rattle.block_machine.specs.Steps.{Again, May, MayMove}
 use Rattle.agreement.specs.Agrees.{port_at}
 use Rattle.agreement.specs.Driver.{Known, Knows, IsPrepared, IsOwnPrepared, HasNoSlot, idle, parking}
 use Rattle.agreement.specs.Facts.{IsHalted, FindsPage}
-use Rattle.agreement.specs.Slots.{Free, Own, Serves, Uses, put}
+use Rattle.agreement.specs.Slots.{Free, Own, Serves, Uses, put, IsEnded}
 
 -- request 1
 abbrev pub first_id : RequestId
@@ -102,6 +102,21 @@ pub record KeptIsKnown : Type 0 where
   pub knows : Knows machine first_known
   pub taken : Knows machine parked_known
   pub unserved : (e : Pending) → Contains machine.kept e → HasNoSlot parked_known.uses e.request.id
+
+-- ---- a request whose command is done
+
+-- The device may do the first read to its end. A machine is reached that agrees with its driver then: slot 0 serves request 1 still,
+-- whose command has ended, and the request is unanswered.
+pub record EndedIsKnown : Type 0 where
+  pub device : Device
+  pub steps : Steps first_read device
+  pub machine : Machine
+  pub reached : IsReached machine
+  pub knows : Knows machine (record first_known { device = device })
+  pub request : Pending
+  pub id_is : request.request.id ≡ first_id
+  pub ended : IsEnded (device.port 0) 0 request
+  pub booked : Contains machine.book request
 
 -- ---- a command of the driver's own
 

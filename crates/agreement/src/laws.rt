@@ -32,7 +32,7 @@ ghost use Rattle.agreement.specs.Agrees.{Agrees, IsDiskOf, SameMemory, SameSecto
 ghost use Rattle.agreement.specs.Driver.{MayStore, LeavesUses, LeavesFree, Known, Knows, IsBacked, ByDevice, IsPrepared, IsOwnPrepared, EndsWith, HasNoSlot, Forgets, ForgetsKept, serving, parking, freeing, idle, IsWrittenBack, KeepsFreeBits, MissesTable, MissesScratch};
 ghost use Rattle.agreement.specs.Follows.{Follows};
 ghost use Rattle.agreement.specs.Places.{list_of, scratch_of, received_of};
-ghost use Rattle.agreement.specs.Witness.{PreparedIsKnown, FirstIsKnown, KeptIsKnown, ParkedIsKnown, OwnIsKnown};
+ghost use Rattle.agreement.specs.Witness.{PreparedIsKnown, FirstIsKnown, KeptIsKnown, ParkedIsKnown, EndedIsKnown, OwnIsKnown};
 ghost use Rattle.agreement.specs.Slots.{Use, Free, Own, Serves, Uses, put, serving_count, Told, HasBlock, IsOver, op_of, IsMove};
 ghost use Rattle.agreement.specs.Spares.{IsFurther, AllFurther, SparesBook, IsOfAnother};
 ghost use Rattle.agreement.specs.Tape.{OneAtMost};
@@ -484,6 +484,11 @@ pub fn a_parked_read_agrees()
 /// driver has taken it from there, the frames may be given back.
 pub fn a_kept_read_agrees()
     ensures { KeptIsKnown }
+{}
+
+/// There is one whose device has done the read: its command has ended, and the request is unanswered still.
+pub fn an_ended_read_agrees()
+    ensures { EndedIsKnown }
 {}
 
 /// There is an adapter with a command of the driver's own, IDENTIFY DEVICE: prepared, issued by a write that is permitted, and over
