@@ -63,3 +63,6 @@ mod ComingUp
 mod Running
 mod Booting
 mod Ended
+mod Spelt
+mod Asking
+mod Queueing

@@ -11,3 +11,4 @@ pub mod Links
 pub mod Errors
 pub mod Noted
 pub mod Started
+pub mod Served

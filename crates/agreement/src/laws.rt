@@ -33,6 +33,7 @@ ghost use Rattle.agreement.specs.Driver.{MayStore, LeavesUses, LeavesFree, Known
 ghost use Rattle.agreement.specs.Follows.{Follows};
 ghost use Rattle.agreement.specs.Places.{list_of, scratch_of, received_of};
 ghost use Rattle.agreement.specs.Witness.{PreparedIsKnown, FirstIsKnown, KeptIsKnown, ParkedIsKnown, EndedIsKnown, OwnIsKnown};
+ghost use Rattle.agreement.specs.Served.{TwoAreKnown};
 ghost use Rattle.agreement.specs.Slots.{Use, Free, Own, Serves, Uses, put, serving_count, Told, HasBlock, IsOver, op_of, IsMove};
 ghost use Rattle.agreement.specs.Spares.{IsFurther, AllFurther, SparesBook, IsOfAnother};
 ghost use Rattle.agreement.specs.Tape.{OneAtMost};
@@ -489,6 +490,12 @@ pub fn a_kept_read_agrees()
 /// There is one whose device has done the read: its command has ended, and the request is unanswered still.
 pub fn an_ended_read_agrees()
     ensures { EndedIsKnown }
+{}
+
+/// There is an adapter with two queued reads, into frames that are apart: both are issued, each by a write that is permitted, and the device
+/// has taken the one while the other waits. A machine agrees with its driver.
+pub fn two_queued_reads_agree()
+    ensures { TwoAreKnown }
 {}
 
 /// There is an adapter with a command of the driver's own, IDENTIFY DEVICE: prepared, issued by a write that is permitted, and over
