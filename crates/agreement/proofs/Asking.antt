@@ -1,5 +1,5 @@
 -- Requests that a witness's machine accepts.
-use Rattle.std.proofs.Common.{ℕ, ◌≡◌, ◌<◌, ◌≤◌, ◌+◌, ◌*◌, ◌/◌, ◌^◌, true, List, [], ◌∷◌, slice_index, Some, None, refl, sym, ◌∙◌, ap, subst, arith}
+use Rattle.std.proofs.Common.{ℕ, ◌≡◌, ◌<◌, ◌≤◌, ◌+◌, ◌*◌, ◌/◌, ◌^◌, true, List, [], ◌∷◌, slice_index, slice_get, Some, None, refl, sym, ◌∙◌, ap, subst, arith}
 use Rattle.std.specs.List.{Contains}
 use Rattle.ata_types.specs.declared.PortState.TheVariants.{Ready}
 use Rattle.ata_types.specs.declared.request.Frame.{Frame}
@@ -10,7 +10,10 @@ use Rattle.ata_types.specs.declared.grant.GrantRow.{GrantRow}
 use Rattle.adapter.specs.Says.{cut}
 use Rattle.adapter.proofs.SaysLemmas.{cut_index}
 use Rattle.block_machine.specs.Refusals.{Situation}
-use Rattle.block_machine.specs.Rules.{BreaksNone}
+use Rattle.ata_types.specs.declared.refusal.FrameFault.TheVariants.{FrameForeign, FrameTwice, FrameLent}
+use Rattle.ata_types.specs.declared.refusal.Rule.TheVariants.{NoGrant, NoRight, BadCount, OutsideGrant, FrameCount, Frames}
+use Rattle.ata_types.specs.Grant.{Allows, Covers}
+use Rattle.block_machine.specs.Rules.{IsNamed, BreaksNone}
 use Rattle.block_machine.specs.State.{Accepted, Machine, block_of, frame_at}
 use Rattle.block_machine.specs.Steps.{IsNew, unanswered_of}
 use Rattle.block_machine.proofs.Members.{contains_here}
@@ -74,3 +77,33 @@ pub read_is_new : (m : Machine) (first n : ℕ) → m.rows ≡ two_rows → m.ow
     IsNew m (accepted_of m (read_into first n))
 read_is_new m first n rows mine free low high few ids =
     new_of m (read_into first n) rows refl (λ rule h. acceptable 0 (situation_of m) (read_into first n) (read_fits m first n rows mine free low high) (refused.Rule rule) h) few ids
+
+-- ---- a trim of eight sectors
+
+abbrev pub trim_of : ℕ → Request
+trim_of first = request 0 Trim first 8 []
+
+trim_breaks_none : (m : Machine) (first : ℕ) → m.rows ≡ two_rows → 100 ≤ first → first + 8 ≤ 164 → BreaksNone m.rows m.owner m.lent (trim_of first)
+trim_breaks_none m first rows low high = none
+  where
+    named : IsNamed m.rows (trim_of first) (row 0)
+    named = (subst (λ (rs : List GrantRow). Contains rs (row 0)) (sym rows) (contains_here (row 0) (row 1 ∷ []) (row 0) refl), (refl, refl))
+
+    is_row : (x : GrantRow) → IsNamed m.rows (trim_of first) x → x ≡ row 0
+    is_row x h = its_row x (subst (λ (rs : List GrantRow). Contains rs x) rows h.0) ∙ ap row h.1.1
+
+    no_frame : (i : ℕ) (f : Frame) → slice_get [] i ≡ Some f → ⊥
+    no_frame i f e = let z : None ≡ Some f = e in cc
+
+    none : BreaksNone m.rows m.owner m.lent (trim_of first)
+    none NoGrant h = h (row 0) named
+    none NoRight h = h.2 (subst (λ (x : GrantRow). Allows x.rights Trim) (sym (is_row h.0 h.1)) refl)
+    none BadCount h = h (omega arith, omega arith)
+    none OutsideGrant h = h.1.2 (subst (λ (x : GrantRow). Covers x first 8) (sym (is_row h.1.0 h.1.1)) (low, omega (arith, high)))
+    none FrameCount h = h refl
+    none (Frames (FrameForeign i)) h = no_frame i h.0 h.1
+    none (Frames (FrameTwice i)) h = no_frame i h.0 h.4
+    none (Frames (FrameLent i)) h = no_frame i h.0 h.1
+
+pub trim_is_new : (m : Machine) (first : ℕ) → m.rows ≡ two_rows → 100 ≤ first → first + 8 ≤ 164 → unanswered_of m.book client < 16 → m.next < 2 ^ 64 → IsNew m (accepted_of m (trim_of first))
+trim_is_new m first rows low high few ids = new_of m (trim_of first) rows refl (trim_breaks_none m first rows low high) few ids

@@ -66,3 +66,4 @@ mod Ended
 mod Spelt
 mod Asking
 mod Queueing
+mod Trimming

@@ -1,9 +1,11 @@
 -- A slot of port 0 with one PRD: what its bytes say, by computing with them.
-use Rattle.std.proofs.Common.{ℕ, zero, suc, ◌≡◌, ◌≤◌, ◌+◌, ◌*◌, ◌/◌, ◌%◌, ◌^◌, ◌&&◌, Bool, true, List, [], ◌∷◌, All, slice_index, refl, sym, ◌∙◌, arith, append-nil, eqb-true}
+use Rattle.std.proofs.Common.{ℕ, zero, suc, ◌≡◌, ◌≤◌, ◌+◌, ◌*◌, ◌/◌, ◌%◌, ◌^◌, ◌&&◌, Bool, true, false, List, [], ◌∷◌, All, slice_index, refl, sym, ◌∙◌, arith, append-nil, eqb-true}
 use Rattle.std.specs.Prelude.{if◌then◌else◌, nat_eq}
 use Rattle.std.proofs.lemmas.Bool.{and_parts}
 use Rattle.byteorder.specs.Endian.{little_from}
-use Rattle.adapter.specs.Commands.{Meaning, IsMeaning, command_of, pieces_moved, reads_memory}
+use Rattle.adapter.specs.declared.command.Operation.{Operation}
+use Rattle.adapter.proofs.Absurd.{true-false}
+use Rattle.adapter.specs.Commands.{Meaning, IsMeaning, is_ranged, command_of, pieces_moved, reads_memory}
 use Rattle.adapter.specs.Memory.{bytes_at}
 use Rattle.adapter.specs.Says.{Says, IsWhole, cut}
 use Rattle.adapter.specs.Spelling.{IsAllowed}
@@ -96,3 +98,20 @@ module _ (memory : ℕ → ℕ) (slot : ℕ) (c : Meaning) (e : Prd) (s : IsSpel
   pub spelt_told : Told memory 0 0 slot c (cut e.address (e.bytes / 512))
   unfolding says
   spelt_told = record { says = says; table_is = refl; few = omega arith }
+
+-- a command of slot 0 that names no sectors and has its page or block in the scratch frame
+abbrev page_prd : Prd
+page_prd = record { address = 0x9000; bytes = 512 }
+
+pub page_told : (memory : ℕ → ℕ) (o : Operation) → is_ranged o ≡ false → pieces_moved o 0 ≡ 1 → IsSpeltHeader (bytes_at memory 0 32) (reads_memory o) 0x1000 →
+    IsSpeltCommand (bytes_at memory 0x1000 20) (command_of o 0 0 0) → IsSpeltPrd (bytes_at memory 0x1080 16) page_prd → Told memory 0 0 0 (record { operation = o; first = 0; count = 0 }) (0x9000 ∷ [])
+page_told memory o unranged one header fis prd = spelt_told memory 0 (record { operation = o; first = 0; count = 0 }) page_prd (record {
+  header = header;
+  aligned = refl;
+  fis = fis;
+  meaning = record { ranged = λ h. true-false h unranged; not_ranged = λ _. (refl, refl) };
+  prd = prd;
+  allowed = record { even_address = refl; even_bytes = refl; some = omega arith; limit = omega arith };
+  whole = refl;
+  as_many = sym one;
+})

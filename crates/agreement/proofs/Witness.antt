@@ -62,7 +62,7 @@ accepted = accepted_of start (read_into 100 40)
 is_new : IsNew start accepted
 is_new = read_is_new start 100 40 refl refl refl (omega arith) (omega arith) (omega arith) (omega arith)
 
-abbrev plain : Mode
+abbrev pub plain : Mode
 plain = record { queued = false; usable = 1 }
 
 abbrev pub waits : Pending

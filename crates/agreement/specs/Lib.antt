@@ -12,3 +12,4 @@ pub mod Errors
 pub mod Noted
 pub mod Started
 pub mod Served
+pub mod Trimmed

@@ -105,18 +105,23 @@ pub record KeptIsKnown : Type 0 where
 
 -- ---- a request whose command is done
 
--- The device may do the first read to its end. A machine is reached that agrees with its driver then: slot 0 serves request 1 still,
--- whose command has ended, and the request is unanswered.
-pub record EndedIsKnown : Type 0 where
+-- The device may go on to where the command in slot 0 of port 0 has ended. A machine is reached that agrees with the driver then: the
+-- slot serves this request still, which has ended and is unanswered.
+pub record DoneIsKnown (k : Known) (id : RequestId) : Type 0 where
   pub device : Device
-  pub steps : Steps first_read device
+  pub steps : Steps k.device device
   pub machine : Machine
   pub reached : IsReached machine
-  pub knows : Knows machine (record first_known { device = device })
+  pub knows : Knows machine (record k { device = device })
+  pub served : k.uses 0 0 ≡ Serves id
   pub request : Pending
-  pub id_is : request.request.id ≡ first_id
+  pub id_is : request.request.id ≡ id
   pub ended : IsEnded (device.port 0) 0 request
   pub booked : Contains machine.book request
+
+-- so it is of the first read
+abbrev pub EndedIsKnown : Type 0
+EndedIsKnown = DoneIsKnown first_known first_id
 
 -- ---- a command of the driver's own
 

@@ -32,6 +32,7 @@ ghost use Rattle.agreement.specs.Agrees.{Agrees, IsDiskOf, SameMemory, SameSecto
 ghost use Rattle.agreement.specs.Driver.{MayStore, LeavesUses, LeavesFree, Known, Knows, IsBacked, ByDevice, IsPrepared, IsOwnPrepared, EndsWith, HasNoSlot, Forgets, ForgetsKept, serving, parking, freeing, idle, IsWrittenBack, KeepsFreeBits, MissesTable, MissesScratch};
 ghost use Rattle.agreement.specs.Follows.{Follows};
 ghost use Rattle.agreement.specs.Places.{list_of, scratch_of, received_of};
+ghost use Rattle.agreement.specs.Trimmed.{TrimIsKnown};
 ghost use Rattle.agreement.specs.Witness.{PreparedIsKnown, FirstIsKnown, KeptIsKnown, ParkedIsKnown, EndedIsKnown, OwnIsKnown};
 ghost use Rattle.agreement.specs.Served.{TwoAreKnown};
 ghost use Rattle.agreement.specs.Slots.{Use, Free, Own, Serves, Uses, put, serving_count, Told, HasBlock, IsOver, op_of, IsMove};
@@ -496,6 +497,12 @@ pub fn an_ended_read_agrees()
 /// has taken the one while the other waits. A machine agrees with its driver.
 pub fn two_queued_reads_agree()
     ensures { TwoAreKnown }
+{}
+
+/// There is an adapter with a trim, which is issued by a write that is permitted, taken, and done to its end; and a machine agrees with
+/// it all the way.
+pub fn a_trim_agrees()
+    ensures { TrimIsKnown }
 {}
 
 /// There is an adapter with a command of the driver's own, IDENTIFY DEVICE: prepared, issued by a write that is permitted, and over
