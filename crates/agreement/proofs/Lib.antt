@@ -67,3 +67,4 @@ mod Spelt
 mod Asking
 mod Queueing
 mod Trimming
+mod Composing
