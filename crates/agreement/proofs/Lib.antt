@@ -68,3 +68,4 @@ mod Asking
 mod Queueing
 mod Trimming
 mod Composing
+mod Pages

@@ -13,3 +13,4 @@ pub mod Noted
 pub mod Started
 pub mod Served
 pub mod Trimmed
+pub mod Awaits

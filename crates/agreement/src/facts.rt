@@ -24,13 +24,14 @@ ghost use Rattle.block_machine.specs.Left.{after};
 ghost use Rattle.block_machine.specs.State.{Pending, Machine};
 ghost use Rattle.block_machine.specs.Steps.{Step, Release, MayMove, NoneKept, after_step};
 ghost use Rattle.agreement.specs.Agrees.{Agrees};
-ghost use Rattle.agreement.specs.Driver.{Known, Knows};
+ghost use Rattle.agreement.specs.Awaits.{AwaitsPage};
+ghost use Rattle.agreement.specs.Driver.{Known, Knows, IsOwnPrepared};
 ghost use Rattle.agreement.specs.Errors.{KeepsErrors, NoneComes, ChangesByDisks, StaysClear, IsLeftByReset, IsCleared, IsWork};
 ghost use Rattle.agreement.specs.Facts.{IsHalted, IsAfterReset, Finds, FindsPage, AreStepsOf, IsStill, AreOver, RunsWell, Undisturbed, ShowsNoTrouble, TellsNoTrouble, ClearsNoTrouble, IsFaulted, ShowsFault, HasFaults, IsRecorded, IsAwaited, IsUnflagged, IsQuiet, KeepsRecord, EndedIn, IsClear};
 ghost use Rattle.agreement.specs.Links.{SparesRegister, SameAdapter, LeavesControls, PlugsNone, LeavesDisk, LeavesLink};
 ghost use Rattle.agreement.specs.Noted.{LeavesNotes};
 ghost use Rattle.agreement.specs.Places.{scratch_of};
-ghost use Rattle.agreement.specs.Slots.{Uses, Free, Own, Serves, IsOver};
+ghost use Rattle.agreement.specs.Slots.{Uses, Free, Own, Serves, IsOver, Brought, put};
 ghost use Rattle.agreement.specs.Spares.{IsOfAnother};
 ghost use Rattle.agreement.specs.Started.{IsUp, IsComingUp, IsStarted, SetsNoStart, ClearsNoStart};
 
@@ -143,6 +144,27 @@ pub fn page_is_found()
         → AddsSteps Knows k (record k { device = new })
         (λ m steps. (page : FindsPage k.uses m port o k.device new) × AreStepsOf page.follows steps
         × (bytes ≡ page.brought.move.bytes)) }
+{}
+
+/// While the driver waits for the page of a command of its own, over as many readings as it takes. The write of PxCI begins it; and it goes
+/// on, whatever the device does, and over each access that doesn't clear ST and leaves no reset pending. Once PxCI is read with bit 0 clear,
+/// the page that stands in the scratch frame was brought since that write; and a load of the frame then gives its bytes.
+pub fn page_is_awaited()
+    ensures issued { (uses : Uses) (m : Machine) (port : Port) (o : Operation) (v : ℕ) (old new : Device) → IsReached m
+        → Agrees uses m old → old.hr ≡ false → IsOwnPrepared uses old port.0 o v → Writes (Px port Ci) v old new
+        → AwaitsPage (put uses port.0 0 (Own o)) port.0 o (length new.tape) new }
+    ensures steps { (uses : Uses) (m : Machine) (port : ℕ) (o : Operation) (since : ℕ) (old new : Device) → IsReached m
+        → Agrees uses m old → Steps old new → AwaitsPage uses port o since old → AwaitsPage uses port o since new }
+    ensures access { (uses : Uses) (m : Machine) (port : Port) (o : Operation) (since : ℕ) (access : Access) (old new : Device)
+        → IsReached m → Agrees uses m old → ClearsNoStart port access → new.hr ≡ false → Does access old new
+        → AwaitsPage uses port.0 o since old → AwaitsPage uses port.0 o since new }
+    ensures found { (uses : Uses) (m : Machine) (port : Port) (o : Operation) (since v : ℕ) (old new : Device) → IsReached m
+        → Agrees uses m old → AwaitsPage uses port.0 o since old → Reads (Px port Ci) v old new → bit v 0 ≡ false
+        → FindsPage uses m port.0 o old new × Brought new.memory new.tape port.0 o since }
+    ensures loaded { (uses : Uses) (m : Machine) (port : ℕ) (o : Operation) (since : ℕ) (bytes : List ℕ) (old new : Device)
+        → IsReached m → Agrees uses m old → AwaitsPage uses port o since old → IsOver (old.port port) 0
+        → Loads (scratch_of port) bytes old new → length bytes ≡ 512
+        → (b : Brought new.memory new.tape port o since) × (bytes ≡ b.move.bytes) }
 {}
 
 /// Where the commands of a request are over, the device uses none of the frames that are lent to it any more, whatever it does;
