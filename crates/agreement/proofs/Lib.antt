@@ -69,3 +69,4 @@ mod Queueing
 mod Trimming
 mod Composing
 mod Pages
+mod Booted

@@ -19,8 +19,8 @@ pub record HasCome (tape : List Entry) (port : ℕ) (o : Operation) (since : ℕ
   pub after : since ≤ length before
   pub is_move : IsMove port o move
 
--- The driver's own command in slot 0 of a running port was issued when the tape was so long, and no reset is pending: it has brought
--- nothing yet, or its page has come since.
+-- The driver's own command in slot 0 of a running port was issued when the tape was so long, and no reset is pending:
+-- it has brought nothing yet, or its page has come since.
 pub record AwaitsPage (uses : Uses) (port : ℕ) (o : Operation) (since : ℕ) (d : Device) : Type 0 where
   pub off : d.hr ≡ false
   pub st : (d.port port).st ≡ true

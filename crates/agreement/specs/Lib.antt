@@ -14,3 +14,4 @@ pub mod Started
 pub mod Served
 pub mod Trimmed
 pub mod Awaits
+pub mod Booted

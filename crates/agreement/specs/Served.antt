@@ -41,12 +41,13 @@ second_header = 5 ∷ 0 ∷ 1 ∷ 0 ∷ 0 ∷ 0 ∷ 0 ∷ 0 ∷ 0 ∷ 0x14 ∷ 0
 abbrev pub second_prd : List ℕ
 second_prd = 0 ∷ 0x90 ∷ 2 ∷ 0 ∷ 0 ∷ 0 ∷ 0 ∷ 0 ∷ 0 ∷ 0 ∷ 0 ∷ 0 ∷ 0xff ∷ 0x0f ∷ 0 ∷ 0 ∷ []
 
--- In the first read's memory: slot 0 has a queued read from sector 100 on into frame 40, and slot 1 one from sector 108 on into
--- frame 41.
+-- In the first read's memory: slot 0 has a queued read from sector 100 on into frame 40, and slot 1 one from sector
+-- 108 on into frame 41.
 unfoldable pub two_memory : ℕ → ℕ
 two_memory = patched (patched (patched (patched first_memory 0x1000 (queued_bytes 0 100)) 32 second_header) 0x1400 (queued_bytes 1 108)) 0x1480 second_prd
 
--- Such a device: PxSACT was written with bits 0 and 1, then PxCI with bit 0, and then with bit 1; and slot 0's command is taken.
+-- Such a device: PxSACT was written with bits 0 and 1, then PxCI with bit 0, and then with bit 1; and slot 0's command
+-- is taken.
 abbrev pub two_armed : Device
 two_armed = written (Px (port_at 0) Sact) 3 (ready_with two_memory)
 
@@ -63,9 +64,9 @@ one_taken = after (Fetch 0 0 (queued_read 100) (cut 0x28000 8)) two_issued
 abbrev pub two_known : Device → Known
 two_known d = record { uses = put (put (λ port slot. Free) 0 0 (Serves first_id)) 0 1 (Serves second_id); parked = λ port. []; device = d }
 
--- A machine is reached that has issued both requests, which have no frame in common. Each write of PxCI is permitted; the machine
--- agrees with the driver when both commands are issued, and when the device has taken the one, which is queued, while the other
--- waits.
+-- A machine is reached that has issued both requests, which have no frame in common. Each write of PxCI is permitted;
+-- the machine agrees with the driver when both commands are issued, and when the device has taken the one, which is
+-- queued, while the other waits.
 pub record TwoAreKnown : Type 0 where
   pub machine : Machine
   pub reached : IsReached machine

@@ -10,8 +10,8 @@ use Rattle.adapter.specs.Device.{PortState}
 use Rattle.adapter.specs.Device.Halt.{NotHalted}
 use Rattle.adapter.specs.Steps.{restarted}
 
--- The link is up: a disk is in, its first FIS has come, no other link is due, and COMRESET isn't being sent. Once ST is set,
--- no halt is left (AHCI 1.3.1, 6.2.2 and 10.4.2).
+-- The link is up: a disk is in, its first FIS has come, no other link is due, and COMRESET isn't being sent. Once ST
+-- is set, no halt is left (AHCI 1.3.1, 6.2.2 and 10.4.2).
 pub record IsUp (p : PortState) : Type 0 where
   pub det : p.ssts_det ≡ 3
   pub present : p.present ≡ true
@@ -25,8 +25,8 @@ pub record IsComingUp (p : PortState) : Type 0 where
   pub stands : p.cr ≡ false
   pub up : p.ssts_det ≡ 3 → IsUp p
 
--- The port runs, its disk is there with its link up and no other link due, and no error has stopped it since. Its bits may tell of
--- what was before.
+-- The port runs, its disk is there with its link up and no other link due, and no error has stopped it since. Its bits
+-- may tell of what was before.
 pub record IsStarted (p : PortState) : Type 0 where
   pub st : p.st ≡ true
   pub cr : p.cr ≡ true

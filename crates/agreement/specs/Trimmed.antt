@@ -30,8 +30,8 @@ trim_bytes = 0x27 ∷ 0x80 ∷ 6 ∷ 1 ∷ 0 ∷ 0 ∷ 0 ∷ 0 ∷ 0 ∷ 0 ∷ 0
 abbrev pub trim_block : List ℕ
 trim_block = 100 ∷ 0 ∷ 0 ∷ 0 ∷ 0 ∷ 0 ∷ 8 ∷ 0 ∷ replicate 504 0
 
--- In the first read's memory: the header has W, the table has the trim with the PRD of a page, and the block stands in the scratch
--- frame.
+-- In the first read's memory: the header has W, the table has the trim with the PRD of a page, and the block stands in
+-- the scratch frame.
 unfoldable pub trim_memory : ℕ → ℕ
 trim_memory = patched (patched (patched (patched first_memory 0 (0x45 ∷ [])) 0x1000 trim_bytes) 0x1080 page_bytes) 0x9000 trim_block
 
@@ -49,8 +49,8 @@ taken_trim = after (Fetch 0 0 trim (0x9000 ∷ [])) issued_trim
 abbrev pub trim_known : Known
 trim_known = record { uses = first_uses; parked = λ port. []; device = issued_trim }
 
--- A machine is reached that has issued request 1, a trim. The write of PxCI is permitted; the machine agrees with the driver when the
--- command is issued and when it is taken; and the device may do it to its end.
+-- A machine is reached that has issued request 1, a trim. The write of PxCI is permitted; the machine agrees with the
+-- driver when the command is issued and when it is taken; and the device may do it to its end.
 pub record TrimIsKnown : Type 0 where
   pub machine : Machine
   pub reached : IsReached machine

@@ -105,8 +105,8 @@ pub record KeptIsKnown : Type 0 where
 
 -- ---- a request whose command is done
 
--- The device may go on to where the command in slot 0 of port 0 has ended. A machine is reached that agrees with the driver then: the
--- slot serves this request still, which has ended and is unanswered.
+-- The device may go on to where the command in slot 0 of port 0 has ended. A machine is reached that agrees with the
+-- driver then: the slot serves this request still, which has ended and is unanswered.
 pub record DoneIsKnown (k : Known) (id : RequestId) : Type 0 where
   pub device : Device
   pub steps : Steps k.device device

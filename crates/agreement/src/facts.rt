@@ -25,6 +25,7 @@ ghost use Rattle.block_machine.specs.State.{Pending, Machine};
 ghost use Rattle.block_machine.specs.Steps.{Step, Release, MayMove, NoneKept, after_step};
 ghost use Rattle.agreement.specs.Agrees.{Agrees};
 ghost use Rattle.agreement.specs.Awaits.{AwaitsPage};
+ghost use Rattle.agreement.specs.Booted.{BootIsFound};
 ghost use Rattle.agreement.specs.Driver.{Known, Knows, IsOwnPrepared};
 ghost use Rattle.agreement.specs.Errors.{KeepsErrors, NoneComes, ChangesByDisks, StaysClear, IsLeftByReset, IsCleared, IsWork};
 ghost use Rattle.agreement.specs.Facts.{IsHalted, IsAfterReset, Finds, FindsPage, AreStepsOf, IsStill, AreOver, RunsWell, Undisturbed, ShowsNoTrouble, TellsNoTrouble, ClearsNoTrouble, IsFaulted, ShowsFault, HasFaults, IsRecorded, IsAwaited, IsUnflagged, IsQuiet, KeepsRecord, EndedIn, IsClear};
@@ -53,10 +54,11 @@ pub fn stop_is_found()
         → IsHalted (new.port port.0) }
 {}
 
-/// HR of GHC begins a reset of the adapter, and is read 1 while it is pending. Once it is read 0, each port is as the reset left it,
-/// but for what the device did since, which alone made steps before it, too: its engines stand, no bit of PxIS is set, and what comes
-/// since sets N or X. Its engines stand on, whatever the device does, over readings, and over each write that may be made and sets
-/// neither its ST nor its FRE. A port is after a reset exactly if it is idle.
+/// HR of GHC begins a reset of the adapter, and is read 1 while it is pending. Once it is read 0, each port is as the
+/// reset left it, but for what the device did since, which alone made steps before it, too: its engines stand, no bit
+/// of PxIS is set, and what comes since sets N or X. Its engines stand on, whatever the device does, over readings,
+/// and over each write that may be made and sets neither its ST nor its FRE. A port is after a reset exactly if it is
+/// idle.
 pub fn reset_is_found()
     ensures begins { (v : ℕ) (old new : Device) → bit v 0 ≡ true → Writes Ghc v old new → new.hr ≡ true }
     ensures told { (v : ℕ) (old new : Device) → Reads Ghc v old new → (new.hr ≡ bit v 0) × (new.ae ≡ bit v 31) }
@@ -146,9 +148,10 @@ pub fn page_is_found()
         × (bytes ≡ page.brought.move.bytes)) }
 {}
 
-/// While the driver waits for the page of a command of its own, over as many readings as it takes. The write of PxCI begins it; and it goes
-/// on, whatever the device does, and over each access that doesn't clear ST and leaves no reset pending. Once PxCI is read with bit 0 clear,
-/// the page that stands in the scratch frame was brought since that write; and a load of the frame then gives its bytes.
+/// While the driver waits for the page of a command of its own, over as many readings as it takes. The write of PxCI
+/// begins it; and it goes on, whatever the device does, and over each access that doesn't clear ST and leaves no reset
+/// pending. Once PxCI is read with bit 0 clear, the page that stands in the scratch frame was brought since that
+/// write; and a load of the frame then gives its bytes.
 pub fn page_is_awaited()
     ensures issued { (uses : Uses) (m : Machine) (port : Port) (o : Operation) (v : ℕ) (old new : Device) → IsReached m
         → Agrees uses m old → old.hr ≡ false → IsOwnPrepared uses old port.0 o v → Writes (Px port Ci) v old new
@@ -220,9 +223,10 @@ pub fn trouble_is_shown()
         → Undisturbed port.0 old mid × RunsWell (mid.port port.0) }
 {}
 
-/// From COMRESET or a reset of the adapter on, while the engine stands and the tape tells of no disk of the port that comes: where
-/// PxSSTS.DET is read 3, the link is up. Whatever the device does, also over a reset that ends, and over each access that doesn't set ST.
-/// So it is where no device shows. A link that is up stays so, too, but for a write of PxSCTL, where no disk goes or comes.
+/// From COMRESET or a reset of the adapter on, while the engine stands and the tape tells of no disk of the port that
+/// comes: where PxSSTS.DET is read 3, the link is up. Whatever the device does, also over a reset that ends, and over
+/// each access that doesn't set ST. So it is where no device shows. A link that is up stays so, too, but for a write
+/// of PxSCTL, where no disk goes or comes.
 pub fn link_comes_up()
     ensures comreset { (port : Port) (v : ℕ) (old new : Device) → (old.port port.0).cr ≡ false → v % 16 ≡ 1
         → Writes (Px port Sctl) v old new → IsComingUp (new.port port.0) }
@@ -242,10 +246,11 @@ pub fn link_comes_up()
         → IsUp (old.port port.0) → IsUp (new.port port.0) }
 {}
 
-/// ST is set while the engine stands and the link is up, no reset is pending, and the tape tells of no disk that goes or comes: the port is
-/// started. So it stays, unless the tape tells of a disturbance of the port, whatever else the device does, and over each access that
-/// neither clears ST nor writes PxSCTL. Where no bit tells of trouble, it runs well; and so it does where PxIS is read with none. So where
-/// ST is set with the link up, and PxIS is read with no trouble after that, the port runs well, whatever the tape tells.
+/// ST is set while the engine stands and the link is up, no reset is pending, and the tape tells of no disk that goes
+/// or comes: the port is started. So it stays, unless the tape tells of a disturbance of the port, whatever else the
+/// device does, and over each access that neither clears ST nor writes PxSCTL. Where no bit tells of trouble, it runs
+/// well; and so it does where PxIS is read with none. So where ST is set with the link up, and PxIS is read with no
+/// trouble after that, the port runs well, whatever the tape tells.
 pub fn running_well_is_found()
     ensures starts { (port : Port) (v : ℕ) (old new : Device) → old.hr ≡ false → (old.port port.0).st ≡ false
         → (old.port port.0).cr ≡ false → bit v 0 ≡ true → Writes (Px port Cmd) v old new → IsUp (old.port port.0)
@@ -264,9 +269,15 @@ pub fn running_well_is_found()
         → Reads (Px port Is) causes mid new → TellsNoTrouble causes → RunsWell (new.port port.0) }
 {}
 
-/// While no reset is pending and no link of the port is due, as on a port that runs: each bit that tells of trouble and is clear stays so,
-/// unless the tape tells of a disturbance of the port, whatever else the device does, and over each access. So where none is set, none
-/// is then.
+/// There is a boot for these laws: COMRESET, the link's coming up, what clears the port's errors, the start, and
+/// readings that tell so.
+pub fn a_boot_runs_well()
+    ensures { BootIsFound }
+{}
+
+/// While no reset is pending and no link of the port is due, as on a port that runs: each bit that tells of trouble
+/// and is clear stays so, unless the tape tells of a disturbance of the port, whatever else the device does, and over
+/// each access. So where none is set, none is then.
 pub fn cleared_stays()
     ensures steps { (port : ℕ) (old new : Device) → old.hr ≡ false → (old.port port).link_due ≡ false → Undisturbed port old new
         → Steps old new → StaysClear (old.port port) (new.port port) }

@@ -142,9 +142,10 @@ pub fn backing_composes()
         → IsBacked mid new (after m early) late → IsBacked old new m (late ++ early) }
 {}
 
-/// A driver's moves compose in one form. It goes by no step, where it knows the same device, and by one stretch after another. So it does by
-/// a step of its own; by what the device makes alone; by an access that ends with a step of its own; and by what any access or part of a
-/// call adds. And what goes so from each machine that agrees is a part of a call. The machine that is gone to is reached.
+/// A driver's moves compose in one form. It goes by no step, where it knows the same device, and by one stretch after
+/// another. So it does by a step of its own; by what the device makes alone; by an access that ends with a step of its
+/// own; and by what any access or part of a call adds. And what goes so from each machine that agrees is a part of a
+/// call. The machine that is gone to is reached.
 pub fn going_composes()
     ensures none { (k : Known) (m : Machine) → Knows m k → Goes k m [] k }
     ensures more { (a b c : Known) (m : Machine) (early late : List Step) → Goes a m early b → Goes b (after m early) late c
@@ -519,14 +520,14 @@ pub fn an_ended_read_agrees()
     ensures { EndedIsKnown }
 {}
 
-/// There is an adapter with two queued reads, into frames that are apart: both are issued, each by a write that is permitted, and the device
-/// has taken the one while the other waits. A machine agrees with its driver.
+/// There is an adapter with two queued reads, into frames that are apart: both are issued, each by a write that is
+/// permitted, and the device has taken the one while the other waits. A machine agrees with its driver.
 pub fn two_queued_reads_agree()
     ensures { TwoAreKnown }
 {}
 
-/// There is an adapter with a trim, which is issued by a write that is permitted, taken, and done to its end; and a machine agrees with
-/// it all the way.
+/// There is an adapter with a trim, which is issued by a write that is permitted, taken, and done to its end; and a
+/// machine agrees with it all the way.
 pub fn a_trim_agrees()
     ensures { TrimIsKnown }
 {}
