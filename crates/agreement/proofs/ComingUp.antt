@@ -31,16 +31,16 @@ use Rattle.agreement.proofs.Starting.{neither, not_one}
 
 -- ---- as facts of a port's fields
 
-abbrev Up : PortState → Type 0
+abbrev pub Up : PortState → Type 0
 Up p = (p.ssts_det ≡ 3) × (p.present ≡ true) × (p.fresh ≡ true) × (p.link_due ≡ false) × (p.sctl_det ≢ 1) × (restarted p.halt ≡ NotHalted)
 
 abbrev Coming : PortState → Type 0
 Coming p = (p.cr ≡ false) × (p.ssts_det ≡ 3 → Up p)
 
-up_of : (p : PortState) → IsUp p → Up p
+pub up_of : (p : PortState) → IsUp p → Up p
 up_of p u = (u.det, u.present, u.fresh, u.linked, u.released, u.restarts)
 
-is_up : (p : PortState) → Up p → IsUp p
+pub is_up : (p : PortState) → Up p → IsUp p
 is_up p u = record { det = u.0; present = u.1; fresh = u.2; linked = u.3; released = u.4; restarts = u.5 }
 
 coming_of : (p : PortState) → IsComingUp p → Coming p

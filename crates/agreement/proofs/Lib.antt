@@ -70,3 +70,4 @@ mod Trimming
 mod Composing
 mod Pages
 mod Booted
+mod Restarting

@@ -32,11 +32,11 @@ use Rattle.agreement.proofs.Linking.{spared, undisturbed_plugs}
 -- ---- steps that disturb nothing
 
 -- before the effect of an access the tape has what it has after it
-calm_before : (port : ℕ) (old mid new : Device) → new.tape ≡ mid.tape → Undisturbed port old new → Undisturbed port old mid
+pub calm_before : (port : ℕ) (old mid new : Device) → new.tape ≡ mid.tape → Undisturbed port old new → Undisturbed port old mid
 calm_before port old mid new same u = record { gained = u.gained; tape = sym same ∙ u.tape; calm = u.calm }
 
 -- what each step keeps that is no disturbance, lists of them keep
-leads_calmly : (port : ℕ) (P : Device → Type 0) →
+pub leads_calmly : (port : ℕ) (P : Device → Type 0) →
     ((d : Device) (gained : List Entry) → NoneOf (IsDisturbance port) gained → (step : Step) → Can step d → (after step d).tape ≡ d.tape ++ gained → P d → P (after step d)) →
     (steps : List Step) (old new : Device) → Leads steps old new → Undisturbed port old new → P old → P new
 leads_calmly port P keep [] old new e u h = subst P (sym e) h

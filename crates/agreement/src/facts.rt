@@ -226,7 +226,8 @@ pub fn trouble_is_shown()
 /// From COMRESET or a reset of the adapter on, while the engine stands and the tape tells of no disk of the port that
 /// comes: where PxSSTS.DET is read 3, the link is up. Whatever the device does, also over a reset that ends, and over
 /// each access that doesn't set ST. So it is where no device shows. A link that is up stays so, too, but for a write
-/// of PxSCTL, where no disk goes or comes.
+/// of PxSCTL, where no disk goes or comes; and whether the engine stands or runs, where the tape tells of no
+/// disturbance of the port.
 pub fn link_comes_up()
     ensures comreset { (port : Port) (v : ℕ) (old new : Device) → (old.port port.0).cr ≡ false → v % 16 ≡ 1
         → Writes (Px port Sctl) v old new → IsComingUp (new.port port.0) }
@@ -244,13 +245,19 @@ pub fn link_comes_up()
     ensures stays_access { (port : Port) (access : Access) (old new : Device) → old.hr ≡ false → (old.port port.0).cr ≡ false
         → SetsNoStart port access → SparesRegister (Px port Sctl) access → PlugsNone port.0 old new → Does access old new
         → IsUp (old.port port.0) → IsUp (new.port port.0) }
+    ensures undisturbed { (port : ℕ) (old new : Device) → old.hr ≡ false → Undisturbed port old new → Steps old new
+        → IsUp (old.port port) → IsUp (new.port port) }
+    ensures undisturbed_access { (port : Port) (access : Access) (old new : Device) → old.hr ≡ false
+        → SparesRegister (Px port Sctl) access → Undisturbed port.0 old new → Does access old new
+        → IsUp (old.port port.0) → IsUp (new.port port.0) }
 {}
 
 /// ST is set while the engine stands and the link is up, no reset is pending, and the tape tells of no disk that goes
 /// or comes: the port is started. So it stays, unless the tape tells of a disturbance of the port, whatever else the
 /// device does, and over each access that neither clears ST nor writes PxSCTL. Where no bit tells of trouble, it runs
 /// well; and so it does where PxIS is read with none. So where ST is set with the link up, and PxIS is read with no
-/// trouble after that, the port runs well, whatever the tape tells.
+/// trouble after that, the port runs well, whatever the tape tells. A port that was started has its link up: so it may be
+/// stopped and started again.
 pub fn running_well_is_found()
     ensures starts { (port : Port) (v : ℕ) (old new : Device) → old.hr ≡ false → (old.port port.0).st ≡ false
         → (old.port port.0).cr ≡ false → bit v 0 ≡ true → Writes (Px port Cmd) v old new → IsUp (old.port port.0)
@@ -262,6 +269,7 @@ pub fn running_well_is_found()
         → IsStarted (old.port port.0) → IsStarted (new.port port.0) }
     ensures well { (p : PortState) → IsStarted p → ShowsNoTrouble p → RunsWell p }
     ensures started { (p : PortState) → RunsWell p → IsStarted p }
+    ensures up { (p : PortState) → IsStarted p → p.sctl_det ≢ 1 → IsUp p }
     ensures told { (port : Port) (v : ℕ) (old new : Device) → old.hr ≡ false → Reads (Px port Is) v old new → TellsNoTrouble v
         → IsStarted (old.port port.0) → RunsWell (new.port port.0) }
     ensures found { (port : Port) (v causes : ℕ) (old mid new : Device) → old.hr ≡ false → (old.port port.0).st ≡ false

@@ -1,3 +1,4 @@
+use Rattle.agreement.proofs.Restarting.{steps_stay_up, access_stays_up}
 use Rattle.agreement.proofs.ComingUp.{comreset_comes, reset_comes, unlinked, steps_coming, access_coming, up_is_found, steps_up, access_up}
 use Rattle.agreement.proofs.facts.link_comes_up.Goals as goal
 
@@ -24,3 +25,9 @@ returns-clause-stays c = steps_up
 
 pub returns-clause-stays_access : goal.returns-clause-stays_access
 returns-clause-stays_access c = access_up
+
+pub returns-clause-undisturbed : goal.returns-clause-undisturbed
+returns-clause-undisturbed c = steps_stay_up
+
+pub returns-clause-undisturbed_access : goal.returns-clause-undisturbed_access
+returns-clause-undisturbed_access c = access_stays_up

@@ -1,3 +1,4 @@
+use Rattle.agreement.proofs.Restarting.{started_up}
 use Rattle.agreement.proofs.Running.{steps_started, access_started, well_of, started_well}
 use Rattle.agreement.proofs.Booting.{start_is_made, well_is_told, well_is_found}
 use Rattle.agreement.proofs.facts.running_well_is_found.Goals as goal
@@ -22,3 +23,6 @@ returns-clause-told c = well_is_told
 
 pub returns-clause-found : goal.returns-clause-found
 returns-clause-found c = well_is_found
+
+pub returns-clause-up : goal.returns-clause-up
+returns-clause-up c = started_up
