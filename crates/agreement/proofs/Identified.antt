@@ -12,7 +12,6 @@ use Rattle.adapter.specs.Memory.{patched, bytes_at, changed}
 use Rattle.adapter.specs.Steps.{Can, Steps, after, begun}
 use Rattle.adapter.specs.Steps.Step.{Fetch, Move, Done}
 use Rattle.adapter.specs.declared.command.Operation.TheVariants.{Identify, Trim}
-use Rattle.adapter.proofs.Absurd.{some-none}
 use Rattle.adapter.proofs.FirstRead.{first_sane}
 use Rattle.adapter.proofs.Runs.{Steps-refl}
 use Rattle.block_machine.specs.Histories.{IsReached}
@@ -26,7 +25,7 @@ use Rattle.agreement.proofs.Finding.{page_is_read}
 use Rattle.agreement.proofs.Permitting.{own_is_permitted}
 use Rattle.agreement.proofs.Putting.{put_same, put_have, own_agrees}
 use Rattle.agreement.proofs.Spelt.{page_told, zeros_from}
-use Rattle.agreement.proofs.Witness.{start_with, starts_with, ready_knows, bit_one_other}
+use Rattle.agreement.proofs.Witness.{start_with, starts_with, ready_knows, can_take, bit_one_other}
 
 -- ---- what the bytes say
 
@@ -92,13 +91,7 @@ unfolding changed
 page_is_sector = first_sane.disk 0 sector_of refl 0 (omega arith)
 
 can_fetch : Can (Fetch 0 0 identify (0x9000 ∷ [])) issued_identify
-unfolding changed
-can_fetch = record {
-  fetchable = record { st = refl; issued = refl; free = refl };
-  working = record { running = refl; present = refl; fresh = refl; admitted = refl; whole = refl };
-  alone = λ slot t is. some-none is refl;
-  says = told.says;
-}
+can_fetch = can_take identify_memory identify (0x9000 ∷ []) told.says
 
 can_move : Can (Move 0 0 taken (sector_of 0)) fetched
 unfolding changed

@@ -10,7 +10,7 @@ use Rattle.adapter.specs.Steps.{Can, Steps, after, begun}
 use Rattle.adapter.specs.Steps.Step.{Fetch, Move, Clear, Done}
 use Rattle.adapter.specs.Trim.{trim_sectors, consecutive}
 use Rattle.adapter.specs.declared.command.Operation.TheVariants.{Trim}
-use Rattle.adapter.proofs.Absurd.{true-false, some-none}
+use Rattle.adapter.proofs.Absurd.{true-false}
 use Rattle.adapter.proofs.MemoryLemmas.{patched_bytes}
 use Rattle.adapter.proofs.Runs.{Steps-one}
 use Rattle.block_machine.specs.Histories.{IsReached}
@@ -31,7 +31,7 @@ use Rattle.agreement.proofs.Permitting.{issue_is_permitted}
 use Rattle.agreement.proofs.Putting.{put_same, issue_agrees, issue_have}
 use Rattle.agreement.proofs.Spelt.{page_told, zeros_from}
 use Rattle.agreement.proofs.Taking.{fetch_follows}
-use Rattle.agreement.proofs.Witness.{start_with, starts_with, plain, ready_knows, bit_one_other}
+use Rattle.agreement.proofs.Witness.{start_with, starts_with, plain, ready_knows, can_take, bit_one_other}
 
 -- ---- what the bytes say
 
@@ -115,13 +115,7 @@ issued_knows = record {
 }
 
 can_fetch : Can (Fetch 0 0 trim (0x9000 ∷ [])) issued_trim
-unfolding changed
-can_fetch = record {
-  fetchable = record { st = refl; issued = refl; free = refl };
-  working = record { running = refl; present = refl; fresh = refl; admitted = refl; whole = refl };
-  alone = λ slot t is. some-none is refl;
-  says = told.says;
-}
+can_fetch = can_take trim_memory trim (0x9000 ∷ []) told.says
 
 -- ---- and done
 

@@ -1,5 +1,5 @@
 -- The first read, as device and as machine.
-use Rattle.std.proofs.Common.{ℕ, ◌≡◌, ◌<◌, ◌+◌, ◌*◌, ◌^◌, ◌==◌, ◌≢◌, Bool, true, false, cond, [], ◌∷◌, length, slice_index, refl, sym, ◌∙◌, ap, subst, arith, inl, ⊎_elim, ne_eqb}
+use Rattle.std.proofs.Common.{ℕ, ◌≡◌, ◌<◌, ◌+◌, ◌*◌, ◌^◌, ◌==◌, ◌≢◌, Bool, true, false, cond, List, [], ◌∷◌, length, slice_index, refl, sym, ◌∙◌, ap, subst, arith, inl, ⊎_elim, ne_eqb}
 use Rattle.std.proofs.lemmas.Bool.{cond-false}
 use Rattle.std.proofs.lemmas.Nat.Bits.{bit_at-pow_other}
 use Rattle.std.proofs.lemmas.List.{get_or-replicate}
@@ -8,11 +8,15 @@ use Rattle.hba_regs.specs.declared.reg.Reg.TheVariants.{Px}
 use Rattle.hba_regs.specs.declared.reg.PortReg.TheVariants.{Ci}
 use Rattle.byteorder.specs.Endian.{little_from}
 use Rattle.adapter.specs.Access.{written}
+use Rattle.adapter.specs.Commands.{Meaning}
 use Rattle.adapter.specs.Device.{PortState, Device}
 use Rattle.adapter.specs.FirstRead.{first_memory, first_read, quiet_port, reading_port, sector_of}
 use Rattle.adapter.specs.Memory.{bytes_at, changed, patched}
 use Rattle.adapter.specs.ReadDone.{read_of}
-use Rattle.adapter.specs.Says.{cut}
+use Rattle.adapter.specs.Says.{Says, cut}
+use Rattle.adapter.specs.Steps.{Can}
+use Rattle.adapter.specs.Steps.Step.{Fetch}
+use Rattle.adapter.proofs.Absurd.{some-none}
 use Rattle.adapter.proofs.Changed.{fun_ext, changed_same, changed_other}
 use Rattle.adapter.proofs.FirstRead.{first_says}
 use Rattle.adapter.proofs.Runs.{Steps-refl}
@@ -123,6 +127,16 @@ ready_knows memory = record {
         (λ n ne. record { told = λ k. []; tells = refl; same = λ k b kl bl. absurd (omega (arith, kl)) });
   };
   have = λ q e may at_port. ⊎_elim (λ z. absurd (contains_none e z.0)) (λ z. absurd (contains_none e z)) may;
+}
+
+-- a command that is issued there may be taken
+pub can_take : (memory : ℕ → ℕ) (c : Meaning) (places : List ℕ) → Says memory 0 0 c places → Can (Fetch 0 0 c places) (written (Px (port_at 0) Ci) 1 (ready_with memory))
+unfolding changed
+can_take memory c places says = record {
+  fetchable = record { st = refl; issued = refl; free = refl };
+  working = record { running = refl; present = refl; fresh = refl; admitted = refl; whole = refl };
+  alone = λ slot t is. some-none is refl;
+  says = says;
 }
 
 accepting_knows : Knows accepting (idle prepared_read)
