@@ -1,5 +1,5 @@
 -- The first read's request when it was taken from its slot, and when it is kept.
-use Rattle.std.proofs.Common.{ℕ, ◌≡◌, ◌==◌, List, [], ◌∷◌, refl, sym, ◌∙◌, ap, subst, arith, inl, ⊎_elim}
+use Rattle.std.proofs.Common.{ℕ, ◌≡◌, ◌==◌, [], ◌∷◌, refl, sym, ◌∙◌, ap, arith, inl, ⊎_elim}
 use Rattle.std.specs.List.{Contains}
 use Rattle.std.proofs.lemmas.Nat.Bits.{bit_at-pow_other, bit_at-zero}
 use Rattle.ata_types.specs.declared.request.RequestId.{RequestId}
@@ -14,23 +14,19 @@ use Rattle.adapter.specs.Memory.{changed}
 use Rattle.adapter.specs.Rules.{MayWrite, Stays}
 use Rattle.adapter.specs.Steps.{Can}
 use Rattle.adapter.specs.Steps.Step.{Fall}
-use Rattle.adapter.specs.declared.tape.Entry.{Entry}
 use Rattle.adapter.proofs.KeptLemmas.{steps_keep}
 use Rattle.adapter.proofs.Runs.{Steps-refl, Steps-one}
-use Rattle.block_machine.specs.Left.{after}
 use Rattle.block_machine.specs.State.{Pending, Machine}
-use Rattle.block_machine.specs.Steps as machine
 use Rattle.block_machine.specs.Steps.{Answer, after_step, issue}
 use Rattle.block_machine.proofs.HistoryLemmas.{reached_more}
 use Rattle.block_machine.proofs.Members.{contains_here, contains_cases, contains_none}
 use Rattle.agreement.specs.Agrees.{Agrees, port_at}
 use Rattle.agreement.specs.Driver.{Knows, HasNoSlot, LeavesUses}
 use Rattle.agreement.specs.Facts.{IsHalted}
-use Rattle.agreement.specs.Follows.{Follows}
 use Rattle.agreement.specs.Slots.{Free, Serves, put}
-use Rattle.agreement.specs.Tape.{Tells}
 use Rattle.agreement.specs.Witness.{first_id, first_uses, first_known, KeptIsKnown, stopping_read, stopped_read, parked_known, ParkedIsKnown}
 use Rattle.agreement.proofs.Deciding.{keeping_knows, park_knows}
+use Rattle.agreement.proofs.Following.{silent_agrees}
 use Rattle.agreement.proofs.Putting.{put_same, put_cases}
 use Rattle.agreement.proofs.Quiet.{true_false, fall_follows}
 use Rattle.agreement.proofs.Witness.{waits, issued, reached, first_knows}
@@ -73,9 +69,7 @@ can_fall = (refl, refl)
 -- nothing is told of, so the machine makes no step
 stopped_agrees : Agrees first_uses issued stopped_read
 stopped_agrees =
-    let f : Follows first_uses issued stopping_read stopped_read = fall_follows first_uses issued stopping_read stopping_agrees 0 can_fall.0 in
-    let still : f.steps ≡ [] = subst (λ (gained : List Entry). Tells issued gained f.steps) (sym f.tape) f.tells in
-    subst (λ (steps : List machine.Step). Agrees first_uses (after issued steps) stopped_read) still f.agrees
+    silent_agrees first_uses issued stopping_read stopped_read (fall_follows first_uses issued stopping_read stopping_agrees 0 can_fall.0) refl
 
 stopped_halted : IsHalted (stopped_read.port 0)
 unfolding changed

@@ -1,5 +1,6 @@
 -- The machine follows each step of the device, and so each list of steps.
 use Rattle.std.proofs.Common.{ℕ, ◌≡◌, ◌≢◌, ◌++◌, List, [], ◌∷◌, inl, inr, refl, sym, ◌∙◌, ap, subst, ⊎_elim, append_assoc, append-nil}
+use Rattle.std.proofs.lemmas.List.{append_cancel_left}
 use Rattle.adapter.specs.Device as device
 use Rattle.adapter.specs.Device.{Device}
 use Rattle.adapter.specs.Steps as steps
@@ -120,3 +121,10 @@ leads_follow uses m (step ∷ steps) old new r a (can, lead) =
 -- whatever the device does, the machine follows
 pub steps_follow : (uses : Uses) (m : Machine) (old new : Device) → IsReached m → Agrees uses m old → Steps old new → Follows uses m old new
 steps_follow uses m old new r a s = leads_follow uses m s.steps old new r a s.lead
+
+-- where the tape gains nothing the machine makes no step
+pub silent_agrees : (uses : Uses) (m : Machine) (old new : Device) → Follows uses m old new → new.tape ≡ old.tape → Agrees uses m new
+silent_agrees uses m old new f same =
+    let none : f.gained ≡ [] = append_cancel_left old.tape f.gained [] (sym f.tape ∙ same ∙ sym (append-nil old.tape)) in
+    let still : f.steps ≡ [] = subst (λ (gained : List Entry). Tells m gained f.steps) none f.tells in
+    subst (λ (steps : List machine.Step). Agrees uses (left.after m steps) new) still f.agrees

@@ -12,7 +12,7 @@ use Rattle.adapter.specs.Device.{Taken, PortState, Device}
 use Rattle.adapter.specs.Idle.{IsIdlePort}
 use Rattle.adapter.specs.Kept.{KeepsPort}
 use Rattle.adapter.specs.Rules.{MayWrite, MayWritePort, Stays}
-use Rattle.adapter.specs.Steps.{Step, after, Leads, Steps}
+use Rattle.adapter.specs.Steps.{Step, Can, after, Leads, Steps}
 use Rattle.adapter.specs.Steps.Step.{Fetch, FetchFault, Move, Clear, Done, Fault, Fatal, Fall, FrFall, LinkUp, Unplug, Plug, ResetEnds, Scribble}
 use Rattle.adapter.proofs.Absurd.{true-false}
 use Rattle.adapter.proofs.Changed.{changed_same}
@@ -47,6 +47,9 @@ idle_halted p i = record { st = i.st; cr = i.cr; ci = i.ci; taken = i.taken }
 
 pub idle_reset : (p : PortState) → IsIdlePort p → IsAfterReset p
 idle_reset p i = record { halted = idle_halted p i; sact = i.sact; fre = i.fre; fr = i.fr }
+
+pub reset_idle : (p : PortState) → IsAfterReset p → IsIdlePort p
+reset_idle p h = record { st = h.halted.st; cr = h.halted.cr; fre = h.fre; fr = h.fr; ci = h.halted.ci; sact = h.sact; taken = h.halted.taken }
 
 -- ---- over readings and writes
 
@@ -179,27 +182,38 @@ stop_is_found uses m port v old new reached a st call clear =
 pub reset_left : (d : Device) (port : ℕ) → IsAfterReset ((after ResetEnds d).port port)
 reset_left d port = record { halted = record { st = refl; cr = refl; ci = λ s. refl; taken = λ s. refl }; sact = λ s. refl; fre = refl; fr = refl }
 
--- the reset ends in some step, and others come after it
-reset_ends : (steps : List Step) (old new : Device) → old.hr ≡ true → new.hr ≡ false → Leads steps old new → (mid : Device) × Steps (after ResetEnds mid) new
-reset_ends [] old new on off e = true-false on (sym (ap (λ (d : Device). d.hr) e) ∙ off)
-reset_ends (ResetEnds ∷ steps) old new on off (can, lead) = (old, record { steps = steps; lead = lead })
-reset_ends (Fetch p slot c places ∷ steps) old new on off (can, lead) = reset_ends steps (after (Fetch p slot c places) old) new on off lead
-reset_ends (FetchFault p slot queued kept_bits ∷ steps) old new on off (can, lead) = reset_ends steps (after (FetchFault p slot queued kept_bits) old) new on off lead
-reset_ends (Move p slot t bytes ∷ steps) old new on off (can, lead) = reset_ends steps (after (Move p slot t bytes) old) new on off lead
-reset_ends (Clear p slot t first count ∷ steps) old new on off (can, lead) = reset_ends steps (after (Clear p slot t first count) old) new on off lead
-reset_ends (Done p slot flag t ∷ steps) old new on off (can, lead) = reset_ends steps (after (Done p slot flag t) old) new on off lead
-reset_ends (Fault p slot error kept_bits t ∷ steps) old new on off (can, lead) = reset_ends steps (after (Fault p slot error kept_bits t) old) new on off lead
-reset_ends (Fatal p place ∷ steps) old new on off (can, lead) = reset_ends steps (after (Fatal p place) old) new on off lead
-reset_ends (Fall p ∷ steps) old new on off (can, lead) = reset_ends steps (after (Fall p) old) new on off lead
-reset_ends (FrFall p ∷ steps) old new on off (can, lead) = reset_ends steps (after (FrFall p) old) new on off lead
-reset_ends (LinkUp p sig n ∷ steps) old new on off (can, lead) = reset_ends steps (after (LinkUp p sig n) old) new on off lead
-reset_ends (Unplug p ∷ steps) old new on off (can, lead) = reset_ends steps (after (Unplug p) old) new on off lead
-reset_ends (Plug p disk ∷ steps) old new on off (can, lead) = reset_ends steps (after (Plug p disk) old) new on off lead
-reset_ends (Scribble p slot at bytes ∷ steps) old new on off (can, lead) = reset_ends steps (after (Scribble p slot at bytes) old) new on off lead
+-- a step, and then steps
+step_first : (step : Step) (old mid : Device) → Can step old → Steps (after step old) mid → Steps old mid
+step_first step old mid can s = record { steps = step ∷ s.steps; lead = (can, s.lead) }
 
-pub reset_read : (v : ℕ) (old new : Device) → old.hr ≡ true → Reads Ghc v old new → bit v 0 ≡ false → (mid : Device) × Steps (after ResetEnds mid) new
+-- the reset ends in some step, and others come before and after it
+abbrev pub Ends : Device → Device → Type 0
+Ends old new = (mid : Device) × Steps (after ResetEnds mid) new × Steps old (after ResetEnds mid)
+
+-- a step comes before
+later : (step : Step) (old new : Device) → Can step old → Ends (after step old) new → Ends old new
+later step old new can s = (s.0, s.1, step_first step old (after ResetEnds s.0) can s.2)
+
+reset_ends : (steps : List Step) (old new : Device) → old.hr ≡ true → new.hr ≡ false → Leads steps old new → Ends old new
+reset_ends [] old new on off e = true-false on (sym (ap (λ (d : Device). d.hr) e) ∙ off)
+reset_ends (ResetEnds ∷ steps) old new on off (can, lead) = (old, record { steps = steps; lead = lead }, record { steps = ResetEnds ∷ []; lead = (can, refl) })
+reset_ends (Fetch p slot c places ∷ steps) old new on off (can, lead) = later (Fetch p slot c places) old new can (reset_ends steps (after (Fetch p slot c places) old) new on off lead)
+reset_ends (FetchFault p slot queued kept_bits ∷ steps) old new on off (can, lead) = later (FetchFault p slot queued kept_bits) old new can (reset_ends steps (after (FetchFault p slot queued kept_bits) old) new on off lead)
+reset_ends (Move p slot t bytes ∷ steps) old new on off (can, lead) = later (Move p slot t bytes) old new can (reset_ends steps (after (Move p slot t bytes) old) new on off lead)
+reset_ends (Clear p slot t first count ∷ steps) old new on off (can, lead) = later (Clear p slot t first count) old new can (reset_ends steps (after (Clear p slot t first count) old) new on off lead)
+reset_ends (Done p slot flag t ∷ steps) old new on off (can, lead) = later (Done p slot flag t) old new can (reset_ends steps (after (Done p slot flag t) old) new on off lead)
+reset_ends (Fault p slot error kept_bits t ∷ steps) old new on off (can, lead) = later (Fault p slot error kept_bits t) old new can (reset_ends steps (after (Fault p slot error kept_bits t) old) new on off lead)
+reset_ends (Fatal p place ∷ steps) old new on off (can, lead) = later (Fatal p place) old new can (reset_ends steps (after (Fatal p place) old) new on off lead)
+reset_ends (Fall p ∷ steps) old new on off (can, lead) = later (Fall p) old new can (reset_ends steps (after (Fall p) old) new on off lead)
+reset_ends (FrFall p ∷ steps) old new on off (can, lead) = later (FrFall p) old new can (reset_ends steps (after (FrFall p) old) new on off lead)
+reset_ends (LinkUp p sig n ∷ steps) old new on off (can, lead) = later (LinkUp p sig n) old new can (reset_ends steps (after (LinkUp p sig n) old) new on off lead)
+reset_ends (Unplug p ∷ steps) old new on off (can, lead) = later (Unplug p) old new can (reset_ends steps (after (Unplug p) old) new on off lead)
+reset_ends (Plug p disk ∷ steps) old new on off (can, lead) = later (Plug p disk) old new can (reset_ends steps (after (Plug p disk) old) new on off lead)
+reset_ends (Scribble p slot at bytes ∷ steps) old new on off (can, lead) = later (Scribble p slot at bytes) old new can (reset_ends steps (after (Scribble p slot at bytes) old) new on off lead)
+
+pub reset_read : (v : ℕ) (old new : Device) → old.hr ≡ true → Reads Ghc v old new → bit v 0 ≡ false → Ends old new
 reset_read v old new on call clear =
-    subst (λ (d : Device). (mid : Device) × Steps (after ResetEnds mid) d) (sym call.effect) (reset_ends call.steps.steps old call.mid on (sym call.shows.0 ∙ clear) call.steps.lead)
+    subst (Ends old) (sym call.effect) (reset_ends call.steps.steps old call.mid on (sym call.shows.0 ∙ clear) call.steps.lead)
 
 -- what it leaves stays
 pub reset_is_found : (v : ℕ) (old new : Device) → old.hr ≡ true → Reads Ghc v old new → bit v 0 ≡ false → (port : ℕ) → IsAfterReset (new.port port)

@@ -1,115 +1,40 @@
 -- IDENTIFY DEVICE in slot 0, byte by byte, and how its page comes.
-use Rattle.std.proofs.Common.{ℕ, zero, suc, ◌≡◌, ◌<◌, ◌≤◌, ◌+◌, ◌==◌, true, false, List, [], ◌∷◌, All, slice_index, refl, sym, ◌∙◌, ap, subst, arith, inl}
-use Rattle.std.proofs.lemmas.List.{get_or-replicate}
+use Rattle.std.proofs.Common.{ℕ, ◌≡◌, ◌==◌, true, false, [], ◌∷◌, refl, sym, ◌∙◌, ap, arith, inl}
 use Rattle.std.proofs.lemmas.Nat.Bits.{bit_at-zero}
 use Rattle.hba_regs.specs.Bits.{bit}
 use Rattle.hba_regs.specs.declared.reg.Reg.TheVariants.{Px}
 use Rattle.hba_regs.specs.declared.reg.PortReg.TheVariants.{Ci}
 use Rattle.adapter.specs.Access.{Reads, noted}
-use Rattle.adapter.specs.Commands.{Meaning, command_of}
+use Rattle.adapter.specs.Commands.{Meaning}
 use Rattle.adapter.specs.Device.{IsSector, Taken, Device}
 use Rattle.adapter.specs.FirstRead.{first_memory, sector_of}
 use Rattle.adapter.specs.Memory.{patched, bytes_at, changed}
-use Rattle.adapter.specs.Says.{IsWhole, Says}
-use Rattle.adapter.specs.Spelling.{SpellsCommand}
 use Rattle.adapter.specs.Steps.{Can, Steps, after, begun}
 use Rattle.adapter.specs.Steps.Step.{Fetch, Move, Done}
 use Rattle.adapter.specs.declared.command.Operation.TheVariants.{Identify, Trim}
-use Rattle.adapter.specs.declared.command.Prd.{Prd}
-use Rattle.adapter.proofs.Absurd.{true-false, some-none}
-use Rattle.adapter.proofs.FirstRead.{first_says, first_sane}
-use Rattle.adapter.proofs.MemoryLemmas.{bytes_index, bytes_same, patched_before, patched_bytes}
+use Rattle.adapter.proofs.FirstRead.{first_sane}
 use Rattle.adapter.proofs.Runs.{Steps-refl}
 use Rattle.block_machine.specs.Histories.{IsReached}
 use Rattle.block_machine.specs.State.{Machine}
 use Rattle.agreement.specs.Agrees.{port_at}
 use Rattle.agreement.specs.Driver.{Knows, IsOwnPrepared, idle}
 use Rattle.agreement.specs.Slots.{Free, Own, Serves, Told}
-use Rattle.agreement.specs.Witness.{identify_bytes, page_bytes, identify_memory, prepared_identify, issued_identify, own_known, OwnIsKnown}
+use Rattle.agreement.specs.Witness.{identify_memory, prepared_identify, issued_identify, own_known, OwnIsKnown}
 use Rattle.agreement.proofs.Acting.{changed_at}
 use Rattle.agreement.proofs.Finding.{page_is_read}
 use Rattle.agreement.proofs.Permitting.{own_is_permitted}
 use Rattle.agreement.proofs.Putting.{put_same, put_have, own_agrees}
-use Rattle.agreement.proofs.Witness.{start_with, starts_with, ready_knows, bit_one_other}
+use Rattle.agreement.proofs.Spelt.{page_told, zeros_from}
+use Rattle.agreement.proofs.Witness.{start_with, starts_with, ready_knows, can_take, bit_one_other}
 
 -- ---- what the bytes say
 
 abbrev identify : Meaning
 identify = record { operation = Identify; first = 0; count = 0 }
 
-abbrev prd : Prd
-prd = record { address = 0x9000; bytes = 512 }
-
--- the header is that of the first read
-header_same : (a : ℕ) → a < 0x1000 → identify_memory a ≡ first_memory a
-unfolding identify_memory
-header_same a low =
-    patched_before (patched first_memory 0x1000 identify_bytes) 0x1080 page_bytes a (omega (arith, low))
-    ∙ patched_before first_memory 0x1000 identify_bytes a low
-
-header_zeros : (i : ℕ) → 12 ≤ i → i < 32 → slice_index (bytes_at identify_memory 0 32) i ≡ 0
-header_zeros i low high =
-    bytes_index identify_memory 0 32 i high ∙ header_same (0 + i) (omega (arith, high))
-    ∙ sym (bytes_index first_memory 0 32 i high) ∙ first_says.header.zeros i low high
-
-fis_is : bytes_at identify_memory 0x1000 20 ≡ identify_bytes
-unfolding identify_memory
-fis_is =
-    bytes_same (patched first_memory 0x1000 identify_bytes) identify_memory 0x1000 20
-    (λ a low high. patched_before (patched first_memory 0x1000 identify_bytes) 0x1080 page_bytes a (omega (arith, high)))
-    ∙ patched_bytes first_memory 0x1000 identify_bytes
-
-fis_zeros : (i : ℕ) → 14 ≤ i → i < 20 → slice_index identify_bytes i ≡ 0
-fis_zeros zero low high = absurd (omega (arith, low))
-fis_zeros (suc zero) low high = absurd (omega (arith, low))
-fis_zeros (suc (suc zero)) low high = absurd (omega (arith, low))
-fis_zeros (suc (suc (suc k))) low high = get_or-replicate 17 k 0 0 (omega (arith, high))
-
-fis_says : SpellsCommand identify_bytes (command_of Identify 0 0 0)
-fis_says = record {
-  size = refl;
-  kind = refl;
-  c_bit = refl;
-  code = refl;
-  features = refl;
-  lba = refl;
-  device = refl;
-  count = refl;
-  zeros = fis_zeros;
-}
-
--- the one PRD is of whole pieces
-all_whole : All IsWhole (prd ∷ [])
-all_whole zero d small = refl
-all_whole (suc k) d small = absurd (omega arith)
-
-identify_says : Says identify_memory 0 0 identify (0x9000 ∷ [])
-unfolding identify_memory first_memory patched bytes_at
-identify_says = record {
-  table = 0x1000;
-  prds = prd ∷ [];
-  header = record { size = refl; first = refl; points = refl; aligned = refl; zeros = header_zeros };
-  fis = subst (λ (bytes : List ℕ). SpellsCommand bytes (command_of Identify 0 0 0)) (sym fis_is) fis_says;
-  meaning = record { ranged = λ h. true-false h refl; not_ranged = λ _. (refl, refl) };
-  stand = (
-    record {
-      size = refl;
-      allowed = record { even_address = refl; even_bytes = refl; some = omega arith; limit = omega arith };
-      address = refl;
-      upper = refl;
-      count = refl;
-    },
-    tt,
-  );
-  few = omega arith;
-  whole = all_whole;
-  in_order = refl;
-  as_many = refl;
-}
-
 told : Told identify_memory 0 0 0 identify (0x9000 ∷ [])
-unfolding identify_says
-told = record { says = identify_says; table_is = refl; few = omega arith }
+unfolding identify_memory first_memory patched bytes_at zeros_from
+told = page_told identify_memory Identify refl refl (refl, refl, refl) (refl, refl, refl, refl, refl, refl, refl, refl) (refl, refl, refl)
 
 -- ---- it is issued
 
@@ -166,13 +91,7 @@ unfolding changed
 page_is_sector = first_sane.disk 0 sector_of refl 0 (omega arith)
 
 can_fetch : Can (Fetch 0 0 identify (0x9000 ∷ [])) issued_identify
-unfolding changed
-can_fetch = record {
-  fetchable = record { st = refl; issued = refl; free = refl };
-  working = record { running = refl; present = refl; fresh = refl; admitted = refl; whole = refl };
-  alone = λ slot t is. some-none is refl;
-  says = identify_says;
-}
+can_fetch = can_take identify_memory identify (0x9000 ∷ []) told.says
 
 can_move : Can (Move 0 0 taken (sector_of 0)) fetched
 unfolding changed

@@ -59,3 +59,15 @@ mod Resetting
 mod Silent
 mod Resending
 mod Noting
+mod ComingUp
+mod Running
+mod Booting
+mod Ended
+mod Spelt
+mod Asking
+mod Queueing
+mod Trimming
+mod Composing
+mod Pages
+mod Booted
+mod Restarting

@@ -48,10 +48,13 @@ reset_port d port = record {
   ssts_det = refl;
   tfd = refl;
   sig = refl;
+  fresh = refl;
+  broken = refl;
 }
 
-pub reset_leaves : (v : ℕ) (old new : Device) → old.hr ≡ true → Reads Ghc v old new → bit v 0 ≡ false → (mid : Device) × (mid.hr ≡ false) × ((port : ℕ) → IsLeftByReset (mid.port port)) × Steps mid new
-reset_leaves v old new on call clear = let s = reset_read v old new on call clear in (after ResetEnds s.0, refl, reset_port s.0, s.1)
+pub reset_leaves : (v : ℕ) (old new : Device) → old.hr ≡ true → Reads Ghc v old new → bit v 0 ≡ false →
+    (mid : Device) × (mid.hr ≡ false) × ((port : ℕ) → IsLeftByReset (mid.port port)) × Steps mid new × Steps old mid
+reset_leaves v old new on call clear = let s = reset_read v old new on call clear in (after ResetEnds s.0, refl, reset_port s.0, s.1, s.2)
 
 -- and what goes on while CR is 0
 abbrev Idles : PortState → Type 0

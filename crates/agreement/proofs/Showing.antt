@@ -25,7 +25,8 @@ use Rattle.block_machine.proofs.Keeps.{same_port}
 use Rattle.agreement.specs.Facts.{RunsWell, IsDisturbance, Undisturbed, ShowsNoTrouble, TellsNoTrouble, ClearsNoTrouble}
 use Rattle.agreement.proofs.Accesses.{noted_tape}
 use Rattle.agreement.proofs.Acting.{changed_at}
-use Rattle.agreement.proofs.Healthy.{undisturbed_none, undisturbed_more, healthy_reads, written_tape}
+use Rattle.agreement.proofs.Healthy.{undisturbed_none, undisturbed_more, written_tape}
+use Rattle.agreement.proofs.Running.{healthy_reads}
 
 -- ---- the bits
 

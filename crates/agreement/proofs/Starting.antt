@@ -29,10 +29,10 @@ use Rattle.agreement.proofs.Healthy.{at_port}
 abbrev IsLinked : PortState → Type 0
 IsLinked p = (p.link_due ≡ false) × (p.sctl_det ≢ 1)
 
-not_one : (n : ℕ) → n ≢ 1 → nat_eq n 1 ≡ false
+pub not_one : (n : ℕ) → n ≢ 1 → nat_eq n 1 ≡ false
 not_one n ne = ⊎_elim (λ (t : nat_eq n 1 ≡ true). absurd (ne (eqb-true n 1 t))) (λ (f : nat_eq n 1 ≡ false). f) (cases_Bool (nat_eq n 1))
 
-neither : (a b : Bool) → a ≡ false → b ≡ false → a || b ≡ false
+pub neither : (a b : Bool) → a ≡ false → b ≡ false → a || b ≡ false
 neither false b x y = y
 neither true b x y = true-false refl x
 

@@ -1,43 +1,40 @@
 -- The first read, as device and as machine.
-use Rattle.std.proofs.Common.{ℕ, ◌≡◌, ◌<◌, ◌+◌, ◌*◌, ◌/◌, ◌==◌, ◌≢◌, Bool, true, false, cond, [], ◌∷◌, length, slice_index, Some, refl, sym, ◌∙◌, ap, subst, arith, inl, ⊎_elim, ne_eqb}
+use Rattle.std.proofs.Common.{ℕ, ◌≡◌, ◌<◌, ◌+◌, ◌*◌, ◌^◌, ◌==◌, ◌≢◌, Bool, true, false, cond, List, [], ◌∷◌, length, slice_index, refl, sym, ◌∙◌, ap, subst, arith, inl, ⊎_elim, ne_eqb}
 use Rattle.std.proofs.lemmas.Bool.{cond-false}
 use Rattle.std.proofs.lemmas.Nat.Bits.{bit_at-pow_other}
 use Rattle.std.proofs.lemmas.List.{get_or-replicate}
-use Rattle.ata_types.specs.declared.PortState.TheVariants.{Ready}
-use Rattle.ata_types.specs.declared.request.Frame.{Frame}
-use Rattle.ata_types.specs.declared.request.Op.TheVariants.{Read, Trim}
-use Rattle.ata_types.specs.declared.request.Request.{Request}
-use Rattle.ata_types.specs.declared.refusal.Refusal.TheVariants as refused
-use Rattle.ata_types.specs.declared.grant.GrantRow.{GrantRow}
 use Rattle.hba_regs.specs.Bits.{bit}
 use Rattle.hba_regs.specs.declared.reg.Reg.TheVariants.{Px}
 use Rattle.hba_regs.specs.declared.reg.PortReg.TheVariants.{Ci}
 use Rattle.byteorder.specs.Endian.{little_from}
 use Rattle.adapter.specs.Access.{written}
+use Rattle.adapter.specs.Commands.{Meaning}
 use Rattle.adapter.specs.Device.{PortState, Device}
 use Rattle.adapter.specs.FirstRead.{first_memory, first_read, quiet_port, reading_port, sector_of}
 use Rattle.adapter.specs.Memory.{bytes_at, changed, patched}
 use Rattle.adapter.specs.ReadDone.{read_of}
-use Rattle.adapter.specs.Says.{cut}
+use Rattle.adapter.specs.Says.{Says, cut}
+use Rattle.adapter.specs.Steps.{Can}
+use Rattle.adapter.specs.Steps.Step.{Fetch}
+use Rattle.adapter.proofs.Absurd.{some-none}
 use Rattle.adapter.proofs.Changed.{fun_ext, changed_same, changed_other}
 use Rattle.adapter.proofs.FirstRead.{first_says}
 use Rattle.adapter.proofs.Runs.{Steps-refl}
-use Rattle.adapter.proofs.SaysLemmas.{cut_length, cut_index}
+use Rattle.adapter.proofs.SaysLemmas.{cut_length}
 use Rattle.block_machine.specs.declared.due.Mode.{Mode}
 use Rattle.block_machine.specs.Histories.{IsReached}
 use Rattle.block_machine.specs.Left.{IsStart}
-use Rattle.block_machine.specs.Refusals.{Situation}
-use Rattle.block_machine.specs.State.{Accepted, Pending, Machine, block_of, frame_at}
+use Rattle.block_machine.specs.State.{Accepted, Pending, Machine}
 use Rattle.block_machine.specs.Steps.{Accept, Issue, May, IsNew, MayMove, after_step, newly_accepted, issue}
 use Rattle.block_machine.proofs.HistoryLemmas.{reached_more}
 use Rattle.block_machine.proofs.Members.{contains_here, contains_none}
-use Rattle.block_machine.proofs.Setting.{client, port, frame, row, request, two_rows, empty, its_row, filled_starts, IsFit, acceptable}
-use Rattle.agreement.specs.Places.{place_in}
+use Rattle.block_machine.proofs.Setting.{empty, filled_starts}
 use Rattle.agreement.specs.Slots.{Free, Serves, Told, IsOver}
 use Rattle.agreement.specs.Agrees.{Agrees, port_at, IsDiskOf, SameSectors, IsReceiving}
 use Rattle.agreement.specs.Driver.{Knows, IsPrepared, idle}
-use Rattle.agreement.specs.Witness.{first_id, first_uses, first_known, ready_port, ready_with, prepared_read, PreparedIsKnown, FirstIsKnown}
+use Rattle.agreement.specs.Witness.{first_uses, first_known, ready_port, ready_with, prepared_read, PreparedIsKnown, FirstIsKnown}
 use Rattle.agreement.proofs.Acting.{changed_at}
+use Rattle.agreement.proofs.Asking.{accepted_of, read_into, read_is_new, read_no_trim, places_in}
 use Rattle.agreement.proofs.Putting.{issued_port, issue_agrees, issue_have}
 use Rattle.agreement.proofs.Deciding.{accept_knows}
 use Rattle.agreement.proofs.Permitting.{issue_is_permitted}
@@ -63,49 +60,13 @@ starts_with memory =
 abbrev start : Machine
 start = start_with first_memory
 
-abbrev asked : Request
-asked = request 0 Read 100 8 (frame 40 ∷ [])
-
 abbrev accepted : Accepted
-accepted = record { id = first_id; port = port; asked = asked; held = block_of start.memory (frame 40 ∷ []) }
-
-abbrev situation : Situation
-situation = record { rows = two_rows; owner = start.owner; lent = start.lent; state = λ p. Ready; sectors = λ p. 256; trims = λ p. true; unanswered = λ c. 0; next = 1 }
-
-read_no_trim : Read ≡ Trim → ⊥
-read_no_trim e = cc
-
-fits : IsFit 0 situation asked
-fits = record {
-  rows = refl;
-  mine = contains_here (row 0) (row 1 ∷ []) (row 0) refl;
-  client_is = refl;
-  grant = refl;
-  allowed = refl;
-  count = (omega arith, omega arith);
-  covered = λ _. (omega arith, omega arith);
-  frames = refl;
-  single = omega arith;
-  owned = λ f e. let g : frame 40 ≡ f = cc in subst (λ (x : Frame). start.owner x ≡ Some client) g refl;
-  free = λ f e. refl;
-  ready = refl;
-  on_disk = λ _. omega arith;
-  no_trim = λ e. read_no_trim e;
-  few = omega arith;
-  ids = omega arith;
-}
+accepted = accepted_of start (read_into 100 40)
 
 is_new : IsNew start accepted
-is_new = record {
-  id = refl;
-  id_left = omega arith;
-  unbroken = λ rule h. acceptable 0 situation asked fits (refused.Rule rule) h;
-  port = λ r named. sym (ap (λ (x : GrantRow). x.port) (its_row r named.0 ∙ ap row named.1.1));
-  few = omega arith;
-  held = refl;
-}
+is_new = read_is_new start 100 40 refl refl refl (omega arith) (omega arith) (omega arith) (omega arith)
 
-abbrev plain : Mode
+abbrev pub plain : Mode
 plain = record { queued = false; usable = 1 }
 
 abbrev pub waits : Pending
@@ -130,12 +91,6 @@ moves : MayMove issued (issue waits)
 moves = inl (contains_here (issue waits) [] (issue waits) refl, refl)
 
 -- ---- the relation
-
-places : (i : ℕ) → i < 8 → slice_index (cut 0x28000 8) i ≡ place_in (frame 40 ∷ []) i
-places i lt =
-    let zero_is : i / 8 ≡ 0 = omega (arith, lt) in
-    let same : (frame_at (frame 40 ∷ []) (i / 8)).0 ≡ 40 = ap (λ (n : ℕ). (frame_at (frame 40 ∷ []) n).0) zero_is in
-    cut_index 0x28000 8 i lt ∙ omega (arith, same, lt)
 
 -- where the header says that the table is, and how many PRDs it has
 points : little_from 8 4 (bytes_at first_memory 0 32) ≡ 0x1000
@@ -174,14 +129,27 @@ ready_knows memory = record {
   have = λ q e may at_port. ⊎_elim (λ z. absurd (contains_none e z.0)) (λ z. absurd (contains_none e z)) may;
 }
 
+-- a command that is issued there may be taken
+pub can_take : (memory : ℕ → ℕ) (c : Meaning) (places : List ℕ) → Says memory 0 0 c places → Can (Fetch 0 0 c places) (written (Px (port_at 0) Ci) 1 (ready_with memory))
+unfolding changed
+can_take memory c places says = record {
+  fetchable = record { st = refl; issued = refl; free = refl };
+  working = record { running = refl; present = refl; fresh = refl; admitted = refl; whole = refl };
+  alone = λ slot t is. some-none is refl;
+  says = says;
+}
+
 accepting_knows : Knows accepting (idle prepared_read)
 accepting_knows = accept_knows (idle prepared_read) start accepted (ready_knows first_memory)
 
 -- ---- the read is issued
 
--- only bit 0 of 1 is set
+-- a power of two has one bit
+pub other_bit : (n k : ℕ) → k ≢ n → bit (2 ^ n) k ≡ false
+other_bit n k ne = ap (λ (b : ℕ). b == 1) (bit_at-pow_other n k ne)
+
 pub bit_one_other : (k : ℕ) → k ≢ 0 → bit 1 k ≡ false
-bit_one_other k ne = ap (λ (n : ℕ). n == 1) (bit_at-pow_other 0 k ne)
+bit_one_other k ne = other_bit 0 k ne
 
 prepared : IsPrepared (idle prepared_read).uses accepting prepared_read 0 0 plain waits 1
 unfolding changed
@@ -196,7 +164,7 @@ prepared = record {
   command = read_of 100 8;
   places = cut 0x28000 8;
   told = told;
-  means = record { op = refl; first = λ _. refl; places_are = (cut_length 0x28000 8, places); head = λ e. absurd (read_no_trim e) };
+  means = record { op = refl; first = λ _. refl; places_are = (cut_length 0x28000 8, places_in 40); head = λ e. absurd (read_no_trim e) };
   kind = refl;
   block = tt;
   sact = refl;

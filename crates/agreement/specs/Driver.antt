@@ -100,6 +100,13 @@ pub record ByDevice (old new : Device) (m : Machine) (steps : List Step) : Type 
   pub backed : IsBacked old new m steps
   pub only : AllDevices steps
 
+-- The driver goes from what it knew to what it knows then: from this machine each of these steps may come, the device
+-- backs them, and the machine after them agrees with what the driver knows then.
+pub record Goes (k : Known) (m : Machine) (steps : List Step) (later : Known) : Type 0 where
+  pub may : AllMay m steps
+  pub backed : IsBacked k.device later.device m steps
+  pub knows : Knows (after m steps) later
+
 -- What the device leaves of what is not in use: all headers, but for PRDBC, and all tables; the scratch frame where slot 0 has no
 -- command of the driver's own; and the bits of SACT of free slots.
 pub record LeavesFree (uses : Uses) (old new : Device) : Type 0 where

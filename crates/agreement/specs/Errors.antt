@@ -1,5 +1,5 @@
 -- What tells of a port's errors, of its disks that come, of a reset, and of its engine's work (this project's own).
-use Rattle.std.specs.Prelude.{ℕ, true, false, ◌≡◌, ◌++◌, List, All}
+use Rattle.std.specs.Prelude.{ℕ, true, false, ◌≡◌, ◌≤◌, ◌++◌, List, All}
 use Rattle.adapter.specs.Device.{PortState, Device}
 use Rattle.adapter.specs.declared.tape.Entry.{Entry}
 use Rattle.adapter.specs.declared.tape.Entry.TheVariants as entry
@@ -30,6 +30,12 @@ pub record ChangesByDisks (port : ℕ) (old new : Device) : Type 0 where
   pub serr_x : NoneComes port old new → (old.port port).serr_x ≡ false → (new.port port).serr_x ≡ false
   pub det : NoneComes port old new → (new.port port).ssts_det ≡ 3 → ((old.port port).ssts_det ≡ 3) × PlugsNone port old new
 
+-- Each bit that tells of trouble is clear still if it was: N and X of PxSERR, and 27 to 30 of PxIS.
+pub record StaysClear (old new : PortState) : Type 0 where
+  pub serr_n : old.serr_n ≡ false → new.serr_n ≡ false
+  pub serr_x : old.serr_x ≡ false → new.serr_x ≡ false
+  pub is : (place : ℕ) → 27 ≤ place → place ≤ 30 → old.is place ≡ false → new.is place ≡ false
+
 -- ---- a reset
 
 -- A port as a reset of its adapter leaves it, before anything else comes (AHCI 1.3.1, 3.3 and 10.4.3).
@@ -42,6 +48,8 @@ pub record IsLeftByReset (p : PortState) : Type 0 where
   pub ssts_det : p.ssts_det ≡ 0
   pub tfd : p.tfd ≡ 0x7f
   pub sig : p.sig ≡ 0xffffffff
+  pub fresh : p.fresh ≡ false
+  pub broken : p.broken ≡ false
 
 -- What a port shows after it while its engine stands: no bit of PxIS, and PxSCTL.DET 0; and until X tells of a disk or a link that
 -- came, no device in PxSSTS, and task file and signature as the reset left them.

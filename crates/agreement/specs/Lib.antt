@@ -10,3 +10,8 @@ pub mod Spares
 pub mod Links
 pub mod Errors
 pub mod Noted
+pub mod Started
+pub mod Served
+pub mod Trimmed
+pub mod Awaits
+pub mod Booted

@@ -18,7 +18,7 @@ use Rattle.block_machine.specs.Steps.{Again, May, MayMove}
 use Rattle.agreement.specs.Agrees.{port_at}
 use Rattle.agreement.specs.Driver.{Known, Knows, IsPrepared, IsOwnPrepared, HasNoSlot, idle, parking}
 use Rattle.agreement.specs.Facts.{IsHalted, FindsPage}
-use Rattle.agreement.specs.Slots.{Free, Own, Serves, Uses, put}
+use Rattle.agreement.specs.Slots.{Free, Own, Serves, Uses, put, IsEnded}
 
 -- request 1
 abbrev pub first_id : RequestId
@@ -102,6 +102,26 @@ pub record KeptIsKnown : Type 0 where
   pub knows : Knows machine first_known
   pub taken : Knows machine parked_known
   pub unserved : (e : Pending) → Contains machine.kept e → HasNoSlot parked_known.uses e.request.id
+
+-- ---- a request whose command is done
+
+-- The device may go on to where the command in slot 0 of port 0 has ended. A machine is reached that agrees with the
+-- driver then: the slot serves this request still, which has ended and is unanswered.
+pub record DoneIsKnown (k : Known) (id : RequestId) : Type 0 where
+  pub device : Device
+  pub steps : Steps k.device device
+  pub machine : Machine
+  pub reached : IsReached machine
+  pub knows : Knows machine (record k { device = device })
+  pub served : k.uses 0 0 ≡ Serves id
+  pub request : Pending
+  pub id_is : request.request.id ≡ id
+  pub ended : IsEnded (device.port 0) 0 request
+  pub booked : Contains machine.book request
+
+-- so it is of the first read
+abbrev pub EndedIsKnown : Type 0
+EndedIsKnown = DoneIsKnown first_known first_id
 
 -- ---- a command of the driver's own
 

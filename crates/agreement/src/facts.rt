@@ -24,14 +24,17 @@ ghost use Rattle.block_machine.specs.Left.{after};
 ghost use Rattle.block_machine.specs.State.{Pending, Machine};
 ghost use Rattle.block_machine.specs.Steps.{Step, Release, MayMove, NoneKept, after_step};
 ghost use Rattle.agreement.specs.Agrees.{Agrees};
-ghost use Rattle.agreement.specs.Driver.{Known, Knows};
-ghost use Rattle.agreement.specs.Errors.{KeepsErrors, NoneComes, ChangesByDisks, IsLeftByReset, IsCleared, IsWork};
+ghost use Rattle.agreement.specs.Awaits.{AwaitsPage};
+ghost use Rattle.agreement.specs.Booted.{BootIsFound};
+ghost use Rattle.agreement.specs.Driver.{Known, Knows, IsOwnPrepared};
+ghost use Rattle.agreement.specs.Errors.{KeepsErrors, NoneComes, ChangesByDisks, StaysClear, IsLeftByReset, IsCleared, IsWork};
 ghost use Rattle.agreement.specs.Facts.{IsHalted, IsAfterReset, Finds, FindsPage, AreStepsOf, IsStill, AreOver, RunsWell, Undisturbed, ShowsNoTrouble, TellsNoTrouble, ClearsNoTrouble, IsFaulted, ShowsFault, HasFaults, IsRecorded, IsAwaited, IsUnflagged, IsQuiet, KeepsRecord, EndedIn, IsClear};
 ghost use Rattle.agreement.specs.Links.{SparesRegister, SameAdapter, LeavesControls, PlugsNone, LeavesDisk, LeavesLink};
 ghost use Rattle.agreement.specs.Noted.{LeavesNotes};
 ghost use Rattle.agreement.specs.Places.{scratch_of};
-ghost use Rattle.agreement.specs.Slots.{Uses, Free, Own, Serves, IsOver};
+ghost use Rattle.agreement.specs.Slots.{Uses, Free, Own, Serves, IsOver, Brought, put};
 ghost use Rattle.agreement.specs.Spares.{IsOfAnother};
+ghost use Rattle.agreement.specs.Started.{IsUp, IsComingUp, IsStarted, SetsNoStart, ClearsNoStart};
 
 /// A port that has halted stays so, whatever the device does, also over a reset of the adapter that ends, over readings, and over
 /// each write that may be made and doesn't set its ST; and an idle port has halted.
@@ -51,16 +54,18 @@ pub fn stop_is_found()
         → IsHalted (new.port port.0) }
 {}
 
-/// HR of GHC begins a reset of the adapter, and is read 1 while it is pending. Once it is read 0, each port is as the reset left it,
-/// but for what the device did since: its engines stand, no bit of PxIS is set, and what comes since sets N or X. Its engines stand on,
-/// whatever the device does, over readings, and over each write that may be made and sets neither its ST nor its FRE.
+/// HR of GHC begins a reset of the adapter, and is read 1 while it is pending. Once it is read 0, each port is as the
+/// reset left it, but for what the device did since, which alone made steps before it, too: its engines stand, no bit
+/// of PxIS is set, and what comes since sets N or X. Its engines stand on, whatever the device does, over readings,
+/// and over each write that may be made and sets neither its ST nor its FRE. A port is after a reset exactly if it is
+/// idle.
 pub fn reset_is_found()
     ensures begins { (v : ℕ) (old new : Device) → bit v 0 ≡ true → Writes Ghc v old new → new.hr ≡ true }
     ensures told { (v : ℕ) (old new : Device) → Reads Ghc v old new → (new.hr ≡ bit v 0) × (new.ae ≡ bit v 31) }
     ensures reset { (v : ℕ) (old new : Device) → old.hr ≡ true → Reads Ghc v old new → bit v 0 ≡ false
         → (port : ℕ) → IsAfterReset (new.port port) }
     ensures left { (v : ℕ) (old new : Device) → old.hr ≡ true → Reads Ghc v old new → bit v 0 ≡ false
-        → (mid : Device) × (mid.hr ≡ false) × ((port : ℕ) → IsLeftByReset (mid.port port)) × Steps mid new }
+        → (mid : Device) × (mid.hr ≡ false) × ((port : ℕ) → IsLeftByReset (mid.port port)) × Steps mid new × Steps old mid }
     ensures cleared { (v : ℕ) (old new : Device) → old.hr ≡ true → Reads Ghc v old new → bit v 0 ≡ false
         → (port : ℕ) → IsCleared (new.port port) }
     ensures stays { (port : ℕ) (old new : Device) → Steps old new → IsAfterReset (old.port port) → IsAfterReset (new.port port) }
@@ -70,6 +75,7 @@ pub fn reset_is_found()
         → (r ≡ Px port Cmd → (bit v 0 ≡ false) × (bit v 4 ≡ false)) → Writes r v old new → IsAfterReset (old.port port.0)
         → IsAfterReset (new.port port.0) }
     ensures idle { (p : PortState) → IsIdlePort p → IsAfterReset p }
+    ensures is_idle { (p : PortState) → IsAfterReset p → IsIdlePort p }
 {}
 
 /// CI and then SACT of a running port are read: each slot whose bits were clear in both has ended its request. The steps by which
@@ -148,6 +154,28 @@ pub fn page_is_found()
         × (bytes ≡ page.brought.move.bytes)) }
 {}
 
+/// While the driver waits for the page of a command of its own, over as many readings as it takes. The write of PxCI
+/// begins it; and it goes on, whatever the device does, and over each access that doesn't clear ST and leaves no reset
+/// pending. Once PxCI is read with bit 0 clear, the page that stands in the scratch frame was brought since that
+/// write; and a load of the frame then gives its bytes.
+pub fn page_is_awaited()
+    ensures issued { (uses : Uses) (m : Machine) (port : Port) (o : Operation) (v : ℕ) (old new : Device) → IsReached m
+        → Agrees uses m old → old.hr ≡ false → IsOwnPrepared uses old port.0 o v → Writes (Px port Ci) v old new
+        → AwaitsPage (put uses port.0 0 (Own o)) port.0 o (length new.tape) new }
+    ensures steps { (uses : Uses) (m : Machine) (port : ℕ) (o : Operation) (since : ℕ) (old new : Device) → IsReached m
+        → Agrees uses m old → Steps old new → AwaitsPage uses port o since old → AwaitsPage uses port o since new }
+    ensures access { (uses : Uses) (m : Machine) (port : Port) (o : Operation) (since : ℕ) (access : Access) (old new : Device)
+        → IsReached m → Agrees uses m old → ClearsNoStart port access → new.hr ≡ false → Does access old new
+        → AwaitsPage uses port.0 o since old → AwaitsPage uses port.0 o since new }
+    ensures found { (uses : Uses) (m : Machine) (port : Port) (o : Operation) (since v : ℕ) (old new : Device) → IsReached m
+        → Agrees uses m old → AwaitsPage uses port.0 o since old → Reads (Px port Ci) v old new → bit v 0 ≡ false
+        → FindsPage uses m port.0 o old new × Brought new.memory new.tape port.0 o since }
+    ensures loaded { (uses : Uses) (m : Machine) (port : ℕ) (o : Operation) (since : ℕ) (bytes : List ℕ) (old new : Device)
+        → IsReached m → Agrees uses m old → AwaitsPage uses port o since old → IsOver (old.port port) 0
+        → Loads (scratch_of port) bytes old new → length bytes ≡ 512
+        → (b : Brought new.memory new.tape port o since) × (bytes ≡ b.move.bytes) }
+{}
+
 /// Where the commands of a request are over, the device uses none of the frames that are lent to it any more, whatever it does;
 /// so they may leave the loan. (One slot alone serves a request.) Nor does it use a client's frame that is lent to nobody, nor any
 /// frame where it is idle. The bytes of such a frame may be loaded and stored.
@@ -199,6 +227,77 @@ pub fn trouble_is_shown()
         → Reads (Px port Serr) errors mid new → ((place : ℕ) → 27 ≤ place → place ≤ 30 → bit v place ≡ false)
         → bit errors 16 ≡ false → bit errors 26 ≡ false → RunsWell (old.port port.0)
         → Undisturbed port.0 old mid × RunsWell (mid.port port.0) }
+{}
+
+/// From COMRESET or a reset of the adapter on, while the engine stands and the tape tells of no disk of the port that
+/// comes: where PxSSTS.DET is read 3, the link is up. Whatever the device does, also over a reset that ends, and over
+/// each access that doesn't set ST. So it is where no device shows. A link that is up stays so, too, but for a write
+/// of PxSCTL, where no disk goes or comes; and whether the engine stands or runs, where the tape tells of no
+/// disturbance of the port.
+pub fn link_comes_up()
+    ensures comreset { (port : Port) (v : ℕ) (old new : Device) → (old.port port.0).cr ≡ false → v % 16 ≡ 1
+        → Writes (Px port Sctl) v old new → IsComingUp (new.port port.0) }
+    ensures reset { (v : ℕ) (old new : Device) → old.hr ≡ true → Reads Ghc v old new → bit v 0 ≡ false
+        → (port : ℕ) → NoneComes port old new → IsComingUp (new.port port) }
+    ensures unlinked { (p : PortState) → p.cr ≡ false → p.ssts_det ≢ 3 → IsComingUp p }
+    ensures steps { (port : ℕ) (old new : Device) → NoneComes port old new → Steps old new → IsComingUp (old.port port)
+        → IsComingUp (new.port port) }
+    ensures access { (port : Port) (access : Access) (old new : Device) → SetsNoStart port access → Does access old new
+        → NoneComes port.0 old new → IsComingUp (old.port port.0) → IsComingUp (new.port port.0) }
+    ensures found { (port : Port) (v : ℕ) (old new : Device) → NoneComes port.0 old new → Reads (Px port Ssts) v old new
+        → v % 16 ≡ 3 → IsComingUp (old.port port.0) → IsUp (new.port port.0) }
+    ensures stays { (port : ℕ) (old new : Device) → old.hr ≡ false → (old.port port).cr ≡ false → PlugsNone port old new
+        → Steps old new → IsUp (old.port port) → IsUp (new.port port) }
+    ensures stays_access { (port : Port) (access : Access) (old new : Device) → old.hr ≡ false → (old.port port.0).cr ≡ false
+        → SetsNoStart port access → SparesRegister (Px port Sctl) access → PlugsNone port.0 old new → Does access old new
+        → IsUp (old.port port.0) → IsUp (new.port port.0) }
+    ensures undisturbed { (port : ℕ) (old new : Device) → old.hr ≡ false → Undisturbed port old new → Steps old new
+        → IsUp (old.port port) → IsUp (new.port port) }
+    ensures undisturbed_access { (port : Port) (access : Access) (old new : Device) → old.hr ≡ false
+        → SparesRegister (Px port Sctl) access → Undisturbed port.0 old new → Does access old new
+        → IsUp (old.port port.0) → IsUp (new.port port.0) }
+{}
+
+/// ST is set while the engine stands and the link is up, no reset is pending, and the tape tells of no disk that goes
+/// or comes: the port is started. So it stays, unless the tape tells of a disturbance of the port, whatever else the
+/// device does, and over each access that neither clears ST nor writes PxSCTL. Where no bit tells of trouble, it runs
+/// well; and so it does where PxIS is read with none. So where ST is set with the link up, and PxIS is read with no
+/// trouble after that, the port runs well, whatever the tape tells. A port that was started has its link up: so it may be
+/// stopped and started again.
+pub fn running_well_is_found()
+    ensures starts { (port : Port) (v : ℕ) (old new : Device) → old.hr ≡ false → (old.port port.0).st ≡ false
+        → (old.port port.0).cr ≡ false → bit v 0 ≡ true → Writes (Px port Cmd) v old new → IsUp (old.port port.0)
+        → PlugsNone port.0 old new → IsStarted (new.port port.0) }
+    ensures steps { (port : ℕ) (old new : Device) → old.hr ≡ false → Undisturbed port old new → Steps old new
+        → IsStarted (old.port port) → IsStarted (new.port port) }
+    ensures access { (port : Port) (access : Access) (old new : Device) → old.hr ≡ false → ClearsNoStart port access
+        → SparesRegister (Px port Sctl) access → Undisturbed port.0 old new → Does access old new
+        → IsStarted (old.port port.0) → IsStarted (new.port port.0) }
+    ensures well { (p : PortState) → IsStarted p → ShowsNoTrouble p → RunsWell p }
+    ensures started { (p : PortState) → RunsWell p → IsStarted p }
+    ensures up { (p : PortState) → IsStarted p → p.sctl_det ≢ 1 → IsUp p }
+    ensures told { (port : Port) (v : ℕ) (old new : Device) → old.hr ≡ false → Reads (Px port Is) v old new → TellsNoTrouble v
+        → IsStarted (old.port port.0) → RunsWell (new.port port.0) }
+    ensures found { (port : Port) (v causes : ℕ) (old mid new : Device) → old.hr ≡ false → (old.port port.0).st ≡ false
+        → (old.port port.0).cr ≡ false → bit v 0 ≡ true → IsUp (old.port port.0) → Writes (Px port Cmd) v old mid
+        → Reads (Px port Is) causes mid new → TellsNoTrouble causes → RunsWell (new.port port.0) }
+{}
+
+/// There is a boot for these laws: COMRESET, the link's coming up, what clears the port's errors, the start, and
+/// readings that tell so.
+pub fn a_boot_runs_well()
+    ensures { BootIsFound }
+{}
+
+/// While no reset is pending and no link of the port is due, as on a port that runs: each bit that tells of trouble
+/// and is clear stays so, unless the tape tells of a disturbance of the port, whatever else the device does, and over
+/// each access. So where none is set, none is then.
+pub fn cleared_stays()
+    ensures steps { (port : ℕ) (old new : Device) → old.hr ≡ false → (old.port port).link_due ≡ false → Undisturbed port old new
+        → Steps old new → StaysClear (old.port port) (new.port port) }
+    ensures access { (port : Port) (access : Access) (old new : Device) → old.hr ≡ false → (old.port port.0).link_due ≡ false
+        → Undisturbed port.0 old new → Does access old new → StaysClear (old.port port.0) (new.port port.0) }
+    ensures none { (p new : PortState) → StaysClear p new → ShowsNoTrouble p → ShowsNoTrouble new }
 {}
 
 /// Where nothing goes wrong in each of two parts of a call, nothing does in the whole; and where nothing does in the whole,

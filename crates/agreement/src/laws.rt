@@ -29,10 +29,12 @@ ghost use Rattle.block_machine.specs.State.{Accepted, Pending, Machine, unanswer
 ghost use Rattle.block_machine.specs.Steps.{Step, Accept, Issue, Age, Again, Answer, Release, Store, Load, May, NoneKept, older, after_step, stays, MayMove};
 ghost use Rattle.block_machine.specs.declared.due.Mode.{Mode};
 ghost use Rattle.agreement.specs.Agrees.{Agrees, IsDiskOf, SameMemory, SameSectors, HaveSlots, AreUnarmed, AreApart};
-ghost use Rattle.agreement.specs.Driver.{MayStore, LeavesUses, LeavesFree, Known, Knows, IsBacked, ByDevice, IsPrepared, IsOwnPrepared, EndsWith, HasNoSlot, Forgets, ForgetsKept, serving, parking, freeing, idle, IsWrittenBack, KeepsFreeBits, MissesTable, MissesScratch};
+ghost use Rattle.agreement.specs.Driver.{MayStore, LeavesUses, LeavesFree, Known, Knows, IsBacked, ByDevice, Goes, IsPrepared, IsOwnPrepared, EndsWith, HasNoSlot, Forgets, ForgetsKept, serving, parking, freeing, idle, IsWrittenBack, KeepsFreeBits, MissesTable, MissesScratch};
 ghost use Rattle.agreement.specs.Follows.{Follows};
 ghost use Rattle.agreement.specs.Places.{list_of, scratch_of, received_of};
-ghost use Rattle.agreement.specs.Witness.{PreparedIsKnown, FirstIsKnown, KeptIsKnown, ParkedIsKnown, OwnIsKnown};
+ghost use Rattle.agreement.specs.Trimmed.{TrimIsKnown};
+ghost use Rattle.agreement.specs.Witness.{PreparedIsKnown, FirstIsKnown, KeptIsKnown, ParkedIsKnown, EndedIsKnown, OwnIsKnown};
+ghost use Rattle.agreement.specs.Served.{TwoAreKnown};
 ghost use Rattle.agreement.specs.Slots.{Use, Free, Own, Serves, Uses, put, serving_count, Told, HasBlock, IsOver, op_of, IsMove};
 ghost use Rattle.agreement.specs.Spares.{IsFurther, AllFurther, SparesBook, IsOfAnother};
 ghost use Rattle.agreement.specs.Tape.{OneAtMost};
@@ -138,6 +140,33 @@ pub fn backing_composes()
         → ByDevice mid new (after m early) late → ByDevice old new m (late ++ early) }
     ensures parts { (old mid new : Device) (m : Machine) (early late : List Step) → IsBacked old mid m early
         → IsBacked mid new (after m early) late → IsBacked old new m (late ++ early) }
+{}
+
+/// A driver's moves compose in one form. It goes by no step, where it knows the same device, and by one stretch after
+/// another. So it does by a step of its own; by what the device makes alone; by an access that ends with a step of its
+/// own; and by what any access or part of a call adds. And what goes so from each machine that agrees is a part of a
+/// call. The machine that is gone to is reached.
+pub fn going_composes()
+    ensures none { (k : Known) (m : Machine) → Knows m k → Goes k m [] k }
+    ensures more { (a b c : Known) (m : Machine) (early late : List Step) → Goes a m early b → Goes b (after m early) late c
+        → Goes a m (late ++ early) c }
+    ensures still { (k later : Known) (m : Machine) → later.device ≡ k.device → Knows m later → Goes k m [] later }
+    ensures own { (k later : Known) (m : Machine) (step : Step) → (IsDevices step → ⊥) → May m step → later.device ≡ k.device
+        → Knows (after_step m step) later → Goes k m (step ∷ []) later }
+    ensures device { (k later : Known) (m : Machine) (steps : List Step) → AllMay m steps
+        → ByDevice k.device later.device m steps → Knows (after m steps) later → Goes k m steps later }
+    ensures follows { (k : Known) (m : Machine) (new : Device) → Knows m k → (f : Follows k.uses m k.device new)
+        → Goes k m f.steps (record k { device = new }) }
+    ensures ends { (k later : Known) (m : Machine) (step : Step) → (e : EndsWith k m step later)
+        → Goes k m (step ∷ e.steps) later }
+    ensures access { (k later : Known) (m : Machine) → AddsSteps Knows k later (ByDevice k.device later.device) → IsReached m
+        → Knows m k → (steps : List Step) × AllDevices steps × Goes k m steps later }
+    ensures part { (k later : Known) (m : Machine) → AddsSteps Knows k later (IsBacked k.device later.device) → IsReached m
+        → Knows m k → (steps : List Step) × Goes k m steps later }
+    ensures adds { (k later : Known) → ((m : Machine) → IsReached m → Knows m k → (steps : List Step) × Goes k m steps later)
+        → AddsSteps Knows k later (IsBacked k.device later.device) }
+    ensures reached { (k later : Known) (m : Machine) (steps : List Step) → IsReached m → Goes k m steps later
+        → IsReached (after m steps) }
 {}
 
 /// A request that is accepted changes nothing of what the driver knows.
@@ -484,6 +513,23 @@ pub fn a_parked_read_agrees()
 /// driver has taken it from there, the frames may be given back.
 pub fn a_kept_read_agrees()
     ensures { KeptIsKnown }
+{}
+
+/// There is one whose device has done the read: its command has ended, and the request is unanswered still.
+pub fn an_ended_read_agrees()
+    ensures { EndedIsKnown }
+{}
+
+/// There is an adapter with two queued reads, into frames that are apart: both are issued, each by a write that is
+/// permitted, and the device has taken the one while the other waits. A machine agrees with its driver.
+pub fn two_queued_reads_agree()
+    ensures { TwoAreKnown }
+{}
+
+/// There is an adapter with a trim, which is issued by a write that is permitted, taken, and done to its end; and a
+/// machine agrees with it all the way.
+pub fn a_trim_agrees()
+    ensures { TrimIsKnown }
 {}
 
 /// There is an adapter with a command of the driver's own, IDENTIFY DEVICE: prepared, issued by a write that is permitted, and over

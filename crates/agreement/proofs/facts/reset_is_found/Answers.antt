@@ -1,5 +1,5 @@
 use Rattle.agreement.proofs.Resetting.{reset_begins, ghc_told, reset_leaves, reset_clears}
-use Rattle.agreement.proofs.Halting.{reset_is_found, reset_stays, reset_reads, reset_writes, idle_reset}
+use Rattle.agreement.proofs.Halting.{reset_is_found, reset_stays, reset_reads, reset_writes, idle_reset, reset_idle}
 use Rattle.agreement.proofs.facts.reset_is_found.Goals as goal
 
 pub returns-clause-reset : goal.returns-clause-reset
@@ -28,3 +28,6 @@ returns-clause-left c = reset_leaves
 
 pub returns-clause-cleared : goal.returns-clause-cleared
 returns-clause-cleared c = reset_clears
+
+pub returns-clause-is_idle : goal.returns-clause-is_idle
+returns-clause-is_idle c = reset_idle

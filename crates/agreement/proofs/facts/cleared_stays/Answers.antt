@@ -1,0 +1,11 @@
+use Rattle.agreement.proofs.Running.{steps_clear, access_clear, shows_still}
+use Rattle.agreement.proofs.facts.cleared_stays.Goals as goal
+
+pub returns-clause-steps : goal.returns-clause-steps
+returns-clause-steps c = steps_clear
+
+pub returns-clause-access : goal.returns-clause-access
+returns-clause-access c = access_clear
+
+pub returns-clause-none : goal.returns-clause-none
+returns-clause-none c = shows_still

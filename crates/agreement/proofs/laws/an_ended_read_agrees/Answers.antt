@@ -1,0 +1,5 @@
+use Rattle.agreement.proofs.Ended.{ended_is_known}
+use Rattle.agreement.proofs.laws.an_ended_read_agrees.Goals as goal
+
+pub returns : goal.returns
+returns c = ended_is_known

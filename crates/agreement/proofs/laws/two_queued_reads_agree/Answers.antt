@@ -1,0 +1,5 @@
+use Rattle.agreement.proofs.Queueing.{two_are_known}
+use Rattle.agreement.proofs.laws.two_queued_reads_agree.Goals as goal
+
+pub returns : goal.returns
+returns c = two_are_known

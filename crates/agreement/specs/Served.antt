@@ -1,0 +1,86 @@
+-- What the driver of two queued reads knows, that are served at once (this project's own).
+use Rattle.std.specs.Prelude.{ℕ, true, ◌≡◌, ◌*◌, List, [], ◌∷◌, Some, Contains, replicate}
+use Rattle.ata_types.specs.declared.request.Frame.{Frame}
+use Rattle.ata_types.specs.declared.request.RequestId.{RequestId}
+use Rattle.hba_regs.specs.declared.reg.Reg.TheVariants.{Px}
+use Rattle.hba_regs.specs.declared.reg.PortReg.TheVariants.{Sact, Ci}
+use Rattle.adapter.specs.Access.{written}
+use Rattle.adapter.specs.Commands.{Meaning, is_queued}
+use Rattle.adapter.specs.Device.{Taken, Device}
+use Rattle.adapter.specs.FirstRead.{first_memory}
+use Rattle.adapter.specs.Memory.{patched}
+use Rattle.adapter.specs.Rules.{MayWrite, Stays}
+use Rattle.adapter.specs.Says.{cut}
+use Rattle.adapter.specs.Steps.{Steps, after}
+use Rattle.adapter.specs.Steps.Step.{Fetch}
+use Rattle.adapter.specs.declared.command.Operation.TheVariants.{ReadQueued}
+use Rattle.block_machine.specs.Histories.{IsReached}
+use Rattle.block_machine.specs.State.{Pending, Machine}
+use Rattle.block_machine.specs.Steps.{MayMove}
+use Rattle.agreement.specs.Agrees.{port_at}
+use Rattle.agreement.specs.Driver.{Known, Knows}
+use Rattle.agreement.specs.Slots.{Free, Serves, put}
+use Rattle.agreement.specs.Witness.{first_id, ready_with}
+
+-- request 2
+abbrev pub second_id : RequestId
+second_id = record { 0 = 2 }
+
+-- READ FPDMA QUEUED of eight sectors, and its FIS in this slot (a first sector below 256)
+abbrev pub queued_read : ℕ → Meaning
+queued_read first = record { operation = ReadQueued; first = first; count = 8 }
+
+abbrev pub queued_bytes : ℕ → ℕ → List ℕ
+queued_bytes slot first = 0x27 ∷ 0x80 ∷ 0x60 ∷ 8 ∷ first ∷ 0 ∷ 0 ∷ 0x40 ∷ 0 ∷ 0 ∷ 0 ∷ 0 ∷ 8 * slot ∷ replicate 7 0
+
+-- the header of slot 1, but for its zeros at the end: no W, one PRD, and a table at 1400h
+abbrev pub second_header : List ℕ
+second_header = 5 ∷ 0 ∷ 1 ∷ 0 ∷ 0 ∷ 0 ∷ 0 ∷ 0 ∷ 0 ∷ 0x14 ∷ 0 ∷ 0 ∷ []
+
+-- its PRD: 4096 bytes at 29000h, where frame 41 begins
+abbrev pub second_prd : List ℕ
+second_prd = 0 ∷ 0x90 ∷ 2 ∷ 0 ∷ 0 ∷ 0 ∷ 0 ∷ 0 ∷ 0 ∷ 0 ∷ 0 ∷ 0 ∷ 0xff ∷ 0x0f ∷ 0 ∷ 0 ∷ []
+
+-- In the first read's memory: slot 0 has a queued read from sector 100 on into frame 40, and slot 1 one from sector
+-- 108 on into frame 41.
+unfoldable pub two_memory : ℕ → ℕ
+two_memory = patched (patched (patched (patched first_memory 0x1000 (queued_bytes 0 100)) 32 second_header) 0x1400 (queued_bytes 1 108)) 0x1480 second_prd
+
+-- Such a device: PxSACT was written with bits 0 and 1, then PxCI with bit 0, and then with bit 1; and slot 0's command
+-- is taken.
+abbrev pub two_armed : Device
+two_armed = written (Px (port_at 0) Sact) 3 (ready_with two_memory)
+
+abbrev pub one_issued : Device
+one_issued = written (Px (port_at 0) Ci) 1 two_armed
+
+abbrev pub two_issued : Device
+two_issued = written (Px (port_at 0) Ci) 2 one_issued
+
+abbrev pub one_taken : Device
+one_taken = after (Fetch 0 0 (queued_read 100) (cut 0x28000 8)) two_issued
+
+-- slot 0 of port 0 serves request 1, and slot 1 request 2
+abbrev pub two_known : Device → Known
+two_known d = record { uses = put (put (λ port slot. Free) 0 0 (Serves first_id)) 0 1 (Serves second_id); parked = λ port. []; device = d }
+
+-- A machine is reached that has issued both requests, which have no frame in common. Each write of PxCI is permitted;
+-- the machine agrees with the driver when both commands are issued, and when the device has taken the one, which is
+-- queued, while the other waits.
+pub record TwoAreKnown : Type 0 where
+  pub machine : Machine
+  pub reached : IsReached machine
+  pub first : Pending
+  pub second : Pending
+  pub moves : MayMove machine first × MayMove machine second
+  pub ids : (first.request.id ≡ first_id) × (second.request.id ≡ second_id)
+  pub apart : (frame : Frame) → Contains first.request.asked.frames.items frame → Contains second.request.asked.frames.items frame → ⊥
+  pub first_permitted : Stays (MayWrite (Px (port_at 0) Ci) 1) two_armed
+  pub second_permitted : Stays (MayWrite (Px (port_at 0) Ci) 2) one_issued
+  pub issued : Knows machine (two_known two_issued)
+  pub takes : Steps two_issued one_taken
+  pub knows : Knows machine (two_known one_taken)
+  pub command : Taken
+  pub taken : (one_taken.port 0).taken 0 ≡ Some command
+  pub queued : is_queued command.meaning.operation ≡ true
+  pub waits : (one_taken.port 0).ci 1 ≡ true
