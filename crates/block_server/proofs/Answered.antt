@@ -41,7 +41,7 @@ use Rattle.dma_frames.specs.Table.{Table, lent_to, LendsOnly}
 use Rattle.block_server.specs.Book.{IsKept, IsAccepted, IsEarlier}
 use Rattle.block_server.specs.Calls.{state_of, done_reply}
 use Rattle.block_server.specs.Followed.{IsDrivenBy, LeavesChanges, LeavesErrors, AnyUse, IsFollowed, FindsEnd, FindsRead, IssuesFirst}
-use Rattle.block_server.specs.History.{Begins, Stands, Ties, GoesWell, IsEntry, IsBook, uses_of, served_id, known_of, ports_of, plain_mode, no_evidence}
+use Rattle.block_server.specs.History.{Begins, Stands, Ties, IsAsShown, GoesWell, IsEntry, IsBook, uses_of, served_id, known_of, ports_of, plain_mode, no_evidence}
 use Rattle.block_server.specs.Port.{IsHealthy}
 use Rattle.block_server.specs.Told.{IsUnharmed}
 use Rattle.block_server.specs.View.{ServerView}
@@ -159,14 +159,14 @@ not_unplugged h = cc
 module _ {A : Type 0} (device : A → Device) (s : ServerView A) where
   -- steps of a service lead to where the server stands after it
   ends : (new : ServerView A) (replies : List Reply) (answers : List (Pending × Outcome)) → (new.issued ≡ false → new.book ≡ []) → (new.issued ≡ true → s.state ≡ Ready) →
-      ((e : Pending) (o : Outcome) → Contains answers (e, o) → (o ≡ Ok) × (s.state ≡ Ready)) → IsDrivenBy LeavesChanges (device s.adapter) (device new.adapter) →
+      ((e : Pending) (o : Outcome) → Contains answers (e, o) → (o ≡ Ok) × (s.state ≡ Ready)) → IsDrivenBy LeavesChanges (device s.adapter) (device new.adapter) → IsAsShown s.state (device new.adapter) →
       (first : Instant Device) (past : List (Happening Device DeviceStep)) → Leads Begins Ties (Stands device) first past s → (steps : List Step) →
       AllMay (now first past).moment.machine steps → AreServices (now first past).moment (ports_of s) answers steps → Tells steps replies →
       (GoesWell (device s.adapter) (device new.adapter) → (port : Port) → AnswersEnded (now first past).moment.machine steps port) →
       IsBacked (device s.adapter) (device new.adapter) (now first past).moment.machine steps →
       Stands device (record { device = device new.adapter; moment = record { machine = after (now first past).moment.machine steps; ports = ports_of s } }) new →
       (h : Happening Device DeviceStep) × (h.event.ask ≡ Service) × (h.event.said ≡ Served replies) × Leads Begins Ties (Stands device) first (h ∷ past) new
-  ends new replies answers due ready calm driven first past leads steps may services tells ended backed stands =
+  ends new replies answers due ready calm driven shown first past leads steps may services tells ended backed stands =
       let old : Instant Device = now first past in
       let at : Stands device old s = leads.stands in
       let m : Machine = after old.moment.machine steps in (
@@ -203,6 +203,7 @@ module _ {A : Type 0} (device : A → Device) (s : ServerView A) where
               refused = λ r. absurd (false≢true r);
               came = subst (λ (d : Device). IsDrivenBy LeavesChanges d (device new.adapter)) (sym at.device_is) driven;
               evidence = record { faults = refl; lost = refl; stopped = refl; stuck = refl };
+              port = shown;
               heeds = λ well. (
                 names_none,
                 service_heeds DeviceStep old.moment (record { machine = m; ports = ports_of s }) steps
@@ -231,10 +232,10 @@ module _ {A : Type 0} (device : A → Device) (s : ServerView A) where
 
   module _ (places : ℕ) (inv : IsKept device s places) where
     -- the device alone did steps
-    pub nothing_adds : (adapter : A) → IsDrivenBy LeavesChanges (device s.adapter) (device adapter) → Unanswered (device adapter) →
+    pub nothing_adds : (adapter : A) → IsDrivenBy LeavesChanges (device s.adapter) (device adapter) → IsAsShown s.state (device adapter) → Unanswered (device adapter) →
         AddsSteps Knows (known_of device s) (record (known_of device s) { device = device adapter }) (ByDevice (device s.adapter) (device adapter)) →
         Adds Begins Ties (Stands device) s (record s { adapter = adapter }) Service (Served [])
-    nothing_adds adapter driven unanswered goes = record {
+    nothing_adds adapter driven shown unanswered goes = record {
       adds = λ first past leads.
           let old : Instant Device = now first past in
           let at : Stands device old s = leads.stands in
@@ -242,7 +243,7 @@ module _ {A : Type 0} (device : A → Device) (s : ServerView A) where
           let own : AllDevices more.0 = more.3.only in
           let services : AreServices old.moment (ports_of s) [] more.0 =
           subst (λ (steps : List Step). AreServices old.moment (ports_of s) [] steps) (append-nil more.0) (devices_then old.moment (ports_of s) [] [] more.0 own (no_steps old.moment (ports_of s))) in
-          ends (record s { adapter = adapter }) [] [] inv.due inv.ready (λ e o h. absurd (contains_none (e, o) h)) driven first past leads more.0 more.1 services
+          ends (record s { adapter = adapter }) [] [] inv.due inv.ready (λ e o h. absurd (contains_none (e, o) h)) driven shown first past leads more.0 more.1 services
           (none_told more.0 services.answers_are)
           (λ well port e h here ended.
           let was = ended_served device old s at (history_reaches Begins Ties first past leads.history) e h ended in
@@ -259,12 +260,12 @@ module _ {A : Type 0} (device : A → Device) (s : ServerView A) where
         by b (e ∷ book) is some = (e.id, ap (λ (c : Bool). served_id c (e ∷ book)) is)
 
     -- its read isn't done
-    pub unfinished_adds : s.issued ≡ true → (adapter : A) → Unanswered (device adapter) → (mid : Device) (done : Bool) → IsFollowed LeavesChanges AnyUse (device s.adapter) mid → FindsRead done mid (device adapter) →
+    pub unfinished_adds : s.issued ≡ true → (adapter : A) → IsAsShown s.state (device adapter) → Unanswered (device adapter) → (mid : Device) (done : Bool) → IsFollowed LeavesChanges AnyUse (device s.adapter) mid → FindsRead done mid (device adapter) →
         Adds Begins Ties (Stands device) s (record s { adapter = adapter }) Service (Served [])
-    unfinished_adds issued adapter unanswered mid done looks reads =
+    unfinished_adds issued adapter shown unanswered mid done looks reads =
         let served = served_one issued in
         let goes = found_adds served.0 (device s.adapter) mid (device adapter) done looks reads in
-        nothing_adds adapter (by_then looks.driven (by_less reads.driven)) unanswered (subst (λ (o : Option RequestId). AddsSteps Knows (known_at o (device s.adapter)) (known_at o (device adapter)) (ByDevice (device s.adapter) (device adapter))) (sym served.1)
+        nothing_adds adapter (by_then looks.driven (by_less reads.driven)) shown unanswered (subst (λ (o : Option RequestId). AddsSteps Knows (known_at o (device s.adapter)) (known_at o (device adapter)) (ByDevice (device s.adapter) (device adapter))) (sym served.1)
         (record { adds = λ m r k. let y = goes.adds m r k in (y.0, y.1, y.2, y.3.device) }))
 
     module _ (ready : s.state ≡ Ready) (issued : s.issued ≡ true) (e : Accepted) (rest : List Accepted) (book_is : s.book ≡ e ∷ rest) (table : Table) (lends : LendsOnly s.table table e.loan.frames None) where
@@ -408,10 +409,10 @@ module _ {A : Type 0} (device : A → Device) (s : ServerView A) where
 
         -- ---- and the next is issued
 
-        event : (adapter : A) (again : Bool) → (again ≡ false → rest ≡ []) → (again ≡ true → rest ≢ []) → (issues : IssuesFirst rest middle (device adapter)) →
+        event : (adapter : A) (again : Bool) → IsAsShown s.state (device adapter) → (again ≡ false → rest ≡ []) → (again ≡ true → rest ≢ []) → (issues : IssuesFirst rest middle (device adapter)) →
             (h : Happening Device DeviceStep) × (h.event.ask ≡ Service) × (h.event.said ≡ Served (done_reply e ∷ []))
             × Leads Begins Ties (Stands device) first (h ∷ past) (record s { adapter = adapter; table = table; book = rest; issued = again })
-        event adapter again none some issues =
+        event adapter again shown none some issues =
             let next = next_issued s answered middle (device adapter) again rest ready (reached_more found (Answer x Ok ∷ []) found_reached (tt, here)) answered_knows none_kept (ordered_rest e rest ordered) answered_book none some issues in
             let all : AreServices old.moment (ports_of s) ((x, Ok) ∷ []) (next.steps ++ base) = next.services old.moment ((x, Ok) ∷ []) base (λ id h. quiet id h) services in
             let after_all : after m (next.steps ++ base) ≡ after answered next.steps = after-append m next.steps base in
@@ -419,6 +420,7 @@ module _ {A : Type 0} (device : A → Device) (s : ServerView A) where
             ends new (done_reply e ∷ []) ((x, Ok) ∷ []) none (λ _. ready)
             (λ y o h. ⊎_elim (λ (q : (y, o) ≡ (x, Ok)). (ap (λ (a : Pending × Outcome). a.1) q, ready)) (λ i. absurd (contains_none (y, o) i)) (contains_cases (x, Ok) [] (y, o) h))
             (by_then driven (by_less (issues_driven rest middle (device adapter) issues)))
+            shown
             first past leads (next.steps ++ base) (may-append m next.steps base (more.1, here) next.may) all
             (one_told x Ok (next.steps ++ base) all.answers_are (done_reply e) (λ i. record { id = sym entry.id i; client = sym entry.client i; outcome = Ok }))
             (λ well port y h on ended_then. (x, had_ended y h ended_then, all.given x Ok (contains_here (x, Ok) [] (x, Ok) refl)))
@@ -438,6 +440,6 @@ module _ {A : Type 0} (device : A → Device) (s : ServerView A) where
 
       -- the first was done, and the next is issued
       pub answering_adds : (middle : Device) → IsDrivenBy LeavesChanges (device s.adapter) middle → AddsSteps Knows (known_at (Some e.id) (device s.adapter)) (known_at (Some e.id) middle) (FindsEnd true e.id (device s.adapter) middle) →
-          (adapter : A) (again : Bool) → (again ≡ false → rest ≡ []) → (again ≡ true → rest ≢ []) → IssuesFirst rest middle (device adapter) →
+          (adapter : A) (again : Bool) → IsAsShown s.state (device adapter) → (again ≡ false → rest ≡ []) → (again ≡ true → rest ≢ []) → IssuesFirst rest middle (device adapter) →
           Adds Begins Ties (Stands device) s (record s { adapter = adapter; table = table; book = rest; issued = again }) Service (Served (done_reply e ∷ []))
-      answering_adds middle driven goes adapter again none some issues = record { adds = λ first past leads. event first past leads middle driven goes adapter again none some issues }
+      answering_adds middle driven goes adapter again shown none some issues = record { adds = λ first past leads. event first past leads middle driven goes adapter again shown none some issues }

@@ -30,6 +30,7 @@ use Rattle.block_server.specs.Setup.{SetupView, IsSetup, IsClient, HasClientFram
 use Rattle.block_server.specs.View.{ServerView}
 use Rattle.block_server.specs.declared.types.Accepted.{Accepted}
 use Rattle.block_server.proofs.Making.{made}
+use Rattle.block_server.proofs.Shown.{brought_shown}
 
 -- ---- the machine of an idle device
 
@@ -147,7 +148,7 @@ module _ {A : Type 0} (device : A → Device) (adapter : A) (table : Table) (sta
         subst P (sym none) (
           record { device = device adapter; moment = record { machine = later; ports = ports_of (new []) } },
           record {
-            history = ((begun, brought_fit (new []) mid (device adapter) brought), x.2);
+            history = ((begun, brought_fit (new []) mid (device adapter) brought), record { knows = x.2; port = brought_shown state mid (device adapter) brought });
             stands = record {
               device_is = refl;
               ports_are = refl;

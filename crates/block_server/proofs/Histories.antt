@@ -20,7 +20,7 @@ use Rattle.agreement.specs.Spares.{AllFurther}
 use Rattle.agreement.proofs.Adding.{device_adds, nothing_backed}
 use Rattle.agreement.proofs.Sparing.{steps_spare}
 use Rattle.block_server.specs.Calls.{StepsDevice}
-use Rattle.block_server.specs.History.{Begins, Stands, Ties, IsEntry, IsBook, known_of, ports_of, no_evidence}
+use Rattle.block_server.specs.History.{Begins, Stands, Ties, IsAsShown, IsEntry, IsBook, known_of, ports_of, no_evidence}
 use Rattle.block_server.specs.View.{ServerView}
 use Rattle.block_server.specs.declared.types.Accepted.{Accepted}
 use Rattle.block_server.proofs.Heeding.{names_none, spared}
@@ -102,9 +102,9 @@ module _ {A : Type 0} (device : A → Device) where
         next = spares.next ∙ at.next;
       }
 
-  pub step_adds : (s : ServerView A) (adapter : A) (step : DeviceStep) (done : Bool) → StepsDevice device s (record s { adapter = adapter }) step done
+  pub step_adds : (s : ServerView A) (adapter : A) (step : DeviceStep) (done : Bool) → IsAsShown s.state (device adapter) → StepsDevice device s (record s { adapter = adapter }) step done
       → Adds Begins Ties (Stands device) s (record s { adapter = adapter }) (Told step) (Stepped done)
-  step_adds s adapter step done told = record { adds = adds done told }
+  step_adds s adapter step done shown told = record { adds = adds done told }
     where
       adds : (done : Bool) → StepsDevice device s (record s { adapter = adapter }) step done → (first : Instant Device) (past : List (Happening Device DeviceStep)) → Leads Begins Ties (Stands device) first past s
           → (h : Happening Device DeviceStep) × (h.event.ask ≡ Told step) × (h.event.said ≡ Stepped done) × Leads Begins Ties (Stands device) first (h ∷ past) (record s { adapter = adapter })
@@ -137,6 +137,7 @@ module _ {A : Type 0} (device : A → Device) where
                   came = subst (λ (d : Device). Steps d (device adapter)) (sym at.device_is) told.steps;
                   evidence = record { faults = refl; lost = refl; stopped = refl; stuck = refl };
                   heeds = λ well. (names_none, spared);
+                  port = shown;
                   uses = (known_of device s).uses;
                   parked = (known_of device s).parked;
                   knows = more.2;
@@ -171,6 +172,7 @@ module _ {A : Type 0} (device : A → Device) where
                   came = subst (λ (d : Device). Steps old.device d) (at.device_is ∙ sym same) (Steps-refl old.device);
                   evidence = record { faults = refl; lost = refl; stopped = refl; stuck = refl };
                   heeds = λ well. (names_none, spared);
+                  port = shown;
                   uses = (known_of device s).uses;
                   parked = (known_of device s).parked;
                   knows = subst (λ (d : Device). Knows old.moment.machine (record (known_of device s) { device = d })) (sym same) at.knows;

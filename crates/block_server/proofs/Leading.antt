@@ -21,10 +21,11 @@ use Rattle.agreement.specs.Driver.{IsBacked, EndsWith}
 use Rattle.agreement.proofs.Adding.{nothing_backed}
 use Rattle.dma_frames.specs.Table.{owner_of, lent_to}
 use Rattle.block_server.specs.Followed.{LeavesErrors, LoadsBytes}
-use Rattle.block_server.specs.History.{Begins, Stands, Ties, CameBy, is_refusal, known_of, ports_of, no_evidence}
+use Rattle.block_server.specs.History.{Begins, Stands, Ties, IsAsShown, CameBy, is_refusal, known_of, ports_of, no_evidence}
 use Rattle.block_server.specs.View.{ServerView}
 use Rattle.block_server.proofs.Driving.{by_none}
 use Rattle.block_server.proofs.Heeding.{names_none, spared}
+use Rattle.block_server.proofs.Shown.{still_shown}
 use Rattle.block_server.proofs.Histories.{devices_belong, devices_last, devices_lawful, history_fit, ports_same, disks_same, stands_on}
 
 -- ---- an event
@@ -75,11 +76,12 @@ module _ {A : Type 0} (device : A → Device) where
       → AllLawful (now first past).moment no_evidence (ports_of new) steps
       → IsAnswered ask said (now first past).moment no_evidence steps (record { machine = after (now first past).moment.machine steps; ports = ports_of new })
       → CameBy ask (device s.adapter) (device new.adapter)
+      → IsAsShown new.state (device new.adapter)
       → Heeds ask (now first past).moment no_evidence steps (record { machine = after (now first past).moment.machine steps; ports = ports_of new })
       → IsBacked (device s.adapter) (device new.adapter) (now first past).moment.machine steps
       → Stands device (record { device = device new.adapter; moment = record { machine = after (now first past).moment.machine steps; ports = ports_of new } }) new
       → (h : Happening Device DeviceStep) × (h.event.ask ≡ ask) × (h.event.said ≡ said) × Leads Begins Ties (Stands device) first (h ∷ past) new
-  lead_on first past s new ask said steps leads other still same may belong last lawful answered came heeds backed stands =
+  lead_on first past s new ask said steps leads other still same may belong last lawful answered came shown heeds backed stands =
       let old : Instant Device = now first past in
       let at : Stands device old s = leads.stands in
       let ports : old.moment.ports ≡ ports_of new = at.ports_are ∙ sym same in (
@@ -105,6 +107,7 @@ module _ {A : Type 0} (device : A → Device) where
               came = subst (λ (d : Device). CameBy ask d (device new.adapter)) (sym at.device_is) came;
               evidence = record { faults = refl; lost = refl; stopped = refl; stuck = refl };
               heeds = λ well. (names_none, heeds);
+              port = shown;
               uses = (known_of device new).uses;
               parked = (known_of device new).parked;
               knows = stands.knows;
@@ -124,9 +127,9 @@ module _ {A : Type 0} (device : A → Device) where
 
   module _ (s : ServerView A) (adapter : A) (client : ClientId) (frame : Frame) (offset : ℕ) where
     loads_on : (count : ℕ) (bytes : List ℕ) → length bytes ≡ count → IsOpen (owner_of s.table) (lent_to s.table) client frame offset count → LoadsBytes client frame offset bytes (device s.adapter) (device adapter)
-        → (first : Instant Device) (past : List (Happening Device DeviceStep)) → Leads Begins Ties (Stands device) first past s
+        → IsAsShown s.state (device adapter) → (first : Instant Device) (past : List (Happening Device DeviceStep)) → Leads Begins Ties (Stands device) first past s
         → (h : Happening Device DeviceStep) × (h.event.ask ≡ LoadAt client frame offset count) × (h.event.said ≡ Loaded (Ok bytes)) × Leads Begins Ties (Stands device) first (h ∷ past) (record s { adapter = adapter })
-    loads_on count bytes long opens followed first past leads =
+    loads_on count bytes long opens followed shown first past leads =
         let old : Instant Device = now first past in
         let at : Stands device old s = leads.stands in
         let here : IsOpen old.moment.machine.owner old.moment.machine.lent client frame offset count =
@@ -142,13 +145,14 @@ module _ {A : Type 0} (device : A → Device) where
         (devices_lawful old.moment no_evidence (ports_of s) x.steps x.only)
         (here, ap (λ (rest : List (List ℕ)). bytes ∷ rest) (devices_transfer x.steps x.only), ports_same old.moment.ports (ports_of s) at.ports_are)
         followed.driven
+        shown
         spared
         x.backed
         (stands_on device old s adapter x.steps at x.only x.knows)
 
     pub load_adds : (count : ℕ) (bytes : List ℕ) → length bytes ≡ count → IsOpen (owner_of s.table) (lent_to s.table) client frame offset count → LoadsBytes client frame offset bytes (device s.adapter) (device adapter)
-        → Adds Begins Ties (Stands device) s (record s { adapter = adapter }) (LoadAt client frame offset count) (Loaded (Ok bytes))
-    load_adds count bytes long opens followed = record { adds = loads_on count bytes long opens followed }
+        → IsAsShown s.state (device adapter) → Adds Begins Ties (Stands device) s (record s { adapter = adapter }) (LoadAt client frame offset count) (Loaded (Ok bytes))
+    load_adds count bytes long opens followed shown = record { adds = loads_on count bytes long opens followed shown }
 
     refuses_on : (count : ℕ) (fault : MemFault) → IsFirstMemFault (owner_of s.table) (lent_to s.table) client frame offset count fault
         → (first : Instant Device) (past : List (Happening Device DeviceStep)) → Leads Begins Ties (Stands device) first past s
@@ -163,6 +167,7 @@ module _ {A : Type 0} (device : A → Device) where
           ports_same old.moment.ports (ports_of s) at.ports_are,
         )
         (by_none LeavesErrors (device s.adapter))
+        (still_shown device first past s leads)
         spared
         (nothing_backed (device s.adapter) old.moment.machine)
         (stands_on device old s s.adapter [] at tt at.knows)

@@ -31,6 +31,7 @@ mod Sending
 mod Bringing
 mod Driving
 mod Heeding
+mod Shown
 mod Histories
 mod Leading
 mod Submitting

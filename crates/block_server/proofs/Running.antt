@@ -20,6 +20,7 @@ use Rattle.block_server.specs.declared.types.Event.{Event}
 use Rattle.block_server.specs.declared.types.Said.{Said}
 use Rattle.block_server.proofs.Driving.{by_none}
 use Rattle.block_server.proofs.Heeding.{spared}
+use Rattle.block_server.proofs.Shown.{still_shown}
 use Rattle.block_server.proofs.Histories.{ports_same, stands_on}
 use Rattle.block_server.proofs.Leading.{lead_on}
 
@@ -68,6 +69,7 @@ module _ {A : Type 0} (device : A → Device) where
           lead_on device first past s s (State port) (Shown state) [] leads refl (λ r. absurd (false≢true r)) refl tt tt tt tt
           (is ∙ ap (λ (ports : Ports). ports.state port) (sym at.ports_are), refl, ports_same old.moment.ports (ports_of s) at.ports_are)
           (by_none LeavesErrors (device s.adapter))
+          (still_shown device first past s leads)
           spared
           (nothing_backed (device s.adapter) old.moment.machine)
           (stands_on device old s s.adapter [] at tt at.knows)

@@ -47,12 +47,13 @@ use Rattle.dma_frames.specs.Table.{Table, owner_of, lent_to, LendsOnly}
 use Rattle.block_server.specs.Book as book
 use Rattle.block_server.specs.Calls.{situation_of, accepted_as}
 use Rattle.block_server.specs.Followed.{LeavesErrors, IssuesRead}
-use Rattle.block_server.specs.History.{Begins, Ties, Stands, IsEntry, IsBook, plain_mode, ports_of, known_of, uses_of, served_id, no_evidence}
+use Rattle.block_server.specs.History.{IsAsShown, Begins, Ties, Stands, IsEntry, IsBook, plain_mode, ports_of, known_of, uses_of, served_id, no_evidence}
 use Rattle.block_server.specs.View.{ServerView}
 use Rattle.block_server.specs.declared.types.Accepted.{Accepted}
 use Rattle.block_server.proofs.Accepting as accepting
 use Rattle.block_server.proofs.Driving.{by_none}
 use Rattle.block_server.proofs.Heeding.{spared}
+use Rattle.block_server.proofs.Shown.{still_shown}
 use Rattle.block_server.proofs.Histories.{book_further, ports_same, stands_on}
 use Rattle.block_server.proofs.Leading.{lead_on}
 use Rattle.block_server.proofs.Ruling as ruling
@@ -261,6 +262,7 @@ module _ {A : Type 0} (device : A → Device) (s : ServerView A) (places : ℕ) 
         (tt, fresh) (tt, inr refl) (tt, λ other h i. false≢true h) tt
         (allowed, (request, refl, refl), ports_same old.moment.ports (ports_of s) at.ports_are, λ port ready. none_due true (s.book ++ accepted_as r id ∷ []) next.book (λ e. absurd (false≢true (sym e))) longer port)
         (by_none LeavesErrors (device s.adapter))
+        (still_shown device first past s leads)
         spared
         (own_backed (device s.adapter) m (steps.Accept request) (λ x. x))
         (record {
@@ -277,9 +279,9 @@ module _ {A : Type 0} (device : A → Device) (s : ServerView A) (places : ℕ) 
         })
 
     -- where none is, it is issued
-    sent : s.issued ≡ false → (adapter : A) → IssuesRead (record { first = r.first.0; count = r.count; frames = r.frames.items }) (device s.adapter) (device adapter)
+    sent : s.issued ≡ false → (adapter : A) → IssuesRead (record { first = r.first.0; count = r.count; frames = r.frames.items }) (device s.adapter) (device adapter) → IsAsShown s.state (device adapter)
         → (h : Happening Device DeviceStep) × (h.event.ask ≡ events.Submit r) × (h.event.said ≡ events.Submitted (Ok id)) × Leads Begins Ties (Stands device) first (h ∷ past) (more adapter)
-    sent waits adapter followed =
+    sent waits adapter followed shown =
         let empty : s.book ≡ [] = inv.due waits in
         let none : m.book ≡ [] = subst (λ (es : List Accepted). IsBook s.issued es m.book) empty at.book in
         let alone : next.book ≡ steps.newly_accepted request ∷ [] = ap (λ (es : List Pending). es ++ steps.newly_accepted request ∷ []) none in
@@ -313,6 +315,7 @@ module _ {A : Type 0} (device : A → Device) (s : ServerView A) (places : ℕ) 
           λ port here. subst (λ (es : machine.Machine). NoneDue plain_mode (map unanswered es.book) port) (sym split) (none_due true (s.book ++ accepted_as r id ∷ []) _ (λ no. absurd (false≢true (sym no))) longer port),
         )
         followed.driven
+        shown
         spared
         (backed_then (device s.adapter) (device s.adapter) (device adapter) m (steps.Accept request ∷ []) (steps.Issue plain_mode e ∷ x.steps) (own_backed (device s.adapter) m (steps.Accept request) (λ y. y)) x.backed)
         (subst (λ (n : machine.Machine). Stands device (record { device = device adapter; moment = record { machine = n; ports = ports_of s } }) (more adapter)) (sym split) (record {
@@ -331,9 +334,9 @@ module _ {A : Type 0} (device : A → Device) (s : ServerView A) (places : ℕ) 
   pub waiting_adds : s.issued ≡ true → Adds Begins Ties (Stands device) s (more s.adapter) (events.Submit r) (events.Submitted (Ok id))
   waiting_adds issued = record { adds = λ first past leads. waiting first past leads issued }
 
-  pub sent_adds : s.issued ≡ false → (adapter : A) → IssuesRead (record { first = r.first.0; count = r.count; frames = r.frames.items }) (device s.adapter) (device adapter)
+  pub sent_adds : s.issued ≡ false → (adapter : A) → IssuesRead (record { first = r.first.0; count = r.count; frames = r.frames.items }) (device s.adapter) (device adapter) → IsAsShown s.state (device adapter)
       → Adds Begins Ties (Stands device) s (more adapter) (events.Submit r) (events.Submitted (Ok id))
-  sent_adds waits adapter followed = record { adds = λ first past leads. sent first past leads waits adapter followed }
+  sent_adds waits adapter followed shown = record { adds = λ first past leads. sent first past leads waits adapter followed shown }
 
 -- the book as it is kept: the loan is of the request's frames
 pub entries_are : (old : List Accepted) (r : Request) (id : RequestId) (loan : Lending) (frames : List Frame) (entries : List Accepted) → frames ≡ r.frames.items → loan.frames ≡ frames → loan.request ≡ id
@@ -356,6 +359,7 @@ refused_adds {A} device s r refusal is = record { adds = refuses }
         lead_on device first past s s (events.Submit r) (events.Submitted (Err refusal)) [] leads refl (λ r. refl) refl tt tt tt tt
         (subst (λ (x : refusals.Situation). IsFirstRefusal x r refusal) (sym (situation_is device old s at)) is, refl, ports_same old.moment.ports (ports_of s) at.ports_are)
         (by_none LeavesErrors (device s.adapter))
+        (still_shown device first past s leads)
         spared
         (nothing_backed (device s.adapter) old.moment.machine)
         (stands_on device old s s.adapter [] at tt at.knows)

@@ -1,6 +1,8 @@
 -- The server as a history of the block machine: what it is to the machine between two calls (this project's own).
 use Rattle.std.specs.Prelude.{ℕ, Bool, true, false, ◌≡◌, ◌+◌, ◌==◌, ◌++◌, min, map, reverse, List, [], ◌∷◌, Option, Some, None, Ok, Err}
 use Rattle.std.specs.declared.result.Result.{Result}
+use Rattle.ata_types.specs.declared.PortState.{PortState}
+use Rattle.ata_types.specs.declared.PortState.TheVariants.{Ready}
 use Rattle.ata_types.specs.declared.refusal.MemFault.{MemFault}
 use Rattle.ata_types.specs.declared.request.Frame.{Frame}
 use Rattle.ata_types.specs.declared.request.Op.TheVariants.{Read}
@@ -21,7 +23,7 @@ use Rattle.agreement.specs.Driver.{Known, Knows, IsBacked, idle}
 use Rattle.dma_frames.specs.Table.{owner_of, lent_to}
 use Rattle.block_server.specs.Calls.{state_of}
 use Rattle.block_server.specs.Followed.{IsDrivenBy, LeavesChanges, LeavesErrors}
-use Rattle.block_server.specs.Port.{IsHealthy}
+use Rattle.block_server.specs.Port.{IsHealthy, IsLone, IsRunning, IsResting}
 use Rattle.block_server.specs.Told.{IsUnharmed}
 use Rattle.block_server.specs.View.{ServerView}
 use Rattle.block_server.specs.declared.types.Accepted.{Accepted}
@@ -94,9 +96,15 @@ pub record Stands {A : Type 0} (device : A → Device) (now : Instant Device) (s
 
 -- ---- histories of the server
 
--- what a new server leaves: no slot is used, and the machine has the device's disks and the clients' frames
-abbrev pub Begins : Instant Device → Type 0
-Begins first = Knows first.moment.machine (idle first.device)
+-- Port 0 is as this state says: where it is ready, it runs, and else it rests.
+abbrev pub IsAsShown : PortState → Device → Type 0
+IsAsShown Ready d = IsLone d × IsRunning d
+IsAsShown _ d = IsLone d × IsResting (d.port 0)
+
+-- What a new server leaves: no slot is used, the machine has the device's disks and the clients' frames, and port 0 is as it shows.
+pub record Begins (first : Instant Device) : Type 0 where
+  pub knows : Knows first.moment.machine (idle first.device)
+  pub port : IsAsShown (first.moment.ports.state (port_at 0)) first.device
 
 -- Nothing is given that an answer may rest on. (The other lists, of ports that failed or whose link told of a change, ask something
 -- of a service. They are empty where port 0 goes well, and else left open.)
@@ -143,7 +151,8 @@ pub record GoesWell (old new : Device) : Type 0 where
 
 -- The device's part in a call: accesses, or its own steps, led there, and the tape backs the machine's steps; it did the step that
 -- it was told, and nothing where the call is refused; no answer rests on evidence; where port 0 goes well, the call heeds what it
--- finds: so a service answers what had ended; and after it the machine agrees with a driver of the device.
+-- finds: so a service answers what had ended; and after it port 0 is as it shows, and the machine agrees with a driver of the
+-- device.
 pub record Ties (old : Instant Device) (h : Happening Device DeviceStep) : Type 0 where
   pub came : CameBy h.event.ask old.device h.device
   pub backed : IsBacked old.device h.device old.moment.machine h.event.steps
@@ -152,6 +161,7 @@ pub record Ties (old : Instant Device) (h : Happening Device DeviceStep) : Type 
   pub evidence : RestsOnNone h.event.evidence
   pub heeds : GoesWell old.device h.device → NamesNone h.event.evidence
       × Heeds h.event.ask old.moment h.event.evidence h.event.steps (moment_after old.moment h.event)
+  pub port : IsAsShown (h.event.ports.state (port_at 0)) h.device
   pub uses : Uses
   pub parked : ℕ → List RequestId
   pub knows : Knows (moment_after old.moment h.event).machine (record { uses = uses; parked = parked; device = h.device })

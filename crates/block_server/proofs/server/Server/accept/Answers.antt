@@ -18,6 +18,7 @@ use Rattle.block_server.specs.Calls.{accepted_as}
 use Rattle.block_server.specs.Followed.{IssuesRead}
 use Rattle.block_server.specs.History.{Begins, Ties, Stands}
 use Rattle.block_server.specs.declared.types.Accepted.{Accepted}
+use Rattle.block_server.proofs.Shown.{ready_shown}
 use Rattle.block_server.proofs.Submitting.{entries_are, sent_adds, waiting_adds}
 use Rattle.block_server.proofs.server.Server.accept.Goals as goal
 
@@ -101,7 +102,8 @@ returns-then-not-self-clause-adds g c =
     let entries = entries_are s.book c.args.r.now id c.lend-loan.result c.as_slice.result.now c.push_reserved.new.self.items c.as_slice.ensures.value c.lend-loan.ensures.frames c.lend-loan.ensures.request c.push_reserved.ensures.items in
     subst Here c.self.view_is (subst There (sym entries)
     (sent_adds g.A.Adapter.device s (vec_capacity c.self.inside.book) c.self.invariant c.args.r.now acc id refl c.lend-loan.new.self (subst L c.as_slice.ensures.value c.lend-loan.ensures.lent) c.if-not-self.true c.issue.new.adapter
-    (subst S c.as_slice-then-not-self.ensures.value c.issue.ensures.followed)))
+    (subst S c.as_slice-then-not-self.ensures.value c.issue.ensures.followed)
+    (ready_shown s.state (Some (record { first = c.args.r.now.first.0; count = c.args.r.now.count; frames = c.as_slice-then-not-self.result.now })) (g.A.Adapter.device c.issue.new.adapter) (accepting.is_ready g.A.Adapter.device s (vec_capacity c.self.inside.book) c.self.invariant c.args.r.now acc) c.issue.ensures.serves)))
 
 pub returns-else-not-self-clause-adds : goal.returns-else-not-self-clause-adds
 returns-else-not-self-clause-adds g c =

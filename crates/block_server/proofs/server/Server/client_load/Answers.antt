@@ -16,6 +16,8 @@ use Rattle.block_machine.specs.Events.{LoadAt, Loaded}
 use Rattle.block_machine.specs.Histories.{Adds}
 use Rattle.block_server.specs.History.{Begins, Ties, Stands}
 use Rattle.block_server.proofs.Following.{loading_followed}
+use Rattle.block_server.specs.Book.{served}
+use Rattle.block_server.proofs.Shown.{as_shown}
 use Rattle.block_server.proofs.Leading.{first_foreign, first_lent, first_outside, load_adds, refusal_adds}
 use Rattle.block_server.proofs.server.Server.client_load.Goals as goal
 
@@ -77,4 +79,5 @@ returns-clause-adds g c =
     let P : ServerView g.row.A.Denot → Type 0 = λ v. Adds Begins Ties (Stands g.A.Adapter.device) v (record s { adapter = c.load.new.self }) (LoadAt c.args.client c.args.frame c.args.offset (length c.args.out.now)) (Loaded (Ok c.load.new.out)) in
     subst P c.self.view_is (load_adds g.A.Adapter.device s c.load.new.self c.args.client c.args.frame c.args.offset (length c.args.out.now) c.load.new.out c.load.auto.out
     (frame_opens s.table c.args.frame c.args.client c.args.offset (length c.args.out.now) owner lent (let h = c.if-offset-out.false in omega (arith, h)))
-    (loading_followed _ _ _ _ _ _ c.load.ensures))
+    (loading_followed _ _ _ _ _ _ c.load.ensures)
+    (as_shown s.state (served s.issued s.book) (g.A.Adapter.device c.load.new.self) (invariant_of-self g c).port))

@@ -7,6 +7,7 @@ use Rattle.block_server.specs.View.{ServerView}
 use Rattle.block_server.proofs.Coming.{undisturbed_both}
 use Rattle.block_server.proofs.Going.{goes_then}
 use Rattle.block_server.proofs.Answered.{Unanswered, nothing_adds, unfinished_adds, answering_adds, found_adds}
+use Rattle.block_server.proofs.Shown.{as_shown, ready_shown}
 use Rattle.block_server.proofs.Serviced.{found_goes, services_none, services_first}
 use Rattle.std.specs.List.{All}
 use Rattle.agreement.proofs.Adding.{nothing_backed}
@@ -39,7 +40,7 @@ returns-in_default-clause-adds g c =
     let Here : ServerView g.row.A.Denot → Type 0 = λ v. Adds Begins Ties (Stands device) v v Service (Served c.new-replies.result.items) in
     let Said : List Reply → Type 0 = λ replies. Adds Begins Ties (Stands device) s s Service (Served replies) in
     subst Here c.self.view_is (subst Said (sym c.new-replies.ensures) (nothing_adds device s (vec_capacity c.self.inside.book) c.self.invariant s.adapter
-    (by_none LeavesChanges (device s.adapter)) (λ ready issued healthy unharmed clear. c.in_default.not-Ready ready)
+    (by_none LeavesChanges (device s.adapter)) (as_shown s.state (served s.issued s.book) (device s.adapter) c.self.invariant.port) (λ ready issued healthy unharmed clear. c.in_default.not-Ready ready)
     (record { adds = λ m reached knows. ([], tt, knows, record { backed = nothing_backed (device s.adapter) m; only = tt }) })))
 
 pub returns-then-not-look-clause-services : goal.returns-then-not-look-clause-services
@@ -77,7 +78,8 @@ returns-then-not-look-clause-adds g c =
     let There : ServerView g.row.A.Denot → Type 0 = λ v. Adds Begins Ties (Stands device) s v Service (Served c.new-replies.result.items) in
     let Said : g.row.A.Denot → List Reply → Type 0 = λ adapter replies. Adds Begins Ties (Stands device) s (record s { adapter = adapter }) Service (Served replies) in
     let looked : Unanswered device s (device c.look.new.adapter) → Adds Begins Ties (Stands device) s (record s { adapter = c.look.new.adapter }) Service (Served []) =
-    λ unanswered. nothing_adds device s places c.self.invariant c.look.new.adapter c.look.ensures.followed.driven unanswered (c.look.ensures.followed.adds (uses_of (served_id s.issued s.book)) (λ port. []) tt) in
+    λ unanswered. nothing_adds device s places c.self.invariant c.look.new.adapter c.look.ensures.followed.driven
+    (ready_shown s.state (served s.issued s.book) (device c.look.new.adapter) c.in-Ready.is (c.look.ensures.serves _ (answering.serving device s places c.self.invariant c.in-Ready.is)).0) unanswered (c.look.ensures.followed.adds (uses_of (served_id s.issued s.book)) (λ port. []) tt) in
     subst Here c.self.view_is (
     elim c.then-not-look.branch [
       | then-not-look-via-then-not-look w ↦ subst There (sym w.self-is) (subst (Said c.look.new.adapter) (sym c.new-replies.ensures)
@@ -88,6 +90,8 @@ returns-then-not-look-clause-adds g c =
           subst There (sym w.self-is)
           (subst (Said w.is_done.new.adapter) (sym c.new-replies.ensures)
           (unfinished_adds device s places c.self.invariant w.if-not-self.false w.is_done.new.adapter
+          (ready_shown s.state _ (device w.is_done.new.adapter) c.in-Ready.is
+          (answering.not_done device s places c.self.invariant c.in-Ready.is w.if-not-self.false _ _ (c.look.ensures.serves _ (answering.serving device s places c.self.invariant c.in-Ready.is)).0 w.is_done.result w.is_done.ensures.found w.if-not-is_done.true))
           (λ _ issued healthy unharmed clear. true-false (w.is_done.ensures.seen (c.look.ensures.unset clear)) w.if-not-is_done.true)
           (device c.look.new.adapter) w.is_done.result c.look.ensures.followed w.is_done.ensures.followed))
     ])
@@ -176,4 +180,4 @@ returns-clause-adds g c =
     (answering_adds device s places c.self.invariant c.in-Ready.is c.if-not-self.false e rest book_is c.give_back.new.self c.give_back.ensures middle
     (by_then c.look.ensures.followed.driven (by_less (subst Finds c.if-not-is_done.false c.is_done.ensures.followed).driven))
     (found_adds e.id old looked middle true c.look.ensures.followed (subst Finds c.if-not-is_done.false c.is_done.ensures.followed))
-    new again (λ not. sym same ∙ next.none not) (λ is none. next.some is (same ∙ none)) (subst Issues same next.followed)))
+    new again (ready_shown s.state _ (device new) c.in-Ready.is next.serves) (λ not. sym same ∙ next.none not) (λ is none. next.some is (same ∙ none)) (subst Issues same next.followed)))
