@@ -137,7 +137,8 @@ pub fn answers(alloc: Global) -> Result<Vec<Said>, Fault>
 /// A server of a model over such a disk, with the memory, owners and grants above. Nothing is asked of it yet.
 fn new_server(alloc: Global) -> Result<Server<Model<MemStore>>, Fault>
     ensures unused { IfOk result (λ s. (s.book ≡ []) × (s.issued ≡ false)) }
-    ensures made { IfOk result (λ s. (model : Model MemStore) × IsNew ⟦<Model<MemStore> as Adapter>⟧.device OWNERS GRANTS model SECTORS s) }
+    ensures made { IfOk result (λ s. (model : Model MemStore)
+        × IsNew ⟦<Model<MemStore> as Adapter>⟧.device OWNERS GRANTS model SECTORS s) }
     ensures begun { IfOk result (λ s. HasBegun ⟦<Model<MemStore> as Adapter>⟧.device s) }
 {
     let setup = Setup::new(FRAMES, &OWNERS, &GRANTS)?;
@@ -152,7 +153,8 @@ fn new_server(alloc: Global) -> Result<Server<Model<MemStore>>, Fault>
 
 /// What these calls answer, of a server that is made for them.
 fn said_of(alloc: Global, events: &[Event]) -> Result<Vec<Said>, Fault>
-    ensures { IfOk result (λ said. AreAnswers ⟦<Model<MemStore> as Adapter>⟧.device (given FRAMES OWNERS GRANTS) SECTORS events.now said.items) }
+    ensures { IfOk result (λ said.
+        AreAnswers ⟦<Model<MemStore> as Adapter>⟧.device (given FRAMES OWNERS GRANTS) SECTORS events.now said.items) }
 {
     disks_are_told::<MemStore>();
     histories_are_runs();
