@@ -17,8 +17,12 @@ pub record IsIdle (d : Device) : Type 0 where
   pub no_reset : d.hr ≡ false
   pub port : (port : ℕ) → IsIdlePort (d.port port)
 
+-- disks tell their sectors if the adapter is one that tells
+abbrev pub TellsDisks : Device → Type 0
+TellsDisks d = d.telling ≡ true → (port : ℕ) → IsTold (d.port port).disk
+
 -- Memory and disks hold bytes, and disks tell their sectors if the adapter is one that tells.
 pub record IsSane (d : Device) : Type 0 where
   pub bytes : (at : ℕ) → d.memory at < 256
   pub disk : (port : ℕ) → IsDisk (d.port port).disk
-  pub told : d.telling ≡ true → (port : ℕ) → IsTold (d.port port).disk
+  pub told : TellsDisks d

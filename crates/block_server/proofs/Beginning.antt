@@ -9,7 +9,7 @@ use Rattle.ata_types.specs.declared.request.ClientId.{ClientId}
 use Rattle.ata_types.specs.declared.request.Frame.{Frame}
 use Rattle.ata_types.specs.declared.request.RequestId.{RequestId}
 use Rattle.adapter.specs.Device.{Device}
-use Rattle.adapter.specs.Idle.{IsIdle}
+use Rattle.adapter.specs.Idle.{IsIdle, TellsDisks}
 use Rattle.agreement.specs.Agrees.{SameSectors}
 use Rattle.agreement.specs.Driver.{Knows, idle}
 use Rattle.agreement.specs.Slots.{Free}
@@ -24,7 +24,7 @@ use Rattle.dma_frames.specs.Table.{Run, Table, owner_of, lent_to, HasFrame}
 use Rattle.grants.specs.Rows.{SameRows}
 use Rattle.block_server.specs.Book.{IsReadGrant}
 use Rattle.block_server.specs.Followed.{AnyAccess, NoneUsed, IsFollowed}
-use Rattle.block_server.specs.History.{TellsDisks, HasBegun, ports_of}
+use Rattle.block_server.specs.History.{HasBegun, ports_of}
 use Rattle.block_server.specs.Port.{IsBroughtUp}
 use Rattle.block_server.specs.Setup.{SetupView, IsSetup, IsClient, HasClientFrames}
 use Rattle.block_server.specs.View.{ServerView}

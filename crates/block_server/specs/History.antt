@@ -8,7 +8,7 @@ use Rattle.ata_types.specs.declared.request.Frame.{Frame}
 use Rattle.ata_types.specs.declared.request.Op.TheVariants.{Read}
 use Rattle.ata_types.specs.declared.request.RequestId.{RequestId}
 use Rattle.adapter.specs.Asked.{Asked}
-use Rattle.adapter.specs.Device.{IsTold, Device}
+use Rattle.adapter.specs.Device.{Device}
 use Rattle.adapter.specs.Steps.{Steps}
 use Rattle.adapter.specs.declared.access.DeviceStep.{DeviceStep}
 use Rattle.block_machine.specs.declared.due.Mode.{Mode}
@@ -165,10 +165,6 @@ pub record Ties (old : Instant Device) (h : Happening Device DeviceStep) : Type 
   pub uses : Uses
   pub parked : ℕ → List RequestId
   pub knows : Knows (moment_after old.moment h.event).machine (record { uses = uses; parked = parked; device = h.device })
-
--- disks tell their sectors if the adapter is one that tells
-abbrev pub TellsDisks : Device → Type 0
-TellsDisks d = d.telling ≡ true → (port : ℕ) → IsTold (d.port port).disk
 
 -- a history without calls leads to the server
 abbrev pub HasBegun : {A : Type 0} → (A → Device) → ServerView A → Type 0

@@ -57,7 +57,8 @@ impl<A: Adapter> Server<A> {
     ghost use Rattle.block_server.specs.Calls.{IsReadyFor, IsNew, state_of, situation_of, Accepts, Submits, AnswersFirst, Services, LoadsFrame, SameServer};
     ghost use Rattle.block_machine.specs.Events.{Submit, Submitted, LoadAt};
     ghost use Rattle.block_machine.specs.Histories.{Adds};
-    ghost use Rattle.block_server.specs.History.{Begins, Ties, Stands, TellsDisks, HasBegun, load_said};
+    ghost use Rattle.adapter.specs.Idle.{TellsDisks};
+    ghost use Rattle.block_server.specs.History.{Begins, Ties, Stands, HasBegun, load_said};
     ghost use Rattle.block_server.specs.Followed.{LoadsBytes};
 
     /// A server of the port's disk, which has so many sectors: port 0 is brought up, and nothing is asked yet. Provisional:

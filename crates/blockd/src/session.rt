@@ -1,12 +1,18 @@
 // The calls that the program makes.
-ghost use Rattle.std.specs.Prelude.{◌≡◌, [], false, None, IfOk};
+ghost use Rattle.std.specs.Prelude.{◌≡◌, List, [], false, None, IfOk};
+ghost use Rattle.block_server.specs.Calls.{IsNew};
+ghost use Rattle.block_server.specs.History.{HasBegun};
 ghost use Rattle.block_server.specs.Port.{Serves};
+ghost use Rattle.block_server.specs.Setup.{given};
+ghost use Rattle.blockd.specs.Answers.{AreAnswers, AsksRead, AreCalls};
 ghost use Rattle.blockd.specs.declared.session.Fault.TheVariants as fault;
 
-use adapter::DeviceStep;
+use adapter::{Adapter, DeviceStep};
 use arrayvec::ArrayVec;
 use ata_types::{ClientId, Frame, GrantRow, Op, Port, Request, Rights, Sector, Slot};
+use block_server::laws::{histories_are_runs, reads_hold};
 use block_server::{Event, Said, Server, Setup, SetupError};
+use device_model::laws::disks_are_told;
 use device_model::sector_store::{MemStore, SectorStore};
 use device_model::{Model, ModelConfig, Trim};
 use std::alloc::{AllocError, Global};
@@ -93,7 +99,9 @@ fn disk(alloc: Global) -> Result<MemStore, AllocError> {
 }
 
 /// The client's read into one frame, by one of its grants.
-fn read(grant: u8, first: u64, count: u32, frame: u16) -> Request {
+fn read(grant: u8, first: u64, count: u32, frame: u16) -> Request
+    ensures { AsksRead grant first count frame result }
+{
     let mut frames = ArrayVec::new();
     frames.push(Frame(frame));
     Request {
@@ -107,7 +115,10 @@ fn read(grant: u8, first: u64, count: u32, frame: u16) -> Request {
 }
 
 /// What the calls answer: a read that is done and looked at, and one by a grant that the client doesn't have.
-pub fn answers(alloc: Global) -> Result<Vec<Said>, Fault> {
+pub fn answers(alloc: Global) -> Result<Vec<Said>, Fault>
+    ensures { IfOk result (λ said. (events : List Event) × AreCalls events
+        × AreAnswers ⟦<Model<MemStore> as Adapter>⟧.device (given FRAMES OWNERS GRANTS) SECTORS events said.items) }
+{
     let events = [
         Event::Submit(read(0, 100, 8, 40)),
         Event::Device(DeviceStep::Finish(Port(0), Slot(0))),
@@ -125,7 +136,10 @@ pub fn answers(alloc: Global) -> Result<Vec<Said>, Fault> {
 
 /// A server of a model over such a disk, with the memory, owners and grants above. Nothing is asked of it yet.
 fn new_server(alloc: Global) -> Result<Server<Model<MemStore>>, Fault>
-    ensures { IfOk result (λ s. (s.book ≡ []) × (s.issued ≡ false)) }
+    ensures unused { IfOk result (λ s. (s.book ≡ []) × (s.issued ≡ false)) }
+    ensures made { IfOk result (λ s. (model : Model MemStore)
+        × IsNew ⟦<Model<MemStore> as Adapter>⟧.device OWNERS GRANTS model SECTORS s) }
+    ensures begun { IfOk result (λ s. HasBegun ⟦<Model<MemStore> as Adapter>⟧.device s) }
 {
     let setup = Setup::new(FRAMES, &OWNERS, &GRANTS)?;
     let Ok(model) = Model::new(alloc, CONFIG, disk(alloc)?, MemStore::new(alloc, 0)?) else {
@@ -138,7 +152,13 @@ fn new_server(alloc: Global) -> Result<Server<Model<MemStore>>, Fault>
 }
 
 /// What these calls answer, of a server that is made for them.
-fn said_of(alloc: Global, events: &[Event]) -> Result<Vec<Said>, Fault> {
+fn said_of(alloc: Global, events: &[Event]) -> Result<Vec<Said>, Fault>
+    ensures { IfOk result (λ said.
+        AreAnswers ⟦<Model<MemStore> as Adapter>⟧.device (given FRAMES OWNERS GRANTS) SECTORS events.now said.items) }
+{
+    disks_are_told::<MemStore>();
+    histories_are_runs();
+    reads_hold();
     let mut server = new_server(alloc)?;
     let mut said = Vec::new(alloc);
     let ran = server.run(events, &mut said);
@@ -152,8 +172,8 @@ fn said_of(alloc: Global, events: &[Event]) -> Result<Vec<Said>, Fault> {
 #[cfg(test)]
 mod tests {
     use super::*;
+    use adapter::Stepped;
     use adapter::laws::steps_compose;
-    use adapter::{Adapter, Stepped};
     use ata_types::{FrameFault, MemFault, PortState, Refusal, RequestId, Rule};
     use block_server::laws::driver_bytes_are_free;
     use hba_regs::{PortReg, Reg};

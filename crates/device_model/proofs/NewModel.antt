@@ -68,6 +68,10 @@ is_told : (told other : Option (ℕ → List ℕ)) → is_some told && is_some o
 is_told None other telling = absurd (let e : false ≡ true = telling in cc)
 is_told (Some f) other telling = (f, refl)
 
+pub both_tell : (told other : Option (ℕ → List ℕ)) → is_some told ≡ true → is_some other ≡ true → is_some told && is_some other ≡ true
+both_tell None other here there = here
+both_tell (Some f) other here there = there
+
 pub disks_told : (size : ℕ) (told other : Option (ℕ → List ℕ)) → is_some told && is_some other ≡ true → (port : ℕ) →
     IsTold ((outside_of size told other).media port).disk
 disks_told size told other telling port =

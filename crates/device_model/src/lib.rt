@@ -6,6 +6,7 @@ mod bits;
 mod config;
 mod fetch;
 mod hardware;
+pub mod laws;
 mod model;
 mod port;
 mod registers;

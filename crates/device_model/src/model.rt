@@ -1,5 +1,5 @@
 // The model as an adapter.
-ghost use Rattle.std.specs.Prelude.{◌≡◌, ◌≢◌, ◌<◌, ◌≤◌, ◌+◌, ◌-◌, ◌*◌, ◌^◌, ◌++◌, ◌∷◌, [], ℕ, List, true, false, min, max, IfOk, OnOk, OnErr};
+ghost use Rattle.std.specs.Prelude.{◌≡◌, ◌≢◌, ◌<◌, ◌≤◌, ◌+◌, ◌-◌, ◌*◌, ◌^◌, ◌++◌, ◌∷◌, [], ℕ, List, true, false, is_some, ◌&&◌, min, max, IfOk, OnOk, OnErr};
 ghost use Rattle.adapter.specs.Commands.{Meaning};
 ghost use Rattle.adapter.specs.Device.{Taken};
 ghost use Rattle.adapter.specs.Idle.{IsIdle, IsSane};
@@ -44,13 +44,14 @@ pub struct Model<S> {
 
 impl<S: SectorStore> Model<S> {
     /// An adapter as after its reset, with four ports, memory of zeros, and the disks 0 and 1 of port 0. Disk 0 is
-    /// plugged in.
+    /// plugged in. It tells its disks' sectors where both stores do.
     pub fn new(alloc: Global, config: ModelConfig, disk0: S, disk1: S) -> Result<Model<S>, NoMemory>
         requires frames { (41 ≤ config.frames) × (config.frames ≤ 1024) }
         requires slots { (1 ≤ config.slots) × (config.slots ≤ 32) }
         requires depth { (1 ≤ config.depth) × (config.depth ≤ 32) }
         ensures idle { IfOk result (λ m. IsIdle (device_at S.size S.told m)) }
         ensures sane { IfOk result (λ m. IsSane (device_at S.size S.told m)) }
+        ensures telling { IfOk result (λ m. (device_at S.size S.told m).telling ≡ (is_some (S.told disk0) && is_some (S.told disk1))) }
         ensures made { IfOk result (λ m. IsNew config (S.size disk0) (S.told disk0) (device_at S.size S.told m)) }
     {
         let hardware = Hardware {
