@@ -40,14 +40,14 @@ use Rattle.agreement.proofs.Sparing.{steps_spare, none_kept_on}
 use Rattle.dma_frames.specs.Table.{Table, lent_to, LendsOnly}
 use Rattle.block_server.specs.Book.{IsKept, IsAccepted, IsEarlier}
 use Rattle.block_server.specs.Calls.{state_of, done_reply}
-use Rattle.block_server.specs.Followed.{IsDrivenBy, LeavesChanges, LeavesErrors, AnyUse, IsFollowed, FindsEnd, FindsRead, IssuesFirst}
-use Rattle.block_server.specs.History.{Begins, Stands, Ties, IsAsShown, GoesWell, IsEntry, IsBook, uses_of, served_id, known_of, ports_of, plain_mode, no_evidence}
+use Rattle.block_server.specs.Followed.{IsDrivenBy, AnyAccess, IsOrdinary, LooksFirst, AnyUse, IsFollowed, FindsEnd, FindsRead, IssuesFirst}
+use Rattle.block_server.specs.History.{Begins, Stands, Ties, CameBy, IsAsShown, GoesWell, IsEntry, IsBook, uses_of, served_id, known_of, ports_of, plain_mode, no_evidence}
 use Rattle.block_server.specs.Port.{IsHealthy}
 use Rattle.block_server.specs.Told.{IsUnharmed}
 use Rattle.block_server.specs.View.{ServerView}
 use Rattle.block_server.specs.declared.types.Accepted.{Accepted}
 use Rattle.block_server.proofs.Booking.{ordered_rest}
-use Rattle.block_server.proofs.Driving.{by_none, by_then, by_less}
+use Rattle.block_server.proofs.Driving.{by_none, looks_then}
 use Rattle.block_server.proofs.Heeding.{names_none, service_heeds, present_ready, ended_served}
 use Rattle.block_server.proofs.Histories.{book_further, history_fit, ports_same, disks_same, stands_on}
 use Rattle.block_server.proofs.Servicing.{AreServices, IssuesNone, no_steps, none_issued, devices_then, issue_then, answer_then, devices_issue_none, book_entry, Begun, begun, none_due, others_differ, book_without, first_without, first_issued, next_may, given_back, given_up}
@@ -58,7 +58,7 @@ known_at id d = record { uses = uses_of id; parked = λ port. []; device = d }
 
 -- ---- the port is looked at, and then its read
 
-pub found_adds : (id : RequestId) (old mid new : Device) (done : Bool) → IsFollowed LeavesChanges AnyUse old mid → FindsRead done mid new →
+pub found_adds : (id : RequestId) (old mid new : Device) (done : Bool) → IsFollowed AnyAccess AnyUse old mid → FindsRead done mid new →
     AddsSteps Knows (known_at (Some id) old) (known_at (Some id) new) (FindsEnd done id old new)
 found_adds id old mid new done looks reads =
     steps_then (FindsEnd done id old new) (looks.adds (uses_of (Some id)) (λ port. []) tt) (reads.adds (uses_of (Some id)) (λ port. []) id (put_same (λ port slot. Free) 0 0 (Serves id)))
@@ -131,8 +131,8 @@ next_issued s m old new true (e ∷ rest) ready reached knows kept ordered book 
     }
 
 -- accesses issue the first
-issues_driven : (book : List Accepted) (old new : Device) → IssuesFirst book old new → IsDrivenBy LeavesErrors old new
-issues_driven [] old new same = subst (λ (d : Device). IsDrivenBy LeavesErrors old d) (sym same) (by_none LeavesErrors old)
+issues_driven : (book : List Accepted) (old new : Device) → IssuesFirst book old new → IsDrivenBy IsOrdinary old new
+issues_driven [] old new same = subst (λ (d : Device). IsDrivenBy IsOrdinary old d) (sym same) (by_none IsOrdinary old)
 issues_driven (e ∷ book) old new issues = issues.driven
 
 -- ---- the event
@@ -159,14 +159,14 @@ not_unplugged h = cc
 module _ {A : Type 0} (device : A → Device) (s : ServerView A) where
   -- steps of a service lead to where the server stands after it
   ends : (new : ServerView A) (replies : List Reply) (answers : List (Pending × Outcome)) → (new.issued ≡ false → new.book ≡ []) → (new.issued ≡ true → s.state ≡ Ready) →
-      ((e : Pending) (o : Outcome) → Contains answers (e, o) → (o ≡ Ok) × (s.state ≡ Ready)) → IsDrivenBy LeavesChanges (device s.adapter) (device new.adapter) → IsAsShown s.state (device new.adapter) →
+      ((e : Pending) (o : Outcome) → Contains answers (e, o) → (o ≡ Ok) × (s.state ≡ Ready)) → CameBy Service (Served replies) (device s.adapter) (device new.adapter) → IsAsShown s.state (device new.adapter) →
       (first : Instant Device) (past : List (Happening Device DeviceStep)) → Leads Begins Ties (Stands device) first past s → (steps : List Step) →
       AllMay (now first past).moment.machine steps → AreServices (now first past).moment (ports_of s) answers steps → Tells steps replies →
       (GoesWell (device s.adapter) (device new.adapter) → (port : Port) → AnswersEnded (now first past).moment.machine steps port) →
       IsBacked (device s.adapter) (device new.adapter) (now first past).moment.machine steps →
       Stands device (record { device = device new.adapter; moment = record { machine = after (now first past).moment.machine steps; ports = ports_of s } }) new →
       (h : Happening Device DeviceStep) × (h.event.ask ≡ Service) × (h.event.said ≡ Served replies) × Leads Begins Ties (Stands device) first (h ∷ past) new
-  ends new replies answers due ready calm driven shown first past leads steps may services tells ended backed stands =
+  ends new replies answers due ready calm came shown first past leads steps may services tells ended backed stands =
       let old : Instant Device = now first past in
       let at : Stands device old s = leads.stands in
       let m : Machine = after old.moment.machine steps in (
@@ -201,7 +201,7 @@ module _ {A : Type 0} (device : A → Device) (s : ServerView A) where
               backed = subst (λ (d : Device). IsBacked d (device new.adapter) old.moment.machine steps) (sym at.device_is) backed;
               asked = λ step e. absurd (let x : Service ≡ Told step = e in cc);
               refused = λ r. absurd (false≢true r);
-              came = subst (λ (d : Device). IsDrivenBy LeavesChanges d (device new.adapter)) (sym at.device_is) driven;
+              came = subst (λ (d : Device). CameBy Service (Served replies) d (device new.adapter)) (sym at.device_is) came;
               evidence = record { faults = refl; lost = refl; stopped = refl; stuck = refl };
               port = shown;
               heeds = λ well. (
@@ -232,10 +232,10 @@ module _ {A : Type 0} (device : A → Device) (s : ServerView A) where
 
   module _ (places : ℕ) (inv : IsKept device s places) where
     -- the device alone did steps
-    pub nothing_adds : (adapter : A) → IsDrivenBy LeavesChanges (device s.adapter) (device adapter) → IsAsShown s.state (device adapter) → Unanswered (device adapter) →
+    pub nothing_adds : (adapter : A) → CameBy Service (Served []) (device s.adapter) (device adapter) → IsAsShown s.state (device adapter) → Unanswered (device adapter) →
         AddsSteps Knows (known_of device s) (record (known_of device s) { device = device adapter }) (ByDevice (device s.adapter) (device adapter)) →
         Adds Begins Ties (Stands device) s (record s { adapter = adapter }) Service (Served [])
-    nothing_adds adapter driven shown unanswered goes = record {
+    nothing_adds adapter came shown unanswered goes = record {
       adds = λ first past leads.
           let old : Instant Device = now first past in
           let at : Stands device old s = leads.stands in
@@ -243,7 +243,7 @@ module _ {A : Type 0} (device : A → Device) (s : ServerView A) where
           let own : AllDevices more.0 = more.3.only in
           let services : AreServices old.moment (ports_of s) [] more.0 =
           subst (λ (steps : List Step). AreServices old.moment (ports_of s) [] steps) (append-nil more.0) (devices_then old.moment (ports_of s) [] [] more.0 own (no_steps old.moment (ports_of s))) in
-          ends (record s { adapter = adapter }) [] [] inv.due inv.ready (λ e o h. absurd (contains_none (e, o) h)) driven shown first past leads more.0 more.1 services
+          ends (record s { adapter = adapter }) [] [] inv.due inv.ready (λ e o h. absurd (contains_none (e, o) h)) came shown first past leads more.0 more.1 services
           (none_told more.0 services.answers_are)
           (λ well port e h here ended.
           let was = ended_served device old s at (history_reaches Begins Ties first past leads.history) e h ended in
@@ -260,12 +260,12 @@ module _ {A : Type 0} (device : A → Device) (s : ServerView A) where
         by b (e ∷ book) is some = (e.id, ap (λ (c : Bool). served_id c (e ∷ book)) is)
 
     -- its read isn't done
-    pub unfinished_adds : s.issued ≡ true → (adapter : A) → IsAsShown s.state (device adapter) → Unanswered (device adapter) → (mid : Device) (done : Bool) → IsFollowed LeavesChanges AnyUse (device s.adapter) mid → FindsRead done mid (device adapter) →
+    pub unfinished_adds : s.issued ≡ true → (adapter : A) → IsAsShown s.state (device adapter) → Unanswered (device adapter) → (mid : Device) (done : Bool) → LooksFirst [] (device s.adapter) mid → IsFollowed AnyAccess AnyUse (device s.adapter) mid → FindsRead done mid (device adapter) →
         Adds Begins Ties (Stands device) s (record s { adapter = adapter }) Service (Served [])
-    unfinished_adds issued adapter shown unanswered mid done looks reads =
+    unfinished_adds issued adapter shown unanswered mid done first looks reads =
         let served = served_one issued in
         let goes = found_adds served.0 (device s.adapter) mid (device adapter) done looks reads in
-        nothing_adds adapter (by_then looks.driven (by_less reads.driven)) shown unanswered (subst (λ (o : Option RequestId). AddsSteps Knows (known_at o (device s.adapter)) (known_at o (device adapter)) (ByDevice (device s.adapter) (device adapter))) (sym served.1)
+        nothing_adds adapter (inl (looks_then first reads.driven)) shown unanswered (subst (λ (o : Option RequestId). AddsSteps Knows (known_at o (device s.adapter)) (known_at o (device adapter)) (ByDevice (device s.adapter) (device adapter))) (sym served.1)
         (record { adds = λ m r k. let y = goes.adds m r k in (y.0, y.1, y.2, y.3.device) }))
 
     module _ (ready : s.state ≡ Ready) (issued : s.issued ≡ true) (e : Accepted) (rest : List Accepted) (book_is : s.book ≡ e ∷ rest) (table : Table) (lends : LendsOnly s.table table e.loan.frames None) where
@@ -275,7 +275,7 @@ module _ {A : Type 0} (device : A → Device) (s : ServerView A) where
       lent : All (λ f. lent_to s.table f ≡ Some e.id) e.loan.frames
       lent = (All-head (IsAccepted s.grants s.table) e rest (subst (λ (book : List Accepted). All (IsAccepted s.grants s.table) book) book_is inv.accepted)).lent
 
-      module _ (first : Instant Device) (past : List (Happening Device DeviceStep)) (leads : Leads Begins Ties (Stands device) first past s) (middle : Device) (driven : IsDrivenBy LeavesChanges (device s.adapter) middle)
+      module _ (first : Instant Device) (past : List (Happening Device DeviceStep)) (leads : Leads Begins Ties (Stands device) first past s) (middle : Device) (looks : LooksFirst (done_reply e ∷ []) (device s.adapter) middle)
           (goes : AddsSteps Knows (known_at (Some e.id) (device s.adapter)) (known_at (Some e.id) middle) (FindsEnd true e.id (device s.adapter) middle)) where
         abbrev old : Instant Device
         old = now first past
@@ -419,7 +419,7 @@ module _ {A : Type 0} (device : A → Device) (s : ServerView A) where
             let new : ServerView A = record s { adapter = adapter; table = table; book = rest; issued = again } in
             ends new (done_reply e ∷ []) ((x, Ok) ∷ []) none (λ _. ready)
             (λ y o h. ⊎_elim (λ (q : (y, o) ≡ (x, Ok)). (ap (λ (a : Pending × Outcome). a.1) q, ready)) (λ i. absurd (contains_none (y, o) i)) (contains_cases (x, Ok) [] (y, o) h))
-            (by_then driven (by_less (issues_driven rest middle (device adapter) issues)))
+            (inl (looks_then looks (issues_driven rest middle (device adapter) issues)))
             shown
             first past leads (next.steps ++ base) (may-append m next.steps base (more.1, here) next.may) all
             (one_told x Ok (next.steps ++ base) all.answers_are (done_reply e) (λ i. record { id = sym entry.id i; client = sym entry.client i; outcome = Ok }))
@@ -439,7 +439,7 @@ module _ {A : Type 0} (device : A → Device) (s : ServerView A) where
             }))
 
       -- the first was done, and the next is issued
-      pub answering_adds : (middle : Device) → IsDrivenBy LeavesChanges (device s.adapter) middle → AddsSteps Knows (known_at (Some e.id) (device s.adapter)) (known_at (Some e.id) middle) (FindsEnd true e.id (device s.adapter) middle) →
+      pub answering_adds : (middle : Device) → LooksFirst (done_reply e ∷ []) (device s.adapter) middle → AddsSteps Knows (known_at (Some e.id) (device s.adapter)) (known_at (Some e.id) middle) (FindsEnd true e.id (device s.adapter) middle) →
           (adapter : A) (again : Bool) → IsAsShown s.state (device adapter) → (again ≡ false → rest ≡ []) → (again ≡ true → rest ≢ []) → IssuesFirst rest middle (device adapter) →
           Adds Begins Ties (Stands device) s (record s { adapter = adapter; table = table; book = rest; issued = again }) Service (Served (done_reply e ∷ []))
-      answering_adds middle driven goes adapter again shown none some issues = record { adds = λ first past leads. event first past leads middle driven goes adapter again shown none some issues }
+      answering_adds middle looks goes adapter again shown none some issues = record { adds = λ first past leads. event first past leads middle looks goes adapter again shown none some issues }

@@ -1,37 +1,24 @@
 -- The accesses that look at port 0, and those that see its read done, are followed by the block machine.
-use Rattle.std.proofs.Common.{ℕ, ◌≡◌, Bool, true, false, List, sym, subst, lit<}
+use Rattle.ata_types.specs.declared.request.Reply.{Reply}
+use Rattle.std.proofs.Common.{ℕ, [], inl, refl, ◌≢◌, ◌≡◌, Bool, true, false, List, sym, subst, lit<}
 use Rattle.hba_regs.specs.Bits.{bit}
-use Rattle.hba_regs.specs.declared.reg.PortReg.TheVariants.{Is, Ssts, Serr, Ci, Sact}
+use Rattle.hba_regs.specs.declared.reg.PortReg.TheVariants.{Is, Ssts, Ci, Sact}
 use Rattle.hba_regs.specs.declared.reg.Reg.TheVariants as adapter
 use Rattle.adapter.specs.Access.{Reads, Writes}
-use Rattle.adapter.specs.Access.Access.{Reading}
+use Rattle.adapter.specs.Access.Access.{Reading, Writing}
 use Rattle.adapter.specs.Device.{Device}
 use Rattle.adapter.specs.Rules.{MayWrite, Stays}
 use Rattle.block_machine.specs.Left.{after}
 use Rattle.block_machine.specs.Steps.{Step, NoneKept}
 use Rattle.agreement.specs.Agrees.{port_at}
-use Rattle.agreement.specs.Facts.{EndedIn}
+use Rattle.agreement.specs.Facts.{EndedIn, TellsNoTrouble}
 use Rattle.agreement.proofs.Finding.{done_adds}
-use Rattle.block_server.specs.Followed.{known, LeavesChanges, LeavesErrors, AnyUse, IsFollowed, FindsRead}
+use Rattle.block_server.specs.Followed.{known, AnyAccess, IsOrdinary, LooksFirst, AnyUse, IsFollowed, FindsRead}
 use Rattle.block_server.specs.Port.{IsLone, IsRunning}
 use Rattle.block_server.proofs.Driving.{by_one, by_then}
-use Rattle.block_server.proofs.Following.{followed_then, reading_by, writing_by}
+use Rattle.block_server.proofs.Following.{followed_then, reading_followed, writing_followed}
 use Rattle.block_server.proofs.Looking.{steps_run, acknowledged, reading_runs, interrupts_run}
 use Rattle.block_server.proofs.PortLemmas.{px}
-
--- ---- registers that are others
-
-not_ghc : px Is ≡ adapter.Ghc → ⊥
-not_ghc e = cc
-
-not_serr : px Is ≡ px Serr → ⊥
-not_serr e = cc
-
-not_all : adapter.Is ≡ adapter.Ghc → ⊥
-not_all e = cc
-
-not_one : adapter.Is ≡ px Serr → ⊥
-not_one e = cc
 
 -- ---- PxIS is read and cleared, and the port's bit of IS; then SSTS is read
 
@@ -49,19 +36,32 @@ module _ (d0 d1 : Device) (l : IsLone d0) (run : IsRunning d0) (v : ℕ) (first 
         let h = steps_run d2 mid two.0.on.no_reset two.0 two.1 steps in
         (h.0.on, acknowledged d1 d2 mid w one_runs.0.on.no_reset second steps)
 
-    pub looking_followed : (d3 d4 : Device) (s : ℕ) → Writes adapter.Is 1 d2 d3 → Reads (px Ssts) s d3 d4 → IsFollowed LeavesChanges AnyUse d0 d4
+    pub looking_followed : (d3 d4 : Device) (s : ℕ) → Writes adapter.Is 1 d2 d3 → Reads (px Ssts) s d3 d4 → IsFollowed AnyAccess AnyUse d0 d4
     looking_followed d3 d4 s third fourth =
-        followed_then LeavesChanges AnyUse d0 d1 d4 (reading_by LeavesChanges (px Is) v d0 d1 (tt, tt) first)
-        (followed_then LeavesChanges AnyUse d1 d2 d4 (writing_by LeavesChanges AnyUse (px Is) w d1 d2 (λ e. not_ghc e, λ e. not_serr e) (clearing_may w) (λ uses is. tt) second)
-        (followed_then LeavesChanges AnyUse d2 d3 d4 (writing_by LeavesChanges AnyUse adapter.Is 1 d2 d3 (λ e. not_all e, λ e. not_one e) acknowledging_may (λ uses is. tt) third)
-        (reading_by LeavesChanges (px Ssts) s d3 d4 (tt, tt) fourth)))
+        followed_then AnyAccess AnyUse d0 d1 d4 (reading_followed (px Is) v d0 d1 first)
+        (followed_then AnyAccess AnyUse d1 d2 d4 (writing_followed AnyUse (px Is) w d1 d2 (clearing_may w) (λ uses is. tt) second)
+        (followed_then AnyAccess AnyUse d2 d3 d4 (writing_followed AnyUse adapter.Is 1 d2 d3 acknowledging_may (λ uses is. tt) third)
+        (reading_followed (px Ssts) s d3 d4 fourth)))
+
+-- where what was read is written back, the service looked first
+pub looked_first : (replies : List Reply) (d0 d1 d2 d3 d4 : Device) (v s : ℕ) → Reads (px Is) v d0 d1 → Writes (px Is) v d1 d2 → Writes adapter.Is 1 d2 d3 → Reads (px Ssts) s d3 d4
+    → (replies ≢ [] → TellsNoTrouble v) → LooksFirst replies d0 d4
+looked_first replies d0 d1 d2 d3 d4 v s first second third fourth calm = record {
+  causes = v;
+  seen = d1;
+  reads = first;
+  acknowledged = d2;
+  clears = second;
+  calm = calm;
+  rest = by_then (by_one IsOrdinary (Writing adapter.Is 1) d2 d3 (inl refl) third) (by_one IsOrdinary (Reading (px Ssts) s) d3 d4 tt fourth);
+}
 
 -- ---- CI and SACT, read in this order
 
 pub read_found : (done : Bool) (old mid new : Device) → IsLone old → IsRunning old → (issued active : ℕ) → Reads (px Ci) issued old mid → Reads (px Sact) active mid new →
     (done ≡ true → (bit issued 0 ≡ false) × (bit active 0 ≡ false)) → FindsRead done old new
 read_found done old mid new l run issued active first second clear = record {
-  driven = by_then (by_one LeavesErrors (Reading (px Ci) issued) old mid ((tt, tt), tt) first) (by_one LeavesErrors (Reading (px Sact) active) mid new ((tt, tt), tt) second);
+  driven = by_then (by_one IsOrdinary (Reading (px Ci) issued) old mid tt first) (by_one IsOrdinary (Reading (px Sact) active) mid new tt second);
   adds = λ uses parked id serves. record {
     adds = λ m reached knows.
         let y = (done_adds (known uses parked old) (port_at 0) issued active mid new l.on.no_reset run.st first second).adds m reached knows in (

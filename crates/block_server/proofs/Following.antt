@@ -19,7 +19,7 @@ use Rattle.agreement.specs.Slots.{Uses}
 use Rattle.agreement.proofs.Adding.{accesses_then, backed_then, device_adds, read_adds, store_adds, write_adds}
 use Rattle.agreement.proofs.Clients.{client_loads}
 use Rattle.agreement.proofs.Waiting.{device_append}
-use Rattle.block_server.specs.Followed.{known, AnyAccess, LeavesErrors, AnyUse, SlotIsFree, IsFollowed, LoadsBytes}
+use Rattle.block_server.specs.Followed.{known, AnyAccess, IsOrdinary, AnyUse, SlotIsFree, IsFollowed, LoadsBytes}
 use Rattle.block_server.proofs.Driving.{by_none, by_one, by_then}
 
 -- ---- one stretch after another
@@ -71,15 +71,15 @@ writing_followed Fits r v old new may leaves call = writing_by AnyAccess Fits r 
 pub loading_followed : (client : ClientId) (frame : Frame) (offset : ℕ) (bytes : List ℕ) (old new : Device) → Loads (4096 * frame.0 + offset) bytes old new →
     LoadsBytes client frame offset bytes old new
 loading_followed client frame offset bytes old new call = record {
-  driven = by_one LeavesErrors (Loading (4096 * frame.0 + offset) bytes) old new ((tt, tt), tt) call;
+  driven = by_one IsOrdinary (Loading (4096 * frame.0 + offset) bytes) old new tt call;
   loads = λ uses parked m reached knows may. client_loads (known uses parked old) m client frame offset bytes new reached knows may call;
 }
 
 -- a store to header or table of slot 0
 pub storing_followed : (at : ℕ) (bytes : List ℕ) (old new : Device) → (at + length bytes ≤ 32) ⊎ ((4096 ≤ at) × (at + length bytes ≤ 5120)) →
-    Stores at bytes old new → IsFollowed LeavesErrors SlotIsFree old new
+    Stores at bytes old new → IsFollowed IsOrdinary SlotIsFree old new
 storing_followed at bytes old new here call = record {
-  driven = by_one LeavesErrors (Storing at bytes) old new ((tt, tt), tt) call;
+  driven = by_one IsOrdinary (Storing at bytes) old new tt call;
   adds = λ uses parked free.
       store_adds (known uses parked old) at bytes new (inl (record { port = 0; slot = 0; below = lit< tt; slot_below = lit< tt; free = free; here = of here })) call;
 }

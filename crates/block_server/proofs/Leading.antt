@@ -20,7 +20,7 @@ use Rattle.block_machine.proofs.HistoryLemmas.{history_reaches}
 use Rattle.agreement.specs.Driver.{IsBacked, EndsWith}
 use Rattle.agreement.proofs.Adding.{nothing_backed}
 use Rattle.dma_frames.specs.Table.{owner_of, lent_to}
-use Rattle.block_server.specs.Followed.{LeavesErrors, LoadsBytes}
+use Rattle.block_server.specs.Followed.{IsOrdinary, LoadsBytes}
 use Rattle.block_server.specs.History.{Begins, Stands, Ties, IsAsShown, CameBy, is_refusal, known_of, ports_of, no_evidence}
 use Rattle.block_server.specs.View.{ServerView}
 use Rattle.block_server.proofs.Driving.{by_none}
@@ -75,7 +75,7 @@ module _ {A : Type 0} (device : A → Device) where
       → AllMay (now first past).moment.machine steps → Belong ask (ports_of new) steps → IssuesLast steps
       → AllLawful (now first past).moment no_evidence (ports_of new) steps
       → IsAnswered ask said (now first past).moment no_evidence steps (record { machine = after (now first past).moment.machine steps; ports = ports_of new })
-      → CameBy ask (device s.adapter) (device new.adapter)
+      → CameBy ask said (device s.adapter) (device new.adapter)
       → IsAsShown new.state (device new.adapter)
       → Heeds ask (now first past).moment no_evidence steps (record { machine = after (now first past).moment.machine steps; ports = ports_of new })
       → IsBacked (device s.adapter) (device new.adapter) (now first past).moment.machine steps
@@ -104,7 +104,7 @@ module _ {A : Type 0} (device : A → Device) where
               backed = subst (λ (d : Device). IsBacked d (device new.adapter) old.moment.machine steps) (sym at.device_is) backed;
               asked = λ step e said. absurd (false≢true (sym other ∙ ap is_told e));
               refused = λ r. still r ∙ sym at.device_is;
-              came = subst (λ (d : Device). CameBy ask d (device new.adapter)) (sym at.device_is) came;
+              came = subst (λ (d : Device). CameBy ask said d (device new.adapter)) (sym at.device_is) came;
               evidence = record { faults = refl; lost = refl; stopped = refl; stuck = refl };
               heeds = λ well. (names_none, heeds);
               port = shown;
@@ -166,7 +166,7 @@ module _ {A : Type 0} (device : A → Device) where
           refl,
           ports_same old.moment.ports (ports_of s) at.ports_are,
         )
-        (by_none LeavesErrors (device s.adapter))
+        (by_none IsOrdinary (device s.adapter))
         (still_shown device first past s leads)
         spared
         (nothing_backed (device s.adapter) old.moment.machine)

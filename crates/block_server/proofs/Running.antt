@@ -12,7 +12,7 @@ use Rattle.block_machine.specs.Ports.{Ports}
 use Rattle.block_machine.specs.Histories.{Instant, Happening, now, Leads, Adds}
 use Rattle.agreement.proofs.Adding.{nothing_backed}
 use Rattle.block_server.specs.Calls.{state_of}
-use Rattle.block_server.specs.Followed.{LeavesErrors}
+use Rattle.block_server.specs.Followed.{IsOrdinary}
 use Rattle.block_server.specs.History.{Begins, Ties, Stands, AddsAll, ask_of, said_of, ports_of}
 use Rattle.block_server.specs.Running.{Answered, Ran}
 use Rattle.block_server.specs.View.{ServerView}
@@ -68,7 +68,7 @@ module _ {A : Type 0} (device : A → Device) where
           let at : Stands device old s = leads.stands in
           lead_on device first past s s (State port) (Shown state) [] leads refl (λ r. absurd (false≢true r)) refl tt tt tt tt
           (is ∙ ap (λ (ports : Ports). ports.state port) (sym at.ports_are), refl, ports_same old.moment.ports (ports_of s) at.ports_are)
-          (by_none LeavesErrors (device s.adapter))
+          (by_none IsOrdinary (device s.adapter))
           (still_shown device first past s leads)
           spared
           (nothing_backed (device s.adapter) old.moment.machine)

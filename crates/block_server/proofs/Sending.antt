@@ -1,10 +1,9 @@
 -- The write of CI issues the read that was written into slot 0.
-use Rattle.std.proofs.Common.{ℕ, ◌≡◌, ◌<◌, true, not, List, None, Some, refl, sym, ◌∙◌, ap, subst, arith, lit<}
+use Rattle.std.proofs.Common.{inr, ℕ, ◌≡◌, ◌<◌, true, not, List, None, Some, refl, sym, ◌∙◌, ap, subst, arith, lit<}
 use Rattle.ata_types.specs.declared.request.Frame.{Frame}
 use Rattle.ata_types.specs.declared.request.Op.{Op}
 use Rattle.ata_types.specs.declared.request.Op.TheVariants.{Read}
-use Rattle.hba_regs.specs.declared.reg.PortReg.TheVariants.{Is, Serr, Ci}
-use Rattle.hba_regs.specs.declared.reg.Reg.TheVariants.{Ghc}
+use Rattle.hba_regs.specs.declared.reg.PortReg.TheVariants.{Ci}
 use Rattle.adapter.specs.Access.{Writes}
 use Rattle.adapter.specs.Access.Access.{Writing}
 use Rattle.adapter.specs.Device.{Bases, Device}
@@ -20,7 +19,7 @@ use Rattle.agreement.specs.Places.{place_in}
 use Rattle.agreement.specs.Slots.{Free, Uses, ArePlaces, Told, HasBlock}
 use Rattle.agreement.proofs.Calling.{issue_follows}
 use Rattle.agreement.proofs.Waiting.{steps_may}
-use Rattle.block_server.specs.Followed.{known, LeavesErrors, SlotIsFree, IsFollowed, IsReadOf, IssuesRead}
+use Rattle.block_server.specs.Followed.{known, IsOrdinary, SlotIsFree, IsFollowed, IsReadOf, IssuesRead}
 use Rattle.block_server.specs.Places.{place_of, places_of}
 use Rattle.block_server.specs.Port.{Issued, meaning_of, HoldsRead, Serves}
 use Rattle.block_server.proofs.Driving.{by_one, by_then}
@@ -66,19 +65,10 @@ module _ (r : Issued) (e : Pending) (is : IsReadOf r e) where
     alone = bit_one_other;
   }
 
-not_ghc : px Ci ≡ Ghc → ⊥
-not_ghc e = cc
-
-not_serr : px Ci ≡ px Serr → ⊥
-not_serr e = cc
-
-not_is : px Ci ≡ px Is → ⊥
-not_is e = cc
-
 -- slot 0 was written, and then its bit of CI
-pub read_issued : (r : Issued) (old mid new : Device) → IsFollowed LeavesErrors SlotIsFree old mid → Serves None mid → HoldsRead r mid → Writes (px Ci) 1 mid new → IssuesRead r old new
+pub read_issued : (r : Issued) (old mid new : Device) → IsFollowed IsOrdinary SlotIsFree old mid → Serves None mid → HoldsRead r mid → Writes (px Ci) 1 mid new → IssuesRead r old new
 read_issued r old mid new followed s h call = record {
-  driven = by_then followed.driven (by_one LeavesErrors (Writing (px Ci) 1) mid new ((λ e. not_ghc e, λ e. not_serr e), λ e. not_is e) call);
+  driven = by_then followed.driven (by_one IsOrdinary (Writing (px Ci) 1) mid new (inr refl) call);
   issues = λ uses parked m mode e reached knows free may plain usable is.
       let x = (followed.adds uses parked free).adds m reached knows in
       let later : Machine = after m x.0 in

@@ -46,7 +46,7 @@ use Rattle.dma_frames.specs.Loan.{Lending}
 use Rattle.dma_frames.specs.Table.{Table, owner_of, lent_to, LendsOnly}
 use Rattle.block_server.specs.Book as book
 use Rattle.block_server.specs.Calls.{situation_of, accepted_as}
-use Rattle.block_server.specs.Followed.{LeavesErrors, IssuesRead}
+use Rattle.block_server.specs.Followed.{IsOrdinary, IssuesRead}
 use Rattle.block_server.specs.History.{IsAsShown, Begins, Ties, Stands, IsEntry, IsBook, plain_mode, ports_of, known_of, uses_of, served_id, no_evidence}
 use Rattle.block_server.specs.View.{ServerView}
 use Rattle.block_server.specs.declared.types.Accepted.{Accepted}
@@ -261,7 +261,7 @@ module _ {A : Type 0} (device : A → Device) (s : ServerView A) (places : ℕ) 
         lead_on device first past s (more s.adapter) (events.Submit r) (events.Submitted (Ok id)) (steps.Accept request ∷ []) leads refl (λ r. absurd (false≢true r)) refl
         (tt, fresh) (tt, inr refl) (tt, λ other h i. false≢true h) tt
         (allowed, (request, refl, refl), ports_same old.moment.ports (ports_of s) at.ports_are, λ port ready. none_due true (s.book ++ accepted_as r id ∷ []) next.book (λ e. absurd (false≢true (sym e))) longer port)
-        (by_none LeavesErrors (device s.adapter))
+        (by_none IsOrdinary (device s.adapter))
         (still_shown device first past s leads)
         spared
         (own_backed (device s.adapter) m (steps.Accept request) (λ x. x))
@@ -358,7 +358,7 @@ refused_adds {A} device s r refusal is = record { adds = refuses }
         let at : Stands device old s = leads.stands in
         lead_on device first past s s (events.Submit r) (events.Submitted (Err refusal)) [] leads refl (λ r. refl) refl tt tt tt tt
         (subst (λ (x : refusals.Situation). IsFirstRefusal x r refusal) (sym (situation_is device old s at)) is, refl, ports_same old.moment.ports (ports_of s) at.ports_are)
-        (by_none LeavesErrors (device s.adapter))
+        (by_none IsOrdinary (device s.adapter))
         (still_shown device first past s leads)
         spared
         (nothing_backed (device s.adapter) old.moment.machine)

@@ -23,6 +23,7 @@ use Rattle.block_machine.specs.Refusals.{Situation, IsAcceptable, IsFirstRefusal
 use Rattle.dma_frames.specs.Table.{Run, owner_of, lent_to, LendsOnly, HasFrame}
 use Rattle.block_server.specs.Book.{served, unanswered_of}
 use Rattle.grants.specs.Rows.{SameRows}
+use Rattle.block_server.specs.Followed.{IsDrivenBy, AnyAccess}
 use Rattle.block_server.specs.Port.{IsBroughtUp, IsHealthy, IsTroubled, IsUnlinked, Issued, Serves, SparesClients, Proceeds, EndsAsShown, issued_now, MovesOnly, frames_of}
 use Rattle.block_server.specs.Told.{reads_ended, IsUndisturbed, IsUnharmed}
 use Rattle.block_server.specs.View.{ServerView}
@@ -156,7 +157,7 @@ pub record StepsDevice {A : Type 0} (device : A → Device) (old new : ServerVie
   pub goes_on : Proceeds (served_by old) (device old.adapter) (device new.adapter)
 
 -- The server as it is made: nothing is asked, nothing lent, and no id handed out. It holds the rows and the owners that it was
--- given.
+-- given. Accesses led to its adapter, whose disks tell their sectors if they did.
 pub record IsNew {A : Type 0} (device : A → Device) (owners : List Run) (grants : List GrantRow) (adapter : A) (sectors : ℕ) (s : ServerView A) : Type 0 where
   pub book : s.book ≡ []
   pub issued : s.issued ≡ false
@@ -168,3 +169,5 @@ pub record IsNew {A : Type 0} (device : A → Device) (owners : List Run) (grant
   pub free : (f : Frame) → lent_to s.table f ≡ None
   pub spares : SparesClients [] (device adapter) (device s.adapter)
   pub brought_up : IsBroughtUp s.state (device adapter) (device s.adapter)
+  pub came : IsDrivenBy AnyAccess (device adapter) (device s.adapter)
+  pub telling : (device s.adapter).telling ≡ (device adapter).telling

@@ -1,12 +1,16 @@
 -- What a stretch of accesses is to the block machine: its steps (this project's own).
-use Rattle.std.specs.Prelude.{ℕ, Bool, true, ◌≡◌, ◌<◌, List, [], ◌∷◌, length, All}
+use Rattle.std.specs.Prelude.{ℕ, Bool, true, ◌≡◌, ◌≢◌, ◌⊎◌, ◌<◌, List, [], ◌∷◌, length, All}
 use Rattle.ata_types.specs.declared.request.ClientId.{ClientId}
 use Rattle.ata_types.specs.declared.request.Frame.{Frame}
 use Rattle.ata_types.specs.declared.request.Op.TheVariants.{Read}
 use Rattle.ata_types.specs.declared.request.RequestId.{RequestId}
-use Rattle.hba_regs.specs.declared.reg.Reg.TheVariants.{Ghc, Px}
-use Rattle.hba_regs.specs.declared.reg.PortReg.TheVariants.{Is, Serr}
-use Rattle.adapter.specs.Access.{Access, DoesAll}
+use Rattle.ata_types.specs.declared.request.Reply.{Reply}
+use Rattle.hba_regs.specs.declared.reg.Reg.TheVariants as reg
+use Rattle.hba_regs.specs.declared.reg.Reg.TheVariants.{Px}
+use Rattle.hba_regs.specs.declared.reg.PortReg.TheVariants as port_reg
+use Rattle.hba_regs.specs.declared.reg.PortReg.TheVariants.{Ci}
+use Rattle.adapter.specs.Access.{Access, DoesAll, Reads, Writes}
+use Rattle.adapter.specs.Access.Access.{Writing}
 use Rattle.adapter.specs.Device.{Device}
 use Rattle.block_machine.specs.Due.{is_plain}
 use Rattle.block_machine.specs.Histories.{IsReached, AddsSteps}
@@ -17,8 +21,7 @@ use Rattle.block_machine.specs.Steps.{Step, Issue, Load, May, NoneKept}
 use Rattle.block_machine.specs.declared.due.Mode.{Mode}
 use Rattle.agreement.specs.Agrees.{port_at}
 use Rattle.agreement.specs.Driver.{Known, Knows, ByDevice, EndsWith, AllFree, serving}
-use Rattle.agreement.specs.Facts.{EndedIn}
-use Rattle.agreement.specs.Links.{SparesRegister}
+use Rattle.agreement.specs.Facts.{EndedIn, TellsNoTrouble}
 use Rattle.agreement.specs.Slots.{Free, Serves, Uses, IsOver}
 use Rattle.block_server.specs.Book.{issued_of}
 use Rattle.block_server.specs.Port.{Issued}
@@ -54,13 +57,21 @@ pub record IsDrivenBy (May : Access → Type 0) (old new : Device) : Type 0 wher
 abbrev pub AnyAccess : Access → Type 0
 AnyAccess access = Unit {0}
 
--- It writes neither GHC nor port 0's PxSERR, in which N and X tell of disks that went or came.
-abbrev pub LeavesChanges : Access → Type 0
-LeavesChanges access = SparesRegister Ghc access × SparesRegister (Px (port_at 0) Serr) access
+-- Of registers it writes IS or port 0's PxCI, if any.
+abbrev pub IsOrdinary : Access → Type 0
+IsOrdinary (Writing r v) = (r ≡ reg.Is) ⊎ (r ≡ Px (port_at 0) Ci)
+IsOrdinary access = Unit {0}
 
--- Nor does it write PxIS, which tells of errors.
-abbrev pub LeavesErrors : Access → Type 0
-LeavesErrors access = LeavesChanges access × SparesRegister (Px (port_at 0) Is) access
+-- A service looks first: it reads PxIS and writes back what it read; its other accesses are ordinary. It answers somebody only
+-- where the reading told of no trouble.
+pub record LooksFirst (replies : List Reply) (old new : Device) : Type 0 where
+  pub causes : ℕ
+  pub seen : Device
+  pub reads : Reads (Px (port_at 0) port_reg.Is) causes old seen
+  pub acknowledged : Device
+  pub clears : Writes (Px (port_at 0) port_reg.Is) causes seen acknowledged
+  pub calm : replies ≢ [] → TellsNoTrouble causes
+  pub rest : IsDrivenBy IsOrdinary acknowledged new
 
 -- N and X of port 0's PxSERR stay set where they are
 abbrev pub KeepsChanges : Device → Device → Type 0
@@ -82,9 +93,9 @@ pub record FindsEnd (done : Bool) (id : RequestId) (old new : Device) (m : Machi
   pub ended : done ≡ true → IsOver (new.port 0) 0 × EndedIn (after m steps) (port_at 0) id
   pub kept : NoneKept m (port_at 0) → NoneKept (after m steps) (port_at 0)
 
--- Accesses that leave errors led there, and so the machine follows where slot 0 of port 0 serves a request.
+-- Ordinary accesses led there, and so the machine follows where slot 0 of port 0 serves a request.
 pub record FindsRead (done : Bool) (old new : Device) : Type 0 where
-  pub driven : IsDrivenBy LeavesErrors old new
+  pub driven : IsDrivenBy IsOrdinary old new
   pub adds : (uses : Uses) (parked : ℕ → List RequestId) (id : RequestId) → uses 0 0 ≡ Serves id
       → AddsSteps Knows (known uses parked old) (known uses parked new) (FindsEnd done id old new)
 
@@ -96,10 +107,10 @@ pub record IsReadOf (r : Issued) (e : Pending) : Type 0 where
   pub count : e.request.asked.count ≡ r.count
   pub frames : e.request.asked.frames.items ≡ r.frames
 
--- Accesses that leave errors led there. Where a request that is this read is due on port 0, plain, and slot 0 is free: steps of the device, and
+-- Ordinary accesses led there. Where a request that is this read is due on port 0, plain, and slot 0 is free: steps of the device, and
 -- then the request's issue, lead to a machine that agrees with a driver whose slot 0 serves it.
 pub record IssuesRead (r : Issued) (old new : Device) : Type 0 where
-  pub driven : IsDrivenBy LeavesErrors old new
+  pub driven : IsDrivenBy IsOrdinary old new
   pub issues : (uses : Uses) (parked : ℕ → List RequestId) (m : Machine) (mode : Mode) (e : Pending) → IsReached m
       → Knows m (known uses parked old) → uses 0 0 ≡ Free → May m (Issue mode e) → is_plain mode Read ≡ true → 0 < mode.usable
       → IsReadOf r e → EndsWith (known uses parked old) m (Issue mode e) (serving (known uses parked old) 0 0 e.request.id new)
@@ -109,10 +120,10 @@ abbrev pub IssuesFirst : List Accepted → Device → Device → Type 0
 IssuesFirst [] old new = new ≡ old
 IssuesFirst (e ∷ es) old new = IssuesRead (issued_of e) old new
 
--- Accesses that leave errors led there. Where the machine lets the client load so many bytes of its frame: steps of the device, and then the load of
+-- Ordinary accesses led there. Where the machine lets the client load so many bytes of its frame: steps of the device, and then the load of
 -- these.
 pub record LoadsBytes (client : ClientId) (frame : Frame) (offset : ℕ) (bytes : List ℕ) (old new : Device) : Type 0 where
-  pub driven : IsDrivenBy LeavesErrors old new
+  pub driven : IsDrivenBy IsOrdinary old new
   pub loads : (uses : Uses) (parked : ℕ → List RequestId) (m : Machine) → IsReached m
       → Knows m (known uses parked old) → IsOpen m.owner m.lent client frame offset (length bytes)
       → EndsWith (known uses parked old) m (Load client frame offset bytes) (known uses parked new)

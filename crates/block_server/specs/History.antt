@@ -1,5 +1,5 @@
 -- The server as a history of the block machine: what it is to the machine between two calls (this project's own).
-use Rattle.std.specs.Prelude.{ℕ, Bool, true, false, ◌≡◌, ◌+◌, ◌==◌, ◌++◌, min, map, reverse, List, [], ◌∷◌, Option, Some, None, Ok, Err}
+use Rattle.std.specs.Prelude.{ℕ, Bool, true, false, ◌≡◌, ◌⊎◌, ◌+◌, ◌==◌, ◌++◌, min, map, reverse, List, [], ◌∷◌, Option, Some, None, Ok, Err}
 use Rattle.std.specs.declared.result.Result.{Result}
 use Rattle.ata_types.specs.declared.PortState.{PortState}
 use Rattle.ata_types.specs.declared.PortState.TheVariants.{Ready}
@@ -22,7 +22,7 @@ use Rattle.agreement.specs.Slots.{Free, Serves, Uses, put}
 use Rattle.agreement.specs.Driver.{Known, Knows, IsBacked, idle}
 use Rattle.dma_frames.specs.Table.{owner_of, lent_to}
 use Rattle.block_server.specs.Calls.{state_of}
-use Rattle.block_server.specs.Followed.{IsDrivenBy, LeavesChanges, LeavesErrors}
+use Rattle.block_server.specs.Followed.{IsDrivenBy, IsOrdinary, LooksFirst}
 use Rattle.block_server.specs.Port.{IsHealthy, IsLone, IsRunning, IsResting}
 use Rattle.block_server.specs.Told.{IsUnharmed}
 use Rattle.block_server.specs.View.{ServerView}
@@ -136,12 +136,12 @@ is_refusal (Loaded (Err fault)) = true
 is_refusal (Stepped false) = true
 is_refusal said = false
 
--- Accesses of the driver led from the one device to the other: of a service, such as leave changes, and of another call such as leave
--- errors, too. Where the call is one for the device, its own steps led there.
-abbrev pub CameBy : Ask DeviceStep → Device → Device → Type 0
-CameBy (Told step) old new = Steps old new
-CameBy Service old new = IsDrivenBy LeavesChanges old new
-CameBy _ old new = IsDrivenBy LeavesErrors old new
+-- How a call came from the one device to the other: a call for the device by the device's own steps; a service by looking first, or, where
+-- it answers nobody, by ordinary accesses; and another call by ordinary accesses.
+abbrev pub CameBy : Ask DeviceStep → Said → Device → Device → Type 0
+CameBy (Told step) said old new = Steps old new
+CameBy Service (Served replies) old new = LooksFirst replies old new ⊎ ((replies ≡ []) × IsDrivenBy IsOrdinary old new)
+CameBy _ said old new = IsDrivenBy IsOrdinary old new
 
 -- Port 0 has its disk and tells no trouble when the call begins; and in the call no disk of it comes or goes, and nothing fails.
 pub record GoesWell (old new : Device) : Type 0 where
@@ -154,7 +154,7 @@ pub record GoesWell (old new : Device) : Type 0 where
 -- finds: so a service answers what had ended; and after it port 0 is as it shows, and the machine agrees with a driver of the
 -- device.
 pub record Ties (old : Instant Device) (h : Happening Device DeviceStep) : Type 0 where
-  pub came : CameBy h.event.ask old.device h.device
+  pub came : CameBy h.event.ask h.event.said old.device h.device
   pub backed : IsBacked old.device h.device old.moment.machine h.event.steps
   pub asked : (step : DeviceStep) → h.event.ask ≡ Told step → h.event.said ≡ Stepped true → Asked step old.device h.device
   pub refused : is_refusal h.event.said ≡ true → h.device ≡ old.device

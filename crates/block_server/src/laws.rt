@@ -1,5 +1,5 @@
 // Laws of the definitions, for callers: the clause is the theorem. These functions do nothing.
-ghost use Rattle.std.specs.Prelude.{ℕ, ◌≡◌, true, List, ◌+◌, ◌≤◌, ◌⊎◌, ◌∷◌, [], None, Some};
+ghost use Rattle.std.specs.Prelude.{ℕ, ◌≡◌, true, false, List, ◌+◌, ◌≤◌, ◌⊎◌, ◌∷◌, [], None, Some};
 ghost use Rattle.adapter.specs.Device.{Device};
 ghost use Rattle.adapter.specs.FirstRead.{first_read};
 ghost use Rattle.adapter.specs.Rules.{IsFree, IsOn, Stays};
@@ -7,7 +7,9 @@ ghost use Rattle.agreement.specs.Errors.{KeepsErrors};
 ghost use Rattle.adapter.specs.declared.access.DeviceStep.{DeviceStep};
 ghost use Rattle.block_machine.specs.Events.{IsRun, EveryReadHolds};
 ghost use Rattle.block_machine.specs.Histories.{Instant, Happening, IsHistory, events_of};
-ghost use Rattle.block_server.specs.Followed.{IsDrivenBy, LeavesChanges, LeavesErrors, KeepsChanges};
+ghost use Rattle.block_server.specs.Followed.{IsDrivenBy, IsOrdinary, LooksFirst, KeepsChanges};
+ghost use Rattle.ata_types.specs.declared.request.Reply.{Reply};
+ghost use Rattle.hba_regs.specs.Bits.{bit};
 ghost use Rattle.block_server.specs.History.{Begins, Ties};
 ghost use Rattle.block_server.specs.Port.{Serves, IsHealthy};
 
@@ -39,9 +41,11 @@ pub fn reads_hold()
         → first.device.telling ≡ true → EveryReadHolds first.moment (events_of past) }
 {}
 
-/// What tells of trouble isn't hidden. While the adapter is on, N and X of port 0's PxSERR stay set where they are set, over the
-/// accesses of each call; and each bit of its PxIS, too, but over those of a service.
+/// What tells of trouble isn't hidden. While the adapter is on, the ordinary accesses of a call leave each bit of port 0's PxIS, and N
+/// and X of its PxSERR, set where they are set. So does a service with N and X; and with each bit of PxIS that it hasn't read.
 pub fn trouble_stays_told()
-    ensures changes { (old new : Device) → IsOn old → IsDrivenBy LeavesChanges old new → KeepsChanges old new }
-    ensures errors { (old new : Device) → IsOn old → IsDrivenBy LeavesErrors old new → KeepsErrors (old.port 0) (new.port 0) }
+    ensures errors { (old new : Device) → IsOn old → IsDrivenBy IsOrdinary old new → KeepsErrors (old.port 0) (new.port 0) }
+    ensures changes { (replies : List Reply) (old new : Device) → IsOn old → LooksFirst replies old new → KeepsChanges old new }
+    ensures causes { (replies : List Reply) (old new : Device) → IsOn old → (l : LooksFirst replies old new)
+        → (place : ℕ) → (l.seen.port 0).is place ≡ true → bit l.causes place ≡ false → (new.port 0).is place ≡ true }
 {}

@@ -1,7 +1,8 @@
 // One read in slot 0 of port 0: issuing it, and seeing that it is done.
-ghost use Rattle.std.specs.Prelude.{◌≡◌, ◌+◌, ◌*◌, ◌/◌, ◌%◌, ◌^◌, ◌<◌, ◌≤◌, ◌||◌, ◌&&◌, ◌==◌, not, true, false, None, Some, length, All};
+ghost use Rattle.std.specs.Prelude.{List, [], ◌≢◌, ◌≡◌, ◌+◌, ◌*◌, ◌/◌, ◌%◌, ◌^◌, ◌<◌, ◌≤◌, ◌||◌, ◌&&◌, ◌==◌, not, true, false, None, Some, length, All};
 ghost use Rattle.hba_regs.specs.Bits.{bit};
-ghost use Rattle.block_server.specs.Followed.{LeavesChanges, LeavesErrors, AnyUse, SlotIsFree, IsFollowed, FindsRead, IssuesRead};
+ghost use Rattle.ata_types.specs.declared.request.Reply.{Reply};
+ghost use Rattle.block_server.specs.Followed.{AnyAccess, IsOrdinary, LooksFirst, AnyUse, SlotIsFree, IsFollowed, FindsRead, IssuesRead};
 ghost use Rattle.block_server.specs.Port.{IsLone, IsRunning, HoldsRead, Serves, KeepsServing, FindsDone, Proceeds, IsHealthy, IsTroubled, IsUnlinked, Issued};
 ghost use Rattle.block_server.specs.Told.{IsUndisturbed, IsUnharmed};
 
@@ -34,7 +35,7 @@ fn write_read<A: Adapter>(adapter: &mut A, first: Sector, count: u32, frames: &[
     ensures serves { Serves None (A.device adapter.new) }
     ensures holds { HoldsRead (record { first = first.0; count = count; frames = frames.now }) (A.device adapter.new) }
     ensures goes_on { Proceeds None (A.device adapter.old) (A.device adapter.new) }
-    ensures followed { IsFollowed LeavesErrors SlotIsFree (A.device adapter.old) (A.device adapter.new) }
+    ensures followed { IsFollowed IsOrdinary SlotIsFree (A.device adapter.old) (A.device adapter.new) }
 {
     let command = Command {
         code: READ_DMA_EXT,
@@ -103,7 +104,8 @@ pub fn look<A: Adapter>(adapter: &mut A) -> bool
     ensures troubled { IsTroubled ((A.device adapter.old).port 0) → result ≡ false }
     ensures unlinked { IsUnlinked ((A.device adapter.old).port 0) → IsUndisturbed (A.device adapter.old) (A.device adapter.new) → result ≡ false }
     ensures undisturbed { IsHealthy ((A.device adapter.old).port 0) → IsUnharmed (A.device adapter.old) (A.device adapter.new) → result ≡ true }
-    ensures followed { IsFollowed LeavesChanges AnyUse (A.device adapter.old) (A.device adapter.new) }
+    ensures looks { (replies : List Reply) → (replies ≢ [] → result ≡ true) → LooksFirst replies (A.device adapter.old) (A.device adapter.new) }
+    ensures followed { IsFollowed AnyAccess AnyUse (A.device adapter.old) (A.device adapter.new) }
 {
     let interrupts = PortInterrupts(adapter.read(Reg::Px(Port(0), PortReg::Is)));
     adapter.write(Reg::Px(Port(0), PortReg::Is), interrupts.0);

@@ -1,6 +1,7 @@
-use Rattle.std.proofs.Common.{ℕ, ◌≢◌, ◌==◌, ◌∙◌, Bool, not, ◌&&◌, ◌||◌, ◌≡◌, ◌⊎◌, inl, inr, true, false, refl, ap}
-use Rattle.std.proofs.lemmas.Bool.{eq-eqb, ne_eqb}
-use Rattle.block_server.proofs.Finding.{clearing_may, acknowledging_may, looking_followed}
+use Rattle.hba_regs.specs.Bits.{bit}
+use Rattle.std.proofs.Common.{arith, sym, subst, ◌≤◌, ℕ, ◌≢◌, ◌==◌, ◌∙◌, Bool, not, ◌&&◌, ◌||◌, ◌≡◌, ◌⊎◌, inl, inr, true, false, refl, ap}
+use Rattle.std.proofs.lemmas.Bool.{eq-eqb, ne_eqb, false≢true, cases_eq}
+use Rattle.block_server.proofs.Finding.{clearing_may, acknowledging_may, looking_followed, looked_first}
 use Rattle.block_server.proofs.Looking.{looked_run, looked_keep, looked_unset, no_change, no_failure, linked, not_linked, trouble_seen}
 use Rattle.block_server.proofs.slot.look.Goals as goal
 
@@ -80,3 +81,41 @@ returns-clause-troubled g c = λ troubled.
     any_set a b c d e f g (inr (inr (inr (inl hbds)))) = none_if_failure a (b || c) (d || e || f || g) (or_left (d || e || f) g (or_left (d || e) f (or_left d e hbds)))
     any_set a b c d e f g (inr (inr (inr (inr (inl hbfs))))) = none_if_failure a (b || c) (d || e || f || g) (or_left (d || e || f) g (or_left (d || e) f (or_right d e hbfs)))
     any_set a b c d e f g (inr (inr (inr (inr (inr tfes))))) = none_if_failure a (b || c) (d || e || f || g) (or_right (d || e || f) g tfes)
+
+-- where all is undisturbed, what was read tells of no trouble
+none_seen : (a b c d e f g : Bool) → (a && not (b || c) && not (d || e || f || g)) ≡ true
+    → ((b ≡ false) × (c ≡ false)) × (d ≡ false) × (e ≡ false) × (f ≡ false) × (g ≡ false)
+none_seen false b c d e f g h = absurd (false≢true h)
+none_seen true true c d e f g h = absurd (false≢true h)
+none_seen true false true d e f g h = absurd (false≢true h)
+none_seen true false false true e f g h = absurd (false≢true h)
+none_seen true false false false true f g h = absurd (false≢true h)
+none_seen true false false false false true g h = absurd (false≢true h)
+none_seen true false false false false false true h = absurd (false≢true h)
+none_seen true false false false false false false h = ((refl, refl), refl, refl, refl, refl)
+
+among : (P : ℕ → Type 0) → P 27 → P 28 → P 29 → P 30 → (place : ℕ) → 27 ≤ place → place ≤ 30 → P place
+among P a b c d place low high =
+    elim (cases_eq place 27) [
+      | inl e ↦ subst P (sym e) a
+      | inr n ↦ elim (cases_eq place 28) [
+        | inl e ↦ subst P (sym e) b
+        | inr o ↦ elim (cases_eq place 29) [
+          | inl e ↦ subst P (sym e) c
+          | inr p ↦ subst P (last n o p) d
+        ]
+      ]
+    ]
+  where
+    last : place ≢ 27 → place ≢ 28 → place ≢ 29 → 30 ≡ place
+    last n o p = omega (arith, n, o, p, low, high)
+
+pub returns-clause-looks : goal.returns-clause-looks
+returns-clause-looks g c = λ replies some.
+    looked_first replies _ _ _ _ _ _ _ c.read.ensures c.write.ensures c.write-2.ensures c.read-2.ensures (λ answered.
+    let none = none_seen _ _ _ _ _ _ _ (sym c.is_undisturbed.ensures ∙ some answered) in
+    record {
+      change = none.0.0;
+      ready = none.0.1;
+      quiet = among (λ place. bit c.read.result place ≡ false) none.3 none.1 none.2 none.4;
+    })

@@ -8,7 +8,7 @@ use Rattle.adapter.specs.declared.command.Operation.TheVariants.{Read}
 use Rattle.block_server.specs.Bytes.{part}
 use Rattle.block_server.specs.Places.{places_of}
 use Rattle.block_server.specs.Port.{Issued}
-use Rattle.block_server.specs.Followed.{LeavesErrors, SlotIsFree}
+use Rattle.block_server.specs.Followed.{IsOrdinary, SlotIsFree}
 use Rattle.block_server.proofs.Following.{followed_then, storing_followed}
 use Rattle.block_server.proofs.Going.{goes_then, store_goes}
 use Rattle.block_server.proofs.Issuing.{IsRead, Stored, may_store, stored, read_stored}
@@ -76,6 +76,6 @@ returns-clause-followed g c =
     let frames = c.requires.frames in
     let few = c.requires.few in
     let says = c.header.ensures.says.size in
-    followed_then LeavesErrors SlotIsFree _ _ _
+    followed_then IsOrdinary SlotIsFree _ _ _
     (storing_followed 4096 _ _ _ (inr (omega arith, omega (arith, number, len, size, frames, few))) c.store.ensures)
     (storing_followed 0 _ _ _ (inl (omega (arith, says))) c.store-2.ensures)

@@ -4,6 +4,7 @@ use Rattle.std.specs.Vec.{vec_capacity}
 use Rattle.dma_frames.specs.Table.{AreApart}
 use Rattle.block_server.specs.Followed.{AnyAccess, NoneUsed}
 use Rattle.block_server.proofs.Beginning.{new_has_begun}
+use Rattle.block_server.proofs.Driving.{by_then, telling_stays}
 use Rattle.block_server.proofs.Following.{followed_then, followed_so}
 use Rattle.block_server.proofs.Making.{brought_from, new_is_kept}
 use Rattle.block_server.proofs.Sparing.{spares_then}
@@ -31,6 +32,8 @@ returns-clause-made g c = rw (← c.owners.ensures.owners, ← c.grants.ensures.
   free = c.new-table.ensures.free;
   spares = spares_then c.power_on.ensures.on.spares c.bring_up-state.ensures.spares;
   brought_up = brought_from c.bring_up-state.result _ _ _ c.power_on.ensures.on.spares c.bring_up-state.ensures.spares c.bring_up-state.ensures.state;
+  came = by_then c.power_on.ensures.followed.driven c.bring_up-state.ensures.followed.driven;
+  telling = telling_stays (by_then c.power_on.ensures.followed.driven c.bring_up-state.ensures.followed.driven);
 })
 
 pub returns-clause-begins : goal.returns-clause-begins

@@ -1,7 +1,7 @@
-use Rattle.std.proofs.Common.{Bool, true, refl, sym, ◌∙◌, ap, subst, List, [], ◌∷◌, ◌++◌}
+use Rattle.std.proofs.Common.{inl, inr, Bool, true, refl, sym, ◌∙◌, ap, subst, List, [], ◌∷◌, ◌++◌}
 use Rattle.ata_types.specs.declared.request.Reply.{Reply}
 use Rattle.adapter.proofs.Absurd.{true-false}
-use Rattle.block_server.proofs.Driving.{by_none, by_then, by_less}
+use Rattle.block_server.proofs.Driving.{by_none, looks_then}
 use Rattle.block_server.specs.Calls.{Services, done_reply}
 use Rattle.block_server.specs.View.{ServerView}
 use Rattle.block_server.proofs.Coming.{undisturbed_both}
@@ -13,7 +13,7 @@ use Rattle.std.specs.List.{All}
 use Rattle.agreement.proofs.Adding.{nothing_backed}
 use Rattle.block_machine.specs.Events.{Service, Served}
 use Rattle.block_machine.specs.Histories.{Adds}
-use Rattle.block_server.specs.Followed.{LeavesChanges, FindsRead, IssuesFirst}
+use Rattle.block_server.specs.Followed.{IsOrdinary, FindsRead, IssuesFirst}
 use Rattle.block_server.specs.History.{Begins, Ties, Stands, uses_of, served_id}
 use Rattle.std.specs.Vec.{vec_capacity}
 use Rattle.block_server.specs.Book.{IsAccepted, served}
@@ -40,7 +40,7 @@ returns-in_default-clause-adds g c =
     let Here : ServerView g.row.A.Denot → Type 0 = λ v. Adds Begins Ties (Stands device) v v Service (Served c.new-replies.result.items) in
     let Said : List Reply → Type 0 = λ replies. Adds Begins Ties (Stands device) s s Service (Served replies) in
     subst Here c.self.view_is (subst Said (sym c.new-replies.ensures) (nothing_adds device s (vec_capacity c.self.inside.book) c.self.invariant s.adapter
-    (by_none LeavesChanges (device s.adapter)) (as_shown s.state (served s.issued s.book) (device s.adapter) c.self.invariant.port) (λ ready issued healthy unharmed clear. c.in_default.not-Ready ready)
+    (inr (refl, by_none IsOrdinary (device s.adapter))) (as_shown s.state (served s.issued s.book) (device s.adapter) c.self.invariant.port) (λ ready issued healthy unharmed clear. c.in_default.not-Ready ready)
     (record { adds = λ m reached knows. ([], tt, knows, record { backed = nothing_backed (device s.adapter) m; only = tt }) })))
 
 pub returns-then-not-look-clause-services : goal.returns-then-not-look-clause-services
@@ -78,7 +78,7 @@ returns-then-not-look-clause-adds g c =
     let There : ServerView g.row.A.Denot → Type 0 = λ v. Adds Begins Ties (Stands device) s v Service (Served c.new-replies.result.items) in
     let Said : g.row.A.Denot → List Reply → Type 0 = λ adapter replies. Adds Begins Ties (Stands device) s (record s { adapter = adapter }) Service (Served replies) in
     let looked : Unanswered device s (device c.look.new.adapter) → Adds Begins Ties (Stands device) s (record s { adapter = c.look.new.adapter }) Service (Served []) =
-    λ unanswered. nothing_adds device s places c.self.invariant c.look.new.adapter c.look.ensures.followed.driven
+    λ unanswered. nothing_adds device s places c.self.invariant c.look.new.adapter (inl (c.look.ensures.looks [] (λ some. absurd (some refl))))
     (ready_shown s.state (served s.issued s.book) (device c.look.new.adapter) c.in-Ready.is (c.look.ensures.serves _ (answering.serving device s places c.self.invariant c.in-Ready.is)).0) unanswered (c.look.ensures.followed.adds (uses_of (served_id s.issued s.book)) (λ port. []) tt) in
     subst Here c.self.view_is (
     elim c.then-not-look.branch [
@@ -93,7 +93,7 @@ returns-then-not-look-clause-adds g c =
           (ready_shown s.state _ (device w.is_done.new.adapter) c.in-Ready.is
           (answering.not_done device s places c.self.invariant c.in-Ready.is w.if-not-self.false _ _ (c.look.ensures.serves _ (answering.serving device s places c.self.invariant c.in-Ready.is)).0 w.is_done.result w.is_done.ensures.found w.if-not-is_done.true))
           (λ _ issued healthy unharmed clear. true-false (w.is_done.ensures.seen (c.look.ensures.unset clear)) w.if-not-is_done.true)
-          (device c.look.new.adapter) w.is_done.result c.look.ensures.followed w.is_done.ensures.followed))
+          (device c.look.new.adapter) w.is_done.result (c.look.ensures.looks [] (λ some. absurd (some refl))) c.look.ensures.followed w.is_done.ensures.followed))
     ])
 
 pub issue_first-self-inside-requires-clause-serves :
@@ -178,6 +178,6 @@ returns-clause-adds g c =
     let replies_are = c.push.ensures.items ∙ ap (λ (replies : List Reply). replies ++ done_reply e ∷ []) c.new-replies.ensures in
     subst Here c.self.view_is (subst Said (sym replies_are)
     (answering_adds device s places c.self.invariant c.in-Ready.is c.if-not-self.false e rest book_is c.give_back.new.self c.give_back.ensures middle
-    (by_then c.look.ensures.followed.driven (by_less (subst Finds c.if-not-is_done.false c.is_done.ensures.followed).driven))
+    (looks_then (c.look.ensures.looks (done_reply e ∷ []) (λ _. c.if-not-look.false)) (subst Finds c.if-not-is_done.false c.is_done.ensures.followed).driven)
     (found_adds e.id old looked middle true c.look.ensures.followed (subst Finds c.if-not-is_done.false c.is_done.ensures.followed))
     new again (ready_shown s.state _ (device new) c.in-Ready.is next.serves) (λ not. sym same ∙ next.none not) (λ is none. next.some is (same ∙ none)) (subst Issues same next.followed)))
