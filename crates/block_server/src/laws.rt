@@ -35,7 +35,7 @@ pub fn histories_are_runs()
 {}
 
 /// Where the adapter's disks tell their sectors, each read of a history that was answered Ok has, at the end of the call that
-/// answered it, what was left: the disk's bytes, as no write is there yet.
+/// answered it, what was left.
 pub fn reads_hold()
     ensures { (first : Instant Device) (past : List (Happening Device DeviceStep)) → IsHistory Begins Ties first past
         → first.device.telling ≡ true → EveryReadHolds first.moment (events_of past) }

@@ -17,7 +17,7 @@ use Rattle.block_server.specs.declared.types.Said.{Said}
 
 -- What these calls answered is a run of the block machine. It begins where a new server stands, of this setup and of a disk of so
 -- many sectors; it has one event for each call, in their order (the newest first), with what was asked and said; and each read that
--- was answered Ok has, at the end of the call that answered it, what was left: the disk's bytes, as no write is there yet.
+-- was answered Ok has, at the end of the call that answered it, what was left.
 pub record AreAnswers {A : Type 0} (device : A → Device) (setup : SetupView) (sectors : ℕ)
     (events : List Event) (said : List Said) : Type 0 where
   pub server : ServerView A
