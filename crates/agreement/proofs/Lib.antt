@@ -10,7 +10,6 @@ mod Moving
 mod Moves
 mod Clearing
 mod Ending
-pub mod Cleared
 pub mod Following
 mod Accesses
 pub mod Waiting
@@ -53,7 +52,6 @@ pub mod Lasting
 mod Finished
 mod Setting
 mod Others
-mod Issued
 pub mod Erring
 mod Resetting
 mod Silent

@@ -102,12 +102,6 @@ pub fn ended_is_clear()
         → (d.port port.0).sact slot ≡ false → IsClear (d.port port.0) slot × EndedIn m port id }
 {}
 
-/// Where an unanswered request has ended, the slot that serves it is clear: so a driver that looks finds it done.
-pub fn what_ended_is_clear()
-    ensures { (uses : Uses) (m : Machine) (d : Device) (port slot : ℕ) (e : Pending) → IsReached m → Agrees uses m d
-        → Contains m.book e → e.ended ≡ true → uses port slot ≡ Serves e.request.id → IsClear (d.port port) slot }
-{}
-
 /// A slot's command that is over stays so, and so do its clear bits, whatever the device does, and over each access that doesn't write
 /// the slot's bit of PxCI or PxSACT. And a request that was ended stays so over the device's own steps, and over each step that isn't
 /// of it, so that several that were found ended are answered one after another; Release alone gives back what is kept.

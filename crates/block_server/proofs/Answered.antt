@@ -207,7 +207,7 @@ module _ {A : Type 0} (device : A → Device) (s : ServerView A) where
               heeds = λ well. (
                 names_none,
                 service_heeds DeviceStep old.moment (record { machine = m; ports = ports_of s }) steps
-                    (present_ready device old s at (ap (λ (d : Device). (d.port 0).present) (sym at.device_is) ∙ well.present)) (ports_same old.moment.ports (ports_of s) at.ports_are)
+                    (present_ready device old s at (ap (λ (d : Device). (d.port 0).present) (sym at.device_is) ∙ well.healthy.up.present)) (ports_same old.moment.ports (ports_of s) at.ports_are)
                     (λ e o h. (calm e o (services.told e o h)).0) (ended (subst (λ (d : Device). GoesWell d (device new.adapter)) at.device_is well)),
               );
               uses = (known_of device new).uses;

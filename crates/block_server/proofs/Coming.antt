@@ -47,10 +47,10 @@ link_none d = record { coming = λ _ c. c; up = λ _ u. u; clear = λ _ _ c. c; 
 -- the link is as it was; SERR and PxIS tell no more
 abbrev pub SameFace : PortState → PortState → Type 0
 SameFace old new = (new.link_due ≡ old.link_due) × (new.fresh ≡ old.fresh) × (new.ssts_det ≡ old.ssts_det)
-    × (IsClear old → IsClear new) × ((place : ℕ) → old.is place ≡ false → new.is place ≡ false)
+    × (IsClear old → IsClear new) × ((place : ℕ) → old.is place ≡ false → new.is place ≡ false) × (new.present ≡ old.present)
 
 pub up_face : (old new : PortState) → SameFace old new → IsUp old → IsUp new
-up_face old new f u = record { link = f.2 ∙ u.link; fresh = f.1 ∙ u.fresh; settled = f.0 ∙ u.settled }
+up_face old new f u = record { present = f.5 ∙ u.present; link = f.2 ∙ u.link; fresh = f.1 ∙ u.fresh; settled = f.0 ∙ u.settled }
 
 pub unlinked_face : (old new : PortState) → SameFace old new → IsUnlinked old → IsUnlinked new
 unlinked_face old new f u = (λ seen. u.0 (sym f.2 ∙ seen), f.0 ∙ u.1)
@@ -78,7 +78,7 @@ reading_link r v old new quiet off call =
     ap (λ (d : Device). d.port 0) call.effect ∙ changed_same call.mid.port 0 _ in
     let P : PortState → Type 0 = λ p. SameFace (call.mid.port 0) p in
     keeps_link old call.mid new quiet off call.steps (ap (λ (d : Device). d.tape) call.effect)
-    (subst P (sym here) (refl, refl, refl, λ c. c, λ place h. h))
+    (subst P (sym here) (refl, refl, refl, λ c. c, λ place h. h, refl))
 
 falls : (b mask : Bool) → b ≡ false → (b && mask) ≡ false
 falls false mask h = refl
@@ -91,7 +91,7 @@ masked b false h = absurd (let k : false ≡ true = h in cc)
 
 -- PxIS is written
 pub is_face : (v : ℕ) (p : PortState) (tape : ℕ) → SameFace p (port_written Is v tape p)
-is_face v p tape = (refl, refl, refl, λ c. c, λ place h. falls (p.is place) (not (bit v place)) h)
+is_face v p tape = (refl, refl, refl, λ c. c, λ place h. falls (p.is place) (not (bit v place)) h, refl)
 
 module _ (old new : Device) (quiet : old.hr ≡ false) (off : (old.port 0).cr ≡ false) where
   -- a register of port 0 is written
@@ -101,7 +101,7 @@ module _ (old new : Device) (quiet : old.hr ≡ false) (off : (old.port 0).cr �
       keeps_link old w.mid new quiet off w.steps w.tape (subst P (sym w.here) (face (w.mid.port 0) _))
 
   pub serr_link : (v : ℕ) (w : PutAt 0 Serr v old new) → KeepsLink old new
-  serr_link v w = writing_link Serr v w (λ p tape. (refl, refl, refl, λ c. (falls p.serr_n (not (bit v 16)) c.0, falls p.serr_x (not (bit v 26)) c.1), λ place h. h))
+  serr_link v w = writing_link Serr v w (λ p tape. (refl, refl, refl, λ c. (falls p.serr_n (not (bit v 16)) c.0, falls p.serr_x (not (bit v 26)) c.1), λ place h. h, refl))
 
   pub is_link : (v : ℕ) (w : PutAt 0 Is v old new) → KeepsLink old new
   is_link v w = writing_link Is v w (is_face v)
@@ -122,12 +122,12 @@ module _ (old new : Device) (quiet : old.hr ≡ false) (off : (old.port 0).cr �
 
 -- PxCMD is written: ST and FRE, and what hangs on them
 started_face : (p : PortState) (tape : ℕ) (st fre : Bool) → SameFace p (with_fre fre (with_st st tape p))
-started_face p tape false fre = (refl, refl, refl, λ c. c, λ place h. h)
+started_face p tape false fre = (refl, refl, refl, λ c. c, λ place h. h, refl)
 started_face p tape true fre = by p.st
   where
     by : (was : Bool) → SameFace p (with_fre fre (if was then p else record p { st = true; cr = true; broken = false; halt = restarted p.halt; notes = record p.notes { st_set_at = tape } }))
-    by true = (refl, refl, refl, λ c. c, λ place h. h)
-    by false = (refl, refl, refl, λ c. c, λ place h. h)
+    by true = (refl, refl, refl, λ c. c, λ place h. h, refl)
+    by false = (refl, refl, refl, λ c. c, λ place h. h, refl)
 
 pub cmd_link : (old new : Device) → old.hr ≡ false → (old.port 0).cr ≡ false → (v : ℕ) (w : PutAt 0 Cmd v old new) → KeepsLink old new
 cmd_link old new quiet off v w = writing_link old new quiet off Cmd v w (λ p tape. started_face p tape (bit v 0) (bit v 4))

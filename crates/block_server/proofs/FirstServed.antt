@@ -72,7 +72,7 @@ first_served = (first_lone, first_running, first_held)
 pub first_healthy : IsHealthy (first_read.port 0)
 unfolding changed
 first_healthy = record {
-  up = record { link = refl; fresh = refl; settled = refl };
+  up = record { present = refl; link = refl; fresh = refl; settled = refl };
   clear = (refl, refl);
   calm = λ place low high. refl;
 }

@@ -1,5 +1,5 @@
 -- A service answers what had ended, and heeds what it finds where nothing disturbs the port.
-use Rattle.std.proofs.Common.{ℕ, ◌≡◌, Bool, true, false, List, [], ◌∷◌, Option, Some, refl, sym, ap, ◌∙◌, subst, ⊎_elim, ◌==◌, eqb-true}
+use Rattle.std.proofs.Common.{ℕ, ◌≡◌, Bool, true, false, List, [], ◌∷◌, Option, Some, refl, sym, ap, ◌∙◌, subst, inl, ⊎_elim, ◌==◌, eqb-true}
 use Rattle.std.proofs.lemmas.Bool.{false≢true, or_from}
 use Rattle.std.specs.List.{Contains, list_any}
 use Rattle.std.specs.Prelude.{if◌then◌else◌, nat_eq}
@@ -20,7 +20,7 @@ use Rattle.block_machine.proofs.Scene.{is_refused, all_calmly}
 use Rattle.block_machine.proofs.Started.{ended_issued}
 use Rattle.agreement.specs.Agrees.{Agrees, port_at}
 use Rattle.agreement.specs.Slots.{Free, Serves}
-use Rattle.agreement.proofs.Cleared.{ended_clear}
+use Rattle.agreement.proofs.Finding.{ended_is_clear}
 use Rattle.agreement.proofs.Putting.{put_same}
 use Rattle.block_server.specs.History.{Stands, IsBook, served_id, uses_of, no_evidence, NamesNone}
 use Rattle.block_server.specs.View.{ServerView}
@@ -65,7 +65,7 @@ module _ {A : Type 0} (device : A → Device) (old : Instant Device) (s : Server
       let slot : uses_of (Some e.request.id) 0 0 ≡ Serves e.request.id = put_same (λ port slot. Free) 0 0 (Serves e.request.id) in
       let agrees : Agrees (uses_of (Some e.request.id)) old.moment.machine (device s.adapter) =
       subst (λ (o : Option RequestId). Agrees (uses_of o) old.moment.machine (device s.adapter)) served.1 at.knows.agrees in
-      (served.0, served.1, (ended_clear (uses_of (Some e.request.id)) old.moment.machine (device s.adapter) 0 0 e reached agrees here ended slot).over.issued)
+      (served.0, served.1, (ended_is_clear (uses_of (Some e.request.id)) old.moment.machine (device s.adapter) (port_at 0) 0 e reached agrees (inl (here, ended_issued old.moment.machine e reached here ended)) ended slot).0.over.issued)
 
 -- ---- a service heeds
 

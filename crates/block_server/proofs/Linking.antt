@@ -17,7 +17,7 @@ use Rattle.block_server.proofs.Told.{count_grows, never_told, steps_relate, port
 
 abbrev SameLink : PortState → PortState → Type 0
 SameLink old new = (new.sctl_det ≡ old.sctl_det) × (new.link_due ≡ old.link_due) × (new.fresh ≡ old.fresh) × (new.ssts_det ≡ old.ssts_det)
-    × (new.serr_n ≡ old.serr_n) × (new.serr_x ≡ old.serr_x)
+    × (new.serr_n ≡ old.serr_n) × (new.serr_x ≡ old.serr_x) × (new.present ≡ old.present)
 
 pub record ComesUp (old new : PortState) : Type 0 where
   pub sctl : old.sctl_det ≡ 0
@@ -28,13 +28,13 @@ abbrev pub LinkOn : PortState → PortState → Type 0
 LinkOn old new = SameLink old new ⊎ ComesUp old new
 
 same_link : (p : PortState) → SameLink p p
-same_link p = (refl, refl, refl, refl, refl, refl)
+same_link p = (refl, refl, refl, refl, refl, refl, refl)
 
 pub link_same : (p : PortState) → LinkOn p p
 link_same p = inl (same_link p)
 
 pub up_on : {old new : PortState} → LinkOn old new → IsUp old → IsUp new
-up_on (inl s) u = record { link = s.3 ∙ u.link; fresh = s.2 ∙ u.fresh; settled = s.1 ∙ u.settled }
+up_on (inl s) u = record { present = s.6 ∙ u.present; link = s.3 ∙ u.link; fresh = s.2 ∙ u.fresh; settled = s.1 ∙ u.settled }
 up_on (inr c) u = c.up
 
 pub clear_on : {old new : PortState} → LinkOn old new → IsUp old → IsClear old → IsClear new
@@ -51,7 +51,7 @@ coming_on (inl s) (inr u) = inr (up_on (inl s) u)
 coming_on (inr c) w = inr c.up
 
 link_then : (old mid new : PortState) → LinkOn old mid → LinkOn mid new → LinkOn old new
-link_then old mid new (inl a) (inl b) = inl (b.0 ∙ a.0, b.1 ∙ a.1, b.2 ∙ a.2, b.3 ∙ a.3, b.4 ∙ a.4, b.5 ∙ a.5)
+link_then old mid new (inl a) (inl b) = inl (b.0 ∙ a.0, b.1 ∙ a.1, b.2 ∙ a.2, b.3 ∙ a.3, b.4 ∙ a.4, b.5 ∙ a.5, b.6 ∙ a.6)
 link_then old mid new (inl a) (inr b) = inr (record { sctl = sym a.0 ∙ b.sctl; due = sym a.1 ∙ b.due; up = b.up })
 link_then old mid new (inr a) b = inr (record { sctl = a.sctl; due = a.due; up = up_on b a.up })
 
@@ -66,7 +66,7 @@ module _ (d : Device) (quiet : d.hr ≡ false) where
   links_here (Fatal port cause) can none e = inl (same_link (d.port port))
   links_here (Fall port) can none e = inl (same_link (d.port port))
   links_here (FrFall port) can none e = inl (same_link (d.port port))
-  links_here (LinkUp port sig n) can none e = inr (record { sctl = can.det; due = can.due; up = record { link = refl; fresh = refl; settled = refl } })
+  links_here (LinkUp port sig n) can none e = inr (record { sctl = can.det; due = can.due; up = record { present = can.present; link = refl; fresh = refl; settled = refl } })
   links_here (Unplug port) can none e = never_told is_change d.tape (entry.Unplug (record { 0 = port })) (eq-eqb port 0 e) none
   links_here (Plug port disk) can none e = never_told is_change d.tape (entry.Plug (record { 0 = port }) disk.name) (eq-eqb port 0 e) none
   links_here ResetEnds can none e = true-false can quiet

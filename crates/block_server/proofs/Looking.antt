@@ -114,7 +114,7 @@ acknowledging_alike v d = record {
 
 -- what the accesses of a call make of port 0's face
 same_work : (p : PortState) → SameWork p p
-same_work p = ((refl, refl, refl, λ c. c, λ place h. h), refl)
+same_work p = ((refl, refl, refl, λ c. c, λ place h. h, refl), refl)
 
 reading_work : (r : PortReg) (v : ℕ) (d : Device) → SameWork (d.port 0) ((noted (px r) v d).port 0)
 reading_work r v d = let P : PortState → Type 0 = λ p. SameWork (d.port 0) p in subst P (sym (changed_same d.port 0 _)) (same_work (d.port 0))
@@ -311,7 +311,7 @@ issue_serves r old new s h call =
         healthy = λ u h.
             let Q : PortState → Type 0 = λ p. IsHealthy p in
             let told : (p : Entry → Bool) → count_by p new.tape ≡ count_by p w.mid.tape = λ p. ap (count_by p) w.tape in
-            subst Q (sym w.here) (healthy_face (w.mid.port 0) after (refl, refl, refl, λ c. c, λ place n. n)
+            subst Q (sym w.here) (healthy_face (w.mid.port 0) after (refl, refl, refl, λ c. c, λ place n. n, refl)
             (steps_healthy old w.mid s.0.on.no_reset w.steps (sym (told is_change) ∙ u.0, sym (told is_failure) ∙ u.1) h));
         ended = ap (λ (t : List Entry). count_by is_read_end t) w.tape ∙ (steps_go None old w.mid s w.steps).ended;
         moved = moves_on None new (steps_go None old w.mid s w.steps).moved (λ at client. ap (λ (m : ℕ → ℕ). m at) w.memory) w.tape;

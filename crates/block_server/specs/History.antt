@@ -143,9 +143,8 @@ CameBy (Told step) said old new = Steps old new
 CameBy Service (Served replies) old new = LooksFirst replies old new ⊎ ((replies ≡ []) × IsDrivenBy IsOrdinary old new)
 CameBy _ said old new = IsDrivenBy IsOrdinary old new
 
--- Port 0 has its disk and tells no trouble when the call begins; and in the call no disk of it comes or goes, and nothing fails.
+-- Port 0 tells no trouble when the call begins; and in the call no disk of it comes or goes, and nothing fails.
 pub record GoesWell (old new : Device) : Type 0 where
-  pub present : (old.port 0).present ≡ true
   pub healthy : IsHealthy (old.port 0)
   pub unharmed : IsUnharmed old new
 

@@ -48,8 +48,9 @@ pub record SparesClients (frames : List Frame) (old new : Device) : Type 0 where
 
 -- ---- the link of a port
 
--- The link is up, its first FIS came, and it isn't due to come up again.
+-- A disk is in, its link is up, its first FIS came, and the link isn't due to come up again.
 pub record IsUp (p : device.PortState) : Type 0 where
+  pub present : p.present ≡ true
   pub link : p.ssts_det ≡ 3
   pub fresh : p.fresh ≡ true
   pub settled : p.link_due ≡ false

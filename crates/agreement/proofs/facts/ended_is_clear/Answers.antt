@@ -1,5 +1,5 @@
 use Rattle.agreement.proofs.Finding.{ended_is_clear, clear_is_ended}
-use Rattle.agreement.proofs.Issued.{ended_is_issued}
+use Rattle.block_machine.proofs.Started.{ended_issued}
 use Rattle.agreement.proofs.facts.ended_is_clear.Goals as goal
 
 pub returns-clause-clears : goal.returns-clause-clears
@@ -9,4 +9,4 @@ pub returns-clause-ends : goal.returns-clause-ends
 returns-clause-ends c = clear_is_ended
 
 pub returns-clause-issued : goal.returns-clause-issued
-returns-clause-issued c = ended_is_issued
+returns-clause-issued c = ended_issued
