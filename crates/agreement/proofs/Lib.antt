@@ -60,6 +60,7 @@ mod Silent
 mod Resending
 mod Noting
 mod ComingUp
+mod Raising
 mod Running
 mod Booting
 mod Ended
