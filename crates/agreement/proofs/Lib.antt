@@ -61,6 +61,7 @@ mod Resending
 mod Noting
 mod ComingUp
 mod Raising
+mod Present
 mod Running
 mod Booting
 mod Ended

@@ -29,7 +29,7 @@ ghost use Rattle.agreement.specs.Booted.{BootIsFound};
 ghost use Rattle.agreement.specs.Driver.{Known, Knows, IsOwnPrepared};
 ghost use Rattle.agreement.specs.Errors.{KeepsErrors, NoneComes, ChangesByDisks, StaysClear, ChangesByErrors, IsLeftByReset, IsCleared, IsWork};
 ghost use Rattle.agreement.specs.Facts.{IsHalted, IsAfterReset, Finds, FindsPage, AreStepsOf, IsStill, AreOver, RunsWell, Undisturbed, ShowsNoTrouble, TellsNoTrouble, ClearsNoTrouble, IsFaulted, ShowsFault, HasFaults, IsRecorded, IsAwaited, IsUnflagged, IsQuiet, KeepsRecord, EndedIn, IsClear};
-ghost use Rattle.agreement.specs.Links.{SparesRegister, SameAdapter, LeavesControls, PlugsNone, LeavesDisk, LeavesLink};
+ghost use Rattle.agreement.specs.Links.{SparesRegister, SameAdapter, LeavesControls, PlugsNone, LeavesDisk, LeavesLink, HasDeviceOrNone};
 ghost use Rattle.agreement.specs.Noted.{LeavesNotes};
 ghost use Rattle.agreement.specs.Places.{scratch_of};
 ghost use Rattle.agreement.specs.Slots.{Uses, Free, Own, Serves, IsOver, Brought, put};
@@ -402,6 +402,15 @@ pub fn link_stays()
         → LeavesLink (old.port port) (new.port port) }
     ensures access { (port : Port) (access : Access) (old new : Device) → old.hr ≡ false → SparesRegister (Px port Sctl) access
         → Does access old new → PlugsNone port.0 old new → LeavesLink (old.port port.0) (new.port port.0) }
+{}
+
+/// While no reset is pending, a port whose PxSSTS.DET is 3 or that has no disk in goes on so: a disk that comes shows at
+/// once, and so does a link that comes up. Whatever the device does, and over each access but a write of PxSCTL.
+pub fn device_or_none_stays()
+    ensures steps { (port : ℕ) (old new : Device) → old.hr ≡ false → Steps old new → HasDeviceOrNone (old.port port)
+        → HasDeviceOrNone (new.port port) }
+    ensures access { (port : Port) (access : Access) (old new : Device) → old.hr ≡ false → SparesRegister (Px port Sctl) access
+        → Does access old new → HasDeviceOrNone (old.port port.0) → HasDeviceOrNone (new.port port.0) }
 {}
 
 /// The faults of a port since its ST was set stand on the tape, and the task file shows the last one: so it stays, whatever the
