@@ -62,6 +62,7 @@ mod Noting
 mod ComingUp
 mod Raising
 mod Present
+mod Changing
 mod Running
 mod Booting
 mod Ended
