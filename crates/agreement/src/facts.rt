@@ -284,7 +284,7 @@ pub fn running_well_is_found()
 {}
 
 /// There is a boot for these laws: COMRESET, the link's coming up, what clears the port's errors, the start, and
-/// readings that tell so.
+/// readings that tell so; and each write of it is permitted when it is made.
 pub fn a_boot_runs_well()
     ensures { BootIsFound }
 {}
