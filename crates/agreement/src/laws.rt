@@ -348,7 +348,7 @@ pub fn due_stays()
 
 /// The device's own steps leave the machine's grants and owners, its loans and its next id; and the same requests are unanswered
 /// and kept, in the same order, each as far as it was, or further. So what is due is the same. A frame that isn't lent to a
-/// request that the device may move keeps its bytes.
+/// request that the device may move keeps its bytes. And a port of which no request is kept has none kept after them.
 pub fn steps_spare_the_book()
     ensures spares { (m : Machine) (steps : List Step) → AllDevices steps → SparesBook m (after m steps) }
     ensures none { (m : Machine) → SparesBook m m }
@@ -361,6 +361,8 @@ pub fn steps_spare_the_book()
     ensures frames { (m : Machine) (steps : List Step) (frame : Frame) → IsReached m → AllDevices steps → AllMay m steps
         → ((e : Pending) → MayMove m e → m.lent frame ≡ Some e.request.id → ⊥)
         → (b : ℕ) → (after m steps).memory frame b ≡ m.memory frame b }
+    ensures kept { (m : Machine) (steps : List Step) (port : Port) → AllDevices steps → NoneKept m port
+        → NoneKept (after m steps) port }
 {}
 
 /// A step leaves each request that it isn't of as it was, in the book and among the kept ones: but a tick makes it older, and Release
@@ -387,12 +389,16 @@ pub fn disks_are_told()
         → list_any (changes_disk port) steps ≡ false → All (λ e. IsPlugging port.0 e → ⊥) gained }
 {}
 
-/// A history goes on by steps that may come, and so do stretches of them.
+/// A history goes on by steps that may come, and so do stretches of them. Two stretches of the device's steps are one, too; and so are
+/// two whose reads moved what the disks hold.
 pub fn histories_go_on()
     ensures reached { (m : Machine) (steps : List Step) → IsReached m → AllMay m steps → IsReached (after m steps) }
     ensures may { (m : Machine) (late early : List Step) → AllMay m early → AllMay (after m early) late
         → AllMay m (late ++ early) }
     ensures after { (m : Machine) (late early : List Step) → after m (late ++ early) ≡ after (after m early) late }
+    ensures device { (late early : List Step) → AllDevices late → AllDevices early → AllDevices (late ++ early) }
+    ensures told { (m : Machine) (late early : List Step) → AllTold m early → AllTold (after m early) late
+        → AllTold m (late ++ early) }
 {}
 
 /// And what was prepared for it stays so.
