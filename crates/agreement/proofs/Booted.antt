@@ -1,20 +1,23 @@
 -- A boot of port 0, from COMRESET until the port runs well.
-use Rattle.std.proofs.Common.{ℕ, ◌≡◌, ◌==◌, ◌++◌, Bool, true, false, [], refl, sym, ◌∙◌, ap, arith, if◌then◌else◌}
-use Rattle.std.specs.Prelude.{nat_eq}
-use Rattle.std.proofs.lemmas.Nat.Bits.{bit_at-zero}
+use Rattle.std.proofs.Common.{ℕ, ◌≡◌, ◌≢◌, ◌==◌, ◌++◌, Bool, true, false, [], refl, sym, ◌∙◌, ap, arith, inl, inr, if◌then◌else◌}
+use Rattle.std.specs.Int.{bit_at}
+use Rattle.std.specs.Prelude.{nat_eq, max}
+use Rattle.std.proofs.lemmas.Nat.Bits.{bit_at-zero, bit_at-pow_other, bit_at_or}
+use Rattle.ata_types.specs.declared.Port.{Port}
 use Rattle.std.proofs.lemmas.List.Elements.{All-nil}
 use Rattle.hba_regs.specs.Bits.{bit}
 use Rattle.hba_regs.specs.declared.reg.Reg.{Reg}
 use Rattle.hba_regs.specs.declared.reg.Reg.TheVariants.{Px}
 use Rattle.hba_regs.specs.declared.reg.PortReg.{PortReg}
-use Rattle.hba_regs.specs.declared.reg.PortReg.TheVariants.{Is, Cmd, Tfd, Ssts, Sctl, Serr}
+use Rattle.hba_regs.specs.declared.reg.PortReg.TheVariants.{Is, Cmd, Tfd, Ssts, Sctl, Serr, Ci}
 use Rattle.adapter.specs.Access.{Reads, Writes, noted, written, shown_interrupt}
 use Rattle.adapter.specs.Access.Access.{Reading, Writing}
 use Rattle.adapter.specs.Device.{PortState, Device}
 use Rattle.adapter.specs.Memory.{changed}
-use Rattle.adapter.specs.Rules.{MayStart}
+use Rattle.adapter.specs.Rules.{MayStart, MayWrite, MayWritePort, Stays}
 use Rattle.adapter.specs.Steps.{Can, after}
 use Rattle.adapter.specs.Steps.Step.{LinkUp}
+use Rattle.adapter.proofs.Absurd.{true-false}
 use Rattle.adapter.proofs.Runs.{Steps-refl, Steps-one}
 use Rattle.agreement.specs.Agrees.{port_at}
 use Rattle.agreement.specs.Booted.{waking, BootIsFound}
@@ -22,6 +25,7 @@ use Rattle.agreement.specs.Errors.{IsComing, NoneComes}
 use Rattle.agreement.specs.Facts.{TellsNoTrouble}
 use Rattle.agreement.specs.Links.{IsPlugging, PlugsNone}
 use Rattle.agreement.specs.Started.{IsUp, IsComingUp, SetsNoStart}
+use Rattle.agreement.proofs.Allowing.{write_stays}
 use Rattle.agreement.proofs.Booting.{well_is_found}
 use Rattle.agreement.proofs.ComingUp.{comreset_comes, access_coming, up_is_found, access_up}
 
@@ -73,9 +77,9 @@ waits : Reads (port_reg Tfd) 0x77 quieted ready
 unfolding changed
 waits = record { mid = quieted; steps = Steps-refl quieted; shows = refl; effect = refl }
 
-may_start : MayStart (ready.port 0)
+is_startable : MayStart (ready.port 0)
 unfolding changed
-may_start = record { fallen = refl; receives = refl; programmed = record { clb = refl; clbu = refl; fb = refl; fbu = refl }; link = refl; not_busy = refl }
+is_startable = record { fallen = refl; receives = refl; programmed = record { clb = refl; clbu = refl; fb = refl; fbu = refl }; link = refl; not_busy = refl }
 
 -- 0 has no bit
 no_bit : (place : ℕ) → bit 0 place ≡ false
@@ -96,6 +100,34 @@ tells = record { mid = started; steps = Steps-refl started; shows = λ place cau
 
 no_trouble : TellsNoTrouble 0
 no_trouble = record { change = no_bit 6; ready = no_bit 22; quiet = λ place low high. no_bit place }
+
+-- ---- the writes are permitted
+
+permitted : (r : PortReg) (v : ℕ) (d : Device) → ((p : Port) → port_reg r ≢ Px p Ci) → d.ae ≡ true → d.hr ≡ false → d.pi ≡ 0x0f → MayWritePort r v d (d.port 0) → Stays (MayWrite (port_reg r) v) d
+permitted r v d other ae hr pi x = write_stays (port_reg r) v d other (record { ae = ae; no_reset = hr }, (omega arith, ap (λ (n : ℕ). bit n 0) pi), x)
+
+may_send : Stays (MayWrite (port_reg Sctl) 1) waking
+unfolding changed
+may_send = permitted Sctl 1 waking (λ p e. cc) refl refl refl (refl, inr refl)
+
+may_release : Stays (MayWrite (port_reg Sctl) 0) sent
+unfolding changed
+may_release = permitted Sctl 0 sent (λ p e. cc) refl refl refl (refl, inl refl)
+
+-- 11h has the bits of ST and FRE alone
+two_bits : (place : ℕ) → place ≢ 0 → place ≢ 4 → bit_at 0x11 place ≡ 0
+two_bits place start receive =
+    bit_at_or 0x10 1 place ∙ ap (λ (n : ℕ). max n (bit_at 1 place)) (bit_at-pow_other 4 place receive) ∙ ap (λ (n : ℕ). max 0 n) (bit_at-pow_other 0 place start)
+
+-- PxCMD wasn't read as yet
+may_start : Stays (MayWrite (port_reg Cmd) 0x11) ready
+unfolding changed
+may_start = permitted Cmd 0x11 ready (λ p e. cc) refl refl refl (record {
+  start = λ b. inr is_startable;
+  receive = λ b. inl refl;
+  stop_receiving = λ b. true-false refl b;
+  others = λ place lt start receive. ap (λ (n : ℕ). n == 1) (two_bits place start receive ∙ sym (bit_at-zero place));
+})
 
 -- ---- what is known of it
 
@@ -131,18 +163,23 @@ is_ready = access_up (port_at 0) (Reading (port_reg Tfd) 0x77) quieted ready ref
 pub boot_is_found : BootIsFound
 boot_is_found = record {
   sent = sent;
+  may_send = may_send;
   sends = writes (port_reg Sctl) 1 waking;
   released = released;
+  may_release = may_release;
   releases = writes (port_reg Sctl) 0 sent;
   linked = linked;
   links = links;
   cleared = cleared;
+  may_clear = permitted Serr 0xffffffff linked (λ p e. cc) refl refl refl tt;
   clears = writes (port_reg Serr) 0xffffffff linked;
   quieted = quieted;
+  may_quiet = permitted Is 0xffffffff cleared (λ p e. cc) refl refl refl tt;
   quiets = writes (port_reg Is) 0xffffffff cleared;
   ready = ready;
   waits = waits;
-  may = may_start;
+  may = is_startable;
+  may_start = may_start;
   started = started;
   starts = writes (port_reg Cmd) 0x11 ready;
   found = found;

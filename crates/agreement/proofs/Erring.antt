@@ -167,15 +167,15 @@ steps_undue port old new off undue s = (leads_turn port s.steps old new off undu
 
 -- what a write of PxCMD leaves of a port
 abbrev pub SameBeside : PortState → PortState → Type 0
-SameBeside p q = (q.is ≡ p.is) × (q.serr_n ≡ p.serr_n) × (q.serr_x ≡ p.serr_x) × (q.ssts_det ≡ p.ssts_det) × (q.link_due ≡ p.link_due) × (q.disk ≡ p.disk)
+SameBeside p q = (q.is ≡ p.is) × (q.serr_n ≡ p.serr_n) × (q.serr_x ≡ p.serr_x) × (q.ssts_det ≡ p.ssts_det) × (q.link_due ≡ p.link_due) × (q.disk ≡ p.disk) × (q.present ≡ p.present)
 
 pub command_beside : (v tape : ℕ) (p : PortState) → SameBeside p (port_written Cmd v tape p)
 command_beside v tape p = by (bit v 0) p.st refl
   where
     by : (b s : Bool) → p.st ≡ s → SameBeside p (with_fre (bit v 4) (with_st b tape p))
-    by false s is = (refl, refl, refl, refl, refl, refl)
-    by true true is = subst (λ (x : PortState). SameBeside p (with_fre (bit v 4) x)) (sym (cond-true p.st p _ is)) (refl, refl, refl, refl, refl, refl)
-    by true false is = subst (λ (x : PortState). SameBeside p (with_fre (bit v 4) x)) (sym (cond-false p.st p _ is)) (refl, refl, refl, refl, refl, refl)
+    by false s is = (refl, refl, refl, refl, refl, refl, refl)
+    by true true is = subst (λ (x : PortState). SameBeside p (with_fre (bit v 4) x)) (sym (cond-true p.st p _ is)) (refl, refl, refl, refl, refl, refl, refl)
+    by true false is = subst (λ (x : PortState). SameBeside p (with_fre (bit v 4) x)) (sym (cond-false p.st p _ is)) (refl, refl, refl, refl, refl, refl, refl)
 
 -- N and X rise no more, and DET isn't raised to 3
 abbrev Unraised : PortState → PortState → Type 0

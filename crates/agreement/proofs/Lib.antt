@@ -58,6 +58,9 @@ mod Silent
 mod Resending
 mod Noting
 mod ComingUp
+mod Raising
+mod Present
+mod Changing
 mod Running
 mod Booting
 mod Ended

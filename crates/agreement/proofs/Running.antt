@@ -1,12 +1,12 @@
 -- A port that was started goes on while nothing disturbs it, its bits of trouble stay clear, and so it runs well.
-use Rattle.std.proofs.Common.{ℕ, ◌≡◌, ◌⊎◌, ◌≤◌, ◌++◌, not, Bool, true, false, List, [], ◌∷◌, length, refl, sym, ◌∙◌, ap, subst, arith, inl, inr}
-use Rattle.std.proofs.lemmas.Bool.{cond-true, and_left}
+use Rattle.std.proofs.Common.{ℕ, ◌≡◌, ◌≤◌, ◌++◌, Bool, true, false, List, [], ◌∷◌, length, refl, sym, ◌∙◌, ap, subst}
+use Rattle.std.proofs.lemmas.Bool.{cond-true}
 use Rattle.ata_types.specs.declared.Port.{Port}
 use Rattle.hba_regs.specs.Bits.{bit}
 use Rattle.hba_regs.specs.declared.reg.Reg.{Reg}
 use Rattle.hba_regs.specs.declared.reg.Reg.TheVariants.{Px}
 use Rattle.hba_regs.specs.declared.reg.PortReg.{PortReg}
-use Rattle.hba_regs.specs.declared.reg.PortReg.TheVariants.{Is, Cmd, Sctl}
+use Rattle.hba_regs.specs.declared.reg.PortReg.TheVariants.{Cmd, Sctl}
 use Rattle.adapter.specs.Access.{Access, Does, Reads, Writes, port_written, with_st, with_fre}
 use Rattle.adapter.specs.Access.Access.{Reading, Writing}
 use Rattle.adapter.specs.Device.{PortState, Device}
@@ -16,7 +16,6 @@ use Rattle.adapter.specs.Steps.{Step, Can, after, Leads, Steps}
 use Rattle.adapter.specs.Steps.Step.{Fetch, FetchFault, Move, Clear, Done, Fault, Fatal, Fall, FrFall, LinkUp, Unplug, Plug, ResetEnds, Scribble}
 use Rattle.adapter.specs.declared.tape.Entry.{Entry}
 use Rattle.adapter.proofs.Absurd.{true-false}
-use Rattle.adapter.proofs.Changed.{changed_other}
 use Rattle.adapter.proofs.KeptLemmas.{step_keeps, steps_keep}
 use Rattle.agreement.specs.Agrees.{port_at}
 use Rattle.agreement.specs.Errors.{ChangesByDisks, StaysClear}
@@ -24,10 +23,11 @@ use Rattle.agreement.specs.Facts.{RunsWell, IsDisturbance, Undisturbed, ShowsNoT
 use Rattle.agreement.specs.Links.{SparesRegister}
 use Rattle.agreement.specs.Started.{IsStarted, ClearsNoStart}
 use Rattle.agreement.proofs.Crossing.{access_steps, effect_keeps}
-use Rattle.agreement.proofs.Erring.{command_beside, plugs_come, steps_change, access_change}
+use Rattle.agreement.proofs.Erring.{plugs_come, steps_change, access_change}
 use Rattle.agreement.proofs.Gaining.{NoneOf, gained_none}
 use Rattle.agreement.proofs.Healthy.{at_port, undisturbed_parts}
 use Rattle.agreement.proofs.Linking.{spared, undisturbed_plugs}
+use Rattle.agreement.proofs.Raising.{steps_unset, access_unset}
 
 -- ---- steps that disturb nothing
 
@@ -123,45 +123,12 @@ access_started port access old new off keeps spares u x h =
 abbrev Quiets : PortState → PortState → Type 0
 Quiets first p = (place : ℕ) → 27 ≤ place → place ≤ 30 → first.is place ≡ false → p.is place ≡ false
 
--- no place of an error is one of a command's end
-no_error : (flag place : ℕ) → (flag ≡ 0) ⊎ (flag ≡ 1) ⊎ (flag ≡ 3) → 27 ≤ place → place ≡ flag → ⊥
-no_error flag place (inl z) low e = omega (arith, z, low, e)
-no_error flag place (inr (inl z)) low e = omega (arith, z, low, e)
-no_error flag place (inr (inr z)) low e = omega (arith, z, low, e)
-
-module _ (first : PortState) (port : ℕ) (d : Device) (gained : List Entry) (calm : NoneOf (IsDisturbance port) gained) where
-  abbrev Q : PortState → Type 0
-  Q p = Quiets first p
-
-  step_quiets : (step : Step) → Can step d → (after step d).tape ≡ d.tape ++ gained → Q (d.port port) → Q ((after step d).port port)
-  step_quiets (Fetch p slot c places) can is h = at_port Q Q d p port _ h (λ e x. x) (λ ne x. x)
-  step_quiets (FetchFault p slot queued kept_bits) can is h = at_port Q Q d p port _ h
-      (λ e x. absurd (gained_none (IsDisturbance port) d.tape _ gained is calm e)) (λ ne x. x)
-  step_quiets (Move p slot t bytes) can is h = at_port Q Q d p port _ h (λ e x. x) (λ ne x. x)
-  step_quiets (Clear p slot t from count) can is h = at_port Q Q d p port _ h (λ e x. x) (λ ne x. x)
-  step_quiets (Done p slot flag t) can is h = at_port Q Q d p port _ h
-      (λ e x place low up clear. changed_other (d.port p).is flag true place (no_error flag place can.shown low) ∙ x place low up clear) (λ ne x. x)
-  step_quiets (Fault p slot error kept_bits t) can is h = at_port Q Q d p port _ h
-      (λ e x. absurd (gained_none (IsDisturbance port) d.tape _ gained is calm e)) (λ ne x. x)
-  step_quiets (Fatal p place) can is h = at_port Q Q d p port _ h
-      (λ e x. absurd (gained_none (IsDisturbance port) d.tape _ gained is calm e)) (λ ne x. x)
-  step_quiets (Fall p) can is h = at_port Q Q d p port _ h (λ e x. x) (λ ne x. x)
-  step_quiets (FrFall p) can is h = at_port Q Q d p port _ h (λ e x. x) (λ ne x. x)
-  step_quiets (LinkUp p sig n) can is h = at_port Q Q d p port _ h (λ e x. x) (λ ne x. x)
-  step_quiets (Unplug p) can is h = at_port Q Q d p port _ h (λ e x. x) (λ ne x. x)
-  step_quiets (Plug p disk) can is h = at_port Q Q d p port _ h (λ e x. x) (λ ne x. x)
-  step_quiets ResetEnds can is h = λ place low up clear. refl
-  step_quiets (Scribble p slot at bytes) can is h = h
-
+-- faults and fatal errors are disturbances
 on_quiets : (port : ℕ) (old new : Device) → Undisturbed port old new → Steps old new → Quiets (old.port port) (new.port port)
-on_quiets port old new u s =
-    leads_calmly port (λ d. Quiets (old.port port) (d.port port)) (λ d gained calm step can is x. step_quiets (old.port port) port d gained calm step can is x)
-    s.steps old new s.lead u (λ place low up clear. clear)
+on_quiets port old new u s = λ place low up clear. steps_unset (IsDisturbance port) port place low (λ f e z. e) (λ at e z. e) old new s (u.gained, u.tape, u.calm) clear
 
-written_quiets : (first : PortState) (r : PortReg) (v tape : ℕ) (p : PortState) → Quiets first p → Quiets first (port_written r v tape p)
-written_quiets first Is v tape p h = λ place low up clear. and_left (p.is place) (not (bit v place)) (h place low up clear)
-written_quiets first Cmd v tape p h = λ place low up clear. ap (λ (f : ℕ → Bool). f place) (command_beside v tape p).0 ∙ h place low up clear
-written_quiets first _ v tape p h = h
+access_quiets : (port : ℕ) (access : Access) (old new : Device) → Undisturbed port old new → Does access old new → Quiets (old.port port) (new.port port)
+access_quiets port access old new u x = λ place low up clear. access_unset (IsDisturbance port) port place low (λ f e z. e) (λ at e z. e) access old new x (u.gained, u.tape, u.calm) clear
 
 -- N and X, where no link is due
 clear_of : (port : ℕ) (old new : Device) → Undisturbed port old new → ChangesByDisks port old new → Quiets (old.port port) (new.port port) → StaysClear (old.port port) (new.port port)
@@ -173,12 +140,7 @@ pub steps_clear : (port : ℕ) (old new : Device) → old.hr ≡ false → (old.
 steps_clear port old new off undue u s = clear_of port old new u (steps_change port old new off undue s) (on_quiets port old new u s)
 
 pub access_clear : (port : Port) (access : Access) (old new : Device) → old.hr ≡ false → (old.port port.0).link_due ≡ false → Undisturbed port.0 old new → Does access old new → StaysClear (old.port port.0) (new.port port.0)
-access_clear port access old new off undue u x =
-    let s = access_steps access old new x in
-    clear_of port.0 old new u (access_change port access old new off undue x)
-    (effect_keeps (Quiets (old.port port.0)) port (λ p r v y. y) (λ p y. y) access old new x
-    (λ r v mid is steps y. written_quiets (old.port port.0) r v (length mid.tape) (mid.port port.0) y)
-    (on_quiets port.0 old s.0 (calm_before port.0 old s.0 new s.2 u) s.1))
+access_clear port access old new off undue u x = clear_of port.0 old new u (access_change port access old new off undue x) (access_quiets port.0 access old new u x)
 
 -- ---- both
 

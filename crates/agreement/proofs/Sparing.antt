@@ -200,3 +200,6 @@ pub none_kept_on : (m n : Machine) (port : Port) → SparesBook m n → NoneKept
 none_kept_on m n port s none e i is =
     let q = found_before m.kept n.kept e s.kept i in
     none q.0 q.1 (ap (λ (r : Accepted). r.port) (sym q.2.request) ∙ is)
+
+pub none_kept_after : (m : Machine) (steps : List Step) (port : Port) → AllDevices steps → NoneKept m port → NoneKept (after m steps) port
+none_kept_after m steps port device none = none_kept_on m (after m steps) port (steps_spare m steps device) none

@@ -6,7 +6,7 @@ use Rattle.adapter.specs.Access.{Reads, Writes}
 use Rattle.adapter.specs.Device.{PortState, Device}
 use Rattle.adapter.specs.FirstRead.{first_read, quiet_port, reading_port}
 use Rattle.adapter.specs.Memory.{changed}
-use Rattle.adapter.specs.Rules.{MayStart}
+use Rattle.adapter.specs.Rules.{MayStart, MayWrite, Stays}
 use Rattle.agreement.specs.Agrees.{port_at}
 use Rattle.agreement.specs.Facts.{RunsWell}
 
@@ -18,23 +18,28 @@ abbrev pub waking : Device
 waking = record first_read { port = changed (λ _. quiet_port) 0 waking_port }
 
 -- There such accesses may give these values: COMRESET is sent and ended, PxSSTS is read with a device, PxSERR and PxIS
--- are cleared, PxTFD is read idle, so that ST may be set, and is, and PxIS is read with no cause. The port runs well
--- then.
+-- are cleared, PxTFD is read idle, so that ST may be set, and is, and PxIS is read with no cause. Each write is permitted
+-- when it is made, whatever the device does first. The port runs well then.
 pub record BootIsFound : Type 0 where
   pub sent : Device
+  pub may_send : Stays (MayWrite (Px (port_at 0) Sctl) 1) waking
   pub sends : Writes (Px (port_at 0) Sctl) 1 waking sent
   pub released : Device
+  pub may_release : Stays (MayWrite (Px (port_at 0) Sctl) 0) sent
   pub releases : Writes (Px (port_at 0) Sctl) 0 sent released
   pub linked : Device
   pub links : Reads (Px (port_at 0) Ssts) 3 released linked
   pub cleared : Device
+  pub may_clear : Stays (MayWrite (Px (port_at 0) Serr) 0xffffffff) linked
   pub clears : Writes (Px (port_at 0) Serr) 0xffffffff linked cleared
   pub quieted : Device
+  pub may_quiet : Stays (MayWrite (Px (port_at 0) Is) 0xffffffff) cleared
   pub quiets : Writes (Px (port_at 0) Is) 0xffffffff cleared quieted
   pub ready : Device
   pub waits : Reads (Px (port_at 0) Tfd) 0x77 quieted ready
   pub may : MayStart (ready.port 0)
   pub started : Device
+  pub may_start : Stays (MayWrite (Px (port_at 0) Cmd) 0x11) ready
   pub starts : Writes (Px (port_at 0) Cmd) 0x11 ready started
   pub found : Device
   pub tells : Reads (Px (port_at 0) Is) 0 started found

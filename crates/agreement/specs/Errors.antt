@@ -3,7 +3,7 @@ use Rattle.std.specs.Prelude.{ℕ, true, false, ◌≡◌, ◌≤◌, ◌++◌, 
 use Rattle.adapter.specs.Device.{PortState, Device}
 use Rattle.adapter.specs.declared.tape.Entry.{Entry}
 use Rattle.adapter.specs.declared.tape.Entry.TheVariants as entry
-use Rattle.agreement.specs.Facts.{IsAfterReset}
+use Rattle.agreement.specs.Facts.{IsAfterReset, IsFaultOf}
 use Rattle.agreement.specs.Links.{PlugsNone}
 
 -- each bit of PxIS that is set stays so, and so do N and X of PxSERR
@@ -35,6 +35,30 @@ pub record StaysClear (old new : PortState) : Type 0 where
   pub serr_n : old.serr_n ≡ false → new.serr_n ≡ false
   pub serr_x : old.serr_x ≡ false → new.serr_x ≡ false
   pub is : (place : ℕ) → 27 ≤ place → place ≤ 30 → old.is place ≡ false → new.is place ≡ false
+
+-- a fatal error of the port
+abbrev pub IsFatalOf : ℕ → Entry → Type 0
+IsFatalOf port (entry.Fatal at) = at.0 ≡ port
+IsFatalOf port _ = ⊥
+
+-- the tape gained no fatal error of the port
+pub record NoneFatal (port : ℕ) (old new : Device) : Type 0 where
+  pub gained : List Entry
+  pub tape : new.tape ≡ old.tape ++ gained
+  pub none : All (λ e. IsFatalOf port e → ⊥) gained
+
+-- the tape gained no fault of the port
+pub record NoneFails (port : ℕ) (old new : Device) : Type 0 where
+  pub gained : List Entry
+  pub tape : new.tape ≡ old.tape ++ gained
+  pub none : All (λ e. IsFaultOf port e → ⊥) gained
+
+-- Bits 27 to 29 of PxIS, IFS, HBDS and HBFS, rise only for a fatal error of the port; and bit 30, TFES, only for a fault of it
+-- (AHCI 1.3.1, 3.3.5).
+pub record ChangesByErrors (port : ℕ) (old new : Device) : Type 0 where
+  pub fatal : NoneFatal port old new → (place : ℕ) → 27 ≤ place → place ≤ 29 → (old.port port).is place ≡ false
+      → (new.port port).is place ≡ false
+  pub fault : NoneFails port old new → (old.port port).is 30 ≡ false → (new.port port).is 30 ≡ false
 
 -- ---- a reset
 

@@ -81,3 +81,7 @@ pub record ComesUp (old new : PortState) : Type 0 where
 -- nothing has changed the link, or one that was due has come up
 abbrev pub LeavesLink : PortState → PortState → Type 0
 LeavesLink old new = SameLink old new ⊎ ComesUp old new
+
+-- a device shows in PxSSTS, whose DET is 3, or no disk is in (AHCI 1.3.1, 3.3.10)
+abbrev pub HasDeviceOrNone : PortState → Type 0
+HasDeviceOrNone p = (p.ssts_det ≡ 3) ⊎ (p.present ≡ false)

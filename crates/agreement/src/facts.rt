@@ -27,9 +27,9 @@ ghost use Rattle.agreement.specs.Agrees.{Agrees};
 ghost use Rattle.agreement.specs.Awaits.{AwaitsPage};
 ghost use Rattle.agreement.specs.Booted.{BootIsFound};
 ghost use Rattle.agreement.specs.Driver.{Known, Knows, IsOwnPrepared};
-ghost use Rattle.agreement.specs.Errors.{KeepsErrors, NoneComes, ChangesByDisks, StaysClear, IsLeftByReset, IsCleared, IsWork};
+ghost use Rattle.agreement.specs.Errors.{KeepsErrors, NoneComes, ChangesByDisks, StaysClear, ChangesByErrors, IsLeftByReset, IsCleared, IsWork};
 ghost use Rattle.agreement.specs.Facts.{IsHalted, IsAfterReset, Finds, FindsPage, AreStepsOf, IsStill, AreOver, RunsWell, Undisturbed, ShowsNoTrouble, TellsNoTrouble, ClearsNoTrouble, IsFaulted, ShowsFault, HasFaults, IsRecorded, IsAwaited, IsUnflagged, IsQuiet, KeepsRecord, EndedIn, IsClear};
-ghost use Rattle.agreement.specs.Links.{SparesRegister, SameAdapter, LeavesControls, PlugsNone, LeavesDisk, LeavesLink};
+ghost use Rattle.agreement.specs.Links.{SparesRegister, SameAdapter, LeavesControls, PlugsNone, LeavesDisk, LeavesLink, HasDeviceOrNone};
 ghost use Rattle.agreement.specs.Noted.{LeavesNotes};
 ghost use Rattle.agreement.specs.Places.{scratch_of};
 ghost use Rattle.agreement.specs.Slots.{Uses, Free, Own, Serves, IsOver, Brought, put};
@@ -225,9 +225,9 @@ pub fn trouble_is_shown()
 
 /// From COMRESET or a reset of the adapter on, while the engine stands and the tape tells of no disk of the port that
 /// comes: where PxSSTS.DET is read 3, the link is up. Whatever the device does, also over a reset that ends, and over
-/// each access that doesn't set ST. So it is where no device shows. A link that is up stays so, too, but for a write
-/// of PxSCTL, where no disk goes or comes; and whether the engine stands or runs, where the tape tells of no
-/// disturbance of the port.
+/// each access that doesn't set ST. So it is where no device shows. While no reset is pending, a link that is up stays
+/// so, too, but for a write of PxSCTL, where no disk goes or comes; and whether the engine stands or runs, where the
+/// tape tells of no disturbance of the port.
 pub fn link_comes_up()
     ensures comreset { (port : Port) (v : ℕ) (old new : Device) → (old.port port.0).cr ≡ false → v % 16 ≡ 1
         → Writes (Px port Sctl) v old new → IsComingUp (new.port port.0) }
@@ -256,8 +256,8 @@ pub fn link_comes_up()
 /// or comes: the port is started. So it stays, unless the tape tells of a disturbance of the port, whatever else the
 /// device does, and over each access that neither clears ST nor writes PxSCTL. Where no bit tells of trouble, it runs
 /// well; and so it does where PxIS is read with none. So where ST is set with the link up, and PxIS is read with no
-/// trouble after that, the port runs well, whatever the tape tells. A port that was started has its link up: so it may be
-/// stopped and started again.
+/// trouble right after that, the port runs well, whatever the tape tells. A port that was started has its link up, unless
+/// COMRESET is being sent: so it may be stopped and started again.
 pub fn running_well_is_found()
     ensures starts { (port : Port) (v : ℕ) (old new : Device) → old.hr ≡ false → (old.port port.0).st ≡ false
         → (old.port port.0).cr ≡ false → bit v 0 ≡ true → Writes (Px port Cmd) v old new → IsUp (old.port port.0)
@@ -278,20 +278,25 @@ pub fn running_well_is_found()
 {}
 
 /// There is a boot for these laws: COMRESET, the link's coming up, what clears the port's errors, the start, and
-/// readings that tell so.
+/// readings that tell so; and each write of it is permitted when it is made.
 pub fn a_boot_runs_well()
     ensures { BootIsFound }
 {}
 
 /// While no reset is pending and no link of the port is due, as on a port that runs: each bit that tells of trouble
 /// and is clear stays so, unless the tape tells of a disturbance of the port, whatever else the device does, and over
-/// each access. So where none is set, none is then.
+/// each access. So where none is set, none is then. Those of PxIS rise with their own errors alone, whatever the link
+/// does, and also where a reset is pending or ends: 27 to 29 only where the tape tells of a fatal error of the port, and
+/// 30 only where it tells of a fault of it.
 pub fn cleared_stays()
     ensures steps { (port : ℕ) (old new : Device) → old.hr ≡ false → (old.port port).link_due ≡ false → Undisturbed port old new
         → Steps old new → StaysClear (old.port port) (new.port port) }
     ensures access { (port : Port) (access : Access) (old new : Device) → old.hr ≡ false → (old.port port.0).link_due ≡ false
         → Undisturbed port.0 old new → Does access old new → StaysClear (old.port port.0) (new.port port.0) }
     ensures none { (p new : PortState) → StaysClear p new → ShowsNoTrouble p → ShowsNoTrouble new }
+    ensures causes { (port : ℕ) (old new : Device) → Steps old new → ChangesByErrors port old new }
+    ensures causes_access { (port : Port) (access : Access) (old new : Device) → Does access old new
+        → ChangesByErrors port.0 old new }
 {}
 
 /// Where nothing goes wrong in each of two parts of a call, nothing does in the whole; and where nothing does in the whole,
@@ -391,6 +396,15 @@ pub fn link_stays()
         → LeavesLink (old.port port) (new.port port) }
     ensures access { (port : Port) (access : Access) (old new : Device) → old.hr ≡ false → SparesRegister (Px port Sctl) access
         → Does access old new → PlugsNone port.0 old new → LeavesLink (old.port port.0) (new.port port.0) }
+{}
+
+/// While no reset is pending, a port whose PxSSTS.DET is 3 or that has no disk in goes on so: a disk that comes shows at
+/// once, and so does a link that comes up. Whatever the device does, and over each access but a write of PxSCTL.
+pub fn device_or_none_stays()
+    ensures steps { (port : ℕ) (old new : Device) → old.hr ≡ false → Steps old new → HasDeviceOrNone (old.port port)
+        → HasDeviceOrNone (new.port port) }
+    ensures access { (port : Port) (access : Access) (old new : Device) → old.hr ≡ false → SparesRegister (Px port Sctl) access
+        → Does access old new → HasDeviceOrNone (old.port port.0) → HasDeviceOrNone (new.port port.0) }
 {}
 
 /// The faults of a port since its ST was set stand on the tape, and the task file shows the last one: so it stays, whatever the

@@ -1,4 +1,5 @@
 // Laws of the relation, for the crates above: the clause is the theorem. Nothing calls these functions.
+ghost use Rattle.std.specs.List.{list_any};
 ghost use Rattle.std.specs.Prelude.{◌≡◌, ◌+◌, ◌*◌, ◌/◌, ◌%◌, ◌<◌, ◌≤◌, ◌∷◌, ◌++◌, ℕ, Bool, true, false, [], List, length, map, Contains, ◌≢◌, ◌⊎◌, None, Some, All};
 ghost use Rattle.ata_types.specs.declared.Port.{Port};
 ghost use Rattle.ata_types.specs.declared.request.ClientId.{ClientId};
@@ -21,9 +22,9 @@ ghost use Rattle.adapter.specs.Steps.{Steps};
 ghost use Rattle.adapter.specs.declared.command.Operation.{Operation};
 ghost use Rattle.block_machine.specs.Due.{is_plain, issued_count};
 ghost use Rattle.adapter.specs.declared.tape.Entry.{Entry};
-ghost use Rattle.block_machine.specs.Events.{IsDevices, AllDevices, AllMay};
+ghost use Rattle.block_machine.specs.Events.{IsDevices, AllDevices, AllMay, changes_disk};
 ghost use Rattle.block_machine.specs.Histories.{IsReached, AddsSteps};
-ghost use Rattle.block_machine.specs.Left.{IsStart, after};
+ghost use Rattle.block_machine.specs.Left.{IsStart, after, AllTold};
 ghost use Rattle.block_machine.specs.Refusals.{IsOpen};
 ghost use Rattle.block_machine.specs.State.{Accepted, Pending, Machine, unanswered};
 ghost use Rattle.block_machine.specs.Steps.{Step, Accept, Issue, Age, Again, Answer, Release, Store, Load, May, NoneKept, older, after_step, stays, MayMove};
@@ -31,13 +32,14 @@ ghost use Rattle.block_machine.specs.declared.due.Mode.{Mode};
 ghost use Rattle.agreement.specs.Agrees.{Agrees, IsDiskOf, SameMemory, SameSectors, HaveSlots, AreUnarmed, AreApart};
 ghost use Rattle.agreement.specs.Driver.{MayStore, LeavesUses, LeavesFree, Known, Knows, IsBacked, ByDevice, Goes, IsPrepared, IsOwnPrepared, EndsWith, HasNoSlot, Forgets, ForgetsKept, serving, parking, freeing, idle, IsWrittenBack, KeepsFreeBits, MissesTable, MissesScratch};
 ghost use Rattle.agreement.specs.Follows.{Follows};
+ghost use Rattle.agreement.specs.Links.{IsPlugging};
 ghost use Rattle.agreement.specs.Places.{list_of, scratch_of, received_of};
 ghost use Rattle.agreement.specs.Trimmed.{TrimIsKnown};
 ghost use Rattle.agreement.specs.Witness.{PreparedIsKnown, FirstIsKnown, KeptIsKnown, ParkedIsKnown, EndedIsKnown, OwnIsKnown};
 ghost use Rattle.agreement.specs.Served.{TwoAreKnown};
 ghost use Rattle.agreement.specs.Slots.{Use, Free, Own, Serves, Uses, put, serving_count, Told, HasBlock, IsOver, op_of, IsMove};
 ghost use Rattle.agreement.specs.Spares.{IsFurther, AllFurther, SparesBook, IsOfAnother};
-ghost use Rattle.agreement.specs.Tape.{OneAtMost};
+ghost use Rattle.agreement.specs.Tape.{OneAtMost, TellsAmong};
 
 /// Whatever the device does by itself, the machine follows: what the tape gains are steps of the machine that may come, and
 /// the two agree again. So it is while a reset of the adapter is pending, too, and after one that is stuck.
@@ -346,7 +348,7 @@ pub fn due_stays()
 
 /// The device's own steps leave the machine's grants and owners, its loans and its next id; and the same requests are unanswered
 /// and kept, in the same order, each as far as it was, or further. So what is due is the same. A frame that isn't lent to a
-/// request that the device may move keeps its bytes.
+/// request that the device may move keeps its bytes. And a port of which no request is kept has none kept after them.
 pub fn steps_spare_the_book()
     ensures spares { (m : Machine) (steps : List Step) → AllDevices steps → SparesBook m (after m steps) }
     ensures none { (m : Machine) → SparesBook m m }
@@ -359,6 +361,8 @@ pub fn steps_spare_the_book()
     ensures frames { (m : Machine) (steps : List Step) (frame : Frame) → IsReached m → AllDevices steps → AllMay m steps
         → ((e : Pending) → MayMove m e → m.lent frame ≡ Some e.request.id → ⊥)
         → (b : ℕ) → (after m steps).memory frame b ≡ m.memory frame b }
+    ensures kept { (m : Machine) (steps : List Step) (port : Port) → AllDevices steps → NoneKept m port
+        → NoneKept (after m steps) port }
 {}
 
 /// A step leaves each request that it isn't of as it was, in the book and among the kept ones: but a tick makes it older, and Release
@@ -374,12 +378,27 @@ pub fn others_are_spared()
         → (after_step m (Answer e outcome)).kept ≡ m.kept }
 {}
 
-/// A history goes on by steps that may come, and so do stretches of them.
+/// Where entries of the tape tell of the device's steps among these, one of the entries is of a disk of the port that goes or comes
+/// exactly if one of the steps takes the port's disk out or puts one in.
+pub fn disks_are_told()
+    ensures steps { (port : Port) (m : Machine) (gained : List Entry) (steps : List Step) → TellsAmong m gained steps
+        → (e : Entry) → Contains gained e → IsPlugging port.0 e → list_any (changes_disk port) steps ≡ true }
+    ensures entry { (port : Port) (m : Machine) (gained : List Entry) (steps : List Step) → TellsAmong m gained steps
+        → list_any (changes_disk port) steps ≡ true → (e : Entry) × Contains gained e × IsPlugging port.0 e }
+    ensures none { (port : Port) (m : Machine) (gained : List Entry) (steps : List Step) → TellsAmong m gained steps
+        → list_any (changes_disk port) steps ≡ false → All (λ e. IsPlugging port.0 e → ⊥) gained }
+{}
+
+/// A history goes on by steps that may come, and so do stretches of them. Two stretches of the device's steps are one, too; and so are
+/// two whose reads moved what the disks hold.
 pub fn histories_go_on()
     ensures reached { (m : Machine) (steps : List Step) → IsReached m → AllMay m steps → IsReached (after m steps) }
     ensures may { (m : Machine) (late early : List Step) → AllMay m early → AllMay (after m early) late
         → AllMay m (late ++ early) }
     ensures after { (m : Machine) (late early : List Step) → after m (late ++ early) ≡ after (after m early) late }
+    ensures device { (late early : List Step) → AllDevices late → AllDevices early → AllDevices (late ++ early) }
+    ensures told { (m : Machine) (late early : List Step) → AllTold m early → AllTold (after m early) late
+        → AllTold m (late ++ early) }
 {}
 
 /// And what was prepared for it stays so.

@@ -1,3 +1,4 @@
+use Rattle.agreement.proofs.Raising.{steps_raise, access_raises}
 use Rattle.agreement.proofs.Running.{steps_clear, access_clear, shows_still}
 use Rattle.agreement.proofs.facts.cleared_stays.Goals as goal
 
@@ -9,3 +10,9 @@ returns-clause-access c = access_clear
 
 pub returns-clause-none : goal.returns-clause-none
 returns-clause-none c = shows_still
+
+pub returns-clause-causes : goal.returns-clause-causes
+returns-clause-causes c = steps_raise
+
+pub returns-clause-causes_access : goal.returns-clause-causes_access
+returns-clause-causes_access c = access_raises

@@ -1,5 +1,7 @@
 use Rattle.block_machine.proofs.EventLemmas.{after-append}
 use Rattle.block_machine.proofs.HistoryLemmas.{may-append, reached_more}
+use Rattle.agreement.proofs.Following.{told_append}
+use Rattle.agreement.proofs.Waiting.{device_append}
 use Rattle.agreement.proofs.laws.histories_go_on.Goals as goal
 
 pub returns-clause-reached : goal.returns-clause-reached
@@ -10,3 +12,9 @@ returns-clause-may c = may-append
 
 pub returns-clause-after : goal.returns-clause-after
 returns-clause-after c = after-append
+
+pub returns-clause-device : goal.returns-clause-device
+returns-clause-device c = device_append
+
+pub returns-clause-told : goal.returns-clause-told
+returns-clause-told c = told_append

@@ -1,4 +1,4 @@
-use Rattle.agreement.proofs.Sparing.{steps_spare, spares_refl, spares_more, same_due, found_later, found_before, frames_stay}
+use Rattle.agreement.proofs.Sparing.{steps_spare, spares_refl, spares_more, same_due, found_later, found_before, frames_stay, none_kept_after}
 use Rattle.agreement.proofs.laws.steps_spare_the_book.Goals as goal
 
 pub returns-clause-spares : goal.returns-clause-spares
@@ -21,3 +21,6 @@ returns-clause-before c = found_before
 
 pub returns-clause-frames : goal.returns-clause-frames
 returns-clause-frames c = frames_stay
+
+pub returns-clause-kept : goal.returns-clause-kept
+returns-clause-kept c = none_kept_after
