@@ -21,7 +21,7 @@ use Rattle.dma_frames.specs.Loan.{Lending}
 use Rattle.dma_frames.specs.Table.{Table, owner_of, lent_to, LendsOnly}
 use Rattle.block_server.specs.Book.{IsKept, IsAccepted, IsEarlier, StandsBehind, served, issued_of, unanswered_of}
 use Rattle.block_server.specs.Calls.{situation_of, state_of, accepted_as, Accepts}
-use Rattle.block_server.specs.Port.{Serves, Proceeds, Issued}
+use Rattle.port_driver.specs.Port.{Serves, Proceeds, Issued}
 use Rattle.block_server.specs.View.{ServerView}
 use Rattle.block_server.specs.declared.types.Accepted.{Accepted}
 use Rattle.block_server.proofs.Booking.{owner_same, accepted_on, few_more, owns_on, room_left}

@@ -10,7 +10,7 @@ use Rattle.ata_types.specs.declared.request.RequestId.{RequestId}
 use Rattle.adapter.specs.Device.{Device}
 use Rattle.dma_frames.specs.Table.{Table, lent_to, LendsOnly}
 use Rattle.block_server.specs.Book.{IsKept, IsAccepted, IsEarlier, StandsBehind, served, issued_of, unanswered_of}
-use Rattle.block_server.specs.Port.{Serves, FindsDone, Issued}
+use Rattle.port_driver.specs.Port.{Serves, FindsDone, Issued}
 use Rattle.block_server.specs.View.{ServerView}
 use Rattle.block_server.specs.declared.types.Accepted.{Accepted}
 use Rattle.block_server.proofs.Booking.{accepted_rest, ordered_rest, few_less, owns_on}

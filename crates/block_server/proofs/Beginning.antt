@@ -22,11 +22,10 @@ use Rattle.block_machine.specs.Rules.{DifferInName}
 use Rattle.block_machine.specs.State.{Disk, Pending, Machine}
 use Rattle.dma_frames.specs.Table.{Run, Table, owner_of, lent_to, HasFrame}
 use Rattle.grants.specs.Rows.{SameRows}
-use Rattle.block_server.specs.Book.{IsReadGrant}
-use Rattle.block_server.specs.Followed.{AnyAccess, NoneUsed, IsFollowed}
+use Rattle.port_driver.specs.Followed.{AnyAccess, NoneUsed, IsFollowed}
 use Rattle.block_server.specs.History.{HasBegun, ports_of}
-use Rattle.block_server.specs.Port.{IsBroughtUp}
-use Rattle.block_server.specs.Setup.{SetupView, IsSetup, IsClient, HasClientFrames}
+use Rattle.port_driver.specs.Port.{IsBroughtUp}
+use Rattle.setup.specs.Setup.{SetupView, IsSetup, IsClient, HasClientFrames, IsReadGrant}
 use Rattle.block_server.specs.View.{ServerView}
 use Rattle.block_server.specs.declared.types.Accepted.{Accepted}
 use Rattle.block_server.proofs.Making.{made}

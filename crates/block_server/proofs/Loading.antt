@@ -20,13 +20,13 @@ use Rattle.ata_types.specs.declared.request.RequestId.{RequestId}
 use Rattle.block_machine.specs.Refusals.{IsOpen}
 use Rattle.dma_frames.specs.Table.{Table, owner_of, lent_to}
 use Rattle.block_server.specs.Book.{IsKept, IsAccepted, StandsBehind, served, issued_of}
-use Rattle.block_server.specs.Port.{IsSlotFree, IsLone, IsRunning, IsResting, Issued, HoldsRead, Serves, IsTableByte, IsKeptByte, IsInFrames, IsOutsideArea}
+use Rattle.port_driver.specs.Port.{IsSlotFree, IsLone, IsRunning, IsResting, Issued, HoldsRead, Serves, IsTableByte, IsKeptByte, IsInFrames, IsOutsideArea}
 use Rattle.block_server.specs.View.{ServerView}
 use Rattle.block_server.specs.declared.types.Accepted.{Accepted}
 use Rattle.block_server.proofs.Booking.{owns_on}
-use Rattle.block_server.proofs.Issuing.{all_free, none_after}
-use Rattle.block_server.proofs.PortLemmas.{lone_after, running_after, resting_after}
-use Rattle.block_server.proofs.Serving.{free_guarded, free_unused, read_guarded, steps_hold}
+use Rattle.port_driver.proofs.Issuing.{all_free, none_after}
+use Rattle.port_driver.proofs.PortLemmas.{lone_after, running_after, resting_after}
+use Rattle.port_driver.proofs.Serving.{free_guarded, free_unused, read_guarded, steps_hold}
 
 -- ---- steps of the device
 

@@ -12,14 +12,14 @@ use Rattle.adapter.specs.Device.{Device}
 use Rattle.adapter.proofs.Absurd.{true-false}
 use Rattle.dma_frames.specs.Table.{Run, Table, owner_of, HasFrame}
 use Rattle.grants.specs.Rows.{SameRows}
-use Rattle.block_server.specs.Book.{IsKept, IsReadGrant, StandsBehind}
-use Rattle.block_server.specs.Port.{IsBroughtUp, IsMissing, IsComing, SparesClients}
-use Rattle.block_server.specs.Told.{IsUndisturbed}
+use Rattle.block_server.specs.Book.{IsKept, StandsBehind}
+use Rattle.port_driver.specs.Port.{IsBroughtUp, IsMissing, IsComing, SparesClients}
+use Rattle.port_driver.specs.Told.{IsUndisturbed}
 use Rattle.hba_regs.specs.Bits.{bit}
-use Rattle.block_server.specs.Setup.{SetupView, IsSetup, HasClientFrames}
+use Rattle.setup.specs.Setup.{SetupView, IsSetup, HasClientFrames, IsReadGrant}
 use Rattle.block_server.specs.View.{ServerView}
 use Rattle.block_server.specs.declared.types.Accepted.{Accepted}
-use Rattle.block_server.proofs.Coming.{undisturbed_both}
+use Rattle.port_driver.proofs.Coming.{undisturbed_both}
 
 stands : (state : PortState) (old d : Device) → IsBroughtUp state old d → StandsBehind state None d
 stands Ready old d h = (h.0, h.1, h.2)

@@ -10,7 +10,8 @@ use Rattle.ata_types.specs.declared.request.Request.{Request}
 use Rattle.block_machine.specs.Refusals.{Applies, IsAcceptable, IsFirstRefusal}
 use Rattle.block_machine.specs.Rules.{IsNamed, BreaksNone}
 use Rattle.dma_frames.specs.Table.{owner_of, lent_to}
-use Rattle.block_server.specs.Book.{IsReadGrant, unanswered_of}
+use Rattle.setup.specs.Setup.{IsReadGrant}
+use Rattle.block_server.specs.Book.{unanswered_of}
 use Rattle.block_server.specs.Calls.{situation_of, state_of}
 use Rattle.block_server.specs.View.{ServerView}
 use Rattle.block_server.proofs.Ruling as ruling

@@ -22,7 +22,8 @@ use Rattle.adapter.proofs.Absurd.{true-false}
 use Rattle.block_machine.specs.Refusals.{Situation, Applies, IsAcceptable, IsFirstRefusal, IsRefusalBefore, refusal_number, refusal_place}
 use Rattle.block_machine.specs.Rules.{IsCount, frames_for, IsNamed, HasNoFault, Breaks, BreaksNone, IsFirstBroken, number, place, Precedes}
 use Rattle.dma_frames.specs.Table.{Table, owner_of, lent_to}
-use Rattle.block_server.specs.Book.{IsReadGrant, OwnsClientFrames}
+use Rattle.setup.specs.Setup.{IsReadGrant}
+use Rattle.block_server.specs.Book.{OwnsClientFrames}
 
 -- ---- the first refusal
 

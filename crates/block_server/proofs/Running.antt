@@ -12,13 +12,13 @@ use Rattle.block_machine.specs.Ports.{Ports}
 use Rattle.block_machine.specs.Histories.{Instant, Happening, now, Leads, Adds}
 use Rattle.agreement.proofs.Adding.{nothing_backed}
 use Rattle.block_server.specs.Calls.{state_of}
-use Rattle.block_server.specs.Followed.{IsOrdinary}
+use Rattle.port_driver.specs.Followed.{IsOrdinary}
 use Rattle.block_server.specs.History.{Begins, Ties, Stands, AddsAll, ask_of, said_of, ports_of}
 use Rattle.block_server.specs.Running.{Answered, Ran}
 use Rattle.block_server.specs.View.{ServerView}
 use Rattle.block_server.specs.declared.types.Event.{Event}
 use Rattle.block_server.specs.declared.types.Said.{Said}
-use Rattle.block_server.proofs.Driving.{by_none}
+use Rattle.port_driver.proofs.Driving.{by_none}
 use Rattle.block_server.proofs.Heeding.{spared}
 use Rattle.block_server.proofs.Shown.{still_shown}
 use Rattle.block_server.proofs.Histories.{ports_same, stands_on}

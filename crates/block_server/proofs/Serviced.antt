@@ -11,18 +11,18 @@ use Rattle.adapter.proofs.Runs.{Steps-one}
 use Rattle.dma_frames.specs.Table.{Table, LendsOnly}
 use Rattle.block_server.specs.Book.{IsKept, StandsBehind, served, issued_of}
 use Rattle.block_server.specs.Calls.{Services, done_reply}
-use Rattle.block_server.specs.Port.{IsLone, IsResting, IsHealthy, IsTroubled, IsUnlinked, Issued, Serves, Proceeds, frames_of, EndsAsShown, issued_now, MovesOnly}
-use Rattle.block_server.specs.Told.{reads_ended, IsUndisturbed, IsUnharmed}
+use Rattle.port_driver.specs.Port.{IsLone, IsResting, IsHealthy, IsTroubled, IsUnlinked, Issued, Serves, Proceeds, frames_of, EndsAsShown, issued_now, MovesOnly}
+use Rattle.port_driver.specs.Told.{reads_ended, IsUndisturbed, IsUnharmed}
 use Rattle.block_server.specs.View.{ServerView}
 use Rattle.block_server.specs.declared.types.Accepted.{Accepted}
-use Rattle.block_server.proofs.Coming.{undisturbed_both}
-use Rattle.block_server.proofs.Going.{unharmed_both, steps_go, steps_rest, told}
-use Rattle.block_server.proofs.Linking.{steps_healthy}
-use Rattle.block_server.proofs.Moving.{moves_none, moves_then, moves_more_read, none_confined, step_moves}
-use Rattle.block_server.proofs.PortLemmas.{lone_after, resting_after}
-use Rattle.block_server.proofs.Told.{steps_relate}
-use Rattle.block_server.proofs.Serving.{free_guarded}
-use Rattle.block_server.proofs.Sparing.{spares_then, spares_less, quiet_spares}
+use Rattle.port_driver.proofs.Coming.{undisturbed_both}
+use Rattle.port_driver.proofs.Going.{unharmed_both, steps_go, steps_rest, told}
+use Rattle.port_driver.proofs.Linking.{steps_healthy}
+use Rattle.port_driver.proofs.Moving.{moves_none, moves_then, moves_more_read, none_confined, step_moves}
+use Rattle.port_driver.proofs.PortLemmas.{lone_after, resting_after}
+use Rattle.port_driver.proofs.Told.{steps_relate}
+use Rattle.port_driver.proofs.Serving.{free_guarded}
+use Rattle.port_driver.proofs.Sparing.{spares_then, spares_less, quiet_spares}
 
 -- a port that doesn't run moves nothing
 abbrev Still : Device → Device → Type 0

@@ -9,7 +9,7 @@ use Rattle.block_machine.specs.Ports.{Ports}
 use Rattle.agreement.specs.Agrees.{port_at}
 use Rattle.block_server.specs.Book.{StandsBehind}
 use Rattle.block_server.specs.History.{Begins, Stands, Ties, IsAsShown}
-use Rattle.block_server.specs.Port.{Issued, IsBroughtUp, Serves}
+use Rattle.port_driver.specs.Port.{Issued, IsBroughtUp, Serves}
 use Rattle.block_server.specs.View.{ServerView}
 
 pub as_shown : (state : PortState) (issued : Option Issued) (d : Device) → StandsBehind state issued d → IsAsShown state d

@@ -46,12 +46,12 @@ use Rattle.dma_frames.specs.Loan.{Lending}
 use Rattle.dma_frames.specs.Table.{Table, owner_of, lent_to, LendsOnly}
 use Rattle.block_server.specs.Book as book
 use Rattle.block_server.specs.Calls.{situation_of, accepted_as}
-use Rattle.block_server.specs.Followed.{IsOrdinary, IssuesRead}
+use Rattle.port_driver.specs.Followed.{IsOrdinary, IssuesRead}
 use Rattle.block_server.specs.History.{IsAsShown, Begins, Ties, Stands, IsEntry, IsBook, plain_mode, ports_of, known_of, uses_of, served_id, no_evidence}
 use Rattle.block_server.specs.View.{ServerView}
 use Rattle.block_server.specs.declared.types.Accepted.{Accepted}
 use Rattle.block_server.proofs.Accepting as accepting
-use Rattle.block_server.proofs.Driving.{by_none}
+use Rattle.port_driver.proofs.Driving.{by_none}
 use Rattle.block_server.proofs.Heeding.{spared}
 use Rattle.block_server.proofs.Shown.{still_shown}
 use Rattle.block_server.proofs.Histories.{book_further, ports_same, stands_on}

@@ -9,7 +9,9 @@ use Rattle.ata_types.specs.declared.request.Frame.{Frame}
 use Rattle.ata_types.specs.declared.request.Op.TheVariants.{Read}
 use Rattle.adapter.specs.Device.{Device}
 use Rattle.dma_frames.specs.Table.{Table, owner_of, lent_to}
-use Rattle.block_server.specs.Port.{Issued, IsLone, IsResting, Serves}
+use Rattle.port_driver.specs.Followed.{IssuesRead}
+use Rattle.port_driver.specs.Port.{Issued, IsLone, IsResting, Serves}
+use Rattle.setup.specs.Setup.{IsReadGrant}
 use Rattle.block_server.specs.View.{ServerView}
 use Rattle.block_server.specs.declared.types.Accepted.{Accepted}
 
@@ -25,19 +27,6 @@ served _ _ = None
 -- how many of the unanswered requests are a client's
 abbrev pub unanswered_of : List Accepted → ℕ → ℕ
 unanswered_of book client = count_by (λ e. e.client.0 == client) book
-
--- A grant that this server can serve: of a client 1 to 8, under a number of 63 or less, on port 0, of one sector at least, all of
--- them below 2^48, and with no right but to read.
-pub record IsReadGrant (row : GrantRow) : Type 0 where
-  pub client_from : 1 ≤ row.client.0
-  pub client_to : row.client.0 ≤ 8
-  pub number : row.number ≤ 63
-  pub port : row.port.0 ≡ 0
-  pub some : 1 ≤ row.count
-  pub sectors : row.first.0 + row.count ≤ 2 ^ 48
-  pub no_write : row.rights.write ≡ false
-  pub no_trim : row.rights.trim ≡ false
-  pub no_flush : row.rights.flush ≡ false
 
 -- The request's sectors are in a row that lets its client read them.
 abbrev pub IsCovered : List GrantRow → Accepted → Type 0
@@ -67,6 +56,11 @@ OwnsClientFrames table size = (frame : Frame) (client : ClientId) → owner_of t
 abbrev pub StandsBehind : PortState → Option Issued → Device → Type 0
 StandsBehind Ready issued d = Serves issued d
 StandsBehind _ issued d = IsLone d × IsResting (d.port 0)
+
+-- the first of the book is issued so; where there is none, the device is as it was
+abbrev pub IssuesFirst : List Accepted → Device → Device → Type 0
+IssuesFirst [] old new = new ≡ old
+IssuesFirst (e ∷ es) old new = IssuesRead (issued_of e) old new
 
 -- the request was accepted before the other
 abbrev pub IsEarlier : Accepted → Accepted → Type 0

@@ -23,9 +23,9 @@ use Rattle.block_machine.specs.Refusals.{Situation, IsAcceptable, IsFirstRefusal
 use Rattle.dma_frames.specs.Table.{Run, owner_of, lent_to, LendsOnly, HasFrame}
 use Rattle.block_server.specs.Book.{served, unanswered_of}
 use Rattle.grants.specs.Rows.{SameRows}
-use Rattle.block_server.specs.Followed.{IsDrivenBy, AnyAccess}
-use Rattle.block_server.specs.Port.{IsBroughtUp, IsHealthy, IsTroubled, IsUnlinked, Issued, Serves, SparesClients, Proceeds, EndsAsShown, issued_now, MovesOnly, frames_of}
-use Rattle.block_server.specs.Told.{reads_ended, IsUndisturbed, IsUnharmed}
+use Rattle.port_driver.specs.Followed.{IsDrivenBy, AnyAccess}
+use Rattle.port_driver.specs.Port.{IsBroughtUp, IsHealthy, IsTroubled, IsUnlinked, Issued, Serves, SparesClients, Proceeds, EndsAsShown, issued_now, MovesOnly, frames_of}
+use Rattle.port_driver.specs.Told.{reads_ended, IsUndisturbed, IsUnharmed}
 use Rattle.block_server.specs.View.{ServerView}
 use Rattle.block_server.specs.declared.types.Accepted.{Accepted}
 

@@ -22,9 +22,9 @@ use Rattle.agreement.specs.Slots.{Free, Serves, Uses, put}
 use Rattle.agreement.specs.Driver.{Known, Knows, IsBacked, idle}
 use Rattle.dma_frames.specs.Table.{owner_of, lent_to}
 use Rattle.block_server.specs.Calls.{state_of}
-use Rattle.block_server.specs.Followed.{IsDrivenBy, IsOrdinary, LooksFirst}
-use Rattle.block_server.specs.Port.{IsHealthy, IsLone, IsRunning, IsResting}
-use Rattle.block_server.specs.Told.{IsUnharmed}
+use Rattle.port_driver.specs.Followed.{IsDrivenBy, IsOrdinary, LooksFirst}
+use Rattle.port_driver.specs.Port.{IsHealthy, IsLone, IsRunning, IsResting}
+use Rattle.port_driver.specs.Told.{IsUnharmed}
 use Rattle.block_server.specs.View.{ServerView}
 use Rattle.block_server.specs.declared.types.Accepted.{Accepted}
 use Rattle.block_server.specs.declared.types.Event.{Event}

@@ -1,11 +1,5 @@
-pub mod Bytes
-pub mod Places
-pub mod Told
-pub mod Port
-pub mod Followed
 pub mod View
 pub mod Book
-pub mod Setup
 pub mod Calls
 pub mod History
 pub mod Running

@@ -7,7 +7,7 @@ use Rattle.adapter.specs.Access.{Loads}
 use Rattle.adapter.specs.Device.{Device}
 use Rattle.block_machine.specs.Refusals.{IsOpen, IsFirstMemFault}
 use Rattle.dma_frames.specs.Table.{owner_of, lent_to}
-use Rattle.block_server.specs.Port.{Proceeds}
+use Rattle.port_driver.specs.Port.{Proceeds}
 use Rattle.block_server.specs.Calls.{state_of, served_by, SameServer, Submits, Services, StepsDevice}
 use Rattle.block_machine.specs.Histories.{Adds}
 use Rattle.block_server.specs.History.{Begins, Ties, Stands, AddsAll, ask_of, said_of}

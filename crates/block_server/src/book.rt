@@ -1,15 +1,14 @@
 // The book as the port serves it.
 ghost use Rattle.std.specs.Prelude.{◌≡◌, ◌≢◌, true, false, List, None, [], All, AllPairs};
 ghost use Rattle.ata_types.specs.declared.grant.GrantRow.{GrantRow};
-ghost use Rattle.block_server.specs.Book.{IsAccepted, IsEarlier, served};
-ghost use Rattle.block_server.specs.Followed.{IssuesFirst};
-ghost use Rattle.block_server.specs.Port.{Serves, Proceeds};
+ghost use Rattle.block_server.specs.Book.{IsAccepted, IsEarlier, served, IssuesFirst};
+ghost use Rattle.port_driver.specs.Port.{Serves, Proceeds};
 ghost use Rattle.dma_frames.specs.Table.{Table};
 
 use crate::Accepted;
-use crate::slot::issue;
 use adapter::Adapter;
 use dma_frames::FrameTable;
+use port_driver::issue;
 
 /// Issues the first of the book, if there is one. Whether there is.
 pub fn issue_first<A: Adapter>(adapter: &mut A, book: &[Accepted]) -> bool

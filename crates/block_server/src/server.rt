@@ -3,9 +3,7 @@ ghost use Rattle.std.specs.Prelude.{◌≡◌, ◌≢◌, ◌<◌, ◌+◌, ◌�
 
 use crate::book::{give_all_back, issue_first};
 use crate::lookup::{owns, unanswered};
-use crate::port::{bring_up, power_on};
-use crate::slot::{is_done, issue, look};
-use crate::{Accepted, ServerError, Setup};
+use crate::{Accepted, ServerError};
 use adapter::{Adapter, DeviceStep, Stepped};
 use ata_types::{
     ClientId, Frame, GrantRow, MemFault, Op, Outcome, Port, PortState, Range, Refusal, Replies,
@@ -13,6 +11,8 @@ use ata_types::{
 };
 use dma_frames::{FrameTable, Loan};
 use grants::{Grants, decide};
+use port_driver::{bring_up, is_done, issue, look, power_on};
+use setup::Setup;
 use std::alloc::Global;
 use std::marker::Model;
 
@@ -59,7 +59,7 @@ impl<A: Adapter> Server<A> {
     ghost use Rattle.block_machine.specs.Histories.{Adds};
     ghost use Rattle.adapter.specs.Idle.{TellsDisks};
     ghost use Rattle.block_server.specs.History.{Begins, Ties, Stands, HasBegun, load_said};
-    ghost use Rattle.block_server.specs.Followed.{LoadsBytes};
+    ghost use Rattle.port_driver.specs.Followed.{LoadsBytes};
 
     /// A server of the port's disk, which has so many sectors: port 0 is brought up, and nothing is asked yet. Provisional:
     /// the number of sectors isn't read from the disk.

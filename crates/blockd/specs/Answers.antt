@@ -9,7 +9,7 @@ use Rattle.block_machine.specs.Events.{IsRun, EveryReadHolds}
 use Rattle.block_machine.specs.Histories.{Instant, Happening, Leads, events_of}
 use Rattle.block_server.specs.Calls.{IsNew}
 use Rattle.block_server.specs.History.{Begins, Ties, Stands, ask_of, said_of}
-use Rattle.block_server.specs.Setup.{SetupView}
+use Rattle.setup.specs.Setup.{SetupView}
 use Rattle.block_server.specs.View.{ServerView}
 use Rattle.block_server.specs.declared.types.Event.{Event}
 use Rattle.block_server.specs.declared.types.Event.TheVariants as calls

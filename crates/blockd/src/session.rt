@@ -2,8 +2,8 @@
 ghost use Rattle.std.specs.Prelude.{◌≡◌, List, [], false, None, IfOk};
 ghost use Rattle.block_server.specs.Calls.{IsNew};
 ghost use Rattle.block_server.specs.History.{HasBegun};
-ghost use Rattle.block_server.specs.Port.{Serves};
-ghost use Rattle.block_server.specs.Setup.{given};
+ghost use Rattle.port_driver.specs.Port.{Serves};
+ghost use Rattle.setup.specs.Setup.{given};
 ghost use Rattle.blockd.specs.Answers.{AreAnswers, AsksRead, AreCalls};
 ghost use Rattle.blockd.specs.declared.session.Fault.TheVariants as fault;
 
@@ -175,7 +175,7 @@ mod tests {
     use adapter::Stepped;
     use adapter::laws::steps_compose;
     use ata_types::{FrameFault, MemFault, PortState, Refusal, RequestId, Rule};
-    use block_server::laws::driver_bytes_are_free;
+    use port_driver::laws::driver_bytes_are_free;
     use hba_regs::{PortReg, Reg};
     use std::test::Fail;
 

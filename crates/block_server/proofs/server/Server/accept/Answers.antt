@@ -7,7 +7,7 @@ use Rattle.block_machine.specs.Refusals.{IsAcceptable}
 use Rattle.block_machine.specs.Rules.{HasNoFault}
 use Rattle.dma_frames.specs.Table.{owner_of, lent_to}
 use Rattle.block_server.specs.Calls.{situation_of}
-use Rattle.block_server.specs.Port.{Serves}
+use Rattle.port_driver.specs.Port.{Serves}
 use Rattle.block_server.specs.Seen.{seen}
 use Rattle.block_server.specs.View.{ServerView}
 use Rattle.block_server.proofs.Accepting as accepting
@@ -15,7 +15,7 @@ use Rattle.block_machine.specs.Events.{Submit, Submitted}
 use Rattle.block_machine.specs.Histories.{Adds}
 use Rattle.dma_frames.specs.Table.{LendsOnly}
 use Rattle.block_server.specs.Calls.{accepted_as}
-use Rattle.block_server.specs.Followed.{IssuesRead}
+use Rattle.port_driver.specs.Followed.{IssuesRead}
 use Rattle.block_server.specs.History.{Begins, Ties, Stands}
 use Rattle.block_server.specs.declared.types.Accepted.{Accepted}
 use Rattle.block_server.proofs.Shown.{ready_shown}

@@ -4,7 +4,7 @@ use Rattle.adapter.specs.Access.{Loads}
 use Rattle.block_machine.specs.Refusals.{IsOpen}
 use Rattle.dma_frames.specs.Table.{owner_of, lent_to}
 use Rattle.block_server.specs.Calls.{SameServer, served_by}
-use Rattle.block_server.specs.Port.{Proceeds}
+use Rattle.port_driver.specs.Port.{Proceeds}
 use Rattle.block_server.specs.Seen.{seen}
 use Rattle.block_server.specs.View.{ServerView}
 use Rattle.block_server.proofs.Serviced.{kept_goes}
@@ -15,7 +15,7 @@ use Rattle.adapter.proofs.Absurd.{true-false}
 use Rattle.block_machine.specs.Events.{LoadAt, Loaded}
 use Rattle.block_machine.specs.Histories.{Adds}
 use Rattle.block_server.specs.History.{Begins, Ties, Stands}
-use Rattle.block_server.proofs.Following.{loading_followed}
+use Rattle.port_driver.proofs.Following.{loading_followed}
 use Rattle.block_server.specs.Book.{served}
 use Rattle.block_server.proofs.Shown.{as_shown}
 use Rattle.block_server.proofs.Leading.{first_foreign, first_lent, first_outside, load_adds, refusal_adds}

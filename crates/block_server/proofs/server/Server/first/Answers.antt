@@ -2,12 +2,12 @@ use Rattle.std.proofs.Common.{refl, ◌∙◌, arith, sym, subst}
 use Rattle.std.specs.List.{AllPairs}
 use Rattle.std.specs.Vec.{vec_capacity}
 use Rattle.dma_frames.specs.Table.{AreApart}
-use Rattle.block_server.specs.Followed.{AnyAccess, NoneUsed}
+use Rattle.port_driver.specs.Followed.{AnyAccess, NoneUsed}
 use Rattle.block_server.proofs.Beginning.{new_has_begun}
-use Rattle.block_server.proofs.Driving.{by_then, telling_stays}
-use Rattle.block_server.proofs.Following.{followed_then, followed_so}
+use Rattle.port_driver.proofs.Driving.{by_then, telling_stays}
+use Rattle.port_driver.proofs.Following.{followed_then, followed_so}
 use Rattle.block_server.proofs.Making.{brought_from, new_is_kept}
-use Rattle.block_server.proofs.Sparing.{spares_then}
+use Rattle.port_driver.proofs.Sparing.{spares_then}
 use Rattle.block_server.proofs.server.Server.first.Goals as goal
 
 pub new-table-requires-clause-apart : goal.new-table-requires-clause-apart

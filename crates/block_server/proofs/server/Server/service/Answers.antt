@@ -1,11 +1,11 @@
 use Rattle.std.proofs.Common.{inl, inr, Bool, true, refl, sym, ◌∙◌, ap, subst, List, [], ◌∷◌, ◌++◌}
 use Rattle.ata_types.specs.declared.request.Reply.{Reply}
 use Rattle.adapter.proofs.Absurd.{true-false}
-use Rattle.block_server.proofs.Driving.{by_none, looks_then}
+use Rattle.port_driver.proofs.Driving.{by_none, looks_then}
 use Rattle.block_server.specs.Calls.{Services, done_reply}
 use Rattle.block_server.specs.View.{ServerView}
-use Rattle.block_server.proofs.Coming.{undisturbed_both}
-use Rattle.block_server.proofs.Going.{goes_then}
+use Rattle.port_driver.proofs.Coming.{undisturbed_both}
+use Rattle.port_driver.proofs.Going.{goes_then}
 use Rattle.block_server.proofs.Answered.{Unanswered, nothing_adds, unfinished_adds, answering_adds, found_adds}
 use Rattle.block_server.proofs.Shown.{as_shown, ready_shown}
 use Rattle.block_server.proofs.Serviced.{found_goes, services_none, services_first}
@@ -13,11 +13,11 @@ use Rattle.std.specs.List.{All}
 use Rattle.agreement.proofs.Adding.{nothing_backed}
 use Rattle.block_machine.specs.Events.{Service, Served}
 use Rattle.block_machine.specs.Histories.{Adds}
-use Rattle.block_server.specs.Followed.{IsOrdinary, FindsRead, IssuesFirst}
+use Rattle.port_driver.specs.Followed.{IsOrdinary, FindsRead}
 use Rattle.block_server.specs.History.{Begins, Ties, Stands, uses_of, served_id}
 use Rattle.std.specs.Vec.{vec_capacity}
-use Rattle.block_server.specs.Book.{IsAccepted, served}
-use Rattle.block_server.specs.Port.{Serves}
+use Rattle.block_server.specs.Book.{IsAccepted, served, IssuesFirst}
+use Rattle.port_driver.specs.Port.{Serves}
 use Rattle.block_server.specs.Seen.{seen}
 use Rattle.block_server.specs.declared.types.Accepted.{Accepted}
 use Rattle.block_server.proofs.Answering as answering

@@ -1,0 +1,170 @@
+//! What the device reads to do a command: a header of the command list, and a command table (AHCI 1.3.1, 4.2.2 and 4.2.3).
+#![tactic(auto)]
+
+ghost use Rattle.std.specs.Prelude.{◌≡◌, ℕ, ◌+◌, ◌*◌, ◌/◌, ◌%◌, ◌^◌, ◌<◌, ◌≤◌, length, take, drop, slice_index_or, All};
+ghost use Rattle.byteorder.specs.Endian.{little_from};
+ghost use Rattle.adapter.specs.Says.{pieces, IsWhole};
+ghost use Rattle.adapter.specs.Spelling.{SpellsCommand, SpellsHeader, SpellsPrd, IsAllowed};
+ghost use Rattle.adapter.specs.declared.command.Prd.{Prd};
+ghost use Rattle.command_table.specs.Places.{IsPrdOf, places_of};
+ghost use Rattle.command_table.specs.Bytes.{Stores, part};
+
+use adapter::{Command, Prd};
+use arrayvec::ArrayVec;
+use ata_types::Frame;
+
+const HOST_TO_DEVICE: u8 = 0x27;
+
+const COMMAND_BIT: u8 = 0x80;
+
+const FIS_DWORDS: u32 = 5;
+
+const WRITE_BIT: u32 = 1 << 6;
+
+const FRAME_BYTES: u32 = 4096;
+
+/// Writes the bytes into the buffer, from a place on.
+fn store_at(buffer: &mut [u8], at: usize, bytes: &[u8])
+    requires { at + length bytes.now ≤ length buffer.old }
+    ensures { Stores buffer.old buffer.new at bytes.now }
+{
+    for (i, byte) in bytes.iter().enumerate() {
+        buffer[at + i] = *byte;
+    }
+}
+
+/// A command as a Register FIS from host to device (Serial ATA; AHCI 1.3.1, 4.2.3.1).
+pub fn encode_h2d(command: &Command) -> [u8; 20]
+    requires { command.now.lba < 2 ^ 48 }
+    ensures { SpellsCommand result command.now }
+{
+    let features = command.features.to_le_bytes();
+    let lba = command.lba.to_le_bytes();
+    let count = command.count.to_le_bytes();
+    [
+        HOST_TO_DEVICE,
+        COMMAND_BIT,
+        command.code,
+        features[0],
+        lba[0],
+        lba[1],
+        lba[2],
+        command.device,
+        lba[3],
+        lba[4],
+        lba[5],
+        features[1],
+        count[0],
+        count[1],
+        0,
+        0,
+        0,
+        0,
+        0,
+        0,
+    ]
+}
+
+/// The header of a command with so many PRDs in the table at this address. `writes` says that the device reads memory.
+pub fn header(writes: bool, entries: u16, table: u32) -> [u8; 32]
+    requires { table % 128 ≡ 0 }
+    ensures says { SpellsHeader result writes entries table }
+    ensures none_moved { little_from 4 4 result ≡ 0 }
+{
+    let first = FIS_DWORDS + if writes { WRITE_BIT } else { 0 } + (u32::from(entries) << 16);
+    let first = first.to_le_bytes();
+    let table = table.to_le_bytes();
+    [
+        first[0], first[1], first[2], first[3], 0, 0, 0, 0, table[0], table[1], table[2], table[3],
+        0, 0, 0, 0, 0, 0, 0, 0, 0, 0, 0, 0, 0, 0, 0, 0, 0, 0, 0, 0,
+    ]
+}
+
+/// A PRD as its 16 bytes.
+fn prd_bytes(prd: &Prd) -> [u8; 16]
+    requires { IsAllowed prd.now }
+    ensures { SpellsPrd result prd.now }
+{
+    let address = prd.address.to_le_bytes();
+    let count = (prd.bytes - 1).to_le_bytes();
+    [
+        address[0], address[1], address[2], address[3], 0, 0, 0, 0, 0, 0, 0, 0, count[0], count[1],
+        count[2], count[3],
+    ]
+}
+
+/// The PRDs that cover the first bytes of the frames, in order: one a frame, each but the last of 4096 bytes.
+pub fn prds(frames: &[Frame], bytes: u32) -> ArrayVec<Prd, 32>
+    requires room { length frames.now ≤ 32 }
+    requires even { bytes % 2 ≡ 0 }
+    requires within { bytes ≤ 4096 * length frames.now }
+    requires last { 4096 * length frames.now < bytes + 4096 }
+    ensures allowed { All IsAllowed result.items }
+    ensures whole { bytes % 512 ≡ 0 → All IsWhole result.items }
+    ensures places { bytes % 512 ≡ 0 → pieces result.items ≡ places_of frames.now (bytes / 512) }
+    ensures number { length result.items ≡ length frames.now }
+    ensures entries { (i : ℕ) (d : Prd) → i < length frames.now → IsPrdOf frames.now bytes i (slice_index_or result.items i d) }
+{
+    let mut entries = ArrayVec::new();
+    let mut left = bytes;
+    for frame in frames {
+        let bytes = left.min(FRAME_BYTES);
+        entries.push(Prd {
+            address: FRAME_BYTES * u32::from(frame.0),
+            bytes,
+        });
+        left -= bytes;
+    }
+    entries
+}
+
+/// A command table: the FIS at its head, and the PRDs from byte 128 on. What is past them is zero.
+pub fn table_bytes(command: &Command, prds: &[Prd]) -> [u8; 640]
+    requires lba { command.now.lba < 2 ^ 48 }
+    requires room { length prds.now ≤ 32 }
+    requires allowed { All IsAllowed prds.now }
+    ensures size { length result ≡ 640 }
+    ensures fis { SpellsCommand (part result 0 20) command.now }
+    ensures prds { (i : ℕ) (d : Prd) → i < length prds.now → SpellsPrd (part result (128 + 16 * i) 16) (slice_index_or prds.now i d) }
+{
+    let mut bytes = [0; 640];
+    store_at(&mut bytes, 0, &encode_h2d(command));
+    for (i, prd) in prds.iter().enumerate() {
+        store_at(&mut bytes, 128 + 16 * i, &prd_bytes(prd));
+    }
+    bytes
+}
+
+#[cfg(test)]
+mod tests {
+    use super::*;
+    use std::test::Fail;
+
+    /// A read of eight sectors from 100 on, into frame 40.
+    #[test]
+    fn a_read_is_spelled(rt: HostRuntime) -> Result<(), Fail> {
+        let command = Command {
+            code: 0x25,
+            features: 0,
+            count: 8,
+            lba: 100,
+            device: 0x40,
+        };
+        let entries = prds(&[Frame(40)], 4096);
+        let table = table_bytes(&command, entries.as_slice());
+        let fis = [
+            0x27, 0x80, 0x25, 0, 0x64, 0, 0, 0x40, 0, 0, 0, 0, 8, 0, 0, 0, 0, 0, 0, 0,
+        ];
+        assert_eq!(rt; encode_h2d(&command), fis);
+        assert_eq!(rt; &table[..20], &fis[..]);
+        assert_eq!(rt;
+            &table[128..144],
+            &[0, 0x80, 2, 0, 0, 0, 0, 0, 0, 0, 0, 0, 0xff, 0x0f, 0, 0][..]
+        );
+        assert_eq!(rt;
+            &header(false, 1, 4096)[..16],
+            &[5, 0, 1, 0, 0, 0, 0, 0, 0, 0x10, 0, 0, 0, 0, 0, 0][..]
+        );
+        Ok(())
+    }
+}

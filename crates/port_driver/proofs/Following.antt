@@ -1,0 +1,89 @@
+-- Accesses are followed by the block machine, one after another.
+use Rattle.std.proofs.Common.{ℕ, ◌+◌, ◌*◌, ◌≤◌, ◌⊎◌, ◌++◌, List, ◌∷◌, length, inl, inr, sym, subst, arith, lit<}
+use Rattle.ata_types.specs.declared.request.ClientId.{ClientId}
+use Rattle.ata_types.specs.declared.request.Frame.{Frame}
+use Rattle.hba_regs.specs.declared.reg.Reg.{Reg}
+use Rattle.adapter.specs.Access.{Access, Reads, Writes, Loads, Stores}
+use Rattle.adapter.specs.Access.Access.{Reading, Writing, Loading, Storing}
+use Rattle.adapter.specs.Device.{Device}
+use Rattle.adapter.specs.Rules.{MayWrite, Stays}
+use Rattle.adapter.proofs.Runs.{Steps-refl}
+use Rattle.block_machine.specs.Events.{AllMay}
+use Rattle.block_machine.specs.Left.{after}
+use Rattle.block_machine.specs.State.{Machine}
+use Rattle.block_machine.specs.Steps.{Step}
+use Rattle.block_machine.proofs.EventLemmas.{after-append}
+use Rattle.block_machine.proofs.HistoryLemmas.{may-append}
+use Rattle.agreement.specs.Driver.{Known, Knows, ByDevice, EndsWith, LeavesUses}
+use Rattle.agreement.specs.Slots.{Uses}
+use Rattle.agreement.proofs.Adding.{accesses_then, backed_then, device_adds, read_adds, store_adds, write_adds}
+use Rattle.agreement.proofs.Clients.{client_loads}
+use Rattle.agreement.proofs.Waiting.{device_append}
+use Rattle.port_driver.specs.Followed.{known, AnyAccess, IsOrdinary, AnyUse, SlotIsFree, IsFollowed, LoadsBytes}
+use Rattle.port_driver.proofs.Driving.{by_none, by_one, by_then}
+
+-- ---- one stretch after another
+
+pub followed_then : (May : Access → Type 0) (Fits : Uses → Type 0) (old mid new : Device) → IsFollowed May Fits old mid → IsFollowed May Fits mid new → IsFollowed May Fits old new
+followed_then May Fits old mid new a b = record {
+  driven = by_then a.driven b.driven;
+  adds = λ uses parked is. accesses_then (known uses parked old) (known uses parked mid) (known uses parked new) (a.adds uses parked is) (b.adds uses parked is);
+}
+
+pub nothing_followed : (d : Device) → IsFollowed AnyAccess AnyUse d d
+nothing_followed d = record { driven = by_none AnyAccess d; adds = λ uses parked is. device_adds (known uses parked d) d (Steps-refl d) }
+
+-- what is followed however the slots are used
+pub followed_so : (Fits : Uses → Type 0) (old new : Device) → IsFollowed AnyAccess AnyUse old new → IsFollowed AnyAccess Fits old new
+followed_so Fits old new a = record { driven = a.driven; adds = λ uses parked is. a.adds uses parked tt }
+
+-- a stretch of the device's steps, and then one that ends with the driver's step
+pub ends_then : (k later : Known) (mid : Device) (m : Machine) (step : Step) (early : List Step) → AllMay m early → ByDevice k.device mid m early →
+    EndsWith (record k { device = mid }) (after m early) step later → EndsWith k m step later
+ends_then k later mid m step early may device x = record {
+  steps = x.steps ++ early;
+  only = device_append x.steps early x.only device.only;
+  may = may-append m (step ∷ x.steps) early may x.may;
+  backed = backed_then k.device mid later.device m early (step ∷ x.steps) device.backed x.backed;
+  knows = subst (λ (n : Machine). Knows n later) (sym (after-append m (step ∷ x.steps) early)) x.knows;
+}
+
+-- ---- one access
+
+pub reading_by : (May : Access → Type 0) (r : Reg) (v : ℕ) (old new : Device) → May (Reading r v) → Reads r v old new → IsFollowed May AnyUse old new
+reading_by May r v old new kind call = record { driven = by_one May (Reading r v) old new kind call; adds = λ uses parked is. read_adds (known uses parked old) r v new call }
+
+pub reading_followed : (r : Reg) (v : ℕ) (old new : Device) → Reads r v old new → IsFollowed AnyAccess AnyUse old new
+reading_followed r v old new call = reading_by AnyAccess r v old new tt call
+
+pub writing_by : (May : Access → Type 0) (Fits : Uses → Type 0) (r : Reg) (v : ℕ) (old new : Device) → May (Writing r v) → Stays (MayWrite r v) old →
+    ((uses : Uses) → Fits uses → LeavesUses uses r v old) → Writes r v old new → IsFollowed May Fits old new
+writing_by May Fits r v old new kind may leaves call = record {
+  driven = by_one May (Writing r v) old new kind call;
+  adds = λ uses parked is. write_adds (known uses parked old) r v new may (leaves uses is) call;
+}
+
+pub writing_followed : (Fits : Uses → Type 0) (r : Reg) (v : ℕ) (old new : Device) → Stays (MayWrite r v) old →
+    ((uses : Uses) → Fits uses → LeavesUses uses r v old) → Writes r v old new → IsFollowed AnyAccess Fits old new
+writing_followed Fits r v old new may leaves call = writing_by AnyAccess Fits r v old new tt may leaves call
+
+-- a client's load
+pub loading_followed : (client : ClientId) (frame : Frame) (offset : ℕ) (bytes : List ℕ) (old new : Device) → Loads (4096 * frame.0 + offset) bytes old new →
+    LoadsBytes client frame offset bytes old new
+loading_followed client frame offset bytes old new call = record {
+  driven = by_one IsOrdinary (Loading (4096 * frame.0 + offset) bytes) old new tt call;
+  loads = λ uses parked m reached knows may. client_loads (known uses parked old) m client frame offset bytes new reached knows may call;
+}
+
+-- a store to header or table of slot 0
+pub storing_followed : (at : ℕ) (bytes : List ℕ) (old new : Device) → (at + length bytes ≤ 32) ⊎ ((4096 ≤ at) × (at + length bytes ≤ 5120)) →
+    Stores at bytes old new → IsFollowed IsOrdinary SlotIsFree old new
+storing_followed at bytes old new here call = record {
+  driven = by_one IsOrdinary (Storing at bytes) old new tt call;
+  adds = λ uses parked free.
+      store_adds (known uses parked old) at bytes new (inl (record { port = 0; slot = 0; below = lit< tt; slot_below = lit< tt; free = free; here = of here })) call;
+}
+  where
+    of : (at + length bytes ≤ 32) ⊎ ((4096 ≤ at) × (at + length bytes ≤ 5120)) → ((0 ≤ at) × (at + length bytes ≤ 32)) ⊎ ((4096 ≤ at) × (at + length bytes ≤ 5120))
+    of (inl low) = inl (omega arith, low)
+    of (inr high) = inr high

@@ -1,0 +1,17 @@
+pub mod Told
+pub mod PortLemmas
+pub mod Linking
+pub mod Coming
+pub mod Moving
+pub mod Serving
+pub mod Sparing
+pub mod Issuing
+pub mod Going
+pub mod Looking
+pub mod Booting
+pub mod Bringing
+pub mod Finding
+pub mod Sending
+pub mod Following
+pub mod Driving
+pub mod FirstServed
