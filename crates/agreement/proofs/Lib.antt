@@ -72,3 +72,4 @@ mod Composing
 mod Pages
 mod Booted
 mod Restarting
+mod Failing

@@ -20,6 +20,7 @@ use Rattle.agreement.specs.Errors.{IsFatalOf, ChangesByErrors}
 use Rattle.agreement.specs.Facts.{IsFaultOf}
 use Rattle.agreement.proofs.Crossing.{access_steps, effect_keeps}
 use Rattle.agreement.proofs.Erring.{command_beside}
+use Rattle.agreement.proofs.Failing.{fatal_gains, fails_gains}
 use Rattle.agreement.proofs.Gaining.{NoneOf, GainsNone, gains_parts, gained_none}
 use Rattle.agreement.proofs.Healthy.{at_port}
 
@@ -107,13 +108,13 @@ no_fatal place e (inr z) = omega (arith, e, z)
 pub steps_raise : (port : ℕ) (old new : Device) → Steps old new → ChangesByErrors port old new
 steps_raise port old new s = record {
   fatal = λ none place low up h.
-      steps_unset (IsFatalOf port) port place low (λ f e z. no_fault place up z) (λ at e z. e) old new s (none.gained, none.tape, none.none) h;
-  fault = λ none h. steps_unset (IsFaultOf port) port 30 (omega arith) (λ f e z. e) (λ at e z. no_fatal 30 refl z) old new s (none.gained, none.tape, none.none) h;
+      steps_unset (IsFatalOf port) port place low (λ f e z. no_fault place up z) (λ at e z. e) old new s (fatal_gains port old new none) h;
+  fault = λ none h. steps_unset (IsFaultOf port) port 30 (omega arith) (λ f e z. e) (λ at e z. no_fatal 30 refl z) old new s (fails_gains port old new none) h;
 }
 
 pub access_raises : (port : Port) (access : Access) (old new : Device) → Does access old new → ChangesByErrors port.0 old new
 access_raises port access old new x = record {
   fatal = λ none place low up h.
-      access_unset (IsFatalOf port.0) port.0 place low (λ f e z. no_fault place up z) (λ at e z. e) access old new x (none.gained, none.tape, none.none) h;
-  fault = λ none h. access_unset (IsFaultOf port.0) port.0 30 (omega arith) (λ f e z. e) (λ at e z. no_fatal 30 refl z) access old new x (none.gained, none.tape, none.none) h;
+      access_unset (IsFatalOf port.0) port.0 place low (λ f e z. no_fault place up z) (λ at e z. e) access old new x (fatal_gains port.0 old new none) h;
+  fault = λ none h. access_unset (IsFaultOf port.0) port.0 30 (omega arith) (λ f e z. e) (λ at e z. no_fatal 30 refl z) access old new x (fails_gains port.0 old new none) h;
 }

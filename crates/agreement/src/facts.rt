@@ -27,7 +27,7 @@ ghost use Rattle.agreement.specs.Agrees.{Agrees};
 ghost use Rattle.agreement.specs.Awaits.{AwaitsPage};
 ghost use Rattle.agreement.specs.Booted.{BootIsFound};
 ghost use Rattle.agreement.specs.Driver.{Known, Knows, IsOwnPrepared};
-ghost use Rattle.agreement.specs.Errors.{KeepsErrors, NoneComes, ChangesByDisks, StaysClear, ChangesByErrors, IsLeftByReset, IsCleared, IsWork};
+ghost use Rattle.agreement.specs.Errors.{KeepsErrors, NoneComes, ChangesByDisks, StaysClear, NoneFatal, NoneFails, ChangesByErrors, IsLeftByReset, IsCleared, IsWork};
 ghost use Rattle.agreement.specs.Facts.{IsHalted, IsAfterReset, Finds, FindsPage, AreStepsOf, IsStill, AreOver, RunsWell, Undisturbed, ShowsNoTrouble, TellsNoTrouble, ClearsNoTrouble, IsFaulted, ShowsFault, HasFaults, IsRecorded, IsAwaited, IsUnflagged, IsQuiet, KeepsRecord, EndedIn, IsClear};
 ghost use Rattle.agreement.specs.Links.{SparesRegister, SameAdapter, LeavesControls, PlugsNone, LeavesDisk, LeavesLink, HasDeviceOrNone};
 ghost use Rattle.agreement.specs.Noted.{LeavesNotes};
@@ -519,6 +519,26 @@ pub fn coming_composes()
     ensures parts { (port : ℕ) (old mid new : Device) (early late : List Entry) → mid.tape ≡ old.tape ++ early
         → new.tape ≡ mid.tape ++ late → NoneComes port old new → NoneComes port old mid × NoneComes port mid new }
     ensures plugs { (port : ℕ) (old new : Device) → PlugsNone port old new → NoneComes port old new }
+{}
+
+/// Where the tape tells of no fatal error of the port in two parts of a call, it tells of none in the whole, and the
+/// other way round; where nothing goes wrong, it tells of none either.
+pub fn fatal_errors_compose()
+    ensures none { (port : ℕ) (d : Device) → NoneFatal port d d }
+    ensures more { (port : ℕ) (old mid new : Device) → NoneFatal port old mid → NoneFatal port mid new → NoneFatal port old new }
+    ensures parts { (port : ℕ) (old mid new : Device) (early late : List Entry) → mid.tape ≡ old.tape ++ early
+        → new.tape ≡ mid.tape ++ late → NoneFatal port old new → NoneFatal port old mid × NoneFatal port mid new }
+    ensures calm { (port : ℕ) (old new : Device) → Undisturbed port old new → NoneFatal port old new }
+{}
+
+/// Where the tape tells of no fault of the port in two parts of a call, it tells of none in the whole, and the other way
+/// round; where nothing goes wrong, it tells of none either.
+pub fn faults_compose()
+    ensures none { (port : ℕ) (d : Device) → NoneFails port d d }
+    ensures more { (port : ℕ) (old mid new : Device) → NoneFails port old mid → NoneFails port mid new → NoneFails port old new }
+    ensures parts { (port : ℕ) (old mid new : Device) (early late : List Entry) → mid.tape ≡ old.tape ++ early
+        → new.tape ≡ mid.tape ++ late → NoneFails port old new → NoneFails port old mid × NoneFails port mid new }
+    ensures calm { (port : ℕ) (old new : Device) → Undisturbed port old new → NoneFails port old new }
 {}
 
 /// While a port's engine stands, no move, clearing, end, fault or fatal error of the port comes; and where no disk comes either, the disk

@@ -8,7 +8,7 @@ use Rattle.ata_types.specs.declared.grant.GrantRow.{GrantRow}
 use Rattle.block_machine.specs.State.{Accepted, Pending, Machine}
 use Rattle.block_machine.specs.Steps.{Step, Accept, after_step, unanswered_of}
 use Rattle.block_machine.specs.Left.{after, IsLegal, IsStart}
-use Rattle.block_machine.specs.Confined.{WasAccepted}
+use Rattle.block_machine.specs.Confined.{IsGranted, WasAccepted}
 use Rattle.block_machine.proofs.Members.{contains_here, contains_there}
 use Rattle.block_machine.proofs.Counting.{count_cons}
 use Rattle.block_machine.proofs.Accepts.{living_accepted, accepted_is_granted}
@@ -32,17 +32,21 @@ owners_stay m (step ∷ past) f = owner_step (after m past) step f ∙ owners_st
 pub rows_and_owners_stay : (start : Machine) (h : List Step) → ((after start h).rows ≡ start.rows) × ((f : Frame) → (after start h).owner f ≡ start.owner f)
 rows_and_owners_stay start h = (rows_stay start h, owners_stay start h)
 
+-- the rows of the start grant each request that was accepted
+pub was_granted : (start : Machine) (h : List Step) (r : Accepted) → WasAccepted start h r → IsGranted start.rows r
+was_granted start [] r w = absurd w
+was_granted start (step ∷ past) r (inl c) = subst (λ (rows : List GrantRow). IsGranted rows r) (rows_stay start past) (accepted_is_granted (after start past) r c.1)
+was_granted start (step ∷ past) r (inr w) = was_granted start past r w
+
 -- the client of an accepted request is one that a row may have
 accepted_client : (start : Machine) (h : List Step) (r : Accepted) → IsStart start → WasAccepted start h r → (1 ≤ r.asked.client.0) × (r.asked.client.0 ≤ 8)
-accepted_client start [] r s w = absurd w
-accepted_client start (step ∷ past) r s (inl c) =
-    let g = accepted_is_granted (after start past) r c.1 in
-    let row = s.configured g.row (subst (λ (rows : List GrantRow). Contains rows g.row) (rows_stay start past) g.named.0) in
+accepted_client start h r s w =
+    let g = was_granted start h r w in
+    let row = s.configured g.row g.named.0 in
     let low = row.client.0 in
     let high = row.client.1 in
     let same : g.row.client.0 ≡ r.asked.client.0 = ap (λ (x : ClientId). x.0) g.named.1.0 in
     (omega (arith, low, same), omega (arith, high, same))
-accepted_client start (step ∷ past) r s (inr w) = accepted_client start past r s w
 
 -- how many requests the clients 1 to n have
 abbrev total : List Pending → ℕ → ℕ

@@ -40,3 +40,4 @@ pub mod PlainRules
 pub mod PlainLeft
 pub mod Started
 pub mod Staying
+pub mod Unwritten

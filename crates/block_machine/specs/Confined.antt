@@ -1,5 +1,5 @@
 -- What a request that moves data may reach, and what changes bytes.
-use Rattle.std.specs.Prelude.{◌≡◌, ◌≢◌, ◌⊎◌, ℕ, ◌+◌, ◌*◌, ◌/◌, ◌%◌, ◌<◌, ◌≤◌, true, Some, None, length, List, [], ◌∷◌}
+use Rattle.std.specs.Prelude.{◌≡◌, ◌≢◌, ◌⊎◌, ℕ, ◌+◌, ◌*◌, ◌/◌, ◌%◌, ◌<◌, ◌≤◌, true, false, Some, None, length, List, [], ◌∷◌}
 use Rattle.ata_types.specs.declared.Port.{Port}
 use Rattle.ata_types.specs.declared.request.ClientId.{ClientId}
 use Rattle.ata_types.specs.declared.request.Frame.{Frame}
@@ -20,6 +20,10 @@ pub record IsGranted (rows : List GrantRow) (r : Accepted) : Type 0 where
   pub port : r.port ≡ row.port
   pub right : Allows row.rights r.asked.op
   pub covered : r.asked.op ≢ Flush → Covers row r.asked.first.0 r.asked.count
+
+-- the row lets its client neither write nor trim
+abbrev pub GrantsNoWrites : GrantRow → Type 0
+GrantsNoWrites row = (row.rights.write ≡ false) × (row.rights.trim ≡ false)
 
 -- the request was accepted in the history: it broke no rule then, and had its row's port and its frames' bytes
 abbrev pub WasAccepted : Machine → List Step → Accepted → Type 0

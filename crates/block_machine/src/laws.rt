@@ -24,8 +24,8 @@ ghost use Rattle.block_machine.specs.Refusals.{Situation, IsFirstRefusal};
 ghost use Rattle.block_machine.specs.Due.{IsDue, IsInOrder, overlap, is_due, is_plain, ahead, due_ahead, free_slots, issued_count, with_issued};
 ghost use Rattle.block_machine.specs.State.{Block, Accepted, Pending, Machine, frame_at, sector_of, unanswered};
 ghost use Rattle.block_machine.specs.Steps.{Step, Touch, Issue, Answer, May, after_step, IsNew, IsLiving, AllTouched};
-ghost use Rattle.block_machine.specs.Left.{IsStart, IsLegal, AllTold, HasTouched, HasTouchedSince, HasEndedSince, IsLeft, HoldsLeft, after};
-ghost use Rattle.block_machine.specs.Confined.{IsGranted, IsConfined, IsHeld, HasFrame, WasAccepted, WithinLimits, MayChangeByte, MayChangeSector};
+ghost use Rattle.block_machine.specs.Left.{IsStart, IsLegal, AllTold, HasTouched, HasTouchedSince, HasEndedSince, IsLeft, HoldsLeft, after, bytes_when_plugged, disk_read};
+ghost use Rattle.block_machine.specs.Confined.{IsGranted, GrantsNoWrites, IsConfined, IsHeld, HasFrame, WasAccepted, WithinLimits, MayChangeByte, MayChangeSector};
 ghost use Rattle.block_machine.specs.Durable.{IsVolatile, EveryPlugFinds};
 ghost use Rattle.block_machine.specs.Events.{Moment, Event, AllIssued, Happens, IsRun, IsStillStuck, EveryReadHolds, accepts_it, answers_it, issues_it, gives_id, replies_of, all_replies, WasGiven, moment_of, steps_of};
 ghost use Rattle.block_machine.specs.Histories.{IsReached};
@@ -61,6 +61,16 @@ pub fn read_holds_left()
         → AllTold start history → Contains (after start history).book read → AllTouched read
         → read.request.asked.op ≡ Read → HoldsLeft start history
         (after start history).memory read.request }
+{}
+
+/// Where no grant lets its client write or trim, what is left on a sector for a read is what the disk that it found
+/// there held when it was put in.
+pub fn unwritten_disks_are_left()
+    ensures { (start : Machine) (history : List Step) (read : Accepted) (sector : ℕ) (block : Block)
+        → IsStart start → IsLegal start history
+        → ((row : GrantRow) → Contains start.rows row → GrantsNoWrites row)
+        → IsLeft start history read sector block
+        → block ≡ bytes_when_plugged start read.port (disk_read read sector history) history sector }
 {}
 
 /// What is left on a sector is one block.

@@ -1,0 +1,45 @@
+-- Where no grant lets its client write or trim, each disk holds what it held when it was put in.
+use Rattle.std.proofs.Common.{◌≡◌, ℕ, true, List, [], ◌∷◌, inl, inr, sym, ◌∙◌, subst}
+use Rattle.std.proofs.lemmas.Bool.{false≢true}
+use Rattle.std.specs.List.{Contains}
+use Rattle.ata_types.specs.declared.request.Op.{Op}
+use Rattle.ata_types.specs.declared.request.Op.TheVariants.{Read, Write, Trim, Flush}
+use Rattle.ata_types.specs.declared.grant.GrantRow.{GrantRow}
+use Rattle.ata_types.specs.Grant.{Allows}
+use Rattle.block_machine.specs.Due.{is_writer}
+use Rattle.block_machine.specs.State.{Block, Accepted, Machine}
+use Rattle.block_machine.specs.Steps.{Step, Touch, May}
+use Rattle.block_machine.specs.Left.{after, IsLegal, IsStart, IsTouch, HasTouched, IsLeft, disk_read, bytes_when_plugged}
+use Rattle.block_machine.specs.Confined.{WasAccepted, GrantsNoWrites}
+use Rattle.block_machine.proofs.Trace.{runs_lives}
+use Rattle.block_machine.proofs.Accepts.{living_accepted}
+use Rattle.block_machine.proofs.Configured.{was_granted}
+
+-- the request of a touch that may come was accepted
+toucher_lives : (start : Machine) (h : List Step) → IsStart start → IsLegal start h → (step : Step) → May (after start h) step → (r : Accepted) (k : ℕ) → IsTouch step r k → WasAccepted start h r
+toucher_lives start h s legal (Touch e i block) may r k t = subst (WasAccepted start h) t.0 (living_accepted start h s legal e (runs_lives (after start h) e may.0))
+toucher_lives start h s legal _ may r k t = absurd t
+
+-- each request that touched a sector was accepted
+toucher_accepted : (start : Machine) (h : List Step) → IsStart start → IsLegal start h → (r : Accepted) (k n : ℕ) → HasTouched r k n h → WasAccepted start h r
+toucher_accepted start [] s legal r k n t = absurd t
+toucher_accepted start (step ∷ past) s legal r k n (inl t) = inr (toucher_lives start past s legal.0 step legal.1 r k t.0)
+toucher_accepted start (step ∷ past) s legal r k n (inr t) = inr (toucher_accepted start past s legal.0 r k n t)
+
+-- a row without writes and trims allows no writer
+never_writes : (row : GrantRow) → GrantsNoWrites row → (op : Op) → Allows row.rights op → is_writer op ≡ true → ⊥
+never_writes row none Read may writes = false≢true writes
+never_writes row none Write may writes = false≢true (sym none.0 ∙ may)
+never_writes row none Trim may writes = false≢true (sym none.1 ∙ may)
+never_writes row none Flush may writes = false≢true writes
+
+-- so no write or trim touched a sector, and what is left came with the disk
+pub unwritten_disks_are_left : (start : Machine) (h : List Step) (read : Accepted) (k : ℕ) (block : Block) → IsStart start → IsLegal start h
+    → ((row : GrantRow) → Contains start.rows row → GrantsNoWrites row)
+    → IsLeft start h read k block → block ≡ bytes_when_plugged start read.port (disk_read read k h) h k
+unwritten_disks_are_left start h read k block s legal none (inl last) =
+    let writer = last.0 in
+    let wrote = last.1 in
+    let g = was_granted start h writer (toucher_accepted start h s legal writer k _ wrote.touched) in
+    absurd (never_writes g.row (none g.row g.named.0) writer.asked.op g.right wrote.writes)
+unwritten_disks_are_left start h read k block s legal none (inr untouched) = untouched.1
