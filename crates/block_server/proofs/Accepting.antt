@@ -10,7 +10,6 @@ use Rattle.ata_types.specs.declared.grant.GrantRow.{GrantRow}
 use Rattle.ata_types.specs.declared.refusal.Refusal.TheVariants.{Rule, PortNotReady, ClientFull, IdsSpent}
 use Rattle.ata_types.specs.declared.refusal.Rule.TheVariants.{NoGrant}
 use Rattle.ata_types.specs.declared.request.Frame.{Frame}
-use Rattle.ata_types.specs.declared.request.Op.TheVariants.{Read}
 use Rattle.ata_types.specs.declared.request.Request.{Request}
 use Rattle.ata_types.specs.declared.request.RequestId.{RequestId}
 use Rattle.adapter.specs.Device.{Device}
@@ -21,7 +20,7 @@ use Rattle.dma_frames.specs.Loan.{Lending}
 use Rattle.dma_frames.specs.Table.{Table, owner_of, lent_to, LendsOnly}
 use Rattle.block_server.specs.Book.{IsKept, IsAccepted, IsEarlier, StandsBehind, served, issued_of, unanswered_of}
 use Rattle.block_server.specs.Calls.{situation_of, state_of, accepted_as, Accepts}
-use Rattle.port_driver.specs.Port.{Serves, Proceeds, Issued}
+use Rattle.port_driver.specs.Port.{IsTransfer, Serves, Proceeds, Issued}
 use Rattle.block_server.specs.View.{ServerView}
 use Rattle.block_server.specs.declared.types.Accepted.{Accepted}
 use Rattle.block_server.proofs.Booking.{owner_same, accepted_on, few_more, owns_on, room_left}
@@ -79,8 +78,8 @@ module _ {A : Type 0} (device : A → Device) (s : ServerView A) (places : ℕ) 
   pub frames : length r.frames.items ≡ (r.count + 7) / 8
   frames = ruling.frames_fit s.grants s.table r inv.rows none_broken
 
-  reads : r.op ≡ Read
-  reads = ruling.asks_read s.grants s.table r inv.rows none_broken r.op refl
+  pub transfers : IsTransfer r.op
+  transfers = ruling.transfers s.grants s.table r inv.rows none_broken
 
   pub book_room : length s.book < 128
   book_room =
@@ -98,13 +97,14 @@ module _ {A : Type 0} (device : A → Device) (s : ServerView A) (places : ℕ) 
 
     new_accepted : IsAccepted s.grants table (accepted_as r id)
     new_accepted = record {
+      transfers = transfers;
       client_from = ruling.client_from s.grants s.table r inv.rows none_broken;
       client_to = ruling.client_to s.grants s.table r inv.rows none_broken;
       some = some;
       few = few;
       first = first;
       frames = frames;
-      row = covering.covered s.grants s.table r none_broken id reads;
+      row = covering.covered s.grants s.table r none_broken id (ruling.not_flush s.grants s.table r inv.rows none_broken);
       clients = clients;
       own = λ k d small. owner_same s.table table lends.owners (get_or r.frames.items k d) r.client (covering.own s.grants s.table r none_broken k d small);
       apart = covering.apart s.grants s.table r none_broken;
@@ -198,7 +198,7 @@ module _ {A : Type 0} (device : A → Device) (s : ServerView A) (places : ℕ) 
   -- the same for a vector that holds the book, with room as before
   pub kept_in : (adapter : A) (table : Table) (id : RequestId) → id.0 ≡ s.last + 1 → (loan : Lending) (frames : List Frame) → frames ≡ r.frames.items → loan.frames ≡ frames →
       loan.request ≡ id → LendsOnly s.table table frames (Some id) → (device adapter).size ≡ (device s.adapter).size →
-      (book : List Accepted) → book ≡ s.book ++ record { id = id; client = r.client; first = r.first; count = r.count; loan = loan } ∷ [] → (room : ℕ) → room ≡ places →
+      (book : List Accepted) → book ≡ s.book ++ record { id = id; client = r.client; op = r.op; first = r.first; count = r.count; loan = loan } ∷ [] → (room : ℕ) → room ≡ places →
       (issued : Bool) → issued ≡ true → StandsBehind s.state (served true (s.book ++ accepted_as r id ∷ [])) (device adapter) →
       IsKept device (record s { adapter = adapter; table = table; book = book; issued = issued; last = s.last + 1 }) room
   kept_in adapter table id id_is loan frames frames_are loan_is to_it lends size book book_is room room_is issued issued_is port =
@@ -210,5 +210,5 @@ module _ {A : Type 0} (device : A → Device) (s : ServerView A) (places : ℕ) 
       let lending : loan ≡ record { frames = r.frames.items; request = id } =
       ap (λ (list : List Frame). record { frames = list; request = loan.request }) (loan_is ∙ frames_are) ∙ ap (λ (x : RequestId). record { frames = r.frames.items; request = x }) to_it in
       let same : book ≡ s.book ++ accepted_as r id ∷ [] =
-      book_is ∙ ap (λ (l : Lending). s.book ++ record { id = id; client = r.client; first = r.first; count = r.count; loan = l } ∷ []) lending in
+      book_is ∙ ap (λ (l : Lending). s.book ++ record { id = id; client = r.client; op = r.op; first = r.first; count = r.count; loan = l } ∷ []) lending in
       subst R (sym room_is) (subst I (sym issued_is) (subst B (sym same) kept))

@@ -40,7 +40,7 @@ use Rattle.agreement.proofs.Sparing.{steps_spare, none_kept_on}
 use Rattle.dma_frames.specs.Table.{Table, lent_to, LendsOnly}
 use Rattle.block_server.specs.Book.{IsKept, IsAccepted, IsEarlier, IssuesFirst}
 use Rattle.block_server.specs.Calls.{state_of, done_reply}
-use Rattle.port_driver.specs.Followed.{IsDrivenBy, AnyAccess, IsOrdinary, LooksFirst, AnyUse, IsFollowed, FindsEnd, FindsRead}
+use Rattle.port_driver.specs.Followed.{IsDrivenBy, AnyAccess, IsOrdinary, LooksFirst, AnyUse, IsFollowed, FindsEnd, FindsTransfer}
 use Rattle.block_server.specs.History.{Begins, Stands, Ties, CameBy, IsAsShown, GoesWell, IsEntry, IsBook, uses_of, served_id, known_of, ports_of, plain_mode, no_evidence}
 use Rattle.port_driver.specs.Port.{IsHealthy}
 use Rattle.port_driver.specs.Told.{IsUnharmed}
@@ -50,7 +50,7 @@ use Rattle.block_server.proofs.Booking.{ordered_rest}
 use Rattle.port_driver.proofs.Driving.{by_none, looks_then}
 use Rattle.block_server.proofs.Heeding.{names_none, service_heeds, present_ready, ended_served}
 use Rattle.block_server.proofs.Histories.{book_further, history_fit, ports_same, disks_same, stands_on}
-use Rattle.block_server.proofs.Servicing.{AreServices, IssuesNone, no_steps, none_issued, devices_then, issue_then, answer_then, devices_issue_none, book_entry, Begun, begun, none_due, others_differ, book_without, first_without, first_issued, next_may, given_back, given_up}
+use Rattle.block_server.proofs.Servicing.{all_plain, AreServices, IssuesNone, no_steps, none_issued, devices_then, issue_then, answer_then, devices_issue_none, book_entry, Begun, begun, none_due, others_differ, book_without, first_without, first_issued, next_may, given_back, given_up}
 
 -- what the server knows where slot 0 serves this request, or none
 abbrev pub known_at : Option RequestId → Device → Known
@@ -58,7 +58,7 @@ known_at id d = record { uses = uses_of id; parked = λ port. []; device = d }
 
 -- ---- the port is looked at, and then its read
 
-pub found_adds : (id : RequestId) (old mid new : Device) (done : Bool) → IsFollowed AnyAccess AnyUse old mid → FindsRead done mid new →
+pub found_adds : (id : RequestId) (old mid new : Device) (done : Bool) → IsFollowed AnyAccess AnyUse old mid → FindsTransfer done mid new →
     AddsSteps Knows (known_at (Some id) old) (known_at (Some id) new) (FindsEnd done id old new)
 found_adds id old mid new done looks reads =
     steps_then (FindsEnd done id old new) (looks.adds (uses_of (Some id)) (λ port. []) tt) (reads.adds (uses_of (Some id)) (λ port. []) id (put_same (λ port slot. Free) 0 0 (Serves id)))
@@ -106,7 +106,7 @@ next_issued s m old new true (e ∷ rest) ready reached knows kept ordered book 
     let b = begun false e rest m.book book in
     let p : Pending = b.first in
     let there : IsBook false (e ∷ rest) (p ∷ b.later) = subst (λ (es : List Pending). IsBook false (e ∷ rest) es) b.is book in
-    let y = issues.issues (uses_of None) (λ port. []) m plain_mode p reached knows refl (next_may m e rest p b.later b.is kept ordered there) refl (omega arith) (record {
+    let y = issues.issues (uses_of None) (λ port. []) m plain_mode p reached knows refl (next_may m e rest p b.later b.is kept ordered there) (all_plain e.op) (omega arith) (record {
       port = b.entry.port;
       operation = b.entry.op;
       first = ap (λ x. x.0) b.entry.first;
@@ -260,7 +260,7 @@ module _ {A : Type 0} (device : A → Device) (s : ServerView A) where
         by b (e ∷ book) is some = (e.id, ap (λ (c : Bool). served_id c (e ∷ book)) is)
 
     -- its read isn't done
-    pub unfinished_adds : s.issued ≡ true → (adapter : A) → IsAsShown s.state (device adapter) → Unanswered (device adapter) → (mid : Device) (done : Bool) → LooksFirst [] (device s.adapter) mid → IsFollowed AnyAccess AnyUse (device s.adapter) mid → FindsRead done mid (device adapter) →
+    pub unfinished_adds : s.issued ≡ true → (adapter : A) → IsAsShown s.state (device adapter) → Unanswered (device adapter) → (mid : Device) (done : Bool) → LooksFirst [] (device s.adapter) mid → IsFollowed AnyAccess AnyUse (device s.adapter) mid → FindsTransfer done mid (device adapter) →
         Adds Begins Ties (Stands device) s (record s { adapter = adapter }) Service (Served [])
     unfinished_adds issued adapter shown unanswered mid done first looks reads =
         let served = served_one issued in

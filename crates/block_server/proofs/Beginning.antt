@@ -25,7 +25,7 @@ use Rattle.grants.specs.Rows.{SameRows}
 use Rattle.port_driver.specs.Followed.{AnyAccess, NoneUsed, IsFollowed}
 use Rattle.block_server.specs.History.{HasBegun, ports_of}
 use Rattle.port_driver.specs.Port.{IsBroughtUp}
-use Rattle.setup.specs.Setup.{SetupView, IsSetup, IsClient, HasClientFrames, IsReadGrant}
+use Rattle.setup.specs.Setup.{SetupView, IsSetup, IsClient, HasClientFrames, IsTransferGrant}
 use Rattle.block_server.specs.View.{ServerView}
 use Rattle.block_server.specs.declared.types.Accepted.{Accepted}
 use Rattle.block_server.proofs.Making.{made}
@@ -101,7 +101,7 @@ brought_fit s old new brought = record {
 -- ---- a setup's grants and owners
 
 -- a grant of reads is one that a configuration may give
-read_row : (row : GrantRow) → IsReadGrant row → IsRow row
+read_row : (row : GrantRow) → IsTransferGrant row → IsRow row
 read_row row r = record {
   client = (r.client_from, r.client_to);
   number = r.number;
@@ -124,7 +124,7 @@ module _ {A : Type 0} (device : A → Device) (adapter : A) (table : Table) (sta
       next = refl;
       few = few;
       rows = names;
-      configured = λ row here. read_row row (All-contains (λ (row : GrantRow). IsReadGrant row) given.grants row setup.rows.reads (rows.1 row here));
+      configured = λ row here. read_row row (All-contains (λ (row : GrantRow). IsTransferGrant row) given.grants row setup.rows.transfers (rows.1 row here));
       owned = λ frame client own.
           let run = only frame client own in
           let its = subst IsClient run.3 (All-contains (λ (r : Run). IsClient r.0) given.owners run.0 setup.runs.owners run.1) in

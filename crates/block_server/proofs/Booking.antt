@@ -130,6 +130,7 @@ owner_same old new same frame client owner = ap (λ (list : List (Option ClientI
 kept_lent : (rows : List GrantRow) (old new : Table) (frames : List Frame) (to : Option RequestId) (e : Accepted) → LendsOnly old new frames to → IsAccepted rows old e →
     ((f : Frame) → Contains e.loan.frames f → Contains frames f → ⊥) → IsAccepted rows new e
 kept_lent rows old new frames to e lends a apart = record {
+  transfers = a.transfers;
   client_from = a.client_from;
   client_to = a.client_to;
   some = a.some;

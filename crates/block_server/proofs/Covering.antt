@@ -10,8 +10,9 @@ use Rattle.ata_types.specs.declared.refusal.FrameFault.TheVariants.{FrameForeign
 use Rattle.ata_types.specs.declared.refusal.Rule.TheVariants.{NoGrant, NoRight, OutsideGrant, Frames}
 use Rattle.ata_types.specs.declared.request.ClientId.{ClientId}
 use Rattle.ata_types.specs.declared.request.Frame.{Frame}
+use Rattle.ata_types.specs.declared.grant.Rights.{Rights}
 use Rattle.ata_types.specs.declared.request.Op.{Op}
-use Rattle.ata_types.specs.declared.request.Op.TheVariants.{Read, Flush}
+use Rattle.ata_types.specs.declared.request.Op.TheVariants.{Read, Write, Trim, Flush}
 use Rattle.ata_types.specs.declared.request.Request.{Request}
 use Rattle.ata_types.specs.declared.request.RequestId.{RequestId}
 use Rattle.adapter.proofs.Absurd.{true-false}
@@ -57,11 +58,11 @@ covers_or_not row first count twice = (
 )
 
 module _ (rows : List GrantRow) (table : Table) (r : Request) (none : BreaksNone rows (owner_of table) (lent_to table) r) where
-  pub covered : (id : RequestId) → r.op ≡ Read → IsCovered rows (accepted_as r id)
-  covered id reads =
+  pub covered : (id : RequestId) → r.op ≢ Flush → IsCovered rows (accepted_as r id)
+  covered id ranged =
       elim (find rows r.client r.grant) [
         | inl found ↦
-            (found.0, found.1, found.2.0, may_read found.0 (found.1, found.2), covers_or_not found.0 r.first.0 r.count (λ outside. none OutsideGrant ((λ flush. let e : Flush ≡ Read = sym flush ∙ reads in cc), (found.0, (found.1, found.2), outside))))
+            (found.0, found.1, found.2.0, may_do found.0 (found.1, found.2), covers_or_not found.0 r.first.0 r.count (λ outside. none OutsideGrant (ranged, (found.0, (found.1, found.2), outside))))
         | inr lacks ↦ absurd (none NoGrant (λ row named. lacks row named.0 named.1))
       ]
     where
@@ -69,10 +70,14 @@ module _ (rows : List GrantRow) (table : Table) (r : Request) (none : BreaksNone
       by true twice = refl
       by false twice = absurd (twice (λ h. true-false h refl))
 
-      may_read : (row : GrantRow) → IsNamed rows r row → Allows row.rights Read
-      may_read row named =
-          let P : Op → Type 0 = λ op. (Allows row.rights op → ⊥) → ⊥ in
-          by row.rights.read (subst P reads (λ other. none NoRight (row, named, other)))
+      allowed : (rights : Rights) (op : Op) → ((Allows rights op → ⊥) → ⊥) → Allows rights op
+      allowed rights Read twice = by rights.read twice
+      allowed rights Write twice = by rights.write twice
+      allowed rights Trim twice = by rights.trim twice
+      allowed rights Flush twice = by rights.flush twice
+
+      may_do : (row : GrantRow) → IsNamed rows r row → Allows row.rights r.op
+      may_do row named = allowed row.rights r.op (λ other. none NoRight (row, named, other))
 
   -- each frame is the client's own
   pub own : All (λ frame. owner_of table frame ≡ Some r.client) r.frames.items

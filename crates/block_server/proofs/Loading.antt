@@ -20,13 +20,13 @@ use Rattle.ata_types.specs.declared.request.RequestId.{RequestId}
 use Rattle.block_machine.specs.Refusals.{IsOpen}
 use Rattle.dma_frames.specs.Table.{Table, owner_of, lent_to}
 use Rattle.block_server.specs.Book.{IsKept, IsAccepted, StandsBehind, served, issued_of}
-use Rattle.port_driver.specs.Port.{IsSlotFree, IsLone, IsRunning, IsResting, Issued, HoldsRead, Serves, IsTableByte, IsKeptByte, IsInFrames, IsOutsideArea}
+use Rattle.port_driver.specs.Port.{IsSlotFree, IsLone, IsRunning, IsResting, Issued, HoldsTransfer, Serves, IsTableByte, IsKeptByte, IsInFrames, IsOutsideArea}
 use Rattle.block_server.specs.View.{ServerView}
 use Rattle.block_server.specs.declared.types.Accepted.{Accepted}
 use Rattle.block_server.proofs.Booking.{owns_on}
 use Rattle.port_driver.proofs.Issuing.{all_free, none_after}
 use Rattle.port_driver.proofs.PortLemmas.{lone_after, running_after, resting_after}
-use Rattle.port_driver.proofs.Serving.{free_guarded, free_unused, read_guarded, steps_hold}
+use Rattle.port_driver.proofs.Serving.{free_guarded, free_unused, transfer_guarded, steps_hold}
 
 -- ---- steps of the device
 
@@ -98,9 +98,9 @@ module _ (at n : ℕ) (low : 163840 ≤ at) (d : Device) (inside : at + n ≤ d.
       })
 
   -- while a read is served: none of its frames
-  read_loads : (r : Issued) → IsLone d → IsRunning d → HoldsRead r d → ((a : ℕ) → at ≤ a → a < at + n → IsInFrames r.frames a → ⊥) → Stays (IsFree at n) d
+  read_loads : (r : Issued) → IsLone d → IsRunning d → HoldsTransfer r d → ((a : ℕ) → at ≤ a → a < at + n → IsInFrames r.frames a → ⊥) → Stays (IsFree at n) d
   read_loads r lone run holds apart =
-      apart_free_stays IsTableByte (IsKeptByte r.frames) at n d (read_guarded r d lone run holds)
+      apart_free_stays IsTableByte (IsKeptByte r.frames) at n d (transfer_guarded r d lone run holds)
       (record {
         inside = inside;
         kept = λ a from to. inr (omega (arith, low, from), apart a from to);

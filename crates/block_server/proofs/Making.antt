@@ -16,7 +16,7 @@ use Rattle.block_server.specs.Book.{IsKept, StandsBehind}
 use Rattle.port_driver.specs.Port.{IsBroughtUp, IsMissing, IsComing, SparesClients}
 use Rattle.port_driver.specs.Told.{IsUndisturbed}
 use Rattle.hba_regs.specs.Bits.{bit}
-use Rattle.setup.specs.Setup.{SetupView, IsSetup, HasClientFrames, IsReadGrant}
+use Rattle.setup.specs.Setup.{SetupView, IsSetup, HasClientFrames, IsTransferGrant}
 use Rattle.block_server.specs.View.{ServerView}
 use Rattle.block_server.specs.declared.types.Accepted.{Accepted}
 use Rattle.port_driver.proofs.Coming.{undisturbed_both}
@@ -43,7 +43,7 @@ module _ {A : Type 0} (device : A → Device) (adapter : A) (table : Table) (sta
         few = λ client. omega arith;
         rows = λ k d small.
             let there = rows.1 (get_or grants k d) (k, small, get_or_default grants k (get_or grants k d) d small) in
-            All-contains (λ (row : GrantRow). IsReadGrant row) given.grants (get_or grants k d) setup.rows.reads there;
+            All-contains (λ (row : GrantRow). IsTransferGrant row) given.grants (get_or grants k d) setup.rows.transfers there;
         owners = λ f client owner.
             let run = only f client owner in
             let inside = All-contains (HasClientFrames given.frames) given.owners run.0 setup.runs.within run.1 in

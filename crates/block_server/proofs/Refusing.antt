@@ -1,30 +1,33 @@
 -- The first cause to refuse a request, as the server looks for it.
-use Rattle.std.proofs.Common.{ℕ, ◌≡◌, ◌≢◌, ◌+◌, ◌^◌, ◌<◌, ◌≤◌, Option, Some, sym, ◌∙◌, ap, arith}
+use Rattle.std.proofs.Common.{ℕ, ◌≡◌, ◌≢◌, ◌+◌, ◌^◌, ◌<◌, ◌≤◌, Option, Some, sym, ◌∙◌, ⊎_elim, ap, arith}
 use Rattle.std.specs.List.{All}
 use Rattle.ata_types.specs.declared.PortState.{PortState}
 use Rattle.ata_types.specs.declared.PortState.TheVariants.{Ready}
 use Rattle.ata_types.specs.declared.grant.GrantRow.{GrantRow}
 use Rattle.ata_types.specs.declared.refusal.Refusal.TheVariants.{PortNotReady, OutsideDisk, TrimUnsupported, ClientFull, IdsSpent}
-use Rattle.ata_types.specs.declared.request.Op.TheVariants.{Read, Trim, Flush}
+use Rattle.ata_types.specs.declared.request.Op.TheVariants.{Read, Write, Trim, Flush}
 use Rattle.ata_types.specs.declared.request.Request.{Request}
 use Rattle.block_machine.specs.Refusals.{Applies, IsAcceptable, IsFirstRefusal}
 use Rattle.block_machine.specs.Rules.{IsNamed, BreaksNone}
 use Rattle.dma_frames.specs.Table.{owner_of, lent_to}
-use Rattle.setup.specs.Setup.{IsReadGrant}
+use Rattle.setup.specs.Setup.{IsTransferGrant}
 use Rattle.block_server.specs.Book.{unanswered_of}
 use Rattle.block_server.specs.Calls.{situation_of, state_of}
 use Rattle.block_server.specs.View.{ServerView}
 use Rattle.block_server.proofs.Ruling as ruling
 
 -- the row is the only one that the request names
-module _ {A : Type 0} (s : ServerView A) (reads : All IsReadGrant s.grants) (r : Request) (none : BreaksNone s.grants (owner_of s.table) (lent_to s.table) r)
+module _ {A : Type 0} (s : ServerView A) (reads : All IsTransferGrant s.grants) (r : Request) (none : BreaksNone s.grants (owner_of s.table) (lent_to s.table) r)
     (row : GrantRow) (found : Option GrantRow) (is : found ≡ Some row) (all : (other : GrantRow) → IsNamed s.grants r other → found ≡ Some other)
     (named : IsNamed s.grants r row) where
   the_same : (other : GrantRow) → IsNamed s.grants r other → other ≡ row
   the_same other its = let e : Some other ≡ Some row = sym (all other its) ∙ is in cc
 
   never_trim : Applies (situation_of s) r TrimUnsupported → ⊥
-  never_trim applies = let e : Trim ≡ Read = sym applies.0 ∙ ruling.asks_read s.grants s.table r reads none Trim applies.0 in cc
+  never_trim applies = ⊎_elim
+      (λ e. let x : Trim ≡ Read = sym applies.0 ∙ e in cc)
+      (λ e. let x : Trim ≡ Write = sym applies.0 ∙ e in cc)
+      (ruling.transfers s.grants s.table r reads none)
 
   below : {B : Type 0} (n m : ℕ) → m ≤ n → n < m → B
   below n m le lt = absurd (omega (arith, le, lt))

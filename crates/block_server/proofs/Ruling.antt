@@ -1,5 +1,5 @@
 -- From the causes in turn to the first that applies, and what an acceptable request is.
-use Rattle.std.proofs.Common.{ℕ, ◌≡◌, ◌+◌, ◌/◌, ◌^◌, ◌<◌, ◌≤◌, inl, inr, Bool, false, List, length, Option, Some, refl, sym, ◌∙◌, ap, subst, arith, get_or}
+use Rattle.std.proofs.Common.{ℕ, ◌≡◌, ◌≢◌, ◌+◌, ◌/◌, ◌^◌, ◌<◌, ◌≤◌, inl, inr, Bool, false, List, length, Option, Some, refl, sym, ◌∙◌, ap, subst, arith, get_or}
 use Rattle.std.specs.Prelude.{IsTrue, IsSome}
 use Rattle.std.specs.List.{All, Contains}
 use Rattle.std.proofs.lemmas.Bool.{cases_eq, cases_lt}
@@ -22,7 +22,8 @@ use Rattle.adapter.proofs.Absurd.{true-false}
 use Rattle.block_machine.specs.Refusals.{Situation, Applies, IsAcceptable, IsFirstRefusal, IsRefusalBefore, refusal_number, refusal_place}
 use Rattle.block_machine.specs.Rules.{IsCount, frames_for, IsNamed, HasNoFault, Breaks, BreaksNone, IsFirstBroken, number, place, Precedes}
 use Rattle.dma_frames.specs.Table.{Table, owner_of, lent_to}
-use Rattle.setup.specs.Setup.{IsReadGrant}
+use Rattle.port_driver.specs.Port.{IsTransfer}
+use Rattle.setup.specs.Setup.{IsTransferGrant}
 use Rattle.block_server.specs.Book.{OwnsClientFrames}
 
 -- ---- the first refusal
@@ -110,43 +111,42 @@ module _ (s : Situation) (r : Request) where
   acceptable none ClientFull = none.full (omega arith)
   acceptable none IdsSpent = none.ids (omega arith)
 
--- ---- what an acceptable request is, where grants are to read
+-- ---- what an acceptable request is, where grants are to read and to write
 
 is_true_false : {b : Bool} {A : Type 0} → IsTrue b → b ≡ false → A
 is_true_false h e = true-false h e
 
-module _ (rows : List GrantRow) (table : Table) (r : Request) (reads : All IsReadGrant rows)
+module _ (rows : List GrantRow) (table : Table) (r : Request) (reads : All IsTransferGrant rows)
     (none : BreaksNone rows (owner_of table) (lent_to table) r) where
-  pub grant_of : (row : GrantRow) → IsNamed rows r row → IsReadGrant row
-  grant_of row named = let c = named.0 in let P : GrantRow → Type 0 = λ x. IsReadGrant x in subst P c.2 (reads c.0 row c.1)
+  pub grant_of : (row : GrantRow) → IsNamed rows r row → IsTransferGrant row
+  grant_of row named = let c = named.0 in let P : GrantRow → Type 0 = λ x. IsTransferGrant x in subst P c.2 (reads c.0 row c.1)
 
   -- what can be told apart holds if it holds of each row that is named
   by_rows : {A : Type 0} → ((row : GrantRow) → IsNamed rows r row → ⊥) → A
   by_rows h = absurd (none NoGrant h)
 
-  pub asks_read : (op : Op) → r.op ≡ op → r.op ≡ Read
-  asks_read Read e = e
-  asks_read Write e = by_rows (λ row named. none NoRight (
-    row,
-    named,
-    λ allowed.
-        let P : Op → Type 0 = λ op. Allows row.rights op in is_true_false (subst P e allowed) (grant_of row named).no_write,
-  ))
-  asks_read Trim e = by_rows (λ row named. none NoRight (
+  pub asks_transfer : (op : Op) → r.op ≡ op → IsTransfer r.op
+  asks_transfer Read e = inl e
+  asks_transfer Write e = inr e
+  asks_transfer Trim e = by_rows (λ row named. none NoRight (
     row,
     named,
     λ allowed.
         let P : Op → Type 0 = λ op. Allows row.rights op in is_true_false (subst P e allowed) (grant_of row named).no_trim,
   ))
-  asks_read Flush e = by_rows (λ row named. none NoRight (
+  asks_transfer Flush e = by_rows (λ row named. none NoRight (
     row,
     named,
     λ allowed.
         let P : Op → Type 0 = λ op. Allows row.rights op in is_true_false (subst P e allowed) (grant_of row named).no_flush,
   ))
 
-  is_read : r.op ≡ Read
-  is_read = asks_read r.op refl
+  pub transfers : IsTransfer r.op
+  transfers = asks_transfer r.op refl
+
+  -- what holds of reads and of writes
+  of_both : (P : Op → Type 0) → P Read → P Write → P r.op
+  of_both P read write = elim transfers [ inl e ↦ subst P (sym e) read | inr e ↦ subst P (sym e) write ]
 
   pub client_from : 1 ≤ r.client.0
   client_from =
@@ -163,12 +163,13 @@ module _ (rows : List GrantRow) (table : Table) (r : Request) (reads : All IsRea
       ]
 
   counted_right : ((1 ≤ r.count) × (r.count ≤ 256)) → Breaks rows (owner_of table) (lent_to table) r BadCount → ⊥
-  counted_right fits broken =
-      let P : Op → Type 0 = λ op. IsCount op r.count in
-      broken (subst P (sym is_read) fits)
+  counted_right fits broken = broken (of_both (λ op. IsCount op r.count) fits fits)
 
   count_is : IsCount r.op r.count → (1 ≤ r.count) × (r.count ≤ 256)
-  count_is fits = let P : Op → Type 0 = λ op. IsCount op r.count in subst P is_read fits
+  count_is = of_both (λ op. IsCount op r.count → (1 ≤ r.count) × (r.count ≤ 256)) (λ fits. fits) (λ fits. fits)
+
+  pub not_flush : r.op ≢ Flush
+  not_flush = of_both (λ op. op ≢ Flush) (λ e. cc) (λ e. cc)
 
   pub some : 1 ≤ r.count
   some = elim (cases_lt r.count 1) [ inl low ↦ absurd (none BadCount (λ fits. let c = count_is fits in omega (arith, c.0))) | inr high ↦ high ]
@@ -181,14 +182,14 @@ module _ (rows : List GrantRow) (table : Table) (r : Request) (reads : All IsRea
       elim (cases_lt r.first.0 (2 ^ 48)) [
         | inl low ↦ low
         | inr high ↦ by_rows (λ row named. none OutsideGrant (
-          (λ flush. let e : Flush ≡ Read = sym flush ∙ is_read in cc),
+          not_flush,
           (row, named, λ covers. let g = grant_of row named in let c = some in omega (arith, high, covers.1, g.sectors, c)),
         ))
       ]
 
   pub frames_fit : length r.frames.items ≡ (r.count + 7) / 8
   frames_fit =
-      let e : frames_for r.op r.count ≡ (r.count + 7) / 8 = ap (λ (op : Op). frames_for op r.count) is_read in
+      let e : frames_for r.op r.count ≡ (r.count + 7) / 8 = of_both (λ op. frames_for op r.count ≡ (r.count + 7) / 8) refl refl in
       elim (cases_eq (length r.frames.items) ((r.count + 7) / 8)) [
         | inl same ↦ same
         | inr ne ↦ absurd (none FrameCount (λ same. ne (same ∙ e)))

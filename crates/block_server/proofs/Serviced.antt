@@ -12,13 +12,13 @@ use Rattle.dma_frames.specs.Table.{Table, LendsOnly}
 use Rattle.block_server.specs.Book.{IsKept, StandsBehind, served, issued_of}
 use Rattle.block_server.specs.Calls.{Services, done_reply}
 use Rattle.port_driver.specs.Port.{IsLone, IsResting, IsHealthy, IsTroubled, IsUnlinked, Issued, Serves, Proceeds, frames_of, EndsAsShown, issued_now, MovesOnly}
-use Rattle.port_driver.specs.Told.{reads_ended, IsUndisturbed, IsUnharmed}
+use Rattle.port_driver.specs.Told.{ended, IsUndisturbed, IsUnharmed}
 use Rattle.block_server.specs.View.{ServerView}
 use Rattle.block_server.specs.declared.types.Accepted.{Accepted}
 use Rattle.port_driver.proofs.Coming.{undisturbed_both}
 use Rattle.port_driver.proofs.Going.{unharmed_both, steps_go, steps_rest, told}
 use Rattle.port_driver.proofs.Linking.{steps_healthy}
-use Rattle.port_driver.proofs.Moving.{moves_none, moves_then, moves_more_read, none_confined, step_moves}
+use Rattle.port_driver.proofs.Moving.{moves_none, moves_then, moves_more_served, none_confined, step_moves}
 use Rattle.port_driver.proofs.PortLemmas.{lone_after, resting_after}
 use Rattle.port_driver.proofs.Told.{steps_relate}
 use Rattle.port_driver.proofs.Serving.{free_guarded}
@@ -32,7 +32,7 @@ resting_goes : (old new : Device) → IsLone old → IsResting (old.port 0) → 
 resting_goes old new l rests steps = record {
   spares = quiet_spares old new (free_guarded old l rests.free rests.received) steps;
   healthy = steps_healthy old new l.on.no_reset steps;
-  ended = steps_rest old new l.on.no_reset steps (rests.free 0);
+  ended = λ op. steps_rest op old new l.on.no_reset steps (rests.free 0);
   moved =
       (steps_relate Still (λ d t. (t.0, t.1, moves_none None d))
       (λ a b c x y t. let first = x t in let second = y (first.0, first.1) in (second.0, second.1, moves_then None first.2 second.2))
@@ -122,17 +122,16 @@ module _ {A : Type 0} (device : A → Device) (s : ServerView A) (places : ℕ) 
       unlinked = λ unlinked u. absurd (linked unlinked (undisturbed_both goes.spares next.spares u).0);
       serves = λ _. serves;
       spares = spares_then goes.spares (spares_less (frames_of (served s.issued s.book)) next.spares);
-      moved = moves_then (served s.issued s.book) goes.moved (moves_more_read (served s.issued s.book) next.moved);
+      moved = moves_then (served s.issued s.book) goes.moved (moves_more_served (served s.issued s.book) next.moved);
       healthy = λ unharmed h. let u = unharmed_both goes.spares next.spares unharmed in next.healthy u.1 (goes.healthy u.0 h);
     }
       where
-        has_ended : reads_ended (device adapter) ≡ reads_ended (device s.adapter) + issued_now (device s.adapter)
+        has_ended : ended e.op (device adapter) ≡ ended e.op (device s.adapter) + issued_now (device s.adapter)
         has_ended =
-            let r = served_some issued in
-            let E : Option Issued → Type 0 = λ o. EndsAsShown o (device s.adapter) middle in
-            let ends : EndsAsShown (Some r.0) (device s.adapter) middle = subst E r.1 goes.ended in
+            let E : Bool → List Accepted → Type 0 = λ b book. EndsAsShown (served b book) (device s.adapter) middle in
+            let ends : EndsAsShown (Some (issued_of e)) (device s.adapter) middle = subst (E true) book_is (subst (λ (b : Bool). E b s.book) issued goes.ended) in
             let clear = ap told free.2.ci in
-            let same = next.ended in
+            let same = next.ended e.op in
             omega (arith, ends, clear, same)
 
         is_sent : (b : Bool) → again ≡ b → rest ≢ [] → (again ≡ true) × (((device adapter).port 0).ci 0 ≡ true)

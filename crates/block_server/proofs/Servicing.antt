@@ -6,6 +6,8 @@ use Rattle.std.proofs.lemmas.List.{get_or_default}
 use Rattle.std.proofs.lemmas.List.Elements.{All-head, All-tail, All-contains}
 use Rattle.ata_types.specs.declared.Port.{Port}
 use Rattle.ata_types.specs.declared.PortState.TheVariants.{Ready}
+use Rattle.ata_types.specs.declared.request.Op.{Op}
+use Rattle.ata_types.specs.declared.request.Op.TheVariants.{Read, Write, Trim, Flush}
 use Rattle.ata_types.specs.declared.request.Frame.{Frame}
 use Rattle.ata_types.specs.declared.request.Outcome.{Outcome}
 use Rattle.ata_types.specs.declared.request.Outcome.TheVariants.{Ok}
@@ -157,6 +159,13 @@ pub begun : (issued : Bool) (e : Accepted) (rest : List Accepted) (es : List Pen
 begun issued e rest [] is = absurd is
 begun issued e rest (p ∷ ps) is = record { first = p; later = ps; is = refl; entry = is.0; issued_is = is.1; book = is.2 }
 
+-- without queued commands all are plain
+pub all_plain : (op : Op) → is_plain plain_mode op ≡ true
+all_plain Read = refl
+all_plain Write = refl
+all_plain Trim = refl
+all_plain Flush = refl
+
 -- where what is due is issued, nothing is due
 pub none_due : (issued : Bool) (book : List Accepted) (es : List Pending) → (issued ≡ false → book ≡ []) → IsBook issued book es → (port : Port) → NoneDue plain_mode (map unanswered es) port
 none_due issued [] es due is port r here d = contains_none r (subst (λ (l : List Pending). Contains (map unanswered l) r) is d.here)
@@ -166,7 +175,7 @@ none_due true (e ∷ book) (p ∷ ps) due is port r here d =
     let y = map_in unanswered (p ∷ ps) r d.here in
     let entry = (book_entry true (e ∷ book) (p ∷ ps) is y.0 y.1).1 in
     let at_zero : r.port ≡ port_at 0 = ap (λ (u : Unanswered). u.port) y.2 ∙ entry.port in
-    let plain : is_plain plain_mode r.op ≡ true = ap (λ (u : Unanswered). is_plain plain_mode u.op) y.2 ∙ ap (is_plain plain_mode) entry.op in
+    let plain : is_plain plain_mode r.op ≡ true = all_plain r.op in
     both_ways _
     (unheld plain_mode (map unanswered (p ∷ ps)) r d.clear (unanswered p) (contains_here (unanswered p) (map unanswered ps) (unanswered p) refl))
     (and_from _ _ (eq-eqb p.request.port.0 r.port.0 (ap (λ (q : Port). q.0) (is.0.port ∙ sym at_zero))) (cond-true (is_plain plain_mode r.op) _ _ plain ∙ or_left _ _ is.1))
@@ -233,7 +242,7 @@ none_holds r plain (e ∷ book) (p ∷ ps) later is =
 pub next_may : (m : Machine) (e : Accepted) (rest : List Accepted) (p : Pending) (ps : List Pending) → m.book ≡ p ∷ ps → m.kept ≡ [] → AllPairs IsEarlier (e ∷ rest) → IsBook false (e ∷ rest) (p ∷ ps) →
     May m (Issue plain_mode p)
 next_may m e rest p ps is none ordered book =
-    let plain : is_plain plain_mode p.request.asked.op ≡ true = ap (is_plain plain_mode) book.0.op in
+    let plain : is_plain plain_mode p.request.asked.op ≡ true = all_plain p.request.asked.op in
     let own : p.request.id.0 ≤ e.id.0 = subst (λ (i : RequestId). p.request.id.0 ≤ i.0) book.0.id (omega arith) in
     let low : All (λ x. p.request.id.0 ≤ x.id.0) (e ∷ rest) = λ k d small. from k d small own in (
       subst (λ (l : List Pending). Contains l p) (sym is) (contains_here p ps p refl),

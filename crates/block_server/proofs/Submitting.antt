@@ -46,7 +46,7 @@ use Rattle.dma_frames.specs.Loan.{Lending}
 use Rattle.dma_frames.specs.Table.{Table, owner_of, lent_to, LendsOnly}
 use Rattle.block_server.specs.Book as book
 use Rattle.block_server.specs.Calls.{situation_of, accepted_as}
-use Rattle.port_driver.specs.Followed.{IsOrdinary, IssuesRead}
+use Rattle.port_driver.specs.Followed.{IsOrdinary, IssuesTransfer}
 use Rattle.block_server.specs.History.{IsAsShown, Begins, Ties, Stands, IsEntry, IsBook, plain_mode, ports_of, known_of, uses_of, served_id, no_evidence}
 use Rattle.block_server.specs.View.{ServerView}
 use Rattle.block_server.specs.declared.types.Accepted.{Accepted}
@@ -57,7 +57,7 @@ use Rattle.block_server.proofs.Shown.{still_shown}
 use Rattle.block_server.proofs.Histories.{book_further, ports_same, stands_on}
 use Rattle.block_server.proofs.Leading.{lead_on}
 use Rattle.block_server.proofs.Ruling as ruling
-use Rattle.block_server.proofs.Servicing.{none_due}
+use Rattle.block_server.proofs.Servicing.{all_plain, none_due}
 
 -- ---- the book and the machine's
 
@@ -69,12 +69,6 @@ as_many issued (x ∷ xs) (p ∷ ps) is client =
     let rest = as_many false xs ps is.2 client in
     let first : ◌≡◌ {A = ℕ} (cond (p.request.asked.client.0 == client.0) 1 0) (cond (x.client.0 == client.0) 1 0) = ap (λ (c : ClientId). cond {A = ℕ} (c.0 == client.0) 1 0) is.0.client in
     omega (arith, rest, first, count_cons (λ (e : Pending). e.request.asked.client.0 == client.0) p ps, count_cons (λ (e : Accepted). e.client.0 == client.0) x xs)
-
-all_plain : (op : Op) → is_plain plain_mode op ≡ true
-all_plain Read = refl
-all_plain Write = refl
-all_plain Trim = refl
-all_plain Flush = refl
 
 module _ {A : Type 0} (device : A → Device) where
   -- what a request meets is the same in both
@@ -235,7 +229,7 @@ module _ {A : Type 0} (device : A → Device) (s : ServerView A) (places : ℕ) 
     }
 
     entry : IsEntry (accepted_as r id) request
-    entry = record { id = refl; port = refl; op = ruling.asks_read s.grants s.table r inv.rows (λ rule. acc (refused.Rule rule)) r.op refl; client = refl; first = refl; count = refl; frames = refl }
+    entry = record { id = refl; port = refl; op = refl; client = refl; first = refl; count = refl; frames = refl }
 
     abbrev next : machine.Machine
     next = steps.after_step m (steps.Accept request)
@@ -279,7 +273,7 @@ module _ {A : Type 0} (device : A → Device) (s : ServerView A) (places : ℕ) 
         })
 
     -- where none is, it is issued
-    sent : s.issued ≡ false → (adapter : A) → IssuesRead (record { first = r.first.0; count = r.count; frames = r.frames.items }) (device s.adapter) (device adapter) → IsAsShown s.state (device adapter)
+    sent : s.issued ≡ false → (adapter : A) → IssuesTransfer (record { op = r.op; first = r.first.0; count = r.count; frames = r.frames.items }) (device s.adapter) (device adapter) → IsAsShown s.state (device adapter)
         → (h : Happening Device DeviceStep) × (h.event.ask ≡ events.Submit r) × (h.event.said ≡ events.Submitted (Ok id)) × Leads Begins Ties (Stands device) first (h ∷ past) (more adapter)
     sent waits adapter followed shown =
         let empty : s.book ≡ [] = inv.due waits in
@@ -294,7 +288,7 @@ module _ {A : Type 0} (device : A → Device) (s : ServerView A) (places : ℕ) 
           λ kept here. absurd (contains_none kept (subst (λ (es : List Pending). Contains es kept) at.kept here)),
         ) in
         let reached = reached_more m (steps.Accept request ∷ []) (history_reaches Begins Ties first past leads.history) (tt, fresh) in
-        let x = followed.issues (uses_of None) (λ port. []) next plain_mode e reached unused refl may refl (omega arith) (record { port = refl; operation = entry.op; first = refl; count = refl; frames = refl }) in
+        let x = followed.issues (uses_of None) (λ port. []) next plain_mode e reached unused refl may (all_plain r.op) (omega arith) (record { port = refl; operation = entry.op; first = refl; count = refl; frames = refl }) in
         let all : List Step = steps.Issue plain_mode e ∷ (x.steps ++ steps.Accept request ∷ []) in
         let split : after m all ≡ after next (steps.Issue plain_mode e ∷ x.steps) = after-append m (steps.Issue plain_mode e ∷ x.steps) (steps.Accept request ∷ []) in
         let spares = steps_spare next x.steps x.only in
@@ -334,17 +328,17 @@ module _ {A : Type 0} (device : A → Device) (s : ServerView A) (places : ℕ) 
   pub waiting_adds : s.issued ≡ true → Adds Begins Ties (Stands device) s (more s.adapter) (events.Submit r) (events.Submitted (Ok id))
   waiting_adds issued = record { adds = λ first past leads. waiting first past leads issued }
 
-  pub sent_adds : s.issued ≡ false → (adapter : A) → IssuesRead (record { first = r.first.0; count = r.count; frames = r.frames.items }) (device s.adapter) (device adapter) → IsAsShown s.state (device adapter)
+  pub sent_adds : s.issued ≡ false → (adapter : A) → IssuesTransfer (record { op = r.op; first = r.first.0; count = r.count; frames = r.frames.items }) (device s.adapter) (device adapter) → IsAsShown s.state (device adapter)
       → Adds Begins Ties (Stands device) s (more adapter) (events.Submit r) (events.Submitted (Ok id))
   sent_adds waits adapter followed shown = record { adds = λ first past leads. sent first past leads waits adapter followed shown }
 
 -- the book as it is kept: the loan is of the request's frames
 pub entries_are : (old : List Accepted) (r : Request) (id : RequestId) (loan : Lending) (frames : List Frame) (entries : List Accepted) → frames ≡ r.frames.items → loan.frames ≡ frames → loan.request ≡ id
-    → entries ≡ old ++ record { id = id; client = r.client; first = r.first; count = r.count; loan = loan } ∷ [] → entries ≡ old ++ accepted_as r id ∷ []
+    → entries ≡ old ++ record { id = id; client = r.client; op = r.op; first = r.first; count = r.count; loan = loan } ∷ [] → entries ≡ old ++ accepted_as r id ∷ []
 entries_are old r id loan frames entries frames_are loan_is to_it is =
     let lending : loan ≡ record { frames = r.frames.items; request = id } =
     ap (λ (list : List Frame). record { frames = list; request = loan.request }) (loan_is ∙ frames_are) ∙ ap (λ (x : RequestId). record { frames = r.frames.items; request = x }) to_it in
-    is ∙ ap (λ (l : Lending). old ++ record { id = id; client = r.client; first = r.first; count = r.count; loan = l } ∷ []) lending
+    is ∙ ap (λ (l : Lending). old ++ record { id = id; client = r.client; op = r.op; first = r.first; count = r.count; loan = l } ∷ []) lending
 
 -- a refusal changes nothing
 pub refused_adds : {A : Type 0} (device : A → Device) (s : ServerView A) (r : Request) (refusal : Refusal) → IsFirstRefusal (situation_of s) r refusal

@@ -6,20 +6,19 @@ use Rattle.ata_types.specs.declared.PortState.TheVariants.{Ready}
 use Rattle.ata_types.specs.declared.grant.GrantRow.{GrantRow}
 use Rattle.ata_types.specs.declared.request.ClientId.{ClientId}
 use Rattle.ata_types.specs.declared.request.Frame.{Frame}
-use Rattle.ata_types.specs.declared.request.Op.TheVariants.{Read}
 use Rattle.adapter.specs.Device.{Device}
 use Rattle.dma_frames.specs.Table.{Table, owner_of, lent_to}
-use Rattle.port_driver.specs.Followed.{IssuesRead}
-use Rattle.port_driver.specs.Port.{Issued, IsLone, IsResting, Serves}
-use Rattle.setup.specs.Setup.{IsReadGrant}
+use Rattle.port_driver.specs.Followed.{IssuesTransfer}
+use Rattle.port_driver.specs.Port.{IsTransfer, Issued, IsLone, IsResting, Serves}
+use Rattle.setup.specs.Setup.{IsTransferGrant}
 use Rattle.block_server.specs.View.{ServerView}
 use Rattle.block_server.specs.declared.types.Accepted.{Accepted}
 
--- the read as it is issued
+-- the transfer as it is issued
 abbrev pub issued_of : Accepted → Issued
-issued_of e = record { first = e.first.0; count = e.count; frames = e.loan.frames }
+issued_of e = record { op = e.op; first = e.first.0; count = e.count; frames = e.loan.frames }
 
--- the read that port 0 serves: the first of the book, once it is issued
+-- the transfer that port 0 serves: the first of the book, once it is issued
 abbrev pub served : Bool → List Accepted → Option Issued
 served true (e ∷ es) = Some (issued_of e)
 served _ _ = None
@@ -28,13 +27,14 @@ served _ _ = None
 abbrev pub unanswered_of : List Accepted → ℕ → ℕ
 unanswered_of book client = count_by (λ e. e.client.0 == client) book
 
--- The request's sectors are in a row that lets its client read them.
+-- The request's sectors are in a row that lets its client do with them what it asks.
 abbrev pub IsCovered : List GrantRow → Accepted → Type 0
-IsCovered rows e = (row : GrantRow) × Contains rows row × (row.client ≡ e.client) × Allows row.rights Read × Covers row e.first.0 e.count
+IsCovered rows e = (row : GrantRow) × Contains rows row × (row.client ≡ e.client) × Allows row.rights e.op × Covers row e.first.0 e.count
 
--- An accepted read: of a client 1 to 8, of 1 to 256 sectors below 2^48 within a row of the client, with as many frames as it
+-- An accepted read or write: of a client 1 to 8, of 1 to 256 sectors below 2^48 within a row of the client, with as many frames as it
 -- needs, each another one, all of them the client's own and lent to it.
 pub record IsAccepted (rows : List GrantRow) (table : Table) (e : Accepted) : Type 0 where
+  pub transfers : IsTransfer e.op
   pub client_from : 1 ≤ e.client.0
   pub client_to : e.client.0 ≤ 8
   pub some : 1 ≤ e.count
@@ -60,7 +60,7 @@ StandsBehind _ issued d = IsLone d × IsResting (d.port 0)
 -- the first of the book is issued so; where there is none, the device is as it was
 abbrev pub IssuesFirst : List Accepted → Device → Device → Type 0
 IssuesFirst [] old new = new ≡ old
-IssuesFirst (e ∷ es) old new = IssuesRead (issued_of e) old new
+IssuesFirst (e ∷ es) old new = IssuesTransfer (issued_of e) old new
 
 -- the request was accepted before the other
 abbrev pub IsEarlier : Accepted → Accepted → Type 0
@@ -70,7 +70,7 @@ pub record IsKept {A : Type 0} (device : A → Device) (s : ServerView A) (place
   -- the book never needs more room than it has
   pub room : 128 ≤ places
   pub few : (client : ℕ) → unanswered_of s.book client ≤ 16
-  pub rows : All IsReadGrant s.grants
+  pub rows : All IsTransferGrant s.grants
   pub owners : OwnsClientFrames s.table (device s.adapter).size
   pub accepted : All (IsAccepted s.grants s.table) s.book
   pub ordered : AllPairs IsEarlier s.book

@@ -25,7 +25,7 @@ use Rattle.block_server.specs.Book.{served, unanswered_of}
 use Rattle.grants.specs.Rows.{SameRows}
 use Rattle.port_driver.specs.Followed.{IsDrivenBy, AnyAccess}
 use Rattle.port_driver.specs.Port.{IsBroughtUp, IsHealthy, IsTroubled, IsUnlinked, Issued, Serves, SparesClients, Proceeds, EndsAsShown, issued_now, MovesOnly, frames_of}
-use Rattle.port_driver.specs.Told.{reads_ended, IsUndisturbed, IsUnharmed}
+use Rattle.port_driver.specs.Told.{ended, IsUndisturbed, IsUnharmed}
 use Rattle.block_server.specs.View.{ServerView}
 use Rattle.block_server.specs.declared.types.Accepted.{Accepted}
 
@@ -70,7 +70,7 @@ pub record SameSetup {A : Type 0} (old new : ServerView A) : Type 0 where
 -- the book's entry for a request
 abbrev pub accepted_as : Request → RequestId → Accepted
 accepted_as r id =
-    record { id = id; client = r.client; first = r.first; count = r.count; loan = record { frames = r.frames.items; request = id } }
+    record { id = id; client = r.client; op = r.op; first = r.first; count = r.count; loan = record { frames = r.frames.items; request = id } }
 
 -- The request goes last in the book with the next id, its frames are lent to it, and port 0 serves the first of the book: its
 -- bit of CI is set if it wasn't issued before. No client frame changes.
@@ -92,7 +92,7 @@ abbrev pub Submits : {A : Type 0} → (A → Device) → ServerView A → Server
 Submits device old new r (Ok id) = Accepts device old new r id
 Submits device old new r (Err refusal) = IsFirstRefusal (situation_of old) r refusal × (new ≡ old)
 
--- the reply that says that a read was done
+-- the reply that says that a request was done
 abbrev pub done_reply : Accepted → Reply
 done_reply e = record { id = e.id; client = e.client; outcome = outcome.Ok }
 
@@ -112,7 +112,7 @@ pub record AnswersFirst {A : Type 0} (device : A → Device) (old new : ServerVi
   pub replies_are : replies ≡ done_reply entry ∷ []
   pub book : old.book ≡ entry ∷ new.book
   pub lent : LendsOnly old.table new.table entry.loan.frames None
-  pub ended : reads_ended (device new.adapter) ≡ reads_ended (device old.adapter) + issued_now (device old.adapter)
+  pub ended : ended entry.op (device new.adapter) ≡ ended entry.op (device old.adapter) + issued_now (device old.adapter)
   pub sent : new.book ≢ [] → (new.issued ≡ true) × (((device new.adapter).port 0).ci 0 ≡ true)
   pub none : new.book ≡ [] → new.issued ≡ false
 
@@ -122,7 +122,7 @@ served_by s = served s.issued s.book
 
 -- Nobody is answered, or the first of the book is, which was done: on a port without trouble it is answered once its bit of CI
 -- is clear; on one that tells trouble nobody is, nor on one whose link is gone, unless a disk came or went. No client frame
--- changes but by the moves of the read that was served, and port 0 serves the first of the book.
+-- changes but by the moves of the transfer that was served, and port 0 serves the first of the book.
 pub record Services {A : Type 0} (device : A → Device) (old new : ServerView A) (replies : List Reply) : Type 0 where
   pub setup : SameSetup old new
   pub last : new.last ≡ old.last
@@ -138,7 +138,7 @@ pub record Services {A : Type 0} (device : A → Device) (old new : ServerView A
 
 -- A refused load is told the first cause that applies, and changes nothing, the buffer neither. Another brings the frame's
 -- bytes and changes nothing of the server but what the device does meanwhile, which changes no client frame but those of the
--- read that is served.
+-- transfer that is served.
 abbrev pub LoadsFrame : {A : Type 0} → (A → Device) → ServerView A → ServerView A → ClientId → Frame → ℕ → List ℕ → List ℕ → Result (Unit {0}) MemFault → Type 0
 LoadsFrame device old new client frame offset before bytes (Ok done) =
     IsOpen (owner_of old.table) (lent_to old.table) client frame offset (length before)

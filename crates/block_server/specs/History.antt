@@ -5,7 +5,6 @@ use Rattle.ata_types.specs.declared.PortState.{PortState}
 use Rattle.ata_types.specs.declared.PortState.TheVariants.{Ready}
 use Rattle.ata_types.specs.declared.refusal.MemFault.{MemFault}
 use Rattle.ata_types.specs.declared.request.Frame.{Frame}
-use Rattle.ata_types.specs.declared.request.Op.TheVariants.{Read}
 use Rattle.ata_types.specs.declared.request.RequestId.{RequestId}
 use Rattle.adapter.specs.Asked.{Asked}
 use Rattle.adapter.specs.Device.{Device}
@@ -49,11 +48,11 @@ known_of device s = record { uses = uses_of (served_id s.issued s.book); parked 
 
 -- ---- the machine that stands for it
 
--- the machine's request is this read of the book
+-- the machine's request is this one of the book
 pub record IsEntry (e : Accepted) (r : machine.Accepted) : Type 0 where
   pub id : r.id ≡ e.id
   pub port : r.port ≡ port_at 0
-  pub op : r.asked.op ≡ Read
+  pub op : r.asked.op ≡ e.op
   pub client : r.asked.client ≡ e.client
   pub first : r.asked.first ≡ e.first
   pub count : r.asked.count ≡ e.count

@@ -24,7 +24,13 @@ pub fn issue_first<A: Adapter>(adapter: &mut A, book: &[Accepted]) -> bool
     let Some(next) = book.first() else {
         return false;
     };
-    issue(adapter, next.first, next.count, next.loan.frames());
+    issue(
+        adapter,
+        next.op,
+        next.first,
+        next.count,
+        next.loan.frames(),
+    );
     true
 }
 
@@ -38,6 +44,7 @@ pub fn give_all_back(book: Vec<Accepted>, table: &mut FrameTable)
         let Accepted {
             id: _,
             client: _,
+            op: _,
             first: _,
             count: _,
             loan,

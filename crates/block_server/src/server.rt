@@ -24,7 +24,7 @@ const CLIENT_PLACES: usize = 16;
 
 const FRAME_BYTES: u32 = 4096;
 
-/// A server of reads on one port of an adapter. It can't be dropped: `close` ends it.
+/// A server of reads and writes on one port of an adapter. It can't be dropped: `close` ends it.
 pub struct Server<A: Adapter> {
     adapter: A,
     grants: Grants,
@@ -161,13 +161,20 @@ impl<A: Adapter> Server<A> {
         self.book.push_reserved(Accepted {
             id,
             client: r.client,
+            op: r.op,
             first: r.first,
             count: r.count,
             loan,
         });
         self.last = id.0;
         if !self.issued {
-            issue(&mut self.adapter, r.first, r.count, r.frames.as_slice());
+            issue(
+                &mut self.adapter,
+                r.op,
+                r.first,
+                r.count,
+                r.frames.as_slice(),
+            );
             self.issued = true;
         }
         id
@@ -185,7 +192,7 @@ impl<A: Adapter> Server<A> {
         Ok(self.accept(r))
     }
 
-    /// Looks at the port. Where its read is done, that is answered, its frames are given back, and the next is issued. A call
+    /// Looks at the port. Where its transfer is done, that is answered, its frames are given back, and the next is issued. A call
     /// that sees the port disturbed answers nothing.
     pub fn service(&mut self) -> Replies
         ensures services { Services A.device self.old self.new result.items }
@@ -201,6 +208,7 @@ impl<A: Adapter> Server<A> {
         let Accepted {
             id,
             client,
+            op: _,
             first: _,
             count: _,
             loan,

@@ -2,7 +2,7 @@
 use adapter::DeviceStep;
 use arrayvec::ArrayVec;
 use ata_types::{
-    ClientId, Frame, MemFault, Port, PortState, Refusal, Replies, Request, RequestId, Sector,
+    ClientId, Frame, MemFault, Op, Port, PortState, Refusal, Replies, Request, RequestId, Sector,
 };
 use dma_frames::Loan;
 
@@ -13,10 +13,11 @@ pub enum ServerError {
     NoMemory,
 }
 
-/// An accepted, unanswered read.
+/// An accepted, unanswered request.
 pub struct Accepted {
     pub id: RequestId,
     pub client: ClientId,
+    pub op: Op,
     pub first: Sector,
     pub count: u32,
     pub loan: Loan,

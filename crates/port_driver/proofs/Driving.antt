@@ -8,15 +8,16 @@ use Rattle.hba_regs.specs.declared.reg.PortReg.TheVariants.{Is, Serr, Ci}
 use Rattle.hba_regs.specs.declared.reg.Reg.{Reg}
 use Rattle.hba_regs.specs.declared.reg.Reg.TheVariants as reg
 use Rattle.hba_regs.specs.declared.reg.Reg.TheVariants.{Ghc}
-use Rattle.adapter.specs.Access.{Access, Does, DoesAll}
+use Rattle.adapter.specs.Access.{Access, Does, DoesAll, port_written}
 use Rattle.adapter.specs.Access.Access.{Reading, Writing, Loading, Storing}
 use Rattle.adapter.specs.Device.{PortState, Device}
 use Rattle.adapter.specs.Rules.{IsOn}
-use Rattle.adapter.proofs.Calls.{does_append, put}
+use Rattle.adapter.proofs.Calls.{does_append}
+use Rattle.adapter.proofs.Changed.{changed_same}
 use Rattle.agreement.specs.Agrees.{port_at}
 use Rattle.agreement.specs.Errors.{KeepsErrors}
 use Rattle.agreement.specs.Links.{SparesRegister}
-use Rattle.agreement.proofs.Erring.{access_news, access_causes, steps_errors}
+use Rattle.agreement.proofs.Erring.{access_news, access_causes}
 use Rattle.agreement.proofs.Lasting.{access_on, access_same}
 use Rattle.port_driver.specs.Followed.{IsDrivenBy, IsOrdinary, LooksFirst, KeepsChanges}
 use Rattle.port_driver.proofs.PortLemmas.{px}
@@ -113,8 +114,8 @@ module _ (replies : List Reply) (old new : Device) (on : IsOn old) (l : LooksFir
       (λ h. later.serr_n (b.0 (a.0 h)), λ h. later.serr_x (b.1 (a.1 h)))
 
   -- a cause that wasn't read stays told
-  pub looking_causes : (place : ℕ) → (l.seen.port 0).is place ≡ true → bit l.causes place ≡ false → (new.port 0).is place ≡ true
+  pub looking_causes : (place : ℕ) → (l.clears.mid.port 0).is place ≡ true → bit l.causes place ≡ false → (new.port 0).is place ≡ true
   looking_causes place set unread =
-      let w = put (port_at 0) Is l.causes l.seen l.acknowledged l.clears seen_on.no_reset in
-      let still : (w.mid.port 0).is place ≡ true = (steps_errors 0 l.seen w.mid seen_on.no_reset w.steps).is place set in
-      later.is place (ap (λ (p : PortState). p.is place) w.here ∙ rw (still, unread) refl)
+      let here : l.acknowledged.port 0 ≡ port_written Is l.causes 0 (l.clears.mid.port 0) =
+          ap (λ (d : Device). d.port 0) l.clears.effect ∙ changed_same l.clears.mid.port 0 (port_written Is l.causes 0 (l.clears.mid.port 0)) in
+      later.is place (ap (λ (p : PortState). p.is place) here ∙ rw (set, unread) refl)

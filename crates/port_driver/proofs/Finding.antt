@@ -13,7 +13,7 @@ use Rattle.block_machine.specs.Steps.{Step, NoneKept}
 use Rattle.agreement.specs.Agrees.{port_at}
 use Rattle.agreement.specs.Facts.{EndedIn, TellsNoTrouble}
 use Rattle.agreement.proofs.Finding.{done_adds}
-use Rattle.port_driver.specs.Followed.{known, AnyAccess, IsOrdinary, LooksFirst, AnyUse, IsFollowed, FindsRead}
+use Rattle.port_driver.specs.Followed.{known, AnyAccess, IsOrdinary, LooksFirst, AnyUse, IsFollowed, FindsTransfer}
 use Rattle.port_driver.specs.Port.{IsLone, IsRunning}
 use Rattle.port_driver.proofs.Driving.{by_one, by_then}
 use Rattle.port_driver.proofs.Following.{followed_then, reading_followed, writing_followed}
@@ -58,9 +58,9 @@ looked_first replies d0 d1 d2 d3 d4 v s first second third fourth calm = record 
 
 -- ---- CI and SACT, read in this order
 
-pub read_found : (done : Bool) (old mid new : Device) → IsLone old → IsRunning old → (issued active : ℕ) → Reads (px Ci) issued old mid → Reads (px Sact) active mid new →
-    (done ≡ true → (bit issued 0 ≡ false) × (bit active 0 ≡ false)) → FindsRead done old new
-read_found done old mid new l run issued active first second clear = record {
+pub transfer_found : (done : Bool) (old mid new : Device) → IsLone old → IsRunning old → (issued active : ℕ) → Reads (px Ci) issued old mid → Reads (px Sact) active mid new →
+    (done ≡ true → (bit issued 0 ≡ false) × (bit active 0 ≡ false)) → FindsTransfer done old new
+transfer_found done old mid new l run issued active first second clear = record {
   driven = by_then (by_one IsOrdinary (Reading (px Ci) issued) old mid tt first) (by_one IsOrdinary (Reading (px Sact) active) mid new tt second);
   adds = λ uses parked id serves. record {
     adds = λ m reached knows.

@@ -1,6 +1,7 @@
 -- The first read is one that port 0 serves.
-use Rattle.std.proofs.Common.{zero, suc, ◌≡◌, ◌≤◌, ◌+◌, ◌*◌, true, false, [], ◌∷◌, Some, length, All, refl, sym, subst, arith}
+use Rattle.std.proofs.Common.{inl, zero, suc, ◌≡◌, ◌≤◌, ◌+◌, ◌*◌, true, false, [], ◌∷◌, Some, length, All, refl, sym, subst, arith}
 use Rattle.ata_types.specs.declared.request.Frame.{Frame}
+use Rattle.ata_types.specs.declared.request.Op.TheVariants.{Read}
 use Rattle.adapter.specs.Device.{PortState}
 use Rattle.adapter.specs.FirstRead.{first_memory, quiet_port, reading_port, first_read}
 use Rattle.adapter.specs.Idle.{IsIdlePort}
@@ -10,10 +11,10 @@ use Rattle.adapter.proofs.Absurd.{some-none}
 use Rattle.adapter.proofs.Changed.{changed_other}
 use Rattle.adapter.proofs.FirstRead.{first_says}
 use Rattle.command_table.specs.Places.{places_of}
-use Rattle.port_driver.specs.Port.{IsLone, IsRunning, IsHealthy, HoldsRead, Issued, Serves, meaning_of}
+use Rattle.port_driver.specs.Port.{IsLone, IsRunning, IsHealthy, HoldsTransfer, Issued, Serves, meaning_of}
 
 abbrev pub eight : Issued
-eight = record { first = 100; count = 8; frames = record { 0 = 40 } ∷ [] }
+eight = record { op = Read; first = 100; count = 8; frames = record { 0 = 40 } ∷ [] }
 
 first_lone : IsLone first_read
 first_lone = record {
@@ -55,9 +56,10 @@ frame_40 : All (λ (frame : Frame). 40 ≤ frame.0) eight.frames
 frame_40 zero d small = omega arith
 frame_40 (suc k) d small = absurd (omega (arith, small))
 
-first_held : HoldsRead eight first_read
+first_held : HoldsTransfer eight first_read
 unfolding changed
 first_held = record {
+  transfers = inl refl;
   says = said;
   table = said_table;
   few = said_few;

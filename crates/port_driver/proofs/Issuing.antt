@@ -1,4 +1,4 @@
--- A read is written into slot 0 and issued.
+-- A transfer is written into slot 0 and issued.
 use Rattle.std.proofs.Common.{ℕ, suc, ◌≡◌, ◌≢◌, ◌+◌, ◌*◌, ◌/◌, ◌^◌, ◌<◌, ◌≤◌, ◌⊎◌, inl, inr, true, false, ◌==◌, List, [], ◌∷◌, length, take, drop, None, refl, sym, ◌∙◌, ap, subst, arith, slice_index, slice_index_or, get_or, length-drop}
 use Rattle.std.specs.List.{All}
 use Rattle.std.proofs.lemmas.Bool.{cases_eq}
@@ -6,9 +6,9 @@ use Rattle.std.proofs.lemmas.Nat.Bits.{bit_at-pow_other}
 use Rattle.std.proofs.lemmas.List.{same_lists, get_or-take, get_or-drop, get_or_default, length-take}
 use Rattle.hba_regs.specs.Bits.{bit}
 use Rattle.adapter.specs.declared.command.Prd.{Prd}
-use Rattle.adapter.specs.declared.command.Operation.TheVariants.{Read}
+use Rattle.ata_types.specs.declared.request.Op.{Op}
 use Rattle.adapter.specs.Access.{Stores}
-use Rattle.adapter.specs.Commands.{Meaning, is_queued, command_of}
+use Rattle.adapter.specs.Commands.{Meaning, is_queued, command_of, reads_memory, pieces_moved}
 use Rattle.adapter.specs.Device.{Bases, Device}
 use Rattle.adapter.specs.Guarded.{IsGuarded}
 use Rattle.adapter.specs.Memory.{patched, bytes_at}
@@ -24,9 +24,11 @@ use Rattle.adapter.proofs.MemoryLemmas.{bytes_same, bytes_length, bytes_index, p
 use Rattle.adapter.proofs.SaysLemmas.{says_meaning}
 use Rattle.command_table.specs.Bytes.{part}
 use Rattle.command_table.specs.Places.{places_of}
-use Rattle.port_driver.specs.Port.{IsSlotFree, Issued, meaning_of, HoldsRead, Serves, IsOutsideArea}
+use Rattle.port_driver.specs.Told.{operation_of}
+use Rattle.port_driver.specs.Port.{IsTransfer, IsSlotFree, Issued, meaning_of, HoldsTransfer, Serves, IsOutsideArea}
 use Rattle.port_driver.proofs.PortLemmas.{lone_after, running_after, free_after}
 use Rattle.port_driver.proofs.Serving.{free_guarded, free_unused, places_length}
+use Rattle.port_driver.proofs.Told.{never_queued, transfer_ranged}
 
 -- ---- a bit of 1
 
@@ -130,23 +132,29 @@ prds_stand memory (e ∷ es) at each =
           rw next (each (suc i) d (omega arith))),
     )
 
--- ---- the read that was stored, and its issue
+-- ---- the transfer that was stored, and its issue
 
--- a read that the server may issue
-pub record IsRead (r : Issued) : Type 0 where
+-- a transfer that the server may issue
+pub record IsIssuable (r : Issued) : Type 0 where
+  pub transfers : IsTransfer r.op
   pub some : 1 ≤ r.count
   pub few : r.count ≤ 256
   pub first : r.first < 2 ^ 48
   pub frames : length r.frames ≡ (r.count + 7) / 8
   pub clients : All (λ frame. 40 ≤ frame.0) r.frames
 
--- the table was stored, then the header: slot 0 says the read
-module _ (r : Issued) (is : IsRead r) (old mid new : Device) (prds : List Prd) (table header : List ℕ)
+-- it moves its sectors
+as_many_pieces : (op : Op) → IsTransfer op → (n : ℕ) → pieces_moved (operation_of op) n ≡ n
+as_many_pieces op (inl is) n = ap (λ (o : Op). pieces_moved (operation_of o) n) is
+as_many_pieces op (inr is) n = ap (λ (o : Op). pieces_moved (operation_of o) n) is
+
+-- the table was stored, then the header: slot 0 says the transfer
+module _ (r : Issued) (is : IsIssuable r) (old mid new : Device) (prds : List Prd) (table header : List ℕ)
     (first : Stored 4096 (take (128 + 16 * length prds) table) old mid) (second : Stored 0 header mid new) where
   module _ (size : length table ≡ 640) (few : length prds ≤ 32) (places : pieces prds ≡ places_of r.frames r.count) (whole : All IsWhole prds)
-      (fis : SpellsCommand (part table 0 20) (command_of Read 0 r.first r.count))
+      (fis : SpellsCommand (part table 0 20) (command_of (operation_of r.op) 0 r.first r.count))
       (each : (i : ℕ) (d : Prd) → i < length prds → SpellsPrd (part table (128 + 16 * i) 16) (slice_index_or prds i d))
-      (heads : SpellsHeader header false (length prds) 4096) where
+      (heads : SpellsHeader header (reads_memory (operation_of r.op)) (length prds) 4096) where
     n : ℕ
     n = 128 + 16 * length prds
 
@@ -168,10 +176,10 @@ module _ (r : Issued) (is : IsRead r) (old mid new : Device) (prds : List Prd) (
     header_there : bytes_at new.memory 0 32 ≡ header
     header_there = ap (bytes_at new.memory 0) (sym heads.size) ∙ second.there
 
-    read_says : Says new.memory 0 0 (meaning_of r) (places_of r.frames r.count)
-    read_says =
-        let H : List ℕ → Type 0 = λ bytes. SpellsHeader bytes false (length prds) 4096 in
-        let F : List ℕ → Type 0 = λ bytes. SpellsCommand bytes (command_of Read 0 r.first r.count) in
+    transfer_says : Says new.memory 0 0 (meaning_of r) (places_of r.frames r.count)
+    transfer_says =
+        let H : List ℕ → Type 0 = λ bytes. SpellsHeader bytes (reads_memory (operation_of r.op)) (length prds) 4096 in
+        let F : List ℕ → Type 0 = λ bytes. SpellsCommand bytes (command_of (operation_of r.op) 0 r.first r.count) in
         record {
           table = 4096;
           prds = prds;
@@ -179,7 +187,7 @@ module _ (r : Issued) (is : IsRead r) (old mid new : Device) (prds : List Prd) (
           fis = subst F (sym (part_there 0 20 (omega arith))) fis;
           meaning = record {
             ranged = λ _. (is.some, let f = is.few in omega (arith, f), is.first);
-            not_ranged = λ h. true-false refl h;
+            not_ranged = λ h. true-false (transfer_ranged r.op is.transfers) h;
           };
           stand = prds_stand new.memory prds 4224 (λ i d lt.
               let P : List ℕ → Type 0 = λ bytes. SpellsPrd bytes (slice_index_or prds i d) in
@@ -188,13 +196,14 @@ module _ (r : Issued) (is : IsRead r) (old mid new : Device) (prds : List Prd) (
           few = omega arith;
           whole = whole;
           in_order = sym places;
-          as_many = places_length r.frames r.count 0;
+          as_many = places_length r.frames r.count 0 ∙ sym (as_many_pieces r.op is.transfers r.count);
         }
 
-    pub read_stored : HoldsRead r new
-    unfolding read_says
-    read_stored = record {
-      says = read_says;
+    pub transfer_stored : HoldsTransfer r new
+    unfolding transfer_says
+    transfer_stored = record {
+      transfers = is.transfers;
+      says = transfer_says;
       table = refl;
       few = few;
       clients = is.clients;
@@ -203,7 +212,7 @@ module _ (r : Issued) (is : IsRead r) (old mid new : Device) (prds : List Prd) (
     }
 
 -- CI may be written
-pub may_issue : (r : Issued) (mid : Device) → Serves None mid → HoldsRead r mid → MayIssue mid (mid.port 0) 1
+pub may_issue : (r : Issued) (mid : Device) → Serves None mid → HoldsTransfer r mid → MayIssue mid (mid.port 0) 1
 may_issue r mid s h = record {
   running = s.1.st;
   usable = λ slot set. let z = bit_of_one slot set in omega (arith, z);
@@ -219,6 +228,6 @@ may_issue r mid s h = record {
       let Q : Bases → Type 0 = λ b. Says mid.memory b.clb 0 m places in
       let here : Says mid.memory 0 0 m places = subst Q s.1.bases (subst P (bit_of_one slot set) says) in
       let plain : is_queued m.operation ≡ false =
-      ap (λ (x : Meaning). is_queued x.operation) (says_meaning mid.memory 0 0 m (meaning_of r) places (places_of r.frames r.count) here h.says) in
+      ap (λ (x : Meaning). is_queued x.operation) (says_meaning mid.memory 0 0 m (meaning_of r) places (places_of r.frames r.count) here h.says) ∙ never_queued r.op in
       true-false queued plain;
 }

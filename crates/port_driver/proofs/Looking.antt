@@ -20,8 +20,8 @@ use Rattle.adapter.proofs.Changed.{changed_same}
 use Rattle.adapter.proofs.Calls.{KeepsAll, steps_keep_all, seen, SeenAt, put, PutAt}
 use Rattle.adapter.proofs.KeptLemmas.{SameEngine, same_engine, still, steps_keep}
 use Rattle.command_table.specs.Places.{places_of}
-use Rattle.port_driver.specs.Port.{IsSlotFree, IsLone, IsRunning, Issued, meaning_of, HoldsRead, Serves, KeepsServing, Proceeds, IsHealthy, IsTroubled, IsUnlinked, FindsDone}
-use Rattle.port_driver.specs.Told.{is_change, is_failure, is_read_end, changes, failures, IsUndisturbed, IsUnharmed}
+use Rattle.port_driver.specs.Port.{IsSlotFree, IsLone, IsRunning, Issued, meaning_of, HoldsTransfer, Serves, KeepsServing, Proceeds, IsHealthy, IsTroubled, IsUnlinked, FindsDone}
+use Rattle.port_driver.specs.Told.{is_change, is_failure, is_end, changes, failures, IsUndisturbed, IsUnharmed}
 use Rattle.port_driver.proofs.Coming.{is_face, unlinked_face}
 use Rattle.port_driver.proofs.Going.{SameWork, healthy_face, goes_then, goes_effect, steps_go}
 use Rattle.port_driver.proofs.Linking.{unlinked_on, steps_link, steps_healthy}
@@ -56,11 +56,12 @@ module _ {old new : Device} (a : IsAlike old new) where
         free = λ slot ne. free_after k slot (r.free slot ne);
       }
 
-  holds_alike : (r : Issued) → HoldsRead r old → HoldsRead r new
+  holds_alike : (r : Issued) → HoldsTransfer r old → HoldsTransfer r new
   holds_alike r h =
       let P : (ℕ → ℕ) → Type 0 = λ memory. (s : Says memory 0 0 (meaning_of r) (places_of r.frames r.count)) × (s.table ≡ 4096) × (s.prds ≡ h.says.prds) in
       let said = subst P (sym a.memory) (h.says, h.table, refl) in
       record {
+        transfers = h.transfers;
         says = said.0;
         table = said.1;
         few = let few = h.few in rw said.2 few;
@@ -268,12 +269,12 @@ module _ (old mid new : Device) (l : IsLone old) (run : IsRunning old) (issued a
 -- ---- the issue
 
 -- CI is written with the bit of slot 0, whose bytes say the read
-pub issue_serves : (r : Issued) (old new : Device) → Serves None old → HoldsRead r old → Writes (px Ci) 1 old new →
+pub issue_serves : (r : Issued) (old new : Device) → Serves None old → HoldsTransfer r old → Writes (px Ci) 1 old new →
     Serves (Some r) new × ((new.port 0).ci 0 ≡ true) × Proceeds None old new
 issue_serves r old new s h call =
     let w : PutAt 0 Ci 1 old new = put (record { 0 = 0 }) Ci 1 old new call s.0.on.no_reset in
     let mid : Serves None w.mid = none_after old w.mid s w.steps in
-    let held : HoldsRead r w.mid = steps_hold r old w.mid s.0 s.1 h w.steps in
+    let held : HoldsTransfer r w.mid = steps_hold r old w.mid s.0 s.1 h w.steps in
     let after : PortState = port_written Ci 1 0 (w.mid.port 0) in
     let P : PortState → Type 0 = λ p. p.taken 0 ≡ None in
     let free : (new.port 0).taken 0 ≡ None = subst P (sym w.here) mid.2.taken in
@@ -297,6 +298,7 @@ issue_serves r old new s h call =
               });
         },
         record {
+          transfers = held.transfers;
           says = said.0;
           table = said.1;
           few = let few = held.few in rw said.2 few;
@@ -313,7 +315,7 @@ issue_serves r old new s h call =
             let told : (p : Entry → Bool) → count_by p new.tape ≡ count_by p w.mid.tape = λ p. ap (count_by p) w.tape in
             subst Q (sym w.here) (healthy_face (w.mid.port 0) after (refl, refl, refl, λ c. c, λ place n. n, refl)
             (steps_healthy old w.mid s.0.on.no_reset w.steps (sym (told is_change) ∙ u.0, sym (told is_failure) ∙ u.1) h));
-        ended = ap (λ (t : List Entry). count_by is_read_end t) w.tape ∙ (steps_go None old w.mid s w.steps).ended;
+        ended = λ op. ap (λ (t : List Entry). count_by (is_end op) t) w.tape ∙ (steps_go None old w.mid s w.steps).ended op;
         moved = moves_on None new (steps_go None old w.mid s w.steps).moved (λ at client. ap (λ (m : ℕ → ℕ). m at) w.memory) w.tape;
       },
     )

@@ -1,5 +1,5 @@
 -- What the tape tells of moves, and what client frames then hold.
-use Rattle.std.proofs.Common.{ℕ, ◌≡◌, ◌+◌, ◌-◌, ◌*◌, ◌<◌, ◌≤◌, inl, inr, true, false, List, [], ◌∷◌, ◌++◌, length, Option, None, Some, refl, sym, ◌∙◌, ap, subst, arith, slice_index, slice_index_or, append_assoc, nat_le, if◌then◌else◌}
+use Rattle.std.proofs.Common.{ℕ, ◌≡◌, ◌+◌, ◌-◌, ◌*◌, ◌<◌, ◌≤◌, inl, inr, Bool, true, false, List, [], ◌∷◌, ◌++◌, length, Option, None, Some, refl, sym, ◌∙◌, ap, subst, arith, slice_index, slice_index_or, append_assoc, nat_le, if◌then◌else◌}
 use Rattle.std.specs.List.{All}
 use Rattle.std.proofs.lemmas.Bool.{cases_eq}
 use Rattle.std.proofs.lemmas.List.{append-nil}
@@ -12,14 +12,15 @@ use Rattle.adapter.specs.Steps.Step.{Fetch, FetchFault, Move, Clear, Done, Fault
 use Rattle.adapter.specs.declared.command.Direction.{Direction}
 use Rattle.adapter.specs.declared.command.Direction.TheVariants.{ToMemory, FromMemory}
 use Rattle.adapter.specs.declared.command.Operation.{Operation}
-use Rattle.adapter.specs.declared.command.Operation.TheVariants.{Read}
+use Rattle.adapter.specs.declared.command.Operation.TheVariants as operation
 use Rattle.adapter.specs.declared.tape.Entry.{Entry}
 use Rattle.adapter.specs.declared.tape.Entry.TheVariants as entry
 use Rattle.adapter.proofs.Absurd.{true-false, some-none}
 use Rattle.adapter.proofs.MemoryLemmas.{patched_apart}
 use Rattle.command_table.specs.Places.{place_of, places_of}
-use Rattle.port_driver.specs.Port.{IsSlotFree, IsLone, IsRunning, Issued, meaning_of, HoldsRead, IsOwn, MovesOnly}
-use Rattle.port_driver.specs.Told.{after_moves, moved_in}
+use Rattle.port_driver.specs.Port.{IsTransfer, IsSlotFree, IsLone, IsRunning, Issued, meaning_of, HoldsTransfer, IsOwn, MovesOnly}
+use Rattle.port_driver.specs.Told.{operation_of, after_moves, moved_in}
+use Rattle.port_driver.proofs.Told.{transfer_ranged}
 use Rattle.port_driver.proofs.Serving.{slot_zero, tied_at, place_at, places_length}
 
 -- ---- one stretch after another
@@ -76,19 +77,30 @@ own_more issued (entry.Fatal c) own = tt
 own_more issued (entry.Unplug c) own = tt
 own_more issued (entry.Plug c name) own = tt
 
-pub moves_more_read : (issued : Option Issued) {old new : Device} → MovesOnly None old new → MovesOnly issued old new
-moves_more_read issued a = record { gained = a.gained; tape = a.tape; own = All-weaker (IsOwn None) (IsOwn issued) (own_more issued) a.gained a.own; memory = a.memory }
+pub moves_more_served : (issued : Option Issued) {old new : Device} → MovesOnly None old new → MovesOnly issued old new
+moves_more_served issued a = record { gained = a.gained; tape = a.tape; own = All-weaker (IsOwn None) (IsOwn issued) (own_more issued) a.gained a.own; memory = a.memory }
 
 -- an effect that leaves the tape and client frames
 pub moves_on : (issued : Option Issued) {old mid : Device} (new : Device) → MovesOnly issued old mid → ((at : ℕ) → 163840 ≤ at → new.memory at ≡ mid.memory at) → new.tape ≡ mid.tape → MovesOnly issued old new
 moves_on issued new a memory tape = record { gained = a.gained; tape = tape ∙ a.tape; own = a.own; memory = λ at client. memory at client ∙ a.memory at client }
+
+-- what a command's move leaves of memory
+moved_as : (o : Operation) (place : ℕ) (bytes : List ℕ) (memory : ℕ → ℕ) (at : ℕ) → (if reads_memory o then memory else patched memory place bytes) at ≡ moved_in (direction_of o) place bytes memory at
+moved_as operation.Read place bytes memory at = refl
+moved_as operation.Write place bytes memory at = refl
+moved_as operation.ReadQueued place bytes memory at = refl
+moved_as operation.WriteQueued place bytes memory at = refl
+moved_as operation.Identify place bytes memory at = refl
+moved_as operation.ReadLog place bytes memory at = refl
+moved_as operation.Trim place bytes memory at = refl
+moved_as operation.Flush place bytes memory at = refl
 
 -- ---- one step
 
 -- what is taken is the read that is served
 abbrev IsServed : Option Issued → ℕ → ℕ → ℕ → Taken → Type 0
 IsServed None port slot list t = ⊥
-IsServed (Some r) port slot list t = (port ≡ 0) × (slot ≡ 0) × (list ≡ 0) × (t.meaning ≡ meaning_of r) × (t.places ≡ places_of r.frames r.count)
+IsServed (Some r) port slot list t = IsTransfer r.op × (port ≡ 0) × (slot ≡ 0) × (list ≡ 0) × (t.meaning ≡ meaning_of r) × (t.places ≡ places_of r.frames r.count)
 
 -- what has to hold of the adapter for that
 pub record IsConfined (issued : Option Issued) (d : Device) : Type 0 where
@@ -108,28 +120,28 @@ module _ (issued : Option Issued) (d : Device) (c : IsConfined issued d) where
       IsOwn o (entry.Move (move_of port slot t bytes)) × ((at : ℕ) → memory_after d.memory t bytes at ≡ after_moves (entry.Move (move_of port slot t bytes) ∷ []) d.memory at)
   move_own None port slot t bytes served left = absurd served
   move_own (Some r) port slot t bytes served left =
-      let operation : t.meaning.operation ≡ Read = ap (λ (m : Meaning). m.operation) served.3 in
+      let operation : t.meaning.operation ≡ operation_of r.op = ap (λ (m : Meaning). m.operation) served.4 in
+      let ranged : is_ranged (operation_of r.op) ≡ true = transfer_ranged r.op served.0 in
       let n = places_length r.frames r.count 0 in
-      let same = ap (λ (places : List ℕ). length places) served.4 in
+      let same = ap (λ (places : List ℕ). length places) served.5 in
       let small : t.moved < r.count = omega (arith, left, same, n) in (
         record {
-          port = served.0;
-          slot = served.1;
+          port = served.1;
+          slot = served.2;
           operation = operation;
           direction = ap direction_of operation;
           number = t.moved;
           small = small;
-          sector = ap (λ (m : Meaning). if is_ranged m.operation then m.first + t.moved else 0) served.3;
-          address = ap (λ (places : List ℕ). slice_index places t.moved) served.4 ∙ place_at r.frames r.count 0 t.moved small ∙ ap (place_of r.frames) (omega arith);
+          sector = ap (λ (m : Meaning). if is_ranged m.operation then m.first + t.moved else 0) served.4 ∙ ap (λ (b : Bool). if b then r.first + t.moved else 0) ranged;
+          address = ap (λ (places : List ℕ). slice_index places t.moved) served.5 ∙ place_at r.frames r.count 0 t.moved small ∙ ap (place_of r.frames) (omega arith);
         },
         λ at.
-            let P : Operation → Type 0 = λ op. (if reads_memory op then d.memory else patched d.memory (next_place t) bytes) at ≡ moved_in (direction_of op) (next_place t) bytes d.memory at in
-            subst P (sym operation) refl,
+            moved_as t.meaning.operation (next_place t) bytes d.memory at,
       )
 
   scribbled : (o : Option Issued) (port slot at : ℕ) (bytes : List ℕ) (t : Taken) → IsServed o port slot (d.port port).bases.clb t → at ≡ (d.port port).bases.clb + 32 * slot + 4 → at ≡ 4
   scribbled None port slot at bytes t served is = absurd served
-  scribbled (Some r) port slot at bytes t served is = let s = served.1 in let l = served.2 in omega (arith, is, s, l)
+  scribbled (Some r) port slot at bytes t served is = let s = served.2 in let l = served.3 in omega (arith, is, s, l)
 
   scribble_low : (port slot at : ℕ) (bytes : List ℕ) → MayScribble (d.port port) slot at bytes → at + length bytes ≤ 163840
   scribble_low port slot at bytes can =
@@ -181,15 +193,15 @@ none_confined d l area free = record {
 }
 
 -- slot 0 has the read
-pub read_confined : (r : Issued) (d : Device) → IsLone d → IsRunning d → HoldsRead r d → IsConfined (Some r) d
-read_confined r d l run h = record {
+pub transfer_confined : (r : Issued) (d : Device) → IsLone d → IsRunning d → HoldsTransfer r d → IsConfined (Some r) d
+transfer_confined r d l run h = record {
   area = area_of d l (λ _. ap (λ (b : Bases). b.fb) run.bases);
   takes = λ port slot t is.
       elim (cases_eq port 0) [
         | inl e ↦
             let slot_is : slot ≡ 0 = slot_zero r d l run h port slot e (inr (t, is)) in
             let tied = tied_at r d l run h port e t (ap (d.port port).taken (sym slot_is) ∙ is) in
-            (e, slot_is, ap (λ (k : ℕ). (d.port k).bases.clb) e ∙ ap (λ (b : Bases). b.clb) run.bases, tied.0, tied.1)
+            (h.transfers, e, slot_is, ap (λ (k : ℕ). (d.port k).bases.clb) e ∙ ap (λ (b : Bases). b.clb) run.bases, tied.0, tied.1)
         | inr ne ↦ some-none is ((l.others port ne).taken slot)
       ];
 }

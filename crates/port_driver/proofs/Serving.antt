@@ -19,8 +19,9 @@ use Rattle.adapter.proofs.Changed.{changed_same, changed_each}
 use Rattle.adapter.proofs.Guards.{step_bytes}
 use Rattle.adapter.proofs.SaysLemmas.{says_same, says_meaning, says_places}
 use Rattle.command_table.specs.Places.{place_of, places_of}
-use Rattle.port_driver.specs.Port.{IsSlotFree, IsLone, IsRunning, Issued, meaning_of, HoldsRead, IsTableByte, IsInFrames, IsKeptByte, IsOutsideArea}
+use Rattle.port_driver.specs.Port.{IsSlotFree, IsLone, IsRunning, Issued, meaning_of, HoldsTransfer, IsTableByte, IsInFrames, IsKeptByte, IsOutsideArea}
 use Rattle.port_driver.proofs.PortLemmas.{lone_after, running_after}
+use Rattle.port_driver.proofs.Told.{never_queued}
 
 -- ---- places
 
@@ -51,7 +52,7 @@ place_in_frames frames n at enough w =
 -- ---- what is guarded
 
 -- kept bytes are none of the command's places
-places_avoid : (r : Issued) (d : Device) → HoldsRead r d → Avoids (IsKeptByte r.frames) (places_of r.frames r.count)
+places_avoid : (r : Issued) (d : Device) → HoldsTransfer r d → Avoids (IsKeptByte r.frames) (places_of r.frames r.count)
 places_avoid r d h at kept w =
     let in_frames : IsInFrames r.frames at = place_in_frames r.frames r.count at h.enough w in
     let client : 40 ≤ in_frames.0.0 =
@@ -91,7 +92,7 @@ area_spared frames at low high kept =
       | inr other ↦ absurd (omega (arith, other.0))
     ]
 
-slot_guarded : (r : Issued) (d : Device) → HoldsRead r d → IsGuardedSlot IsTableByte (IsKeptByte r.frames) d.memory 0 0
+slot_guarded : (r : Issued) (d : Device) → HoldsTransfer r d → IsGuardedSlot IsTableByte (IsKeptByte r.frames) d.memory 0 0
 slot_guarded r d h = record {
   meaning = meaning_of r;
   places = places_of r.frames r.count;
@@ -134,8 +135,8 @@ lone_guarded Tables Kept d within l zero_guarded = record {
       ];
 }
 
-pub read_guarded : (r : Issued) (d : Device) → IsLone d → IsRunning d → HoldsRead r d → IsGuarded IsTableByte (IsKeptByte r.frames) d
-read_guarded r d l run h =
+pub transfer_guarded : (r : Issued) (d : Device) → IsLone d → IsRunning d → HoldsTransfer r d → IsGuarded IsTableByte (IsKeptByte r.frames) d
+transfer_guarded r d l run h =
     lone_guarded IsTableByte (IsKeptByte r.frames) d (λ at table. inl table) l
     (record {
       slot = λ slot used.
@@ -169,7 +170,7 @@ free_guarded d l free area =
 
 -- ---- the read goes on, whatever the device does
 
-module _ (r : Issued) (d : Device) (l : IsLone d) (run : IsRunning d) (h : HoldsRead r d) where
+module _ (r : Issued) (d : Device) (l : IsLone d) (run : IsRunning d) (h : HoldsTransfer r d) where
   abbrev pub Tied : PortState → Type 0
   Tied p = (t : Taken) → p.taken 0 ≡ Some t → (t.meaning ≡ meaning_of r) × (t.places ≡ places_of r.frames r.count) × (p.ci 0 ≡ true)
 
@@ -219,7 +220,7 @@ module _ (r : Issued) (d : Device) (l : IsLone d) (run : IsRunning d) (h : Holds
       let same : places ≡ places_of r.frames r.count =
       says_places d.memory 0 0 m (meaning_of r) places (places_of r.frames r.count) (fetch_says q slot m places can e) h.says in
       let meant : m ≡ meaning_of r = fetch_means q slot m places can e in
-      let plain : is_queued m.operation ≡ false = ap (λ (x : Meaning). is_queued x.operation) meant in
+      let plain : is_queued m.operation ≡ false = ap (λ (x : Meaning). is_queued x.operation) meant ∙ never_queued r.op in
       let ci : (d.port q).ci 0 ≡ true = ap (d.port q).ci (sym s) ∙ can.fetchable.issued in
       let stays : (b : Bool) → b ≡ false → (if b then changed (d.port q).ci slot false else (d.port q).ci) 0 ≡ true = stay (d.port q).ci slot ci in
       refilled q slot _ (with_fetch (d.port q) slot m places) e s refl (meant, same, stays (is_queued m.operation) plain)
@@ -259,12 +260,13 @@ module _ (r : Issued) (d : Device) (l : IsLone d) (run : IsRunning d) (h : Holds
   step_tied (Scribble port slot at bytes) can = h.tied
 
   -- the bytes of header and table are the same in another memory
-  says_on : (memory : ℕ → ℕ) → ((at : ℕ) → IsTableByte at → memory at ≡ d.memory at) → (new : Device) → new.memory ≡ memory → Tied (new.port 0) → HoldsRead r new
+  says_on : (memory : ℕ → ℕ) → ((at : ℕ) → IsTableByte at → memory at ≡ d.memory at) → (new : Device) → new.memory ≡ memory → Tied (new.port 0) → HoldsTransfer r new
   unfolding says_same
   says_on memory same new is tied =
       let g : IsGuardedSlot IsTableByte (IsKeptByte r.frames) d.memory 0 0 = slot_guarded r d h in
       let there : (at : ℕ) → IsTableByte at → new.memory at ≡ d.memory at = λ at table. ap (λ (f : ℕ → ℕ). f at) is ∙ same at table in
       record {
+        transfers = h.transfers;
         says = says_same d.memory new.memory 0 0 (meaning_of r) (places_of r.frames r.count) h.says
             (λ at low high. there at (inl (omega arith))) (λ at low high. there at (inr (inl (omega arith, omega arith))))
             (λ at low high. there at (inr (inr (omega (arith, h.table, low), omega (arith, h.table, h.few, high)))));
@@ -275,17 +277,17 @@ module _ (r : Issued) (d : Device) (l : IsLone d) (run : IsRunning d) (h : Holds
         tied = tied;
       }
 
-  pub step_holds : (step : Step) → Can step d → HoldsRead r (after step d)
+  pub step_holds : (step : Step) → Can step d → HoldsTransfer r (after step d)
   step_holds step can =
-      let g : IsGuarded IsTableByte (IsKeptByte r.frames) d = read_guarded r d l run h in
+      let g : IsGuarded IsTableByte (IsKeptByte r.frames) d = transfer_guarded r d l run h in
       says_on (after step d).memory (λ at table. step_bytes IsTableByte (IsKeptByte r.frames) step d can g at (inl table)) (after step d) refl (step_tied step can)
 
-pub leads_hold : (r : Issued) (steps : List Step) (old new : Device) → IsLone old → IsRunning old → HoldsRead r old → Leads steps old new → HoldsRead r new
-leads_hold r [] old new l run h e = let P : Device → Type 0 = λ d. HoldsRead r d in subst P (sym e) h
+pub leads_hold : (r : Issued) (steps : List Step) (old new : Device) → IsLone old → IsRunning old → HoldsTransfer r old → Leads steps old new → HoldsTransfer r new
+leads_hold r [] old new l run h e = let P : Device → Type 0 = λ d. HoldsTransfer r d in subst P (sym e) h
 leads_hold r (step ∷ steps) old new l run h (can, lead) =
     let one : Steps old (after step old) = record { steps = step ∷ []; lead = (can, refl) } in
     let k : KeepsAll old (after step old) = steps_keep_all l.on.no_reset one in
     leads_hold r steps (after step old) new (lone_after k l) (running_after k run) (step_holds r old l run h step can) lead
 
-pub steps_hold : (r : Issued) (old new : Device) → IsLone old → IsRunning old → HoldsRead r old → Steps old new → HoldsRead r new
+pub steps_hold : (r : Issued) (old new : Device) → IsLone old → IsRunning old → HoldsTransfer r old → Steps old new → HoldsTransfer r new
 steps_hold r old new l run h s = leads_hold r s.steps old new l run h s.lead

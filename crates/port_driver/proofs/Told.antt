@@ -1,16 +1,20 @@
 -- The tape as it grows, and what steps of the device make of port 0.
-use Rattle.std.proofs.Common.{ℕ, ◌≡◌, ◌+◌, ◌≤◌, Bool, true, false, List, [], ◌∷◌, ◌++◌, None, refl, sym, ap, subst, arith, cond}
+use Rattle.std.proofs.Common.{ℕ, ◌≡◌, ◌+◌, ◌≤◌, Bool, true, false, List, [], ◌∷◌, ◌++◌, None, inl, inr, refl, sym, ap, subst, arith, cond}
 use Rattle.std.specs.Prelude.{count_by}
 use Rattle.std.proofs.lemmas.List.Sums.{sum_by-append}
 use Rattle.adapter.specs.Device.{PortState, Device}
 use Rattle.adapter.specs.Kept.{Keeps}
-use Rattle.adapter.specs.Commands.{is_queued}
+use Rattle.adapter.specs.Commands.{is_queued, is_ranged}
 use Rattle.adapter.specs.Memory.{changed}
 use Rattle.adapter.specs.Steps.{Step, Can, after, Leads, Steps, with_fetch, with_fault, with_move, with_clear, with_done, with_link, with_reset}
 use Rattle.adapter.specs.Steps.Step.{Fetch, FetchFault, Move, Clear, Done, Fault, Fatal, Fall, FrFall, LinkUp, Unplug, Plug, ResetEnds, Scribble}
 use Rattle.adapter.specs.declared.tape.Entry.{Entry}
 use Rattle.adapter.proofs.Changed.{changed_each}
 use Rattle.adapter.proofs.KeptLemmas.{step_keeps}
+use Rattle.ata_types.specs.declared.request.Op.{Op}
+use Rattle.ata_types.specs.declared.request.Op.TheVariants.{Read, Write, Trim, Flush}
+use Rattle.port_driver.specs.Port.{IsTransfer}
+use Rattle.port_driver.specs.Told.{operation_of, is_plain_of}
 
 -- ---- counts
 
@@ -34,6 +38,26 @@ count_one p tape e counts =
 -- so a count that stays has not met one
 pub never_told : {A : Type 0} (p : Entry → Bool) (tape : List Entry) (e : Entry) → p e ≡ true → count_by p (tape ++ e ∷ []) ≡ count_by p tape → A
 never_told p tape e counts same = let one = count_one p tape e counts in absurd (omega (arith, one, same))
+
+-- ---- the plain commands
+
+-- none of them is queued
+pub never_queued : (op : Op) → is_queued (operation_of op) ≡ false
+never_queued Read = refl
+never_queued Write = refl
+never_queued Trim = refl
+never_queued Flush = refl
+
+pub plain_of : (op : Op) → is_plain_of op (operation_of op) ≡ true
+plain_of Read = refl
+plain_of Write = refl
+plain_of Trim = refl
+plain_of Flush = refl
+
+-- a transfer names its sectors
+pub transfer_ranged : (op : Op) → IsTransfer op → is_ranged (operation_of op) ≡ true
+transfer_ranged op (inl is) = subst (λ (o : Op). is_ranged (operation_of o) ≡ true) (sym is) refl
+transfer_ranged op (inr is) = subst (λ (o : Op). is_ranged (operation_of o) ≡ true) (sym is) refl
 
 -- ---- steps, one by one
 

@@ -2,7 +2,6 @@
 use Rattle.std.specs.Prelude.{ℕ, Bool, true, ◌≡◌, ◌≢◌, ◌⊎◌, ◌<◌, List, [], length, All}
 use Rattle.ata_types.specs.declared.request.ClientId.{ClientId}
 use Rattle.ata_types.specs.declared.request.Frame.{Frame}
-use Rattle.ata_types.specs.declared.request.Op.TheVariants.{Read}
 use Rattle.ata_types.specs.declared.request.RequestId.{RequestId}
 use Rattle.ata_types.specs.declared.request.Reply.{Reply}
 use Rattle.hba_regs.specs.declared.reg.Reg.TheVariants as reg
@@ -92,26 +91,26 @@ pub record FindsEnd (done : Bool) (id : RequestId) (old new : Device) (m : Machi
   pub kept : NoneKept m (port_at 0) → NoneKept (after m steps) (port_at 0)
 
 -- Ordinary accesses led there, and so the machine follows where slot 0 of port 0 serves a request.
-pub record FindsRead (done : Bool) (old new : Device) : Type 0 where
+pub record FindsTransfer (done : Bool) (old new : Device) : Type 0 where
   pub driven : IsDrivenBy IsOrdinary old new
   pub adds : (uses : Uses) (parked : ℕ → List RequestId) (id : RequestId) → uses 0 0 ≡ Serves id
       → AddsSteps Knows (known uses parked old) (known uses parked new) (FindsEnd done id old new)
 
--- the request is this read, on port 0
-pub record IsReadOf (r : Issued) (e : Pending) : Type 0 where
+-- the request is this transfer, on port 0
+pub record IsTransferOf (r : Issued) (e : Pending) : Type 0 where
   pub port : e.request.port ≡ port_at 0
-  pub operation : e.request.asked.op ≡ Read
+  pub operation : e.request.asked.op ≡ r.op
   pub first : e.request.asked.first.0 ≡ r.first
   pub count : e.request.asked.count ≡ r.count
   pub frames : e.request.asked.frames.items ≡ r.frames
 
--- Ordinary accesses led there. Where a request that is this read is due on port 0, plain, and slot 0 is free: steps of the device, and
+-- Ordinary accesses led there. Where a request that is this transfer is due on port 0, plain, and slot 0 is free: steps of the device, and
 -- then the request's issue, lead to a machine that agrees with a driver whose slot 0 serves it.
-pub record IssuesRead (r : Issued) (old new : Device) : Type 0 where
+pub record IssuesTransfer (r : Issued) (old new : Device) : Type 0 where
   pub driven : IsDrivenBy IsOrdinary old new
   pub issues : (uses : Uses) (parked : ℕ → List RequestId) (m : Machine) (mode : Mode) (e : Pending) → IsReached m
-      → Knows m (known uses parked old) → uses 0 0 ≡ Free → May m (Issue mode e) → is_plain mode Read ≡ true → 0 < mode.usable
-      → IsReadOf r e → EndsWith (known uses parked old) m (Issue mode e) (serving (known uses parked old) 0 0 e.request.id new)
+      → Knows m (known uses parked old) → uses 0 0 ≡ Free → May m (Issue mode e) → is_plain mode r.op ≡ true → 0 < mode.usable
+      → IsTransferOf r e → EndsWith (known uses parked old) m (Issue mode e) (serving (known uses parked old) 0 0 e.request.id new)
 
 -- Ordinary accesses led there. Where the machine lets the client load so many bytes of its frame: steps of the device, and then the load of
 -- these.

@@ -5,19 +5,19 @@ use Rattle.hba_regs.specs.Bits.{bit}
 use Rattle.ata_types.specs.declared.request.Frame.{Frame}
 use Rattle.ata_types.specs.declared.PortState.{PortState}
 use Rattle.ata_types.specs.declared.PortState.TheVariants.{Absent, Ready, Foreign, Unfit, Dead}
-use Rattle.adapter.specs.declared.command.Operation.TheVariants.{Read}
-use Rattle.adapter.specs.Commands.{Meaning}
+use Rattle.ata_types.specs.declared.request.Op.{Op}
+use Rattle.ata_types.specs.declared.request.Op.TheVariants.{Read, Write}
+use Rattle.adapter.specs.Commands.{Meaning, direction_of}
 use Rattle.adapter.specs.Device.{Bases, Taken, Device}
 use Rattle.adapter.specs.Device as device
 use Rattle.adapter.specs.Idle.{IsIdlePort}
 use Rattle.adapter.specs.Rules.{IsOn, HasPort}
 use Rattle.adapter.specs.Says.{Says}
-use Rattle.adapter.specs.declared.command.Direction.TheVariants.{ToMemory}
 use Rattle.adapter.specs.declared.tape.Entry.{Entry}
 use Rattle.adapter.specs.declared.tape.Entry.TheVariants as entry
 use Rattle.adapter.specs.declared.tape.Move.{Move}
 use Rattle.command_table.specs.Places.{place_of, places_of}
-use Rattle.port_driver.specs.Told.{after_moves, reads_ended, IsUndisturbed, IsUnharmed}
+use Rattle.port_driver.specs.Told.{operation_of, after_moves, ended, IsUndisturbed, IsUnharmed}
 
 -- ---- sets of bytes
 
@@ -191,19 +191,25 @@ IsBroughtUp (Unfit cause) old new = IsLone new × IsResting (new.port 0) × (cau
 IsBroughtUp Foreign old new = ⊥
 IsBroughtUp Dead old new = ⊥
 
--- A read as it is issued: its first sector, its number of sectors, and its frames.
+-- a request that moves its sectors to or from its frames
+abbrev pub IsTransfer : Op → Type 0
+IsTransfer op = (op ≡ Read) ⊎ (op ≡ Write)
+
+-- A transfer as it is issued: whether it reads or writes, its first sector, its number of sectors, and its frames.
 pub record Issued : Type 0 where
+  pub op : Op
   pub first : ℕ
   pub count : ℕ
   pub frames : List Frame
 
--- the read's command
+-- its command: READ DMA EXT or WRITE DMA EXT
 abbrev pub meaning_of : Issued → Meaning
-meaning_of r = record { operation = Read; first = r.first; count = r.count }
+meaning_of r = record { operation = operation_of r.op; first = r.first; count = r.count }
 
--- Slot 0 has this read: its bytes say it, and its frames are clients' and hold its sectors; what is taken there is this read,
--- and CI shows it still.
-pub record HoldsRead (r : Issued) (d : Device) : Type 0 where
+-- Slot 0 has this transfer: its bytes say it, and its frames are clients' and hold its sectors; what is taken there is this
+-- transfer, and CI shows it still.
+pub record HoldsTransfer (r : Issued) (d : Device) : Type 0 where
+  pub transfers : IsTransfer r.op
   pub says : Says d.memory 0 0 (meaning_of r) (places_of r.frames r.count)
   pub table : says.table ≡ 4096
   pub few : length says.prds ≤ 32
@@ -211,12 +217,12 @@ pub record HoldsRead (r : Issued) (d : Device) : Type 0 where
   pub enough : r.count ≤ 8 * length r.frames
   pub tied : (t : Taken) → (d.port 0).taken 0 ≡ Some t → (t.meaning ≡ meaning_of r) × (t.places ≡ places_of r.frames r.count) × ((d.port 0).ci 0 ≡ true)
 
--- Port 0 runs, and serves this read or none.
+-- Port 0 runs, and serves this transfer or none.
 abbrev pub Serves : Option Issued → Device → Type 0
 Serves None d = IsLone d × IsRunning d × IsSlotFree (d.port 0) 0
-Serves (Some r) d = IsLone d × IsRunning d × HoldsRead r d
+Serves (Some r) d = IsLone d × IsRunning d × HoldsTransfer r d
 
--- the frames of the read that is served
+-- the frames of the transfer that is served
 abbrev pub frames_of : Option Issued → List Frame
 frames_of None = []
 frames_of (Some r) = r.frames
@@ -225,23 +231,24 @@ frames_of (Some r) = r.frames
 abbrev pub issued_now : Device → ℕ
 issued_now d = if (d.port 0).ci 0 then 1 else 0
 
--- As many reads ended in slot 0 as bits of CI went away from it; none where no read is served.
+-- As many of its commands ended in slot 0 as bits of CI went away from it; none where no transfer is served.
 abbrev pub EndsAsShown : Option Issued → Device → Device → Type 0
-EndsAsShown None old new = reads_ended new ≡ reads_ended old
-EndsAsShown (Some r) old new = reads_ended new + issued_now new ≡ reads_ended old + issued_now old
+EndsAsShown None old new = (op : Op) → ended op new ≡ ended op old
+EndsAsShown (Some r) old new = ended r.op new + issued_now new ≡ ended r.op old + issued_now old
 
--- A move that an entry tells is the read's: of one of its sectors, to the sector's place in its frames.
+-- A move that an entry tells is the transfer's: of one of its sectors, and the sector's place in its frames; a read's to memory, and a
+-- write's from it.
 pub record IsMoveOf (r : Issued) (m : Move) : Type 0 where
   pub port : m.port.0 ≡ 0
   pub slot : m.slot.0 ≡ 0
-  pub operation : m.operation ≡ Read
-  pub direction : m.direction ≡ ToMemory
+  pub operation : m.operation ≡ operation_of r.op
+  pub direction : m.direction ≡ direction_of (operation_of r.op)
   pub number : ℕ
   pub small : number < r.count
   pub sector : m.sector ≡ r.first + number
   pub address : m.address ≡ place_of r.frames number
 
--- a move is one of the read that is served
+-- a move is one of the transfer that is served
 abbrev pub IsServedMove : Option Issued → Move → Type 0
 IsServedMove None m = ⊥
 IsServedMove (Some r) m = IsMoveOf r m
@@ -251,22 +258,22 @@ abbrev pub IsOwn : Option Issued → Entry → Type 0
 IsOwn issued (entry.Move m) = IsServedMove issued m
 IsOwn issued _ = Unit {0}
 
--- Client frames are as the moves that the tape has gained leave them, and each of these is the served read's.
+-- Client frames are as the moves that the tape has gained leave them, and each of these is the served transfer's.
 pub record MovesOnly (issued : Option Issued) (old new : Device) : Type 0 where
   pub gained : List Entry
   pub tape : new.tape ≡ old.tape ++ gained
   pub own : All (IsOwn issued) gained
   pub memory : (at : ℕ) → 163840 ≤ at → new.memory at ≡ after_moves gained old.memory at
 
--- Meanwhile no client frame changed but those of the read that is served; a port without trouble has none still, unless it
--- was told; and as many reads ended as bits of CI went away.
+-- Meanwhile no client frame changed but those of the transfer that is served; a port without trouble has none still, unless it
+-- was told; and as many of its commands ended as bits of CI went away.
 pub record Proceeds (issued : Option Issued) (old new : Device) : Type 0 where
   pub spares : SparesClients (frames_of issued) old new
   pub healthy : IsUnharmed old new → IsHealthy (old.port 0) → IsHealthy (new.port 0)
   pub ended : EndsAsShown issued old new
   pub moved : MovesOnly issued old new
 
--- A read that is done leaves its slot free; one that isn't is served on.
+-- A transfer that is done leaves its slot free; one that isn't is served on.
 abbrev pub FindsDone : Issued → Bool → Device → Type 0
 FindsDone r true d = Serves None d
 FindsDone r false d = Serves (Some r) d

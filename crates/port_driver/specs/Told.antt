@@ -1,10 +1,12 @@
 -- What the device's tape tells of port 0, counted (this project's own).
 use Rattle.std.specs.Prelude.{ℕ, Bool, true, false, ◌≡◌, ◌&&◌, ◌==◌, List, [], ◌∷◌, count_by}
+use Rattle.ata_types.specs.declared.request.Op.{Op}
+use Rattle.ata_types.specs.declared.request.Op.TheVariants.{Read, Write, Trim, Flush}
 use Rattle.adapter.specs.Memory.{patched}
 use Rattle.adapter.specs.declared.command.Direction.{Direction}
 use Rattle.adapter.specs.declared.command.Direction.TheVariants.{ToMemory, FromMemory}
 use Rattle.adapter.specs.declared.command.Operation.{Operation}
-use Rattle.adapter.specs.declared.command.Operation.TheVariants.{Read}
+use Rattle.adapter.specs.declared.command.Operation.TheVariants as operation
 use Rattle.adapter.specs.declared.tape.Entry.{Entry}
 use Rattle.adapter.specs.declared.tape.Entry.TheVariants.{Move, Done, Fault, Fatal, Unplug, Plug}
 use Rattle.adapter.specs.Device.{Device}
@@ -21,14 +23,25 @@ is_failure (Fault f) = f.port.0 == 0
 is_failure (Fatal port) = port.0 == 0
 is_failure _ = false
 
-abbrev pub is_read : Operation → Bool
-is_read Read = true
-is_read _ = false
+-- the plain command of what a request asks
+abbrev pub operation_of : Op → Operation
+operation_of Read = operation.Read
+operation_of Write = operation.Write
+operation_of Trim = operation.Trim
+operation_of Flush = operation.Flush
 
--- a READ DMA EXT in slot 0 of port 0 ended without error
-abbrev pub is_read_end : Entry → Bool
-is_read_end (Done e) = e.port.0 == 0 && e.slot.0 == 0 && is_read e.operation
-is_read_end _ = false
+-- the command is that one
+abbrev pub is_plain_of : Op → Operation → Bool
+is_plain_of Read operation.Read = true
+is_plain_of Write operation.Write = true
+is_plain_of Trim operation.Trim = true
+is_plain_of Flush operation.Flush = true
+is_plain_of _ _ = false
+
+-- such a command ended without error in slot 0 of port 0
+abbrev pub is_end : Op → Entry → Bool
+is_end op (Done e) = e.port.0 == 0 && e.slot.0 == 0 && is_plain_of op e.operation
+is_end op _ = false
 
 abbrev pub changes : Device → ℕ
 changes d = count_by is_change d.tape
@@ -36,8 +49,8 @@ changes d = count_by is_change d.tape
 abbrev pub failures : Device → ℕ
 failures d = count_by is_failure d.tape
 
-abbrev pub reads_ended : Device → ℕ
-reads_ended d = count_by is_read_end d.tape
+abbrev pub ended : Op → Device → ℕ
+ended op d = count_by (is_end op) d.tape
 
 -- no disk came or went meanwhile
 abbrev pub IsUndisturbed : Device → Device → Type 0

@@ -1,18 +1,22 @@
-// One read in slot 0 of port 0: issuing it, and seeing that it is done.
+// One transfer in slot 0 of port 0: issuing it, and seeing that it is done.
 ghost use Rattle.std.specs.Prelude.{List, [], ◌≢◌, ◌≡◌, ◌+◌, ◌*◌, ◌/◌, ◌%◌, ◌^◌, ◌<◌, ◌≤◌, ◌||◌, ◌&&◌, ◌==◌, not, true, false, None, Some, length, All};
 ghost use Rattle.hba_regs.specs.Bits.{bit};
 ghost use Rattle.ata_types.specs.declared.request.Reply.{Reply};
-ghost use Rattle.port_driver.specs.Followed.{AnyAccess, IsOrdinary, LooksFirst, AnyUse, SlotIsFree, IsFollowed, FindsRead, IssuesRead};
-ghost use Rattle.port_driver.specs.Port.{IsLone, IsRunning, HoldsRead, Serves, KeepsServing, FindsDone, Proceeds, IsHealthy, IsTroubled, IsUnlinked, Issued};
-ghost use Rattle.port_driver.specs.Told.{IsUndisturbed, IsUnharmed};
+ghost use Rattle.port_driver.specs.Followed.{AnyAccess, IsOrdinary, LooksFirst, AnyUse, SlotIsFree, IsFollowed, FindsTransfer, IssuesTransfer};
+ghost use Rattle.adapter.specs.Commands.{command_of, reads_memory};
+ghost use Rattle.port_driver.specs.Port.{IsTransfer, IsLone, IsRunning, HoldsTransfer, Serves, KeepsServing, FindsDone, Proceeds, IsHealthy, IsTroubled, IsUnlinked, Issued};
+ghost use Rattle.port_driver.specs.Told.{operation_of, IsUndisturbed, IsUnharmed};
 
 use adapter::{Adapter, Command};
-use ata_types::{Frame, Port, Sector};
+use ata_types::{Frame, Op, Port, Sector};
 use command_table::{header, prds, table_bytes};
 use hba_regs::{PortInterrupts, PortReg, Reg, SataStatus, is_set};
 
 /// READ DMA EXT (ACS-3).
 const READ_DMA_EXT: u8 = 0x25;
+
+/// WRITE DMA EXT (ACS-3).
+const WRITE_DMA_EXT: u8 = 0x35;
 
 /// The device field of a command with a 48-bit address (ACS-3).
 const LBA: u8 = 0x40;
@@ -24,8 +28,43 @@ const TABLE: u32 = 4096;
 
 const SECTOR_BYTES: u32 = 512;
 
-/// Writes the header and the command table of a read of `count` sectors from `first` on, eight to a frame.
-fn write_read<A: Adapter>(adapter: &mut A, first: Sector, count: u32, frames: &[Frame])
+/// Whether the device reads memory: bit W of the header (AHCI 1.3.1, 4.2.2).
+fn writes(op: Op) -> bool
+    requires transfers { IsTransfer op }
+    ensures { result ≡ reads_memory (operation_of op) }
+{
+    op == Op::Write
+}
+
+/// The command of a transfer of `count` sectors from `first` on (ACS-3).
+fn transfer(op: Op, first: Sector, count: u32) -> Command
+    requires transfers { IsTransfer op }
+    requires few { count ≤ 256 }
+    ensures { result ≡ command_of (operation_of op) 0 first.0 count }
+{
+    let code = if writes(op) {
+        WRITE_DMA_EXT
+    } else {
+        READ_DMA_EXT
+    };
+    Command {
+        code,
+        features: 0,
+        count: count as u16,
+        lba: first.0,
+        device: LBA,
+    }
+}
+
+/// Writes the header and the command table of a transfer of `count` sectors from `first` on, eight to a frame.
+fn write_transfer<A: Adapter>(
+    adapter: &mut A,
+    op: Op,
+    first: Sector,
+    count: u32,
+    frames: &[Frame],
+)
+    requires transfers { IsTransfer op }
     requires serves { Serves None (A.device adapter.old) }
     requires some { 1 ≤ count }
     requires few { count ≤ 256 }
@@ -33,37 +72,32 @@ fn write_read<A: Adapter>(adapter: &mut A, first: Sector, count: u32, frames: &[
     requires frames { length frames.now ≡ (count + 7) / 8 }
     requires clients { All (λ frame. 40 ≤ frame.0) frames.now }
     ensures serves { Serves None (A.device adapter.new) }
-    ensures holds { HoldsRead (record { first = first.0; count = count; frames = frames.now }) (A.device adapter.new) }
+    ensures holds { HoldsTransfer (record { op = op; first = first.0; count = count; frames = frames.now }) (A.device adapter.new) }
     ensures goes_on { Proceeds None (A.device adapter.old) (A.device adapter.new) }
     ensures followed { IsFollowed IsOrdinary SlotIsFree (A.device adapter.old) (A.device adapter.new) }
 {
-    let command = Command {
-        code: READ_DMA_EXT,
-        features: 0,
-        count: count as u16,
-        lba: first.0,
-        device: LBA,
-    };
+    let command = transfer(op, first, count);
     let prds = prds(frames, SECTOR_BYTES * count);
     let table = table_bytes(&command, prds.as_slice());
     adapter.store(TABLE, &table[..128 + 16 * prds.len()]);
-    adapter.store(LIST, &header(false, prds.len() as u16, TABLE));
+    adapter.store(LIST, &header(writes(op), prds.len() as u16, TABLE));
 }
 
-/// Issues a read of `count` sectors from `first` on, eight to a frame, as READ DMA EXT.
-pub fn issue<A: Adapter>(adapter: &mut A, first: Sector, count: u32, frames: &[Frame])
+/// Issues a transfer of `count` sectors from `first` on, eight to a frame: a read as READ DMA EXT, a write as WRITE DMA EXT.
+pub fn issue<A: Adapter>(adapter: &mut A, op: Op, first: Sector, count: u32, frames: &[Frame])
+    requires transfers { IsTransfer op }
     requires serves { Serves None (A.device adapter.old) }
     requires some { 1 ≤ count }
     requires few { count ≤ 256 }
     requires first { first.0 < 2 ^ 48 }
     requires frames { length frames.now ≡ (count + 7) / 8 }
     requires clients { All (λ frame. 40 ≤ frame.0) frames.now }
-    ensures serves { Serves (Some (record { first = first.0; count = count; frames = frames.now })) (A.device adapter.new) }
+    ensures serves { Serves (Some (record { op = op; first = first.0; count = count; frames = frames.now })) (A.device adapter.new) }
     ensures issued { ((A.device adapter.new).port 0).ci 0 ≡ true }
     ensures goes_on { Proceeds None (A.device adapter.old) (A.device adapter.new) }
-    ensures followed { IssuesRead (record { first = first.0; count = count; frames = frames.now }) (A.device adapter.old) (A.device adapter.new) }
+    ensures followed { IssuesTransfer (record { op = op; first = first.0; count = count; frames = frames.now }) (A.device adapter.old) (A.device adapter.new) }
 {
-    write_read(adapter, first, count, frames);
+    write_transfer(adapter, op, first, count, frames);
     adapter.write(Reg::Px(Port(0), PortReg::Ci), 1);
 }
 
@@ -114,14 +148,14 @@ pub fn look<A: Adapter>(adapter: &mut A) -> bool
     is_undisturbed(interrupts, status)
 }
 
-/// Whether the read in slot 0 is done: its bits are clear in CI and in SACT, which are read in this order.
+/// Whether the transfer in slot 0 is done: its bits are clear in CI and in SACT, which are read in this order.
 pub fn is_done<A: Adapter>(adapter: &mut A) -> bool
     requires lone { IsLone (A.device adapter.old) }
     requires runs { IsRunning (A.device adapter.old) }
     ensures found { (r : Issued) → Serves (Some r) (A.device adapter.old) → FindsDone r result (A.device adapter.new) }
     ensures goes_on { (r : Issued) → Serves (Some r) (A.device adapter.old) → Proceeds (Some r) (A.device adapter.old) (A.device adapter.new) }
     ensures seen { ((A.device adapter.old).port 0).ci 0 ≡ false → result ≡ true }
-    ensures followed { FindsRead result (A.device adapter.old) (A.device adapter.new) }
+    ensures followed { FindsTransfer result (A.device adapter.old) (A.device adapter.new) }
 {
     let issued = adapter.read(Reg::Px(Port(0), PortReg::Ci));
     let active = adapter.read(Reg::Px(Port(0), PortReg::Sact));

@@ -9,7 +9,7 @@ use Rattle.std.proofs.lemmas.Option.{slice_get_within, get_or_from_slice_get}
 use Rattle.ata_types.specs.declared.grant.GrantRow.{GrantRow}
 use Rattle.block_machine.specs.Rules.{DifferInName}
 use Rattle.dma_frames.specs.Table.{Run, AreApart}
-use Rattle.setup.specs.Setup.{IsClient, HasClientFrames, AreRuns, AreRows, FitsRun, IsFirstRun, IsFirstRow, HasGrantFault, IsReadGrant}
+use Rattle.setup.specs.Setup.{IsClient, HasClientFrames, AreRuns, AreRows, FitsRun, IsFirstRun, IsFirstRow, HasGrantFault, IsTransferGrant}
 use Rattle.setup.specs.declared.GrantFault.{GrantFault}
 use Rattle.setup.specs.declared.GrantFault.TheVariants as grant
 use Rattle.setup.specs.declared.RunFault.{RunFault}
@@ -48,8 +48,8 @@ run_spoils frames runs place run.Overlap right w =
 
 -- a grant with a fault is none of right grants
 module _ (rows : List GrantRow) (place : ℕ) (row : GrantRow) (right : AreRows rows) (there : slice_get rows place ≡ Some row) where
-  read : IsReadGrant row
-  read = item_at IsReadGrant rows place row right.reads there
+  read : IsTransferGrant row
+  read = item_at IsTransferGrant rows place row right.transfers there
 
   wrong_spoils : (fault : GrantFault) → HasGrantFault (take place rows) row fault → ⊥
   wrong_spoils grant.Client wrong = wrong (read.client_from, read.client_to)
@@ -57,7 +57,7 @@ module _ (rows : List GrantRow) (place : ℕ) (row : GrantRow) (right : AreRows 
   wrong_spoils grant.Port wrong = wrong read.port
   wrong_spoils grant.NoSectors wrong = omega (arith, read.some, wrong)
   wrong_spoils grant.Sectors wrong = omega (arith, read.sectors)
-  wrong_spoils grant.Rights wrong = wrong (read.no_write, read.no_trim, read.no_flush)
+  wrong_spoils grant.Rights wrong = wrong (read.no_trim, read.no_flush)
   wrong_spoils grant.Twice one = pair_at DifferInName rows place one.0 row one.1 right.names there one.2 one.3 one.4
 
 pub row_spoils : (rows : List GrantRow) (place : ℕ) (fault : GrantFault) → AreRows rows → IsFirstRow rows place fault → ⊥

@@ -27,15 +27,14 @@ given frames owners grants = record { frames = frames; owners = owners; grants =
 -- ---- what is right
 
 -- A grant that this server can serve: of a client 1 to 8, under a number of 63 or less, on port 0, of one sector at least, all of
--- them below 2^48, and with no right but to read.
-pub record IsReadGrant (row : GrantRow) : Type 0 where
+-- them below 2^48, and with no right but to read and to write.
+pub record IsTransferGrant (row : GrantRow) : Type 0 where
   pub client_from : 1 ≤ row.client.0
   pub client_to : row.client.0 ≤ 8
   pub number : row.number ≤ 63
   pub port : row.port.0 ≡ 0
   pub some : 1 ≤ row.count
   pub sectors : row.first.0 + row.count ≤ 2 ^ 48
-  pub no_write : row.rights.write ≡ false
   pub no_trim : row.rights.trim ≡ false
   pub no_flush : row.rights.flush ≡ false
 
@@ -65,14 +64,14 @@ pub record AreRuns (frames : ℕ) (runs : List Run) : Type 0 where
 abbrev pub FitsRun : ℕ → List Run → Run → Type 0
 FitsRun frames earlier run = IsClient run.0 × HasClientFrames frames run × All (λ other. Meet other run → ⊥) earlier
 
--- Grants of reads, no two of one client under one number.
+-- Grants of reads and writes, no two of one client under one number.
 pub record AreRows (rows : List GrantRow) : Type 0 where
-  pub reads : All IsReadGrant rows
+  pub transfers : All IsTransferGrant rows
   pub names : AllPairs DifferInName rows
 
 -- a grant that may come after these
 abbrev pub FitsRow : List GrantRow → GrantRow → Type 0
-FitsRow earlier row = IsReadGrant row × All (λ other. DifferInName other row) earlier
+FitsRow earlier row = IsTransferGrant row × All (λ other. DifferInName other row) earlier
 
 -- The server can serve the setup.
 pub record IsSetup (s : SetupView) : Type 0 where
@@ -83,9 +82,9 @@ pub record IsSetup (s : SetupView) : Type 0 where
 
 -- ---- what is wrong
 
--- no right but to read
-abbrev pub ReadsAlone : Rights → Type 0
-ReadsAlone rights = (rights.write ≡ false) × (rights.trim ≡ false) × (rights.flush ≡ false)
+-- no right but to read and to write
+abbrev pub TransfersAlone : Rights → Type 0
+TransfersAlone rights = (rights.trim ≡ false) × (rights.flush ≡ false)
 
 -- the fault is one of a run that comes after these
 abbrev pub HasRunFault : ℕ → List Run → Run → RunFault → Type 0
@@ -100,7 +99,7 @@ HasGrantFault earlier row grant.Number = 63 < row.number
 HasGrantFault earlier row grant.Port = row.port.0 ≢ 0
 HasGrantFault earlier row grant.NoSectors = row.count ≡ 0
 HasGrantFault earlier row grant.Sectors = 2 ^ 48 < row.first.0 + row.count
-HasGrantFault earlier row grant.Rights = ReadsAlone row.rights → ⊥
+HasGrantFault earlier row grant.Rights = TransfersAlone row.rights → ⊥
 HasGrantFault earlier row grant.Twice = Any (λ other. Names other.client other.number row) earlier
 
 -- the numbers of these faults say which is told first

@@ -3,7 +3,7 @@
 
 ghost use Rattle.std.specs.Prelude.{◌≡◌, ◌↔◌, IsTrue, OnOk, IfOk, IfErr, MatchOption};
 ghost use Rattle.block_machine.specs.Rules.{Names};
-ghost use Rattle.setup.specs.Setup.{given, Meet, IsClient, HasClientFrames, ReadsAlone, FitsRun, FitsRow, AreRuns, AreRows, IsFirstRunFault, IsFirstGrantFault, IsFirstRun, IsFirstRow};
+ghost use Rattle.setup.specs.Setup.{given, Meet, IsClient, HasClientFrames, TransfersAlone, FitsRun, FitsRow, AreRuns, AreRows, IsFirstRunFault, IsFirstGrantFault, IsFirstRun, IsFirstRow};
 
 use ata_types::{ClientId, Frame, GrantRow, Rights};
 use std::marker::Model;
@@ -81,7 +81,7 @@ pub enum GrantFault {
     NoSectors,
     /// Its sectors go past 2^48.
     Sectors,
-    /// It has another right than to read, and this server serves reads alone.
+    /// It has another right than to read and to write, and this server serves these alone.
     Rights,
     /// An earlier grant has its client and number.
     Twice,
@@ -92,7 +92,7 @@ impl<'a> Setup<'a> {
 
     /// A setup of a memory of so many frames (41 to 1024), of runs of frames, each by its owner (1 to 8), its first frame
     /// (40 or above) and its number of frames (1 or more, within the memory), no frame in two of them, and of at most 64
-    /// grants: to read alone, of a client 1 to 8, under a number of 63 or less, on port 0, of one sector or more within 2^48
+    /// grants: to read and write alone, of a client 1 to 8, under a number of 63 or less, on port 0, of one sector or more within 2^48
     /// sectors, and none with client and number of another.
     ///
     /// Of several faults the first is told: the memory's, then that of the run at the least place, then the number of
@@ -215,7 +215,7 @@ fn check_row(earlier: &[GrantRow], row: &GrantRow) -> Result<(), GrantFault>
     if row.first.0 as u128 + row.count as u128 > SECTORS_END {
         return Err(GrantFault::Sectors);
     }
-    if !reads_alone(row.rights) {
+    if !transfers_alone(row.rights) {
         return Err(GrantFault::Rights);
     }
     if earlier.iter().any(|other| have_one_name(other, row)) {
@@ -249,11 +249,11 @@ fn meet(a: &(ClientId, Frame, u16), b: &(ClientId, Frame, u16)) -> bool
     first < a_end.min(b_end)
 }
 
-/// Whether these are no rights but to read.
-fn reads_alone(rights: Rights) -> bool
-    ensures { IsTrue result ↔ ReadsAlone rights }
+/// Whether these are no rights but to read and to write.
+fn transfers_alone(rights: Rights) -> bool
+    ensures { IsTrue result ↔ TransfersAlone rights }
 {
-    !(rights.write || rights.trim || rights.flush)
+    !(rights.trim || rights.flush)
 }
 
 /// Whether both stand under one client and number.
@@ -410,13 +410,19 @@ mod tests {
     }
 
     #[test]
-    fn a_right_to_more_than_reads_is_refused(rt: HostRuntime) {
+    fn a_right_to_trim_or_flush_is_refused(rt: HostRuntime) {
         let rights = Some((0, GrantFault::Rights));
+        assert_eq!(rt;
+            grant_fault(&[GrantRow {
+                rights: Rights {
+                    write: true,
+                    ..READ
+                },
+                ..ROW
+            }]),
+            None
+        );
         for other in [
-            Rights {
-                write: true,
-                ..READ
-            },
             Rights { trim: true, ..READ },
             Rights {
                 flush: true,

@@ -1,6 +1,6 @@
 use Rattle.std.proofs.Common.{Some, Bool, true, false, ◌≡◌, not, refl, sym, ◌∙◌, ap}
 use Rattle.adapter.proofs.Absurd.{true-false}
-use Rattle.port_driver.proofs.Finding.{read_found}
+use Rattle.port_driver.proofs.Finding.{transfer_found}
 use Rattle.port_driver.proofs.Looking.{reading_runs, masks_keep, masks_find, ci_was_clear, sact_is_clear}
 use Rattle.port_driver.proofs.slot.is_done.Goals as goal
 
@@ -24,7 +24,7 @@ returns-then-is_set-clause-seen g c = λ ci.
 
 pub returns-then-is_set-clause-followed : goal.returns-then-is_set-clause-followed
 returns-then-is_set-clause-followed g c =
-    read_found _ _ _ _ c.requires.lone c.requires.runs _ _ c.read-issued.ensures c.read-active.ensures (λ done. true-false done refl)
+    transfer_found _ _ _ _ c.requires.lone c.requires.runs _ _ c.read-issued.ensures c.read-active.ensures (λ done. true-false done refl)
 
 pub returns-clause-found : goal.returns-clause-found
 returns-clause-found g c = λ r s.
@@ -40,7 +40,7 @@ returns-clause-seen g c = λ _.
 
 pub returns-clause-followed : goal.returns-clause-followed
 returns-clause-followed g c =
-    read_found _ _ _ _ c.requires.lone c.requires.runs _ _ c.read-issued.ensures c.read-active.ensures (λ done. (
+    transfer_found _ _ _ _ c.requires.lone c.requires.runs _ _ c.read-issued.ensures c.read-active.ensures (λ done. (
       sym c.is_set.ensures ∙ c.if-is_set.false,
       sym c.is_set-2.ensures ∙ not_true _ done,
     ))

@@ -15,7 +15,7 @@ use Rattle.block_machine.specs.Events.{Submit, Submitted}
 use Rattle.block_machine.specs.Histories.{Adds}
 use Rattle.dma_frames.specs.Table.{LendsOnly}
 use Rattle.block_server.specs.Calls.{accepted_as}
-use Rattle.port_driver.specs.Followed.{IssuesRead}
+use Rattle.port_driver.specs.Followed.{IssuesTransfer}
 use Rattle.block_server.specs.History.{Begins, Ties, Stands}
 use Rattle.block_server.specs.declared.types.Accepted.{Accepted}
 use Rattle.block_server.proofs.Shown.{ready_shown}
@@ -41,6 +41,11 @@ pub issue-requires-clause-serves : goal.issue-requires-clause-serves
 issue-requires-clause-serves g c =
     let acc = subst (λ (v : ServerView g.row.A.Denot). IsAcceptable (situation_of v) c.args.r.now) (sym c.self.view_is) c.requires in
     accepting.none_served g.A.Adapter.device (seen c.self.inside) (vec_capacity c.self.inside.book) c.self.invariant c.args.r.now acc c.if-not-self.true
+
+pub issue-requires-clause-transfers : goal.issue-requires-clause-transfers
+issue-requires-clause-transfers g c =
+    let acc = subst (λ (v : ServerView g.row.A.Denot). IsAcceptable (situation_of v) c.args.r.now) (sym c.self.view_is) c.requires in
+    accepting.transfers g.A.Adapter.device (seen c.self.inside) (vec_capacity c.self.inside.book) c.self.invariant c.args.r.now acc
 
 pub issue-requires-clause-some : goal.issue-requires-clause-some
 issue-requires-clause-some g c =
@@ -70,8 +75,8 @@ issue-requires-clause-clients g c =
 pub invariant_of-self : goal.invariant_of-self
 invariant_of-self g c =
     let acc = subst (λ (v : ServerView g.row.A.Denot). IsAcceptable (situation_of v) c.args.r.now) (sym c.self.view_is) c.requires in
-    let only_frames : Serves (Some (record { first = c.args.r.now.first.0; count = c.args.r.now.count; frames = c.args.r.now.frames.items })) (g.A.Adapter.device c.issue.new.adapter) =
-    (let P : List Frame → Type 0 = λ frames. Serves (Some (record { first = c.args.r.now.first.0; count = c.args.r.now.count; frames = frames })) (g.A.Adapter.device c.issue.new.adapter) in
+    let only_frames : Serves (Some (record { op = c.args.r.now.op; first = c.args.r.now.first.0; count = c.args.r.now.count; frames = c.args.r.now.frames.items })) (g.A.Adapter.device c.issue.new.adapter) =
+    (let P : List Frame → Type 0 = λ frames. Serves (Some (record { op = c.args.r.now.op; first = c.args.r.now.first.0; count = c.args.r.now.count; frames = frames })) (g.A.Adapter.device c.issue.new.adapter) in
     subst P c.as_slice-then-not-self.ensures.value c.issue.ensures.serves) in
     let id : RequestId = record { 0 = c.self.inside.last + 1 } in
     accepting.kept_in g.A.Adapter.device (seen c.self.inside) (vec_capacity c.self.inside.book) c.self.invariant c.args.r.now acc c.issue.new.adapter c.lend-loan.new.self id refl
@@ -94,7 +99,7 @@ returns-then-not-self-clause-adds g c =
     let acc = subst (λ (v : ServerView g.row.A.Denot). IsAcceptable (situation_of v) c.args.r.now) (sym c.self.view_is) c.requires in
     let id : RequestId = record { 0 = c.self.inside.last + 1 } in
     let L : List Frame → Type 0 = λ frames. LendsOnly s.table c.lend-loan.new.self frames (Some id) in
-    let S : List Frame → Type 0 = λ frames. IssuesRead (record { first = c.args.r.now.first.0; count = c.args.r.now.count; frames = frames }) (g.A.Adapter.device s.adapter) (g.A.Adapter.device c.issue.new.adapter) in
+    let S : List Frame → Type 0 = λ frames. IssuesTransfer (record { op = c.args.r.now.op; first = c.args.r.now.first.0; count = c.args.r.now.count; frames = frames }) (g.A.Adapter.device s.adapter) (g.A.Adapter.device c.issue.new.adapter) in
     let Here : ServerView g.row.A.Denot → Type 0 = λ v. Adds Begins Ties (Stands g.A.Adapter.device) v
     (record s { adapter = c.issue.new.adapter; table = c.lend-loan.new.self; book = c.push_reserved.new.self.items; issued = true; last = s.last + 1 }) (Submit c.args.r.now) (Submitted (Ok id)) in
     let There : List Accepted → Type 0 = λ entries. Adds Begins Ties (Stands g.A.Adapter.device) s
@@ -103,7 +108,7 @@ returns-then-not-self-clause-adds g c =
     subst Here c.self.view_is (subst There (sym entries)
     (sent_adds g.A.Adapter.device s (vec_capacity c.self.inside.book) c.self.invariant c.args.r.now acc id refl c.lend-loan.new.self (subst L c.as_slice.ensures.value c.lend-loan.ensures.lent) c.if-not-self.true c.issue.new.adapter
     (subst S c.as_slice-then-not-self.ensures.value c.issue.ensures.followed)
-    (ready_shown s.state (Some (record { first = c.args.r.now.first.0; count = c.args.r.now.count; frames = c.as_slice-then-not-self.result.now })) (g.A.Adapter.device c.issue.new.adapter) (accepting.is_ready g.A.Adapter.device s (vec_capacity c.self.inside.book) c.self.invariant c.args.r.now acc) c.issue.ensures.serves)))
+    (ready_shown s.state (Some (record { op = c.args.r.now.op; first = c.args.r.now.first.0; count = c.args.r.now.count; frames = c.as_slice-then-not-self.result.now })) (g.A.Adapter.device c.issue.new.adapter) (accepting.is_ready g.A.Adapter.device s (vec_capacity c.self.inside.book) c.self.invariant c.args.r.now acc) c.issue.ensures.serves)))
 
 pub returns-else-not-self-clause-adds : goal.returns-else-not-self-clause-adds
 returns-else-not-self-clause-adds g c =

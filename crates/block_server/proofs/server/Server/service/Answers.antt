@@ -13,7 +13,7 @@ use Rattle.std.specs.List.{All}
 use Rattle.agreement.proofs.Adding.{nothing_backed}
 use Rattle.block_machine.specs.Events.{Service, Served}
 use Rattle.block_machine.specs.Histories.{Adds}
-use Rattle.port_driver.specs.Followed.{IsOrdinary, FindsRead}
+use Rattle.port_driver.specs.Followed.{IsOrdinary, FindsTransfer}
 use Rattle.block_server.specs.History.{Begins, Ties, Stands, uses_of, served_id}
 use Rattle.std.specs.Vec.{vec_capacity}
 use Rattle.block_server.specs.Book.{IsAccepted, served, IssuesFirst}
@@ -170,7 +170,7 @@ returns-clause-adds g c =
     let middle = device c.is_done.new.adapter in
     let new = c.issue_first-self-inside.new.adapter in
     let again = c.issue_first-self-inside.result in
-    let Finds : Bool → Type 0 = λ done. FindsRead done looked middle in
+    let Finds : Bool → Type 0 = λ done. FindsTransfer done looked middle in
     let Issues : List Accepted → Type 0 = λ book. IssuesFirst book middle (device new) in
     let after : ServerView g.row.A.Denot = record s { adapter = new; table = c.give_back.new.self; book = rest; issued = again } in
     let Here : ServerView g.row.A.Denot → Type 0 = λ v. Adds Begins Ties (Stands device) v after Service (Served c.push.new.self.items) in

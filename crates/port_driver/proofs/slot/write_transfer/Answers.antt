@@ -1,18 +1,19 @@
-use Rattle.std.proofs.Common.{ℕ, ◌≡◌, ◌<◌, ◌+◌, ◌*◌, ◌∙◌, ap, subst, inl, inr, arith, length, take, List, slice_index_or, false, None}
+use Rattle.std.proofs.Common.{ℕ, ◌≡◌, ◌<◌, ◌+◌, ◌*◌, ◌∙◌, ap, subst, inl, inr, arith, length, take, List, slice_index_or, Bool, None}
 use Rattle.std.proofs.lemmas.List.{length-take}
-use Rattle.adapter.specs.Commands.{command_of}
+use Rattle.adapter.specs.Commands.{command_of, reads_memory}
 use Rattle.adapter.specs.Says.{pieces}
 use Rattle.adapter.specs.Spelling.{SpellsCommand, SpellsHeader, SpellsPrd}
 use Rattle.adapter.specs.declared.command.Prd.{Prd}
-use Rattle.adapter.specs.declared.command.Operation.TheVariants.{Read}
+use Rattle.adapter.specs.declared.command.Command.{Command}
 use Rattle.command_table.specs.Bytes.{part}
 use Rattle.command_table.specs.Places.{places_of}
+use Rattle.port_driver.specs.Told.{operation_of}
 use Rattle.port_driver.specs.Port.{Issued}
 use Rattle.port_driver.specs.Followed.{IsOrdinary, SlotIsFree}
 use Rattle.port_driver.proofs.Following.{followed_then, storing_followed}
 use Rattle.port_driver.proofs.Going.{goes_then, store_goes}
-use Rattle.port_driver.proofs.Issuing.{IsRead, Stored, may_store, stored, read_stored}
-use Rattle.port_driver.proofs.slot.write_read.Goals as goal
+use Rattle.port_driver.proofs.Issuing.{IsIssuable, Stored, may_store, stored, transfer_stored}
+use Rattle.port_driver.proofs.slot.write_transfer.Goals as goal
 
 pub store-requires : goal.store-requires
 store-requires g c =
@@ -37,23 +38,24 @@ returns-clause-serves g c =
 pub returns-clause-holds : goal.returns-clause-holds
 returns-clause-holds g c =
     let prds : List Prd = c.prds-prds.result.items in
-    let r : Issued = record { first = c.args.first.0; count = c.args.count; frames = c.args.frames.now } in
+    let r : Issued = record { op = c.args.op; first = c.args.first.0; count = c.args.count; frames = c.args.frames.now } in
     let frames = c.requires.frames in
     let few = c.requires.few in
     let number = c.prds-prds.ensures.number in
-    let is : IsRead r = record { some = c.requires.some; few = few; first = c.requires.first; frames = frames; clients = c.requires.clients } in
+    let is : IsIssuable r = record { transfers = c.requires.transfers; some = c.requires.some; few = few; first = c.requires.first; frames = frames; clients = c.requires.clients } in
     let First : ℕ → Type 0 = λ len. Stored 4096 (take (128 + 16 * len) c.table_bytes-table.result) (g.A.Adapter.device c.args.adapter.now) (g.A.Adapter.device c.store.new.self) in
     let first : First (length prds) = subst First c.len.ensures.value (stored 4096 _ _ _ c.requires.serves c.store.ensures) in
     let second = stored 0 _ _ _ first.serves c.store-2.ensures in
     let places : pieces prds ≡ places_of r.frames r.count =
     c.prds-prds.ensures.places (omega arith) ∙ ap (places_of r.frames) (omega arith) in
-    let F : ℕ → Type 0 = λ count. SpellsCommand (part c.table_bytes-table.result 0 20) (record { code = 0x25; features = 0; count = count; lba = r.first; device = 0x40 }) in
-    let fis : SpellsCommand (part c.table_bytes-table.result 0 20) (command_of Read 0 r.first r.count) = subst F (omega arith) c.table_bytes-table.ensures.fis in
+    let F : Command → Type 0 = λ command. SpellsCommand (part c.table_bytes-table.result 0 20) command in
+    let fis : SpellsCommand (part c.table_bytes-table.result 0 20) (command_of (operation_of r.op) 0 r.first r.count) = subst F c.transfer-command.ensures c.table_bytes-table.ensures.fis in
     let E : List Prd → Type 0 = λ es. (i : ℕ) (d : Prd) → i < length es → SpellsPrd (part c.table_bytes-table.result (128 + 16 * i) 16) (slice_index_or es i d) in
     let each : E prds = subst E c.as_slice.ensures.value c.table_bytes-table.ensures.prds in
-    let H : ℕ → Type 0 = λ len. SpellsHeader c.header.result false len 4096 in
-    let heads : H (length prds) = subst H c.len-2.ensures.value c.header.ensures.says in
-    read_stored r is _ _ _ prds c.table_bytes-table.result c.header.result first second
+    let H : ℕ → Type 0 = λ len. SpellsHeader c.header.result c.writes.result len 4096 in
+    let W : Bool → Type 0 = λ writes. SpellsHeader c.header.result writes (length prds) 4096 in
+    let heads : W (reads_memory (operation_of r.op)) = subst W c.writes.ensures (subst H c.len-2.ensures.value c.header.ensures.says) in
+    transfer_stored r is _ _ _ prds c.table_bytes-table.result c.header.result first second
     c.table_bytes-table.ensures.size (omega (arith, number, frames, few)) places (c.prds-prds.ensures.whole (omega arith)) fis each heads
 
 pub returns-clause-goes_on : goal.returns-clause-goes_on
