@@ -24,13 +24,7 @@ pub fn issue_first<A: Adapter>(adapter: &mut A, book: &[Accepted]) -> bool
     let Some(next) = book.first() else {
         return false;
     };
-    issue(
-        adapter,
-        next.op,
-        next.first,
-        next.count,
-        next.loan.frames(),
-    );
+    issue(adapter, next.op, next.first, next.count, next.loan.frames());
     true
 }
 

@@ -117,5 +117,5 @@ module _ (replies : List Reply) (old new : Device) (on : IsOn old) (l : LooksFir
   pub looking_causes : (place : ℕ) → (l.clears.mid.port 0).is place ≡ true → bit l.causes place ≡ false → (new.port 0).is place ≡ true
   looking_causes place set unread =
       let here : l.acknowledged.port 0 ≡ port_written Is l.causes 0 (l.clears.mid.port 0) =
-          ap (λ (d : Device). d.port 0) l.clears.effect ∙ changed_same l.clears.mid.port 0 (port_written Is l.causes 0 (l.clears.mid.port 0)) in
+      ap (λ (d : Device). d.port 0) l.clears.effect ∙ changed_same l.clears.mid.port 0 (port_written Is l.causes 0 (l.clears.mid.port 0)) in
       later.is place (ap (λ (p : PortState). p.is place) here ∙ rw (set, unread) refl)

@@ -23,7 +23,7 @@ use Rattle.port_driver.specs.Port.{IsTableByte, IsKeptByte, IsHealthy, IsLone, I
 use Rattle.port_driver.specs.Told.{is_change, is_failure, is_plain_of, is_end, ended, IsUnharmed}
 use Rattle.port_driver.proofs.Coming.{SameFace, up_face}
 use Rattle.port_driver.proofs.Issuing.{none_guarded, none_after, all_free}
-use Rattle.port_driver.proofs.Moving.{moves_none, moves_then, moves_on, none_confined, transfer_confined, step_moves}
+use Rattle.port_driver.proofs.Moving.{moves_none, moves_then, moves_on, none_confined, transfer_confined, step_moves, spares_filled}
 use Rattle.port_driver.proofs.Linking.{steps_healthy}
 use Rattle.port_driver.proofs.PortLemmas.{free_after, lone_after, running_after}
 use Rattle.port_driver.proofs.Serving.{transfer_guarded, step_holds, slot_zero, tied_at, fetch_means}
@@ -277,7 +277,9 @@ steps_go None old new s steps = record {
   moved = steps_move None old new s steps;
 }
 steps_go (Some r) old new s steps = record {
-  spares = steps_spare IsTableByte (IsKeptByte r.frames) r.frames old new (λ at client other. inr (client, other)) (transfer_guarded r old s.0 s.1 s.2) steps;
+  spares = spares_filled r r.op refl
+      (steps_spare IsTableByte (IsKeptByte r.frames) r.frames old new (λ at client other. inr (client, other)) (transfer_guarded r old s.0 s.1 s.2) steps)
+      (steps_move (Some r) old new s steps);
   healthy = steps_healthy old new s.0.on.no_reset steps;
   ended = steps_end r old new s steps;
   moved = steps_move (Some r) old new s steps;

@@ -3,7 +3,9 @@ use Rattle.std.proofs.Common.{ℕ, ◌≡◌, ◌+◌, ◌-◌, ◌*◌, ◌<◌
 use Rattle.std.specs.List.{All}
 use Rattle.std.proofs.lemmas.Bool.{cases_eq}
 use Rattle.std.proofs.lemmas.List.{append-nil}
-use Rattle.std.proofs.lemmas.List.Elements.{All-append, All-push, All-weaker}
+use Rattle.std.proofs.lemmas.List.Elements.{All-append, All-head, All-push, All-tail, All-weaker}
+use Rattle.ata_types.specs.declared.request.Op.{Op}
+use Rattle.ata_types.specs.declared.request.Op.TheVariants.{Read, Write, Trim, Flush}
 use Rattle.adapter.specs.Commands.{Meaning, is_ranged, reads_memory, direction_of}
 use Rattle.adapter.specs.Device.{Bases, Taken, Device}
 use Rattle.adapter.specs.Memory.{patched}
@@ -18,7 +20,7 @@ use Rattle.adapter.specs.declared.tape.Entry.TheVariants as entry
 use Rattle.adapter.proofs.Absurd.{true-false, some-none}
 use Rattle.adapter.proofs.MemoryLemmas.{patched_apart}
 use Rattle.command_table.specs.Places.{place_of, places_of}
-use Rattle.port_driver.specs.Port.{IsTransfer, IsSlotFree, IsLone, IsRunning, Issued, meaning_of, HoldsTransfer, IsOwn, MovesOnly}
+use Rattle.port_driver.specs.Port.{IsTransfer, IsSlotFree, IsLone, IsRunning, Issued, meaning_of, HoldsTransfer, IsOwn, MovesOnly, SparesClients, filled_by}
 use Rattle.port_driver.specs.Told.{operation_of, after_moves, moved_in}
 use Rattle.port_driver.proofs.Told.{transfer_ranged}
 use Rattle.port_driver.proofs.Serving.{slot_zero, tied_at, place_at, places_length}
@@ -79,6 +81,32 @@ own_more issued (entry.Plug c name) own = tt
 
 pub moves_more_served : (issued : Option Issued) {old new : Device} → MovesOnly None old new → MovesOnly issued old new
 moves_more_served issued a = record { gained = a.gained; tape = a.tape; own = All-weaker (IsOwn None) (IsOwn issued) (own_more issued) a.gained a.own; memory = a.memory }
+
+-- a write's moves leave memory as it was
+written_stay : (r : Issued) → r.op ≡ Write → (gained : List Entry) → All (IsOwn (Some r)) gained → (memory : ℕ → ℕ) (at : ℕ) → after_moves gained memory at ≡ memory at
+written_stay r is [] own memory at = refl
+written_stay r is (entry.Move m ∷ gained) own memory at =
+    let from : m.direction ≡ FromMemory = (All-head (IsOwn (Some r)) (entry.Move m) gained own).direction ∙ ap (λ (op : Op). direction_of (operation_of op)) is in
+    written_stay r is gained (All-tail (IsOwn (Some r)) (entry.Move m) gained own) (moved_in m.direction m.address m.bytes memory) at
+    ∙ ap (λ (d : Direction). moved_in d m.address m.bytes memory at) from
+written_stay r is (entry.Clear c ∷ gained) own memory at = written_stay r is gained (All-tail (IsOwn (Some r)) (entry.Clear c) gained own) memory at
+written_stay r is (entry.Done c ∷ gained) own memory at = written_stay r is gained (All-tail (IsOwn (Some r)) (entry.Done c) gained own) memory at
+written_stay r is (entry.Fault c ∷ gained) own memory at = written_stay r is gained (All-tail (IsOwn (Some r)) (entry.Fault c) gained own) memory at
+written_stay r is (entry.Fatal c ∷ gained) own memory at = written_stay r is gained (All-tail (IsOwn (Some r)) (entry.Fatal c) gained own) memory at
+written_stay r is (entry.Unplug c ∷ gained) own memory at = written_stay r is gained (All-tail (IsOwn (Some r)) (entry.Unplug c) gained own) memory at
+written_stay r is (entry.Plug c name ∷ gained) own memory at = written_stay r is gained (All-tail (IsOwn (Some r)) (entry.Plug c name) gained own) memory at
+
+-- so no client frame changes by a write
+pub spares_filled : (r : Issued) (op : Op) → r.op ≡ op → {old new : Device} → SparesClients r.frames old new → MovesOnly (Some r) old new → SparesClients (filled_by op r.frames) old new
+spares_filled r Read is a moved = a
+spares_filled r Trim is a moved = a
+spares_filled r Flush is a moved = a
+spares_filled r Write is {old} {new} a moved = record {
+  size = a.size;
+  clients = λ at client other. moved.memory at client ∙ written_stay r is moved.gained moved.own old.memory at;
+  gained = a.gained;
+  tape = a.tape;
+}
 
 -- an effect that leaves the tape and client frames
 pub moves_on : (issued : Option Issued) {old mid : Device} (new : Device) → MovesOnly issued old mid → ((at : ℕ) → 163840 ≤ at → new.memory at ≡ mid.memory at) → new.tape ≡ mid.tape → MovesOnly issued old new

@@ -222,10 +222,15 @@ abbrev pub Serves : Option Issued → Device → Type 0
 Serves None d = IsLone d × IsRunning d × IsSlotFree (d.port 0) 0
 Serves (Some r) d = IsLone d × IsRunning d × HoldsTransfer r d
 
--- the frames of the transfer that is served
+-- of these frames, those that the device may fill: a write's stay as they are
+abbrev pub filled_by : Op → List Frame → List Frame
+filled_by Write frames = []
+filled_by _ frames = frames
+
+-- the frames that the transfer which is served may fill
 abbrev pub frames_of : Option Issued → List Frame
 frames_of None = []
-frames_of (Some r) = r.frames
+frames_of (Some r) = filled_by r.op r.frames
 
 -- slot 0's bit of CI, as a number
 abbrev pub issued_now : Device → ℕ
@@ -265,7 +270,7 @@ pub record MovesOnly (issued : Option Issued) (old new : Device) : Type 0 where
   pub own : All (IsOwn issued) gained
   pub memory : (at : ℕ) → 163840 ≤ at → new.memory at ≡ after_moves gained old.memory at
 
--- Meanwhile no client frame changed but those of the transfer that is served; a port without trouble has none still, unless it
+-- Meanwhile no client frame changed but those of a read that is served; a port without trouble has none still, unless it
 -- was told; and as many of its commands ended as bits of CI went away.
 pub record Proceeds (issued : Option Issued) (old new : Device) : Type 0 where
   pub spares : SparesClients (frames_of issued) old new

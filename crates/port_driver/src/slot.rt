@@ -57,13 +57,7 @@ fn transfer(op: Op, first: Sector, count: u32) -> Command
 }
 
 /// Writes the header and the command table of a transfer of `count` sectors from `first` on, eight to a frame.
-fn write_transfer<A: Adapter>(
-    adapter: &mut A,
-    op: Op,
-    first: Sector,
-    count: u32,
-    frames: &[Frame],
-)
+fn write_transfer<A: Adapter>(adapter: &mut A, op: Op, first: Sector, count: u32, frames: &[Frame])
     requires transfers { IsTransfer op }
     requires serves { Serves None (A.device adapter.old) }
     requires some { 1 ≤ count }
