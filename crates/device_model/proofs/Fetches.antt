@@ -1,5 +1,5 @@
 -- PRDs, one more at the end; and the bytes of a slot, one way and the other.
-use Rattle.std.proofs.Common.{ℕ, Bool, true, false, zero, suc, ◌^◌, replicate, length-take, ◌≡◌, ◌<◌, ◌≤◌, ◌+◌, ◌-◌, ◌*◌, ◌/◌, List, [], ◌∷◌, ◌++◌, length, take, drop, All, slice_index, slice_index_or, refl, sym, ◌∙◌, ap, arith, subst, append_assoc, length-append}
+use Rattle.std.proofs.Common.{ℕ, Bool, zero, suc, ◌^◌, replicate, length-take, ◌≡◌, ◌<◌, ◌≤◌, ◌+◌, ◌-◌, ◌*◌, ◌/◌, List, [], ◌∷◌, ◌++◌, length, take, drop, All, slice_index, slice_index_or, refl, sym, ◌∙◌, ap, arith, subst, append_assoc, length-append}
 use Rattle.std.specs.Prelude.{slice_set}
 use Rattle.std.proofs.Math.Seq.{take-suc-set}
 use Rattle.std.proofs.lemmas.List.{drop_all, get_or_append_left, get_or-append_right}
@@ -9,10 +9,13 @@ use Rattle.adapter.specs.Commands.{Meaning, command_of, is_ranged, reads_memory,
 use Rattle.adapter.specs.Spelling.{SpellsPrd, SpellsHeader, SpellsCommand}
 use Rattle.adapter.specs.Says.{HasPrds, IsWhole, Says, pieces, cut}
 use Rattle.adapter.specs.declared.command.Operation.{Operation}
-use Rattle.adapter.specs.declared.command.Operation.TheVariants.{Read}
 use Rattle.adapter.specs.declared.command.Prd.{Prd}
+use Rattle.adapter.proofs.Absurd.{true-false}
 use Rattle.adapter.proofs.SaysLemmas.{cut_length, cut_index}
 use Rattle.device_model.specs.Fetched.{ArePrds, IsPadded, no_prd}
+use Rattle.device_model.specs.View.{operation_of}
+use Rattle.device_model.specs.declared.port.Transfer.{Transfer}
+use Rattle.device_model.proofs.Transfers.{ranged, as_many}
 
 abbrev Here : (ℕ → ℕ) → ℕ → Prd → Type 0
 Here memory at e = SpellsPrd (bytes_at memory at 16) e
@@ -162,34 +165,36 @@ whole_more i xs e small all here =
     rw (next, take-suc-set xs i e small) (All-append IsWhole (take i xs) (e ∷ []) all (only_one e here))
 
 -- header, FIS and PRDs together
-pub says_read : (memory : ℕ → ℕ) (list slot table entries first count : ℕ) (xs : List Prd) →
-    SpellsHeader (bytes_at memory (list + 32 * slot) 32) false entries table → SpellsCommand (bytes_at memory table 20) (command_of Read slot first count) →
+pub says_command : (k : Transfer) (memory : ℕ → ℕ) (list slot table entries first count : ℕ) (xs : List Prd) →
+    SpellsHeader (bytes_at memory (list + 32 * slot) 32) (reads_memory (operation_of k)) entries table →
+    SpellsCommand (bytes_at memory table 20) (command_of (operation_of k) slot first count) →
     1 ≤ count → count ≤ 65536 → first < 2 ^ 48 → entries ≤ 128 → ArePrds memory (table + 128) entries xs → length (pieces xs) ≡ count →
-    Says memory list slot (record { operation = Read; first = first; count = count }) (pieces xs)
-says_read memory list slot table entries first count xs header fis some most below few are all = record {
+    Says memory list slot (record { operation = operation_of k; first = first; count = count }) (pieces xs)
+says_command k memory list slot table entries first count xs header fis some most below few are all = record {
   table = table;
   prds = are.standing;
-  header = subst (λ n. SpellsHeader (bytes_at memory (list + 32 * slot) 32) false n table) (sym are.number_is) header;
+  header = subst (λ n. SpellsHeader (bytes_at memory (list + 32 * slot) 32) (reads_memory (operation_of k)) n table) (sym are.number_is) header;
   fis = fis;
-  meaning = record { ranged = λ _. (some, most, below); not_ranged = λ no. absurd (let e : true ≡ false = no in cc) };
+  meaning = record { ranged = λ _. (some, most, below); not_ranged = λ no. true-false (ranged k) no };
   stand = are.stand;
   few = omega (arith, are.number_is);
   whole = are.whole;
   in_order = are.same;
-  as_many = all;
+  as_many = all ∙ sym (as_many k count);
 }
 
--- ---- what a READ DMA EXT says
+-- ---- what a command of this kind says
 
-module _ (memory : ℕ → ℕ) (list slot : ℕ) (m : Meaning) (places : List ℕ) (read : m.operation ≡ Read) (s : Says memory list slot m places) where
-  pub said_header : SpellsHeader (bytes_at memory (list + 32 * slot) 32) false (length s.prds) s.table
-  said_header = subst (λ (w : Bool). SpellsHeader (bytes_at memory (list + 32 * slot) 32) w (length s.prds) s.table) (ap reads_memory read) s.header
+module _ (k : Transfer) (memory : ℕ → ℕ) (list slot : ℕ) (m : Meaning) (places : List ℕ) (is : m.operation ≡ operation_of k)
+    (s : Says memory list slot m places) where
+  pub said_header : SpellsHeader (bytes_at memory (list + 32 * slot) 32) (reads_memory (operation_of k)) (length s.prds) s.table
+  said_header = subst (λ (w : Bool). SpellsHeader (bytes_at memory (list + 32 * slot) 32) w (length s.prds) s.table) (ap reads_memory is) s.header
 
-  pub said_command : SpellsCommand (bytes_at memory s.table 20) (command_of Read slot m.first m.count)
-  said_command = subst (λ (o : Operation). SpellsCommand (bytes_at memory s.table 20) (command_of o slot m.first m.count)) read s.fis
+  pub said_command : SpellsCommand (bytes_at memory s.table 20) (command_of (operation_of k) slot m.first m.count)
+  said_command = subst (λ (o : Operation). SpellsCommand (bytes_at memory s.table 20) (command_of o slot m.first m.count)) is s.fis
 
   pub said_range : (1 ≤ m.count) × (m.count ≤ 65536) × (m.first < 2 ^ 48)
-  said_range = s.meaning.ranged (ap is_ranged read)
+  said_range = s.meaning.ranged (ap is_ranged is ∙ ranged k)
 
   pub said_count : length (pieces s.prds) ≡ m.count
-  said_count = ap length (sym s.in_order) ∙ (s.as_many ∙ ap (λ (o : Operation). pieces_moved o m.count) read)
+  said_count = ap length (sym s.in_order) ∙ (s.as_many ∙ (ap (λ (o : Operation). pieces_moved o m.count) is ∙ as_many k m.count))

@@ -1,4 +1,5 @@
 pub mod Sectors
+pub mod Transfers
 pub mod BitLemmas
 pub mod Bytes
 pub mod Ports

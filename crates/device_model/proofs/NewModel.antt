@@ -4,7 +4,7 @@ use Rattle.std.specs.Prelude.{is_some}
 use Rattle.std.proofs.lemmas.Bool.Decides.{eqb_tells}
 use Rattle.std.proofs.lemmas.Nat.Bits.{bit_at-zero}
 use Rattle.hba_regs.specs.Bits.{bit}
-use Rattle.adapter.specs.Device.{IsDisk, IsTold}
+use Rattle.adapter.specs.Device.{Disk, IsDisk, IsTold}
 use Rattle.adapter.specs.Idle.{IsIdlePort}
 use Rattle.device_model.specs.Modelled.{IsReset}
 use Rattle.device_model.specs.Stores.{AreSectors}
@@ -57,10 +57,11 @@ ports_are P a b c d pa pb pc pd (suc (suc zero)) past = pc
 ports_are P a b c d pa pb pc pd (suc (suc (suc zero))) past = pd
 ports_are P a b c d pa pb pc pd (suc (suc (suc (suc k)))) past = past (omega arith)
 
-pub disks_are : (size : ℕ) (told other : Option (ℕ → List ℕ)) → AreSectors size told → (port : ℕ) → IsDisk ((outside_of size told other).media port).disk
-disks_are size told other are port =
+pub disks_are : (disk : Disk) (other : Option (ℕ → List ℕ)) (plugged : List Disk) → AreSectors disk.size disk.sectors → (port : ℕ) →
+    IsDisk ((outside_of disk other plugged).media port).disk
+disks_are disk other plugged are port =
     elim (eqb_tells port 0) [
-      | inl here ↦ rw here.0 (λ f e. subst (λ (t : Option (ℕ → List ℕ)). AreSectors size t) e are)
+      | inl here ↦ rw here.0 (λ f e. subst (λ (t : Option (ℕ → List ℕ)). AreSectors disk.size t) e are)
       | inr there ↦ rw there.0 (λ f e k lt. absurd (omega arith))
     ]
 
@@ -72,10 +73,10 @@ pub both_tell : (told other : Option (ℕ → List ℕ)) → is_some told ≡ tr
 both_tell None other here there = here
 both_tell (Some f) other here there = there
 
-pub disks_told : (size : ℕ) (told other : Option (ℕ → List ℕ)) → is_some told && is_some other ≡ true → (port : ℕ) →
-    IsTold ((outside_of size told other).media port).disk
-disks_told size told other telling port =
+pub disks_told : (disk : Disk) (other : Option (ℕ → List ℕ)) (plugged : List Disk) → is_some disk.sectors && is_some other ≡ true → (port : ℕ) →
+    IsTold ((outside_of disk other plugged).media port).disk
+disks_told disk other plugged telling port =
     elim (eqb_tells port 0) [
-      | inl here ↦ rw here.0 (is_told told other telling)
+      | inl here ↦ rw here.0 (is_told disk.sectors other telling)
       | inr there ↦ rw there.0 ((λ k. []), refl)
     ]

@@ -1,9 +1,9 @@
 -- One port of the hardware is changed.
-use Rattle.std.proofs.Common.{ℕ, true, ◌≡◌, ◌<◌, List, [], ◌∷◌, ◌++◌, length, refl, sym, ◌∙◌, ap, subst, inl, inr, ◌+◌, ◌≤◌, take, drop, get_or-set_same, get_or-set_other}
+use Rattle.std.proofs.Common.{ℕ, true, ◌≡◌, ◌≢◌, ◌<◌, List, [], ◌∷◌, ◌++◌, length, refl, sym, ◌∙◌, ap, subst, inl, inr, get_or-set_same, get_or-set_other}
 use Rattle.std.specs.Prelude.{slice_set, slice_index_or}
 use Rattle.std.specs.Global.{Vec}
 use Rattle.std.proofs.lemmas.Bool.Decides.{eqb_tells}
-use Rattle.adapter.specs.Memory.{changed, patched}
+use Rattle.adapter.specs.Memory.{changed}
 use Rattle.adapter.specs.Device.{PortState, Device}
 use Rattle.adapter.specs.Steps.{MayLinkUp, with_port, recorded, Steps}
 use Rattle.adapter.specs.Steps.Step.{LinkUp}
@@ -14,33 +14,45 @@ use Rattle.adapter.proofs.Runs.{Steps-refl, Steps-one}
 use Rattle.adapter.proofs.Changed.{fun_ext, changed_same, changed_other, changed_each}
 use Rattle.hba_regs.specs.declared.reg.Reg.{Reg}
 use Rattle.hba_regs.specs.declared.reg.Reg.TheVariants.{Cap, Ghc, Is, Pi, Vs, Cap2, Bohc, Px}
-use Rattle.device_model.specs.View.{port_of, blank, Settles}
+use Rattle.device_model.specs.Fetched.{bytes_of}
+use Rattle.device_model.specs.View.{Media, port_of, blank, Settles}
 use Rattle.device_model.specs.Whole.{Outside, device_of, HasPort}
 use Rattle.device_model.specs.declared.port.PortModel.{PortModel}
 use Rattle.device_model.specs.declared.hardware.Hardware.{Hardware}
-use Rattle.device_model.proofs.Bytes.{memory_put}
 
 abbrev ports_of : List PortModel → Outside → ℕ → PortState
 ports_of ports o = λ port. port_of (slice_index_or ports port blank) (o.media port)
 
-ports_set : (ports : List PortModel) (o : Outside) (p : ℕ) (new : PortModel) → p < length ports → (k : ℕ) →
-    ports_of (slice_set ports p new) o k ≡ changed (ports_of ports o) p (port_of new (o.media p)) k
-ports_set ports o p new small k =
+ports_set : (ports : List PortModel) (o after : Outside) (p : ℕ) (new : PortModel) → p < length ports →
+    ((k : ℕ) → k ≢ p → after.media k ≡ o.media k) → (k : ℕ) →
+    ports_of (slice_set ports p new) after k ≡ changed (ports_of ports o) p (port_of new (after.media p)) k
+ports_set ports o after p new small others k =
     elim (eqb_tells k p) [
       | inl same ↦
           rw same.1
-          (ap (λ (m : PortModel). port_of m (o.media p)) (get_or-set_same ports p new blank small)
-          ∙ sym (changed_same (ports_of ports o) p (port_of new (o.media p))))
+          (ap (λ (m : PortModel). port_of m (after.media p)) (get_or-set_same ports p new blank small)
+          ∙ sym (changed_same (ports_of ports o) p (port_of new (after.media p))))
       | inr differ ↦
-          ap (λ (m : PortModel). port_of m (o.media k)) (get_or-set_other ports p k new blank differ.1)
-          ∙ sym (changed_other (ports_of ports o) p (port_of new (o.media p)) k differ.1)
+          ap (λ (m : PortModel). port_of m (after.media k)) (get_or-set_other ports p k new blank differ.1)
+          ∙ (ap (λ (m : Media). port_of (slice_index_or ports k blank) m) (others k differ.1)
+          ∙ sym (changed_other (ports_of ports o) p (port_of new (after.media p)) k differ.1))
     ]
+
+-- and so is what is behind it
+set_both : (h : Hardware) (o : Outside) (p : ℕ) (new : PortModel) (media : Media) (state : PortState) → p < length h.ports →
+    port_of new media ≡ state →
+    device_of (record h { ports = slice_set h.ports p new }) (record o { media = changed o.media p media }) ≡ with_port (device_of h o) p state
+set_both h o p new media state small is =
+    let after : Outside = record o { media = changed o.media p media } in
+    ap (λ (f : ℕ → PortState). record (device_of h o) { port = f })
+    (fun_ext (ports_set h.ports o after p new small (λ k other. changed_other o.media p media k other)))
+    ∙ ap (λ (s : PortState). with_port (device_of h o) p s) (ap (port_of new) (changed_same o.media p media) ∙ is)
 
 pub set_port : (h : Hardware) (o : Outside) (p : ℕ) (new : PortModel) (state : PortState) → p < length h.ports →
     port_of new (o.media p) ≡ state →
     device_of (record h { ports = slice_set h.ports p new }) o ≡ with_port (device_of h o) p state
 set_port h o p new state small is =
-    ap (λ (f : ℕ → PortState). record (device_of h o) { port = f }) (fun_ext (ports_set h.ports o p new small))
+    ap (λ (f : ℕ → PortState). record (device_of h o) { port = f }) (fun_ext (ports_set h.ports o o p new small (λ k _. refl)))
     ∙ ap (λ (s : PortState). with_port (device_of h o) p s) is
 
 pub has_port_read : (r : Reg) (d : Device) → MayRead r d → HasPort r
@@ -85,18 +97,16 @@ set_port_recorded h o p new state tape entry small is more =
     set_port (record h { tape = tape }) o p new state small is
     ∙ ap (λ (entries : List Entry). record (with_port (device_of h o) p state) { tape = entries }) more
 
--- one port is changed, the tape has one more entry, and bytes came into memory
-pub set_port_brought : (h : Hardware) (o : Outside) (p : ℕ) (new : PortModel) (state : PortState) (tape : Vec Entry) (entry : Entry)
-    (memory : Vec ℕ) (at : ℕ) (bytes : List ℕ) →
-    p < length h.ports → port_of new (o.media p) ≡ state → tape.items ≡ h.tape.items ++ entry ∷ [] →
-    at + length bytes ≤ length h.memory.items →
-    memory.items ≡ take at h.memory.items ++ (bytes ++ drop (at + length bytes) h.memory.items) →
-    device_of (record h { memory = memory; ports = slice_set h.ports p new; tape = tape }) o
-    ≡ record (recorded (device_of h o) p state entry) { memory = patched (device_of h o).memory at bytes }
-set_port_brought h o p new state tape entry memory at bytes small is more inside put =
-    set_port_recorded (record h { memory = memory }) o p new state tape entry small is more
-    ∙ ap (λ (d : Device). record (recorded (device_of h o) p state entry) { size = d.size; memory = d.memory })
-    (memory_put (device_of h o) h.memory.items bytes memory.items at inside put)
+-- one port is changed with what is behind it, the tape has one more entry, and the memory other bytes
+pub set_port_moved : (h : Hardware) (o : Outside) (p : ℕ) (new : PortModel) (media : Media) (state : PortState) (tape : Vec Entry) (entry : Entry)
+    (memory : Vec ℕ) (bytes : ℕ → ℕ) →
+    p < length h.ports → port_of new media ≡ state → tape.items ≡ h.tape.items ++ entry ∷ [] →
+    length memory.items ≡ length h.memory.items → bytes_of memory.items ≡ bytes →
+    device_of (record h { memory = memory; ports = slice_set h.ports p new; tape = tape }) (record o { media = changed o.media p media })
+    ≡ record (recorded (device_of h o) p state entry) { memory = bytes }
+set_port_moved h o p new media state tape entry memory bytes small is more size same =
+    set_both (record h { memory = memory; tape = tape }) o p new media state small is
+    ∙ (λ i. record (with_port (device_of h o) p state) { size = size i; memory = same i; tape = more i })
 
 -- a reading brings no link up, and leaves none that may come up
 pub noted_link : (r : Reg) (v : ℕ) (d : Device) (port : ℕ) → MayLinkUp ((noted r v d).port port) 0x101 → MayLinkUp (d.port port) 0x101

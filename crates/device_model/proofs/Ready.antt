@@ -1,4 +1,4 @@
--- Where a read may be done to its end: which moves are left of it, and that each has its place.
+-- Where a read or write may be done to its end: which moves are left of it, and that each has its place.
 use Rattle.std.proofs.Common.{ℕ, zero, suc, ◌≡◌, ◌<◌, ◌≤◌, ◌+◌, ◌-◌, ◌*◌, ◌/◌, ◌⊎◌, List, [], ◌∷◌, length, slice_index, slice_index_or, Option, None, Some, All, refl, sym, ◌∙◌, ap, subst, inl, inr, arith, length-append}
 use Rattle.std.proofs.lemmas.Bool.{cases_lt}
 use Rattle.std.proofs.lemmas.List.{get_or_append_left, get_or-append_right}
@@ -9,20 +9,21 @@ use Rattle.adapter.specs.Device.{Taken}
 use Rattle.adapter.specs.Says.{Says, pieces, cut}
 use Rattle.adapter.specs.Steps.{Can, WorksOn, begun}
 use Rattle.adapter.specs.Steps.Step.{Fetch}
-use Rattle.adapter.specs.declared.command.Operation.TheVariants.{Read}
+use Rattle.adapter.specs.declared.command.Operation.{Operation}
 use Rattle.adapter.specs.declared.command.Prd.{Prd}
 use Rattle.adapter.proofs.Absurd.{some-none, some_one}
 use Rattle.adapter.proofs.SaysLemmas.{says_meaning, says_places, cut_length, cut_index}
 use Rattle.device_model.specs.Finishing.{IsInside, AreInside, IsCovered, IsReady}
 use Rattle.device_model.specs.Fetched.{bytes_of}
 use Rattle.device_model.specs.Slots.{MayTake, HoldsAt}
-use Rattle.device_model.specs.View.{Media, port_of, taken_of, blank}
+use Rattle.device_model.specs.View.{Media, Takes, operation_of, port_of, taken_of, blank}
 use Rattle.device_model.specs.Whole.{Outside, device_of}
 use Rattle.device_model.specs.declared.port.PortModel.{PortModel}
-use Rattle.device_model.specs.declared.port.TakenRead.{TakenRead}
+use Rattle.device_model.specs.declared.port.TakenCommand.{TakenCommand}
 use Rattle.device_model.specs.declared.hardware.Hardware.{Hardware}
 use Rattle.device_model.proofs.Finishing.{holds}
 use Rattle.device_model.proofs.Stepping.{fetch_takes, fetch_says}
+use Rattle.device_model.proofs.Transfers.{is_taken}
 
 -- ---- pieces inside a memory
 
@@ -83,7 +84,7 @@ inside_all size (x ∷ xs) all (suc k) d small = inside_all size xs (inside_rest
 
 -- ---- what is left
 
-pub left_covered : (r : TakenRead) (size sectors n end : ℕ) (o : Option ℕ) → n ≡ length (pieces r.prds) → end ≡ r.first + n → end ≤ sectors →
+pub left_covered : (r : TakenCommand) (size sectors n end : ℕ) (o : Option ℕ) → n ≡ length (pieces r.prds) → end ≡ r.first + n → end ≤ sectors →
     AreInside size (pieces r.prds) → SomeIff o (r.moved ≤ n) (n - r.moved) → IfSome o (λ left. IsCovered (taken_of r) size sectors left)
 left_covered r size sectors n end None many is on_disk all none = tt
 left_covered r size sectors n end (Some left) many is on_disk all fits = record {
@@ -96,37 +97,44 @@ pub left_is : (moved n left : ℕ) (o : Option ℕ) → moved + left ≡ n → S
 left_is moved n left None is none = absurd (none (omega (arith, is)))
 left_is moved n left (Some x) is some = let same : x ≡ left = omega (arith, is, some.0, some.1) in ap Some same
 
--- ---- what is ready: a read that may be taken, or one that is
+-- ---- what is ready: a command that may be taken, or one that is
+
+-- reads and writes may be taken in this slot; none of them may
+abbrev pub MayTakeAny : PortModel → ℕ → Type 0
+MayTakeAny p slot = (m : Media) (operation : Operation) → Takes operation → MayTake (port_of p m) slot operation
+
+abbrev pub MayTakeNone : PortModel → ℕ → Type 0
+MayTakeNone p slot = (m : Media) (operation : Operation) → Takes operation → MayTake (port_of p m) slot operation → ⊥
 
 module _ (h : Hardware) (o : Outside) (p port slot sectors left : ℕ) (e : p ≡ port) (ready : IsReady (device_of h o) port slot sectors left) where
   abbrev state : PortModel
   state = slice_index_or h.ports p blank
 
-  pub ready_fetch : ((m : Media) → MayTake (port_of state m) slot) →
+  pub ready_fetch : MayTakeAny state slot →
       Can (Fetch port slot ready.t.meaning ready.t.places) (device_of h o) × (ready.t ≡ begun ready.t.meaning ready.t.places)
   ready_fetch may = by ready.begins
     where
-      by : WorksOn ((device_of h o).port port) slot ready.t Read
+      by : WorksOn ((device_of h o).port port) slot ready.t ready.t.meaning.operation
           ⊎ (Can (Fetch port slot ready.t.meaning ready.t.places) (device_of h o) × (ready.t ≡ begun ready.t.meaning ready.t.places)) →
           Can (Fetch port slot ready.t.meaning ready.t.places) (device_of h o) × (ready.t ≡ begun ready.t.meaning ready.t.places)
-      by (inl works) = some-none (ap (λ (q : ℕ). ((device_of h o).port q).taken slot) e ∙ works.taken) (may (o.media p)).fetchable.free
+      by (inl works) = some-none (ap (λ (q : ℕ). ((device_of h o).port q).taken slot) e ∙ works.taken) (may (o.media p) ready.t.meaning.operation ready.takes).fetchable.free
       by (inr begins) = begins
 
-  pub ready_said : ((m : Media) → MayTake (port_of state m) slot) → Says (bytes_of h.memory.items) state.addresses.clb slot ready.t.meaning ready.t.places
+  pub ready_said : MayTakeAny state slot → Says (bytes_of h.memory.items) state.addresses.clb slot ready.t.meaning ready.t.places
   ready_said may = fetch_says h o p port slot ready.t.meaning ready.t.places e (ready_fetch may).0
 
-  pub ready_held : ((m : Media) → MayTake (port_of state m) slot → ⊥) → (r : TakenRead) × HoldsAt state slot r × (ready.t ≡ taken_of r)
+  pub ready_held : MayTakeNone state slot → (r : TakenCommand) × HoldsAt state slot r × (ready.t ≡ taken_of r)
   ready_held never = by ready.begins
     where
-      by : WorksOn ((device_of h o).port port) slot ready.t Read
+      by : WorksOn ((device_of h o).port port) slot ready.t ready.t.meaning.operation
           ⊎ (Can (Fetch port slot ready.t.meaning ready.t.places) (device_of h o) × (ready.t ≡ begun ready.t.meaning ready.t.places)) →
-          (r : TakenRead) × HoldsAt state slot r × (ready.t ≡ taken_of r)
+          (r : TakenCommand) × HoldsAt state slot r × (ready.t ≡ taken_of r)
       by (inl works) =
-          let P : ℕ → Type 0 = λ q. (r : TakenRead) × HoldsAt (slice_index_or h.ports q blank) slot r × (ready.t ≡ taken_of r) in
-          subst P (sym e) (holds h o port slot ready.t Read works)
-      by (inr begins) = absurd (never (o.media p) (fetch_takes h o p port slot ready.t.meaning ready.t.places e ready.read begins.0))
+          let P : ℕ → Type 0 = λ q. (r : TakenCommand) × HoldsAt (slice_index_or h.ports q blank) slot r × (ready.t ≡ taken_of r) in
+          subst P (sym e) (holds h o port slot ready.t ready.t.meaning.operation works)
+      by (inr begins) = absurd (never (o.media p) ready.t.meaning.operation ready.takes (fetch_takes h o p port slot ready.t.meaning ready.t.places e begins.0))
 
-module _ (h : Hardware) (p port slot sectors size : ℕ) (r : TakenRead) (e : p ≡ port) (sized : size ≡ vec_len h.memory) where
+module _ (h : Hardware) (p port slot sectors size : ℕ) (r : TakenCommand) (e : p ≡ port) (sized : size ≡ vec_len h.memory) where
   memory_size : size ≡ length h.memory.items
   memory_size = let ok = h.memory.ok.0 in omega (arith, sized, ok)
 
@@ -135,20 +143,20 @@ module _ (h : Hardware) (p port slot sectors size : ℕ) (r : TakenRead) (e : p 
       let P : ℕ → Type 0 = λ n. IsCovered (taken_of r) n sectors left in
       subst P memory_size covered
 
-  -- a read that may be taken is ready
+  -- a command that may be taken is ready
   pub ready_to_take : (result : Option ℕ) → IfSome result (λ left. IsCovered (taken_of r) size sectors left) → r.moved ≡ 0 →
-      ((m : Media) → MayTake (port_of (slice_index_or h.ports p blank) m) slot) →
+      MayTakeAny (slice_index_or h.ports p blank) slot →
       Says (bytes_of h.memory.items) (slice_index_or h.ports p blank).addresses.clb slot (taken_of r).meaning (taken_of r).places →
       IfSome result (λ left. (o : Outside) → IsReady (device_of h o) port slot sectors left)
   ready_to_take None covered unmoved may says = tt
   ready_to_take (Some left) covered unmoved may says =
       λ (o : Outside).
       let P : ℕ → Type 0 = λ q. IsReady (device_of h o) q slot sectors left in
-      let m = may (o.media p) in
+      let m = may (o.media p) (operation_of r.transfer) (is_taken r.transfer) in
       subst P e
       (record {
         t = taken_of r;
-        read = refl;
+        takes = is_taken r.transfer;
         covered = covers left covered;
         begins = inr (
           record { fetchable = m.fetchable; working = m.working; alone = m.alone; says = says },
@@ -163,17 +171,17 @@ module _ (h : Hardware) (p port slot sectors size : ℕ) (r : TakenRead) (e : p 
   ready_to_go (Some left) covered holds =
       λ (o : Outside).
       let P : ℕ → Type 0 = λ q. IsReady (device_of h o) q slot sectors left in
-      subst P e (record { t = taken_of r; read = refl; covered = covers left covered; begins = inl (holds.works (o.media p)) })
+      subst P e (record { t = taken_of r; takes = is_taken r.transfer; covered = covers left covered; begins = inl (holds.works (o.media p)) })
 
-  -- a read that is ready, as far as these are its moves
+  -- a command that is ready, as far as these are its moves
   covers_back : (left : ℕ) (o : Outside) (ready : IsReady (device_of h o) port slot sectors left) → ready.t ≡ taken_of r → IsCovered (taken_of r) size sectors left
   covers_back left o ready same =
       let P : ℕ → Type 0 = λ n. IsCovered (taken_of r) n sectors left in
       let Q : Taken → Type 0 = λ t. IsCovered t (length h.memory.items) sectors left in
       subst P (sym memory_size) (subst Q same ready.covered)
 
-  -- where a read may be taken, one that is ready is the one that its slot's bytes say
-  pub ready_is_said : ((m : Media) → MayTake (port_of (slice_index_or h.ports p blank) m) slot) → r.moved ≡ 0 →
+  -- where a command may be taken, one that is ready is the one that its slot's bytes say
+  pub ready_is_said : MayTakeAny (slice_index_or h.ports p blank) slot → r.moved ≡ 0 →
       Says (bytes_of h.memory.items) (slice_index_or h.ports p blank).addresses.clb slot (taken_of r).meaning (taken_of r).places →
       (o : Outside) (left : ℕ) → IsReady (device_of h o) port slot sectors left → IsCovered (taken_of r) size sectors left
   ready_is_said may unmoved says o left ready =
@@ -188,7 +196,7 @@ module _ (h : Hardware) (p port slot sectors size : ℕ) (r : TakenRead) (e : p 
       ∙ ((λ i. begun (meaning i) (places i)) ∙ ap (λ n. record (begun (taken_of r).meaning (taken_of r).places) { moved = n }) (sym unmoved)))
 
   -- where it is taken, the one that its slot holds
-  pub ready_is_held : HoldsAt (slice_index_or h.ports p blank) slot r → ((m : Media) → MayTake (port_of (slice_index_or h.ports p blank) m) slot → ⊥) →
+  pub ready_is_held : HoldsAt (slice_index_or h.ports p blank) slot r → MayTakeNone (slice_index_or h.ports p blank) slot →
       (o : Outside) (left : ℕ) → IsReady (device_of h o) port slot sectors left → IsCovered (taken_of r) size sectors left
   ready_is_held here never o left ready =
       let w = ready_held h o p port slot sectors left e ready never in

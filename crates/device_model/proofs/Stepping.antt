@@ -1,31 +1,49 @@
 -- Steps of the hardware, of a port by its index in the array.
-use Rattle.std.proofs.Common.{ℕ, Bool, true, false, ◌≡◌, ◌<◌, ◌≤◌, ◌+◌, List, [], ◌∷◌, ◌++◌, length, refl, sym, ◌∙◌, ap, subst, inl, arith, take, drop}
-use Rattle.std.specs.Prelude.{slice_set, slice_index_or, Option, IfSome}
+use Rattle.std.proofs.Common.{ℕ, Bool, true, false, ◌≡◌, ◌<◌, ◌≤◌, ◌+◌, List, [], ◌∷◌, ◌++◌, length, refl, sym, ◌∙◌, ap, subst, inl}
+use Rattle.std.specs.Prelude.{slice_set, slice_index_or, IfSome, if◌then◌else◌}
 use Rattle.std.specs.Global.{Vec}
-use Rattle.adapter.specs.Commands.{Meaning}
+use Rattle.adapter.specs.Commands.{Meaning, direction_of, reads_memory}
 use Rattle.adapter.specs.Device.{PortState, Device, IsSector}
 use Rattle.adapter.specs.Idle.{IsIdlePort, IsIdle}
+use Rattle.adapter.specs.Memory.{patched, bytes_at}
 use Rattle.adapter.specs.Says.{Says, pieces}
-use Rattle.adapter.specs.Steps.{after, MayFetch, MayMove, IsWorking, IsAlone, with_fetch, with_move, with_done, done_entry, move_of, next_place}
+use Rattle.adapter.specs.Steps.{after, MayFetch, MayMove, Brings, with_fetch, with_move, with_done, done_entry, move_of, memory_after, next_place, next_sector}
 use Rattle.adapter.specs.Steps.Step.{Move, Unplug}
-use Rattle.adapter.specs.declared.command.Operation.TheVariants.{Read, Trim}
+use Rattle.adapter.specs.declared.command.Direction.{Direction}
 use Rattle.adapter.specs.declared.command.Operation.{Operation}
 use Rattle.adapter.specs.declared.tape.Entry.{Entry}
 use Rattle.adapter.specs.declared.tape.Entry.TheVariants as entry
+use Rattle.adapter.specs.declared.tape.Move as tape_move
 use Rattle.adapter.specs.Asked.{DoesFetch, DoesDone}
 use Rattle.adapter.proofs.Changed.{changed_each}
 use Rattle.device_model.specs.Fetched.{bytes_of}
 use Rattle.device_model.specs.Slots.{MayTake, HoldsAt, IsNext}
-use Rattle.device_model.specs.View.{port_of, taken_of, blank}
-use Rattle.device_model.specs.Whole.{Outside, device_of, outside_of}
-use Rattle.device_model.specs.declared.port.TakenRead.{TakenRead}
+use Rattle.device_model.specs.View.{media_after, operation_of, port_of, taken_of, blank}
+use Rattle.device_model.specs.Whole.{Outside, device_of, outside_after}
+use Rattle.device_model.specs.declared.port.TakenCommand.{TakenCommand}
+use Rattle.device_model.specs.declared.port.Transfer.{Transfer}
+use Rattle.device_model.specs.declared.port.Transfer.TheVariants as transfer
 use Rattle.device_model.specs.declared.port.PortModel.{PortModel}
 use Rattle.device_model.specs.declared.hardware.Hardware.{Hardware}
-use Rattle.device_model.proofs.Ports.{set_port, set_port_recorded, set_port_brought}
+use Rattle.device_model.specs.declared.steps.NextMove.{NextMove}
+use Rattle.device_model.proofs.Ports.{set_port, set_port_recorded, set_port_moved}
+use Rattle.device_model.proofs.Transfers.{no_trim, sector_of}
 
--- a READ DMA EXT is taken
-pub port_takes : (h : Hardware) (o : Outside) (p port slot : ℕ) (new : PortModel) (t : TakenRead) → p ≡ port → p < length h.ports →
-    MayTake (port_of (slice_index_or h.ports p blank) (o.media p)) slot →
+-- an entry of a move, by its parts
+abbrev pub moved_by : (port slot : ℕ) (operation : Operation) (sector address : ℕ) (direction : Direction) (bytes : List ℕ) → tape_move.Move
+moved_by port slot operation sector address direction bytes = record {
+  port = record { 0 = port };
+  slot = record { 0 = slot };
+  operation = operation;
+  sector = sector;
+  address = address;
+  direction = direction;
+  bytes = bytes;
+}
+
+-- a command is taken
+pub port_takes : (h : Hardware) (o : Outside) (p port slot : ℕ) (new : PortModel) (t : TakenCommand) → p ≡ port → p < length h.ports →
+    MayTake (port_of (slice_index_or h.ports p blank) (o.media p)) slot (operation_of t.transfer) →
     Says (device_of h o).memory ((device_of h o).port p).bases.clb slot (taken_of t).meaning (taken_of t).places →
     port_of new (o.media p) ≡ with_fetch (port_of (slice_index_or h.ports p blank) (o.media p)) slot (taken_of t).meaning (taken_of t).places →
     DoesFetch port slot (device_of h o) (device_of (record h { ports = slice_set h.ports p new }) o)
@@ -38,17 +56,11 @@ port_takes h o p port slot new t e small may says is =
       effect = set_port h o p new _ small is;
     })
 
--- where a READ DMA EXT may be fetched, it may be taken
-pub fetch_takes : (h : Hardware) (o : Outside) (p port slot : ℕ) (m : Meaning) (places : List ℕ) → p ≡ port → m.operation ≡ Read →
-    MayFetch (device_of h o) port slot m places → MayTake (port_of (slice_index_or h.ports p blank) (o.media p)) slot
-fetch_takes h o p port slot m places e read may =
-    let state : PortState = (device_of h o).port port in
-    rw e
-    (record {
-      fetchable = may.fetchable;
-      working = subst (λ (x : Operation). IsWorking state x) read may.working;
-      alone = subst (λ (x : Operation). IsAlone state x) read may.alone;
-    })
+-- where a command may be fetched, it may be taken
+pub fetch_takes : (h : Hardware) (o : Outside) (p port slot : ℕ) (m : Meaning) (places : List ℕ) → p ≡ port →
+    MayFetch (device_of h o) port slot m places → MayTake (port_of (slice_index_or h.ports p blank) (o.media p)) slot m.operation
+fetch_takes h o p port slot m places e may =
+    rw e (record { fetchable = may.fetchable; working = may.working; alone = may.alone })
 
 -- and its bytes say it
 pub fetch_says : (h : Hardware) (o : Outside) (p port slot : ℕ) (m : Meaning) (places : List ℕ) → p ≡ port →
@@ -79,10 +91,10 @@ stays_idle true old new is same idle = unplugged_idle old new (is refl) idle
 stays_idle false old new is same idle = let P : Device → Type 0 = λ d. IsIdle d in subst P (sym (same refl)) idle
 
 -- a command is at its end
-pub port_ends : (h : Hardware) (o : Outside) (p port slot : ℕ) (new : PortModel) (t : TakenRead) (tape : Vec Entry) → p ≡ port → p < length h.ports →
+pub port_ends : (h : Hardware) (o : Outside) (p port slot : ℕ) (new : PortModel) (t : TakenCommand) (tape : Vec Entry) → p ≡ port → p < length h.ports →
     HoldsAt (slice_index_or h.ports p blank) slot t → t.moved ≡ length (pieces t.prds) →
-    port_of new (o.media p) ≡ with_done (port_of (slice_index_or h.ports p blank) (o.media p)) slot 0 Read →
-    tape.items ≡ h.tape.items ++ done_entry port slot Read ∷ [] →
+    port_of new (o.media p) ≡ with_done (port_of (slice_index_or h.ports p blank) (o.media p)) slot 0 (operation_of t.transfer) →
+    tape.items ≡ h.tape.items ++ done_entry port slot (operation_of t.transfer) ∷ [] →
     DoesDone port slot (device_of h o) (device_of (record h { ports = slice_set h.ports p new; tape = tape }) o)
 port_ends h o p port slot new t tape e small holds all is more =
     subst (λ q. DoesDone q slot (device_of h o) (device_of (record h { ports = slice_set h.ports p new; tape = tape }) o)) e
@@ -91,48 +103,64 @@ port_ends h o p port slot new t tape e small holds all is more =
       t = taken_of t;
       can = record {
         works = holds.works (o.media p);
-        finished = record { moved = all; cleared = λ trim. absurd (let f : Read ≡ Trim = trim in cc) };
+        finished = record { moved = all; cleared = λ trim. absurd (no_trim t.transfer trim) };
         shown = inl refl;
       };
-      effect = set_port_recorded h o p new _ tape (done_entry p slot Read) small is (rw e more);
+      effect = set_port_recorded h o p new _ tape (done_entry p slot (operation_of t.transfer)) small is (rw e more);
     })
 
--- a sector is brought to a command's next place
-pub port_brings : (h : Hardware) (o : Outside) (p port slot sector address : ℕ) (new : PortModel) (t : TakenRead) (tape : Vec Entry) (memory : Vec ℕ)
-    (bytes : List ℕ) → p ≡ port → p < length h.ports → length bytes ≡ 512 → IsNext h port slot sector address t →
-    port_of new (o.media p) ≡ with_move (port_of (slice_index_or h.ports p blank) (o.media p)) slot (taken_of t) bytes →
-    tape.items ≡ h.tape.items ++ entry.Move (record (move_of port slot (taken_of t) bytes) { sector = sector; address = address }) ∷ [] →
-    memory.items ≡ take address h.memory.items ++ (bytes ++ drop (address + length bytes) h.memory.items) →
-    device_of (record h { memory = memory; ports = slice_set h.ports p new; tape = tape }) o
+-- the next piece of a command is moved
+pub port_moves : (h : Hardware) (o : Outside) (p port slot : ℕ) (next : NextMove) (new : PortModel) (t : TakenCommand) (tape : Vec Entry) (memory : Vec ℕ)
+    (bytes : List ℕ) (operation : Operation) (direction : Direction) → p ≡ port → p < length h.ports → IsNext h port slot next t →
+    port_of new (media_after (o.media p) (taken_of t) bytes) ≡ with_move (port_of (slice_index_or h.ports p blank) (o.media p)) slot (taken_of t) bytes →
+    operation ≡ operation_of next.transfer → direction ≡ direction_of (operation_of next.transfer) →
+    tape.items ≡ h.tape.items ++ entry.Move (moved_by port slot operation next.sector next.address direction bytes) ∷ [] →
+    length memory.items ≡ length h.memory.items →
+    bytes_of memory.items
+    ≡ (if reads_memory (operation_of next.transfer) then bytes_of h.memory.items else patched (bytes_of h.memory.items) next.address bytes) →
+    device_of (record h { memory = memory; ports = slice_set h.ports p new; tape = tape }) (outside_after o port (taken_of t) bytes)
     ≡ after (Move port slot (taken_of t) bytes) (device_of h o)
-port_brings h o p port slot sector address new t tape memory bytes e small size next is more put =
-    let place : address ≡ next_place (taken_of t) = next.address_is in
+port_moves h o p port slot next new t tape memory bytes operation direction e small is moves named way more size put =
+    let kind : next.transfer ≡ t.transfer = is.transfer_is in
+    let sector : next.sector ≡ next_sector (taken_of t) = is.sector_is ∙ sym (sector_of t) in
+    let place : next.address ≡ next_place (taken_of t) = is.address_is in
+    let asks : operation ≡ operation_of t.transfer = named ∙ ap operation_of kind in
+    let goes : direction ≡ direction_of (operation_of t.transfer) = way ∙ ap (λ (k : Transfer). direction_of (operation_of k)) kind in
+    let back : port ≡ p = sym e in
     let entries : tape.items ≡ h.tape.items ++ entry.Move (move_of p slot (taken_of t) bytes) ∷ [] =
-    more
-    ∙ (ap (λ s. h.tape.items ++ entry.Move (record (move_of port slot (taken_of t) bytes) { sector = s; address = address }) ∷ []) next.sector_is
-    ∙ (ap (λ a. h.tape.items ++ entry.Move (record (move_of port slot (taken_of t) bytes) { address = a }) ∷ []) place
-    ∙ ap (λ q. h.tape.items ++ entry.Move (move_of q slot (taken_of t) bytes) ∷ []) (sym e))) in
-    let inside : next_place (taken_of t) + length bytes ≤ length h.memory.items = let i = next.inside in omega (arith, size, place, i) in
-    set_port_brought h o p new (with_move ((device_of h o).port p) slot (taken_of t) bytes) tape (entry.Move (move_of p slot (taken_of t) bytes)) memory
-    (next_place (taken_of t)) bytes small is entries inside (rw (← place) put)
-    ∙ ap (λ q. after (Move q slot (taken_of t) bytes) (device_of h o)) e
+    more ∙ (λ i. h.tape.items ++ entry.Move (moved_by (back i) slot (asks i) (sector i) (place i) (goes i) bytes) ∷ []) in
+    let kept : bytes_of memory.items ≡ memory_after (bytes_of h.memory.items) (taken_of t) bytes =
+    put ∙ (λ i. if reads_memory (operation_of (kind i)) then bytes_of h.memory.items else patched (bytes_of h.memory.items) (place i) bytes) in
+    let new_memory : Vec ℕ = memory in
+    subst (λ q. device_of (record h { memory = new_memory; ports = slice_set h.ports p new; tape = tape }) (outside_after o q (taken_of t) bytes)
+    ≡ after (Move q slot (taken_of t) bytes) (device_of h o)) e
+    (set_port_moved h o p new (media_after (o.media p) (taken_of t) bytes) (with_move ((device_of h o).port p) slot (taken_of t) bytes) tape
+    (entry.Move (move_of p slot (taken_of t) bytes)) new_memory (memory_after (bytes_of h.memory.items) (taken_of t) bytes) small moves entries size kept)
 
--- the first disk's sector may be moved
-pub may_move : (h : Hardware) (size : ℕ) (told other : Option (ℕ → List ℕ)) (port slot sector address : ℕ) (t : TakenRead) (bytes : List ℕ) →
-    port ≡ 0 → IsNext h port slot sector address t → IsSector bytes → sector < size → IfSome told (λ f. bytes ≡ f sector) →
-    MayMove (device_of h (outside_of size told other)) port slot (taken_of t) bytes
-may_move h size told other port slot sector address t bytes e next is small gives =
-    let here = rw e at next in
-    let place : address ≡ next_place (taken_of t) = next.address_is in
-    let number : sector ≡ t.first + t.moved = next.sector_is in
-    let inside : address + 512 ≤ length h.memory.items = next.inside in
-    let small_here : t.first + t.moved < size = rw number at small in
-    let gives_here : IfSome told (λ f. bytes ≡ f (t.first + t.moved)) = rw number at gives in
-    rw e
-    (record {
-      works = here.holds.works _;
-      left = next.left;
+-- what the disk gave or took may be moved
+pub may_move : (h : Hardware) (o : Outside) (port slot : ℕ) (next : NextMove) (t : TakenCommand) (bytes : List ℕ) → IsNext h port slot next t →
+    IsSector bytes → next.sector < (o.media port).disk.size →
+    (next.transfer ≡ transfer.Read → IfSome (o.media port).disk.sectors (λ f. bytes ≡ f next.sector)) →
+    (next.transfer ≡ transfer.Write → bytes ≡ bytes_at (bytes_of h.memory.items) next.address 512) → MayMove (device_of h o) port slot (taken_of t) bytes
+may_move h o port slot next t bytes is sized small gives takes =
+    let sector : next.sector ≡ next_sector (taken_of t) = is.sector_is ∙ sym (sector_of t) in
+    let place : next.address ≡ next_place (taken_of t) = is.address_is in
+    let inside : next.address + 512 ≤ length h.memory.items = is.inside in
+    let there : next_sector (taken_of t) < (o.media port).disk.size = rw sector at small in
+    record {
+      works = is.holds.works (o.media port);
+      left = is.left;
       inside = rw place at inside;
-      sector = is;
-      brings = (small_here, gives_here);
-    })
+      sector = sized;
+      brings = subst (λ (k : Transfer). Brings (o.media port).disk (bytes_of h.memory.items) (taken_of t) (operation_of k) bytes) is.transfer_is
+          (by next.transfer refl);
+    }
+  where
+    by : (k : Transfer) → next.transfer ≡ k → Brings (o.media port).disk (bytes_of h.memory.items) (taken_of t) (operation_of k) bytes
+    by transfer.Read e =
+        let sector : next.sector ≡ next_sector (taken_of t) = is.sector_is ∙ sym (sector_of t) in
+        (rw sector at small, rw sector at (gives e))
+    by transfer.Write e =
+        let sector : next.sector ≡ next_sector (taken_of t) = is.sector_is ∙ sym (sector_of t) in
+        let place : next.address ≡ next_place (taken_of t) = is.address_is in
+        (rw sector at small, rw place at (takes e))

@@ -2,10 +2,10 @@
 use Rattle.std.specs.Prelude.{ℕ, ◌≡◌, ◌+◌, ◌*◌, ◌/◌, ◌<◌, ◌≤◌, ◌⊎◌, List, length, slice_index}
 use Rattle.std.specs.Vec.{vec_len, vec_capacity}
 use Rattle.adapter.specs.Device.{Taken, Device}
-use Rattle.adapter.specs.Steps.{Can, WorksOn, begun}
+use Rattle.adapter.specs.Steps.{Can, WorksOn, begun, next_place, next_sector}
 use Rattle.adapter.specs.Steps.Step.{Fetch}
-use Rattle.adapter.specs.declared.command.Operation.TheVariants.{Read}
 use Rattle.adapter.specs.declared.command.Prd.{Prd}
+use Rattle.device_model.specs.View.{Takes}
 use Rattle.device_model.specs.declared.hardware.Hardware.{Hardware}
 
 -- the tape has memory for so many more entries
@@ -27,16 +27,23 @@ pub record IsCovered (t : Taken) (size sectors left : ℕ) : Type 0 where
   pub on_disk : t.meaning.first + length t.places ≤ sectors
   pub inside : AreInside size t.places
 
--- the port works on a read of which so many moves are left, all of them possible
+-- the port works on this command, and its next piece has a place in the memory and is a sector of the disk
+pub record HasMove (d : Device) (port slot : ℕ) (t : Taken) : Type 0 where
+  pub works : WorksOn (d.port port) slot t t.meaning.operation
+  pub left : t.moved < length t.places
+  pub inside : next_place t + 512 ≤ d.size
+  pub on_disk : next_sector t < (d.port port).disk.size
+
+-- the port works on a read or a write of which so many moves are left, all of them possible
 pub record IsGoing (d : Device) (port slot sectors left : ℕ) : Type 0 where
   pub t : Taken
-  pub read : t.meaning.operation ≡ Read
+  pub takes : Takes t.meaning.operation
   pub covered : IsCovered t d.size sectors left
-  pub works : WorksOn (d.port port) slot t Read
+  pub works : WorksOn (d.port port) slot t t.meaning.operation
 
--- the same, or the read isn't taken yet, and may be
+-- the same, or the command isn't taken yet, and may be
 pub record IsReady (d : Device) (port slot sectors left : ℕ) : Type 0 where
   pub t : Taken
-  pub read : t.meaning.operation ≡ Read
+  pub takes : Takes t.meaning.operation
   pub covered : IsCovered t d.size sectors left
-  pub begins : WorksOn (d.port port) slot t Read ⊎ (Can (Fetch port slot t.meaning t.places) d × (t ≡ begun t.meaning t.places))
+  pub begins : WorksOn (d.port port) slot t t.meaning.operation ⊎ (Can (Fetch port slot t.meaning t.places) d × (t ≡ begun t.meaning t.places))

@@ -1,13 +1,18 @@
 -- What a model with its disks stands for.
-use Rattle.std.specs.Prelude.{ℕ, Bool, true, false, ◌≡◌, ◌≢◌, ◌+◌, ◌-◌, ◌*◌, ◌^◌, ◌<◌, List, [], Option, if◌then◌else◌}
+use Rattle.std.specs.Prelude.{ℕ, Bool, true, false, ◌≡◌, ◌≢◌, ◌+◌, ◌-◌, ◌*◌, ◌^◌, ◌<◌, List, [], ◌∷◌, Option, if◌then◌else◌}
 use Rattle.adapter.specs.Device.{PortState, Device}
 use Rattle.adapter.specs.FirstRead.{no_notes}
-use Rattle.device_model.specs.Whole.{device_of, outside_of, first_disk}
+use Rattle.device_model.specs.Whole.{Outside, device_of, outside_of, first_disk}
 use Rattle.device_model.specs.declared.config.ModelConfig.{ModelConfig}
 use Rattle.device_model.specs.declared.model.Model.{Model}
 
+-- the model's disks: disk 0 as it is, and as it was when it was plugged in
+abbrev pub outside_at : {S : Type 0} → (S → ℕ) → (S → Option (ℕ → List ℕ)) → Model S → Outside
+outside_at size told m =
+    outside_of (first_disk (size m.disk0) (told m.disk0)) (told m.disk1) (first_disk (size m.plugged.value) (told m.plugged.value) ∷ [])
+
 abbrev pub device_at : {S : Type 0} → (S → ℕ) → (S → Option (ℕ → List ℕ)) → Model S → Device
-device_at size told m = device_of m.hardware (outside_of (size m.disk0) (told m.disk0) (told m.disk1))
+device_at size told m = device_of m.hardware (outside_at size told m)
 
 -- NP, NCS and SNCQ (AHCI 1.3.1, 3.1.1)
 abbrev pub cap_of : ℕ → Bool → ℕ
@@ -35,6 +40,7 @@ pub record IsNew (config : ModelConfig) (size : ℕ) (told : Option (ℕ → Lis
   pub cap : d.cap ≡ cap_of config.slots config.ncq
   pub pi : d.pi ≡ 0x0f
   pub disk : (d.port 0).disk ≡ first_disk size told
+  pub plugged : (d.port 0).plugged ≡ first_disk size told ∷ []
   pub present : (d.port 0).present ≡ true
   pub others : (port : ℕ) → port ≢ 0 → (d.port port).present ≡ false
   pub unused : d.tape ≡ []

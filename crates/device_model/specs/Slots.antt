@@ -3,28 +3,30 @@ use Rattle.std.specs.Prelude.{ℕ, ◌≡◌, ◌+◌, ◌^◌, ◌<◌, ◌≤�
 use Rattle.adapter.specs.Device.{PortState}
 use Rattle.adapter.specs.Says.{pieces}
 use Rattle.adapter.specs.Steps.{IsFetchable, IsWorking, IsAlone, WorksOn}
-use Rattle.adapter.specs.declared.command.Operation.TheVariants.{Read}
-use Rattle.device_model.specs.View.{Media, port_of, taken_of, blank}
-use Rattle.device_model.specs.declared.port.TakenRead.{TakenRead}
+use Rattle.adapter.specs.declared.command.Operation.{Operation}
+use Rattle.device_model.specs.View.{Media, port_of, operation_of, taken_of, blank}
+use Rattle.device_model.specs.declared.port.TakenCommand.{TakenCommand}
 use Rattle.device_model.specs.declared.port.PortModel.{PortModel}
 use Rattle.device_model.specs.declared.hardware.Hardware.{Hardware}
+use Rattle.device_model.specs.declared.steps.NextMove.{NextMove}
 
--- a READ DMA EXT in this slot may be taken, if its bytes say one
-pub record MayTake (p : PortState) (slot : ℕ) : Type 0 where
+-- a command of this operation in this slot may be taken, if its bytes say one
+pub record MayTake (p : PortState) (slot : ℕ) (operation : Operation) : Type 0 where
   pub fetchable : IsFetchable p slot
-  pub working : IsWorking p Read
-  pub alone : IsAlone p Read
+  pub working : IsWorking p operation
+  pub alone : IsAlone p operation
 
 -- the port works on this command, which its slot holds
-pub record HoldsAt (p : PortModel) (slot : ℕ) (t : TakenRead) : Type 0 where
+pub record HoldsAt (p : PortModel) (slot : ℕ) (t : TakenCommand) : Type 0 where
   pub held : slice_index_or p.taken slot None ≡ Some t
-  pub works : (m : Media) → WorksOn (port_of p m) slot (taken_of t) Read
+  pub works : (m : Media) → WorksOn (port_of p m) slot (taken_of t) (operation_of t.transfer)
 
--- the next piece of this command is a sector that goes to this address
-pub record IsNext (h : Hardware) (port slot sector address : ℕ) (t : TakenRead) : Type 0 where
+-- the next piece of this command is a sector that goes to or from this address
+pub record IsNext (h : Hardware) (port slot : ℕ) (next : NextMove) (t : TakenCommand) : Type 0 where
   pub holds : HoldsAt (slice_index_or h.ports port blank) slot t
   pub left : t.moved < length (pieces t.prds)
   pub room : t.moved + 1 < 2 ^ 32
-  pub sector_is : sector ≡ t.first + t.moved
-  pub address_is : address ≡ slice_index (pieces t.prds) t.moved
-  pub inside : address + 512 ≤ length h.memory.items
+  pub transfer_is : next.transfer ≡ t.transfer
+  pub sector_is : next.sector ≡ t.first + t.moved
+  pub address_is : next.address ≡ slice_index (pieces t.prds) t.moved
+  pub inside : next.address + 512 ≤ length h.memory.items

@@ -3,12 +3,15 @@ use Rattle.std.specs.Prelude.{ℕ, true, false, ◌≡◌, ◌%◌, ◌⊎◌, L
 use Rattle.adapter.specs.Device.{Disk, Taken, Bases, Notes, PortState}
 use Rattle.adapter.specs.Device.Halt.{NotHalted}
 use Rattle.adapter.specs.Says.{pieces}
-use Rattle.adapter.specs.Steps.{with_link, MayLinkUp}
-use Rattle.adapter.specs.declared.command.Operation.TheVariants.{Read}
+use Rattle.adapter.specs.Steps.{with_link, MayLinkUp, next_sector, disk_after}
+use Rattle.adapter.specs.declared.command.Operation.{Operation}
+use Rattle.adapter.specs.declared.command.Operation.TheVariants.{Read, Write}
 use Rattle.device_model.specs.Bits.{bits_of}
 use Rattle.device_model.specs.declared.port.Addresses.{Addresses}
 use Rattle.device_model.specs.declared.port.Readings.{Readings}
-use Rattle.device_model.specs.declared.port.TakenRead.{TakenRead}
+use Rattle.device_model.specs.declared.port.TakenCommand.{TakenCommand}
+use Rattle.device_model.specs.declared.port.Transfer.{Transfer}
+use Rattle.device_model.specs.declared.port.Transfer.TheVariants as transfer
 use Rattle.device_model.specs.declared.port.PortModel.{PortModel}
 
 abbrev pub bases_of : Addresses → Bases
@@ -40,23 +43,35 @@ notes_of r =
       acknowledged = r.acknowledged;
     }
 
-abbrev pub taken_of : TakenRead → Taken
+-- the model takes READ DMA EXT and WRITE DMA EXT
+abbrev pub Takes : Operation → Type 0
+Takes operation = (operation ≡ Read) ⊎ (operation ≡ Write)
+
+abbrev pub operation_of : Transfer → Operation
+operation_of transfer.Read = Read
+operation_of transfer.Write = Write
+
+abbrev pub taken_of : TakenCommand → Taken
 taken_of t =
     record {
-      meaning = record { operation = Read; first = t.first; count = t.count };
+      meaning = record { operation = operation_of t.transfer; first = t.first; count = t.count };
       places = pieces t.prds;
       moved = t.moved;
       block = [];
       cleared = 0;
     }
 
-abbrev pub slots_of : List (Option TakenRead) → ℕ → Option Taken
+abbrev pub slots_of : List (Option TakenCommand) → ℕ → Option Taken
 slots_of taken = λ slot. option_map taken_of (slice_index_or taken slot None)
 
 -- what is behind a port: its disk, and those that were plugged in
 pub record Media : Type 0 where
   pub disk : Disk
   pub plugged : List Disk
+
+-- the same after the next piece of this command, these bytes, was moved
+abbrev pub media_after : Media → Taken → List ℕ → Media
+media_after m t bytes = record m { disk = disk_after t.meaning.operation m.disk (next_sector t) bytes }
 
 abbrev pub port_of : PortModel → Media → PortState
 port_of p m =

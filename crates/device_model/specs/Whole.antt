@@ -1,15 +1,20 @@
 -- The state of the whole adapter that a model stands for.
-use Rattle.std.specs.Prelude.{ℕ, Bool, ◌<◌, ◌&&◌, List, [], ◌∷◌, length, Option, Some, is_some, if◌then◌else◌, nat_eq, slice_index, slice_index_or}
-use Rattle.adapter.specs.Device.{Disk, Device}
+use Rattle.std.specs.Prelude.{ℕ, Bool, ◌<◌, ◌&&◌, List, [], length, Option, Some, is_some, if◌then◌else◌, nat_eq, slice_index, slice_index_or}
+use Rattle.adapter.specs.Device.{Disk, Taken, Device}
+use Rattle.adapter.specs.Memory.{changed}
 use Rattle.hba_regs.specs.declared.reg.Reg.{Reg}
 use Rattle.hba_regs.specs.declared.reg.Reg.TheVariants.{Px}
-use Rattle.device_model.specs.View.{Media, port_of, blank}
+use Rattle.device_model.specs.View.{Media, media_after, port_of, blank}
 use Rattle.device_model.specs.declared.hardware.Hardware.{Hardware}
 
 -- what is outside the hardware: what is behind each port, and whether all disks tell their sectors
 pub record Outside : Type 0 where
   pub telling : Bool
   pub media : ℕ → Media
+
+-- the same after the next piece of a command of this port, these bytes, was moved
+abbrev pub outside_after : Outside → ℕ → Taken → List ℕ → Outside
+outside_after o port t bytes = record o { media = changed o.media port (media_after (o.media port) t bytes) }
 
 abbrev pub device_of : Hardware → Outside → Device
 device_of h o =
@@ -38,13 +43,11 @@ no_media = record { disk = record { name = 0; size = 0; sectors = Some (λ k. []
 abbrev pub first_disk : ℕ → Option (ℕ → List ℕ) → Disk
 first_disk size told = record { name = 0; size = size; sectors = told }
 
--- Disk 0 has been in port 0 from the start, and isn't written; disk 1 has never been in. No other port has a disk.
-abbrev pub outside_of : (size : ℕ) (told other : Option (ℕ → List ℕ)) → Outside
-outside_of size told other =
+-- Disk 0 has been in port 0 from the start; disk 1 has never been in. No other port has a disk. The adapter tells where
+-- both disks do.
+abbrev pub outside_of : (disk : Disk) (other : Option (ℕ → List ℕ)) (plugged : List Disk) → Outside
+outside_of disk other plugged =
     record {
-      telling = is_some told && is_some other;
-      media = λ port.
-          if nat_eq port 0
-          then record { disk = first_disk size told; plugged = first_disk size told ∷ [] }
-          else no_media;
+      telling = is_some disk.sectors && is_some other;
+      media = λ port. if nat_eq port 0 then record { disk = disk; plugged = plugged } else no_media;
     }

@@ -1,20 +1,21 @@
 // What the bytes of a slot mean, read as the device reads them. Bytes past the end of the memory are zeros.
 ghost use Rattle.std.specs.Prelude.{◌≡◌, ◌<◌, ◌≤◌, ◌+◌, ◌*◌, ◌^◌, ◌%◌, ℕ, List, true, false, None, Some, All, IfSome, IsTrue, ◌↔◌, length, slice_index};
-ghost use Rattle.adapter.specs.Commands.{Meaning, command_of};
+ghost use Rattle.adapter.specs.Commands.{Meaning, command_of, reads_memory};
 ghost use Rattle.adapter.specs.Memory.{bytes_at};
 ghost use Rattle.adapter.specs.Says.{HasPrds, IsWhole, Says, pieces};
 ghost use Rattle.adapter.specs.Spelling.{AreZero, SpellsCommand, SpellsHeader, SpellsPrd};
 ghost use Rattle.byteorder.specs.Endian.{little_from};
 ghost use Rattle.device_model.specs.Fetched.{ArePrds, IsPadded, bytes_of};
-ghost use Rattle.device_model.specs.View.{taken_of};
+ghost use Rattle.device_model.specs.View.{Takes, operation_of, taken_of};
 
-use crate::port::TakenRead;
-use adapter::{Operation, Prd};
+use crate::port::{TakenCommand, Transfer};
+use adapter::Prd;
 use byteorder::{ByteOrder, LittleEndian};
 
-/// What a command header says: how many PRDs there are, and where the command table is.
+/// What a command header says: which way the bytes go, how many PRDs there are, and where the command table is.
 #[derive(Clone, Copy, Debug)]
 struct Header {
+    transfer: Transfer,
     entries: u16,
     table: u32,
 }
@@ -60,17 +61,23 @@ fn are_zero(bytes: &[u8], from: usize, to: usize) -> bool
     true
 }
 
-/// The header that the bytes are, if they are one of a command that fills memory.
+/// The header that the bytes are, if they are one. Its W bit tells a command that reads memory (AHCI 1.3.1, 4.2.2).
 fn decode_header(bytes: &[u8]) -> Option<Header>
     requires { length bytes.now ≡ 32 }
-    ensures found { IfSome result (λ h. SpellsHeader bytes.now false h.entries h.table) }
-    ensures only { (h : Header) → SpellsHeader bytes.now false h.entries h.table → result ≡ Some h }
+    ensures found { IfSome result (λ h. SpellsHeader bytes.now (reads_memory (operation_of h.transfer)) h.entries h.table) }
+    ensures only { (h : Header) → SpellsHeader bytes.now (reads_memory (operation_of h.transfer)) h.entries h.table → result ≡ Some h }
 {
+    let transfer = match LittleEndian::read_u16(bytes) {
+        0x05 => Transfer::Read,
+        0x45 => Transfer::Write,
+        _ => return None,
+    };
     let table = LittleEndian::read_u32(&bytes[8..]);
-    if LittleEndian::read_u16(bytes) != 5 || table % 128 != 0 || !are_zero(bytes, 12, 32) {
+    if table % 128 != 0 || !are_zero(bytes, 12, 32) {
         return None;
     }
     Some(Header {
+        transfer,
         entries: LittleEndian::read_u16(&bytes[2..]),
         table,
     })
@@ -97,14 +104,14 @@ fn sectors_of(register: u16) -> u32
     }
 }
 
-/// The sectors that the bytes name, if they are the FIS of a READ DMA EXT.
-fn decode_sectors(bytes: &[u8]) -> Option<Sectors>
+/// The sectors that the bytes name, if they are the FIS of such a command.
+fn decode_sectors(bytes: &[u8], transfer: Transfer) -> Option<Sectors>
     requires { length bytes.now ≡ 20 }
-    ensures found { IfSome result (λ s. (slot : ℕ) → SpellsCommand bytes.now (command_of Operation.Read slot s.first s.count)) }
+    ensures found { IfSome result (λ s. (slot : ℕ) → SpellsCommand bytes.now (command_of (operation_of transfer) slot s.first s.count)) }
     ensures range { IfSome result (λ s. (1 ≤ s.count) × (s.count ≤ 65536) × (s.first < 2 ^ 48)) }
-    ensures only { (slot : ℕ) (s : Sectors) → 1 ≤ s.count → s.count ≤ 65536 → SpellsCommand bytes.now (command_of Operation.Read slot s.first s.count) → result ≡ Some s }
+    ensures only { (slot : ℕ) (s : Sectors) → 1 ≤ s.count → s.count ≤ 65536 → SpellsCommand bytes.now (command_of (operation_of transfer) slot s.first s.count) → result ≡ Some s }
 {
-    if bytes[0] != 0x27 || bytes[1] != 0x80 || bytes[2] != 0x25 {
+    if bytes[0] != 0x27 || bytes[1] != 0x80 || bytes[2] != transfer.code() {
         return None;
     }
     if bytes[3] != 0 || bytes[11] != 0 || bytes[7] != 0x40 || !are_zero(bytes, 14, 20) {
@@ -136,27 +143,27 @@ fn decode_prd(bytes: &[u8]) -> Option<Prd>
     })
 }
 
-/// The header at an address, if there is one of a command that fills memory.
+/// The header at an address, if there is one.
 fn header_at(memory: &[u8], at: usize) -> Option<Header>
     requires { at < 2 ^ 33 }
-    ensures found { IfSome result (λ h. SpellsHeader (bytes_at (bytes_of memory.now) at 32) false h.entries h.table) }
-    ensures only { (h : Header) → SpellsHeader (bytes_at (bytes_of memory.now) at 32) false h.entries h.table → result ≡ Some h }
+    ensures found { IfSome result (λ h. SpellsHeader (bytes_at (bytes_of memory.now) at 32) (reads_memory (operation_of h.transfer)) h.entries h.table) }
+    ensures only { (h : Header) → SpellsHeader (bytes_at (bytes_of memory.now) at 32) (reads_memory (operation_of h.transfer)) h.entries h.table → result ≡ Some h }
 {
     let mut bytes = [0; 32];
     copy_bytes(memory, at, &mut bytes);
     decode_header(&bytes)
 }
 
-/// The sectors that the FIS at an address names, if it is one of a READ DMA EXT.
-fn sectors_at(memory: &[u8], at: usize) -> Option<Sectors>
+/// The sectors that the FIS at an address names, if it is one of such a command.
+fn sectors_at(memory: &[u8], at: usize, transfer: Transfer) -> Option<Sectors>
     requires { at < 2 ^ 33 }
-    ensures found { IfSome result (λ s. (slot : ℕ) → SpellsCommand (bytes_at (bytes_of memory.now) at 20) (command_of Operation.Read slot s.first s.count)) }
+    ensures found { IfSome result (λ s. (slot : ℕ) → SpellsCommand (bytes_at (bytes_of memory.now) at 20) (command_of (operation_of transfer) slot s.first s.count)) }
     ensures range { IfSome result (λ s. (1 ≤ s.count) × (s.count ≤ 65536) × (s.first < 2 ^ 48)) }
-    ensures only { (slot : ℕ) (s : Sectors) → 1 ≤ s.count → s.count ≤ 65536 → SpellsCommand (bytes_at (bytes_of memory.now) at 20) (command_of Operation.Read slot s.first s.count) → result ≡ Some s }
+    ensures only { (slot : ℕ) (s : Sectors) → 1 ≤ s.count → s.count ≤ 65536 → SpellsCommand (bytes_at (bytes_of memory.now) at 20) (command_of (operation_of transfer) slot s.first s.count) → result ≡ Some s }
 {
     let mut bytes = [0; 20];
     copy_bytes(memory, at, &mut bytes);
-    decode_sectors(&bytes)
+    decode_sectors(&bytes, transfer)
 }
 
 /// The PRD at an address, if there is one of a whole number of pieces.
@@ -215,18 +222,18 @@ pub fn piece_at(prds: &[Prd; 128], number: u32) -> Option<u64>
     None
 }
 
-/// The command that the bytes of a slot say, if it is a READ DMA EXT.
-pub fn read_command(memory: &[u8], list: u32, slot: u8) -> Option<TakenRead>
+/// The command that the bytes of a slot say, if it is one that the model takes.
+pub fn read_command(memory: &[u8], list: u32, slot: u8) -> Option<TakenCommand>
     requires { slot < 32 }
     ensures found { IfSome result (λ t. (t.moved ≡ 0) × Says (bytes_of memory.now) list slot (taken_of t).meaning (taken_of t).places) }
-    ensures only { result ≡ None → (m : Meaning) (places : List ℕ) → m.operation ≡ Operation.Read → Says (bytes_of memory.now) list slot m places → ⊥ }
+    ensures only { result ≡ None → (m : Meaning) (places : List ℕ) → Takes m.operation → Says (bytes_of memory.now) list slot m places → ⊥ }
 {
     let Some(header) = header_at(memory, list as usize + 32 * usize::from(slot)) else {
         return None;
     };
     let table = header.table as usize;
     let entries = usize::from(header.entries);
-    let Some(sectors) = sectors_at(memory, table) else {
+    let Some(sectors) = sectors_at(memory, table, header.transfer) else {
         return None;
     };
     let mut prds = [NO_PRD; 128];
@@ -236,7 +243,8 @@ pub fn read_command(memory: &[u8], list: u32, slot: u8) -> Option<TakenRead>
     if count_pieces(&prds) != sectors.count {
         return None;
     }
-    Some(TakenRead {
+    Some(TakenCommand {
+        transfer: header.transfer,
         first: sectors.first,
         count: sectors.count,
         prds,

@@ -1,5 +1,5 @@
 // The model without its disks.
-ghost use Rattle.std.specs.Prelude.{◌≡◌, ◌≢◌, ◌+◌, ◌<◌, ◌≤◌, ◌++◌, ℕ, Bool, true, if◌then◌else◌, length, take, drop, slice_index_or};
+ghost use Rattle.std.specs.Prelude.{◌≡◌, ◌≢◌, ◌+◌, ◌<◌, ◌≤◌, ◌++◌, ℕ, Bool, true, if◌then◌else◌, All, length, take, drop, slice_index_or};
 ghost use Rattle.adapter.specs.Access.{Shows, noted, written, unacknowledged};
 ghost use Rattle.adapter.specs.Memory.{patched, bytes_at};
 ghost use Rattle.adapter.specs.Steps.{MayLinkUp, Steps};
@@ -50,7 +50,8 @@ pub fn put(memory: &mut [u8], at: usize, bytes: &[u8])
 /// Copies the bytes from a place on.
 fn get(memory: &[u8], at: usize, out: &mut [u8])
     requires { at + length out.old ≤ length memory.now }
-    ensures { out.new ≡ take (length out.old) (drop at memory.now) }
+    ensures copied { out.new ≡ take (length out.old) (drop at memory.now) }
+    ensures bytes { All (λ byte. byte < 256) out.new }
 {
     out.copy_from_slice(&memory[at..at + out.len()]);
 }
@@ -121,7 +122,8 @@ impl Hardware {
     /// Copies bytes of memory.
     pub fn load(&self, at: usize, out: &mut [u8])
         requires { at + length out.old ≤ length self.now.memory.items }
-        ensures { (o : Outside) → out.new ≡ bytes_at (device_of self.now o).memory at (length out.new) }
+        ensures shows { (o : Outside) → out.new ≡ bytes_at (device_of self.now o).memory at (length out.new) }
+        ensures bytes { All (λ byte. byte < 256) out.new }
     {
         get(&self.memory, at, out);
     }

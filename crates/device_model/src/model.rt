@@ -1,26 +1,32 @@
 // The model as an adapter.
-ghost use Rattle.std.specs.Prelude.{◌≡◌, ◌≢◌, ◌<◌, ◌≤◌, ◌+◌, ◌-◌, ◌*◌, ◌^◌, ◌++◌, ◌∷◌, [], ℕ, List, true, false, is_some, ◌&&◌, min, max, IfOk, OnOk, OnErr};
+ghost use Rattle.std.specs.Prelude.{◌≡◌, ◌≢◌, ◌<◌, ◌≤◌, ◌+◌, ◌-◌, ◌*◌, ◌^◌, ◌++◌, ◌∷◌, [], ℕ, List, true, false, is_some, ◌&&◌, min, max, length, IfSome, IfOk, OnOk, OnErr};
 ghost use Rattle.adapter.specs.Commands.{Meaning};
-ghost use Rattle.adapter.specs.Device.{Taken};
+ghost use Rattle.adapter.specs.Device.{Taken, IsSector};
 ghost use Rattle.adapter.specs.Idle.{IsIdle, IsSane};
 ghost use Rattle.adapter.specs.OneCommand.{IsFreeSlot};
 ghost use Rattle.adapter.specs.Access.{Reads};
+ghost use Rattle.adapter.specs.Memory.{bytes_at};
 ghost use Rattle.adapter.specs.Rules.{MayRead};
-ghost use Rattle.adapter.specs.Steps.{MayLinkUp, Steps, Can, after};
+ghost use Rattle.adapter.specs.Steps.{MayLinkUp, Steps, Can, after, disk_after};
 ghost use Rattle.adapter.specs.Steps.Step.{Fetch, Move, Done, Unplug};
 ghost use Rattle.adapter.specs.Asked.{DoesMove, GoesOn, Asked};
-ghost use Rattle.device_model.specs.Finishing.{HasRoom, IsReady};
+ghost use Rattle.device_model.specs.Fetched.{bytes_of};
+ghost use Rattle.device_model.specs.Finishing.{HasMove, HasRoom, IsReady};
 ghost use Rattle.device_model.specs.Queue.{DoesEach, due, not_due};
 ghost use Rattle.device_model.specs.Modelled.{device_at, cap_of, IsNew};
+ghost use Rattle.device_model.specs.View.{Takes, operation_of};
+ghost use Rattle.device_model.specs.Whole.{first_disk};
 
 use crate::config::{ModelConfig, NoMemory};
 use crate::hardware::Hardware;
-use crate::port::PortModel;
+use crate::port::{PortModel, Transfer};
 use crate::sector_store::SectorStore;
-use adapter::{Adapter, DeviceStep, Entry, Operation, Stepped};
+use crate::steps::NextMove;
+use adapter::{Adapter, DeviceStep, Entry, Stepped};
 use ata_types::{Port, Slot};
 use hba_regs::Reg;
 use std::alloc::Global;
+use std::snapshot::Snapshot;
 
 /// A step that is done before the access with this number.
 #[derive(Clone, Copy, Debug)]
@@ -30,12 +36,14 @@ struct Queued {
 }
 
 /// A modelled adapter. Port 0 has a disk over the first store; ports 1 to 3 have no device. Of all commands it takes READ
-/// DMA EXT alone: a step on another one answers `false`.
+/// DMA EXT and WRITE DMA EXT alone: a step on another one answers `false`.
 #[derive(Drop)]
 pub struct Model<S> {
     hardware: Hardware,
     disk0: S,
     disk1: S,
+    /// Disk 0 as it was when it was plugged in, for proofs alone.
+    plugged: Snapshot<S>,
     /// In the order in which they were queued.
     queue: Vec<Queued>,
     /// How many accesses were made.
@@ -70,6 +78,7 @@ impl<S: SectorStore> Model<S> {
         };
         Ok(Model {
             hardware,
+            plugged: Snapshot::of(&disk0),
             disk0,
             disk1,
             queue: Vec::new(alloc),
@@ -119,7 +128,7 @@ impl<S: SectorStore> Model<S> {
         ensures did { result ≡ true → DoesMove port slot (device_at S.size S.told self.old) (device_at S.size S.told self.new) }
         ensures refused { result ≡ false → device_at S.size S.told self.new ≡ device_at S.size S.told self.old }
         ensures only { result ≡ false → S.is_sure ≡ true → HasRoom self.old.hardware 1 → (device_at S.size S.told self.old).size ≤ 2 ^ 32 →
-            (t : Taken) (bytes : List ℕ) → Can (Move port slot t bytes) (device_at S.size S.told self.old) → ⊥ }
+            (t : Taken) → HasMove (device_at S.size S.told self.old) port slot t → ⊥ }
         ensures left { (n : ℕ) → HasRoom self.old.hardware (n + 1) → HasRoom self.new.hardware n }
         ensures disk { S.size self.new.disk0 ≡ S.size self.old.disk0 }
         ensures queue { self.new.queue ≡ self.old.queue }
@@ -129,11 +138,19 @@ impl<S: SectorStore> Model<S> {
         if port != 0 {
             return false;
         }
+        // What the disk takes is on the tape: its memory is found first.
+        if !self.hardware.reserve(1) {
+            return false;
+        }
         let Some(next) = self.hardware.next_move(port, slot) else {
             return false;
         };
         let mut bytes = [0; 512];
-        self.disk0.read(next.sector, &mut bytes) && self.hardware.bring(port, slot, next, &bytes)
+        if !exchange(&mut self.disk0, &self.hardware, next, &mut bytes) {
+            return false;
+        }
+        self.hardware.move_bytes(port, slot, next, &bytes);
+        true
     }
 
     /// Takes a slot's command if it isn't taken, moves all that is left of it, and ends it; `false` says that this isn't
@@ -175,7 +192,7 @@ impl<S: SectorStore> Model<S> {
         ensures asked { result ≡ true → Asked s.now (device_at S.size S.told self.old) (device_at S.size S.told self.new) }
         ensures refused { result ≡ false → device_at S.size S.told self.new ≡ device_at S.size S.told self.old }
         ensures fetches { result ≡ false → (p : Port) (slot : Slot) (m : Meaning) (places : List ℕ) → s.now ≡ DeviceStep.Fetch p slot → p.0 < 4 → slot.0 < 32 →
-            m.operation ≡ Operation.Read → Can (Fetch p.0 slot.0 m places) (device_at S.size S.told self.old) → ⊥ }
+            Takes m.operation → Can (Fetch p.0 slot.0 m places) (device_at S.size S.told self.old) → ⊥ }
         ensures moves { result ≡ false → S.is_sure ≡ true → HasRoom self.old.hardware 1 → (device_at S.size S.told self.old).size ≤ 2 ^ 32 →
             (p : Port) (slot : Slot) (t : Taken) (bytes : List ℕ) → s.now ≡ DeviceStep.Move p slot → slot.0 < 32 →
             Can (Move p.0 slot.0 t bytes) (device_at S.size S.told self.old) → ⊥ }
@@ -223,6 +240,34 @@ impl<S: SectorStore> Model<S> {
     }
 }
 
+/// Has a disk give the sector of a read, or take a write's from memory; `false` says that the store failed, and that it holds
+/// what it held.
+fn exchange<S: SectorStore>(
+    disk: &mut S,
+    hardware: &Hardware,
+    next: NextMove,
+    bytes: &mut [u8; 512],
+) -> bool
+    requires { next.address + 512 ≤ length hardware.now.memory.items }
+    ensures inside { result ≡ true → next.sector < S.size disk.old }
+    ensures sector { result ≡ true → IsSector bytes.new }
+    ensures gives { result ≡ true → next.transfer ≡ Transfer.Read → IfSome (S.told disk.old) (λ told. bytes.new ≡ told next.sector) }
+    ensures takes { result ≡ true → next.transfer ≡ Transfer.Write → bytes.new ≡ bytes_at (bytes_of hardware.now.memory.items) next.address 512 }
+    ensures disk { result ≡ true → first_disk (S.size disk.new) (S.told disk.new)
+        ≡ disk_after (operation_of next.transfer) (first_disk (S.size disk.old) (S.told disk.old)) next.sector bytes.new }
+    ensures kept { result ≡ false → S.told disk.new ≡ S.told disk.old }
+    ensures size { S.size disk.new ≡ S.size disk.old }
+    ensures sure { S.is_sure ≡ true → next.sector < S.size disk.old → result ≡ true }
+{
+    match next.transfer {
+        Transfer::Read => disk.read(next.sector, bytes),
+        Transfer::Write => {
+            hardware.load(next.address as usize, bytes);
+            disk.write(next.sector, bytes)
+        }
+    }
+}
+
 /// CAP: four ports, so many slots, and whether there are queued commands.
 fn capabilities(slots: u8, ncq: bool) -> u32
     requires { (1 ≤ slots) × (slots ≤ 32) }
@@ -264,15 +309,16 @@ impl<S: SectorStore> Adapter for Model<S> {
 }
 
 impl<S: SectorStore> Stepped for Model<S> {
-    /// Beside what every such adapter says: a fetch is refused only where it isn't possible; a move and an end only where
-    /// they aren't, the store failed, or the tape has no memory; a Finish over a store that never fails ends the command,
-    /// and on port 0, which alone has a disk, it is refused only where a move of it isn't possible or the tape has no memory. What is queued stays queued, for the accesses that it was queued for.
+    /// Beside what every such adapter says: a fetch of a read or a write is refused only where it isn't possible; a move and
+    /// an end only where they aren't, the store failed, or the tape has no memory; a Finish over a store that never fails
+    /// ends the command, and on port 0, which alone has a disk, it is refused only where a move of it isn't possible or the
+    /// tape has no memory. What is queued stays queued, for the accesses that it was queued for.
     fn step(&mut self, s: &DeviceStep) -> bool
         ensures steps { Steps (device_at S.size S.told self.old) (device_at S.size S.told self.new) }
         ensures refused { result ≡ false → device_at S.size S.told self.new ≡ device_at S.size S.told self.old }
         ensures asked { result ≡ true → Asked s.now (device_at S.size S.told self.old) (device_at S.size S.told self.new) }
         ensures fetches { result ≡ false → (p : Port) (slot : Slot) (m : Meaning) (places : List ℕ) → s.now ≡ DeviceStep.Fetch p slot → p.0 < 4 → slot.0 < 32 →
-            m.operation ≡ Operation.Read → Can (Fetch p.0 slot.0 m places) (device_at S.size S.told self.old) → ⊥ }
+            Takes m.operation → Can (Fetch p.0 slot.0 m places) (device_at S.size S.told self.old) → ⊥ }
         ensures moves { result ≡ false → S.is_sure ≡ true → HasRoom self.old.hardware 1 → (device_at S.size S.told self.old).size ≤ 2 ^ 32 →
             (p : Port) (slot : Slot) (t : Taken) (bytes : List ℕ) → s.now ≡ DeviceStep.Move p slot → slot.0 < 32 →
             Can (Move p.0 slot.0 t bytes) (device_at S.size S.told self.old) → ⊥ }

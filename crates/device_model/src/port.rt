@@ -1,10 +1,11 @@
 // One port of the model.
 ghost use Rattle.std.specs.Prelude.{◌≡◌};
+ghost use Rattle.adapter.specs.Commands.{command_of, direction_of};
 ghost use Rattle.adapter.specs.Idle.{IsIdlePort};
 ghost use Rattle.device_model.specs.Modelled.{IsReset};
-ghost use Rattle.device_model.specs.View.{Media, port_of};
+ghost use Rattle.device_model.specs.View.{Media, operation_of, port_of};
 
-use adapter::Prd;
+use adapter::{Direction, Operation, Prd};
 
 /// Where the driver has put the command list and the received FIS area, and which of these registers it has written.
 #[derive(Clone, Copy, Debug, Default)]
@@ -35,12 +36,54 @@ pub struct Readings {
     pub acknowledged: bool,
 }
 
-/// A READ DMA EXT that the device has taken.
+/// The commands that the model takes: sectors that go between disk and memory.
 #[derive(Clone, Copy, Debug)]
-pub struct TakenRead {
+pub enum Transfer {
+    /// READ DMA EXT.
+    Read,
+    /// WRITE DMA EXT.
+    Write,
+}
+
+impl Transfer {
+    /// The command that it is.
+    pub fn operation(self) -> Operation
+        ensures { result ≡ operation_of self }
+    {
+        match self {
+            Transfer::Read => Operation::Read,
+            Transfer::Write => Operation::Write,
+        }
+    }
+
+    /// Its code in a FIS (ACS-3).
+    pub fn code(self) -> u8
+        ensures { result ≡ (command_of (operation_of self) 0 0 0).code }
+    {
+        match self {
+            Transfer::Read => 0x25,
+            Transfer::Write => 0x35,
+        }
+    }
+
+    /// Where the bytes of its moves go.
+    pub fn direction(self) -> Direction
+        ensures { result ≡ direction_of (operation_of self) }
+    {
+        match self {
+            Transfer::Read => Direction::ToMemory,
+            Transfer::Write => Direction::FromMemory,
+        }
+    }
+}
+
+/// A command that the device has taken.
+#[derive(Clone, Copy, Debug)]
+pub struct TakenCommand {
+    pub transfer: Transfer,
     pub first: u64,
     pub count: u32,
-    /// The regions that it fills; those past the last have no bytes.
+    /// The regions that its sectors go to or come from; those past the last have no bytes.
     pub prds: [Prd; 128],
     /// In pieces of 512 bytes.
     pub moved: u32,
@@ -67,7 +110,7 @@ pub struct PortModel {
     pub present: bool,
     pub fresh: bool,
     pub link_due: bool,
-    pub taken: [Option<TakenRead>; 32],
+    pub taken: [Option<TakenCommand>; 32],
     pub readings: Readings,
 }
 

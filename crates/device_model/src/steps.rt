@@ -1,28 +1,31 @@
 // Steps that the hardware does when it is told.
-ghost use Rattle.std.specs.Prelude.{◌≡◌, ◌<◌, ◌≤◌, ◌+◌, ◌^◌, ◌++◌, ◌∷◌, [], true, false, ℕ, List, None, Some, IfSome, length, slice_index, slice_index_or};
+ghost use Rattle.std.specs.Prelude.{◌≡◌, ◌<◌, ◌≤◌, ◌+◌, ◌^◌, ◌++◌, ◌∷◌, [], true, false, ℕ, List, None, Some, IfSome, if◌then◌else◌, length, slice_index, slice_index_or};
 ghost use Rattle.std.specs.Vec.{vec_len, vec_capacity};
-ghost use Rattle.adapter.specs.Commands.{Meaning};
+ghost use Rattle.adapter.specs.Commands.{Meaning, reads_memory};
 ghost use Rattle.adapter.specs.Device.{Taken};
+ghost use Rattle.adapter.specs.Memory.{patched};
 ghost use Rattle.adapter.specs.Says.{pieces};
 ghost use Rattle.adapter.specs.Steps.{Can, after};
 ghost use Rattle.adapter.specs.Steps.Step.{Fetch as FetchStep, Move as MoveStep, Done as DoneStep, Unplug as UnplugStep};
 ghost use Rattle.adapter.specs.Asked.{DoesFetch, DoesDone};
+ghost use Rattle.device_model.specs.Fetched.{bytes_of};
 ghost use Rattle.device_model.specs.Finishing.{HasRoom, IsInside, AreInside, IsCovered, IsReady};
 ghost use Rattle.device_model.specs.Slots.{HoldsAt, IsNext};
-ghost use Rattle.device_model.specs.View.{taken_of, blank};
-ghost use Rattle.device_model.specs.Whole.{Outside, device_of};
-ghost use Rattle.device_model.specs.declared.port.TakenRead.{TakenRead};
+ghost use Rattle.device_model.specs.View.{Takes, operation_of, taken_of, blank};
+ghost use Rattle.device_model.specs.Whole.{Outside, device_of, outside_after};
+ghost use Rattle.device_model.specs.declared.port.TakenCommand.{TakenCommand};
 
 use crate::fetch::{count_pieces, piece_at, read_command};
 use crate::hardware::{Hardware, put};
-use crate::port::TakenRead;
+use crate::port::{TakenCommand, Transfer};
 use crate::slots::{may_take, working_on};
-use adapter::{Direction, Done, Entry, Move, Operation, Prd};
+use adapter::{Done, Entry, Move, Prd};
 use ata_types::{Port, Slot};
 
-/// A sector that a command moves next, and the address that it goes to.
+/// A sector that a command moves next, and the address that it goes to or comes from.
 #[derive(Clone, Copy, Debug)]
 pub struct NextMove {
+    pub transfer: Transfer,
     pub sector: u64,
     pub address: u32,
 }
@@ -61,26 +64,37 @@ fn are_inside(prds: &[Prd; 128], size: usize) -> bool
 
 /// How many moves are left of a command, if each of its pieces has a place in a memory of this size and is one of so many
 /// sectors.
-fn left_of(read: &TakenRead, size: usize, sectors: u64) -> Option<u32>
-    ensures covered { IfSome result (λ left. IsCovered (taken_of read.now) size sectors left) }
-    ensures only { (left : ℕ) → IsCovered (taken_of read.now) size sectors left → result ≡ Some left }
+fn left_of(command: &TakenCommand, size: usize, sectors: u64) -> Option<u32>
+    ensures covered { IfSome result (λ left. IsCovered (taken_of command.now) size sectors left) }
+    ensures only { (left : ℕ) → IsCovered (taken_of command.now) size sectors left → result ≡ Some left }
 {
-    let pieces = count_pieces(&read.prds);
-    let end = read.first.checked_add(u64::from(pieces))?;
-    if end > sectors || !are_inside(&read.prds, size) {
+    let pieces = count_pieces(&command.prds);
+    let end = command.first.checked_add(u64::from(pieces))?;
+    if end > sectors || !are_inside(&command.prds, size) {
         return None;
     }
-    pieces.checked_sub(read.moved)
+    pieces.checked_sub(command.moved)
+}
+
+/// Puts the bytes of a move into memory, if it is one of a read.
+fn put_piece(memory: &mut [u8], next: NextMove, bytes: &[u8; 512])
+    requires { next.address + 512 ≤ length memory.old }
+    ensures size { length memory.new ≡ length memory.old }
+    ensures put { bytes_of memory.new ≡ (if reads_memory (operation_of next.transfer) then bytes_of memory.old else patched (bytes_of memory.old) next.address bytes.now) }
+{
+    if let Transfer::Read = next.transfer {
+        put(memory, next.address as usize, bytes);
+    }
 }
 
 impl Hardware {
-    /// Takes the READ DMA EXT that is issued in a slot; `false` says that there is none that may be taken.
+    /// Takes the read or write that is issued in a slot; `false` says that there is none that may be taken.
     pub fn fetch(&mut self, port: u8, slot: u8) -> bool
         requires port { port < 4 }
         requires slot { slot < 32 }
         ensures did { result ≡ true → (o : Outside) → DoesFetch port slot (device_of self.old o) (device_of self.new o) }
         ensures refused { result ≡ false → (o : Outside) → device_of self.new o ≡ device_of self.old o }
-        ensures only { result ≡ false → (o : Outside) (m : Meaning) (places : List ℕ) → m.operation ≡ Operation.Read → Can (FetchStep port slot m places) (device_of self.old o) → ⊥ }
+        ensures only { result ≡ false → (o : Outside) (m : Meaning) (places : List ℕ) → Takes m.operation → Can (FetchStep port slot m places) (device_of self.old o) → ⊥ }
         ensures tape { self.new.tape ≡ self.old.tape }
     {
         let place = usize::from(port);
@@ -88,10 +102,10 @@ impl Hardware {
             return false;
         }
         let list = self.ports[place].addresses.clb;
-        let Some(read) = read_command(&self.memory, list, slot) else {
+        let Some(command) = read_command(&self.memory, list, slot) else {
             return false;
         };
-        self.ports[place].take(slot, read);
+        self.ports[place].take(slot, command);
         true
     }
 
@@ -99,47 +113,47 @@ impl Hardware {
     pub fn next_move(&self, port: u8, slot: u8) -> Option<NextMove>
         requires port { port < 4 }
         requires slot { slot < 32 }
-        ensures found { IfSome result (λ n. (t : TakenRead) × IsNext self.now port slot n.sector n.address t) }
-        ensures none { result ≡ None → length self.now.memory.items ≤ 2 ^ 32 → (t : TakenRead) → HoldsAt (slice_index_or self.now.ports port blank) slot t →
+        ensures found { IfSome result (λ n. (t : TakenCommand) × IsNext self.now port slot n t) }
+        ensures none { result ≡ None → length self.now.memory.items ≤ 2 ^ 32 → (t : TakenCommand) → HoldsAt (slice_index_or self.now.ports port blank) slot t →
             t.moved < length (pieces t.prds) → slice_index (pieces t.prds) t.moved + 512 ≤ length self.now.memory.items → t.first + t.moved < 2 ^ 64 → ⊥ }
     {
-        let read = working_on(&self.ports, usize::from(port), slot)?;
-        let address = piece_at(&read.prds, read.moved)?;
-        let sector = read.first.checked_add(u64::from(read.moved))?;
+        let command = working_on(&self.ports, usize::from(port), slot)?;
+        let address = piece_at(&command.prds, command.moved)?;
+        let sector = command.first.checked_add(u64::from(command.moved))?;
         let address = u32::try_from(address).ok()?;
         if address as usize + 512 > self.memory.len() {
             return None;
         }
-        Some(NextMove { sector, address })
+        Some(NextMove {
+            transfer: command.transfer,
+            sector,
+            address,
+        })
     }
 
-    /// Brings a sector's bytes to a command's next place; `false` says that the tape found no memory, and that nothing
-    /// changed.
-    pub fn bring(&mut self, port: u8, slot: u8, next: NextMove, bytes: &[u8; 512]) -> bool
+    /// Moves these bytes as the next piece of a command: it puts those of a read into memory, and notes the move on the tape.
+    /// The disk has given or taken them.
+    pub fn move_bytes(&mut self, port: u8, slot: u8, next: NextMove, bytes: &[u8; 512])
         requires port { port < 4 }
         requires slot { slot < 32 }
-        requires next { (t : TakenRead) × IsNext self.old port slot next.sector next.address t }
-        ensures did { result ≡ true → (o : Outside) → (t : TakenRead) × IsNext self.old port slot next.sector next.address t
-            × (device_of self.new o ≡ after (MoveStep port slot (taken_of t) bytes.now) (device_of self.old o)) }
-        ensures refused { result ≡ false → (o : Outside) → device_of self.new o ≡ device_of self.old o }
-        ensures room { HasRoom self.old 1 → result ≡ true }
+        requires next { (t : TakenCommand) × IsNext self.old port slot next t }
+        requires room { HasRoom self.old 1 }
+        ensures moved { (o : Outside) → (t : TakenCommand) × IsNext self.old port slot next t
+            × (device_of self.new (outside_after o port (taken_of t) bytes.now) ≡ after (MoveStep port slot (taken_of t) bytes.now) (device_of self.old o)) }
         ensures left { (n : ℕ) → HasRoom self.old (n + 1) → HasRoom self.new n }
     {
         let entry = Entry::Move(Move {
             port: Port(port),
             slot: Slot(slot),
-            operation: Operation::Read,
+            operation: next.transfer.operation(),
             sector: next.sector,
             address: next.address,
-            direction: Direction::ToMemory,
+            direction: next.transfer.direction(),
             bytes: *bytes,
         });
-        if !record(&mut self.tape, entry) {
-            return false;
-        }
-        put(&mut self.memory, next.address as usize, bytes);
+        let _recorded = record(&mut self.tape, entry);
+        put_piece(&mut self.memory, next, bytes);
         self.ports[usize::from(port)].advance(slot);
-        true
     }
 
     /// Ends a slot's command, all of which was moved; `false` says that there is none, or that the tape found no memory.
@@ -151,16 +165,16 @@ impl Hardware {
         ensures only { result ≡ false → HasRoom self.old 1 → (o : Outside) (flag : ℕ) (t : Taken) →
             Can (DoneStep port slot flag t) (device_of self.old o) → ⊥ }
     {
-        let Some(read) = working_on(&self.ports, usize::from(port), slot) else {
+        let Some(command) = working_on(&self.ports, usize::from(port), slot) else {
             return false;
         };
-        if read.moved != count_pieces(&read.prds) {
+        if command.moved != count_pieces(&command.prds) {
             return false;
         }
         let entry = Entry::Done(Done {
             port: Port(port),
             slot: Slot(slot),
-            operation: Operation::Read,
+            operation: command.transfer.operation(),
         });
         if !record(&mut self.tape, entry) {
             return false;
@@ -180,11 +194,11 @@ impl Hardware {
         let place = usize::from(port);
         if may_take(&self.ports, place, slot) {
             let list = self.ports[place].addresses.clb;
-            let read = read_command(&self.memory, list, slot)?;
-            left_of(&read, self.memory.len(), sectors)
+            let command = read_command(&self.memory, list, slot)?;
+            left_of(&command, self.memory.len(), sectors)
         } else {
-            let read = working_on(&self.ports, place, slot)?;
-            left_of(read, self.memory.len(), sectors)
+            let command = working_on(&self.ports, place, slot)?;
+            left_of(command, self.memory.len(), sectors)
         }
     }
 
@@ -205,6 +219,7 @@ impl Hardware {
     pub fn reserve(&mut self, entries: usize) -> bool
         ensures same { (o : Outside) → device_of self.new o ≡ device_of self.old o }
         ensures room { result ≡ true → HasRoom self.new entries }
+        ensures kept { (n : ℕ) → HasRoom self.old n → HasRoom self.new n }
         ensures enough { HasRoom self.old entries → result ≡ true }
     {
         self.tape.reserve(entries).is_ok()

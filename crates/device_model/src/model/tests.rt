@@ -1,8 +1,8 @@
-// A driver's way to a read of eight sectors, and what the device does on it. The registers of a port are reached behind
-// the adapter's calls, whose conditions on the driver would have to be proved here.
+// A driver's way to a read of eight sectors or a write of three, and what the device does on it. The registers of a port are
+// reached behind the adapter's calls, whose conditions on the driver would have to be proved here.
 use crate::sector_store::{MemStore, SectorStore};
 use crate::{Model, ModelConfig, NoMemory, Trim};
-use adapter::{Adapter, DeviceStep, Entry, Stepped};
+use adapter::{Adapter, DeviceStep, Direction, Entry, Operation, Stepped};
 use ata_types::{Port, Slot};
 use hba_regs::{PortReg, Reg};
 use std::alloc::{AllocError, Global};
@@ -64,6 +64,22 @@ fn issue<S: SectorStore>(model: &mut Model<S>) {
     write(model, PortReg::Ci, 1);
 }
 
+// In its place a write of three sectors from 100 is issued, from 1536 bytes at 28000h.
+fn issue_write<S: SectorStore>(model: &mut Model<S>) {
+    issue(model);
+    store(model, 0, &[0x45]);
+    store(model, 0x1002, &[0x35]);
+    store(model, 0x100c, &[3]);
+    store(model, 0x108c, &[0xff, 5]);
+    for sector in 0..3u8 {
+        store(
+            model,
+            0x28000 + 512 * usize::from(sector),
+            &[0xc0 | sector; 512],
+        );
+    }
+}
+
 // Sector k begins with the byte k.
 fn disk(alloc: Global) -> Result<MemStore, AllocError> {
     let mut disk = MemStore::new(alloc, 256)?;
@@ -78,6 +94,34 @@ fn issued(alloc: Global) -> Result<Model<MemStore>, NoMemory> {
     let mut model = Model::new(alloc, CONFIG, disk(alloc)?, blank)?;
     issue(&mut model);
     Ok(model)
+}
+
+// Whether so many sectors from 100 hold what was written, and each other what it held.
+fn holds_written(disk: &mut MemStore, written: u8) -> bool {
+    for sector in 0..256u64 {
+        let shift = if (100..100 + u64::from(written)).contains(&sector) {
+            0xc0 - 100
+        } else {
+            0
+        };
+        let mut bytes = [0; 512];
+        if !disk.read(sector, &mut bytes) || bytes != [((sector + shift) % 256) as u8; 512] {
+            return false;
+        }
+    }
+    true
+}
+
+// Whether this is the n-th move of that write.
+fn is_written(entry: Option<&Entry>, n: u8) -> bool {
+    let Some(Entry::Move(piece)) = entry else {
+        return false;
+    };
+    piece.operation == Operation::Write
+        && piece.direction == Direction::FromMemory
+        && piece.sector == 100 + u64::from(n)
+        && piece.address == 0x28000 + 512 * u32::from(n)
+        && piece.bytes == [0xc0 | n; 512]
 }
 
 fn step<A: Stepped>(adapter: &mut A, s: DeviceStep) -> bool {
@@ -147,6 +191,75 @@ fn a_read_goes_step_by_step(rt: HostRuntime) -> Result<(), Fail> {
 }
 
 #[test]
+fn a_write_is_finished(rt: HostRuntime) -> Result<(), Fail> {
+    let alloc = rt.alloc();
+    let mut model = Model::new(alloc, CONFIG, disk(alloc)?, MemStore::new(alloc, 16)?)?;
+    issue_write(&mut model);
+    assert!(rt; holds_written(&mut model.disk0, 0));
+    assert!(rt; step(&mut model, FINISH));
+    assert!(rt; holds_written(&mut model.disk0, 3));
+    assert_eq!(rt; model.tape().len(), 4);
+    for n in 0..3u8 {
+        assert!(rt; is_written(model.tape().get(usize::from(n)), n));
+    }
+    assert!(rt;
+        matches!(model.tape().last(), Some(Entry::Done(done)) if done.operation == Operation::Write)
+    );
+    assert_eq!(rt; read(&mut model, PortReg::Ci), 0);
+    assert_eq!(rt; read(&mut model, PortReg::Is) & 1, 1);
+    // The memory is as it was.
+    for (at, byte) in [(0x27fff, 0), (0x28000, 0xc0), (0x285ff, 0xc2), (0x28600, 0)] {
+        assert_eq!(rt; model.hardware.memory.get(at).copied(), Some(byte));
+    }
+    Ok(())
+}
+
+#[test]
+fn a_write_goes_step_by_step(rt: HostRuntime) -> Result<(), Fail> {
+    let alloc = rt.alloc();
+    let mut model = Model::new(alloc, CONFIG, disk(alloc)?, MemStore::new(alloc, 16)?)?;
+    issue_write(&mut model);
+    assert!(rt; step(&mut model, DeviceStep::Fetch(Port(0), Slot(0))));
+    for n in 0..3u8 {
+        assert!(rt; holds_written(&mut model.disk0, n));
+        assert!(rt; !step(&mut model, DeviceStep::Done(Port(0), Slot(0))));
+        assert!(rt; step(&mut model, DeviceStep::Move(Port(0), Slot(0))));
+        assert!(rt; is_written(model.tape().last(), n));
+    }
+    assert!(rt; holds_written(&mut model.disk0, 3));
+    assert!(rt; !step(&mut model, DeviceStep::Move(Port(0), Slot(0))));
+    assert!(rt; step(&mut model, DeviceStep::Done(Port(0), Slot(0))));
+    assert_eq!(rt; model.tape().len(), 4);
+    Ok(())
+}
+
+#[test]
+fn a_read_after_a_write_gives_what_was_written(rt: HostRuntime) -> Result<(), Fail> {
+    let alloc = rt.alloc();
+    let mut model = Model::new(alloc, CONFIG, disk(alloc)?, MemStore::new(alloc, 16)?)?;
+    issue_write(&mut model);
+    assert!(rt; step(&mut model, FINISH));
+    // Eight sectors from 99, into 4096 bytes at 20000h.
+    store(&mut model, 0, &HEADER);
+    store(&mut model, 0x1000, &FIS);
+    store(&mut model, 0x1004, &[99]);
+    store(&mut model, 0x1080, &PRD);
+    store(&mut model, 0x1081, &[0]);
+    write(&mut model, PortReg::Ci, 1);
+    assert!(rt; step(&mut model, FINISH));
+    for (at, byte) in [
+        (0x201ff, 99),
+        (0x20200, 0xc0),
+        (0x205ff, 0xc1),
+        (0x207ff, 0xc2),
+        (0x20800, 103),
+    ] {
+        assert_eq!(rt; model.hardware.memory.get(at).copied(), Some(byte));
+    }
+    Ok(())
+}
+
+#[test]
 fn impossible_steps_are_refused(rt: HostRuntime) -> Result<(), Fail> {
     let mut model = issued(rt.alloc())?;
     for s in [
@@ -158,6 +271,13 @@ fn impossible_steps_are_refused(rt: HostRuntime) -> Result<(), Fail> {
     ] {
         assert!(rt; !step(&mut model, s));
     }
+    // The header's W bit is one of a write alone.
+    store(&mut model, 0, &[0x45]);
+    assert!(rt; !step(&mut model, DeviceStep::Fetch(Port(0), Slot(0))));
+    store(&mut model, 0, &[5]);
+    store(&mut model, 0x1002, &[0x35]);
+    assert!(rt; !step(&mut model, FINISH));
+    store(&mut model, 0x1002, &[0x25]);
     // A command table begins at a multiple of 128.
     store(&mut model, 8, &[0x40, 0x10]);
     assert!(rt; !step(&mut model, DeviceStep::Fetch(Port(0), Slot(0))));
@@ -199,7 +319,7 @@ fn the_adapter_is_switched_on(rt: HostRuntime) -> Result<(), Fail> {
     Ok(())
 }
 
-// A store that tells nothing, and whose reads fail after some.
+// A store that tells nothing, and whose calls fail after some.
 #[derive(Drop)]
 struct Failing {
     sectors: MemStore,
@@ -231,8 +351,12 @@ impl SectorStore for Failing {
         self.sectors.read(sector, out)
     }
 
-    fn write(&mut self, _sector: u64, _bytes: &[u8; 512]) -> bool {
-        false
+    fn write(&mut self, sector: u64, bytes: &[u8; 512]) -> bool {
+        if self.left == 0 {
+            return false;
+        }
+        self.left -= 1;
+        self.sectors.write(sector, bytes)
     }
 }
 
@@ -258,5 +382,30 @@ fn a_store_that_fails_cuts_a_read_short(rt: HostRuntime) -> Result<(), Fail> {
     assert!(rt; !step(&mut model, FINISH));
     assert!(rt; !step(&mut model, DeviceStep::Move(Port(0), Slot(0))));
     assert_eq!(rt; read(&mut model, PortReg::Ci), 1);
+    Ok(())
+}
+
+#[test]
+fn a_store_whose_third_write_fails_cuts_a_write_short(rt: HostRuntime) -> Result<(), Fail> {
+    let alloc = rt.alloc();
+    let mut model = Model::new(
+        alloc,
+        CONFIG,
+        failing_disk(alloc, 2)?,
+        failing_disk(alloc, 0)?,
+    )?;
+    issue_write(&mut model);
+    assert!(rt; step(&mut model, FINISH));
+    assert_eq!(rt; model.tape().len(), 2);
+    assert!(rt; holds_written(&mut model.disk0.sectors, 2));
+    assert!(rt; !step(&mut model, DeviceStep::Move(Port(0), Slot(0))));
+    assert!(rt; !step(&mut model, FINISH));
+    assert_eq!(rt; model.tape().len(), 2);
+    assert_eq!(rt; read(&mut model, PortReg::Ci), 1);
+    // It goes on where the store does.
+    model.disk0.left = 1;
+    assert!(rt; step(&mut model, FINISH));
+    assert!(rt; holds_written(&mut model.disk0.sectors, 3));
+    assert_eq!(rt; read(&mut model, PortReg::Ci), 0);
     Ok(())
 }

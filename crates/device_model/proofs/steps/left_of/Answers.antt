@@ -4,10 +4,10 @@ use Rattle.device_model.proofs.steps.left_of.Goals as goal
 
 pub returns-clause-covered : goal.returns-clause-covered
 returns-clause-covered c =
-    left_covered c.args.read.now c.args.size c.args.sectors c.count_pieces-pieces.result c.in_ok-end.end c.checked_sub.result c.count_pieces-pieces.ensures
+    left_covered c.args.command.now c.args.size c.args.sectors c.count_pieces-pieces.result c.in_ok-end.end c.checked_sub.result c.count_pieces-pieces.ensures
     (omega (arith, c.in_ok-end.ensures.1, c.from.ensures)) c.if-end-sectors.false (c.are_inside.ensures.inside c.if-not-are_inside.false) c.checked_sub.ensures
 
 pub returns-clause-only : goal.returns-clause-only
 returns-clause-only c = λ left covered.
-    left_is c.args.read.now.moved c.count_pieces-pieces.result left c.checked_sub.result
+    left_is c.args.command.now.moved c.count_pieces-pieces.result left c.checked_sub.result
     (omega (arith, covered.left_is, c.count_pieces-pieces.ensures)) c.checked_sub.ensures

@@ -2,21 +2,34 @@ use Rattle.std.proofs.Common.{◌≡◌, subst}
 use Rattle.ata_types.specs.declared.Port.{Port}
 use Rattle.ata_types.specs.declared.Slot.{Slot}
 use Rattle.adapter.specs.Steps.{Can}
-use Rattle.adapter.specs.Steps.Step.{Fetch, Done}
+use Rattle.adapter.specs.Steps.Step.{Fetch, Move, Done}
 use Rattle.device_model.specs.Finishing.{IsReady}
-use Rattle.device_model.specs.Modelled.{device_at}
+use Rattle.device_model.specs.Modelled.{device_at, outside_at}
+use Rattle.device_model.specs.Whole.{Outside}
+use Rattle.device_model.proofs.Finishing.{has_move, works_takes}
 use Rattle.device_model.proofs.model.Model.do_step.Goals as goal
 
 pub returns-then-slot-lt32-clause-refused : goal.returns-then-slot-lt32-clause-refused
 returns-then-slot-lt32-clause-refused g c = λ no. c.fetch.ensures.refused no _
 
 pub returns-then-slot-lt32-clause-fetches : goal.returns-then-slot-lt32-clause-fetches
-returns-then-slot-lt32-clause-fetches g c = λ no p slot m places is low small read can.
+returns-then-slot-lt32-clause-fetches g c = λ no p slot m places is low small takes can.
     let d = device_at g.S.SectorStore.size g.S.SectorStore.told c.args.self.now in
     let ports : p ≡ c.in-Fetch.port = cc in
     let slots : slot ≡ c.in-Fetch.slot = cc in
-    c.fetch.ensures.only no _ m places read
+    c.fetch.ensures.only no _ m places takes
     (subst (λ (s : Slot). Can (Fetch c.in-Fetch.port.0 s.0 m places) d) slots (subst (λ (q : Port). Can (Fetch q.0 slot.0 m places) d) ports can))
+
+pub returns-then-slot-lt32-2-clause-moves : goal.returns-then-slot-lt32-2-clause-moves
+returns-then-slot-lt32-2-clause-moves g c = λ no sure room size p slot t bytes is small can.
+    let m = c.args.self.now in
+    let d = device_at g.S.SectorStore.size g.S.SectorStore.told m in
+    let o : Outside = outside_at g.S.SectorStore.size g.S.SectorStore.told m in
+    let ports : p ≡ c.in-Move.port = cc in
+    let slots : slot ≡ c.in-Move.slot = cc in
+    let here = subst (λ (s : Slot). Can (Move c.in-Move.port.0 s.0 t bytes) d) slots (subst (λ (q : Port). Can (Move q.0 slot.0 t bytes) d) ports can) in
+    c.move_piece.ensures.only no sure room size t
+    (has_move d c.in-Move.port.0 c.in-Move.slot.0 t bytes (works_takes m.hardware o c.in-Move.port.0 c.in-Move.slot.0 t here.works) here)
 
 pub returns-then-slot-lt32-3-clause-refused : goal.returns-then-slot-lt32-3-clause-refused
 returns-then-slot-lt32-3-clause-refused g c = λ no. c.done.ensures.refused no _

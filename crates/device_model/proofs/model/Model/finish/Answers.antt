@@ -1,22 +1,22 @@
 use Rattle.std.proofs.Common.{ℕ, suc, ◌≡◌, ◌≤◌, ◌+◌, ◌-◌, ◌^◌, ◌∙◌, true, false, inl, inr, refl, sym, ap, subst, arith}
 use Rattle.std.specs.Global.{Vec}
 use Rattle.std.specs.Vec.{vec_len, vec_capacity}
-use Rattle.adapter.specs.Device.{Device}
+use Rattle.adapter.specs.Device.{Device, Taken}
 use Rattle.adapter.specs.Asked.{DoesFetch, GoesOn}
 use Rattle.adapter.specs.declared.tape.Entry.{Entry}
-use Rattle.device_model.specs.Finishing.{IsGoing, IsReady}
-use Rattle.device_model.specs.Modelled.{device_at}
-use Rattle.device_model.specs.Whole.{Outside, device_of, outside_of}
+use Rattle.device_model.specs.Finishing.{HasMove, IsGoing, IsReady}
+use Rattle.device_model.specs.Modelled.{device_at, outside_at}
+use Rattle.device_model.specs.Whole.{Outside, device_of}
 use Rattle.adapter.proofs.Absurd.{true-false, some-none, some_one}
 use Rattle.adapter.proofs.Going.{goes_one, goes_next}
-use Rattle.device_model.proofs.Finishing.{fetched_goes, fetched_size, moved_goes, going_may_move, going_may_end, done_frees}
+use Rattle.device_model.proofs.Finishing.{fetched_goes, fetched_size, moved_goes, going_has_move, going_may_end, done_frees}
 use Rattle.device_model.proofs.model.Model.finish.Given.{Over}
 use Rattle.device_model.proofs.model.Model.finish.Goals as goal
 
 pub loop-piece-init : goal.loop-piece-init
 loop-piece-init g c =
     let m = c.args.self.now in
-    let o : Outside = outside_of (g.S.SectorStore.size m.disk0) (g.S.SectorStore.told m.disk0) (g.S.SectorStore.told m.disk1) in
+    let o : Outside = outside_at g.S.SectorStore.size g.S.SectorStore.told m in
     let new : Device = device_of c.fetch-did.new.self o in
     let kept = c.reserve.ensures.same o in
     record {
@@ -70,16 +70,20 @@ move_is_done : (g : Over) (c : goal.Then-not-move_piece g) → g.S.SectorStore.i
     (device_at g.S.SectorStore.size g.S.SectorStore.told c.args.self.now).size ≤ 2 ^ 32 → ⊥
 move_is_done g c sure small =
     let m = c.loop-piece.self in
+    let d : Device = device_at g.S.SectorStore.size g.S.SectorStore.told m in
     let size = g.S.SectorStore.size m.disk0 in
-    let told = g.S.SectorStore.told m.disk0 in
-    let law = g.met.S.SectorStore.tells_sectors m.disk0 in
-    let P : ℕ → Type 0 = λ n. IsGoing (device_at g.S.SectorStore.size g.S.SectorStore.told m) c.args.port c.args.slot c.sectors-sectors.result n in
-    let Q : ℕ → Type 0 = λ n. IsGoing (device_at g.S.SectorStore.size g.S.SectorStore.told m) c.args.port c.args.slot n (suc (c.in-Some.left - (c.loop-piece._piece + 1))) in
-    let next : c.in-Some.left - c.loop-piece._piece ≡ suc (c.in-Some.left - (c.loop-piece._piece + 1)) = omega (arith, c.loop-piece-test.true) in
+    let left = c.in-Some.left - (c.loop-piece._piece + 1) in
+    let P : ℕ → Type 0 = λ n. IsGoing d c.args.port c.args.slot c.sectors-sectors.result n in
+    let Q : ℕ → Type 0 = λ n. IsGoing d c.args.port c.args.slot n (suc left) in
+    let R : ℕ → Type 0 = λ q. IsGoing d q c.args.slot size (suc left) in
+    let S : ℕ → Type 0 = λ q. (t : Taken) × HasMove d q c.args.slot t in
+    let next : c.in-Some.left - c.loop-piece._piece ≡ suc left = omega (arith, c.loop-piece-test.true) in
     let going = subst Q (sym c.loop-piece.invariant.disk) (subst P next c.loop-piece.invariant.going) in
-    let found = going_may_move m.hardware size told (g.S.SectorStore.told m.disk1) c.args.port c.args.slot (c.in-Some.left - (c.loop-piece._piece + 1)) c.if-port-ne0.false law going in
+    let zero : c.args.port ≡ 0 = c.if-port-ne0.false in
+    let here : IsGoing d 0 c.args.slot size (suc left) = subst R zero going in
+    let found = subst S (sym zero) (here.t, going_has_move d 0 c.args.slot left here) in
     c.move_piece.ensures.only c.if-not-move_piece.true sure (omega (arith, c.loop-piece.invariant.room)) (omega (arith, c.loop-piece.invariant.size, small))
-    found.0 found.1 found.2
+    found.0 found.1
 
 pub returns-then-not-move_piece-clause-ends : goal.returns-then-not-move_piece-clause-ends
 returns-then-not-move_piece-clause-ends g c = λ _ sure small. absurd (move_is_done g c sure small)
@@ -90,7 +94,7 @@ returns-then-not-move_piece-clause-only g c = λ _ sure small zero left room rea
 pub returns-then-done-clause-ends : goal.returns-then-done-clause-ends
 returns-then-done-clause-ends g c = λ _ sure small.
     let m = c.loop-piece.self in
-    let o : Outside = outside_of (g.S.SectorStore.size m.disk0) (g.S.SectorStore.told m.disk0) (g.S.SectorStore.told m.disk1) in
+    let o : Outside = outside_at g.S.SectorStore.size g.S.SectorStore.told m in
     let P : ℕ → Type 0 = λ n. IsGoing (device_at g.S.SectorStore.size g.S.SectorStore.told m) c.args.port c.args.slot c.sectors-sectors.result n in
     let none : c.in-Some.left - c.loop-piece._piece ≡ 0 = omega (arith, c.loop-piece-test.false) in
     done_frees c.args.port c.args.slot c.sectors-sectors.result _ _ (subst P none c.loop-piece.invariant.going) (c.done.ensures.did c.if-done.true o)
@@ -99,7 +103,7 @@ returns-then-done-clause-ends g c = λ _ sure small.
 end_is_done : (g : Over) (c : goal.Else-done g) → ⊥
 end_is_done g c =
     let m = c.loop-piece.self in
-    let o : Outside = outside_of (g.S.SectorStore.size m.disk0) (g.S.SectorStore.told m.disk0) (g.S.SectorStore.told m.disk1) in
+    let o : Outside = outside_at g.S.SectorStore.size g.S.SectorStore.told m in
     let P : ℕ → Type 0 = λ n. IsGoing (device_at g.S.SectorStore.size g.S.SectorStore.told m) c.args.port c.args.slot c.sectors-sectors.result n in
     let none : c.in-Some.left - c.loop-piece._piece ≡ 0 = omega (arith, c.loop-piece-test.false) in
     let going = subst P none c.loop-piece.invariant.going in
@@ -115,14 +119,14 @@ returns-else-done-clause-only g c = λ _ sure small zero left room ready. end_is
 pub returns-in_default-clause-only : goal.returns-in_default-clause-only
 returns-in_default-clause-only g c = λ _ sure small zero left room ready.
     let m = c.args.self.now in
-    let o : Outside = outside_of (g.S.SectorStore.size m.disk0) (g.S.SectorStore.told m.disk0) (g.S.SectorStore.told m.disk1) in
+    let o : Outside = outside_at g.S.SectorStore.size g.S.SectorStore.told m in
     let P : ℕ → Type 0 = λ n. IsReady (device_of m.hardware o) c.args.port c.args.slot n left in
     some-none (c.moves_left.ensures.only o left (subst P (sym c.sectors-sectors.ensures) ready)) c.in_default.is
 
 pub returns-then-not-reserve-clause-only : goal.returns-then-not-reserve-clause-only
 returns-then-not-reserve-clause-only g c = λ _ sure small zero left room ready.
     let m = c.args.self.now in
-    let o : Outside = outside_of (g.S.SectorStore.size m.disk0) (g.S.SectorStore.told m.disk0) (g.S.SectorStore.told m.disk1) in
+    let o : Outside = outside_at g.S.SectorStore.size g.S.SectorStore.told m in
     let P : ℕ → Type 0 = λ n. IsReady (device_of m.hardware o) c.args.port c.args.slot n left in
     let same = some_one (c.in-Some.ensures.only o left (subst P (sym c.sectors-sectors.ensures) ready)) in
     true-false (c.reserve.ensures.enough (omega (arith, same, room))) c.if-not-reserve.true
@@ -133,19 +137,19 @@ returns-then-not-reserve-clause-refused g c = λ _. c.reserve.ensures.same _
 pub returns-then-done-clause-did : goal.returns-then-done-clause-did
 returns-then-done-clause-did g c = λ _.
     let m = c.loop-piece.self in
-    let o : Outside = outside_of (g.S.SectorStore.size m.disk0) (g.S.SectorStore.told m.disk0) (g.S.SectorStore.told m.disk1) in
+    let o : Outside = outside_at g.S.SectorStore.size g.S.SectorStore.told m in
     goes_next c.args.port c.args.slot _ _ _ c.loop-piece.did c.loop-piece.invariant.did c.loop-piece.invariant.refused
     (inr (inr (c.done.ensures.did c.if-done.true o)))
 
 pub returns-else-done-clause-did : goal.returns-else-done-clause-did
 returns-else-done-clause-did g c = λ e.
     let m = c.loop-piece.self in
-    let o : Outside = outside_of (g.S.SectorStore.size m.disk0) (g.S.SectorStore.told m.disk0) (g.S.SectorStore.told m.disk1) in
+    let o : Outside = outside_at g.S.SectorStore.size g.S.SectorStore.told m in
     let old : Device = device_at g.S.SectorStore.size g.S.SectorStore.told c.args.self.now in
     subst (λ (d : Device). GoesOn c.args.port c.args.slot old d) (sym (c.done.ensures.refused c.if-done.false o)) (c.loop-piece.invariant.did e)
 
 pub returns-else-done-clause-refused : goal.returns-else-done-clause-refused
 returns-else-done-clause-refused g c = λ e.
     let m = c.loop-piece.self in
-    let o : Outside = outside_of (g.S.SectorStore.size m.disk0) (g.S.SectorStore.told m.disk0) (g.S.SectorStore.told m.disk1) in
+    let o : Outside = outside_at g.S.SectorStore.size g.S.SectorStore.told m in
     c.done.ensures.refused c.if-done.false o ∙ c.loop-piece.invariant.refused e

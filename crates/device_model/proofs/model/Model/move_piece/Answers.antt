@@ -1,42 +1,87 @@
-use Rattle.std.proofs.Common.{◌≡◌, ◌∙◌, ap, arith}
+use Rattle.std.proofs.Common.{ℕ, ◌≡◌, ◌∙◌, ◌+◌, ◌∷◌, [], List, length, sym, ap, subst, arith}
+use Rattle.adapter.proofs.Absurd.{some_one, true-false}
+use Rattle.adapter.specs.Device.{Device, Disk}
+use Rattle.adapter.specs.Steps.{Can, after}
+use Rattle.adapter.specs.Steps.Step.{Move}
+use Rattle.device_model.specs.Modelled.{outside_at}
+use Rattle.device_model.specs.Slots.{IsNext}
 use Rattle.device_model.specs.View.{taken_of}
-use Rattle.device_model.specs.Whole.{Outside, device_of, outside_of}
+use Rattle.device_model.specs.Whole.{Outside, device_of, first_disk, outside_of, outside_after}
+use Rattle.device_model.specs.declared.port.TakenCommand.{TakenCommand}
 use Rattle.device_model.proofs.Stepping.{may_move}
-use Rattle.device_model.proofs.Finishing.{move_fits}
+use Rattle.device_model.proofs.Finishing.{move_fits, outside_moved}
 use Rattle.device_model.proofs.model.Model.move_piece.Goals as goal
 
+pub returns-then-not-reserve-clause-refused : goal.returns-then-not-reserve-clause-refused
+returns-then-not-reserve-clause-refused g c = λ _. c.reserve.ensures.same _
+
+pub returns-in_default-clause-refused : goal.returns-in_default-clause-refused
+returns-in_default-clause-refused g c = λ _. c.reserve.ensures.same _
+
+pub returns-in_default-clause-left : goal.returns-in_default-clause-left
+returns-in_default-clause-left g c = λ n room. let kept = c.reserve.ensures.kept (n + 1) room in omega (arith, kept)
+
 pub returns-in_default-clause-only : goal.returns-in_default-clause-only
-returns-in_default-clause-only g c = λ _ sure room small t bytes can.
+returns-in_default-clause-only g c = λ _ sure room small t move.
     let m = c.args.self.now in
-    let size = g.S.SectorStore.size m.disk0 in
-    let fits = g.met.S.SectorStore.fits m.disk0 in
-    let found = move_fits m.hardware size (g.S.SectorStore.told m.disk0) (g.S.SectorStore.told m.disk1) c.args.port c.args.slot t bytes c.if-port-ne0.false can in
-    c.next_move.ensures.none c.in_default.is small found.r found.holds found.left found.inside (omega (arith, found.on_disk, fits))
+    let o : Outside = outside_at g.S.SectorStore.size g.S.SectorStore.told m in
+    let sectors = g.met.S.SectorStore.fits m.disk0 in
+    let size : length c.reserve.new.self.memory.items ≡ length m.hardware.memory.items = ap (λ (d : Device). d.size) (c.reserve.ensures.same o) in
+    let found = move_fits c.reserve.new.self o _ c.args.port c.args.slot t c.if-port-ne0.false (c.reserve.ensures.same o) move in
+    c.next_move.ensures.none c.in_default.is (omega (arith, size, small)) found.r found.holds found.left found.inside (omega (arith, found.on_disk, sectors))
 
-pub returns-then-read-clause-did : goal.returns-then-read-clause-did
-returns-then-read-clause-did g c = λ did.
+pub returns-then-not-exchange-clause-refused : goal.returns-then-not-exchange-clause-refused
+returns-then-not-exchange-clause-refused g c = λ _.
     let m = c.args.self.now in
-    let size = g.S.SectorStore.size m.disk0 in
-    let told = g.S.SectorStore.told m.disk0 in
-    let other = g.S.SectorStore.told m.disk1 in
-    let o : Outside = outside_of size told other in
-    let same : outside_of (g.S.SectorStore.size c.read.new.self) (g.S.SectorStore.told c.read.new.self) other ≡ o =
-    λ i. outside_of (c.read.ensures.size i) (c.read.ensures.told i) other in
-    let brought = c.bring.ensures.did did o in
-    let next = brought.1 in
+    let o : Outside = outside_at g.S.SectorStore.size g.S.SectorStore.told m in
+    let was : List Disk = first_disk (g.S.SectorStore.size m.plugged.value) (g.S.SectorStore.told m.plugged.value) ∷ [] in
+    let kept = c.exchange.ensures.kept c.if-not-exchange.true in
+    (λ i. device_of c.reserve.new.self (outside_of (first_disk (c.exchange.ensures.size i) (kept i)) (g.S.SectorStore.told m.disk1) was))
+    ∙ c.reserve.ensures.same o
+
+pub returns-then-not-exchange-clause-only : goal.returns-then-not-exchange-clause-only
+returns-then-not-exchange-clause-only g c = λ _ sure room small t move.
+    let m = c.args.self.now in
+    let o : Outside = outside_at g.S.SectorStore.size g.S.SectorStore.told m in
+    let found = move_fits c.reserve.new.self o _ c.args.port c.args.slot t c.if-port-ne0.false (c.reserve.ensures.same o) move in
+    let is = c.in-Some.ensures.found.1 in
+    let same : found.r ≡ c.in-Some.ensures.found.0 = some_one (sym found.holds.held ∙ is.holds.held) in
+    let sector : c.in-Some.next.sector ≡ found.r.first + found.r.moved = is.sector_is ∙ ap (λ (r : TakenCommand). r.first + r.moved) (sym same) in
+    true-false (c.exchange.ensures.sure sure (omega (arith, sector, found.on_disk))) c.if-not-exchange.true
+
+pub returns-then-not-exchange-clause-left : goal.returns-then-not-exchange-clause-left
+returns-then-not-exchange-clause-left g c = λ n room. let kept = c.reserve.ensures.kept (n + 1) room in omega (arith, kept)
+
+pub returns-clause-left : goal.returns-clause-left
+returns-clause-left g c = λ n room. c.move_bytes.ensures.left n (c.reserve.ensures.kept (n + 1) room)
+
+pub returns-clause-did : goal.returns-clause-did
+returns-clause-did g c = λ _.
+    let m = c.args.self.now in
+    let o : Outside = outside_at g.S.SectorStore.size g.S.SectorStore.told m in
+    let h = c.reserve.new.self in
+    let bytes = c.exchange.new.bytes in
+    let did = c.if-not-exchange.false in
+    let zero : c.args.port ≡ 0 = c.if-port-ne0.false in
+    let moved = c.move_bytes.ensures.moved o in
+    let r : TakenCommand = moved.0 in
+    let is : IsNext h c.args.port c.args.slot c.in-Some.next r = moved.1 in
+    let disk : Disk = first_disk (g.S.SectorStore.size m.disk0) (g.S.SectorStore.told m.disk0) in
+    let new : Disk = first_disk (g.S.SectorStore.size c.exchange.new.disk) (g.S.SectorStore.told c.exchange.new.disk) in
+    let was : List Disk = first_disk (g.S.SectorStore.size m.plugged.value) (g.S.SectorStore.told m.plugged.value) ∷ [] in
+    let behind : outside_of new (g.S.SectorStore.told m.disk1) was ≡ outside_after o c.args.port (taken_of r) bytes =
+    outside_moved disk new (g.S.SectorStore.told m.disk1) was c.in-Some.next r bytes is.transfer_is is.sector_is (c.exchange.ensures.disk did)
+    ∙ ap (λ q. outside_after o q (taken_of r) bytes) (sym zero) in
+    let P : ℕ → Type 0 = λ q. IsNext h q c.args.slot c.in-Some.next r in
+    let Q : ℕ → Type 0 = λ q. Can (Move q c.args.slot (taken_of r) bytes) (device_of h o) in
+    let R : Device → Type 0 = λ d. Can (Move c.args.port c.args.slot (taken_of r) bytes) d in
     record {
-      t = taken_of brought.0;
-      bytes = c.read.new.out;
-      can = may_move m.hardware size told other c.args.port c.args.slot _ _ brought.0 c.read.new.out c.if-port-ne0.false next
-          (c.read.ensures.bytes c.if-read.true) (c.read.ensures.inside c.if-read.true) (c.read.ensures.gives c.if-read.true);
-      effect = ap (λ (x : Outside). device_of c.bring.new.self x) same ∙ brought.2;
+      t = taken_of r;
+      bytes = bytes;
+      can = subst R (c.reserve.ensures.same o)
+          (subst Q (sym zero)
+          (may_move h o 0 c.args.slot c.in-Some.next r bytes (subst P zero is) (c.exchange.ensures.sector did) (c.exchange.ensures.inside did)
+          (c.exchange.ensures.gives did) (c.exchange.ensures.takes did)));
+      effect = ap (λ (x : Outside). device_of c.move_bytes.new.self x) behind
+          ∙ (moved.2 ∙ ap (λ (d : Device). after (Move c.args.port c.args.slot (taken_of r) bytes) d) (c.reserve.ensures.same o));
     }
-
-pub returns-then-read-clause-refused : goal.returns-then-read-clause-refused
-returns-then-read-clause-refused g c = λ no.
-    let m = c.args.self.now in
-    let other = g.S.SectorStore.told m.disk1 in
-    let o : Outside = outside_of (g.S.SectorStore.size m.disk0) (g.S.SectorStore.told m.disk0) other in
-    let same : outside_of (g.S.SectorStore.size c.read.new.self) (g.S.SectorStore.told c.read.new.self) other ≡ o =
-    λ i. outside_of (c.read.ensures.size i) (c.read.ensures.told i) other in
-    ap (λ (x : Outside). device_of c.bring.new.self x) same ∙ c.bring.ensures.refused no o

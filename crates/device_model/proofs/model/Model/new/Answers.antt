@@ -1,4 +1,5 @@
-use Rattle.std.proofs.Common.{rules, ◌≡◌, ◌≢◌, false, refl, arith}
+use Rattle.std.proofs.Common.{rules, ◌≡◌, ◌≢◌, [], ◌∷◌, false, refl, ap, arith}
+use Rattle.device_model.specs.Whole.{first_disk}
 use Rattle.device_model.proofs.NewModel.{IsIdleModel, IsResetModel, blank_idle, ports_are, all_zero, disks_are, disks_told, zeros_small}
 use Rattle.device_model.proofs.model.Model.new.Goals as goal
 
@@ -11,8 +12,8 @@ returns-clause-idle g c = record {
 pub returns-clause-sane : goal.returns-clause-sane
 returns-clause-sane g c = let law = g.met.S.SectorStore.tells_sectors c.args.disk0 in record {
   bytes = zeros_small _ _ (c.in_ok-vec.ensures.items_if_clones_equal (λ y e. e));
-  disk = disks_are (g.S.SectorStore.size c.args.disk0) (g.S.SectorStore.told c.args.disk0) (g.S.SectorStore.told c.args.disk1) law;
-  told = disks_told (g.S.SectorStore.size c.args.disk0) (g.S.SectorStore.told c.args.disk0) (g.S.SectorStore.told c.args.disk1);
+  disk = disks_are _ (g.S.SectorStore.told c.args.disk1) _ law;
+  told = disks_told _ (g.S.SectorStore.told c.args.disk1) _;
 }
 
 pub returns-clause-made : goal.returns-clause-made
@@ -21,6 +22,7 @@ returns-clause-made g c = record {
   cap = search rules;
   pi = refl;
   disk = refl;
+  plugged = ap (λ s. first_disk (g.S.SectorStore.size s) (g.S.SectorStore.told s) ∷ []) c.of.ensures;
   present = c.new.ensures.present;
   others = λ port other.
       ports_are (λ k p. k ≢ 0 → p.present ≡ false) _ _ _ _ (λ no. absurd (no refl)) (λ _. c.new-2.ensures.present) (λ _. c.new-3.ensures.present) (λ _. c.new-4.ensures.present) port (λ _ _. refl) other;

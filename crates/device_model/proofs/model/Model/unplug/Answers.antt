@@ -1,4 +1,4 @@
-use Rattle.device_model.specs.Whole.{outside_of}
+use Rattle.device_model.specs.Modelled.{outside_at}
 use Rattle.device_model.proofs.Stepping.{stays_idle}
 use Rattle.device_model.proofs.model.Model.unplug.Goals as goal
 
@@ -11,7 +11,7 @@ returns-clause-refused g c = λ refused. c.unplug.ensures.refused refused _
 pub returns-clause-only : goal.returns-clause-only
 returns-clause-only g c = λ refused room may.
     let m = c.args.self.now in
-    c.unplug.ensures.only refused room (outside_of (g.S.SectorStore.size m.disk0) (g.S.SectorStore.told m.disk0) (g.S.SectorStore.told m.disk1)) may
+    c.unplug.ensures.only refused room (outside_at g.S.SectorStore.size g.S.SectorStore.told m) may
 
 pub returns-clause-idle : goal.returns-clause-idle
 returns-clause-idle g c = stays_idle c.unplug.result _ _ (λ yes. (c.unplug.ensures.did yes _).1) (λ refused. c.unplug.ensures.refused refused _)

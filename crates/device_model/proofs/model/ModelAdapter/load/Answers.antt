@@ -1,4 +1,4 @@
-use Rattle.device_model.specs.Whole.{outside_of}
+use Rattle.device_model.specs.Modelled.{outside_at}
 use Rattle.device_model.proofs.model.ModelAdapter.load.Goals as goal
 
 pub load-requires : goal.load-requires
@@ -9,5 +9,5 @@ returns g c =
     let m = c.do_queued.new.self in
     record {
       steps = c.do_queued.ensures.steps;
-      shows = c.load.ensures (outside_of (g.S.SectorStore.size m.disk0) (g.S.SectorStore.told m.disk0) (g.S.SectorStore.told m.disk1));
+      shows = c.load.ensures.shows (outside_at g.S.SectorStore.size g.S.SectorStore.told m);
     }

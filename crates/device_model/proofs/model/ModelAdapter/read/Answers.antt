@@ -2,7 +2,8 @@ use Rattle.adapter.proofs.Runs.{Steps-trans}
 use Rattle.std.proofs.Common.{subst}
 use Rattle.adapter.specs.Device.{Device}
 use Rattle.adapter.specs.Steps.{MayLinkUp}
-use Rattle.device_model.specs.Whole.{Outside, device_of, outside_of}
+use Rattle.device_model.specs.Modelled.{outside_at}
+use Rattle.device_model.specs.Whole.{Outside, device_of}
 use Rattle.device_model.proofs.Ports.{has_port_read, noted_link}
 use Rattle.device_model.proofs.model.ModelAdapter.read.Goals as goal
 
@@ -18,7 +19,7 @@ returns-clause-reads g c = record { mid = _; steps = Steps-trans c.do_queued.ens
 pub returns-clause-settled : goal.returns-clause-settled
 returns-clause-settled g c = λ port may.
     let m = c.do_queued.new.self in
-    let o : Outside = outside_of (g.S.SectorStore.size m.disk0) (g.S.SectorStore.told m.disk0) (g.S.SectorStore.told m.disk1) in
+    let o : Outside = outside_at g.S.SectorStore.size g.S.SectorStore.told m in
     let P : Device → Type 0 = λ d. MayLinkUp (d.port port) 0x101 in
     c.settle.ensures.settled o port
     (noted_link c.args.r c.shown-value.result (device_of c.settle.new.self o) port (subst P (c.note.ensures o) may))

@@ -1,10 +1,11 @@
-use Rattle.std.proofs.Common.{rules, ℕ, ◌≡◌, ◌<◌, ◌+◌, ◌∙◌, length, Option, Some, None, slice_index_or, ap}
+use Rattle.std.proofs.Common.{rules, ℕ, ◌≡◌, ◌<◌, ◌+◌, ◌∙◌, List, [], length, Option, Some, None, slice_index_or, sym, ap}
 use Rattle.std.specs.Prelude.{slice_set, option_map}
 use Rattle.adapter.specs.Device.{Taken}
 use Rattle.adapter.specs.Memory.{changed}
-use Rattle.device_model.specs.View.{port_of, slots_of, taken_of}
-use Rattle.device_model.specs.declared.port.TakenRead.{TakenRead}
+use Rattle.device_model.specs.View.{media_after, port_of, slots_of, taken_of}
+use Rattle.device_model.specs.declared.port.TakenCommand.{TakenCommand}
 use Rattle.device_model.proofs.SlotLemmas.{slots_set}
+use Rattle.device_model.proofs.Transfers.{no_block}
 use Rattle.device_model.proofs.port.PortModel.advance.Goals as goal
 
 pub returns : goal.returns
@@ -15,6 +16,9 @@ returns c = λ m t bytes held.
     let slots : slots_of (slice_set c.args.self.now.taken c.from.result c.add_moved.new.held)
     ≡ changed (slots_of c.args.self.now.taken) c.args.slot (Some (record (taken_of t) { moved = t.moved + 1 })) =
     slots_set c.args.self.now.taken c.from.result c.add_moved.new.held small
-    ∙ (ap (λ (o : Option TakenRead). changed (slots_of c.args.self.now.taken) c.from.result (option_map taken_of o)) next
+    ∙ (ap (λ (o : Option TakenCommand). changed (slots_of c.args.self.now.taken) c.from.result (option_map taken_of o)) next
     ∙ ap (λ k. changed (slots_of c.args.self.now.taken) k (Some (record (taken_of t) { moved = t.moved + 1 }))) c.from.ensures) in
-    ap (λ (f : ℕ → Option Taken). record (port_of c.args.self.now m) { taken = f }) slots
+    ap (λ (f : ℕ → Option Taken). record (port_of c.args.self.now (media_after m (taken_of t) bytes)) { taken = f })
+    (slots
+    ∙ ap (λ (b : List ℕ). changed (slots_of c.args.self.now.taken) c.args.slot (Some (record (taken_of t) { moved = t.moved + 1; block = b })))
+    (sym (no_block t.transfer bytes [])))

@@ -1,0 +1,14 @@
+use Rattle.std.proofs.Common.{ℕ, true, ◌∙◌, ap}
+use Rattle.adapter.specs.Memory.{bytes_at}
+use Rattle.device_model.specs.Fetched.{bytes_of}
+use Rattle.device_model.specs.Whole.{Outside, no_media}
+use Rattle.device_model.proofs.model.exchange.Goals as goal
+
+pub returns-in-Write-clause-sector : goal.returns-in-Write-clause-sector
+returns-in-Write-clause-sector g c = λ _. (c.write.array_long, c.load.ensures.bytes)
+
+pub returns-in-Write-clause-takes : goal.returns-in-Write-clause-takes
+returns-in-Write-clause-takes g c = λ _ _.
+    let memory : ℕ → ℕ = bytes_of c.args.hardware.now.memory.items in
+    let nothing : Outside = record { telling = true; media = λ _. no_media } in
+    c.load.ensures.shows nothing ∙ ap (λ n. bytes_at memory c.args.next.address n) c.write.array_long

@@ -1,0 +1,11 @@
+use Rattle.std.proofs.Common.{ℕ, ◌≤◌, ◌+◌, ◌∙◌, ap, List, length, slice_index, arith}
+use Rattle.adapter.proofs.Changed.{fun_ext}
+use Rattle.device_model.proofs.Bytes.{put_reads}
+use Rattle.device_model.proofs.steps.put_piece.Goals as goal
+
+pub returns-in-Read-clause-put : goal.returns-in-Read-clause-put
+returns-in-Read-clause-put c =
+    let small : c.args.next.address + length c.args.bytes.now ≤ length c.args.memory.now = omega (arith, c.requires, c.told-bytes) in
+    rw c.in-Read.is
+    (fun_ext (λ a.
+    ap (λ (l : List ℕ). slice_index l a) c.put.ensures ∙ put_reads c.args.memory.now c.args.bytes.now c.args.next.address a small))
