@@ -1,9 +1,7 @@
 -- A client's load adds an event to each history.
-use Rattle.std.proofs.Common.{ℕ, ◌≡◌, ◌+◌, ◌<◌, arith, Bool, true, false, List, [], ◌∷◌, Option, Some, Ok, Err, refl, sym, ap, ◌∙◌, subst, inr, length}
+use Rattle.std.proofs.Common.{ℕ, ◌≡◌, Bool, true, false, List, [], ◌∷◌, Option, Ok, Err, refl, sym, ap, ◌∙◌, subst, inr, length}
 use Rattle.std.proofs.lemmas.Bool.{false≢true}
-use Rattle.std.specs.Prelude.{IsSome}
 use Rattle.ata_types.specs.declared.refusal.MemFault.{MemFault}
-use Rattle.ata_types.specs.declared.refusal.MemFault.TheVariants.{FrameForeign, FrameLent, OutsideFrame}
 use Rattle.ata_types.specs.declared.request.ClientId.{ClientId}
 use Rattle.ata_types.specs.declared.request.Frame.{Frame}
 use Rattle.ata_types.specs.declared.request.RequestId.{RequestId}
@@ -12,7 +10,7 @@ use Rattle.adapter.specs.declared.access.DeviceStep.{DeviceStep}
 use Rattle.adapter.proofs.Changed.{fun_ext}
 use Rattle.block_machine.specs.Left.{after}
 use Rattle.block_machine.specs.Ports.{AreFit}
-use Rattle.block_machine.specs.Refusals.{MemApplies, mem_fault_number, IsOpen, IsFirstMemFault}
+use Rattle.block_machine.specs.Refusals.{IsOpen, IsFirstMemFault}
 use Rattle.block_machine.specs.Steps.{Step, Load, Store}
 use Rattle.block_machine.specs.Events.{Ask, LoadAt, Device as Told, Said, Loaded, AllMay, AllDevices, Belong, IssuesLast, AllLawful, IsAnswered, Heeds, transfers_of}
 use Rattle.block_machine.specs.Histories.{Instant, Happening, now, Leads, Adds}
@@ -155,8 +153,8 @@ module _ {A : Type 0} (device : A → Device) where
     refusal_adds count fault is =
         nothing_adds s (LoadAt client frame offset count) (Loaded (Err fault)) refl (by_none IsOrdinary (device s.adapter))
         (λ old at. (
-        as_told old s at (λ owner lent. IsFirstMemFault owner lent client frame offset count fault) is,
-        refl,
-        ports_same old.moment.ports (ports_of s) at.ports_are,
+          as_told old s at (λ owner lent. IsFirstMemFault owner lent client frame offset count fault) is,
+          refl,
+          ports_same old.moment.ports (ports_of s) at.ports_are,
         ))
         (λ old. spared)

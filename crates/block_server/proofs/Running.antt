@@ -1,6 +1,5 @@
 -- One more event.
 use Rattle.std.proofs.Common.{◌≡◌, List, [], ◌∷◌, ◌++◌, map, reverse, refl, sym, ap, ◌∙◌, subst}
-use Rattle.std.proofs.lemmas.Bool.{false≢true}
 use mathlib.Core.List.{map-append, reverse-append}
 use Rattle.ata_types.specs.declared.Port.{Port}
 use Rattle.ata_types.specs.declared.PortState.{PortState}
@@ -9,8 +8,7 @@ use Rattle.adapter.specs.declared.access.DeviceStep.{DeviceStep}
 use Rattle.block_machine.specs.Events.{Ask, State, Shown}
 use Rattle.block_machine.specs.Events as machine_events
 use Rattle.block_machine.specs.Ports.{Ports}
-use Rattle.block_machine.specs.Histories.{Instant, Happening, now, Leads, Adds}
-use Rattle.agreement.proofs.Adding.{nothing_backed}
+use Rattle.block_machine.specs.Histories.{Adds}
 use Rattle.block_server.specs.Calls.{state_of}
 use Rattle.port_driver.specs.Followed.{IsOrdinary}
 use Rattle.block_server.specs.History.{Begins, Ties, Stands, AddsAll, ask_of, said_of, ports_of}
@@ -20,8 +18,7 @@ use Rattle.block_server.specs.declared.types.Event.{Event}
 use Rattle.block_server.specs.declared.types.Said.{Said}
 use Rattle.port_driver.proofs.Driving.{by_none}
 use Rattle.block_server.proofs.Heeding.{spared}
-use Rattle.block_server.proofs.Shown.{still_shown}
-use Rattle.block_server.proofs.Histories.{ports_same, stands_on}
+use Rattle.block_server.proofs.Histories.{ports_same}
 use Rattle.block_server.proofs.Leading.{nothing_adds}
 
 module _ {A : Type 0} (device : A → Device) where

@@ -1,5 +1,5 @@
 -- A client's store leaves what the server keeps, and adds an event to each history.
-use Rattle.std.proofs.Common.{ℕ, ◌≡◌, ◌+◌, ◌*◌, ◌≤◌, arith, List, [], ◌∷◌, length, Option, Some, None, Err, refl, sym, ap, ◌∙◌, subst, inr}
+use Rattle.std.proofs.Common.{ℕ, ◌≡◌, ◌+◌, ◌*◌, ◌≤◌, arith, List, ◌∷◌, length, Option, Some, None, refl, sym, ap, ◌∙◌, subst, inr}
 use Rattle.std.proofs.lemmas.Bool.{false≢true}
 use Rattle.ata_types.specs.declared.PortState.{PortState}
 use Rattle.ata_types.specs.declared.PortState.TheVariants.{Absent, Ready, Foreign, Unfit, Dead}
@@ -85,8 +85,8 @@ module _ {A : Type 0} (device : A → Device) (s : ServerView A) (client : Clien
   refusal_adds fault is =
       nothing_adds device s (StoreAt client frame offset bytes) (Stored (Some fault)) refl (by_none IsOrdinary (device s.adapter))
       (λ old at. (
-      as_told device old s at (λ owner lent. IsFirstMemFault owner lent client frame offset (length bytes) fault) is,
-      refl,
-      ports_same old.moment.ports (ports_of s) at.ports_are,
+        as_told device old s at (λ owner lent. IsFirstMemFault owner lent client frame offset (length bytes) fault) is,
+        refl,
+        ports_same old.moment.ports (ports_of s) at.ports_are,
       ))
       (λ old. spared)

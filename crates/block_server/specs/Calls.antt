@@ -155,7 +155,7 @@ abbrev pub StoresFrame : {A : Type 0} → (A → Device) → ServerView A → Se
 StoresFrame device old new client frame offset bytes (Ok done) =
     IsOpen (owner_of old.table) (lent_to old.table) client frame offset (length bytes)
     × ((call : Stores (4096 * frame.0 + offset) bytes (device old.adapter) (device new.adapter))
-        × Proceeds (served_by old) (device old.adapter) call.mid)
+    × Proceeds (served_by old) (device old.adapter) call.mid)
     × SameServer old new
 StoresFrame device old new client frame offset bytes (Err fault) =
     IsFirstMemFault (owner_of old.table) (lent_to old.table) client frame offset (length bytes) fault × (new ≡ old)

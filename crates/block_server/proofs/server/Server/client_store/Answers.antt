@@ -1,4 +1,4 @@
-use Rattle.std.proofs.Common.{◌+◌, ◌*◌, ◌≡◌, ℕ, length, None, Err, refl, sym, ap, ◌∙◌, subst}
+use Rattle.std.proofs.Common.{◌+◌, ◌*◌, ℕ, length, None, Err, refl, sym, ap, ◌∙◌, subst}
 use Rattle.std.proofs.lemmas.Result.{err_from_is_err_and}
 use Rattle.std.specs.Vec.{vec_capacity}
 use Rattle.adapter.specs.Access.{Stores}
@@ -48,7 +48,7 @@ returns-clause-stores g c =
     let P : ServerView g.row.A.Denot → Type 0 = λ v.
     Q v
     × ((call : Stores (4096 * c.args.frame.0 + c.args.offset) c.args.bytes.now (g.A.Adapter.device v.adapter) (g.A.Adapter.device c.store.new.self))
-        × Proceeds (served_by v) (g.A.Adapter.device v.adapter) call.mid)
+    × Proceeds (served_by v) (g.A.Adapter.device v.adapter) call.mid)
     × SameServer v (record s { adapter = c.store.new.self }) in
     let call = subst (λ (at : ℕ). Stores at c.args.bytes.now (g.A.Adapter.device s.adapter) (g.A.Adapter.device c.store.new.self)) c.in_ok-address.ensures.ok.1 c.store.ensures in
     subst P c.self.view_is (
