@@ -10,13 +10,13 @@ use Rattle.adapter.specs.declared.access.DeviceStep.{DeviceStep}
 use Rattle.adapter.proofs.Runs.{Steps-refl}
 use Rattle.block_machine.specs.Left.{after}
 use Rattle.block_machine.specs.Ports.{Ports, Evidence, AreFit, SamePorts, SameDisk}
-use Rattle.block_machine.specs.State.{Pending}
+use Rattle.block_machine.specs.State.{Machine, Pending}
 use Rattle.block_machine.specs.Steps.{Step, Issue, Again, Answer}
 use Rattle.block_machine.specs.Events.{Moment, Ask, Device as Told, Said, Stepped, IsDevices, AllDevices, Belong, IssuesLast, AllLawful, handles}
 use Rattle.block_machine.specs.Histories.{Instant, Happening, now, IsHistory, Leads, Adds}
 use Rattle.block_machine.proofs.HistoryLemmas.{history_reaches}
 use Rattle.agreement.specs.Driver.{Knows, IsBacked, ByDevice}
-use Rattle.agreement.specs.Spares.{AllFurther}
+use Rattle.agreement.specs.Spares.{AllFurther, SparesBook}
 use Rattle.agreement.proofs.Adding.{device_adds, nothing_backed}
 use Rattle.agreement.proofs.Sparing.{steps_spare}
 use Rattle.block_server.specs.Calls.{StepsDevice}
@@ -84,23 +84,28 @@ done_of (Stepped done) = done
 done_of said = false
 
 module _ {A : Type 0} (device : A → Device) where
-  -- where the server stands after steps of the device
+  -- where the server stands with a machine that has its book, its loans and what else it was
+  pub stands_with : (old : Instant Device) (s : ServerView A) (adapter : A) (m : Machine) → Stands device old s → SparesBook old.moment.machine m
+      → Knows m (record (known_of device s) { device = device adapter })
+      → Stands device (record { device = device adapter; moment = record { machine = m; ports = ports_of s } }) (record s { adapter = adapter })
+  stands_with old s adapter m at spares knows = record {
+    device_is = refl;
+    ports_are = refl;
+    knows = knows;
+    book = book_further s.issued s.book old.moment.machine.book m.book spares.book at.book;
+    kept = subst (λ (es : List Pending). AllFurther es m.kept) at.kept spares.kept;
+    rows = spares.rows ∙ at.rows;
+    owner = λ frame. ap (λ f. f frame) spares.owner ∙ at.owner frame;
+    lent = λ frame. ap (λ f. f frame) spares.lent ∙ at.lent frame;
+    next = spares.next ∙ at.next;
+  }
+
+  -- where it stands after steps of the device
   pub stands_on : (old : Instant Device) (s : ServerView A) (adapter : A) (steps : List Step) → Stands device old s → AllDevices steps
       → Knows (after old.moment.machine steps) (record (known_of device s) { device = device adapter })
       → Stands device (record { device = device adapter; moment = record { machine = after old.moment.machine steps; ports = ports_of s } }) (record s { adapter = adapter })
   stands_on old s adapter steps at own knows =
-      let spares = steps_spare old.moment.machine steps own in
-      record {
-        device_is = refl;
-        ports_are = refl;
-        knows = knows;
-        book = book_further s.issued s.book old.moment.machine.book (after old.moment.machine steps).book spares.book at.book;
-        kept = subst (λ (es : List Pending). AllFurther es (after old.moment.machine steps).kept) at.kept spares.kept;
-        rows = spares.rows ∙ at.rows;
-        owner = λ frame. ap (λ f. f frame) spares.owner ∙ at.owner frame;
-        lent = λ frame. ap (λ f. f frame) spares.lent ∙ at.lent frame;
-        next = spares.next ∙ at.next;
-      }
+      stands_with old s adapter (after old.moment.machine steps) at (steps_spare old.moment.machine steps own) knows
 
   pub step_adds : (s : ServerView A) (adapter : A) (step : DeviceStep) (done : Bool) → IsAsShown s.state (device adapter) → StepsDevice device s (record s { adapter = adapter }) step done
       → Adds Begins Ties (Stands device) s (record s { adapter = adapter }) (Told step) (Stepped done)

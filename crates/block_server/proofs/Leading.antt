@@ -1,9 +1,7 @@
 -- A client's load adds an event to each history.
-use Rattle.std.proofs.Common.{ℕ, ◌≡◌, ◌+◌, ◌<◌, arith, Bool, true, false, List, [], ◌∷◌, Option, Some, Ok, Err, refl, sym, ap, ◌∙◌, subst, inr, length}
+use Rattle.std.proofs.Common.{ℕ, ◌≡◌, Bool, true, false, List, [], ◌∷◌, Option, Ok, Err, refl, sym, ap, ◌∙◌, subst, inr, length}
 use Rattle.std.proofs.lemmas.Bool.{false≢true}
-use Rattle.std.specs.Prelude.{IsSome}
 use Rattle.ata_types.specs.declared.refusal.MemFault.{MemFault}
-use Rattle.ata_types.specs.declared.refusal.MemFault.TheVariants.{FrameForeign, FrameLent, OutsideFrame}
 use Rattle.ata_types.specs.declared.request.ClientId.{ClientId}
 use Rattle.ata_types.specs.declared.request.Frame.{Frame}
 use Rattle.ata_types.specs.declared.request.RequestId.{RequestId}
@@ -12,7 +10,7 @@ use Rattle.adapter.specs.declared.access.DeviceStep.{DeviceStep}
 use Rattle.adapter.proofs.Changed.{fun_ext}
 use Rattle.block_machine.specs.Left.{after}
 use Rattle.block_machine.specs.Ports.{AreFit}
-use Rattle.block_machine.specs.Refusals.{MemApplies, mem_fault_number, IsOpen, IsFirstMemFault}
+use Rattle.block_machine.specs.Refusals.{IsOpen, IsFirstMemFault}
 use Rattle.block_machine.specs.Steps.{Step, Load, Store}
 use Rattle.block_machine.specs.Events.{Ask, LoadAt, Device as Told, Said, Loaded, AllMay, AllDevices, Belong, IssuesLast, AllLawful, IsAnswered, Heeds, transfers_of}
 use Rattle.block_machine.specs.Histories.{Instant, Happening, now, Leads, Adds}
@@ -35,38 +33,11 @@ is_told (Told step) = true
 is_told ask = false
 
 -- the device's steps move no client's bytes
-devices_transfer : (steps : List Step) → AllDevices steps → transfers_of steps ≡ []
+pub devices_transfer : (steps : List Step) → AllDevices steps → transfers_of steps ≡ []
 devices_transfer [] a = refl
 devices_transfer (Store c f o bytes ∷ before) a = absurd a.1
 devices_transfer (Load c f o bytes ∷ before) a = absurd a.1
 devices_transfer (step ∷ before) a = devices_transfer before a.0
-
--- ---- the first cause against an access
-
-module _ (owner : Frame → Option ClientId) (lent : Frame → Option RequestId) (client : ClientId) (frame : Frame) (offset count : ℕ) where
-  pub first_foreign : (owner frame ≡ Some client → ⊥) → IsFirstMemFault owner lent client frame offset count FrameForeign
-  first_foreign other = (other, before)
-    where
-      before : (fault : MemFault) → mem_fault_number fault < 1 → MemApplies owner lent client frame offset count fault → ⊥
-      before FrameForeign lt h = omega (arith, lt)
-      before FrameLent lt h = omega (arith, lt)
-      before OutsideFrame lt h = omega (arith, lt)
-
-  pub first_lent : owner frame ≡ Some client → IsSome (lent frame) → IsFirstMemFault owner lent client frame offset count FrameLent
-  first_lent own out = (out, before)
-    where
-      before : (fault : MemFault) → mem_fault_number fault < 2 → MemApplies owner lent client frame offset count fault → ⊥
-      before FrameForeign lt h = h own
-      before FrameLent lt h = omega (arith, lt)
-      before OutsideFrame lt h = omega (arith, lt)
-
-  pub first_outside : owner frame ≡ Some client → (IsSome (lent frame) → ⊥) → 4096 < offset + count → IsFirstMemFault owner lent client frame offset count OutsideFrame
-  first_outside own free far = (far, before)
-    where
-      before : (fault : MemFault) → mem_fault_number fault < 3 → MemApplies owner lent client frame offset count fault → ⊥
-      before FrameForeign lt h = h own
-      before FrameLent lt h = free h
-      before OutsideFrame lt h = omega (arith, lt)
 
 module _ {A : Type 0} (device : A → Device) where
   -- a call that isn't one of the device, with what its event needs
@@ -123,6 +94,30 @@ module _ {A : Type 0} (device : A → Device) where
   pub lent_is : (old : Instant Device) (s : ServerView A) → Stands device old s → old.moment.machine.lent ≡ lent_to s.table
   lent_is old s at = fun_ext at.lent
 
+  -- what holds of the server's owners and loans holds of the machine's
+  pub as_told : (old : Instant Device) (s : ServerView A) → Stands device old s → (P : (Frame → Option ClientId) → (Frame → Option RequestId) → Type 0)
+      → P (owner_of s.table) (lent_to s.table) → P old.moment.machine.owner old.moment.machine.lent
+  as_told old s at P holds =
+      subst (λ owner. P owner old.moment.machine.lent) (sym (owner_is old s at)) (subst (λ lent. P (owner_of s.table) lent) (sym (lent_is old s at)) holds)
+
+  -- a call that does nothing
+  pub nothing_adds : (s : ServerView A) (ask : Ask DeviceStep) (said : Said) → is_told ask ≡ false → CameBy ask said (device s.adapter) (device s.adapter)
+      → ((old : Instant Device) → Stands device old s → IsAnswered ask said old.moment no_evidence [] (record { machine = old.moment.machine; ports = ports_of s }))
+      → ((old : Instant Device) → Heeds ask old.moment no_evidence [] (record { machine = old.moment.machine; ports = ports_of s }))
+      → Adds Begins Ties (Stands device) s s ask said
+  nothing_adds s ask said other came answered heeds = record { adds = adds }
+    where
+      adds : (first : Instant Device) (past : List (Happening Device DeviceStep)) → Leads Begins Ties (Stands device) first past s
+          → (h : Happening Device DeviceStep) × (h.event.ask ≡ ask) × (h.event.said ≡ said) × Leads Begins Ties (Stands device) first (h ∷ past) s
+      adds first past leads =
+          let old : Instant Device = now first past in
+          let at : Stands device old s = leads.stands in
+          lead_on first past s s ask said [] leads other (λ r. refl) refl tt tt tt tt (answered old at) came
+          (still_shown device first past s leads)
+          (heeds old)
+          (nothing_backed (device s.adapter) old.moment.machine)
+          (stands_on device old s s.adapter [] at tt at.knows)
+
   -- ---- a load
 
   module _ (s : ServerView A) (adapter : A) (client : ClientId) (frame : Frame) (offset : ℕ) where
@@ -133,8 +128,7 @@ module _ {A : Type 0} (device : A → Device) where
         let old : Instant Device = now first past in
         let at : Stands device old s = leads.stands in
         let here : IsOpen old.moment.machine.owner old.moment.machine.lent client frame offset count =
-        subst (λ owner. IsOpen owner old.moment.machine.lent client frame offset count) (sym (owner_is old s at))
-        (subst (λ lent. IsOpen (owner_of s.table) lent client frame offset count) (sym (lent_is old s at)) opens) in
+        as_told old s at (λ owner lent. IsOpen owner lent client frame offset count) opens in
         let k = known_of device s in
         let x : EndsWith k old.moment.machine (Load client frame offset bytes) (record k { device = device adapter }) =
         followed.loads k.uses k.parked old.moment.machine (history_reaches Begins Ties first past leads.history) at.knows
@@ -154,24 +148,13 @@ module _ {A : Type 0} (device : A → Device) where
         → IsAsShown s.state (device adapter) → Adds Begins Ties (Stands device) s (record s { adapter = adapter }) (LoadAt client frame offset count) (Loaded (Ok bytes))
     load_adds count bytes long opens followed shown = record { adds = loads_on count bytes long opens followed shown }
 
-    refuses_on : (count : ℕ) (fault : MemFault) → IsFirstMemFault (owner_of s.table) (lent_to s.table) client frame offset count fault
-        → (first : Instant Device) (past : List (Happening Device DeviceStep)) → Leads Begins Ties (Stands device) first past s
-        → (h : Happening Device DeviceStep) × (h.event.ask ≡ LoadAt client frame offset count) × (h.event.said ≡ Loaded (Err fault)) × Leads Begins Ties (Stands device) first (h ∷ past) s
-    refuses_on count fault is first past leads =
-        let old : Instant Device = now first past in
-        let at : Stands device old s = leads.stands in
-        lead_on first past s s (LoadAt client frame offset count) (Loaded (Err fault)) [] leads refl (λ r. refl) refl tt tt tt tt (
-          subst (λ owner. IsFirstMemFault owner old.moment.machine.lent client frame offset count fault) (sym (owner_is old s at))
-              (subst (λ lent. IsFirstMemFault (owner_of s.table) lent client frame offset count fault) (sym (lent_is old s at)) is),
-          refl,
-          ports_same old.moment.ports (ports_of s) at.ports_are,
-        )
-        (by_none IsOrdinary (device s.adapter))
-        (still_shown device first past s leads)
-        spared
-        (nothing_backed (device s.adapter) old.moment.machine)
-        (stands_on device old s s.adapter [] at tt at.knows)
-
     pub refusal_adds : (count : ℕ) (fault : MemFault) → IsFirstMemFault (owner_of s.table) (lent_to s.table) client frame offset count fault
         → Adds Begins Ties (Stands device) s s (LoadAt client frame offset count) (Loaded (Err fault))
-    refusal_adds count fault is = record { adds = refuses_on count fault is }
+    refusal_adds count fault is =
+        nothing_adds s (LoadAt client frame offset count) (Loaded (Err fault)) refl (by_none IsOrdinary (device s.adapter))
+        (λ old at. (
+          as_told old s at (λ owner lent. IsFirstMemFault owner lent client frame offset count fault) is,
+          refl,
+          ports_same old.moment.ports (ports_of s) at.ports_are,
+        ))
+        (λ old. spared)

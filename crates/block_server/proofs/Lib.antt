@@ -17,3 +17,4 @@ mod Submitting
 mod Servicing
 mod Answered
 mod Holding
+mod Storing

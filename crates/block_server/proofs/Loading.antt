@@ -1,8 +1,7 @@
 -- What the device does meanwhile leaves what the server keeps, and a frame that is lent to none may be loaded.
 use Rattle.std.proofs.Common.{ℕ, ◌≡◌, ◌+◌, ◌*◌, ◌<◌, ◌≤◌, inl, inr, Bool, true, false, List, [], ◌∷◌, Option, Some, None, refl, sym, ap, subst, arith}
 use Rattle.std.specs.List.{All, Contains}
-use Rattle.std.specs.Option.{is_some}
-use Rattle.std.proofs.lemmas.Bool.{cases_eq}
+use Rattle.std.proofs.lemmas.Bool.{cases_eq, cases_lt}
 use Rattle.std.proofs.lemmas.List.Elements.{All-head, All-contains}
 use Rattle.ata_types.specs.declared.PortState.{PortState}
 use Rattle.ata_types.specs.declared.PortState.TheVariants.{Absent, Ready, Foreign, Unfit, Dead}
@@ -11,13 +10,14 @@ use Rattle.ata_types.specs.declared.request.Frame.{Frame}
 use Rattle.adapter.specs.Device.{Bases, Device}
 use Rattle.adapter.specs.Rules.{IsFree, Stays}
 use Rattle.adapter.specs.Steps.{Steps}
-use Rattle.adapter.proofs.Absurd.{true-false, some-none}
+use Rattle.adapter.proofs.Absurd.{some-none}
 use Rattle.adapter.proofs.Calls.{KeepsAll, steps_keep_all}
 use Rattle.adapter.proofs.Free.{apart_free_stays}
 use Rattle.std.specs.Prelude.{IsSome}
 use Rattle.ata_types.specs.declared.refusal.MemFault.TheVariants.{FrameForeign, FrameLent, OutsideFrame}
 use Rattle.ata_types.specs.declared.request.RequestId.{RequestId}
 use Rattle.block_machine.specs.Refusals.{IsOpen}
+use Rattle.block_machine.proofs.Limits.{owned}
 use Rattle.dma_frames.specs.Table.{Table, owner_of, lent_to}
 use Rattle.block_server.specs.Book.{IsKept, IsAccepted, StandsBehind, served, issued_of}
 use Rattle.port_driver.specs.Port.{IsSlotFree, IsLone, IsRunning, IsResting, Issued, HoldsTransfer, Serves, IsTableByte, IsKeptByte, IsInFrames, IsOutsideArea}
@@ -41,7 +41,7 @@ rests_after old new s steps =
     let k : KeepsAll old new = steps_keep_all s.0.on.no_reset steps in
     (lone_after k s.0, resting_after (k.port 0) (k.on.controls 0) s.1)
 
-stands_after : (state : PortState) (o : Option Issued) (old new : Device) → StandsBehind state o old → Steps old new → StandsBehind state o new
+pub stands_after : (state : PortState) (o : Option Issued) (old new : Device) → StandsBehind state o old → Steps old new → StandsBehind state o new
 stands_after Ready o old new s steps = serves_after o old new s steps
 stands_after Absent o old new s steps = rests_after old new s steps
 stands_after Foreign o old new s steps = rests_after old new s steps
@@ -57,23 +57,31 @@ is_lone (Unfit n) o d s = s.0
 is_lone Dead o d s = s.0
 
 module _ {A : Type 0} (device : A → Device) (s : ServerView A) (places : ℕ) (inv : IsKept device s places) where
+  -- of the adapter the server keeps how large its memory is, and what port 0 is
+  pub kept_with : (adapter : A) → (device adapter).size ≡ (device s.adapter).size → StandsBehind s.state (served s.issued s.book) (device adapter)
+      → IsKept device (record s { adapter = adapter }) places
+  kept_with adapter size stands = record {
+    room = inv.room;
+    few = inv.few;
+    rows = inv.rows;
+    owners = owns_on s.table s.table (device s.adapter).size (device adapter).size refl size inv.owners;
+    accepted = inv.accepted;
+    ordered = inv.ordered;
+    handed_out = inv.handed_out;
+    due = inv.due;
+    some = inv.some;
+    port = stands;
+    ready = inv.ready;
+  }
+
+  -- how large the memory is stays so
+  pub size_after : (new : Device) → Steps (device s.adapter) new → new.size ≡ (device s.adapter).size
+  size_after new steps = (steps_keep_all (is_lone s.state (served s.issued s.book) (device s.adapter) inv.port).on.no_reset steps).size
+
   pub kept_after : (adapter : A) → Steps (device s.adapter) (device adapter) → IsKept device (record s { adapter = adapter }) places
   kept_after adapter steps =
-      let lone = is_lone s.state (served s.issued s.book) (device s.adapter) inv.port in
-      let k : KeepsAll (device s.adapter) (device adapter) = steps_keep_all lone.on.no_reset steps in
-      record {
-        room = inv.room;
-        few = inv.few;
-        rows = inv.rows;
-        owners = owns_on s.table s.table (device s.adapter).size (device adapter).size refl k.size inv.owners;
-        accepted = inv.accepted;
-        ordered = inv.ordered;
-        handed_out = inv.handed_out;
-        due = inv.due;
-        some = inv.some;
-        port = stands_after s.state (served s.issued s.book) (device s.adapter) (device adapter) inv.port steps;
-        ready = inv.ready;
-      }
+      kept_with adapter (size_after (device adapter) steps)
+      (stands_after s.state (served s.issued s.book) (device s.adapter) (device adapter) inv.port steps)
 
 -- ---- bytes of a frame
 
@@ -170,16 +178,23 @@ module _ {A : Type 0} (device : A → Device) (s : ServerView A) (places : ℕ) 
   by_state (Unfit m) stands = resting_loads stands
   by_state Dead stands = resting_loads stands
 
-  pub frame_loads : Stays (IsFree (4096 * f.0 + offset) n) (device s.adapter)
+  frame_loads : Stays (IsFree (4096 * f.0 + offset) n) (device s.adapter)
   frame_loads = by_state s.state inv.port
 
-pub none_if_not_some : {T : Type 0} (o : Option T) → is_some o ≡ false → o ≡ None
-none_if_not_some None e = refl
-none_if_not_some (Some x) e = true-false refl e
+-- a frame that is open is its client's, and lent to none
+pub open_owned : (table : Table) (f : Frame) (client : ClientId) (offset n : ℕ) → IsOpen (owner_of table) (lent_to table) client f offset n → owner_of table f ≡ Some client
+open_owned table f client offset n opens = owned (owner_of table f) client (opens FrameForeign)
 
--- such a frame is open to its client
-pub frame_opens : (table : Table) (f : Frame) (client : ClientId) (offset n : ℕ) → owner_of table f ≡ Some client → lent_to table f ≡ None → offset + n ≤ 4096 →
-    IsOpen (owner_of table) (lent_to table) client f offset n
-frame_opens table f client offset n owner lent fits FrameForeign applies = applies owner
-frame_opens table f client offset n owner lent fits FrameLent applies = let P : Option RequestId → Type 0 = λ o. IsSome o in true-false (subst P lent applies) refl
-frame_opens table f client offset n owner lent fits OutsideFrame applies = omega (arith, applies, fits)
+open_unlent : (table : Table) (f : Frame) (client : ClientId) (offset n : ℕ) → IsOpen (owner_of table) (lent_to table) client f offset n → lent_to table f ≡ None
+open_unlent table f client offset n opens = none_from (lent_to table f) (opens FrameLent)
+  where
+    none_from : (o : Option RequestId) → (IsSome o → ⊥) → o ≡ None
+    none_from None h = refl
+    none_from (Some id) h = absurd (h refl)
+
+-- so its bytes may be loaded and stored, whatever the device does first
+pub open_is_free : {A : Type 0} (device : A → Device) (s : ServerView A) (places : ℕ) → IsKept device s places → (f : Frame) (client : ClientId) (offset n : ℕ)
+    → IsOpen (owner_of s.table) (lent_to s.table) client f offset n → Stays (IsFree (4096 * f.0 + offset) n) (device s.adapter)
+open_is_free device s places inv f client offset n opens =
+    frame_loads device s places inv f client (open_owned s.table f client offset n opens) (open_unlent s.table f client offset n opens) offset n
+    (elim (cases_lt 4096 (offset + n)) [ inl far ↦ absurd (opens OutsideFrame far) | inr fits ↦ fits ])

@@ -1,6 +1,5 @@
 -- One more event.
 use Rattle.std.proofs.Common.{◌≡◌, List, [], ◌∷◌, ◌++◌, map, reverse, refl, sym, ap, ◌∙◌, subst}
-use Rattle.std.proofs.lemmas.Bool.{false≢true}
 use mathlib.Core.List.{map-append, reverse-append}
 use Rattle.ata_types.specs.declared.Port.{Port}
 use Rattle.ata_types.specs.declared.PortState.{PortState}
@@ -9,8 +8,7 @@ use Rattle.adapter.specs.declared.access.DeviceStep.{DeviceStep}
 use Rattle.block_machine.specs.Events.{Ask, State, Shown}
 use Rattle.block_machine.specs.Events as machine_events
 use Rattle.block_machine.specs.Ports.{Ports}
-use Rattle.block_machine.specs.Histories.{Instant, Happening, now, Leads, Adds}
-use Rattle.agreement.proofs.Adding.{nothing_backed}
+use Rattle.block_machine.specs.Histories.{Adds}
 use Rattle.block_server.specs.Calls.{state_of}
 use Rattle.port_driver.specs.Followed.{IsOrdinary}
 use Rattle.block_server.specs.History.{Begins, Ties, Stands, AddsAll, ask_of, said_of, ports_of}
@@ -20,9 +18,8 @@ use Rattle.block_server.specs.declared.types.Event.{Event}
 use Rattle.block_server.specs.declared.types.Said.{Said}
 use Rattle.port_driver.proofs.Driving.{by_none}
 use Rattle.block_server.proofs.Heeding.{spared}
-use Rattle.block_server.proofs.Shown.{still_shown}
-use Rattle.block_server.proofs.Histories.{ports_same, stands_on}
-use Rattle.block_server.proofs.Leading.{lead_on}
+use Rattle.block_server.proofs.Histories.{ports_same}
+use Rattle.block_server.proofs.Leading.{nothing_adds}
 
 module _ {A : Type 0} (device : A → Device) where
   pub ran_none : (s : ServerView A) → Ran device s s [] []
@@ -59,17 +56,7 @@ module _ {A : Type 0} (device : A → Device) where
 
   -- a look at a port's state
   pub shown_adds : (s : ServerView A) (port : Port) (state : PortState) → state ≡ state_of s port → Adds Begins Ties (Stands device) s s (State port) (Shown state)
-  shown_adds s port state is = record { adds = adds }
-    where
-      adds : (first : Instant Device) (past : List (Happening Device DeviceStep)) → Leads Begins Ties (Stands device) first past s
-          → (h : Happening Device DeviceStep) × (h.event.ask ≡ State port) × (h.event.said ≡ Shown state) × Leads Begins Ties (Stands device) first (h ∷ past) s
-      adds first past leads =
-          let old : Instant Device = now first past in
-          let at : Stands device old s = leads.stands in
-          lead_on device first past s s (State port) (Shown state) [] leads refl (λ r. absurd (false≢true r)) refl tt tt tt tt
-          (is ∙ ap (λ (ports : Ports). ports.state port) (sym at.ports_are), refl, ports_same old.moment.ports (ports_of s) at.ports_are)
-          (by_none IsOrdinary (device s.adapter))
-          (still_shown device first past s leads)
-          spared
-          (nothing_backed (device s.adapter) old.moment.machine)
-          (stands_on device old s s.adapter [] at tt at.knows)
+  shown_adds s port state is =
+      nothing_adds device s (State port) (Shown state) refl (by_none IsOrdinary (device s.adapter))
+      (λ old at. (is ∙ ap (λ (ports : Ports). ports.state port) (sym at.ports_are), refl, ports_same old.moment.ports (ports_of s) at.ports_are))
+      (λ old. spared)

@@ -13,7 +13,7 @@ use Rattle.ata_types.specs.declared.request.Outcome.TheVariants as outcome
 use Rattle.ata_types.specs.declared.request.Reply.{Reply}
 use Rattle.ata_types.specs.declared.request.Request.{Request}
 use Rattle.ata_types.specs.declared.request.RequestId.{RequestId}
-use Rattle.adapter.specs.Access.{Loads}
+use Rattle.adapter.specs.Access.{Loads, Stores}
 use Rattle.adapter.specs.Asked.{Asked}
 use Rattle.adapter.specs.Device.{Device}
 use Rattle.adapter.specs.Idle.{IsIdle}
@@ -147,6 +147,18 @@ LoadsFrame device old new client frame offset before bytes (Ok done) =
 LoadsFrame device old new client frame offset before bytes (Err fault) =
     IsFirstMemFault (owner_of old.table) (lent_to old.table) client frame offset (length before) fault
     × (new ≡ old) × (bytes ≡ before)
+
+-- A refused store is told the first cause that applies, and changes nothing: neither server, memory nor adapter, of which no access
+-- is made. Another changes of the server nothing but the adapter: the device goes on first, which changes no client frame but those
+-- of the read that is served; then these bytes stand in the frame, from the offset on, and every other byte is as it was.
+abbrev pub StoresFrame : {A : Type 0} → (A → Device) → ServerView A → ServerView A → ClientId → Frame → ℕ → List ℕ → Result (Unit {0}) MemFault → Type 0
+StoresFrame device old new client frame offset bytes (Ok done) =
+    IsOpen (owner_of old.table) (lent_to old.table) client frame offset (length bytes)
+    × ((call : Stores (4096 * frame.0 + offset) bytes (device old.adapter) (device new.adapter))
+    × Proceeds (served_by old) (device old.adapter) call.mid)
+    × SameServer old new
+StoresFrame device old new client frame offset bytes (Err fault) =
+    IsFirstMemFault (owner_of old.table) (lent_to old.table) client frame offset (length bytes) fault × (new ≡ old)
 
 -- The device does what it is told, or nothing; of the server nothing else changes.
 pub record StepsDevice {A : Type 0} (device : A → Device) (old new : ServerView A) (step : DeviceStep) (done : Bool) : Type 0 where

@@ -14,7 +14,7 @@ use Rattle.block_machine.specs.declared.due.Mode.{Mode}
 use Rattle.block_machine.specs.Ports.{Ports, Evidence}
 use Rattle.block_machine.specs.State.{Pending}
 use Rattle.block_machine.specs.State as machine
-use Rattle.block_machine.specs.Events.{Ask, Submit, LoadAt, Service, State, Device as Told, Said, Submitted, Loaded, Served, Shown, Stepped, Heeds, moment_after}
+use Rattle.block_machine.specs.Events.{Ask, Submit, StoreAt, LoadAt, Service, State, Device as Told, Said, Submitted, Stored, Loaded, Served, Shown, Stepped, Heeds, moment_after}
 use Rattle.block_machine.specs.Histories.{Instant, Happening, Leads}
 use Rattle.agreement.specs.Agrees.{port_at}
 use Rattle.agreement.specs.Slots.{Free, Serves, Uses, put}
@@ -123,6 +123,11 @@ pub record NamesNone (evidence : Evidence) : Type 0 where
 abbrev pub no_evidence : Evidence
 no_evidence = record { faults = []; lost = []; gone = []; failed = []; fatal = []; stopped = []; stuck = [] }
 
+-- what a store of a client's bytes says
+abbrev pub store_said : Result (Unit {0}) MemFault → Said
+store_said (Ok done) = Stored None
+store_said (Err fault) = Stored (Some fault)
+
 -- what a load of a client's bytes says
 abbrev pub load_said : Result (Unit {0}) MemFault → List ℕ → Said
 load_said (Ok done) bytes = Loaded (Ok bytes)
@@ -131,6 +136,7 @@ load_said (Err fault) bytes = Loaded (Err fault)
 -- the call refuses what it was asked
 abbrev pub is_refusal : Said → Bool
 is_refusal (Submitted (Err refusal)) = true
+is_refusal (Stored (Some fault)) = true
 is_refusal (Loaded (Err fault)) = true
 is_refusal (Stepped false) = true
 is_refusal said = false
@@ -173,6 +179,7 @@ HasBegun device s = (first : Instant Device) × Leads Begins Ties (Stands device
 -- the call of a list, as the machine is asked; a load is of at most 64 bytes
 abbrev pub ask_of : Event → Ask DeviceStep
 ask_of (calls.Submit r) = Submit r
+ask_of (calls.ClientStore client frame offset bytes) = StoreAt client frame offset bytes.items
 ask_of (calls.ClientLoad client frame offset count) = LoadAt client frame offset (min count 64)
 ask_of calls.Service = Service
 ask_of (calls.State port) = State port
@@ -181,6 +188,7 @@ ask_of (calls.Device step) = Told step
 -- what it said
 abbrev pub said_of : told.Said → Said
 said_of (said.Submitted result) = Submitted result
+said_of (said.Stored result) = store_said result
 said_of (said.Loaded (Ok bytes)) = Loaded (Ok bytes.items)
 said_of (said.Loaded (Err fault)) = Loaded (Err fault)
 said_of (said.Served replies) = Served replies.items

@@ -8,12 +8,12 @@ use Rattle.adapter.specs.Device.{Device}
 use Rattle.block_machine.specs.Refusals.{IsOpen, IsFirstMemFault}
 use Rattle.dma_frames.specs.Table.{owner_of, lent_to}
 use Rattle.port_driver.specs.Port.{Proceeds}
-use Rattle.block_server.specs.Calls.{state_of, served_by, SameServer, Submits, Services, StepsDevice}
+use Rattle.block_server.specs.Calls.{state_of, served_by, SameServer, Submits, Services, StoresFrame, StepsDevice}
 use Rattle.block_machine.specs.Histories.{Adds}
 use Rattle.block_server.specs.History.{Begins, Ties, Stands, AddsAll, ask_of, said_of}
 use Rattle.block_server.specs.View.{ServerView}
 use Rattle.block_server.specs.declared.types.Event.{Event}
-use Rattle.block_server.specs.declared.types.Event.TheVariants.{Submit, ClientLoad, Service, State, Device as Step}
+use Rattle.block_server.specs.declared.types.Event.TheVariants.{Submit, ClientStore, ClientLoad, Service, State, Device as Step}
 use Rattle.block_server.specs.declared.types.Said.{Said}
 use Rattle.block_server.specs.declared.types.Said.TheVariants as said
 
@@ -31,6 +31,7 @@ RefusesBytes old new client frame offset n fault = IsFirstMemFault (owner_of old
 -- the event is the call that says this; a load is of at most 64 bytes
 abbrev pub Answers : {A : Type 0} → (A → Device) → Event → Said → ServerView A → ServerView A → Type 0
 Answers device (Submit r) (said.Submitted result) old new = Submits device old new r result
+Answers device (ClientStore client frame offset bytes) (said.Stored result) old new = StoresFrame device old new client frame offset bytes.items result
 Answers device (ClientLoad client frame offset n) (said.Loaded (Ok bytes)) old new = TellsBytes device old new client frame offset (min n 64) bytes.items
 Answers device (ClientLoad client frame offset n) (said.Loaded (Err fault)) old new = RefusesBytes old new client frame offset (min n 64) fault
 Answers device Service (said.Served replies) old new = Services device old new replies.items

@@ -46,6 +46,12 @@ impl<A: Stepped> Server<A> {
     {
         match event {
             Event::Submit(request) => Said::Submitted(self.submit(request)),
+            Event::ClientStore {
+                client,
+                frame,
+                offset,
+                bytes,
+            } => Said::Stored(self.client_store(*client, *frame, *offset, bytes.as_slice())),
             Event::ClientLoad {
                 client,
                 frame,

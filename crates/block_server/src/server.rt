@@ -1,5 +1,5 @@
 // The server.
-ghost use Rattle.std.specs.Prelude.{◌≡◌, ◌≢◌, ◌<◌, ◌+◌, ◌↔◌, IsTrue, IfOk, IfErr, MatchOption, Ok, length};
+ghost use Rattle.std.specs.Prelude.{◌≡◌, ◌≢◌, ◌<◌, ◌+◌, ◌↔◌, ◌*◌, IsTrue, IfOk, IfErr, MatchOption, Ok, length};
 
 use crate::book::{give_all_back, issue_first};
 use crate::lookup::{owns, unanswered};
@@ -53,12 +53,13 @@ impl<A: Adapter> Model for Server<A> {
 impl<A: Adapter> Server<A> {
     ghost use Rattle.block_machine.specs.Events.{Service, Served};
     ghost use Rattle.block_machine.specs.Histories.{Adds};
-    ghost use Rattle.block_machine.specs.Refusals.{IsAcceptable, IsFirstRefusal};
-    ghost use Rattle.block_server.specs.Calls.{IsReadyFor, IsNew, state_of, situation_of, Accepts, Submits, AnswersFirst, Services, LoadsFrame, SameServer};
-    ghost use Rattle.block_machine.specs.Events.{Submit, Submitted, LoadAt};
+    ghost use Rattle.block_machine.specs.Refusals.{IsAcceptable, IsFirstRefusal, IsOpen, IsFirstMemFault};
+    ghost use Rattle.dma_frames.specs.Table.{owner_of, lent_to};
+    ghost use Rattle.block_server.specs.Calls.{IsReadyFor, IsNew, state_of, situation_of, Accepts, Submits, AnswersFirst, Services, StoresFrame, LoadsFrame, SameServer};
+    ghost use Rattle.block_machine.specs.Events.{Submit, Submitted, StoreAt, LoadAt};
     ghost use Rattle.block_machine.specs.Histories.{Adds};
     ghost use Rattle.adapter.specs.Idle.{TellsDisks};
-    ghost use Rattle.block_server.specs.History.{Begins, Ties, Stands, HasBegun, load_said};
+    ghost use Rattle.block_server.specs.History.{Begins, Ties, Stands, HasBegun, store_said, load_said};
     ghost use Rattle.port_driver.specs.Followed.{LoadsBytes};
 
     /// A server of the port's disk, which has so many sectors: port 0 is brought up, and nothing is asked yet. Provisional:
@@ -223,6 +224,49 @@ impl<A: Adapter> Server<A> {
         replies
     }
 
+    /// Where in memory so many bytes of a client's own frame begin, from an offset in bytes on. The first that applies of
+    /// `FrameForeign`, `FrameLent` and `OutsideFrame` is told.
+    fn open(
+        &self,
+        client: ClientId,
+        frame: Frame,
+        offset: u32,
+        length: usize,
+    ) -> Result<u32, MemFault>
+        ensures ok { IfOk result (λ address. IsOpen (owner_of self.now.table) (lent_to self.now.table) client frame offset length × (address ≡ 4096 * frame.0 + offset)) }
+        ensures err { IfErr result (IsFirstMemFault (owner_of self.now.table) (lent_to self.now.table) client frame offset length) }
+    {
+        if !owns(&self.table, client, frame) {
+            return Err(MemFault::FrameForeign);
+        }
+        if self.table.lent_to(frame).is_some() {
+            return Err(MemFault::FrameLent);
+        }
+        if offset as u128 + length as u128 > FRAME_BYTES as u128 {
+            return Err(MemFault::OutsideFrame);
+        }
+        Ok(FRAME_BYTES * frame.0 as u32 + offset)
+    }
+
+    /// Copies bytes into a client's own frame, from an offset in bytes on. Not while the frame is lent.
+    ///
+    /// The first that applies of `FrameForeign`, `FrameLent` and `OutsideFrame` is told, and then nothing changes, and no
+    /// access is made. No byte may go past the end of the frame; none at all may be stored there.
+    pub fn client_store(
+        &mut self,
+        client: ClientId,
+        frame: Frame,
+        offset: u32,
+        bytes: &[u8],
+    ) -> Result<(), MemFault>
+        ensures stores { StoresFrame A.device self.old self.new client frame offset bytes.now result }
+        ensures adds { Adds Begins Ties (Stands A.device) self.old self.new (StoreAt client frame offset bytes.now) (store_said result) }
+    {
+        let address = self.open(client, frame, offset, bytes.len())?;
+        self.adapter.store(address, bytes);
+        Ok(())
+    }
+
     /// Copies bytes of a client's own frame out, from an offset in bytes on. Not while the frame is lent.
     pub fn client_load(
         &mut self,
@@ -234,17 +278,8 @@ impl<A: Adapter> Server<A> {
         ensures loads { LoadsFrame A.device self.old self.new client frame offset out.old out.new result }
         ensures adds { Adds Begins Ties (Stands A.device) self.old self.new (LoadAt client frame offset (length out.old)) (load_said result out.new) }
     {
-        if !owns(&self.table, client, frame) {
-            return Err(MemFault::FrameForeign);
-        }
-        if self.table.lent_to(frame).is_some() {
-            return Err(MemFault::FrameLent);
-        }
-        if offset as u128 + out.len() as u128 > FRAME_BYTES as u128 {
-            return Err(MemFault::OutsideFrame);
-        }
-        self.adapter
-            .load(FRAME_BYTES * frame.0 as u32 + offset, out);
+        let address = self.open(client, frame, offset, out.len())?;
+        self.adapter.load(address, out);
         Ok(())
     }
 

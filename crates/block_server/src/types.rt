@@ -27,6 +27,13 @@ pub struct Accepted {
 #[derive(Debug, Drop)]
 pub enum Event {
     Submit(Request),
+    ClientStore {
+        client: ClientId,
+        frame: Frame,
+        /// In bytes, from the frame's first byte on.
+        offset: u32,
+        bytes: ArrayVec<u8, 64>,
+    },
     ClientLoad {
         client: ClientId,
         frame: Frame,
@@ -43,6 +50,7 @@ pub enum Event {
 #[derive(Debug, Drop)]
 pub enum Said {
     Submitted(Result<RequestId, Refusal>),
+    Stored(Result<(), MemFault>),
     Loaded(Result<ArrayVec<u8, 64>, MemFault>),
     Served(Replies),
     State(PortState),

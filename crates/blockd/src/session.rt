@@ -1,5 +1,5 @@
 // The calls that the program makes.
-ghost use Rattle.std.specs.Prelude.{◌≡◌, List, [], false, None, IfOk};
+ghost use Rattle.std.specs.Prelude.{◌≡◌, ◌≤◌, List, [], false, None, IfOk, length};
 ghost use Rattle.block_server.specs.Calls.{IsNew};
 ghost use Rattle.block_server.specs.History.{HasBegun};
 ghost use Rattle.port_driver.specs.Port.{Serves};
@@ -175,8 +175,8 @@ mod tests {
     use adapter::Stepped;
     use adapter::laws::steps_compose;
     use ata_types::{FrameFault, MemFault, PortState, Refusal, RequestId, Rule};
-    use port_driver::laws::driver_bytes_are_free;
     use hba_regs::{PortReg, Reg};
+    use port_driver::laws::driver_bytes_are_free;
     use std::test::Fail;
 
     /// What is said of a read, if it is refused by a rule.
@@ -323,6 +323,94 @@ mod tests {
         assert!(rt; matches!(said.get(2), Some(Said::Loaded(Err(MemFault::FrameForeign)))));
         assert!(rt; matches!(said.get(3), Some(Said::Loaded(Err(MemFault::OutsideFrame)))));
         assert_eq!(rt; bytes(&said, 4), Some(&[0, 0, 0, 0][..]));
+        Ok(())
+    }
+
+    /// The client's store of these bytes into a frame.
+    fn store(frame: u16, offset: u32, bytes: &[u8]) -> Event
+        requires { length bytes.now ≤ 64 }
+    {
+        let mut stored = ArrayVec::new();
+        stored.try_extend_from_slice(bytes).unwrap();
+        Event::ClientStore {
+            client: ClientId(1),
+            frame: Frame(frame),
+            offset,
+            bytes: stored,
+        }
+    }
+
+    /// Whether it is said that bytes were stored, or why they weren't.
+    fn stored(said: &[Said], at: usize) -> Option<Result<(), MemFault>> {
+        match said.get(at) {
+            Some(Said::Stored(told)) => Some(*told),
+            _ => None,
+        }
+    }
+
+    #[test]
+    fn what_is_stored_is_loaded(rt: HostRuntime) -> Result<(), Fail> {
+        let events = [
+            store(40, 2, &[0x5a, 0x6b]),
+            load(40, 0),
+            load(40, 4),
+            load(41, 0),
+            store(40, 3, &[0x7c]),
+            load(40, 1),
+        ];
+        let said = said_of(rt.alloc(), &events)?;
+        assert_eq!(rt; stored(&said, 0), Some(Ok(())));
+        assert_eq!(rt; bytes(&said, 1), Some(&[0, 0, 0x5a, 0x6b][..]));
+        assert_eq!(rt; bytes(&said, 2), Some(&[0, 0, 0, 0][..]));
+        assert_eq!(rt; bytes(&said, 3), Some(&[0, 0, 0, 0][..]));
+        assert_eq!(rt; stored(&said, 4), Some(Ok(())));
+        assert_eq!(rt; bytes(&said, 5), Some(&[0, 0x5a, 0x7c, 0][..]));
+        Ok(())
+    }
+
+    #[test]
+    fn a_frame_that_is_not_open_is_not_stored_to(rt: HostRuntime) -> Result<(), Fail> {
+        let events = [
+            Event::Submit(read(0, 100, 8, 40)),
+            store(40, 0, &[1]),
+            store(40, 4097, &[1]),
+            store(80, 4097, &[1]),
+            Event::Device(DeviceStep::Finish(Port(0), Slot(0))),
+            Event::Service,
+            load(40, 0),
+            store(40, 0, &[1]),
+            load(40, 0),
+        ];
+        let said = said_of(rt.alloc(), &events)?;
+        assert_eq!(rt; stored(&said, 1), Some(Err(MemFault::FrameLent)));
+        assert_eq!(rt; stored(&said, 2), Some(Err(MemFault::FrameLent)));
+        assert_eq!(rt; stored(&said, 3), Some(Err(MemFault::FrameForeign)));
+        assert_eq!(rt; bytes(&said, 6), Some(&[100, 100, 100, 100][..]));
+        assert_eq!(rt; stored(&said, 7), Some(Ok(())));
+        assert_eq!(rt; bytes(&said, 8), Some(&[1, 100, 100, 100][..]));
+        Ok(())
+    }
+
+    #[test]
+    fn a_store_ends_within_its_frame(rt: HostRuntime) -> Result<(), Fail> {
+        let events = [
+            store(40, 4096, &[]),
+            store(40, 4096, &[1]),
+            store(40, 4097, &[]),
+            store(40, u32::MAX, &[1]),
+            store(40, 4095, &[1, 2]),
+            store(40, 4095, &[3]),
+            load(40, 4092),
+            load(41, 0),
+        ];
+        let said = said_of(rt.alloc(), &events)?;
+        assert_eq!(rt; stored(&said, 0), Some(Ok(())));
+        for at in 1..5 {
+            assert_eq!(rt; stored(&said, at), Some(Err(MemFault::OutsideFrame)));
+        }
+        assert_eq!(rt; stored(&said, 5), Some(Ok(())));
+        assert_eq!(rt; bytes(&said, 6), Some(&[0, 0, 0, 3][..]));
+        assert_eq!(rt; bytes(&said, 7), Some(&[0, 0, 0, 0][..]));
         Ok(())
     }
 

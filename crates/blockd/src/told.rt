@@ -33,6 +33,7 @@ pub fn tell(rt: &impl Print, said: &[Said]) -> io::Result<()> {
         match one {
             Said::Submitted(Ok(id)) => println!(rt; "ok {}", id.0)?,
             Said::Submitted(Err(refusal)) => refused(rt, refusal)?,
+            Said::Stored(Ok(())) => println!(rt; "stored")?,
             Said::Loaded(Ok(bytes)) => {
                 print!(rt; "bytes ")?;
                 for byte in bytes {
@@ -40,7 +41,9 @@ pub fn tell(rt: &impl Print, said: &[Said]) -> io::Result<()> {
                 }
                 println!(rt)?;
             }
-            Said::Loaded(Err(fault)) => println!(rt; "fault {fault:?}")?,
+            Said::Stored(Err(fault)) | Said::Loaded(Err(fault)) => println!(rt;
+                "refused {fault:?}"
+            )?,
             Said::Served(replies) => {
                 for reply in replies {
                     println!(rt; "reply {} {:?}", reply.id.0, reply.outcome)?;

@@ -15,3 +15,4 @@ pub mod Sending
 pub mod Following
 pub mod Driving
 pub mod FirstServed
+pub mod Storing
