@@ -30,6 +30,7 @@ module _ (at : ℕ) (bytes : List ℕ) (d : Device) where
         lone_beside s.0,
         running_beside s.1,
         record {
+          transfers = s.2.transfers;
           says = says_same d.memory (patched d.memory at bytes) 0 0 (meaning_of r) (places_of r.frames r.count) s.2.says
               (λ a from to. same a (omega (arith, to))) (λ a from to. same a (omega (arith, to))) (λ a from to. same a (omega (arith, s.2.table, s.2.few, to)));
           table = s.2.table;
