@@ -46,7 +46,13 @@ const READS: Rights = Rights {
     flush: false,
 };
 
-/// Client 1 may read sectors 100 to 163, and client 2 sectors 140 to 199.
+/// Rights to read and to write.
+const TRANSFERS: Rights = Rights {
+    write: true,
+    ..READS
+};
+
+/// Client 1 may read and write sectors 100 to 163, and client 2 may read sectors 140 to 199.
 const GRANTS: [GrantRow; 2] = [
     GrantRow {
         client: ClientId(1),
@@ -54,7 +60,7 @@ const GRANTS: [GrantRow; 2] = [
         port: Port(0),
         first: Sector(100),
         count: 64,
-        rights: READS,
+        rights: TRANSFERS,
     },
     GrantRow {
         client: ClientId(2),
@@ -174,7 +180,9 @@ mod tests {
     use super::*;
     use adapter::Stepped;
     use adapter::laws::steps_compose;
-    use ata_types::{FrameFault, MemFault, PortState, Refusal, RequestId, Rule};
+    use ata_types::{
+        FrameFault, MemFault, Outcome, PortState, Refusal, Reply, RequestId, Rule,
+    };
     use hba_regs::{PortReg, Reg};
     use port_driver::laws::driver_bytes_are_free;
     use std::test::Fail;
@@ -291,14 +299,19 @@ mod tests {
         Ok(())
     }
 
-    /// The client's load of four bytes of a frame.
-    fn load(frame: u16, offset: u32) -> Event {
+    /// The client's load of so many bytes of a frame.
+    fn load_some(frame: u16, offset: u32, length: u32) -> Event {
         Event::ClientLoad {
             client: ClientId(1),
             frame: Frame(frame),
             offset,
-            length: 4,
+            length,
         }
+    }
+
+    /// The client's load of four bytes of a frame.
+    fn load(frame: u16, offset: u32) -> Event {
+        load_some(frame, offset, 4)
     }
 
     /// The bytes that are said.
@@ -434,13 +447,88 @@ mod tests {
         Ok(())
     }
 
-    /// Has the server's first read done: eight sectors from 100 on into frame 40. The adapter, if the read is answered.
-    fn done_read<A: Stepped>(server: Server<A>) -> Result<A, A>
+    /// The client's write of so many sectors from 100 on, out of this frame.
+    fn written(count: u32, frame: u16) -> Request {
+        let mut request = read(0, 100, count, frame);
+        request.op = Op::Write;
+        request
+    }
+
+    /// Whether the call answered this request alone, and Ok.
+    fn is_done(said: &[Said], at: usize, id: u64) -> bool {
+        match said.get(at) {
+            Some(Said::Served(replies)) => {
+                replies.len() == 1
+                    && matches!(
+                        replies.first(),
+                        Some(Reply { id: RequestId(told), outcome: Outcome::Ok, .. }) if *told == id
+                    )
+            }
+            _ => false,
+        }
+    }
+
+    #[test]
+    fn what_is_written_is_read_again(rt: HostRuntime) -> Result<(), Fail> {
+        let events = [
+            store(40, 0, &[0x5a, 0x5a]),
+            Event::Submit(written(1, 40)),
+            Event::Submit(read(0, 100, 1, 41)),
+            store(40, 0, &[1]),
+            Event::Device(DeviceStep::Finish(Port(0), Slot(0))),
+            Event::Service,
+            Event::Device(DeviceStep::Finish(Port(0), Slot(0))),
+            Event::Service,
+            load_some(41, 0, 3),
+            load_some(41, 511, 2),
+        ];
+        let said = said_of(rt.alloc(), &events)?;
+        assert_eq!(rt; stored(&said, 0), Some(Ok(())));
+        assert!(rt; matches!(said.get(1), Some(Said::Submitted(Ok(RequestId(1))))));
+        assert!(rt; matches!(said.get(2), Some(Said::Submitted(Ok(RequestId(2))))));
+        assert_eq!(rt; stored(&said, 3), Some(Err(MemFault::FrameLent)));
+        assert!(rt; matches!(said.get(4), Some(Said::Stepped(true))));
+        assert!(rt; is_done(&said, 5, 1));
+        assert!(rt; matches!(said.get(6), Some(Said::Stepped(true))));
+        assert!(rt; is_done(&said, 7, 2));
+        assert_eq!(rt; bytes(&said, 8), Some(&[0x5a, 0x5a, 0][..]));
+        assert_eq!(rt; bytes(&said, 9), Some(&[0, 0][..]));
+        Ok(())
+    }
+
+    #[test]
+    fn a_write_of_three_sectors_is_of_three(rt: HostRuntime) -> Result<(), Fail> {
+        let events = [
+            store(41, 0, &[7]),
+            store(41, 1536, &[9]),
+            Event::Submit(written(3, 41)),
+            Event::Device(DeviceStep::Finish(Port(0), Slot(0))),
+            Event::Service,
+            load(41, 1536),
+            Event::Submit(read(0, 100, 8, 42)),
+            Event::Device(DeviceStep::Finish(Port(0), Slot(0))),
+            Event::Service,
+            load(42, 0),
+            load(42, 1532),
+            load(42, 1536),
+        ];
+        let said = said_of(rt.alloc(), &events)?;
+        assert!(rt; is_done(&said, 4, 1));
+        assert_eq!(rt; bytes(&said, 5), Some(&[9, 0, 0, 0][..]));
+        assert!(rt; is_done(&said, 8, 2));
+        assert_eq!(rt; bytes(&said, 9), Some(&[7, 0, 0, 0][..]));
+        assert_eq!(rt; bytes(&said, 10), Some(&[0, 0, 0, 0][..]));
+        assert_eq!(rt; bytes(&said, 11), Some(&[103, 103, 103, 103][..]));
+        Ok(())
+    }
+
+    /// Has the server's first request done. The adapter, if the request is answered.
+    fn done<A: Stepped>(server: Server<A>, request: &Request) -> Result<A, A>
         requires { server.book ≡ [] }
         ensures { IfOk result (λ adapter. Serves None (A.device adapter)) }
     {
         let mut server = server;
-        let Ok(_id) = server.submit(&read(0, 100, 8, 40)) else {
+        let Ok(_id) = server.submit(request) else {
             return Err(server.close());
         };
         let _did = server.device(&DeviceStep::Finish(Port(0), Slot(0)));
@@ -535,7 +623,7 @@ mod tests {
 
     #[test]
     fn a_read_stands_in_memory(rt: HostRuntime) -> Result<(), Fail> {
-        let Ok(model) = done_read(new_server(rt.alloc())?) else {
+        let Ok(model) = done(new_server(rt.alloc())?, &read(0, 100, 8, 40)) else {
             return Err(Fail::from("the read isn't answered"));
         };
         let mut model = model;
@@ -550,6 +638,27 @@ mod tests {
         assert_eq!(rt;
             entry,
             [0, 0x80, 2, 0, 0, 0, 0, 0, 0, 0, 0, 0, 0xff, 0x0f, 0, 0]
+        );
+        Ok(())
+    }
+
+    #[test]
+    fn a_write_stands_in_memory(rt: HostRuntime) -> Result<(), Fail> {
+        let Ok(model) = done(new_server(rt.alloc())?, &written(3, 41)) else {
+            return Err(Fail::from("the write isn't answered"));
+        };
+        let mut model = model;
+        let (header, fis, entry) = slot_bytes(&mut model);
+        assert_eq!(rt; header, [0x45, 0, 1, 0, 0, 0, 0, 0, 0, 0x10, 0, 0, 0, 0, 0, 0]);
+        assert_eq!(rt;
+            fis,
+            [
+                0x27, 0x80, 0x35, 0, 0x64, 0, 0, 0x40, 0, 0, 0, 0, 3, 0, 0, 0, 0, 0, 0, 0
+            ]
+        );
+        assert_eq!(rt;
+            entry,
+            [0, 0x90, 2, 0, 0, 0, 0, 0, 0, 0, 0, 0, 0xff, 0x05, 0, 0]
         );
         Ok(())
     }
