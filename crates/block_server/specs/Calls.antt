@@ -150,7 +150,7 @@ LoadsFrame device old new client frame offset before bytes (Err fault) =
 
 -- A refused store is told the first cause that applies, and changes nothing: neither server, memory nor adapter, of which no access
 -- is made. Another changes of the server nothing but the adapter: the device goes on first, which changes no client frame but those
--- of the read that is served; then these bytes stand in the frame, from the offset on, and every other byte is as it was.
+-- of a read that is served; then these bytes stand in the frame, from the offset on, and every other byte is as it was.
 abbrev pub StoresFrame : {A : Type 0} → (A → Device) → ServerView A → ServerView A → ClientId → Frame → ℕ → List ℕ → Result (Unit {0}) MemFault → Type 0
 StoresFrame device old new client frame offset bytes (Ok done) =
     IsOpen (owner_of old.table) (lent_to old.table) client frame offset (length bytes)
