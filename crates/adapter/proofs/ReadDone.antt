@@ -1,7 +1,8 @@
 -- A read that may be fetched can be done: one piece after another.
-use Rattle.std.proofs.Common.{ℕ, zero, suc, ◌≡◌, ◌+◌, ◌<◌, ◌≤◌, List, [], ◌∷◌, ◌++◌, length, slice_index, Option, None, Some, IfSome, false, refl, sym, ◌∙◌, ap, subst, arith, inl, inr, append_assoc, append-nil}
+use Rattle.std.proofs.Common.{ℕ, zero, suc, true, ◌≡◌, ◌+◌, ◌<◌, ◌≤◌, List, [], ◌∷◌, ◌++◌, length, slice_index, Option, None, Some, IfSome, Bool, false, refl, sym, ◌∙◌, ap, subst, arith, inl, inr, append_assoc, append-nil}
 use Rattle.std.proofs.lemmas.Bool.{cases_eq}
-use Rattle.adapter.specs.Memory.{patched, bytes_at}
+use Rattle.adapter.specs.Asked.{DoesSome}
+use Rattle.adapter.specs.Memory.{patched, bytes_at, changed}
 use Rattle.adapter.specs.Device.{Disk, IsSector, Taken, Halt, PortState, Device}
 use Rattle.adapter.specs.OneCommand.{IsFreeSlot}
 use Rattle.adapter.specs.ReadDone.{read_of, MayBeRead, moves, IsRead}
@@ -33,6 +34,8 @@ module _ (old : Device) (port slot first count : ℕ) (places : List ℕ) (told 
   -- so many pieces were moved
   record IsMoved (n : ℕ) (d : Device) : Type 0 where
     pub steps : Steps old d
+    pub goes : DoesSome (suc n) port slot old d
+    pub is : (d.port port).is ≡ (old.port port).is
     pub works : WorksOn (d.port port) slot (command n) Read
     pub disk : (d.port port).disk ≡ (old.port port).disk
     pub size : d.size ≡ old.size
@@ -50,6 +53,8 @@ module _ (old : Device) (port slot first count : ℕ) (places : List ℕ) (told 
       let P : PortState → Type 0 = λ p. WorksOn p slot (command 0) Read in
       record {
         steps = Steps-one (Fetch port slot (read_of first count) places) old d may.fetch refl;
+        goes = (old, refl, inl (record { meaning = read_of first count; places = places; can = may.fetch; effect = refl }));
+        is = ap (λ (p : PortState). p.is) here;
         works = subst P (sym here)
             (record {
               taken = changed_same (old.port port).taken slot (Some (command 0));
@@ -114,6 +119,8 @@ module _ (old : Device) (port slot first count : ℕ) (places : List ℕ) (told 
         let number : n + 1 ≡ suc n = omega arith in
         record {
           steps = Steps-trans m.steps (Steps-one (Move port slot (command n) (told (first + n))) d next may_move refl);
+          goes = (d, m.goes, inr (inl (record { t = command n; bytes = told (first + n); can = may_move; effect = refl })));
+          is = ap (λ (p : PortState). p.is) here ∙ m.is;
           works = subst P (sym here)
               (record {
                 taken = changed_same (d.port port).taken slot (Some (command (n + 1))) ∙ ap (λ (j : ℕ). Some (command j)) number;
@@ -147,6 +154,8 @@ module _ (old : Device) (port slot first count : ℕ) (places : List ℕ) (told 
         end,
         record {
           steps = Steps-trans m.steps (Steps-one (Done port slot 0 (command count)) d end can refl);
+          goes = (suc count, (d, m.goes, inr (inr (record { flag = 0; t = command count; can = can; effect = refl }))));
+          shown = ap (λ (p : PortState). p.is) here ∙ ap (λ (f : ℕ → Bool). changed f 0 true) m.is;
           free = subst P (sym here)
               (record { ci = changed_same (d.port port).ci slot false; taken = changed_same (d.port port).taken slot None });
           tape = ap (λ (entries : List Entry). entries ++ done_entry port slot Read ∷ []) m.tape ∙ append_assoc old.tape (moves port slot first places told count) _;

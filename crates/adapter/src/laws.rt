@@ -87,8 +87,8 @@ pub fn an_adapter_with_a_command_is_guarded()
         → IsElsewhere (standing d port slot c.command) at n d → Stays (IsFree at n) d }
 {}
 
-/// A read that may be fetched can be done, on a disk that tells its sectors: some steps of the device lead to where each
-/// sector stands in its piece, and the slot is free.
+/// A read that may be fetched can be done, on a disk that tells its sectors: some steps of its slot's command lead to where
+/// each sector stands in its piece, and the slot is free.
 pub fn a_read_can_be_done()
     ensures { (port slot first count : ℕ) (places : List ℕ) (told : ℕ → List ℕ) (old : Device) → MayBeRead old port slot first count places told
         → (new : Device) × IsRead old new port slot first count places told }

@@ -1,6 +1,6 @@
 mod Serving
 mod Going
-mod Acting
+pub mod Acting
 mod Patching
 mod Bytes
 mod Quiet
@@ -25,7 +25,7 @@ mod Permitting
 mod Unarmed
 mod Counting
 pub mod Idling
-mod Witness
+pub mod Witness
 mod Decided
 mod Halting
 pub mod Finding

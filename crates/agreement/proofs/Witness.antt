@@ -108,7 +108,7 @@ told = record {
   few = (let h : little_from 0 4 (bytes_at first_memory 0 32) ≡ 5 + 0 + 65536 * length first_says.prds = first_says.header.first in let n = entries in omega (arith, h, n));
 }
 
-tells : (k b : ℕ) → b < 512 → slice_index (sector_of k) b ≡ k
+pub tells : (k b : ℕ) → b < 512 → slice_index (sector_of k) b ≡ k
 unfolding sector_of
 tells k b bl = get_or-replicate 512 b k 0 bl
 

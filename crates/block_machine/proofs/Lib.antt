@@ -22,6 +22,7 @@ pub mod RunLaws
 pub mod Once
 pub mod NoneDue
 pub mod EventLemmas
+pub mod Fitting
 pub mod Setting
 pub mod Scene
 pub mod WorkedRun

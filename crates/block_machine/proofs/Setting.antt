@@ -1,7 +1,5 @@
 -- A machine with one client, a row on each of two ports, and small requests, and what holds of requests there.
-use Rattle.std.proofs.Common.{◌≡◌, ◌≢◌, ℕ, ◌+◌, ◌^◌, ◌<◌, ◌≤◌, Bool, true, false, cond, ◌&&◌, List, [], ◌∷◌, length, slice_get, Option, Some, None, IsSome, is_some, ◌⊎◌, inl, inr, ⊎_elim, refl, sym, ap, ◌∙◌, subst, arith, leb-true, ltb-true}
-use Rattle.std.proofs.lemmas.Bool.{false≢true}
-use Rattle.std.proofs.lemmas.Option.{slice_get_within}
+use Rattle.std.proofs.Common.{◌≡◌, ◌≢◌, ℕ, ◌+◌, ◌^◌, ◌<◌, ◌≤◌, Bool, true, false, cond, ◌&&◌, List, [], ◌∷◌, length, slice_get, Option, Some, None, ◌⊎◌, inl, inr, ⊎_elim, refl, sym, ap, ◌∙◌, subst, arith, leb-true, ltb-true}
 use Rattle.std.proofs.lemmas.List.Kept.{AllPairs-cons}
 use Rattle.std.specs.List.{Contains, AllPairs}
 use Rattle.std.specs.Prelude.{nat_le, nat_lt, slice_index_or}
@@ -9,19 +7,16 @@ use Rattle.ata_types.specs.declared.Port.{Port}
 use Rattle.ata_types.specs.declared.PortState.TheVariants.{Ready}
 use Rattle.ata_types.specs.declared.request.ClientId.{ClientId}
 use Rattle.ata_types.specs.declared.request.Frame.{Frame}
-use Rattle.ata_types.specs.declared.request.RequestId.{RequestId}
 use Rattle.ata_types.specs.declared.request.Request.{Request}
 use Rattle.ata_types.specs.declared.request.Op.{Op}
 use Rattle.ata_types.specs.declared.request.Op.TheVariants.{Trim, Flush}
 use Rattle.ata_types.specs.declared.grant.GrantRow.{GrantRow}
-use Rattle.ata_types.specs.declared.refusal.FrameFault.TheVariants.{FrameForeign, FrameTwice, FrameLent}
-use Rattle.ata_types.specs.declared.refusal.Rule.TheVariants.{NoGrant, NoRight, BadCount, OutsideGrant, FrameCount, Frames}
-use Rattle.ata_types.specs.declared.refusal.Refusal.TheVariants as refused
 use Rattle.ata_types.specs.Grant.{Allows, Covers}
-use Rattle.block_machine.specs.Rules.{IsNamed, DifferInName, IsCount, frames_for}
+use Rattle.block_machine.specs.Rules.{DifferInName, IsCount, frames_for}
 use Rattle.block_machine.specs.Refusals.{Situation, IsAcceptable}
 use Rattle.block_machine.specs.State.{Memory, Machine}
 use Rattle.block_machine.specs.Left.{IsRow, IsStart}
+use Rattle.block_machine.proofs.Fitting.{fit_acceptable}
 use Rattle.block_machine.proofs.Members.{contains_none, contains_cases}
 
 abbrev pub client : ClientId
@@ -144,44 +139,19 @@ pub record IsFit (n : ℕ) (s : Situation) (r : Request) : Type 0 where
   pub ids : s.next < 2 ^ 64
 
 pub acceptable : (n : ℕ) (s : Situation) (r : Request) → IsFit n s r → IsAcceptable s r
-acceptable n s r fit = go
-  where
-    named : IsNamed s.rows r (row n)
-    named = (subst (λ (xs : List GrantRow). Contains xs (row n)) (sym fit.rows) fit.mine, (sym fit.client_is, sym fit.grant))
-
-    is_row : (x : GrantRow) → IsNamed s.rows r x → x ≡ row n
-    is_row x h = its_row x (subst (λ (xs : List GrantRow). Contains xs x) fit.rows h.0) ∙ ap row (h.1.1 ∙ fit.grant)
-
-    first_place : (i : ℕ) (f : Frame) → slice_get r.frames.items i ≡ Some f → slice_get r.frames.items 0 ≡ Some f
-    first_place i f e =
-        let lt = slice_get_within r.frames.items i f e in
-        let few = fit.single in
-        let z : i ≡ 0 = omega (arith, lt, few) in
-        subst (λ (k : ℕ). slice_get r.frames.items k ≡ Some f) z e
-
-    none_is_some : (o : Option RequestId) → o ≡ None → IsSome o → ⊥
-    none_is_some o e h = false≢true (sym (ap is_some e) ∙ h)
-
-    go : IsAcceptable s r
-    go (refused.Rule NoGrant) h = h (row n) named
-    go (refused.Rule NoRight) h = h.2 (subst (λ (x : GrantRow). Allows x.rights r.op) (sym (is_row h.0 h.1)) fit.allowed)
-    go (refused.Rule BadCount) h = h fit.count
-    go (refused.Rule OutsideGrant) h = h.1.2 (subst (λ (x : GrantRow). Covers x r.first.0 r.count) (sym (is_row h.1.0 h.1.1)) (fit.covered h.0))
-    go (refused.Rule FrameCount) h = h fit.frames
-    go (refused.Rule (Frames (FrameForeign i))) h = h.2 (fit.owned h.0 (first_place i h.0 h.1) ∙ ap Some (sym fit.client_is))
-    go (refused.Rule (Frames (FrameTwice i))) h =
-        let lt = slice_get_within r.frames.items i h.0 h.4 in
-        let few = fit.single in
-        omega (arith, lt, few, h.2)
-    go (refused.Rule (Frames (FrameLent i))) h = none_is_some (s.lent h.0) (fit.free h.0 (first_place i h.0 h.1)) h.2
-    go (refused.PortNotReady state) h = h.0 (sym h.1.2 ∙ ap (λ (x : GrantRow). s.state x.port) (is_row h.1.0 h.1.1) ∙ fit.ready)
-    go refused.OutsideDisk h =
-        let least = fit.on_disk h.0 in
-        let size : s.sectors h.1.0.port ≡ s.sectors (on n) = ap (λ (x : GrantRow). s.sectors x.port) (is_row h.1.0 h.1.1) in
-        omega (arith, least, size, h.1.2)
-    go refused.TrimUnsupported h = fit.no_trim h.0
-    go refused.ClientFull h =
-        let few = fit.few in
-        let same : s.unanswered r.client ≡ s.unanswered client = ap s.unanswered fit.client_is in
-        omega (arith, few, same, h)
-    go refused.IdsSpent h = let ids = fit.ids in omega (arith, ids, h)
+acceptable n s r fit = fit_acceptable (row n) s r (record {
+  named = (subst (λ (xs : List GrantRow). Contains xs (row n)) (sym fit.rows) fit.mine, (sym fit.client_is, sym fit.grant));
+  only = λ x h. its_row x (subst (λ (xs : List GrantRow). Contains xs x) fit.rows h.0) ∙ ap row (h.1.1 ∙ fit.grant);
+  allowed = fit.allowed;
+  count = fit.count;
+  covered = fit.covered;
+  frames = fit.frames;
+  single = fit.single;
+  owned = λ f e. fit.owned f e ∙ ap Some (sym fit.client_is);
+  free = fit.free;
+  ready = fit.ready;
+  on_disk = fit.on_disk;
+  no_trim = fit.no_trim;
+  few = subst (λ (c : ClientId). s.unanswered c < 16) (sym fit.client_is) fit.few;
+  ids = fit.ids;
+})

@@ -90,7 +90,7 @@ cause_is true state old new cause brought is =
     (omega (arith, seven), omega (arith, seven))
 cause_is false state old new cause brought is = absurd (let z : Absent ≡ Unfit cause = is in cc)
 
-brought_fit : {A : Type 0} (s : ServerView A) (old new : Device) → IsBroughtUp s.state old new → AreFit (ports_of s)
+pub brought_fit : {A : Type 0} (s : ServerView A) (old new : Device) → IsBroughtUp s.state old new → AreFit (ports_of s)
 brought_fit s old new brought = record {
   few = λ port served. let zero = eqb-true port.0 0 served in omega (arith, zero);
   absent = λ port other. ap (λ (b : Bool). if b then s.state else Absent) other;

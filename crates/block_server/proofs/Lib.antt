@@ -13,6 +13,7 @@ mod Heeding
 mod Shown
 mod Histories
 mod Leading
+mod Witness
 mod Submitting
 mod Servicing
 mod Answered

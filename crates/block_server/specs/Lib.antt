@@ -4,3 +4,4 @@ pub mod Calls
 pub mod History
 pub mod Running
 pub mod Seen
+pub mod Witness

@@ -5,6 +5,7 @@ ghost use Rattle.adapter.specs.declared.access.DeviceStep.{DeviceStep};
 ghost use Rattle.block_machine.specs.Events.{IsRun, EveryReadHolds};
 ghost use Rattle.block_machine.specs.Histories.{Instant, Happening, IsHistory, events_of};
 ghost use Rattle.block_server.specs.History.{Begins, Ties};
+ghost use Rattle.block_server.specs.Witness.{ReadIsAnswered};
 
 /// The calls of a history of the server are a run of the block machine. So its laws on runs hold of them: each request that is
 /// issued was accepted and broke no rule, each touch is of an accepted request's own sector at a frame that is lent to it, and
@@ -19,4 +20,11 @@ pub fn histories_are_runs()
 pub fn reads_hold()
     ensures { (first : Instant Device) (past : List (Happening Device DeviceStep)) → IsHistory Begins Ties first past
         → first.device.telling ≡ true → EveryReadHolds first.moment (events_of past) }
+{}
+
+/// There is a history with an answered read, so that what is said of histories, and of the reads in them, speaks of
+/// something. It begins with an adapter in whose memory the command of that read stands already, and has three calls: the
+/// read is submitted, the device is told to finish it, and a service answers it Ok.
+pub fn an_answered_read_exists()
+    ensures { ReadIsAnswered }
 {}

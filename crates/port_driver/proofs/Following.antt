@@ -30,8 +30,11 @@ followed_then May Fits old mid new a b = record {
   adds = λ uses parked is. accesses_then (known uses parked old) (known uses parked mid) (known uses parked new) (a.adds uses parked is) (b.adds uses parked is);
 }
 
+pub nothing_by : (May : Access → Type 0) (Fits : Uses → Type 0) (d : Device) → IsFollowed May Fits d d
+nothing_by May Fits d = record { driven = by_none May d; adds = λ uses parked is. device_adds (known uses parked d) d (Steps-refl d) }
+
 pub nothing_followed : (d : Device) → IsFollowed AnyAccess AnyUse d d
-nothing_followed d = record { driven = by_none AnyAccess d; adds = λ uses parked is. device_adds (known uses parked d) d (Steps-refl d) }
+nothing_followed d = nothing_by AnyAccess AnyUse d
 
 -- what is followed however the slots are used
 pub followed_so : (Fits : Uses → Type 0) (old new : Device) → IsFollowed AnyAccess AnyUse old new → IsFollowed AnyAccess Fits old new

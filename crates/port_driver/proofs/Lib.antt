@@ -8,6 +8,8 @@ pub mod Sparing
 pub mod Issuing
 pub mod Going
 pub mod Looking
+pub mod Found
+pub mod FirstFound
 pub mod Booting
 pub mod Bringing
 pub mod Finding
