@@ -309,9 +309,9 @@ impl<S: SectorStore> Adapter for Model<S> {
 }
 
 impl<S: SectorStore> Stepped for Model<S> {
-    /// Beside what every such adapter says: a fetch of a read or a write is refused only where it isn't possible; a move
-    /// and an end only where they aren't, the store failed, or the tape has no memory; a Finish over a store that never
-    /// fails ends the command, and on port 0, which alone has a disk, it is refused only where a move of it isn't
+    /// Beside what every such adapter says: a fetch of a read or a write is refused only where it isn't possible; a
+    /// move and an end only where they aren't, the store failed, or the tape has no memory; a Finish over a store that
+    /// never fails ends the command, and on port 0, which alone has a disk, it is refused only where a move of it isn't
     /// possible or the tape has no memory. What is queued stays queued, for the accesses that it was queued for.
     fn step(&mut self, s: &DeviceStep) -> bool
         ensures steps { Steps (device_at S.size S.told self.old) (device_at S.size S.told self.new) }
