@@ -1,5 +1,5 @@
-//! A modelled AHCI adapter: registers, memory, and one disk over a store of sectors. Its device does what it is told, and
-//! by itself only brings the link up. For now it takes READ DMA EXT and WRITE DMA EXT alone.
+//! A modelled AHCI adapter: registers, memory, and one disk over a store of sectors. Its device does what it is told,
+//! and by itself only brings the link up. For now it takes READ DMA EXT and WRITE DMA EXT alone.
 #![tactic(auto)]
 
 mod bits;

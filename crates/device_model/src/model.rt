@@ -35,8 +35,8 @@ struct Queued {
     step: DeviceStep,
 }
 
-/// A modelled adapter. Port 0 has a disk over the first store; ports 1 to 3 have no device. Of all commands it takes READ
-/// DMA EXT and WRITE DMA EXT alone: a step on another one answers `false`.
+/// A modelled adapter. Port 0 has a disk over the first store; ports 1 to 3 have no device. Of all commands it takes
+/// READ DMA EXT and WRITE DMA EXT alone: a step on another one answers `false`.
 #[derive(Drop)]
 pub struct Model<S> {
     hardware: Hardware,
@@ -138,7 +138,7 @@ impl<S: SectorStore> Model<S> {
         if port != 0 {
             return false;
         }
-        // What the disk takes is on the tape: its memory is found first.
+        // A sector that was written can't be taken back, so the memory of its entry is found first.
         if !self.hardware.reserve(1) {
             return false;
         }
@@ -240,8 +240,8 @@ impl<S: SectorStore> Model<S> {
     }
 }
 
-/// Has a disk give the sector of a read, or take a write's from memory; `false` says that the store failed, and that it holds
-/// what it held.
+/// Has a disk give the sector of a read, or take a write's from memory; `false` says that the store failed, and that it
+/// holds what it held.
 fn exchange<S: SectorStore>(
     disk: &mut S,
     hardware: &Hardware,
@@ -309,10 +309,10 @@ impl<S: SectorStore> Adapter for Model<S> {
 }
 
 impl<S: SectorStore> Stepped for Model<S> {
-    /// Beside what every such adapter says: a fetch of a read or a write is refused only where it isn't possible; a move and
-    /// an end only where they aren't, the store failed, or the tape has no memory; a Finish over a store that never fails
-    /// ends the command, and on port 0, which alone has a disk, it is refused only where a move of it isn't possible or the
-    /// tape has no memory. What is queued stays queued, for the accesses that it was queued for.
+    /// Beside what every such adapter says: a fetch of a read or a write is refused only where it isn't possible; a
+    /// move and an end only where they aren't, the store failed, or the tape has no memory; a Finish over a store that
+    /// never fails ends the command, and on port 0, which alone has a disk, it is refused only where a move of it isn't
+    /// possible or the tape has no memory. What is queued stays queued, for the accesses that it was queued for.
     fn step(&mut self, s: &DeviceStep) -> bool
         ensures steps { Steps (device_at S.size S.told self.old) (device_at S.size S.told self.new) }
         ensures refused { result ≡ false → device_at S.size S.told self.new ≡ device_at S.size S.told self.old }

@@ -131,8 +131,8 @@ impl Hardware {
         })
     }
 
-    /// Moves these bytes as the next piece of a command: it puts those of a read into memory, and notes the move on the tape.
-    /// The disk has given or taken them.
+    /// Moves these bytes, which the disk has given or taken, as the next piece of a command: it puts those of a read
+    /// into memory, and notes the move on the tape.
     pub fn move_bytes(&mut self, port: u8, slot: u8, next: NextMove, bytes: &[u8; 512])
         requires port { port < 4 }
         requires slot { slot < 32 }

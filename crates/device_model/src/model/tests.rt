@@ -1,5 +1,5 @@
-// A driver's way to a read of eight sectors or a write of three, and what the device does on it. The registers of a port are
-// reached behind the adapter's calls, whose conditions on the driver would have to be proved here.
+// A driver's way to a read of eight sectors or a write of three, and what the device does on it. The registers of a
+// port are reached behind the adapter's calls, whose conditions on the driver would have to be proved here.
 use crate::sector_store::{MemStore, SectorStore};
 use crate::{Model, ModelConfig, NoMemory, Trim};
 use adapter::{Adapter, DeviceStep, Direction, Entry, Operation, Stepped};
