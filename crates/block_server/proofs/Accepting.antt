@@ -23,7 +23,7 @@ use Rattle.block_server.specs.Calls.{situation_of, state_of, accepted_as, Accept
 use Rattle.port_driver.specs.Port.{IsTransfer, Serves, Proceeds, Issued}
 use Rattle.block_server.specs.View.{ServerView}
 use Rattle.block_server.specs.declared.types.Accepted.{Accepted}
-use Rattle.block_server.proofs.Booking.{owner_same, accepted_on, few_more, owns_on, room_left}
+use Rattle.block_server.proofs.Booking.{kept_room, owner_same, accepted_on, few_more, owns_on, room_left}
 use Rattle.block_server.proofs.Covering as covering
 use Rattle.block_server.proofs.Ruling as ruling
 
@@ -187,7 +187,7 @@ module _ {A : Type 0} (device : A → Device) (s : ServerView A) (places : ℕ) 
         last = refl;
         book = book_is;
         lent = lends;
-        setup = record { grants = refl; owners = lends.owners; state = refl; sectors = refl };
+        setup = record { grants = refl; owners = lends.owners; state = refl; sectors = refl; room = refl };
         issued = issued_is;
         sent = sent;
         same = same;
@@ -200,7 +200,7 @@ module _ {A : Type 0} (device : A → Device) (s : ServerView A) (places : ℕ) 
       loan.request ≡ id → LendsOnly s.table table frames (Some id) → (device adapter).size ≡ (device s.adapter).size →
       (book : List Accepted) → book ≡ s.book ++ record { id = id; client = r.client; op = r.op; first = r.first; count = r.count; loan = loan } ∷ [] → (room : ℕ) → room ≡ places →
       (issued : Bool) → issued ≡ true → StandsBehind s.state (served true (s.book ++ accepted_as r id ∷ [])) (device adapter) →
-      IsKept device (record s { adapter = adapter; table = table; book = book; issued = issued; last = s.last + 1 }) room
+      IsKept device (record s { adapter = adapter; table = table; book = book; issued = issued; last = s.last + 1; room = room }) room
   kept_in adapter table id id_is loan frames frames_are loan_is to_it lends size book book_is room room_is issued issued_is port =
       let L : List Frame → Type 0 = λ list. LendsOnly s.table table list (Some id) in
       let B : List Accepted → Type 0 = λ list. IsKept device (record s { adapter = adapter; table = table; book = list; issued = true; last = s.last + 1 }) places in
@@ -211,4 +211,4 @@ module _ {A : Type 0} (device : A → Device) (s : ServerView A) (places : ℕ) 
       ap (λ (list : List Frame). record { frames = list; request = loan.request }) (loan_is ∙ frames_are) ∙ ap (λ (x : RequestId). record { frames = r.frames.items; request = x }) to_it in
       let same : book ≡ s.book ++ accepted_as r id ∷ [] =
       book_is ∙ ap (λ (l : Lending). s.book ++ record { id = id; client = r.client; op = r.op; first = r.first; count = r.count; loan = l } ∷ []) lending in
-      subst R (sym room_is) (subst I (sym issued_is) (subst B (sym same) kept))
+      kept_room (subst R (sym room_is) (subst I (sym issued_is) (subst B (sym same) kept))) room

@@ -13,7 +13,7 @@ use Rattle.block_server.specs.Book.{IsKept, IsAccepted, IsEarlier, StandsBehind,
 use Rattle.port_driver.specs.Port.{Serves, FindsDone, Issued}
 use Rattle.block_server.specs.View.{ServerView}
 use Rattle.block_server.specs.declared.types.Accepted.{Accepted}
-use Rattle.block_server.proofs.Booking.{accepted_rest, ordered_rest, few_less, owns_on}
+use Rattle.block_server.proofs.Booking.{kept_room, accepted_rest, ordered_rest, few_less, owns_on}
 
 -- a book that isn't empty is its first and the rest
 pub first_and_rest : (book rest : List Accepted) (e : Accepted) → book ≢ [] → e ≡ get_or book 0 e → rest ≡ remove book 0 → book ≡ e ∷ rest
@@ -73,12 +73,12 @@ module _ {A : Type 0} (device : A → Device) (s : ServerView A) (places : ℕ) 
     -- the rest of the book, and whether its first is issued
     pub kept_rest : (adapter : A) → (device adapter).size ≡ (device s.adapter).size → (book : List Accepted) → book ≡ rest → (again : Bool) → (again ≡ false → book ≡ []) → (again ≡ true → book ≢ []) →
         Serves (served again book) (device adapter) → (room : ℕ) → room ≡ places →
-        IsKept device (record s { adapter = adapter; table = table; book = book; issued = again }) room
+        IsKept device (record s { adapter = adapter; table = table; book = book; issued = again; room = room }) room
     kept_rest adapter size book is again none some serves room room_is =
         let B : List Accepted → Type 0 = λ b. (again ≡ false → b ≡ []) → (again ≡ true → b ≢ []) → Serves (served again b) (device adapter) →
         IsKept device (record s { adapter = adapter; table = table; book = b; issued = again }) places in
         let R : ℕ → Type 0 = λ n. IsKept device (record s { adapter = adapter; table = table; book = book; issued = again }) n in
-        subst R (sym room_is) (subst B (sym is) whole none some serves)
+        kept_room (subst R (sym room_is) (subst B (sym is) whole none some serves)) room
       where
         whole : (again ≡ false → rest ≡ []) → (again ≡ true → rest ≢ []) → Serves (served again rest) (device adapter) →
             IsKept device (record s { adapter = adapter; table = table; book = rest; issued = again }) places

@@ -111,7 +111,7 @@ read_row row r = record {
 }
 
 module _ {A : Type 0} (device : A → Device) (adapter : A) (table : Table) (state : PortState) (sectors : ℕ) (grants : List GrantRow) where
-  abbrev new : List Accepted → ServerView A
+  abbrev new : List Accepted → ℕ → ServerView A
   new = made device adapter table state sectors grants
 
   module _ (given : SetupView) (setup : IsSetup given) (rows : SameRows given.grants grants) (names : AllPairs DifferInName grants) (few : length grants ≤ 64)
@@ -134,8 +134,8 @@ module _ {A : Type 0} (device : A → Device) (adapter : A) (table : Table) (sta
 
     pub new_has_begun : (old : Device) → IsIdle old → TellsDisks old → IsFollowed AnyAccess NoneUsed old (device adapter)
         → (mid : Device) → IsBroughtUp state mid (device adapter) → ((f : Frame) → lent_to table f ≡ None) → (book : List Accepted) → book ≡ []
-        → HasBegun device (new book)
-    new_has_begun old is told followed mid brought free book none =
+        → (room : ℕ) → HasBegun device (new book room)
+    new_has_begun old is told followed mid brought free book none room =
         let m = machine_of old grants (owner_of table) in
         let start = setup_starts old in
         let x = (followed.adds (λ port slot. Free) (λ port. []) (λ slot. refl)).adds m (record { first = m; past = []; starts = start; legal = tt; is = refl })
@@ -143,11 +143,11 @@ module _ {A : Type 0} (device : A → Device) (adapter : A) (table : Table) (sta
         let later = after m x.0 in
         let spares = steps_spare m x.0 x.3.only in
         let begun = start_on m later start spares in
-        let P : List Accepted → Type 0 = λ b. HasBegun device (new b) in
+        let P : List Accepted → Type 0 = λ b. HasBegun device (new b room) in
         subst P (sym none) (
-          record { device = device adapter; moment = record { machine = later; ports = ports_of (new []) } },
+          record { device = device adapter; moment = record { machine = later; ports = ports_of (new [] room) } },
           record {
-            history = ((begun, brought_fit (new []) mid (device adapter) brought), record { knows = x.2; port = brought_shown state mid (device adapter) brought });
+            history = ((begun, brought_fit (new [] room) mid (device adapter) brought), record { knows = x.2; port = brought_shown state mid (device adapter) brought });
             stands = record {
               device_is = refl;
               ports_are = refl;

@@ -10,7 +10,9 @@ use Rattle.ata_types.specs.declared.request.ClientId.{ClientId}
 use Rattle.ata_types.specs.declared.request.Frame.{Frame}
 use Rattle.ata_types.specs.declared.request.RequestId.{RequestId}
 use Rattle.dma_frames.specs.Table.{Table, owner_of, lent_to, LendsOnly}
-use Rattle.block_server.specs.Book.{unanswered_of, IsAccepted, IsEarlier, OwnsClientFrames}
+use Rattle.adapter.specs.Device.{Device}
+use Rattle.block_server.specs.View.{ServerView}
+use Rattle.block_server.specs.Book.{unanswered_of, IsKept, IsAccepted, IsEarlier, OwnsClientFrames}
 use Rattle.block_server.specs.declared.types.Accepted.{Accepted}
 
 -- ---- counts
@@ -189,3 +191,19 @@ room_left rows table book e accepted few room low high =
     let h = counted_all (book ++ e ∷ []) clients in
     let n = length-append book (e ∷ []) in
     omega (arith, h, n, more 1, more 2, more 3, more 4, more 5, more 6, more 7, more 8)
+
+-- how much memory the book has is kept apart
+pub kept_room : {A : Type 0} {device : A → Device} {s : ServerView A} {places : ℕ} → IsKept device s places → (room : ℕ) → IsKept device (record s { room = room }) places
+kept_room inv room = record {
+  room = inv.room;
+  few = inv.few;
+  rows = inv.rows;
+  owners = inv.owners;
+  accepted = inv.accepted;
+  ordered = inv.ordered;
+  handed_out = inv.handed_out;
+  due = inv.due;
+  some = inv.some;
+  port = inv.port;
+  ready = inv.ready;
+}

@@ -29,15 +29,15 @@ stands (Unfit n) old d h = (h.0, h.1)
 stands Dead old d h = absurd h
 
 module _ {A : Type 0} (device : A → Device) (adapter : A) (table : Table) (state : PortState) (sectors : ℕ) (grants : List GrantRow) where
-  abbrev pub made : List Accepted → ServerView A
-  made book = record { adapter = adapter; grants = grants; table = table; state = state; sectors = sectors; book = book; issued = false; last = 0 }
+  abbrev pub made : List Accepted → ℕ → ServerView A
+  made book room = record { adapter = adapter; grants = grants; table = table; state = state; sectors = sectors; book = book; issued = false; last = 0; room = room }
 
   pub new_is_kept : {size : ℕ} {given : SetupView} → IsSetup given → 4096 * given.frames ≤ size → (device adapter).size ≡ size → SameRows given.grants grants →
       ((f : Frame) (client : ClientId) → owner_of table f ≡ Some client → (run : Run) × Contains given.owners run × HasFrame run f × (run.0 ≡ client)) →
       (old : Device) → IsBroughtUp state old (device adapter) → (book : List Accepted) → book ≡ [] → (places : ℕ) → 128 ≤ places →
-      IsKept device (record { adapter = adapter; grants = grants; table = table; state = state; sectors = sectors; book = book; issued = false; last = 0 }) places
+      IsKept device (made book places) places
   new_is_kept {size} {given} setup room size_is rows only old brought book none places enough =
-      let P : List Accepted → Type 0 = λ b. IsKept device (made b) places in
+      let P : List Accepted → Type 0 = λ b. IsKept device (made b places) places in
       subst P (sym none) (record {
         room = enough;
         few = λ client. omega arith;

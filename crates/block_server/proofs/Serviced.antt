@@ -85,7 +85,7 @@ module _ {A : Type 0} (device : A → Device) (s : ServerView A) (places : ℕ) 
       (s.state ≡ Ready → s.issued ≡ true → IsHealthy ((device s.adapter).port 0) → IsUnharmed (device s.adapter) (device adapter) → ((device s.adapter).port 0).ci 0 ≡ false → ⊥) →
       Services device s (record s { adapter = adapter }) replies
   services_none adapter replies none serves goes never = record {
-    setup = record { grants = refl; owners = refl; state = refl; sectors = refl };
+    setup = record { grants = refl; owners = refl; state = refl; sectors = refl; room = refl };
     last = refl;
     answers = inl (record { replies_are = none; book = refl; table = refl; issued = refl; ended = goes.ended });
     answered = λ ready issued healthy unharmed clear. absurd (never ready issued healthy unharmed clear);
@@ -105,7 +105,7 @@ module _ {A : Type 0} (device : A → Device) (s : ServerView A) (places : ℕ) 
         (again ≡ false → rest ≡ []) → (again ≡ true → rest ≢ []) → (again ≡ true → ((device adapter).port 0).ci 0 ≡ true) → Serves (served again rest) (device adapter) →
         Services device s (record s { adapter = adapter; table = table; book = rest; issued = again }) replies
     services_first adapter again replies one calm linked next none some sent serves = record {
-      setup = record { grants = refl; owners = lends.owners; state = refl; sectors = refl };
+      setup = record { grants = refl; owners = lends.owners; state = refl; sectors = refl; room = refl };
       last = refl;
       answers = inr (record {
         entry = e;

@@ -87,7 +87,7 @@ abbrev lent_table : Table
 lent_table = record { owners = at_frame reader; lent = at_frame first_id }
 
 abbrev ready : ServerView Device
-ready = record { adapter = prepared_read; grants = rows; table = table; state = Ready; sectors = 256; book = []; issued = false; last = 0 }
+ready = record { adapter = prepared_read; grants = rows; table = table; state = Ready; sectors = 256; book = []; issued = false; last = 0; room = 128 }
 
 owner_is : (frame : Frame) (client : ClientId) → owner_of table frame ≡ Some client → (frame.0 ≡ 40) × (client ≡ reader)
 owner_is frame client own =

@@ -60,12 +60,13 @@ situation_of s = record {
 abbrev pub SameServer : {A : Type 0} → ServerView A → ServerView A → Type 0
 SameServer old new = new ≡ record old { adapter = new.adapter }
 
--- grants, owners, state, sectors and ids are as they were
+-- grants, owners, state, sectors and the memory of the book are as they were
 pub record SameSetup {A : Type 0} (old new : ServerView A) : Type 0 where
   pub grants : new.grants ≡ old.grants
   pub owners : new.table.owners ≡ old.table.owners
   pub state : new.state ≡ old.state
   pub sectors : new.sectors ≡ old.sectors
+  pub room : new.room ≡ old.room
 
 -- the book's entry for a request
 abbrev pub accepted_as : Request → RequestId → Accepted
@@ -169,7 +170,7 @@ pub record StepsDevice {A : Type 0} (device : A → Device) (old new : ServerVie
   pub goes_on : Proceeds (served_by old) (device old.adapter) (device new.adapter)
 
 -- The server as it is made: nothing is asked, nothing lent, and no id handed out. It holds the rows and the owners that it was
--- given. Accesses led to its adapter, whose disks tell their sectors if they did.
+-- given, and memory for 128 requests, which no call changes. Accesses led to its adapter, whose disks tell their sectors if they did.
 pub record IsNew {A : Type 0} (device : A → Device) (owners : List Run) (grants : List GrantRow) (adapter : A) (sectors : ℕ) (s : ServerView A) : Type 0 where
   pub book : s.book ≡ []
   pub issued : s.issued ≡ false
@@ -179,6 +180,7 @@ pub record IsNew {A : Type 0} (device : A → Device) (owners : List Run) (grant
   pub owned : (run : Run) (f : Frame) → Contains owners run → HasFrame run f → owner_of s.table f ≡ Some run.0
   pub only : (f : Frame) (client : ClientId) → owner_of s.table f ≡ Some client → (run : Run) × Contains owners run × HasFrame run f × (run.0 ≡ client)
   pub free : (f : Frame) → lent_to s.table f ≡ None
+  pub room : 128 ≤ s.room
   pub spares : SparesClients [] (device adapter) (device s.adapter)
   pub brought_up : IsBroughtUp s.state (device adapter) (device s.adapter)
   pub came : IsDrivenBy AnyAccess (device adapter) (device s.adapter)

@@ -18,3 +18,5 @@ pub record ServerView (A : Type 0) : Type 0 where
   pub issued : Bool
   -- the id that was handed out last, or 0
   pub last : ℕ
+  -- how many requests the book has memory for
+  pub room : ℕ

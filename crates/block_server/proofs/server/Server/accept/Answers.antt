@@ -1,4 +1,4 @@
-use Rattle.std.proofs.Common.{◌+◌, ◌≤◌, ◌++◌, ◌∷◌, [], Bool, Ok, arith, true, List, length, Some, refl, sym, ◌∙◌, ap, subst}
+use Rattle.std.proofs.Common.{ℕ, ◌+◌, ◌≤◌, ◌++◌, ◌∷◌, [], Bool, Ok, arith, true, List, length, Some, refl, sym, ◌∙◌, ap, subst}
 use Rattle.std.specs.Vec.{vec_capacity}
 use Rattle.std.specs.List.{All}
 use Rattle.ata_types.specs.declared.request.Frame.{Frame}
@@ -100,15 +100,17 @@ returns-then-not-self-clause-adds g c =
     let id : RequestId = record { 0 = c.self.inside.last + 1 } in
     let L : List Frame → Type 0 = λ frames. LendsOnly s.table c.lend-loan.new.self frames (Some id) in
     let S : List Frame → Type 0 = λ frames. IssuesTransfer (record { op = c.args.r.now.op; first = c.args.r.now.first.0; count = c.args.r.now.count; frames = frames }) (g.A.Adapter.device s.adapter) (g.A.Adapter.device c.issue.new.adapter) in
+    let Room : ℕ → Type 0 = λ room. Adds Begins Ties (Stands g.A.Adapter.device) s
+    (record s { adapter = c.issue.new.adapter; table = c.lend-loan.new.self; book = c.push_reserved.new.self.items; issued = true; last = s.last + 1; room = room }) (Submit c.args.r.now) (Submitted (Ok id)) in
     let Here : ServerView g.row.A.Denot → Type 0 = λ v. Adds Begins Ties (Stands g.A.Adapter.device) v
-    (record s { adapter = c.issue.new.adapter; table = c.lend-loan.new.self; book = c.push_reserved.new.self.items; issued = true; last = s.last + 1 }) (Submit c.args.r.now) (Submitted (Ok id)) in
+    (record s { adapter = c.issue.new.adapter; table = c.lend-loan.new.self; book = c.push_reserved.new.self.items; issued = true; last = s.last + 1; room = vec_capacity c.push_reserved.new.self }) (Submit c.args.r.now) (Submitted (Ok id)) in
     let There : List Accepted → Type 0 = λ entries. Adds Begins Ties (Stands g.A.Adapter.device) s
     (record s { adapter = c.issue.new.adapter; table = c.lend-loan.new.self; book = entries; issued = true; last = s.last + 1 }) (Submit c.args.r.now) (Submitted (Ok id)) in
     let entries = entries_are s.book c.args.r.now id c.lend-loan.result c.as_slice.result.now c.push_reserved.new.self.items c.as_slice.ensures.value c.lend-loan.ensures.frames c.lend-loan.ensures.request c.push_reserved.ensures.items in
-    subst Here c.self.view_is (subst There (sym entries)
+    subst Here c.self.view_is (subst Room (sym c.push_reserved.ensures.capacity) (subst There (sym entries)
     (sent_adds g.A.Adapter.device s (vec_capacity c.self.inside.book) c.self.invariant c.args.r.now acc id refl c.lend-loan.new.self (subst L c.as_slice.ensures.value c.lend-loan.ensures.lent) c.if-not-self.true c.issue.new.adapter
     (subst S c.as_slice-then-not-self.ensures.value c.issue.ensures.followed)
-    (ready_shown s.state (Some (record { op = c.args.r.now.op; first = c.args.r.now.first.0; count = c.args.r.now.count; frames = c.as_slice-then-not-self.result.now })) (g.A.Adapter.device c.issue.new.adapter) (accepting.is_ready g.A.Adapter.device s (vec_capacity c.self.inside.book) c.self.invariant c.args.r.now acc) c.issue.ensures.serves)))
+    (ready_shown s.state (Some (record { op = c.args.r.now.op; first = c.args.r.now.first.0; count = c.args.r.now.count; frames = c.as_slice-then-not-self.result.now })) (g.A.Adapter.device c.issue.new.adapter) (accepting.is_ready g.A.Adapter.device s (vec_capacity c.self.inside.book) c.self.invariant c.args.r.now acc) c.issue.ensures.serves))))
 
 pub returns-else-not-self-clause-adds : goal.returns-else-not-self-clause-adds
 returns-else-not-self-clause-adds g c =
@@ -116,12 +118,14 @@ returns-else-not-self-clause-adds g c =
     let acc = subst (λ (v : ServerView g.row.A.Denot). IsAcceptable (situation_of v) c.args.r.now) (sym c.self.view_is) c.requires in
     let id : RequestId = record { 0 = c.self.inside.last + 1 } in
     let L : List Frame → Type 0 = λ frames. LendsOnly s.table c.lend-loan.new.self frames (Some id) in
+    let Room : ℕ → Type 0 = λ room. Adds Begins Ties (Stands g.A.Adapter.device) s
+    (record s { table = c.lend-loan.new.self; book = c.push_reserved.new.self.items; last = s.last + 1; room = room }) (Submit c.args.r.now) (Submitted (Ok id)) in
     let Here : ServerView g.row.A.Denot → Type 0 = λ v. Adds Begins Ties (Stands g.A.Adapter.device) v
-    (record s { table = c.lend-loan.new.self; book = c.push_reserved.new.self.items; last = s.last + 1 }) (Submit c.args.r.now) (Submitted (Ok id)) in
+    (record s { table = c.lend-loan.new.self; book = c.push_reserved.new.self.items; last = s.last + 1; room = vec_capacity c.push_reserved.new.self }) (Submit c.args.r.now) (Submitted (Ok id)) in
     let There : List Accepted → Type 0 = λ entries. Adds Begins Ties (Stands g.A.Adapter.device) s
     (record s { table = c.lend-loan.new.self; book = entries; last = s.last + 1 }) (Submit c.args.r.now) (Submitted (Ok id)) in
     let Flag : Bool → Type 0 = λ b. Adds Begins Ties (Stands g.A.Adapter.device) s
     (record s { table = c.lend-loan.new.self; book = s.book ++ accepted_as c.args.r.now id ∷ []; issued = b; last = s.last + 1 }) (Submit c.args.r.now) (Submitted (Ok id)) in
     let entries = entries_are s.book c.args.r.now id c.lend-loan.result c.as_slice.result.now c.push_reserved.new.self.items c.as_slice.ensures.value c.lend-loan.ensures.frames c.lend-loan.ensures.request c.push_reserved.ensures.items in
-    subst Here c.self.view_is (subst There (sym entries) (subst Flag (sym c.if-not-self.false)
-    (waiting_adds g.A.Adapter.device s (vec_capacity c.self.inside.book) c.self.invariant c.args.r.now acc id refl c.lend-loan.new.self (subst L c.as_slice.ensures.value c.lend-loan.ensures.lent) c.if-not-self.false)))
+    subst Here c.self.view_is (subst Room (sym c.push_reserved.ensures.capacity) (subst There (sym entries) (subst Flag (sym c.if-not-self.false)
+    (waiting_adds g.A.Adapter.device s (vec_capacity c.self.inside.book) c.self.invariant c.args.r.now acc id refl c.lend-loan.new.self (subst L c.as_slice.ensures.value c.lend-loan.ensures.lent) c.if-not-self.false))))

@@ -30,6 +30,7 @@ returns-clause-made g c = rw (← c.owners.ensures.owners, ← c.grants.ensures.
   owned = c.new-table.ensures.owned;
   only = c.new-table.ensures.only;
   free = c.new-table.ensures.free;
+  room = (let e = c.in-Ok-with_capacity.ensures.exact in omega (arith, e));
   spares = spares_then c.power_on.ensures.on.spares c.bring_up-state.ensures.spares;
   brought_up = brought_from c.bring_up-state.result _ _ _ c.power_on.ensures.on.spares c.bring_up-state.ensures.spares c.bring_up-state.ensures.state;
   came = by_then c.power_on.ensures.followed.driven c.bring_up-state.ensures.followed.driven;
@@ -42,4 +43,4 @@ returns-clause-begins g c told =
     c.grants.ensures.fits (rw c.grants.ensures.grants at c.in-Ok.ensures.rows) c.in-Ok.ensures.names c.in-Ok.ensures.few
     (rw c.owners.ensures.owners at c.new-table.ensures.only) _ c.requires.ready.idle told
     (followed_then AnyAccess NoneUsed _ _ _ (followed_so NoneUsed _ _ c.power_on.ensures.followed) c.bring_up-state.ensures.followed) _ c.bring_up-state.ensures.state
-    c.new-table.ensures.free c.in-Ok-with_capacity.book.items c.in-Ok-with_capacity.ensures.items
+    c.new-table.ensures.free c.in-Ok-with_capacity.book.items c.in-Ok-with_capacity.ensures.items (vec_capacity c.in-Ok-with_capacity.book)

@@ -1,4 +1,4 @@
-use Rattle.std.proofs.Common.{inl, inr, Bool, true, refl, sym, ◌∙◌, ap, subst, List, [], ◌∷◌, ◌++◌}
+use Rattle.std.proofs.Common.{ℕ, inl, inr, Bool, true, refl, sym, ◌∙◌, ap, subst, List, [], ◌∷◌, ◌++◌}
 use Rattle.ata_types.specs.declared.request.Reply.{Reply}
 use Rattle.adapter.proofs.Absurd.{true-false}
 use Rattle.port_driver.proofs.Driving.{by_none, looks_then}
@@ -147,13 +147,15 @@ returns-clause-services g c =
     let next = c.issue_first-self-inside.ensures in
     let same = c.deref.ensures.value in
     let P : List Accepted → Type 0 = λ book. Serves (served c.issue_first-self-inside.result book) (g.A.Adapter.device c.issue_first-self-inside.new.adapter) in
+    let Room : ℕ → Type 0 = λ room. Services g.A.Adapter.device s
+    (record s { adapter = c.issue_first-self-inside.new.adapter; table = c.give_back.new.self; book = rest; issued = c.issue_first-self-inside.result; room = room }) c.push.new.self.items in
     let Here : ServerView g.row.A.Denot → Type 0 = λ v. Services g.A.Adapter.device v
-    (record s { adapter = c.issue_first-self-inside.new.adapter; table = c.give_back.new.self; book = rest; issued = c.issue_first-self-inside.result }) c.push.new.self.items in
-    subst Here c.self.view_is
+    (record s { adapter = c.issue_first-self-inside.new.adapter; table = c.give_back.new.self; book = rest; issued = c.issue_first-self-inside.result; room = vec_capacity c.remove-loan.new.self }) c.push.new.self.items in
+    subst Here c.self.view_is (subst Room (sym c.remove-loan.ensures.capacity)
     (services_first g.A.Adapter.device s places c.self.invariant c.if-not-self.false c.remove-loan.result rest book_is c.give_back.new.self c.give_back.ensures
     (g.A.Adapter.device c.is_done.new.adapter) goes free c.issue_first-self-inside.new.adapter c.issue_first-self-inside.result c.push.new.self.items (c.push.ensures.items ∙ ap (λ (replies : List Reply). replies ++ done_reply c.remove-loan.result ∷ []) c.new-replies.ensures)
     (λ trouble. true-false c.if-not-look.false (c.look.ensures.troubled trouble))
-    (λ none u. true-false c.if-not-look.false (c.look.ensures.unlinked none (undisturbed_both looked.1.spares found.spares u).0)) next.goes_on (λ not. sym same ∙ next.none not) (λ is none. next.some is (same ∙ none)) next.issued (subst P same next.serves))
+    (λ none u. true-false c.if-not-look.false (c.look.ensures.unlinked none (undisturbed_both looked.1.spares found.spares u).0)) next.goes_on (λ not. sym same ∙ next.none not) (λ is none. next.some is (same ∙ none)) next.issued (subst P same next.serves)))
 
 pub returns-clause-adds : goal.returns-clause-adds
 returns-clause-adds g c =
@@ -172,12 +174,13 @@ returns-clause-adds g c =
     let again = c.issue_first-self-inside.result in
     let Finds : Bool → Type 0 = λ done. FindsTransfer done looked middle in
     let Issues : List Accepted → Type 0 = λ book. IssuesFirst book middle (device new) in
-    let after : ServerView g.row.A.Denot = record s { adapter = new; table = c.give_back.new.self; book = rest; issued = again } in
-    let Here : ServerView g.row.A.Denot → Type 0 = λ v. Adds Begins Ties (Stands device) v after Service (Served c.push.new.self.items) in
-    let Said : List Reply → Type 0 = λ replies. Adds Begins Ties (Stands device) s after Service (Served replies) in
+    let after : ℕ → ServerView g.row.A.Denot = λ room. record s { adapter = new; table = c.give_back.new.self; book = rest; issued = again; room = room } in
+    let Here : ServerView g.row.A.Denot → Type 0 = λ v. Adds Begins Ties (Stands device) v (after (vec_capacity c.remove-loan.new.self)) Service (Served c.push.new.self.items) in
+    let Room : ℕ → Type 0 = λ room. Adds Begins Ties (Stands device) s (after room) Service (Served c.push.new.self.items) in
+    let Said : List Reply → Type 0 = λ replies. Adds Begins Ties (Stands device) s (after s.room) Service (Served replies) in
     let replies_are = c.push.ensures.items ∙ ap (λ (replies : List Reply). replies ++ done_reply e ∷ []) c.new-replies.ensures in
-    subst Here c.self.view_is (subst Said (sym replies_are)
+    subst Here c.self.view_is (subst Room (sym c.remove-loan.ensures.capacity) (subst Said (sym replies_are)
     (answering_adds device s places c.self.invariant c.in-Ready.is c.if-not-self.false e rest book_is c.give_back.new.self c.give_back.ensures middle
     (looks_then (c.look.ensures.looks (done_reply e ∷ []) (λ _. c.if-not-look.false)) (subst Finds c.if-not-is_done.false c.is_done.ensures.followed).driven)
     (found_adds e.id old looked middle true c.look.ensures.followed (subst Finds c.if-not-is_done.false c.is_done.ensures.followed))
-    new again (ready_shown s.state _ (device new) c.in-Ready.is next.serves) (λ not. sym same ∙ next.none not) (λ is none. next.some is (same ∙ none)) (subst Issues same next.followed)))
+    new again (ready_shown s.state _ (device new) c.in-Ready.is next.serves) (λ not. sym same ∙ next.none not) (λ is none. next.some is (same ∙ none)) (subst Issues same next.followed))))
