@@ -11,7 +11,7 @@ use Rattle.adapter.proofs.Runs.{Steps-one}
 use Rattle.dma_frames.specs.Table.{Table, LendsOnly}
 use Rattle.block_server.specs.Book.{IsKept, StandsBehind, served, issued_of}
 use Rattle.block_server.specs.Calls.{Services, done_reply}
-use Rattle.port_driver.specs.Port.{IsLone, IsResting, IsHealthy, IsTroubled, IsUnlinked, Issued, Serves, Proceeds, frames_of, EndsAsShown, issued_now, MovesOnly}
+use Rattle.port_driver.specs.Port.{IsLone, IsResting, IsHealthy, IsTroubled, IsUnlinked, Issued, Serves, Proceeds, filled_frames, EndsAsShown, issued_now, MovesOnly}
 use Rattle.port_driver.specs.Told.{ended, IsUndisturbed, IsUnharmed}
 use Rattle.block_server.specs.View.{ServerView}
 use Rattle.block_server.specs.declared.types.Accepted.{Accepted}
@@ -121,7 +121,7 @@ module _ {A : Type 0} (device : A → Device) (s : ServerView A) (places : ℕ) 
       troubled = λ trouble. absurd (calm trouble);
       unlinked = λ unlinked u. absurd (linked unlinked (undisturbed_both goes.spares next.spares u).0);
       serves = λ _. serves;
-      spares = spares_then goes.spares (spares_less (frames_of (served s.issued s.book)) next.spares);
+      spares = spares_then goes.spares (spares_less (filled_frames (served s.issued s.book)) next.spares);
       moved = moves_then (served s.issued s.book) goes.moved (moves_more_served (served s.issued s.book) next.moved);
       healthy = λ unharmed h. let u = unharmed_both goes.spares next.spares unharmed in next.healthy u.1 (goes.healthy u.0 h);
     }

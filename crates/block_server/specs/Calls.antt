@@ -24,7 +24,7 @@ use Rattle.dma_frames.specs.Table.{Run, owner_of, lent_to, LendsOnly, HasFrame}
 use Rattle.block_server.specs.Book.{served, unanswered_of}
 use Rattle.grants.specs.Rows.{SameRows}
 use Rattle.port_driver.specs.Followed.{IsDrivenBy, AnyAccess}
-use Rattle.port_driver.specs.Port.{IsBroughtUp, IsHealthy, IsTroubled, IsUnlinked, Issued, Serves, SparesClients, Proceeds, EndsAsShown, issued_now, MovesOnly, frames_of}
+use Rattle.port_driver.specs.Port.{IsBroughtUp, IsHealthy, IsTroubled, IsUnlinked, Issued, Serves, SparesClients, Proceeds, EndsAsShown, issued_now, MovesOnly, filled_frames}
 use Rattle.port_driver.specs.Told.{ended, IsUndisturbed, IsUnharmed}
 use Rattle.block_server.specs.View.{ServerView}
 use Rattle.block_server.specs.declared.types.Accepted.{Accepted}
@@ -133,13 +133,13 @@ pub record Services {A : Type 0} (device : A → Device) (old new : ServerView A
   pub troubled : IsTroubled ((device old.adapter).port 0) → replies ≡ []
   pub unlinked : IsUnlinked ((device old.adapter).port 0) → IsUndisturbed (device old.adapter) (device new.adapter) → replies ≡ []
   pub serves : old.state ≡ Ready → Serves (served_by new) (device new.adapter)
-  pub spares : SparesClients (frames_of (served_by old)) (device old.adapter) (device new.adapter)
+  pub spares : SparesClients (filled_frames (served_by old)) (device old.adapter) (device new.adapter)
   pub moved : MovesOnly (served_by old) (device old.adapter) (device new.adapter)
   pub healthy : IsUnharmed (device old.adapter) (device new.adapter) → IsHealthy ((device old.adapter).port 0) → IsHealthy ((device new.adapter).port 0)
 
 -- A refused load is told the first cause that applies, and changes nothing, the buffer neither. Another brings the frame's
--- bytes and changes nothing of the server but what the device does meanwhile, which changes no client frame but those of the
--- transfer that is served.
+-- bytes and changes nothing of the server but what the device does meanwhile, which changes no client frame but those of a
+-- read that is served.
 abbrev pub LoadsFrame : {A : Type 0} → (A → Device) → ServerView A → ServerView A → ClientId → Frame → ℕ → List ℕ → List ℕ → Result (Unit {0}) MemFault → Type 0
 LoadsFrame device old new client frame offset before bytes (Ok done) =
     IsOpen (owner_of old.table) (lent_to old.table) client frame offset (length before)

@@ -19,7 +19,7 @@ use Rattle.adapter.proofs.Calls.{KeepsAll, steps_keep_all}
 use Rattle.adapter.proofs.KeptLemmas.{step_keeps}
 use Rattle.adapter.proofs.MemoryLemmas.{patched_apart}
 use Rattle.adapter.proofs.Runs.{Steps-one}
-use Rattle.port_driver.specs.Port.{IsTableByte, IsKeptByte, IsHealthy, IsLone, IsRunning, Issued, meaning_of, HoldsTransfer, Serves, SparesClients, Proceeds, MovesOnly, EndsAsShown, issued_now, IsSlotFree, frames_of}
+use Rattle.port_driver.specs.Port.{IsTableByte, IsKeptByte, IsHealthy, IsLone, IsRunning, Issued, meaning_of, HoldsTransfer, Serves, SparesClients, Proceeds, MovesOnly, EndsAsShown, issued_now, IsSlotFree, filled_frames}
 use Rattle.port_driver.specs.Told.{is_change, is_failure, is_plain_of, is_end, ended, IsUnharmed}
 use Rattle.port_driver.proofs.Coming.{SameFace, up_face}
 use Rattle.port_driver.proofs.Issuing.{none_guarded, none_after, all_free}
@@ -46,7 +46,7 @@ module _ {frames more : List Frame} {old mid new : Device} (a : SparesClients fr
   ends_grow op = grows (is_end op)
 
 pub goes_none : (issued : Option Issued) (d : Device) → Proceeds issued d d
-goes_none issued d = record { spares = spares_none (frames_of issued) d; healthy = λ _ h. h; ended = same issued; moved = moves_none issued d }
+goes_none issued d = record { spares = spares_none (filled_frames issued) d; healthy = λ _ h. h; ended = same issued; moved = moves_none issued d }
   where
     same : (o : Option Issued) → EndsAsShown o d d
     same None = λ op. refl

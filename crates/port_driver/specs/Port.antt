@@ -228,9 +228,9 @@ filled_by Write frames = []
 filled_by _ frames = frames
 
 -- the frames that the transfer which is served may fill
-abbrev pub frames_of : Option Issued → List Frame
-frames_of None = []
-frames_of (Some r) = filled_by r.op r.frames
+abbrev pub filled_frames : Option Issued → List Frame
+filled_frames None = []
+filled_frames (Some r) = filled_by r.op r.frames
 
 -- slot 0's bit of CI, as a number
 abbrev pub issued_now : Device → ℕ
@@ -273,7 +273,7 @@ pub record MovesOnly (issued : Option Issued) (old new : Device) : Type 0 where
 -- Meanwhile no client frame changed but those of a read that is served; a port without trouble has none still, unless it
 -- was told; and as many of its commands ended as bits of CI went away.
 pub record Proceeds (issued : Option Issued) (old new : Device) : Type 0 where
-  pub spares : SparesClients (frames_of issued) old new
+  pub spares : SparesClients (filled_frames issued) old new
   pub healthy : IsUnharmed old new → IsHealthy (old.port 0) → IsHealthy (new.port 0)
   pub ended : EndsAsShown issued old new
   pub moved : MovesOnly issued old new

@@ -16,7 +16,7 @@ pub fn driver_bytes_are_free()
     ensures { (at n : ℕ) (d : Device) → Serves None d → (at + n ≤ 1024) ⊎ (1280 ≤ at) → at + n ≤ 163840 → Stays (IsFree at n) d }
 {}
 
-/// There is an adapter whose port 0 serves a transfer and tells no trouble, so that clauses on such ports speak of something:
+/// There is an adapter whose port 0 serves a read and tells no trouble, so that clauses on such ports speak of something:
 /// `first_read`, with its read of eight sectors from 100 on into frame 40.
 pub fn a_served_read_exists()
     ensures serves { Serves (Some (record { op = Read; first = 100; count = 8; frames = record { 0 = 40 } ∷ [] })) first_read }
