@@ -180,9 +180,7 @@ mod tests {
     use super::*;
     use adapter::Stepped;
     use adapter::laws::steps_compose;
-    use ata_types::{
-        FrameFault, MemFault, Outcome, PortState, Refusal, Reply, RequestId, Rule,
-    };
+    use ata_types::{FrameFault, MemFault, Outcome, PortState, Refusal, Reply, RequestId, Rule};
     use hba_regs::{PortReg, Reg};
     use port_driver::laws::driver_bytes_are_free;
     use std::test::Fail;
@@ -649,7 +647,10 @@ mod tests {
         };
         let mut model = model;
         let (header, fis, entry) = slot_bytes(&mut model);
-        assert_eq!(rt; header, [0x45, 0, 1, 0, 0, 0, 0, 0, 0, 0x10, 0, 0, 0, 0, 0, 0]);
+        assert_eq!(rt;
+            header,
+            [0x45, 0, 1, 0, 0, 0, 0, 0, 0, 0x10, 0, 0, 0, 0, 0, 0]
+        );
         assert_eq!(rt;
             fis,
             [
