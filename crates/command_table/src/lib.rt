@@ -12,10 +12,7 @@ ghost use Rattle.command_table.specs.Bytes.{Stores, part};
 use adapter::{Command, Prd};
 use arrayvec::ArrayVec;
 use ata_types::Frame;
-
-const HOST_TO_DEVICE: u8 = 0x27;
-
-const COMMAND_BIT: u8 = 0x80;
+use fis::encode_h2d;
 
 const FIS_DWORDS: u32 = 5;
 
@@ -31,38 +28,6 @@ fn store_at(buffer: &mut [u8], at: usize, bytes: &[u8])
     for (i, byte) in bytes.iter().enumerate() {
         buffer[at + i] = *byte;
     }
-}
-
-/// A command as a Register FIS from host to device (Serial ATA; AHCI 1.3.1, 4.2.3.1).
-pub fn encode_h2d(command: &Command) -> [u8; 20]
-    requires { command.now.lba < 2 ^ 48 }
-    ensures { SpellsCommand result command.now }
-{
-    let features = command.features.to_le_bytes();
-    let lba = command.lba.to_le_bytes();
-    let count = command.count.to_le_bytes();
-    [
-        HOST_TO_DEVICE,
-        COMMAND_BIT,
-        command.code,
-        features[0],
-        lba[0],
-        lba[1],
-        lba[2],
-        command.device,
-        lba[3],
-        lba[4],
-        lba[5],
-        features[1],
-        count[0],
-        count[1],
-        0,
-        0,
-        0,
-        0,
-        0,
-        0,
-    ]
 }
 
 /// The header of a command with so many PRDs in the table at this address. `writes` says that the device reads memory.

@@ -1,0 +1,319 @@
+//! The frame information structures of Serial ATA that a host and a disk send: each value's one spelling in bytes, both ways.
+//! Reserved bytes and bits are zero, and a decoder takes nothing else there, and no other length (this project's own).
+#![tactic(auto)]
+
+ghost use Rattle.std.specs.Prelude.{◌≡◌, ◌<◌, ◌≤◌, ◌^◌, ◌↔◌, IsTrue, IfSome, Some, length};
+ghost use Rattle.std.specs.Int.RustNames.{bit_and};
+ghost use Rattle.adapter.specs.Spelling.{AreZero, SpellsCommand};
+ghost use Rattle.adapter.specs.declared.command.Command.{Command};
+ghost use Rattle.fis.specs.declared.DeviceToHost.{DeviceToHost};
+ghost use Rattle.fis.specs.declared.PioSetup.{PioSetup};
+ghost use Rattle.fis.specs.declared.SetDeviceBits.{SetDeviceBits};
+ghost use Rattle.fis.specs.Spelling.{lba_at, SpellsDeviceToHost, SpellsPioSetup, SpellsSetDeviceBits};
+
+use adapter::Command;
+use byteorder::{ByteOrder, LittleEndian};
+
+/// What a Register FIS from device to host tells: the registers after a command (Serial ATA; AHCI 1.3.1, 4.2.1).
+#[derive(Clone, Copy, PartialEq, Eq, Debug)]
+pub struct DeviceToHost {
+    pub interrupt: bool,
+    pub status: u8,
+    pub error: u8,
+    /// 48 bits.
+    pub lba: u64,
+    pub device: u8,
+    pub count: u16,
+}
+
+/// What a Set Device Bits FIS tells: the tags of the queued commands that ended, and a status without its bits 7 and 3, BSY and DRQ,
+/// which it doesn't set (Serial ATA; AHCI 1.3.1, 4.2.1).
+#[derive(Clone, Copy, PartialEq, Eq, Debug)]
+pub struct SetDeviceBits {
+    pub interrupt: bool,
+    pub status: u8,
+    pub error: u8,
+    /// A bit for each tag.
+    pub tags: u32,
+}
+
+/// What a PIO Setup FIS tells of the transfer that follows it (Serial ATA; AHCI 1.3.1, 4.2.1).
+#[derive(Clone, Copy, PartialEq, Eq, Debug)]
+pub struct PioSetup {
+    pub interrupt: bool,
+    /// The data go from device to host.
+    pub to_host: bool,
+    pub status: u8,
+    pub error: u8,
+    /// 48 bits.
+    pub lba: u64,
+    pub device: u8,
+    pub count: u16,
+    /// The status once the data are there.
+    pub ending_status: u8,
+    /// In bytes.
+    pub transfer_count: u16,
+}
+
+const HOST_TO_DEVICE: u8 = 0x27;
+
+const DEVICE_TO_HOST: u8 = 0x34;
+
+const SET_DEVICE_BITS: u8 = 0xa1;
+
+const PIO_SETUP: u8 = 0x5f;
+
+/// The bits of byte 1: C of a command, I of what the device sends, and D of a PIO Setup FIS.
+const COMMAND_BIT: u8 = 0x80;
+
+const INTERRUPT_BIT: u8 = 0x40;
+
+const TO_HOST_BIT: u8 = 0x20;
+
+const BOTH_BITS: u8 = INTERRUPT_BIT + TO_HOST_BIT;
+
+/// The status bits that a Set Device Bits FIS leaves alone.
+const UNSET_STATUS: u8 = 0x88;
+
+/// Whether the bytes of these places, up to the end, are all zero.
+fn are_zero(bytes: &[u8], from: usize, to: usize) -> bool
+    requires order { from ≤ to }
+    requires room { to ≤ length bytes.now }
+    ensures { IsTrue result ↔ AreZero bytes.now from to }
+{
+    for place in from..to {
+        if bytes[place] != 0 {
+            return false;
+        }
+    }
+    true
+}
+
+/// The LBA that stands in bytes 4 to 6 and 8 to 10.
+fn lba_of(bytes: &[u8]) -> u64
+    requires { 11 ≤ length bytes.now }
+    ensures { result ≡ lba_at bytes.now }
+{
+    u64::from(LittleEndian::read_u24(&bytes[4..]))
+        + (u64::from(LittleEndian::read_u24(&bytes[8..])) << 24)
+}
+
+/// A command as a Register FIS from host to device (Serial ATA; AHCI 1.3.1, 4.2.3.1). Its LBA is below 2^48.
+pub fn encode_h2d(command: &Command) -> [u8; 20]
+    requires { command.now.lba < 2 ^ 48 }
+    ensures { SpellsCommand result command.now }
+{
+    let features = command.features.to_le_bytes();
+    let lba = command.lba.to_le_bytes();
+    let count = command.count.to_le_bytes();
+    [
+        HOST_TO_DEVICE,
+        COMMAND_BIT,
+        command.code,
+        features[0],
+        lba[0],
+        lba[1],
+        lba[2],
+        command.device,
+        lba[3],
+        lba[4],
+        lba[5],
+        features[1],
+        count[0],
+        count[1],
+        0,
+        0,
+        0,
+        0,
+        0,
+        0,
+    ]
+}
+
+/// The command that the bytes spell as a Register FIS from host to device, if they do.
+pub fn decode_h2d(bytes: &[u8]) -> Option<Command>
+    ensures found { IfSome result (SpellsCommand bytes.now) }
+    ensures only { (c : Command) → SpellsCommand bytes.now c → result ≡ Some c }
+{
+    if bytes.len() != 20
+        || bytes[0] != HOST_TO_DEVICE
+        || bytes[1] != COMMAND_BIT
+        || !are_zero(bytes, 14, 20)
+    {
+        return None;
+    }
+    Some(Command {
+        code: bytes[2],
+        features: u16::from_le_bytes([bytes[3], bytes[11]]),
+        lba: lba_of(bytes),
+        device: bytes[7],
+        count: LittleEndian::read_u16(&bytes[12..]),
+    })
+}
+
+/// Registers as a Register FIS from device to host. Their LBA is below 2^48.
+pub fn encode_d2h(fis: &DeviceToHost) -> [u8; 20]
+    requires { fis.now.lba < 2 ^ 48 }
+    ensures { SpellsDeviceToHost result fis.now }
+{
+    let lba = fis.lba.to_le_bytes();
+    let count = fis.count.to_le_bytes();
+    [
+        DEVICE_TO_HOST,
+        if fis.interrupt { INTERRUPT_BIT } else { 0 },
+        fis.status,
+        fis.error,
+        lba[0],
+        lba[1],
+        lba[2],
+        fis.device,
+        lba[3],
+        lba[4],
+        lba[5],
+        0,
+        count[0],
+        count[1],
+        0,
+        0,
+        0,
+        0,
+        0,
+        0,
+    ]
+}
+
+/// The registers that the bytes spell as a Register FIS from device to host, if they do.
+pub fn decode_d2h(bytes: &[u8]) -> Option<DeviceToHost>
+    ensures found { IfSome result (SpellsDeviceToHost bytes.now) }
+    ensures only { (d : DeviceToHost) → SpellsDeviceToHost bytes.now d → result ≡ Some d }
+{
+    if bytes.len() != 20
+        || bytes[0] != DEVICE_TO_HOST
+        || bytes[11] != 0
+        || !are_zero(bytes, 14, 20)
+    {
+        return None;
+    }
+    let interrupt = match bytes[1] {
+        INTERRUPT_BIT => true,
+        0 => false,
+        _ => return None,
+    };
+    Some(DeviceToHost {
+        interrupt,
+        status: bytes[2],
+        error: bytes[3],
+        lba: lba_of(bytes),
+        device: bytes[7],
+        count: LittleEndian::read_u16(&bytes[12..]),
+    })
+}
+
+/// Tags as a Set Device Bits FIS. Bits 7 and 3 of the status are zero.
+pub fn encode_set_device_bits(fis: &SetDeviceBits) -> [u8; 8]
+    requires { bit_and fis.now.status UNSET_STATUS ≡ 0 }
+    ensures { SpellsSetDeviceBits result fis.now }
+{
+    let tags = fis.tags.to_le_bytes();
+    [
+        SET_DEVICE_BITS,
+        if fis.interrupt { INTERRUPT_BIT } else { 0 },
+        fis.status,
+        fis.error,
+        tags[0],
+        tags[1],
+        tags[2],
+        tags[3],
+    ]
+}
+
+/// The tags that the bytes spell as a Set Device Bits FIS, if they do.
+pub fn decode_set_device_bits(bytes: &[u8]) -> Option<SetDeviceBits>
+    ensures found { IfSome result (SpellsSetDeviceBits bytes.now) }
+    ensures only { (s : SetDeviceBits) → SpellsSetDeviceBits bytes.now s → result ≡ Some s }
+{
+    if bytes.len() != 8 || bytes[0] != SET_DEVICE_BITS || bytes[2] & UNSET_STATUS != 0 {
+        return None;
+    }
+    let interrupt = match bytes[1] {
+        INTERRUPT_BIT => true,
+        0 => false,
+        _ => return None,
+    };
+    Some(SetDeviceBits {
+        interrupt,
+        status: bytes[2],
+        error: bytes[3],
+        tags: LittleEndian::read_u32(&bytes[4..]),
+    })
+}
+
+/// A transfer as a PIO Setup FIS. Its LBA is below 2^48.
+pub fn encode_pio_setup(fis: &PioSetup) -> [u8; 20]
+    requires { fis.now.lba < 2 ^ 48 }
+    ensures { SpellsPioSetup result fis.now }
+{
+    let lba = fis.lba.to_le_bytes();
+    let count = fis.count.to_le_bytes();
+    let transfer_count = fis.transfer_count.to_le_bytes();
+    let interrupt = if fis.interrupt { INTERRUPT_BIT } else { 0 };
+    let to_host = if fis.to_host { TO_HOST_BIT } else { 0 };
+    [
+        PIO_SETUP,
+        interrupt + to_host,
+        fis.status,
+        fis.error,
+        lba[0],
+        lba[1],
+        lba[2],
+        fis.device,
+        lba[3],
+        lba[4],
+        lba[5],
+        0,
+        count[0],
+        count[1],
+        0,
+        fis.ending_status,
+        transfer_count[0],
+        transfer_count[1],
+        0,
+        0,
+    ]
+}
+
+/// The transfer that the bytes spell as a PIO Setup FIS, if they do.
+pub fn decode_pio_setup(bytes: &[u8]) -> Option<PioSetup>
+    ensures found { IfSome result (SpellsPioSetup bytes.now) }
+    ensures only { (p : PioSetup) → SpellsPioSetup bytes.now p → result ≡ Some p }
+{
+    if bytes.len() != 20
+        || bytes[0] != PIO_SETUP
+        || bytes[11] != 0
+        || bytes[14] != 0
+        || !are_zero(bytes, 18, 20)
+    {
+        return None;
+    }
+    let (interrupt, to_host) = match bytes[1] {
+        BOTH_BITS => (true, true),
+        INTERRUPT_BIT => (true, false),
+        TO_HOST_BIT => (false, true),
+        0 => (false, false),
+        _ => return None,
+    };
+    Some(PioSetup {
+        interrupt,
+        to_host,
+        status: bytes[2],
+        error: bytes[3],
+        lba: lba_of(bytes),
+        device: bytes[7],
+        count: LittleEndian::read_u16(&bytes[12..]),
+        ending_status: bytes[15],
+        transfer_count: LittleEndian::read_u16(&bytes[16..]),
+    })
+}
+
+#[cfg(test)]
+mod tests;
