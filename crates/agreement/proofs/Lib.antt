@@ -73,3 +73,4 @@ mod Pages
 mod Booted
 mod Restarting
 mod Failing
+pub mod Driven

@@ -15,3 +15,4 @@ pub mod Served
 pub mod Trimmed
 pub mod Awaits
 pub mod Booted
+pub mod Driven
