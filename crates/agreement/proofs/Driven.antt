@@ -39,7 +39,7 @@ by_then {May} {old} {mid} {new} a b = record {
 
 -- ---- what they leave
 
-written_ghc : (access : Access) → SparesRegister Ghc access → (v : ℕ) → access ≡ Writing Ghc v → (bit v 31 ≡ true) × (bit v 0 ≡ false)
+pub written_ghc : (access : Access) → SparesRegister Ghc access → (v : ℕ) → access ≡ Writing Ghc v → (bit v 31 ≡ true) × (bit v 0 ≡ false)
 written_ghc access spares v is = absurd (subst (SparesRegister Ghc) is spares refl)
 
 -- over accesses of which each keeps so much of an adapter that is on

@@ -40,14 +40,16 @@ use Rattle.agreement.proofs.Sparing.{steps_spare, none_kept_on}
 use Rattle.dma_frames.specs.Table.{Table, lent_to, LendsOnly}
 use Rattle.block_server.specs.Book.{IsKept, IsAccepted, IsEarlier, IssuesFirst}
 use Rattle.block_server.specs.Calls.{state_of, done_reply}
-use Rattle.port_driver.specs.Followed.{IsDrivenBy, AnyAccess, IsOrdinary, LooksFirst, AnyUse, IsFollowed, FindsEnd, FindsTransfer}
+use Rattle.agreement.specs.Driven.{IsDrivenBy, AnyAccess, AnyUse, IsFollowed}
+use Rattle.port_driver.specs.Followed.{IsOrdinary, LooksFirst, FindsEnd, FindsTransfer}
 use Rattle.block_server.specs.History.{Begins, Stands, Ties, CameBy, IsAsShown, GoesWell, IsEntry, IsBook, uses_of, served_id, known_of, ports_of, plain_mode, no_evidence}
 use Rattle.port_driver.specs.Port.{IsHealthy}
 use Rattle.port_driver.specs.Told.{IsUnharmed}
 use Rattle.block_server.specs.View.{ServerView}
 use Rattle.block_server.specs.declared.types.Accepted.{Accepted}
 use Rattle.block_server.proofs.Booking.{ordered_rest}
-use Rattle.port_driver.proofs.Driving.{by_none, looks_then}
+use Rattle.agreement.proofs.Driven.{by_none}
+use Rattle.port_driver.proofs.Driving.{looks_then}
 use Rattle.block_server.proofs.Heeding.{names_none, service_heeds, present_ready, ended_served}
 use Rattle.block_server.proofs.Histories.{book_further, history_fit, ports_same, disks_same, stands_on}
 use Rattle.block_server.proofs.Servicing.{all_plain, AreServices, IssuesNone, no_steps, none_issued, devices_then, issue_then, answer_then, devices_issue_none, book_entry, Begun, begun, none_due, others_differ, book_without, first_without, first_issued, next_may, given_back, given_up}

@@ -22,7 +22,8 @@ use Rattle.block_machine.specs.Rules.{DifferInName}
 use Rattle.block_machine.specs.State.{Disk, Pending, Machine}
 use Rattle.dma_frames.specs.Table.{Run, Table, owner_of, lent_to, HasFrame}
 use Rattle.grants.specs.Rows.{SameRows}
-use Rattle.port_driver.specs.Followed.{AnyAccess, NoneUsed, IsFollowed}
+use Rattle.agreement.specs.Driven.{AnyAccess, IsFollowed}
+use Rattle.port_driver.specs.Followed.{NoneUsed}
 use Rattle.block_server.specs.History.{HasBegun, ports_of}
 use Rattle.port_driver.specs.Port.{IsBroughtUp}
 use Rattle.setup.specs.Setup.{SetupView, IsSetup, IsClient, HasClientFrames, IsTransferGrant}

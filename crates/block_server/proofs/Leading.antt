@@ -21,7 +21,7 @@ use Rattle.dma_frames.specs.Table.{owner_of, lent_to}
 use Rattle.port_driver.specs.Followed.{IsOrdinary, LoadsBytes}
 use Rattle.block_server.specs.History.{Begins, Stands, Ties, IsAsShown, CameBy, is_refusal, known_of, ports_of, no_evidence}
 use Rattle.block_server.specs.View.{ServerView}
-use Rattle.port_driver.proofs.Driving.{by_none}
+use Rattle.agreement.proofs.Driven.{by_none}
 use Rattle.block_server.proofs.Heeding.{names_none, spared}
 use Rattle.block_server.proofs.Shown.{still_shown}
 use Rattle.block_server.proofs.Histories.{devices_belong, devices_last, devices_lawful, history_fit, ports_same, disks_same, stands_on}

@@ -16,7 +16,7 @@ use Rattle.block_server.specs.Running.{Answered, Ran}
 use Rattle.block_server.specs.View.{ServerView}
 use Rattle.block_server.specs.declared.types.Event.{Event}
 use Rattle.block_server.specs.declared.types.Said.{Said}
-use Rattle.port_driver.proofs.Driving.{by_none}
+use Rattle.agreement.proofs.Driven.{by_none}
 use Rattle.block_server.proofs.Heeding.{spared}
 use Rattle.block_server.proofs.Histories.{ports_same}
 use Rattle.block_server.proofs.Leading.{nothing_adds}

@@ -22,7 +22,7 @@ use Rattle.block_machine.proofs.HistoryLemmas.{history_reaches}
 use Rattle.dma_frames.specs.Table.{owner_of, lent_to}
 use Rattle.port_driver.specs.Followed.{IsOrdinary}
 use Rattle.port_driver.specs.Port.{Issued}
-use Rattle.port_driver.proofs.Driving.{by_none, by_one}
+use Rattle.agreement.proofs.Driven.{by_none, by_one}
 use Rattle.port_driver.proofs.Storing.{with_bytes, rests_beside, serves_beside}
 use Rattle.block_server.specs.Book.{IsKept, StandsBehind, served}
 use Rattle.block_server.specs.History.{Begins, Stands, Ties, IsAsShown, known_of, ports_of, no_evidence}

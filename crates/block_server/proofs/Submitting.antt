@@ -49,7 +49,7 @@ use Rattle.block_server.specs.History.{IsAsShown, Begins, Ties, Stands, IsEntry,
 use Rattle.block_server.specs.View.{ServerView}
 use Rattle.block_server.specs.declared.types.Accepted.{Accepted}
 use Rattle.block_server.proofs.Accepting as accepting
-use Rattle.port_driver.proofs.Driving.{by_none}
+use Rattle.agreement.proofs.Driven.{by_none}
 use Rattle.block_server.proofs.Heeding.{spared}
 use Rattle.block_server.proofs.Shown.{still_shown}
 use Rattle.block_server.proofs.Histories.{book_further, ports_same, stands_on}

@@ -23,7 +23,7 @@ use Rattle.block_machine.specs.Refusals.{Situation, IsAcceptable, IsFirstRefusal
 use Rattle.dma_frames.specs.Table.{Run, owner_of, lent_to, LendsOnly, HasFrame}
 use Rattle.block_server.specs.Book.{served, unanswered_of}
 use Rattle.grants.specs.Rows.{SameRows}
-use Rattle.port_driver.specs.Followed.{IsDrivenBy, AnyAccess}
+use Rattle.agreement.specs.Driven.{IsDrivenBy, AnyAccess}
 use Rattle.port_driver.specs.Port.{IsBroughtUp, IsHealthy, IsTroubled, IsUnlinked, Issued, Serves, SparesClients, Proceeds, EndsAsShown, issued_now, MovesOnly, filled_frames}
 use Rattle.port_driver.specs.Told.{ended, IsUndisturbed, IsUnharmed}
 use Rattle.block_server.specs.View.{ServerView}

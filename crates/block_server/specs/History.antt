@@ -21,7 +21,8 @@ use Rattle.agreement.specs.Slots.{Free, Serves, Uses, put}
 use Rattle.agreement.specs.Driver.{Known, Knows, IsBacked, idle}
 use Rattle.dma_frames.specs.Table.{owner_of, lent_to}
 use Rattle.block_server.specs.Calls.{state_of}
-use Rattle.port_driver.specs.Followed.{IsDrivenBy, IsOrdinary, LooksFirst}
+use Rattle.agreement.specs.Driven.{IsDrivenBy}
+use Rattle.port_driver.specs.Followed.{IsOrdinary, LooksFirst}
 use Rattle.port_driver.specs.Port.{IsHealthy, IsLone, IsRunning, IsResting}
 use Rattle.port_driver.specs.Told.{IsUnharmed}
 use Rattle.block_server.specs.View.{ServerView}

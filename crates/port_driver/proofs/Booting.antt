@@ -15,12 +15,13 @@ use Rattle.adapter.specs.Steps.{Steps}
 use Rattle.adapter.proofs.Absurd.{true-false}
 use Rattle.adapter.proofs.Calls.{KeepsAll, steps_keep_all, seen, SeenAt, put, PutAt}
 use Rattle.adapter.proofs.KeptLemmas.{steps_keep}
-use Rattle.port_driver.specs.Followed.{AnyAccess, AnyUse, IsFollowed}
+use Rattle.agreement.specs.Driven.{AnyAccess, AnyUse, IsFollowed}
 use Rattle.port_driver.specs.Port.{IsOutsideArea, IsClear, IsCalm, IsUp, IsComing, SparesClients, KeepsLink, programmed, IsLone, IsStopped, IsBooting, Boots, Links, IsLinked, IsNotBusy, IsSwitchedOn, Starts}
 use Rattle.port_driver.specs.Told.{IsUndisturbed}
 use Rattle.port_driver.proofs.PortLemmas.{px, idle_after, lone_after, booting_after, lone_put, there_put, booting_put, received, HasStarted, started}
 use Rattle.port_driver.proofs.Coming.{up_found, link_then, reading_link, serr_link, is_link, cmd_link, serr_cleared, is_cleared}
-use Rattle.port_driver.proofs.Following.{followed_then, reading_followed}
+use Rattle.agreement.proofs.Driven.{followed_then}
+use Rattle.port_driver.proofs.Following.{reading_followed}
 use Rattle.port_driver.proofs.Serving.{idle_guarded, free_guarded}
 use Rattle.port_driver.proofs.Sparing.{spares_none, spares_then, spares_on, reading_spares, quiet_spares}
 

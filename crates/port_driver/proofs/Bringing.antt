@@ -7,10 +7,12 @@ use Rattle.adapter.specs.Device.{Bases, Notes, Device}
 use Rattle.adapter.specs.Rules.{MayWrite, Stays}
 use Rattle.adapter.proofs.Absurd.{true-false}
 use Rattle.agreement.proofs.Allowing.{write_stays}
-use Rattle.port_driver.specs.Followed.{AnyAccess, AnyUse, NoneUsed, IsFollowed}
+use Rattle.agreement.specs.Driven.{AnyAccess, AnyUse, IsFollowed}
+use Rattle.port_driver.specs.Followed.{NoneUsed}
 use Rattle.port_driver.specs.Port.{programmed, IsBooting, IsLinked, IsNotBusy}
 use Rattle.port_driver.proofs.Booting.{steps_boot, read_boots, may_receive, may_start}
-use Rattle.port_driver.proofs.Following.{followed_then, followed_so, reading_followed, writing_followed}
+use Rattle.agreement.proofs.Driven.{followed_then}
+use Rattle.port_driver.proofs.Following.{followed_so, reading_followed, writing_followed}
 use Rattle.port_driver.proofs.PortLemmas.{px}
 
 -- ---- the writes to a port that boots

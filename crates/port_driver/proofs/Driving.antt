@@ -18,24 +18,13 @@ use Rattle.agreement.specs.Agrees.{port_at}
 use Rattle.agreement.specs.Errors.{KeepsErrors}
 use Rattle.agreement.specs.Links.{SparesRegister}
 use Rattle.agreement.proofs.Erring.{access_news, access_causes}
+use Rattle.agreement.proofs.Driven.{by_then, written_ghc, over}
 use Rattle.agreement.proofs.Lasting.{access_on, access_same}
-use Rattle.port_driver.specs.Followed.{IsDrivenBy, IsOrdinary, LooksFirst, KeepsChanges}
+use Rattle.agreement.specs.Driven.{IsDrivenBy}
+use Rattle.port_driver.specs.Followed.{IsOrdinary, LooksFirst, KeepsChanges}
 use Rattle.port_driver.proofs.PortLemmas.{px}
 
 -- ---- one after another
-
-pub by_none : (May : Access → Type 0) (d : Device) → IsDrivenBy May d d
-by_none May d = record { accesses = []; all = refl; only = All-nil May }
-
-pub by_one : (May : Access → Type 0) (access : Access) (old new : Device) → May access → Does access old new → IsDrivenBy May old new
-by_one May access old new may does = record { accesses = access ∷ []; all = (new, does, refl); only = All-cons May access [] may (All-nil May) }
-
-pub by_then : {May : Access → Type 0} {old mid new : Device} → IsDrivenBy May old mid → IsDrivenBy May mid new → IsDrivenBy May old new
-by_then {May} {old} {mid} {new} a b = record {
-  accesses = a.accesses ++ b.accesses;
-  all = does_append a.accesses b.accesses old mid new a.all b.all;
-  only = All-append May a.accesses b.accesses a.only b.only;
-}
 
 -- a service that looked, and then ordinary accesses
 pub looks_then : {replies : List Reply} {old mid new : Device} → LooksFirst replies old mid → IsDrivenBy IsOrdinary mid new → LooksFirst replies old new
@@ -57,19 +46,6 @@ tells_as_it_did (access ∷ accesses) old new (mid, does, rest) = tells_as_it_di
 
 pub telling_stays : {May : Access → Type 0} {old new : Device} → IsDrivenBy May old new → new.telling ≡ old.telling
 telling_stays {May} {old} {new} a = tells_as_it_did a.accesses old new a.all
-
-written_ghc : (access : Access) → SparesRegister Ghc access → (v : ℕ) → access ≡ Writing Ghc v → (bit v 31 ≡ true) × (bit v 0 ≡ false)
-written_ghc access spares v is = absurd (subst (SparesRegister Ghc) is spares refl)
-
--- over accesses of which each keeps so much of an adapter that is on
-over : (Keeps : Device → Device → Type 0) → ((d : Device) → Keeps d d) → ((a b c : Device) → Keeps a b → Keeps b c → Keeps a c) → (May : Access → Type 0)
-    → ((access : Access) → May access → SparesRegister Ghc access) → ((access : Access) (old new : Device) → IsOn old → May access → Does access old new → Keeps old new)
-    → (accesses : List Access) (old new : Device) → IsOn old → All May accesses → DoesAll accesses old new → Keeps old new
-over Keeps none more May spares each [] old new on all is = subst (Keeps old) (sym is) (none old)
-over Keeps none more May spares each (access ∷ accesses) old new on all (mid, does, rest) =
-    let may = All-head May access accesses all in
-    more old mid new (each access old mid on may does)
-    (over Keeps none more May spares each accesses mid new (access_on access old mid on (written_ghc access (spares access may)) does) (All-tail May access accesses all) rest)
 
 -- an ordinary access doesn't write another register
 spares_other : (r : Reg) → (reg.Is ≡ r → ⊥) → (px Ci ≡ r → ⊥) → (access : Access) → IsOrdinary access → SparesRegister r access

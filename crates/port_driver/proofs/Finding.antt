@@ -13,10 +13,11 @@ use Rattle.block_machine.specs.Steps.{Step, NoneKept}
 use Rattle.agreement.specs.Agrees.{port_at}
 use Rattle.agreement.specs.Facts.{EndedIn, TellsNoTrouble}
 use Rattle.agreement.proofs.Finding.{done_adds}
-use Rattle.port_driver.specs.Followed.{known, AnyAccess, IsOrdinary, LooksFirst, AnyUse, IsFollowed, FindsTransfer}
+use Rattle.agreement.specs.Driven.{known, AnyAccess, AnyUse, IsFollowed}
+use Rattle.port_driver.specs.Followed.{IsOrdinary, LooksFirst, FindsTransfer}
 use Rattle.port_driver.specs.Port.{IsLone, IsRunning}
-use Rattle.port_driver.proofs.Driving.{by_one, by_then}
-use Rattle.port_driver.proofs.Following.{followed_then, reading_followed, writing_followed}
+use Rattle.agreement.proofs.Driven.{by_one, by_then, followed_then}
+use Rattle.port_driver.proofs.Following.{reading_followed, writing_followed}
 use Rattle.port_driver.proofs.Looking.{steps_run, acknowledged, reading_runs, interrupts_run}
 use Rattle.port_driver.proofs.PortLemmas.{px}
 

@@ -16,7 +16,7 @@ use Rattle.agreement.proofs.Witness.{prepared_is_known}
 use Rattle.command_table.specs.Places.{places_of}
 use Rattle.port_driver.specs.Followed.{IsOrdinary, SlotIsFree, IssuesTransfer}
 use Rattle.port_driver.specs.Port.{IsLone, IsRunning, IsUp, IsClear, IsCalm, IsHealthy, IsSlotFree, HoldsTransfer, Issued, Serves, meaning_of}
-use Rattle.port_driver.proofs.Following.{nothing_by}
+use Rattle.agreement.proofs.Driven.{followed_none}
 use Rattle.port_driver.proofs.Sending.{transfer_issued}
 
 abbrev pub eight : Issued
@@ -105,4 +105,4 @@ prepared_up = up (λ _. false)
 
 pub first_issued : IssuesTransfer eight prepared_read first_read
 first_issued =
-    transfer_issued eight prepared_read prepared_read first_read (nothing_by IsOrdinary SlotIsFree prepared_read) none_served (held (λ _. false)) prepared_is_known.writes
+    transfer_issued eight prepared_read prepared_read first_read (followed_none IsOrdinary SlotIsFree prepared_read) none_served (held (λ _. false)) prepared_is_known.writes

@@ -18,23 +18,15 @@ use Rattle.agreement.specs.Driver.{Known, Knows, ByDevice, EndsWith, LeavesUses}
 use Rattle.agreement.specs.Slots.{Uses}
 use Rattle.agreement.proofs.Adding.{accesses_then, backed_then, device_adds, read_adds, store_adds, write_adds}
 use Rattle.agreement.proofs.Clients.{client_loads}
+use Rattle.agreement.proofs.Driven.{by_one, followed_none, followed_read, followed_write}
 use Rattle.agreement.proofs.Waiting.{device_append}
-use Rattle.port_driver.specs.Followed.{known, AnyAccess, IsOrdinary, AnyUse, SlotIsFree, IsFollowed, LoadsBytes}
-use Rattle.port_driver.proofs.Driving.{by_none, by_one, by_then}
+use Rattle.agreement.specs.Driven.{known, AnyAccess, AnyUse, IsFollowed}
+use Rattle.port_driver.specs.Followed.{IsOrdinary, SlotIsFree, LoadsBytes}
 
 -- ---- one stretch after another
 
-pub followed_then : (May : Access → Type 0) (Fits : Uses → Type 0) (old mid new : Device) → IsFollowed May Fits old mid → IsFollowed May Fits mid new → IsFollowed May Fits old new
-followed_then May Fits old mid new a b = record {
-  driven = by_then a.driven b.driven;
-  adds = λ uses parked is. accesses_then (known uses parked old) (known uses parked mid) (known uses parked new) (a.adds uses parked is) (b.adds uses parked is);
-}
-
-pub nothing_by : (May : Access → Type 0) (Fits : Uses → Type 0) (d : Device) → IsFollowed May Fits d d
-nothing_by May Fits d = record { driven = by_none May d; adds = λ uses parked is. device_adds (known uses parked d) d (Steps-refl d) }
-
 pub nothing_followed : (d : Device) → IsFollowed AnyAccess AnyUse d d
-nothing_followed d = nothing_by AnyAccess AnyUse d
+nothing_followed d = followed_none AnyAccess AnyUse d
 
 -- what is followed however the slots are used
 pub followed_so : (Fits : Uses → Type 0) (old new : Device) → IsFollowed AnyAccess AnyUse old new → IsFollowed AnyAccess Fits old new
@@ -53,22 +45,12 @@ ends_then k later mid m step early may device x = record {
 
 -- ---- one access
 
-pub reading_by : (May : Access → Type 0) (r : Reg) (v : ℕ) (old new : Device) → May (Reading r v) → Reads r v old new → IsFollowed May AnyUse old new
-reading_by May r v old new kind call = record { driven = by_one May (Reading r v) old new kind call; adds = λ uses parked is. read_adds (known uses parked old) r v new call }
-
 pub reading_followed : (r : Reg) (v : ℕ) (old new : Device) → Reads r v old new → IsFollowed AnyAccess AnyUse old new
-reading_followed r v old new call = reading_by AnyAccess r v old new tt call
-
-pub writing_by : (May : Access → Type 0) (Fits : Uses → Type 0) (r : Reg) (v : ℕ) (old new : Device) → May (Writing r v) → Stays (MayWrite r v) old →
-    ((uses : Uses) → Fits uses → LeavesUses uses r v old) → Writes r v old new → IsFollowed May Fits old new
-writing_by May Fits r v old new kind may leaves call = record {
-  driven = by_one May (Writing r v) old new kind call;
-  adds = λ uses parked is. write_adds (known uses parked old) r v new may (leaves uses is) call;
-}
+reading_followed r v old new call = followed_read AnyAccess r v old new tt call
 
 pub writing_followed : (Fits : Uses → Type 0) (r : Reg) (v : ℕ) (old new : Device) → Stays (MayWrite r v) old →
     ((uses : Uses) → Fits uses → LeavesUses uses r v old) → Writes r v old new → IsFollowed AnyAccess Fits old new
-writing_followed Fits r v old new may leaves call = writing_by AnyAccess Fits r v old new tt may leaves call
+writing_followed Fits r v old new may leaves call = followed_write AnyAccess Fits r v old new tt may leaves call
 
 -- a client's load
 pub loading_followed : (client : ClientId) (frame : Frame) (offset : ℕ) (bytes : List ℕ) (old new : Device) → Loads (4096 * frame.0 + offset) bytes old new →

@@ -10,7 +10,8 @@ use Rattle.adapter.specs.Access.{Reads, Writes, noted, written, shown_interrupt}
 use Rattle.adapter.specs.Device.{PortState, Device}
 use Rattle.adapter.proofs.Runs.{Steps-refl}
 use Rattle.agreement.specs.Facts.{TellsNoTrouble}
-use Rattle.port_driver.specs.Followed.{AnyAccess, LooksFirst, AnyUse, IsFollowed, FindsTransfer}
+use Rattle.agreement.specs.Driven.{AnyAccess, AnyUse, IsFollowed}
+use Rattle.port_driver.specs.Followed.{LooksFirst, FindsTransfer}
 use Rattle.port_driver.specs.Port.{IsHealthy, Issued, KeepsServing, Serves}
 use Rattle.port_driver.specs.Told.{IsUnharmed}
 use Rattle.port_driver.proofs.Finding.{looking_followed, looked_first, transfer_found}

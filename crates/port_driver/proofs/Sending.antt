@@ -19,11 +19,12 @@ use Rattle.agreement.specs.Places.{place_in}
 use Rattle.agreement.specs.Slots.{Free, Uses, ArePlaces, Told, HasBlock, op_of}
 use Rattle.agreement.proofs.Calling.{issue_follows}
 use Rattle.agreement.proofs.Waiting.{steps_may}
-use Rattle.port_driver.specs.Followed.{known, IsOrdinary, SlotIsFree, IsFollowed, IsTransferOf, IssuesTransfer}
+use Rattle.agreement.specs.Driven.{known, IsFollowed}
+use Rattle.port_driver.specs.Followed.{IsOrdinary, SlotIsFree, IsTransferOf, IssuesTransfer}
 use Rattle.command_table.specs.Places.{place_of, places_of}
 use Rattle.port_driver.specs.Told.{operation_of}
 use Rattle.port_driver.specs.Port.{IsTransfer, Issued, meaning_of, HoldsTransfer, Serves}
-use Rattle.port_driver.proofs.Driving.{by_one, by_then}
+use Rattle.agreement.proofs.Driven.{by_one, by_then}
 use Rattle.port_driver.proofs.Following.{ends_then}
 use Rattle.port_driver.proofs.Issuing.{bit_one_other}
 use Rattle.port_driver.proofs.PortLemmas.{px}

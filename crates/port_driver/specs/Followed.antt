@@ -1,5 +1,5 @@
 -- What a stretch of accesses is to the block machine: its steps (this project's own).
-use Rattle.std.specs.Prelude.{ℕ, Bool, true, ◌≡◌, ◌≢◌, ◌⊎◌, ◌<◌, List, [], length, All}
+use Rattle.std.specs.Prelude.{ℕ, Bool, true, ◌≡◌, ◌≢◌, ◌⊎◌, ◌<◌, List, [], length}
 use Rattle.ata_types.specs.declared.request.ClientId.{ClientId}
 use Rattle.ata_types.specs.declared.request.Frame.{Frame}
 use Rattle.ata_types.specs.declared.request.RequestId.{RequestId}
@@ -8,7 +8,7 @@ use Rattle.hba_regs.specs.declared.reg.Reg.TheVariants as reg
 use Rattle.hba_regs.specs.declared.reg.Reg.TheVariants.{Px}
 use Rattle.hba_regs.specs.declared.reg.PortReg.TheVariants as port_reg
 use Rattle.hba_regs.specs.declared.reg.PortReg.TheVariants.{Ci}
-use Rattle.adapter.specs.Access.{Access, DoesAll, Reads, Writes}
+use Rattle.adapter.specs.Access.{Access, Reads, Writes}
 use Rattle.adapter.specs.Access.Access.{Writing}
 use Rattle.adapter.specs.Device.{Device}
 use Rattle.block_machine.specs.Due.{is_plain}
@@ -19,20 +19,13 @@ use Rattle.block_machine.specs.State.{Pending, Machine}
 use Rattle.block_machine.specs.Steps.{Step, Issue, Load, May, NoneKept}
 use Rattle.block_machine.specs.declared.due.Mode.{Mode}
 use Rattle.agreement.specs.Agrees.{port_at}
-use Rattle.agreement.specs.Driver.{Known, Knows, ByDevice, EndsWith, AllFree, serving}
+use Rattle.agreement.specs.Driven.{known, IsDrivenBy}
+use Rattle.agreement.specs.Driver.{Knows, ByDevice, EndsWith, AllFree, serving}
 use Rattle.agreement.specs.Facts.{EndedIn, TellsNoTrouble}
 use Rattle.agreement.specs.Slots.{Free, Serves, Uses, IsOver}
 use Rattle.port_driver.specs.Port.{Issued}
 
--- what the driver knows: the use of each slot, the requests that it took from their slots, and the device
-abbrev pub known : Uses → (ℕ → List RequestId) → Device → Known
-known uses parked d = record { uses = uses; parked = parked; device = d }
-
 -- ---- how the slots may be used meanwhile
-
--- in any way
-abbrev pub AnyUse : Uses → Type 0
-AnyUse uses = Unit {0}
 
 -- with slot 0 of port 0 free
 abbrev pub SlotIsFree : Uses → Type 0
@@ -43,16 +36,6 @@ abbrev pub NoneUsed : Uses → Type 0
 NoneUsed uses = AllFree uses 0
 
 -- ---- accesses
-
--- Accesses of this kind, by the driver, led from the old device to the new.
-pub record IsDrivenBy (May : Access → Type 0) (old new : Device) : Type 0 where
-  pub accesses : List Access
-  pub all : DoesAll accesses old new
-  pub only : All May accesses
-
--- any access
-abbrev pub AnyAccess : Access → Type 0
-AnyAccess access = Unit {0}
 
 -- Of registers it writes IS or port 0's PxCI, if any.
 abbrev pub IsOrdinary : Access → Type 0
@@ -75,13 +58,6 @@ abbrev pub KeepsChanges : Device → Device → Type 0
 KeepsChanges old new = ((old.port 0).serr_n ≡ true → (new.port 0).serr_n ≡ true) × ((old.port 0).serr_x ≡ true → (new.port 0).serr_x ≡ true)
 
 -- ---- stretches of accesses
-
--- Accesses of this kind led from the old device to the new. And from each machine that agrees with what the driver knows, where the uses of
--- slots fit, steps of the device alone lead to one that agrees with the same and with the new device.
-pub record IsFollowed (May : Access → Type 0) (Fits : Uses → Type 0) (old new : Device) : Type 0 where
-  pub driven : IsDrivenBy May old new
-  pub adds : (uses : Uses) (parked : ℕ → List RequestId) → Fits uses
-      → AddsSteps Knows (known uses parked old) (known uses parked new) (ByDevice old new)
 
 -- The steps are the device's. Where slot 0's request was found done, the slot's command is over and the request has ended; and no
 -- request of the port was kept meanwhile.

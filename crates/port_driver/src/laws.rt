@@ -7,7 +7,8 @@ ghost use Rattle.agreement.specs.Errors.{KeepsErrors};
 ghost use Rattle.ata_types.specs.declared.request.Op.TheVariants.{Read};
 ghost use Rattle.ata_types.specs.declared.request.Reply.{Reply};
 ghost use Rattle.hba_regs.specs.Bits.{bit};
-ghost use Rattle.port_driver.specs.Followed.{IsDrivenBy, IsOrdinary, LooksFirst, KeepsChanges};
+ghost use Rattle.agreement.specs.Driven.{IsDrivenBy};
+ghost use Rattle.port_driver.specs.Followed.{IsOrdinary, LooksFirst, KeepsChanges};
 ghost use Rattle.port_driver.specs.Port.{Serves, IsHealthy};
 
 /// While port 0 serves no transfer, the driver may load and store all bytes of its own 40 frames but those of the received FIS

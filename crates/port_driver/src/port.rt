@@ -3,7 +3,8 @@ ghost use Rattle.std.specs.Prelude.{◌≡◌, ◌≤◌, ◌||◌, true, false,
 ghost use Rattle.hba_regs.specs.Bits.{bit};
 ghost use Rattle.adapter.specs.Idle.{IsIdle, IsIdlePort};
 ghost use Rattle.adapter.specs.Rules.{HasPort};
-ghost use Rattle.port_driver.specs.Followed.{AnyAccess, AnyUse, NoneUsed, IsFollowed};
+ghost use Rattle.agreement.specs.Driven.{AnyAccess, AnyUse, IsFollowed};
+ghost use Rattle.port_driver.specs.Followed.{NoneUsed};
 ghost use Rattle.port_driver.specs.Port.{programmed, IsLone, IsBooting, Boots, Links, IsLinked, IsNotBusy, IsMissing, IsSwitchedOn, Starts, IsUp, IsComing, IsClear, IsCalm, KeepsLink, SparesClients, IsBroughtUp};
 ghost use Rattle.port_driver.specs.Told.{IsUndisturbed};
 

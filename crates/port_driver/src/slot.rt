@@ -2,7 +2,8 @@
 ghost use Rattle.std.specs.Prelude.{List, [], ◌≢◌, ◌≡◌, ◌+◌, ◌*◌, ◌/◌, ◌%◌, ◌^◌, ◌<◌, ◌≤◌, ◌||◌, ◌&&◌, ◌==◌, not, true, false, None, Some, length, All};
 ghost use Rattle.hba_regs.specs.Bits.{bit};
 ghost use Rattle.ata_types.specs.declared.request.Reply.{Reply};
-ghost use Rattle.port_driver.specs.Followed.{AnyAccess, IsOrdinary, LooksFirst, AnyUse, SlotIsFree, IsFollowed, FindsTransfer, IssuesTransfer};
+ghost use Rattle.agreement.specs.Driven.{AnyAccess, AnyUse, IsFollowed};
+ghost use Rattle.port_driver.specs.Followed.{IsOrdinary, LooksFirst, SlotIsFree, FindsTransfer, IssuesTransfer};
 ghost use Rattle.adapter.specs.Commands.{command_of, reads_memory};
 ghost use Rattle.port_driver.specs.Port.{IsTransfer, IsLone, IsRunning, HoldsTransfer, Serves, KeepsServing, FindsDone, Proceeds, IsHealthy, IsTroubled, IsUnlinked, Issued};
 ghost use Rattle.port_driver.specs.Told.{operation_of, IsUndisturbed, IsUnharmed};

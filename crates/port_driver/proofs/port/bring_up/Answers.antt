@@ -2,8 +2,10 @@ use Rattle.std.proofs.Common.{refl, ap}
 use Rattle.adapter.specs.Device.{Bases}
 use Rattle.port_driver.proofs.Booting.{links_here}
 use Rattle.port_driver.proofs.Coming.{link_then, undisturbed_both}
-use Rattle.port_driver.specs.Followed.{AnyAccess, AnyUse, NoneUsed}
-use Rattle.port_driver.proofs.Following.{followed_then, followed_so}
+use Rattle.agreement.specs.Driven.{AnyAccess, AnyUse}
+use Rattle.port_driver.specs.Followed.{NoneUsed}
+use Rattle.agreement.proofs.Driven.{followed_then}
+use Rattle.port_driver.proofs.Following.{followed_so}
 use Rattle.port_driver.proofs.Sparing.{spares_then}
 use Rattle.port_driver.proofs.port.bring_up.Goals as goal
 

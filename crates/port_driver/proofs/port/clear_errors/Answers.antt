@@ -1,9 +1,10 @@
 use Rattle.hba_regs.specs.declared.reg.PortReg.TheVariants.{Is, Serr}
-use Rattle.port_driver.specs.Followed.{AnyAccess, AnyUse}
+use Rattle.agreement.specs.Driven.{AnyAccess, AnyUse}
 use Rattle.port_driver.proofs.Booting.{serr_links, is_links, links_then, links_here}
 use Rattle.port_driver.proofs.Bringing.{serr_may, is_may}
 use Rattle.port_driver.proofs.Coming.{link_then, undisturbed_both}
-use Rattle.port_driver.proofs.Following.{followed_then, writing_followed}
+use Rattle.agreement.proofs.Driven.{followed_then}
+use Rattle.port_driver.proofs.Following.{writing_followed}
 use Rattle.port_driver.proofs.PortLemmas.{px}
 use Rattle.port_driver.proofs.port.clear_errors.Goals as goal
 

@@ -3,10 +3,11 @@ use Rattle.hba_regs.specs.declared.reg.PortReg.TheVariants.{Sctl}
 use Rattle.adapter.specs.Device.{PortState}
 use Rattle.port_driver.proofs.Coming.{comreset_coming, undisturbed_both}
 use Rattle.port_driver.proofs.Sparing.{spares_then}
-use Rattle.port_driver.specs.Followed.{AnyAccess, AnyUse}
+use Rattle.agreement.specs.Driven.{AnyAccess, AnyUse}
 use Rattle.port_driver.proofs.Booting.{sctl_boots}
 use Rattle.port_driver.proofs.Bringing.{sctl_may}
-use Rattle.port_driver.proofs.Following.{followed_then, writing_followed}
+use Rattle.agreement.proofs.Driven.{followed_then}
+use Rattle.port_driver.proofs.Following.{writing_followed}
 use Rattle.port_driver.proofs.PortLemmas.{px}
 use Rattle.port_driver.proofs.port.comreset.Goals as goal
 

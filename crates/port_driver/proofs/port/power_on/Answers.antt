@@ -1,5 +1,5 @@
 use Rattle.hba_regs.specs.declared.reg.Reg.TheVariants.{Ghc}
-use Rattle.port_driver.specs.Followed.{AnyUse}
+use Rattle.agreement.specs.Driven.{AnyUse}
 use Rattle.port_driver.proofs.Booting.{switched_on}
 use Rattle.port_driver.proofs.Following.{writing_followed}
 use Rattle.port_driver.proofs.port.power_on.Goals as goal

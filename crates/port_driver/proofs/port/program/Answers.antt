@@ -1,9 +1,10 @@
 use Rattle.std.proofs.Common.{inl, refl, false}
 use Rattle.hba_regs.specs.declared.reg.PortReg.TheVariants.{Clb, Clbu, Fb, Fbu}
-use Rattle.port_driver.specs.Followed.{AnyAccess, AnyUse}
+use Rattle.agreement.specs.Driven.{AnyAccess, AnyUse}
 use Rattle.port_driver.proofs.Booting.{booting_idle, boots_then, clb_boots, clbu_boots, fb_boots, fbu_boots}
 use Rattle.port_driver.proofs.Bringing.{clb_may, clbu_may, fb_may, fbu_may}
-use Rattle.port_driver.proofs.Following.{followed_then, writing_followed}
+use Rattle.agreement.proofs.Driven.{followed_then}
+use Rattle.port_driver.proofs.Following.{writing_followed}
 use Rattle.port_driver.proofs.PortLemmas.{px}
 use Rattle.port_driver.proofs.port.program.Goals as goal
 

@@ -1,8 +1,9 @@
 use Rattle.std.proofs.Common.{arith}
 use Rattle.port_driver.proofs.Booting.{link_found, link_again}
 use Rattle.port_driver.proofs.Coming.{link_none}
-use Rattle.port_driver.specs.Followed.{AnyAccess, AnyUse}
-use Rattle.port_driver.proofs.Following.{followed_then, nothing_followed, reading_followed}
+use Rattle.agreement.specs.Driven.{AnyAccess, AnyUse}
+use Rattle.agreement.proofs.Driven.{followed_then}
+use Rattle.port_driver.proofs.Following.{nothing_followed, reading_followed}
 use Rattle.port_driver.proofs.port.wait_for_link.Goals as goal
 
 pub loop-reading-init : goal.loop-reading-init

@@ -10,7 +10,8 @@ use Rattle.command_table.specs.Places.{places_of}
 use Rattle.port_driver.specs.Told.{operation_of}
 use Rattle.port_driver.specs.Port.{Issued}
 use Rattle.port_driver.specs.Followed.{IsOrdinary, SlotIsFree}
-use Rattle.port_driver.proofs.Following.{followed_then, storing_followed}
+use Rattle.agreement.proofs.Driven.{followed_then}
+use Rattle.port_driver.proofs.Following.{storing_followed}
 use Rattle.port_driver.proofs.Going.{goes_then, store_goes}
 use Rattle.port_driver.proofs.Issuing.{IsIssuable, Stored, may_store, stored, transfer_stored}
 use Rattle.port_driver.proofs.slot.write_transfer.Goals as goal

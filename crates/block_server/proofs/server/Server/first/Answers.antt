@@ -2,10 +2,12 @@ use Rattle.std.proofs.Common.{refl, ◌∙◌, arith, sym, subst}
 use Rattle.std.specs.List.{AllPairs}
 use Rattle.std.specs.Vec.{vec_capacity}
 use Rattle.dma_frames.specs.Table.{AreApart}
-use Rattle.port_driver.specs.Followed.{AnyAccess, NoneUsed}
+use Rattle.agreement.specs.Driven.{AnyAccess}
+use Rattle.port_driver.specs.Followed.{NoneUsed}
 use Rattle.block_server.proofs.Beginning.{new_has_begun}
-use Rattle.port_driver.proofs.Driving.{by_then, telling_stays}
-use Rattle.port_driver.proofs.Following.{followed_then, followed_so}
+use Rattle.agreement.proofs.Driven.{by_then, followed_then}
+use Rattle.port_driver.proofs.Driving.{telling_stays}
+use Rattle.port_driver.proofs.Following.{followed_so}
 use Rattle.block_server.proofs.Making.{brought_from, new_is_kept}
 use Rattle.port_driver.proofs.Sparing.{spares_then}
 use Rattle.block_server.proofs.server.Server.first.Goals as goal

@@ -1,7 +1,8 @@
 use Rattle.std.proofs.Common.{ℕ, inl, inr, Bool, true, refl, sym, ◌∙◌, ap, subst, List, [], ◌∷◌, ◌++◌}
 use Rattle.ata_types.specs.declared.request.Reply.{Reply}
 use Rattle.adapter.proofs.Absurd.{true-false}
-use Rattle.port_driver.proofs.Driving.{by_none, looks_then}
+use Rattle.agreement.proofs.Driven.{by_none}
+use Rattle.port_driver.proofs.Driving.{looks_then}
 use Rattle.block_server.specs.Calls.{Services, done_reply}
 use Rattle.block_server.specs.View.{ServerView}
 use Rattle.port_driver.proofs.Coming.{undisturbed_both}
