@@ -16,12 +16,12 @@ pub mod Waiting
 mod Writing
 pub mod Adding
 pub mod Putting
-mod Keeping
+pub mod Keeping
 pub mod Calling
 pub mod Deciding
 pub mod Clients
 mod Freeing
-mod Permitting
+pub mod Permitting
 mod Unarmed
 mod Counting
 pub mod Idling
@@ -39,7 +39,7 @@ mod Faulted
 mod Witnesses
 mod Identified
 pub mod Allowing
-mod Leaving
+pub mod Leaving
 mod Showing
 pub mod Sparing
 pub mod Parking

@@ -1,3 +1,5 @@
 pub mod Cover
 pub mod Parts
 pub mod Zeros
+pub mod Saying
+pub mod Storing

@@ -4,7 +4,7 @@ use Rattle.std.proofs.lemmas.List.{same_lists, get_or-take, get_or-drop, get_or_
 use Rattle.command_table.specs.Bytes.{Stores, part}
 
 -- two lists of numbers of one length that agree at each place are one
-numbers_alike : (xs ys : List ℕ) → length xs ≡ length ys → ((k : ℕ) → k < length xs → get_or xs k 0 ≡ get_or ys k 0) → xs ≡ ys
+pub numbers_alike : (xs ys : List ℕ) → length xs ≡ length ys → ((k : ℕ) → k < length xs → get_or xs k 0 ≡ get_or ys k 0) → xs ≡ ys
 numbers_alike xs ys len h = same_lists xs ys len (λ k d lt. get_or_default xs k d 0 lt ∙ h k lt ∙ get_or_default ys k 0 d (omega (arith, len)))
 
 part_length : (n k : ℕ) (zs : List ℕ) → k + n ≤ length zs → length (part zs k n) ≡ n

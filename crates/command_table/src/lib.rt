@@ -1,17 +1,23 @@
 //! What the device reads to do a command: a header of the command list, and a command table (AHCI 1.3.1, 4.2.2 and 4.2.3).
 #![tactic(auto)]
 
-ghost use Rattle.std.specs.Prelude.{◌≡◌, ℕ, ◌+◌, ◌*◌, ◌/◌, ◌%◌, ◌^◌, ◌<◌, ◌≤◌, length, take, drop, slice_index_or, All};
+ghost use Rattle.std.specs.Prelude.{◌≡◌, ℕ, List, ◌+◌, ◌*◌, ◌/◌, ◌%◌, ◌^◌, ◌<◌, ◌≤◌, length, take, drop, slice_index_or, All};
 ghost use Rattle.byteorder.specs.Endian.{little_from};
 ghost use Rattle.adapter.specs.Says.{pieces, IsWhole};
 ghost use Rattle.adapter.specs.Spelling.{SpellsCommand, SpellsHeader, SpellsPrd, IsAllowed};
+ghost use Rattle.adapter.specs.Commands.{Meaning};
+ghost use Rattle.adapter.specs.Rules.{IsOn};
 ghost use Rattle.adapter.specs.declared.command.Prd.{Prd};
+ghost use Rattle.agreement.specs.Driven.{AgreesWith, IsFollowed};
+ghost use Rattle.agreement.specs.Places.{list_of};
+ghost use Rattle.agreement.specs.Slots.{Told};
+ghost use Rattle.command_table.specs.Written.{IsTableFor, IsTableStore, IsUnused};
 ghost use Rattle.command_table.specs.Places.{IsPrdOf, places_of};
 ghost use Rattle.command_table.specs.Bytes.{Stores, part};
 
-use adapter::{Command, Prd};
+use adapter::{Adapter, Command, Prd};
 use arrayvec::ArrayVec;
-use ata_types::Frame;
+use ata_types::{Frame, Port, Slot};
 use fis::encode_h2d;
 
 const FIS_DWORDS: u32 = 5;
@@ -19,6 +25,16 @@ const FIS_DWORDS: u32 = 5;
 const WRITE_BIT: u32 = 1 << 6;
 
 const FRAME_BYTES: u32 = 4096;
+
+/// Bytes of the ten frames that the driver has for each port: its command list stands at their head, and the first command table
+/// in their second frame.
+const PORT_BYTES: u32 = 40960;
+
+const TABLES: u32 = 4096;
+
+const TABLE_BYTES: u32 = 1024;
+
+const HEADER_BYTES: u32 = 32;
 
 /// Writes the bytes into the buffer, from a place on.
 fn store_at(buffer: &mut [u8], at: usize, bytes: &[u8])
@@ -98,6 +114,38 @@ pub fn table_bytes(command: &Command, prds: &[Prd]) -> [u8; 640]
         store_at(&mut bytes, 128 + 16 * i, &prd_bytes(prd));
     }
     bytes
+}
+
+/// Writes the table and then the header of an unused slot, so that they say the command that is meant, with its PRDs; no other byte
+/// is stored. `writes` says that the device reads memory. The slot's places are this project's own: list and tables stand in the ten
+/// frames of the port.
+pub fn write_table<A: Adapter>(
+    adapter: &mut A,
+    port: Port,
+    slot: Slot,
+    writes: bool,
+    command: &Command,
+    prds: &[Prd],
+)
+    requires on { IsOn (A.device adapter.old) }
+    requires agreed { AgreesWith (IsUnused port.0 slot.0) (A.device adapter.old) }
+    requires room { 163840 ≤ (A.device adapter.old).size }
+    requires port { port.0 < 4 }
+    requires slot { slot.0 < 32 }
+    requires lba { command.now.lba < 2 ^ 48 }
+    requires few { length prds.now ≤ 32 }
+    requires allowed { All IsAllowed prds.now }
+    ensures on { IsOn (A.device adapter.new) }
+    ensures followed { IsFollowed (IsTableStore port.0 slot.0) (IsUnused port.0 slot.0) (A.device adapter.old) (A.device adapter.new) }
+    ensures says { (m : Meaning) (places : List ℕ) → IsTableFor slot.0 writes command.now prds.now m places
+        → Told (A.device adapter.new).memory (list_of port.0) port.0 slot.0 m places }
+{
+    let list = PORT_BYTES * u32::from(port.0);
+    let table = list + TABLES + TABLE_BYTES * u32::from(slot.0);
+    let bytes = table_bytes(command, prds);
+    adapter.store(table, &bytes[..128 + 16 * prds.len()]);
+    let head = header(writes, prds.len() as u16, table);
+    adapter.store(list + HEADER_BYTES * u32::from(slot.0), &head);
 }
 
 #[cfg(test)]

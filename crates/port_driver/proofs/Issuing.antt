@@ -22,6 +22,7 @@ use Rattle.adapter.proofs.Free.{apart_free_stays}
 use Rattle.adapter.proofs.Guards.{steps_guard}
 use Rattle.adapter.proofs.MemoryLemmas.{bytes_same, bytes_length, bytes_index, patched_apart, patched_bytes}
 use Rattle.adapter.proofs.SaysLemmas.{says_meaning}
+use Rattle.command_table.proofs.Saying.{part_at, prds_stand}
 use Rattle.command_table.specs.Bytes.{part}
 use Rattle.command_table.specs.Places.{places_of}
 use Rattle.port_driver.specs.Told.{operation_of}
@@ -100,37 +101,6 @@ stored at bytes old new s call =
       there = ap (λ (m : ℕ → ℕ). bytes_at m at (length bytes)) memory ∙ patched_bytes call.mid.memory at bytes;
       elsewhere = λ a outside apart. ap (λ (m : ℕ → ℕ). m a) memory ∙ patched_apart call.mid.memory at bytes a apart ∙ kept a outside;
     }
-
--- ---- what was stored, part by part
-
-numbers_alike : (xs ys : List ℕ) → length xs ≡ length ys → ((k : ℕ) → k < length xs → get_or xs k 0 ≡ get_or ys k 0) → xs ≡ ys
-numbers_alike xs ys len h = same_lists xs ys len (λ k d lt. get_or_default xs k d 0 lt ∙ h k lt ∙ get_or_default ys k 0 d (omega (arith, len)))
-
--- where memory holds the front of some bytes, it holds each part of that front
-pub part_at : (memory : ℕ → ℕ) (at n : ℕ) (bs : List ℕ) (i k : ℕ) → bytes_at memory at n ≡ take n bs → n ≤ length bs → i + k ≤ n → bytes_at memory (at + i) k ≡ part bs i k
-part_at memory at n bs i k e fits le =
-    let size : length (part bs i k) ≡ k = simp (length-take, length-drop) (omega arith) in
-    numbers_alike (bytes_at memory (at + i) k) (part bs i k) (bytes_length memory (at + i) k ∙ sym size) (λ j lt.
-    let small : j < k = omega (arith, bytes_length memory (at + i) k) in
-    let place : at + i + j ≡ at + (i + j) = omega arith in
-    bytes_index memory (at + i) k j small
-    ∙ ap memory place
-    ∙ sym (bytes_index memory at n (i + j) (omega arith))
-    ∙ ap (λ (xs : List ℕ). slice_index xs (i + j)) e
-    ∙ get_or-take n bs (i + j) 0 (omega arith)
-    ∙ sym (get_or-drop i bs j 0)
-    ∙ sym (get_or-take k (drop i bs) j 0 small))
-
--- PRDs that stand one by one stand in a row
-pub prds_stand : (memory : ℕ → ℕ) (es : List Prd) (at : ℕ) → ((i : ℕ) (d : Prd) → i < length es → SpellsPrd (bytes_at memory (at + 16 * i) 16) (slice_index_or es i d)) → HasPrds memory at es
-prds_stand memory [] at each = tt
-prds_stand memory (e ∷ es) at each =
-    let first : at + 16 * 0 ≡ at = omega arith in (
-      rw first at (each 0 e (omega arith)),
-      prds_stand memory es (at + 16) (λ i d lt.
-          let next : at + 16 + 16 * i ≡ at + 16 * (suc i) = omega arith in
-          rw next (each (suc i) d (omega arith))),
-    )
 
 -- ---- the transfer that was stored, and its issue
 

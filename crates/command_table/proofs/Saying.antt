@@ -1,0 +1,78 @@
+-- A table and a header that stand in memory say their command.
+use Rattle.std.proofs.Common.{ℕ, suc, ◌≡◌, ◌+◌, ◌*◌, ◌<◌, ◌≤◌, Bool, List, [], ◌∷◌, length, take, drop, refl, sym, ◌∙◌, ap, subst, arith, slice_index, slice_index_or, get_or, length-drop}
+use Rattle.std.specs.List.{All}
+use Rattle.std.proofs.lemmas.List.{get_or-take, get_or-drop, length-take}
+use Rattle.adapter.specs.Commands.{Meaning, command_of, reads_memory}
+use Rattle.adapter.specs.Memory.{bytes_at}
+use Rattle.adapter.specs.Says.{Says, HasPrds}
+use Rattle.adapter.specs.Spelling.{SpellsCommand, SpellsHeader, SpellsPrd}
+use Rattle.adapter.specs.declared.command.Command.{Command}
+use Rattle.adapter.specs.declared.command.Prd.{Prd}
+use Rattle.adapter.proofs.MemoryLemmas.{bytes_length, bytes_index}
+use Rattle.command_table.specs.Bytes.{part}
+use Rattle.command_table.specs.Written.{IsTableFor}
+use Rattle.command_table.proofs.Parts.{numbers_alike}
+
+-- where memory holds the front of some bytes, it holds each part of that front
+pub part_at : (memory : ℕ → ℕ) (at n : ℕ) (bs : List ℕ) (i k : ℕ) → bytes_at memory at n ≡ take n bs → n ≤ length bs → i + k ≤ n → bytes_at memory (at + i) k ≡ part bs i k
+part_at memory at n bs i k e fits le =
+    let size : length (part bs i k) ≡ k = simp (length-take, length-drop) (omega arith) in
+    numbers_alike (bytes_at memory (at + i) k) (part bs i k) (bytes_length memory (at + i) k ∙ sym size) (λ j lt.
+    let small : j < k = omega (arith, bytes_length memory (at + i) k) in
+    let place : at + i + j ≡ at + (i + j) = omega arith in
+    bytes_index memory (at + i) k j small
+    ∙ ap memory place
+    ∙ sym (bytes_index memory at n (i + j) (omega arith))
+    ∙ ap (λ (xs : List ℕ). slice_index xs (i + j)) e
+    ∙ get_or-take n bs (i + j) 0 (omega arith)
+    ∙ sym (get_or-drop i bs j 0)
+    ∙ sym (get_or-take k (drop i bs) j 0 small))
+
+-- PRDs that stand one by one stand in a row
+pub prds_stand : (memory : ℕ → ℕ) (es : List Prd) (at : ℕ) → ((i : ℕ) (d : Prd) → i < length es → SpellsPrd (bytes_at memory (at + 16 * i) 16) (slice_index_or es i d)) → HasPrds memory at es
+prds_stand memory [] at each = tt
+prds_stand memory (e ∷ es) at each =
+    let first : at + 16 * 0 ≡ at = omega arith in (
+      rw first at (each 0 e (omega arith)),
+      prds_stand memory es (at + 16) (λ i d lt.
+          let next : at + 16 + 16 * i ≡ at + 16 * (suc i) = omega arith in
+          rw next (each (suc i) d (omega arith))),
+    )
+
+-- a table of 640 bytes, of which memory holds the front with FIS and PRDs, and a header
+module _ (memory : ℕ → ℕ) (list slot at : ℕ) (prds : List Prd) (table header : List ℕ) (few : length prds ≤ 32) (size : length table ≡ 640)
+    (here : bytes_at memory at (128 + 16 * length prds) ≡ take (128 + 16 * length prds) table) (head : bytes_at memory (list + 32 * slot) 32 ≡ header)
+    (writes : Bool) (command : Command) (fis : SpellsCommand (part table 0 20) command)
+    (each : (i : ℕ) (d : Prd) → i < length prds → SpellsPrd (part table (128 + 16 * i) 16) (slice_index_or prds i d))
+    (heads : SpellsHeader header writes (length prds) at) where
+  part_here : (i k : ℕ) → i + k ≤ 128 + 16 * length prds → bytes_at memory (at + i) k ≡ part table i k
+  part_here i k fits = part_at memory at (128 + 16 * length prds) table i k here (omega (arith, size, few)) fits
+
+  fis_here : bytes_at memory at 20 ≡ part table 0 20
+  fis_here = let same : at + 0 ≡ at = omega arith in ap (λ (a : ℕ). bytes_at memory a 20) (sym same) ∙ part_here 0 20 (omega arith)
+
+  pub table_says : (m : Meaning) (places : List ℕ) → IsTableFor slot writes command prds m places →
+      (s : Says memory list slot m places) × (s.table ≡ at) × (s.prds ≡ prds)
+  table_says m places is =
+      let H : List ℕ → Type 0 = λ bytes. SpellsHeader bytes writes (length prds) at in
+      let W : Bool → Type 0 = λ w. SpellsHeader (bytes_at memory (list + 32 * slot) 32) w (length prds) at in
+      let F : List ℕ → Type 0 = λ bytes. SpellsCommand bytes command in
+      let C : Command → Type 0 = λ c. SpellsCommand (bytes_at memory at 20) c in (
+        record {
+          table = at;
+          prds = prds;
+          header = subst W is.direction (subst H (sym head) heads);
+          fis = subst C is.fields (subst F (sym fis_here) fis);
+          meaning = is.meaning;
+          stand = prds_stand memory prds (at + 128) (λ i d lt.
+              let P : List ℕ → Type 0 = λ bytes. SpellsPrd bytes (slice_index_or prds i d) in
+              let place : at + (128 + 16 * i) ≡ at + 128 + 16 * i = omega arith in
+              subst P (sym (part_here (128 + 16 * i) 16 (omega arith)) ∙ ap (λ (a : ℕ). bytes_at memory a 16) place) (each i d lt));
+          few = omega arith;
+          whole = is.whole;
+          in_order = is.in_order;
+          as_many = is.as_many;
+        },
+        refl,
+        refl,
+      )

@@ -1,0 +1,115 @@
+-- Stores into the header and the table of an unused slot.
+use Rattle.std.proofs.Common.{ℕ, ◌≡◌, ◌+◌, ◌*◌, ◌<◌, ◌≤◌, ◌⊎◌, Bool, false, List, length, take, refl, sym, ◌∙◌, ap, subst, inl, inr, arith, slice_index_or}
+use Rattle.adapter.specs.Access.{Access, Stores}
+use Rattle.adapter.specs.Access.Access.{Storing, Writing}
+use Rattle.adapter.specs.Commands.{Meaning}
+use Rattle.adapter.specs.Device.{Device}
+use Rattle.adapter.specs.Memory.{patched, bytes_at}
+use Rattle.adapter.specs.Rules.{IsOn, IsFree, Stays}
+use Rattle.adapter.specs.Spelling.{SpellsCommand, SpellsHeader, SpellsPrd}
+use Rattle.adapter.specs.declared.command.Command.{Command}
+use Rattle.adapter.specs.declared.command.Prd.{Prd}
+use Rattle.adapter.proofs.MemoryLemmas.{bytes_same, patched_apart, patched_bytes}
+use Rattle.block_machine.specs.Histories.{AddsSteps}
+use Rattle.block_machine.proofs.HistoryLemmas.{reached_more}
+use Rattle.agreement.specs.Driven.{known, IsAgreed, IsFollowed}
+use Rattle.agreement.specs.Driver.{Knows, ByDevice, LeavesFree, MayStore}
+use Rattle.agreement.specs.Places.{list_of, table_of, IsTable}
+use Rattle.agreement.specs.Slots.{Uses, Told}
+use Rattle.agreement.proofs.Adding.{store_adds}
+use Rattle.agreement.proofs.Driven.{by_one}
+use Rattle.agreement.proofs.Keeping.{told_is_left}
+use Rattle.agreement.proofs.Lasting.{access_on, access_same}
+use Rattle.agreement.proofs.Leaving.{stores_leave, unarmed_left}
+use Rattle.agreement.proofs.Permitting.{stores_are_free}
+use Rattle.command_table.specs.Bytes.{part}
+use Rattle.command_table.specs.Written.{IsTableFor, IsInTable, IsTableStore, IsUnused}
+use Rattle.command_table.proofs.Saying.{table_says}
+
+-- the driver may store them
+may_store : (uses : Uses) (port slot at n : ℕ) → port < 4 → slot < 32 → IsUnused port slot uses → IsInTable port slot at n → MayStore uses at n
+may_store uses port slot at n below small free here = inl (record { port = port; slot = slot; below = below; slot_below = small; free = free; here = here })
+
+-- whatever the device does first
+pub store_free : (uses : Uses) (d : Device) (port slot at n : ℕ) → IsAgreed uses d → 163840 ≤ d.size → port < 4 → slot < 32 → IsUnused port slot uses → IsInTable port slot at n → Stays (IsFree at n) d
+store_free uses d port slot at n a room below small free here =
+    stores_are_free uses a.machine d a.reached a.knows.agrees at n (elim here [ inl head ↦ let h = head.1 in omega (arith, room, h) | inr table ↦ let t = table.1 in omega (arith, room, t) ])
+    (may_store uses port slot at n below small free here)
+
+-- ---- one store
+
+module _ (port slot : ℕ) (below : port < 4) (small : slot < 32) (at : ℕ) (bytes : List ℕ) (old new : Device) (here : IsInTable port slot at (length bytes)) (call : Stores at bytes old new) where
+  pub store_followed : IsFollowed (IsTableStore port slot) (IsUnused port slot) old new
+  store_followed = record {
+    driven = by_one (IsTableStore port slot) (Storing at bytes) old new here call;
+    adds = λ uses parked free. store_adds (known uses parked old) at bytes new (may_store uses port slot at (length bytes) below small free here) call;
+  }
+
+  pub store_on : IsOn old → IsOn new
+  store_on on = access_on (Storing at bytes) old new on (λ v e. absurd cc) call
+
+  pub store_size : new.size ≡ old.size
+  store_size = (access_same (Storing at bytes) old new call).size
+
+  module _ (on : IsOn old) (uses : Uses) (free : IsUnused port slot uses) (a : IsAgreed uses old) where
+    pub store_left : LeavesFree uses (record old { memory = patched old.memory at bytes }) new
+    store_left = stores_leave uses a.machine old new a.reached a.knows.agrees on.no_reset at bytes call
+
+    pub store_agrees : IsAgreed uses new
+    store_agrees =
+        let adds : AddsSteps Knows (known uses a.parked old) (known uses a.parked new) (ByDevice old new) = store_followed.adds uses a.parked free in
+        let x = adds.adds a.machine a.reached a.knows in
+        record {
+          machine = _;
+          parked = a.parked;
+          reached = reached_more a.machine x.0 a.reached x.1;
+          knows = x.2;
+          unarmed = λ q. unarmed_left uses (record old { memory = patched old.memory at bytes }) new q store_left (a.unarmed q);
+        }
+
+-- ---- the table, and then the header
+
+module _ (port slot : ℕ) (below : port < 4) (small : slot < 32) (uses : Uses) (free : IsUnused port slot uses) (old mid new : Device) (on : IsOn old) (a : IsAgreed uses old)
+    (prds : List Prd) (table header : List ℕ) (few : length prds ≤ 32) (size : length table ≡ 640) (front : length (take (128 + 16 * length prds) table) ≡ 128 + 16 * length prds)
+    (first : Stores (table_of port slot) (take (128 + 16 * length prds) table) old mid) (second : Stores (list_of port + 32 * slot) header mid new)
+    (writes : Bool) (command : Command) (fis : SpellsCommand (part table 0 20) command)
+    (each : (i : ℕ) (d : Prd) → i < length prds → SpellsPrd (part table (128 + 16 * i) 16) (slice_index_or prds i d))
+    (heads : SpellsHeader header writes (length prds) (table_of port slot)) where
+  in_table : IsInTable port slot (table_of port slot) (length (take (128 + 16 * length prds) table))
+  in_table = inr (omega arith, omega (arith, front, few))
+
+  in_header : IsInTable port slot (list_of port + 32 * slot) (length header)
+  in_header = inl (omega arith, let h = heads.size in omega (arith, h))
+
+  mid_on : IsOn mid
+  mid_on = store_on port slot below small (table_of port slot) _ old mid in_table first on
+
+  mid_agrees : IsAgreed uses mid
+  mid_agrees = store_agrees port slot below small (table_of port slot) _ old mid in_table first on uses free a
+
+  -- the memory that the second store leaves at once
+  abbrev stored : ℕ → ℕ
+  stored = patched mid.memory (list_of port + 32 * slot) header
+
+  table_stays : (at : ℕ) → table_of port slot ≤ at → at < table_of port slot + (128 + 16 * length prds) → stored at ≡ patched old.memory (table_of port slot) (take (128 + 16 * length prds) table) at
+  table_stays at low high =
+      patched_apart mid.memory (list_of port + 32 * slot) header at (λ from to. let h = heads.size in absurd (omega (arith, h, small, low, to)))
+      ∙ (store_left port slot below small (table_of port slot) _ old mid in_table first on uses free a).tables port slot at below small
+      (inr (inr (low, omega (arith, few))))
+
+  table_there : bytes_at stored (table_of port slot) (128 + 16 * length prds) ≡ take (128 + 16 * length prds) table
+  table_there =
+      bytes_same (patched old.memory (table_of port slot) (take (128 + 16 * length prds) table)) stored (table_of port slot) (128 + 16 * length prds) table_stays
+      ∙ ap (bytes_at (patched old.memory (table_of port slot) (take (128 + 16 * length prds) table)) (table_of port slot)) (sym front)
+      ∙ patched_bytes old.memory (table_of port slot) (take (128 + 16 * length prds) table)
+
+  header_there : bytes_at stored (list_of port + 32 * slot) 32 ≡ header
+  header_there = ap (bytes_at stored (list_of port + 32 * slot)) (sym heads.size) ∙ patched_bytes mid.memory (list_of port + 32 * slot) header
+
+  pub stored_says : (m : Meaning) (places : List ℕ) → IsTableFor slot writes command prds m places → Told new.memory (list_of port) port slot m places
+  stored_says m places is =
+      let x = table_says stored (list_of port) slot (table_of port slot) prds table header few size table_there header_there writes command fis each heads m places is in
+      told_is_left uses (record mid { memory = stored }) new
+      (store_left port slot below small (list_of port + 32 * slot) header mid new in_header second mid_on uses free mid_agrees)
+      port slot m places below small
+      (record { says = x.0; table_is = x.1; few = let same = x.2 in rw same few })
