@@ -22,7 +22,7 @@ pub mod Deciding
 pub mod Clients
 mod Freeing
 pub mod Permitting
-mod Unarmed
+pub mod Unarmed
 mod Counting
 pub mod Idling
 pub mod Witness
@@ -49,14 +49,14 @@ mod Gaining
 mod Linking
 mod Telling
 pub mod Lasting
-mod Finished
+pub mod Finished
 mod Setting
 mod Others
 pub mod Erring
 mod Resetting
 mod Silent
 mod Resending
-mod Noting
+pub mod Noting
 mod ComingUp
 mod Raising
 mod Present
@@ -69,7 +69,7 @@ mod Asking
 mod Queueing
 mod Trimming
 mod Composing
-mod Pages
+pub mod Pages
 mod Booted
 mod Restarting
 mod Failing

@@ -59,6 +59,12 @@ pub record IsFollowed (May : Access → Type 0) (Fits : Uses → Type 0) (old ne
   pub adds : (uses : Uses) (parked : ℕ → List RequestId) → Fits uses
       → AddsSteps Knows (known uses parked old) (known uses parked new) (ByDevice old new)
 
+-- The same, where the driver puts the slots to other uses meanwhile.
+pub record IsFollowedTo (May : Access → Type 0) (Fits : Uses → Type 0) (next : Uses → Uses) (old new : Device) : Type 0 where
+  pub driven : IsDrivenBy May old new
+  pub adds : (uses : Uses) (parked : ℕ → List RequestId) → Fits uses
+      → AddsSteps Knows (known uses parked old) (known (next uses) parked new) (ByDevice old new)
+
 -- ---- what they leave
 
 -- A port that the driver doesn't touch: what the device's steps leave of it, and all that readings noted of it.

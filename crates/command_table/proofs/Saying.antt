@@ -1,8 +1,7 @@
 -- A table and a header that stand in memory say their command.
-use Rattle.std.proofs.Common.{ℕ, suc, ◌≡◌, ◌+◌, ◌*◌, ◌<◌, ◌≤◌, Bool, List, [], ◌∷◌, length, take, drop, refl, sym, ◌∙◌, ap, subst, arith, slice_index, slice_index_or, get_or, length-drop}
-use Rattle.std.specs.List.{All}
+use Rattle.std.proofs.Common.{ℕ, suc, ◌≡◌, ◌+◌, ◌*◌, ◌<◌, ◌≤◌, Bool, List, [], ◌∷◌, length, take, drop, refl, sym, ◌∙◌, ap, subst, arith, slice_index, slice_index_or, length-drop}
 use Rattle.std.proofs.lemmas.List.{get_or-take, get_or-drop, length-take}
-use Rattle.adapter.specs.Commands.{Meaning, command_of, reads_memory}
+use Rattle.adapter.specs.Commands.{Meaning}
 use Rattle.adapter.specs.Memory.{bytes_at}
 use Rattle.adapter.specs.Says.{Says, HasPrds}
 use Rattle.adapter.specs.Spelling.{SpellsCommand, SpellsHeader, SpellsPrd}

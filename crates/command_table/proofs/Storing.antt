@@ -1,7 +1,7 @@
 -- Stores into the header and the table of an unused slot.
-use Rattle.std.proofs.Common.{ℕ, ◌≡◌, ◌+◌, ◌*◌, ◌<◌, ◌≤◌, ◌⊎◌, Bool, false, List, length, take, refl, sym, ◌∙◌, ap, subst, inl, inr, arith, slice_index_or}
-use Rattle.adapter.specs.Access.{Access, Stores}
-use Rattle.adapter.specs.Access.Access.{Storing, Writing}
+use Rattle.std.proofs.Common.{ℕ, ◌≡◌, ◌+◌, ◌*◌, ◌<◌, ◌≤◌, Bool, List, length, take, sym, ◌∙◌, ap, inl, inr, arith, slice_index_or}
+use Rattle.adapter.specs.Access.{Stores}
+use Rattle.adapter.specs.Access.Access.{Storing}
 use Rattle.adapter.specs.Commands.{Meaning}
 use Rattle.adapter.specs.Device.{Device}
 use Rattle.adapter.specs.Memory.{patched, bytes_at}
@@ -14,7 +14,7 @@ use Rattle.block_machine.specs.Histories.{AddsSteps}
 use Rattle.block_machine.proofs.HistoryLemmas.{reached_more}
 use Rattle.agreement.specs.Driven.{known, IsAgreed, IsFollowed}
 use Rattle.agreement.specs.Driver.{Knows, ByDevice, LeavesFree, MayStore}
-use Rattle.agreement.specs.Places.{list_of, table_of, IsTable}
+use Rattle.agreement.specs.Places.{list_of, table_of}
 use Rattle.agreement.specs.Slots.{Uses, Told}
 use Rattle.agreement.proofs.Adding.{store_adds}
 use Rattle.agreement.proofs.Driven.{by_one}

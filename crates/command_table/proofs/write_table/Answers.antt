@@ -1,4 +1,4 @@
-use Rattle.std.proofs.Common.{ℕ, List, ◌≡◌, ◌+◌, ◌*◌, ◌<◌, ◌≤◌, ◌∙◌, ap, subst, sym, inl, inr, arith, length, take, slice_index_or}
+use Rattle.std.proofs.Common.{ℕ, List, ◌≡◌, ◌+◌, ◌*◌, ◌≤◌, subst, sym, inl, inr, arith, length, take}
 use Rattle.std.proofs.lemmas.List.{length-take}
 use Rattle.adapter.specs.Access.{Stores}
 use Rattle.adapter.specs.Device.{Device}

@@ -1,0 +1,55 @@
+use Rattle.std.proofs.Common.{ℕ, ◌≡◌, ◌*◌, sym, subst, arith}
+use Rattle.adapter.specs.Access.{Loads}
+use Rattle.adapter.specs.Rules.{IsFree, Stays}
+use Rattle.agreement.specs.Places.{scratch_of}
+use Rattle.agreement.specs.Slots.{Own, put}
+use Rattle.command_table.specs.Written.{IsUnused}
+use Rattle.disk_page.specs.Asking.{operation_of, IsAsking}
+use Rattle.disk_page.proofs.Asking.{followed_to_more, followed_back, page_free, load_on, load_clear, load_followed, load_brings}
+use Rattle.disk_page.proofs.read_page.Goals as goal
+
+pub returns-then-not-wait-clause-reads : goal.returns-then-not-wait-clause-reads
+returns-then-not-wait-clause-reads g c = (
+  c.wait.ensures.still c.if-not-wait.true,
+  followed_to_more (IsAsking c.args.port) (IsUnused c.args.port.0 0) (λ uses. put uses c.args.port.0 0 (Own (operation_of c.args.page))) _ _ _ c.ask.ensures.followed c.wait.ensures.followed,
+)
+
+pub load-requires : goal.load-requires
+load-requires g c =
+    let r = c.requires in
+    let at : 4096 * c.from-scratch.result ≡ scratch_of c.args.port.0 = let x = c.from-scratch.ensures in let y = c.from.ensures in omega (arith, x, y) in
+    let asked = c.ask.ensures.waiting r.agreed.0 r.agreed.1 r.agreed.2 in
+    let waiting = c.wait.ensures.waiting _ _ _ asked in
+    let clear = c.wait.ensures.over c.if-not-wait.false _ _ _ asked in
+    let F : ℕ → Type 0 = λ place. Stays (IsFree place 512) (g.A.Adapter.device c.wait.new.adapter) in
+    subst F (sym at) (page_free c.args.port _ _ _ _ r.there.0 waiting clear)
+
+pub returns-clause-on : goal.returns-clause-on
+returns-clause-on g c =
+    let r = c.requires in
+    let at : 4096 * c.from-scratch.result ≡ scratch_of c.args.port.0 = let x = c.from-scratch.ensures in let y = c.from.ensures in omega (arith, x, y) in
+    let asked = c.ask.ensures.waiting r.agreed.0 r.agreed.1 r.agreed.2 in
+    let waiting = c.wait.ensures.waiting _ _ _ asked in
+    let clear = c.wait.ensures.over c.if-not-wait.false _ _ _ asked in
+    let L : ℕ → Type 0 = λ place. Loads place c.load.new.out (g.A.Adapter.device c.wait.new.adapter) (g.A.Adapter.device c.load.new.self) in
+    let load : Loads (scratch_of c.args.port.0) c.load.new.out (g.A.Adapter.device c.wait.new.adapter) (g.A.Adapter.device c.load.new.self) = subst L at c.load.ensures in
+    let size = c.load.auto.out in
+    load_on c.args.port _ _ _ _ r.there.0 waiting clear _ _ load size
+
+pub returns-clause-reads : goal.returns-clause-reads
+returns-clause-reads g c =
+    let r = c.requires in
+    let at : 4096 * c.from-scratch.result ≡ scratch_of c.args.port.0 = let x = c.from-scratch.ensures in let y = c.from.ensures in omega (arith, x, y) in
+    let asked = c.ask.ensures.waiting r.agreed.0 r.agreed.1 r.agreed.2 in
+    let waiting = c.wait.ensures.waiting _ _ _ asked in
+    let clear = c.wait.ensures.over c.if-not-wait.false _ _ _ asked in
+    let L : ℕ → Type 0 = λ place. Loads place c.load.new.out (g.A.Adapter.device c.wait.new.adapter) (g.A.Adapter.device c.load.new.self) in
+    let load : Loads (scratch_of c.args.port.0) c.load.new.out (g.A.Adapter.device c.wait.new.adapter) (g.A.Adapter.device c.load.new.self) = subst L at c.load.ensures in
+    let size = c.load.auto.out in
+    let followed =
+    followed_to_more (IsAsking c.args.port) (IsUnused c.args.port.0 0) (λ uses. put uses c.args.port.0 0 (Own (operation_of c.args.page))) _ _ _
+    (followed_to_more (IsAsking c.args.port) (IsUnused c.args.port.0 0) (λ uses. put uses c.args.port.0 0 (Own (operation_of c.args.page))) _ _ _ c.ask.ensures.followed c.wait.ensures.followed)
+    (load_followed c.args.port _ _ _ _ r.there.0 waiting clear _ _ load size) in (
+      load_brings c.args.port _ _ _ _ r.there.0 waiting clear _ _ load size _ c.ask.ensures.later,
+      followed_back (IsAsking c.args.port) c.args.port.0 (operation_of c.args.page) _ _ (load_clear c.args.port _ _ _ _ r.there.0 waiting clear _ _ load size).over followed,
+    )

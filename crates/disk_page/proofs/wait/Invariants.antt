@@ -1,0 +1,5 @@
+use Rattle.disk_page.proofs.Asking.{IsPending}
+use Rattle.disk_page.proofs.wait.Given as goal
+
+abbrev pub invariant-loop-reading : goal.invariant-loop-reading
+invariant-loop-reading g l = IsPending l.port (g.A.Adapter.device l.initial.adapter) l._reading (g.A.Adapter.device l.adapter)

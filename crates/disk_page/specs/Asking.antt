@@ -1,0 +1,51 @@
+-- Pages that a disk sends to the driver itself (ACS-3: IDENTIFY DEVICE, READ LOG EXT), and how they are asked for.
+use Rattle.std.specs.Prelude.{ℕ, true, false, ◌≡◌, ◌≤◌, List, length, Option, None, Some}
+use Rattle.ata_types.specs.declared.Port.{Port}
+use Rattle.hba_regs.specs.declared.reg.Reg.TheVariants.{Px}
+use Rattle.hba_regs.specs.declared.reg.PortReg.TheVariants.{Ci}
+use Rattle.adapter.specs.Access.{Access}
+use Rattle.adapter.specs.Access.Access.{Reading, Writing, Loading, Storing}
+use Rattle.adapter.specs.Device.{Device}
+use Rattle.adapter.specs.declared.command.Operation.{Operation}
+use Rattle.adapter.specs.declared.command.Operation.TheVariants.{Identify, ReadLog}
+use Rattle.agreement.specs.Driven.{IsFollowed, IsFollowedTo}
+use Rattle.agreement.specs.Facts.{IsClear}
+use Rattle.agreement.specs.Places.{list_of, scratch_of}
+use Rattle.agreement.specs.Slots.{Own, put, Brought}
+use Rattle.command_table.specs.Written.{IsTableStore, IsUnused}
+use Rattle.disk_page.specs.declared.Page.{Page}
+use Rattle.disk_page.specs.declared.Page.TheVariants.{Identity, Errors}
+
+-- the command that brings the page
+abbrev pub operation_of : Page → Operation
+operation_of Identity = Identify
+operation_of Errors = ReadLog
+
+-- The port runs with its command list in its place and no COMRESET being sent, slot 0's bit of PxSACT is clear, and ST was set before now.
+pub record MayAsk (port : ℕ) (d : Device) : Type 0 where
+  pub started : (d.port port).st ≡ true
+  pub list : (d.port port).bases.clb ≡ list_of port
+  pub unqueued : (d.port port).sact 0 ≡ false
+  pub det : (d.port port).sctl_det ≡ 0
+  pub known : (d.port port).notes.st_set_at ≤ length d.tape
+
+-- It stores slot 0's header or table, reads PxCI, writes it with bit 0 alone, or loads the page from the scratch frame.
+abbrev pub IsAsking : Port → Access → Type 0
+IsAsking port (Reading r v) = r ≡ Px port Ci
+IsAsking port (Writing r v) = (r ≡ Px port Ci) × (v ≡ 1)
+IsAsking port (Loading at bytes) = (at ≡ scratch_of port.0) × (length bytes ≡ 512)
+IsAsking port (Storing at bytes) = IsTableStore port.0 0 (Storing at bytes)
+
+-- What is said of the page: it is the last that the port's command of this operation has moved, the command came after the tape was so
+-- long, and it is over.
+pub record Brings (port : ℕ) (o : Operation) (since : ℕ) (bytes : List ℕ) (d : Device) : Type 0 where
+  pub brought : Brought d.memory d.tape port o since
+  pub same : bytes ≡ brought.move.bytes
+  pub clear : IsClear (d.port port) 0
+
+-- The page came: slot 0 isn't used any more. Or 64 readings of PxCI showed its bit: then the command may be in slot 0 still.
+abbrev pub Reads : Port → Operation → Option (List ℕ) → Device → Device → Type 0
+Reads port o (Some bytes) old new = Brings port.0 o (length old.tape) bytes new
+    × IsFollowed (IsAsking port) (IsUnused port.0 0) old new
+Reads port o None old new = ((new.port port.0).notes.command_count ≡ 64)
+    × IsFollowedTo (IsAsking port) (IsUnused port.0 0) (λ uses. put uses port.0 0 (Own o)) old new

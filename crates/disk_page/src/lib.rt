@@ -1,0 +1,134 @@
+//! Pages of 512 bytes that a disk sends to the driver itself: who it is, and what it logged of an error.
+#![tactic(auto)]
+
+ghost use Rattle.std.specs.Prelude.{◌≡◌, ◌≤◌, ◌<◌, ◌+◌, ◌*◌, true, false, ℕ, List, length};
+ghost use Rattle.adapter.specs.Commands.{command_of};
+ghost use Rattle.adapter.specs.Rules.{IsOn, HasPort};
+ghost use Rattle.adapter.specs.declared.command.Operation.{Operation};
+ghost use Rattle.agreement.specs.Driven.{AnyUse, AgreesWith, IsAgreed, IsFollowed, IsFollowedTo};
+ghost use Rattle.agreement.specs.Facts.{IsClear};
+ghost use Rattle.agreement.specs.Slots.{Own, Uses, put};
+ghost use Rattle.command_table.specs.Written.{IsUnused};
+ghost use Rattle.disk_page.specs.Asking.{operation_of, MayAsk, IsAsking, Reads};
+ghost use Rattle.disk_page.specs.Waiting.{IsWaiting};
+
+use adapter::{Adapter, Command};
+use ata_types::{Frame, Port, Slot};
+use command_table::{prds, write_table};
+use hba_regs::{PortReg, Reg, is_set};
+
+/// Readings of PxCI in one wait.
+const READINGS: u32 = 64;
+
+/// IDENTIFY DEVICE (ACS-3, 7.12).
+const IDENTIFY_DEVICE: u8 = 0xec;
+
+/// READ LOG EXT (ACS-3, 7.24).
+const READ_LOG_EXT: u8 = 0x2f;
+
+/// The log of errors of queued commands (ACS-3, 9.14; Serial ATA).
+const QUEUED_ERROR_LOG: u64 = 0x10;
+
+const PAGE_BYTES: u32 = 512;
+
+const FRAME_BYTES: u32 = 4096;
+
+/// The driver has ten frames for each port. The last one is its scratch frame.
+const PORT_FRAMES: u16 = 10;
+
+const SCRATCH: u16 = 9;
+
+/// A page that a disk can be asked for.
+#[derive(Clone, Copy, Debug, PartialEq, Eq)]
+pub enum Page {
+    /// What the disk is: IDENTIFY DEVICE.
+    Identity,
+    /// Which queued command failed: READ LOG EXT of log 10h, page 0.
+    Errors,
+}
+
+/// The command that brings the page (ACS-3).
+fn command(page: Page) -> Command
+    ensures { result ≡ command_of (operation_of page) 0 0 0 }
+{
+    let (code, count, lba) = match page {
+        Page::Identity => (IDENTIFY_DEVICE, 0, 0),
+        Page::Errors => (READ_LOG_EXT, 1, QUEUED_ERROR_LOG),
+    };
+    Command {
+        code,
+        features: 0,
+        count,
+        lba,
+        device: 0,
+    }
+}
+
+/// Issues the command that brings the page to the scratch frame, in slot 0.
+fn ask<A: Adapter>(adapter: &mut A, port: Port, page: Page)
+    requires on { IsOn (A.device adapter.old) }
+    requires there { HasPort (A.device adapter.old) port.0 }
+    requires room { 163840 ≤ (A.device adapter.old).size }
+    requires agreed { AgreesWith (IsUnused port.0 0) (A.device adapter.old) }
+    requires may { MayAsk port.0 (A.device adapter.old) }
+    ensures followed { IsFollowedTo (IsAsking port) (IsUnused port.0 0) (λ uses. put uses port.0 0 (Own (operation_of page))) (A.device adapter.old) (A.device adapter.new) }
+    ensures waiting { (uses : Uses) → IsUnused port.0 0 uses → IsAgreed uses (A.device adapter.old)
+        → IsWaiting port (operation_of page) (length (A.device adapter.new).tape) (put uses port.0 0 (Own (operation_of page))) (A.device adapter.new) }
+    ensures on { IsOn (A.device adapter.new) }
+    ensures there { HasPort (A.device adapter.new) port.0 }
+    ensures later { length (A.device adapter.old).tape ≤ length (A.device adapter.new).tape }
+    ensures det { ((A.device adapter.new).port port.0).sctl_det ≡ 0 }
+{
+    let scratch = Frame(PORT_FRAMES * u16::from(port.0) + SCRATCH);
+    let prds = prds(&[scratch], PAGE_BYTES);
+    write_table(
+        adapter,
+        port,
+        Slot(0),
+        false,
+        &command(page),
+        prds.as_slice(),
+    );
+    adapter.write(Reg::Px(port, PortReg::Ci), 1);
+}
+
+/// Waits until the command in slot 0 isn't issued any more, for 64 readings of PxCI at most.
+fn wait<A: Adapter>(adapter: &mut A, port: Port) -> bool
+    requires on { IsOn (A.device adapter.old) }
+    requires there { HasPort (A.device adapter.old) port.0 }
+    requires det { ((A.device adapter.old).port port.0).sctl_det ≡ 0 }
+    ensures followed { IsFollowed (IsAsking port) AnyUse (A.device adapter.old) (A.device adapter.new) }
+    ensures on { IsOn (A.device adapter.new) }
+    ensures waiting { (o : Operation) (since : ℕ) (uses : Uses) → IsWaiting port o since uses (A.device adapter.old) → IsWaiting port o since uses (A.device adapter.new) }
+    ensures over { result ≡ true → (o : Operation) (since : ℕ) (uses : Uses) → IsWaiting port o since uses (A.device adapter.old) → IsClear ((A.device adapter.new).port port.0) 0 }
+    ensures still { result ≡ false → ((A.device adapter.new).port port.0).notes.command_count ≡ 64 }
+{
+    for _reading in 0..READINGS {
+        let issued = adapter.read(Reg::Px(port, PortReg::Ci));
+        if !is_set(issued, 0) {
+            return true;
+        }
+    }
+    false
+}
+
+/// Has the disk send a page, and waits for it: `None` where 64 readings of PxCI showed the command issued still, which may then be
+/// taken, and may move its page later. The port runs with slot 0 unused; its other slots aren't touched.
+pub fn read_page<A: Adapter>(adapter: &mut A, port: Port, page: Page) -> Option<[u8; 512]>
+    requires on { IsOn (A.device adapter.old) }
+    requires there { HasPort (A.device adapter.old) port.0 }
+    requires room { 163840 ≤ (A.device adapter.old).size }
+    requires agreed { AgreesWith (IsUnused port.0 0) (A.device adapter.old) }
+    requires may { MayAsk port.0 (A.device adapter.old) }
+    ensures on { IsOn (A.device adapter.new) }
+    ensures reads { Reads port (operation_of page) result (A.device adapter.old) (A.device adapter.new) }
+{
+    ask(adapter, port, page);
+    if !wait(adapter, port) {
+        return None;
+    }
+    let mut bytes = [0; 512];
+    let scratch = FRAME_BYTES * u32::from(PORT_FRAMES * u16::from(port.0) + SCRATCH);
+    adapter.load(scratch, &mut bytes);
+    Some(bytes)
+}
