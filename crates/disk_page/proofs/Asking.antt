@@ -61,7 +61,7 @@ pub record Leaves (port : ℕ) (old new : Device) : Type 0 where
   pub set_at : (new.port port).notes.st_set_at ≡ (old.port port).notes.st_set_at
   pub later : length old.tape ≤ length new.tape
 
-grown : (old new more : List Entry) → new ≡ old ++ more → length old ≤ length new
+pub grown : (old new more : List Entry) → new ≡ old ++ more → length old ≤ length new
 grown old new more is = let n = ap length is ∙ length-append old more in omega (arith, n)
 
 -- over accesses of an adapter that is on
@@ -78,13 +78,13 @@ leaves_more port a b c p q on =
     (record { all = KeepsAll-trans x.0.all y.0.all; set_at = y.0.set_at ∙ x.0.set_at; later = le_trans x.0.later y.0.later }, y.1)
 
 -- what the device leaves
-steps_leave : (port : ℕ) (old new : Device) → old.hr ≡ false → Steps old new → Leaves port old new
+pub steps_leave : (port : ℕ) (old new : Device) → old.hr ≡ false → Steps old new → Leaves port old new
 steps_leave port old new off steps =
     let k : Keeps old new = steps_keep steps in
     record { all = steps_keep_all off steps; set_at = ap (λ (n : Notes). n.st_set_at) (k.notes port); later = grown old.tape new.tape k.gained k.tape }
 
 -- and so with bytes stored
-stored_leave : (port at : ℕ) (bytes : List ℕ) (old mid : Device) → Leaves port old mid → Leaves port old (record mid { memory = patched mid.memory at bytes })
+pub stored_leave : (port at : ℕ) (bytes : List ℕ) (old mid : Device) → Leaves port old mid → Leaves port old (record mid { memory = patched mid.memory at bytes })
 stored_leave port at bytes old mid l = record {
   all = record { size = l.all.size; cap = l.all.cap; pi = l.all.pi; on = record { no_reset = l.all.on.no_reset; ae = l.all.on.ae; ie = l.all.on.ie; controls = l.all.on.controls }; port = l.all.port };
   set_at = l.set_at;

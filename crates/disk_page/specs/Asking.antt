@@ -1,11 +1,12 @@
 -- Pages that a disk sends to the driver itself (ACS-3: IDENTIFY DEVICE, READ LOG EXT), and how they are asked for.
-use Rattle.std.specs.Prelude.{ℕ, true, false, ◌≡◌, ◌≤◌, List, length, Option, None, Some}
+use Rattle.std.specs.Prelude.{ℕ, true, false, ◌≡◌, ◌≢◌, ◌≤◌, List, length, Option, None, Some}
 use Rattle.ata_types.specs.declared.Port.{Port}
 use Rattle.hba_regs.specs.declared.reg.Reg.TheVariants.{Px}
 use Rattle.hba_regs.specs.declared.reg.PortReg.TheVariants.{Ci}
 use Rattle.adapter.specs.Access.{Access}
 use Rattle.adapter.specs.Access.Access.{Reading, Writing, Loading, Storing}
-use Rattle.adapter.specs.Device.{Device}
+use Rattle.adapter.specs.Device.{Notes, Device}
+use Rattle.adapter.specs.Kept.{KeepsControls}
 use Rattle.adapter.specs.declared.command.Operation.{Operation}
 use Rattle.adapter.specs.declared.command.Operation.TheVariants.{Identify, ReadLog}
 use Rattle.agreement.specs.Driven.{IsFollowed, IsFollowedTo}
@@ -29,12 +30,28 @@ pub record MayAsk (port : ℕ) (d : Device) : Type 0 where
   pub det : (d.port port).sctl_det ≡ 0
   pub known : (d.port port).notes.st_set_at ≤ length d.tape
 
+-- all that readings noted is as it was, but for those of PxCI
+abbrev pub SameButIssued : Notes → Notes → Type 0
+SameButIssued old new = new ≡ record old { last_ci = new.last_ci; command_count = new.command_count }
+
 -- It stores slot 0's header or table, reads PxCI, writes it with bit 0 alone, or loads the page from the scratch frame.
 abbrev pub IsAsking : Port → Access → Type 0
 IsAsking port (Reading r v) = r ≡ Px port Ci
 IsAsking port (Writing r v) = (r ≡ Px port Ci) × (v ≡ 1)
 IsAsking port (Loading at bytes) = (at ≡ scratch_of port.0) × (length bytes ≡ 512)
 IsAsking port (Storing at bytes) = IsTableStore port.0 0 (Storing at bytes)
+
+-- What asking leaves of the port: its controls and its addresses; every slot but slot 0, which has no command if it had none; all that readings
+-- noted but of PxCI; and the bits of PxSACT that were clear.
+pub record LeavesRunning (port : ℕ) (old new : Device) : Type 0 where
+  pub controls : KeepsControls (old.port port) (new.port port)
+  pub bases : (new.port port).bases ≡ (old.port port).bases
+  pub ci : (slot : ℕ) → slot ≢ 0 → (old.port port).ci slot ≡ false → (new.port port).ci slot ≡ false
+  pub taken : (slot : ℕ) → slot ≢ 0 → (old.port port).ci slot ≡ false → (old.port port).taken slot ≡ None
+      → (new.port port).taken slot ≡ None
+  pub sact : (slot : ℕ) → (old.port port).sact slot ≡ false → (new.port port).sact slot ≡ false
+  pub notes : SameButIssued (old.port port).notes (new.port port).notes
+  pub later : length old.tape ≤ length new.tape
 
 -- What is said of the page: it is the last that the port's command of this operation has moved, the command came after the tape was so
 -- long, and it is over.

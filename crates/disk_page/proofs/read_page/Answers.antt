@@ -6,6 +6,7 @@ use Rattle.agreement.specs.Slots.{Own, put}
 use Rattle.command_table.specs.Written.{IsUnused}
 use Rattle.disk_page.specs.Asking.{operation_of, IsAsking}
 use Rattle.disk_page.proofs.Asking.{followed_to_more, followed_back, page_free, load_on, load_clear, load_followed, load_brings}
+use Rattle.disk_page.proofs.Leaving.{asking_leaves_running}
 use Rattle.disk_page.proofs.read_page.Goals as goal
 
 pub returns-then-not-wait-clause-reads : goal.returns-then-not-wait-clause-reads
@@ -53,3 +54,9 @@ returns-clause-reads g c =
       load_brings c.args.port _ _ _ _ r.there.0 waiting clear _ _ load size _ c.ask.ensures.later,
       followed_back (IsAsking c.args.port) c.args.port.0 (operation_of c.args.page) _ _ (load_clear c.args.port _ _ _ _ r.there.0 waiting clear _ _ load size).over followed,
     )
+
+pub returns-then-not-wait-clause-leaves : goal.returns-then-not-wait-clause-leaves
+returns-then-not-wait-clause-leaves g c = asking_leaves_running c.args.port _ _ c.requires.on (returns-then-not-wait-clause-reads g c).1.driven
+
+pub returns-clause-leaves : goal.returns-clause-leaves
+returns-clause-leaves g c = asking_leaves_running c.args.port _ _ c.requires.on (returns-clause-reads g c).1.driven
