@@ -1,0 +1,5 @@
+pub mod Lists
+pub mod Letters
+pub mod TableLemmas
+pub mod Tables
+pub mod Told
