@@ -3,3 +3,4 @@ pub mod Letters
 pub mod TableLemmas
 pub mod Tables
 pub mod Told
+pub mod Blank

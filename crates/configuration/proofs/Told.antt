@@ -1,5 +1,5 @@
 -- A fault of the document is one of the text.
-use Rattle.std.proofs.Common.{◌≡◌, ℕ, List}
+use Rattle.std.proofs.Common.{ℕ, List}
 use Rattle.toml.specs.Data.{Members}
 use Rattle.configuration.specs.declared.ConfigFault.{ConfigFault}
 use Rattle.configuration.specs.declared.ConfigFault.TheVariants.{Refused, NoMemory}

@@ -1,5 +1,5 @@
 -- The ranges of the numbers and texts in the lists of a configuration (this project's own).
-use Rattle.std.specs.Prelude.{◌≡◌, ◌≢◌, ◌==◌, ◌∷◌, if◌then◌else◌, Bool, ◌+◌, ◌^◌, ◌<◌, ◌≤◌, ◌++◌, ℕ, List, [], All, IfSome, codes, length, string_bytes}
+use Rattle.std.specs.Prelude.{◌≡◌, ◌≢◌, ◌==◌, ◌∷◌, if◌then◌else◌, Bool, ◌+◌, ◌^◌, ◌≤◌, ◌++◌, ℕ, List, [], All, IfSome, codes, length, string_bytes}
 use Rattle.configuration.specs.declared.PortConfig.{PortConfig}
 use Rattle.configuration.specs.declared.ClientConfig.{ClientConfig}
 use Rattle.configuration.specs.declared.GrantConfig.{GrantConfig}

@@ -129,3 +129,6 @@ pub enum ConfigFault {
     #[error("no memory")]
     NoMemory,
 }
+
+#[cfg(test)]
+mod tests;

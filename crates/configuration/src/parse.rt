@@ -1,6 +1,7 @@
 //! Reading a configuration from its text.
 
-ghost use Rattle.std.specs.Prelude.{◌↔◌, IsTrue, IfOk, IfErr, All, codes};
+ghost use Rattle.std.specs.Prelude.{◌≡◌, ◌↔◌, IsTrue, IfOk, IfErr, All, codes};
+ghost use Rattle.toml.specs.Errors.{IsBlank};
 ghost use Rattle.toml.specs.View.{table_view};
 ghost use Rattle.configuration.specs.Tables.{tables_at};
 ghost use Rattle.configuration.specs.Schema.{HasAllKeys, HasAllTypes, HasKeys, HasTypes, document_keys, port_keys, client_keys, grant_keys};
@@ -193,6 +194,7 @@ impl Config {
     fn from_document(alloc: Global, table: &Table) -> Result<Config, ConfigFault>
         ensures ok { IfOk result (IsRead (table_view table.now)) }
         ensures refused { IfErr result (IsFault (IsFaultOf (table_view table.now))) }
+        ensures memory { result ≡ Err ConfigFault.NoMemory → HasAllKeys (table_view table.now) × HasAllTypes (table_view table.now) }
     {
         if !has_all_keys(table) {
             return Err(ConfigFault::Refused(Kind::WrongKeys));
@@ -216,6 +218,9 @@ impl Config {
     pub fn parse(alloc: Global, text: &[u8]) -> Result<Config, ConfigFault>
         ensures ok { IfOk result (IsReadFrom text.now) }
         ensures refused { IfErr result (IsFault (IsToldOf text.now)) }
+
+        // When memory runs out is no matter of the text; but a text with white space and comments alone takes none.
+        ensures memory { result ≡ Err ConfigFault.NoMemory → IsBlank text.now → ⊥ }
     {
         match toml::table_from_slice(alloc, text) {
             Ok(table) => Config::from_document(alloc, &table),

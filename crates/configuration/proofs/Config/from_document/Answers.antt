@@ -1,5 +1,5 @@
-use Rattle.std.proofs.Common.{◌≡◌, ◌∙◌, Err, sym, ap}
-use Rattle.configuration.specs.Document.{IsFaultOf, keys, types, negative, rule}
+use Rattle.std.proofs.Common.{◌∙◌, Err, sym, ap}
+use Rattle.configuration.specs.Document.{keys, types, negative, rule}
 use Rattle.configuration.proofs.Config.from_document.Goals as goal
 
 pub returns-then-not-has_all_keys-clause-refused : goal.returns-then-not-has_all_keys-clause-refused

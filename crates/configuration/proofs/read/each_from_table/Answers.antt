@@ -1,6 +1,6 @@
-use Rattle.std.proofs.Common.{◌≡◌, ◌∙◌, ◌+◌, ◌++◌, ◌∷◌, [], Err, Some, None, List, ap, append-nil, option_map, rules, subst, sym, take}
+use Rattle.std.proofs.Common.{◌≡◌, ◌∙◌, ◌+◌, ◌++◌, ◌∷◌, [], Err, Some, None, ap, append-nil, option_map, rules, subst, sym, take}
 use Rattle.std.specs.List.{AllZip, cons_option}
-use Rattle.toml.specs.Data.{Members, as_table}
+use Rattle.toml.specs.Data.{as_table}
 use Rattle.toml.specs.View.{items_view, table_view, view}
 use Rattle.configuration.specs.declared.read.ReadFault.TheVariants.{NoValue}
 use Rattle.configuration.specs.Tables.{tables_of}

@@ -1,4 +1,4 @@
-use Rattle.std.proofs.Common.{◌≡◌, ◌∙◌, AllPairs, IsTrue, false, true, subst, sym}
+use Rattle.std.proofs.Common.{◌≡◌, ◌∙◌, AllPairs, false, true, subst, sym}
 use Rattle.std.proofs.lemmas.List.Kept.{AllPairs-cons}
 use Rattle.configuration.proofs.Lists.{AllPairs-split}
 use Rattle.configuration.proofs.rules.all_apart.Goals as goal

@@ -1,4 +1,4 @@
-use Rattle.std.proofs.Common.{◌≡◌, ◌∙◌, false, map, sym, true}
+use Rattle.std.proofs.Common.{◌∙◌, map, sym}
 use Rattle.std.proofs.lemmas.List.Elements.{All-map}
 use Rattle.toml.specs.View.{table_view}
 use Rattle.configuration.specs.Schema.{HasKeys, IsKnown, IsPresent, rule_of}
