@@ -9,7 +9,8 @@ letter_or_not letter c cs true is = (true, ap (λ d. d ∷ cs) (eqb-true c lette
 letter_or_not letter c cs false is = (false, refl)
 
 -- a text is the letter, or not, and what is left without it
-pub letter_first : (letter : ℕ) (text : List ℕ) → (p : Bool) × (text ≡ chosen p (letter ∷ []) ++ without_first letter text)
+pub letter_first : (letter : ℕ) (text : List ℕ)
+    → (p : Bool) × (text ≡ chosen p (letter ∷ []) ++ without_first letter text)
 letter_first letter [] = (false, refl)
 letter_first letter (c ∷ cs) = letter_or_not letter c cs (c == letter) refl
 

@@ -4,3 +4,6 @@ pub mod TableLemmas
 pub mod Tables
 pub mod Told
 pub mod Blank
+pub mod Zips
+pub mod Same
+pub mod One

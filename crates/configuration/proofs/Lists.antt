@@ -4,9 +4,12 @@ use Rattle.std.proofs.lemmas.List.Elements.{All-cons, All-head, All-tail, All-ni
 use Rattle.std.specs.List.{AllZip, cons_option}
 
 -- the first element is so with each later one, and the later ones are
-pub AllPairs-split : {X : Type 0} (R : X → X → Type 0) (x : X) (xs : List X) → AllPairs R (x ∷ xs) → All (R x) xs × AllPairs R xs
-AllPairs-split R x xs h =
-    ((λ k d lt. h 0 (suc k) d (omega arith) (omega arith)), (λ i j d before lt. h (suc i) (suc j) d (omega arith) (omega arith)))
+pub AllPairs-split : {X : Type 0} (R : X → X → Type 0) (x : X) (xs : List X)
+    → AllPairs R (x ∷ xs) → All (R x) xs × AllPairs R xs
+AllPairs-split R x xs h = (
+  (λ k d lt. h 0 (suc k) d (omega arith) (omega arith)),
+  (λ i j d before lt. h (suc i) (suc j) d (omega arith) (omega arith)),
+)
 
 pub All-unmap : {X Y : Type 0} (P : X → Type 0) (f : Y → X) (ys : List Y) → All P (map f ys) → All (λ y. P (f y)) ys
 All-unmap P f [] h = All-nil (λ y. P (f y))
@@ -27,18 +30,22 @@ Any-map P f (y ∷ ys) (suc k, x, lt, is, p) = Any-later P (f y) (map f ys) (Any
 pub Any-unmap : {X Y : Type 0} (P : X → Type 0) (f : Y → X) (ys : List Y) → Any P (map f ys) → Any (λ y. P (f y)) ys
 Any-unmap P f [] (k, x, lt, is, p) = absurd (omega arith)
 Any-unmap P f (y ∷ ys) (zero, x, lt, is, p) = Any-head (λ y. P (f y)) y ys (subst P (sym is) p)
-Any-unmap P f (y ∷ ys) (suc k, x, lt, is, p) = Any-later (λ y. P (f y)) y ys (Any-unmap P f ys (k, x, omega arith, is, p))
+Any-unmap P f (y ∷ ys) (suc k, x, lt, is, p) =
+    Any-later (λ y. P (f y)) y ys (Any-unmap P f ys (k, x, omega arith, is, p))
 
-pub All-cons_option : {X : Type 0} (P : X → Type 0) (o : Option X) (xs : List X) → IfSome o P → All P xs → All P (cons_option o xs)
+pub All-cons_option : {X : Type 0} (P : X → Type 0) (o : Option X) (xs : List X)
+    → IfSome o P → All P xs → All P (cons_option o xs)
 All-cons_option P None xs here later = later
 All-cons_option P (Some x) xs here later = All-cons P x xs here later
 
-pub cons_option-All : {X : Type 0} (P : X → Type 0) (o : Option X) (xs : List X) → All P (cons_option o xs) → IfSome o P × All P xs
+pub cons_option-All : {X : Type 0} (P : X → Type 0) (o : Option X) (xs : List X)
+    → All P (cons_option o xs) → IfSome o P × All P xs
 cons_option-All P None xs h = (tt, h)
 cons_option-All P (Some x) xs h = (All-head P x xs h, All-tail P x xs h)
 
 -- of lists of two types
-pub AllZip-push : {X Y : Type 0} (R : X → Y → Type 0) (xs : List X) (ys : List Y) (x : X) (y : Y) → AllZip R xs ys → R x y
+pub AllZip-push : {X Y : Type 0} (R : X → Y → Type 0) (xs : List X) (ys : List Y) (x : X) (y : Y)
+    → AllZip R xs ys → R x y
     → AllZip R (xs ++ x ∷ []) (ys ++ y ∷ [])
 AllZip-push R [] [] x y h r = (r, tt)
 AllZip-push R [] (z ∷ ys) x y h r = absurd h

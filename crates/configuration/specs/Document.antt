@@ -19,8 +19,8 @@ pub record IsRead (document : Members) (c : Config) : Type 0 where
   pub values : Spells document c
   pub sound : IsSound c
 
--- The least kind of fault that a document has. Where its keys and types are right and no numbers of a `Config`, which aren't negative,
--- are those of the document, one of them is negative, and so out of range.
+-- The least kind of fault that a document has. Where its keys and types are right, and it has the values of no
+-- `Config`, whose numbers aren't negative, one of its numbers is negative, and so out of range.
 pub data IsFaultOf (document : Members) : Kind → Type 0 where
   keys : (HasAllKeys document → ⊥) → IsFaultOf document WrongKeys
   types : HasAllKeys document → (HasAllTypes document → ⊥) → IsFaultOf document WrongTypes
@@ -41,7 +41,8 @@ IsReadFrom text c = (document : Members) × IsDocument text document × IsRead d
 -- the least kind of fault that a text has
 pub data IsToldOf (text : List ℕ) : Kind → Type 0 where
   unreadable : ((document : Members) → IsDocument text document → ⊥) → IsToldOf text NotToml
-  document : (kind : Kind) (document : Members) → IsDocument text document → IsFaultOf document kind → IsToldOf text kind
+  document : (kind : Kind) (document : Members) → IsDocument text document → IsFaultOf document kind
+      → IsToldOf text kind
 
 -- memory ran out, or the kind is so
 abbrev pub IsFault : (Kind → Type 0) → ConfigFault → Type 0

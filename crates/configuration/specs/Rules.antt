@@ -1,5 +1,5 @@
 -- The rules that the values of a configuration have to meet (this project's own).
-use Rattle.std.specs.Prelude.{◌≡◌, ◌≢◌, ◌⊎◌, ◌+◌, ◌<◌, ◌≤◌, ℕ, List, All, Any, AllPairs, codes, vec_len, string_bytes}
+use Rattle.std.specs.Prelude.{◌≡◌, ◌≢◌, ◌⊎◌, ◌+◌, ◌<◌, ◌≤◌, ℕ, List, All, Any, AllPairs, codes, length, string_bytes}
 use Rattle.configuration.specs.declared.Config.{Config}
 use Rattle.configuration.specs.declared.PortConfig.{PortConfig}
 use Rattle.configuration.specs.declared.ClientConfig.{ClientConfig}
@@ -12,7 +12,7 @@ pub record HasNumbersInRange (c : Config) : Type 0 where
   pub frames : (41 ≤ c.frames) × (c.frames ≤ 1024)
   pub slots : (1 ≤ c.slots) × (c.slots ≤ 32)
   pub depth : (1 ≤ c.depth) × (c.depth ≤ 32)
-  pub few_grants : vec_len c.grant ≤ 64
+  pub few_grants : length c.grant.items ≤ 64
 
 abbrev pub IsTrim : List ℕ → Type 0
 IsTrim text = (text ≡ codes "full") ⊎ ((text ≡ codes "weak") ⊎ (text ≡ codes "none"))

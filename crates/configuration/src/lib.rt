@@ -1,16 +1,18 @@
-//! The configuration of a block server and of the model behind it: its values, the rules that they have to meet, and its text, a
-//! TOML document (this project's own format).
+//! The configuration of a block server and of the model behind it: its values, the rules that they have to meet, and
+//! its text, a TOML document (this project's own format).
 #![tactic(auto)]
 
 ghost use Rattle.std.specs.Prelude.{◌≡◌};
 ghost use Rattle.configuration.specs.Rules.{number_of};
 
+mod laws;
 mod parse;
 mod read;
 mod rules;
 mod schema;
 mod table;
 
+pub use laws::{read_text_has_no_fault, told_kind_is_one};
 pub use schema::{Key, ValueType};
 use thiserror::Error;
 

@@ -194,7 +194,8 @@ impl Config {
     fn from_document(alloc: Global, table: &Table) -> Result<Config, ConfigFault>
         ensures ok { IfOk result (IsRead (table_view table.now)) }
         ensures refused { IfErr result (IsFault (IsFaultOf (table_view table.now))) }
-        ensures memory { result ≡ Err ConfigFault.NoMemory → HasAllKeys (table_view table.now) × HasAllTypes (table_view table.now) }
+        ensures memory { result ≡ Err ConfigFault.NoMemory
+            → HasAllKeys (table_view table.now) × HasAllTypes (table_view table.now) }
     {
         if !has_all_keys(table) {
             return Err(ConfigFault::Refused(Kind::WrongKeys));
@@ -213,8 +214,9 @@ impl Config {
         }
     }
 
-    /// Reads a configuration from the bytes of a TOML document. Where it has faults, the least kind that applies is told; a number
-    /// that TOML can't hold (64 bits with a sign) is of the kind `NotToml`, and a negative one is out of range (this project's own).
+    /// Reads a configuration from the bytes of a TOML document. Where it has faults, the least kind that applies is
+    /// told. A number that isn't within 64 bits with a sign is of the kind `NotToml`; a negative one is out of range
+    /// (this project's own).
     pub fn parse(alloc: Global, text: &[u8]) -> Result<Config, ConfigFault>
         ensures ok { IfOk result (IsReadFrom text.now) }
         ensures refused { IfErr result (IsFault (IsToldOf text.now)) }

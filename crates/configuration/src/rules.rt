@@ -280,8 +280,8 @@ impl Config {
         have_ports(self.grant.as_slice(), self.port.as_slice())
     }
 
-    /// Says whether these values may configure a server, and else which kind of fault they have: of kinds 4 to 8 the least that
-    /// applies (this project's own). What `parse` gives has none.
+    /// Says whether these values may configure a server, and else which kind of fault they have: of the kinds 4 to 8
+    /// the least that applies (this project's own). What `parse` gives has none.
     pub fn check(&self) -> Result<(), Kind>
         ensures sound { OnOk result (IsSound self.now) }
         ensures broken { IfErr result (IsFirstBroken self.now) }

@@ -13,7 +13,8 @@ returns-then-not-has_all_types-clause-refused c =
 
 pub returns-in-Err-NoValue-clause-refused : goal.returns-in-Err-NoValue-clause-refused
 returns-in-Err-NoValue-clause-refused c =
-    negative (c.has_all_keys.ensures.0 c.if-not-has_all_keys.false) (c.has_all_types.ensures.0 c.if-not-has_all_types.false)
+    negative (c.has_all_keys.ensures.0 c.if-not-has_all_keys.false)
+    (c.has_all_types.ensures.0 c.if-not-has_all_types.false)
     (c.from_table.ensures.none (c.in-Err-NoValue.is ∙ ap Err c.in-Err-NoValue.field-0-is))
 
 pub returns-in-Err-clause-refused : goal.returns-in-Err-clause-refused

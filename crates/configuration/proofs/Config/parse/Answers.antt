@@ -18,7 +18,8 @@ returns-in-Ok-clause-refused c =
 pub returns-in-Err-2-clause-refused : goal.returns-in-Err-2-clause-refused
 returns-in-Err-2-clause-refused c =
     unreadable (λ doc is.
-    let none = c.in-Err.ensures.refused (λ m. let bad = sym c.if-is_memory.false ∙ c.is_memory.ensures.1 m in cc) is.utf8 in
+    let none = c.in-Err.ensures.refused
+    (λ m. let bad = sym c.if-is_memory.false ∙ c.is_memory.ensures.1 m in cc) is.utf8 in
     let both = sym none ∙ is.is in
     cc)
 

@@ -22,7 +22,8 @@ pub loop-item-preserved : goal.loop-item-preserved
 loop-item-preserved g c =
     let S = g.T.FromTable.spells in
     let before = tables_of (items_view (take c.loop-item.item-index c.args.items.now)) in
-    let more : tables_of (items_view (take (c.loop-item.item-index + 1) c.args.items.now)) ≡ before ++ cons_option (as_table (view c.item-item.result)) [] =
+    let more : tables_of (items_view (take (c.loop-item.item-index + 1) c.args.items.now))
+    ≡ before ++ cons_option (as_table (view c.item-item.result)) [] =
     tables-more c.args.items.now c.loop-item.item-index c.item-item.result (search rules) (sym c.item-item.is) in
     elim c.match-as_table.branch [
       | in-Some+in-Ok+in_ok-push-in-Ok w ↦
@@ -30,13 +31,15 @@ loop-item-preserved g c =
           let here : as_table (view c.item-item.result) ≡ Some members =
           sym c.as_table.ensures ∙ ap (option_map (λ t. table_view t.now)) w.in-Some.is in
           let grown = more ∙ ap (λ o. before ++ cons_option o []) here in
-          let pushed = AllZip-push S before c.loop-item.values.items members w.in-Ok.value c.loop-item.invariant w.in-Ok.ensures.ok in
+          let pushed = AllZip-push S before c.loop-item.values.items members w.in-Ok.value c.loop-item.invariant
+          w.in-Ok.ensures.ok in
           let was = w.in_ok-push-in-Ok.ensures.items in
           let items : c.match-as_table.values.items ≡ c.loop-item.values.items ++ w.in-Ok.value ∷ [] = cc in
           subst (λ ts. AllZip S ts c.match-as_table.values.items) (sym grown)
           (subst (λ vs. AllZip S (before ++ members ∷ []) vs) (sym items) pushed)
       | in_default w ↦
-          let none : as_table (view c.item-item.result) ≡ None = sym c.as_table.ensures ∙ ap (option_map (λ t. table_view t.now)) w.in_default.is in
+          let none : as_table (view c.item-item.result) ≡ None =
+          sym c.as_table.ensures ∙ ap (option_map (λ t. table_view t.now)) w.in_default.is in
           let same = more ∙ ap (λ o. before ++ cons_option o []) none ∙ append-nil before in
           let items : c.match-as_table.values.items ≡ c.loop-item.values.items = cc in
           subst (λ ts. AllZip S ts c.match-as_table.values.items) (sym same)

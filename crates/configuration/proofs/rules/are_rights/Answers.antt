@@ -10,4 +10,5 @@ returns-then-not-is_empty c =
     let trim = c.without_first-then-not-is_empty.ensures ∙ ap (without_first 116) write in
     let flush = c.without_first-then-not-is_empty-2.ensures ∙ ap (without_first 102) trim in
     rights_by_left c.args.text.now c.without_first-then-not-is_empty-2.result.now c.is_empty.result
-    c.is_empty-then-not-is_empty.result flush c.is_empty.ensures c.if-not-is_empty.true c.is_empty-then-not-is_empty.ensures
+    c.is_empty-then-not-is_empty.result flush c.is_empty.ensures c.if-not-is_empty.true
+    c.is_empty-then-not-is_empty.ensures

@@ -9,5 +9,7 @@ returns c =
     let P = HasKeys (map rule_of c.args.keys.now) in
     let each = c.values_have_keys.ensures in
     let items = c.items_at.result.now in
-    let at = ap tables_of c.items_at.ensures in
-    ((λ t. subst (All P) at (All-tables P items (each.0 t))), (λ h. each.1 (tables-All P items (subst (All P) (sym at) h))))
+    let at = ap tables_of c.items_at.ensures in (
+      (λ t. subst (All P) at (All-tables P items (each.0 t))),
+      (λ h. each.1 (tables-All P items (subst (All P) (sym at) h))),
+    )

@@ -12,7 +12,10 @@ returns-then-are_present c =
     let P = IsPresent (table_view c.args.table.now) in
     let K = IsKnown (map rule_of c.args.keys.now) in
     let names = c.args.table.now.entries in (
-      (λ t. (All-map P rule_of c.args.keys.now (c.are_present.ensures.0 c.if-are_present.true), All-names K names (c.know_all.ensures.0 t))),
+      (λ t. (
+        All-map P rule_of c.args.keys.now (c.are_present.ensures.0 c.if-are_present.true),
+        All-names K names (c.know_all.ensures.0 t),
+      )),
       (λ h. c.know_all.ensures.1 (names-All K names h.1)),
     )
 
