@@ -1,0 +1,15 @@
+-- A text with nothing in it is a document without keys.
+use Rattle.std.proofs.Common.{◌≡◌, false, true, ℕ, List, Some, arith, codes, refl}
+use Rattle.toml.specs.Data.{no_members}
+use Rattle.toml.specs.Errors.{IsBlank}
+use Rattle.toml.specs.Parse.{lines, parse_document}
+use Rattle.configuration.specs.Schema.{HasAllKeys, HasKeys, required}
+use Rattle.configuration.specs.declared.schema.ValueType.TheVariants.{Integer}
+
+pub blank-document : (text : List ℕ) → IsBlank text → parse_document text ≡ Some no_members
+unfolding parse_document lines
+blank-document text is = rw is refl
+
+pub blank-keys : HasAllKeys no_members → ⊥
+unfolding HasKeys
+blank-keys h = let bad : false ≡ true = h.itself.0 0 (required (codes "frames") Integer) (omega arith) refl in cc

@@ -1,0 +1,9 @@
+pub mod Lists
+pub mod Letters
+pub mod TableLemmas
+pub mod Tables
+pub mod Told
+pub mod Blank
+pub mod Zips
+pub mod Same
+pub mod One

@@ -1,0 +1,50 @@
+-- What a text has to be, and which kind of fault is told of it (this project's own).
+use Rattle.std.specs.Prelude.{◌≡◌, ℕ, List, Some}
+use Rattle.std.specs.Str.{IsUtf8}
+use Rattle.toml.specs.Data.{Members}
+use Rattle.toml.specs.Parse.{parse_document}
+use Rattle.configuration.specs.declared.Config.{Config}
+use Rattle.configuration.specs.declared.ConfigFault.{ConfigFault}
+use Rattle.configuration.specs.declared.ConfigFault.TheVariants.{Refused, NoMemory}
+use Rattle.configuration.specs.declared.Kind.{Kind}
+use Rattle.configuration.specs.declared.Kind.TheVariants.{NotToml, WrongKeys, WrongTypes, OutOfRange}
+use Rattle.configuration.specs.Schema.{HasAllKeys, HasAllTypes}
+use Rattle.configuration.specs.Rules.{IsSound, IsFirstBroken}
+use Rattle.configuration.specs.Tables.{Spells}
+
+-- the document has the right keys and types, and these values, which meet every rule
+pub record IsRead (document : Members) (c : Config) : Type 0 where
+  pub keys : HasAllKeys document
+  pub types : HasAllTypes document
+  pub values : Spells document c
+  pub sound : IsSound c
+
+-- The least kind of fault that a document has. Where its keys and types are right, and it has the values of no
+-- `Config`, whose numbers aren't negative, one of its numbers is negative, and so out of range.
+pub data IsFaultOf (document : Members) : Kind → Type 0 where
+  keys : (HasAllKeys document → ⊥) → IsFaultOf document WrongKeys
+  types : HasAllKeys document → (HasAllTypes document → ⊥) → IsFaultOf document WrongTypes
+  negative : HasAllKeys document → HasAllTypes document → ((c : Config) → Spells document c → ⊥)
+      → IsFaultOf document OutOfRange
+  rule : (kind : Kind) (c : Config) → HasAllKeys document → HasAllTypes document → Spells document c
+      → IsFirstBroken c kind → IsFaultOf document kind
+
+-- the text is UTF-8 and a TOML document, which is this one
+pub record IsDocument (text : List ℕ) (document : Members) : Type 0 where
+  pub utf8 : IsUtf8 text
+  pub is : parse_document text ≡ Some document
+
+-- the text is a document with these values, which meet every rule
+abbrev pub IsReadFrom : List ℕ → Config → Type 0
+IsReadFrom text c = (document : Members) × IsDocument text document × IsRead document c
+
+-- the least kind of fault that a text has
+pub data IsToldOf (text : List ℕ) : Kind → Type 0 where
+  unreadable : ((document : Members) → IsDocument text document → ⊥) → IsToldOf text NotToml
+  document : (kind : Kind) (document : Members) → IsDocument text document → IsFaultOf document kind
+      → IsToldOf text kind
+
+-- memory ran out, or the kind is so
+abbrev pub IsFault : (Kind → Type 0) → ConfigFault → Type 0
+IsFault P (Refused kind) = P kind
+IsFault P NoMemory = Unit {0}

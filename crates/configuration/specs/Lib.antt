@@ -1,0 +1,5 @@
+pub mod Document
+pub mod Ranges
+pub mod Rules
+pub mod Schema
+pub mod Tables

@@ -1,0 +1,47 @@
+-- The ranges of the numbers and texts in the lists of a configuration (this project's own).
+use Rattle.std.specs.Prelude.{◌≡◌, ◌≢◌, ◌==◌, ◌∷◌, if◌then◌else◌, Bool, ◌+◌, ◌^◌, ◌≤◌, ◌++◌, ℕ, List, [], All, IfSome, codes, length, string_bytes}
+use Rattle.configuration.specs.declared.PortConfig.{PortConfig}
+use Rattle.configuration.specs.declared.ClientConfig.{ClientConfig}
+use Rattle.configuration.specs.declared.GrantConfig.{GrantConfig}
+
+-- 1 to 20 printable ASCII characters, of which the space is one
+pub record IsSerial (text : List ℕ) : Type 0 where
+  pub some : 1 ≤ length text
+  pub few : length text ≤ 20
+  pub printable : All (λ c. (32 ≤ c) × (c ≤ 126)) text
+
+pub record IsPort (p : PortConfig) : Type 0 where
+  pub number : p.number ≤ 3
+  pub serial : IfSome p.serial (λ s. IsSerial (string_bytes s))
+
+-- The client's frames begin at 40 or above and end within the memory's.
+pub record IsClient (memory_frames : ℕ) (c : ClientConfig) : Type 0 where
+  pub least : 1 ≤ c.id
+  pub most : c.id ≤ 8
+  pub first_frame : 40 ≤ c.first_frame
+  pub some : 1 ≤ c.frames
+  pub within : c.first_frame + c.frames ≤ memory_frames
+
+-- what is left of a text after a letter that it may begin with
+abbrev pub without_first : ℕ → List ℕ → List ℕ
+without_first letter [] = []
+without_first letter (c ∷ cs) = if c == letter then cs else c ∷ cs
+
+-- a letter that is chosen, or none
+abbrev pub chosen : Bool → List ℕ → List ℕ
+chosen is_chosen letter = if is_chosen then letter else []
+
+-- a choice of r, w, t and f, in this order, that isn't empty
+pub record IsRights (text : List ℕ) : Type 0 where
+  pub some : text ≢ []
+  pub choice : (r : Bool) × (w : Bool) × (t : Bool) × (f : Bool)
+      × (text ≡ chosen r (codes "r") ++ (chosen w (codes "w") ++ (chosen t (codes "t") ++ chosen f (codes "f"))))
+
+pub record IsGrant (g : GrantConfig) : Type 0 where
+  pub least : 1 ≤ g.client
+  pub most : g.client ≤ 8
+  pub number : g.number ≤ 63
+  pub port : g.port ≤ 3
+  pub some : 1 ≤ g.count
+  pub within : g.first + g.count ≤ 2 ^ 48
+  pub rights : IsRights (string_bytes g.rights)

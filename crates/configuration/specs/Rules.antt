@@ -1,0 +1,89 @@
+-- The rules that the values of a configuration have to meet (this project's own).
+use Rattle.std.specs.Prelude.{◌≡◌, ◌≢◌, ◌⊎◌, ◌+◌, ◌<◌, ◌≤◌, ℕ, List, All, Any, AllPairs, codes, length, string_bytes}
+use Rattle.configuration.specs.declared.Config.{Config}
+use Rattle.configuration.specs.declared.PortConfig.{PortConfig}
+use Rattle.configuration.specs.declared.ClientConfig.{ClientConfig}
+use Rattle.configuration.specs.declared.GrantConfig.{GrantConfig}
+use Rattle.configuration.specs.declared.Kind.{Kind}
+use Rattle.configuration.specs.declared.Kind.TheVariants.{NotToml, WrongKeys, WrongTypes, OutOfRange, Duplicate, SharedFrames, UnknownClient, UnknownPort}
+use Rattle.configuration.specs.Ranges.{IsPort, IsClient, IsGrant}
+
+pub record HasNumbersInRange (c : Config) : Type 0 where
+  pub frames : (41 ≤ c.frames) × (c.frames ≤ 1024)
+  pub slots : (1 ≤ c.slots) × (c.slots ≤ 32)
+  pub depth : (1 ≤ c.depth) × (c.depth ≤ 32)
+  pub few_grants : length c.grant.items ≤ 64
+
+abbrev pub IsTrim : List ℕ → Type 0
+IsTrim text = (text ≡ codes "full") ⊎ ((text ≡ codes "weak") ⊎ (text ≡ codes "none"))
+
+pub record HasPartsInRange (c : Config) : Type 0 where
+  pub ports : All IsPort c.port.items
+  pub clients : All (IsClient c.frames) c.client.items
+  pub grants : All IsGrant c.grant.items
+
+-- every number and text is in its range, and there are at most 64 grants
+pub record IsInRange (c : Config) : Type 0 where
+  pub numbers : HasNumbersInRange c
+  pub trim : IsTrim (string_bytes c.trim)
+  pub parts : HasPartsInRange c
+
+abbrev pub DifferInNumber : PortConfig → PortConfig → Type 0
+DifferInNumber p q = p.number ≢ q.number
+
+abbrev pub DifferInId : ClientConfig → ClientConfig → Type 0
+DifferInId c d = c.id ≢ d.id
+
+-- they aren't grants of one client under one number
+abbrev pub DifferInName : GrantConfig → GrantConfig → Type 0
+DifferInName g h = g.client ≡ h.client → g.number ≢ h.number
+
+-- no port, client, or number of a client's grant stands twice
+pub record NamesOnce (c : Config) : Type 0 where
+  pub ports : AllPairs DifferInNumber c.port.items
+  pub clients : AllPairs DifferInId c.client.items
+  pub grants : AllPairs DifferInName c.grant.items
+
+abbrev pub HasFrame : ClientConfig → ℕ → Type 0
+HasFrame c frame = (c.first_frame ≤ frame) × (frame < c.first_frame + c.frames)
+
+-- no frame belongs to both
+pub record AreApart (c d : ClientConfig) : Type 0 where
+  pub none : (frame : ℕ) → HasFrame c frame → HasFrame d frame → ⊥
+
+-- the client, or the port, is there
+unfoldable pub HasClient : List ClientConfig → ℕ → Type 0
+HasClient clients id = Any (λ c. c.id ≡ id) clients
+
+unfoldable pub HasPort : List PortConfig → ℕ → Type 0
+HasPort ports number = Any (λ p. p.number ≡ number) ports
+
+-- What the values have to meet, by the kind of fault that it is else. The first three kinds are of texts alone.
+abbrev pub Meets : Config → Kind → Type 0
+Meets c NotToml = Unit {0}
+Meets c WrongKeys = Unit {0}
+Meets c WrongTypes = Unit {0}
+Meets c OutOfRange = IsInRange c
+Meets c Duplicate = NamesOnce c
+Meets c SharedFrames = AllPairs AreApart c.client.items
+Meets c UnknownClient = All (λ g. HasClient c.client.items g.client) c.grant.items
+Meets c UnknownPort = All (λ g. HasPort c.port.items g.port) c.grant.items
+
+-- the kinds' numbers say which is told first
+abbrev pub number_of : Kind → ℕ
+number_of NotToml = 1
+number_of WrongKeys = 2
+number_of WrongTypes = 3
+number_of OutOfRange = 4
+number_of Duplicate = 5
+number_of SharedFrames = 6
+number_of UnknownClient = 7
+number_of UnknownPort = 8
+
+-- the values meet every rule
+abbrev pub IsSound : Config → Type 0
+IsSound c = (kind : Kind) → Meets c kind
+
+-- the values don't meet this rule, and meet those before it
+abbrev pub IsFirstBroken : Config → Kind → Type 0
+IsFirstBroken c kind = (Meets c kind → ⊥) × ((k : Kind) → number_of k < number_of kind → Meets c k)

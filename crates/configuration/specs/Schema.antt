@@ -1,0 +1,84 @@
+-- The keys of a configuration, and what they ask of a document (this project's own).
+use Rattle.std.specs.Prelude.{◌≡◌, ℕ, Bool, true, false, List, [], ◌∷◌, Some, IsTrue, IsSome, IfSome, All, Any, codes}
+use Rattle.toml.specs.Data.{Data, Items, Members, no_items, item, get_member, as_integer, as_bool, as_str, as_array, as_table}
+use Rattle.configuration.specs.Tables.{names_of, tables_at}
+use Rattle.configuration.specs.declared.schema.Key.{Key}
+use Rattle.configuration.specs.declared.schema.ValueType.{ValueType}
+use Rattle.configuration.specs.declared.schema.ValueType.TheVariants.{Integer, Boolean, Text, Tables}
+
+-- a key, the type of its value, and whether it has to be there
+pub record KeyRule : Type 0 where
+  pub name : List ℕ
+  pub value_type : ValueType
+  pub is_required : Bool
+
+abbrev pub required : List ℕ → ValueType → KeyRule
+required name value_type = record { name = name; value_type = value_type; is_required = true }
+
+abbrev pub optional : List ℕ → ValueType → KeyRule
+optional name value_type = record { name = name; value_type = value_type; is_required = false }
+
+abbrev pub document_keys : List KeyRule
+document_keys = required (codes "frames") Integer ∷ required (codes "slots") Integer ∷ required (codes "ncq") Boolean
+    ∷ required (codes "depth") Integer ∷ required (codes "trim") Text ∷ optional (codes "port") Tables
+    ∷ optional (codes "client") Tables ∷ optional (codes "grant") Tables ∷ []
+
+abbrev pub port_keys : List KeyRule
+port_keys = required (codes "number") Integer ∷ optional (codes "serial") Text ∷ []
+
+abbrev pub client_keys : List KeyRule
+client_keys = required (codes "id") Integer ∷ required (codes "first_frame") Integer
+    ∷ required (codes "frames") Integer ∷ []
+
+abbrev pub grant_keys : List KeyRule
+grant_keys = required (codes "client") Integer ∷ required (codes "number") Integer ∷ required (codes "port") Integer
+    ∷ required (codes "first") Integer ∷ required (codes "count") Integer ∷ required (codes "rights") Text ∷ []
+
+-- the rule that a key of the code stands for
+abbrev pub rule_of : Key → KeyRule
+rule_of key = record { name = key.name.now; value_type = key.value_type; is_required = key.is_required }
+
+abbrev pub AreTables : Items → Type 0
+AreTables no_items = Unit {0}
+AreTables (item value rest) = IsSome (as_table value) × AreTables rest
+
+-- the value is of the type; of the last type is an array of tables
+abbrev pub HasType : ValueType → Data → Type 0
+HasType Integer value = IsSome (as_integer value)
+HasType Boolean value = IsSome (as_bool value)
+HasType Text value = IsSome (as_str value)
+HasType Tables value = (items : Items) × (as_array value ≡ Some items) × AreTables items
+
+-- the key is there, if it has to be
+abbrev pub IsPresent : Members → KeyRule → Type 0
+IsPresent members key = IsTrue key.is_required → IsSome (get_member key.name members)
+
+-- the key's value, if it is there, is of the key's type
+abbrev pub HasItsType : Members → KeyRule → Type 0
+HasItsType members key = IfSome (get_member key.name members) (HasType key.value_type)
+
+-- one of the keys has the name
+unfoldable pub IsKnown : List KeyRule → List ℕ → Type 0
+IsKnown keys name = Any (λ key. key.name ≡ name) keys
+
+-- the table has the keys that it has to have, and no others than these
+unfoldable pub HasKeys : List KeyRule → Members → Type 0
+HasKeys keys members = All (IsPresent members) keys × All (IsKnown keys) (names_of members)
+
+-- the value of each key is of the key's type
+unfoldable pub HasTypes : List KeyRule → Members → Type 0
+HasTypes keys members = All (HasItsType members) keys
+
+-- the document, and each table in it, has its keys and no others
+pub record HasAllKeys (document : Members) : Type 0 where
+  pub itself : HasKeys document_keys document
+  pub ports : All (HasKeys port_keys) (tables_at (codes "port") document)
+  pub clients : All (HasKeys client_keys) (tables_at (codes "client") document)
+  pub grants : All (HasKeys grant_keys) (tables_at (codes "grant") document)
+
+-- each value has its type
+pub record HasAllTypes (document : Members) : Type 0 where
+  pub itself : HasTypes document_keys document
+  pub ports : All (HasTypes port_keys) (tables_at (codes "port") document)
+  pub clients : All (HasTypes client_keys) (tables_at (codes "client") document)
+  pub grants : All (HasTypes grant_keys) (tables_at (codes "grant") document)

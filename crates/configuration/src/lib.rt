@@ -1,0 +1,136 @@
+//! The configuration of a block server and of the model behind it: its values, the rules that they have to meet, and
+//! its text, a TOML document (this project's own format).
+#![tactic(auto)]
+
+ghost use Rattle.std.specs.Prelude.{◌≡◌};
+ghost use Rattle.configuration.specs.Rules.{number_of};
+
+mod laws;
+mod parse;
+mod read;
+mod rules;
+mod schema;
+mod table;
+
+pub use laws::{read_text_has_no_fault, told_kind_is_one};
+pub use schema::{Key, ValueType};
+use thiserror::Error;
+
+/// A port that the server serves (a table `[[port]]`).
+#[derive(Debug, Drop)]
+pub struct PortConfig {
+    /// The port, 0 to 3.
+    pub number: u64,
+    /// The serial number that its disk has to have, 1 to 20 printable ASCII characters; without one, any disk will do.
+    pub serial: Option<String>,
+}
+
+/// A client, and the frames that it owns (a table `[[client]]`).
+#[derive(Debug, Drop)]
+pub struct ClientConfig {
+    /// The client, 1 to 8.
+    pub id: u64,
+    /// Its first frame, 40 or above.
+    pub first_frame: u64,
+    /// How many frames it has: 1 or more, which end within the memory's.
+    pub frames: u64,
+}
+
+/// What a client may do with some sectors (a table `[[grant]]`).
+#[derive(Debug, Drop)]
+pub struct GrantConfig {
+    /// The client, 1 to 8.
+    pub client: u64,
+    /// The number under which the client names the grant, 0 to 63.
+    pub number: u64,
+    /// The port of the disk, 0 to 3.
+    pub port: u64,
+    /// The first sector.
+    pub first: u64,
+    /// How many sectors: 1 or more, which end at 2^48 at most.
+    pub count: u64,
+    /// What the client may do: some of `r` (read), `w` (write), `t` (trim) and `f` (flush), in this order.
+    pub rights: String,
+}
+
+/// The configuration of a block server and of the model behind it.
+#[derive(Debug, Drop)]
+pub struct Config {
+    /// How many frames of 4096 bytes the memory has, 41 to 1024.
+    pub frames: u64,
+    /// How many command slots the adapter has, 1 to 32.
+    pub slots: u64,
+    /// Whether adapter and disk support native command queuing.
+    pub ncq: bool,
+    /// The disk's queue depth, 1 to 32.
+    pub depth: u64,
+    /// The disk's promise on trims: `full`, `weak` or `none`.
+    pub trim: String,
+    /// The ports, each once.
+    pub port: Vec<PortConfig>,
+    /// The clients, each once, and no frame of two of them.
+    pub client: Vec<ClientConfig>,
+    /// The grants, at most 64, each client's under numbers of their own, of clients and ports that are there.
+    pub grant: Vec<GrantConfig>,
+}
+
+/// What is wrong with a configuration. Of several kinds that of the least number is told (this project's own).
+#[derive(Clone, Copy, Debug, PartialEq, Eq, Error)]
+pub enum Kind {
+    /// The text isn't a TOML document in UTF-8.
+    #[error("the text isn't a TOML document")]
+    NotToml,
+    /// A key is missing or unknown.
+    #[error("a key is missing or unknown")]
+    WrongKeys,
+    /// A value has another type than its key asks.
+    #[error("a value has another type than its key asks")]
+    WrongTypes,
+    /// A number or text is out of its range, or there are more than 64 grants.
+    #[error("a number or text is out of its range, or there are more than 64 grants")]
+    OutOfRange,
+    /// A port, a client, or the number of a client's grant stands twice.
+    #[error("a port, a client, or the number of a client's grant stands twice")]
+    Duplicate,
+    /// A frame belongs to two clients.
+    #[error("a frame belongs to two clients")]
+    SharedFrames,
+    /// A grant names a client that isn't there.
+    #[error("a grant names a client that isn't there")]
+    UnknownClient,
+    /// A grant names a port that isn't there.
+    #[error("a grant names a port that isn't there")]
+    UnknownPort,
+}
+
+impl Kind {
+    /// The kind's number, 1 to 8: the least that applies is told.
+    pub fn number(self) -> u8
+        ensures { result ≡ number_of self }
+    {
+        match self {
+            Kind::NotToml => 1,
+            Kind::WrongKeys => 2,
+            Kind::WrongTypes => 3,
+            Kind::OutOfRange => 4,
+            Kind::Duplicate => 5,
+            Kind::SharedFrames => 6,
+            Kind::UnknownClient => 7,
+            Kind::UnknownPort => 8,
+        }
+    }
+}
+
+/// Why no configuration was read from a text.
+#[derive(Clone, Copy, Debug, PartialEq, Eq, Error)]
+pub enum ConfigFault {
+    /// Something is wrong with the configuration.
+    #[error("{0}")]
+    Refused(Kind),
+    /// Memory ran out.
+    #[error("no memory")]
+    NoMemory,
+}
+
+#[cfg(test)]
+mod tests;

@@ -1,0 +1,306 @@
+//! The rules that the values of a configuration have to meet.
+
+ghost use Rattle.std.specs.Prelude.{◌≡◌, ◌↔◌, IsTrue, IfErr, OnOk, All, AllPairs, string_bytes};
+ghost use Rattle.configuration.specs.Ranges.{IsClient, IsGrant, IsPort, IsRights, IsSerial, without_first};
+ghost use Rattle.configuration.specs.Rules.{AreApart, DifferInId, DifferInName, DifferInNumber, HasClient, HasPort};
+
+use super::{ClientConfig, Config, GrantConfig, Kind, PortConfig};
+
+/// The frames of the driver are those below this one; from it on frames are clients'.
+const FIRST_CLIENT_FRAME: u64 = 40;
+
+const FEWEST_FRAMES: u64 = 41;
+
+const MOST_FRAMES: u64 = 1024;
+
+/// The most command slots that a port can have, and the greatest queue depth that a disk can have.
+const MOST_SLOTS: u64 = 32;
+
+const PORTS: u64 = 4;
+
+const CLIENTS: u64 = 8;
+
+const MOST_GRANTS: usize = 64;
+
+/// One past the highest number that a grant may have.
+const GRANT_NUMBERS: u64 = 64;
+
+/// One past the last sector of the largest disk.
+const SECTORS_END: u64 = 1 << 48;
+
+/// The length of a serial number (ACS-3, 7.12.7.10).
+const SERIAL_LENGTH: usize = 20;
+
+/// What is left of a text after a letter that it may begin with.
+fn without_first(letter: u8, text: &[u8]) -> &[u8]
+    ensures { result.now ≡ without_first letter text.now }
+{
+    match text.split_first() {
+        Some((first, rest)) if *first == letter => rest,
+        _ => text,
+    }
+}
+
+/// Whether a text is a choice of the letters r, w, t and f, in this order, that isn't empty.
+fn are_rights(text: &str) -> bool
+    ensures { IsTrue result ↔ IsRights text.now }
+{
+    let rest = without_first(b'w', without_first(b'r', text.as_bytes()));
+    !text.is_empty() && without_first(b'f', without_first(b't', rest)).is_empty()
+}
+
+/// Whether a text may be a disk's serial number.
+fn is_serial(text: &str) -> bool
+    ensures { IsTrue result ↔ IsSerial text.now }
+{
+    let bytes = text.as_bytes();
+    !bytes.is_empty()
+        && bytes.len() <= SERIAL_LENGTH
+        && bytes.iter().all(|byte| (b' '..=b'~').contains(byte))
+}
+
+impl PortConfig {
+    fn is_in_range(&self) -> bool
+        ensures { IsTrue result ↔ IsPort self.now }
+    {
+        self.number < PORTS
+            && match &self.serial {
+                Some(serial) => is_serial(serial.as_str()),
+                None => true,
+            }
+    }
+}
+
+impl ClientConfig {
+    fn is_in_range(&self, memory_frames: u64) -> bool
+        ensures { IsTrue result ↔ IsClient memory_frames self.now }
+    {
+        (1..=CLIENTS).contains(&self.id)
+            && FIRST_CLIENT_FRAME <= self.first_frame
+            && 1 <= self.frames
+            && self.frames <= memory_frames
+            && self.first_frame <= memory_frames - self.frames
+    }
+}
+
+impl GrantConfig {
+    fn is_in_range(&self) -> bool
+        ensures { IsTrue result ↔ IsGrant self.now }
+    {
+        (1..=CLIENTS).contains(&self.client)
+            && self.number < GRANT_NUMBERS
+            && self.port < PORTS
+            && 1 <= self.count
+            && self.count <= SECTORS_END
+            && self.first <= SECTORS_END - self.count
+            && are_rights(self.rights.as_str())
+    }
+}
+
+fn are_ports(ports: &[PortConfig]) -> bool
+    ensures { IsTrue result ↔ All IsPort ports.now }
+{
+    ports.iter().all(|port| port.is_in_range())
+}
+
+fn are_clients(clients: &[ClientConfig], memory_frames: u64) -> bool
+    ensures { IsTrue result ↔ All (IsClient memory_frames) clients.now }
+{
+    clients
+        .iter()
+        .all(|client| client.is_in_range(memory_frames))
+}
+
+fn are_grants(grants: &[GrantConfig]) -> bool
+    ensures { IsTrue result ↔ All IsGrant grants.now }
+{
+    grants.iter().all(|grant| grant.is_in_range())
+}
+
+/// In what two parts of a configuration have to differ.
+pub trait Apart<T> {
+    ghost apart: { T → T → Type 0 };
+
+    fn are_apart(first: &T, second: &T) -> bool
+        ensures { IsTrue result ↔ apart first.now second.now };
+}
+
+/// Ports differ in their numbers.
+pub struct PortNumbers;
+
+impl Apart<PortConfig> for PortNumbers {
+    ghost apart = { DifferInNumber };
+
+    fn are_apart(first: &PortConfig, second: &PortConfig) -> bool {
+        first.number != second.number
+    }
+}
+
+/// Clients differ in their ids.
+pub struct ClientIds;
+
+impl Apart<ClientConfig> for ClientIds {
+    ghost apart = { DifferInId };
+
+    fn are_apart(first: &ClientConfig, second: &ClientConfig) -> bool {
+        first.id != second.id
+    }
+}
+
+/// Grants of one client differ in their numbers.
+pub struct GrantNames;
+
+impl Apart<GrantConfig> for GrantNames {
+    ghost apart = { DifferInName };
+
+    fn are_apart(first: &GrantConfig, second: &GrantConfig) -> bool {
+        first.client != second.client || first.number != second.number
+    }
+}
+
+/// Clients have no frame in common.
+pub struct ClientFrames;
+
+impl Apart<ClientConfig> for ClientFrames {
+    ghost apart = { AreApart };
+
+    fn are_apart(first: &ClientConfig, second: &ClientConfig) -> bool {
+        let first_end = u128::from(first.first_frame) + u128::from(first.frames);
+        let second_end = u128::from(second.first_frame) + u128::from(second.frames);
+        let begin = u128::from(first.first_frame).max(u128::from(second.first_frame));
+        first_end.min(second_end) <= begin
+    }
+}
+
+/// Whether a part is apart from each of these.
+fn is_apart_from<T, A: Apart<T>>(part: &T, others: &[T]) -> bool
+    ensures { IsTrue result ↔ All (A.apart part.now) others.now }
+{
+    others.iter().all(|other| A::are_apart(part, other))
+}
+
+/// Whether each two of these parts are apart.
+fn all_apart<T, A: Apart<T>>(parts: &[T]) -> bool
+    ensures { IsTrue result ↔ AllPairs A.apart parts.now }
+{
+    let mut rest = parts;
+    while let Some((part, others)) = rest.split_first() {
+        if !is_apart_from::<T, A>(part, others) {
+            return false;
+        }
+        rest = others;
+    }
+    true
+}
+
+#[tactic(auto, unfolding(crate::specs::Rules::HasPort))]
+fn has_port(ports: &[PortConfig], number: u64) -> bool
+    ensures { IsTrue result ↔ HasPort ports.now number }
+{
+    ports.iter().any(|port| port.number == number)
+}
+
+/// Whether the client of each grant is there.
+fn have_clients(grants: &[GrantConfig], clients: &[ClientConfig]) -> bool
+    ensures { IsTrue result ↔ All (λ g. HasClient clients.now g.client) grants.now }
+{
+    grants.iter().all(|grant| has_client(clients, grant.client))
+}
+
+/// Whether the port of each grant is there.
+fn have_ports(grants: &[GrantConfig], ports: &[PortConfig]) -> bool
+    ensures { IsTrue result ↔ All (λ g. HasPort ports.now g.port) grants.now }
+{
+    grants.iter().all(|grant| has_port(ports, grant.port))
+}
+
+#[tactic(auto, unfolding(crate::specs::Rules::HasClient))]
+fn has_client(clients: &[ClientConfig], id: u64) -> bool
+    ensures { IsTrue result ↔ HasClient clients.now id }
+{
+    clients.iter().any(|client| client.id == id)
+}
+
+impl Config {
+    ghost use Rattle.configuration.specs.Rules.{IsInRange, HasNumbersInRange, HasPartsInRange, IsFirstBroken, IsSound, IsTrim, NamesOnce};
+
+    fn has_numbers_in_range(&self) -> bool
+        ensures { IsTrue result ↔ HasNumbersInRange self.now }
+    {
+        (FEWEST_FRAMES..=MOST_FRAMES).contains(&self.frames)
+            && (1..=MOST_SLOTS).contains(&self.slots)
+            && (1..=MOST_SLOTS).contains(&self.depth)
+            && self.grant.len() <= MOST_GRANTS
+    }
+
+    fn has_trim(&self) -> bool
+        ensures { IsTrue result ↔ IsTrim (string_bytes self.now.trim) }
+    {
+        let trim = self.trim.as_str();
+        trim == "full" || trim == "weak" || trim == "none"
+    }
+
+    fn has_parts_in_range(&self) -> bool
+        ensures { IsTrue result ↔ HasPartsInRange self.now }
+    {
+        are_ports(self.port.as_slice())
+            && are_clients(self.client.as_slice(), self.frames)
+            && are_grants(self.grant.as_slice())
+    }
+
+    fn is_in_range(&self) -> bool
+        ensures { IsTrue result ↔ IsInRange self.now }
+    {
+        self.has_numbers_in_range() && self.has_trim() && self.has_parts_in_range()
+    }
+
+    fn names_once(&self) -> bool
+        ensures { IsTrue result ↔ NamesOnce self.now }
+    {
+        all_apart::<PortConfig, PortNumbers>(self.port.as_slice())
+            && all_apart::<ClientConfig, ClientIds>(self.client.as_slice())
+            && all_apart::<GrantConfig, GrantNames>(self.grant.as_slice())
+    }
+
+    fn has_frames_apart(&self) -> bool
+        ensures { IsTrue result ↔ AllPairs AreApart self.now.client.items }
+    {
+        all_apart::<ClientConfig, ClientFrames>(self.client.as_slice())
+    }
+
+    fn has_clients(&self) -> bool
+        ensures { IsTrue result ↔ All (λ g. HasClient self.now.client.items g.client) self.now.grant.items }
+    {
+        have_clients(self.grant.as_slice(), self.client.as_slice())
+    }
+
+    fn has_ports(&self) -> bool
+        ensures { IsTrue result ↔ All (λ g. HasPort self.now.port.items g.port) self.now.grant.items }
+    {
+        have_ports(self.grant.as_slice(), self.port.as_slice())
+    }
+
+    /// Says whether these values may configure a server, and else which kind of fault they have: of the kinds 4 to 8
+    /// the least that applies (this project's own). What `parse` gives has none.
+    pub fn check(&self) -> Result<(), Kind>
+        ensures sound { OnOk result (IsSound self.now) }
+        ensures broken { IfErr result (IsFirstBroken self.now) }
+    {
+        if !self.is_in_range() {
+            return Err(Kind::OutOfRange);
+        }
+        if !self.names_once() {
+            return Err(Kind::Duplicate);
+        }
+        if !self.has_frames_apart() {
+            return Err(Kind::SharedFrames);
+        }
+        if !self.has_clients() {
+            return Err(Kind::UnknownClient);
+        }
+        if !self.has_ports() {
+            return Err(Kind::UnknownPort);
+        }
+        Ok(())
+    }
+}

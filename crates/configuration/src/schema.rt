@@ -1,0 +1,170 @@
+//! The keys that a table may have, and the types of their values.
+
+ghost use Rattle.std.specs.Prelude.{◌≡◌, ◌↔◌, IsTrue, IsSome, IfSome, All, Any, map, string_bytes};
+ghost use Rattle.std.specs.BTreeMap.{keys};
+ghost use Rattle.toml.specs.Data.{as_table};
+ghost use Rattle.toml.specs.View.{view, table_view};
+ghost use Rattle.configuration.specs.Tables.{tables_at};
+ghost use Rattle.configuration.specs.Schema.{HasKeys, HasTypes, rule_of};
+
+use super::table::{find, items_at};
+use toml::{Table, Value};
+
+/// The type of a value, as TOML has it.
+#[derive(Clone, Copy, Debug, PartialEq, Eq)]
+pub enum ValueType {
+    /// An integer.
+    Integer,
+    /// A boolean.
+    Boolean,
+    /// A string.
+    Text,
+    /// An array of tables.
+    Tables,
+}
+
+fn are_tables(items: &[Value]) -> bool
+    ensures { IsTrue result ↔ All (λ item. IsSome (as_table (view item))) items.now }
+{
+    items.iter().all(|item| item.is_table())
+}
+
+impl ValueType {
+    ghost use Rattle.configuration.specs.Schema.{HasType};
+
+    fn fits(self, value: &Value) -> bool
+        ensures { IsTrue result ↔ HasType self (view value.now) }
+    {
+        match self {
+            ValueType::Integer => value.is_integer(),
+            ValueType::Boolean => value.is_bool(),
+            ValueType::Text => value.is_str(),
+            ValueType::Tables => match value.as_array() {
+                Some(items) => are_tables(items.as_slice()),
+                None => false,
+            },
+        }
+    }
+}
+
+/// A key that a table may have.
+#[derive(Clone, Copy, Debug)]
+pub struct Key {
+    /// The key itself.
+    pub name: &'static str,
+    /// The type of its value.
+    pub value_type: ValueType,
+    /// Whether the table has to have it.
+    pub is_required: bool,
+}
+
+impl Key {
+    ghost use Rattle.configuration.specs.Schema.{HasItsType, IsKnown, IsPresent};
+
+    fn is_present(&self, table: &Table) -> bool
+        ensures { IsTrue result ↔ IsPresent (table_view table.now) (rule_of self.now) }
+    {
+        !self.is_required || find(table, self.name).is_some()
+    }
+
+    fn has_its_type(&self, table: &Table) -> bool
+        ensures { IsTrue result ↔ HasItsType (table_view table.now) (rule_of self.now) }
+    {
+        match find(table, self.name) {
+            Some(value) => self.value_type.fits(value),
+            None => true,
+        }
+    }
+
+    fn has_name(known: &[Key], name: &str) -> bool
+        ensures { IsTrue result ↔ Any (λ key. (rule_of key).name ≡ name.now) known.now }
+    {
+        known.iter().any(|key| key.name == name)
+    }
+
+    /// Whether one of the keys has this name.
+    fn is_known(known: &[Key], name: &str) -> bool
+        ensures { IsTrue result ↔ IsKnown (map rule_of known.now) name.now }
+    {
+        Key::has_name(known, name)
+    }
+
+    /// Whether the keys that have to be there are there.
+    fn are_present(keys: &[Key], table: &Table) -> bool
+        ensures { IsTrue result ↔ All (λ key. IsPresent (table_view table.now) (rule_of key)) keys.now }
+    {
+        keys.iter().all(|key| key.is_present(table))
+    }
+
+    /// Whether no other keys are there.
+    fn know_all(known: &[Key], table: &Table) -> bool
+        ensures { IsTrue result ↔ All (λ name. IsKnown (map rule_of known.now) (string_bytes name)) (keys table.now) }
+    {
+        table.keys().all(|name| Key::is_known(known, name.as_str()))
+    }
+
+    fn have_their_types(keys: &[Key], table: &Table) -> bool
+        ensures { IsTrue result ↔ All (λ key. HasItsType (table_view table.now) (rule_of key)) keys.now }
+    {
+        keys.iter().all(|key| key.has_its_type(table))
+    }
+
+    /// Whether a table has the keys that it has to have, and no others than these.
+    pub fn are_keys_of(keys: &[Key], table: &Table) -> bool
+        ensures { IsTrue result ↔ HasKeys (map rule_of keys.now) (table_view table.now) }
+    {
+        Key::are_present(keys, table) && Key::know_all(keys, table)
+    }
+
+    /// Whether the value of each key is of the key's type.
+    pub fn are_types_of(keys: &[Key], table: &Table) -> bool
+        ensures { IsTrue result ↔ HasTypes (map rule_of keys.now) (table_view table.now) }
+    {
+        Key::have_their_types(keys, table)
+    }
+}
+
+/// Whether a value, if it is a table, has its keys.
+fn item_has_keys(keys: &[Key], item: &Value) -> bool
+    ensures { IsTrue result ↔ IfSome (as_table (view item.now)) (HasKeys (map rule_of keys.now)) }
+{
+    match item.as_table() {
+        Some(table) => Key::are_keys_of(keys, table),
+        None => true,
+    }
+}
+
+fn item_has_types(keys: &[Key], item: &Value) -> bool
+    ensures { IsTrue result ↔ IfSome (as_table (view item.now)) (HasTypes (map rule_of keys.now)) }
+{
+    match item.as_table() {
+        Some(table) => Key::are_types_of(keys, table),
+        None => true,
+    }
+}
+
+fn values_have_keys(keys: &[Key], items: &[Value]) -> bool
+    ensures { IsTrue result ↔ All (λ item. IfSome (as_table (view item)) (HasKeys (map rule_of keys.now))) items.now }
+{
+    items.iter().all(|item| item_has_keys(keys, item))
+}
+
+fn values_have_types(keys: &[Key], items: &[Value]) -> bool
+    ensures { IsTrue result ↔ All (λ item. IfSome (as_table (view item)) (HasTypes (map rule_of keys.now))) items.now }
+{
+    items.iter().all(|item| item_has_types(keys, item))
+}
+
+/// Whether each table in the array at a key has its keys.
+pub fn tables_have_keys(keys: &[Key], table: &Table, name: &str) -> bool
+    ensures { IsTrue result ↔ All (HasKeys (map rule_of keys.now)) (tables_at name.now (table_view table.now)) }
+{
+    values_have_keys(keys, items_at(table, name))
+}
+
+/// Whether in each table in the array at a key the value of each key is of the key's type.
+pub fn tables_have_types(keys: &[Key], table: &Table, name: &str) -> bool
+    ensures { IsTrue result ↔ All (HasTypes (map rule_of keys.now)) (tables_at name.now (table_view table.now)) }
+{
+    values_have_types(keys, items_at(table, name))
+}

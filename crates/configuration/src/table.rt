@@ -1,0 +1,25 @@
+//! What stands in the tables of a document.
+
+ghost use Rattle.std.specs.Prelude.{◌≡◌, option_map};
+ghost use Rattle.toml.specs.Data.{get_member};
+ghost use Rattle.toml.specs.View.{view, table_view, items_view};
+ghost use Rattle.configuration.specs.Tables.{items_of};
+
+use toml::{Table, Value};
+
+/// The value at a key.
+pub fn find<'a>(table: &'a Table, name: &str) -> Option<&'a Value>
+    ensures { option_map (λ v. view v.now) result ≡ get_member name.now (table_view table.now) }
+{
+    table.get(name)
+}
+
+/// The items of the array at a key, or none.
+pub fn items_at<'a>(table: &'a Table, name: &str) -> &'a [Value]
+    ensures { items_view result.now ≡ items_of (get_member name.now (table_view table.now)) }
+{
+    match find(table, name).and_then(Value::as_array) {
+        Some(items) => items.as_slice(),
+        None => &[],
+    }
+}
