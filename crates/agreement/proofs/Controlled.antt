@@ -113,7 +113,7 @@ leaves_more old mid new a b = record { keeps = KeepsPort-trans a.keeps b.keeps; 
 abbrev pub Grows : Device → Device → Type 0
 Grows old new = (gained : List Entry) × (new.tape ≡ old.tape ++ gained)
 
-grows_none : (d : Device) → Grows d d
+pub grows_none : (d : Device) → Grows d d
 grows_none d = ([], sym (append-nil d.tape))
 
 pub grows_more : (a b c : Device) → Grows a b → Grows b c → Grows a c

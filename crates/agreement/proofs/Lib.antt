@@ -55,7 +55,7 @@ mod Others
 pub mod Erring
 mod Resetting
 mod Silent
-mod Resending
+pub mod Resending
 pub mod Noting
 pub mod ComingUp
 mod Raising
