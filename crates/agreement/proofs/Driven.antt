@@ -1,16 +1,12 @@
 -- Stretches of accesses: one after another, and what they leave.
-use Rattle.std.proofs.Common.{ℕ, ◌≡◌, ◌≢◌, ◌++◌, true, false, List, [], ◌∷◌, refl, sym, ap, ◌∙◌, subst}
+use Rattle.std.proofs.Common.{ℕ, ◌≡◌, ◌++◌, true, false, List, [], ◌∷◌, refl, sym, subst}
 use Rattle.std.proofs.lemmas.List.Elements.{All-append, All-cons, All-nil, All-head, All-tail}
 use Rattle.std.specs.List.{All}
-use Rattle.ata_types.specs.declared.Port.{Port}
-use Rattle.ata_types.specs.declared.request.RequestId.{RequestId}
 use Rattle.hba_regs.specs.Bits.{bit}
-use Rattle.hba_regs.specs.declared.reg.PortReg.{PortReg}
-use Rattle.hba_regs.specs.declared.reg.PortReg.TheVariants.{Sact}
 use Rattle.hba_regs.specs.declared.reg.Reg.{Reg}
-use Rattle.hba_regs.specs.declared.reg.Reg.TheVariants.{Ghc, Px}
+use Rattle.hba_regs.specs.declared.reg.Reg.TheVariants.{Ghc}
 use Rattle.adapter.specs.Access.{Access, Does, DoesAll, Reads, Writes}
-use Rattle.adapter.specs.Access.Access.{Reading, Writing, Loading, Storing}
+use Rattle.adapter.specs.Access.Access.{Reading, Writing}
 use Rattle.adapter.specs.Device.{Device}
 use Rattle.adapter.specs.Rules.{IsOn, MayWrite, Stays}
 use Rattle.adapter.proofs.Calls.{does_append}
@@ -39,18 +35,25 @@ by_then {May} {old} {mid} {new} a b = record {
 
 -- ---- what they leave
 
+-- over accesses of which each keeps so much
+pub along : (Keeps : Device → Device → Type 0) → ((d : Device) → Keeps d d) → ((a b c : Device) → Keeps a b → Keeps b c → Keeps a c) → (May : Access → Type 0)
+    → ((access : Access) (old new : Device) → May access → Does access old new → Keeps old new)
+    → (accesses : List Access) (old new : Device) → All May accesses → DoesAll accesses old new → Keeps old new
+along Keeps none more May each [] old new all is = subst (Keeps old) (sym is) (none old)
+along Keeps none more May each (access ∷ accesses) old new all (mid, does, rest) =
+    more old mid new (each access old mid (All-head May access accesses all) does) (along Keeps none more May each accesses mid new (All-tail May access accesses all) rest)
+
 pub written_ghc : (access : Access) → SparesRegister Ghc access → (v : ℕ) → access ≡ Writing Ghc v → (bit v 31 ≡ true) × (bit v 0 ≡ false)
 written_ghc access spares v is = absurd (subst (SparesRegister Ghc) is spares refl)
 
--- over accesses of which each keeps so much of an adapter that is on
+-- over accesses of which each keeps so much of an adapter that is on; and it stays on
 pub over : (Keeps : Device → Device → Type 0) → ((d : Device) → Keeps d d) → ((a b c : Device) → Keeps a b → Keeps b c → Keeps a c) → (May : Access → Type 0)
     → ((access : Access) → May access → SparesRegister Ghc access) → ((access : Access) (old new : Device) → IsOn old → May access → Does access old new → Keeps old new)
-    → (accesses : List Access) (old new : Device) → IsOn old → All May accesses → DoesAll accesses old new → Keeps old new
-over Keeps none more May spares each [] old new on all is = subst (Keeps old) (sym is) (none old)
-over Keeps none more May spares each (access ∷ accesses) old new on all (mid, does, rest) =
-    let may = All-head May access accesses all in
-    more old mid new (each access old mid on may does)
-    (over Keeps none more May spares each accesses mid new (access_on access old mid on (written_ghc access (spares access may)) does) (All-tail May access accesses all) rest)
+    → (accesses : List Access) (old new : Device) → IsOn old → All May accesses → DoesAll accesses old new → Keeps old new × IsOn new
+over Keeps none more May spares each accesses old new on all does =
+    along (λ a b. IsOn a → Keeps a b × IsOn b) (λ d here. (none d, here))
+    (λ a b c x y here. let u = x here in let w = y u.1 in (more a b c u.0 w.0, w.1)) May
+    (λ access a b may x here. (each access a b here may x, access_on access a b here (written_ghc access (spares access may)) x)) accesses old new all does on
 
 -- ---- one stretch that is followed after another
 

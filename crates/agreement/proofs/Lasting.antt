@@ -16,10 +16,10 @@ use Rattle.agreement.proofs.Writing.{or_false}
 steps_same : (old new : Device) → Steps old new → SameAdapter old new
 steps_same old new s = let k : Keeps old new = steps_keep s in record { telling = k.telling; size = k.size; cap = k.cap; pi = k.pi }
 
-same_more : (old mid new : Device) → SameAdapter old mid → SameAdapter mid new → SameAdapter old new
+pub same_more : (old mid new : Device) → SameAdapter old mid → SameAdapter mid new → SameAdapter old new
 same_more old mid new a b = record { telling = b.telling ∙ a.telling; size = b.size ∙ a.size; cap = b.cap ∙ a.cap; pi = b.pi ∙ a.pi }
 
-same_refl : (d : Device) → SameAdapter d d
+pub same_refl : (d : Device) → SameAdapter d d
 same_refl d = record { telling = refl; size = refl; cap = refl; pi = refl }
 
 noted_same : (r : Reg) (v : ℕ) (d : Device) → SameAdapter d (noted r v d)

@@ -27,7 +27,7 @@ mod Counting
 pub mod Idling
 pub mod Witness
 mod Decided
-mod Halting
+pub mod Halting
 pub mod Finding
 mod Stilling
 mod Healthy
@@ -46,23 +46,23 @@ pub mod Parking
 mod Paging
 mod Crossing
 mod Gaining
-mod Linking
+pub mod Linking
 mod Telling
 pub mod Lasting
 pub mod Finished
-mod Setting
+pub mod Setting
 mod Others
 pub mod Erring
 mod Resetting
 mod Silent
-mod Resending
+pub mod Resending
 pub mod Noting
-mod ComingUp
+pub mod ComingUp
 mod Raising
 mod Present
 mod Changing
-mod Running
-mod Booting
+pub mod Running
+pub mod Booting
 mod Ended
 mod Spelt
 mod Asking
@@ -74,3 +74,5 @@ mod Booted
 mod Restarting
 mod Failing
 pub mod Driven
+pub mod Controlled
+pub mod Causing

@@ -34,6 +34,10 @@ AgreesWith Fits d = (uses : Uses) × Fits uses × IsAgreed uses d
 abbrev pub AnyUse : Uses → Type 0
 AnyUse uses = Unit {0}
 
+-- they are used in this way
+abbrev pub IsUse : Uses → Uses → Type 0
+IsUse uses other = other ≡ uses
+
 -- ---- accesses
 
 -- Accesses of this kind, by the driver, led from the old device to the new.
@@ -51,6 +55,10 @@ abbrev pub IsControl : (PortReg → Type 0) → Port → Access → Type 0
 IsControl Written port (Reading (Px at r) v) = at ≡ port
 IsControl Written port (Writing (Px at r) v) = (at ≡ port) × Written r
 IsControl Written port access = ⊥
+
+-- any register of a port
+abbrev pub AnyRegister : PortReg → Type 0
+AnyRegister r = Unit {0}
 
 -- Accesses of this kind led from the old device to the new. And from each machine that agrees with what the driver knows, where the
 -- uses of slots fit, steps of the device alone lead to one that agrees with the same and with the new device.

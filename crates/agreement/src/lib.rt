@@ -3,3 +3,4 @@
 
 pub mod facts;
 pub mod laws;
+pub mod stretches;

@@ -38,7 +38,7 @@ use Rattle.agreement.specs.Slots.{Free, Own, Uses, put as used, Told, IsOver, op
 use Rattle.agreement.proofs.Adding.{accesses_then, load_adds}
 use Rattle.agreement.proofs.Calling.{own_adds}
 use Rattle.agreement.proofs.Deciding.{own_release_knows}
-use Rattle.agreement.proofs.Driven.{by_one, by_then, over, followed_none, followed_as, followed_then, followed_read}
+use Rattle.agreement.proofs.Driven.{by_one, by_then, along, followed_none, followed_as, followed_then, followed_read}
 use Rattle.agreement.proofs.Finished.{access_clear}
 use Rattle.agreement.proofs.Lasting.{access_on, access_same}
 use Rattle.agreement.proofs.Pages.{page_is_issued, access_waits, page_is_awaited, awaited_is_loaded}
@@ -91,24 +91,18 @@ stored_leave port at bytes old mid l = record {
   later = l.later;
 }
 
-table_leaves : (port slot : ℕ) (access : Access) (old new : Device) → IsOn old → IsTableStore port slot access → Does access old new → LeavesOn port old new
-table_leaves port slot (Storing at bytes) old new _ here x on = (
+table_leaves : (port slot : ℕ) (access : Access) (old new : Device) → IsTableStore port slot access → Does access old new → LeavesOn port old new
+table_leaves port slot (Storing at bytes) old new here x on = (
   (let P : Device → Type 0 = λ d. Leaves port old d in subst P (sym x.effect) (stored_leave port at bytes old x.mid (steps_leave port old x.mid on.no_reset x.steps))),
   access_on (Storing at bytes) old new on (λ v e. absurd cc) x,
 )
-table_leaves port slot (Reading r v) old new _ here x on = absurd here
-table_leaves port slot (Writing r v) old new _ here x on = absurd here
-table_leaves port slot (Loading at bytes) old new _ here x on = absurd here
-
-table_spares : (port slot : ℕ) (access : Access) → IsTableStore port slot access → SparesRegister Ghc access
-table_spares port slot (Storing at bytes) here = tt
-table_spares port slot (Reading r v) here = tt
-table_spares port slot (Writing r v) here = absurd here
-table_spares port slot (Loading at bytes) here = tt
+table_leaves port slot (Reading r v) old new here x on = absurd here
+table_leaves port slot (Writing r v) old new here x on = absurd here
+table_leaves port slot (Loading at bytes) old new here x on = absurd here
 
 pub tables_leave : (port slot : ℕ) (old new : Device) → IsOn old → IsDrivenBy (IsTableStore port slot) old new → Leaves port old new
 tables_leave port slot old new on a =
-    (over (LeavesOn port) (leaves_none port) (leaves_more port) (IsTableStore port slot) (table_spares port slot) (table_leaves port slot) a.accesses old new on a.only a.all on).0
+    (along (LeavesOn port) (leaves_none port) (leaves_more port) (IsTableStore port slot) (table_leaves port slot) a.accesses old new a.only a.all on).0
 
 -- a reading
 pub reading_leaves : (port : Port) (v : ℕ) (old new : Device) → IsOn old → Reads (Px port Ci) v old new → Leaves port.0 old new

@@ -143,5 +143,5 @@ asking_spares port (Loading at bytes) here = tt
 
 pub asking_leaves_running : (port : Port) (old new : Device) → IsOn old → IsDrivenBy (IsAsking port) old new → LeavesRunning port.0 old new
 asking_leaves_running port old new on a =
-    over (LeavesRunning port.0) (running_none port.0) (running_more port.0) (IsAsking port) (asking_spares port) (λ access x y ready here does. asking_leaves port access x y ready here does)
-    a.accesses old new on a.only a.all
+    (over (LeavesRunning port.0) (running_none port.0) (running_more port.0) (IsAsking port) (asking_spares port) (λ access x y ready here does. asking_leaves port access x y ready here does)
+    a.accesses old new on a.only a.all).0

@@ -1,5 +1,5 @@
 -- A port that is stopped, receives FISes, or runs, and what the calls of this crate leave of it (AHCI 1.3.1, 3.3 and 10).
-use Rattle.std.specs.Prelude.{ℕ, Bool, true, false, ◌≡◌, ◌≢◌, ◌<◌, ◌≤◌, ◌⊎◌, ◌%◌, ◌||◌, length, None}
+use Rattle.std.specs.Prelude.{ℕ, true, false, ◌≡◌, ◌≢◌, ◌<◌, ◌≤◌, ◌⊎◌, ◌%◌, ◌||◌, length, None}
 use Rattle.ata_types.specs.declared.Port.{Port}
 use Rattle.hba_regs.specs.Bits.{bit}
 use Rattle.hba_regs.specs.declared.reg.PortReg.{PortReg}
@@ -7,11 +7,13 @@ use Rattle.hba_regs.specs.declared.reg.PortReg.TheVariants.{Clb, Clbu, Fb, Fbu, 
 use Rattle.hba_regs.specs.declared.reg.Reg.TheVariants.{Px}
 use Rattle.adapter.specs.Access.{Writes}
 use Rattle.adapter.specs.Device.{Bases, Notes, PortState, Device}
-use Rattle.agreement.specs.Driven.{IsControl, IsDrivenBy}
+use Rattle.adapter.specs.Rules.{IsOn, HasPort}
+use Rattle.agreement.specs.Driven.{AgreesWith, IsControl, IsDrivenBy}
 use Rattle.agreement.specs.Facts.{IsHalted}
 use Rattle.agreement.specs.Links.{PlugsNone}
 use Rattle.agreement.specs.Places.{list_of, received_of}
-use Rattle.agreement.specs.Started.{IsUp}
+use Rattle.agreement.specs.Slots.{Uses}
+use Rattle.agreement.specs.Started.{IsUp, IsComingUp}
 use Rattle.port_control.specs.declared.PortFault.{PortFault}
 use Rattle.port_control.specs.declared.PortFault.TheVariants.{NoDevice, Busy, EngineStuck, NotAta}
 
@@ -34,6 +36,12 @@ abbrev pub IsResetting : PortReg → Type 0
 IsResetting r = (r ≡ Sctl) ⊎ IsClearing r
 
 -- ---- the states of a port
+
+-- The adapter is on and has the port; and some machine agrees with its device, with uses of the slots that fit.
+pub record IsUsable (Fits : Uses → Type 0) (port : Port) (d : Device) : Type 0 where
+  pub on : IsOn d
+  pub there : HasPort d port.0
+  pub agreed : AgreesWith Fits d
 
 -- where the port has its command list and its received FIS area
 abbrev pub programmed : ℕ → Bases
@@ -84,6 +92,16 @@ Shows (NotAta signature) n = SawDevice n × SawIdle n × (n.last_sig ≡ signatu
 abbrev pub SameButCommand : Notes → Notes → Type 0
 SameButCommand old new = new ≡ record old { last_cmd = new.last_cmd; engine_count = new.engine_count }
 
+-- so are PxSCTL.DET and all that readings noted
+abbrev pub SameBeside : PortState → PortState → Type 0
+SameBeside old new = (new.sctl_det ≡ old.sctl_det) × SameButCommand old.notes new.notes
+
+-- the same where ST is set, but for when that was
+abbrev pub SameButStart : PortState → PortState → Type 0
+SameButStart old new =
+    (new.sctl_det ≡ old.sctl_det)
+    × (new.notes ≡ record old.notes { last_cmd = new.notes.last_cmd; engine_count = new.notes.engine_count; st_set_at = new.notes.st_set_at })
+
 -- ST is 0 with no command issued or active; all else of the driver's is as it was.
 pub record HasStopped (old new : PortState) : Type 0 where
   pub st : new.st ≡ false
@@ -105,14 +123,23 @@ pub record WasReset (port : Port) (old new : Device) : Type 0 where
   pub since : length old.tape ≤ (new.port port.0).notes.sctl_written_at
   pub marked : (new.port port.0).notes.sctl_written_at ≤ length new.tape
 
--- A device was seen: PxIS was cleared; and where no disk went or came, the link is up, with the disk's first FIS received, and PxSERR
--- is clear.
+-- PxSERR shows neither N nor X
+abbrev pub IsClear : PortState → Type 0
+IsClear p = (p.serr_n ≡ false) × (p.serr_x ≡ false)
+
+-- A device was seen since COMRESET: PxIS was cleared; and where no disk went or came, the link is up, with the disk's first FIS
+-- received, and PxSERR is clear.
 pub record IsFound (port : ℕ) (old new : Device) : Type 0 where
   pub calm : (place : ℕ) → place < 32 → (new.port port).is place ≡ false
   pub up : PlugsNone port old new → IsUp (new.port port)
-  pub serr_n : PlugsNone port old new → (new.port port).serr_n ≡ false
-  pub serr_x : PlugsNone port old new → (new.port port).serr_x ≡ false
+  pub clear : PlugsNone port old new → IsClear (new.port port)
+
+-- So it is where the link was coming up before.
+pub record FindsDevice (port : ℕ) (old new : Device) : Type 0 where
+  pub calm : (place : ℕ) → place < 32 → (new.port port).is place ≡ false
+  pub up : PlugsNone port old new → IsComingUp (old.port port) → IsUp (new.port port)
+  pub clear : PlugsNone port old new → IsComingUp (old.port port) → IsClear (new.port port)
 
 -- the signature that was read last is the one that the port shows
-abbrev pub ShowsSignature : ℕ → Device → Device → Type 0
-ShowsSignature port old new = PlugsNone port old new → (new.port port).notes.last_sig ≡ (new.port port).sig
+abbrev pub ShowsSignature : PortState → Type 0
+ShowsSignature p = p.notes.last_sig ≡ p.sig

@@ -1,16 +1,18 @@
-//! A port's command engine and its link: stopping the engine, receiving FISes, sending COMRESET, and starting it (AHCI 1.3.1,
-//! 10.1.2, 10.3 and 10.4.2). Each call is of one port, and says nothing of the others but that it leaves them alone.
+//! A port's command engine and its link: stopping the engine, receiving FISes, sending COMRESET, and starting it
+//! (AHCI 1.3.1, 10.1.2, 10.3 and 10.4.2). Each call is of one port, and leaves the others alone.
 #![tactic(auto)]
 
-ghost use Rattle.std.specs.Prelude.{◌≡◌, ◌≢◌, ◌≤◌, ◌||◌, true, false, IfOk, IfErr, IsOk};
+ghost use Rattle.std.specs.Prelude.{ℕ, ◌≡◌, ◌≢◌, ◌+◌, ◌*◌, ◌<◌, ◌≤◌, ◌%◌, ◌||◌, true, false, length, IfOk, IfErr, OnOk, OnErr, IsOk};
 ghost use Rattle.hba_regs.specs.Bits.{bit};
 ghost use Rattle.adapter.specs.Rules.{IsOn, HasPort};
 ghost use Rattle.agreement.specs.Driven.{AgreesWith, AnyUse, IsControl, IsFollowed};
 ghost use Rattle.agreement.specs.Driver.{AllFree};
 ghost use Rattle.agreement.specs.Errors.{NoneComes};
+ghost use Rattle.agreement.specs.Facts.{IsAfterReset};
 ghost use Rattle.agreement.specs.Links.{PlugsNone};
+ghost use Rattle.agreement.specs.Places.{list_of, received_of};
 ghost use Rattle.agreement.specs.Started.{IsUp, IsComingUp, IsStarted};
-ghost use Rattle.port_control.specs.Ports.{IsCommand, IsPlacing, IsResetting, IsStopped, IsReceiving, IsRunning, SawDevice, SawIdle, Shows, SameButCommand, HasStopped, WasReset, IsFound, ShowsSignature};
+ghost use Rattle.port_control.specs.Ports.{IsCommand, IsPlacing, IsClearing, IsResetting, IsUsable, IsStopped, IsReceiving, IsRunning, SawDevice, SawIdle, Shows, SameButCommand, SameBeside, HasStopped, WasReset, IsClear, FindsDevice, IsFound, ShowsSignature, SameButStart, programmed};
 
 use adapter::Adapter;
 use ata_types::Port;
@@ -33,16 +35,43 @@ pub struct Stopped {
     port: Port,
 }
 
+impl Stopped {
+    /// The port.
+    pub fn port(&self) -> Port
+        ensures { result ≡ self.now.port }
+    {
+        self.port
+    }
+}
+
 /// A port whose command engine stands, and which receives FISes.
 #[derive(Debug, Drop)]
 pub struct Receiving {
     port: Port,
 }
 
+impl Receiving {
+    /// The port.
+    pub fn port(&self) -> Port
+        ensures { result ≡ self.now.port }
+    {
+        self.port
+    }
+}
+
 /// A port that works on its command list.
 #[derive(Debug, Drop)]
 pub struct Running {
     port: Port,
+}
+
+impl Running {
+    /// The port.
+    pub fn port(&self) -> Port
+        ensures { result ≡ self.now.port }
+    {
+        self.port
+    }
 }
 
 /// Why a port didn't get where it was to.
@@ -56,4 +85,315 @@ pub enum PortFault {
     EngineStuck,
     /// The device's signature, which is no ATA disk's.
     NotAta(u32),
+}
+
+// Whether the device is busy or asks for a transfer (AHCI 1.3.1, 3.3.8).
+fn is_occupied(task_file: TaskFile) -> bool
+    ensures { result ≡ (bit task_file.0 7 || bit task_file.0 3) }
+{
+    task_file.is_busy() || task_file.has_data_request()
+}
+
+/// Has a port's command engine stand: clears ST, and waits until CR is 0 (AHCI 1.3.1, 10.3.2). The other bits of PxCMD
+/// are written as they were read.
+///
+/// `EngineStuck` where 64 readings find CR set: ST is 0 then, too.
+pub fn stop<A: Adapter>(adapter: &mut A, port: Port) -> Result<Stopped, PortFault>
+    requires on { IsOn (A.device adapter.old) }
+    requires there { HasPort (A.device adapter.old) port.0 }
+    requires agreed { AgreesWith AnyUse (A.device adapter.old) }
+    ensures followed { IsFollowed (IsControl IsCommand port) AnyUse (A.device adapter.old) (A.device adapter.new) }
+    ensures on { IsOn (A.device adapter.new) }
+    ensures has { HasStopped ((A.device adapter.old).port port.0) ((A.device adapter.new).port port.0) }
+    ensures names { IfOk result (λ token. token.port ≡ port) }
+    ensures stopped { OnOk result (IsStopped ((A.device adapter.new).port port.0)) }
+    ensures fault { IfErr result (λ fault. fault ≡ PortFault.EngineStuck) }
+    ensures stuck { OnErr result (Shows PortFault.EngineStuck ((A.device adapter.new).port port.0).notes) }
+{
+    let command = PortCommand(adapter.read(Reg::Px(port, PortReg::Cmd)));
+    adapter.write(Reg::Px(port, PortReg::Cmd), command.without_start().0);
+    for _reading in 0..READINGS {
+        let shown = PortCommand(adapter.read(Reg::Px(port, PortReg::Cmd)));
+        if !shown.list_running() {
+            return Ok(Stopped { port });
+        }
+    }
+    Err(PortFault::EngineStuck)
+}
+
+// Clears FRE, and waits until FR is 0 (AHCI 1.3.1, 10.3.2).
+fn stop_receiving<A: Adapter>(adapter: &mut A, port: Port) -> bool
+    requires usable { IsUsable AnyUse port (A.device adapter.old) }
+    requires stopped { IsStopped ((A.device adapter.old).port port.0) }
+    ensures followed { IsFollowed (IsControl IsCommand port) AnyUse (A.device adapter.old) (A.device adapter.new) }
+    ensures stopped { IsStopped ((A.device adapter.new).port port.0) }
+    ensures fre { ((A.device adapter.new).port port.0).fre ≡ false }
+    ensures bases { ((A.device adapter.new).port port.0).bases ≡ ((A.device adapter.old).port port.0).bases }
+    ensures same { SameBeside ((A.device adapter.old).port port.0) ((A.device adapter.new).port port.0) }
+    ensures fallen { result ≡ true → ((A.device adapter.new).port port.0).fr ≡ false }
+    ensures stuck { result ≡ false → Shows PortFault.EngineStuck ((A.device adapter.new).port port.0).notes }
+{
+    let command = PortCommand(adapter.read(Reg::Px(port, PortReg::Cmd)));
+    adapter.write(Reg::Px(port, PortReg::Cmd), command.without_receive().0);
+    for _reading in 0..READINGS {
+        let shown = PortCommand(adapter.read(Reg::Px(port, PortReg::Cmd)));
+        if !shown.receive_running() {
+            return true;
+        }
+    }
+    false
+}
+
+// Puts the command list and the received FIS area in their places, below 4 GiB (AHCI 1.3.1, 3.3.1 to 3.3.4).
+fn place<A: Adapter>(adapter: &mut A, port: Port)
+    requires usable { IsUsable AnyUse port (A.device adapter.old) }
+    requires quiet { IsAfterReset ((A.device adapter.old).port port.0) }
+    requires room { 163840 ≤ (A.device adapter.old).size }
+    ensures followed { IsFollowed (IsControl IsPlacing port) AnyUse (A.device adapter.old) (A.device adapter.new) }
+    ensures quiet { IsAfterReset ((A.device adapter.new).port port.0) }
+    ensures bases { ((A.device adapter.new).port port.0).bases ≡ programmed port.0 }
+    ensures same { SameBeside ((A.device adapter.old).port port.0) ((A.device adapter.new).port port.0) }
+{
+    let list = PORT_BYTES * u32::from(port.0);
+    adapter.write(Reg::Px(port, PortReg::Clb), list);
+    adapter.write(Reg::Px(port, PortReg::Clbu), 0);
+    adapter.write(Reg::Px(port, PortReg::Fb), list + RECEIVED);
+    adapter.write(Reg::Px(port, PortReg::Fbu), 0);
+}
+
+// Sets FRE (AHCI 1.3.1, 10.3.2).
+fn start_receiving<A: Adapter>(adapter: &mut A, port: Port)
+    requires usable { IsUsable AnyUse port (A.device adapter.old) }
+    requires quiet { IsAfterReset ((A.device adapter.old).port port.0) }
+    requires bases { ((A.device adapter.old).port port.0).bases ≡ programmed port.0 }
+    ensures followed { IsFollowed (IsControl IsCommand port) AnyUse (A.device adapter.old) (A.device adapter.new) }
+    ensures receives { IsReceiving port.0 ((A.device adapter.new).port port.0) }
+    ensures same { SameBeside ((A.device adapter.old).port port.0) ((A.device adapter.new).port port.0) }
+{
+    let command = PortCommand(adapter.read(Reg::Px(port, PortReg::Cmd)));
+    adapter.write(Reg::Px(port, PortReg::Cmd), command.with_receive().0);
+}
+
+/// Has a stopped port receive FISes: clears FRE, waits until FR is 0, puts the command list at 40960 times the port's
+/// number and the received FIS area 1024 bytes after it, and sets FRE (AHCI 1.3.1, 10.1.2 and 10.3.2). The other bits of
+/// PxCMD are written as they were read.
+///
+/// `EngineStuck` where 64 readings find FR set: FRE is 0 then, and the addresses are as they were.
+pub fn receive<A: Adapter>(
+    adapter: &mut A,
+    stopped: Stopped,
+) -> Result<Receiving, (PortFault, Stopped)>
+    requires on { IsOn (A.device adapter.old) }
+    requires there { HasPort (A.device adapter.old) stopped.port.0 }
+    requires agreed { AgreesWith AnyUse (A.device adapter.old) }
+    requires stopped { IsStopped ((A.device adapter.old).port stopped.port.0) }
+    requires room { 163840 ≤ (A.device adapter.old).size }
+    ensures followed { IsFollowed (IsControl IsPlacing stopped.port) AnyUse (A.device adapter.old)
+        (A.device adapter.new) }
+    ensures on { IsOn (A.device adapter.new) }
+    ensures stopped { IsStopped ((A.device adapter.new).port stopped.port.0) }
+    ensures same { SameBeside ((A.device adapter.old).port stopped.port.0)
+        ((A.device adapter.new).port stopped.port.0) }
+    ensures names { IfOk result (λ token. token.port ≡ stopped.port) }
+    ensures receives { OnOk result (IsReceiving stopped.port.0 ((A.device adapter.new).port stopped.port.0)) }
+    ensures fault { IfErr result (λ fault. (fault.0 ≡ PortFault.EngineStuck) × (fault.1 ≡ stopped)) }
+    ensures stuck { OnErr result (Shows PortFault.EngineStuck ((A.device adapter.new).port stopped.port.0).notes) }
+    ensures fre { OnErr result (((A.device adapter.new).port stopped.port.0).fre ≡ false) }
+    ensures bases { OnErr result (((A.device adapter.new).port stopped.port.0).bases ≡
+        ((A.device adapter.old).port stopped.port.0).bases) }
+{
+    let port = stopped.port;
+    if !stop_receiving(adapter, port) {
+        return Err((PortFault::EngineStuck, stopped));
+    }
+    place(adapter, port);
+    start_receiving(adapter, port);
+    Ok(Receiving { port })
+}
+
+// Sends COMRESET, and ends it (AHCI 1.3.1, 10.4.2).
+fn send_comreset<A: Adapter>(adapter: &mut A, port: Port)
+    requires usable { IsUsable AnyUse port (A.device adapter.old) }
+    requires receives { IsReceiving port.0 ((A.device adapter.old).port port.0) }
+    ensures followed { IsFollowed (IsControl IsResetting port) AnyUse (A.device adapter.old) (A.device adapter.new) }
+    ensures receives { IsReceiving port.0 ((A.device adapter.new).port port.0) }
+    ensures reset { WasReset port (A.device adapter.old) (A.device adapter.new) }
+    ensures coming { NoneComes port.0 (A.device adapter.old) (A.device adapter.new) → IsComingUp
+        ((A.device adapter.new).port port.0) }
+{
+    adapter.write(Reg::Px(port, PortReg::Sctl), SataControl::SEND_COMRESET);
+    adapter.write(Reg::Px(port, PortReg::Sctl), SataControl::NO_ACTION);
+}
+
+// Waits until the port has a device with a link, for 64 readings at most.
+fn wait_for_device<A: Adapter>(adapter: &mut A, port: Port) -> bool
+    requires usable { IsUsable AnyUse port (A.device adapter.old) }
+    requires det { ((A.device adapter.old).port port.0).sctl_det ≡ 0 }
+    ensures followed { IsFollowed (IsControl IsClearing port) AnyUse (A.device adapter.old) (A.device adapter.new) }
+    ensures saw { result ≡ true → SawDevice ((A.device adapter.new).port port.0).notes }
+    ensures missing { result ≡ false → Shows PortFault.NoDevice ((A.device adapter.new).port port.0).notes }
+    ensures up { result ≡ true → NoneComes port.0 (A.device adapter.old) (A.device adapter.new)
+        → IsComingUp ((A.device adapter.old).port port.0) → IsUp ((A.device adapter.new).port port.0) }
+{
+    for _reading in 0..READINGS {
+        let status = SataStatus(adapter.read(Reg::Px(port, PortReg::Ssts)));
+        if status.detection() == SataStatus::DEVICE_WITH_LINK {
+            return true;
+        }
+    }
+    false
+}
+
+// Clears what the link and the port have told so far: PxSERR, and then PxIS.
+fn clear_errors<A: Adapter>(adapter: &mut A, port: Port)
+    requires usable { IsUsable AnyUse port (A.device adapter.old) }
+    requires receives { IsReceiving port.0 ((A.device adapter.old).port port.0) }
+    ensures followed { IsFollowed (IsControl IsClearing port) AnyUse (A.device adapter.old) (A.device adapter.new) }
+    ensures saw { SawDevice ((A.device adapter.old).port port.0).notes → SawDevice
+        ((A.device adapter.new).port port.0).notes }
+    ensures calm { (place : ℕ) → place < 32 → ((A.device adapter.new).port port.0).is place ≡ false }
+    ensures clear { PlugsNone port.0 (A.device adapter.old) (A.device adapter.new) → IsUp
+        ((A.device adapter.old).port port.0) → IsClear ((A.device adapter.new).port port.0) }
+{
+    adapter.write(Reg::Px(port, PortReg::Serr), ALL_ONES);
+    adapter.write(Reg::Px(port, PortReg::Is), ALL_ONES);
+}
+
+// Waits until the device is neither busy nor asks for a transfer, for 64 readings at most.
+fn wait_until_idle<A: Adapter>(adapter: &mut A, port: Port) -> bool
+    requires usable { IsUsable AnyUse port (A.device adapter.old) }
+    requires det { ((A.device adapter.old).port port.0).sctl_det ≡ 0 }
+    requires saw { SawDevice ((A.device adapter.old).port port.0).notes }
+    ensures followed { IsFollowed (IsControl IsClearing port) AnyUse (A.device adapter.old) (A.device adapter.new) }
+    ensures saw { SawDevice ((A.device adapter.new).port port.0).notes }
+    ensures idle { result ≡ true → SawIdle ((A.device adapter.new).port port.0).notes }
+    ensures busy { result ≡ false → Shows PortFault.Busy ((A.device adapter.new).port port.0).notes }
+{
+    for _reading in 0..READINGS {
+        let task_file = TaskFile(adapter.read(Reg::Px(port, PortReg::Tfd)));
+        if !is_occupied(task_file) {
+            return true;
+        }
+    }
+    false
+}
+
+// Looks for an ATA disk that is idle, once COMRESET was sent.
+fn look<A: Adapter>(adapter: &mut A, port: Port) -> Result<(), PortFault>
+    requires usable { IsUsable AnyUse port (A.device adapter.old) }
+    requires receives { IsReceiving port.0 ((A.device adapter.old).port port.0) }
+    requires det { ((A.device adapter.old).port port.0).sctl_det ≡ 0 }
+    ensures followed { IsFollowed (IsControl IsClearing port) AnyUse (A.device adapter.old) (A.device adapter.new) }
+    ensures ready { OnOk result (let notes = ((A.device adapter.new).port port.0).notes in SawDevice notes
+        × SawIdle notes × (notes.last_sig ≡ 0x101)) }
+    ensures fault { IfErr result (λ fault. Shows fault ((A.device adapter.new).port port.0).notes
+        × (fault ≢ PortFault.EngineStuck)) }
+    ensures found { OnOk result (FindsDevice port.0 (A.device adapter.old) (A.device adapter.new)) }
+    ensures found_at_fault { IfErr result (λ fault. fault ≢ PortFault.NoDevice → FindsDevice port.0
+        (A.device adapter.old) (A.device adapter.new)) }
+    ensures signature { OnOk result (ShowsSignature ((A.device adapter.new).port port.0)) }
+    ensures signature_at_fault { IfErr result (λ fault. (signature : ℕ) → fault ≡ PortFault.NotAta signature
+        → ShowsSignature ((A.device adapter.new).port port.0)) }
+{
+    if !wait_for_device(adapter, port) {
+        return Err(PortFault::NoDevice);
+    }
+    clear_errors(adapter, port);
+    if !wait_until_idle(adapter, port) {
+        return Err(PortFault::Busy);
+    }
+    let signature = adapter.read(Reg::Px(port, PortReg::Sig));
+    if signature != ATA_SIGNATURE {
+        return Err(PortFault::NotAta(signature));
+    }
+    Ok(())
+}
+
+/// A stopped port that receives FISes still, with list and area in their places, as `stop` leaves one that did. No
+/// register is read or written.
+pub fn keep_receiving<A: Adapter>(_adapter: &A, stopped: Stopped) -> Receiving
+    requires { IsReceiving stopped.port.0 ((A.device _adapter.now).port stopped.port.0) }
+    ensures { result.port ≡ stopped.port }
+{
+    Receiving { port: stopped.port }
+}
+
+/// Sends COMRESET to the device of a port that receives FISes, and looks for an ATA disk that is idle: waits until
+/// PxSSTS shows a device with a link, clears PxSERR and PxIS, waits until PxTFD shows neither BSY nor DRQ, and reads the
+/// signature (AHCI 1.3.1, 10.1.2 and 10.4.2).
+///
+/// `NoDevice` where 64 readings show no device with a link, `Busy` where 64 find BSY or DRQ, and `NotAta` for another
+/// signature. PxSCTL.DET is 0 afterwards, and the port receives FISes still.
+pub fn comreset<A: Adapter>(
+    adapter: &mut A,
+    receiving: Receiving,
+) -> Result<Receiving, (PortFault, Receiving)>
+    requires on { IsOn (A.device adapter.old) }
+    requires there { HasPort (A.device adapter.old) receiving.port.0 }
+    requires agreed { AgreesWith AnyUse (A.device adapter.old) }
+    requires receives { IsReceiving receiving.port.0 ((A.device adapter.old).port receiving.port.0) }
+    ensures followed { IsFollowed (IsControl IsResetting receiving.port) AnyUse (A.device adapter.old)
+        (A.device adapter.new) }
+    ensures on { IsOn (A.device adapter.new) }
+    ensures receives { IsReceiving receiving.port.0 ((A.device adapter.new).port receiving.port.0) }
+    ensures reset { WasReset receiving.port (A.device adapter.old) (A.device adapter.new) }
+    ensures coming { NoneComes receiving.port.0 (A.device adapter.old) (A.device adapter.new) → IsComingUp
+        ((A.device adapter.new).port receiving.port.0) }
+    ensures names { IfOk result (λ token. token.port ≡ receiving.port) }
+    ensures ready { OnOk result (let notes =
+        ((A.device adapter.new).port receiving.port.0).notes in SawDevice notes × SawIdle notes
+        × (notes.last_sig ≡ 0x101)) }
+    ensures found { OnOk result (IsFound receiving.port.0 (A.device adapter.old) (A.device adapter.new)) }
+    ensures signature { OnOk result (ShowsSignature ((A.device adapter.new).port receiving.port.0)) }
+    ensures back { IfErr result (λ fault. fault.1 ≡ receiving) }
+    ensures fault { IfErr result (λ fault. Shows fault.0 ((A.device adapter.new).port receiving.port.0).notes
+        × (fault.0 ≢ PortFault.EngineStuck)) }
+    ensures found_at_fault { IfErr result (λ fault. fault.0 ≢ PortFault.NoDevice → IsFound receiving.port.0
+        (A.device adapter.old) (A.device adapter.new)) }
+    ensures signature_at_fault { IfErr result (λ fault. (signature : ℕ) → fault.0 ≡ PortFault.NotAta signature
+        → ShowsSignature ((A.device adapter.new).port receiving.port.0)) }
+{
+    let port = receiving.port;
+    send_comreset(adapter, port);
+    match look(adapter, port) {
+        Ok(()) => Ok(receiving),
+        Err(fault) => Err((fault, receiving)),
+    }
+}
+
+/// Has a port that receives FISes work on its command list: sets ST (AHCI 1.3.1, 10.3.1). The last readings showed a
+/// device with a link, which was neither busy nor asked for a transfer; and no slot of the port is used. The other bits
+/// of PxCMD are written as they were read.
+///
+/// It doesn't fail.
+pub fn start<A: Adapter>(
+    adapter: &mut A,
+    receiving: Receiving,
+) -> Result<Running, (PortFault, Receiving)>
+    requires on { IsOn (A.device adapter.old) }
+    requires there { HasPort (A.device adapter.old) receiving.port.0 }
+    requires agreed { AgreesWith (λ uses. AllFree uses receiving.port.0) (A.device adapter.old) }
+    requires receives { IsReceiving receiving.port.0 ((A.device adapter.old).port receiving.port.0) }
+    requires linked { ((A.device adapter.old).port receiving.port.0).notes.last_ssts % 16 ≡ 3 }
+    requires idle { SawIdle ((A.device adapter.old).port receiving.port.0).notes }
+    ensures followed { IsFollowed (IsControl IsCommand receiving.port) (λ uses. AllFree uses receiving.port.0)
+        (A.device adapter.old) (A.device adapter.new) }
+    ensures on { IsOn (A.device adapter.new) }
+    ensures ok { IsOk result }
+    ensures names { IfOk result (λ token. token.port ≡ receiving.port) }
+    ensures runs { IsRunning receiving.port.0 ((A.device adapter.new).port receiving.port.0) }
+    ensures same { SameButStart ((A.device adapter.old).port receiving.port.0)
+        ((A.device adapter.new).port receiving.port.0) }
+    ensures set { ((A.device adapter.new).port receiving.port.0).notes.st_set_at ≤ length (A.device adapter.new).tape }
+    ensures marked { ((A.device adapter.old).port receiving.port.0).notes.sctl_written_at ≤ length
+        (A.device adapter.old).tape
+        → ((A.device adapter.new).port receiving.port.0).notes.sctl_written_at ≤ length (A.device adapter.new).tape }
+    ensures well { IsUp ((A.device adapter.old).port receiving.port.0) → PlugsNone receiving.port.0
+        (A.device adapter.old) (A.device adapter.new)
+        → IsStarted ((A.device adapter.new).port receiving.port.0) }
+{
+    let port = receiving.port;
+    let command = PortCommand(adapter.read(Reg::Px(port, PortReg::Cmd)));
+    adapter.write(Reg::Px(port, PortReg::Cmd), command.with_start().0);
+    Ok(Running { port })
 }

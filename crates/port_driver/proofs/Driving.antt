@@ -59,13 +59,13 @@ spares_ghc : (access : Access) → IsOrdinary access → SparesRegister Ghc acce
 spares_ghc = spares_other Ghc (λ e. cc) (λ e. cc)
 
 pub errors_stay : (old new : Device) → IsOn old → IsDrivenBy IsOrdinary old new → KeepsErrors (old.port 0) (new.port 0)
-errors_stay old new on a = over (λ x y. KeepsErrors (x.port 0) (y.port 0)) (λ d. record { is = λ place h. h; serr_n = λ h. h; serr_x = λ h. h })
+errors_stay old new on a = (over (λ x y. KeepsErrors (x.port 0) (y.port 0)) (λ d. record { is = λ place h. h; serr_n = λ h. h; serr_x = λ h. h })
     (λ x y z p q. record { is = λ place h. q.is place (p.is place h); serr_n = λ h. q.serr_n (p.serr_n h); serr_x = λ h. q.serr_x (p.serr_x h) })
     IsOrdinary spares_ghc
     (λ access x y ready may does.
     let news = access_news (port_at 0) access x y ready.no_reset (spares_other (px Serr) (λ e. cc) (λ e. cc) access may) does in
     record { is = access_causes (port_at 0) access x y ready.no_reset (spares_other (px Is) (λ e. cc) (λ e. cc) access may) does; serr_n = news.0; serr_x = news.1 })
-    a.accesses old new on a.only a.all
+    a.accesses old new on a.only a.all).0
 
 module _ (replies : List Reply) (old new : Device) (on : IsOn old) (l : LooksFirst replies old new) where
   seen_on : IsOn l.seen

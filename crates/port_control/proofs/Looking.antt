@@ -1,0 +1,141 @@
+-- The waits for a device and until it is idle, and what clears the port's errors.
+use Rattle.std.proofs.Common.{ℕ, ◌≡◌, ◌≢◌, ◌+◌, ◌<◌, ◌≤◌, ◌%◌, ◌||◌, true, false, inl, inr, refl, sym, ◌∙◌, ap, arith, nat_eq, if◌then◌else◌}
+use Rattle.std.proofs.lemmas.Bool.Decides.{eqb_tells}
+use Rattle.ata_types.specs.declared.Port.{Port}
+use Rattle.hba_regs.specs.Bits.{bit}
+use Rattle.hba_regs.specs.declared.reg.PortReg.{PortReg}
+use Rattle.hba_regs.specs.declared.reg.PortReg.TheVariants.{Tfd, Sig, Ssts}
+use Rattle.hba_regs.specs.declared.reg.Reg.TheVariants.{Px}
+use Rattle.adapter.specs.Access.{Reads, counted, link_counted}
+use Rattle.adapter.specs.Device.{Notes, Device}
+use Rattle.agreement.specs.Driven.{AnyUse, IsControl, IsFollowed}
+use Rattle.agreement.specs.Errors.{NoneComes}
+use Rattle.agreement.specs.Started.{IsUp, IsComingUp}
+use Rattle.agreement.proofs.ComingUp.{up_is_found}
+use Rattle.agreement.proofs.Driven.{followed_then, followed_read}
+use Rattle.agreement.proofs.Noting.{notes_read, shown_after}
+use Rattle.port_control.specs.Ports.{IsClearing, IsUsable, SawDevice, SawIdle, ShowsSignature}
+use Rattle.port_control.proofs.Using.{usable_read}
+use Rattle.port_control.proofs.Ceasing.{counted_again}
+use Rattle.port_control.proofs.Settling.{comes_in_parts, Settles, settles}
+
+pub looks : (port : Port) (r : PortReg) (v : ℕ) (old new : Device) → Reads (Px port r) v old new → IsFollowed (IsControl IsClearing port) AnyUse old new
+looks port r v old new call = followed_read (IsControl IsClearing port) (Px port r) v old new refl call
+
+looks_more : (port : Port) (r : PortReg) (v : ℕ) (start d e : Device) → IsFollowed (IsControl IsClearing port) AnyUse start d → Reads (Px port r) v d e → IsFollowed (IsControl IsClearing port) AnyUse start e
+looks_more port r v start d e f call = followed_then (IsControl IsClearing port) AnyUse start d e f (looks port r v d e call)
+
+-- ---- a device is awaited
+
+-- so many readings of PxSSTS showed no device with a link
+pub record IsMissing (port : Port) (start : Device) (n : ℕ) (d : Device) : Type 0 where
+  pub followed : IsFollowed (IsControl IsClearing port) AnyUse start d
+  pub usable : IsUsable AnyUse port d
+  pub on : IsUsable AnyUse port start
+  pub det : (d.port port.0).sctl_det ≡ 0
+  pub low : n ≤ (d.port port.0).notes.link_count
+  pub high : 0 < n → (d.port port.0).notes.link_count ≤ 64
+  pub far : 0 < n → (d.port port.0).notes.last_ssts % 16 ≢ 3
+
+counted_far : (det n count : ℕ) → det ≢ 3 → n ≤ count → n < 64 → (n + 1 ≤ link_counted det count) × (link_counted det count ≤ 64)
+counted_far det n count far low small =
+    elim (eqb_tells det 3) [
+      | inl both ↦ absurd (far both.1)
+      | inr both ↦ rw both.0 (omega arith, omega arith)
+    ]
+
+module _ (port : Port) (start d e : Device) (v n : ℕ) (w : IsMissing port start n d) (call : Reads (Px port Ssts) v d e) where
+  off : d.hr ≡ false
+  off = w.usable.on.no_reset
+
+  pub missing_followed : IsFollowed (IsControl IsClearing port) AnyUse start e
+  missing_followed = looks_more port Ssts v start d e w.followed call
+
+  missing_count : (e.port port.0).notes.link_count ≡ link_counted (v % 16) (d.port port.0).notes.link_count
+  missing_count =
+      ap (λ (k : Notes). k.link_count) (notes_read port Ssts v d e off call)
+      ∙ ap (λ (det : ℕ). if nat_eq det 0 then link_counted (v % 16) (d.port port.0).notes.link_count else (d.port port.0).notes.link_count) w.det
+
+  missing_last : (e.port port.0).notes.last_ssts ≡ v
+  missing_last = ap (λ (k : Notes). k.last_ssts) (notes_read port Ssts v d e off call)
+
+  pub device_seen : v % 16 ≡ 3 → SawDevice (e.port port.0).notes
+  device_seen three = (ap (λ (k : ℕ). k % 16) missing_last ∙ three, missing_count ∙ ap (λ (k : ℕ). link_counted k (d.port port.0).notes.link_count) three)
+
+  pub device_up : v % 16 ≡ 3 → NoneComes port.0 start e → IsComingUp (start.port port.0) → IsUp (e.port port.0)
+  device_up three none coming =
+      let s : Settles port start d = settles port start d w.on.on w.followed.driven in
+      let t : Settles port d e = settles port d e w.usable.on (looks port Ssts v d e call).driven in
+      let parts = comes_in_parts port.0 start d e s.grows t.grows none in
+      up_is_found port v d e parts.1 call three (s.coming parts.0 coming)
+
+  pub missing_still : n < 64 → v % 16 ≢ 3 → IsMissing port start (n + 1) e
+  missing_still small far =
+      let one = counted_far (v % 16) n (d.port port.0).notes.link_count far w.low small in
+      let count = missing_count in
+      record {
+        followed = missing_followed;
+        usable = usable_read AnyUse port Ssts v d e w.usable call;
+        on = w.on;
+        det = (settles port d e w.usable.on (looks port Ssts v d e call).driven).det ∙ w.det;
+        low = rw count one.0;
+        high = λ _. rw count one.1;
+        far = λ _ three. far (sym (ap (λ (k : ℕ). k % 16) missing_last) ∙ three);
+      }
+
+-- ---- what it is doing is awaited
+
+-- so many readings of PxTFD showed BSY or DRQ
+pub record IsBusyStill (port : Port) (start : Device) (n : ℕ) (d : Device) : Type 0 where
+  pub followed : IsFollowed (IsControl IsClearing port) AnyUse start d
+  pub usable : IsUsable AnyUse port d
+  pub det : (d.port port.0).sctl_det ≡ 0
+  pub saw : SawDevice (d.port port.0).notes
+  pub low : n ≤ (d.port port.0).notes.busy_count
+  pub high : 0 < n → (d.port port.0).notes.busy_count ≤ 64
+
+module _ (port : Port) (start d e : Device) (v n : ℕ) (w : IsBusyStill port start n d) (call : Reads (Px port Tfd) v d e) where
+  quiet : d.hr ≡ false
+  quiet = w.usable.on.no_reset
+
+  pub busy_followed : IsFollowed (IsControl IsClearing port) AnyUse start e
+  busy_followed = looks_more port Tfd v start d e w.followed call
+
+  pub busy_saw : SawDevice (e.port port.0).notes
+  busy_saw = let same = notes_read port Tfd v d e quiet call in (ap (λ (k : Notes). k.last_ssts % 16) same ∙ w.saw.0, ap (λ (k : Notes). k.link_count) same ∙ w.saw.1)
+
+  pub idle_seen : bit v 7 || bit v 3 ≡ false → SawIdle (e.port port.0).notes
+  idle_seen neither = ap (λ (k : Notes). bit k.last_tfd 7 || bit k.last_tfd 3) (notes_read port Tfd v d e quiet call) ∙ neither
+
+  pub busy_still : n < 64 → bit v 7 || bit v 3 ≡ true → IsBusyStill port start (n + 1) e
+  busy_still small busy =
+      let one = counted_again (bit v 7 || bit v 3) n (d.port port.0).notes.busy_count busy w.low small in
+      let count =
+      ap (λ (k : Notes). k.busy_count) (notes_read port Tfd v d e quiet call)
+      ∙ ap (λ (det : ℕ). if nat_eq det 0 then counted (bit v 7 || bit v 3) (d.port port.0).notes.busy_count else (d.port port.0).notes.busy_count) w.det in
+      record {
+        followed = busy_followed;
+        usable = usable_read AnyUse port Tfd v d e w.usable call;
+        det = (settles port d e w.usable.on (looks port Tfd v d e call).driven).det ∙ w.det;
+        saw = busy_saw;
+        low = rw count one.0;
+        high = λ _. rw count one.1;
+      }
+
+-- ---- the signature is read
+
+module _ (port : Port) (d e : Device) (v : ℕ) (u : IsUsable AnyUse port d) (call : Reads (Px port Sig) v d e) where
+  signed : (e.port port.0).notes ≡ record (d.port port.0).notes { last_sig = v }
+  signed = notes_read port Sig v d e u.on.no_reset call
+
+  pub sig_saw : SawDevice (d.port port.0).notes → SawDevice (e.port port.0).notes
+  sig_saw saw = (ap (λ (k : Notes). k.last_ssts % 16) signed ∙ saw.0, ap (λ (k : Notes). k.link_count) signed ∙ saw.1)
+
+  pub sig_idle : SawIdle (d.port port.0).notes → SawIdle (e.port port.0).notes
+  sig_idle idle = ap (λ (k : Notes). bit k.last_tfd 7 || bit k.last_tfd 3) signed ∙ idle
+
+  pub sig_last : (e.port port.0).notes.last_sig ≡ v
+  sig_last = ap (λ (k : Notes). k.last_sig) signed
+
+  pub sig_shown : ShowsSignature (e.port port.0)
+  sig_shown = sig_last ∙ shown_after port Sig v d e u.on.no_reset call

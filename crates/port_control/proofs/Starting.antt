@@ -1,0 +1,150 @@
+-- ST is set.
+use Rattle.std.proofs.Common.{ℕ, ◌≡◌, ◌≤◌, ◌%◌, ◌||◌, Bool, true, false, length, inr, refl, sym, ◌∙◌, ap, subst, arith}
+use Rattle.std.proofs.lemmas.Bool.{cond-true, cond-false}
+use Rattle.ata_types.specs.declared.Port.{Port}
+use Rattle.hba_regs.specs.Bits.{bit}
+use Rattle.hba_regs.specs.declared.reg.PortReg.TheVariants.{Cmd}
+use Rattle.hba_regs.specs.declared.reg.Reg.TheVariants.{Px}
+use Rattle.adapter.specs.Access.{Reads, Writes, port_written, with_st, with_fre}
+use Rattle.adapter.specs.Access.Access.{Reading, Writing}
+use Rattle.adapter.specs.Device.{Bases, Notes, PortState, Device}
+use Rattle.adapter.specs.Rules.{MayWrite, Stays}
+use Rattle.adapter.proofs.Calls.{SeenAt, seen, PutAt, put}
+use Rattle.agreement.specs.Driven.{AnyUse, IsControl, IsFollowed}
+use Rattle.agreement.specs.Driver.{AllFree, LeavesUses}
+use Rattle.agreement.specs.Links.{PlugsNone}
+use Rattle.agreement.specs.Slots.{Use, Free, Uses, IsOver, IsServed}
+use Rattle.agreement.specs.Started.{IsUp, IsStarted}
+use Rattle.agreement.proofs.Allowing.{starting_may}
+use Rattle.agreement.proofs.Booting.{start_is_made}
+use Rattle.agreement.proofs.Causing.{command_written_notes}
+use Rattle.agreement.proofs.ComingUp.{access_up}
+use Rattle.agreement.proofs.Controlled.{Grows, access_grows, grows_more}
+use Rattle.agreement.proofs.Driven.{followed_as, followed_then, followed_write}
+use Rattle.agreement.proofs.Noting.{command_noted, notes_read, shown_after}
+use Rattle.agreement.proofs.Setting.{command_set, start_set}
+use Rattle.port_control.specs.Ports.{IsCommand, IsUsable, IsReceiving, IsRunning, SawIdle, SameButStart}
+use Rattle.port_control.proofs.Using.{command_spares, usable_after, usable_read, receiving_read}
+use Rattle.port_control.proofs.Ceasing.{IsButAt, bit_four, reading}
+use Rattle.port_control.proofs.Resetting.{grows_longer}
+use Rattle.port_control.proofs.Settling.{plugs_in_parts}
+
+-- a write of PxCMD leaves the addresses and PxSCTL.DET
+abbrev SameBases : PortState → PortState → Type 0
+SameBases p q = (q.bases ≡ p.bases) × (q.sctl_det ≡ p.sctl_det)
+
+command_bases : (v tape : ℕ) (p : PortState) → SameBases p (port_written Cmd v tape p)
+command_bases v tape p = by (bit v 0) p.st refl
+  where
+    by : (b s : Bool) → p.st ≡ s → SameBases p (with_fre (bit v 4) (with_st b tape p))
+    by false s is = (refl, refl)
+    by true true is = subst (λ (x : PortState). SameBases p (with_fre (bit v 4) x)) (sym (cond-true p.st p _ is)) (refl, refl)
+    by true false is = subst (λ (x : PortState). SameBases p (with_fre (bit v 4) x)) (sym (cond-false p.st p _ is)) (refl, refl)
+
+-- what PxCMD was read as, and then when ST was set
+start_notes : (old mid new : Notes) (last count at : ℕ) → mid ≡ record old { last_cmd = last; engine_count = count } → new ≡ record mid { st_set_at = at } →
+    new ≡ record old { last_cmd = new.last_cmd; engine_count = new.engine_count; st_set_at = new.st_set_at }
+start_notes old mid new last count at read set =
+    let both : new ≡ record old { last_cmd = last; engine_count = count; st_set_at = at } = set ∙ ap (λ (n : Notes). record n { st_set_at = at }) read in
+    subst (λ (n : Notes). n ≡ record old { last_cmd = n.last_cmd; engine_count = n.engine_count; st_set_at = n.st_set_at }) (sym both) refl
+
+-- a free slot has no command
+over_free : (P : Use → Type 0) (u : Use) → u ≡ Free → P u → P Free
+over_free P u is h = subst P is h
+
+abbrev NoneUsed : Port → Uses → Type 0
+NoneUsed port uses = AllFree uses port.0
+
+module _ (port : Port) (was v : ℕ) (old mid : Device) (u : IsUsable (NoneUsed port) port old) (read : Reads (Px port Cmd) was old mid) (receives : IsReceiving port.0 (old.port port.0))
+    (linked : (old.port port.0).notes.last_ssts % 16 ≡ 3) (idle : SawIdle (old.port port.0).notes) (one : bit v 0 ≡ true) (others : IsButAt 0 was v) where
+  here : IsUsable (NoneUsed port) port mid
+  here = usable_read (NoneUsed port) port Cmd was old mid u read
+
+  still : IsReceiving port.0 (mid.port port.0)
+  still = receiving_read port Cmd was old mid u.on.no_reset read receives
+
+  fre : bit v 4 ≡ true
+  fre = bit_four was v others ∙ (shown_after port Cmd was old mid u.on.no_reset read).1 ∙ still.fre
+
+  same : (mid.port port.0).notes ≡ record (old.port port.0).notes { last_cmd = was; engine_count = (mid.port port.0).notes.engine_count }
+  same = let n = notes_read port Cmd was old mid u.on.no_reset read in
+      subst (λ (k : Notes). k ≡ record (old.port port.0).notes { last_cmd = was; engine_count = k.engine_count }) (sym n) refl
+
+  pub start_may : Stays (MayWrite (Px port Cmd) v) mid
+  start_may = starting_may port was v mid here.on here.there (command_noted port was old mid read)
+      (record {
+        fallen = still.stopped.halted.cr;
+        receives = still.fre;
+        programmed = record {
+          clb = ap (λ (b : Bases). b.clb_set) still.bases;
+          clbu = ap (λ (b : Bases). b.clbu_set) still.bases;
+          fb = ap (λ (b : Bases). b.fb_set) still.bases;
+          fbu = ap (λ (b : Bases). b.fbu_set) still.bases;
+        };
+        link = ap (λ (n : Notes). n.last_ssts % 16) same ∙ linked;
+        not_busy = ap (λ (n : Notes). bit n.last_tfd 7 || bit n.last_tfd 3) same ∙ idle;
+      })
+      (record { start = one; receive = fre; others = λ k small st fre. others k small st })
+
+  start_leaves : (uses : Uses) → NoneUsed port uses → LeavesUses uses (Px port Cmd) v mid
+  start_leaves uses free = record { start = λ on. inr free; receive = λ on. (here.there.0, ap (λ (b : Bases). b.fb) still.bases) }
+
+  module _ (new : Device) (write : Writes (Px port Cmd) v mid new) where
+    pub start_followed : IsFollowed (IsControl IsCommand port) (NoneUsed port) old new
+    start_followed = followed_then (IsControl IsCommand port) (NoneUsed port) old mid new
+        (followed_as (IsControl IsCommand port) (IsControl IsCommand port) AnyUse (NoneUsed port) old mid (λ access is. is) (λ uses is. tt) (reading port was old mid read))
+        (followed_write (IsControl IsCommand port) (NoneUsed port) (Px port Cmd) v mid new (refl, refl) start_may start_leaves write)
+
+    pub start_usable : IsUsable (NoneUsed port) port new
+    start_usable = usable_after IsCommand (NoneUsed port) port old new command_spares u start_followed
+
+    started : ((new.port port.0).cr ≡ true) × ((new.port port.0).notes.st_set_at ≡ length new.tape)
+    started = start_set port v mid new still.stopped.halted.st one write
+
+    w : PutAt port.0 Cmd v mid new
+    w = put port Cmd v mid new write here.on.no_reset
+
+    pub start_runs : IsRunning port.0 (new.port port.0)
+    start_runs =
+        let a = start_usable.agreed in
+        let over : (slot : ℕ) → IsOver (new.port port.0) slot =
+        λ slot. over_free (IsServed a.2.machine new.memory new.tape (new.port port.0) port.0 slot) (a.0 port.0 slot) (a.1 slot) (a.2.knows.agrees.slot port.0 slot) in
+        let set = command_set port v mid new write in
+        record {
+          st = set.0 ∙ one;
+          cr = started.0;
+          fre = set.1 ∙ fre;
+          bases = ap (λ (p : PortState). p.bases) w.here ∙ (command_bases v _ (w.mid.port port.0)).0 ∙ (w.keeps.port port.0).bases ∙ still.bases;
+          ci = λ slot. (over slot).issued;
+          sact = λ slot. a.2.unarmed port.0 slot (a.1 slot);
+          taken = λ slot. (over slot).free;
+        }
+
+    pub start_same : SameButStart (old.port port.0) (new.port port.0)
+    start_same =
+        let s : SeenAt port.0 Cmd was old mid = seen port Cmd was old mid read u.on.no_reset in (
+          ap (λ (p : PortState). p.sctl_det) w.here ∙ (command_bases v _ (w.mid.port port.0)).1 ∙ (w.keeps.on.controls port.0).sctl_det ∙ (s.keeps.on.controls port.0).sctl_det,
+          start_notes (old.port port.0).notes (mid.port port.0).notes (new.port port.0).notes _ _ _ same (command_written_notes port v mid new write),
+        )
+
+    pub start_set_at : (new.port port.0).notes.st_set_at ≤ length new.tape
+    start_set_at = let at = started.1 in omega (arith, at)
+
+    early : Grows old mid
+    early = access_grows (Reading (Px port Cmd) was) old mid read
+
+    late : Grows mid new
+    late = access_grows (Writing (Px port Cmd) v) mid new write
+
+    pub start_marked : (old.port port.0).notes.sctl_written_at ≤ length old.tape → (new.port port.0).notes.sctl_written_at ≤ length new.tape
+    start_marked low =
+        let at = ap (λ (n : Notes). n.sctl_written_at) start_same.1 in
+        let longer = grows_longer old new (grows_more old mid new early late) in
+        omega (arith, low, at, longer)
+
+    pub start_well : IsUp (old.port port.0) → PlugsNone port.0 old new → IsStarted (new.port port.0)
+    start_well up none =
+        let parts = plugs_in_parts port.0 old mid new early late none in
+        start_is_made port v mid new here.on.no_reset still.stopped.halted.st still.stopped.halted.cr one write
+        (access_up port (Reading (Px port Cmd) was) old mid u.on.no_reset receives.stopped.halted.cr (λ n (e : Reading (Px port Cmd) was ≡ Writing (Px port Cmd) n). absurd (cc)) tt parts.0 read up)
+        parts.1

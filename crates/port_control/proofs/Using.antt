@@ -1,0 +1,177 @@
+-- What an access of a port needs, and what goes on over accesses.
+use Rattle.std.proofs.Common.{ℕ, ◌≡◌, ◌⊎◌, ◌&&◌, Bool, false, inl, inr, refl, sym, ◌∙◌, ap, subst}
+use Rattle.ata_types.specs.declared.Port.{Port}
+use Rattle.hba_regs.specs.Bits.{bit}
+use Rattle.hba_regs.specs.declared.reg.PortReg.{PortReg}
+use Rattle.hba_regs.specs.declared.reg.PortReg.TheVariants.{Clb, Clbu, Fb, Fbu, Is, Cmd, Sctl, Serr, Sact}
+use Rattle.hba_regs.specs.declared.reg.Reg.TheVariants.{Px}
+use Rattle.adapter.specs.Access.{Reads, Writes, port_written, with_st, with_fre}
+use Rattle.adapter.specs.Device.{Notes, PortState, Device}
+use Rattle.adapter.specs.Kept.{KeepsPort, KeepsControls}
+use Rattle.adapter.specs.Rules.{HasPort, MayWrite, Stays}
+use Rattle.adapter.proofs.Absurd.{true-false}
+use Rattle.adapter.proofs.Calls.{SeenAt, seen, PutAt, put}
+use Rattle.agreement.specs.Driven.{IsAgreed, IsControl, IsFollowed}
+use Rattle.agreement.specs.Links.{SameAdapter}
+use Rattle.agreement.specs.Slots.{Use, Free, Own, Serves, Uses, IsServed, Stage, OwnWaits, OwnTaken, OwnOver}
+use Rattle.agreement.proofs.Causing.{written_notes}
+use Rattle.agreement.proofs.Controlled.{control_wider, stays_on, same_adapter, agreeing_goes_on}
+use Rattle.agreement.proofs.Driven.{followed_as, followed_read}
+use Rattle.agreement.proofs.Halting.{halted_on, halted_writes}
+use Rattle.agreement.proofs.Noting.{notes_read}
+use Rattle.agreement.proofs.Unarmed.{unarmed_writes}
+use Rattle.port_control.specs.Ports.{IsCommand, IsPlacing, IsClearing, IsResetting, IsUsable, IsStopped, IsReceiving, SameButCommand, SameBeside}
+
+-- ---- no kind has PxSACT
+
+pub command_spares : IsCommand Sact → ⊥
+command_spares e = absurd (let k : Sact ≡ Cmd = e in cc)
+
+pub placing_spares : IsPlacing Sact → ⊥
+placing_spares (inl e) = absurd (let k : Sact ≡ Cmd = e in cc)
+placing_spares (inr (inl e)) = absurd (let k : Sact ≡ Clb = e in cc)
+placing_spares (inr (inr (inl e))) = absurd (let k : Sact ≡ Clbu = e in cc)
+placing_spares (inr (inr (inr (inl e)))) = absurd (let k : Sact ≡ Fb = e in cc)
+placing_spares (inr (inr (inr (inr e)))) = absurd (let k : Sact ≡ Fbu = e in cc)
+
+pub clearing_spares : IsClearing Sact → ⊥
+clearing_spares (inl e) = absurd (let k : Sact ≡ Serr = e in cc)
+clearing_spares (inr e) = absurd (let k : Sact ≡ Is = e in cc)
+
+pub resetting_spares : IsResetting Sact → ⊥
+resetting_spares (inl e) = absurd (let k : Sact ≡ Sctl = e in cc)
+resetting_spares (inr c) = clearing_spares c
+
+-- ---- the port may be used on
+
+pub there_after : {old new : Device} {port : ℕ} → SameAdapter old new → HasPort old port → HasPort new port
+there_after {old} {new} {port} s h = (h.0, ap (λ (pi : ℕ). bit pi port) s.pi ∙ h.1)
+
+pub usable_after : (Written : PortReg → Type 0) (Fits : Uses → Type 0) (port : Port) (old new : Device) → (Written Sact → ⊥) → IsUsable Fits port old →
+    IsFollowed (IsControl Written port) Fits old new → IsUsable Fits port new
+usable_after Written Fits port old new spares u f = record {
+  on = stays_on Written port old new f.driven u.on;
+  there = there_after (same_adapter Written port old new f.driven) u.there;
+  agreed = (u.agreed.0, u.agreed.1, agreeing_goes_on Written Fits port u.agreed.0 old new spares u.agreed.1 f u.agreed.2);
+}
+
+-- where more registers may be written
+pub followed_wider : (Written More : PortReg → Type 0) (Fits : Uses → Type 0) (port : Port) (old new : Device) → ((r : PortReg) → Written r → More r) →
+    IsFollowed (IsControl Written port) Fits old new → IsFollowed (IsControl More port) Fits old new
+followed_wider Written More Fits port old new wider f =
+    followed_as (IsControl Written port) (IsControl More port) Fits Fits old new (control_wider Written port More wider) (λ uses is. is) f
+
+-- over a reading, of any kind
+pub usable_read : (Fits : Uses → Type 0) (port : Port) (r : PortReg) (v : ℕ) (old new : Device) → IsUsable Fits port old → Reads (Px port r) v old new → IsUsable Fits port new
+usable_read Fits port r v old new u call =
+    let f = followed_read (IsControl IsCommand port) (Px port r) v old new refl call in
+    usable_after IsCommand Fits port old new command_spares u (record { driven = f.driven; adds = λ uses parked is. f.adds uses parked tt })
+
+-- ---- bits of CI and SACT, where ST is 0
+
+module _ (uses : Uses) (d : Device) (port : ℕ) (a : IsAgreed uses d) (st : (d.port port).st ≡ false) (slot : ℕ) where
+  abbrev Cleared : Type 0
+  Cleared = ((d.port port).ci slot ≡ false) × ((d.port port).sact slot ≡ false)
+
+  masked : (b c : Bool) → b ≡ (d.port port).st && c → b ≡ false
+  masked b c is = is ∙ ap (λ (x : Bool). x && c) st
+
+  cleared_by : (u : Use) → uses port slot ≡ u → IsServed a.machine d.memory d.tape (d.port port) port slot u → Cleared
+  cleared_by Free is h = (h.issued, a.unarmed port slot is)
+  cleared_by (Own o) is h = (of h.stage, h.unqueued)
+    where
+      of : OwnWaits (d.port port) slot ⊎ (OwnTaken d.memory d.tape (d.port port) port slot h.command ⊎ OwnOver d.memory d.tape (d.port port) port slot h.command) → (d.port port).ci slot ≡ false
+      of (inl w) = true-false w.started st
+      of (inr (inl t)) = t.issued ∙ st
+      of (inr (inr x)) = x.over.issued
+  cleared_by (Serves id) is h = of h.stage
+    where
+      of : Stage d.memory (d.port port) port slot h.pending h.command h.places → Cleared
+      of (inl w) = true-false w.started st
+      of (inr (inl t)) = (masked _ _ t.issued, masked _ _ t.sact)
+      of (inr (inr (inl x))) = (x.issued, x.sact)
+      of (inr (inr (inr x))) = (x.issued, x.sact)
+
+  pub cleared_bits : Cleared
+  cleared_bits = cleared_by (uses port slot) refl (a.knows.agrees.slot port slot)
+
+-- ---- notes of PxCMD
+
+pub beside_none : (p : PortState) → SameBeside p p
+beside_none p = (refl, refl)
+
+pub beside_then : (a b c : PortState) → SameBeside a b → SameBeside b c → SameBeside a c
+beside_then a b c x y =
+    (y.0 ∙ x.0, subst (λ (n : Notes). c.notes ≡ record n { last_cmd = c.notes.last_cmd; engine_count = c.notes.engine_count }) x.1 y.1)
+
+-- PxCMD is read
+pub beside_read : (port : Port) (v : ℕ) (old new : Device) → old.hr ≡ false → Reads (Px port Cmd) v old new → SameBeside (old.port port.0) (new.port port.0)
+beside_read port v old new off call =
+    let s : SeenAt port.0 Cmd v old new = seen port Cmd v old new call off in
+    ((s.keeps.on.controls port.0).sctl_det, subst (SameButCommand (old.port port.0).notes) (sym (notes_read port Cmd v old new off call)) refl)
+
+-- a write with ST 0 leaves PxSCTL.DET and the addresses
+pub command_off : (v tape : ℕ) (p : PortState) → bit v 0 ≡ false → ((port_written Cmd v tape p).sctl_det ≡ p.sctl_det) × ((port_written Cmd v tape p).bases ≡ p.bases)
+command_off v tape p off = (ap (λ (b : Bool). (with_fre (bit v 4) (with_st b tape p)).sctl_det) off, ap (λ (b : Bool). (with_fre (bit v 4) (with_st b tape p)).bases) off)
+
+module _ (port : Port) (v : ℕ) (old new : Device) (off : old.hr ≡ false) (zero : bit v 0 ≡ false) (call : Writes (Px port Cmd) v old new) where
+  pub beside_command : SameBeside (old.port port.0) (new.port port.0)
+  beside_command =
+      let w : PutAt port.0 Cmd v old new = put port Cmd v old new call off in
+      let same = written_notes port Cmd v old new (λ (e : Cmd ≡ Sctl). absurd (cc)) (λ (e : Cmd ≡ Is). absurd (cc)) (λ _. zero) call in (
+        ap (λ (p : PortState). p.sctl_det) w.here ∙ (command_off v _ (w.mid.port port.0) zero).0 ∙ (w.keeps.on.controls port.0).sctl_det,
+        subst (SameButCommand (old.port port.0).notes) (sym same) refl,
+      )
+
+  pub bases_command : (new.port port.0).bases ≡ (old.port port.0).bases
+  bases_command =
+      let w : PutAt port.0 Cmd v old new = put port Cmd v old new call off in
+      ap (λ (p : PortState). p.bases) w.here ∙ (command_off v _ (w.mid.port port.0) zero).1 ∙ (w.keeps.port port.0).bases
+
+-- ---- a stopped port stays stopped
+
+pub stopped_on : {p q : PortState} → KeepsPort p q → IsStopped p → IsStopped q
+stopped_on k h = record { halted = halted_on k h.halted; sact = λ slot. k.sact slot (h.sact slot) }
+
+pub receiving_on : {port : ℕ} {p q : PortState} → KeepsPort p q → KeepsControls p q → IsReceiving port p → IsReceiving port q
+receiving_on k c h = record { stopped = stopped_on k h.stopped; fre = c.fre ∙ h.fre; bases = k.bases ∙ h.bases }
+
+pub stopped_read : (port : Port) (r : PortReg) (v : ℕ) (old new : Device) → old.hr ≡ false → Reads (Px port r) v old new → IsStopped (old.port port.0) → IsStopped (new.port port.0)
+stopped_read port r v old new off call h = stopped_on ((seen port r v old new call off).keeps.port port.0) h
+
+pub receiving_read : (port : Port) (r : PortReg) (v : ℕ) (old new : Device) → old.hr ≡ false → Reads (Px port r) v old new → IsReceiving port.0 (old.port port.0) → IsReceiving port.0 (new.port port.0)
+receiving_read port r v old new off call h = let s = seen port r v old new call off in receiving_on (s.keeps.port port.0) (s.keeps.on.controls port.0) h
+
+pub stopped_command : (port : Port) (v : ℕ) (old new : Device) → Stays (MayWrite (Px port Cmd) v) old → bit v 0 ≡ false → Writes (Px port Cmd) v old new →
+    IsStopped (old.port port.0) → IsStopped (new.port port.0)
+stopped_command port v old new may zero call h = record {
+  halted = halted_writes port (Px port Cmd) v old new may (λ _. zero) call h.halted;
+  sact = λ slot. unarmed_writes (λ q s. Free) port (Px port Cmd) v old new (λ (e : Px port Cmd ≡ Px port Sact). absurd (cc)) call (λ s is. h.sact s) slot refl;
+}
+
+-- PxSCTL, PxSERR or PxIS is written
+module _ (port : ℕ) (v tape : ℕ) (p : PortState) (h : IsReceiving port p) where
+  same_receiving : (q : PortState) → q.st ≡ p.st → q.cr ≡ p.cr → q.ci ≡ p.ci → q.taken ≡ p.taken → q.sact ≡ p.sact → q.fre ≡ p.fre → q.bases ≡ p.bases → IsReceiving port q
+  same_receiving q st cr ci taken sact fre bases = record {
+    stopped = record {
+      halted = record {
+        st = st ∙ h.stopped.halted.st;
+        cr = cr ∙ h.stopped.halted.cr;
+        ci = λ s. ap (λ f. f s) ci ∙ h.stopped.halted.ci s;
+        taken = λ s. ap (λ f. f s) taken ∙ h.stopped.halted.taken s;
+      };
+      sact = λ s. ap (λ f. f s) sact ∙ h.stopped.sact s;
+    };
+    fre = fre ∙ h.fre;
+    bases = bases ∙ h.bases;
+  }
+
+  written_receiving : (r : PortReg) → IsResetting r → IsReceiving port (port_written r v tape p)
+  written_receiving r (inl e) = subst (λ (z : PortReg). IsReceiving port (port_written z v tape p)) (sym e) (same_receiving _ refl refl refl refl refl refl refl)
+  written_receiving r (inr (inl e)) = subst (λ (z : PortReg). IsReceiving port (port_written z v tape p)) (sym e) (same_receiving _ refl refl refl refl refl refl refl)
+  written_receiving r (inr (inr e)) = subst (λ (z : PortReg). IsReceiving port (port_written z v tape p)) (sym e) (same_receiving _ refl refl refl refl refl refl refl)
+
+pub receiving_write : (port : Port) (r : PortReg) (v : ℕ) (old new : Device) → old.hr ≡ false → IsResetting r → Writes (Px port r) v old new → IsReceiving port.0 (old.port port.0) → IsReceiving port.0 (new.port port.0)
+receiving_write port r v old new off kind call h =
+    let w : PutAt port.0 r v old new = put port r v old new call off in
+    subst (IsReceiving port.0) (sym w.here) (written_receiving port.0 v _ (w.mid.port port.0) (receiving_on (w.keeps.port port.0) (w.keeps.on.controls port.0) h) r kind)

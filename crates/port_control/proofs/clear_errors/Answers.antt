@@ -1,0 +1,20 @@
+use Rattle.port_control.proofs.Clearing.{serr_may, is_may, clearing, clears, cleared_saw, cleared_calm, cleared_clear}
+use Rattle.port_control.proofs.clear_errors.Goals as goal
+
+pub write-requires : goal.write-requires
+write-requires g c = serr_may c.args.port 0xffffffff _ c.requires.usable
+
+pub write-requires-2 : goal.write-requires-2
+write-requires-2 g c = is_may c.args.port 0xffffffff _ (clearing c.args.port _ _ (g.A.Adapter.device c.args.adapter.now) c.requires.usable c.requires.receives c.write.ensures)
+
+pub returns-clause-followed : goal.returns-clause-followed
+returns-clause-followed g c = clears _ _ _ _ c.requires.usable c.requires.receives c.write.ensures c.write-2.ensures
+
+pub returns-clause-saw : goal.returns-clause-saw
+returns-clause-saw g c = cleared_saw _ _ _ _ c.requires.usable c.requires.receives c.write.ensures c.write-2.ensures
+
+pub returns-clause-calm : goal.returns-clause-calm
+returns-clause-calm g c = cleared_calm _ _ _ _ c.requires.usable c.requires.receives c.write.ensures c.write-2.ensures
+
+pub returns-clause-clear : goal.returns-clause-clear
+returns-clause-clear g c = cleared_clear _ _ _ _ c.requires.usable c.requires.receives c.write.ensures c.write-2.ensures

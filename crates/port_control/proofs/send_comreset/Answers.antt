@@ -1,0 +1,21 @@
+use Rattle.std.proofs.Common.{inr, refl}
+use Rattle.port_control.proofs.Resetting.{sctl_may, ending_may, reset_followed, reset_receives, was_reset, reset_coming}
+use Rattle.port_control.proofs.send_comreset.Goals as goal
+
+pub write-requires : goal.write-requires
+write-requires g c = sctl_may c.args.port 1 _ c.requires.usable c.requires.receives (inr refl)
+
+pub write-requires-2 : goal.write-requires-2
+write-requires-2 g c = ending_may _ _ _ c.requires.usable c.requires.receives c.write.ensures
+
+pub returns-clause-followed : goal.returns-clause-followed
+returns-clause-followed g c = reset_followed _ _ _ c.requires.usable c.requires.receives c.write.ensures _ c.write-2.ensures
+
+pub returns-clause-receives : goal.returns-clause-receives
+returns-clause-receives g c = reset_receives _ _ _ c.requires.usable c.requires.receives c.write.ensures _ c.write-2.ensures
+
+pub returns-clause-reset : goal.returns-clause-reset
+returns-clause-reset g c = was_reset _ _ _ c.requires.usable c.requires.receives c.write.ensures _ c.write-2.ensures
+
+pub returns-clause-coming : goal.returns-clause-coming
+returns-clause-coming g c = reset_coming _ _ _ c.requires.usable c.requires.receives c.write.ensures _ c.write-2.ensures

@@ -1,0 +1,26 @@
+use Rattle.port_control.proofs.Starting.{start_may, start_followed, start_usable, start_runs, start_same, start_set_at, start_marked, start_well}
+use Rattle.port_control.proofs.start.Goals as goal
+
+pub write-requires : goal.write-requires
+write-requires g c = start_may c.args.receiving.port _ _ _ _ (record { on = c.requires.on; there = c.requires.there; agreed = c.requires.agreed }) c.read.ensures c.requires.receives c.requires.linked c.requires.idle c.with_start.ensures.set c.with_start.ensures.others
+
+pub returns-clause-followed : goal.returns-clause-followed
+returns-clause-followed g c = start_followed c.args.receiving.port _ _ _ _ (record { on = c.requires.on; there = c.requires.there; agreed = c.requires.agreed }) c.read.ensures c.requires.receives c.requires.linked c.requires.idle c.with_start.ensures.set c.with_start.ensures.others _ c.write.ensures
+
+pub returns-clause-on : goal.returns-clause-on
+returns-clause-on g c = (start_usable c.args.receiving.port _ _ _ _ (record { on = c.requires.on; there = c.requires.there; agreed = c.requires.agreed }) c.read.ensures c.requires.receives c.requires.linked c.requires.idle c.with_start.ensures.set c.with_start.ensures.others _ c.write.ensures).on
+
+pub returns-clause-runs : goal.returns-clause-runs
+returns-clause-runs g c = start_runs c.args.receiving.port _ _ _ _ (record { on = c.requires.on; there = c.requires.there; agreed = c.requires.agreed }) c.read.ensures c.requires.receives c.requires.linked c.requires.idle c.with_start.ensures.set c.with_start.ensures.others _ c.write.ensures
+
+pub returns-clause-same : goal.returns-clause-same
+returns-clause-same g c = start_same c.args.receiving.port _ _ _ _ (record { on = c.requires.on; there = c.requires.there; agreed = c.requires.agreed }) c.read.ensures c.requires.receives c.requires.linked c.requires.idle c.with_start.ensures.set c.with_start.ensures.others _ c.write.ensures
+
+pub returns-clause-set : goal.returns-clause-set
+returns-clause-set g c = start_set_at c.args.receiving.port _ _ _ _ (record { on = c.requires.on; there = c.requires.there; agreed = c.requires.agreed }) c.read.ensures c.requires.receives c.requires.linked c.requires.idle c.with_start.ensures.set c.with_start.ensures.others _ c.write.ensures
+
+pub returns-clause-marked : goal.returns-clause-marked
+returns-clause-marked g c = start_marked c.args.receiving.port _ _ _ _ (record { on = c.requires.on; there = c.requires.there; agreed = c.requires.agreed }) c.read.ensures c.requires.receives c.requires.linked c.requires.idle c.with_start.ensures.set c.with_start.ensures.others _ c.write.ensures
+
+pub returns-clause-well : goal.returns-clause-well
+returns-clause-well g c = start_well c.args.receiving.port _ _ _ _ (record { on = c.requires.on; there = c.requires.there; agreed = c.requires.agreed }) c.read.ensures c.requires.receives c.requires.linked c.requires.idle c.with_start.ensures.set c.with_start.ensures.others _ c.write.ensures

@@ -1,0 +1,43 @@
+use Rattle.std.proofs.Common.{sym, ◌∙◌, arith}
+use Rattle.agreement.specs.Driven.{AnyUse}
+use Rattle.port_control.proofs.Using.{command_spares, usable_after}
+use Rattle.port_control.proofs.Ceasing.{empty_may, empty_begins, empties, emptied, empties_still}
+use Rattle.port_control.specs.Ports.{IsCommand}
+use Rattle.port_control.proofs.stop_receiving.Goals as goal
+
+pub write-requires : goal.write-requires
+write-requires g c = empty_may _ _ _ _ _ c.requires.usable c.read.ensures c.requires.stopped c.without_receive.ensures.cleared c.without_receive.ensures.others
+
+pub loop-reading-init : goal.loop-reading-init
+loop-reading-init g c = let b = empty_begins _ _ _ _ _ c.requires.usable c.read.ensures c.requires.stopped c.without_receive.ensures.cleared c.without_receive.ensures.others _ c.write.ensures in
+    record {
+      followed = b.0;
+      usable = usable_after IsCommand AnyUse c.args.port _ _ command_spares c.requires.usable b.0;
+      stopped = b.1;
+      fre = b.2;
+      bases = b.3;
+      same = b.4;
+      low = omega arith;
+      high = λ h. absurd (omega (arith, h));
+    }
+
+pub returns-then-not-receive_running-clause-followed : goal.returns-then-not-receive_running-clause-followed
+returns-then-not-receive_running-clause-followed g c = (empties _ _ _ _ _ _ c.loop-reading.invariant c.read-in-loop-reading.ensures).followed
+
+pub returns-then-not-receive_running-clause-stopped : goal.returns-then-not-receive_running-clause-stopped
+returns-then-not-receive_running-clause-stopped g c = (empties _ _ _ _ _ _ c.loop-reading.invariant c.read-in-loop-reading.ensures).stopped
+
+pub returns-then-not-receive_running-clause-fre : goal.returns-then-not-receive_running-clause-fre
+returns-then-not-receive_running-clause-fre g c = (empties _ _ _ _ _ _ c.loop-reading.invariant c.read-in-loop-reading.ensures).fre
+
+pub returns-then-not-receive_running-clause-bases : goal.returns-then-not-receive_running-clause-bases
+returns-then-not-receive_running-clause-bases g c = (empties _ _ _ _ _ _ c.loop-reading.invariant c.read-in-loop-reading.ensures).bases
+
+pub returns-then-not-receive_running-clause-same : goal.returns-then-not-receive_running-clause-same
+returns-then-not-receive_running-clause-same g c = (empties _ _ _ _ _ _ c.loop-reading.invariant c.read-in-loop-reading.ensures).same
+
+pub returns-then-not-receive_running-clause-fallen : goal.returns-then-not-receive_running-clause-fallen
+returns-then-not-receive_running-clause-fallen g c = λ _. emptied _ _ _ _ _ _ c.loop-reading.invariant c.read-in-loop-reading.ensures (sym c.receive_running.ensures ∙ c.if-not-receive_running.true)
+
+pub loop-reading-preserved : goal.loop-reading-preserved
+loop-reading-preserved g c = empties_still _ _ _ _ _ _ c.loop-reading.invariant c.read-in-loop-reading.ensures (omega arith) (sym c.receive_running.ensures ∙ c.if-not-receive_running.false)

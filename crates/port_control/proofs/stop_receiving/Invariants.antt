@@ -1,0 +1,5 @@
+use Rattle.port_control.proofs.Ceasing.{IsEmptying}
+use Rattle.port_control.proofs.stop_receiving.Given as goal
+
+abbrev pub invariant-loop-reading : goal.invariant-loop-reading
+invariant-loop-reading g l = IsEmptying l.fn.port (g.A.Adapter.device l.fn.adapter) l._reading (g.A.Adapter.device l.adapter)

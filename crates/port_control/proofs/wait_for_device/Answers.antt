@@ -1,0 +1,29 @@
+use Rattle.std.proofs.Common.{arith}
+use Rattle.agreement.specs.Driven.{AnyUse, IsControl}
+use Rattle.agreement.proofs.Driven.{followed_none}
+use Rattle.port_control.proofs.Looking.{missing_followed, device_seen, device_up, missing_still}
+use Rattle.port_control.specs.Ports.{IsClearing}
+use Rattle.port_control.proofs.wait_for_device.Goals as goal
+
+pub loop-reading-init : goal.loop-reading-init
+loop-reading-init g c = record {
+  followed = followed_none (IsControl IsClearing c.args.port) AnyUse _;
+  usable = c.requires.usable;
+  on = c.requires.usable;
+  det = c.requires.det;
+  low = omega arith;
+  high = λ h. absurd (omega (arith, h));
+  far = λ h. absurd (omega (arith, h));
+}
+
+pub returns-then-detection-eq-DEVICE_WITH_LINK-clause-followed : goal.returns-then-detection-eq-DEVICE_WITH_LINK-clause-followed
+returns-then-detection-eq-DEVICE_WITH_LINK-clause-followed g c = missing_followed _ _ _ _ _ _ c.loop-reading.invariant c.read.ensures
+
+pub returns-then-detection-eq-DEVICE_WITH_LINK-clause-saw : goal.returns-then-detection-eq-DEVICE_WITH_LINK-clause-saw
+returns-then-detection-eq-DEVICE_WITH_LINK-clause-saw g c = λ _. device_seen _ _ _ _ _ _ c.loop-reading.invariant c.read.ensures (omega arith)
+
+pub returns-then-detection-eq-DEVICE_WITH_LINK-clause-up : goal.returns-then-detection-eq-DEVICE_WITH_LINK-clause-up
+returns-then-detection-eq-DEVICE_WITH_LINK-clause-up g c = λ _. device_up _ _ _ _ _ _ c.loop-reading.invariant c.read.ensures (omega arith)
+
+pub loop-reading-preserved : goal.loop-reading-preserved
+loop-reading-preserved g c = missing_still _ _ _ _ _ _ c.loop-reading.invariant c.read.ensures (omega arith) (λ three. absurd (omega arith))

@@ -1,0 +1,5 @@
+use Rattle.port_control.proofs.Looking.{IsMissing}
+use Rattle.port_control.proofs.wait_for_device.Given as goal
+
+abbrev pub invariant-loop-reading : goal.invariant-loop-reading
+invariant-loop-reading g l = IsMissing l.fn.port (g.A.Adapter.device l.fn.adapter) l._reading (g.A.Adapter.device l.adapter)
