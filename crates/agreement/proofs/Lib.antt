@@ -76,3 +76,4 @@ mod Failing
 pub mod Driven
 pub mod Controlled
 pub mod Causing
+pub mod Unmoving

@@ -12,7 +12,7 @@ use Rattle.block_machine.specs.Histories.{IsReached, AddsSteps}
 use Rattle.block_machine.specs.State.{Machine}
 use Rattle.agreement.specs.Agrees.{AreUnarmed}
 use Rattle.agreement.specs.Driver.{Known, Knows, ByDevice}
-use Rattle.agreement.specs.Slots.{Uses}
+use Rattle.agreement.specs.Slots.{Uses, IsOver}
 
 -- what the driver knows: the use of each slot, the requests that it took from their slots, and the device
 abbrev pub known : Uses → (ℕ → List RequestId) → Device → Known
@@ -74,6 +74,10 @@ pub record IsFollowedTo (May : Access → Type 0) (Fits : Uses → Type 0) (next
       → AddsSteps Knows (known uses parked old) (known (next uses) parked new) (ByDevice old new)
 
 -- ---- what they leave
+
+-- no slot of the port has a command, neither issued nor taken
+abbrev pub HasNoCommand : PortState → Type 0
+HasNoCommand p = (slot : ℕ) → IsOver p slot
 
 -- A port that the driver doesn't touch: what the device's steps leave of it, and all that readings noted of it.
 pub record LeavesPort (old new : PortState) : Type 0 where

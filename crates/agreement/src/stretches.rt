@@ -1,20 +1,21 @@
 // Laws of stretches of accesses, for the crates above: the clause is the theorem. Nothing calls these functions.
-ghost use Rattle.std.specs.Prelude.{ℕ, false, ◌≡◌, ◌≢◌, ◌++◌, List, Contains};
+ghost use Rattle.std.specs.Prelude.{ℕ, false, ◌≡◌, ◌≢◌, ◌++◌, List, Contains, All};
 ghost use Rattle.ata_types.specs.declared.Port.{Port};
 ghost use Rattle.hba_regs.specs.Bits.{bit};
 ghost use Rattle.hba_regs.specs.declared.reg.PortReg.{PortReg};
-ghost use Rattle.hba_regs.specs.declared.reg.PortReg.TheVariants.{Cmd, Is, Sctl, Sact};
+ghost use Rattle.hba_regs.specs.declared.reg.PortReg.TheVariants.{Cmd, Is, Sctl, Sact, Ci};
 ghost use Rattle.hba_regs.specs.declared.reg.Reg.TheVariants.{Px};
 ghost use Rattle.adapter.specs.Access.{Access, Does, Reads, Writes};
 ghost use Rattle.adapter.specs.Device.{PortState, Device};
 ghost use Rattle.adapter.specs.Idle.{IsIdle, TellsDisks};
 ghost use Rattle.adapter.specs.Rules.{IsOn, MayWrite, Stays};
 ghost use Rattle.adapter.specs.Steps.{Steps};
+ghost use Rattle.adapter.specs.declared.command.Operation.{Operation};
 ghost use Rattle.adapter.specs.declared.tape.Entry.{Entry};
-ghost use Rattle.agreement.specs.Driven.{AnyRegister, AnyUse, IsUse, IsAgreed, IsDrivenBy, IsControl, IsFollowed, LeavesPort};
+ghost use Rattle.agreement.specs.Driven.{AnyRegister, AnyUse, IsUse, IsAgreed, IsDrivenBy, IsControl, IsFollowed, LeavesPort, HasNoCommand};
 ghost use Rattle.agreement.specs.Driver.{LeavesUses};
 ghost use Rattle.agreement.specs.Links.{SameAdapter};
-ghost use Rattle.agreement.specs.Slots.{Uses, Free};
+ghost use Rattle.agreement.specs.Slots.{Uses, Free, IsMove};
 
 /// Stretches of accesses of one port, which write some of its registers: none, one access, and one stretch after
 /// another. So it is with stretches that are followed: any reading is, and so is a write that is permitted and leaves the
@@ -82,4 +83,17 @@ pub fn causes_stay_clear()
         → (old.port port).is place ≡ false → (new.port port).is place ≡ false }
     ensures access { (port : Port) (place : ℕ) (access : Access) (old new : Device) → (old.port port.0).cr ≡ false
         → Does access old new → (old.port port.0).is place ≡ false → (new.port port.0).is place ≡ false }
+{}
+
+/// A port none of whose slots has a command moves nothing: whatever the device does, over each access, and over accesses of the
+/// port's registers that write no PxCI, after which none has one still.
+pub fn unused_slots_are_silent()
+    ensures steps { (port : ℕ) (o : Operation) (old new : Device) → HasNoCommand (old.port port) → Steps old new
+        → (gained : List Entry) × (new.tape ≡ old.tape ++ gained) × All (λ e. IsMove port o e → ⊥) gained }
+    ensures access { (port : ℕ) (o : Operation) (access : Access) (old new : Device) → HasNoCommand (old.port port)
+        → Does access old new → (gained : List Entry) × (new.tape ≡ old.tape ++ gained) × All (λ e. IsMove port o e → ⊥) gained }
+    ensures controls { (port : Port) (o : Operation) (old new : Device) → IsDrivenBy (IsControl (λ r. r ≢ Ci) port) old new
+        → HasNoCommand (old.port port.0)
+        → ((gained : List Entry) × (new.tape ≡ old.tape ++ gained) × All (λ e. IsMove port.0 o e → ⊥) gained)
+        × HasNoCommand (new.port port.0) }
 {}

@@ -44,7 +44,7 @@ use Rattle.agreement.proofs.Lasting.{access_on, access_same}
 use Rattle.agreement.proofs.Pages.{page_is_issued, access_waits, page_is_awaited, awaited_is_loaded}
 use Rattle.agreement.proofs.Permitting.{own_is_permitted, page_is_free}
 use Rattle.agreement.proofs.Putting.{put_same, put_cases}
-use Rattle.agreement.proofs.Unarmed.{unarmed_reads, unarmed_writes}
+use Rattle.agreement.proofs.Unarmed.{unarmed_stays, unarmed_reads, unarmed_writes}
 use Rattle.agreement.proofs.Witness.{bit_one_other}
 use Rattle.command_table.specs.Places.{places_of}
 use Rattle.command_table.specs.Written.{IsTableFor, IsTableStore, IsUnused}
@@ -445,3 +445,22 @@ module _ (port : Port) (o : Operation) (since : ℕ) (uses : Uses) (old : Device
         let x = awaited_is_loaded uses a.machine port.0 o since bytes old new a.reached a.knows.agrees w.awaits clear.over call size in
         let y = sooner new.memory new.tape port.0 o since early le x.0 bytes x.1 in
         record { brought = y.0; same = y.1; clear = load_clear }
+
+    pub load_agrees : IsAgreed uses new
+    load_agrees =
+        let a = w.agreed in
+        agreed_after uses uses old new a (load_followed.adds uses a.parked tt) (λ q. unarmed_stays uses old new q call.steps (a.unarmed q))
+
+-- once the slot is given up, some machine agrees with the slots used as they were
+pub agrees_released : (uses : Uses) (port : ℕ) (o : Operation) (d : Device) → IsUnused port 0 uses → IsClear (d.port port) 0 → IsAgreed (used uses port 0 (Own o)) d → IsAgreed uses d
+agrees_released uses port o d free clear a = record {
+  machine = a.machine;
+  parked = a.parked;
+  reached = a.reached;
+  knows = released uses a.parked port o a.machine d free clear.over a.knows;
+  unarmed = λ q slot is. ⊎_elim
+      (λ (here : (q ≡ port) × (slot ≡ 0)). let P : ℕ → ℕ → Type 0 = λ p k. (d.port p).sact k ≡ false in
+      subst (λ (p : ℕ). P p slot) (sym here.0) (subst (λ (k : ℕ). P port k) (sym here.1) clear.sact))
+      (λ (there : (q ≡ port → slot ≡ 0 → ⊥) × (used uses port 0 (Own o) q slot ≡ uses q slot)). a.unarmed q slot (there.1 ∙ is))
+      (put_cases uses port 0 (Own o) q slot);
+}

@@ -9,10 +9,10 @@ use Rattle.adapter.specs.Device.{Notes, Device}
 use Rattle.adapter.specs.Kept.{KeepsControls}
 use Rattle.adapter.specs.declared.command.Operation.{Operation}
 use Rattle.adapter.specs.declared.command.Operation.TheVariants.{Identify, ReadLog}
-use Rattle.agreement.specs.Driven.{IsFollowed, IsFollowedTo}
+use Rattle.agreement.specs.Driven.{IsAgreed, IsFollowed, IsFollowedTo}
 use Rattle.agreement.specs.Facts.{IsClear}
 use Rattle.agreement.specs.Places.{list_of, scratch_of}
-use Rattle.agreement.specs.Slots.{Own, put, Brought}
+use Rattle.agreement.specs.Slots.{Own, Uses, put, Brought}
 use Rattle.command_table.specs.Written.{IsTableStore, IsUnused}
 use Rattle.disk_page.specs.declared.Page.{Page}
 use Rattle.disk_page.specs.declared.Page.TheVariants.{Identity, Errors}
@@ -66,3 +66,8 @@ Reads port o (Some bytes) old new = Brings port.0 o (length old.tape) bytes new
     × IsFollowed (IsAsking port) (IsUnused port.0 0) old new
 Reads port o None old new = ((new.port port.0).notes.command_count ≡ 64)
     × IsFollowedTo (IsAsking port) (IsUnused port.0 0) (λ uses. put uses port.0 0 (Own o)) old new
+
+-- Some machine agrees with the slots used as they were; or with the command in slot 0.
+abbrev pub AgreesAfter : Port → Operation → Option (List ℕ) → Uses → Device → Type 0
+AgreesAfter port o (Some bytes) uses new = IsAgreed uses new
+AgreesAfter port o None uses new = IsAgreed (put uses port.0 0 (Own o)) new

@@ -9,7 +9,7 @@ ghost use Rattle.agreement.specs.Driven.{AnyUse, AgreesWith, IsAgreed, IsFollowe
 ghost use Rattle.agreement.specs.Facts.{IsClear};
 ghost use Rattle.agreement.specs.Slots.{Own, Uses, put};
 ghost use Rattle.command_table.specs.Written.{IsUnused};
-ghost use Rattle.disk_page.specs.Asking.{operation_of, MayAsk, IsAsking, LeavesRunning, Reads};
+ghost use Rattle.disk_page.specs.Asking.{operation_of, MayAsk, IsAsking, LeavesRunning, Reads, AgreesAfter};
 ghost use Rattle.disk_page.specs.Waiting.{IsWaiting};
 
 use adapter::{Adapter, Command};
@@ -122,6 +122,8 @@ pub fn read_page<A: Adapter>(adapter: &mut A, port: Port, page: Page) -> Option<
     requires may { MayAsk port.0 (A.device adapter.old) }
     ensures on { IsOn (A.device adapter.new) }
     ensures leaves { LeavesRunning port.0 (A.device adapter.old) (A.device adapter.new) }
+    ensures agrees { (uses : Uses) → IsUnused port.0 0 uses → IsAgreed uses (A.device adapter.old)
+        → AgreesAfter port (operation_of page) result uses (A.device adapter.new) }
     ensures reads { Reads port (operation_of page) result (A.device adapter.old) (A.device adapter.new) }
 {
     ask(adapter, port, page);

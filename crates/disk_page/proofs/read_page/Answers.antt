@@ -5,7 +5,7 @@ use Rattle.agreement.specs.Places.{scratch_of}
 use Rattle.agreement.specs.Slots.{Own, put}
 use Rattle.command_table.specs.Written.{IsUnused}
 use Rattle.disk_page.specs.Asking.{operation_of, IsAsking}
-use Rattle.disk_page.proofs.Asking.{followed_to_more, followed_back, page_free, load_on, load_clear, load_followed, load_brings}
+use Rattle.disk_page.proofs.Asking.{followed_to_more, followed_back, page_free, load_on, load_clear, load_agrees, agrees_released, load_followed, load_brings}
 use Rattle.disk_page.proofs.Leaving.{asking_leaves_running}
 use Rattle.disk_page.proofs.read_page.Goals as goal
 
@@ -60,3 +60,18 @@ returns-then-not-wait-clause-leaves g c = asking_leaves_running c.args.port _ _ 
 
 pub returns-clause-leaves : goal.returns-clause-leaves
 returns-clause-leaves g c = asking_leaves_running c.args.port _ _ c.requires.on (returns-clause-reads g c).1.driven
+
+pub returns-then-not-wait-clause-agrees : goal.returns-then-not-wait-clause-agrees
+returns-then-not-wait-clause-agrees g c = λ uses free agreed. (c.wait.ensures.waiting _ _ _ (c.ask.ensures.waiting uses free agreed)).agreed
+
+pub returns-clause-agrees : goal.returns-clause-agrees
+returns-clause-agrees g c = λ uses free agreed.
+    let r = c.requires in
+    let at : 4096 * c.from-scratch.result ≡ scratch_of c.args.port.0 = let x = c.from-scratch.ensures in let y = c.from.ensures in omega (arith, x, y) in
+    let asked = c.ask.ensures.waiting uses free agreed in
+    let waiting = c.wait.ensures.waiting _ _ _ asked in
+    let clear = c.wait.ensures.over c.if-not-wait.false _ _ _ asked in
+    let L : ℕ → Type 0 = λ place. Loads place c.load.new.out (g.A.Adapter.device c.wait.new.adapter) (g.A.Adapter.device c.load.new.self) in
+    let load : Loads (scratch_of c.args.port.0) c.load.new.out (g.A.Adapter.device c.wait.new.adapter) (g.A.Adapter.device c.load.new.self) = subst L at c.load.ensures in
+    let size = c.load.auto.out in
+    agrees_released uses c.args.port.0 (operation_of c.args.page) _ free (load_clear c.args.port _ _ _ _ r.there.0 waiting clear _ _ load size) (load_agrees c.args.port _ _ _ _ r.there.0 waiting clear _ _ load size)

@@ -1,0 +1,13 @@
+use Rattle.hba_regs.specs.declared.reg.PortReg.TheVariants.{Ci}
+use Rattle.std.proofs.Common.{◌≢◌, refl}
+use Rattle.agreement.proofs.Unmoving.{steps_unmoving, access_unmoving, controls_unmoving}
+use Rattle.agreement.proofs.stretches.unused_slots_are_silent.Goals as goal
+
+pub returns-clause-steps : goal.returns-clause-steps
+returns-clause-steps c = steps_unmoving
+
+pub returns-clause-access : goal.returns-clause-access
+returns-clause-access c = access_unmoving
+
+pub returns-clause-controls : goal.returns-clause-controls
+returns-clause-controls c = controls_unmoving (λ r. r ≢ Ci) (λ same. same refl)

@@ -1,0 +1,147 @@
+-- What a port's state rests on after a boot: what was read last, and the page that its disk sent last (this project's own; IDENTIFY
+-- DEVICE: ACS-3, 7.12).
+use Rattle.std.specs.Prelude.{ℕ, true, false, ◌≡◌, ◌≢◌, ◌≤◌, ◌<◌, ◌⊎◌, ◌++◌, List, ◌∷◌, Option, None, Some, All, length, Contains}
+use Rattle.ata_types.specs.declared.Port.{Port}
+use Rattle.ata_types.specs.declared.PortState.{PortState}
+use Rattle.ata_types.specs.declared.PortState.TheVariants.{Absent, Ready, Foreign, Unfit, Dead}
+use Rattle.hba_regs.specs.declared.reg.PortReg.{PortReg}
+use Rattle.hba_regs.specs.declared.reg.PortReg.TheVariants.{Ie}
+use Rattle.adapter.specs.Access.{Access}
+use Rattle.adapter.specs.Device.{Device}
+use Rattle.adapter.specs.declared.command.Operation.TheVariants.{Identify}
+use Rattle.adapter.specs.declared.tape.Entry.{Entry}
+use Rattle.adapter.specs.declared.tape.Entry.TheVariants as entry
+use Rattle.adapter.specs.declared.tape.Move as tape_move
+use Rattle.adapter.specs.Rules.{IsOn, HasPort}
+use Rattle.agreement.specs.Driven.{AgreesWith, IsControl, IsFollowed, IsFollowedTo}
+use Rattle.agreement.specs.Driver.{AllFree}
+use Rattle.agreement.specs.Links.{PlugsNone}
+use Rattle.agreement.specs.Slots.{Own, put, IsMove, Uses}
+use Rattle.agreement.specs.Started.{IsStarted}
+use Rattle.disk_page.specs.Asking.{IsAsking}
+use Rattle.identify.specs.Page.{Describes, HasNoFault, IsFirstFault, IsSerial, number_of}
+use Rattle.identify.specs.declared.DiskInfo.{DiskInfo}
+use Rattle.identify.specs.declared.Unfit.{Unfit as Fault}
+use Rattle.port_control.specs.Ports.{IsStopped, IsRunning, IsPlacing, IsResetting, SawDevice, Shows}
+use Rattle.port_control.specs.declared.PortFault.{PortFault}
+use Rattle.port_control.specs.declared.PortFault.TheVariants.{NoDevice, Busy, EngineStuck, NotAta}
+
+-- ---- the page
+
+-- These are the bytes of the port's last page of IDENTIFY DEVICE, which came after PxSCTL was last written.
+pub record HasPage (port : ℕ) (d : Device) (page : List ℕ) : Type 0 where
+  pub before : List Entry
+  pub move : tape_move.Move
+  pub later : List Entry
+  pub here : d.tape ≡ before ++ entry.Move move ∷ later
+  pub since : (d.port port).notes.sctl_written_at ≤ length before
+  pub is_move : IsMove port Identify (entry.Move move)
+  pub last : All (λ e. IsMove port Identify e → ⊥) later
+  pub bytes : page ≡ move.bytes
+
+-- the serial number is the one that is named, if one is: 20 characters, filled with spaces
+abbrev pub Fits : Option (List ℕ) → List ℕ → Type 0
+Fits None serial = Unit {0}
+Fits (Some wanted) serial = serial ≡ wanted
+
+-- the page has no fault, tells this, and its serial number is the one that is named
+pub record IsFit (wanted : Option (List ℕ)) (page : List ℕ) (info : DiskInfo) : Type 0 where
+  pub no_fault : HasNoFault page
+  pub tells : Describes page info
+  pub fits : Fits wanted info.serial
+
+-- the page has no fault, and another serial number than the one that is named
+pub record IsOther (wanted : Option (List ℕ)) (page : List ℕ) : Type 0 where
+  pub no_fault : HasNoFault page
+  pub serial : List ℕ
+  pub tells : IsSerial page serial
+  pub other : Fits wanted serial → ⊥
+
+-- the page's first fault has this number
+abbrev pub HasFault : ℕ → List ℕ → Type 0
+HasFault n page = (fault : Fault) × IsFirstFault page fault × (n ≡ number_of fault)
+
+-- what a page makes of a port that isn't ready
+abbrev pub Judges : Option (List ℕ) → PortState → List ℕ → Type 0
+Judges wanted (Unfit n) page = HasFault n page
+Judges wanted Foreign page = IsOther wanted page
+Judges wanted _ page = ⊥
+
+-- ---- the states
+
+-- Why a disk is unfit: 7, it stayed busy; 8, its signature is no ATA disk's; 9, the command for its page didn't end; else its page's
+-- first fault.
+abbrev pub IsUnfit : ℕ → ℕ → Device → Type 0
+IsUnfit n port d = ((n ≡ 7) × Shows Busy (d.port port).notes)
+    ⊎ ((n ≡ 8) × ((signature : ℕ) × Shows (NotAta signature) (d.port port).notes))
+    ⊎ ((n ≡ 9) × SawDevice (d.port port).notes × ((d.port port).notes.command_count ≡ 64))
+    ⊎ ((page : List ℕ) × HasPage port d page × HasFault n page)
+
+-- the state that tells of a fault
+abbrev pub TellsFault : PortState → PortFault → Type 0
+TellsFault state NoDevice = state ≡ Absent
+TellsFault state Busy = state ≡ Unfit 7
+TellsFault state EngineStuck = state ≡ Dead
+TellsFault state (NotAta signature) = state ≡ Unfit 8
+
+-- What stands behind each state of a port that a boot leaves, but Ready: Absent, Unfit and Foreign ports are stopped, with no command
+-- issued, active or taken; a Dead one was to stop.
+abbrev pub EndsAs : Option (List ℕ) → PortState → ℕ → Device → Type 0
+EndsAs wanted Absent port d = IsStopped (d.port port) × Shows NoDevice (d.port port).notes
+EndsAs wanted (Unfit n) port d = IsStopped (d.port port) × IsUnfit n port d
+EndsAs wanted Foreign port d = IsStopped (d.port port) × ((page : List ℕ) × HasPage port d page × IsOther wanted page)
+EndsAs wanted Dead port d = ((d.port port).st ≡ false) × Shows EngineStuck (d.port port).notes
+EndsAs wanted Ready port d = ⊥
+
+-- Behind Ready stands a port that runs, with no command in a slot and no COMRESET being sent, whose last page is of a disk that fits.
+pub record IsReady (wanted : Option (List ℕ)) (port : ℕ) (d : Device) (info : DiskInfo) : Type 0 where
+  pub runs : IsRunning port (d.port port)
+  pub det : (d.port port).sctl_det ≡ 0
+  pub saw : SawDevice (d.port port).notes
+  pub page : List ℕ
+  pub has : HasPage port d page
+  pub fit : IsFit wanted page info
+
+-- ---- accesses
+
+-- the registers that are written before IDENTIFY DEVICE is asked for, and after it: all but PxCI and PxSACT
+abbrev pub IsBooting : PortReg → Type 0
+IsBooting r = IsPlacing r ⊎ (IsResetting r ⊎ (r ≡ Ie))
+
+-- it is one of these writes, a reading of a register of the port, or one of asking for the page
+abbrev pub IsOfBoot : Port → Access → Type 0
+IsOfBoot port access = IsControl IsBooting port access ⊎ IsAsking port access
+
+-- What a boot is to each machine that agrees with a driver that uses no slot of the port: steps of the device alone, after which none is
+-- used. Where the port is dead, its slot 0 may have IDENTIFY DEVICE instead.
+abbrev pub IsBoot : Port → Device → Device → Type 0
+IsBoot port old new = IsFollowed (IsOfBoot port) (λ uses. AllFree uses port.0) old new
+
+abbrev pub IsBootTo : Port → PortState → Device → Device → Type 0
+IsBootTo port Dead old new = IsBoot port old new
+    ⊎ IsFollowedTo (IsOfBoot port) (λ uses. AllFree uses port.0) (λ uses. put uses port.0 0 (Own Identify)) old new
+IsBootTo port _ old new = IsBoot port old new
+
+-- ---- the parts of a boot
+
+-- The adapter is on and has the port and memory for the driver's frames; some machine agrees with a driver that uses no slot of the port.
+pub record IsBootable (port : Port) (d : Device) : Type 0 where
+  pub on : IsOn d
+  pub there : HasPort d port.0
+  pub room : 163840 ≤ d.size
+  pub agreed : AgreesWith (λ uses. AllFree uses port.0) d
+
+-- The port was brought up: it runs, with no command in a slot; COMRESET was sent since, and a device seen.
+pub record IsBroughtUp (port : Port) (old new : Device) : Type 0 where
+  pub bootable : IsBootable port new
+  pub runs : IsRunning port.0 (new.port port.0)
+  pub det : (new.port port.0).sctl_det ≡ 0
+  pub saw : SawDevice (new.port port.0).notes
+  pub known : (new.port port.0).notes.st_set_at ≤ length new.tape
+  pub since : length old.tape ≤ (new.port port.0).notes.sctl_written_at
+  pub marked : (new.port port.0).notes.sctl_written_at ≤ length new.tape
+
+-- The port was stopped, and is in this state; or its engine is stuck, and it is dead.
+abbrev pub IsHaltedAs : PortState → PortState → ℕ → Device → Type 0
+IsHaltedAs wanted state port d = ((state ≡ wanted) × IsStopped (d.port port))
+    ⊎ ((state ≡ Dead) × ((d.port port).st ≡ false) × Shows EngineStuck (d.port port).notes)

@@ -1,0 +1,151 @@
+//! The boot of a port: what its disk is, by COMRESET and IDENTIFY DEVICE (AHCI 1.3.1, 10.1.2 and 10.4.2; ACS-3, 7.12; which states
+//! there are, and the steps' order, are this project's own).
+#![tactic(auto)]
+
+ghost use Rattle.std.specs.Prelude.{ℕ, List, Option, ◌≡◌, ◌≢◌, ◌≤◌, ◌↔◌, IsTrue, length, IfOk, IfErr, OnOk, OnErr};
+ghost use Rattle.adapter.specs.Device.{Device};
+ghost use Rattle.adapter.specs.Rules.{IsOn, HasPort};
+ghost use Rattle.agreement.specs.Driven.{AgreesWith, AnyUse, IsControl, IsFollowed};
+ghost use Rattle.agreement.specs.Driver.{AllFree};
+ghost use Rattle.port_control.specs.Ports.{IsCommand, IsStopped, HasStopped};
+ghost use Rattle.port_boot.specs.States.{TellsFault, Fits, IsFit, Judges, EndsAs, IsReady, IsBooting, IsBoot, IsBootTo, IsBootable, IsBroughtUp, IsHaltedAs};
+
+use adapter::Adapter;
+use ata_types::{Port, PortState};
+use disk_page::{Page, read_page};
+use hba_regs::{PortReg, Reg};
+use identify::{DiskInfo, parse};
+use port_control::{PortFault, Running, Stopped, comreset, receive, start, stop};
+
+/// A device that stayed busy after COMRESET.
+const BUSY: u8 = 7;
+
+/// A device whose signature is no ATA disk's.
+const NOT_ATA: u8 = 8;
+
+/// A disk whose IDENTIFY DEVICE didn't end.
+const NOT_IDENTIFIED: u8 = 9;
+
+/// The state of a port that a fault left.
+fn state_of(fault: PortFault) -> PortState
+    ensures { TellsFault result fault }
+{
+    match fault {
+        PortFault::NoDevice => PortState::Absent,
+        PortFault::Busy => PortState::Unfit(BUSY),
+        PortFault::EngineStuck => PortState::Dead,
+        PortFault::NotAta(_) => PortState::Unfit(NOT_ATA),
+    }
+}
+
+/// Whether a disk's serial number is the one that is named, if one is.
+fn fits(wanted: &Option<[u8; 20]>, serial: &[u8; 20]) -> bool
+    ensures { IsTrue result ↔ Fits wanted.now serial.now }
+{
+    match wanted {
+        None => true,
+        Some(wanted) => wanted == serial,
+    }
+}
+
+/// What a page says of its disk; or what it makes of the port.
+fn judge(page: &[u8; 512], wanted: &Option<[u8; 20]>) -> Result<DiskInfo, PortState>
+    ensures fit { IfOk result (IsFit wanted.now page.now) }
+    ensures judged { IfErr result (λ state. Judges wanted.now state page.now) }
+{
+    let info = match parse(page) {
+        Ok(info) => info,
+        Err(fault) => return Err(PortState::Unfit(fault.number())),
+    };
+    if fits(wanted, &info.serial) {
+        Ok(info)
+    } else {
+        Err(PortState::Foreign)
+    }
+}
+
+/// Has a stopped port receive FISes, sends COMRESET, and starts the port where it finds an ATA disk that is idle; else the state
+/// that tells what was found.
+fn bring_up<A: Adapter>(adapter: &mut A, stopped: Stopped) -> Result<Running, PortState>
+    requires bootable { IsBootable stopped.port (A.device adapter.old) }
+    requires stopped { IsStopped ((A.device adapter.old).port stopped.port.0) }
+    ensures on { IsOn (A.device adapter.new) }
+    ensures followed { IsFollowed (IsControl IsBooting stopped.port) (λ uses. AllFree uses stopped.port.0) (A.device adapter.old) (A.device adapter.new) }
+    ensures names { IfOk result (λ running. running.port ≡ stopped.port) }
+    ensures up { OnOk result (IsBroughtUp stopped.port (A.device adapter.old) (A.device adapter.new)) }
+    ensures ended { IfErr result (λ state. (wanted : Option (List ℕ)) → EndsAs wanted state stopped.port.0 (A.device adapter.new)) }
+    ensures since { IfErr result (λ state. state ≢ PortState.Dead → length (A.device adapter.old).tape ≤ ((A.device adapter.new).port stopped.port.0).notes.sctl_written_at) }
+{
+    let Ok(receiving) = receive(adapter, stopped) else {
+        return Err(PortState::Dead);
+    };
+    let receiving = match comreset(adapter, receiving) {
+        Ok(receiving) => receiving,
+        Err((fault, _receiving)) => return Err(state_of(fault)),
+    };
+    match start(adapter, receiving) {
+        Ok(running) => Ok(running),
+        Err(_) => unreachable!(),
+    }
+}
+
+/// Stops the port, which then is in this state; or `Dead`, where its engine is stuck.
+fn halt<A: Adapter>(adapter: &mut A, port: Port, state: PortState) -> PortState
+    requires on { IsOn (A.device adapter.old) }
+    requires there { HasPort (A.device adapter.old) port.0 }
+    requires agreed { AgreesWith AnyUse (A.device adapter.old) }
+    ensures on { IsOn (A.device adapter.new) }
+    ensures followed { IsFollowed (IsControl IsCommand port) AnyUse (A.device adapter.old) (A.device adapter.new) }
+    ensures has { HasStopped ((A.device adapter.old).port port.0) ((A.device adapter.new).port port.0) }
+    ensures halted { IsHaltedAs state result port.0 (A.device adapter.new) }
+{
+    match stop(adapter, port) {
+        Ok(_) => state,
+        Err(_) => PortState::Dead,
+    }
+}
+
+/// The causes of which a port tells by interrupts: TFES, HBFS, HBDS, IFS, PRCS, PCS, SDBS, PSS and DHRS (AHCI 1.3.1, 3.3.6).
+const CAUSES: u32 = 0x7840_004b;
+
+/// Asks the disk of a port that was brought up for its page, and judges it. A port that isn't ready is stopped.
+fn identify_disk<A: Adapter>(adapter: &mut A, port: Port, wanted: &Option<[u8; 20]>) -> Result<DiskInfo, PortState>
+    requires up { (start : Device) × IsBroughtUp port start (A.device adapter.old) }
+    ensures on { IsOn (A.device adapter.new) }
+    ensures ready { IfOk result (IsReady wanted.now port.0 (A.device adapter.new)) }
+    ensures ended { IfErr result (λ state. EndsAs wanted.now state port.0 (A.device adapter.new)) }
+    ensures written { ((A.device adapter.new).port port.0).notes.sctl_written_at ≡ ((A.device adapter.old).port port.0).notes.sctl_written_at }
+    ensures boots { OnOk result (IsBoot port (A.device adapter.old) (A.device adapter.new)) }
+    ensures boots_to { IfErr result (λ state. IsBootTo port state (A.device adapter.old) (A.device adapter.new)) }
+{
+    let Some(page) = read_page(adapter, port, Page::Identity) else {
+        return Err(halt(adapter, port, PortState::Unfit(NOT_IDENTIFIED)));
+    };
+    match judge(&page, wanted) {
+        Ok(info) => {
+            adapter.write(Reg::Px(port, PortReg::Ie), CAUSES);
+            Ok(info)
+        }
+        Err(state) => Err(halt(adapter, port, state)),
+    }
+}
+
+/// Boots a stopped port, no slot of which is used: has it receive FISes, sends COMRESET, looks for an ATA disk that is idle, asks it
+/// for its page by IDENTIFY DEVICE, and, where the page is of a disk with the serial number that is named (20 characters, filled with
+/// spaces; any will do where none is), has the port tell of interrupts' causes, and leaves it running.
+///
+/// Else the state: `Absent`, `Unfit(1)` to `Unfit(9)` or `Foreign`, and the port is stopped; or `Dead` where an engine is stuck.
+pub fn boot<A: Adapter>(adapter: &mut A, stopped: Stopped, wanted: &Option<[u8; 20]>) -> Result<DiskInfo, PortState>
+    requires bootable { IsBootable stopped.port (A.device adapter.old) }
+    requires stopped { IsStopped ((A.device adapter.old).port stopped.port.0) }
+    ensures on { IsOn (A.device adapter.new) }
+    ensures ready { IfOk result (IsReady wanted.now stopped.port.0 (A.device adapter.new)) }
+    ensures ended { IfErr result (λ state. EndsAs wanted.now state stopped.port.0 (A.device adapter.new)) }
+    ensures since { OnOk result (length (A.device adapter.old).tape ≤ ((A.device adapter.new).port stopped.port.0).notes.sctl_written_at) }
+    ensures since_ended { IfErr result (λ state. state ≢ PortState.Dead → length (A.device adapter.old).tape ≤ ((A.device adapter.new).port stopped.port.0).notes.sctl_written_at) }
+    ensures boots { OnOk result (IsBoot stopped.port (A.device adapter.old) (A.device adapter.new)) }
+    ensures boots_to { IfErr result (λ state. IsBootTo stopped.port state (A.device adapter.old) (A.device adapter.new)) }
+{
+    let running = bring_up(adapter, stopped)?;
+    identify_disk(adapter, running.port(), wanted)
+}
