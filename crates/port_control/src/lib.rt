@@ -2,7 +2,7 @@
 //! (AHCI 1.3.1, 10.1.2, 10.3 and 10.4.2). Each call is of one port, and leaves the others alone.
 #![tactic(auto)]
 
-ghost use Rattle.std.specs.Prelude.{ℕ, ◌≡◌, ◌≢◌, ◌+◌, ◌*◌, ◌<◌, ◌≤◌, ◌%◌, ◌||◌, true, false, length, IfOk, IfErr, OnOk, OnErr, IsOk};
+ghost use Rattle.std.specs.Prelude.{ℕ, ◌≡◌, ◌≢◌, ◌<◌, ◌≤◌, ◌%◌, ◌||◌, true, false, length, IfOk, IfErr, OnOk, OnErr, IsOk};
 ghost use Rattle.hba_regs.specs.Bits.{bit};
 ghost use Rattle.adapter.specs.Rules.{IsOn, HasPort};
 ghost use Rattle.agreement.specs.Driven.{AgreesWith, AnyUse, IsControl, IsFollowed};
@@ -10,9 +10,8 @@ ghost use Rattle.agreement.specs.Driver.{AllFree};
 ghost use Rattle.agreement.specs.Errors.{NoneComes};
 ghost use Rattle.agreement.specs.Facts.{IsAfterReset};
 ghost use Rattle.agreement.specs.Links.{PlugsNone};
-ghost use Rattle.agreement.specs.Places.{list_of, received_of};
 ghost use Rattle.agreement.specs.Started.{IsUp, IsComingUp, IsStarted};
-ghost use Rattle.port_control.specs.Ports.{IsCommand, IsPlacing, IsClearing, IsResetting, IsUsable, IsStopped, IsReceiving, IsRunning, SawDevice, SawIdle, Shows, SameButCommand, SameBeside, HasStopped, WasReset, IsClear, FindsDevice, IsFound, ShowsSignature, SameButStart, programmed};
+ghost use Rattle.port_control.specs.Ports.{IsCommand, IsPlacing, IsClearing, IsResetting, IsUsable, IsStopped, IsReceiving, IsRunning, SawDevice, SawIdle, Shows, SameBeside, HasStopped, WasReset, IsClear, FindsDevice, IsFound, ShowsSignature, SameButStart, programmed};
 
 use adapter::Adapter;
 use ata_types::Port;
@@ -396,4 +395,26 @@ pub fn start<A: Adapter>(
     let command = PortCommand(adapter.read(Reg::Px(port, PortReg::Cmd)));
     adapter.write(Reg::Px(port, PortReg::Cmd), command.with_start().0);
     Ok(Running { port })
+}
+
+#[cfg(test)]
+mod tests {
+    use super::*;
+
+    // Status bytes as disks show them: after COMRESET, with nothing to do, at work, ready to transfer, and after an error.
+    #[test]
+    fn status_bytes(rt: HostRuntime) {
+        assert!(rt; is_occupied(TaskFile(0x7f)));
+        assert!(rt; !is_occupied(TaskFile(0x50)));
+        assert!(rt; is_occupied(TaskFile(0xd0)));
+        assert!(rt; is_occupied(TaskFile(0x58)));
+        assert!(rt; !is_occupied(TaskFile(0x4041)));
+    }
+
+    #[test]
+    fn tokens_name_their_port(rt: HostRuntime) {
+        assert_eq!(rt; Stopped { port: Port(3) }.port(), Port(3));
+        assert_eq!(rt; Receiving { port: Port(2) }.port(), Port(2));
+        assert_eq!(rt; Running { port: Port(1) }.port(), Port(1));
+    }
 }
