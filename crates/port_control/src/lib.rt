@@ -174,8 +174,8 @@ fn start_receiving<A: Adapter>(adapter: &mut A, port: Port)
 }
 
 /// Has a stopped port receive FISes: clears FRE, waits until FR is 0, puts the command list at 40960 times the port's
-/// number and the received FIS area 1024 bytes after it, and sets FRE (AHCI 1.3.1, 10.1.2 and 10.3.2). The other bits of
-/// PxCMD are written as they were read.
+/// number and the received FIS area 1024 bytes after it, and sets FRE (AHCI 1.3.1, 10.1.2 and 10.3.2). The other bits
+/// of PxCMD are written as they were read.
 ///
 /// `EngineStuck` where 64 readings find FR set: FRE is 0 then, and the addresses are as they were.
 pub fn receive<A: Adapter>(
@@ -318,8 +318,8 @@ pub fn keep_receiving<A: Adapter>(_adapter: &A, stopped: Stopped) -> Receiving
 }
 
 /// Sends COMRESET to the device of a port that receives FISes, and looks for an ATA disk that is idle: waits until
-/// PxSSTS shows a device with a link, clears PxSERR and PxIS, waits until PxTFD shows neither BSY nor DRQ, and reads the
-/// signature (AHCI 1.3.1, 10.1.2 and 10.4.2).
+/// PxSSTS shows a device with a link, clears PxSERR and PxIS, waits until PxTFD shows neither BSY nor DRQ, and reads
+/// the signature (AHCI 1.3.1, 10.1.2 and 10.4.2).
 ///
 /// `NoDevice` where 64 readings show no device with a link, `Busy` where 64 find BSY or DRQ, and `NotAta` for another
 /// signature. PxSCTL.DET is 0 afterwards, and the port receives FISes still.
@@ -401,7 +401,8 @@ pub fn start<A: Adapter>(
 mod tests {
     use super::*;
 
-    // Status bytes as disks show them: after COMRESET, with nothing to do, at work, ready to transfer, and after an error.
+    // Status bytes as disks show them: after COMRESET, with nothing to do, at work, ready to transfer, and after an
+    // error.
     #[test]
     fn status_bytes(rt: HostRuntime) {
         assert!(rt; is_occupied(TaskFile(0x7f)));
