@@ -18,7 +18,8 @@ use Rattle.agreement.specs.Slots.{Uses, IsOver}
 abbrev pub known : Uses → (ℕ → List RequestId) → Device → Known
 known uses parked d = record { uses = uses; parked = parked; device = d }
 
--- Some machine that a history leads to agrees with a driver that uses the slots so; and no free slot has a bit of PxSACT.
+-- Some machine that a history leads to agrees with a driver that uses the slots so; and no free slot has a bit of
+-- PxSACT.
 pub record IsAgreed (uses : Uses) (d : Device) : Type 0 where
   pub machine : Machine
   pub parked : ℕ → List RequestId
@@ -60,8 +61,9 @@ IsControl Written port access = ⊥
 abbrev pub AnyRegister : PortReg → Type 0
 AnyRegister r = Unit {0}
 
--- Accesses of this kind led from the old device to the new. And from each machine that agrees with what the driver knows, where the
--- uses of slots fit, steps of the device alone lead to one that agrees with the same and with the new device.
+-- Accesses of this kind led from the old device to the new. And from each machine that agrees with what the driver
+-- knows, where the uses of slots fit, steps of the device alone lead to one that agrees with the same and with the new
+-- device.
 pub record IsFollowed (May : Access → Type 0) (Fits : Uses → Type 0) (old new : Device) : Type 0 where
   pub driven : IsDrivenBy May old new
   pub adds : (uses : Uses) (parked : ℕ → List RequestId) → Fits uses

@@ -18,15 +18,17 @@ ghost use Rattle.agreement.specs.Links.{SameAdapter};
 ghost use Rattle.agreement.specs.Slots.{Uses, Free, IsMove};
 
 /// Stretches of accesses of one port, which write some of its registers: none, one access, and one stretch after
-/// another. So it is with stretches that are followed: any reading is, and so is a write that is permitted and leaves the
-/// uses; and what is followed is so where more registers may be written, and with these uses alone.
+/// another. So it is with stretches that are followed: any reading is, and so is a write that is permitted and leaves
+/// the uses; and what is followed is so where more registers may be written, and with these uses alone.
 pub fn stretches_compose()
-    ensures none { (registers : List PortReg) (port : Port) (d : Device) → IsDrivenBy (IsControl (Contains registers) port) d d }
+    ensures none { (registers : List PortReg) (port : Port) (d : Device)
+        → IsDrivenBy (IsControl (Contains registers) port) d d }
     ensures one { (registers : List PortReg) (port : Port) (access : Access) (old new : Device)
         → IsControl (Contains registers) port access → Does access old new
         → IsDrivenBy (IsControl (Contains registers) port) old new }
     ensures more { (registers : List PortReg) (port : Port) (old mid new : Device)
-        → IsDrivenBy (IsControl (Contains registers) port) old mid → IsDrivenBy (IsControl (Contains registers) port) mid new
+        → IsDrivenBy (IsControl (Contains registers) port) old mid
+        → IsDrivenBy (IsControl (Contains registers) port) mid new
         → IsDrivenBy (IsControl (Contains registers) port) old new }
     ensures followed_none { (registers : List PortReg) (port : Port) (d : Device)
         → IsFollowed (IsControl (Contains registers) port) AnyUse d d }
@@ -45,39 +47,43 @@ pub fn stretches_compose()
         → Writes (Px port r) v old new → IsFollowed (IsControl (Contains registers) port) (IsUse uses) old new }
 {}
 
-/// Accesses of one port's registers leave every other port to the device, with what readings noted of it; and what is left
-/// so in two stretches is left in both. They leave the adapter what it is, and one that is on stays on. The tape only
-/// gains.
+/// Accesses of one port's registers leave every other port to the device, with what readings noted of it; and what is
+/// left so in two stretches is left in both. They leave the adapter what it is, and one that is on stays on. The tape
+/// only gains.
 pub fn other_ports_are_left()
     ensures left { (port : Port) (q : ℕ) (old new : Device) → q ≢ port.0 → IsOn old
         → IsDrivenBy (IsControl AnyRegister port) old new → LeavesPort (old.port q) (new.port q) }
     ensures none { (p : PortState) → LeavesPort p p }
     ensures more { (old mid new : PortState) → LeavesPort old mid → LeavesPort mid new → LeavesPort old new }
-    ensures adapter { (port : Port) (old new : Device) → IsDrivenBy (IsControl AnyRegister port) old new → SameAdapter old new }
-    ensures on { (port : Port) (old new : Device) → IsOn old → IsDrivenBy (IsControl AnyRegister port) old new → IsOn new }
+    ensures adapter { (port : Port) (old new : Device) → IsDrivenBy (IsControl AnyRegister port) old new
+        → SameAdapter old new }
+    ensures on { (port : Port) (old new : Device) → IsOn old → IsDrivenBy (IsControl AnyRegister port) old new
+        → IsOn new }
     ensures tape { (port : Port) (old new : Device) → IsDrivenBy (IsControl AnyRegister port) old new
         → (gained : List Entry) × (new.tape ≡ old.tape ++ gained) }
 {}
 
-/// Over accesses of one port's registers that are followed and write no PxSACT, some machine goes on agreeing with the same
-/// uses. And with an idle device, whose disks tell their sectors if the adapter is one that tells, some machine agrees
-/// where no slot is used.
+/// Over accesses of one port's registers that are followed and write no PxSACT, some machine goes on agreeing with the
+/// same uses. And with an idle device, whose disks tell their sectors if the adapter is one that tells, some machine
+/// agrees where no slot is used.
 pub fn agreeing_goes_on()
     ensures followed { (port : Port) (uses : Uses) (old new : Device)
         → IsFollowed (IsControl (λ r. r ≢ Sact) port) (IsUse uses) old new → IsAgreed uses old → IsAgreed uses new }
     ensures idle { (d : Device) → IsIdle d → TellsDisks d → IsAgreed (λ port slot. Free) d }
 {}
 
-/// A write of a register of the port but PxSCTL and PxIS leaves all that is noted of the port: but when ST was set, where
-/// PxCMD is written with ST one.
+/// A write of a register of the port but PxSCTL and PxIS leaves all that is noted of the port: but when ST was set,
+/// where PxCMD is written with ST one.
 pub fn written_notes_stay()
     ensures others { (port : Port) (r : PortReg) (v : ℕ) (old new : Device) → r ≢ Sctl → r ≢ Is
-        → (r ≡ Cmd → bit v 0 ≡ false) → Writes (Px port r) v old new → (new.port port.0).notes ≡ (old.port port.0).notes }
+        → (r ≡ Cmd → bit v 0 ≡ false) → Writes (Px port r) v old new
+        → (new.port port.0).notes ≡ (old.port port.0).notes }
     ensures start { (port : Port) (v : ℕ) (old new : Device) → Writes (Px port Cmd) v old new
         → (new.port port.0).notes ≡ record (old.port port.0).notes { st_set_at = (new.port port.0).notes.st_set_at } }
 {}
 
-/// While a port's engine stands, each bit of PxIS that is clear stays so: whatever the device does, and over each access.
+/// While a port's engine stands, each bit of PxIS that is clear stays so: whatever the device does, and over each
+/// access.
 pub fn causes_stay_clear()
     ensures steps { (port place : ℕ) (old new : Device) → (old.port port).cr ≡ false → Steps old new
         → (old.port port).is place ≡ false → (new.port port).is place ≡ false }

@@ -1,4 +1,5 @@
--- A port that is stopped, receives FISes, or runs, and what the calls of this crate leave of it (AHCI 1.3.1, 3.3 and 10).
+-- A port that is stopped, receives FISes, or runs, and what the calls of this crate leave of it (AHCI 1.3.1, 3.3 and
+-- 10).
 use Rattle.std.specs.Prelude.{ℕ, true, false, ◌≡◌, ◌≢◌, ◌<◌, ◌≤◌, ◌⊎◌, ◌%◌, ◌||◌, length, None}
 use Rattle.ata_types.specs.declared.Port.{Port}
 use Rattle.hba_regs.specs.Bits.{bit}
@@ -79,7 +80,8 @@ SawDevice n = (n.last_ssts % 16 ≡ 3) × (n.link_count ≡ 64)
 abbrev pub SawIdle : Notes → Type 0
 SawIdle n = bit n.last_tfd 7 || bit n.last_tfd 3 ≡ false
 
--- What stands behind a fault: the count of the awaited readings is 64; or the signature was another than an ATA disk's.
+-- What stands behind a fault: the count of the awaited readings is 64; or the signature was another than an ATA
+-- disk's.
 abbrev pub Shows : PortFault → Notes → Type 0
 Shows NoDevice n = (n.last_ssts % 16 ≢ 3) × (n.link_count ≡ 64)
 Shows Busy n = SawDevice n × (n.busy_count ≡ 64)
@@ -100,7 +102,11 @@ SameBeside old new = (new.sctl_det ≡ old.sctl_det) × SameButCommand old.notes
 abbrev pub SameButStart : PortState → PortState → Type 0
 SameButStart old new =
     (new.sctl_det ≡ old.sctl_det)
-    × (new.notes ≡ record old.notes { last_cmd = new.notes.last_cmd; engine_count = new.notes.engine_count; st_set_at = new.notes.st_set_at })
+    × (new.notes ≡ record old.notes {
+      last_cmd = new.notes.last_cmd;
+      engine_count = new.notes.engine_count;
+      st_set_at = new.notes.st_set_at;
+    })
 
 -- ST is 0 with no command issued or active; all else of the driver's is as it was.
 pub record HasStopped (old new : PortState) : Type 0 where
@@ -127,8 +133,8 @@ pub record WasReset (port : Port) (old new : Device) : Type 0 where
 abbrev pub IsClear : PortState → Type 0
 IsClear p = (p.serr_n ≡ false) × (p.serr_x ≡ false)
 
--- A device was seen since COMRESET: PxIS was cleared; and where no disk went or came, the link is up, with the disk's first FIS
--- received, and PxSERR is clear.
+-- A device was seen since COMRESET: PxIS was cleared; and where no disk went or came, the link is up, with the disk's
+-- first FIS received, and PxSERR is clear.
 pub record IsFound (port : ℕ) (old new : Device) : Type 0 where
   pub calm : (place : ℕ) → place < 32 → (new.port port).is place ≡ false
   pub up : PlugsNone port old new → IsUp (new.port port)

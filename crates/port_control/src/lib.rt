@@ -2,7 +2,7 @@
 //! (AHCI 1.3.1, 10.1.2, 10.3 and 10.4.2). Each call is of one port, and leaves the others alone.
 #![tactic(auto)]
 
-ghost use Rattle.std.specs.Prelude.{ℕ, ◌≡◌, ◌≢◌, ◌+◌, ◌*◌, ◌<◌, ◌≤◌, ◌%◌, ◌||◌, true, false, length, IfOk, IfErr, OnOk, OnErr, IsOk};
+ghost use Rattle.std.specs.Prelude.{ℕ, ◌≡◌, ◌≢◌, ◌<◌, ◌≤◌, ◌%◌, ◌||◌, true, false, length, IfOk, IfErr, OnOk, OnErr, IsOk};
 ghost use Rattle.hba_regs.specs.Bits.{bit};
 ghost use Rattle.adapter.specs.Rules.{IsOn, HasPort};
 ghost use Rattle.agreement.specs.Driven.{AgreesWith, AnyUse, IsControl, IsFollowed};
@@ -10,9 +10,8 @@ ghost use Rattle.agreement.specs.Driver.{AllFree};
 ghost use Rattle.agreement.specs.Errors.{NoneComes};
 ghost use Rattle.agreement.specs.Facts.{IsAfterReset};
 ghost use Rattle.agreement.specs.Links.{PlugsNone};
-ghost use Rattle.agreement.specs.Places.{list_of, received_of};
 ghost use Rattle.agreement.specs.Started.{IsUp, IsComingUp, IsStarted};
-ghost use Rattle.port_control.specs.Ports.{IsCommand, IsPlacing, IsClearing, IsResetting, IsUsable, IsStopped, IsReceiving, IsRunning, SawDevice, SawIdle, Shows, SameButCommand, SameBeside, HasStopped, WasReset, IsClear, FindsDevice, IsFound, ShowsSignature, SameButStart, programmed};
+ghost use Rattle.port_control.specs.Ports.{IsCommand, IsPlacing, IsClearing, IsResetting, IsUsable, IsStopped, IsReceiving, IsRunning, SawDevice, SawIdle, Shows, SameBeside, HasStopped, WasReset, IsClear, FindsDevice, IsFound, ShowsSignature, SameButStart, programmed};
 
 use adapter::Adapter;
 use ata_types::Port;
@@ -175,8 +174,8 @@ fn start_receiving<A: Adapter>(adapter: &mut A, port: Port)
 }
 
 /// Has a stopped port receive FISes: clears FRE, waits until FR is 0, puts the command list at 40960 times the port's
-/// number and the received FIS area 1024 bytes after it, and sets FRE (AHCI 1.3.1, 10.1.2 and 10.3.2). The other bits of
-/// PxCMD are written as they were read.
+/// number and the received FIS area 1024 bytes after it, and sets FRE (AHCI 1.3.1, 10.1.2 and 10.3.2). The other bits
+/// of PxCMD are written as they were read.
 ///
 /// `EngineStuck` where 64 readings find FR set: FRE is 0 then, and the addresses are as they were.
 pub fn receive<A: Adapter>(
@@ -319,8 +318,8 @@ pub fn keep_receiving<A: Adapter>(_adapter: &A, stopped: Stopped) -> Receiving
 }
 
 /// Sends COMRESET to the device of a port that receives FISes, and looks for an ATA disk that is idle: waits until
-/// PxSSTS shows a device with a link, clears PxSERR and PxIS, waits until PxTFD shows neither BSY nor DRQ, and reads the
-/// signature (AHCI 1.3.1, 10.1.2 and 10.4.2).
+/// PxSSTS shows a device with a link, clears PxSERR and PxIS, waits until PxTFD shows neither BSY nor DRQ, and reads
+/// the signature (AHCI 1.3.1, 10.1.2 and 10.4.2).
 ///
 /// `NoDevice` where 64 readings show no device with a link, `Busy` where 64 find BSY or DRQ, and `NotAta` for another
 /// signature. PxSCTL.DET is 0 afterwards, and the port receives FISes still.
@@ -396,4 +395,27 @@ pub fn start<A: Adapter>(
     let command = PortCommand(adapter.read(Reg::Px(port, PortReg::Cmd)));
     adapter.write(Reg::Px(port, PortReg::Cmd), command.with_start().0);
     Ok(Running { port })
+}
+
+#[cfg(test)]
+mod tests {
+    use super::*;
+
+    // Status bytes as disks show them: after COMRESET, with nothing to do, at work, ready to transfer, and after an
+    // error.
+    #[test]
+    fn status_bytes(rt: HostRuntime) {
+        assert!(rt; is_occupied(TaskFile(0x7f)));
+        assert!(rt; !is_occupied(TaskFile(0x50)));
+        assert!(rt; is_occupied(TaskFile(0xd0)));
+        assert!(rt; is_occupied(TaskFile(0x58)));
+        assert!(rt; !is_occupied(TaskFile(0x4041)));
+    }
+
+    #[test]
+    fn tokens_name_their_port(rt: HostRuntime) {
+        assert_eq!(rt; Stopped { port: Port(3) }.port(), Port(3));
+        assert_eq!(rt; Receiving { port: Port(2) }.port(), Port(2));
+        assert_eq!(rt; Running { port: Port(1) }.port(), Port(1));
+    }
 }
