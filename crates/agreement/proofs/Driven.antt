@@ -66,17 +66,19 @@ followed_then May Fits old mid new a b = record {
 pub followed_none : (May : Access → Type 0) (Fits : Uses → Type 0) (d : Device) → IsFollowed May Fits d d
 followed_none May Fits d = record { driven = by_none May d; adds = λ uses parked is. device_adds (known uses parked d) d (Steps-refl d) }
 
--- of another kind, and with uses that fit less
-pub followed_as : (May More : Access → Type 0) (Fits Less : Uses → Type 0) (old new : Device) → ((access : Access) → May access → More access) →
-    ((uses : Uses) → Less uses → Fits uses) → IsFollowed May Fits old new → IsFollowed More Less old new
-followed_as May More Fits Less old new kind fits a = record {
-  driven = record { accesses = a.driven.accesses; all = a.driven.all; only = all_as a.driven.accesses a.driven.only };
-  adds = λ uses parked is. a.adds uses parked (fits uses is);
-}
+-- of another kind
+pub driven_as : (May More : Access → Type 0) (old new : Device) → ((access : Access) → May access → More access) → IsDrivenBy May old new → IsDrivenBy More old new
+driven_as May More old new kind a = record { accesses = a.accesses; all = a.all; only = all_as a.accesses a.only }
   where
     all_as : (accesses : List Access) → All May accesses → All More accesses
     all_as [] all = All-nil More
     all_as (access ∷ rest) all = All-cons More access rest (kind access (All-head May access rest all)) (all_as rest (All-tail May access rest all))
+
+-- and with uses that fit less
+pub followed_as : (May More : Access → Type 0) (Fits Less : Uses → Type 0) (old new : Device) → ((access : Access) → May access → More access) →
+    ((uses : Uses) → Less uses → Fits uses) → IsFollowed May Fits old new → IsFollowed More Less old new
+followed_as May More Fits Less old new kind fits a =
+    record { driven = driven_as May More old new kind a.driven; adds = λ uses parked is. a.adds uses parked (fits uses is) }
 
 -- ---- one access
 

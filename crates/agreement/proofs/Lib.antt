@@ -45,7 +45,7 @@ pub mod Sparing
 pub mod Parking
 mod Paging
 mod Crossing
-mod Gaining
+pub mod Gaining
 pub mod Linking
 mod Telling
 pub mod Lasting

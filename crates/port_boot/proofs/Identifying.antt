@@ -1,12 +1,13 @@
 -- A disk is asked for its page, and the port goes on or is stopped.
 use Rattle.std.proofs.Common.{ℕ, ◌≡◌, ◌≢◌, ◌≤◌, ◌+◌, ◌%◌, ◌⊎◌, ◌++◌, inl, inr, true, false, List, [], ◌∷◌, Option, None, Some, length, refl, sym, ◌∙◌, ap, subst, ⊎_elim, arith, le_trans, append_assoc}
 use Rattle.std.specs.List.{All}
+use Rattle.std.specs.Prelude.{Result, Ok, Err, OnOk, IfErr}
 use Rattle.std.proofs.lemmas.List.Elements.{All-append}
 use Rattle.std.proofs.lemmas.Bool.{cases_eq}
 use Rattle.ata_types.specs.declared.Port.{Port}
 use Rattle.ata_types.specs.declared.PortState.{PortState}
 use Rattle.ata_types.specs.declared.PortState.TheVariants.{Absent, Ready, Foreign, Unfit, Dead}
-use Rattle.hba_regs.specs.declared.reg.PortReg.TheVariants.{Ci, Ie}
+use Rattle.hba_regs.specs.declared.reg.PortReg.TheVariants.{Ci, Cmd, Ie}
 use Rattle.hba_regs.specs.declared.reg.Reg.TheVariants.{Px}
 use Rattle.adapter.specs.Access.{Access, Writes}
 use Rattle.adapter.specs.Access.Access.{Writing}
@@ -17,19 +18,24 @@ use Rattle.adapter.specs.declared.command.Operation.TheVariants.{Identify}
 use Rattle.adapter.specs.declared.tape.Entry.{Entry}
 use Rattle.adapter.specs.declared.tape.Entry.TheVariants as entry
 use Rattle.adapter.proofs.Calls.{put, PutAt}
-use Rattle.agreement.specs.Driven.{AgreesWith, AnyUse, HasNoCommand, IsAgreed, IsControl, IsFollowed, IsFollowedTo}
+use Rattle.agreement.specs.Driven.{AgreesWith, AnyUse, HasNoCommand, IsAgreed, IsControl, IsDrivenBy, IsFollowed, IsFollowedTo}
+use Rattle.agreement.specs.Links.{SameAdapter}
 use Rattle.agreement.specs.Driver.{AllFree}
 use Rattle.agreement.specs.Slots.{Own, Uses, put as used, IsMove, IsOver}
-use Rattle.agreement.proofs.Driven.{followed_as, followed_then, followed_write}
+use Rattle.agreement.proofs.Allowing.{write_stays}
+use Rattle.agreement.proofs.Controlled.{control_wider}
+use Rattle.agreement.proofs.Driven.{along, driven_as, followed_as, followed_then, followed_write}
+use Rattle.agreement.proofs.Lasting.{access_on, access_same, same_refl, same_more}
 use Rattle.agreement.proofs.Gaining.{GainsNone}
 use Rattle.agreement.proofs.Unmoving.{access_unmoving, controls_unmoving}
 use Rattle.command_table.specs.Written.{IsUnused}
 use Rattle.disk_page.specs.Asking.{IsAsking, LeavesRunning, Brings, Reads, AgreesAfter, MayAsk}
-use Rattle.disk_page.proofs.Asking.{followed_to_more, followed_back}
+use Rattle.disk_page.proofs.Asking.{followed_to_more, followed_to_then, followed_back}
 use Rattle.identify.specs.declared.DiskInfo.{DiskInfo}
 use Rattle.port_control.specs.Ports.{IsCommand, IsStopped, IsRunning, HasStopped, SawDevice, Shows, programmed}
 use Rattle.port_control.specs.declared.PortFault.TheVariants.{EngineStuck}
 use Rattle.port_boot.specs.States.{HasPage, IsFit, Judges, IsUnfit, EndsAs, IsReady, IsBooting, IsOfBoot, IsBoot, IsBootTo, IsBootable, IsBroughtUp, IsHaltedAs}
+use Rattle.port_control.proofs.Using.{there_after}
 use Rattle.port_boot.proofs.Bringing.{starting}
 
 -- ---- the page stays the last
@@ -106,3 +112,191 @@ may_ask port start old up = record {
   det = up.det;
   known = up.known;
 }
+
+-- ---- kinds of accesses
+
+-- no access changes what the adapter is
+pub asking_adapter : (port : Port) (old new : Device) → IsDrivenBy (IsAsking port) old new → SameAdapter old new
+asking_adapter port old new driven = along SameAdapter same_refl same_more (IsAsking port) (λ access a b may does. access_same access a b does) driven.accesses old new driven.only driven.all
+
+command_quiet : IsCommand Ci → ⊥
+command_quiet e = absurd (let k : Ci ≡ Cmd = e in cc)
+
+-- PxIE may be written
+pub enabling : (port : Port) (v : ℕ) (d : Device) → IsBootable port d → Stays (MayWrite (Px port Ie) v) d
+enabling port v d b = write_stays (Px port Ie) v d (λ p e. absurd cc) (b.on, b.there, tt)
+
+asking : (port : Port) (access : Access) → IsAsking port access → IsOfBoot port access
+asking port access is = inr is
+
+controlling : (port : Port) (access : Access) → IsControl IsBooting port access → IsOfBoot port access
+controlling port access is = inl is
+
+unused : (port : Port) (uses : Uses) → AllFree uses port.0 → IsUnused port.0 0 uses
+unused port uses free = free 0
+
+-- a stop is a part of the boot
+stop_boots : (port : Port) (mid new : Device) → IsFollowed (IsControl IsCommand port) AnyUse mid new → IsFollowed (IsOfBoot port) AnyUse mid new
+stop_boots port mid new f = followed_as (IsControl IsCommand port) (IsOfBoot port) AnyUse AnyUse mid new (λ access may. inl (control_wider IsCommand port IsBooting starting access may)) (λ uses is. is) f
+
+module _ (port : Port) (start old mid : Device) (up : IsBroughtUp port start old) (on : IsOn mid) (l : LeavesRunning port.0 old mid) where
+  module _ (driven : IsDrivenBy (IsAsking port) old mid) where
+    pub asked_there : HasPort mid port.0
+    asked_there = there_after (asking_adapter port old mid driven) up.bootable.there
+
+    pub asked_room : 163840 ≤ mid.size
+    asked_room = let same = (asking_adapter port old mid driven).size in let room = up.bootable.room in omega (arith, same, room)
+
+-- a boot to any state
+pub boots_to : (port : Port) (old new : Device) (state : PortState) → IsBoot port old new → IsBootTo port state old new
+boots_to port old new Dead b = inl b
+boots_to port old new Absent b = b
+boots_to port old new Ready b = b
+boots_to port old new Foreign b = b
+boots_to port old new (Unfit n) b = b
+
+-- ---- no page came
+
+module _ (port : Port) (start old mid : Device) (up : IsBroughtUp port start old) (on : IsOn mid) (l : LeavesRunning port.0 old mid)
+    (reads : Reads port Identify None old mid) (agrees : (uses : Uses) → IsUnused port.0 0 uses → IsAgreed uses old → IsAgreed (used uses port.0 0 (Own Identify)) mid) where
+  pub unasked_there : HasPort mid port.0
+  unasked_there = asked_there port start old mid up on l reads.1.driven
+
+  pub unasked_agreed : AgreesWith AnyUse mid
+  unasked_agreed = let a = up.bootable.agreed in (used a.0 port.0 0 (Own Identify), tt, agrees a.0 (a.1 0) a.2)
+
+  module _ (new : Device) (stops : IsFollowed (IsControl IsCommand port) AnyUse mid new) (has : HasStopped (mid.port port.0) (new.port port.0)) where
+    given : IsFollowedTo (IsOfBoot port) (IsUnused port.0 0) (λ uses. used uses port.0 0 (Own Identify)) old new
+    given = followed_to_more (IsOfBoot port) (IsUnused port.0 0) (λ uses. used uses port.0 0 (Own Identify)) old mid new (as_boot reads.1) (stop_boots port mid new stops)
+      where
+        as_boot : IsFollowedTo (IsAsking port) (IsUnused port.0 0) (λ uses. used uses port.0 0 (Own Identify)) old mid → IsFollowedTo (IsOfBoot port) (IsUnused port.0 0) (λ uses. used uses port.0 0 (Own Identify)) old mid
+        as_boot f = record { driven = driven_as (IsAsking port) (IsOfBoot port) old mid (asking port) f.driven; adds = f.adds }
+
+    given_boots : IsFollowedTo (IsOfBoot port) (λ uses. AllFree uses port.0) (λ uses. used uses port.0 0 (Own Identify)) old new
+    given_boots = record { driven = given.driven; adds = λ uses parked free. given.adds uses parked (free 0) }
+
+    stopped_boots : IsOver (new.port port.0) 0 → IsBoot port old new
+    stopped_boots over =
+        let back = followed_back (IsOfBoot port) port.0 Identify old new over given in
+        record { driven = back.driven; adds = λ uses parked free. back.adds uses parked (free 0) }
+
+    pub unasked_ends : (wanted : Option (List ℕ)) (result : PortState) → IsHaltedAs (Unfit 9) result port.0 new → EndsAs wanted result port.0 new
+    unasked_ends wanted result (inl x) = let P : PortState → Type 0 = λ s. EndsAs wanted s port.0 new in
+        subst P (sym x.0) (x.1, inr (inr (inl (
+          refl,
+          (ap (λ (n : Notes). n.last_ssts % 16) has.notes ∙ (asked_saw port start old mid up l).0, ap (λ (n : Notes). n.link_count) has.notes ∙ (asked_saw port start old mid up l).1),
+          ap (λ (n : Notes). n.command_count) has.notes ∙ reads.0,
+        ))))
+    unasked_ends wanted result (inr x) = let P : PortState → Type 0 = λ s. EndsAs wanted s port.0 new in subst P (sym x.0) (x.1, x.2)
+
+    pub unasked_boots : (result : PortState) → IsHaltedAs (Unfit 9) result port.0 new → IsBootTo port result old new
+    unasked_boots result (inl x) = let P : PortState → Type 0 = λ s. IsBootTo port s old new in subst P (sym x.0) (stopped_boots (record { issued = x.1.halted.ci 0; free = x.1.halted.taken 0 }))
+    unasked_boots result (inr x) = let P : PortState → Type 0 = λ s. IsBootTo port s old new in subst P (sym x.0) (inr given_boots)
+
+-- ---- a page came
+
+module _ (port : Port) (start old mid : Device) (page : List ℕ) (up : IsBroughtUp port start old) (on : IsOn mid) (l : LeavesRunning port.0 old mid)
+    (reads : Reads port Identify (Some page) old mid) (agrees : (uses : Uses) → IsUnused port.0 0 uses → IsAgreed uses old → IsAgreed uses mid) where
+  pub identified : IsIdentified port mid page
+  identified =
+      let a = up.bootable.agreed in
+      record {
+        bootable = record {
+          on = on;
+          there = asked_there port start old mid up on l reads.1.driven;
+          room = asked_room port start old mid up on l reads.1.driven;
+          agreed = (a.0, a.1, agrees a.0 (a.1 0) a.2);
+        };
+        runs = asked_running port start old mid up l reads.0.clear.over;
+        det = l.controls.sctl_det ∙ up.det;
+        saw = asked_saw port start old mid up l;
+        has = asked_page port start old mid up l page reads.0;
+      }
+
+  asked_boots : IsBoot port old mid
+  asked_boots = followed_as (IsAsking port) (IsOfBoot port) (IsUnused port.0 0) (λ uses. AllFree uses port.0) old mid (asking port) (unused port) reads.1
+
+  -- and then PxIE is written
+  module _ (v : ℕ) (new : Device) (call : Writes (Px port Ie) v mid new) where
+    w : PutAt port.0 Ie v mid new
+    w = put port Ie v mid new call identified.bootable.on.no_reset
+
+    pub enabled_on : IsOn new
+    enabled_on = access_on (Writing (Px port Ie) v) mid new on (λ k e. absurd cc) call
+
+    pub enabled_written : (new.port port.0).notes.sctl_written_at ≡ (mid.port port.0).notes.sctl_written_at
+    enabled_written = ap (λ (p : device.PortState). p.notes.sctl_written_at) w.here ∙ ap (λ (n : Notes). n.sctl_written_at) (w.notes port.0)
+
+    pub enabled_ready : (wanted : Option (List ℕ)) (info : DiskInfo) → IsFit wanted page info → IsReady wanted port.0 new info
+    enabled_ready wanted info fit =
+        let h = identified in
+        let r = h.runs in
+        let k = w.keeps.port port.0 in
+        let c = w.keeps.on.controls port.0 in
+        let P : device.PortState → Type 0 = λ p. IsRunning port.0 p in
+        let runs : IsRunning port.0 (w.mid.port port.0) = record {
+          st = c.st ∙ r.st;
+          cr = c.runs r.st r.cr;
+          fre = c.fre ∙ r.fre;
+          bases = k.bases ∙ r.bases;
+          ci = λ slot. k.ci slot (r.ci slot);
+          sact = λ slot. k.sact slot (r.sact slot);
+          taken = λ slot. k.free slot (r.ci slot) (r.taken slot);
+        } in
+        let noted : (new.port port.0).notes ≡ (mid.port port.0).notes = ap (λ (p : device.PortState). p.notes) w.here ∙ w.notes port.0 in
+        record {
+          runs = subst P (sym w.here) runs;
+          det = ap (λ (p : device.PortState). p.sctl_det) w.here ∙ c.sctl_det ∙ h.det;
+          saw = (ap (λ (n : Notes). n.last_ssts % 16) noted ∙ h.saw.0, ap (λ (n : Notes). n.link_count) noted ∙ h.saw.1);
+          page = page;
+          has = page_on port.0 mid new page (access_unmoving port.0 Identify (Writing (Px port Ie) v) mid new (λ slot. record { issued = r.ci slot; free = r.taken slot }) call) enabled_written h.has;
+          fit = fit;
+        }
+
+    pub enabled_boots : IsBoot port old new
+    enabled_boots = followed_then (IsOfBoot port) (λ uses. AllFree uses port.0) old mid new asked_boots
+        (followed_write (IsOfBoot port) (λ uses. AllFree uses port.0) (Px port Ie) v mid new (inl (refl, inr (inr refl))) (enabling port v mid identified.bootable) (λ uses free. tt) call)
+
+  -- or the port is stopped
+  module _ (new : Device) (stops : IsFollowed (IsControl IsCommand port) AnyUse mid new) (has : HasStopped (mid.port port.0) (new.port port.0)) where
+    pub halted_boots : IsBoot port old new
+    halted_boots = followed_then (IsOfBoot port) (λ uses. AllFree uses port.0) old mid new asked_boots
+        (followed_as (IsOfBoot port) (IsOfBoot port) AnyUse (λ uses. AllFree uses port.0) mid new (λ access may. may) (λ uses free. tt) (stop_boots port mid new stops))
+
+    halted_page : HasPage port.0 new page
+    halted_page =
+        let h = identified in
+        let silent = controls_unmoving IsCommand command_quiet port Identify mid new stops.driven (λ slot. record { issued = h.runs.ci slot; free = h.runs.taken slot }) in
+        page_on port.0 mid new page silent.0 (ap (λ (n : Notes). n.sctl_written_at) has.notes) h.has
+
+    pub halted_ends : (wanted : Option (List ℕ)) (state result : PortState) → Judges wanted state page → IsHaltedAs state result port.0 new → EndsAs wanted result port.0 new
+    halted_ends wanted (Unfit n) result judged (inl x) = let P : PortState → Type 0 = λ s. EndsAs wanted s port.0 new in subst P (sym x.0) (x.1, inr (inr (inr (page, halted_page, judged))))
+    halted_ends wanted Foreign result judged (inl x) = let P : PortState → Type 0 = λ s. EndsAs wanted s port.0 new in subst P (sym x.0) (x.1, (page, halted_page, judged))
+    halted_ends wanted Absent result judged (inl x) = absurd judged
+    halted_ends wanted Ready result judged (inl x) = absurd judged
+    halted_ends wanted Dead result judged (inl x) = absurd judged
+    halted_ends wanted state result judged (inr x) = let P : PortState → Type 0 = λ s. EndsAs wanted s port.0 new in subst P (sym x.0) (x.1, x.2)
+
+-- ---- the whole boot
+
+up_boots : (port : Port) (old mid : Device) → IsFollowed (IsControl IsBooting port) (λ uses. AllFree uses port.0) old mid → IsBoot port old mid
+up_boots port old mid f = followed_as (IsControl IsBooting port) (IsOfBoot port) (λ uses. AllFree uses port.0) (λ uses. AllFree uses port.0) old mid (controlling port) (λ uses free. free) f
+
+whole : (port : Port) (old mid new : Device) → IsFollowed (IsControl IsBooting port) (λ uses. AllFree uses port.0) old mid → IsBoot port mid new → IsBoot port old new
+whole port old mid new first then = followed_then (IsOfBoot port) (λ uses. AllFree uses port.0) old mid new (up_boots port old mid first) then
+
+-- what was proved of one part is so of the whole
+pub whole_ready : (port : Port) (old mid new : Device) (result : Result DiskInfo PortState) → IsFollowed (IsControl IsBooting port) (λ uses. AllFree uses port.0) old mid → OnOk result (IsBoot port mid new) →
+    OnOk result (IsBoot port old new)
+whole_ready port old mid new (Ok info) first then = whole port old mid new first then
+whole_ready port old mid new (Err state) first then = then
+
+pub whole_ended : (port : Port) (old mid new : Device) (result : Result DiskInfo PortState) → IsFollowed (IsControl IsBooting port) (λ uses. AllFree uses port.0) old mid →
+    IfErr result (λ state. IsBootTo port state mid new) → IfErr result (λ state. IsBootTo port state old new)
+whole_ended port old mid new (Ok info) first then = then
+whole_ended port old mid new (Err Dead) first (inl then) = inl (whole port old mid new first then)
+whole_ended port old mid new (Err Dead) first (inr then) = inr (followed_to_then (IsOfBoot port) (λ uses. AllFree uses port.0) (λ uses. used uses port.0 0 (Own Identify)) old mid new (up_boots port old mid first) then)
+whole_ended port old mid new (Err Absent) first then = whole port old mid new first then
+whole_ended port old mid new (Err Ready) first then = whole port old mid new first then
+whole_ended port old mid new (Err Foreign) first then = whole port old mid new first then
+whole_ended port old mid new (Err (Unfit n)) first then = whole port old mid new first then

@@ -1,0 +1,62 @@
+use Rattle.std.proofs.Common.{ℕ, ◌≡◌, refl, sym, ◌∙◌, ap, subst}
+use Rattle.adapter.specs.Device.{Notes}
+use Rattle.port_boot.proofs.Identifying.{boots_to, identified, unasked_there, unasked_agreed, unasked_boots, unasked_ends, enabling, enabled_on, enabled_written, enabled_ready, enabled_boots, halted_boots, halted_ends}
+use Rattle.port_boot.proofs.identify_disk.Goals as goal
+
+pub halt-requires-clause-there : goal.halt-requires-clause-there
+halt-requires-clause-there g c = let e = c.in_default.ensures in unasked_there c.args.port _ _ _ c.requires.up.1 e.on e.leaves e.reads e.agrees
+
+pub halt-requires-clause-agreed : goal.halt-requires-clause-agreed
+halt-requires-clause-agreed g c = let e = c.in_default.ensures in unasked_agreed c.args.port _ _ _ c.requires.up.1 e.on e.leaves e.reads e.agrees
+
+pub returns-in_default-clause-boots_to : goal.returns-in_default-clause-boots_to
+returns-in_default-clause-boots_to g c =
+    let e = c.in_default.ensures in
+    let h = c.halt.ensures in
+    unasked_boots c.args.port _ _ _ c.requires.up.1 e.on e.leaves e.reads e.agrees _ h.followed h.has _ h.halted
+
+pub returns-in_default-clause-ended : goal.returns-in_default-clause-ended
+returns-in_default-clause-ended g c =
+    let e = c.in_default.ensures in
+    let h = c.halt.ensures in
+    unasked_ends c.args.port _ _ _ c.requires.up.1 e.on e.leaves e.reads e.agrees _ h.followed h.has c.args.wanted.now _ h.halted
+
+pub write-requires : goal.write-requires
+write-requires g c = let e = c.in-Some.ensures in enabling c.args.port 0x7840004b _ (identified c.args.port _ _ _ c.in-Some.page c.requires.up.1 e.on e.leaves e.reads e.agrees).bootable
+
+pub halt-requires-in-Err-clause-there : goal.halt-requires-in-Err-clause-there
+halt-requires-in-Err-clause-there g c = let e = c.in-Some.ensures in (identified c.args.port _ _ _ c.in-Some.page c.requires.up.1 e.on e.leaves e.reads e.agrees).bootable.there
+
+pub halt-requires-in-Err-clause-agreed : goal.halt-requires-in-Err-clause-agreed
+halt-requires-in-Err-clause-agreed g c =
+    let e = c.in-Some.ensures in
+    let a = (identified c.args.port _ _ _ c.in-Some.page c.requires.up.1 e.on e.leaves e.reads e.agrees).bootable.agreed in
+    (a.0, tt, a.2)
+
+pub returns-in-Ok-clause-on : goal.returns-in-Ok-clause-on
+returns-in-Ok-clause-on g c = let e = c.in-Some.ensures in enabled_on c.args.port _ _ _ c.in-Some.page c.requires.up.1 e.on e.leaves e.reads e.agrees _ _ c.write.ensures
+
+pub returns-in-Ok-clause-ready : goal.returns-in-Ok-clause-ready
+returns-in-Ok-clause-ready g c =
+    let e = c.in-Some.ensures in
+    enabled_ready c.args.port _ _ _ c.in-Some.page c.requires.up.1 e.on e.leaves e.reads e.agrees _ _ c.write.ensures c.args.wanted.now _ c.in-Ok.ensures.fit
+
+pub returns-in-Ok-clause-written : goal.returns-in-Ok-clause-written
+returns-in-Ok-clause-written g c =
+    let e = c.in-Some.ensures in
+    enabled_written c.args.port _ _ _ c.in-Some.page c.requires.up.1 e.on e.leaves e.reads e.agrees _ _ c.write.ensures ∙ ap (λ (n : Notes). n.sctl_written_at) e.leaves.notes
+
+pub returns-in-Ok-clause-boots : goal.returns-in-Ok-clause-boots
+returns-in-Ok-clause-boots g c = let e = c.in-Some.ensures in enabled_boots c.args.port _ _ _ c.in-Some.page c.requires.up.1 e.on e.leaves e.reads e.agrees _ _ c.write.ensures
+
+pub returns-in-Err-clause-ended : goal.returns-in-Err-clause-ended
+returns-in-Err-clause-ended g c =
+    let e = c.in-Some.ensures in
+    let h = c.halt-in-Err.ensures in
+    halted_ends c.args.port _ _ _ c.in-Some.page c.requires.up.1 e.on e.leaves e.reads e.agrees _ h.followed h.has c.args.wanted.now _ _ c.in-Err.ensures.judged h.halted
+
+pub returns-in-Err-clause-boots_to : goal.returns-in-Err-clause-boots_to
+returns-in-Err-clause-boots_to g c =
+    let e = c.in-Some.ensures in
+    let h = c.halt-in-Err.ensures in
+    boots_to c.args.port _ _ c.halt-in-Err.result (halted_boots c.args.port _ _ _ c.in-Some.page c.requires.up.1 e.on e.leaves e.reads e.agrees _ h.followed h.has)
