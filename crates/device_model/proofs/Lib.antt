@@ -1,9 +1,9 @@
-pub mod Sectors
 pub mod Transfers
 pub mod BitLemmas
 pub mod Bytes
 pub mod Ports
-pub mod Acknowledged
+pub mod EachPort
+pub mod GoingOn
 pub mod Fetches
 pub mod SlotLemmas
 pub mod Stepping

@@ -1,8 +1,10 @@
 -- What READ DMA EXT and WRITE DMA EXT have in common: they are plain, name their sectors, and move as many pieces.
 use Rattle.std.proofs.Common.{ℕ, true, false, ◌≡◌, ◌+◌, ◌%◌, ◌&&◌, List, Option, None, Some, refl, ◌∙◌, ap, inl, inr}
-use Rattle.std.specs.Prelude.{is_some, if◌then◌else◌}
+use Rattle.std.specs.Prelude.{is_some, option_map, if◌then◌else◌}
+use Rattle.sector_store.specs.Stores.{replaced}
 use Rattle.adapter.specs.Commands.{command_of, with_fields, is_queued, is_ranged, pieces_moved}
 use Rattle.adapter.specs.Device.{Disk, Taken, PortState}
+use Rattle.adapter.specs.Memory.{changed}
 use Rattle.adapter.specs.Steps.{IsAlone, next_sector, block_after, disk_after}
 use Rattle.adapter.specs.declared.command.Operation.{Operation}
 use Rattle.adapter.specs.declared.command.Operation.TheVariants.{Write, Trim}
@@ -68,3 +70,12 @@ still_tells transfer.Write disk sector bytes = by disk.sectors
     by : (o : Option (ℕ → List ℕ)) → is_some (disk_after Write (record disk { sectors = o }) sector bytes).sectors ≡ is_some o
     by None = refl
     by (Some f) = refl
+
+one_replaced : (f : ℕ → List ℕ) (sector : ℕ) (bytes : List ℕ) → replaced f sector bytes ≡ changed f sector bytes
+unfolding changed
+one_replaced f sector bytes = refl
+
+-- what a store tells after a write is what its disk has
+pub replaced_is : (told : Option (ℕ → List ℕ)) (sector : ℕ) (bytes : List ℕ) →
+    option_map (λ f. replaced f sector bytes) told ≡ option_map (λ f. changed f sector bytes) told
+replaced_is told sector bytes = ap (λ (g : (ℕ → List ℕ) → ℕ → List ℕ). option_map g told) (λ i f. one_replaced f sector bytes i)

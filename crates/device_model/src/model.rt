@@ -7,24 +7,25 @@ ghost use Rattle.adapter.specs.OneCommand.{IsFreeSlot};
 ghost use Rattle.adapter.specs.Access.{Reads};
 ghost use Rattle.adapter.specs.Memory.{bytes_at};
 ghost use Rattle.adapter.specs.Rules.{MayRead};
-ghost use Rattle.adapter.specs.Steps.{MayLinkUp, Steps, Can, after, disk_after};
+ghost use Rattle.adapter.specs.Steps.{Steps, Can, after, disk_after};
 ghost use Rattle.adapter.specs.Steps.Step.{Fetch, Move, Done, Unplug};
 ghost use Rattle.adapter.specs.Asked.{DoesMove, GoesOn, Asked};
 ghost use Rattle.device_model.specs.Fetched.{bytes_of};
 ghost use Rattle.device_model.specs.Finishing.{HasMove, HasRoom, IsReady};
 ghost use Rattle.device_model.specs.Queue.{DoesEach, due, not_due};
 ghost use Rattle.device_model.specs.Modelled.{device_at, cap_of, IsNew};
+ghost use Rattle.device_model.specs.Settled.{IsSettled};
 ghost use Rattle.device_model.specs.View.{Takes, operation_of};
 ghost use Rattle.device_model.specs.Whole.{first_disk};
 
 use crate::config::{ModelConfig, NoMemory};
 use crate::hardware::Hardware;
 use crate::port::{PortModel, Transfer};
-use crate::sector_store::SectorStore;
 use crate::steps::NextMove;
 use adapter::{Adapter, DeviceStep, Entry, Stepped};
 use ata_types::{Port, Slot};
 use hba_regs::Reg;
+use sector_store::SectorStore;
 use std::alloc::Global;
 use std::snapshot::Snapshot;
 
@@ -279,11 +280,12 @@ fn capabilities(slots: u8, ncq: bool) -> u32
 impl<S: SectorStore> Adapter for Model<S> {
     ghost device = { λ m. device_at S.size S.told m };
 
-    /// Before the value is read, each link that may come up does.
+    /// Before the value is read, a pending reset ends, each CR and FR that may fall does, and each link that may come up
+    /// does.
     fn read(&mut self, r: Reg) -> u32
         requires { MayRead r (device_at S.size S.told self.old) }
         ensures reads { Reads r result (device_at S.size S.told self.old) (device_at S.size S.told self.new) }
-        ensures settled { (port : ℕ) → MayLinkUp ((device_at S.size S.told self.new).port port) 0x101 → ⊥ }
+        ensures settled { IsSettled (device_at S.size S.told self.new) }
     {
         self.do_queued();
         self.hardware.settle();

@@ -1,5 +1,5 @@
 // One port of the model.
-ghost use Rattle.std.specs.Prelude.{◌≡◌};
+ghost use Rattle.std.specs.Prelude.{◌≡◌, unwrap_or};
 ghost use Rattle.adapter.specs.Commands.{command_of, direction_of};
 ghost use Rattle.adapter.specs.Idle.{IsIdlePort};
 ghost use Rattle.device_model.specs.Modelled.{IsReset};
@@ -98,8 +98,10 @@ pub struct PortModel {
     pub sctl_det: u8,
     pub cr: bool,
     pub fr: bool,
-    pub tfd: u16,
-    pub sig: u32,
+    /// PxTFD, where something was written to it since the last reset of the adapter; else it is 7Fh.
+    pub tfd: Option<u16>,
+    /// PxSIG, where the link came up since then; else all its bits are ones.
+    pub sig: Option<u32>,
     /// SSTS.DET is 3, or else 0.
     pub detected: bool,
     pub serr_n: bool,
@@ -128,8 +130,8 @@ impl PortModel {
             sctl_det: 0,
             cr: false,
             fr: false,
-            tfd: 0x7f,
-            sig: 0xffff_ffff,
+            tfd: None,
+            sig: None,
             detected: false,
             serr_n: false,
             serr_x: false,
@@ -142,5 +144,12 @@ impl PortModel {
             taken: [None; 32],
             readings: Readings::default(),
         }
+    }
+
+    /// PxTFD (AHCI 1.3.1, 3.3.8).
+    pub fn task_file(&self) -> u16
+        ensures { result ≡ unwrap_or self.now.tfd 0x7f }
+    {
+        self.tfd.unwrap_or(0x7f)
     }
 }

@@ -48,7 +48,7 @@ impl PortModel {
         requires unmoved { command.moved ≡ 0 }
         ensures { (m : Media) → port_of self.new m ≡ with_fetch (port_of self.old m) slot (taken_of command).meaning (taken_of command).places }
     {
-        self.tfd |= 0x80;
+        self.tfd = Some(self.task_file() | 0x80);
         put_taken(&mut self.taken, slot, Some(command));
     }
 
@@ -69,7 +69,7 @@ impl PortModel {
     {
         self.ci = with_bit_as(self.ci, u32::from(slot), false);
         self.is = with_bit_as(self.is, 0, true);
-        self.tfd &= 0xff7f;
+        self.tfd = Some(self.task_file() & 0xff7f);
         put_taken(&mut self.taken, slot, None);
     }
 }

@@ -1,10 +1,12 @@
 // A driver's way to a read of eight sectors or a write of three, and what the device does on it. The registers of a
 // port are reached behind the adapter's calls, whose conditions on the driver would have to be proved here.
-use crate::sector_store::{MemStore, SectorStore};
+ghost use Rattle.std.specs.Prelude.{◌<◌, ◌^◌};
+
 use crate::{Model, ModelConfig, NoMemory, Trim};
 use adapter::{Adapter, DeviceStep, Direction, Entry, Operation, Stepped};
 use ata_types::{Port, Slot};
 use hba_regs::{PortReg, Reg};
+use sector_store::{MemStore, SectorStore};
 use std::alloc::{AllocError, Global};
 use std::test::Fail;
 
@@ -319,17 +321,65 @@ fn the_adapter_is_switched_on(rt: HostRuntime) -> Result<(), Fail> {
     Ok(())
 }
 
+#[test]
+fn an_engine_falls_before_a_reading(rt: HostRuntime) -> Result<(), Fail> {
+    let mut model = issued(rt.alloc())?;
+    assert!(rt; step(&mut model, DeviceStep::Fetch(Port(0), Slot(0))));
+    write(&mut model, PortReg::Cmd, 0x10);
+    // CR falls at the reading, and not before. FR stays, since FRE is one.
+    assert_eq!(rt;
+        model.hardware.shown(Reg::Px(Port(0), PortReg::Cmd)),
+        0xc010
+    );
+    assert_eq!(rt; read(&mut model, PortReg::Cmd), 0x4010);
+    // The command isn't taken any more.
+    write(&mut model, PortReg::Cmd, 0x11);
+    assert!(rt; !step(&mut model, DeviceStep::Move(Port(0), Slot(0))));
+    write(&mut model, PortReg::Cmd, 0);
+    assert_eq!(rt; read(&mut model, PortReg::Cmd), 0);
+    Ok(())
+}
+
+#[test]
+fn a_reset_ends_before_a_reading(rt: HostRuntime) -> Result<(), Fail> {
+    let mut model = issued(rt.alloc())?;
+    model.hardware.write(Reg::Ghc, 0x8000_0003);
+    assert_eq!(rt; model.hardware.shown(Reg::Ghc), 0x8000_0003);
+    assert_eq!(rt; read(&mut model, PortReg::Cmd), 0);
+    assert_eq!(rt; model.hardware.shown(Reg::Ghc), 0);
+    for (r, value) in [
+        (PortReg::Tfd, 0x7f),
+        (PortReg::Sig, 0xffff_ffff),
+        (PortReg::Ssts, 0),
+        (PortReg::Serr, 0),
+        (PortReg::Is, 0),
+        (PortReg::Ci, 0),
+    ] {
+        assert_eq!(rt; read(&mut model, r), value);
+    }
+    // The link comes up after a COMRESET.
+    write(&mut model, PortReg::Sctl, 1);
+    assert_eq!(rt; read(&mut model, PortReg::Ssts), 0);
+    write(&mut model, PortReg::Sctl, 0);
+    assert_eq!(rt; read(&mut model, PortReg::Ssts), 3);
+    assert_eq!(rt; read(&mut model, PortReg::Sig), 0x101);
+    assert_eq!(rt; read(&mut model, PortReg::Tfd), 0x77);
+    Ok(())
+}
+
 // A store that tells nothing, and whose calls fail after some.
 #[derive(Drop)]
 struct Failing {
     sectors: MemStore,
+    size: u64,
     left: u8,
+    ghost few: { size < 2 ^ 64 },
 }
 
 impl SectorStore for Failing {
     ghost use Rattle.std.specs.Prelude.{None, false};
 
-    ghost size = { λ s. ⟦<MemStore as SectorStore>⟧.size s.sectors };
+    ghost size = { λ s. s.size };
 
     ghost told = { λ _. None };
 
@@ -337,14 +387,14 @@ impl SectorStore for Failing {
 
     ghost tells_sectors = { λ _. tt };
 
-    ghost fits = { λ s. s.sectors.few };
+    ghost fits = { λ s. s.few };
 
     fn sectors(&self) -> u64 {
-        self.sectors.sectors()
+        self.size
     }
 
     fn read(&mut self, sector: u64, out: &mut [u8; 512]) -> bool {
-        if self.left == 0 {
+        if self.left == 0 || sector >= self.size {
             return false;
         }
         self.left -= 1;
@@ -352,7 +402,7 @@ impl SectorStore for Failing {
     }
 
     fn write(&mut self, sector: u64, bytes: &[u8; 512]) -> bool {
-        if self.left == 0 {
+        if self.left == 0 || sector >= self.size {
             return false;
         }
         self.left -= 1;
@@ -363,6 +413,7 @@ impl SectorStore for Failing {
 fn failing_disk(alloc: Global, left: u8) -> Result<Failing, AllocError> {
     Ok(Failing {
         sectors: disk(alloc)?,
+        size: 256,
         left,
     })
 }

@@ -1,10 +1,10 @@
 use Rattle.adapter.proofs.Runs.{Steps-trans}
-use Rattle.std.proofs.Common.{subst}
+use Rattle.std.proofs.Common.{subst, sym}
 use Rattle.adapter.specs.Device.{Device}
-use Rattle.adapter.specs.Steps.{MayLinkUp}
+use Rattle.device_model.specs.Settled.{IsSettled}
 use Rattle.device_model.specs.Modelled.{outside_at}
 use Rattle.device_model.specs.Whole.{Outside, device_of}
-use Rattle.device_model.proofs.Ports.{has_port_read, noted_link}
+use Rattle.device_model.proofs.Ports.{has_port_read, noted_settled}
 use Rattle.device_model.proofs.model.ModelAdapter.read.Goals as goal
 
 pub shown-value-requires : goal.shown-value-requires
@@ -17,9 +17,8 @@ pub returns-clause-reads : goal.returns-clause-reads
 returns-clause-reads g c = record { mid = _; steps = Steps-trans c.do_queued.ensures.steps (c.settle.ensures.steps _); shows = c.shown-value.ensures _; effect = c.note.ensures _ }
 
 pub returns-clause-settled : goal.returns-clause-settled
-returns-clause-settled g c = λ port may.
+returns-clause-settled g c =
     let m = c.do_queued.new.self in
     let o : Outside = outside_at g.S.SectorStore.size g.S.SectorStore.told m in
-    let P : Device → Type 0 = λ d. MayLinkUp (d.port port) 0x101 in
-    c.settle.ensures.settled o port
-    (noted_link c.args.r c.shown-value.result (device_of c.settle.new.self o) port (subst P (c.note.ensures o) may))
+    let P : Device → Type 0 = λ d. IsSettled d in
+    subst P (sym (c.note.ensures o)) (noted_settled c.args.r c.shown-value.result (device_of c.settle.new.self o) (c.settle.ensures.settled o))
