@@ -1,10 +1,11 @@
--- Where a read or write may be done to its end: which moves are left of it, and that each has its place.
-use Rattle.std.proofs.Common.{ℕ, zero, suc, ◌≡◌, ◌<◌, ◌≤◌, ◌+◌, ◌-◌, ◌*◌, ◌/◌, ◌⊎◌, List, [], ◌∷◌, length, slice_index, slice_index_or, Option, None, Some, All, refl, sym, ◌∙◌, ap, subst, inl, inr, arith, length-append}
+-- Where a command may be done to its end: which moves are left of it, and that each has its place.
+use Rattle.std.proofs.Common.{ℕ, true, zero, suc, ◌≡◌, ◌<◌, ◌≤◌, ◌+◌, ◌-◌, ◌*◌, ◌/◌, ◌⊎◌, List, [], ◌∷◌, length, slice_index, slice_index_or, Option, None, Some, All, refl, sym, ◌∙◌, ap, subst, inl, inr, arith, length-append}
 use Rattle.std.proofs.lemmas.Bool.{cases_lt}
 use Rattle.std.proofs.lemmas.List.{get_or_append_left, get_or-append_right}
 use Rattle.std.specs.Prelude.{IfSome}
 use Rattle.std.specs.Option.{SomeIff}
 use Rattle.std.specs.Vec.{vec_len}
+use Rattle.adapter.specs.Commands.{is_ranged}
 use Rattle.adapter.specs.Device.{Taken}
 use Rattle.adapter.specs.Says.{Says, pieces, cut}
 use Rattle.adapter.specs.Steps.{Can, WorksOn, begun}
@@ -84,12 +85,13 @@ inside_all size (x ∷ xs) all (suc k) d small = inside_all size xs (inside_rest
 
 -- ---- what is left
 
-pub left_covered : (r : TakenCommand) (size sectors n end : ℕ) (o : Option ℕ) → n ≡ length (pieces r.prds) → end ≡ r.first + n → end ≤ sectors →
+pub left_covered : (r : TakenCommand) (size sectors n : ℕ) (o : Option ℕ) → n ≡ length (pieces r.prds) →
+    (is_ranged (operation_of r.transfer) ≡ true → r.first + n ≤ sectors) →
     AreInside size (pieces r.prds) → SomeIff o (r.moved ≤ n) (n - r.moved) → IfSome o (λ left. IsCovered (taken_of r) size sectors left)
-left_covered r size sectors n end None many is on_disk all none = tt
-left_covered r size sectors n end (Some left) many is on_disk all fits = record {
+left_covered r size sectors n None many on_disk all none = tt
+left_covered r size sectors n (Some left) many on_disk all fits = record {
   left_is = omega (arith, fits.0, fits.1, many);
-  on_disk = omega (arith, many, is, on_disk);
+  on_disk = λ ranged. omega (arith, many, on_disk ranged);
   inside = all;
 }
 
@@ -99,7 +101,7 @@ left_is moved n left (Some x) is some = let same : x ≡ left = omega (arith, is
 
 -- ---- what is ready: a command that may be taken, or one that is
 
--- reads and writes may be taken in this slot; none of them may
+-- the commands that the model takes may be taken in this slot; none of them may
 abbrev pub MayTakeAny : PortModel → ℕ → Type 0
 MayTakeAny p slot = (m : Media) (operation : Operation) → Takes operation → MayTake (port_of p m) slot operation
 

@@ -6,4 +6,5 @@ pub mod Slots
 pub mod Settled
 pub mod Modelled
 pub mod Finishing
+pub mod Paged
 pub mod Queue

@@ -7,7 +7,7 @@ use Rattle.adapter.specs.Access.{unacknowledged}
 use Rattle.adapter.specs.Steps.{next_sector, disk_after}
 use Rattle.hba_regs.specs.Bits.{bit}
 use Rattle.adapter.specs.declared.command.Operation.{Operation}
-use Rattle.adapter.specs.declared.command.Operation.TheVariants.{Read, Write}
+use Rattle.adapter.specs.declared.command.Operation.TheVariants.{Identify, Read, Write}
 use Rattle.device_model.specs.Bits.{bits_of}
 use Rattle.device_model.specs.declared.port.Addresses.{Addresses}
 use Rattle.device_model.specs.declared.port.Readings.{Readings}
@@ -45,13 +45,14 @@ notes_of r =
       acknowledged = r.acknowledged;
     }
 
--- the model takes READ DMA EXT and WRITE DMA EXT
+-- the model takes READ DMA EXT, WRITE DMA EXT and IDENTIFY DEVICE
 abbrev pub Takes : Operation → Type 0
-Takes operation = (operation ≡ Read) ⊎ (operation ≡ Write)
+Takes operation = (operation ≡ Read) ⊎ (operation ≡ Write) ⊎ (operation ≡ Identify)
 
 abbrev pub operation_of : Transfer → Operation
 operation_of transfer.Read = Read
 operation_of transfer.Write = Write
+operation_of transfer.Identify = Identify
 
 abbrev pub taken_of : TakenCommand → Taken
 taken_of t =

@@ -1,6 +1,6 @@
 // The model as an adapter.
 ghost use Rattle.std.specs.Prelude.{◌≡◌, ◌≢◌, ◌<◌, ◌≤◌, ◌+◌, ◌-◌, ◌*◌, ◌^◌, ◌++◌, ◌∷◌, [], ℕ, List, true, false, is_some, ◌&&◌, min, max, length, IfSome, IfOk, OnOk, OnErr};
-ghost use Rattle.adapter.specs.Commands.{Meaning};
+ghost use Rattle.adapter.specs.Commands.{Meaning, is_ranged};
 ghost use Rattle.adapter.specs.Device.{Taken, IsSector};
 ghost use Rattle.adapter.specs.Idle.{IsIdle, IsSane};
 ghost use Rattle.adapter.specs.OneCommand.{IsFreeSlot};
@@ -11,12 +11,14 @@ ghost use Rattle.adapter.specs.Steps.{Steps, Can, after, disk_after};
 ghost use Rattle.adapter.specs.Steps.Step.{Fetch, Move, Done, Unplug};
 ghost use Rattle.adapter.specs.Asked.{DoesMove, GoesOn, Asked};
 ghost use Rattle.device_model.specs.Fetched.{bytes_of};
-ghost use Rattle.device_model.specs.Finishing.{HasMove, HasRoom, IsReady};
+ghost use Rattle.device_model.specs.Finishing.{HasDisk, HasMove, HasRoom, IsReady};
+ghost use Rattle.device_model.specs.Paged.{serial_of_disk0};
 ghost use Rattle.device_model.specs.Queue.{DoesEach, due, not_due};
 ghost use Rattle.device_model.specs.Modelled.{device_at, cap_of, IsNew};
 ghost use Rattle.device_model.specs.Settled.{IsSettled};
 ghost use Rattle.device_model.specs.View.{Takes, operation_of};
 ghost use Rattle.device_model.specs.Whole.{first_disk};
+ghost use Rattle.sector_store.specs.Pages.{IsPage};
 
 use crate::config::{ModelConfig, NoMemory};
 use crate::hardware::Hardware;
@@ -26,6 +28,7 @@ use adapter::{Adapter, DeviceStep, Entry, Stepped};
 use ata_types::{Port, Slot};
 use hba_regs::Reg;
 use sector_store::SectorStore;
+use sector_store::pages::{Abilities, identify_page};
 use std::alloc::Global;
 use std::snapshot::Snapshot;
 
@@ -37,12 +40,14 @@ struct Queued {
 }
 
 /// A modelled adapter. Port 0 has a disk over the first store; ports 1 to 3 have no device. Of all commands it takes
-/// READ DMA EXT and WRITE DMA EXT alone: a step on another one answers `false`.
+/// READ DMA EXT, WRITE DMA EXT and IDENTIFY DEVICE alone: a step on another one answers `false`.
 #[derive(Drop)]
 pub struct Model<S> {
     hardware: Hardware,
     disk0: S,
     disk1: S,
+    /// What the page of each disk says of it.
+    abilities: Abilities,
     /// Disk 0 as it was when it was plugged in, for proofs alone.
     plugged: Snapshot<S>,
     /// In the order in which they were queued.
@@ -79,6 +84,11 @@ impl<S: SectorStore> Model<S> {
         };
         Ok(Model {
             hardware,
+            abilities: Abilities {
+                ncq: config.ncq,
+                depth: config.depth,
+                trim: config.trim,
+            },
             plugged: Snapshot::of(&disk0),
             disk0,
             disk1,
@@ -147,7 +157,13 @@ impl<S: SectorStore> Model<S> {
             return false;
         };
         let mut bytes = [0; 512];
-        if !exchange(&mut self.disk0, &self.hardware, next, &mut bytes) {
+        if !exchange(
+            &mut self.disk0,
+            &self.hardware,
+            self.abilities,
+            next,
+            &mut bytes,
+        ) {
             return false;
         }
         self.hardware.move_bytes(port, slot, next, &bytes);
@@ -196,7 +212,7 @@ impl<S: SectorStore> Model<S> {
             Takes m.operation → Can (Fetch p.0 slot.0 m places) (device_at S.size S.told self.old) → ⊥ }
         ensures moves { result ≡ false → S.is_sure ≡ true → HasRoom self.old.hardware 1 → (device_at S.size S.told self.old).size ≤ 2 ^ 32 →
             (p : Port) (slot : Slot) (t : Taken) (bytes : List ℕ) → s.now ≡ DeviceStep.Move p slot → slot.0 < 32 →
-            Can (Move p.0 slot.0 t bytes) (device_at S.size S.told self.old) → ⊥ }
+            HasDisk p.0 t.meaning.operation → Can (Move p.0 slot.0 t bytes) (device_at S.size S.told self.old) → ⊥ }
         ensures dones { result ≡ false → HasRoom self.old.hardware 1 → (p : Port) (slot : Slot) (flag : ℕ) (t : Taken) →
             s.now ≡ DeviceStep.Done p slot → p.0 < 4 → slot.0 < 32 → Can (Done p.0 slot.0 flag t) (device_at S.size S.told self.old) → ⊥ }
         ensures finishes { result ≡ true → S.is_sure ≡ true → (device_at S.size S.told self.old).size ≤ 2 ^ 32 →
@@ -241,30 +257,36 @@ impl<S: SectorStore> Model<S> {
     }
 }
 
-/// Has a disk give the sector of a read, or take a write's from memory; `false` says that the store failed, and that it
-/// holds what it held.
+/// Has a disk give the sector of a read or its page, or take a write's sector from memory; `false` says that the store
+/// failed, and that it holds what it held.
 fn exchange<S: SectorStore>(
     disk: &mut S,
     hardware: &Hardware,
+    abilities: Abilities,
     next: NextMove,
     bytes: &mut [u8; 512],
 ) -> bool
     requires { next.address + 512 ≤ length hardware.now.memory.items }
-    ensures inside { result ≡ true → next.sector < S.size disk.old }
+    ensures inside { result ≡ true → is_ranged (operation_of next.transfer) ≡ true → next.sector < S.size disk.old }
     ensures sector { result ≡ true → IsSector bytes.new }
     ensures gives { result ≡ true → next.transfer ≡ Transfer.Read → IfSome (S.told disk.old) (λ told. bytes.new ≡ told next.sector) }
     ensures takes { result ≡ true → next.transfer ≡ Transfer.Write → bytes.new ≡ bytes_at (bytes_of hardware.now.memory.items) next.address 512 }
+    ensures page { result ≡ true → next.transfer ≡ Transfer.Identify → IsPage serial_of_disk0 (S.size disk.old) abilities bytes.new }
     ensures disk { result ≡ true → first_disk (S.size disk.new) (S.told disk.new)
         ≡ disk_after (operation_of next.transfer) (first_disk (S.size disk.old) (S.told disk.old)) next.sector bytes.new }
     ensures kept { result ≡ false → S.told disk.new ≡ S.told disk.old }
     ensures size { S.size disk.new ≡ S.size disk.old }
-    ensures sure { S.is_sure ≡ true → next.sector < S.size disk.old → result ≡ true }
+    ensures sure { S.is_sure ≡ true → (is_ranged (operation_of next.transfer) ≡ true → next.sector < S.size disk.old) → result ≡ true }
 {
     match next.transfer {
         Transfer::Read => disk.read(next.sector, bytes),
         Transfer::Write => {
             hardware.load(next.address as usize, bytes);
             disk.write(next.sector, bytes)
+        }
+        Transfer::Identify => {
+            *bytes = identify_page(b"IMAGEDISK", disk.sectors(), abilities);
+            true
         }
     }
 }
@@ -323,7 +345,7 @@ impl<S: SectorStore> Stepped for Model<S> {
             Takes m.operation → Can (Fetch p.0 slot.0 m places) (device_at S.size S.told self.old) → ⊥ }
         ensures moves { result ≡ false → S.is_sure ≡ true → HasRoom self.old.hardware 1 → (device_at S.size S.told self.old).size ≤ 2 ^ 32 →
             (p : Port) (slot : Slot) (t : Taken) (bytes : List ℕ) → s.now ≡ DeviceStep.Move p slot → slot.0 < 32 →
-            Can (Move p.0 slot.0 t bytes) (device_at S.size S.told self.old) → ⊥ }
+            HasDisk p.0 t.meaning.operation → Can (Move p.0 slot.0 t bytes) (device_at S.size S.told self.old) → ⊥ }
         ensures dones { result ≡ false → HasRoom self.old.hardware 1 → (p : Port) (slot : Slot) (flag : ℕ) (t : Taken) →
             s.now ≡ DeviceStep.Done p slot → p.0 < 4 → slot.0 < 32 → Can (Done p.0 slot.0 flag t) (device_at S.size S.told self.old) → ⊥ }
         ensures finishes { result ≡ true → S.is_sure ≡ true → (device_at S.size S.told self.old).size ≤ 2 ^ 32 →

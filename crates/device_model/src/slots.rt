@@ -74,7 +74,7 @@ impl PortModel {
     }
 }
 
-/// Whether a read or a write that is issued in a slot may be taken.
+/// Whether a command that is issued in a slot may be taken, if it is one that the model takes.
 pub fn may_take(ports: &[PortModel; 4], port: usize, slot: u8) -> bool
     requires port { port < 4 }
     requires slot { slot < 32 }

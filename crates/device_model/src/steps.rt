@@ -1,11 +1,11 @@
 // Steps that the hardware does when it is told.
-ghost use Rattle.std.specs.Prelude.{◌≡◌, ◌<◌, ◌≤◌, ◌+◌, ◌^◌, ◌++◌, ◌∷◌, [], true, false, ℕ, List, None, Some, IfSome, if◌then◌else◌, length, slice_index, slice_index_or};
+ghost use Rattle.std.specs.Prelude.{◌≡◌, ◌↔◌, IsTrue, ◌<◌, ◌≤◌, ◌+◌, ◌^◌, ◌++◌, ◌∷◌, [], true, false, ℕ, List, None, Some, IfSome, if◌then◌else◌, length, slice_index, slice_index_or};
 ghost use Rattle.std.specs.Vec.{vec_len, vec_capacity};
-ghost use Rattle.adapter.specs.Commands.{Meaning, reads_memory};
+ghost use Rattle.adapter.specs.Commands.{Meaning, is_ranged, reads_memory};
 ghost use Rattle.adapter.specs.Device.{Taken};
 ghost use Rattle.adapter.specs.Memory.{patched};
 ghost use Rattle.adapter.specs.Says.{pieces};
-ghost use Rattle.adapter.specs.Steps.{Can, after};
+ghost use Rattle.adapter.specs.Steps.{Can, after, next_sector};
 ghost use Rattle.adapter.specs.Steps.Step.{Fetch as FetchStep, Move as MoveStep, Done as DoneStep, Unplug as UnplugStep};
 ghost use Rattle.adapter.specs.Asked.{DoesFetch, DoesDone};
 ghost use Rattle.device_model.specs.Fetched.{bytes_of};
@@ -22,7 +22,7 @@ use crate::slots::{may_take, working_on};
 use adapter::{Done, Entry, Move, Prd};
 use ata_types::{Port, Slot};
 
-/// A sector that a command moves next, and the address that it goes to or comes from.
+/// What a command moves next: a sector, or 0 where it names none, and the address that the bytes go to or come from.
 #[derive(Clone, Copy, Debug)]
 pub struct NextMove {
     pub transfer: Transfer,
@@ -62,33 +62,56 @@ fn are_inside(prds: &[Prd; 128], size: usize) -> bool
     true
 }
 
-/// How many moves are left of a command, if each of its pieces has a place in a memory of this size and is one of so many
-/// sectors.
+/// Whether a command with so many pieces names sectors among so many alone, if it names some.
+fn is_on_disk(command: &TakenCommand, pieces: u32, sectors: u64) -> bool
+    ensures { IsTrue result ↔ (is_ranged (operation_of command.now.transfer) ≡ true → command.now.first + pieces ≤ sectors) }
+{
+    match command.transfer {
+        Transfer::Identify => true,
+        Transfer::Read | Transfer::Write => {
+            let end = command.first.checked_add(u64::from(pieces));
+            end.is_some_and(|end| end <= sectors)
+        }
+    }
+}
+
+/// How many moves are left of a command, if each of its pieces has a place in a memory of this size, and each sector that
+/// it names is one of so many.
 fn left_of(command: &TakenCommand, size: usize, sectors: u64) -> Option<u32>
     ensures covered { IfSome result (λ left. IsCovered (taken_of command.now) size sectors left) }
     ensures only { (left : ℕ) → IsCovered (taken_of command.now) size sectors left → result ≡ Some left }
 {
     let pieces = count_pieces(&command.prds);
-    let end = command.first.checked_add(u64::from(pieces))?;
-    if end > sectors || !are_inside(&command.prds, size) {
+    if !is_on_disk(command, pieces, sectors) || !are_inside(&command.prds, size) {
         return None;
     }
     pieces.checked_sub(command.moved)
 }
 
-/// Puts the bytes of a move into memory, if it is one of a read.
+/// The sector that a command moves next, 0 where it names none.
+fn sector_of(command: &TakenCommand) -> Option<u64>
+    ensures found { IfSome result (λ s. s ≡ next_sector (taken_of command.now)) }
+    ensures none { result ≡ None → next_sector (taken_of command.now) < 2 ^ 64 → ⊥ }
+{
+    match command.transfer {
+        Transfer::Identify => Some(0),
+        Transfer::Read | Transfer::Write => command.first.checked_add(u64::from(command.moved)),
+    }
+}
+
+/// Puts the bytes of a move into memory, unless it takes them from there.
 fn put_piece(memory: &mut [u8], next: NextMove, bytes: &[u8; 512])
     requires { next.address + 512 ≤ length memory.old }
     ensures size { length memory.new ≡ length memory.old }
     ensures put { bytes_of memory.new ≡ (if reads_memory (operation_of next.transfer) then bytes_of memory.old else patched (bytes_of memory.old) next.address bytes.now) }
 {
-    if let Transfer::Read = next.transfer {
+    if !next.transfer.reads_memory() {
         put(memory, next.address as usize, bytes);
     }
 }
 
 impl Hardware {
-    /// Takes the read or write that is issued in a slot; `false` says that there is none that may be taken.
+    /// Takes the command that is issued in a slot; `false` says that there is none that may be taken.
     pub fn fetch(&mut self, port: u8, slot: u8) -> bool
         requires port { port < 4 }
         requires slot { slot < 32 }
@@ -115,11 +138,11 @@ impl Hardware {
         requires slot { slot < 32 }
         ensures found { IfSome result (λ n. (t : TakenCommand) × IsNext self.now port slot n t) }
         ensures none { result ≡ None → length self.now.memory.items ≤ 2 ^ 32 → (t : TakenCommand) → HoldsAt (slice_index_or self.now.ports port blank) slot t →
-            t.moved < length (pieces t.prds) → slice_index (pieces t.prds) t.moved + 512 ≤ length self.now.memory.items → t.first + t.moved < 2 ^ 64 → ⊥ }
+            t.moved < length (pieces t.prds) → slice_index (pieces t.prds) t.moved + 512 ≤ length self.now.memory.items → next_sector (taken_of t) < 2 ^ 64 → ⊥ }
     {
         let command = working_on(&self.ports, usize::from(port), slot)?;
         let address = piece_at(&command.prds, command.moved)?;
-        let sector = command.first.checked_add(u64::from(command.moved))?;
+        let sector = sector_of(command)?;
         let address = u32::try_from(address).ok()?;
         if address as usize + 512 > self.memory.len() {
             return None;

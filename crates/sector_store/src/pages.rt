@@ -1,6 +1,7 @@
 // The page by which a disk says what it is.
-ghost use Rattle.std.specs.Prelude.{◌≡◌, ◌≤◌, ◌%◌, length, sum};
+ghost use Rattle.std.specs.Prelude.{◌≡◌, ◌<◌, ◌≤◌, ◌%◌, All, length, sum};
 ghost use Rattle.sector_store.specs.Pages.{IsPage, IsWord, character, trim_function, trim_support};
+ghost use Rattle.sector_store.specs.Stores.{IsSector};
 
 /// What a disk says of DATA SET MANAGEMENT with TRIM.
 #[derive(Clone, Copy, Debug, Default, PartialEq, Eq)]
@@ -60,7 +61,6 @@ fn character_at(text: &[u8], place: usize) -> u8
 
 /// A word of the page, but for the last.
 fn word_at(number: usize, serial: &[u8], sectors: u64, abilities: Abilities) -> u16
-    requires { 1 ≤ abilities.depth }
     ensures { IsWord serial.now sectors abilities number result }
 {
     match number {
@@ -70,7 +70,7 @@ fn word_at(number: usize, serial: &[u8], sectors: u64, abilities: Abilities) -> 
                 + u16::from(character_at(serial, place + 1))
         }
         69 => abilities.trim.support(),
-        75 => u16::from(abilities.depth - 1),
+        75 => u16::from(abilities.depth.saturating_sub(1)),
         76 => if abilities.ncq { 0x100 } else { 0 },
         83 => 0x6400,
         100 => (sectors % 65536) as u16,
@@ -84,8 +84,9 @@ fn word_at(number: usize, serial: &[u8], sectors: u64, abilities: Abilities) -> 
 }
 
 /// The sum of the bytes, modulo 256.
-fn sum_of(page: &[u8; 512]) -> u8
-    ensures { result ≡ sum page.now % 256 }
+fn sum_of(page: &[u8]) -> u8
+    ensures total { result ≡ sum page.now % 256 }
+    ensures bytes { All (λ byte. byte < 256) page.now }
 {
     let mut total = 0u8;
     for byte in page {
@@ -97,9 +98,9 @@ fn sum_of(page: &[u8; 512]) -> u8
 /// The page that IDENTIFY DEVICE brings from a disk with this serial number, so many sectors and these abilities
 /// (ACS-3, 7.12.7; which words it fills is this project's own). The serial number is filled with spaces.
 pub fn identify_page(serial: &[u8], sectors: u64, abilities: Abilities) -> [u8; 512]
-    requires serial { length serial.now ≤ 20 }
-    requires depth { 1 ≤ abilities.depth }
-    ensures { IsPage serial.now sectors abilities result }
+    requires { length serial.now ≤ 20 }
+    ensures page { IsPage serial.now sectors abilities result }
+    ensures bytes { IsSector result }
 {
     let mut page = [0; 512];
     for number in 0..255 {

@@ -82,6 +82,35 @@ fn issue_write<S: SectorStore>(model: &mut Model<S>) {
     }
 }
 
+// In its place an IDENTIFY DEVICE is issued, whose page goes to 28000h.
+fn issue_identify<S: SectorStore>(model: &mut Model<S>) {
+    issue(model);
+    store(
+        model,
+        0x1000,
+        &[
+            0x27, 0x80, 0xec, 0, 0, 0, 0, 0, 0, 0, 0, 0, 0, 0, 0, 0, 0, 0, 0, 0,
+        ],
+    );
+    store(model, 0x108c, &[0xff, 1]);
+}
+
+// A byte of the page of disk 0 with 256 sectors: "IMAGEDISK", sectors, a queue of 32, queued commands and trims. The first
+// 511 bytes sum to 1466, or 186 modulo 256, and 256 - 186 is 70.
+fn page_byte(at: usize) -> u8 {
+    match at {
+        20..40 => b"MIGADESI K          "[at - 20],
+        138 => 0x20,
+        139 | 213 => 0x40,
+        150 => 31,
+        153 | 201 | 210 | 338 => 1,
+        167 => 0x64,
+        510 => 0xa5,
+        511 => 70,
+        _ => 0,
+    }
+}
+
 // Sector k begins with the byte k.
 fn disk(alloc: Global) -> Result<MemStore, AllocError> {
     let mut disk = MemStore::new(alloc, 256)?;
@@ -258,6 +287,49 @@ fn a_read_after_a_write_gives_what_was_written(rt: HostRuntime) -> Result<(), Fa
     ] {
         assert_eq!(rt; model.hardware.memory.get(at).copied(), Some(byte));
     }
+    Ok(())
+}
+
+#[test]
+fn an_identify_device_is_finished(rt: HostRuntime) -> Result<(), Fail> {
+    let mut model = issued(rt.alloc())?;
+    issue_identify(&mut model);
+    assert!(rt; step(&mut model, FINISH));
+    for at in 0..512usize {
+        let byte = model.hardware.memory.get(0x28000 + at).copied();
+        assert_eq!(rt; byte, Some(page_byte(at)));
+    }
+    assert_eq!(rt; model.hardware.memory.get(0x28200).copied(), Some(0));
+    assert_eq!(rt; model.tape().len(), 2);
+    assert!(rt;
+        matches!(model.tape().first(), Some(Entry::Move(page)) if page.operation == Operation::Identify
+            && page.direction == Direction::ToMemory && page.sector == 0 && page.address == 0x28000)
+    );
+    assert!(rt;
+        matches!(model.tape().last(), Some(Entry::Done(done)) if done.operation == Operation::Identify)
+    );
+    assert_eq!(rt; read(&mut model, PortReg::Ci), 0);
+    assert_eq!(rt; read(&mut model, PortReg::Is) & 1, 1);
+    Ok(())
+}
+
+#[test]
+fn an_identify_device_goes_step_by_step(rt: HostRuntime) -> Result<(), Fail> {
+    let mut model = issued(rt.alloc())?;
+    issue_identify(&mut model);
+    // It has no features, and its header no W bit.
+    store(&mut model, 0x1003, &[1]);
+    assert!(rt; !step(&mut model, DeviceStep::Fetch(Port(0), Slot(0))));
+    store(&mut model, 0x1003, &[0]);
+    store(&mut model, 0, &[0x45]);
+    assert!(rt; !step(&mut model, DeviceStep::Fetch(Port(0), Slot(0))));
+    store(&mut model, 0, &[5]);
+    assert!(rt; step(&mut model, DeviceStep::Fetch(Port(0), Slot(0))));
+    assert!(rt; !step(&mut model, DeviceStep::Done(Port(0), Slot(0))));
+    assert!(rt; step(&mut model, DeviceStep::Move(Port(0), Slot(0))));
+    assert!(rt; !step(&mut model, DeviceStep::Move(Port(0), Slot(0))));
+    assert!(rt; step(&mut model, DeviceStep::Done(Port(0), Slot(0))));
+    assert_eq!(rt; model.tape().len(), 2);
     Ok(())
 }
 

@@ -1,4 +1,7 @@
-use Rattle.std.proofs.Common.{◌∙◌, sym, subst, below_more, arith}
+use Rattle.std.proofs.Common.{ℕ, ◌∙◌, ◌+◌, ◌-◌, ◌%◌, ◌<◌, sym, subst, below_more, arith}
+use Rattle.std.specs.Prelude.{slice_set}
+use Rattle.std.proofs.lemmas.List.{length-set}
+use Rattle.std.proofs.lemmas.List.Elements.{All-set}
 use Rattle.sector_store.specs.Pages.{IsWord, word}
 use Rattle.sector_store.proofs.Words.{with_word, word_written, word_stays, last_stays, size_stays, page_is}
 use Rattle.sector_store.proofs.pages.identify_page.Goals as goal
@@ -18,9 +21,18 @@ loop-number-preserved c =
           (sym (word_written page n w (omega (arith, is.size, c.loop-number-test.true)))) c.word_at-word.ensures);
     }
 
-pub returns : goal.returns
-returns c =
+pub returns-clause-page : goal.returns-clause-page
+returns-clause-page c =
     let is = c.loop-number.invariant in
     page_is c.args.serial.now c.args.sectors c.args.abilities c.loop-number.page is.size is.last
     (λ k less. is.words k (omega (arith, less, c.loop-number-test.false))) _
-    (let s = c.sum_of.ensures in omega (arith, s))
+    (let s = c.sum_of.ensures.total in omega (arith, s))
+
+pub returns-clause-bytes : goal.returns-clause-bytes
+returns-clause-bytes c =
+    let page = slice_set c.loop-number.page 510 0xa5 in
+    let last : ℕ = (0 + (256 - c.sum_of.result)) % 256 in
+    let small : last < 256 = omega arith in (
+      length-set page 511 last ∙ (length-set c.loop-number.page 510 0xa5 ∙ c.loop-number.invariant.size),
+      All-set (λ byte. byte < 256) page 511 last small c.sum_of.ensures.bytes,
+    )

@@ -81,7 +81,7 @@ move_is_done g c sure small =
     let going = subst Q (sym c.loop-piece.invariant.disk) (subst P next c.loop-piece.invariant.going) in
     let zero : c.args.port ≡ 0 = c.if-port-ne0.false in
     let here : IsGoing d 0 c.args.slot size (suc left) = subst R zero going in
-    let found = subst S (sym zero) (here.t, going_has_move d 0 c.args.slot left here) in
+    let found = subst S (sym zero) (here.t, going_has_move d 0 c.args.slot left refl here) in
     c.move_piece.ensures.only c.if-not-move_piece.true sure (omega (arith, c.loop-piece.invariant.room)) (omega (arith, c.loop-piece.invariant.size, small))
     found.0 found.1
 
