@@ -11,3 +11,4 @@ pub mod NewModel
 pub mod Finishing
 pub mod Ready
 pub mod Queueing
+pub mod Telling

@@ -12,7 +12,7 @@ ghost use Rattle.adapter.specs.Steps.Step.{Fetch, Move, Done, Unplug};
 ghost use Rattle.adapter.specs.Asked.{DoesMove, GoesOn, Asked};
 ghost use Rattle.device_model.specs.Fetched.{bytes_of};
 ghost use Rattle.device_model.specs.Finishing.{HasDisk, HasMove, HasRoom, IsReady};
-ghost use Rattle.device_model.specs.Paged.{serial_of_disk0};
+ghost use Rattle.device_model.specs.Paged.{KeepsPages, serial_of_disk0};
 ghost use Rattle.device_model.specs.Queue.{DoesEach, due, not_due};
 ghost use Rattle.device_model.specs.Modelled.{device_at, cap_of, IsNew};
 ghost use Rattle.device_model.specs.Settled.{IsSettled};
@@ -67,6 +67,7 @@ impl<S: SectorStore> Model<S> {
         ensures sane { IfOk result (λ m. IsSane (device_at S.size S.told m)) }
         ensures telling { IfOk result (λ m. (device_at S.size S.told m).telling ≡ (is_some (S.told disk0) && is_some (S.told disk1))) }
         ensures made { IfOk result (λ m. IsNew config (S.size disk0) (S.told disk0) (device_at S.size S.told m)) }
+        ensures abilities { IfOk result (λ m. m.abilities ≡ record { ncq = config.ncq; depth = config.depth; trim = config.trim }) }
     {
         let hardware = Hardware {
             memory: vec![in alloc; 0u8; 4096 * usize::from(config.frames)]?,
@@ -111,6 +112,7 @@ impl<S: SectorStore> Model<S> {
         ensures queued { OnOk result (self.new.queue.items ≡ self.old.queue.items ++ record { access = min (self.old.accesses + max n 1) (2 ^ 64 - 1); step = step } ∷ []) }
         ensures counted { self.new.accesses ≡ self.old.accesses }
         ensures kept { OnErr result (self.new.queue.items ≡ self.old.queue.items) }
+        ensures pages { KeepsPages S.size self.old self.new }
     {
         let access = self.accesses.saturating_add(n.max(1));
         self.queue
@@ -128,6 +130,7 @@ impl<S: SectorStore> Model<S> {
         ensures idle { IsIdle (device_at S.size S.told self.old) → IsIdle (device_at S.size S.told self.new) }
         ensures queue { self.new.queue ≡ self.old.queue }
         ensures accesses { self.new.accesses ≡ self.old.accesses }
+        ensures pages { KeepsPages S.size self.old self.new }
     {
         self.hardware.unplug()
     }
@@ -144,6 +147,7 @@ impl<S: SectorStore> Model<S> {
         ensures disk { S.size self.new.disk0 ≡ S.size self.old.disk0 }
         ensures queue { self.new.queue ≡ self.old.queue }
         ensures accesses { self.new.accesses ≡ self.old.accesses }
+        ensures pages { KeepsPages S.size self.old self.new }
     {
         // No other port has a disk.
         if port != 0 {
@@ -183,6 +187,7 @@ impl<S: SectorStore> Model<S> {
             HasRoom self.old.hardware (left + 1) → IsReady (device_at S.size S.told self.old) port slot (S.size self.old.disk0) left → ⊥ }
         ensures queue { self.new.queue ≡ self.old.queue }
         ensures accesses { self.new.accesses ≡ self.old.accesses }
+        ensures pages { KeepsPages S.size self.old self.new }
     {
         if port != 0 {
             return false;
@@ -222,6 +227,7 @@ impl<S: SectorStore> Model<S> {
             IsReady (device_at S.size S.told self.old) p.0 slot.0 (S.size self.old.disk0) left → ⊥ }
         ensures queue { self.new.queue ≡ self.old.queue }
         ensures accesses { self.new.accesses ≡ self.old.accesses }
+        ensures pages { KeepsPages S.size self.old self.new }
     {
         match *s {
             DeviceStep::Fetch(port, slot) => {
@@ -242,6 +248,7 @@ impl<S: SectorStore> Model<S> {
         ensures did { DoesEach (due self.new.accesses self.old.queue.items) (device_at S.size S.told self.old) (device_at S.size S.told self.new) }
         ensures left { self.new.queue.items ≡ not_due self.new.accesses self.old.queue.items }
         ensures counted { self.new.accesses ≡ min (self.old.accesses + 1) (2 ^ 64 - 1) }
+        ensures pages { KeepsPages S.size self.old self.new }
     {
         self.accesses = self.accesses.saturating_add(1);
         let mut place = 0;
@@ -333,10 +340,11 @@ impl<S: SectorStore> Adapter for Model<S> {
 }
 
 impl<S: SectorStore> Stepped for Model<S> {
-    /// Beside what every such adapter says: a fetch of a read or a write is refused only where it isn't possible; a
-    /// move and an end only where they aren't, the store failed, or the tape has no memory; a Finish over a store that
-    /// never fails ends the command, and on port 0, which alone has a disk, it is refused only where a move of it isn't
-    /// possible or the tape has no memory. What is queued stays queued, for the accesses that it was queued for.
+    /// Beside what every such adapter says: a fetch of a command that the model takes is refused only where it isn't
+    /// possible; a move and an end only where they aren't, the store failed, or the tape has no memory (of IDENTIFY DEVICE,
+    /// on port 0 alone); a Finish over a store that never fails ends the command, and on port 0, which alone has a disk, it
+    /// is refused only where a move of it isn't possible or the tape has no memory. A page of IDENTIFY DEVICE is that of
+    /// disk 0. What is queued stays queued, for the accesses that it was queued for.
     fn step(&mut self, s: &DeviceStep) -> bool
         ensures steps { Steps (device_at S.size S.told self.old) (device_at S.size S.told self.new) }
         ensures refused { result ≡ false → device_at S.size S.told self.new ≡ device_at S.size S.told self.old }
@@ -355,6 +363,7 @@ impl<S: SectorStore> Stepped for Model<S> {
             IsReady (device_at S.size S.told self.old) p.0 slot.0 (S.size self.old.disk0) left → ⊥ }
         ensures queue { self.new.queue ≡ self.old.queue }
         ensures accesses { self.new.accesses ≡ self.old.accesses }
+        ensures pages { KeepsPages S.size self.old self.new }
     {
         self.do_step(s)
     }

@@ -1,4 +1,4 @@
-use Rattle.std.proofs.Common.{ℕ, true, ◌≡◌, ◌<◌, ◌∙◌, ◌+◌, ◌∷◌, [], List, length, sym, ap, subst, arith}
+use Rattle.std.proofs.Common.{refl, ◌++◌, ℕ, true, ◌≡◌, ◌<◌, ◌∙◌, ◌+◌, ◌∷◌, [], List, length, sym, ap, subst, arith}
 use Rattle.adapter.proofs.Absurd.{some_one, true-false}
 use Rattle.adapter.specs.Device.{Device, Disk}
 use Rattle.adapter.specs.Commands.{is_ranged}
@@ -12,6 +12,10 @@ use Rattle.device_model.specs.declared.port.TakenCommand.{TakenCommand}
 use Rattle.device_model.specs.declared.port.Transfer.{Transfer}
 use Rattle.device_model.proofs.Stepping.{may_move}
 use Rattle.device_model.proofs.Finishing.{move_fits, no_move, outside_moved, sector_small}
+use Rattle.adapter.specs.Steps.{move_of}
+use Rattle.adapter.specs.declared.tape.Entry.{Entry}
+use Rattle.adapter.specs.declared.tape.Entry.TheVariants as entry
+use Rattle.device_model.proofs.Telling.{keeps_tape, keeps_moved}
 use Rattle.device_model.proofs.model.Model.move_piece.Goals as goal
 
 pub returns-then-not-reserve-clause-refused : goal.returns-then-not-reserve-clause-refused
@@ -101,3 +105,26 @@ returns-clause-did g c = λ _.
       effect = ap (λ (x : Outside). device_of c.move_bytes.new.self x) behind
           ∙ (moved.2 ∙ ap (λ (d : Device). after (Move c.args.port c.args.slot (taken_of r) bytes) d) (c.reserve.ensures.same o));
     }
+
+pub returns-then-not-reserve-clause-pages : goal.returns-then-not-reserve-clause-pages
+returns-then-not-reserve-clause-pages g c =
+    keeps_tape g.S.SectorStore.size _ _ refl refl (ap (λ (d : Device). d.tape) (c.reserve.ensures.same (outside_at g.S.SectorStore.size g.S.SectorStore.told c.args.self.now)))
+
+pub returns-in_default-clause-pages : goal.returns-in_default-clause-pages
+returns-in_default-clause-pages g c =
+    keeps_tape g.S.SectorStore.size _ _ refl refl (ap (λ (d : Device). d.tape) (c.reserve.ensures.same (outside_at g.S.SectorStore.size g.S.SectorStore.told c.args.self.now)))
+
+pub returns-then-not-exchange-clause-pages : goal.returns-then-not-exchange-clause-pages
+returns-then-not-exchange-clause-pages g c =
+    keeps_tape g.S.SectorStore.size _ _ refl c.exchange.ensures.size
+    (ap (λ (d : Device). d.tape) (c.reserve.ensures.same (outside_at g.S.SectorStore.size g.S.SectorStore.told c.args.self.now)))
+
+pub returns-clause-pages : goal.returns-clause-pages
+returns-clause-pages g c =
+    let o : Outside = outside_at g.S.SectorStore.size g.S.SectorStore.told c.args.self.now in
+    let moved = c.move_bytes.ensures.moved o in
+    let is = moved.1 in
+    let entry : Entry = entry.Move (move_of c.args.port c.args.slot (taken_of moved.0) c.exchange.new.bytes) in
+    keeps_moved g.S.SectorStore.size _ _ moved.0.transfer (move_of c.args.port c.args.slot (taken_of moved.0) c.exchange.new.bytes) refl c.exchange.ensures.size
+    (ap (λ (d : Device). d.tape) moved.2 ∙ ap (λ (d : Device). d.tape ++ entry ∷ []) (c.reserve.ensures.same o)) refl
+    (λ identify. c.exchange.ensures.page c.if-not-exchange.false (is.transfer_is ∙ identify))
