@@ -1,6 +1,7 @@
 -- What a tape gains tells of the disk as before.
 use Rattle.std.proofs.Common.{ℕ, Bool, true, false, zero, suc, ◌≡◌, [], ◌∷◌, ◌++◌, All, refl, sym, ◌∙◌, ap, subst, arith}
 use Rattle.std.proofs.lemmas.List.Elements.{All-append}
+use Rattle.adapter.specs.Access.{noted, written}
 use Rattle.adapter.specs.Asked.{DoesDone}
 use Rattle.adapter.specs.Device.{Device}
 use Rattle.adapter.specs.Steps.{Can, after, done_entry}
@@ -9,6 +10,8 @@ use Rattle.adapter.specs.declared.command.Operation.TheVariants.{Identify}
 use Rattle.adapter.specs.declared.tape.Entry.{Entry}
 use Rattle.adapter.specs.declared.tape.Entry.TheVariants as entry
 use Rattle.adapter.specs.declared.tape.Move.{Move}
+use Rattle.hba_regs.specs.declared.reg.Reg.{Reg}
+use Rattle.hba_regs.specs.declared.reg.Reg.TheVariants.{Cap, Ghc, Is, Pi, Vs, Cap2, Bohc, Px}
 use Rattle.sector_store.specs.Pages.{IsPage}
 use Rattle.sector_store.specs.declared.pages.Abilities.{Abilities}
 use Rattle.device_model.specs.Paged.{AreItsPages, KeepsPages, serial_of_disk0}
@@ -23,6 +26,27 @@ pub is_identify : (k : Transfer) → operation_of k ≡ Identify → k ≡ trans
 is_identify transfer.Read e = cc
 is_identify transfer.Write e = cc
 is_identify transfer.Identify e = refl
+
+-- a reading and a write leave the tape
+pub noted_tape : (r : Reg) (v : ℕ) (d : Device) → (noted r v d).tape ≡ d.tape
+noted_tape (Px q r) v d = refl
+noted_tape Cap v d = refl
+noted_tape Ghc v d = refl
+noted_tape Is v d = refl
+noted_tape Pi v d = refl
+noted_tape Vs v d = refl
+noted_tape Cap2 v d = refl
+noted_tape Bohc v d = refl
+
+pub written_tape : (r : Reg) (v : ℕ) (d : Device) → (written r v d).tape ≡ d.tape
+written_tape (Px q r) v d = refl
+written_tape Cap v d = refl
+written_tape Ghc v d = refl
+written_tape Is v d = refl
+written_tape Pi v d = refl
+written_tape Vs v d = refl
+written_tape Cap2 v d = refl
+written_tape Bohc v d = refl
 
 all_one : {X : Type 0} (P : X → Type 0) (x : X) → P x → All P (x ∷ [])
 all_one P x here zero d small = here

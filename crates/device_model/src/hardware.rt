@@ -152,6 +152,7 @@ impl Hardware {
         ensures steps { (o : Outside) → Steps (device_of self.old o) (device_of self.new o) }
         ensures ended { self.new.hr ≡ false }
         ensures number { length self.new.ports ≡ length self.old.ports }
+        ensures tape { self.new.tape ≡ self.old.tape }
     {
         if self.hr {
             self.hr = false;
@@ -169,6 +170,7 @@ impl Hardware {
         ensures others { (o : Outside) (q : ℕ) → q ≢ port → (device_of self.new o).port q ≡ (device_of self.old o).port q }
         ensures number { length self.new.ports ≡ length self.old.ports }
         ensures reset { self.new.hr ≡ self.old.hr }
+        ensures tape { self.new.tape ≡ self.old.tape }
     {
         self.ports[port].settle();
     }
@@ -178,6 +180,7 @@ impl Hardware {
     pub fn settle(&mut self)
         ensures steps { (o : Outside) → Steps (device_of self.old o) (device_of self.new o) }
         ensures settled { (o : Outside) → IsSettled (device_of self.new o) }
+        ensures tape { self.new.tape ≡ self.old.tape }
     {
         self.end_reset();
         for port in 0..4 {

@@ -4,9 +4,9 @@ ghost use Rattle.adapter.specs.Commands.{Meaning, is_ranged};
 ghost use Rattle.adapter.specs.Device.{Taken, IsSector};
 ghost use Rattle.adapter.specs.Idle.{IsIdle, IsSane};
 ghost use Rattle.adapter.specs.OneCommand.{IsFreeSlot};
-ghost use Rattle.adapter.specs.Access.{Reads};
+ghost use Rattle.adapter.specs.Access.{Reads, Writes, Loads, Stores};
 ghost use Rattle.adapter.specs.Memory.{bytes_at};
-ghost use Rattle.adapter.specs.Rules.{MayRead};
+ghost use Rattle.adapter.specs.Rules.{MayRead, MayWrite, IsFree, Stays};
 ghost use Rattle.adapter.specs.Steps.{Steps, Can, after, disk_after};
 ghost use Rattle.adapter.specs.Steps.Step.{Fetch, Move, Done, Unplug};
 ghost use Rattle.adapter.specs.Asked.{DoesMove, GoesOn, Asked};
@@ -315,6 +315,7 @@ impl<S: SectorStore> Adapter for Model<S> {
         requires { MayRead r (device_at S.size S.told self.old) }
         ensures reads { Reads r result (device_at S.size S.told self.old) (device_at S.size S.told self.new) }
         ensures settled { IsSettled (device_at S.size S.told self.new) }
+        ensures pages { KeepsPages S.size self.old self.new }
     {
         self.do_queued();
         self.hardware.settle();
@@ -323,17 +324,29 @@ impl<S: SectorStore> Adapter for Model<S> {
         value
     }
 
-    fn write(&mut self, r: Reg, v: u32) {
+    fn write(&mut self, r: Reg, v: u32)
+        requires { Stays (MayWrite r v) (device_at S.size S.told self.old) }
+        ensures writes { Writes r v (device_at S.size S.told self.old) (device_at S.size S.told self.new) }
+        ensures pages { KeepsPages S.size self.old self.new }
+    {
         self.do_queued();
         self.hardware.write(r, v);
     }
 
-    fn load(&mut self, addr: u32, out: &mut [u8]) {
+    fn load(&mut self, addr: u32, out: &mut [u8])
+        requires { Stays (IsFree addr (length out.old)) (device_at S.size S.told self.old) }
+        ensures loads { Loads addr out.new (device_at S.size S.told self.old) (device_at S.size S.told self.new) }
+        ensures pages { KeepsPages S.size self.old self.new }
+    {
         self.do_queued();
         self.hardware.load(addr as usize, out);
     }
 
-    fn store(&mut self, addr: u32, bytes: &[u8]) {
+    fn store(&mut self, addr: u32, bytes: &[u8])
+        requires { Stays (IsFree addr (length bytes.now)) (device_at S.size S.told self.old) }
+        ensures stores { Stores addr bytes.now (device_at S.size S.told self.old) (device_at S.size S.told self.new) }
+        ensures pages { KeepsPages S.size self.old self.new }
+    {
         self.do_queued();
         self.hardware.store(addr as usize, bytes);
     }

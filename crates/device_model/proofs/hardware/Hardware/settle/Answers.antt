@@ -18,6 +18,7 @@ loop-port-init c =
       settled = λ o q small. absurd (omega (arith, small));
       number = c.end_reset.ensures.number ∙ four;
       ended = c.end_reset.ensures.ended;
+      tape = c.end_reset.ensures.tape;
     }
 
 pub loop-port-preserved : goal.loop-port-preserved
@@ -33,6 +34,7 @@ loop-port-preserved c = record {
       (c.settle_port.ensures.settled o);
   number = c.settle_port.ensures.number ∙ c.loop-port.invariant.number;
   ended = c.settle_port.ensures.reset ∙ c.loop-port.invariant.ended;
+  tape = c.settle_port.ensures.tape ∙ c.loop-port.invariant.tape;
 }
 
 pub returns-clause-steps : goal.returns-clause-steps
@@ -57,3 +59,6 @@ returns-clause-settled c = λ o.
       areas = λ q may. (all q).area may.0 may.1 may.2;
       links = λ q sig n may. (all q).link sig may;
     }
+
+pub returns-clause-tape : goal.returns-clause-tape
+returns-clause-tape c = c.loop-port.invariant.tape

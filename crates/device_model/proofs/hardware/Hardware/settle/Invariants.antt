@@ -10,4 +10,5 @@ invariant-loop-port l = record {
   settled : (o : Outside) (q : ℕ) → q < l.port → IsSettledPort ((device_of l.self o).port q);
   number : length l.self.ports ≡ 4;
   ended : l.self.hr ≡ false;
+  tape : l.self.tape ≡ l.fn.self.tape;
 }

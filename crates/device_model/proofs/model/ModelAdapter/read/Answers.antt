@@ -1,10 +1,13 @@
 use Rattle.adapter.proofs.Runs.{Steps-trans}
-use Rattle.std.proofs.Common.{subst, sym}
+use Rattle.std.proofs.Common.{subst, sym, refl, ap, ◌∙◌}
 use Rattle.adapter.specs.Device.{Device}
 use Rattle.device_model.specs.Settled.{IsSettled}
 use Rattle.device_model.specs.Modelled.{outside_at}
 use Rattle.device_model.specs.Whole.{Outside, device_of}
 use Rattle.device_model.proofs.Ports.{has_port_read, noted_settled}
+use Rattle.device_model.proofs.Telling.{keeps_on, keeps_tape, noted_tape}
+use Rattle.std.specs.Global.{Vec}
+use Rattle.adapter.specs.declared.tape.Entry.{Entry}
 use Rattle.device_model.proofs.model.ModelAdapter.read.Goals as goal
 
 pub shown-value-requires : goal.shown-value-requires
@@ -22,3 +25,9 @@ returns-clause-settled g c =
     let o : Outside = outside_at g.S.SectorStore.size g.S.SectorStore.told m in
     let P : Device → Type 0 = λ d. IsSettled d in
     subst P (sym (c.note.ensures o)) (noted_settled c.args.r c.shown-value.result (device_of c.settle.new.self o) (c.settle.ensures.settled o))
+
+pub returns-clause-pages : goal.returns-clause-pages
+returns-clause-pages g c =
+    let o : Outside = outside_at g.S.SectorStore.size g.S.SectorStore.told c.do_queued.new.self in
+    keeps_on g.S.SectorStore.size _ _ _ c.do_queued.ensures.pages
+    (keeps_tape g.S.SectorStore.size c.do_queued.new.self _ refl refl (ap (λ (d : Device). d.tape) (c.note.ensures o) ∙ (noted_tape c.args.r c.shown-value.result (device_of c.settle.new.self o) ∙ ap (λ (v : Vec Entry). v.items) c.settle.ensures.tape)))
