@@ -1,14 +1,15 @@
 -- What a port does by itself is steps, which compose.
-use Rattle.std.proofs.Common.{ℕ, true, false, ◌≡◌, None, replicate, refl, sym, ◌∙◌, ap, subst, inl, inr, arith}
+use Rattle.std.proofs.Common.{ℕ, Bool, zero, suc, true, false, ◌≡◌, None, replicate, refl, sym, ◌∙◌, ap, subst, inl, inr, arith}
 use Rattle.std.proofs.lemmas.Bool.Decides.{eqb_tells}
 use Rattle.adapter.specs.Device.{PortState, Device}
 use Rattle.adapter.specs.Memory.{changed}
-use Rattle.adapter.specs.Steps.{Steps, with_link, with_port, with_reset}
+use Rattle.adapter.specs.Asked.{DoesOne, DoesSome, GoesOn}
+use Rattle.adapter.specs.Steps.{MayLinkUp, Steps, with_done, with_fetch, with_link, with_move, with_port, with_reset}
 use Rattle.adapter.specs.Steps.Step.{Fall, FrFall, LinkUp}
 use Rattle.adapter.proofs.Changed.{fun_ext, changed_same, changed_other, changed_each}
 use Rattle.adapter.proofs.Runs.{Steps-refl, Steps-one, Steps-trans}
 use Rattle.device_model.specs.Bits.{bits_of}
-use Rattle.device_model.specs.Settled.{GoesTo, IsSettledPort}
+use Rattle.device_model.specs.Settled.{GoesTo, IsSettled, IsSettledPort}
 use Rattle.device_model.specs.View.{Media, port_of, slots_of, blank}
 use Rattle.device_model.proofs.NewModel.{zero_bit, slots_none}
 
@@ -76,3 +77,63 @@ blank_reset m = λ i. record (port_of blank m) { ci = sym no_bits i; sact = sym 
 
 pub blank_settled : (m : Media) → IsSettledPort (port_of blank m)
 blank_settled m = record { engine = λ _ cr. cc; area = λ _ _ fr. cc; link = λ sig may. let e : false ≡ true = may.present in cc }
+
+-- ---- a command goes on, and what the model does by itself stays done
+
+record SameControls (p new : PortState) : Type 0 where
+  st : new.st ≡ p.st
+  cr : new.cr ≡ p.cr
+  fre : new.fre ≡ p.fre
+  fr : new.fr ≡ p.fr
+  present : new.present ≡ p.present
+  det : new.sctl_det ≡ p.sctl_det
+  due : new.link_due ≡ p.link_due
+
+settled_with : (old new : Device) (port : ℕ) (p : PortState) → new.hr ≡ old.hr → new.port ≡ changed old.port port p → SameControls (old.port port) p →
+    IsSettled old → IsSettled new
+settled_with old new port p hr is same settled =
+    let ports : (P : ℕ → PortState → Type 0) → P port p → ((k : ℕ) → P k (old.port k)) → (k : ℕ) → P k (new.port k) =
+    λ (P : ℕ → PortState → Type 0) (here : P port p) (others : (k : ℕ) → P k (old.port k)) (k : ℕ).
+    subst (λ (f : ℕ → PortState). P k (f k)) (sym is) (changed_each old.port port p P here others k) in
+    record {
+      reset = λ on. settled.reset (sym hr ∙ on);
+      engines = ports (λ k x. (x.st ≡ false) × (x.cr ≡ true) → ⊥) (λ may. settled.engines port (sym same.st ∙ may.0, sym same.cr ∙ may.1)) settled.engines;
+      areas = ports (λ k x. (x.fre ≡ false) × (x.cr ≡ false) × (x.fr ≡ true) → ⊥)
+          (λ may. settled.areas port (sym same.fre ∙ may.0, sym same.cr ∙ may.1, sym same.fr ∙ may.2)) settled.areas;
+      links = λ k sig n.
+          ports (λ q x. MayLinkUp x sig → ⊥)
+          (λ may. settled.links port sig n
+          (record {
+            present = sym same.present ∙ may.present;
+            det = sym same.det ∙ may.det;
+            due = sym same.due ∙ may.due;
+            fits = may.fits;
+          }))
+          (λ q may. settled.links q sig n may) k;
+    }
+
+-- what a step of a command changes is none of these
+abbrev same : (p new : PortState) → new.st ≡ p.st → new.cr ≡ p.cr → new.fre ≡ p.fre → new.fr ≡ p.fr → new.present ≡ p.present →
+    new.sctl_det ≡ p.sctl_det → new.link_due ≡ p.link_due → SameControls p new
+same p new st cr fre fr present det due = record { st = st; cr = cr; fre = fre; fr = fr; present = present; det = det; due = due }
+
+one_settled : (port slot : ℕ) (old new : Device) → DoesOne port slot old new → IsSettled old → IsSettled new
+one_settled port slot old new (inl f) =
+    settled_with old new port (with_fetch (old.port port) slot f.meaning f.places) (ap (λ (d : Device). d.hr) f.effect) (ap (λ (d : Device). d.port) f.effect)
+    (same _ _ refl refl refl refl refl refl refl)
+one_settled port slot old new (inr (inl m)) =
+    settled_with old new port (with_move (old.port port) slot m.t m.bytes) (ap (λ (d : Device). d.hr) m.effect) (ap (λ (d : Device). d.port) m.effect)
+    (same _ _ refl refl refl refl refl refl refl)
+one_settled port slot old new (inr (inr e)) =
+    settled_with old new port (with_done (old.port port) slot e.flag e.t.meaning.operation) (ap (λ (d : Device). d.hr) e.effect)
+    (ap (λ (d : Device). d.port) e.effect) (same _ _ refl refl refl refl refl refl refl)
+
+some_settled : (n port slot : ℕ) (old new : Device) → DoesSome n port slot old new → IsSettled old → IsSettled new
+some_settled zero port slot old new e settled = let P : Device → Type 0 = λ d. IsSettled d in subst P (sym e) settled
+some_settled (suc n) port slot old new s settled = one_settled port slot s.0 new s.2 (some_settled n port slot old s.0 s.1 settled)
+
+-- a command went on, or didn't
+pub gone_settled : (port slot : ℕ) (did : Bool) (old new : Device) → (did ≡ true → GoesOn port slot old new) → (did ≡ false → new ≡ old) →
+    IsSettled old → IsSettled new
+gone_settled port slot true old new went stayed settled = let g = went refl in some_settled (suc g.0) port slot old new g.1 settled
+gone_settled port slot false old new went stayed settled = let P : Device → Type 0 = λ d. IsSettled d in subst P (sym (stayed refl)) settled

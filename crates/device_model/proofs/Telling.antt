@@ -19,13 +19,8 @@ use Rattle.device_model.specs.View.{operation_of}
 use Rattle.device_model.specs.Whole.{Outside, device_of}
 use Rattle.device_model.specs.declared.model.Model.{Model}
 use Rattle.device_model.specs.declared.port.Transfer.{Transfer}
+use Rattle.device_model.proofs.Transfers.{is_identify}
 use Rattle.device_model.specs.declared.port.Transfer.TheVariants as transfer
-
--- the command whose operation is IDENTIFY DEVICE
-pub is_identify : (k : Transfer) → operation_of k ≡ Identify → k ≡ transfer.Identify
-is_identify transfer.Read e = cc
-is_identify transfer.Write e = cc
-is_identify transfer.Identify e = refl
 
 -- a reading and a write leave the tape
 pub noted_tape : (r : Reg) (v : ℕ) (d : Device) → (noted r v d).tape ≡ d.tape

@@ -7,7 +7,7 @@ use Rattle.adapter.specs.Device.{Disk, Taken, PortState}
 use Rattle.adapter.specs.Memory.{changed}
 use Rattle.adapter.specs.Steps.{IsAlone, block_after, disk_after}
 use Rattle.adapter.specs.declared.command.Operation.{Operation}
-use Rattle.adapter.specs.declared.command.Operation.TheVariants.{Write, Trim}
+use Rattle.adapter.specs.declared.command.Operation.TheVariants.{Identify, Write, Trim}
 use Rattle.adapter.proofs.Absurd.{true-false}
 use Rattle.device_model.specs.View.{Takes, operation_of}
 use Rattle.device_model.specs.declared.port.Transfer.{Transfer}
@@ -67,3 +67,9 @@ one_replaced f sector bytes = refl
 pub replaced_is : (told : Option (ℕ → List ℕ)) (sector : ℕ) (bytes : List ℕ) →
     option_map (λ f. replaced f sector bytes) told ≡ option_map (λ f. changed f sector bytes) told
 replaced_is told sector bytes = ap (λ (g : (ℕ → List ℕ) → ℕ → List ℕ). option_map g told) (λ i f. one_replaced f sector bytes i)
+
+-- the command whose operation is IDENTIFY DEVICE
+pub is_identify : (k : Transfer) → operation_of k ≡ Identify → k ≡ transfer.Identify
+is_identify transfer.Read e = cc
+is_identify transfer.Write e = cc
+is_identify transfer.Identify e = refl

@@ -6,6 +6,7 @@ use Rattle.adapter.specs.Device.{Taken, Device}
 use Rattle.adapter.specs.Steps.{Can, WorksOn, begun, next_place, next_sector}
 use Rattle.adapter.specs.Steps.Step.{Fetch}
 use Rattle.adapter.specs.declared.command.Operation.{Operation}
+use Rattle.adapter.specs.declared.command.Operation.TheVariants.{Identify}
 use Rattle.adapter.specs.declared.command.Prd.{Prd}
 use Rattle.device_model.specs.View.{Takes}
 use Rattle.device_model.specs.declared.hardware.Hardware.{Hardware}
@@ -55,3 +56,9 @@ pub record IsReady (d : Device) (port slot sectors left : ℕ) : Type 0 where
   pub takes : Takes t.meaning.operation
   pub covered : IsCovered t d.size sectors left
   pub begins : WorksOn (d.port port) slot t t.meaning.operation ⊎ (Can (Fetch port slot t.meaning t.places) d × (t ≡ begun t.meaning t.places))
+
+-- port 0 works on an IDENTIFY DEVICE in this slot, or may take one there
+pub record HasIdentify (d : Device) (slot : ℕ) : Type 0 where
+  pub t : Taken
+  pub identifies : t.meaning.operation ≡ Identify
+  pub begins : WorksOn (d.port 0) slot t t.meaning.operation ⊎ Can (Fetch 0 slot t.meaning t.places) d

@@ -248,9 +248,10 @@ pub fn piece_at(prds: &[Prd; 128], number: u32) -> Option<u64>
 }
 
 /// The command that the bytes of a slot say, if it is such a one.
-fn read_as(memory: &[u8], list: u32, slot: u8, transfer: Transfer) -> Option<TakenCommand>
+pub fn read_as(memory: &[u8], list: u32, slot: u8, transfer: Transfer) -> Option<TakenCommand>
     requires { slot < 32 }
     ensures found { IfSome result (λ t. (t.moved ≡ 0) × Says (bytes_of memory.now) list slot (taken_of t).meaning (taken_of t).places) }
+    ensures kind { IfSome result (λ t. t.transfer ≡ transfer) }
     ensures only { result ≡ None → (m : Meaning) (places : List ℕ) → m.operation ≡ operation_of transfer → Says (bytes_of memory.now) list slot m places → ⊥ }
 {
     let writes = transfer.reads_memory();

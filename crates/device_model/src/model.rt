@@ -11,7 +11,7 @@ ghost use Rattle.adapter.specs.Steps.{Steps, Can, after, disk_after};
 ghost use Rattle.adapter.specs.Steps.Step.{Fetch, Move, Done, Unplug};
 ghost use Rattle.adapter.specs.Asked.{DoesMove, GoesOn, Asked};
 ghost use Rattle.device_model.specs.Fetched.{bytes_of};
-ghost use Rattle.device_model.specs.Finishing.{HasDisk, HasMove, HasRoom, IsReady};
+ghost use Rattle.device_model.specs.Finishing.{HasDisk, HasIdentify, HasMove, HasRoom, IsReady};
 ghost use Rattle.device_model.specs.Paged.{KeepsPages, serial_of_disk0};
 ghost use Rattle.device_model.specs.Queue.{DoesEach, due, not_due};
 ghost use Rattle.device_model.specs.Modelled.{device_at, cap_of, IsNew};
@@ -209,6 +209,23 @@ impl<S: SectorStore> Model<S> {
         self.hardware.done(port, slot) || did
     }
 
+    /// Goes on with each IDENTIFY DEVICE of port 0, slot by slot, if it can be done to its end. Where there is none, nothing
+    /// changes.
+    fn identify(&mut self)
+        ensures steps { Steps (device_at S.size S.told self.old) (device_at S.size S.told self.new) }
+        ensures settled { IsSettled (device_at S.size S.told self.old) → IsSettled (device_at S.size S.told self.new) }
+        ensures alone { ((slot : ℕ) → HasIdentify (device_at S.size S.told self.old) slot → ⊥) → device_at S.size S.told self.new ≡ device_at S.size S.told self.old }
+        ensures pages { KeepsPages S.size self.old self.new }
+        ensures queue { self.new.queue ≡ self.old.queue }
+        ensures accesses { self.new.accesses ≡ self.old.accesses }
+    {
+        for slot in 0..32 {
+            if self.hardware.has_identify(slot) {
+                let _did = self.finish(0, slot);
+            }
+        }
+    }
+
     /// Has the device do a step.
     fn do_step(&mut self, s: &DeviceStep) -> bool
         ensures asked { result ≡ true → Asked s.now (device_at S.size S.told self.old) (device_at S.size S.told self.new) }
@@ -310,7 +327,7 @@ impl<S: SectorStore> Adapter for Model<S> {
     ghost device = { λ m. device_at S.size S.told m };
 
     /// Before the value is read, a pending reset ends, each CR and FR that may fall does, and each link that may come up
-    /// does.
+    /// does. Then each IDENTIFY DEVICE of port 0 is done that can be done to its end.
     fn read(&mut self, r: Reg) -> u32
         requires { MayRead r (device_at S.size S.told self.old) }
         ensures reads { Reads r result (device_at S.size S.told self.old) (device_at S.size S.told self.new) }
@@ -319,6 +336,7 @@ impl<S: SectorStore> Adapter for Model<S> {
     {
         self.do_queued();
         self.hardware.settle();
+        self.identify();
         let value = self.hardware.shown(r);
         self.hardware.note(r, value);
         value

@@ -9,13 +9,13 @@ ghost use Rattle.adapter.specs.Steps.{Can, after, next_sector};
 ghost use Rattle.adapter.specs.Steps.Step.{Fetch as FetchStep, Move as MoveStep, Done as DoneStep, Unplug as UnplugStep};
 ghost use Rattle.adapter.specs.Asked.{DoesFetch, DoesDone};
 ghost use Rattle.device_model.specs.Fetched.{bytes_of};
-ghost use Rattle.device_model.specs.Finishing.{HasRoom, IsInside, AreInside, IsCovered, IsReady};
+ghost use Rattle.device_model.specs.Finishing.{HasIdentify, HasRoom, IsInside, AreInside, IsCovered, IsReady};
 ghost use Rattle.device_model.specs.Slots.{HoldsAt, IsNext};
 ghost use Rattle.device_model.specs.View.{Takes, operation_of, taken_of, blank};
 ghost use Rattle.device_model.specs.Whole.{Outside, device_of, outside_after};
 ghost use Rattle.device_model.specs.declared.port.TakenCommand.{TakenCommand};
 
-use crate::fetch::{count_pieces, piece_at, read_command};
+use crate::fetch::{count_pieces, piece_at, read_as, read_command};
 use crate::hardware::{Hardware, put};
 use crate::port::{TakenCommand, Transfer};
 use crate::slots::{may_take, working_on};
@@ -130,6 +130,23 @@ impl Hardware {
         };
         self.ports[place].take(slot, command);
         true
+    }
+
+    /// Whether a slot of port 0 has an IDENTIFY DEVICE that may be taken, or is taken and worked on.
+    pub fn has_identify(&self, slot: u8) -> bool
+        requires { slot < 32 }
+        ensures has { result ≡ true → (o : Outside) → HasIdentify (device_of self.now o) slot }
+        ensures only { result ≡ false → (o : Outside) → HasIdentify (device_of self.now o) slot → ⊥ }
+    {
+        if may_take(&self.ports, 0, slot) {
+            let list = self.ports[0].addresses.clb;
+            read_as(&self.memory, list, slot, Transfer::Identify).is_some()
+        } else {
+            match working_on(&self.ports, 0, slot) {
+                Some(command) => matches!(command.transfer, Transfer::Identify),
+                None => false,
+            }
+        }
     }
 
     /// The next move of a slot's command, if one is left and its place is in the memory.

@@ -32,6 +32,7 @@ const FINISH: DeviceStep = DeviceStep::Finish(Port(0), Slot(0));
 fn read<S: SectorStore>(model: &mut Model<S>, r: PortReg) -> u32 {
     model.do_queued();
     model.hardware.settle();
+    model.identify();
     model.hardware.shown(Reg::Px(Port(0), r))
 }
 
@@ -330,6 +331,29 @@ fn an_identify_device_goes_step_by_step(rt: HostRuntime) -> Result<(), Fail> {
     assert!(rt; !step(&mut model, DeviceStep::Move(Port(0), Slot(0))));
     assert!(rt; step(&mut model, DeviceStep::Done(Port(0), Slot(0))));
     assert_eq!(rt; model.tape().len(), 2);
+    Ok(())
+}
+
+#[test]
+fn an_identify_device_is_done_before_a_reading(rt: HostRuntime) -> Result<(), Fail> {
+    let mut model = issued(rt.alloc())?;
+    issue_identify(&mut model);
+    assert_eq!(rt; model.tape().len(), 0);
+    assert_eq!(rt; read(&mut model, PortReg::Ci), 0);
+    for at in 0..512usize {
+        let byte = model.hardware.memory.get(0x28000 + at).copied();
+        assert_eq!(rt; byte, Some(page_byte(at)));
+    }
+    assert_eq!(rt; model.tape().len(), 2);
+    // One that was taken goes on, too.
+    write(&mut model, PortReg::Ci, 1);
+    assert!(rt; step(&mut model, DeviceStep::Fetch(Port(0), Slot(0))));
+    assert_eq!(rt; read(&mut model, PortReg::Tfd) & 0x80, 0);
+    assert_eq!(rt; model.tape().len(), 4);
+    // And a read waits.
+    issue(&mut model);
+    assert_eq!(rt; read(&mut model, PortReg::Ci), 1);
+    assert_eq!(rt; model.tape().len(), 4);
     Ok(())
 }
 
