@@ -13,8 +13,8 @@ use ata_types::{ClientId, Frame, GrantRow, Op, Port, Request, Rights, Sector, Sl
 use block_server::laws::{histories_are_runs, reads_hold};
 use block_server::{Event, Said, Server, Setup, SetupError};
 use device_model::laws::disks_are_told;
-use device_model::sector_store::{MemStore, SectorStore};
 use device_model::{Model, ModelConfig, Trim};
+use sector_store::{MemStore, SectorStore};
 use std::alloc::{AllocError, Global};
 
 /// The sectors of the disk.

@@ -1,21 +1,19 @@
 -- PRDs, one more at the end; and the bytes of a slot, one way and the other.
-use Rattle.std.proofs.Common.{ℕ, Bool, zero, suc, ◌^◌, replicate, length-take, ◌≡◌, ◌<◌, ◌≤◌, ◌+◌, ◌-◌, ◌*◌, ◌/◌, List, [], ◌∷◌, ◌++◌, length, take, drop, All, slice_index, slice_index_or, refl, sym, ◌∙◌, ap, arith, subst, append_assoc, length-append}
+use Rattle.std.proofs.Common.{ℕ, Bool, zero, suc, replicate, length-take, ◌≡◌, ◌<◌, ◌≤◌, ◌+◌, ◌-◌, ◌*◌, ◌/◌, List, [], ◌∷◌, ◌++◌, length, take, drop, All, slice_index, slice_index_or, refl, sym, ◌∙◌, ap, arith, subst, append_assoc, length-append}
 use Rattle.std.specs.Prelude.{slice_set}
 use Rattle.std.proofs.Math.Seq.{take-suc-set}
 use Rattle.std.proofs.lemmas.List.{drop_all, get_or_append_left, get_or-append_right}
 use Rattle.std.proofs.lemmas.List.Elements.{All-append}
 use Rattle.adapter.specs.Memory.{bytes_at}
-use Rattle.adapter.specs.Commands.{Meaning, command_of, is_ranged, reads_memory, pieces_moved}
+use Rattle.adapter.specs.Commands.{IsMeaning, Meaning, command_of, reads_memory, pieces_moved}
 use Rattle.adapter.specs.Spelling.{SpellsPrd, SpellsHeader, SpellsCommand}
 use Rattle.adapter.specs.Says.{HasPrds, IsWhole, Says, pieces, cut}
 use Rattle.adapter.specs.declared.command.Operation.{Operation}
 use Rattle.adapter.specs.declared.command.Prd.{Prd}
-use Rattle.adapter.proofs.Absurd.{true-false}
 use Rattle.adapter.proofs.SaysLemmas.{cut_length, cut_index}
 use Rattle.device_model.specs.Fetched.{ArePrds, IsPadded, no_prd}
 use Rattle.device_model.specs.View.{operation_of}
 use Rattle.device_model.specs.declared.port.Transfer.{Transfer}
-use Rattle.device_model.proofs.Transfers.{ranged, as_many}
 
 abbrev Here : (ℕ → ℕ) → ℕ → Prd → Type 0
 Here memory at e = SpellsPrd (bytes_at memory at 16) e
@@ -168,19 +166,20 @@ whole_more i xs e small all here =
 pub says_command : (k : Transfer) (memory : ℕ → ℕ) (list slot table entries first count : ℕ) (xs : List Prd) →
     SpellsHeader (bytes_at memory (list + 32 * slot) 32) (reads_memory (operation_of k)) entries table →
     SpellsCommand (bytes_at memory table 20) (command_of (operation_of k) slot first count) →
-    1 ≤ count → count ≤ 65536 → first < 2 ^ 48 → entries ≤ 128 → ArePrds memory (table + 128) entries xs → length (pieces xs) ≡ count →
+    IsMeaning (record { operation = operation_of k; first = first; count = count }) → entries ≤ 128 → ArePrds memory (table + 128) entries xs →
+    length (pieces xs) ≡ pieces_moved (operation_of k) count →
     Says memory list slot (record { operation = operation_of k; first = first; count = count }) (pieces xs)
-says_command k memory list slot table entries first count xs header fis some most below few are all = record {
+says_command k memory list slot table entries first count xs header fis meaning few are all = record {
   table = table;
   prds = are.standing;
   header = subst (λ n. SpellsHeader (bytes_at memory (list + 32 * slot) 32) (reads_memory (operation_of k)) n table) (sym are.number_is) header;
   fis = fis;
-  meaning = record { ranged = λ _. (some, most, below); not_ranged = λ no. true-false (ranged k) no };
+  meaning = meaning;
   stand = are.stand;
   few = omega (arith, are.number_is);
   whole = are.whole;
   in_order = are.same;
-  as_many = all ∙ sym (as_many k count);
+  as_many = all;
 }
 
 -- ---- what a command of this kind says
@@ -193,8 +192,8 @@ module _ (k : Transfer) (memory : ℕ → ℕ) (list slot : ℕ) (m : Meaning) (
   pub said_command : SpellsCommand (bytes_at memory s.table 20) (command_of (operation_of k) slot m.first m.count)
   said_command = subst (λ (o : Operation). SpellsCommand (bytes_at memory s.table 20) (command_of o slot m.first m.count)) is s.fis
 
-  pub said_range : (1 ≤ m.count) × (m.count ≤ 65536) × (m.first < 2 ^ 48)
-  said_range = s.meaning.ranged (ap is_ranged is ∙ ranged k)
+  pub said_meaning : IsMeaning (record { operation = operation_of k; first = m.first; count = m.count })
+  said_meaning = subst (λ (o : Operation). IsMeaning (record { operation = o; first = m.first; count = m.count })) is s.meaning
 
-  pub said_count : length (pieces s.prds) ≡ m.count
-  said_count = ap length (sym s.in_order) ∙ (s.as_many ∙ (ap (λ (o : Operation). pieces_moved o m.count) is ∙ as_many k m.count))
+  pub said_count : length (pieces s.prds) ≡ pieces_moved (operation_of k) m.count
+  said_count = ap length (sym s.in_order) ∙ (s.as_many ∙ ap (λ (o : Operation). pieces_moved o m.count) is)

@@ -1,5 +1,5 @@
 -- A read or write that may be done is taken, goes on piece by piece, and ends.
-use Rattle.std.proofs.Common.{ℕ, Bool, true, false, suc, ◌≡◌, ◌<◌, ◌≤◌, ◌+◌, ◌⊎◌, ◌&&◌, List, length, slice_index, slice_index_or, Option, None, Some, refl, sym, ◌∙◌, ap, subst, inl, inr, arith}
+use Rattle.std.proofs.Common.{ℕ, Bool, true, false, suc, ◌≡◌, ◌≢◌, ◌<◌, ◌≤◌, ◌+◌, ◌^◌, ◌⊎◌, ◌&&◌, List, length, slice_index, slice_index_or, Option, None, Some, refl, sym, ◌∙◌, ap, subst, inl, inr, arith}
 use Rattle.std.specs.Prelude.{option_map, is_some, if◌then◌else◌}
 use Rattle.std.proofs.lemmas.Bool.Decides.{eqb_tells}
 use Rattle.adapter.specs.Asked.{DoesFetch, DoesMove, DoesDone}
@@ -11,10 +11,10 @@ use Rattle.adapter.specs.Says.{pieces}
 use Rattle.adapter.specs.Steps.{Can, IsWorking, WorksOn, admits, begun, Brings, next_sector, with_fetch, with_move, with_done, block_after, disk_after}
 use Rattle.adapter.specs.Steps.Step.{Fetch, Move, Done}
 use Rattle.adapter.specs.declared.command.Operation.{Operation}
-use Rattle.adapter.proofs.Absurd.{some-none, some_one}
+use Rattle.adapter.proofs.Absurd.{some-none, some_one, true-false}
 use Rattle.adapter.proofs.Changed.{fun_ext, changed_same, changed_other}
 use Rattle.adapter.proofs.SaysLemmas.{says_meaning, says_places}
-use Rattle.device_model.specs.Finishing.{HasMove, IsCovered, IsGoing, IsReady}
+use Rattle.device_model.specs.Finishing.{HasDisk, HasMove, IsCovered, IsGoing, IsReady}
 use Rattle.device_model.specs.Slots.{HoldsAt}
 use Rattle.device_model.specs.View.{Takes, media_after, operation_of, taken_of, blank}
 use Rattle.device_model.specs.Whole.{Outside, device_of, no_media, outside_of, outside_after}
@@ -24,7 +24,7 @@ use Rattle.device_model.specs.declared.port.TakenCommand.{TakenCommand}
 use Rattle.device_model.specs.declared.port.Transfer.{Transfer}
 use Rattle.device_model.specs.declared.port.Transfer.TheVariants as transfer
 use Rattle.device_model.specs.declared.steps.NextMove.{NextMove}
-use Rattle.device_model.proofs.Transfers.{is_taken, no_trim, plain, ranged, sector_of, still_tells, transfer_of}
+use Rattle.device_model.proofs.Transfers.{is_taken, no_trim, plain, still_tells, transfer_of}
 
 -- ---- a command goes on
 
@@ -168,7 +168,7 @@ pub record MoveFits (h : Hardware) (port slot size : ℕ) : Type 0 where
   pub holds : HoldsAt (slice_index_or h.ports port blank) slot r
   pub left : r.moved < length (pieces r.prds)
   pub inside : slice_index (pieces r.prds) r.moved + 512 ≤ length h.memory.items
-  pub on_disk : r.first + r.moved < size
+  pub on_disk : is_ranged (operation_of r.transfer) ≡ true → next_sector (taken_of r) < size
 
 pub move_fits : (h : Hardware) (o : Outside) (d : Device) (port slot : ℕ) (t : Taken) → port ≡ 0 → device_of h o ≡ d → HasMove d port slot t →
     MoveFits h port slot (o.media 0).disk.size
@@ -178,21 +178,44 @@ move_fits h o d port slot t zero same move =
     let w = holds h o port slot t t.meaning.operation on_port.works in
     let Q : Taken → Type 0 = λ x. HasMove (device_of h o) port slot x in
     let here : HasMove (device_of h o) port slot (taken_of w.0) = subst Q w.2 on_port in
-    let R : ℕ → Type 0 = λ q. next_sector (taken_of w.0) < (o.media q).disk.size in
-    let small : next_sector (taken_of w.0) < (o.media 0).disk.size = subst R zero here.on_disk in
-    let sector : next_sector (taken_of w.0) ≡ w.0.first + w.0.moved = sector_of w.0 in
-    record { r = w.0; holds = w.1; left = here.left; inside = here.inside; on_disk = rw sector at small }
+    let R : ℕ → Type 0 = λ q. is_ranged (operation_of w.0.transfer) ≡ true → next_sector (taken_of w.0) < (o.media q).disk.size in
+    record { r = w.0; holds = w.1; left = here.left; inside = here.inside; on_disk = subst R zero here.on_disk }
+
+-- no port but port 0 has a disk
+pub no_move : (h : Hardware) (disk : Disk) (other : Option (ℕ → List ℕ)) (plugged : List Disk) (port slot : ℕ) (t : Taken) → port ≢ 0 →
+    HasMove (device_of h (outside_of disk other plugged)) port slot t → ⊥
+no_move h disk other plugged port slot t ne move =
+    elim move.has_disk [
+      | inl zero ↦ ne zero
+      | inr ranged ↦
+          let none : ((outside_of disk other plugged).media port).disk.size ≡ 0 =
+          elim (eqb_tells port 0) [ inl here ↦ absurd (ne here.1) | inr there ↦ rw there.0 refl ] in
+          let at = move.on_disk ranged in
+          absurd (omega (arith, at, none))
+    ]
+
+-- the sector that it moves next has a number
+pub sector_small : (r : TakenCommand) (size : ℕ) → size < 2 ^ 64 → (is_ranged (operation_of r.transfer) ≡ true → next_sector (taken_of r) < size) →
+    next_sector (taken_of r) < 2 ^ 64
+sector_small r size few small = by (is_ranged (operation_of r.transfer)) refl
+  where
+    by : (b : Bool) → is_ranged (operation_of r.transfer) ≡ b → next_sector (taken_of r) < 2 ^ 64
+    by true e = let at = small e in omega (arith, at, few)
+    by false e = let none : next_sector (taken_of r) ≡ 0 = ap (λ b. if b then r.first + r.moved else 0) e in omega (arith, none)
 
 -- where a move is possible, it has its place and its sector
-pub has_move : (d : Device) (port slot : ℕ) (t : Taken) (bytes : List ℕ) → Takes t.meaning.operation → Can (Move port slot t bytes) d → HasMove d port slot t
-has_move d port slot t bytes takes can =
+pub has_move : (d : Device) (port slot : ℕ) (t : Taken) (bytes : List ℕ) → Takes t.meaning.operation → HasDisk port t.meaning.operation → Can (Move port slot t bytes) d →
+    HasMove d port slot t
+has_move d port slot t bytes takes disk can =
     let kind = transfer_of t.meaning.operation takes in
     let P : Operation → Type 0 = λ o. Brings (d.port port).disk d.memory t o bytes in
-    record { works = can.works; left = can.left; inside = can.inside; on_disk = by kind.0 (subst P kind.1 can.brings) }
+    record { works = can.works; left = can.left; inside = can.inside; on_disk = by kind.0 kind.1 (subst P kind.1 can.brings); has_disk = disk }
   where
-    by : (k : Transfer) → Brings (d.port port).disk d.memory t (operation_of k) bytes → next_sector t < (d.port port).disk.size
-    by transfer.Read brings = brings.0
-    by transfer.Write brings = brings.0
+    by : (k : Transfer) → t.meaning.operation ≡ operation_of k → Brings (d.port port).disk d.memory t (operation_of k) bytes →
+        is_ranged t.meaning.operation ≡ true → next_sector t < (d.port port).disk.size
+    by transfer.Read e brings ranged = brings.0
+    by transfer.Write e brings ranged = brings.0
+    by transfer.Identify e brings ranged = true-false ranged (ap is_ranged e)
 
 -- a command that the model's port works on is one that it takes
 pub works_takes : (h : Hardware) (o : Outside) (port slot : ℕ) (t : Taken) → WorksOn ((device_of h o).port port) slot t t.meaning.operation →
@@ -203,29 +226,30 @@ works_takes h o port slot t works =
     subst P (sym w.2) (is_taken w.0.transfer)
 
 -- where a move is left, one is possible
-pub going_has_move : (d : Device) (port slot left : ℕ) → (going : IsGoing d port slot (d.port port).disk.size (suc left)) → HasMove d port slot going.t
-going_has_move d port slot left going =
+pub going_has_move : (d : Device) (port slot left : ℕ) → port ≡ 0 → (going : IsGoing d port slot (d.port port).disk.size (suc left)) →
+    HasMove d port slot going.t
+going_has_move d port slot left zero going =
     let t : Taken = going.t in
-    let kind = transfer_of t.meaning.operation going.takes in
-    let sector : next_sector t ≡ t.meaning.first + t.moved =
-    ap (λ b. if b then t.meaning.first + t.moved else 0) (ap is_ranged kind.1 ∙ ranged kind.0) in
     record {
       works = going.works;
       left = omega (arith, going.covered.left_is);
       inside = going.covered.inside t.moved (omega (arith, going.covered.left_is));
-      on_disk = omega (arith, sector, going.covered.on_disk, going.covered.left_is);
+      on_disk = λ ranged.
+          let sector : next_sector t ≡ t.meaning.first + t.moved = ap (λ b. if b then t.meaning.first + t.moved else 0) ranged in
+          omega (arith, sector, going.covered.on_disk ranged, going.covered.left_is);
+      has_disk = inl zero;
     }
 
 -- ---- what is behind port 0 after a move
 
 pub outside_moved : (disk new : Disk) (other : Option (ℕ → List ℕ)) (plugged : List Disk) (next : NextMove) (r : TakenCommand) (bytes : List ℕ) →
-    next.transfer ≡ r.transfer → next.sector ≡ r.first + r.moved →
+    next.transfer ≡ r.transfer → next.sector ≡ next_sector (taken_of r) →
     new ≡ disk_after (operation_of next.transfer) disk next.sector bytes →
     outside_of new other plugged ≡ outside_after (outside_of disk other plugged) 0 (taken_of r) bytes
 outside_moved disk new other plugged next r bytes kind sector is = λ i. record { telling = tells i; media = fun_ext behind i }
   where
     is_after : new ≡ disk_after (operation_of r.transfer) disk (next_sector (taken_of r)) bytes
-    is_after = is ∙ (λ i. disk_after (operation_of (kind i)) disk ((sector ∙ sym (sector_of r)) i) bytes)
+    is_after = is ∙ (λ i. disk_after (operation_of (kind i)) disk (sector i) bytes)
 
     tells : is_some new.sectors && is_some other ≡ (is_some disk.sectors && is_some other)
     tells =

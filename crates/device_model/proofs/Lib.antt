@@ -1,9 +1,9 @@
-pub mod Sectors
 pub mod Transfers
 pub mod BitLemmas
 pub mod Bytes
 pub mod Ports
-pub mod Acknowledged
+pub mod EachPort
+pub mod GoingOn
 pub mod Fetches
 pub mod SlotLemmas
 pub mod Stepping
@@ -11,3 +11,4 @@ pub mod NewModel
 pub mod Finishing
 pub mod Ready
 pub mod Queueing
+pub mod Telling

@@ -7,7 +7,7 @@ use Rattle.hba_regs.specs.Bits.{bit}
 use Rattle.adapter.specs.Device.{Disk, IsDisk, IsTold}
 use Rattle.adapter.specs.Idle.{IsIdlePort}
 use Rattle.device_model.specs.Modelled.{IsReset}
-use Rattle.device_model.specs.Stores.{AreSectors}
+use Rattle.sector_store.specs.Stores.{AreSectors}
 use Rattle.device_model.specs.View.{Media, port_of, slots_of, blank}
 use Rattle.device_model.specs.Whole.{outside_of}
 use Rattle.device_model.specs.declared.port.PortModel.{PortModel}

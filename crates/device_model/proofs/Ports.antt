@@ -1,21 +1,20 @@
 -- One port of the hardware is changed.
-use Rattle.std.proofs.Common.{ℕ, true, ◌≡◌, ◌≢◌, ◌<◌, List, [], ◌∷◌, ◌++◌, length, refl, sym, ◌∙◌, ap, subst, inl, inr, get_or-set_same, get_or-set_other}
+use Rattle.std.proofs.Common.{ℕ, true, false, ◌≡◌, ◌≢◌, ◌<◌, List, [], ◌∷◌, ◌++◌, length, refl, sym, ◌∙◌, ap, subst, inl, inr, get_or-set_same, get_or-set_other}
 use Rattle.std.specs.Prelude.{slice_set, slice_index_or}
 use Rattle.std.specs.Global.{Vec}
 use Rattle.std.proofs.lemmas.Bool.Decides.{eqb_tells}
 use Rattle.adapter.specs.Memory.{changed}
 use Rattle.adapter.specs.Device.{PortState, Device}
 use Rattle.adapter.specs.Steps.{MayLinkUp, with_port, recorded, Steps}
-use Rattle.adapter.specs.Steps.Step.{LinkUp}
 use Rattle.adapter.specs.Access.{note, noted}
 use Rattle.adapter.specs.Rules.{MayRead, MayWrite}
 use Rattle.adapter.specs.declared.tape.Entry.{Entry}
-use Rattle.adapter.proofs.Runs.{Steps-refl, Steps-one}
 use Rattle.adapter.proofs.Changed.{fun_ext, changed_same, changed_other, changed_each}
 use Rattle.hba_regs.specs.declared.reg.Reg.{Reg}
 use Rattle.hba_regs.specs.declared.reg.Reg.TheVariants.{Cap, Ghc, Is, Pi, Vs, Cap2, Bohc, Px}
 use Rattle.device_model.specs.Fetched.{bytes_of}
-use Rattle.device_model.specs.View.{Media, port_of, blank, Settles}
+use Rattle.device_model.specs.Settled.{GoesTo, IsSettled}
+use Rattle.device_model.specs.View.{Media, port_of, blank}
 use Rattle.device_model.specs.Whole.{Outside, device_of, HasPort}
 use Rattle.device_model.specs.declared.port.PortModel.{PortModel}
 use Rattle.device_model.specs.declared.hardware.Hardware.{Hardware}
@@ -75,19 +74,13 @@ has_port_write Vs v d may = tt
 has_port_write Cap2 v d may = tt
 has_port_write Bohc v d may = tt
 
-same_port : (d : Device) (p : ℕ) → with_port d p (d.port p) ≡ d
-same_port d p =
-    ap (λ (f : ℕ → PortState). record d { port = f })
-    (fun_ext (changed_each d.port p (d.port p) (λ k v. v ≡ d.port k) refl (λ k. refl)))
-
 -- one port did what it does by itself
 pub port_settles : (h : Hardware) (o : Outside) (p : ℕ) (new : PortModel) → p < length h.ports →
-    Settles (port_of (slice_index_or h.ports p blank) (o.media p)) (port_of new (o.media p)) →
+    GoesTo (port_of (slice_index_or h.ports p blank) (o.media p)) (port_of new (o.media p)) →
     Steps (device_of h o) (device_of (record h { ports = slice_set h.ports p new }) o)
-port_settles h o p new small (inl same) =
+port_settles h o p new small goes =
     let P : Device → Type 0 = λ d. Steps (device_of h o) d in
-    subst P (sym (set_port h o p new _ small same ∙ same_port (device_of h o) p)) (Steps-refl (device_of h o))
-port_settles h o p new small (inr up) = Steps-one (LinkUp p 0x101 true) _ _ up.0 (set_port h o p new _ small up.1)
+    subst P (sym (set_port h o p new _ small refl)) (goes (device_of h o) p refl)
 
 -- one port is changed, and the tape has one more entry
 pub set_port_recorded : (h : Hardware) (o : Outside) (p : ℕ) (new : PortModel) (state : PortState) (tape : Vec Entry) (entry : Entry) →
@@ -108,15 +101,22 @@ set_port_moved h o p new media state tape entry memory bytes small is more size 
     set_both (record h { memory = memory; tape = tape }) o p new media state small is
     ∙ (λ i. record (with_port (device_of h o) p state) { size = size i; memory = same i; tape = more i })
 
--- a reading brings no link up, and leaves none that may come up
-pub noted_link : (r : Reg) (v : ℕ) (d : Device) (port : ℕ) → MayLinkUp ((noted r v d).port port) 0x101 → MayLinkUp (d.port port) 0x101
-noted_link (Px q r) v d port may =
-    changed_each d.port q.0 (record (d.port q.0) { notes = note r v (d.port q.0) }) (λ k p. MayLinkUp p 0x101 → MayLinkUp (d.port k) 0x101)
-    (λ m. record { present = m.present; det = m.det; due = m.due; fits = m.fits }) (λ k m. m) port may
-noted_link Cap v d port may = may
-noted_link Ghc v d port may = may
-noted_link Is v d port may = may
-noted_link Pi v d port may = may
-noted_link Vs v d port may = may
-noted_link Cap2 v d port may = may
-noted_link Bohc v d port may = may
+-- a reading leaves settled what is
+pub noted_settled : (r : Reg) (v : ℕ) (d : Device) → IsSettled d → IsSettled (noted r v d)
+noted_settled (Px q r) v d s =
+    let new : PortState = record (d.port q.0) { notes = note r v (d.port q.0) } in
+    record {
+      reset = s.reset;
+      engines = changed_each d.port q.0 new (λ k p. (p.st ≡ false) × (p.cr ≡ true) → ⊥) (s.engines q.0) s.engines;
+      areas = changed_each d.port q.0 new (λ k p. (p.fre ≡ false) × (p.cr ≡ false) × (p.fr ≡ true) → ⊥) (s.areas q.0) s.areas;
+      links = λ port sig n may.
+          changed_each d.port q.0 new (λ k p. MayLinkUp p sig → ⊥)
+          (λ m. s.links q.0 sig n (record { present = m.present; det = m.det; due = m.due; fits = m.fits })) (λ k m. s.links k sig n m) port may;
+    }
+noted_settled Cap v d s = s
+noted_settled Ghc v d s = s
+noted_settled Is v d s = s
+noted_settled Pi v d s = s
+noted_settled Vs v d s = s
+noted_settled Cap2 v d s = s
+noted_settled Bohc v d s = s

@@ -1,19 +1,22 @@
--- Where a read or write may be done to its end: which moves are left of it, and that each has its place.
-use Rattle.std.proofs.Common.{ℕ, zero, suc, ◌≡◌, ◌<◌, ◌≤◌, ◌+◌, ◌-◌, ◌*◌, ◌/◌, ◌⊎◌, List, [], ◌∷◌, length, slice_index, slice_index_or, Option, None, Some, All, refl, sym, ◌∙◌, ap, subst, inl, inr, arith, length-append}
+-- Where a command may be done to its end: which moves are left of it, and that each has its place.
+use Rattle.std.proofs.Common.{ℕ, true, false, zero, suc, ◌≡◌, ◌<◌, ◌≤◌, ◌+◌, ◌-◌, ◌*◌, ◌/◌, ◌⊎◌, List, [], ◌∷◌, length, slice_index, slice_index_or, Option, None, Some, All, refl, sym, ◌∙◌, ap, subst, inl, inr, arith, length-append}
 use Rattle.std.proofs.lemmas.Bool.{cases_lt}
 use Rattle.std.proofs.lemmas.List.{get_or_append_left, get_or-append_right}
-use Rattle.std.specs.Prelude.{IfSome}
+use Rattle.std.specs.Prelude.{IfSome, is_some}
 use Rattle.std.specs.Option.{SomeIff}
 use Rattle.std.specs.Vec.{vec_len}
+use Rattle.adapter.specs.Commands.{is_ranged}
+use Rattle.adapter.specs.Commands.{Meaning}
 use Rattle.adapter.specs.Device.{Taken}
 use Rattle.adapter.specs.Says.{Says, pieces, cut}
 use Rattle.adapter.specs.Steps.{Can, WorksOn, begun}
 use Rattle.adapter.specs.Steps.Step.{Fetch}
 use Rattle.adapter.specs.declared.command.Operation.{Operation}
+use Rattle.adapter.specs.declared.command.Operation.TheVariants.{Identify}
 use Rattle.adapter.specs.declared.command.Prd.{Prd}
 use Rattle.adapter.proofs.Absurd.{some-none, some_one}
 use Rattle.adapter.proofs.SaysLemmas.{says_meaning, says_places, cut_length, cut_index}
-use Rattle.device_model.specs.Finishing.{IsInside, AreInside, IsCovered, IsReady}
+use Rattle.device_model.specs.Finishing.{HasIdentify, IsInside, AreInside, IsCovered, IsReady}
 use Rattle.device_model.specs.Fetched.{bytes_of}
 use Rattle.device_model.specs.Slots.{MayTake, HoldsAt}
 use Rattle.device_model.specs.View.{Media, Takes, operation_of, port_of, taken_of, blank}
@@ -23,7 +26,8 @@ use Rattle.device_model.specs.declared.port.TakenCommand.{TakenCommand}
 use Rattle.device_model.specs.declared.hardware.Hardware.{Hardware}
 use Rattle.device_model.proofs.Finishing.{holds}
 use Rattle.device_model.proofs.Stepping.{fetch_takes, fetch_says}
-use Rattle.device_model.proofs.Transfers.{is_taken}
+use Rattle.device_model.specs.declared.port.Transfer.TheVariants as transfer
+use Rattle.device_model.proofs.Transfers.{is_identify, is_taken}
 
 -- ---- pieces inside a memory
 
@@ -84,12 +88,13 @@ inside_all size (x ∷ xs) all (suc k) d small = inside_all size xs (inside_rest
 
 -- ---- what is left
 
-pub left_covered : (r : TakenCommand) (size sectors n end : ℕ) (o : Option ℕ) → n ≡ length (pieces r.prds) → end ≡ r.first + n → end ≤ sectors →
+pub left_covered : (r : TakenCommand) (size sectors n : ℕ) (o : Option ℕ) → n ≡ length (pieces r.prds) →
+    (is_ranged (operation_of r.transfer) ≡ true → r.first + n ≤ sectors) →
     AreInside size (pieces r.prds) → SomeIff o (r.moved ≤ n) (n - r.moved) → IfSome o (λ left. IsCovered (taken_of r) size sectors left)
-left_covered r size sectors n end None many is on_disk all none = tt
-left_covered r size sectors n end (Some left) many is on_disk all fits = record {
+left_covered r size sectors n None many on_disk all none = tt
+left_covered r size sectors n (Some left) many on_disk all fits = record {
   left_is = omega (arith, fits.0, fits.1, many);
-  on_disk = omega (arith, many, is, on_disk);
+  on_disk = λ ranged. omega (arith, many, on_disk ranged);
   inside = all;
 }
 
@@ -99,7 +104,7 @@ left_is moved n left (Some x) is some = let same : x ≡ left = omega (arith, is
 
 -- ---- what is ready: a command that may be taken, or one that is
 
--- reads and writes may be taken in this slot; none of them may
+-- the commands that the model takes may be taken in this slot; none of them may
 abbrev pub MayTakeAny : PortModel → ℕ → Type 0
 MayTakeAny p slot = (m : Media) (operation : Operation) → Takes operation → MayTake (port_of p m) slot operation
 
@@ -202,3 +207,47 @@ module _ (h : Hardware) (p port slot sectors size : ℕ) (r : TakenCommand) (e :
       let w = ready_held h o p port slot sectors left e ready never in
       let same : r ≡ w.0 = some_one (sym here.held ∙ w.1.held) in
       covers_back left o ready (w.2 ∙ ap taken_of (sym same))
+
+-- ---- IDENTIFY DEVICE
+
+module _ (h : Hardware) (slot : ℕ) where
+  abbrev port0 : PortModel
+  port0 = slice_index_or h.ports 0 blank
+
+  -- one that may be taken
+  pub identify_said : (result : Option TakenCommand) → is_some result ≡ true →
+      IfSome result (λ t. (t.moved ≡ 0) × Says (bytes_of h.memory.items) port0.addresses.clb slot (taken_of t).meaning (taken_of t).places) →
+      IfSome result (λ t. t.transfer ≡ transfer.Identify) → MayTakeAny port0 slot → (o : Outside) → HasIdentify (device_of h o) slot
+  identify_said None some says kind may o = absurd (let e : false ≡ true = some in cc)
+  identify_said (Some t) some says kind may o =
+      let m = may (o.media 0) (operation_of t.transfer) (is_taken t.transfer) in
+      record {
+        t = taken_of t;
+        identifies = ap operation_of kind;
+        begins = inr (record { fetchable = m.fetchable; working = m.working; alone = m.alone; says = says.1 });
+      }
+
+  pub identify_unsaid : (result : Option TakenCommand) → is_some result ≡ false →
+      (result ≡ None → (m : Meaning) (places : List ℕ) → m.operation ≡ Identify → Says (bytes_of h.memory.items) port0.addresses.clb slot m places → ⊥) →
+      MayTakeAny port0 slot → (o : Outside) → HasIdentify (device_of h o) slot → ⊥
+  identify_unsaid (Some t) none only may o has = let e : true ≡ false = none in cc
+  identify_unsaid None none only may o has =
+      elim has.begins [
+        | inl works ↦
+            absurd (some-none works.taken (may (o.media 0) has.t.meaning.operation (inr (inr has.identifies))).fetchable.free)
+        | inr can ↦ only refl has.t.meaning has.t.places has.identifies can.says
+      ]
+
+  -- one that is taken
+  pub identify_held : (t : TakenCommand) → HoldsAt port0 slot t → t.transfer ≡ transfer.Identify → (o : Outside) → HasIdentify (device_of h o) slot
+  identify_held t held kind o = record { t = taken_of t; identifies = ap operation_of kind; begins = inl (held.works (o.media 0)) }
+
+  pub identify_unheld : ((t : TakenCommand) → HoldsAt port0 slot t → t.transfer ≡ transfer.Identify → ⊥) → MayTakeNone port0 slot → (o : Outside) →
+      HasIdentify (device_of h o) slot → ⊥
+  identify_unheld none never o has =
+      elim has.begins [
+        | inl works ↦
+            let w = holds h o 0 slot has.t has.t.meaning.operation works in
+            none w.0 w.1 (is_identify w.0.transfer (sym (ap (λ (t : Taken). t.meaning.operation) w.2) ∙ has.identifies))
+        | inr can ↦ never (o.media 0) has.t.meaning.operation (inr (inr has.identifies)) (fetch_takes h o 0 0 slot has.t.meaning has.t.places refl can)
+      ]

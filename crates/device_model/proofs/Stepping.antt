@@ -2,7 +2,7 @@
 use Rattle.std.proofs.Common.{ℕ, Bool, true, false, ◌≡◌, ◌<◌, ◌≤◌, ◌+◌, List, [], ◌∷◌, ◌++◌, length, refl, sym, ◌∙◌, ap, subst, inl}
 use Rattle.std.specs.Prelude.{slice_set, slice_index_or, IfSome, if◌then◌else◌}
 use Rattle.std.specs.Global.{Vec}
-use Rattle.adapter.specs.Commands.{Meaning, direction_of, reads_memory}
+use Rattle.adapter.specs.Commands.{Meaning, direction_of, is_ranged, reads_memory}
 use Rattle.adapter.specs.Device.{PortState, Device, IsSector}
 use Rattle.adapter.specs.Idle.{IsIdlePort, IsIdle}
 use Rattle.adapter.specs.Memory.{patched, bytes_at}
@@ -27,7 +27,7 @@ use Rattle.device_model.specs.declared.port.PortModel.{PortModel}
 use Rattle.device_model.specs.declared.hardware.Hardware.{Hardware}
 use Rattle.device_model.specs.declared.steps.NextMove.{NextMove}
 use Rattle.device_model.proofs.Ports.{set_port, set_port_recorded, set_port_moved}
-use Rattle.device_model.proofs.Transfers.{no_trim, sector_of}
+use Rattle.device_model.proofs.Transfers.{no_trim}
 
 -- an entry of a move, by its parts
 abbrev pub moved_by : (port slot : ℕ) (operation : Operation) (sector address : ℕ) (direction : Direction) (bytes : List ℕ) → tape_move.Move
@@ -122,7 +122,7 @@ pub port_moves : (h : Hardware) (o : Outside) (p port slot : ℕ) (next : NextMo
     ≡ after (Move port slot (taken_of t) bytes) (device_of h o)
 port_moves h o p port slot next new t tape memory bytes operation direction e small is moves named way more size put =
     let kind : next.transfer ≡ t.transfer = is.transfer_is in
-    let sector : next.sector ≡ next_sector (taken_of t) = is.sector_is ∙ sym (sector_of t) in
+    let sector : next.sector ≡ next_sector (taken_of t) = is.sector_is in
     let place : next.address ≡ next_place (taken_of t) = is.address_is in
     let asks : operation ≡ operation_of t.transfer = named ∙ ap operation_of kind in
     let goes : direction ≡ direction_of (operation_of t.transfer) = way ∙ ap (λ (k : Transfer). direction_of (operation_of k)) kind in
@@ -139,14 +139,12 @@ port_moves h o p port slot next new t tape memory bytes operation direction e sm
 
 -- what the disk gave or took may be moved
 pub may_move : (h : Hardware) (o : Outside) (port slot : ℕ) (next : NextMove) (t : TakenCommand) (bytes : List ℕ) → IsNext h port slot next t →
-    IsSector bytes → next.sector < (o.media port).disk.size →
+    IsSector bytes → (is_ranged (operation_of next.transfer) ≡ true → next.sector < (o.media port).disk.size) →
     (next.transfer ≡ transfer.Read → IfSome (o.media port).disk.sectors (λ f. bytes ≡ f next.sector)) →
     (next.transfer ≡ transfer.Write → bytes ≡ bytes_at (bytes_of h.memory.items) next.address 512) → MayMove (device_of h o) port slot (taken_of t) bytes
 may_move h o port slot next t bytes is sized small gives takes =
-    let sector : next.sector ≡ next_sector (taken_of t) = is.sector_is ∙ sym (sector_of t) in
     let place : next.address ≡ next_place (taken_of t) = is.address_is in
     let inside : next.address + 512 ≤ length h.memory.items = is.inside in
-    let there : next_sector (taken_of t) < (o.media port).disk.size = rw sector at small in
     record {
       works = is.holds.works (o.media port);
       left = is.left;
@@ -158,9 +156,10 @@ may_move h o port slot next t bytes is sized small gives takes =
   where
     by : (k : Transfer) → next.transfer ≡ k → Brings (o.media port).disk (bytes_of h.memory.items) (taken_of t) (operation_of k) bytes
     by transfer.Read e =
-        let sector : next.sector ≡ next_sector (taken_of t) = is.sector_is ∙ sym (sector_of t) in
-        (rw sector at small, rw sector at (gives e))
+        let sector : next.sector ≡ next_sector (taken_of t) = is.sector_is in
+        (rw sector at (small (ap (λ (k : Transfer). is_ranged (operation_of k)) e)), rw sector at (gives e))
     by transfer.Write e =
-        let sector : next.sector ≡ next_sector (taken_of t) = is.sector_is ∙ sym (sector_of t) in
+        let sector : next.sector ≡ next_sector (taken_of t) = is.sector_is in
         let place : next.address ≡ next_place (taken_of t) = is.address_is in
-        (rw sector at small, rw place at (takes e))
+        (rw sector at (small (ap (λ (k : Transfer). is_ranged (operation_of k)) e)), rw place at (takes e))
+    by transfer.Identify e = tt

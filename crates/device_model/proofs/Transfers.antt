@@ -1,50 +1,42 @@
--- What READ DMA EXT and WRITE DMA EXT have in common: they are plain, name their sectors, and move as many pieces.
-use Rattle.std.proofs.Common.{ℕ, true, false, ◌≡◌, ◌+◌, ◌%◌, ◌&&◌, List, Option, None, Some, refl, ◌∙◌, ap, inl, inr}
-use Rattle.std.specs.Prelude.{is_some, if◌then◌else◌}
-use Rattle.adapter.specs.Commands.{command_of, with_fields, is_queued, is_ranged, pieces_moved}
+-- What READ DMA EXT, WRITE DMA EXT and IDENTIFY DEVICE have in common: they are plain, and no trims.
+use Rattle.std.proofs.Common.{ℕ, false, ◌≡◌, ◌&&◌, List, Option, None, Some, refl, ◌∙◌, ap, inl, inr}
+use Rattle.std.specs.Prelude.{is_some, option_map}
+use Rattle.sector_store.specs.Stores.{replaced}
+use Rattle.adapter.specs.Commands.{is_queued}
 use Rattle.adapter.specs.Device.{Disk, Taken, PortState}
-use Rattle.adapter.specs.Steps.{IsAlone, next_sector, block_after, disk_after}
+use Rattle.adapter.specs.Memory.{changed}
+use Rattle.adapter.specs.Steps.{IsAlone, block_after, disk_after}
 use Rattle.adapter.specs.declared.command.Operation.{Operation}
-use Rattle.adapter.specs.declared.command.Operation.TheVariants.{Write, Trim}
+use Rattle.adapter.specs.declared.command.Operation.TheVariants.{Identify, Write, Trim}
 use Rattle.adapter.proofs.Absurd.{true-false}
-use Rattle.device_model.specs.View.{Takes, operation_of, taken_of}
-use Rattle.device_model.specs.declared.port.TakenCommand.{TakenCommand}
+use Rattle.device_model.specs.View.{Takes, operation_of}
 use Rattle.device_model.specs.declared.port.Transfer.{Transfer}
 use Rattle.device_model.specs.declared.port.Transfer.TheVariants as transfer
-
-pub ranged : (k : Transfer) → is_ranged (operation_of k) ≡ true
-ranged transfer.Read = refl
-ranged transfer.Write = refl
-
--- the fields of its FIS
-pub fields_of : (k : Transfer) (slot first count : ℕ) →
-    command_of (operation_of k) slot first count ≡ with_fields (command_of (operation_of k) 0 0 0).code 0 (count % 65536) first 0x40
-fields_of transfer.Read slot first count = refl
-fields_of transfer.Write slot first count = refl
 
 pub plain : (k : Transfer) → is_queued (operation_of k) ≡ false
 plain transfer.Read = refl
 plain transfer.Write = refl
-
-pub as_many : (k : Transfer) (n : ℕ) → pieces_moved (operation_of k) n ≡ n
-as_many transfer.Read n = refl
-as_many transfer.Write n = refl
+plain transfer.Identify = refl
 
 pub no_block : (k : Transfer) (bytes old : List ℕ) → block_after (operation_of k) bytes old ≡ old
 no_block transfer.Read bytes old = refl
 no_block transfer.Write bytes old = refl
+no_block transfer.Identify bytes old = refl
 
 pub no_trim : (k : Transfer) → operation_of k ≡ Trim → ⊥
 no_trim transfer.Read e = cc
 no_trim transfer.Write e = cc
+no_trim transfer.Identify e = cc
 
 pub is_taken : (k : Transfer) → Takes (operation_of k)
 is_taken transfer.Read = inl refl
-is_taken transfer.Write = inr refl
+is_taken transfer.Write = inr (inl refl)
+is_taken transfer.Identify = inr (inr refl)
 
 pub transfer_of : (o : Operation) → Takes o → (k : Transfer) × (o ≡ operation_of k)
 transfer_of o (inl read) = (transfer.Read, read)
-transfer_of o (inr write) = (transfer.Write, write)
+transfer_of o (inr (inl write)) = (transfer.Write, write)
+transfer_of o (inr (inr identify)) = (transfer.Identify, identify)
 
 -- where it is alone, no slot is taken
 pub alone_none : (p : PortState) (o : Operation) → Takes o → IsAlone p o → (slot : ℕ) → p.taken slot ≡ None
@@ -56,15 +48,28 @@ alone_none p o takes alone slot = by (p.taken slot) refl
         let kind = transfer_of o takes in
         true-false (alone slot t e) (ap (λ b. b && is_queued t.meaning.operation) (ap is_queued kind.1 ∙ plain kind.0))
 
-pub sector_of : (t : TakenCommand) → next_sector (taken_of t) ≡ t.first + t.moved
-sector_of t = ap (λ b. if b then t.first + t.moved else 0) (ranged t.transfer)
-
 -- a disk tells its sectors after a move as it did
 pub still_tells : (k : Transfer) (disk : Disk) (sector : ℕ) (bytes : List ℕ) →
     is_some (disk_after (operation_of k) disk sector bytes).sectors ≡ is_some disk.sectors
 still_tells transfer.Read disk sector bytes = refl
+still_tells transfer.Identify disk sector bytes = refl
 still_tells transfer.Write disk sector bytes = by disk.sectors
   where
     by : (o : Option (ℕ → List ℕ)) → is_some (disk_after Write (record disk { sectors = o }) sector bytes).sectors ≡ is_some o
     by None = refl
     by (Some f) = refl
+
+one_replaced : (f : ℕ → List ℕ) (sector : ℕ) (bytes : List ℕ) → replaced f sector bytes ≡ changed f sector bytes
+unfolding changed
+one_replaced f sector bytes = refl
+
+-- what a store tells after a write is what its disk has
+pub replaced_is : (told : Option (ℕ → List ℕ)) (sector : ℕ) (bytes : List ℕ) →
+    option_map (λ f. replaced f sector bytes) told ≡ option_map (λ f. changed f sector bytes) told
+replaced_is told sector bytes = ap (λ (g : (ℕ → List ℕ) → ℕ → List ℕ). option_map g told) (λ i f. one_replaced f sector bytes i)
+
+-- the command whose operation is IDENTIFY DEVICE
+pub is_identify : (k : Transfer) → operation_of k ≡ Identify → k ≡ transfer.Identify
+is_identify transfer.Read e = cc
+is_identify transfer.Write e = cc
+is_identify transfer.Identify e = refl

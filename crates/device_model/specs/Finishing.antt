@@ -1,9 +1,12 @@
 -- What has to hold that a command can be done to its end.
-use Rattle.std.specs.Prelude.{ℕ, ◌≡◌, ◌+◌, ◌*◌, ◌/◌, ◌<◌, ◌≤◌, ◌⊎◌, List, length, slice_index}
+use Rattle.std.specs.Prelude.{ℕ, true, ◌≡◌, ◌+◌, ◌*◌, ◌/◌, ◌<◌, ◌≤◌, ◌⊎◌, List, length, slice_index}
 use Rattle.std.specs.Vec.{vec_len, vec_capacity}
+use Rattle.adapter.specs.Commands.{is_ranged}
 use Rattle.adapter.specs.Device.{Taken, Device}
 use Rattle.adapter.specs.Steps.{Can, WorksOn, begun, next_place, next_sector}
 use Rattle.adapter.specs.Steps.Step.{Fetch}
+use Rattle.adapter.specs.declared.command.Operation.{Operation}
+use Rattle.adapter.specs.declared.command.Operation.TheVariants.{Identify}
 use Rattle.adapter.specs.declared.command.Prd.{Prd}
 use Rattle.device_model.specs.View.{Takes}
 use Rattle.device_model.specs.declared.hardware.Hardware.{Hardware}
@@ -20,21 +23,27 @@ AreInside size places = (k : ℕ) → k < length places → slice_index places k
 abbrev pub IsInside : ℕ → Prd → Type 0
 IsInside size prd = 1 ≤ prd.bytes / 512 → prd.address + 512 * (prd.bytes / 512) ≤ size
 
--- so many moves are left of this command; each of its pieces is in a memory of this size, and each of its sectors one of
--- so many
+-- so many moves are left of this command; each of its pieces is in a memory of this size, and each sector that it names one
+-- of so many
 pub record IsCovered (t : Taken) (size sectors left : ℕ) : Type 0 where
   pub left_is : t.moved + left ≡ length t.places
-  pub on_disk : t.meaning.first + length t.places ≤ sectors
+  pub on_disk : is_ranged t.meaning.operation ≡ true → t.meaning.first + length t.places ≤ sectors
   pub inside : AreInside size t.places
 
--- the port works on this command, and its next piece has a place in the memory and is a sector of the disk
+-- the port is port 0, which has a disk, or the command names sectors, of which no other port has any
+abbrev pub HasDisk : ℕ → Operation → Type 0
+HasDisk port operation = (port ≡ 0) ⊎ (is_ranged operation ≡ true)
+
+-- the port works on this command, and its next piece has a place in the memory and, if it is a sector, is one of the disk;
+-- no port but port 0 has one
 pub record HasMove (d : Device) (port slot : ℕ) (t : Taken) : Type 0 where
   pub works : WorksOn (d.port port) slot t t.meaning.operation
   pub left : t.moved < length t.places
   pub inside : next_place t + 512 ≤ d.size
-  pub on_disk : next_sector t < (d.port port).disk.size
+  pub on_disk : is_ranged t.meaning.operation ≡ true → next_sector t < (d.port port).disk.size
+  pub has_disk : HasDisk port t.meaning.operation
 
--- the port works on a read or a write of which so many moves are left, all of them possible
+-- the port works on a command of which so many moves are left, all of them possible
 pub record IsGoing (d : Device) (port slot sectors left : ℕ) : Type 0 where
   pub t : Taken
   pub takes : Takes t.meaning.operation
@@ -47,3 +56,9 @@ pub record IsReady (d : Device) (port slot sectors left : ℕ) : Type 0 where
   pub takes : Takes t.meaning.operation
   pub covered : IsCovered t d.size sectors left
   pub begins : WorksOn (d.port port) slot t t.meaning.operation ⊎ (Can (Fetch port slot t.meaning t.places) d × (t ≡ begun t.meaning t.places))
+
+-- port 0 works on an IDENTIFY DEVICE in this slot, or may take one there
+pub record HasIdentify (d : Device) (slot : ℕ) : Type 0 where
+  pub t : Taken
+  pub identifies : t.meaning.operation ≡ Identify
+  pub begins : WorksOn (d.port 0) slot t t.meaning.operation ⊎ Can (Fetch 0 slot t.meaning t.places) d

@@ -1,9 +1,10 @@
-pub mod Stores
 pub mod Bits
 pub mod View
 pub mod Whole
 pub mod Fetched
 pub mod Slots
+pub mod Settled
 pub mod Modelled
 pub mod Finishing
+pub mod Paged
 pub mod Queue

@@ -2,7 +2,7 @@
 use Rattle.std.specs.Prelude.{ℕ, ◌≡◌, ◌+◌, ◌^◌, ◌<◌, ◌≤◌, None, Some, length, slice_index, slice_index_or}
 use Rattle.adapter.specs.Device.{PortState}
 use Rattle.adapter.specs.Says.{pieces}
-use Rattle.adapter.specs.Steps.{IsFetchable, IsWorking, IsAlone, WorksOn}
+use Rattle.adapter.specs.Steps.{IsFetchable, IsWorking, IsAlone, WorksOn, next_sector}
 use Rattle.adapter.specs.declared.command.Operation.{Operation}
 use Rattle.device_model.specs.View.{Media, port_of, operation_of, taken_of, blank}
 use Rattle.device_model.specs.declared.port.TakenCommand.{TakenCommand}
@@ -21,12 +21,12 @@ pub record HoldsAt (p : PortModel) (slot : ℕ) (t : TakenCommand) : Type 0 wher
   pub held : slice_index_or p.taken slot None ≡ Some t
   pub works : (m : Media) → WorksOn (port_of p m) slot (taken_of t) (operation_of t.transfer)
 
--- the next piece of this command is a sector that goes to or from this address
+-- the next piece of this command goes to or from this address, and is this sector, if it is one
 pub record IsNext (h : Hardware) (port slot : ℕ) (next : NextMove) (t : TakenCommand) : Type 0 where
   pub holds : HoldsAt (slice_index_or h.ports port blank) slot t
   pub left : t.moved < length (pieces t.prds)
   pub room : t.moved + 1 < 2 ^ 32
   pub transfer_is : next.transfer ≡ t.transfer
-  pub sector_is : next.sector ≡ t.first + t.moved
+  pub sector_is : next.sector ≡ next_sector (taken_of t)
   pub address_is : next.address ≡ slice_index (pieces t.prds) t.moved
   pub inside : next.address + 512 ≤ length h.memory.items

@@ -1,11 +1,13 @@
 -- The state that a model stands for.
-use Rattle.std.specs.Prelude.{ℕ, true, false, ◌≡◌, ◌%◌, ◌⊎◌, List, [], Option, None, option_map, if◌then◌else◌, slice_index_or}
+use Rattle.std.specs.Prelude.{ℕ, false, ◌≡◌, ◌%◌, ◌⊎◌, List, [], Option, None, option_map, unwrap_or, if◌then◌else◌, slice_index_or}
 use Rattle.adapter.specs.Device.{Disk, Taken, Bases, Notes, PortState}
 use Rattle.adapter.specs.Device.Halt.{NotHalted}
 use Rattle.adapter.specs.Says.{pieces}
-use Rattle.adapter.specs.Steps.{with_link, MayLinkUp, next_sector, disk_after}
+use Rattle.adapter.specs.Access.{unacknowledged}
+use Rattle.adapter.specs.Steps.{next_sector, disk_after}
+use Rattle.hba_regs.specs.Bits.{bit}
 use Rattle.adapter.specs.declared.command.Operation.{Operation}
-use Rattle.adapter.specs.declared.command.Operation.TheVariants.{Read, Write}
+use Rattle.adapter.specs.declared.command.Operation.TheVariants.{Identify, Read, Write}
 use Rattle.device_model.specs.Bits.{bits_of}
 use Rattle.device_model.specs.declared.port.Addresses.{Addresses}
 use Rattle.device_model.specs.declared.port.Readings.{Readings}
@@ -43,13 +45,14 @@ notes_of r =
       acknowledged = r.acknowledged;
     }
 
--- the model takes READ DMA EXT and WRITE DMA EXT
+-- the model takes READ DMA EXT, WRITE DMA EXT and IDENTIFY DEVICE
 abbrev pub Takes : Operation → Type 0
-Takes operation = (operation ≡ Read) ⊎ (operation ≡ Write)
+Takes operation = (operation ≡ Read) ⊎ (operation ≡ Write) ⊎ (operation ≡ Identify)
 
 abbrev pub operation_of : Transfer → Operation
 operation_of transfer.Read = Read
 operation_of transfer.Write = Write
+operation_of transfer.Identify = Identify
 
 abbrev pub taken_of : TakenCommand → Taken
 taken_of t =
@@ -82,8 +85,8 @@ port_of p m =
       sctl_det = p.sctl_det % 16;
       cr = p.cr;
       fr = p.fr;
-      tfd = p.tfd;
-      sig = p.sig;
+      tfd = unwrap_or p.tfd 0x7f;
+      sig = unwrap_or p.sig 0xffffffff;
       ssts_det = if p.detected then 3 else 0;
       serr_n = p.serr_n;
       serr_x = p.serr_x;
@@ -101,11 +104,11 @@ port_of p m =
       notes = notes_of p.readings;
     }
 
--- what a port does by itself: nothing, or its link comes up
-abbrev pub Settles : PortState → PortState → Type 0
-Settles old new = (new ≡ old) ⊎ (MayLinkUp old 0x101 × (new ≡ with_link old 0x101 true))
+-- what becomes of each port where these bits of IS are written
+abbrev pub acknowledging : ℕ → ℕ → PortState → PortState
+acknowledging value port p = if bit value port then unacknowledged p else p
 
--- a port that isn't there
+-- a port that isn't there, as after a reset
 abbrev pub blank : PortModel
 blank =
     record {
@@ -115,8 +118,8 @@ blank =
       sctl_det = 0;
       cr = false;
       fr = false;
-      tfd = 0;
-      sig = 0;
+      tfd = None;
+      sig = None;
       detected = false;
       serr_n = false;
       serr_x = false;

@@ -1,17 +1,6 @@
 // What a model is made from.
+use sector_store::pages::Trim;
 use std::alloc::AllocError;
-
-/// What the modelled disk says of trims.
-#[derive(Clone, Copy, Debug, Default, PartialEq, Eq)]
-pub enum Trim {
-    /// It has DATA SET MANAGEMENT with TRIM, and promises zeros afterwards.
-    #[default]
-    Full,
-    /// It has the command, and promises nothing of the sectors.
-    Weak,
-    /// It lacks the command.
-    Without,
-}
 
 /// The adapter and the disks that are modelled.
 #[derive(Clone, Copy, Debug, PartialEq, Eq)]
@@ -24,6 +13,7 @@ pub struct ModelConfig {
     pub ncq: bool,
     /// How many queued commands a disk takes at once: 1 to 32.
     pub depth: u8,
+    /// What a disk says of trims.
     pub trim: Trim,
 }
 

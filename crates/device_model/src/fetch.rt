@@ -1,6 +1,6 @@
 // What the bytes of a slot mean, read as the device reads them. Bytes past the end of the memory are zeros.
 ghost use Rattle.std.specs.Prelude.{◌≡◌, ◌<◌, ◌≤◌, ◌+◌, ◌*◌, ◌^◌, ◌%◌, ℕ, List, true, false, None, Some, All, IfSome, IsTrue, ◌↔◌, length, slice_index};
-ghost use Rattle.adapter.specs.Commands.{Meaning, command_of, reads_memory};
+ghost use Rattle.adapter.specs.Commands.{IsMeaning, Meaning, command_of, with_fields};
 ghost use Rattle.adapter.specs.Memory.{bytes_at};
 ghost use Rattle.adapter.specs.Says.{HasPrds, IsWhole, Says, pieces};
 ghost use Rattle.adapter.specs.Spelling.{AreZero, SpellsCommand, SpellsHeader, SpellsPrd};
@@ -12,10 +12,9 @@ use crate::port::{TakenCommand, Transfer};
 use adapter::Prd;
 use byteorder::{ByteOrder, LittleEndian};
 
-/// What a command header says: which way the bytes go, how many PRDs there are, and where the command table is.
+/// What a command header says: how many PRDs there are, and where the command table is.
 #[derive(Clone, Copy, Debug)]
 struct Header {
-    transfer: Transfer,
     entries: u16,
     table: u32,
 }
@@ -61,23 +60,19 @@ fn are_zero(bytes: &[u8], from: usize, to: usize) -> bool
     true
 }
 
-/// The header that the bytes are, if they are one. Its W bit tells a command that reads memory (AHCI 1.3.1, 4.2.2).
-fn decode_header(bytes: &[u8]) -> Option<Header>
+/// The header that the bytes are, if they are one of a command that reads memory, or doesn't: the W bit tells (AHCI
+/// 1.3.1, 4.2.2).
+fn decode_header(bytes: &[u8], writes: bool) -> Option<Header>
     requires { length bytes.now ≡ 32 }
-    ensures found { IfSome result (λ h. SpellsHeader bytes.now (reads_memory (operation_of h.transfer)) h.entries h.table) }
-    ensures only { (h : Header) → SpellsHeader bytes.now (reads_memory (operation_of h.transfer)) h.entries h.table → result ≡ Some h }
+    ensures found { IfSome result (λ h. SpellsHeader bytes.now writes h.entries h.table) }
+    ensures only { (h : Header) → SpellsHeader bytes.now writes h.entries h.table → result ≡ Some h }
 {
-    let transfer = match LittleEndian::read_u16(bytes) {
-        0x05 => Transfer::Read,
-        0x45 => Transfer::Write,
-        _ => return None,
-    };
+    let first = if writes { 0x45 } else { 0x05 };
     let table = LittleEndian::read_u32(&bytes[8..]);
-    if table % 128 != 0 || !are_zero(bytes, 12, 32) {
+    if LittleEndian::read_u16(bytes) != first || table % 128 != 0 || !are_zero(bytes, 12, 32) {
         return None;
     }
     Some(Header {
-        transfer,
         entries: LittleEndian::read_u16(&bytes[2..]),
         table,
     })
@@ -104,14 +99,14 @@ fn sectors_of(register: u16) -> u32
     }
 }
 
-/// The sectors that the bytes name, if they are the FIS of such a command.
-fn decode_sectors(bytes: &[u8], transfer: Transfer) -> Option<Sectors>
+/// The sectors that the bytes name, if they are the FIS of a command with this code that names sectors in this way.
+fn decode_range(bytes: &[u8], code: u8) -> Option<Sectors>
     requires { length bytes.now ≡ 20 }
-    ensures found { IfSome result (λ s. (slot : ℕ) → SpellsCommand bytes.now (command_of (operation_of transfer) slot s.first s.count)) }
+    ensures found { IfSome result (λ s. SpellsCommand bytes.now (with_fields code 0 (s.count % 65536) s.first 0x40)) }
     ensures range { IfSome result (λ s. (1 ≤ s.count) × (s.count ≤ 65536) × (s.first < 2 ^ 48)) }
-    ensures only { (slot : ℕ) (s : Sectors) → 1 ≤ s.count → s.count ≤ 65536 → SpellsCommand bytes.now (command_of (operation_of transfer) slot s.first s.count) → result ≡ Some s }
+    ensures only { (s : Sectors) → 1 ≤ s.count → s.count ≤ 65536 → SpellsCommand bytes.now (with_fields code 0 (s.count % 65536) s.first 0x40) → result ≡ Some s }
 {
-    if bytes[0] != 0x27 || bytes[1] != 0x80 || bytes[2] != transfer.code() {
+    if bytes[0] != 0x27 || bytes[1] != 0x80 || bytes[2] != code {
         return None;
     }
     if bytes[3] != 0 || bytes[11] != 0 || bytes[7] != 0x40 || !are_zero(bytes, 14, 20) {
@@ -121,6 +116,35 @@ fn decode_sectors(bytes: &[u8], transfer: Transfer) -> Option<Sectors>
         first: lba_of(bytes),
         count: sectors_of(LittleEndian::read_u16(&bytes[12..])),
     })
+}
+
+/// Whether the bytes are the FIS of IDENTIFY DEVICE, which names no sectors.
+fn is_identify(bytes: &[u8]) -> bool
+    requires { length bytes.now ≡ 20 }
+    ensures { IsTrue result ↔ SpellsCommand bytes.now (with_fields 0xec 0 0 0 0x00) }
+{
+    bytes[0] == 0x27 && bytes[1] == 0x80 && bytes[2] == 0xec && are_zero(bytes, 3, 20)
+}
+
+/// The sectors that the bytes name, if they are the FIS of such a command; none where it names none.
+fn decode_sectors(bytes: &[u8], transfer: Transfer) -> Option<Sectors>
+    requires { length bytes.now ≡ 20 }
+    ensures found { IfSome result (λ s. (slot : ℕ) → SpellsCommand bytes.now (command_of (operation_of transfer) slot s.first s.count)) }
+    ensures meant { IfSome result (λ s. IsMeaning (record { operation = operation_of transfer; first = s.first; count = s.count })) }
+    ensures only { (slot : ℕ) (s : Sectors) → IsMeaning (record { operation = operation_of transfer; first = s.first; count = s.count }) →
+        SpellsCommand bytes.now (command_of (operation_of transfer) slot s.first s.count) → result ≡ Some s }
+{
+    match transfer {
+        Transfer::Read => decode_range(bytes, 0x25),
+        Transfer::Write => decode_range(bytes, 0x35),
+        Transfer::Identify => {
+            if is_identify(bytes) {
+                Some(Sectors { first: 0, count: 0 })
+            } else {
+                None
+            }
+        }
+    }
 }
 
 /// The PRD that the bytes are, if they are one of a whole number of pieces.
@@ -143,23 +167,24 @@ fn decode_prd(bytes: &[u8]) -> Option<Prd>
     })
 }
 
-/// The header at an address, if there is one.
-fn header_at(memory: &[u8], at: usize) -> Option<Header>
+/// The header at an address, if there is one of a command that reads memory, or doesn't.
+fn header_at(memory: &[u8], at: usize, writes: bool) -> Option<Header>
     requires { at < 2 ^ 33 }
-    ensures found { IfSome result (λ h. SpellsHeader (bytes_at (bytes_of memory.now) at 32) (reads_memory (operation_of h.transfer)) h.entries h.table) }
-    ensures only { (h : Header) → SpellsHeader (bytes_at (bytes_of memory.now) at 32) (reads_memory (operation_of h.transfer)) h.entries h.table → result ≡ Some h }
+    ensures found { IfSome result (λ h. SpellsHeader (bytes_at (bytes_of memory.now) at 32) writes h.entries h.table) }
+    ensures only { (h : Header) → SpellsHeader (bytes_at (bytes_of memory.now) at 32) writes h.entries h.table → result ≡ Some h }
 {
     let mut bytes = [0; 32];
     copy_bytes(memory, at, &mut bytes);
-    decode_header(&bytes)
+    decode_header(&bytes, writes)
 }
 
 /// The sectors that the FIS at an address names, if it is one of such a command.
 fn sectors_at(memory: &[u8], at: usize, transfer: Transfer) -> Option<Sectors>
     requires { at < 2 ^ 33 }
     ensures found { IfSome result (λ s. (slot : ℕ) → SpellsCommand (bytes_at (bytes_of memory.now) at 20) (command_of (operation_of transfer) slot s.first s.count)) }
-    ensures range { IfSome result (λ s. (1 ≤ s.count) × (s.count ≤ 65536) × (s.first < 2 ^ 48)) }
-    ensures only { (slot : ℕ) (s : Sectors) → 1 ≤ s.count → s.count ≤ 65536 → SpellsCommand (bytes_at (bytes_of memory.now) at 20) (command_of (operation_of transfer) slot s.first s.count) → result ≡ Some s }
+    ensures meant { IfSome result (λ s. IsMeaning (record { operation = operation_of transfer; first = s.first; count = s.count })) }
+    ensures only { (slot : ℕ) (s : Sectors) → IsMeaning (record { operation = operation_of transfer; first = s.first; count = s.count }) →
+        SpellsCommand (bytes_at (bytes_of memory.now) at 20) (command_of (operation_of transfer) slot s.first s.count) → result ≡ Some s }
 {
     let mut bytes = [0; 20];
     copy_bytes(memory, at, &mut bytes);
@@ -222,32 +247,50 @@ pub fn piece_at(prds: &[Prd; 128], number: u32) -> Option<u64>
     None
 }
 
-/// The command that the bytes of a slot say, if it is one that the model takes.
-pub fn read_command(memory: &[u8], list: u32, slot: u8) -> Option<TakenCommand>
+/// The command that the bytes of a slot say, if it is such a one.
+pub fn read_as(memory: &[u8], list: u32, slot: u8, transfer: Transfer) -> Option<TakenCommand>
     requires { slot < 32 }
     ensures found { IfSome result (λ t. (t.moved ≡ 0) × Says (bytes_of memory.now) list slot (taken_of t).meaning (taken_of t).places) }
-    ensures only { result ≡ None → (m : Meaning) (places : List ℕ) → Takes m.operation → Says (bytes_of memory.now) list slot m places → ⊥ }
+    ensures kind { IfSome result (λ t. t.transfer ≡ transfer) }
+    ensures only { result ≡ None → (m : Meaning) (places : List ℕ) → m.operation ≡ operation_of transfer → Says (bytes_of memory.now) list slot m places → ⊥ }
 {
-    let Some(header) = header_at(memory, list as usize + 32 * usize::from(slot)) else {
+    let writes = transfer.reads_memory();
+    let Some(header) = header_at(memory, list as usize + 32 * usize::from(slot), writes) else {
         return None;
     };
     let table = header.table as usize;
     let entries = usize::from(header.entries);
-    let Some(sectors) = sectors_at(memory, table, header.transfer) else {
+    let Some(sectors) = sectors_at(memory, table, transfer) else {
         return None;
     };
     let mut prds = [NO_PRD; 128];
     if entries > 128 || !read_prds(memory, table + 128, entries, &mut prds) {
         return None;
     }
-    if count_pieces(&prds) != sectors.count {
+    let pieces = transfer.pieces(sectors.count);
+    if count_pieces(&prds) != pieces {
         return None;
     }
     Some(TakenCommand {
-        transfer: header.transfer,
+        transfer,
         first: sectors.first,
         count: sectors.count,
         prds,
         moved: 0,
     })
+}
+
+/// The command that the bytes of a slot say, if it is one that the model takes.
+pub fn read_command(memory: &[u8], list: u32, slot: u8) -> Option<TakenCommand>
+    requires { slot < 32 }
+    ensures found { IfSome result (λ t. (t.moved ≡ 0) × Says (bytes_of memory.now) list slot (taken_of t).meaning (taken_of t).places) }
+    ensures only { result ≡ None → (m : Meaning) (places : List ℕ) → Takes m.operation → Says (bytes_of memory.now) list slot m places → ⊥ }
+{
+    if let Some(command) = read_as(memory, list, slot, Transfer::Read) {
+        return Some(command);
+    }
+    if let Some(command) = read_as(memory, list, slot, Transfer::Write) {
+        return Some(command);
+    }
+    read_as(memory, list, slot, Transfer::Identify)
 }

@@ -1,9 +1,10 @@
 // The model without its disks.
-ghost use Rattle.std.specs.Prelude.{◌≡◌, ◌≢◌, ◌+◌, ◌<◌, ◌≤◌, ◌++◌, ℕ, Bool, true, if◌then◌else◌, All, length, take, drop, slice_index_or};
+ghost use Rattle.std.specs.Prelude.{◌≡◌, ◌≢◌, ◌+◌, ◌<◌, ◌≤◌, ◌++◌, ℕ, false, if◌then◌else◌, All, length, take, drop, slice_index_or};
 ghost use Rattle.adapter.specs.Access.{Shows, noted, written, unacknowledged};
 ghost use Rattle.adapter.specs.Memory.{patched, bytes_at};
-ghost use Rattle.adapter.specs.Steps.{MayLinkUp, Steps};
+ghost use Rattle.adapter.specs.Steps.{Steps, with_reset};
 ghost use Rattle.hba_regs.specs.Bits.{bit};
+ghost use Rattle.device_model.specs.Settled.{IsSettled, IsSettledPort};
 ghost use Rattle.device_model.specs.View.{Media, port_of, blank};
 ghost use Rattle.device_model.specs.Whole.{Outside, device_of, HasPort};
 
@@ -65,6 +66,16 @@ fn unacknowledge(ports: &mut [PortModel; 4], value: u32)
         if is_set(value, port) {
             ports[port as usize].unacknowledge();
         }
+    }
+}
+
+/// Each port, where a reset of the adapter has ended.
+fn reset_all(ports: &mut [PortModel; 4])
+    ensures size { length ports.new ≡ length ports.old }
+    ensures each { (m : Media) (port : ℕ) → port_of (slice_index_or ports.new port blank) m ≡ with_reset (port_of (slice_index_or ports.old port blank) m) }
+{
+    for port in 0..4 {
+        ports[port].reset();
     }
 }
 
@@ -136,22 +147,42 @@ impl Hardware {
         put(&mut self.memory, at, bytes);
     }
 
+    /// A reset that is pending ends (AHCI 1.3.1, 10.4.3).
+    fn end_reset(&mut self)
+        ensures steps { (o : Outside) → Steps (device_of self.old o) (device_of self.new o) }
+        ensures ended { self.new.hr ≡ false }
+        ensures number { length self.new.ports ≡ length self.old.ports }
+        ensures tape { self.new.tape ≡ self.old.tape }
+    {
+        if self.hr {
+            self.hr = false;
+            self.ae = false;
+            self.ie = false;
+            reset_all(&mut self.ports);
+        }
+    }
+
     /// What one port does by itself.
     fn settle_port(&mut self, port: usize)
         requires { port < 4 }
         ensures steps { (o : Outside) → Steps (device_of self.old o) (device_of self.new o) }
-        ensures settled { (o : Outside) → MayLinkUp ((device_of self.new o).port port) 0x101 → ⊥ }
+        ensures settled { (o : Outside) → IsSettledPort ((device_of self.new o).port port) }
         ensures others { (o : Outside) (q : ℕ) → q ≢ port → (device_of self.new o).port q ≡ (device_of self.old o).port q }
         ensures number { length self.new.ports ≡ length self.old.ports }
+        ensures reset { self.new.hr ≡ self.old.hr }
+        ensures tape { self.new.tape ≡ self.old.tape }
     {
         self.ports[port].settle();
     }
 
-    /// What the ports do by themselves before a register is read: afterwards no link is left that may come up.
+    /// What the adapter does by itself before a register is read: a pending reset ends, and then each port does what it
+    /// does by itself. Afterwards none of this is possible any more.
     pub fn settle(&mut self)
         ensures steps { (o : Outside) → Steps (device_of self.old o) (device_of self.new o) }
-        ensures settled { (o : Outside) (port : ℕ) → MayLinkUp ((device_of self.new o).port port) 0x101 → ⊥ }
+        ensures settled { (o : Outside) → IsSettled (device_of self.new o) }
+        ensures tape { self.new.tape ≡ self.old.tape }
     {
+        self.end_reset();
         for port in 0..4 {
             self.settle_port(port);
         }

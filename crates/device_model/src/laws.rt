@@ -4,7 +4,7 @@ ghost use Rattle.adapter.specs.Idle.{TellsDisks};
 ghost use Rattle.device_model.specs.Modelled.{device_at};
 
 use crate::Model;
-use crate::sector_store::SectorStore;
+use sector_store::SectorStore;
 
 /// A model's disks tell their sectors if it is one that tells, whatever it did since it was made. Over stores that tell
 /// theirs at all times, as those in memory do, each model is one that tells.

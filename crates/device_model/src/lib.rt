@@ -1,5 +1,6 @@
 //! A modelled AHCI adapter: registers, memory, and one disk over a store of sectors. Its device does what it is told,
-//! and by itself only brings the link up. For now it takes READ DMA EXT and WRITE DMA EXT alone.
+//! and by itself ends a reset, lets engines fall, brings the link up, and does IDENTIFY DEVICE. For now it takes READ DMA
+//! EXT, WRITE DMA EXT and IDENTIFY DEVICE alone.
 #![tactic(auto)]
 
 mod bits;
@@ -10,9 +11,10 @@ pub mod laws;
 mod model;
 mod port;
 mod registers;
-pub mod sector_store;
+mod settling;
 mod slots;
 mod steps;
 
-pub use config::{ModelConfig, NoMemory, Trim};
+pub use config::{ModelConfig, NoMemory};
 pub use model::Model;
+pub use sector_store::pages::Trim;

@@ -1,30 +1,34 @@
 // The model as an adapter.
 ghost use Rattle.std.specs.Prelude.{◌≡◌, ◌≢◌, ◌<◌, ◌≤◌, ◌+◌, ◌-◌, ◌*◌, ◌^◌, ◌++◌, ◌∷◌, [], ℕ, List, true, false, is_some, ◌&&◌, min, max, length, IfSome, IfOk, OnOk, OnErr};
-ghost use Rattle.adapter.specs.Commands.{Meaning};
+ghost use Rattle.adapter.specs.Commands.{Meaning, is_ranged};
 ghost use Rattle.adapter.specs.Device.{Taken, IsSector};
 ghost use Rattle.adapter.specs.Idle.{IsIdle, IsSane};
 ghost use Rattle.adapter.specs.OneCommand.{IsFreeSlot};
-ghost use Rattle.adapter.specs.Access.{Reads};
+ghost use Rattle.adapter.specs.Access.{Reads, Writes, Loads, Stores};
 ghost use Rattle.adapter.specs.Memory.{bytes_at};
-ghost use Rattle.adapter.specs.Rules.{MayRead};
-ghost use Rattle.adapter.specs.Steps.{MayLinkUp, Steps, Can, after, disk_after};
+ghost use Rattle.adapter.specs.Rules.{MayRead, MayWrite, IsFree, Stays};
+ghost use Rattle.adapter.specs.Steps.{Steps, Can, after, disk_after};
 ghost use Rattle.adapter.specs.Steps.Step.{Fetch, Move, Done, Unplug};
 ghost use Rattle.adapter.specs.Asked.{DoesMove, GoesOn, Asked};
 ghost use Rattle.device_model.specs.Fetched.{bytes_of};
-ghost use Rattle.device_model.specs.Finishing.{HasMove, HasRoom, IsReady};
+ghost use Rattle.device_model.specs.Finishing.{HasDisk, HasIdentify, HasMove, HasRoom, IsReady};
+ghost use Rattle.device_model.specs.Paged.{KeepsPages, serial_of_disk0};
 ghost use Rattle.device_model.specs.Queue.{DoesEach, due, not_due};
 ghost use Rattle.device_model.specs.Modelled.{device_at, cap_of, IsNew};
+ghost use Rattle.device_model.specs.Settled.{IsSettled};
 ghost use Rattle.device_model.specs.View.{Takes, operation_of};
 ghost use Rattle.device_model.specs.Whole.{first_disk};
+ghost use Rattle.sector_store.specs.Pages.{IsPage};
 
 use crate::config::{ModelConfig, NoMemory};
 use crate::hardware::Hardware;
 use crate::port::{PortModel, Transfer};
-use crate::sector_store::SectorStore;
 use crate::steps::NextMove;
 use adapter::{Adapter, DeviceStep, Entry, Stepped};
 use ata_types::{Port, Slot};
 use hba_regs::Reg;
+use sector_store::SectorStore;
+use sector_store::pages::{Abilities, identify_page};
 use std::alloc::Global;
 use std::snapshot::Snapshot;
 
@@ -36,12 +40,14 @@ struct Queued {
 }
 
 /// A modelled adapter. Port 0 has a disk over the first store; ports 1 to 3 have no device. Of all commands it takes
-/// READ DMA EXT and WRITE DMA EXT alone: a step on another one answers `false`.
+/// READ DMA EXT, WRITE DMA EXT and IDENTIFY DEVICE alone: a step on another one answers `false`.
 #[derive(Drop)]
 pub struct Model<S> {
     hardware: Hardware,
     disk0: S,
     disk1: S,
+    /// What the page of each disk says of it.
+    abilities: Abilities,
     /// Disk 0 as it was when it was plugged in, for proofs alone.
     plugged: Snapshot<S>,
     /// In the order in which they were queued.
@@ -61,6 +67,7 @@ impl<S: SectorStore> Model<S> {
         ensures sane { IfOk result (λ m. IsSane (device_at S.size S.told m)) }
         ensures telling { IfOk result (λ m. (device_at S.size S.told m).telling ≡ (is_some (S.told disk0) && is_some (S.told disk1))) }
         ensures made { IfOk result (λ m. IsNew config (S.size disk0) (S.told disk0) (device_at S.size S.told m)) }
+        ensures abilities { IfOk result (λ m. m.abilities ≡ record { ncq = config.ncq; depth = config.depth; trim = config.trim }) }
     {
         let hardware = Hardware {
             memory: vec![in alloc; 0u8; 4096 * usize::from(config.frames)]?,
@@ -78,6 +85,11 @@ impl<S: SectorStore> Model<S> {
         };
         Ok(Model {
             hardware,
+            abilities: Abilities {
+                ncq: config.ncq,
+                depth: config.depth,
+                trim: config.trim,
+            },
             plugged: Snapshot::of(&disk0),
             disk0,
             disk1,
@@ -100,6 +112,7 @@ impl<S: SectorStore> Model<S> {
         ensures queued { OnOk result (self.new.queue.items ≡ self.old.queue.items ++ record { access = min (self.old.accesses + max n 1) (2 ^ 64 - 1); step = step } ∷ []) }
         ensures counted { self.new.accesses ≡ self.old.accesses }
         ensures kept { OnErr result (self.new.queue.items ≡ self.old.queue.items) }
+        ensures pages { KeepsPages S.size self.old self.new }
     {
         let access = self.accesses.saturating_add(n.max(1));
         self.queue
@@ -117,6 +130,7 @@ impl<S: SectorStore> Model<S> {
         ensures idle { IsIdle (device_at S.size S.told self.old) → IsIdle (device_at S.size S.told self.new) }
         ensures queue { self.new.queue ≡ self.old.queue }
         ensures accesses { self.new.accesses ≡ self.old.accesses }
+        ensures pages { KeepsPages S.size self.old self.new }
     {
         self.hardware.unplug()
     }
@@ -133,6 +147,7 @@ impl<S: SectorStore> Model<S> {
         ensures disk { S.size self.new.disk0 ≡ S.size self.old.disk0 }
         ensures queue { self.new.queue ≡ self.old.queue }
         ensures accesses { self.new.accesses ≡ self.old.accesses }
+        ensures pages { KeepsPages S.size self.old self.new }
     {
         // No other port has a disk.
         if port != 0 {
@@ -146,7 +161,13 @@ impl<S: SectorStore> Model<S> {
             return false;
         };
         let mut bytes = [0; 512];
-        if !exchange(&mut self.disk0, &self.hardware, next, &mut bytes) {
+        if !exchange(
+            &mut self.disk0,
+            &self.hardware,
+            self.abilities,
+            next,
+            &mut bytes,
+        ) {
             return false;
         }
         self.hardware.move_bytes(port, slot, next, &bytes);
@@ -166,6 +187,7 @@ impl<S: SectorStore> Model<S> {
             HasRoom self.old.hardware (left + 1) → IsReady (device_at S.size S.told self.old) port slot (S.size self.old.disk0) left → ⊥ }
         ensures queue { self.new.queue ≡ self.old.queue }
         ensures accesses { self.new.accesses ≡ self.old.accesses }
+        ensures pages { KeepsPages S.size self.old self.new }
     {
         if port != 0 {
             return false;
@@ -187,6 +209,23 @@ impl<S: SectorStore> Model<S> {
         self.hardware.done(port, slot) || did
     }
 
+    /// Goes on with each IDENTIFY DEVICE of port 0, slot by slot, if it can be done to its end. Where there is none, nothing
+    /// changes.
+    fn identify(&mut self)
+        ensures steps { Steps (device_at S.size S.told self.old) (device_at S.size S.told self.new) }
+        ensures settled { IsSettled (device_at S.size S.told self.old) → IsSettled (device_at S.size S.told self.new) }
+        ensures alone { ((slot : ℕ) → HasIdentify (device_at S.size S.told self.old) slot → ⊥) → device_at S.size S.told self.new ≡ device_at S.size S.told self.old }
+        ensures pages { KeepsPages S.size self.old self.new }
+        ensures queue { self.new.queue ≡ self.old.queue }
+        ensures accesses { self.new.accesses ≡ self.old.accesses }
+    {
+        for slot in 0..32 {
+            if self.hardware.has_identify(slot) {
+                let _did = self.finish(0, slot);
+            }
+        }
+    }
+
     /// Has the device do a step.
     fn do_step(&mut self, s: &DeviceStep) -> bool
         ensures asked { result ≡ true → Asked s.now (device_at S.size S.told self.old) (device_at S.size S.told self.new) }
@@ -195,7 +234,7 @@ impl<S: SectorStore> Model<S> {
             Takes m.operation → Can (Fetch p.0 slot.0 m places) (device_at S.size S.told self.old) → ⊥ }
         ensures moves { result ≡ false → S.is_sure ≡ true → HasRoom self.old.hardware 1 → (device_at S.size S.told self.old).size ≤ 2 ^ 32 →
             (p : Port) (slot : Slot) (t : Taken) (bytes : List ℕ) → s.now ≡ DeviceStep.Move p slot → slot.0 < 32 →
-            Can (Move p.0 slot.0 t bytes) (device_at S.size S.told self.old) → ⊥ }
+            HasDisk p.0 t.meaning.operation → Can (Move p.0 slot.0 t bytes) (device_at S.size S.told self.old) → ⊥ }
         ensures dones { result ≡ false → HasRoom self.old.hardware 1 → (p : Port) (slot : Slot) (flag : ℕ) (t : Taken) →
             s.now ≡ DeviceStep.Done p slot → p.0 < 4 → slot.0 < 32 → Can (Done p.0 slot.0 flag t) (device_at S.size S.told self.old) → ⊥ }
         ensures finishes { result ≡ true → S.is_sure ≡ true → (device_at S.size S.told self.old).size ≤ 2 ^ 32 →
@@ -205,6 +244,7 @@ impl<S: SectorStore> Model<S> {
             IsReady (device_at S.size S.told self.old) p.0 slot.0 (S.size self.old.disk0) left → ⊥ }
         ensures queue { self.new.queue ≡ self.old.queue }
         ensures accesses { self.new.accesses ≡ self.old.accesses }
+        ensures pages { KeepsPages S.size self.old self.new }
     {
         match *s {
             DeviceStep::Fetch(port, slot) => {
@@ -225,6 +265,7 @@ impl<S: SectorStore> Model<S> {
         ensures did { DoesEach (due self.new.accesses self.old.queue.items) (device_at S.size S.told self.old) (device_at S.size S.told self.new) }
         ensures left { self.new.queue.items ≡ not_due self.new.accesses self.old.queue.items }
         ensures counted { self.new.accesses ≡ min (self.old.accesses + 1) (2 ^ 64 - 1) }
+        ensures pages { KeepsPages S.size self.old self.new }
     {
         self.accesses = self.accesses.saturating_add(1);
         let mut place = 0;
@@ -240,30 +281,36 @@ impl<S: SectorStore> Model<S> {
     }
 }
 
-/// Has a disk give the sector of a read, or take a write's from memory; `false` says that the store failed, and that it
-/// holds what it held.
+/// Has a disk give the sector of a read or its page, or take a write's sector from memory; `false` says that the store
+/// failed, and that it holds what it held.
 fn exchange<S: SectorStore>(
     disk: &mut S,
     hardware: &Hardware,
+    abilities: Abilities,
     next: NextMove,
     bytes: &mut [u8; 512],
 ) -> bool
     requires { next.address + 512 ≤ length hardware.now.memory.items }
-    ensures inside { result ≡ true → next.sector < S.size disk.old }
+    ensures inside { result ≡ true → is_ranged (operation_of next.transfer) ≡ true → next.sector < S.size disk.old }
     ensures sector { result ≡ true → IsSector bytes.new }
     ensures gives { result ≡ true → next.transfer ≡ Transfer.Read → IfSome (S.told disk.old) (λ told. bytes.new ≡ told next.sector) }
     ensures takes { result ≡ true → next.transfer ≡ Transfer.Write → bytes.new ≡ bytes_at (bytes_of hardware.now.memory.items) next.address 512 }
+    ensures page { result ≡ true → next.transfer ≡ Transfer.Identify → IsPage serial_of_disk0 (S.size disk.old) abilities bytes.new }
     ensures disk { result ≡ true → first_disk (S.size disk.new) (S.told disk.new)
         ≡ disk_after (operation_of next.transfer) (first_disk (S.size disk.old) (S.told disk.old)) next.sector bytes.new }
     ensures kept { result ≡ false → S.told disk.new ≡ S.told disk.old }
     ensures size { S.size disk.new ≡ S.size disk.old }
-    ensures sure { S.is_sure ≡ true → next.sector < S.size disk.old → result ≡ true }
+    ensures sure { S.is_sure ≡ true → (is_ranged (operation_of next.transfer) ≡ true → next.sector < S.size disk.old) → result ≡ true }
 {
     match next.transfer {
         Transfer::Read => disk.read(next.sector, bytes),
         Transfer::Write => {
             hardware.load(next.address as usize, bytes);
             disk.write(next.sector, bytes)
+        }
+        Transfer::Identify => {
+            *bytes = identify_page(b"IMAGEDISK", disk.sectors(), abilities);
+            true
         }
     }
 }
@@ -279,40 +326,56 @@ fn capabilities(slots: u8, ncq: bool) -> u32
 impl<S: SectorStore> Adapter for Model<S> {
     ghost device = { λ m. device_at S.size S.told m };
 
-    /// Before the value is read, each link that may come up does.
+    /// Before the value is read, a pending reset ends, each CR and FR that may fall does, and each link that may come up
+    /// does. Then each IDENTIFY DEVICE of port 0 is done that can be done to its end.
     fn read(&mut self, r: Reg) -> u32
         requires { MayRead r (device_at S.size S.told self.old) }
         ensures reads { Reads r result (device_at S.size S.told self.old) (device_at S.size S.told self.new) }
-        ensures settled { (port : ℕ) → MayLinkUp ((device_at S.size S.told self.new).port port) 0x101 → ⊥ }
+        ensures settled { IsSettled (device_at S.size S.told self.new) }
+        ensures pages { KeepsPages S.size self.old self.new }
     {
         self.do_queued();
         self.hardware.settle();
+        self.identify();
         let value = self.hardware.shown(r);
         self.hardware.note(r, value);
         value
     }
 
-    fn write(&mut self, r: Reg, v: u32) {
+    fn write(&mut self, r: Reg, v: u32)
+        requires { Stays (MayWrite r v) (device_at S.size S.told self.old) }
+        ensures writes { Writes r v (device_at S.size S.told self.old) (device_at S.size S.told self.new) }
+        ensures pages { KeepsPages S.size self.old self.new }
+    {
         self.do_queued();
         self.hardware.write(r, v);
     }
 
-    fn load(&mut self, addr: u32, out: &mut [u8]) {
+    fn load(&mut self, addr: u32, out: &mut [u8])
+        requires { Stays (IsFree addr (length out.old)) (device_at S.size S.told self.old) }
+        ensures loads { Loads addr out.new (device_at S.size S.told self.old) (device_at S.size S.told self.new) }
+        ensures pages { KeepsPages S.size self.old self.new }
+    {
         self.do_queued();
         self.hardware.load(addr as usize, out);
     }
 
-    fn store(&mut self, addr: u32, bytes: &[u8]) {
+    fn store(&mut self, addr: u32, bytes: &[u8])
+        requires { Stays (IsFree addr (length bytes.now)) (device_at S.size S.told self.old) }
+        ensures stores { Stores addr bytes.now (device_at S.size S.told self.old) (device_at S.size S.told self.new) }
+        ensures pages { KeepsPages S.size self.old self.new }
+    {
         self.do_queued();
         self.hardware.store(addr as usize, bytes);
     }
 }
 
 impl<S: SectorStore> Stepped for Model<S> {
-    /// Beside what every such adapter says: a fetch of a read or a write is refused only where it isn't possible; a
-    /// move and an end only where they aren't, the store failed, or the tape has no memory; a Finish over a store that
-    /// never fails ends the command, and on port 0, which alone has a disk, it is refused only where a move of it isn't
-    /// possible or the tape has no memory. What is queued stays queued, for the accesses that it was queued for.
+    /// Beside what every such adapter says: a fetch of a command that the model takes is refused only where it isn't
+    /// possible; a move and an end only where they aren't, the store failed, or the tape has no memory (of IDENTIFY DEVICE,
+    /// on port 0 alone); a Finish over a store that never fails ends the command, and on port 0, which alone has a disk, it
+    /// is refused only where a move of it isn't possible or the tape has no memory. A page of IDENTIFY DEVICE is that of
+    /// disk 0. What is queued stays queued, for the accesses that it was queued for.
     fn step(&mut self, s: &DeviceStep) -> bool
         ensures steps { Steps (device_at S.size S.told self.old) (device_at S.size S.told self.new) }
         ensures refused { result ≡ false → device_at S.size S.told self.new ≡ device_at S.size S.told self.old }
@@ -321,7 +384,7 @@ impl<S: SectorStore> Stepped for Model<S> {
             Takes m.operation → Can (Fetch p.0 slot.0 m places) (device_at S.size S.told self.old) → ⊥ }
         ensures moves { result ≡ false → S.is_sure ≡ true → HasRoom self.old.hardware 1 → (device_at S.size S.told self.old).size ≤ 2 ^ 32 →
             (p : Port) (slot : Slot) (t : Taken) (bytes : List ℕ) → s.now ≡ DeviceStep.Move p slot → slot.0 < 32 →
-            Can (Move p.0 slot.0 t bytes) (device_at S.size S.told self.old) → ⊥ }
+            HasDisk p.0 t.meaning.operation → Can (Move p.0 slot.0 t bytes) (device_at S.size S.told self.old) → ⊥ }
         ensures dones { result ≡ false → HasRoom self.old.hardware 1 → (p : Port) (slot : Slot) (flag : ℕ) (t : Taken) →
             s.now ≡ DeviceStep.Done p slot → p.0 < 4 → slot.0 < 32 → Can (Done p.0 slot.0 flag t) (device_at S.size S.told self.old) → ⊥ }
         ensures finishes { result ≡ true → S.is_sure ≡ true → (device_at S.size S.told self.old).size ≤ 2 ^ 32 →
@@ -331,6 +394,7 @@ impl<S: SectorStore> Stepped for Model<S> {
             IsReady (device_at S.size S.told self.old) p.0 slot.0 (S.size self.old.disk0) left → ⊥ }
         ensures queue { self.new.queue ≡ self.old.queue }
         ensures accesses { self.new.accesses ≡ self.old.accesses }
+        ensures pages { KeepsPages S.size self.old self.new }
     {
         self.do_step(s)
     }

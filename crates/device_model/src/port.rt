@@ -1,6 +1,6 @@
 // One port of the model.
-ghost use Rattle.std.specs.Prelude.{◌≡◌};
-ghost use Rattle.adapter.specs.Commands.{command_of, direction_of};
+ghost use Rattle.std.specs.Prelude.{◌≡◌, unwrap_or};
+ghost use Rattle.adapter.specs.Commands.{direction_of, pieces_moved, reads_memory};
 ghost use Rattle.adapter.specs.Idle.{IsIdlePort};
 ghost use Rattle.device_model.specs.Modelled.{IsReset};
 ghost use Rattle.device_model.specs.View.{Media, operation_of, port_of};
@@ -36,13 +36,15 @@ pub struct Readings {
     pub acknowledged: bool,
 }
 
-/// The commands that the model takes: sectors that go between disk and memory.
+/// The commands that the model takes: sectors that go between disk and memory, and the page of IDENTIFY DEVICE.
 #[derive(Clone, Copy, Debug)]
 pub enum Transfer {
     /// READ DMA EXT.
     Read,
     /// WRITE DMA EXT.
     Write,
+    /// IDENTIFY DEVICE.
+    Identify,
 }
 
 impl Transfer {
@@ -53,16 +55,27 @@ impl Transfer {
         match self {
             Transfer::Read => Operation::Read,
             Transfer::Write => Operation::Write,
+            Transfer::Identify => Operation::Identify,
         }
     }
 
-    /// Its code in a FIS (ACS-3).
-    pub fn code(self) -> u8
-        ensures { result ≡ (command_of (operation_of self) 0 0 0).code }
+    /// Whether its device reads memory.
+    pub fn reads_memory(self) -> bool
+        ensures { result ≡ reads_memory (operation_of self) }
     {
         match self {
-            Transfer::Read => 0x25,
-            Transfer::Write => 0x35,
+            Transfer::Write => true,
+            Transfer::Read | Transfer::Identify => false,
+        }
+    }
+
+    /// How many pieces it moves, for so many sectors.
+    pub fn pieces(self, count: u32) -> u32
+        ensures { result ≡ pieces_moved (operation_of self) count }
+    {
+        match self {
+            Transfer::Read | Transfer::Write => count,
+            Transfer::Identify => 1,
         }
     }
 
@@ -71,7 +84,7 @@ impl Transfer {
         ensures { result ≡ direction_of (operation_of self) }
     {
         match self {
-            Transfer::Read => Direction::ToMemory,
+            Transfer::Read | Transfer::Identify => Direction::ToMemory,
             Transfer::Write => Direction::FromMemory,
         }
     }
@@ -98,8 +111,10 @@ pub struct PortModel {
     pub sctl_det: u8,
     pub cr: bool,
     pub fr: bool,
-    pub tfd: u16,
-    pub sig: u32,
+    /// PxTFD, where something was written to it since the last reset of the adapter; else it is 7Fh.
+    pub tfd: Option<u16>,
+    /// PxSIG, where the link came up since then; else all its bits are ones.
+    pub sig: Option<u32>,
     /// SSTS.DET is 3, or else 0.
     pub detected: bool,
     pub serr_n: bool,
@@ -128,8 +143,8 @@ impl PortModel {
             sctl_det: 0,
             cr: false,
             fr: false,
-            tfd: 0x7f,
-            sig: 0xffff_ffff,
+            tfd: None,
+            sig: None,
             detected: false,
             serr_n: false,
             serr_x: false,
@@ -142,5 +157,12 @@ impl PortModel {
             taken: [None; 32],
             readings: Readings::default(),
         }
+    }
+
+    /// PxTFD (AHCI 1.3.1, 3.3.8).
+    pub fn task_file(&self) -> u16
+        ensures { result ≡ unwrap_or self.now.tfd 0x7f }
+    {
+        self.tfd.unwrap_or(0x7f)
     }
 }

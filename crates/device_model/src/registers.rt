@@ -1,8 +1,7 @@
 // What the registers of a port show, and what a write does.
-ghost use Rattle.std.specs.Prelude.{◌≡◌, ◌%◌, ◌<◌, ℕ, IsTrue, ◌↔◌, true, false};
-ghost use Rattle.adapter.specs.Steps.{MayLinkUp, with_link};
+ghost use Rattle.std.specs.Prelude.{◌≡◌, ℕ, true, false};
 ghost use Rattle.adapter.specs.Access.{PortShows, note, port_written, unacknowledged, counted as count_after, link_counted as link_count_after};
-ghost use Rattle.device_model.specs.View.{Media, port_of, Settles};
+ghost use Rattle.device_model.specs.View.{Media, port_of};
 
 use crate::bits::{bit_if, with_bit_as, without_ones};
 use crate::port::PortModel;
@@ -31,8 +30,8 @@ impl PortModel {
             PortReg::Cmd => {
                 bit_if(self.st, 0) | bit_if(self.fre, 4) | bit_if(self.fr, 14) | bit_if(self.cr, 15)
             }
-            PortReg::Tfd => u32::from(self.tfd),
-            PortReg::Sig => self.sig,
+            PortReg::Tfd => u32::from(self.task_file()),
+            PortReg::Sig => self.sig.unwrap_or(0xffff_ffff),
             PortReg::Ssts => if self.detected { 3 } else { 0 },
             PortReg::Sctl => u32::from(self.sctl_det) % 16,
             PortReg::Serr => bit_if(self.serr_n, 16) | bit_if(self.serr_x, 26),
@@ -110,7 +109,7 @@ impl PortModel {
         }
         if det == 1 {
             self.detected = false;
-            self.tfd = 0x7f + 256 * (self.tfd / 256);
+            self.tfd = Some(0x7f + 256 * (self.task_file() / 256));
         }
         self.sctl_det = det;
         self.readings.sctl_written_at = tape;
@@ -167,26 +166,6 @@ impl PortModel {
         self.readings.acknowledged = false;
     }
 
-    /// Whether the link may come up.
-    fn may_link(&self) -> bool
-        ensures { IsTrue result ↔ ((self.now.present ≡ true) × (self.now.sctl_det % 16 ≡ 0) × (self.now.link_due ≡ true)) }
-    {
-        self.present && self.sctl_det % 16 == 0 && self.link_due
-    }
-
-    /// The link comes up.
-    fn link_up(&mut self)
-        ensures { (m : Media) → port_of self.new m ≡ with_link (port_of self.old m) 0x101 true }
-    {
-        self.detected = true;
-        self.fresh = true;
-        self.tfd &= 0xff77;
-        self.sig = 0x101;
-        self.serr_x = true;
-        self.serr_n = true;
-        self.link_due = false;
-    }
-
     /// The disk is taken out (AHCI 1.3.1, 3.3.10 and 3.3.12).
     pub fn unplug(&mut self)
         ensures { (m : Media) → port_of self.new m ≡ record (port_of self.old m) { ssts_det = 0; present = false; fresh = false; serr_n = true } }
@@ -195,15 +174,5 @@ impl PortModel {
         self.present = false;
         self.fresh = false;
         self.serr_n = true;
-    }
-
-    /// What the port does by itself.
-    pub fn settle(&mut self)
-        ensures does { (m : Media) → Settles (port_of self.old m) (port_of self.new m) }
-        ensures settled { (m : Media) → MayLinkUp (port_of self.new m) 0x101 → ⊥ }
-    {
-        if self.may_link() {
-            self.link_up();
-        }
     }
 }

@@ -48,7 +48,7 @@ impl PortModel {
         requires unmoved { command.moved ≡ 0 }
         ensures { (m : Media) → port_of self.new m ≡ with_fetch (port_of self.old m) slot (taken_of command).meaning (taken_of command).places }
     {
-        self.tfd |= 0x80;
+        self.tfd = Some(self.task_file() | 0x80);
         put_taken(&mut self.taken, slot, Some(command));
     }
 
@@ -69,12 +69,12 @@ impl PortModel {
     {
         self.ci = with_bit_as(self.ci, u32::from(slot), false);
         self.is = with_bit_as(self.is, 0, true);
-        self.tfd &= 0xff7f;
+        self.tfd = Some(self.task_file() & 0xff7f);
         put_taken(&mut self.taken, slot, None);
     }
 }
 
-/// Whether a read or a write that is issued in a slot may be taken.
+/// Whether a command that is issued in a slot may be taken, if it is one that the model takes.
 pub fn may_take(ports: &[PortModel; 4], port: usize, slot: u8) -> bool
     requires port { port < 4 }
     requires slot { slot < 32 }

@@ -1,28 +1,28 @@
 // Steps that the hardware does when it is told.
-ghost use Rattle.std.specs.Prelude.{◌≡◌, ◌<◌, ◌≤◌, ◌+◌, ◌^◌, ◌++◌, ◌∷◌, [], true, false, ℕ, List, None, Some, IfSome, if◌then◌else◌, length, slice_index, slice_index_or};
+ghost use Rattle.std.specs.Prelude.{◌≡◌, ◌↔◌, IsTrue, ◌<◌, ◌≤◌, ◌+◌, ◌^◌, ◌++◌, ◌∷◌, [], true, false, ℕ, List, None, Some, IfSome, if◌then◌else◌, length, slice_index, slice_index_or};
 ghost use Rattle.std.specs.Vec.{vec_len, vec_capacity};
-ghost use Rattle.adapter.specs.Commands.{Meaning, reads_memory};
+ghost use Rattle.adapter.specs.Commands.{Meaning, is_ranged, reads_memory};
 ghost use Rattle.adapter.specs.Device.{Taken};
 ghost use Rattle.adapter.specs.Memory.{patched};
 ghost use Rattle.adapter.specs.Says.{pieces};
-ghost use Rattle.adapter.specs.Steps.{Can, after};
+ghost use Rattle.adapter.specs.Steps.{Can, after, next_sector};
 ghost use Rattle.adapter.specs.Steps.Step.{Fetch as FetchStep, Move as MoveStep, Done as DoneStep, Unplug as UnplugStep};
 ghost use Rattle.adapter.specs.Asked.{DoesFetch, DoesDone};
 ghost use Rattle.device_model.specs.Fetched.{bytes_of};
-ghost use Rattle.device_model.specs.Finishing.{HasRoom, IsInside, AreInside, IsCovered, IsReady};
+ghost use Rattle.device_model.specs.Finishing.{HasIdentify, HasRoom, IsInside, AreInside, IsCovered, IsReady};
 ghost use Rattle.device_model.specs.Slots.{HoldsAt, IsNext};
 ghost use Rattle.device_model.specs.View.{Takes, operation_of, taken_of, blank};
 ghost use Rattle.device_model.specs.Whole.{Outside, device_of, outside_after};
 ghost use Rattle.device_model.specs.declared.port.TakenCommand.{TakenCommand};
 
-use crate::fetch::{count_pieces, piece_at, read_command};
+use crate::fetch::{count_pieces, piece_at, read_as, read_command};
 use crate::hardware::{Hardware, put};
 use crate::port::{TakenCommand, Transfer};
 use crate::slots::{may_take, working_on};
 use adapter::{Done, Entry, Move, Prd};
 use ata_types::{Port, Slot};
 
-/// A sector that a command moves next, and the address that it goes to or comes from.
+/// What a command moves next: a sector, or 0 where it names none, and the address that the bytes go to or come from.
 #[derive(Clone, Copy, Debug)]
 pub struct NextMove {
     pub transfer: Transfer,
@@ -62,33 +62,56 @@ fn are_inside(prds: &[Prd; 128], size: usize) -> bool
     true
 }
 
-/// How many moves are left of a command, if each of its pieces has a place in a memory of this size and is one of so many
-/// sectors.
+/// Whether a command with so many pieces names sectors among so many alone, if it names some.
+fn is_on_disk(command: &TakenCommand, pieces: u32, sectors: u64) -> bool
+    ensures { IsTrue result ↔ (is_ranged (operation_of command.now.transfer) ≡ true → command.now.first + pieces ≤ sectors) }
+{
+    match command.transfer {
+        Transfer::Identify => true,
+        Transfer::Read | Transfer::Write => {
+            let end = command.first.checked_add(u64::from(pieces));
+            end.is_some_and(|end| end <= sectors)
+        }
+    }
+}
+
+/// How many moves are left of a command, if each of its pieces has a place in a memory of this size, and each sector that
+/// it names is one of so many.
 fn left_of(command: &TakenCommand, size: usize, sectors: u64) -> Option<u32>
     ensures covered { IfSome result (λ left. IsCovered (taken_of command.now) size sectors left) }
     ensures only { (left : ℕ) → IsCovered (taken_of command.now) size sectors left → result ≡ Some left }
 {
     let pieces = count_pieces(&command.prds);
-    let end = command.first.checked_add(u64::from(pieces))?;
-    if end > sectors || !are_inside(&command.prds, size) {
+    if !is_on_disk(command, pieces, sectors) || !are_inside(&command.prds, size) {
         return None;
     }
     pieces.checked_sub(command.moved)
 }
 
-/// Puts the bytes of a move into memory, if it is one of a read.
+/// The sector that a command moves next, 0 where it names none.
+fn sector_of(command: &TakenCommand) -> Option<u64>
+    ensures found { IfSome result (λ s. s ≡ next_sector (taken_of command.now)) }
+    ensures none { result ≡ None → next_sector (taken_of command.now) < 2 ^ 64 → ⊥ }
+{
+    match command.transfer {
+        Transfer::Identify => Some(0),
+        Transfer::Read | Transfer::Write => command.first.checked_add(u64::from(command.moved)),
+    }
+}
+
+/// Puts the bytes of a move into memory, unless it takes them from there.
 fn put_piece(memory: &mut [u8], next: NextMove, bytes: &[u8; 512])
     requires { next.address + 512 ≤ length memory.old }
     ensures size { length memory.new ≡ length memory.old }
     ensures put { bytes_of memory.new ≡ (if reads_memory (operation_of next.transfer) then bytes_of memory.old else patched (bytes_of memory.old) next.address bytes.now) }
 {
-    if let Transfer::Read = next.transfer {
+    if !next.transfer.reads_memory() {
         put(memory, next.address as usize, bytes);
     }
 }
 
 impl Hardware {
-    /// Takes the read or write that is issued in a slot; `false` says that there is none that may be taken.
+    /// Takes the command that is issued in a slot; `false` says that there is none that may be taken.
     pub fn fetch(&mut self, port: u8, slot: u8) -> bool
         requires port { port < 4 }
         requires slot { slot < 32 }
@@ -109,17 +132,34 @@ impl Hardware {
         true
     }
 
+    /// Whether a slot of port 0 has an IDENTIFY DEVICE that may be taken, or is taken and worked on.
+    pub fn has_identify(&self, slot: u8) -> bool
+        requires { slot < 32 }
+        ensures has { result ≡ true → (o : Outside) → HasIdentify (device_of self.now o) slot }
+        ensures only { result ≡ false → (o : Outside) → HasIdentify (device_of self.now o) slot → ⊥ }
+    {
+        if may_take(&self.ports, 0, slot) {
+            let list = self.ports[0].addresses.clb;
+            read_as(&self.memory, list, slot, Transfer::Identify).is_some()
+        } else {
+            match working_on(&self.ports, 0, slot) {
+                Some(command) => matches!(command.transfer, Transfer::Identify),
+                None => false,
+            }
+        }
+    }
+
     /// The next move of a slot's command, if one is left and its place is in the memory.
     pub fn next_move(&self, port: u8, slot: u8) -> Option<NextMove>
         requires port { port < 4 }
         requires slot { slot < 32 }
         ensures found { IfSome result (λ n. (t : TakenCommand) × IsNext self.now port slot n t) }
         ensures none { result ≡ None → length self.now.memory.items ≤ 2 ^ 32 → (t : TakenCommand) → HoldsAt (slice_index_or self.now.ports port blank) slot t →
-            t.moved < length (pieces t.prds) → slice_index (pieces t.prds) t.moved + 512 ≤ length self.now.memory.items → t.first + t.moved < 2 ^ 64 → ⊥ }
+            t.moved < length (pieces t.prds) → slice_index (pieces t.prds) t.moved + 512 ≤ length self.now.memory.items → next_sector (taken_of t) < 2 ^ 64 → ⊥ }
     {
         let command = working_on(&self.ports, usize::from(port), slot)?;
         let address = piece_at(&command.prds, command.moved)?;
-        let sector = command.first.checked_add(u64::from(command.moved))?;
+        let sector = sector_of(command)?;
         let address = u32::try_from(address).ok()?;
         if address as usize + 512 > self.memory.len() {
             return None;

@@ -1,10 +1,12 @@
 // A driver's way to a read of eight sectors or a write of three, and what the device does on it. The registers of a
 // port are reached behind the adapter's calls, whose conditions on the driver would have to be proved here.
-use crate::sector_store::{MemStore, SectorStore};
+ghost use Rattle.std.specs.Prelude.{◌<◌, ◌^◌};
+
 use crate::{Model, ModelConfig, NoMemory, Trim};
 use adapter::{Adapter, DeviceStep, Direction, Entry, Operation, Stepped};
 use ata_types::{Port, Slot};
 use hba_regs::{PortReg, Reg};
+use sector_store::{MemStore, SectorStore};
 use std::alloc::{AllocError, Global};
 use std::test::Fail;
 
@@ -30,6 +32,7 @@ const FINISH: DeviceStep = DeviceStep::Finish(Port(0), Slot(0));
 fn read<S: SectorStore>(model: &mut Model<S>, r: PortReg) -> u32 {
     model.do_queued();
     model.hardware.settle();
+    model.identify();
     model.hardware.shown(Reg::Px(Port(0), r))
 }
 
@@ -77,6 +80,35 @@ fn issue_write<S: SectorStore>(model: &mut Model<S>) {
             0x28000 + 512 * usize::from(sector),
             &[0xc0 | sector; 512],
         );
+    }
+}
+
+// In its place an IDENTIFY DEVICE is issued, whose page goes to 28000h.
+fn issue_identify<S: SectorStore>(model: &mut Model<S>) {
+    issue(model);
+    store(
+        model,
+        0x1000,
+        &[
+            0x27, 0x80, 0xec, 0, 0, 0, 0, 0, 0, 0, 0, 0, 0, 0, 0, 0, 0, 0, 0, 0,
+        ],
+    );
+    store(model, 0x108c, &[0xff, 1]);
+}
+
+// A byte of the page of disk 0 with 256 sectors: "IMAGEDISK", sectors, a queue of 32, queued commands and trims. The first
+// 511 bytes sum to 1466, or 186 modulo 256, and 256 - 186 is 70.
+fn page_byte(at: usize) -> u8 {
+    match at {
+        20..40 => b"MIGADESI K          "[at - 20],
+        138 => 0x20,
+        139 | 213 => 0x40,
+        150 => 31,
+        153 | 201 | 210 | 338 => 1,
+        167 => 0x64,
+        510 => 0xa5,
+        511 => 70,
+        _ => 0,
     }
 }
 
@@ -260,6 +292,72 @@ fn a_read_after_a_write_gives_what_was_written(rt: HostRuntime) -> Result<(), Fa
 }
 
 #[test]
+fn an_identify_device_is_finished(rt: HostRuntime) -> Result<(), Fail> {
+    let mut model = issued(rt.alloc())?;
+    issue_identify(&mut model);
+    assert!(rt; step(&mut model, FINISH));
+    for at in 0..512usize {
+        let byte = model.hardware.memory.get(0x28000 + at).copied();
+        assert_eq!(rt; byte, Some(page_byte(at)));
+    }
+    assert_eq!(rt; model.hardware.memory.get(0x28200).copied(), Some(0));
+    assert_eq!(rt; model.tape().len(), 2);
+    assert!(rt;
+        matches!(model.tape().first(), Some(Entry::Move(page)) if page.operation == Operation::Identify
+            && page.direction == Direction::ToMemory && page.sector == 0 && page.address == 0x28000)
+    );
+    assert!(rt;
+        matches!(model.tape().last(), Some(Entry::Done(done)) if done.operation == Operation::Identify)
+    );
+    assert_eq!(rt; read(&mut model, PortReg::Ci), 0);
+    assert_eq!(rt; read(&mut model, PortReg::Is) & 1, 1);
+    Ok(())
+}
+
+#[test]
+fn an_identify_device_goes_step_by_step(rt: HostRuntime) -> Result<(), Fail> {
+    let mut model = issued(rt.alloc())?;
+    issue_identify(&mut model);
+    // It has no features, and its header no W bit.
+    store(&mut model, 0x1003, &[1]);
+    assert!(rt; !step(&mut model, DeviceStep::Fetch(Port(0), Slot(0))));
+    store(&mut model, 0x1003, &[0]);
+    store(&mut model, 0, &[0x45]);
+    assert!(rt; !step(&mut model, DeviceStep::Fetch(Port(0), Slot(0))));
+    store(&mut model, 0, &[5]);
+    assert!(rt; step(&mut model, DeviceStep::Fetch(Port(0), Slot(0))));
+    assert!(rt; !step(&mut model, DeviceStep::Done(Port(0), Slot(0))));
+    assert!(rt; step(&mut model, DeviceStep::Move(Port(0), Slot(0))));
+    assert!(rt; !step(&mut model, DeviceStep::Move(Port(0), Slot(0))));
+    assert!(rt; step(&mut model, DeviceStep::Done(Port(0), Slot(0))));
+    assert_eq!(rt; model.tape().len(), 2);
+    Ok(())
+}
+
+#[test]
+fn an_identify_device_is_done_before_a_reading(rt: HostRuntime) -> Result<(), Fail> {
+    let mut model = issued(rt.alloc())?;
+    issue_identify(&mut model);
+    assert_eq!(rt; model.tape().len(), 0);
+    assert_eq!(rt; read(&mut model, PortReg::Ci), 0);
+    for at in 0..512usize {
+        let byte = model.hardware.memory.get(0x28000 + at).copied();
+        assert_eq!(rt; byte, Some(page_byte(at)));
+    }
+    assert_eq!(rt; model.tape().len(), 2);
+    // One that was taken goes on, too.
+    write(&mut model, PortReg::Ci, 1);
+    assert!(rt; step(&mut model, DeviceStep::Fetch(Port(0), Slot(0))));
+    assert_eq!(rt; read(&mut model, PortReg::Tfd) & 0x80, 0);
+    assert_eq!(rt; model.tape().len(), 4);
+    // And a read waits.
+    issue(&mut model);
+    assert_eq!(rt; read(&mut model, PortReg::Ci), 1);
+    assert_eq!(rt; model.tape().len(), 4);
+    Ok(())
+}
+
+#[test]
 fn impossible_steps_are_refused(rt: HostRuntime) -> Result<(), Fail> {
     let mut model = issued(rt.alloc())?;
     for s in [
@@ -319,17 +417,65 @@ fn the_adapter_is_switched_on(rt: HostRuntime) -> Result<(), Fail> {
     Ok(())
 }
 
+#[test]
+fn an_engine_falls_before_a_reading(rt: HostRuntime) -> Result<(), Fail> {
+    let mut model = issued(rt.alloc())?;
+    assert!(rt; step(&mut model, DeviceStep::Fetch(Port(0), Slot(0))));
+    write(&mut model, PortReg::Cmd, 0x10);
+    // CR falls at the reading, and not before. FR stays, since FRE is one.
+    assert_eq!(rt;
+        model.hardware.shown(Reg::Px(Port(0), PortReg::Cmd)),
+        0xc010
+    );
+    assert_eq!(rt; read(&mut model, PortReg::Cmd), 0x4010);
+    // The command isn't taken any more.
+    write(&mut model, PortReg::Cmd, 0x11);
+    assert!(rt; !step(&mut model, DeviceStep::Move(Port(0), Slot(0))));
+    write(&mut model, PortReg::Cmd, 0);
+    assert_eq!(rt; read(&mut model, PortReg::Cmd), 0);
+    Ok(())
+}
+
+#[test]
+fn a_reset_ends_before_a_reading(rt: HostRuntime) -> Result<(), Fail> {
+    let mut model = issued(rt.alloc())?;
+    model.hardware.write(Reg::Ghc, 0x8000_0003);
+    assert_eq!(rt; model.hardware.shown(Reg::Ghc), 0x8000_0003);
+    assert_eq!(rt; read(&mut model, PortReg::Cmd), 0);
+    assert_eq!(rt; model.hardware.shown(Reg::Ghc), 0);
+    for (r, value) in [
+        (PortReg::Tfd, 0x7f),
+        (PortReg::Sig, 0xffff_ffff),
+        (PortReg::Ssts, 0),
+        (PortReg::Serr, 0),
+        (PortReg::Is, 0),
+        (PortReg::Ci, 0),
+    ] {
+        assert_eq!(rt; read(&mut model, r), value);
+    }
+    // The link comes up after a COMRESET.
+    write(&mut model, PortReg::Sctl, 1);
+    assert_eq!(rt; read(&mut model, PortReg::Ssts), 0);
+    write(&mut model, PortReg::Sctl, 0);
+    assert_eq!(rt; read(&mut model, PortReg::Ssts), 3);
+    assert_eq!(rt; read(&mut model, PortReg::Sig), 0x101);
+    assert_eq!(rt; read(&mut model, PortReg::Tfd), 0x77);
+    Ok(())
+}
+
 // A store that tells nothing, and whose calls fail after some.
 #[derive(Drop)]
 struct Failing {
     sectors: MemStore,
+    size: u64,
     left: u8,
+    ghost few: { size < 2 ^ 64 },
 }
 
 impl SectorStore for Failing {
     ghost use Rattle.std.specs.Prelude.{None, false};
 
-    ghost size = { λ s. ⟦<MemStore as SectorStore>⟧.size s.sectors };
+    ghost size = { λ s. s.size };
 
     ghost told = { λ _. None };
 
@@ -337,14 +483,14 @@ impl SectorStore for Failing {
 
     ghost tells_sectors = { λ _. tt };
 
-    ghost fits = { λ s. s.sectors.few };
+    ghost fits = { λ s. s.few };
 
     fn sectors(&self) -> u64 {
-        self.sectors.sectors()
+        self.size
     }
 
     fn read(&mut self, sector: u64, out: &mut [u8; 512]) -> bool {
-        if self.left == 0 {
+        if self.left == 0 || sector >= self.size {
             return false;
         }
         self.left -= 1;
@@ -352,7 +498,7 @@ impl SectorStore for Failing {
     }
 
     fn write(&mut self, sector: u64, bytes: &[u8; 512]) -> bool {
-        if self.left == 0 {
+        if self.left == 0 || sector >= self.size {
             return false;
         }
         self.left -= 1;
@@ -363,6 +509,7 @@ impl SectorStore for Failing {
 fn failing_disk(alloc: Global, left: u8) -> Result<Failing, AllocError> {
     Ok(Failing {
         sectors: disk(alloc)?,
+        size: 256,
         left,
     })
 }

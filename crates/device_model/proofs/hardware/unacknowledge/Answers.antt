@@ -1,25 +1,34 @@
-use Rattle.std.proofs.Common.{rules, ◌<◌, ◌≤◌, ◌∙◌, sym, length}
-use Rattle.device_model.proofs.Acknowledged.{none_done, skip_port, change_port, all_done}
+use Rattle.std.proofs.Common.{rules, Bool, true, false, ◌≡◌, ◌<◌, ◌≤◌, ◌∙◌, sym, refl, length}
+use Rattle.std.specs.Prelude.{if◌then◌else◌}
+use Rattle.adapter.specs.Access.{unacknowledged}
+use Rattle.device_model.specs.View.{Media, acknowledging, port_of, blank}
+use Rattle.device_model.proofs.EachPort.{none_done, skip_port, change_port, all_done}
 use Rattle.device_model.proofs.hardware.unacknowledge.Goals as goal
 use Rattle.device_model.proofs.hardware.unacknowledge.Goals.{then-is_set, else-is_set}
 
 pub loop-port-init : goal.loop-port-init
-loop-port-init c = none_done c.args.ports.now c.args.value
+loop-port-init c = none_done (acknowledging c.args.value) c.args.ports.now
 
 pub loop-port-preserved : goal.loop-port-preserved
 loop-port-preserved c =
     let small : c.loop-port.port < length c.loop-port.ports = search rules in
+    let f = acknowledging c.args.value in
     elim c.if-is_set.branch [
       | then-is_set w ↦
+          let one = sym c.is_set.ensures ∙ w.if-is_set.true in
           rw w.ports-is
-          (change_port c.args.ports.now c.loop-port.ports c.args.value c.loop-port.port w.unacknowledge.new.self small
-          (sym c.is_set.ensures ∙ w.if-is_set.true) w.unacknowledge.ensures c.loop-port.invariant)
+          (change_port f c.args.ports.now c.loop-port.ports c.loop-port.port w.unacknowledge.new.self small (λ m. rw one (w.unacknowledge.ensures m))
+          c.loop-port.invariant)
       | else-is_set w ↦
-          rw w.ports-is
-          (skip_port c.args.ports.now c.loop-port.ports c.args.value c.loop-port.port (sym c.is_set.ensures ∙ w.if-is_set.false) c.loop-port.invariant)
+          let zero = sym c.is_set.ensures ∙ w.if-is_set.false in
+          rw w.ports-is (skip_port f c.args.ports.now c.loop-port.ports c.loop-port.port (λ p. rw zero refl) c.loop-port.invariant)
     ]
+
+blank_stays : (b : Bool) (m : Media) → (if b then unacknowledged (port_of blank m) else port_of blank m) ≡ port_of blank m
+blank_stays true m = refl
+blank_stays false m = refl
 
 pub returns : goal.returns
 returns c = λ m port.
     let past : length c.args.ports.now ≤ c.loop-port.port = search rules in
-    all_done c.args.ports.now c.loop-port.ports c.args.value c.loop-port.port past c.loop-port.invariant port m
+    all_done (acknowledging c.args.value) c.args.ports.now c.loop-port.ports c.loop-port.port past (λ k n. blank_stays _ n) c.loop-port.invariant port m

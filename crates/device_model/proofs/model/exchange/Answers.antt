@@ -1,7 +1,8 @@
 use Rattle.std.proofs.Common.{ℕ, true, ◌∙◌, ap}
 use Rattle.adapter.specs.Memory.{bytes_at}
 use Rattle.device_model.specs.Fetched.{bytes_of}
-use Rattle.device_model.specs.Whole.{Outside, no_media}
+use Rattle.device_model.specs.Whole.{Outside, no_media, first_disk}
+use Rattle.device_model.proofs.Transfers.{replaced_is}
 use Rattle.device_model.proofs.model.exchange.Goals as goal
 
 pub returns-in-Write-clause-sector : goal.returns-in-Write-clause-sector
@@ -12,3 +13,8 @@ returns-in-Write-clause-takes g c = λ _ _.
     let memory : ℕ → ℕ = bytes_of c.args.hardware.now.memory.items in
     let nothing : Outside = record { telling = true; media = λ _. no_media } in
     c.load.ensures.shows nothing ∙ ap (λ n. bytes_at memory c.args.next.address n) c.write.array_long
+
+pub returns-in-Write-clause-disk : goal.returns-in-Write-clause-disk
+returns-in-Write-clause-disk g c = λ done.
+    let told = c.write.ensures.puts done ∙ replaced_is (g.S.SectorStore.told c.args.disk.now) c.args.next.sector c.load.new.out in
+    rw c.in-Write.is (λ i. first_disk (c.write.ensures.size i) (told i))

@@ -4,8 +4,8 @@ use Rattle.device_model.proofs.steps.left_of.Goals as goal
 
 pub returns-clause-covered : goal.returns-clause-covered
 returns-clause-covered c =
-    left_covered c.args.command.now c.args.size c.args.sectors c.count_pieces-pieces.result c.in_ok-end.end c.checked_sub.result c.count_pieces-pieces.ensures
-    (omega (arith, c.in_ok-end.ensures.1, c.from.ensures)) c.if-end-sectors.false (c.are_inside.ensures.inside c.if-not-are_inside.false) c.checked_sub.ensures
+    left_covered c.args.command.now c.args.size c.args.sectors c.count_pieces-pieces.result c.checked_sub.result c.count_pieces-pieces.ensures
+    (c.is_on_disk.ensures.0 c.if-not-is_on_disk.false) (c.are_inside.ensures.inside c.if-not-are_inside.false) c.checked_sub.ensures
 
 pub returns-clause-only : goal.returns-clause-only
 returns-clause-only c = λ left covered.

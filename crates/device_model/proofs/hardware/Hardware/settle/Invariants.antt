@@ -1,11 +1,14 @@
-use Rattle.std.proofs.Common.{ℕ, ◌≡◌, ◌<◌, length}
-use Rattle.adapter.specs.Steps.{MayLinkUp, Steps}
+use Rattle.std.proofs.Common.{ℕ, ◌≡◌, ◌<◌, false, length}
+use Rattle.adapter.specs.Steps.{Steps}
+use Rattle.device_model.specs.Settled.{IsSettledPort}
 use Rattle.device_model.specs.Whole.{Outside, device_of}
 use Rattle.device_model.proofs.hardware.Hardware.settle.Given as goal
 
 abbrev pub invariant-loop-port : goal.invariant-loop-port
 invariant-loop-port l = record {
   steps : (o : Outside) → Steps (device_of l.fn.self o) (device_of l.self o);
-  settled : (o : Outside) (q : ℕ) → q < l.port → MayLinkUp ((device_of l.self o).port q) 0x101 → ⊥;
+  settled : (o : Outside) (q : ℕ) → q < l.port → IsSettledPort ((device_of l.self o).port q);
   number : length l.self.ports ≡ 4;
+  ended : l.self.hr ≡ false;
+  tape : l.self.tape ≡ l.fn.self.tape;
 }

@@ -7,6 +7,7 @@ use Rattle.device_model.specs.Modelled.{device_at}
 use Rattle.device_model.specs.Queue.{DoesEach, due, not_due}
 use Rattle.device_model.specs.declared.model.Queued.{Queued}
 use Rattle.device_model.proofs.Queueing.{IsAt, at_start, at_inside, at_kept, at_done, at_end_left, at_end_did, did_or_not, each_steps}
+use Rattle.device_model.proofs.Telling.{keeps_tape, keeps_on}
 use Rattle.device_model.proofs.model.Model.do_queued.Goals as goal
 use Rattle.device_model.proofs.model.Model.do_queued.Goals.{then-queued-self, else-queued-self}
 
@@ -17,7 +18,7 @@ loop-queued-init g c =
     let ok = c.args.self.now.queue.ok.0 in
     let P : ℕ → Type 0 = λ n. IsAt c.saturating_add-self.result items items 0 n d d in
     let all : length items ≡ c.len-queued-end.result - 0 = omega (arith, ok, c.len-queued-end.ensures) in
-    record { same = refl; at = subst P all (at_start c.saturating_add-self.result items d) }
+    record { same = refl; pages = keeps_tape g.S.SectorStore.size _ _ refl refl refl; at = subst P all (at_start c.saturating_add-self.result items d) }
 
 -- there is one at the place while some are left to look at
 pub index-requires : goal.index-requires
@@ -60,7 +61,7 @@ loop-queued-preserved g c =
           let Q : Queued → Type 0 = λ q. access < q.access in
           subst Q c.index.ensures (omega (arith, same, w.if-queued-self.true)) in
           rw (w.self-is, w.place-is)
-          (record { same = same; at = at_kept access c.args.self.now.queue.items m.queue.items c.loop-queued.place left old mid mid at x late refl })
+          (record { same = same; pages = c.loop-queued.invariant.pages; at = at_kept access c.args.self.now.queue.items m.queue.items c.loop-queued.place left old mid mid at x late refl })
       | else-queued-self w ↦
           let early : (slice_index_or m.queue.items c.loop-queued.place x).access ≤ access =
           let Q : Queued → Type 0 = λ q. q.access ≤ access in
@@ -72,7 +73,12 @@ loop-queued-preserved g c =
           let items : w.do_step-done.new.self.queue.items ≡ remove m.queue.items c.loop-queued.place =
           ap (λ (v : Vec Queued). v.items) w.do_step-done.ensures.queue ∙ w.remove.ensures.items in
           let T : List Queued → Type 0 = λ now. IsAt access c.args.self.now.queue.items now c.loop-queued.place left old new in
-          rw (w.self-is, w.place-is) (record { same = w.do_step-done.ensures.accesses ∙ same; at = subst T (sym items) gone })
+          rw (w.self-is, w.place-is) (record {
+            same = w.do_step-done.ensures.accesses ∙ same;
+            pages = keeps_on g.S.SectorStore.size _ _ _ c.loop-queued.invariant.pages
+                (keeps_on g.S.SectorStore.size _ _ _ (keeps_tape g.S.SectorStore.size m _ refl refl refl) w.do_step-done.ensures.pages);
+            at = subst T (sym items) gone;
+          })
     ]
 
 pub returns-clause-counted : goal.returns-clause-counted
@@ -100,3 +106,6 @@ returns-clause-did g c =
 
 pub returns-clause-steps : goal.returns-clause-steps
 returns-clause-steps g c = each_steps c.loop-queued.invariant.at.done _ _ c.loop-queued.invariant.at.did
+
+pub returns-clause-pages : goal.returns-clause-pages
+returns-clause-pages g c = c.loop-queued.invariant.pages

@@ -10,6 +10,7 @@ use Rattle.device_model.specs.Whole.{Outside, device_of}
 use Rattle.adapter.proofs.Absurd.{true-false, some-none, some_one}
 use Rattle.adapter.proofs.Going.{goes_one, goes_next}
 use Rattle.device_model.proofs.Finishing.{fetched_goes, fetched_size, moved_goes, going_has_move, going_may_end, done_frees}
+use Rattle.device_model.proofs.Telling.{keeps_tape, keeps_on, keeps_done}
 use Rattle.device_model.proofs.model.Model.finish.Given.{Over}
 use Rattle.device_model.proofs.model.Model.finish.Goals as goal
 
@@ -28,6 +29,8 @@ loop-piece-init g c =
       disk = sym c.sectors-sectors.ensures;
       queue = refl;
       accesses = refl;
+      pages = keeps_tape g.S.SectorStore.size _ _ refl refl
+          (ap (λ (v : Vec Entry). v.items) c.fetch-did.ensures.tape ∙ ap (λ (d : Device). d.tape) kept);
       room =
           let P : Vec Entry → Type 0 = λ tape. vec_len tape + (c.in-Some.left + 1) ≤ vec_capacity tape in
           let enough = subst P (sym c.fetch-did.ensures.tape) (c.reserve.ensures.room c.if-not-reserve.false) in
@@ -50,6 +53,7 @@ loop-piece-preserved g c = let moved = c.move_piece.ensures.did c.if-not-move_pi
   disk = c.move_piece.ensures.disk ∙ c.loop-piece.invariant.disk;
   queue = c.move_piece.ensures.queue ∙ c.loop-piece.invariant.queue;
   accesses = c.move_piece.ensures.accesses ∙ c.loop-piece.invariant.accesses;
+  pages = keeps_on g.S.SectorStore.size _ _ _ c.loop-piece.invariant.pages c.move_piece.ensures.pages;
   room = c.move_piece.ensures.left _ (omega (arith, c.loop-piece.invariant.room, c.loop-piece-test.true));
   going =
       let P : ℕ → Type 0 = λ n. IsGoing (device_at g.S.SectorStore.size g.S.SectorStore.told c.loop-piece.self) c.args.port c.args.slot c.sectors-sectors.result n in
@@ -81,7 +85,7 @@ move_is_done g c sure small =
     let going = subst Q (sym c.loop-piece.invariant.disk) (subst P next c.loop-piece.invariant.going) in
     let zero : c.args.port ≡ 0 = c.if-port-ne0.false in
     let here : IsGoing d 0 c.args.slot size (suc left) = subst R zero going in
-    let found = subst S (sym zero) (here.t, going_has_move d 0 c.args.slot left here) in
+    let found = subst S (sym zero) (here.t, going_has_move d 0 c.args.slot left refl here) in
     c.move_piece.ensures.only c.if-not-move_piece.true sure (omega (arith, c.loop-piece.invariant.room)) (omega (arith, c.loop-piece.invariant.size, small))
     found.0 found.1
 
@@ -153,3 +157,24 @@ returns-else-done-clause-refused g c = λ e.
     let m = c.loop-piece.self in
     let o : Outside = outside_at g.S.SectorStore.size g.S.SectorStore.told m in
     c.done.ensures.refused c.if-done.false o ∙ c.loop-piece.invariant.refused e
+
+pub returns-then-not-reserve-clause-pages : goal.returns-then-not-reserve-clause-pages
+returns-then-not-reserve-clause-pages g c =
+    keeps_tape g.S.SectorStore.size _ _ refl refl (ap (λ (d : Device). d.tape) (c.reserve.ensures.same (outside_at g.S.SectorStore.size g.S.SectorStore.told c.args.self.now)))
+
+pub returns-then-not-move_piece-clause-pages : goal.returns-then-not-move_piece-clause-pages
+returns-then-not-move_piece-clause-pages g c = keeps_on g.S.SectorStore.size _ _ _ c.loop-piece.invariant.pages c.move_piece.ensures.pages
+
+pub returns-then-done-clause-pages : goal.returns-then-done-clause-pages
+returns-then-done-clause-pages g c =
+    let m = c.loop-piece.self in
+    let o : Outside = outside_at g.S.SectorStore.size g.S.SectorStore.told m in
+    keeps_on g.S.SectorStore.size _ _ _ c.loop-piece.invariant.pages
+    (keeps_done g.S.SectorStore.size o c.args.port c.args.slot c.done.result m _ refl refl (λ e. c.done.ensures.did e o) (λ e. c.done.ensures.refused e o))
+
+pub returns-else-done-clause-pages : goal.returns-else-done-clause-pages
+returns-else-done-clause-pages g c =
+    let m = c.loop-piece.self in
+    let o : Outside = outside_at g.S.SectorStore.size g.S.SectorStore.told m in
+    keeps_on g.S.SectorStore.size _ _ _ c.loop-piece.invariant.pages
+    (keeps_done g.S.SectorStore.size o c.args.port c.args.slot c.done.result m _ refl refl (λ e. c.done.ensures.did e o) (λ e. c.done.ensures.refused e o))

@@ -2,6 +2,7 @@ use Rattle.std.proofs.Common.{◌≡◌, ◌+◌, ◌-◌, true, false}
 use Rattle.adapter.specs.Asked.{GoesOn}
 use Rattle.device_model.specs.Finishing.{HasRoom, IsGoing}
 use Rattle.device_model.specs.Modelled.{device_at}
+use Rattle.device_model.specs.Paged.{KeepsPages}
 use Rattle.device_model.proofs.model.Model.finish.Given as goal
 
 abbrev pub invariant-loop-piece : goal.invariant-loop-piece
@@ -16,4 +17,5 @@ invariant-loop-piece g l = record {
   going : IsGoing (device_at g.S.SectorStore.size g.S.SectorStore.told l.self) l.port l.slot l.sectors (l.left - l._piece);
   queue : l.self.queue ≡ l.fn.self.queue;
   accesses : l.self.accesses ≡ l.fn.self.accesses;
+  pages : KeepsPages g.S.SectorStore.size l.fn.self l.self;
 }

@@ -1,19 +1,33 @@
-use Rattle.std.proofs.Common.{ℕ, ◌≡◌, ◌∙◌, ◌+◌, ◌∷◌, [], List, length, sym, ap, subst, arith}
+use Rattle.std.proofs.Common.{refl, ◌++◌, ℕ, true, ◌≡◌, ◌<◌, ◌∙◌, ◌+◌, ◌∷◌, [], List, length, sym, ap, subst, arith}
 use Rattle.adapter.proofs.Absurd.{some_one, true-false}
 use Rattle.adapter.specs.Device.{Device, Disk}
-use Rattle.adapter.specs.Steps.{Can, after}
+use Rattle.adapter.specs.Commands.{is_ranged}
+use Rattle.adapter.specs.Steps.{Can, after, next_sector}
 use Rattle.adapter.specs.Steps.Step.{Move}
 use Rattle.device_model.specs.Modelled.{outside_at}
 use Rattle.device_model.specs.Slots.{IsNext}
-use Rattle.device_model.specs.View.{taken_of}
+use Rattle.device_model.specs.View.{operation_of, taken_of}
 use Rattle.device_model.specs.Whole.{Outside, device_of, first_disk, outside_of, outside_after}
 use Rattle.device_model.specs.declared.port.TakenCommand.{TakenCommand}
+use Rattle.device_model.specs.declared.port.Transfer.{Transfer}
 use Rattle.device_model.proofs.Stepping.{may_move}
-use Rattle.device_model.proofs.Finishing.{move_fits, outside_moved}
+use Rattle.device_model.proofs.Finishing.{move_fits, no_move, outside_moved, sector_small}
+use Rattle.adapter.specs.Steps.{move_of}
+use Rattle.adapter.specs.declared.tape.Entry.{Entry}
+use Rattle.adapter.specs.declared.tape.Entry.TheVariants as entry
+use Rattle.device_model.proofs.Telling.{keeps_tape, keeps_moved}
 use Rattle.device_model.proofs.model.Model.move_piece.Goals as goal
 
 pub returns-then-not-reserve-clause-refused : goal.returns-then-not-reserve-clause-refused
 returns-then-not-reserve-clause-refused g c = λ _. c.reserve.ensures.same _
+
+-- no other port has a disk
+pub returns-then-port-ne0-clause-only : goal.returns-then-port-ne0-clause-only
+returns-then-port-ne0-clause-only g c = λ _ sure room small t move.
+    let m = c.args.self.now in
+    let o : Outside = outside_at g.S.SectorStore.size g.S.SectorStore.told m in
+    no_move m.hardware (first_disk (g.S.SectorStore.size m.disk0) (g.S.SectorStore.told m.disk0)) (g.S.SectorStore.told m.disk1) _ c.args.port c.args.slot t
+    c.if-port-ne0.true move
 
 pub returns-in_default-clause-refused : goal.returns-in_default-clause-refused
 returns-in_default-clause-refused g c = λ _. c.reserve.ensures.same _
@@ -28,7 +42,8 @@ returns-in_default-clause-only g c = λ _ sure room small t move.
     let sectors = g.met.S.SectorStore.fits m.disk0 in
     let size : length c.reserve.new.self.memory.items ≡ length m.hardware.memory.items = ap (λ (d : Device). d.size) (c.reserve.ensures.same o) in
     let found = move_fits c.reserve.new.self o _ c.args.port c.args.slot t c.if-port-ne0.false (c.reserve.ensures.same o) move in
-    c.next_move.ensures.none c.in_default.is (omega (arith, size, small)) found.r found.holds found.left found.inside (omega (arith, found.on_disk, sectors))
+    c.next_move.ensures.none c.in_default.is (omega (arith, size, small)) found.r found.holds found.left found.inside
+    (sector_small found.r (g.S.SectorStore.size m.disk0) sectors found.on_disk)
 
 pub returns-then-not-exchange-clause-refused : goal.returns-then-not-exchange-clause-refused
 returns-then-not-exchange-clause-refused g c = λ _.
@@ -46,8 +61,13 @@ returns-then-not-exchange-clause-only g c = λ _ sure room small t move.
     let found = move_fits c.reserve.new.self o _ c.args.port c.args.slot t c.if-port-ne0.false (c.reserve.ensures.same o) move in
     let is = c.in-Some.ensures.found.1 in
     let same : found.r ≡ c.in-Some.ensures.found.0 = some_one (sym found.holds.held ∙ is.holds.held) in
-    let sector : c.in-Some.next.sector ≡ found.r.first + found.r.moved = is.sector_is ∙ ap (λ (r : TakenCommand). r.first + r.moved) (sym same) in
-    true-false (c.exchange.ensures.sure sure (omega (arith, sector, found.on_disk))) c.if-not-exchange.true
+    let sector : c.in-Some.next.sector ≡ next_sector (taken_of found.r) = is.sector_is ∙ ap (λ (r : TakenCommand). next_sector (taken_of r)) (sym same) in
+    let kind : c.in-Some.next.transfer ≡ found.r.transfer = is.transfer_is ∙ ap (λ (r : TakenCommand). r.transfer) (sym same) in
+    let there : is_ranged (operation_of c.in-Some.next.transfer) ≡ true → c.in-Some.next.sector < g.S.SectorStore.size m.disk0 =
+    λ (ranged : is_ranged (operation_of c.in-Some.next.transfer) ≡ true).
+    let at = found.on_disk (sym (ap (λ (k : Transfer). is_ranged (operation_of k)) kind) ∙ ranged) in
+    omega (arith, sector, at) in
+    true-false (c.exchange.ensures.sure sure there) c.if-not-exchange.true
 
 pub returns-then-not-exchange-clause-left : goal.returns-then-not-exchange-clause-left
 returns-then-not-exchange-clause-left g c = λ n room. let kept = c.reserve.ensures.kept (n + 1) room in omega (arith, kept)
@@ -85,3 +105,26 @@ returns-clause-did g c = λ _.
       effect = ap (λ (x : Outside). device_of c.move_bytes.new.self x) behind
           ∙ (moved.2 ∙ ap (λ (d : Device). after (Move c.args.port c.args.slot (taken_of r) bytes) d) (c.reserve.ensures.same o));
     }
+
+pub returns-then-not-reserve-clause-pages : goal.returns-then-not-reserve-clause-pages
+returns-then-not-reserve-clause-pages g c =
+    keeps_tape g.S.SectorStore.size _ _ refl refl (ap (λ (d : Device). d.tape) (c.reserve.ensures.same (outside_at g.S.SectorStore.size g.S.SectorStore.told c.args.self.now)))
+
+pub returns-in_default-clause-pages : goal.returns-in_default-clause-pages
+returns-in_default-clause-pages g c =
+    keeps_tape g.S.SectorStore.size _ _ refl refl (ap (λ (d : Device). d.tape) (c.reserve.ensures.same (outside_at g.S.SectorStore.size g.S.SectorStore.told c.args.self.now)))
+
+pub returns-then-not-exchange-clause-pages : goal.returns-then-not-exchange-clause-pages
+returns-then-not-exchange-clause-pages g c =
+    keeps_tape g.S.SectorStore.size _ _ refl c.exchange.ensures.size
+    (ap (λ (d : Device). d.tape) (c.reserve.ensures.same (outside_at g.S.SectorStore.size g.S.SectorStore.told c.args.self.now)))
+
+pub returns-clause-pages : goal.returns-clause-pages
+returns-clause-pages g c =
+    let o : Outside = outside_at g.S.SectorStore.size g.S.SectorStore.told c.args.self.now in
+    let moved = c.move_bytes.ensures.moved o in
+    let is = moved.1 in
+    let entry : Entry = entry.Move (move_of c.args.port c.args.slot (taken_of moved.0) c.exchange.new.bytes) in
+    keeps_moved g.S.SectorStore.size _ _ moved.0.transfer (move_of c.args.port c.args.slot (taken_of moved.0) c.exchange.new.bytes) refl c.exchange.ensures.size
+    (ap (λ (d : Device). d.tape) moved.2 ∙ ap (λ (d : Device). d.tape ++ entry ∷ []) (c.reserve.ensures.same o)) refl
+    (λ identify. c.exchange.ensures.page c.if-not-exchange.false (is.transfer_is ∙ identify))

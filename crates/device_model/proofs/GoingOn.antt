@@ -1,0 +1,139 @@
+-- What a port does by itself is steps, which compose.
+use Rattle.std.proofs.Common.{ℕ, Bool, zero, suc, true, false, ◌≡◌, None, replicate, refl, sym, ◌∙◌, ap, subst, inl, inr, arith}
+use Rattle.std.proofs.lemmas.Bool.Decides.{eqb_tells}
+use Rattle.adapter.specs.Device.{PortState, Device}
+use Rattle.adapter.specs.Memory.{changed}
+use Rattle.adapter.specs.Asked.{DoesOne, DoesSome, GoesOn}
+use Rattle.adapter.specs.Steps.{MayLinkUp, Steps, with_done, with_fetch, with_link, with_move, with_port, with_reset}
+use Rattle.adapter.specs.Steps.Step.{Fall, FrFall, LinkUp}
+use Rattle.adapter.proofs.Changed.{fun_ext, changed_same, changed_other, changed_each}
+use Rattle.adapter.proofs.Runs.{Steps-refl, Steps-one, Steps-trans}
+use Rattle.device_model.specs.Bits.{bits_of}
+use Rattle.device_model.specs.Settled.{GoesTo, IsSettled, IsSettledPort}
+use Rattle.device_model.specs.View.{Media, port_of, slots_of, blank}
+use Rattle.device_model.proofs.NewModel.{zero_bit, slots_none}
+
+pub with_same : (d : Device) (port : ℕ) (p : PortState) → d.port port ≡ p → with_port d port p ≡ d
+with_same d port p is =
+    ap (λ (f : ℕ → PortState). record d { port = f })
+    (fun_ext (changed_each d.port port p (λ k v. v ≡ d.port k) (sym is) (λ k. refl)))
+
+with_twice : (d : Device) (port : ℕ) (a b : PortState) → with_port (with_port d port a) port b ≡ with_port d port b
+with_twice d port a b =
+    ap (λ (f : ℕ → PortState). record d { port = f })
+    (fun_ext
+    (λ k.
+    elim (eqb_tells k port) [
+      | inl same ↦ rw same.1 (changed_same (changed d.port port a) port b ∙ sym (changed_same d.port port b))
+      | inr differ ↦
+          changed_other (changed d.port port a) port b k differ.1
+          ∙ (changed_other d.port port a k differ.1 ∙ sym (changed_other d.port port b k differ.1))
+    ]))
+
+pub goes_nowhere : (p : PortState) → GoesTo p p
+goes_nowhere p d port is = let P : Device → Type 0 = λ x. Steps d x in subst P (sym (with_same d port p is)) (Steps-refl d)
+
+pub goes_on : (a b c : PortState) → GoesTo a b → GoesTo b c → GoesTo a c
+goes_on a b c first then d port is =
+    let P : Device → Type 0 = λ x. Steps (with_port d port b) x in
+    Steps-trans (first d port is) (subst P (with_twice d port b c) (then (with_port d port b) port (changed_same d.port port b)))
+
+abbrev fallen : PortState → PortState
+fallen p = record p { cr = false; taken = λ _. None }
+
+pub goes_fallen : (old new : PortState) → old.st ≡ false → old.cr ≡ true → new ≡ fallen old → GoesTo old new
+goes_fallen old new st cr is d port here =
+    Steps-one (Fall port) d _ (ap (λ (p : PortState). p.st) here ∙ st, ap (λ (p : PortState). p.cr) here ∙ cr)
+    (ap (λ (p : PortState). with_port d port p) (is ∙ ap fallen (sym here)))
+
+abbrev area_fallen : PortState → PortState
+area_fallen p = record p { fr = false }
+
+pub goes_area_fallen : (old new : PortState) → old.fre ≡ false → old.cr ≡ false → old.fr ≡ true → new ≡ area_fallen old → GoesTo old new
+goes_area_fallen old new fre cr fr is d port here =
+    Steps-one (FrFall port) d _
+    (ap (λ (p : PortState). p.fre) here ∙ fre, ap (λ (p : PortState). p.cr) here ∙ cr, ap (λ (p : PortState). p.fr) here ∙ fr)
+    (ap (λ (p : PortState). with_port d port p) (is ∙ ap area_fallen (sym here)))
+
+pub goes_linked : (old new : PortState) → old.present ≡ true → old.sctl_det ≡ 0 → old.link_due ≡ true → new ≡ with_link old 0x101 true → GoesTo old new
+goes_linked old new present det due is d port here =
+    Steps-one (LinkUp port 0x101 true) d _
+    (record {
+      present = ap (λ (p : PortState). p.present) here ∙ present;
+      det = ap (λ (p : PortState). p.sctl_det) here ∙ det;
+      due = ap (λ (p : PortState). p.link_due) here ∙ due;
+      fits = omega arith;
+    })
+    (ap (λ (p : PortState). with_port d port p) (is ∙ ap (λ (p : PortState). with_link p 0x101 true) (sym here)))
+
+pub no_slots : slots_of (replicate 32 None) ≡ (λ _. None)
+no_slots = fun_ext (slots_none 32)
+
+pub no_bits : bits_of 0 ≡ (λ _. false)
+no_bits = fun_ext zero_bit
+
+pub blank_reset : (m : Media) → with_reset (port_of blank m) ≡ port_of blank m
+blank_reset m = λ i. record (port_of blank m) { ci = sym no_bits i; sact = sym no_bits i; is = sym no_bits i }
+
+pub blank_settled : (m : Media) → IsSettledPort (port_of blank m)
+blank_settled m = record { engine = λ _ cr. cc; area = λ _ _ fr. cc; link = λ sig may. let e : false ≡ true = may.present in cc }
+
+-- ---- a command goes on, and what the model does by itself stays done
+
+record SameControls (p new : PortState) : Type 0 where
+  st : new.st ≡ p.st
+  cr : new.cr ≡ p.cr
+  fre : new.fre ≡ p.fre
+  fr : new.fr ≡ p.fr
+  present : new.present ≡ p.present
+  det : new.sctl_det ≡ p.sctl_det
+  due : new.link_due ≡ p.link_due
+
+settled_with : (old new : Device) (port : ℕ) (p : PortState) → new.hr ≡ old.hr → new.port ≡ changed old.port port p → SameControls (old.port port) p →
+    IsSettled old → IsSettled new
+settled_with old new port p hr is same settled =
+    let ports : (P : ℕ → PortState → Type 0) → P port p → ((k : ℕ) → P k (old.port k)) → (k : ℕ) → P k (new.port k) =
+    λ (P : ℕ → PortState → Type 0) (here : P port p) (others : (k : ℕ) → P k (old.port k)) (k : ℕ).
+    subst (λ (f : ℕ → PortState). P k (f k)) (sym is) (changed_each old.port port p P here others k) in
+    record {
+      reset = λ on. settled.reset (sym hr ∙ on);
+      engines = ports (λ k x. (x.st ≡ false) × (x.cr ≡ true) → ⊥) (λ may. settled.engines port (sym same.st ∙ may.0, sym same.cr ∙ may.1)) settled.engines;
+      areas = ports (λ k x. (x.fre ≡ false) × (x.cr ≡ false) × (x.fr ≡ true) → ⊥)
+          (λ may. settled.areas port (sym same.fre ∙ may.0, sym same.cr ∙ may.1, sym same.fr ∙ may.2)) settled.areas;
+      links = λ k sig n.
+          ports (λ q x. MayLinkUp x sig → ⊥)
+          (λ may. settled.links port sig n
+          (record {
+            present = sym same.present ∙ may.present;
+            det = sym same.det ∙ may.det;
+            due = sym same.due ∙ may.due;
+            fits = may.fits;
+          }))
+          (λ q may. settled.links q sig n may) k;
+    }
+
+-- what a step of a command changes is none of these
+abbrev same : (p new : PortState) → new.st ≡ p.st → new.cr ≡ p.cr → new.fre ≡ p.fre → new.fr ≡ p.fr → new.present ≡ p.present →
+    new.sctl_det ≡ p.sctl_det → new.link_due ≡ p.link_due → SameControls p new
+same p new st cr fre fr present det due = record { st = st; cr = cr; fre = fre; fr = fr; present = present; det = det; due = due }
+
+one_settled : (port slot : ℕ) (old new : Device) → DoesOne port slot old new → IsSettled old → IsSettled new
+one_settled port slot old new (inl f) =
+    settled_with old new port (with_fetch (old.port port) slot f.meaning f.places) (ap (λ (d : Device). d.hr) f.effect) (ap (λ (d : Device). d.port) f.effect)
+    (same _ _ refl refl refl refl refl refl refl)
+one_settled port slot old new (inr (inl m)) =
+    settled_with old new port (with_move (old.port port) slot m.t m.bytes) (ap (λ (d : Device). d.hr) m.effect) (ap (λ (d : Device). d.port) m.effect)
+    (same _ _ refl refl refl refl refl refl refl)
+one_settled port slot old new (inr (inr e)) =
+    settled_with old new port (with_done (old.port port) slot e.flag e.t.meaning.operation) (ap (λ (d : Device). d.hr) e.effect)
+    (ap (λ (d : Device). d.port) e.effect) (same _ _ refl refl refl refl refl refl refl)
+
+some_settled : (n port slot : ℕ) (old new : Device) → DoesSome n port slot old new → IsSettled old → IsSettled new
+some_settled zero port slot old new e settled = let P : Device → Type 0 = λ d. IsSettled d in subst P (sym e) settled
+some_settled (suc n) port slot old new s settled = one_settled port slot s.0 new s.2 (some_settled n port slot old s.0 s.1 settled)
+
+-- a command went on, or didn't
+pub gone_settled : (port slot : ℕ) (did : Bool) (old new : Device) → (did ≡ true → GoesOn port slot old new) → (did ≡ false → new ≡ old) →
+    IsSettled old → IsSettled new
+gone_settled port slot true old new went stayed settled = let g = went refl in some_settled (suc g.0) port slot old new g.1 settled
+gone_settled port slot false old new went stayed settled = let P : Device → Type 0 = λ d. IsSettled d in subst P (sym (stayed refl)) settled

@@ -1,0 +1,18 @@
+use Rattle.std.proofs.Common.{ℕ, ◌≡◌}
+use Rattle.adapter.specs.Steps.{Steps}
+use Rattle.device_model.specs.Finishing.{HasIdentify}
+use Rattle.device_model.specs.Modelled.{device_at}
+use Rattle.device_model.specs.Paged.{KeepsPages}
+use Rattle.device_model.specs.Settled.{IsSettled}
+use Rattle.device_model.proofs.model.Model.identify.Given as goal
+
+abbrev pub invariant-loop-slot : goal.invariant-loop-slot
+invariant-loop-slot g l = record {
+  steps : Steps (device_at g.S.SectorStore.size g.S.SectorStore.told l.fn.self) (device_at g.S.SectorStore.size g.S.SectorStore.told l.self);
+  settled : IsSettled (device_at g.S.SectorStore.size g.S.SectorStore.told l.fn.self) → IsSettled (device_at g.S.SectorStore.size g.S.SectorStore.told l.self);
+  alone : ((slot : ℕ) → HasIdentify (device_at g.S.SectorStore.size g.S.SectorStore.told l.fn.self) slot → ⊥) →
+      device_at g.S.SectorStore.size g.S.SectorStore.told l.self ≡ device_at g.S.SectorStore.size g.S.SectorStore.told l.fn.self;
+  pages : KeepsPages g.S.SectorStore.size l.fn.self l.self;
+  queue : l.self.queue ≡ l.fn.self.queue;
+  accesses : l.self.accesses ≡ l.fn.self.accesses;
+}

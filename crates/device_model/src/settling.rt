@@ -1,0 +1,97 @@
+// What a port does by itself before a register is read, and what the end of a reset makes of it.
+ghost use Rattle.std.specs.Prelude.{◌≡◌, ◌%◌, ◌↔◌, IsTrue, true, false};
+ghost use Rattle.adapter.specs.Steps.{with_link, with_reset};
+ghost use Rattle.device_model.specs.Settled.{GoesTo, IsSettledPort};
+ghost use Rattle.device_model.specs.View.{Media, port_of};
+
+use crate::port::PortModel;
+
+impl PortModel {
+    /// PxCMD.CR falls where ST is zero (AHCI 1.3.1, 3.3.7): no command is taken any more.
+    fn fall(&mut self)
+        ensures does { (m : Media) → GoesTo (port_of self.old m) (port_of self.new m) }
+        ensures fallen { self.new.st ≡ false → self.new.cr ≡ true → false ≡ true }
+    {
+        if !self.st && self.cr {
+            self.cr = false;
+            self.taken = [None; 32];
+        }
+    }
+
+    /// PxCMD.FR falls where FRE and CR are zero (AHCI 1.3.1, 3.3.7).
+    fn fr_fall(&mut self)
+        ensures does { (m : Media) → GoesTo (port_of self.old m) (port_of self.new m) }
+        ensures fallen { self.new.fre ≡ false → self.new.cr ≡ false → self.new.fr ≡ true → false ≡ true }
+        ensures engine { (self.new.st ≡ self.old.st) × (self.new.cr ≡ self.old.cr) }
+    {
+        if !self.fre && !self.cr && self.fr {
+            self.fr = false;
+        }
+    }
+
+    /// Whether the link may come up.
+    fn may_link(&self) -> bool
+        ensures { IsTrue result ↔ ((self.now.present ≡ true) × (self.now.sctl_det % 16 ≡ 0) × (self.now.link_due ≡ true)) }
+    {
+        self.present && self.sctl_det % 16 == 0 && self.link_due
+    }
+
+    /// The link comes up.
+    fn link_up(&mut self)
+        ensures up { (m : Media) → port_of self.new m ≡ with_link (port_of self.old m) 0x101 true }
+        ensures engine { (self.new.st ≡ self.old.st) × (self.new.cr ≡ self.old.cr) }
+        ensures area { (self.new.fre ≡ self.old.fre) × (self.new.fr ≡ self.old.fr) }
+    {
+        self.detected = true;
+        self.fresh = true;
+        self.tfd = Some(self.task_file() & 0xff77);
+        self.sig = Some(0x101);
+        self.serr_x = true;
+        self.serr_n = true;
+        self.link_due = false;
+    }
+
+    /// The link comes up, if it may.
+    fn link(&mut self)
+        ensures does { (m : Media) → GoesTo (port_of self.old m) (port_of self.new m) }
+        ensures linked { (self.new.present ≡ true) → (self.new.sctl_det % 16 ≡ 0) → (self.new.link_due ≡ true) → false ≡ true }
+        ensures engine { (self.new.st ≡ self.old.st) × (self.new.cr ≡ self.old.cr) }
+        ensures area { (self.new.fre ≡ self.old.fre) × (self.new.fr ≡ self.old.fr) }
+    {
+        if self.may_link() {
+            self.link_up();
+        }
+    }
+
+    /// What the port does by itself: CR and FR fall where they may, and the link comes up.
+    pub fn settle(&mut self)
+        ensures does { (m : Media) → GoesTo (port_of self.old m) (port_of self.new m) }
+        ensures settled { (m : Media) → IsSettledPort (port_of self.new m) }
+    {
+        self.fall();
+        self.fr_fall();
+        self.link();
+    }
+
+    /// The adapter's reset has ended (AHCI 1.3.1, 10.4.3).
+    pub fn reset(&mut self)
+        ensures { (m : Media) → port_of self.new m ≡ with_reset (port_of self.old m) }
+    {
+        self.link_due = self.link_due || self.sctl_det % 16 == 1;
+        self.sctl_det = 0;
+        self.st = false;
+        self.cr = false;
+        self.fre = false;
+        self.fr = false;
+        self.ci = 0;
+        self.sact = 0;
+        self.is = 0;
+        self.serr_n = false;
+        self.serr_x = false;
+        self.detected = false;
+        self.tfd = None;
+        self.sig = None;
+        self.taken = [None; 32];
+        self.fresh = false;
+    }
+}

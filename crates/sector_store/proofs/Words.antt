@@ -1,0 +1,69 @@
+-- Words of a page that is written word by word.
+use Rattle.std.proofs.Common.{ℕ, ◌≡◌, ◌≢◌, ◌<◌, ◌+◌, ◌*◌, ◌/◌, ◌%◌, List, length, sum, slice_index, ◌∙◌, ap, subst, arith, get_or-set_same, get_or-set_other}
+use Rattle.std.proofs.lemmas.List.{length-set}
+use Rattle.std.proofs.lemmas.List.Sums.{sum_by-set}
+use Rattle.std.specs.Prelude.{slice_set}
+use Rattle.sector_store.specs.Pages.{IsPage, IsWord, word}
+use Rattle.sector_store.specs.declared.pages.Abilities.{Abilities}
+
+-- a page with one word written
+abbrev pub with_word : List ℕ → ℕ → ℕ → List ℕ
+with_word page n w = slice_set (slice_set page (2 * n) (w % 256)) (2 * n + 1) (w / 256)
+
+pub word_written : (page : List ℕ) (n w : ℕ) → 2 * n + 1 < length page → word (with_word page n w) n ≡ w
+word_written page n w small =
+    let low = get_or-set_other (slice_set page (2 * n) (w % 256)) (2 * n + 1) (2 * n) (w / 256) 0 (λ e. absurd (omega (arith, e))) in
+    let first = get_or-set_same page (2 * n) (w % 256) 0 (omega (arith, small)) in
+    let size = length-set page (2 * n) (w % 256) in
+    let high = get_or-set_same (slice_set page (2 * n) (w % 256)) (2 * n + 1) (w / 256) 0 (omega (arith, small, size)) in
+    omega (arith, low, first, high)
+
+-- a byte of another word stays
+byte_stays : (page : List ℕ) (n w k : ℕ) → k ≢ 2 * n → k ≢ 2 * n + 1 → slice_index (with_word page n w) k ≡ slice_index page k
+byte_stays page n w k low high =
+    get_or-set_other (slice_set page (2 * n) (w % 256)) (2 * n + 1) k (w / 256) 0 high ∙ get_or-set_other page (2 * n) k (w % 256) 0 low
+
+pub word_stays : (page : List ℕ) (n w k : ℕ) → k < n → word (with_word page n w) k ≡ word page k
+word_stays page n w k less =
+    let low = byte_stays page n w (2 * k) (λ e. absurd (omega (arith, e, less))) (λ e. absurd (omega (arith, e, less))) in
+    let high = byte_stays page n w (2 * k + 1) (λ e. absurd (omega (arith, e, less))) (λ e. absurd (omega (arith, e, less))) in
+    omega (arith, low, high)
+
+pub last_stays : (page : List ℕ) (n w : ℕ) → n < 255 → slice_index (with_word page n w) 511 ≡ slice_index page 511
+last_stays page n w less = byte_stays page n w 511 (λ e. absurd (omega (arith, e, less))) (λ e. absurd (omega (arith, e, less)))
+
+pub size_stays : (page : List ℕ) (n w : ℕ) → length (with_word page n w) ≡ length page
+size_stays page n w = length-set (slice_set page (2 * n) (w % 256)) (2 * n + 1) (w / 256) ∙ length-set page (2 * n) (w % 256)
+
+sum_set : (xs : List ℕ) (p v : ℕ) → p < length xs → sum (slice_set xs p v) + slice_index xs p ≡ sum xs + v
+sum_set xs p v small = sum_by-set (λ (n : ℕ). n) xs p v 0 small
+
+module _ (serial : List ℕ) (sectors : ℕ) (a : Abilities) (page : List ℕ) (size : length page ≡ 512) (last : slice_index page 511 ≡ 0)
+    (words : (number : ℕ) → number < 255 → IsWord serial sectors a number (word page number)) where
+  abbrev signed_page : List ℕ
+  signed_page = slice_set page 510 0xa5
+
+  at_sign : (k : ℕ) → k ≢ 510 → slice_index signed_page k ≡ slice_index page k
+  at_sign k other = get_or-set_other page 510 k 0xa5 0 other
+
+  -- the page is done with a last byte that makes its sum 0
+  pub page_is : (byte : ℕ) → (byte + sum signed_page) % 256 ≡ 0 → IsPage serial sectors a (slice_set signed_page 511 byte)
+  page_is byte zero_sum =
+      let kept : length signed_page ≡ 512 = length-set page 510 0xa5 ∙ size in
+      let same : (k : ℕ) → k < 510 → slice_index (slice_set signed_page 511 byte) k ≡ slice_index page k =
+      λ (k : ℕ) (less : k < 510).
+      get_or-set_other signed_page 511 k byte 0 (λ e. absurd (omega (arith, e, less))) ∙ at_sign k (λ e. absurd (omega (arith, e, less))) in
+      record {
+        size = length-set signed_page 511 byte ∙ kept;
+        words = λ number less.
+            let low = same (2 * number) (omega (arith, less)) in
+            let high = same (2 * number + 1) (omega (arith, less)) in
+            let is : word page number ≡ word (slice_set signed_page 511 byte) number = omega (arith, low, high) in
+            subst (λ w. IsWord serial sectors a number w) is (words number less);
+        signed = get_or-set_other signed_page 511 510 byte 0 (λ e. absurd (omega (arith, e))) ∙ get_or-set_same page 510 0xa5 0 (omega (arith, size));
+        checked =
+            let total = sum_set signed_page 511 byte (omega (arith, kept)) in
+            let none = at_sign 511 (λ e. absurd (omega (arith, e))) in
+            let all : sum (slice_set signed_page 511 byte) ≡ byte + sum signed_page = omega (arith, total, none, last) in
+            ap (λ n. n % 256) all ∙ zero_sum;
+      }

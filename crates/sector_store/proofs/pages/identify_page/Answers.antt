@@ -1,0 +1,38 @@
+use Rattle.std.proofs.Common.{ℕ, ◌∙◌, ◌+◌, ◌-◌, ◌%◌, ◌<◌, sym, subst, below_more, arith}
+use Rattle.std.specs.Prelude.{slice_set}
+use Rattle.std.proofs.lemmas.List.{length-set}
+use Rattle.std.proofs.lemmas.List.Elements.{All-set}
+use Rattle.sector_store.specs.Pages.{IsWord, word}
+use Rattle.sector_store.proofs.Words.{with_word, word_written, word_stays, last_stays, size_stays, page_is}
+use Rattle.sector_store.proofs.pages.identify_page.Goals as goal
+
+pub loop-number-preserved : goal.loop-number-preserved
+loop-number-preserved c =
+    let page = c.loop-number.page in
+    let n = c.loop-number.number in
+    let w = c.word_at-word.result in
+    let is = c.loop-number.invariant in
+    record {
+      size = size_stays page n w ∙ is.size;
+      last = last_stays page n w c.loop-number-test.true ∙ is.last;
+      words = below_more (λ k. IsWord c.args.serial.now c.args.sectors c.args.abilities k (word (with_word page n w) k)) n
+          (λ k less. subst (λ v. IsWord c.args.serial.now c.args.sectors c.args.abilities k v) (sym (word_stays page n w k less)) (is.words k less))
+          (subst (λ v. IsWord c.args.serial.now c.args.sectors c.args.abilities n v)
+          (sym (word_written page n w (omega (arith, is.size, c.loop-number-test.true)))) c.word_at-word.ensures);
+    }
+
+pub returns-clause-page : goal.returns-clause-page
+returns-clause-page c =
+    let is = c.loop-number.invariant in
+    page_is c.args.serial.now c.args.sectors c.args.abilities c.loop-number.page is.size is.last
+    (λ k less. is.words k (omega (arith, less, c.loop-number-test.false))) _
+    (let s = c.sum_of.ensures.total in omega (arith, s))
+
+pub returns-clause-bytes : goal.returns-clause-bytes
+returns-clause-bytes c =
+    let page = slice_set c.loop-number.page 510 0xa5 in
+    let last : ℕ = (0 + (256 - c.sum_of.result)) % 256 in
+    let small : last < 256 = omega arith in (
+      length-set page 511 last ∙ (length-set c.loop-number.page 510 0xa5 ∙ c.loop-number.invariant.size),
+      All-set (λ byte. byte < 256) page 511 last small c.sum_of.ensures.bytes,
+    )

@@ -1,0 +1,11 @@
+use Rattle.std.proofs.Common.{◌≡◌, ℕ, ◌<◌, length, slice_index}
+use Rattle.sector_store.specs.Pages.{IsWord, word}
+use Rattle.sector_store.proofs.pages.identify_page.Given as goal
+
+-- the words below are written
+abbrev pub invariant-loop-number : goal.invariant-loop-number
+invariant-loop-number l = record {
+  size : length l.page ≡ 512;
+  last : slice_index l.page 511 ≡ 0;
+  words : (number : ℕ) → number < l.number → IsWord l.serial l.sectors l.abilities number (word l.page number);
+}

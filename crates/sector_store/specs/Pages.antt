@@ -1,0 +1,47 @@
+-- The page that IDENTIFY DEVICE brings, 512 bytes, read as 256 words, each with its low byte first (ACS-3, 7.12.7).
+use Rattle.std.specs.Prelude.{ℕ, ◌≡◌, ◌≢◌, ◌+◌, ◌-◌, ◌*◌, ◌/◌, ◌%◌, ◌^◌, ◌<◌, ◌≤◌, ◌⊎◌, List, if◌then◌else◌, length, sum, slice_index, slice_index_or}
+use Rattle.sector_store.specs.declared.pages.Abilities.{Abilities}
+use Rattle.sector_store.specs.declared.pages.Trim.{Trim}
+use Rattle.sector_store.specs.declared.pages.Trim.TheVariants.{Full, Weak, Without}
+
+abbrev pub word : List ℕ → ℕ → ℕ
+word page number = slice_index page (2 * number) + 2 ^ 8 * slice_index page (2 * number + 1)
+
+-- a character of a text that is filled with spaces
+abbrev pub character : List ℕ → ℕ → ℕ
+character text place = slice_index_or text place 0x20
+
+-- Word 69: bit 14, what is trimmed reads the same each time; bit 5, as zeros.
+abbrev pub trim_support : Trim → ℕ
+trim_support Full = 0x4020
+trim_support Weak = 0x4000
+trim_support Without = 0
+
+-- Word 105: how many blocks of ranges a trim may have. Word 169, bit 0: the disk trims.
+abbrev pub trim_function : Trim → ℕ
+trim_function Without = 0
+trim_function _ = 1
+
+-- What a word tells, but for the last: serial number (10 to 19), trims (69, 105, 169), queue depth less one (75), native command
+-- queuing (76), 48-bit addresses and FLUSH CACHE EXT in a valid word (83), sectors (100 to 103, the lowest first), and sectors of
+-- 256 words in a valid word (106). Every other word is zero. The first of the two characters in a word is its high byte.
+pub record IsWord (serial : List ℕ) (sectors : ℕ) (a : Abilities) (number w : ℕ) : Type 0 where
+  pub serial_is : 10 ≤ number → number < 20
+      → w ≡ 2 ^ 8 * character serial (2 * (number - 10)) + character serial (2 * (number - 10) + 1)
+  pub support_is : number ≡ 69 → w ≡ trim_support a.trim
+  pub depth_is : number ≡ 75 → w ≡ a.depth - 1
+  pub queuing_is : number ≡ 76 → w ≡ (if a.ncq then 0x100 else 0)
+  pub sets_are : number ≡ 83 → w ≡ 0x6400
+  pub sectors_are : 100 ≤ number → number < 104 → w ≡ sectors / 2 ^ (16 * (number - 100)) % 2 ^ 16
+  pub function_is : (number ≡ 105) ⊎ (number ≡ 169) → w ≡ trim_function a.trim
+  pub size_is : number ≡ 106 → w ≡ 0x4000
+  pub others_are : (number < 10) ⊎ (20 ≤ number) → number ≢ 69 → number ≢ 75 → number ≢ 76 → number ≢ 83
+      → (number < 100) ⊎ (104 ≤ number) → number ≢ 105 → number ≢ 106 → number ≢ 169 → w ≡ 0
+
+-- The page of a disk with this serial number, so many sectors and these abilities. The low byte of word 255 is A5h, and all bytes
+-- sum to 0 modulo 256.
+pub record IsPage (serial : List ℕ) (sectors : ℕ) (a : Abilities) (page : List ℕ) : Type 0 where
+  pub size : length page ≡ 512
+  pub words : (number : ℕ) → number < 255 → IsWord serial sectors a number (word page number)
+  pub signed : slice_index page 510 ≡ 0xa5
+  pub checked : sum page % 2 ^ 8 ≡ 0

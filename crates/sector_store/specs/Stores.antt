@@ -1,0 +1,18 @@
+-- What stores hold.
+use Rattle.std.specs.Prelude.{ℕ, ◌≡◌, ◌<◌, List, [], Option, IfSome, All, if◌then◌else◌, length, nat_eq, slice_index_or}
+
+-- the bytes of a sector
+abbrev pub IsSector : List ℕ → Type 0
+IsSector bytes = (length bytes ≡ 512) × All (λ byte. byte < 256) bytes
+
+-- these sectors, but for one, which has other bytes
+abbrev pub replaced : (ℕ → List ℕ) → ℕ → List ℕ → ℕ → List ℕ
+replaced told sector bytes = λ k. if nat_eq k sector then bytes else told k
+
+-- where they are told, these are so many sectors
+abbrev pub AreSectors : ℕ → Option (ℕ → List ℕ) → Type 0
+AreSectors size told = IfSome told (λ f. (k : ℕ) → k < size → IsSector (f k))
+
+-- each item is a sector
+abbrev pub HoldSectors : List (List ℕ) → Type 0
+HoldSectors items = (k : ℕ) → k < length items → IsSector (slice_index_or items k [])

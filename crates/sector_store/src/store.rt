@@ -1,0 +1,101 @@
+// Stores of sectors of 512 bytes.
+ghost use Rattle.std.specs.Prelude.{◌≡◌, ◌<◌, ◌^◌, ℕ, Bool, List, Option, Some, IfSome, IfOk, option_map, replicate, true, false, length, slice_index_or, []};
+ghost use Rattle.sector_store.specs.Stores.{AreSectors, HoldSectors, IsSector, replaced};
+
+use std::alloc::{AllocError, Global};
+
+/// The sectors of a disk, by their numbers. A sector has 512 bytes. A call that answers `false` failed: it gave no
+/// sector, or changed none.
+pub trait SectorStore: Drop {
+    /// How many sectors there are.
+    ghost size: { Self → ℕ };
+
+    /// The bytes of each sector, where the store tells them, as memory does and a file doesn't.
+    ghost told: { Self → Option (ℕ → List ℕ) };
+
+    /// Whether no call on a sector that is there fails, as in memory.
+    ghost is_sure: { Bool };
+
+    /// How many sectors there are.
+    fn sectors(&self) -> u64
+        ensures { result ≡ size self.now };
+
+    /// Copies a sector.
+    fn read(&mut self, sector: u64, out: &mut [u8; 512]) -> bool
+        ensures inside { result ≡ true → sector < size self.old }
+        ensures gives { result ≡ true → IfSome (told self.old) (λ told. out.new ≡ told sector) }
+        ensures bytes { result ≡ true → IsSector out.new }
+        ensures sure { is_sure ≡ true → sector < size self.old → result ≡ true }
+        ensures told { told self.new ≡ told self.old }
+        ensures size { size self.new ≡ size self.old };
+
+    /// Replaces a sector.
+    fn write(&mut self, sector: u64, bytes: &[u8; 512]) -> bool
+        ensures inside { result ≡ true → sector < size self.old }
+        ensures puts { result ≡ true → told self.new ≡ option_map (λ told. replaced told sector bytes.now) (told self.old) }
+        ensures kept { result ≡ false → told self.new ≡ told self.old }
+        ensures sure { is_sure ≡ true → sector < size self.old → result ≡ true }
+        ensures size { size self.new ≡ size self.old };
+
+    /// What it tells are sectors.
+    ghost tells_sectors: { (s : Self) → AreSectors (size s) (told s) };
+
+    /// Each of its sectors has a number.
+    ghost fits: { (s : Self) → size s < 2 ^ 64 };
+}
+
+/// Sectors in memory, which the store tells.
+#[derive(Drop)]
+pub struct MemStore {
+    sectors: Vec<[u8; 512]>,
+    ghost are_sectors: { HoldSectors sectors.items },
+    ghost few: { length sectors.items < 2 ^ 64 },
+}
+
+impl MemStore {
+    /// That many sectors of zeros.
+    pub fn new(alloc: Global, sectors: u32) -> Result<MemStore, AllocError>
+        ensures { IfOk result (λ s. s.sectors.items ≡ replicate sectors (replicate 512 0)) }
+    {
+        let mut zeros = Vec::with_capacity(alloc, sectors as usize)?;
+        for _sector in 0..sectors {
+            zeros.push([0; 512])?;
+        }
+        Ok(MemStore { sectors: zeros })
+    }
+}
+
+impl SectorStore for MemStore {
+    ghost size = { λ s. length s.sectors.items };
+
+    ghost told = { λ s. Some (λ k. slice_index_or s.sectors.items k []) };
+
+    ghost is_sure = { true };
+
+    ghost tells_sectors = { λ s. s.are_sectors };
+
+    ghost fits = { λ s. s.few };
+
+    fn sectors(&self) -> u64 {
+        self.sectors.len() as u64
+    }
+
+    fn read(&mut self, sector: u64, out: &mut [u8; 512]) -> bool {
+        if sector >= self.sectors.len() as u64 {
+            return false;
+        }
+        *out = self.sectors[sector as usize];
+        true
+    }
+
+    fn write(&mut self, sector: u64, bytes: &[u8; 512]) -> bool {
+        if sector >= self.sectors.len() as u64 {
+            return false;
+        }
+        self.sectors[sector as usize] = *bytes;
+        true
+    }
+}
+
+#[cfg(test)]
+mod tests;
