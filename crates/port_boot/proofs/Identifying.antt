@@ -182,11 +182,14 @@ module _ (port : Port) (start old mid : Device) (up : IsBroughtUp port start old
 
     pub unasked_ends : (wanted : Option (List ℕ)) (result : PortState) → IsHaltedAs (Unfit 9) result port.0 new → EndsAs wanted result port.0 new
     unasked_ends wanted result (inl x) = let P : PortState → Type 0 = λ s. EndsAs wanted s port.0 new in
-        subst P (sym x.0) (x.1, inr (inr (inl (
-          refl,
-          (ap (λ (n : Notes). n.last_ssts % 16) has.notes ∙ (asked_saw port start old mid up l).0, ap (λ (n : Notes). n.link_count) has.notes ∙ (asked_saw port start old mid up l).1),
-          ap (λ (n : Notes). n.command_count) has.notes ∙ reads.0,
-        ))))
+        subst P (sym x.0) (
+          x.1,
+          inr (inr (inl (
+            refl,
+            (ap (λ (n : Notes). n.last_ssts % 16) has.notes ∙ (asked_saw port start old mid up l).0, ap (λ (n : Notes). n.link_count) has.notes ∙ (asked_saw port start old mid up l).1),
+            ap (λ (n : Notes). n.command_count) has.notes ∙ reads.0,
+          ))),
+        )
     unasked_ends wanted result (inr x) = let P : PortState → Type 0 = λ s. EndsAs wanted s port.0 new in subst P (sym x.0) (x.1, x.2)
 
     pub unasked_boots : (result : PortState) → IsHaltedAs (Unfit 9) result port.0 new → IsBootTo port result old new

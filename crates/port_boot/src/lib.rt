@@ -109,7 +109,11 @@ fn halt<A: Adapter>(adapter: &mut A, port: Port, state: PortState) -> PortState
 const CAUSES: u32 = 0x7840_004b;
 
 /// Asks the disk of a port that was brought up for its page, and judges it. A port that isn't ready is stopped.
-fn identify_disk<A: Adapter>(adapter: &mut A, port: Port, wanted: &Option<[u8; 20]>) -> Result<DiskInfo, PortState>
+fn identify_disk<A: Adapter>(
+    adapter: &mut A,
+    port: Port,
+    wanted: &Option<[u8; 20]>,
+) -> Result<DiskInfo, PortState>
     requires up { (start : Device) × IsBroughtUp port start (A.device adapter.old) }
     ensures on { IsOn (A.device adapter.new) }
     ensures ready { IfOk result (IsReady wanted.now port.0 (A.device adapter.new)) }
@@ -135,7 +139,11 @@ fn identify_disk<A: Adapter>(adapter: &mut A, port: Port, wanted: &Option<[u8; 2
 /// spaces; any will do where none is), has the port tell of interrupts' causes, and leaves it running.
 ///
 /// Else the state: `Absent`, `Unfit(1)` to `Unfit(9)` or `Foreign`, and the port is stopped; or `Dead` where an engine is stuck.
-pub fn boot<A: Adapter>(adapter: &mut A, stopped: Stopped, wanted: &Option<[u8; 20]>) -> Result<DiskInfo, PortState>
+pub fn boot<A: Adapter>(
+    adapter: &mut A,
+    stopped: Stopped,
+    wanted: &Option<[u8; 20]>,
+) -> Result<DiskInfo, PortState>
     requires bootable { IsBootable stopped.port (A.device adapter.old) }
     requires stopped { IsStopped ((A.device adapter.old).port stopped.port.0) }
     ensures on { IsOn (A.device adapter.new) }
