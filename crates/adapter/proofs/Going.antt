@@ -33,6 +33,8 @@ asked_steps (asked.Fetch p slot) old new did = one_steps p.0 slot.0 old new (inl
 asked_steps (asked.Move p slot) old new did = one_steps p.0 slot.0 old new (inr (inl did))
 asked_steps (asked.Done p slot) old new did = one_steps p.0 slot.0 old new (inr (inr did))
 asked_steps (asked.Finish p slot) old new did = some_steps (suc did.0) p.0 slot.0 old new did.1
+asked_steps (asked.Lie p page offset bits) old new did = let P : Device → Type 0 = λ d. Steps old d in subst P (sym did) (Steps-refl old)
+asked_steps (asked.Truth p) old new did = let P : Device → Type 0 = λ d. Steps old d in subst P (sym did) (Steps-refl old)
 
 -- what was asked was done, or nothing
 pub step_steps : (result : Bool) (s : DeviceStep) (old new : Device) → (result ≡ true → Asked s old new) → (result ≡ false → new ≡ old) → Steps old new

@@ -41,8 +41,11 @@ DoesSome (suc n) port slot old new = (mid : Device) × DoesSome n port slot old 
 abbrev pub GoesOn : ℕ → ℕ → Device → Device → Type 0
 GoesOn port slot old new = (n : ℕ) × DoesSome (suc n) port slot old new
 
+-- What was asked of the device. What its disks will say of themselves is no part of its state.
 abbrev pub Asked : DeviceStep → Device → Device → Type 0
 Asked (asked.Fetch p s) old new = DoesFetch p.0 s.0 old new
 Asked (asked.Move p s) old new = DoesMove p.0 s.0 old new
 Asked (asked.Done p s) old new = DoesDone p.0 s.0 old new
 Asked (asked.Finish p s) old new = GoesOn p.0 s.0 old new
+Asked (asked.Lie p page offset bits) old new = new ≡ old
+Asked (asked.Truth p) old new = new ≡ old

@@ -2,6 +2,7 @@
 ghost use Rattle.std.specs.Prelude.{◌≡◌, length, true, false};
 ghost use Rattle.adapter.specs.Device.{Device};
 ghost use Rattle.adapter.specs.Asked.{Asked};
+ghost use Rattle.adapter.specs.Idle.{TellsDisks};
 ghost use Rattle.adapter.specs.Steps.{Steps};
 ghost use Rattle.adapter.specs.Access.{Reads, Writes, Loads, Stores};
 ghost use Rattle.adapter.specs.Rules.{MayRead, MayWrite, IsFree, Stays};
@@ -36,6 +37,16 @@ pub trait Adapter {
     fn store(&mut self, addr: u32, bytes: &[u8])
         requires { Stays (IsFree addr (length bytes.now)) (device self.old) }
         ensures { Stores addr bytes.now (device self.old) (device self.new) };
+
+    /// The adapter tells its disks' sectors only where each of its disks does.
+    ghost tells: { (a : Self) → TellsDisks (device a) };
+}
+
+/// A page of 512 bytes that a disk sends to the driver itself (ACS-3).
+#[derive(Clone, Copy, Debug, PartialEq, Eq)]
+pub enum DiskPage {
+    /// What IDENTIFY DEVICE brings.
+    Identity,
 }
 
 /// What a device can be told to do.
@@ -50,6 +61,11 @@ pub enum DeviceStep {
     /// What is left of the slot's command: take it, move, end it. An adapter may stop short of the end, after one of these
     /// at least.
     Finish(Port, Slot),
+    /// Tell lies: from now on the disk of the port sends the byte of this page at this offset, below 512, with these bits turned. This
+    /// is for tests; nothing changes until the page is sent.
+    Lie(Port, DiskPage, u16, u8),
+    /// Tell no lies any more.
+    Truth(Port),
 }
 
 /// An adapter whose device does what it is told, if that is possible then.

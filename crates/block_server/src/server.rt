@@ -58,7 +58,6 @@ impl<A: Adapter> Server<A> {
     ghost use Rattle.block_server.specs.Calls.{IsReadyFor, IsNew, state_of, situation_of, Accepts, Submits, AnswersFirst, Services, StoresFrame, LoadsFrame, SameServer};
     ghost use Rattle.block_machine.specs.Events.{Submit, Submitted, StoreAt, LoadAt};
     ghost use Rattle.block_machine.specs.Histories.{Adds};
-    ghost use Rattle.adapter.specs.Idle.{TellsDisks};
     ghost use Rattle.block_server.specs.History.{Begins, Ties, Stands, HasBegun, store_said, load_said};
     ghost use Rattle.port_driver.specs.Followed.{LoadsBytes};
 
@@ -74,7 +73,7 @@ impl<A: Adapter> Server<A> {
     ) -> Result<Self, (ServerError, A)>
         requires ready { IsReadyFor setup.now.frames (A.device adapter) }
         ensures made { IfOk result (λ s. IsNew A.device setup.now.owners setup.now.grants adapter sectors s) }
-        ensures begins { IfOk result (λ s. TellsDisks (A.device adapter) → HasBegun A.device s) }
+        ensures begins { IfOk result (λ s. HasBegun A.device s) }
         ensures refused { IfErr result (λ e. (e.0 ≡ ServerError.NoMemory) × (e.1 ≡ adapter)) }
     {
         let Ok(grants) = Grants::from_rows(alloc, setup.grants()) else {

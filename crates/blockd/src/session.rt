@@ -588,6 +588,8 @@ mod tests {
         fn store(&mut self, addr: u32, bytes: &[u8]) {
             self.adapter.store(addr, bytes);
         }
+
+        ghost tells = { λ c. A.tells c.adapter };
     }
 
     /// What port 0 is after a server was made over a model, and how often PxSSTS and PxTFD were read for it.

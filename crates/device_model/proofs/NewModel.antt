@@ -65,18 +65,6 @@ disks_are disk other plugged are port =
       | inr there ↦ rw there.0 (λ f e k lt. absurd (omega arith))
     ]
 
-is_told : (told other : Option (ℕ → List ℕ)) → is_some told && is_some other ≡ true → (f : ℕ → List ℕ) × (told ≡ Some f)
-is_told None other telling = absurd (let e : false ≡ true = telling in cc)
-is_told (Some f) other telling = (f, refl)
-
 pub both_tell : (told other : Option (ℕ → List ℕ)) → is_some told ≡ true → is_some other ≡ true → is_some told && is_some other ≡ true
 both_tell None other here there = here
 both_tell (Some f) other here there = there
-
-pub disks_told : (disk : Disk) (other : Option (ℕ → List ℕ)) (plugged : List Disk) → is_some disk.sectors && is_some other ≡ true → (port : ℕ) →
-    IsTold ((outside_of disk other plugged).media port).disk
-disks_told disk other plugged telling port =
-    elim (eqb_tells port 0) [
-      | inl here ↦ rw here.0 (is_told disk.sectors other telling)
-      | inr there ↦ rw there.0 ((λ k. []), refl)
-    ]

@@ -1,6 +1,9 @@
 -- A queue from which the steps that are due are taken, one after another.
 use Rattle.std.proofs.Common.{ℕ, suc, Bool, true, false, ◌≡◌, ◌<◌, ◌≤◌, ◌+◌, ◌-◌, ◌⊎◌, List, [], ◌∷◌, ◌++◌, length, slice_index_or, refl, sym, ◌∙◌, ap, subst, inl, inr, arith, append_assoc, append-nil, length-append}
 use Rattle.std.specs.List.{remove}
+use Rattle.std.specs.Prelude.{take, drop}
+use Rattle.std.proofs.lemmas.List.Elements.{All-append, All-take, All-drop}
+use Rattle.device_model.specs.Paged.{AreHonest, IsHonest}
 use Rattle.std.proofs.lemmas.Bool.{le-leb, le-ltb, lt-ltb, lt-leb}
 use Rattle.std.proofs.lemmas.List.{get_or-append_right}
 use Rattle.std.proofs.lemmas.List.Edits.{remove-append_right}
@@ -148,3 +151,13 @@ module _ (access : ℕ) (queue now : List Queued) (place : ℕ) (old new : Devic
       let all : due access queue ≡ a.done = a.does ∙ (ap (λ l. a.done ++ due access l) none ∙ append-nil a.done) in
       let P : List DeviceStep → Type 0 = λ l. DoesEach l old new in
       subst P (sym all) a.did
+
+-- ---- steps that have nothing to do with lies
+
+pub honest_at : (queue : List Queued) (place : ℕ) (x : Queued) → place < length queue → x ≡ slice_index_or queue place x → AreHonest queue → IsHonest x.step
+honest_at queue place x inside is all = subst (λ (q : Queued). IsHonest q.step) (sym is) (all place x inside)
+
+pub honest_rest : (queue : List Queued) (place : ℕ) → AreHonest queue → AreHonest (remove queue place)
+honest_rest queue place all =
+    let P : Queued → Type 0 = λ q. IsHonest q.step in
+    All-append P (take place queue) (drop (suc place) queue) (All-take P place queue all) (All-drop P (suc place) queue all)

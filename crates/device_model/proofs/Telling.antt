@@ -12,9 +12,8 @@ use Rattle.adapter.specs.declared.tape.Entry.TheVariants as entry
 use Rattle.adapter.specs.declared.tape.Move.{Move}
 use Rattle.hba_regs.specs.declared.reg.Reg.{Reg}
 use Rattle.hba_regs.specs.declared.reg.Reg.TheVariants.{Cap, Ghc, Is, Pi, Vs, Cap2, Bohc, Px}
-use Rattle.sector_store.specs.Pages.{IsPage}
-use Rattle.sector_store.specs.declared.pages.Abilities.{Abilities}
-use Rattle.device_model.specs.Paged.{AreItsPages, KeepsPages, serial_of_disk0}
+use Rattle.device_model.specs.Paged.{AreItsPages, IsItsPage, KeepsPages}
+use Rattle.device_model.specs.declared.model.Description.{Description}
 use Rattle.device_model.specs.View.{operation_of}
 use Rattle.device_model.specs.Whole.{Outside, device_of}
 use Rattle.device_model.specs.declared.model.Model.{Model}
@@ -48,62 +47,62 @@ all_one P x here zero d small = here
 all_one P x here (suc k) d small = absurd (omega (arith, small))
 
 module _ {S : Type 0} (size : S → ℕ) where
-  pub keeps_tape : (old new : Model S) → new.abilities ≡ old.abilities → size new.disk0 ≡ size old.disk0 →
+  pub keeps_tape : (old new : Model S) → new.says ≡ old.says → size new.disk0 ≡ size old.disk0 →
       new.hardware.tape.items ≡ old.hardware.tape.items → KeepsPages size old new
-  keeps_tape old new abilities sectors same = record {
-    abilities = abilities;
+  keeps_tape old new says sectors same = record {
+    says = says;
     sectors = sectors;
-    pages = λ all. subst (AreItsPages (size old.disk0) old.abilities) (sym same) all;
+    pages = λ all. subst (AreItsPages (size old.disk0) old.says) (sym same) all;
   }
 
   -- one more entry, which is no page or the disk's
-  pub keeps_entry : (old new : Model S) (e : Entry) → new.abilities ≡ old.abilities → size new.disk0 ≡ size old.disk0 →
+  pub keeps_entry : (old new : Model S) (e : Entry) → new.says ≡ old.says → size new.disk0 ≡ size old.disk0 →
       new.hardware.tape.items ≡ old.hardware.tape.items ++ e ∷ [] →
-      ((m : Move) → e ≡ entry.Move m → m.operation ≡ Identify → IsPage serial_of_disk0 (size old.disk0) old.abilities m.bytes) → KeepsPages size old new
-  keeps_entry old new e abilities sectors more here =
-      let P : Entry → Type 0 = λ x. (m : Move) → x ≡ entry.Move m → m.operation ≡ Identify → IsPage serial_of_disk0 (size old.disk0) old.abilities m.bytes in
+      ((m : Move) → e ≡ entry.Move m → m.operation ≡ Identify → IsItsPage (size old.disk0) old.says m.bytes) → KeepsPages size old new
+  keeps_entry old new e says sectors more here =
+      let P : Entry → Type 0 = λ x. (m : Move) → x ≡ entry.Move m → m.operation ≡ Identify → IsItsPage (size old.disk0) old.says m.bytes in
       record {
-        abilities = abilities;
+        says = says;
         sectors = sectors;
         pages = λ all.
-            subst (AreItsPages (size old.disk0) old.abilities) (sym more)
+            subst (AreItsPages (size old.disk0) old.says) (sym more)
             (All-append P old.hardware.tape.items (e ∷ []) all (all_one P e here));
       }
 
   pub keeps_on : (a b c : Model S) → KeepsPages size a b → KeepsPages size b c → KeepsPages size a c
   keeps_on a b c first then = record {
-    abilities = then.abilities ∙ first.abilities;
+    says = then.says ∙ first.says;
     sectors = then.sectors ∙ first.sectors;
     pages = λ all.
-        let P : ℕ → Abilities → Type 0 = λ n x. AreItsPages n x b.hardware.tape.items → AreItsPages n x c.hardware.tape.items in
-        let step : P (size a.disk0) a.abilities = subst (λ x. P (size a.disk0) x) first.abilities (subst (λ n. P n b.abilities) first.sectors then.pages) in
+        let P : ℕ → Description → Type 0 = λ n x. AreItsPages n x b.hardware.tape.items → AreItsPages n x c.hardware.tape.items in
+        let step : P (size a.disk0) a.says = subst (λ x. P (size a.disk0) x) first.says (subst (λ n. P n b.says) first.sectors then.pages) in
         step (first.pages all);
   }
 
   -- a move was noted
-  pub keeps_moved : (old new : Model S) (k : Transfer) (m : Move) → new.abilities ≡ old.abilities → size new.disk0 ≡ size old.disk0 →
+  pub keeps_moved : (old new : Model S) (k : Transfer) (m : Move) → new.says ≡ old.says → size new.disk0 ≡ size old.disk0 →
       new.hardware.tape.items ≡ old.hardware.tape.items ++ entry.Move m ∷ [] → m.operation ≡ operation_of k →
-      (k ≡ transfer.Identify → IsPage serial_of_disk0 (size old.disk0) old.abilities m.bytes) → KeepsPages size old new
-  keeps_moved old new k m abilities sectors more named page =
-      keeps_entry old new (entry.Move m) abilities sectors more
+      (k ≡ transfer.Identify → IsItsPage (size old.disk0) old.says m.bytes) → KeepsPages size old new
+  keeps_moved old new k m says sectors more named page =
+      keeps_entry old new (entry.Move m) says sectors more
       (λ x e identify.
       let same : m ≡ x = cc in
       let kind : k ≡ transfer.Identify = is_identify k (sym named ∙ (ap (λ (y : Move). y.operation) same ∙ identify)) in
-      subst (λ (y : Move). IsPage serial_of_disk0 (size old.disk0) old.abilities y.bytes) same (page kind))
+      subst (λ (y : Move). IsItsPage (size old.disk0) old.says y.bytes) same (page kind))
 
   -- a command ended, or didn't
-  pub keeps_done : (o : Outside) (port slot : ℕ) (did : Bool) (old new : Model S) → new.abilities ≡ old.abilities → size new.disk0 ≡ size old.disk0 →
+  pub keeps_done : (o : Outside) (port slot : ℕ) (did : Bool) (old new : Model S) → new.says ≡ old.says → size new.disk0 ≡ size old.disk0 →
       (did ≡ true → DoesDone port slot (device_of old.hardware o) (device_of new.hardware o)) →
       (did ≡ false → device_of new.hardware o ≡ device_of old.hardware o) → KeepsPages size old new
-  keeps_done o port slot true old new abilities sectors done same =
+  keeps_done o port slot true old new says sectors done same =
       let d = done refl in
-      keeps_entry old new (done_entry port slot d.t.meaning.operation) abilities sectors (ap (λ (x : Device). x.tape) d.effect) (λ x e. absurd (cc e))
-  keeps_done o port slot false old new abilities sectors done same = keeps_tape old new abilities sectors (ap (λ (x : Device). x.tape) (same refl))
+      keeps_entry old new (done_entry port slot d.t.meaning.operation) says sectors (ap (λ (x : Device). x.tape) d.effect) (λ x e. absurd (cc e))
+  keeps_done o port slot false old new says sectors done same = keeps_tape old new says sectors (ap (λ (x : Device). x.tape) (same refl))
 
   -- a disk was taken out, or wasn't
-  pub keeps_unplugged : (o : Outside) (did : Bool) (old new : Model S) → new.abilities ≡ old.abilities → size new.disk0 ≡ size old.disk0 →
+  pub keeps_unplugged : (o : Outside) (did : Bool) (old new : Model S) → new.says ≡ old.says → size new.disk0 ≡ size old.disk0 →
       (did ≡ true → Can (Unplug 0) (device_of old.hardware o) × (device_of new.hardware o ≡ after (Unplug 0) (device_of old.hardware o))) →
       (did ≡ false → device_of new.hardware o ≡ device_of old.hardware o) → KeepsPages size old new
-  keeps_unplugged o true old new abilities sectors done same =
-      keeps_entry old new (entry.Unplug (record { 0 = 0 })) abilities sectors (ap (λ (x : Device). x.tape) (done refl).1) (λ x e. absurd (cc e))
-  keeps_unplugged o false old new abilities sectors done same = keeps_tape old new abilities sectors (ap (λ (x : Device). x.tape) (same refl))
+  keeps_unplugged o true old new says sectors done same =
+      keeps_entry old new (entry.Unplug (record { 0 = 0 })) says sectors (ap (λ (x : Device). x.tape) (done refl).1) (λ x e. absurd (cc e))
+  keeps_unplugged o false old new says sectors done same = keeps_tape old new says sectors (ap (λ (x : Device). x.tape) (same refl))

@@ -8,3 +8,4 @@ pub mod Modelled
 pub mod Finishing
 pub mod Paged
 pub mod Queue
+pub mod Tells

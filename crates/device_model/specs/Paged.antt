@@ -1,25 +1,56 @@
 -- What the modelled disks say of themselves.
-use Rattle.std.specs.Prelude.{ℕ, ◌≡◌, List, [], ◌∷◌, All}
+use Rattle.std.specs.Prelude.{ℕ, ◌≡◌, ◌<◌, List, [], ◌∷◌, All, length, bit_xor, replicate, slice_index, slice_set}
+use Rattle.adapter.specs.declared.access.DeviceStep.{DeviceStep}
+use Rattle.adapter.specs.declared.access.DeviceStep.TheVariants.{Lie, Truth}
 use Rattle.adapter.specs.declared.command.Operation.TheVariants.{Identify}
 use Rattle.adapter.specs.declared.tape.Entry.{Entry}
 use Rattle.adapter.specs.declared.tape.Entry.TheVariants as entry
 use Rattle.adapter.specs.declared.tape.Move.{Move}
 use Rattle.sector_store.specs.Pages.{IsPage}
-use Rattle.sector_store.specs.declared.pages.Abilities.{Abilities}
+use Rattle.device_model.specs.declared.model.Description.{Description}
 use Rattle.device_model.specs.declared.model.Model.{Model}
+use Rattle.device_model.specs.declared.model.Queued.{Queued}
 
 -- "IMAGEDISK", in ASCII
 abbrev pub serial_of_disk0 : List ℕ
 serial_of_disk0 = 73 ∷ 77 ∷ 65 ∷ 71 ∷ 69 ∷ 68 ∷ 73 ∷ 83 ∷ 75 ∷ []
 
--- each page of IDENTIFY DEVICE on a tape is that of disk 0, with so many sectors and these abilities
-abbrev pub AreItsPages : ℕ → Abilities → List Entry → Type 0
-AreItsPages size abilities tape =
-    All (λ e. (m : Move) → e ≡ entry.Move m → m.operation ≡ Identify → IsPage serial_of_disk0 size abilities m.bytes) tape
+-- a disk that tells no lies
+abbrev pub no_lies : List ℕ
+no_lies = replicate 512 0
 
--- A model's disk 0 tells of itself as it did: so many sectors and these abilities; and if all pages on the tape told so, they
--- do still.
+-- the page with these bits turned, byte by byte
+pub record IsTurned (page bits bytes : List ℕ) : Type 0 where
+  pub long : length bytes ≡ 512
+  pub each : (offset : ℕ) → offset < 512 → slice_index bytes offset ≡ bit_xor (slice_index page offset) (slice_index bits offset)
+
+-- the page of IDENTIFY DEVICE of disk 0, with so many sectors and these abilities, with the bits turned on which it lies
+pub record IsItsPage (size : ℕ) (says : Description) (bytes : List ℕ) : Type 0 where
+  pub page : List ℕ
+  pub true_page : IsPage serial_of_disk0 size says.abilities page
+  pub turned : IsTurned page says.lies bytes
+
+-- each page of IDENTIFY DEVICE on a tape is this
+abbrev pub AreItsPages : ℕ → Description → List Entry → Type 0
+AreItsPages size says tape = All (λ e. (m : Move) → e ≡ entry.Move m → m.operation ≡ Identify → IsItsPage size says m.bytes) tape
+
+-- A model's disk 0 tells of itself as it did: so many sectors, these abilities and these lies; and if all pages on the tape told so,
+-- they do still.
 pub record KeepsPages {S : Type 0} (size : S → ℕ) (old new : Model S) : Type 0 where
-  pub abilities : new.abilities ≡ old.abilities
+  pub says : new.says ≡ old.says
   pub sectors : size new.disk0 ≡ size old.disk0
-  pub pages : AreItsPages (size old.disk0) old.abilities old.hardware.tape.items → AreItsPages (size old.disk0) old.abilities new.hardware.tape.items
+  pub pages : AreItsPages (size old.disk0) old.says old.hardware.tape.items → AreItsPages (size old.disk0) old.says new.hardware.tape.items
+
+-- the step has nothing to do with lies
+abbrev pub IsHonest : DeviceStep → Type 0
+IsHonest (Lie port page offset bits) = ⊥
+IsHonest (Truth port) = ⊥
+IsHonest step = Unit {0}
+
+-- no step that is queued has
+abbrev pub AreHonest : List Queued → Type 0
+AreHonest queue = All (λ q. IsHonest q.step) queue
+
+-- one more lie: these bits of this byte are turned, once more
+abbrev pub lying : List ℕ → ℕ → ℕ → List ℕ
+lying lies offset bits = slice_set lies offset (bit_xor (slice_index lies offset) bits)

@@ -12,19 +12,19 @@ ghost use Rattle.adapter.specs.Steps.Step.{Fetch, Move, Done, Unplug};
 ghost use Rattle.adapter.specs.Asked.{DoesMove, GoesOn, Asked};
 ghost use Rattle.device_model.specs.Fetched.{bytes_of};
 ghost use Rattle.device_model.specs.Finishing.{HasDisk, HasIdentify, HasMove, HasRoom, IsReady};
-ghost use Rattle.device_model.specs.Paged.{KeepsPages, serial_of_disk0};
+ghost use Rattle.device_model.specs.Paged.{AreHonest, IsHonest, IsItsPage, IsTurned, KeepsPages, lying, no_lies, serial_of_disk0};
+ghost use Rattle.device_model.specs.Tells.{disks_told};
 ghost use Rattle.device_model.specs.Queue.{DoesEach, due, not_due};
 ghost use Rattle.device_model.specs.Modelled.{device_at, cap_of, IsNew};
 ghost use Rattle.device_model.specs.Settled.{IsSettled};
 ghost use Rattle.device_model.specs.View.{Takes, operation_of};
 ghost use Rattle.device_model.specs.Whole.{first_disk};
-ghost use Rattle.sector_store.specs.Pages.{IsPage};
 
 use crate::config::{ModelConfig, NoMemory};
 use crate::hardware::Hardware;
 use crate::port::{PortModel, Transfer};
 use crate::steps::NextMove;
-use adapter::{Adapter, DeviceStep, Entry, Stepped};
+use adapter::{Adapter, DeviceStep, DiskPage, Entry, Stepped};
 use ata_types::{Port, Slot};
 use hba_regs::Reg;
 use sector_store::SectorStore;
@@ -32,11 +32,21 @@ use sector_store::pages::{Abilities, identify_page};
 use std::alloc::Global;
 use std::snapshot::Snapshot;
 
+const PAGE_BYTES: usize = 512;
+
 /// A step that is done before the access with this number.
 #[derive(Clone, Copy, Debug)]
 struct Queued {
     access: u64,
     step: DeviceStep,
+}
+
+/// What a disk says of itself by its page of IDENTIFY DEVICE, beside its size.
+#[derive(Clone, Copy, Debug)]
+pub struct Description {
+    pub abilities: Abilities,
+    /// The bits of the page that are turned.
+    pub lies: [u8; PAGE_BYTES],
 }
 
 /// A modelled adapter. Port 0 has a disk over the first store; ports 1 to 3 have no device. Of all commands it takes
@@ -46,8 +56,8 @@ pub struct Model<S> {
     hardware: Hardware,
     disk0: S,
     disk1: S,
-    /// What the page of each disk says of it.
-    abilities: Abilities,
+    /// What the page of port 0's disk says of it.
+    says: Description,
     /// Disk 0 as it was when it was plugged in, for proofs alone.
     plugged: Snapshot<S>,
     /// In the order in which they were queued.
@@ -67,7 +77,7 @@ impl<S: SectorStore> Model<S> {
         ensures sane { IfOk result (λ m. IsSane (device_at S.size S.told m)) }
         ensures telling { IfOk result (λ m. (device_at S.size S.told m).telling ≡ (is_some (S.told disk0) && is_some (S.told disk1))) }
         ensures made { IfOk result (λ m. IsNew config (S.size disk0) (S.told disk0) (device_at S.size S.told m)) }
-        ensures abilities { IfOk result (λ m. m.abilities ≡ record { ncq = config.ncq; depth = config.depth; trim = config.trim }) }
+        ensures says { IfOk result (λ m. m.says ≡ record { abilities = record { ncq = config.ncq; depth = config.depth; trim = config.trim }; lies = no_lies }) }
     {
         let hardware = Hardware {
             memory: vec![in alloc; 0u8; 4096 * usize::from(config.frames)]?,
@@ -85,10 +95,13 @@ impl<S: SectorStore> Model<S> {
         };
         Ok(Model {
             hardware,
-            abilities: Abilities {
-                ncq: config.ncq,
-                depth: config.depth,
-                trim: config.trim,
+            says: Description {
+                abilities: Abilities {
+                    ncq: config.ncq,
+                    depth: config.depth,
+                    trim: config.trim,
+                },
+                lies: [0; PAGE_BYTES],
             },
             plugged: Snapshot::of(&disk0),
             disk0,
@@ -164,7 +177,7 @@ impl<S: SectorStore> Model<S> {
         if !exchange(
             &mut self.disk0,
             &self.hardware,
-            self.abilities,
+            &self.says,
             next,
             &mut bytes,
         ) {
@@ -211,7 +224,7 @@ impl<S: SectorStore> Model<S> {
 
     /// Goes on with each IDENTIFY DEVICE of port 0, slot by slot, if it can be done to its end. Where there is none, nothing
     /// changes.
-    fn identify(&mut self)
+    fn identify_once(&mut self)
         ensures steps { Steps (device_at S.size S.told self.old) (device_at S.size S.told self.new) }
         ensures settled { IsSettled (device_at S.size S.told self.old) → IsSettled (device_at S.size S.told self.new) }
         ensures alone { ((slot : ℕ) → HasIdentify (device_at S.size S.told self.old) slot → ⊥) → device_at S.size S.told self.new ≡ device_at S.size S.told self.old }
@@ -223,6 +236,47 @@ impl<S: SectorStore> Model<S> {
             if self.hardware.has_identify(slot) {
                 let _did = self.finish(0, slot);
             }
+        }
+    }
+
+    /// Does each IDENTIFY DEVICE of port 0 that can be done to its end: one that is taken already keeps the others waiting, so the slots
+    /// before it have their turn after it. Where there is none, nothing changes.
+    fn identify(&mut self)
+        ensures steps { Steps (device_at S.size S.told self.old) (device_at S.size S.told self.new) }
+        ensures settled { IsSettled (device_at S.size S.told self.old) → IsSettled (device_at S.size S.told self.new) }
+        ensures alone { ((slot : ℕ) → HasIdentify (device_at S.size S.told self.old) slot → ⊥) → device_at S.size S.told self.new ≡ device_at S.size S.told self.old }
+        ensures pages { KeepsPages S.size self.old self.new }
+        ensures queue { self.new.queue ≡ self.old.queue }
+        ensures accesses { self.new.accesses ≡ self.old.accesses }
+    {
+        self.identify_once();
+        self.identify_once();
+    }
+
+    /// Has the port's disk lie of a byte of its page. No port but port 0 has a disk. `false` says that the page has no such byte.
+    fn lie(&mut self, port: Port, offset: u16, bits: u8) -> bool
+        ensures inside { result ≡ true → offset < 512 }
+        ensures outside { result ≡ false → 512 ≤ offset }
+        ensures lies { result ≡ true → port.0 ≡ 0 → self.new ≡ record self.old { says = record self.old.says { lies = lying self.old.says.lies offset bits } } }
+        ensures same { (port.0 ≡ 0 → result ≡ false) → self.new ≡ self.old }
+    {
+        let offset = usize::from(offset);
+        if offset >= PAGE_BYTES {
+            return false;
+        }
+        if port.0 == 0 {
+            self.says.lies[offset] ^= bits;
+        }
+        true
+    }
+
+    /// Ends the lies of the port's disk.
+    fn tell_truth(&mut self, port: Port)
+        ensures ends { port.0 ≡ 0 → self.new ≡ record self.old { says = record self.old.says { lies = no_lies } } }
+        ensures same { port.0 ≢ 0 → self.new ≡ self.old }
+    {
+        if port.0 == 0 {
+            self.says.lies = [0; PAGE_BYTES];
         }
     }
 
@@ -244,7 +298,12 @@ impl<S: SectorStore> Model<S> {
             IsReady (device_at S.size S.told self.old) p.0 slot.0 (S.size self.old.disk0) left → ⊥ }
         ensures queue { self.new.queue ≡ self.old.queue }
         ensures accesses { self.new.accesses ≡ self.old.accesses }
-        ensures pages { KeepsPages S.size self.old self.new }
+        ensures pages { IsHonest s.now → KeepsPages S.size self.old self.new }
+        ensures lies { result ≡ true → (p : Port) (page : DiskPage) (offset bits : ℕ) → s.now ≡ DeviceStep.Lie p page offset bits → p.0 ≡ 0 →
+            self.new.says ≡ record self.old.says { lies = lying self.old.says.lies offset bits } }
+        ensures truth { (p : Port) → s.now ≡ DeviceStep.Truth p → p.0 ≡ 0 → self.new.says ≡ record self.old.says { lies = no_lies } }
+        ensures told { result ≡ false → (p : Port) → s.now ≡ DeviceStep.Truth p → ⊥ }
+        ensures lied { result ≡ false → (p : Port) (page : DiskPage) (offset bits : ℕ) → s.now ≡ DeviceStep.Lie p page offset bits → offset < 512 → ⊥ }
     {
         match *s {
             DeviceStep::Fetch(port, slot) => {
@@ -255,6 +314,13 @@ impl<S: SectorStore> Model<S> {
                 port.0 < 4 && slot.0 < 32 && self.hardware.done(port.0, slot.0)
             }
             DeviceStep::Finish(port, slot) => slot.0 < 32 && self.finish(port.0, slot.0),
+            DeviceStep::Lie(port, DiskPage::Identity, offset, bits) => {
+                self.lie(port, offset, bits)
+            }
+            DeviceStep::Truth(port) => {
+                self.tell_truth(port);
+                true
+            }
         }
     }
 
@@ -265,7 +331,7 @@ impl<S: SectorStore> Model<S> {
         ensures did { DoesEach (due self.new.accesses self.old.queue.items) (device_at S.size S.told self.old) (device_at S.size S.told self.new) }
         ensures left { self.new.queue.items ≡ not_due self.new.accesses self.old.queue.items }
         ensures counted { self.new.accesses ≡ min (self.old.accesses + 1) (2 ^ 64 - 1) }
-        ensures pages { KeepsPages S.size self.old self.new }
+        ensures pages { AreHonest self.old.queue.items → KeepsPages S.size self.old self.new }
     {
         self.accesses = self.accesses.saturating_add(1);
         let mut place = 0;
@@ -281,12 +347,22 @@ impl<S: SectorStore> Model<S> {
     }
 }
 
+/// Turns these bits of a page.
+fn turn(page: &mut [u8; PAGE_BYTES], bits: &[u8; PAGE_BYTES])
+    ensures turned { IsTurned page.old bits.now page.new }
+    ensures bytes { IsSector page.old → IsSector page.new }
+{
+    for offset in 0..PAGE_BYTES {
+        page[offset] ^= bits[offset];
+    }
+}
+
 /// Has a disk give the sector of a read or its page, or take a write's sector from memory; `false` says that the store
 /// failed, and that it holds what it held.
 fn exchange<S: SectorStore>(
     disk: &mut S,
     hardware: &Hardware,
-    abilities: Abilities,
+    says: &Description,
     next: NextMove,
     bytes: &mut [u8; 512],
 ) -> bool
@@ -295,7 +371,7 @@ fn exchange<S: SectorStore>(
     ensures sector { result ≡ true → IsSector bytes.new }
     ensures gives { result ≡ true → next.transfer ≡ Transfer.Read → IfSome (S.told disk.old) (λ told. bytes.new ≡ told next.sector) }
     ensures takes { result ≡ true → next.transfer ≡ Transfer.Write → bytes.new ≡ bytes_at (bytes_of hardware.now.memory.items) next.address 512 }
-    ensures page { result ≡ true → next.transfer ≡ Transfer.Identify → IsPage serial_of_disk0 (S.size disk.old) abilities bytes.new }
+    ensures page { result ≡ true → next.transfer ≡ Transfer.Identify → IsItsPage (S.size disk.old) says.now bytes.new }
     ensures disk { result ≡ true → first_disk (S.size disk.new) (S.told disk.new)
         ≡ disk_after (operation_of next.transfer) (first_disk (S.size disk.old) (S.told disk.old)) next.sector bytes.new }
     ensures kept { result ≡ false → S.told disk.new ≡ S.told disk.old }
@@ -309,7 +385,8 @@ fn exchange<S: SectorStore>(
             disk.write(next.sector, bytes)
         }
         Transfer::Identify => {
-            *bytes = identify_page(b"IMAGEDISK", disk.sectors(), abilities);
+            *bytes = identify_page(b"IMAGEDISK", disk.sectors(), says.abilities);
+            turn(bytes, &says.lies);
             true
         }
     }
@@ -332,7 +409,7 @@ impl<S: SectorStore> Adapter for Model<S> {
         requires { MayRead r (device_at S.size S.told self.old) }
         ensures reads { Reads r result (device_at S.size S.told self.old) (device_at S.size S.told self.new) }
         ensures settled { IsSettled (device_at S.size S.told self.new) }
-        ensures pages { KeepsPages S.size self.old self.new }
+        ensures pages { AreHonest self.old.queue.items → KeepsPages S.size self.old self.new }
     {
         self.do_queued();
         self.hardware.settle();
@@ -345,7 +422,7 @@ impl<S: SectorStore> Adapter for Model<S> {
     fn write(&mut self, r: Reg, v: u32)
         requires { Stays (MayWrite r v) (device_at S.size S.told self.old) }
         ensures writes { Writes r v (device_at S.size S.told self.old) (device_at S.size S.told self.new) }
-        ensures pages { KeepsPages S.size self.old self.new }
+        ensures pages { AreHonest self.old.queue.items → KeepsPages S.size self.old self.new }
     {
         self.do_queued();
         self.hardware.write(r, v);
@@ -354,7 +431,7 @@ impl<S: SectorStore> Adapter for Model<S> {
     fn load(&mut self, addr: u32, out: &mut [u8])
         requires { Stays (IsFree addr (length out.old)) (device_at S.size S.told self.old) }
         ensures loads { Loads addr out.new (device_at S.size S.told self.old) (device_at S.size S.told self.new) }
-        ensures pages { KeepsPages S.size self.old self.new }
+        ensures pages { AreHonest self.old.queue.items → KeepsPages S.size self.old self.new }
     {
         self.do_queued();
         self.hardware.load(addr as usize, out);
@@ -363,11 +440,13 @@ impl<S: SectorStore> Adapter for Model<S> {
     fn store(&mut self, addr: u32, bytes: &[u8])
         requires { Stays (IsFree addr (length bytes.now)) (device_at S.size S.told self.old) }
         ensures stores { Stores addr bytes.now (device_at S.size S.told self.old) (device_at S.size S.told self.new) }
-        ensures pages { KeepsPages S.size self.old self.new }
+        ensures pages { AreHonest self.old.queue.items → KeepsPages S.size self.old self.new }
     {
         self.do_queued();
         self.hardware.store(addr as usize, bytes);
     }
+
+    ghost tells = { λ m. disks_told _ (S.told m.disk1) _ };
 }
 
 impl<S: SectorStore> Stepped for Model<S> {
@@ -394,7 +473,12 @@ impl<S: SectorStore> Stepped for Model<S> {
             IsReady (device_at S.size S.told self.old) p.0 slot.0 (S.size self.old.disk0) left → ⊥ }
         ensures queue { self.new.queue ≡ self.old.queue }
         ensures accesses { self.new.accesses ≡ self.old.accesses }
-        ensures pages { KeepsPages S.size self.old self.new }
+        ensures pages { IsHonest s.now → KeepsPages S.size self.old self.new }
+        ensures lies { result ≡ true → (p : Port) (page : DiskPage) (offset bits : ℕ) → s.now ≡ DeviceStep.Lie p page offset bits → p.0 ≡ 0 →
+            self.new.says ≡ record self.old.says { lies = lying self.old.says.lies offset bits } }
+        ensures truth { (p : Port) → s.now ≡ DeviceStep.Truth p → p.0 ≡ 0 → self.new.says ≡ record self.old.says { lies = no_lies } }
+        ensures told { result ≡ false → (p : Port) → s.now ≡ DeviceStep.Truth p → ⊥ }
+        ensures lied { result ≡ false → (p : Port) (page : DiskPage) (offset bits : ℕ) → s.now ≡ DeviceStep.Lie p page offset bits → offset < 512 → ⊥ }
     {
         self.do_step(s)
     }

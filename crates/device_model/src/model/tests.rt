@@ -3,7 +3,7 @@
 ghost use Rattle.std.specs.Prelude.{◌<◌, ◌^◌};
 
 use crate::{Model, ModelConfig, NoMemory, Trim};
-use adapter::{Adapter, DeviceStep, Direction, Entry, Operation, Stepped};
+use adapter::{Adapter, DeviceStep, Direction, DiskPage, Entry, Operation, Stepped};
 use ata_types::{Port, Slot};
 use hba_regs::{PortReg, Reg};
 use sector_store::{MemStore, SectorStore};
@@ -331,6 +331,89 @@ fn an_identify_device_goes_step_by_step(rt: HostRuntime) -> Result<(), Fail> {
     assert!(rt; !step(&mut model, DeviceStep::Move(Port(0), Slot(0))));
     assert!(rt; step(&mut model, DeviceStep::Done(Port(0), Slot(0))));
     assert_eq!(rt; model.tape().len(), 2);
+    Ok(())
+}
+
+#[test]
+fn a_lie_turns_bits_of_the_page(rt: HostRuntime) -> Result<(), Fail> {
+    let mut model = issued(rt.alloc())?;
+    issue_identify(&mut model);
+    assert!(rt;
+        step(
+            &mut model,
+            DeviceStep::Lie(Port(0), DiskPage::Identity, 510, 0x0f)
+        )
+    );
+    assert!(rt;
+        step(
+            &mut model,
+            DeviceStep::Lie(Port(0), DiskPage::Identity, 510, 0x01)
+        )
+    );
+    assert!(rt;
+        step(
+            &mut model,
+            DeviceStep::Lie(Port(0), DiskPage::Identity, 0, 0x80)
+        )
+    );
+    // Other ports have no disk, and the page no byte 512.
+    assert!(rt;
+        step(
+            &mut model,
+            DeviceStep::Lie(Port(1), DiskPage::Identity, 1, 0xff)
+        )
+    );
+    assert!(rt;
+        !step(
+            &mut model,
+            DeviceStep::Lie(Port(0), DiskPage::Identity, 512, 0xff)
+        )
+    );
+    assert_eq!(rt; model.tape().len(), 0);
+    assert!(rt; step(&mut model, FINISH));
+    for at in 0..512usize {
+        let byte = model.hardware.memory.get(0x28000 + at).copied();
+        let told = match at {
+            0 => 0x80,
+            510 => 0xab,
+            _ => page_byte(at),
+        };
+        assert_eq!(rt; byte, Some(told));
+    }
+    Ok(())
+}
+
+#[test]
+fn the_truth_ends_lies(rt: HostRuntime) -> Result<(), Fail> {
+    let mut model = issued(rt.alloc())?;
+    issue_identify(&mut model);
+    assert!(rt;
+        step(
+            &mut model,
+            DeviceStep::Lie(Port(0), DiskPage::Identity, 0, 0xff)
+        )
+    );
+    // Another port's disk isn't meant.
+    assert!(rt; step(&mut model, DeviceStep::Truth(Port(1))));
+    assert!(rt; step(&mut model, FINISH));
+    assert_eq!(rt; model.hardware.memory.get(0x28000).copied(), Some(0xff));
+    assert!(rt; step(&mut model, DeviceStep::Truth(Port(0))));
+    write(&mut model, PortReg::Ci, 1);
+    assert!(rt; step(&mut model, FINISH));
+    assert_eq!(rt; model.hardware.memory.get(0x28000).copied(), Some(0));
+    Ok(())
+}
+
+// One that is taken keeps another waiting, in a lower slot; both are done before a reading.
+#[test]
+fn two_identify_devices_are_done_before_a_reading(rt: HostRuntime) -> Result<(), Fail> {
+    let mut model = issued(rt.alloc())?;
+    issue_identify(&mut model);
+    store(&mut model, 32, &HEADER);
+    write(&mut model, PortReg::Ci, 2);
+    assert!(rt; step(&mut model, DeviceStep::Fetch(Port(0), Slot(1))));
+    assert_eq!(rt; read(&mut model, PortReg::Ci), 0);
+    assert_eq!(rt; model.tape().len(), 4);
     Ok(())
 }
 

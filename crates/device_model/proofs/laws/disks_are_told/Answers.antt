@@ -1,4 +1,5 @@
-use Rattle.device_model.proofs.NewModel.{disks_told, both_tell}
+use Rattle.device_model.proofs.NewModel.{both_tell}
+use Rattle.device_model.specs.Tells.{disks_told}
 use Rattle.device_model.proofs.laws.disks_are_told.Goals as goal
 
 pub returns-clause-tells : goal.returns-clause-tells

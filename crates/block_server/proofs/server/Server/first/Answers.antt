@@ -40,9 +40,9 @@ returns-clause-made g c = rw (← c.owners.ensures.owners, ← c.grants.ensures.
 })
 
 pub returns-clause-begins : goal.returns-clause-begins
-returns-clause-begins g c told =
+returns-clause-begins g c =
     new_has_begun g.A.Adapter.device c.bring_up-state.new.adapter c.new-table.result c.bring_up-state.result c.args.sectors c.in-Ok.grants c.args.setup.now
     c.grants.ensures.fits (rw c.grants.ensures.grants at c.in-Ok.ensures.rows) c.in-Ok.ensures.names c.in-Ok.ensures.few
-    (rw c.owners.ensures.owners at c.new-table.ensures.only) _ c.requires.ready.idle told
+    (rw c.owners.ensures.owners at c.new-table.ensures.only) _ c.requires.ready.idle (g.met.A.Adapter.tells c.args.adapter)
     (followed_then AnyAccess NoneUsed _ _ _ (followed_so NoneUsed _ _ c.power_on.ensures.followed) c.bring_up-state.ensures.followed) _ c.bring_up-state.ensures.state
     c.new-table.ensures.free c.in-Ok-with_capacity.book.items c.in-Ok-with_capacity.ensures.items (vec_capacity c.in-Ok-with_capacity.book)

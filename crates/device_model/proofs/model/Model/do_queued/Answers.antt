@@ -4,9 +4,10 @@ use Rattle.std.specs.List.{remove}
 use Rattle.adapter.specs.Asked.{Asked}
 use Rattle.adapter.specs.Device.{Device}
 use Rattle.device_model.specs.Modelled.{device_at}
+use Rattle.device_model.specs.Paged.{AreHonest, IsHonest}
 use Rattle.device_model.specs.Queue.{DoesEach, due, not_due}
 use Rattle.device_model.specs.declared.model.Queued.{Queued}
-use Rattle.device_model.proofs.Queueing.{IsAt, at_start, at_inside, at_kept, at_done, at_end_left, at_end_did, did_or_not, each_steps}
+use Rattle.device_model.proofs.Queueing.{IsAt, at_start, at_inside, at_kept, at_done, at_end_left, at_end_did, did_or_not, each_steps, honest_at, honest_rest}
 use Rattle.device_model.proofs.Telling.{keeps_tape, keeps_on}
 use Rattle.device_model.proofs.model.Model.do_queued.Goals as goal
 use Rattle.device_model.proofs.model.Model.do_queued.Goals.{then-queued-self, else-queued-self}
@@ -18,7 +19,7 @@ loop-queued-init g c =
     let ok = c.args.self.now.queue.ok.0 in
     let P : ℕ → Type 0 = λ n. IsAt c.saturating_add-self.result items items 0 n d d in
     let all : length items ≡ c.len-queued-end.result - 0 = omega (arith, ok, c.len-queued-end.ensures) in
-    record { same = refl; pages = keeps_tape g.S.SectorStore.size _ _ refl refl refl; at = subst P all (at_start c.saturating_add-self.result items d) }
+    record { same = refl; honest = λ all. all; pages = λ all. keeps_tape g.S.SectorStore.size _ _ refl refl refl; at = subst P all (at_start c.saturating_add-self.result items d) }
 
 -- there is one at the place while some are left to look at
 pub index-requires : goal.index-requires
@@ -61,7 +62,7 @@ loop-queued-preserved g c =
           let Q : Queued → Type 0 = λ q. access < q.access in
           subst Q c.index.ensures (omega (arith, same, w.if-queued-self.true)) in
           rw (w.self-is, w.place-is)
-          (record { same = same; pages = c.loop-queued.invariant.pages; at = at_kept access c.args.self.now.queue.items m.queue.items c.loop-queued.place left old mid mid at x late refl })
+          (record { same = same; honest = c.loop-queued.invariant.honest; pages = c.loop-queued.invariant.pages; at = at_kept access c.args.self.now.queue.items m.queue.items c.loop-queued.place left old mid mid at x late refl })
       | else-queued-self w ↦
           let early : (slice_index_or m.queue.items c.loop-queued.place x).access ≤ access =
           let Q : Queued → Type 0 = λ q. q.access ≤ access in
@@ -75,8 +76,11 @@ loop-queued-preserved g c =
           let T : List Queued → Type 0 = λ now. IsAt access c.args.self.now.queue.items now c.loop-queued.place left old new in
           rw (w.self-is, w.place-is) (record {
             same = w.do_step-done.ensures.accesses ∙ same;
-            pages = keeps_on g.S.SectorStore.size _ _ _ c.loop-queued.invariant.pages
-                (keeps_on g.S.SectorStore.size _ _ _ (keeps_tape g.S.SectorStore.size m _ refl refl refl) w.do_step-done.ensures.pages);
+            honest = λ all. subst AreHonest (sym items) (honest_rest m.queue.items c.loop-queued.place (c.loop-queued.invariant.honest all));
+            pages = λ all.
+                let honest : IsHonest x.step = honest_at m.queue.items c.loop-queued.place x (at_inside access c.args.self.now.queue.items m.queue.items c.loop-queued.place (suc left) old mid at (omega arith)) c.index.ensures (c.loop-queued.invariant.honest all) in
+                keeps_on g.S.SectorStore.size _ _ _ (c.loop-queued.invariant.pages all)
+                (keeps_on g.S.SectorStore.size _ _ _ (keeps_tape g.S.SectorStore.size m _ refl refl refl) (w.do_step-done.ensures.pages honest));
             at = subst T (sym items) gone;
           })
     ]

@@ -56,10 +56,10 @@ returns-then-slot-lt32-4-clause-ready g c = λ no sure small p slot left is zero
     (subst (λ (s : Slot). IsReady d c.in-Finish.port.0 s.0 size left) slots (subst (λ (q : Port). IsReady d q.0 slot.0 size left) ports ready))
 
 pub returns-then-slot-lt32-clause-pages : goal.returns-then-slot-lt32-clause-pages
-returns-then-slot-lt32-clause-pages g c = keeps_tape g.S.SectorStore.size _ _ refl refl (ap (λ (v : Vec Entry). v.items) c.fetch.ensures.tape)
+returns-then-slot-lt32-clause-pages g c = λ honest. keeps_tape g.S.SectorStore.size _ _ refl refl (ap (λ (v : Vec Entry). v.items) c.fetch.ensures.tape)
 
 pub returns-then-slot-lt32-3-clause-pages : goal.returns-then-slot-lt32-3-clause-pages
-returns-then-slot-lt32-3-clause-pages g c =
+returns-then-slot-lt32-3-clause-pages g c = λ honest.
     let m = c.args.self.now in
     let o : Outside = outside_at g.S.SectorStore.size g.S.SectorStore.told m in
     keeps_done g.S.SectorStore.size o c.in-Done.port.0 c.in-Done.slot.0 c.done.result m _ refl refl (λ e. c.done.ensures.did e o) (λ e. c.done.ensures.refused e o)

@@ -1,6 +1,7 @@
 use Rattle.std.proofs.Common.{rules, ◌≡◌, ◌≢◌, [], ◌∷◌, false, refl, ap, arith}
 use Rattle.device_model.specs.Whole.{first_disk}
-use Rattle.device_model.proofs.NewModel.{IsIdleModel, IsResetModel, blank_idle, ports_are, all_zero, disks_are, disks_told, zeros_small}
+use Rattle.device_model.proofs.NewModel.{IsIdleModel, IsResetModel, blank_idle, ports_are, all_zero, disks_are, zeros_small}
+use Rattle.device_model.specs.Tells.{disks_told}
 use Rattle.device_model.proofs.model.Model.new.Goals as goal
 
 pub returns-clause-idle : goal.returns-clause-idle

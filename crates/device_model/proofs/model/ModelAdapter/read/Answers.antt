@@ -36,9 +36,9 @@ returns-clause-settled g c =
     (noted_settled c.args.r c.shown-value.result (device_of c.identify.new.self.hardware last) (c.identify.ensures.settled (c.settle.ensures.settled o)))
 
 pub returns-clause-pages : goal.returns-clause-pages
-returns-clause-pages g c =
+returns-clause-pages g c = λ honest.
     let last : Outside = outside_at g.S.SectorStore.size g.S.SectorStore.told c.identify.new.self in
-    keeps_on g.S.SectorStore.size _ _ _ c.do_queued.ensures.pages
+    keeps_on g.S.SectorStore.size _ _ _ (c.do_queued.ensures.pages honest)
     (keeps_on g.S.SectorStore.size c.do_queued.new.self _ _
     (keeps_tape g.S.SectorStore.size c.do_queued.new.self _ refl refl (ap (λ (v : Vec Entry). v.items) c.settle.ensures.tape))
     (keeps_on g.S.SectorStore.size _ c.identify.new.self _ c.identify.ensures.pages

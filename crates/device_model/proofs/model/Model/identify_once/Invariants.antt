@@ -4,7 +4,7 @@ use Rattle.device_model.specs.Finishing.{HasIdentify}
 use Rattle.device_model.specs.Modelled.{device_at}
 use Rattle.device_model.specs.Paged.{KeepsPages}
 use Rattle.device_model.specs.Settled.{IsSettled}
-use Rattle.device_model.proofs.model.Model.identify.Given as goal
+use Rattle.device_model.proofs.model.Model.identify_once.Given as goal
 
 abbrev pub invariant-loop-slot : goal.invariant-loop-slot
 invariant-loop-slot g l = record {
