@@ -3,29 +3,52 @@ use Rattle.std.proofs.Common.{ℕ, ◌≡◌, ◌≢◌, ◌⊎◌, ◌++◌, fa
 use Rattle.ata_types.specs.declared.Port.{Port}
 use Rattle.hba_regs.specs.declared.reg.PortReg.{PortReg}
 use Rattle.hba_regs.specs.declared.reg.PortReg.TheVariants.{Sact}
+use Rattle.hba_regs.specs.declared.reg.Reg.{Reg}
 use Rattle.hba_regs.specs.declared.reg.Reg.TheVariants.{Cap, Ghc, Is, Pi, Vs, Cap2, Bohc, Px}
 use Rattle.adapter.specs.Access.{Access, Does, Reads, Writes}
 use Rattle.adapter.specs.Access.Access.{Reading, Writing, Loading, Storing}
 use Rattle.adapter.specs.Device.{PortState, Device}
-use Rattle.adapter.specs.Kept.{Keeps}
+use Rattle.adapter.specs.Kept.{Keeps, KeepsOn}
 use Rattle.adapter.specs.Rules.{IsOn}
 use Rattle.adapter.specs.declared.tape.Entry.{Entry}
-use Rattle.adapter.proofs.Calls.{SeenAt, seen, PutAt, put}
 use Rattle.adapter.proofs.KeptLemmas.{steps_keep, KeepsPort-refl, KeepsPort-trans, KeepsControls-refl, KeepsControls-trans}
 use Rattle.block_machine.proofs.HistoryLemmas.{reached_more}
 use Rattle.block_machine.specs.Left.{after}
 use Rattle.agreement.specs.Agrees.{AreUnarmed, port_at}
-use Rattle.agreement.specs.Driven.{IsAgreed, IsControl, IsDrivenBy, IsFollowed, LeavesPort}
+use Rattle.agreement.specs.Driven.{IsAgreed, IsControl, IsDrivenBy, IsFollowed, IsOf, LeavesPort, NoneWrites}
+use Rattle.agreement.specs.Facts.{IsRecorded}
 use Rattle.agreement.specs.Links.{SparesRegister, SameAdapter}
 use Rattle.agreement.specs.Slots.{Uses}
-use Rattle.agreement.proofs.Crossing.{access_steps}
-use Rattle.agreement.proofs.Driven.{along, over}
+use Rattle.agreement.proofs.Crossing.{access_steps, beside_same}
+use Rattle.agreement.proofs.Driven.{along, driven_as, over}
 use Rattle.agreement.proofs.Lasting.{access_same, same_more, same_refl}
-use Rattle.agreement.proofs.Unarmed.{unarmed_reads, unarmed_writes}
+use Rattle.agreement.proofs.Recording.{steps_recorded}
+use Rattle.agreement.proofs.Unarmed.{access_unarmed}
+
+-- ---- accesses that touch no register of another port
+
+of_spares : (port : Port) (r : Reg) → ((s : PortReg) → Px port s ≢ r) → NoneWrites (IsOf port) r
+of_spares port r never (Writing (Px p s) v) is = λ e. never s (ap (λ (q : Port). Px q s) (sym is) ∙ e)
+of_spares port r never (Writing Cap v) is = absurd is
+of_spares port r never (Writing Ghc v) is = absurd is
+of_spares port r never (Writing Is v) is = absurd is
+of_spares port r never (Writing Pi v) is = absurd is
+of_spares port r never (Writing Vs v) is = absurd is
+of_spares port r never (Writing Cap2 v) is = absurd is
+of_spares port r never (Writing Bohc v) is = absurd is
+of_spares port r never (Reading s v) is = tt
+of_spares port r never (Loading at bytes) is = tt
+of_spares port r never (Storing at bytes) is = tt
+
+pub of_spares_ghc : (port : Port) → NoneWrites (IsOf port) Ghc
+of_spares_ghc port = of_spares port Ghc (λ s e. absurd (let z : Px port s ≡ Ghc = e in cc))
+
+pub of_spares_others : (port q : Port) (r : PortReg) → q.0 ≢ port.0 → NoneWrites (IsOf port) (Px q r)
+of_spares_others port q r other = of_spares port (Px q r) (λ s e. let z : Px port s ≡ Px q r = e in let same : port ≡ q = cc in other (ap (λ (x : Port). x.0) (sym same)))
+
+-- ---- controls
 
 module _ (Written : PortReg → Type 0) (port : Port) where
-  -- ---- one access
-
   abbrev IsReading : Access → Type 0
   IsReading access = (r : PortReg) × (v : ℕ) × (access ≡ Reading (Px port r) v)
 
@@ -62,20 +85,16 @@ module _ (Written : PortReg → Type 0) (port : Port) where
         | inr (r, v, e, w) ↦ writes r v w (subst (λ (a : Access). Does a old new) e does)
       ]
 
-  pub control_spares_ghc : (access : Access) → IsControl Written port access → SparesRegister Ghc access
-  control_spares_ghc access is =
+  -- it doesn't write what the kind has not
+  control_spares_at : (at : Port) (spared : PortReg) → (Written spared → ⊥) → NoneWrites (IsControl Written port) (Px at spared)
+  control_spares_at at spared not access is =
       elim (is_control access is) [
-        | inl (r, v, e) ↦ subst (SparesRegister Ghc) (sym e) tt
-        | inr (r, v, e, w) ↦ subst (SparesRegister Ghc) (sym e) (λ (z : Px port r ≡ Ghc). absurd (cc))
+        | inl (r, v, e) ↦ subst (SparesRegister (Px at spared)) (sym e) tt
+        | inr (r, v, e, w) ↦ subst (SparesRegister (Px at spared)) (sym e) (λ (z : Px port r ≡ Px at spared). let same : r ≡ spared = cc in not (subst Written same w))
       ]
 
-  -- it doesn't write what the kind has not
-  pub control_spares : (spared : PortReg) → (Written spared → ⊥) → (access : Access) → IsControl Written port access → SparesRegister (Px port spared) access
-  control_spares spared not access is =
-      elim (is_control access is) [
-        | inl (r, v, e) ↦ subst (SparesRegister (Px port spared)) (sym e) tt
-        | inr (r, v, e, w) ↦ subst (SparesRegister (Px port spared)) (sym e) (λ (z : Px port r ≡ Px port spared). let same : r ≡ spared = cc in not (subst Written same w))
-      ]
+  pub control_spares : (spared : PortReg) → (Written spared → ⊥) → NoneWrites (IsControl Written port) (Px port spared)
+  control_spares = control_spares_at port
 
   -- where more registers may be written
   pub control_wider : (More : PortReg → Type 0) → ((r : PortReg) → Written r → More r) → (access : Access) → IsControl Written port access → IsControl More port access
@@ -85,22 +104,31 @@ module _ (Written : PortReg → Type 0) (port : Port) where
         | inr (r, v, e, w) ↦ subst (IsControl More port) (sym e) (refl, wider r w)
       ]
 
-  -- ---- a port that isn't theirs
+  pub control_is_of : (access : Access) → IsControl Written port access → IsOf port access
+  control_is_of access is =
+      elim (is_control access is) [
+        | inl (r, v, e) ↦ subst (IsOf port) (sym e) refl
+        | inr (r, v, e, w) ↦ subst (IsOf port) (sym e) refl
+      ]
 
-  module _ (q : ℕ) (other : q ≢ port.0) where
-    abbrev Leaves : Device → Device → Type 0
-    Leaves old new = LeavesPort (old.port q) (new.port q)
+  pub control_spares_ghc : NoneWrites (IsControl Written port) Ghc
+  control_spares_ghc access is = of_spares_ghc port access (control_is_of access is)
 
-    read_leaves : (r : PortReg) (v : ℕ) (old new : Device) → old.hr ≡ false → Reads (Px port r) v old new → Leaves old new
-    read_leaves r v old new off call =
-        let s : SeenAt port.0 r v old new = seen port r v old new call off in
-        record { keeps = s.keeps.port q; controls = s.keeps.on.controls q; notes = s.others q other }
+-- ---- a port that isn't theirs
 
-    write_leaves : (r : PortReg) (v : ℕ) (old new : Device) → old.hr ≡ false → Writes (Px port r) v old new → Leaves old new
-    write_leaves r v old new off call =
-        let w : PutAt port.0 r v old new = put port r v old new call off in
-        let P : PortState → Type 0 = λ p. LeavesPort (old.port q) p in
-        subst P (sym (w.others q other)) (record { keeps = w.keeps.port q; controls = w.keeps.on.controls q; notes = w.notes q })
+module _ (port : Port) (q : ℕ) (other : q ≢ port.0) where
+  beside_left : (access : Access) (old new : Device) → old.hr ≡ false → IsOf port access → Does access old new → LeavesPort (old.port q) (new.port q)
+  beside_left access old new off is x =
+      let s = access_steps access old new x in
+      let k : Keeps old s.0 = steps_keep s.1 in
+      let c : KeepsOn old s.0 = k.on off in
+      subst (LeavesPort (old.port q)) (sym (beside_same port q other access old new x is)) (record { keeps = k.port q; controls = c.controls q; notes = k.notes q })
+
+  beside_recorded : (access : Access) (old new : Device) → IsOf port access → Does access old new → IsRecorded old.tape (old.port q) q → IsRecorded new.tape (new.port q) q
+  beside_recorded access old new is x h =
+      let s = access_steps access old new x in
+      subst (λ (p : PortState). IsRecorded new.tape p q) (sym (beside_same port q other access old new x is))
+      (subst (λ (tape : List Entry). IsRecorded tape (s.0.port q) q) (sym s.2) (steps_recorded q old s.0 s.1 h))
 
 pub leaves_none : (p : PortState) → LeavesPort p p
 leaves_none p = record { keeps = KeepsPort-refl p; controls = KeepsControls-refl p; notes = refl }
@@ -124,46 +152,65 @@ access_grows access old new does = let s = access_steps access old new does in l
 
 -- ---- stretches
 
-module _ (Written : PortReg → Type 0) (port : Port) (old new : Device) (driven : IsDrivenBy (IsControl Written port) old new) where
-  pub other_left : (q : ℕ) → q ≢ port.0 → IsOn old → LeavesPort (old.port q) (new.port q)
-  other_left q other on =
-      (over (Leaves Written port q other) (λ d. leaves_none (d.port q)) (λ a b c x y. leaves_more (a.port q) (b.port q) (c.port q) x y) (IsControl Written port)
-      (control_spares_ghc Written port)
-      (λ access a b here may does. by_kind Written port (Leaves Written port q other) access a b may does
-      (λ r v call. read_leaves Written port q other r v a b here.no_reset call)
-      (λ r v w call. write_leaves Written port q other r v a b here.no_reset call))
+module _ (May : Access → Type 0) (old new : Device) (driven : IsDrivenBy May old new) where
+  pub same_over : SameAdapter old new
+  same_over = along SameAdapter same_refl same_more May (λ access a b may does. access_same access a b does) driven.accesses old new driven.only driven.all
+
+  pub tape_over : Grows old new
+  tape_over = along Grows grows_none grows_more May (λ access a b may does. access_grows access a b does) driven.accesses old new driven.only driven.all
+
+  pub on_over : NoneWrites May Ghc → IsOn old → IsOn new
+  on_over spares on =
+      (over (λ a b. Unit {0}) (λ d. tt) (λ a b c x y. tt) May spares (λ access a b here may does. tt) driven.accesses old new on driven.only driven.all).1
+
+  pub unarmed_over : (uses : Uses) (q : ℕ) → NoneWrites May (Px (port_at q) Sact) → AreUnarmed uses (old.port q) q → AreUnarmed uses (new.port q) q
+  unarmed_over uses q spares =
+      along (λ a b. AreUnarmed uses (a.port q) q → AreUnarmed uses (b.port q) q) (λ d h. h) (λ a b c x y h. y (x h)) May
+      (λ access a b may does. access_unarmed uses q access a b (spares access may) does)
+      driven.accesses old new driven.only driven.all
+
+module _ (port : Port) (old new : Device) (driven : IsDrivenBy (IsOf port) old new) (q : ℕ) (other : q ≢ port.0) where
+  pub other_left : IsOn old → LeavesPort (old.port q) (new.port q)
+  other_left on =
+      (over (λ a b. LeavesPort (a.port q) (b.port q)) (λ d. leaves_none (d.port q)) (λ a b c x y. leaves_more (a.port q) (b.port q) (c.port q) x y) (IsOf port) (of_spares_ghc port)
+      (λ access a b here may does. beside_left port q other access a b here.no_reset may does)
       driven.accesses old new on driven.only driven.all).0
 
+  pub other_recorded : IsRecorded old.tape (old.port q) q → IsRecorded new.tape (new.port q) q
+  other_recorded =
+      along (λ a b. IsRecorded a.tape (a.port q) q → IsRecorded b.tape (b.port q) q) (λ d h. h) (λ a b c x y h. y (x h)) (IsOf port)
+      (λ access a b may does. beside_recorded port q other access a b may does)
+      driven.accesses old new driven.only driven.all
+
+-- of controls
+module _ (Written : PortReg → Type 0) (port : Port) (old new : Device) (driven : IsDrivenBy (IsControl Written port) old new) where
+  pub driven_of : IsDrivenBy (IsOf port) old new
+  driven_of = driven_as (IsControl Written port) (IsOf port) old new (control_is_of Written port) driven
+
   pub stays_on : IsOn old → IsOn new
-  stays_on on =
-      (over (λ a b. Unit {0}) (λ d. tt) (λ a b c x y. tt) (IsControl Written port) (control_spares_ghc Written port) (λ access a b here may does. tt)
-      driven.accesses old new on driven.only driven.all).1
+  stays_on = on_over (IsControl Written port) old new driven (control_spares_ghc Written port)
 
   pub same_adapter : SameAdapter old new
-  same_adapter = along SameAdapter same_refl same_more (IsControl Written port) (λ access a b may does. access_same access a b does) driven.accesses old new driven.only driven.all
+  same_adapter = same_over (IsControl Written port) old new driven
 
   pub tape_gains : Grows old new
-  tape_gains = along Grows grows_none grows_more (IsControl Written port) (λ access a b may does. access_grows access a b does) driven.accesses old new driven.only driven.all
-
-  pub unarmed_over : (uses : Uses) → (Written Sact → ⊥) → (q : ℕ) → AreUnarmed uses (old.port q) q → AreUnarmed uses (new.port q) q
-  unarmed_over uses spares q =
-      along (λ a b. AreUnarmed uses (a.port q) q → AreUnarmed uses (b.port q) q) (λ d h. h) (λ a b c x y h. y (x h)) (IsControl Written port)
-      (λ access a b may does. by_kind Written port (λ c d. AreUnarmed uses (c.port q) q → AreUnarmed uses (d.port q) q) access a b may does
-      (λ r v call. unarmed_reads uses q (Px port r) v a b call)
-      (λ r v w call. unarmed_writes uses (port_at q) (Px port r) v a b
-      (λ (e : Px port r ≡ Px (port_at q) Sact). let same : r ≡ Sact = cc in absurd (spares (subst Written same w))) call))
-      driven.accesses old new driven.only driven.all
+  tape_gains = tape_over (IsControl Written port) old new driven
 
 -- ---- a machine that agrees
 
-pub agreeing_goes_on : (Written : PortReg → Type 0) (Fits : Uses → Type 0) (port : Port) (uses : Uses) (old new : Device) → (Written Sact → ⊥) → Fits uses →
-    IsFollowed (IsControl Written port) Fits old new → IsAgreed uses old → IsAgreed uses new
-agreeing_goes_on Written Fits port uses old new spares fits followed a =
+-- over accesses that write no PxSACT
+pub agreed_on : (May : Access → Type 0) (Fits : Uses → Type 0) (uses : Uses) (old new : Device) → ((port : Port) → NoneWrites May (Px port Sact)) → Fits uses →
+    IsFollowed May Fits old new → IsAgreed uses old → IsAgreed uses new
+agreed_on May Fits uses old new spares fits followed a =
     let x = (followed.adds uses a.parked fits).adds a.machine a.reached a.knows in
     record {
       machine = after a.machine x.0;
       parked = a.parked;
       reached = reached_more a.machine x.0 a.reached x.1;
       knows = x.2;
-      unarmed = λ q. unarmed_over Written port old new followed.driven uses spares q (a.unarmed q);
+      unarmed = λ q. unarmed_over May old new followed.driven uses q (spares (port_at q)) (a.unarmed q);
     }
+
+pub agreeing_goes_on : (Written : PortReg → Type 0) (Fits : Uses → Type 0) (port : Port) (uses : Uses) (old new : Device) → (Written Sact → ⊥) → Fits uses →
+    IsFollowed (IsControl Written port) Fits old new → IsAgreed uses old → IsAgreed uses new
+agreeing_goes_on Written Fits port uses old new spares = agreed_on (IsControl Written port) Fits uses old new (λ at. control_spares_at Written port at Sact spares)

@@ -1,5 +1,5 @@
 -- What holds of a port goes on over an access: the device's steps come first, and then the access's effect.
-use Rattle.std.proofs.Common.{ℕ, ◌≡◌, Bool, true, false, length, refl, sym, ◌∙◌, ap, subst}
+use Rattle.std.proofs.Common.{ℕ, ◌≡◌, ◌≢◌, Bool, true, false, length, refl, sym, ◌∙◌, ap, subst}
 use Rattle.std.specs.Prelude.{if◌then◌else◌}
 use Rattle.ata_types.specs.declared.Port.{Port}
 use Rattle.hba_regs.specs.Bits.{bit}
@@ -10,7 +10,9 @@ use Rattle.adapter.specs.Access.{Access, Does, note, noted, written, port_writte
 use Rattle.adapter.specs.Access.Access.{Reading, Writing, Loading, Storing}
 use Rattle.adapter.specs.Device.{PortState, Device}
 use Rattle.adapter.specs.Steps.{Steps}
+use Rattle.adapter.proofs.Changed.{changed_other}
 use Rattle.block_machine.proofs.Keeps.{same_port}
+use Rattle.agreement.specs.Driven.{IsOf}
 use Rattle.agreement.proofs.Accesses.{noted_tape}
 use Rattle.agreement.proofs.Healthy.{at_port, written_tape}
 
@@ -61,3 +63,37 @@ module _ (P : PortState → Type 0) (port : Port) (noting : (p : PortState) (r :
         (written_on r v x.mid (λ q is. writing q v x.mid (ap (λ (z : Reg). Writing z v) is) x.steps) h)
     effect_keeps (Loading at bytes) old new x writing h = h
     effect_keeps (Storing at bytes) old new x writing h = subst (λ (d : Device). P (d.port port.0)) (sym x.effect) h
+
+-- ---- a port that the access isn't of
+
+module _ (port : Port) (q : ℕ) (other : q ≢ port.0) where
+  beside : (p : Port) → p ≡ port → q ≢ p.0
+  beside p is e = other (e ∙ ap (λ (x : Port). x.0) is)
+
+  noted_beside : (r : Reg) (v : ℕ) (d : Device) → IsOf port (Reading r v) → (noted r v d).port q ≡ d.port q
+  noted_beside (Px p r) v d is = changed_other d.port p.0 _ q (beside p is)
+  noted_beside Cap v d is = refl
+  noted_beside Ghc v d is = refl
+  noted_beside Is v d is = refl
+  noted_beside Pi v d is = refl
+  noted_beside Vs v d is = refl
+  noted_beside Cap2 v d is = refl
+  noted_beside Bohc v d is = refl
+
+  written_beside : (r : Reg) (v : ℕ) (d : Device) → IsOf port (Writing r v) → (written r v d).port q ≡ d.port q
+  written_beside (Px p r) v d is = changed_other d.port p.0 _ q (beside p is)
+  written_beside Cap v d is = absurd is
+  written_beside Ghc v d is = absurd is
+  written_beside Is v d is = absurd is
+  written_beside Pi v d is = absurd is
+  written_beside Vs v d is = absurd is
+  written_beside Cap2 v d is = absurd is
+  written_beside Bohc v d is = absurd is
+
+  -- it is as the device's steps left it
+  pub beside_same : (access : Access) (old new : Device) (x : Does access old new) → IsOf port access → new.port q ≡ (access_steps access old new x).0.port q
+  unfolding access_steps
+  beside_same (Reading r v) old new x is = ap (λ (d : Device). d.port q) x.effect ∙ noted_beside r v x.mid is
+  beside_same (Writing r v) old new x is = ap (λ (d : Device). d.port q) x.effect ∙ written_beside r v x.mid is
+  beside_same (Loading at bytes) old new x is = refl
+  beside_same (Storing at bytes) old new x is = ap (λ (d : Device). d.port q) x.effect

@@ -30,20 +30,20 @@ mod Decided
 pub mod Halting
 pub mod Finding
 mod Stilling
-mod Healthy
-mod Recording
-mod Rewriting
-mod Awaiting
-mod Starting
+pub mod Healthy
+pub mod Recording
+pub mod Rewriting
+pub mod Awaiting
+pub mod Starting
 mod Faulted
 mod Witnesses
 mod Identified
 pub mod Allowing
 pub mod Leaving
-mod Showing
+pub mod Showing
 pub mod Sparing
 pub mod Parking
-mod Paging
+pub mod Paging
 mod Crossing
 pub mod Gaining
 pub mod Linking
@@ -58,7 +58,7 @@ mod Silent
 pub mod Resending
 pub mod Noting
 pub mod ComingUp
-mod Raising
+pub mod Raising
 mod Present
 mod Changing
 pub mod Running
@@ -71,9 +71,10 @@ mod Trimming
 mod Composing
 pub mod Pages
 mod Booted
-mod Restarting
-mod Failing
+pub mod Restarting
+pub mod Failing
 pub mod Driven
 pub mod Controlled
 pub mod Causing
 pub mod Unmoving
+pub mod Sustaining

@@ -7,7 +7,7 @@ use Rattle.std.proofs.lemmas.List.Elements.{All-nil, All-cons, All-append}
 use Rattle.adapter.specs.Access.{Access, Does}
 use Rattle.adapter.specs.Commands.{Meaning, is_queued}
 use Rattle.adapter.specs.Device.{Taken, PortState, Device}
-use Rattle.adapter.specs.Kept.{KeepsPort}
+use Rattle.adapter.specs.Kept.{Keeps, KeepsPort}
 use Rattle.adapter.specs.Memory.{changed}
 use Rattle.adapter.specs.Steps.{Can, after, Leads, Steps, MayMove, block_after, move_of}
 use Rattle.adapter.specs.Steps as steps
@@ -30,7 +30,7 @@ use Rattle.agreement.specs.Tape.{OneAtMost}
 use Rattle.agreement.proofs.Crossing.{access_steps}
 use Rattle.agreement.proofs.Ending.{own_clear}
 use Rattle.agreement.proofs.Following.{step_follows}
-use Rattle.agreement.proofs.Gaining.{NoneOf, gained_parts}
+use Rattle.agreement.proofs.Gaining.{NoneOf, GainsNone, gained_parts}
 use Rattle.agreement.proofs.Healthy.{at_port}
 use Rattle.agreement.proofs.Moving.{TakenAs, taken_as}
 use Rattle.agreement.proofs.Taking.{none_op, own_plain}
@@ -252,6 +252,15 @@ pub access_pages_asked : (uses : Uses) (m : Machine) (access : Access) (old new 
 access_pages_asked uses m access old new port o gained r a x is own over =
     let s = access_steps access old new x in
     pages_asked uses m old s.0 port o gained r a s.1 (sym s.2 ∙ is) own over
+
+-- where slot 0 has no command for such a page
+pub access_sends_none : (uses : Uses) (m : Machine) (access : Access) (old new : Device) (port : ℕ) (o : Operation) → IsReached m → Agrees uses m old → Does access old new → op_of o ≡ None →
+    (uses port 0 ≡ Own o → ⊥) → GainsNone (IsMove port o) old new
+access_sends_none uses m access old new port o r a x own none =
+    let s = access_steps access old new x in
+    let k : Keeps old s.0 = steps_keep s.1 in
+    let is : new.tape ≡ old.tape ++ k.gained = s.2 ∙ k.tape in
+    (k.gained, is, access_pages_asked uses m access old new port o k.gained r a x is own (λ u. absurd (none u)))
 
 pub access_pages_once : (uses : Uses) (m : Machine) (access : Access) (old new : Device) (port : ℕ) (o : Operation) (gained : List Entry) → IsReached m → Agrees uses m old → Does access old new → new.tape ≡ old.tape ++ gained → op_of o ≡ None →
     OneAtMost (IsMove port o) gained

@@ -2,6 +2,7 @@
 use Rattle.std.proofs.Common.{ℕ, ◌≡◌, ◌⊎◌, Bool, true, false, not, List, length, refl, sym, subst, inl, inr, ⊎_elim, le_refl}
 use Rattle.std.specs.Prelude.{if◌then◌else◌}
 use Rattle.std.proofs.lemmas.Bool.{cond-true, cond-false, and_parts, or_left}
+use Rattle.ata_types.specs.declared.Port.{Port}
 use Rattle.hba_regs.specs.Bits.{bit}
 use Rattle.hba_regs.specs.declared.reg.Reg.{Reg}
 use Rattle.hba_regs.specs.declared.reg.Reg.TheVariants.{Cap, Ghc, Pi, Vs, Cap2, Bohc, Px}
@@ -75,6 +76,17 @@ module _ (port : ℕ) (d : Device) (h : IsRecorded d.tape (d.port port) port) wh
   same_recorded : (p : ℕ) (new : PortState) → SameRecord (d.port p) new → IsRecorded d.tape (changed d.port p new port) port
   same_recorded p new same = at_port (λ x. IsRecorded d.tape x port) (λ x. IsRecorded d.tape x port) d p port new h (λ e x. recorded_on d.tape (d.port p) new port same x) (λ ne x. x)
 
+  issued_recorded : (p : Port) (v : ℕ) → IsRecorded (written (Px p Ci) v d).tape ((written (Px p Ci) v d).port port) port
+  issued_recorded p v = same_recorded p.0 _ (record {
+    st = refl;
+    set_at = refl;
+    linked = refl;
+    flag = λ f. f;
+    halt = refl;
+    tfd = refl;
+    used = λ slot u. ⊎_elim (λ (set : (d.port p.0).ci slot ≡ true). inl (or_left _ _ set)) (λ t. inr t) u;
+  })
+
   written_recorded : (r : Reg) (v : ℕ) → MayWrite r v d → KeepsRecord r v d → IsRecorded (written r v d).tape ((written r v d).port port) port
   written_recorded Ghc v may x = h
   written_recorded adapter.Is v may x = acknowledged_recorded d.tape (d.port port) port v h
@@ -86,15 +98,7 @@ module _ (port : ℕ) (d : Device) (h : IsRecorded d.tape (d.port port) port) wh
   written_recorded (Px p Serr) v may x = same_recorded p.0 _ (same_with (d.port p.0) _ _ _ _ _ _ _ _ _ _ _)
   written_recorded (Px p Sact) v may x = same_recorded p.0 _ (same_with (d.port p.0) _ _ _ _ _ _ _ _ _ _ _)
   written_recorded (Px p Is) v may x = same_recorded p.0 _ (record { st = refl; set_at = refl; linked = refl; flag = λ f. (and_parts ((d.port p.0).is 30) (not (bit v 30)) f).0; halt = refl; tfd = refl; used = λ slot u. u })
-  written_recorded (Px p Ci) v may x = same_recorded p.0 _ (record {
-    st = refl;
-    set_at = refl;
-    linked = refl;
-    flag = λ f. f;
-    halt = refl;
-    tfd = refl;
-    used = λ slot u. ⊎_elim (λ (set : (d.port p.0).ci slot ≡ true). inl (or_left _ _ set)) (λ t. inr t) u;
-  })
+  written_recorded (Px p Ci) v may x = issued_recorded p v
   written_recorded (Px p Cmd) v may x = at_port (λ y. IsRecorded d.tape y port) (λ y. IsRecorded d.tape y port) d p.0 port _ h (λ e y. command_recorded d.tape (d.port p.0) port v y x) (λ ne y. y)
   written_recorded (Px p Sctl) v may x = at_port (λ y. IsRecorded d.tape y port) (λ y. IsRecorded d.tape y port) d p.0 port _ h (λ e y. stopped_recorded d.tape _ port may.2.0) (λ ne y. y)
   written_recorded (Px p Tfd) v may x = absurd may.2
@@ -111,3 +115,8 @@ pub writes_recorded : (port : ℕ) (r : Reg) (v : ℕ) (old new : Device) → St
 writes_recorded port r v old new may keeps call h =
     subst (λ (d : Device). IsRecorded d.tape (d.port port) port) (sym call.effect)
     (written_recorded port call.mid (steps_recorded port old call.mid call.steps h) r v (may call.mid call.steps) (keeps call.mid call.steps))
+
+-- commands are issued, on whatever port
+pub issues_recorded : (port : ℕ) (at : Port) (v : ℕ) (old new : Device) → Writes (Px at Ci) v old new → IsRecorded old.tape (old.port port) port → IsRecorded new.tape (new.port port) port
+issues_recorded port at v old new call h =
+    subst (λ (d : Device). IsRecorded d.tape (d.port port) port) (sym call.effect) (issued_recorded port call.mid (steps_recorded port old call.mid call.steps h) at v)

@@ -7,7 +7,8 @@ use Rattle.hba_regs.specs.declared.reg.Reg.{Reg}
 use Rattle.hba_regs.specs.declared.reg.Reg.TheVariants.{Px}
 use Rattle.hba_regs.specs.declared.reg.PortReg.{PortReg}
 use Rattle.hba_regs.specs.declared.reg.PortReg.TheVariants as px
-use Rattle.adapter.specs.Access.{Reads, Writes, note, port_written, with_st}
+use Rattle.adapter.specs.Access.{Access, Does, Reads, Writes, note, port_written, with_st}
+use Rattle.adapter.specs.Access.Access.{Reading, Writing, Loading, Storing}
 use Rattle.adapter.specs.Device.{PortState, Device}
 use Rattle.adapter.specs.FirstRead.{first_read}
 use Rattle.adapter.specs.Idle.{IsIdle}
@@ -17,6 +18,7 @@ use Rattle.adapter.proofs.KeptLemmas.{steps_keep}
 use Rattle.block_machine.specs.State.{Machine}
 use Rattle.agreement.specs.Slots.{Use, Free, Own, Serves, Uses, put, Stage, IsOver, IsServed}
 use Rattle.agreement.specs.Agrees.{Agrees, AreUnarmed, port_at}
+use Rattle.agreement.specs.Links.{SparesRegister}
 use Rattle.agreement.proofs.Crossing.{noted_on, written_on}
 use Rattle.agreement.proofs.Putting.{put_same, put_cases}
 use Rattle.agreement.proofs.Quiet.{some_none, true_false}
@@ -106,6 +108,15 @@ unarmed_writes uses port r v old new arms x u =
     (written_on (λ (p : PortState). AreUnarmed uses p port.0) port (reading_unarmed uses port) (λ p h. h) r v x.mid
     (λ q is. writing_unarmed uses port q v (length x.mid.tape) (x.mid.port port.0) (λ c. arms (is ∙ ap (Px port) c)))
     (unarmed_stays uses old x.mid port.0 x.steps u))
+
+-- an access that doesn't write PxSACT
+pub access_unarmed : (uses : Uses) (port : ℕ) (access : Access) (old new : Device) → SparesRegister (Px (port_at port) px.Sact) access → Does access old new →
+    AreUnarmed uses (old.port port) port → AreUnarmed uses (new.port port) port
+access_unarmed uses port (Reading r v) old new spares x u = unarmed_reads uses port r v old new x u
+access_unarmed uses port (Writing r v) old new spares x u = unarmed_writes uses (port_at port) r v old new (λ e. absurd (spares e)) x u
+access_unarmed uses port (Loading at bytes) old new spares x u = unarmed_stays uses old new port x.steps u
+access_unarmed uses port (Storing at bytes) old new spares x u =
+    subst (λ (d : Device). AreUnarmed uses (d.port port) port) (sym x.effect) (unarmed_stays uses old x.mid port x.steps u)
 
 -- ---- ports without a bit
 

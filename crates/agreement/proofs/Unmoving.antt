@@ -7,8 +7,8 @@ use Rattle.hba_regs.specs.declared.reg.Reg.TheVariants.{Px}
 use Rattle.hba_regs.specs.declared.reg.PortReg.{PortReg}
 use Rattle.hba_regs.specs.declared.reg.PortReg.TheVariants.{Ci}
 use Rattle.adapter.specs.Access.{Access, Does}
-use Rattle.adapter.specs.Access.Access.{Reading, Writing, Loading, Storing}
-use Rattle.adapter.specs.Device.{PortState, Device}
+use Rattle.adapter.specs.Access.Access.{Writing}
+use Rattle.adapter.specs.Device.{Device}
 use Rattle.adapter.specs.Kept.{Keeps}
 use Rattle.adapter.specs.Steps.{Step, Can, after, Leads, Steps}
 use Rattle.adapter.specs.Steps.Step.{Fetch, FetchFault, Move, Clear, Done, Fault, Fatal, Fall, FrFall, LinkUp, Unplug, Plug, ResetEnds, Scribble}
@@ -17,10 +17,10 @@ use Rattle.adapter.specs.declared.tape.Entry.{Entry}
 use Rattle.adapter.proofs.Absurd.{some-none}
 use Rattle.adapter.proofs.KeptLemmas.{step_keeps}
 use Rattle.agreement.specs.Driven.{HasNoCommand, IsControl, IsDrivenBy}
-use Rattle.agreement.specs.Slots.{IsMove, IsOver}
+use Rattle.agreement.specs.Slots.{IsMove}
 use Rattle.agreement.proofs.Crossing.{access_steps}
 use Rattle.agreement.proofs.Driven.{along}
-use Rattle.agreement.proofs.Finished.{steps_over, access_over}
+use Rattle.agreement.proofs.Finished.{access_over}
 use Rattle.agreement.proofs.Gaining.{NoneOf, GainsNone, gains_nothing, gains_more}
 
 module _ (port : ℕ) (o : Operation) where

@@ -409,7 +409,8 @@ pub fn device_or_none_stays()
 
 /// The faults of a port since its ST was set stand on the tape, and the task file shows the last one: so it stays, whatever the
 /// device does, over readings, and over each write that may be made, where ST is set on a quiet port alone: what is asked of the
-/// write stays so until it is made. So it is while ST is 0, on a port that runs, and on one that has failed.
+/// write stays so until it is made, and nothing is asked where commands are issued. So it is while ST is 0, on a port that runs, and on one
+/// that has failed.
 pub fn faults_are_recorded()
     ensures steps { (port : ℕ) (old new : Device) → Steps old new → IsRecorded old.tape (old.port port) port
         → IsRecorded new.tape (new.port port) port }
@@ -417,6 +418,8 @@ pub fn faults_are_recorded()
         → IsRecorded new.tape (new.port port) port }
     ensures writes { (port : ℕ) (r : Reg) (v : ℕ) (old new : Device) → Stays (MayWrite r v) old → Stays (KeepsRecord r v) old
         → Writes r v old new → IsRecorded old.tape (old.port port) port → IsRecorded new.tape (new.port port) port }
+    ensures issues { (port : ℕ) (at : Port) (v : ℕ) (old new : Device) → Writes (Px at Ci) v old new
+        → IsRecorded old.tape (old.port port) port → IsRecorded new.tape (new.port port) port }
     ensures asked { (r : Reg) (v : ℕ) (d : Device) → d.hr ≡ false → KeepsRecord r v d → Stays (KeepsRecord r v) d }
     ensures idle { (tape : List Entry) (p : PortState) (port : ℕ) → p.st ≡ false → IsRecorded tape p port }
     ensures runs { HasFaults first_read.tape (first_read.port 0) 0 }

@@ -1,7 +1,12 @@
 -- Stores into the header and the table of an unused slot.
-use Rattle.std.proofs.Common.{ℕ, ◌≡◌, ◌+◌, ◌*◌, ◌<◌, ◌≤◌, Bool, List, length, take, sym, ◌∙◌, ap, inl, inr, arith, slice_index_or}
-use Rattle.adapter.specs.Access.{Stores}
-use Rattle.adapter.specs.Access.Access.{Storing}
+use Rattle.std.proofs.Common.{ℕ, ◌≡◌, ◌⊎◌, ◌+◌, ◌*◌, ◌<◌, ◌≤◌, Bool, List, length, take, refl, sym, ◌∙◌, ap, inl, inr, arith, slice_index_or}
+use Rattle.byteorder.specs.Endian.{little_from}
+use Rattle.ata_types.specs.declared.Port.{Port}
+use Rattle.hba_regs.specs.declared.reg.Reg.{Reg}
+use Rattle.hba_regs.specs.declared.reg.Reg.TheVariants.{Px}
+use Rattle.hba_regs.specs.declared.reg.PortReg.TheVariants.{Sact}
+use Rattle.adapter.specs.Access.{Access, Stores}
+use Rattle.adapter.specs.Access.Access.{Reading, Writing, Loading, Storing}
 use Rattle.adapter.specs.Commands.{Meaning}
 use Rattle.adapter.specs.Device.{Device}
 use Rattle.adapter.specs.Memory.{patched, bytes_at}
@@ -10,43 +15,61 @@ use Rattle.adapter.specs.Spelling.{SpellsCommand, SpellsHeader, SpellsPrd}
 use Rattle.adapter.specs.declared.command.Command.{Command}
 use Rattle.adapter.specs.declared.command.Prd.{Prd}
 use Rattle.adapter.proofs.MemoryLemmas.{bytes_same, patched_apart, patched_bytes}
-use Rattle.block_machine.specs.Histories.{AddsSteps}
-use Rattle.block_machine.proofs.HistoryLemmas.{reached_more}
-use Rattle.agreement.specs.Driven.{known, IsAgreed, IsFollowed}
-use Rattle.agreement.specs.Driver.{Knows, ByDevice, LeavesFree, MayStore}
+use Rattle.agreement.specs.Driven.{IsAgreed, IsFollowed, IsOf, NoneWrites}
+use Rattle.agreement.specs.Driver.{LeavesFree, MayStore}
 use Rattle.agreement.specs.Places.{list_of, table_of}
 use Rattle.agreement.specs.Slots.{Uses, Told}
-use Rattle.agreement.proofs.Adding.{store_adds}
-use Rattle.agreement.proofs.Driven.{by_one}
+use Rattle.agreement.proofs.Controlled.{agreed_on}
+use Rattle.agreement.proofs.Driven.{followed_store}
 use Rattle.agreement.proofs.Keeping.{told_is_left}
 use Rattle.agreement.proofs.Lasting.{access_on, access_same}
-use Rattle.agreement.proofs.Leaving.{stores_leave, unarmed_left}
+use Rattle.agreement.proofs.Leaving.{stores_leave}
 use Rattle.agreement.proofs.Permitting.{stores_are_free}
 use Rattle.command_table.specs.Bytes.{part}
-use Rattle.command_table.specs.Written.{IsTableFor, IsInTable, IsTableStore, IsUnused}
+use Rattle.command_table.specs.Written.{IsTableFor, IsHeader, IsInTable, IsTableStore, IsUnused}
 use Rattle.command_table.proofs.Saying.{table_says}
 
 -- the driver may store them
-may_store : (uses : Uses) (port slot at n : ℕ) → port < 4 → slot < 32 → IsUnused port slot uses → IsInTable port slot at n → MayStore uses at n
-may_store uses port slot at n below small free here = inl (record { port = port; slot = slot; below = below; slot_below = small; free = free; here = here })
+may_store : (uses : Uses) (port slot at : ℕ) (bytes : List ℕ) → port < 4 → slot < 32 → IsUnused port slot uses → IsTableStore port slot (Storing at bytes) → MayStore uses at (length bytes)
+may_store uses port slot at bytes below small free here = inl (record { port = port; slot = slot; below = below; slot_below = small; free = free; here = of here })
+  where
+    of : IsHeader port slot at bytes ⊎ IsInTable port slot at bytes →
+        ((list_of port + 32 * slot ≤ at) × (at + length bytes ≤ list_of port + 32 * slot + 32)) ⊎ ((table_of port slot ≤ at) × (at + length bytes ≤ table_of port slot + 1024))
+    of (inl h) = let place = h.0 in let size = h.1 in inl (omega (arith, place), omega (arith, place, size))
+    of (inr t) = inr t
 
 -- whatever the device does first
-pub store_free : (uses : Uses) (d : Device) (port slot at n : ℕ) → IsAgreed uses d → 163840 ≤ d.size → port < 4 → slot < 32 → IsUnused port slot uses → IsInTable port slot at n → Stays (IsFree at n) d
-store_free uses d port slot at n a room below small free here =
-    stores_are_free uses a.machine d a.reached a.knows.agrees at n (elim here [ inl head ↦ let h = head.1 in omega (arith, room, h) | inr table ↦ let t = table.1 in omega (arith, room, t) ])
-    (may_store uses port slot at n below small free here)
+pub store_free : (uses : Uses) (d : Device) (port slot at : ℕ) (bytes : List ℕ) → IsAgreed uses d → 163840 ≤ d.size → port < 4 → slot < 32 → IsUnused port slot uses → IsTableStore port slot (Storing at bytes) →
+    Stays (IsFree at (length bytes)) d
+store_free uses d port slot at bytes a room below small free here =
+    stores_are_free uses a.machine d a.reached a.knows.agrees at (length bytes)
+    (elim here [ inl h ↦ let place = h.0 in let size = h.1 in omega (arith, room, place, size, below, small) | inr table ↦ let t = table.1 in omega (arith, room, t) ])
+    (may_store uses port slot at bytes below small free here)
+
+-- no such access is of a register
+pub table_is_of : (port : Port) (slot : ℕ) (access : Access) → IsTableStore port.0 slot access → IsOf port access
+table_is_of port slot (Storing at bytes) here = tt
+table_is_of port slot (Loading at bytes) here = tt
+table_is_of port slot (Reading r v) here = absurd here
+table_is_of port slot (Writing r v) here = absurd here
+
+pub table_spares : (port slot : ℕ) (r : Reg) → NoneWrites (IsTableStore port slot) r
+table_spares port slot r (Storing at bytes) here = tt
+table_spares port slot r (Loading at bytes) here = tt
+table_spares port slot r (Reading s v) here = tt
+table_spares port slot r (Writing s v) here = absurd here
 
 -- ---- one store
 
-module _ (port slot : ℕ) (below : port < 4) (small : slot < 32) (at : ℕ) (bytes : List ℕ) (old new : Device) (here : IsInTable port slot at (length bytes)) (call : Stores at bytes old new) where
+module _ (port slot : ℕ) (below : port < 4) (small : slot < 32) (at : ℕ) (bytes : List ℕ) (old new : Device) (here : IsTableStore port slot (Storing at bytes)) (call : Stores at bytes old new) where
   pub store_followed : IsFollowed (IsTableStore port slot) (IsUnused port slot) old new
-  store_followed = record {
-    driven = by_one (IsTableStore port slot) (Storing at bytes) old new here call;
-    adds = λ uses parked free. store_adds (known uses parked old) at bytes new (may_store uses port slot at (length bytes) below small free here) call;
-  }
+  store_followed = followed_store (IsTableStore port slot) (IsUnused port slot) at bytes old new here (λ uses free. may_store uses port slot at bytes below small free here) call
 
   pub store_on : IsOn old → IsOn new
   store_on on = access_on (Storing at bytes) old new on (λ v e. absurd cc) call
+
+  pub store_there : bytes_at new.memory at (length bytes) ≡ bytes
+  store_there = ap (λ (d : Device). bytes_at d.memory at (length bytes)) call.effect ∙ patched_bytes call.mid.memory at bytes
 
   pub store_size : new.size ≡ old.size
   store_size = (access_same (Storing at bytes) old new call).size
@@ -56,16 +79,7 @@ module _ (port slot : ℕ) (below : port < 4) (small : slot < 32) (at : ℕ) (by
     store_left = stores_leave uses a.machine old new a.reached a.knows.agrees on.no_reset at bytes call
 
     pub store_agrees : IsAgreed uses new
-    store_agrees =
-        let adds : AddsSteps Knows (known uses a.parked old) (known uses a.parked new) (ByDevice old new) = store_followed.adds uses a.parked free in
-        let x = adds.adds a.machine a.reached a.knows in
-        record {
-          machine = _;
-          parked = a.parked;
-          reached = reached_more a.machine x.0 a.reached x.1;
-          knows = x.2;
-          unarmed = λ q. unarmed_left uses (record old { memory = patched old.memory at bytes }) new q store_left (a.unarmed q);
-        }
+    store_agrees = agreed_on (IsTableStore port slot) (IsUnused port slot) uses old new (λ q. table_spares port slot (Px q Sact)) free store_followed a
 
 -- ---- the table, and then the header
 
@@ -74,12 +88,12 @@ module _ (port slot : ℕ) (below : port < 4) (small : slot < 32) (uses : Uses) 
     (first : Stores (table_of port slot) (take (128 + 16 * length prds) table) old mid) (second : Stores (list_of port + 32 * slot) header mid new)
     (writes : Bool) (command : Command) (fis : SpellsCommand (part table 0 20) command)
     (each : (i : ℕ) (d : Prd) → i < length prds → SpellsPrd (part table (128 + 16 * i) 16) (slice_index_or prds i d))
-    (heads : SpellsHeader header writes (length prds) (table_of port slot)) where
-  in_table : IsInTable port slot (table_of port slot) (length (take (128 + 16 * length prds) table))
+    (heads : SpellsHeader header writes (length prds) (table_of port slot)) (none_moved : little_from 4 4 header ≡ 0) where
+  in_table : IsTableStore port slot (Storing (table_of port slot) (take (128 + 16 * length prds) table))
   in_table = inr (omega arith, omega (arith, front, few))
 
-  in_header : IsInTable port slot (list_of port + 32 * slot) (length header)
-  in_header = inl (omega arith, let h = heads.size in omega (arith, h))
+  in_header : IsTableStore port slot (Storing (list_of port + 32 * slot) header)
+  in_header = inl (refl, heads.size, none_moved)
 
   mid_on : IsOn mid
   mid_on = store_on port slot below small (table_of port slot) _ old mid in_table first on

@@ -1,5 +1,6 @@
 -- What is stored for a slot's command (AHCI 1.3.1, 4.2.2 and 4.2.3), and what the stores may touch.
 use Rattle.std.specs.Prelude.{ℕ, Bool, ◌≡◌, ◌+◌, ◌*◌, ◌≤◌, ◌⊎◌, List, length, All}
+use Rattle.byteorder.specs.Endian.{little_from}
 use Rattle.adapter.specs.Access.{Access}
 use Rattle.adapter.specs.Access.Access.{Storing}
 use Rattle.adapter.specs.Commands.{Meaning, IsMeaning, command_of, reads_memory, pieces_moved}
@@ -19,15 +20,17 @@ pub record IsTableFor (slot : ℕ) (writes : Bool) (command : Command) (prds : L
   pub in_order : places ≡ pieces prds
   pub as_many : length places ≡ pieces_moved m.operation m.count
 
--- the bytes are of the slot's header, or of its table
-abbrev pub IsInTable : ℕ → ℕ → ℕ → ℕ → Type 0
-IsInTable port slot at n =
-    ((list_of port + 32 * slot ≤ at) × (at + n ≤ list_of port + 32 * slot + 32))
-    ⊎ ((table_of port slot ≤ at) × (at + n ≤ table_of port slot + 1024))
+-- The bytes are 32 in the place of the slot's header, of which PRDBC, 4 to 7, is zero: nothing was moved for the command yet.
+abbrev pub IsHeader : ℕ → ℕ → ℕ → List ℕ → Type 0
+IsHeader port slot at bytes = (at ≡ list_of port + 32 * slot) × (length bytes ≡ 32) × (little_from 4 4 bytes ≡ 0)
 
--- it stores such bytes
+-- the bytes are of the slot's table
+abbrev pub IsInTable : ℕ → ℕ → ℕ → List ℕ → Type 0
+IsInTable port slot at bytes = (table_of port slot ≤ at) × (at + length bytes ≤ table_of port slot + 1024)
+
+-- it stores such a header, or such bytes
 abbrev pub IsTableStore : ℕ → ℕ → Access → Type 0
-IsTableStore port slot (Storing at bytes) = IsInTable port slot at (length bytes)
+IsTableStore port slot (Storing at bytes) = IsHeader port slot at bytes ⊎ IsInTable port slot at bytes
 IsTableStore port slot access = ⊥
 
 -- the slot isn't used

@@ -6,6 +6,7 @@ ghost use Rattle.byteorder.specs.Endian.{little_from};
 ghost use Rattle.adapter.specs.Says.{pieces, IsWhole};
 ghost use Rattle.adapter.specs.Spelling.{SpellsCommand, SpellsHeader, SpellsPrd, IsAllowed};
 ghost use Rattle.adapter.specs.Commands.{Meaning};
+ghost use Rattle.adapter.specs.Memory.{bytes_at};
 ghost use Rattle.adapter.specs.Rules.{IsOn};
 ghost use Rattle.adapter.specs.declared.command.Prd.{Prd};
 ghost use Rattle.agreement.specs.Driven.{AgreesWith, IsFollowed};
@@ -14,6 +15,8 @@ ghost use Rattle.agreement.specs.Slots.{Told};
 ghost use Rattle.command_table.specs.Written.{IsTableFor, IsTableStore, IsUnused};
 ghost use Rattle.command_table.specs.Places.{IsPrdOf, places_of};
 ghost use Rattle.command_table.specs.Bytes.{Stores, part};
+
+pub mod laws;
 
 use adapter::{Adapter, Command, Prd};
 use arrayvec::ArrayVec;
@@ -116,8 +119,8 @@ pub fn table_bytes(command: &Command, prds: &[Prd]) -> [u8; 640]
     bytes
 }
 
-/// Writes the table and then the header of an unused slot, so that they say the command that is meant, with its PRDs; no other byte
-/// is stored. `writes` says that the device reads memory. The slot's places are this project's own: list and tables stand in the ten
+/// Writes the table and then the header of an unused slot, so that they say the command that is meant, with its PRDs, and PRDBC
+/// tells that nothing was moved yet; no other byte is stored. `writes` says that the device reads memory. The slot's places are this project's own: list and tables stand in the ten
 /// frames of the port.
 pub fn write_table<A: Adapter>(
     adapter: &mut A,
@@ -137,6 +140,7 @@ pub fn write_table<A: Adapter>(
     requires allowed { All IsAllowed prds.now }
     ensures on { IsOn (A.device adapter.new) }
     ensures followed { IsFollowed (IsTableStore port.0 slot.0) (IsUnused port.0 slot.0) (A.device adapter.old) (A.device adapter.new) }
+    ensures none_moved { little_from 4 4 (bytes_at (A.device adapter.new).memory (list_of port.0 + 32 * slot.0) 32) ≡ 0 }
     ensures says { (m : Meaning) (places : List ℕ) → IsTableFor slot.0 writes command.now prds.now m places
         → Told (A.device adapter.new).memory (list_of port.0) port.0 slot.0 m places }
 {

@@ -5,8 +5,9 @@ use Rattle.std.specs.List.{All}
 use Rattle.ata_types.specs.declared.Port.{Port}
 use Rattle.ata_types.specs.declared.request.RequestId.{RequestId}
 use Rattle.hba_regs.specs.Bits.{bit}
+use Rattle.hba_regs.specs.declared.reg.Reg.{Reg}
 use Rattle.hba_regs.specs.declared.reg.Reg.TheVariants.{Ghc, Px}
-use Rattle.hba_regs.specs.declared.reg.PortReg.TheVariants.{Ci}
+use Rattle.hba_regs.specs.declared.reg.PortReg.TheVariants.{Sact, Ci}
 use Rattle.adapter.specs.Access.{Access, Does, Reads, Writes, Loads, counted}
 use Rattle.adapter.specs.Access.Access.{Reading, Writing, Loading, Storing}
 use Rattle.adapter.specs.Commands.{Meaning, command_of, is_ranged, pieces_moved, reads_memory}
@@ -28,26 +29,26 @@ use Rattle.adapter.specs.declared.tape.Entry.{Entry}
 use Rattle.block_machine.specs.Histories.{AddsSteps}
 use Rattle.block_machine.specs.State.{Machine}
 use Rattle.block_machine.proofs.HistoryLemmas.{reached_more}
+use Rattle.block_machine.proofs.Keeps.{same_port}
 use Rattle.agreement.specs.Agrees.{AreUnarmed}
-use Rattle.agreement.specs.Driven.{known, IsAgreed, IsDrivenBy, IsFollowed, IsFollowedTo, AnyUse}
+use Rattle.agreement.specs.Driven.{known, IsAgreed, IsDrivenBy, IsFollowed, IsFollowedTo, IsOf, AnyUse, NoneWrites}
 use Rattle.agreement.specs.Driver.{Knows, ByDevice, IsOwnPrepared}
 use Rattle.agreement.specs.Facts.{IsClear}
-use Rattle.agreement.specs.Links.{SparesRegister}
 use Rattle.agreement.specs.Places.{list_of, scratch_of}
 use Rattle.agreement.specs.Slots.{Free, Own, Uses, put as used, Told, IsOver, op_of, Brought}
-use Rattle.agreement.proofs.Adding.{accesses_then, load_adds}
-use Rattle.agreement.proofs.Calling.{own_adds}
+use Rattle.agreement.proofs.Controlled.{agreed_on, of_spares_ghc}
 use Rattle.agreement.proofs.Deciding.{own_release_knows}
-use Rattle.agreement.proofs.Driven.{by_one, by_then, along, followed_none, followed_as, followed_then, followed_read}
+use Rattle.agreement.proofs.Driven.{along, followed_none, followed_as, followed_asking, followed_load, followed_then, followed_read}
 use Rattle.agreement.proofs.Finished.{access_clear}
 use Rattle.agreement.proofs.Lasting.{access_on, access_same}
 use Rattle.agreement.proofs.Pages.{page_is_issued, access_waits, page_is_awaited, awaited_is_loaded}
 use Rattle.agreement.proofs.Permitting.{own_is_permitted, page_is_free}
 use Rattle.agreement.proofs.Putting.{put_same, put_cases}
-use Rattle.agreement.proofs.Unarmed.{unarmed_stays, unarmed_reads, unarmed_writes}
+use Rattle.agreement.proofs.Unarmed.{unarmed_writes}
 use Rattle.agreement.proofs.Witness.{bit_one_other}
 use Rattle.command_table.specs.Places.{places_of}
 use Rattle.command_table.specs.Written.{IsTableFor, IsTableStore, IsUnused}
+use Rattle.command_table.proofs.Storing.{table_spares}
 use Rattle.disk_page.specs.Asking.{operation_of, MayAsk, IsAsking, Brings}
 use Rattle.disk_page.specs.Waiting.{IsWaiting}
 use Rattle.disk_page.specs.declared.Page.{Page}
@@ -139,13 +140,23 @@ given_up uses port o free = fun_ext (λ q. fun_ext (λ slot. ⊎_elim
     (put_cases uses port 0 (Own o) q slot))
     (put_cases (used uses port 0 (Own o)) port 0 Free q slot)))
 
--- a stretch that is followed, and then one that puts slots to use
-pub followed_to_then : (May : Access → Type 0) (Fits : Uses → Type 0) (next : Uses → Uses) (old mid new : Device) → IsFollowed May Fits old mid → IsFollowedTo May Fits next mid new →
-    IsFollowedTo May Fits next old new
-followed_to_then May Fits next old mid new a b = record {
-  driven = by_then a.driven b.driven;
-  adds = λ uses parked is. accesses_then (known uses parked old) (known uses parked mid) (known (next uses) parked new) (a.adds uses parked is) (b.adds uses parked is);
-}
+-- ---- accesses of asking
+
+-- none is of a register of another port
+pub asking_is_of : (port : Port) (access : Access) → IsAsking port access → IsOf port access
+asking_is_of port (Reading r v) is = subst (λ (q : Reg). IsOf port (Reading q v)) (sym is) refl
+asking_is_of port (Writing r v) is = subst (λ (q : Reg). IsOf port (Writing q v)) (sym is.0) refl
+asking_is_of port (Loading at bytes) is = tt
+asking_is_of port (Storing at bytes) is = tt
+
+pub asking_spares_ghc : (port : Port) → NoneWrites (IsAsking port) Ghc
+asking_spares_ghc port access is = of_spares_ghc port access (asking_is_of port access is)
+
+asking_spares_active : (port q : Port) → NoneWrites (IsAsking port) (Px q Sact)
+asking_spares_active port q (Writing r v) is = λ (e : r ≡ Px q Sact). absurd (let z : Px port Ci ≡ Px q Sact = sym is.0 ∙ e in cc)
+asking_spares_active port q (Reading r v) is = tt
+asking_spares_active port q (Loading at bytes) is = tt
+asking_spares_active port q (Storing at bytes) is = tt
 
 -- ---- the command
 
@@ -209,10 +220,7 @@ module _ (port : Port) (page : Page) (mid new : Device) (on : IsOn mid) (there :
 
   module _ (call : Writes (Px port Ci) 1 mid new) where
     pub asked_to : IsFollowedTo (IsAsking port) (IsUnused port.0 0) (λ uses. used uses port.0 0 (Own (operation_of page))) mid new
-    asked_to = record {
-      driven = by_one (IsAsking port) (Writing (Px port Ci) 1) mid new (refl, refl) call;
-      adds = λ uses parked free. own_adds (known uses parked mid) port (operation_of page) 1 new on.no_reset (prepared uses free) call;
-    }
+    asked_to = followed_asking (IsAsking port) (IsUnused port.0 0) port (operation_of page) 1 mid new (refl, refl) on.no_reset prepared call
 
     put_ci : PutAt port.0 Ci 1 mid new
     put_ci = put port Ci 1 mid new call on.no_reset
@@ -264,7 +272,7 @@ module _ (port : Port) (old mid : Device) (on : IsOn old) (stores : IsFollowed (
       kind (Loading at bytes) here = absurd here
 
   pub stores_agree : (uses : Uses) → IsUnused port.0 0 uses → IsAgreed uses old → IsAgreed uses mid
-  stores_agree uses free a = agreed_after uses uses old mid a (stores.adds uses a.parked free) (λ q slot is. (stores_leave.all.port q).sact slot (a.unarmed q slot is))
+  stores_agree uses free = agreed_on (IsTableStore port.0 0) (IsUnused port.0 0) uses old mid (λ q. table_spares port.0 0 (Px q Sact)) free stores
 
   pub stores_there : HasPort old port.0 → HasPort mid port.0
   stores_there there = (there.0, ap (λ (pi : ℕ). bit pi port.0) stores_leave.all.pi ∙ there.1)
@@ -319,7 +327,7 @@ module _ (port : Port) (v : ℕ) (d e : Device) (on : IsOn d) (call : Reads (Px 
       record {
         on = reads_on;
         room = let same = (access_same (Reading (Px port Ci) v) d e call).size in let room = w.room in omega (arith, same, room);
-        agreed = agreed_after uses uses d e a (reads_followed.adds uses a.parked tt) (λ q. unarmed_reads uses q (Px port Ci) v d e call (a.unarmed q));
+        agreed = agreed_on (IsAsking port) AnyUse uses d e (asking_spares_active port) tt reads_followed a;
         awaits = access_waits uses a.machine port o since (Reading (Px port Ci) v) d e a.reached a.knows.agrees (λ w f. absurd cc) reads_on.no_reset call w.awaits;
       }
 
@@ -385,14 +393,6 @@ pending_over port start n v d e p call clear = record {
 
 -- ---- the page
 
--- slots that were put to use go on so
-pub followed_to_more : (May : Access → Type 0) (Fits : Uses → Type 0) (next : Uses → Uses) (old mid new : Device) → IsFollowedTo May Fits next old mid → IsFollowed May AnyUse mid new →
-    IsFollowedTo May Fits next old new
-followed_to_more May Fits next old mid new a b = record {
-  driven = by_then a.driven b.driven;
-  adds = λ uses parked is. accesses_then (known uses parked old) (known (next uses) parked mid) (known (next uses) parked new) (a.adds uses parked is) (b.adds (next uses) parked tt);
-}
-
 -- the slot of a command that is over is given up
 released : (uses : Uses) (parked : ℕ → List RequestId) (port : ℕ) (o : Operation) (m : Machine) (d : Device) → IsUnused port 0 uses → IsOver (d.port port) 0 →
     Knows m (known (used uses port 0 (Own o)) parked d) → Knows m (known uses parked d)
@@ -400,15 +400,20 @@ released uses parked port o m d free over knows =
     subst (λ (u : Uses). Knows m (known u parked d)) (given_up uses port o free)
     (own_release_knows (known (used uses port 0 (Own o)) parked d) m knows port 0 over o (put_same uses port 0 (Own o)))
 
-pub followed_back : (May : Access → Type 0) (port : ℕ) (o : Operation) (old new : Device) → IsOver (new.port port) 0 → IsFollowedTo May (IsUnused port 0) (λ uses. used uses port 0 (Own o)) old new →
-    IsFollowed May (IsUnused port 0) old new
-followed_back May port o old new over a = record {
+-- a page that came meanwhile was issued on the port
+pub followed_back : (May : Access → Type 0) (port : Port) (o : Operation) (v : ℕ) (old new : Device) → May (Writing (Px port Ci) v) → IsOver (new.port port.0) 0 →
+    IsFollowedTo May (IsUnused port.0 0) (λ uses. used uses port.0 0 (Own o)) old new → IsFollowed May (IsUnused port.0 0) old new
+followed_back May port o v old new issues over a = record {
   driven = a.driven;
   adds = λ uses parked free. record {
     adds = λ m reached knows.
         let x = (a.adds uses parked free).adds m reached knows in
-        (x.0, x.1, released uses parked port o _ new free over x.2, x.3);
+        (x.0, x.1, released uses parked port.0 o _ new free over x.2, x.3);
   };
+  silent = λ uses parked m free reached knows q p own none not. a.silent uses parked m free reached knows q p own none not (λ later. ⊎_elim
+      (λ (here : (q.0 ≡ port.0) × (0 ≡ 0)). none (Writing (Px port Ci) v) issues (ap (λ (at : Port). Px at Ci) (sym (same_port q port here.0))))
+      (λ (there : (q.0 ≡ port.0 → 0 ≡ 0 → ⊥) × (used uses port.0 0 (Own o) q.0 0 ≡ uses q.0 0)). not (sym there.1 ∙ later))
+      (put_cases uses port.0 0 (Own o) q.0 0));
 }
 
 -- a page that came since a time came since an earlier one
@@ -434,10 +439,7 @@ module _ (port : Port) (o : Operation) (since : ℕ) (uses : Uses) (old : Device
     load_clear = access_clear port 0 (Loading (scratch_of port.0) bytes) old new (λ v e. absurd cc) (λ v e. absurd cc) call clear
 
     pub load_followed : IsFollowed (IsAsking port) AnyUse old new
-    load_followed = record {
-      driven = by_one (IsAsking port) (Loading (scratch_of port.0) bytes) old new (refl, size) call;
-      adds = λ uses parked is. load_adds (known uses parked old) (scratch_of port.0) bytes new call;
-    }
+    load_followed = followed_load (IsAsking port) (scratch_of port.0) bytes old new (refl, size) call
 
     pub load_brings : (early : ℕ) → early ≤ since → Brings port.0 o early bytes new
     load_brings early le =
@@ -447,9 +449,7 @@ module _ (port : Port) (o : Operation) (since : ℕ) (uses : Uses) (old : Device
         record { brought = y.0; same = y.1; clear = load_clear }
 
     pub load_agrees : IsAgreed uses new
-    load_agrees =
-        let a = w.agreed in
-        agreed_after uses uses old new a (load_followed.adds uses a.parked tt) (λ q. unarmed_stays uses old new q call.steps (a.unarmed q))
+    load_agrees = agreed_on (IsAsking port) AnyUse uses old new (asking_spares_active port) tt load_followed w.agreed
 
 -- once the slot is given up, some machine agrees with the slots used as they were
 pub agrees_released : (uses : Uses) (port : ℕ) (o : Operation) (d : Device) → IsUnused port 0 uses → IsClear (d.port port) 0 → IsAgreed (used uses port 0 (Own o)) d → IsAgreed uses d

@@ -1,11 +1,10 @@
 -- What asking for a page leaves of a port.
-use Rattle.std.proofs.Common.{ℕ, ◌≡◌, ◌≢◌, ◌≤◌, ◌||◌, Bool, true, false, List, length, None, refl, sym, ◌∙◌, ap, subst, le_refl, le_trans}
+use Rattle.std.proofs.Common.{ℕ, ◌≡◌, ◌≢◌, ◌≤◌, false, List, length, None, refl, sym, ◌∙◌, ap, subst, le_refl, le_trans}
 use Rattle.ata_types.specs.declared.Port.{Port}
-use Rattle.hba_regs.specs.Bits.{bit}
 use Rattle.hba_regs.specs.declared.reg.Reg.{Reg}
-use Rattle.hba_regs.specs.declared.reg.Reg.TheVariants.{Ghc, Px}
+use Rattle.hba_regs.specs.declared.reg.Reg.TheVariants.{Px}
 use Rattle.hba_regs.specs.declared.reg.PortReg.TheVariants.{Ci}
-use Rattle.adapter.specs.Access.{Access, Does, Reads, Writes, Loads, Stores, note, port_written}
+use Rattle.adapter.specs.Access.{Access, Does, Reads, Writes, note, port_written}
 use Rattle.adapter.specs.Access.Access.{Reading, Writing, Loading, Storing}
 use Rattle.adapter.specs.Device.{Notes, PortState, Device}
 use Rattle.adapter.specs.Kept.{Keeps, KeepsPort, KeepsControls}
@@ -16,12 +15,12 @@ use Rattle.adapter.specs.declared.tape.Entry.{Entry}
 use Rattle.adapter.proofs.Calls.{seen, SeenAt, put, PutAt}
 use Rattle.adapter.proofs.KeptLemmas.{steps_keep, KeepsControls-refl, KeepsControls-trans}
 use Rattle.agreement.specs.Driven.{IsDrivenBy}
-use Rattle.agreement.specs.Links.{SparesRegister}
 use Rattle.agreement.proofs.Driven.{over}
-use Rattle.agreement.proofs.Lasting.{access_on}
+use Rattle.agreement.proofs.Recording.{steps_recorded}
+use Rattle.agreement.proofs.Rewriting.{issues_recorded, reads_recorded}
 use Rattle.agreement.proofs.Witness.{bit_one_other}
 use Rattle.disk_page.specs.Asking.{IsAsking, LeavesRunning, SameButIssued}
-use Rattle.disk_page.proofs.Asking.{Leaves, steps_leave, stored_leave, reading_leaves, grown}
+use Rattle.disk_page.proofs.Asking.{reading_leaves, grown, asking_spares_ghc}
 
 -- readings of PxCI, one after another
 same_more : (a b c : Notes) → SameButIssued a b → SameButIssued b c → SameButIssued a c
@@ -41,6 +40,7 @@ running_none port d = record {
   sact = λ slot clear. clear;
   notes = refl;
   later = le_refl (length d.tape);
+  recorded = λ h. h;
 }
 
 pub running_more : (port : ℕ) (a b c : Device) → LeavesRunning port a b → LeavesRunning port b c → LeavesRunning port a c
@@ -52,6 +52,7 @@ running_more port a b c p q = record {
   sact = λ slot clear. q.sact slot (p.sact slot clear);
   notes = same_more (a.port port).notes (b.port port).notes (c.port port).notes p.notes q.notes;
   later = le_trans p.later q.later;
+  recorded = λ h. q.recorded (p.recorded h);
 }
 
 -- what the device alone leaves
@@ -67,12 +68,13 @@ by_device port old new off steps =
       sact = p.sact;
       notes = same_notes (old.port port).notes (new.port port).notes (k.notes port);
       later = grown old.tape new.tape k.gained k.tape;
+      recorded = steps_recorded port old new steps;
     }
 
 -- a port that has as many of these words as another
 with_memory : (port at : ℕ) (bytes : List ℕ) (old mid : Device) → LeavesRunning port old mid → LeavesRunning port old (record mid { memory = patched mid.memory at bytes })
 with_memory port at bytes old mid l =
-    record { controls = l.controls; bases = l.bases; ci = l.ci; taken = l.taken; sact = l.sact; notes = l.notes; later = l.later }
+    record { controls = l.controls; bases = l.bases; ci = l.ci; taken = l.taken; sact = l.sact; notes = l.notes; later = l.later; recorded = l.recorded }
 
 -- the same of one port's state
 record HasAfter (port : ℕ) (old : Device) (p : PortState) : Type 0 where
@@ -116,6 +118,7 @@ asking_leaves port (Reading r v) old new on here x =
       sact = (s.keeps.port port.0).sact;
       notes = same_read v (old.port port.0).notes (new.port port.0) s.notes;
       later = (reading_leaves port v old new on call).later;
+      recorded = reads_recorded port.0 (Px port Ci) v old new call;
     }
 asking_leaves port (Writing r v) old new on here x =
     let R : Reg → Type 0 = λ q. Writes q v old new in
@@ -133,15 +136,10 @@ asking_leaves port (Writing r v) old new on here x =
       sact = h.sact;
       notes = h.notes;
       later = let same : length w.mid.tape ≡ length new.tape = ap (λ (es : List Entry). length es) (sym w.tape) in subst (λ (n : ℕ). length old.tape ≤ n) same d.later;
+      recorded = issues_recorded port.0 port 1 old new call;
     }
-
-asking_spares : (port : Port) (access : Access) → IsAsking port access → SparesRegister Ghc access
-asking_spares port (Writing r v) here = λ e. absurd (let z : Px port Ci ≡ Ghc = sym here.0 ∙ e in cc)
-asking_spares port (Reading r v) here = tt
-asking_spares port (Storing at bytes) here = tt
-asking_spares port (Loading at bytes) here = tt
 
 pub asking_leaves_running : (port : Port) (old new : Device) → IsOn old → IsDrivenBy (IsAsking port) old new → LeavesRunning port.0 old new
 asking_leaves_running port old new on a =
-    (over (LeavesRunning port.0) (running_none port.0) (running_more port.0) (IsAsking port) (asking_spares port) (λ access x y ready here does. asking_leaves port access x y ready here does)
+    (over (LeavesRunning port.0) (running_none port.0) (running_more port.0) (IsAsking port) (asking_spares_ghc port) (λ access x y ready here does. asking_leaves port access x y ready here does)
     a.accesses old new on a.only a.all).0

@@ -10,7 +10,7 @@ use Rattle.adapter.specs.Kept.{KeepsControls}
 use Rattle.adapter.specs.declared.command.Operation.{Operation}
 use Rattle.adapter.specs.declared.command.Operation.TheVariants.{Identify, ReadLog}
 use Rattle.agreement.specs.Driven.{IsAgreed, IsFollowed, IsFollowedTo}
-use Rattle.agreement.specs.Facts.{IsClear}
+use Rattle.agreement.specs.Facts.{IsClear, IsRecorded}
 use Rattle.agreement.specs.Places.{list_of, scratch_of}
 use Rattle.agreement.specs.Slots.{Own, Uses, put, Brought}
 use Rattle.command_table.specs.Written.{IsTableStore, IsUnused}
@@ -34,7 +34,7 @@ pub record MayAsk (port : ℕ) (d : Device) : Type 0 where
 abbrev pub SameButIssued : Notes → Notes → Type 0
 SameButIssued old new = new ≡ record old { last_ci = new.last_ci; command_count = new.command_count }
 
--- It stores slot 0's header or table, reads PxCI, writes it with bit 0 alone, or loads the page from the scratch frame.
+-- It stores slot 0's header, with PRDBC zero, or its table, reads PxCI, writes it with bit 0 alone, or loads the page from the scratch frame.
 abbrev pub IsAsking : Port → Access → Type 0
 IsAsking port (Reading r v) = r ≡ Px port Ci
 IsAsking port (Writing r v) = (r ≡ Px port Ci) × (v ≡ 1)
@@ -42,7 +42,7 @@ IsAsking port (Loading at bytes) = (at ≡ scratch_of port.0) × (length bytes �
 IsAsking port (Storing at bytes) = IsTableStore port.0 0 (Storing at bytes)
 
 -- What asking leaves of the port: its controls and its addresses; every slot but slot 0, which has no command if it had none; all that readings
--- noted but of PxCI; and the bits of PxSACT that were clear.
+-- noted but of PxCI; the bits of PxSACT that were clear; and the record of its faults since ST was set.
 pub record LeavesRunning (port : ℕ) (old new : Device) : Type 0 where
   pub controls : KeepsControls (old.port port) (new.port port)
   pub bases : (new.port port).bases ≡ (old.port port).bases
@@ -52,6 +52,7 @@ pub record LeavesRunning (port : ℕ) (old new : Device) : Type 0 where
   pub sact : (slot : ℕ) → (old.port port).sact slot ≡ false → (new.port port).sact slot ≡ false
   pub notes : SameButIssued (old.port port).notes (new.port port).notes
   pub later : length old.tape ≤ length new.tape
+  pub recorded : IsRecorded old.tape (old.port port) port → IsRecorded new.tape (new.port port) port
 
 -- What is said of the page: it is the last that the port's command of this operation has moved, the command came after the tape was so
 -- long, and it is over.

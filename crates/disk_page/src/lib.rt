@@ -12,6 +12,8 @@ ghost use Rattle.command_table.specs.Written.{IsUnused};
 ghost use Rattle.disk_page.specs.Asking.{operation_of, MayAsk, IsAsking, LeavesRunning, Reads, AgreesAfter};
 ghost use Rattle.disk_page.specs.Waiting.{IsWaiting};
 
+pub mod laws;
+
 use adapter::{Adapter, Command};
 use ata_types::{Frame, Port, Slot};
 use command_table::{prds, write_table};

@@ -1,21 +1,58 @@
 -- The parts of a boot, one after another.
-use Rattle.std.proofs.Common.{ℕ, ◌≡◌, ◌≢◌, ◌≤◌, ◌+◌, ◌%◌, ◌⊎◌, ◌++◌, inl, inr, List, length, refl, sym, ◌∙◌, ap, subst, arith, le_trans}
+use Rattle.std.proofs.Common.{ℕ, ◌≡◌, ◌≢◌, ◌≤◌, ◌+◌, ◌%◌, ◌||◌, Bool, true, false, inl, inr, List, length, refl, ◌∙◌, ap, arith, le_trans}
 use Rattle.std.proofs.lemmas.List.{length-append}
 use Rattle.ata_types.specs.declared.Port.{Port}
+use Rattle.ata_types.specs.declared.PortState.{PortState}
 use Rattle.hba_regs.specs.declared.reg.PortReg.{PortReg}
-use Rattle.hba_regs.specs.declared.reg.PortReg.TheVariants.{Sact, Ci, Ie}
-use Rattle.adapter.specs.Access.{Access}
+use Rattle.hba_regs.specs.declared.reg.PortReg.TheVariants.{Sact}
 use Rattle.adapter.specs.Device.{Notes, Device}
-use Rattle.adapter.specs.Rules.{IsOn, HasPort}
 use Rattle.adapter.specs.declared.tape.Entry.{Entry}
-use Rattle.agreement.specs.Driven.{AgreesWith, AnyUse, IsAgreed, IsControl, IsDrivenBy, IsFollowed}
+use Rattle.adapter.proofs.Absurd.{true-false}
+use Rattle.agreement.specs.Driven.{AnyUse, IsControl, IsFollowed}
 use Rattle.agreement.specs.Driver.{AllFree}
+use Rattle.agreement.specs.Errors.{NoneComes, ChangesByDisks}
+use Rattle.agreement.specs.Facts.{IsQuiet, IsRecorded}
+use Rattle.agreement.specs.Links.{PlugsNone}
 use Rattle.agreement.specs.Slots.{Uses}
-use Rattle.agreement.proofs.Controlled.{same_adapter, stays_on, tape_gains, agreeing_goes_on}
+use Rattle.agreement.specs.Started.{IsUp, IsComingUp, IsStarted}
+use Rattle.agreement.proofs.Controlled.{Grows, grows_more, same_adapter, stays_on, tape_gains, agreeing_goes_on}
 use Rattle.agreement.proofs.Driven.{followed_as, followed_then}
-use Rattle.port_control.specs.Ports.{IsCommand, IsPlacing, IsResetting, IsRunning, SameButStart, SawDevice, WasReset}
+use Rattle.port_control.specs.Ports.{WritesCommand, IsPlacing, IsResetting, IsRunning, SameButStart, SawDevice, SawIdle, FindsSignature, Looks, WasReset, IsFound}
+use Rattle.port_control.specs.declared.PortFault.{PortFault}
+use Rattle.port_control.specs.declared.PortFault.TheVariants.{NoDevice}
+use Rattle.port_control.proofs.Settling.{comes_in_parts, plugs_in_parts}
 use Rattle.port_control.proofs.Using.{command_spares, placing_spares, resetting_spares, there_after, followed_wider}
-use Rattle.port_boot.specs.States.{IsBooting, IsBootable, IsBroughtUp}
+use Rattle.port_boot.specs.States.{IsBooting, IsBootable, IsBroughtUp, EndsEarly, TellsFault}
+
+-- ---- what the calls of `port_control` say, of one port
+
+-- a device was found, and is idle
+pub record HasFound (port : Port) (old new : Device) : Type 0 where
+  pub resets : WasReset port (FindsSignature port 0x101) old new
+  pub found : IsFound port.0 old new
+  pub saw : SawDevice (new.port port.0).notes
+  pub idle : SawIdle (new.port port.0).notes
+
+-- there was a fault
+pub record FoundFault (port : Port) (fault : PortFault) (old new : Device) : Type 0 where
+  pub resets : WasReset port (Looks port fault) old new
+  pub coming : NoneComes port.0 old new → IsComingUp (new.port port.0)
+  pub found : fault ≢ NoDevice → IsFound port.0 old new
+
+-- the port was started
+pub record HasStarted (port : Port) (old new : Device) : Type 0 where
+  pub runs : IsRunning port.0 (new.port port.0)
+  pub same : SameButStart (old.port port.0) (new.port port.0)
+  pub set : (new.port port.0).notes.st_set_at ≤ length new.tape
+  pub calm : (place : ℕ) → (old.port port.0).is place ≡ false → (new.port port.0).is place ≡ false
+  pub changes : (old.port port.0).link_due ≡ false → ChangesByDisks port.0 old new
+  pub recorded : IsQuiet (old.port port.0) → IsRecorded new.tape (new.port port.0) port.0
+  pub well : IsUp (old.port port.0) → PlugsNone port.0 old new → IsStarted (new.port port.0)
+
+-- where neither is set, the second isn't
+neither_second : (a b : Bool) → a || b ≡ false → b ≡ false
+neither_second false b e = e
+neither_second true b e = true-false refl e
 
 -- ---- stretches of accesses
 
@@ -46,7 +83,7 @@ placing r is = inl is
 pub resetting : (r : PortReg) → IsResetting r → IsBooting r
 resetting r is = inr (inl is)
 
-pub starting : (r : PortReg) → IsCommand r → IsBooting r
+pub starting : (r : PortReg) → WritesCommand r → IsBooting r
 starting r is = inl (inl is)
 
 pub placed_bootable : (port : Port) (old mid : Device) → IsBootable port old → IsFollowed (IsControl IsPlacing port) AnyUse old mid → IsBootable port mid
@@ -61,26 +98,72 @@ module _ (port : Port) (old mid reset : Device) (b : IsBootable port old) (first
   reset_boots = followed_then (IsControl IsBooting port) (λ uses. AllFree uses port.0) old mid reset
       (boots IsPlacing AnyUse port old mid first placing (λ uses free. tt)) (boots IsResetting AnyUse port mid reset second resetting (λ uses free. tt))
 
-  pub reset_since : WasReset port mid reset → length old.tape ≤ (reset.port port.0).notes.sctl_written_at
+  early : Grows old mid
+  early = tape_gains IsPlacing port old mid first.driven
+
+  late : Grows mid reset
+  late = tape_gains IsResetting port mid reset second.driven
+
+  pub reset_since : {Then : Device → Device → Type 0} → WasReset port Then mid reset → length old.tape ≤ (reset.port port.0).notes.sctl_written_at
   reset_since was = le_trans (later IsPlacing AnyUse port old mid first) was.since
 
-  module _ (new : Device) (third : IsFollowed (IsControl IsCommand port) (λ uses. AllFree uses port.0) reset new) where
+  -- what was found is so of the whole
+  found_before : IsFound port.0 mid reset → IsFound port.0 old reset
+  found_before found = record {
+    calm = found.calm;
+    clear = record {
+      serr_n = λ none. found.clear.serr_n (plugs_in_parts port.0 old mid reset early late none).1;
+      serr_x = λ none. found.clear.serr_x (comes_in_parts port.0 old mid reset early late none).1;
+    };
+    undue = λ none. found.undue (comes_in_parts port.0 old mid reset early late none).1;
+    up = λ none. found.up (plugs_in_parts port.0 old mid reset early late none).1;
+    quiet = found.quiet;
+  }
+
+  pub ends_early : (state : PortState) (fault : PortFault) → TellsFault state fault → FoundFault port fault mid reset → EndsEarly port state old reset
+  ends_early state fault told f = record {
+    fault = fault;
+    told = told;
+    placed = mid;
+    places = first.driven;
+    resets = f.resets;
+    coming = λ none. f.coming (comes_in_parts port.0 old mid reset early late none).1;
+    found = λ other. found_before (f.found other);
+  }
+
+  module _ (new : Device) (third : IsFollowed (IsControl WritesCommand port) (λ uses. AllFree uses port.0) reset new) where
     pub up_boots : IsFollowed (IsControl IsBooting port) (λ uses. AllFree uses port.0) old new
     up_boots = followed_then (IsControl IsBooting port) (λ uses. AllFree uses port.0) old reset new reset_boots
-        (boots IsCommand (λ uses. AllFree uses port.0) port reset new third starting (λ uses free. free))
+        (boots WritesCommand (λ uses. AllFree uses port.0) port reset new third starting (λ uses free. free))
 
-    pub brought_up : WasReset port mid reset → SawDevice (reset.port port.0).notes → IsRunning port.0 (new.port port.0) → SameButStart (reset.port port.0) (new.port port.0) →
-        (new.port port.0).notes.st_set_at ≤ length new.tape → IsBroughtUp port old new
-    brought_up was saw runs same set =
-        let written = ap (λ (n : Notes). n.sctl_written_at) same.1 in
-        let l = later IsCommand (λ uses. AllFree uses port.0) port reset new third in
-        let marked = was.marked in
+    last : Grows reset new
+    last = tape_gains WritesCommand port reset new third.driven
+
+    pub brought_up : HasFound port mid reset → HasStarted port reset new → IsBroughtUp port old new
+    brought_up f s =
+        let written = ap (λ (n : Notes). n.sctl_written_at) s.same.1 in
+        let l = later WritesCommand (λ uses. AllFree uses port.0) port reset new third in
+        let marked = f.resets.marked in
+        let since = reset_since f.resets in
+        let still : (new.port port.0).notes.sctl_written_at ≤ length new.tape = omega (arith, written, l, marked) in
+        let later_still : length old.tape ≤ (new.port port.0).notes.sctl_written_at = omega (arith, since, written) in
+        let found = found_before f.found in
+        let quiet = found.quiet (neither_second _ _ f.idle) in
+        let changes = s.changes quiet.linked in
         record {
-          bootable = bootable_after IsCommand (λ uses. AllFree uses port.0) port reset new third command_spares (λ uses free. free) reset_bootable;
-          runs = runs;
-          det = same.0 ∙ was.det;
-          saw = (ap (λ (n : Notes). n.last_ssts % 16) same.1 ∙ saw.0, ap (λ (n : Notes). n.link_count) same.1 ∙ saw.1);
-          known = set;
-          since = let s = reset_since was in omega (arith, s, written);
-          marked = omega (arith, written, l, marked);
+          bootable = bootable_after WritesCommand (λ uses. AllFree uses port.0) port reset new third command_spares (λ uses free. free) reset_bootable;
+          runs = s.runs;
+          det = s.same.0 ∙ f.resets.det;
+          saw = (ap (λ (n : Notes). n.last_ssts % 16) s.same.1 ∙ f.saw.0, ap (λ (n : Notes). n.link_count) s.same.1 ∙ f.saw.1);
+          known = s.set;
+          since = later_still;
+          marked = still;
+          way = record { placed = mid; places = first.driven; found = reset; resets = f.resets; starts = third.driven };
+          calm = λ place small. s.calm place (found.calm place small);
+          clear = record {
+            serr_n = λ none. let parts = plugs_in_parts port.0 old reset new (grows_more old mid reset early late) last none in changes.serr_n parts.1 (found.clear.serr_n parts.0);
+            serr_x = λ none. let parts = comes_in_parts port.0 old reset new (grows_more old mid reset early late) last none in changes.serr_x parts.1 (found.clear.serr_x parts.0);
+          };
+          recorded = s.recorded quiet;
+          well = λ none. let parts = plugs_in_parts port.0 old reset new (grows_more old mid reset early late) last none in s.well (found.up parts.0) parts.1;
         }

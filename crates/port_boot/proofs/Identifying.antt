@@ -1,6 +1,5 @@
 -- A disk is asked for its page, and the port goes on or is stopped.
-use Rattle.std.proofs.Common.{ℕ, ◌≡◌, ◌≢◌, ◌≤◌, ◌+◌, ◌%◌, ◌⊎◌, ◌++◌, inl, inr, true, false, List, [], ◌∷◌, Option, None, Some, length, refl, sym, ◌∙◌, ap, subst, ⊎_elim, arith, le_trans, append_assoc}
-use Rattle.std.specs.List.{All}
+use Rattle.std.proofs.Common.{ℕ, ◌≡◌, ◌≤◌, ◌%◌, ◌++◌, inl, inr, false, List, ◌∷◌, Option, None, Some, length, refl, sym, ◌∙◌, ap, subst, arith, append_assoc}
 use Rattle.std.specs.Prelude.{Result, Ok, Err, OnOk, IfErr}
 use Rattle.std.proofs.lemmas.List.Elements.{All-append}
 use Rattle.std.proofs.lemmas.Bool.{cases_eq}
@@ -18,23 +17,22 @@ use Rattle.adapter.specs.declared.command.Operation.TheVariants.{Identify}
 use Rattle.adapter.specs.declared.tape.Entry.{Entry}
 use Rattle.adapter.specs.declared.tape.Entry.TheVariants as entry
 use Rattle.adapter.proofs.Calls.{put, PutAt}
-use Rattle.agreement.specs.Driven.{AgreesWith, AnyUse, HasNoCommand, IsAgreed, IsControl, IsDrivenBy, IsFollowed, IsFollowedTo}
+use Rattle.agreement.specs.Driven.{AgreesWith, AnyUse, IsAgreed, IsControl, IsDrivenBy, IsFollowed, IsFollowedTo}
 use Rattle.agreement.specs.Links.{SameAdapter}
 use Rattle.agreement.specs.Driver.{AllFree}
 use Rattle.agreement.specs.Slots.{Own, Uses, put as used, IsMove, IsOver}
 use Rattle.agreement.proofs.Allowing.{write_stays}
-use Rattle.agreement.proofs.Controlled.{control_wider}
-use Rattle.agreement.proofs.Driven.{along, driven_as, followed_as, followed_then, followed_write}
-use Rattle.agreement.proofs.Lasting.{access_on, access_same, same_refl, same_more}
+use Rattle.agreement.proofs.Controlled.{control_wider, same_over}
+use Rattle.agreement.proofs.Driven.{followed_as, followed_then, followed_to_as, followed_to_more, followed_to_then, followed_write}
+use Rattle.agreement.proofs.Lasting.{access_on}
 use Rattle.agreement.proofs.Gaining.{GainsNone}
 use Rattle.agreement.proofs.Unmoving.{access_unmoving, controls_unmoving}
 use Rattle.command_table.specs.Written.{IsUnused}
 use Rattle.disk_page.specs.Asking.{IsAsking, LeavesRunning, Brings, Reads, AgreesAfter, MayAsk}
-use Rattle.disk_page.proofs.Asking.{followed_to_more, followed_to_then, followed_back}
+use Rattle.disk_page.proofs.Asking.{followed_back}
 use Rattle.identify.specs.declared.DiskInfo.{DiskInfo}
-use Rattle.port_control.specs.Ports.{IsCommand, IsStopped, IsRunning, HasStopped, SawDevice, Shows, programmed}
-use Rattle.port_control.specs.declared.PortFault.TheVariants.{EngineStuck}
-use Rattle.port_boot.specs.States.{HasPage, IsFit, Judges, IsUnfit, EndsAs, IsReady, IsBooting, IsOfBoot, IsBoot, IsBootTo, IsBootable, IsBroughtUp, IsHaltedAs}
+use Rattle.port_control.specs.Ports.{WritesCommand, IsRunning, HasStopped, SawDevice}
+use Rattle.port_boot.specs.States.{HasPage, IsFit, Judges, EndsAs, IsReady, IsBooting, IsOfBoot, IsBoot, IsBootTo, IsBootable, IsBroughtUp, IsHaltedAs}
 use Rattle.port_control.proofs.Using.{there_after}
 use Rattle.port_boot.proofs.Bringing.{starting}
 
@@ -117,9 +115,9 @@ may_ask port start old up = record {
 
 -- no access changes what the adapter is
 pub asking_adapter : (port : Port) (old new : Device) → IsDrivenBy (IsAsking port) old new → SameAdapter old new
-asking_adapter port old new driven = along SameAdapter same_refl same_more (IsAsking port) (λ access a b may does. access_same access a b does) driven.accesses old new driven.only driven.all
+asking_adapter port = same_over (IsAsking port)
 
-command_quiet : IsCommand Ci → ⊥
+command_quiet : WritesCommand Ci → ⊥
 command_quiet e = absurd (let k : Ci ≡ Cmd = e in cc)
 
 -- PxIE may be written
@@ -136,8 +134,8 @@ unused : (port : Port) (uses : Uses) → AllFree uses port.0 → IsUnused port.0
 unused port uses free = free 0
 
 -- a stop is a part of the boot
-stop_boots : (port : Port) (mid new : Device) → IsFollowed (IsControl IsCommand port) AnyUse mid new → IsFollowed (IsOfBoot port) AnyUse mid new
-stop_boots port mid new f = followed_as (IsControl IsCommand port) (IsOfBoot port) AnyUse AnyUse mid new (λ access may. inl (control_wider IsCommand port IsBooting starting access may)) (λ uses is. is) f
+stop_boots : (port : Port) (mid new : Device) → IsFollowed (IsControl WritesCommand port) AnyUse mid new → IsFollowed (IsOfBoot port) AnyUse mid new
+stop_boots port mid new f = followed_as (IsControl WritesCommand port) (IsOfBoot port) AnyUse AnyUse mid new (λ access may. inl (control_wider WritesCommand port IsBooting starting access may)) (λ uses is. is) f
 
 module _ (port : Port) (start old mid : Device) (up : IsBroughtUp port start old) (on : IsOn mid) (l : LeavesRunning port.0 old mid) where
   module _ (driven : IsDrivenBy (IsAsking port) old mid) where
@@ -165,20 +163,18 @@ module _ (port : Port) (start old mid : Device) (up : IsBroughtUp port start old
   pub unasked_agreed : AgreesWith AnyUse mid
   unasked_agreed = let a = up.bootable.agreed in (used a.0 port.0 0 (Own Identify), tt, agrees a.0 (a.1 0) a.2)
 
-  module _ (new : Device) (stops : IsFollowed (IsControl IsCommand port) AnyUse mid new) (has : HasStopped (mid.port port.0) (new.port port.0)) where
+  module _ (new : Device) (stops : IsFollowed (IsControl WritesCommand port) AnyUse mid new) (has : HasStopped (mid.port port.0) (new.port port.0)) where
     given : IsFollowedTo (IsOfBoot port) (IsUnused port.0 0) (λ uses. used uses port.0 0 (Own Identify)) old new
-    given = followed_to_more (IsOfBoot port) (IsUnused port.0 0) (λ uses. used uses port.0 0 (Own Identify)) old mid new (as_boot reads.1) (stop_boots port mid new stops)
-      where
-        as_boot : IsFollowedTo (IsAsking port) (IsUnused port.0 0) (λ uses. used uses port.0 0 (Own Identify)) old mid → IsFollowedTo (IsOfBoot port) (IsUnused port.0 0) (λ uses. used uses port.0 0 (Own Identify)) old mid
-        as_boot f = record { driven = driven_as (IsAsking port) (IsOfBoot port) old mid (asking port) f.driven; adds = f.adds }
+    given = followed_to_more (IsOfBoot port) (IsUnused port.0 0) (λ uses. used uses port.0 0 (Own Identify)) old mid new
+        (followed_to_as (IsAsking port) (IsOfBoot port) (IsUnused port.0 0) (IsUnused port.0 0) (λ uses. used uses port.0 0 (Own Identify)) old mid (asking port) (λ uses free. free) reads.1)
+        (stop_boots port mid new stops)
 
     given_boots : IsFollowedTo (IsOfBoot port) (λ uses. AllFree uses port.0) (λ uses. used uses port.0 0 (Own Identify)) old new
-    given_boots = record { driven = given.driven; adds = λ uses parked free. given.adds uses parked (free 0) }
+    given_boots = followed_to_as (IsOfBoot port) (IsOfBoot port) (IsUnused port.0 0) (λ uses. AllFree uses port.0) (λ uses. used uses port.0 0 (Own Identify)) old new (λ access may. may) (unused port) given
 
     stopped_boots : IsOver (new.port port.0) 0 → IsBoot port old new
-    stopped_boots over =
-        let back = followed_back (IsOfBoot port) port.0 Identify old new over given in
-        record { driven = back.driven; adds = λ uses parked free. back.adds uses parked (free 0) }
+    stopped_boots over = followed_as (IsOfBoot port) (IsOfBoot port) (IsUnused port.0 0) (λ uses. AllFree uses port.0) old new (λ access may. may) (unused port)
+        (followed_back (IsOfBoot port) port Identify 1 old new (inr (refl, refl)) over given)
 
     pub unasked_ends : (wanted : Option (List ℕ)) (result : PortState) → IsHaltedAs (Unfit 9) result port.0 new → EndsAs wanted result port.0 new
     unasked_ends wanted result (inl x) = let P : PortState → Type 0 = λ s. EndsAs wanted s port.0 new in
@@ -261,7 +257,7 @@ module _ (port : Port) (start old mid : Device) (page : List ℕ) (up : IsBrough
         (followed_write (IsOfBoot port) (λ uses. AllFree uses port.0) (Px port Ie) v mid new (inl (refl, inr (inr refl))) (enabling port v mid identified.bootable) (λ uses free. tt) call)
 
   -- or the port is stopped
-  module _ (new : Device) (stops : IsFollowed (IsControl IsCommand port) AnyUse mid new) (has : HasStopped (mid.port port.0) (new.port port.0)) where
+  module _ (new : Device) (stops : IsFollowed (IsControl WritesCommand port) AnyUse mid new) (has : HasStopped (mid.port port.0) (new.port port.0)) where
     pub halted_boots : IsBoot port old new
     halted_boots = followed_then (IsOfBoot port) (λ uses. AllFree uses port.0) old mid new asked_boots
         (followed_as (IsOfBoot port) (IsOfBoot port) AnyUse (λ uses. AllFree uses port.0) mid new (λ access may. may) (λ uses free. tt) (stop_boots port mid new stops))
@@ -269,7 +265,7 @@ module _ (port : Port) (start old mid : Device) (page : List ℕ) (up : IsBrough
     halted_page : HasPage port.0 new page
     halted_page =
         let h = identified in
-        let silent = controls_unmoving IsCommand command_quiet port Identify mid new stops.driven (λ slot. record { issued = h.runs.ci slot; free = h.runs.taken slot }) in
+        let silent = controls_unmoving WritesCommand command_quiet port Identify mid new stops.driven (λ slot. record { issued = h.runs.ci slot; free = h.runs.taken slot }) in
         page_on port.0 mid new page silent.0 (ap (λ (n : Notes). n.sctl_written_at) has.notes) h.has
 
     pub halted_ends : (wanted : Option (List ℕ)) (state result : PortState) → Judges wanted state page → IsHaltedAs state result port.0 new → EndsAs wanted result port.0 new
@@ -282,8 +278,14 @@ module _ (port : Port) (start old mid : Device) (page : List ℕ) (up : IsBrough
 
 -- ---- the whole boot
 
-up_boots : (port : Port) (old mid : Device) → IsFollowed (IsControl IsBooting port) (λ uses. AllFree uses port.0) old mid → IsBoot port old mid
+pub up_boots : (port : Port) (old mid : Device) → IsFollowed (IsControl IsBooting port) (λ uses. AllFree uses port.0) old mid → IsBoot port old mid
 up_boots port old mid f = followed_as (IsControl IsBooting port) (IsOfBoot port) (λ uses. AllFree uses port.0) (λ uses. AllFree uses port.0) old mid (controlling port) (λ uses free. free) f
+
+-- no part came after it
+pub up_ended : (port : Port) (old mid : Device) (result : Result DiskInfo PortState) → IsFollowed (IsControl IsBooting port) (λ uses. AllFree uses port.0) old mid →
+    IfErr result (λ state. IsBootTo port state old mid)
+up_ended port old mid (Ok info) first = tt
+up_ended port old mid (Err state) first = boots_to port old mid state (up_boots port old mid first)
 
 whole : (port : Port) (old mid new : Device) → IsFollowed (IsControl IsBooting port) (λ uses. AllFree uses port.0) old mid → IsBoot port mid new → IsBoot port old new
 whole port old mid new first then = followed_then (IsOfBoot port) (λ uses. AllFree uses port.0) old mid new (up_boots port old mid first) then

@@ -1,2 +1,4 @@
 pub mod Bringing
 pub mod Identifying
+pub mod Enduring
+pub mod Outcomes

@@ -1,28 +1,31 @@
 -- What a port's state rests on after a boot: what was read last, and the page that its disk sent last (this project's own; IDENTIFY
 -- DEVICE: ACS-3, 7.12).
-use Rattle.std.specs.Prelude.{ℕ, true, false, ◌≡◌, ◌≢◌, ◌≤◌, ◌<◌, ◌⊎◌, ◌++◌, List, ◌∷◌, Option, None, Some, All, length, Contains}
+use Rattle.std.specs.Prelude.{ℕ, false, ◌≡◌, ◌≢◌, ◌≤◌, ◌<◌, ◌⊎◌, ◌++◌, List, ◌∷◌, Option, None, Some, All, length}
 use Rattle.ata_types.specs.declared.Port.{Port}
 use Rattle.ata_types.specs.declared.PortState.{PortState}
 use Rattle.ata_types.specs.declared.PortState.TheVariants.{Absent, Ready, Foreign, Unfit, Dead}
 use Rattle.hba_regs.specs.declared.reg.PortReg.{PortReg}
 use Rattle.hba_regs.specs.declared.reg.PortReg.TheVariants.{Ie}
-use Rattle.adapter.specs.Access.{Access}
+use Rattle.hba_regs.specs.declared.reg.Reg.TheVariants.{Px}
+use Rattle.adapter.specs.Access.{Access, Writes}
 use Rattle.adapter.specs.Device.{Device}
 use Rattle.adapter.specs.declared.command.Operation.TheVariants.{Identify}
 use Rattle.adapter.specs.declared.tape.Entry.{Entry}
 use Rattle.adapter.specs.declared.tape.Entry.TheVariants as entry
 use Rattle.adapter.specs.declared.tape.Move as tape_move
 use Rattle.adapter.specs.Rules.{IsOn, HasPort}
-use Rattle.agreement.specs.Driven.{AgreesWith, IsControl, IsFollowed, IsFollowedTo}
+use Rattle.agreement.specs.Driven.{AgreesWith, IsControl, IsDrivenBy, IsFollowed, IsFollowedTo}
 use Rattle.agreement.specs.Driver.{AllFree}
+use Rattle.agreement.specs.Errors.{NoneComes, ChangesByDisks, ChangesByErrors, NoneFatal, NoneFails}
+use Rattle.agreement.specs.Facts.{IsRecorded, RunsWell, Undisturbed}
 use Rattle.agreement.specs.Links.{PlugsNone}
-use Rattle.agreement.specs.Slots.{Own, put, IsMove, Uses}
-use Rattle.agreement.specs.Started.{IsStarted}
+use Rattle.agreement.specs.Slots.{Own, put, IsMove}
+use Rattle.agreement.specs.Started.{IsUp, IsComingUp, IsStarted}
 use Rattle.disk_page.specs.Asking.{IsAsking}
 use Rattle.identify.specs.Page.{Describes, HasNoFault, IsFirstFault, IsSerial, number_of}
 use Rattle.identify.specs.declared.DiskInfo.{DiskInfo}
 use Rattle.identify.specs.declared.Unfit.{Unfit as Fault}
-use Rattle.port_control.specs.Ports.{IsStopped, IsRunning, IsPlacing, IsResetting, SawDevice, Shows}
+use Rattle.port_control.specs.Ports.{WritesCommand, IsStopped, IsRunning, IsPlacing, IsResetting, SawDevice, Shows, FindsSignature, Looks, WasReset, HasClearErrors, IsFound}
 use Rattle.port_control.specs.declared.PortFault.{PortFault}
 use Rattle.port_control.specs.declared.PortFault.TheVariants.{NoDevice, Busy, EngineStuck, NotAta}
 
@@ -122,6 +125,79 @@ IsBootTo port Dead old new = IsBoot port old new
     ⊎ IsFollowedTo (IsOfBoot port) (λ uses. AllFree uses port.0) (λ uses. put uses port.0 0 (Own Identify)) old new
 IsBootTo port _ old new = IsBoot port old new
 
+-- ---- how a boot goes
+
+-- The areas of a stopped port were put in their places. Then COMRESET was sent, and an ATA disk was found that was idle. Then ST was set
+-- (AHCI 1.3.1, 10.1.2).
+pub record GetsUp (port : Port) (old new : Device) : Type 0 where
+  pub placed : Device
+  pub places : IsDrivenBy (IsControl IsPlacing port) old placed
+  pub found : Device
+  pub resets : WasReset port (FindsSignature port 0x101) placed found
+  pub starts : IsDrivenBy (IsControl WritesCommand port) found new
+
+-- The disk was asked for its page; and last of all the port was made to tell of the causes of interrupts: DHRS, PSS, SDBS, PCS, PRCS, IFS,
+-- HBDS, HBFS and TFES (AHCI 1.3.1, 3.3.6). A port as `adapter` has it has no PxIE: that value shows nowhere else.
+pub record GetsAsked (port : Port) (old new : Device) : Type 0 where
+  pub asked : Device
+  pub asks : IsDrivenBy (IsAsking port) old asked
+  pub tells : Writes (Px port Ie) 0x7840004b asked new
+
+-- the whole way to a port that is ready
+pub record GetsReady (port : Port) (old new : Device) : Type 0 where
+  pub up : Device
+  pub first : GetsUp port old up
+  pub then : GetsAsked port up new
+
+-- The port wasn't started: after COMRESET it was looked at, with this fault. Where no disk came, its link is up if PxSSTS shows one. But
+-- for a missing device, PxSERR and PxIS were cleared.
+pub record EndsEarly (port : Port) (state : PortState) (old new : Device) : Type 0 where
+  pub fault : PortFault
+  pub told : TellsFault state fault
+  pub placed : Device
+  pub places : IsDrivenBy (IsControl IsPlacing port) old placed
+  pub resets : WasReset port (Looks port fault) placed new
+  pub coming : NoneComes port.0 old new → IsComingUp (new.port port.0)
+  pub found : fault ≢ NoDevice → IsFound port.0 old new
+
+-- the states in which a port wasn't started
+abbrev pub IsEarly : PortState → Type 0
+IsEarly Absent = Unit {0}
+IsEarly (Unfit n) = (n ≡ 7) ⊎ (n ≡ 8)
+IsEarly _ = ⊥
+
+-- those in which it was started, and stopped again
+abbrev pub IsLate : PortState → Type 0
+IsLate Foreign = Unit {0}
+IsLate (Unfit n) = (n ≢ 7) × (n ≢ 8)
+IsLate _ = ⊥
+
+-- ---- what a port shows of trouble after a boot
+
+-- Nothing of what was before COMRESET: N of PxSERR tells a disk that went or came since, and X one that came; IFS, HBDS and HBFS of PxIS
+-- tell a fatal error since, and TFES a fault. Faults since ST was set are on record, so that no link is due. And where none of these is on
+-- the tape, the port runs well.
+pub record ShowsNews (port : ℕ) (old new : Device) : Type 0 where
+  pub clear : HasClearErrors port old new
+  pub fatal : NoneFatal port old new → (place : ℕ) → 27 ≤ place → place ≤ 29 → (new.port port).is place ≡ false
+  pub fault : NoneFails port old new → (new.port port).is 30 ≡ false
+  pub recorded : IsRecorded new.tape (new.port port) port
+  pub well : Undisturbed port old new → RunsWell (new.port port)
+
+-- The disk was asked for its page, and then the port was stopped: of registers PxCMD alone was written after it.
+pub record GetsHalted (port : Port) (old new : Device) : Type 0 where
+  pub asked : Device
+  pub asks : IsDrivenBy (IsAsking port) old asked
+  pub stops : IsDrivenBy (IsControl WritesCommand port) asked new
+
+-- A port that was started, asked, and stopped again: PxSERR tells no disk of before COMRESET; and where nothing went wrong, its link is up.
+pub record EndsLate (port : Port) (old new : Device) : Type 0 where
+  pub up : Device
+  pub first : GetsUp port old up
+  pub then : GetsHalted port up new
+  pub clear : HasClearErrors port.0 old new
+  pub linked : Undisturbed port.0 old new → IsUp (new.port port.0)
+
 -- ---- the parts of a boot
 
 -- The adapter is on and has the port and memory for the driver's frames; some machine agrees with a driver that uses no slot of the port.
@@ -131,7 +207,8 @@ pub record IsBootable (port : Port) (d : Device) : Type 0 where
   pub room : 163840 ≤ d.size
   pub agreed : AgreesWith (λ uses. AllFree uses port.0) d
 
--- The port was brought up: it runs, with no command in a slot; COMRESET was sent since, and a device seen.
+-- The port was brought up: it runs, with no command in a slot; COMRESET was sent since, and a device seen. PxIS is clear, PxSERR tells no
+-- disk of before, the record of faults begins, and where no disk went or came, the port is started with its link up.
 pub record IsBroughtUp (port : Port) (old new : Device) : Type 0 where
   pub bootable : IsBootable port new
   pub runs : IsRunning port.0 (new.port port.0)
@@ -140,6 +217,30 @@ pub record IsBroughtUp (port : Port) (old new : Device) : Type 0 where
   pub known : (new.port port.0).notes.st_set_at ≤ length new.tape
   pub since : length old.tape ≤ (new.port port.0).notes.sctl_written_at
   pub marked : (new.port port.0).notes.sctl_written_at ≤ length new.tape
+  pub way : GetsUp port old new
+  pub calm : (place : ℕ) → place < 32 → (new.port port.0).is place ≡ false
+  pub clear : HasClearErrors port.0 old new
+  pub recorded : IsRecorded new.tape (new.port port.0) port.0
+  pub well : PlugsNone port.0 old new → IsStarted (new.port port.0)
+
+-- What goes on while PxSCTL isn't written and no link is due: no link gets due, N and X rise by disks alone, and the trouble that PxIS
+-- tells by errors alone.
+pub record HasCauses (port : ℕ) (old new : Device) : Type 0 where
+  pub undue : (old.port port).link_due ≡ false → (new.port port).link_due ≡ false
+  pub disks : (old.port port).link_due ≡ false → ChangesByDisks port old new
+  pub errors : ChangesByErrors port old new
+
+-- and while ST isn't cleared either: a port that was started is so still where nothing went wrong, and the record of faults goes on
+pub record RunsOn (port : ℕ) (old new : Device) : Type 0 where
+  pub goes : HasCauses port old new
+  pub started : Undisturbed port old new → IsStarted (old.port port) → IsStarted (new.port port)
+  pub recorded : IsRecorded old.tape (old.port port) port → IsRecorded new.tape (new.port port) port
+
+-- and where ST is cleared in the end, the link of a port that was started is up
+pub record StopsThen (port : Port) (old new : Device) : Type 0 where
+  pub way : GetsHalted port old new
+  pub goes : HasCauses port.0 old new
+  pub up : Undisturbed port.0 old new → IsStarted (old.port port.0) → IsUp (new.port port.0)
 
 -- The port was stopped, and is in this state; or its engine is stuck, and it is dead.
 abbrev pub IsHaltedAs : PortState → PortState → ℕ → Device → Type 0

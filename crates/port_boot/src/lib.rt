@@ -2,13 +2,13 @@
 //! there are, and the steps' order, are this project's own).
 #![tactic(auto)]
 
-ghost use Rattle.std.specs.Prelude.{ℕ, List, Option, ◌≡◌, ◌≢◌, ◌≤◌, ◌↔◌, IsTrue, length, IfOk, IfErr, OnOk, OnErr};
+ghost use Rattle.std.specs.Prelude.{ℕ, List, Option, ◌≡◌, ◌≢◌, ◌≤◌, ◌⊎◌, ◌↔◌, IsTrue, length, IfOk, IfErr, OnOk, OnErr};
 ghost use Rattle.adapter.specs.Device.{Device};
 ghost use Rattle.adapter.specs.Rules.{IsOn, HasPort};
 ghost use Rattle.agreement.specs.Driven.{AgreesWith, AnyUse, IsControl, IsFollowed};
 ghost use Rattle.agreement.specs.Driver.{AllFree};
-ghost use Rattle.port_control.specs.Ports.{IsCommand, IsStopped, HasStopped};
-ghost use Rattle.port_boot.specs.States.{TellsFault, Fits, IsFit, Judges, EndsAs, IsReady, IsBooting, IsBoot, IsBootTo, IsBootable, IsBroughtUp, IsHaltedAs};
+ghost use Rattle.port_control.specs.Ports.{WritesCommand, IsStopped, HasStopped};
+ghost use Rattle.port_boot.specs.States.{TellsFault, Fits, IsFit, Judges, EndsAs, IsReady, IsBooting, IsBoot, IsBootTo, IsBootable, IsBroughtUp, IsHaltedAs, GetsAsked, GetsReady, EndsEarly, EndsLate, IsEarly, IsLate, ShowsNews, RunsOn, StopsThen};
 
 use adapter::Adapter;
 use ata_types::{Port, PortState};
@@ -75,6 +75,7 @@ fn bring_up<A: Adapter>(adapter: &mut A, stopped: Stopped) -> Result<Running, Po
     ensures up { OnOk result (IsBroughtUp stopped.port (A.device adapter.old) (A.device adapter.new)) }
     ensures ended { IfErr result (λ state. (wanted : Option (List ℕ)) → EndsAs wanted state stopped.port.0 (A.device adapter.new)) }
     ensures since { IfErr result (λ state. state ≢ PortState.Dead → length (A.device adapter.old).tape ≤ ((A.device adapter.new).port stopped.port.0).notes.sctl_written_at) }
+    ensures early { IfErr result (λ state. (state ≡ PortState.Dead) ⊎ EndsEarly stopped.port state (A.device adapter.old) (A.device adapter.new)) }
 {
     let Ok(receiving) = receive(adapter, stopped) else {
         return Err(PortState::Dead);
@@ -95,7 +96,7 @@ fn halt<A: Adapter>(adapter: &mut A, port: Port, state: PortState) -> PortState
     requires there { HasPort (A.device adapter.old) port.0 }
     requires agreed { AgreesWith AnyUse (A.device adapter.old) }
     ensures on { IsOn (A.device adapter.new) }
-    ensures followed { IsFollowed (IsControl IsCommand port) AnyUse (A.device adapter.old) (A.device adapter.new) }
+    ensures followed { IsFollowed (IsControl WritesCommand port) AnyUse (A.device adapter.old) (A.device adapter.new) }
     ensures has { HasStopped ((A.device adapter.old).port port.0) ((A.device adapter.new).port port.0) }
     ensures halted { IsHaltedAs state result port.0 (A.device adapter.new) }
 {
@@ -106,7 +107,11 @@ fn halt<A: Adapter>(adapter: &mut A, port: Port, state: PortState) -> PortState
 }
 
 /// The causes of which a port tells by interrupts: TFES, HBFS, HBDS, IFS, PRCS, PCS, SDBS, PSS and DHRS (AHCI 1.3.1, 3.3.6).
-const CAUSES: u32 = 0x7840_004b;
+fn causes() -> u32
+    ensures { result ≡ 0x7840004b }
+{
+    0x7840_004b
+}
 
 /// Asks the disk of a port that was brought up for its page, and judges it. A port that isn't ready is stopped.
 fn identify_disk<A: Adapter>(
@@ -121,13 +126,17 @@ fn identify_disk<A: Adapter>(
     ensures written { ((A.device adapter.new).port port.0).notes.sctl_written_at ≡ ((A.device adapter.old).port port.0).notes.sctl_written_at }
     ensures boots { OnOk result (IsBoot port (A.device adapter.old) (A.device adapter.new)) }
     ensures boots_to { IfErr result (λ state. IsBootTo port state (A.device adapter.old) (A.device adapter.new)) }
+    ensures asked { OnOk result (GetsAsked port (A.device adapter.old) (A.device adapter.new)) }
+    ensures runs_on { OnOk result (RunsOn port.0 (A.device adapter.old) (A.device adapter.new)) }
+    ensures stops { IfErr result (λ state. StopsThen port (A.device adapter.old) (A.device adapter.new)) }
+    ensures late { IfErr result (λ state. IsEarly state → ⊥) }
 {
     let Some(page) = read_page(adapter, port, Page::Identity) else {
         return Err(halt(adapter, port, PortState::Unfit(NOT_IDENTIFIED)));
     };
     match judge(&page, wanted) {
         Ok(info) => {
-            adapter.write(Reg::Px(port, PortReg::Ie), CAUSES);
+            adapter.write(Reg::Px(port, PortReg::Ie), causes());
             Ok(info)
         }
         Err(state) => Err(halt(adapter, port, state)),
@@ -153,6 +162,10 @@ pub fn boot<A: Adapter>(
     ensures since_ended { IfErr result (λ state. state ≢ PortState.Dead → length (A.device adapter.old).tape ≤ ((A.device adapter.new).port stopped.port.0).notes.sctl_written_at) }
     ensures boots { OnOk result (IsBoot stopped.port (A.device adapter.old) (A.device adapter.new)) }
     ensures boots_to { IfErr result (λ state. IsBootTo stopped.port state (A.device adapter.old) (A.device adapter.new)) }
+    ensures way { OnOk result (GetsReady stopped.port (A.device adapter.old) (A.device adapter.new)) }
+    ensures news { OnOk result (ShowsNews stopped.port.0 (A.device adapter.old) (A.device adapter.new)) }
+    ensures early { IfErr result (λ state. IsEarly state → EndsEarly stopped.port state (A.device adapter.old) (A.device adapter.new)) }
+    ensures late { IfErr result (λ state. IsLate state → EndsLate stopped.port (A.device adapter.old) (A.device adapter.new)) }
 {
     let running = bring_up(adapter, stopped)?;
     identify_disk(adapter, running.port(), wanted)

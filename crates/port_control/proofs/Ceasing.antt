@@ -18,7 +18,7 @@ use Rattle.agreement.proofs.Driven.{followed_then, followed_read, followed_write
 use Rattle.agreement.proofs.Halting.{stop_is_found}
 use Rattle.agreement.proofs.Noting.{command_noted, notes_read, shown_after}
 use Rattle.agreement.proofs.Setting.{command_set}
-use Rattle.port_control.specs.Ports.{IsCommand, IsUsable, IsStopped, IsReceiving, SameBeside, HasStopped, programmed}
+use Rattle.port_control.specs.Ports.{WritesCommand, IsUsable, IsStopped, ReceivesFises, SameBeside, HasStopped, programmed}
 use Rattle.port_control.proofs.Using.{command_spares, usable_after, usable_read, cleared_bits, beside_then, beside_read, beside_command, bases_command, stopped_on, stopped_read, stopped_command}
 
 -- ---- counts of readings
@@ -43,8 +43,8 @@ bit_four was v others = others 4 (lit< tt) (λ e. absurd (omega (arith, e)))
 bit_zero : (was v : ℕ) → IsButAt 4 was v → bit v 0 ≡ bit was 0
 bit_zero was v others = others 0 (lit< tt) (λ e. absurd (omega (arith, e)))
 
-pub reading : (port : Port) (v : ℕ) (old new : Device) → Reads (Px port Cmd) v old new → IsFollowed (IsControl IsCommand port) AnyUse old new
-reading port v old new call = followed_read (IsControl IsCommand port) (Px port Cmd) v old new refl call
+pub reading : (port : Port) (v : ℕ) (old new : Device) → Reads (Px port Cmd) v old new → IsFollowed (IsControl WritesCommand port) AnyUse old new
+reading port v old new call = followed_read (IsControl WritesCommand port) (Px port Cmd) v old new refl call
 
 -- PxCMD is read, and written
 module _ (port : Port) (was v : ℕ) (old mid : Device) (u : IsUsable AnyUse port old) (read : Reads (Px port Cmd) was old mid) where
@@ -82,13 +82,13 @@ module _ (port : Port) (was v : ℕ) (old mid : Device) (u : IsUsable AnyUse por
     }
 
     module _ (new : Device) (write : Writes (Px port Cmd) v mid new) where
-      pub stop_followed : IsFollowed (IsControl IsCommand port) AnyUse old new
-      stop_followed = followed_then (IsControl IsCommand port) AnyUse old mid new (reading port was old mid read)
-          (followed_write (IsControl IsCommand port) AnyUse (Px port Cmd) v mid new (refl, refl) stop_may stop_leaves write)
+      pub stop_followed : IsFollowed (IsControl WritesCommand port) AnyUse old new
+      stop_followed = followed_then (IsControl WritesCommand port) AnyUse old mid new (reading port was old mid read)
+          (followed_write (IsControl WritesCommand port) AnyUse (Px port Cmd) v mid new (refl, refl) stop_may stop_leaves write)
 
       pub stop_has : HasStopped (old.port port.0) (new.port port.0)
       stop_has =
-          let after : IsUsable AnyUse port new = usable_after IsCommand AnyUse port old new command_spares u stop_followed in
+          let after : IsUsable AnyUse port new = usable_after WritesCommand AnyUse port old new command_spares u stop_followed in
           let set = command_set port v mid new write in
           let same = beside_then (old.port port.0) (mid.port port.0) (new.port port.0) (beside_read port was old mid u.on.no_reset read) (beside_command port v mid new here.on.no_reset zero write) in
           let bits = cleared_bits after.agreed.0 new port.0 after.agreed.2 (set.0 ∙ zero) in
@@ -118,11 +118,11 @@ module _ (port : Port) (was v : ℕ) (old mid : Device) (u : IsUsable AnyUse por
     empty_leaves uses is = record { start = λ on. true-false on st_zero; receive = λ on. true-false on zero }
 
     module _ (new : Device) (write : Writes (Px port Cmd) v mid new) where
-      pub empty_begins : IsFollowed (IsControl IsCommand port) AnyUse old new × IsStopped (new.port port.0) × ((new.port port.0).fre ≡ false)
+      pub empty_begins : IsFollowed (IsControl WritesCommand port) AnyUse old new × IsStopped (new.port port.0) × ((new.port port.0).fre ≡ false)
           × ((new.port port.0).bases ≡ (old.port port.0).bases) × SameBeside (old.port port.0) (new.port port.0)
       empty_begins = (
-        followed_then (IsControl IsCommand port) AnyUse old mid new (reading port was old mid read)
-            (followed_write (IsControl IsCommand port) AnyUse (Px port Cmd) v mid new (refl, refl) empty_may empty_leaves write),
+        followed_then (IsControl WritesCommand port) AnyUse old mid new (reading port was old mid read)
+            (followed_write (IsControl WritesCommand port) AnyUse (Px port Cmd) v mid new (refl, refl) empty_may empty_leaves write),
         stopped_command port v mid new empty_may st_zero write still,
         (command_set port v mid new write).1 ∙ zero,
         bases_command port v mid new here.on.no_reset st_zero write ∙ (s.keeps.port port.0).bases,
@@ -150,10 +150,10 @@ module _ (port : Port) (was v : ℕ) (old mid : Device) (u : IsUsable AnyUse por
     receive_leaves uses is = record { start = λ on. true-false on (st_same ∙ stands.halted.st); receive = λ on. (here.there.0, ap (λ (b : Bases). b.fb) in_place) }
 
     module _ (new : Device) (write : Writes (Px port Cmd) v mid new) where
-      pub receive_done : IsFollowed (IsControl IsCommand port) AnyUse old new × IsReceiving port.0 (new.port port.0) × SameBeside (old.port port.0) (new.port port.0)
+      pub receive_done : IsFollowed (IsControl WritesCommand port) AnyUse old new × ReceivesFises port.0 (new.port port.0) × SameBeside (old.port port.0) (new.port port.0)
       receive_done = (
-        followed_then (IsControl IsCommand port) AnyUse old mid new (reading port was old mid read)
-            (followed_write (IsControl IsCommand port) AnyUse (Px port Cmd) v mid new (refl, refl) receive_may receive_leaves write),
+        followed_then (IsControl WritesCommand port) AnyUse old mid new (reading port was old mid read)
+            (followed_write (IsControl WritesCommand port) AnyUse (Px port Cmd) v mid new (refl, refl) receive_may receive_leaves write),
         record {
           stopped = stopped_command port v mid new receive_may (st_same ∙ stands.halted.st) write stands;
           fre = (command_set port v mid new write).1 ∙ one;
@@ -167,7 +167,7 @@ module _ (port : Port) (was v : ℕ) (old mid : Device) (u : IsUsable AnyUse por
 
 -- ST was cleared, and so many readings found CR set
 pub record IsFalling (port : Port) (start : Device) (n : ℕ) (d : Device) : Type 0 where
-  pub followed : IsFollowed (IsControl IsCommand port) AnyUse start d
+  pub followed : IsFollowed (IsControl WritesCommand port) AnyUse start d
   pub usable : IsUsable AnyUse port d
   pub has : HasStopped (start.port port.0) (d.port port.0)
   pub low : n ≤ (d.port port.0).notes.engine_count
@@ -177,8 +177,8 @@ module _ (port : Port) (start d e : Device) (v n : ℕ) (w : IsFalling port star
   off : d.hr ≡ false
   off = w.usable.on.no_reset
 
-  pub falls : IsFollowed (IsControl IsCommand port) AnyUse start e
-  falls = followed_then (IsControl IsCommand port) AnyUse start d e w.followed (reading port v d e call)
+  pub falls : IsFollowed (IsControl WritesCommand port) AnyUse start e
+  falls = followed_then (IsControl WritesCommand port) AnyUse start d e w.followed (reading port v d e call)
 
   pub falling_on : IsUsable AnyUse port e
   falling_on = usable_read AnyUse port Cmd v d e w.usable call
@@ -218,7 +218,7 @@ module _ (port : Port) (start d e : Device) (v n : ℕ) (w : IsFalling port star
 
 -- FRE was cleared, and so many readings found FR set
 pub record IsEmptying (port : Port) (start : Device) (n : ℕ) (d : Device) : Type 0 where
-  pub followed : IsFollowed (IsControl IsCommand port) AnyUse start d
+  pub followed : IsFollowed (IsControl WritesCommand port) AnyUse start d
   pub usable : IsUsable AnyUse port d
   pub stopped : IsStopped (d.port port.0)
   pub fre : (d.port port.0).fre ≡ false
@@ -236,7 +236,7 @@ module _ (port : Port) (start d e : Device) (v n : ℕ) (w : IsEmptying port sta
   empties =
       let s : SeenAt port.0 Cmd v d e = seen port Cmd v d e call quiet in
       record {
-        followed = followed_then (IsControl IsCommand port) AnyUse start d e w.followed (reading port v d e call);
+        followed = followed_then (IsControl WritesCommand port) AnyUse start d e w.followed (reading port v d e call);
         usable = usable_read AnyUse port Cmd v d e w.usable call;
         stopped = stopped_on (s.keeps.port port.0) w.stopped;
         fre = (s.keeps.on.controls port.0).fre ∙ w.fre;

@@ -11,15 +11,14 @@ use Rattle.adapter.specs.Access.Access.{Writing}
 use Rattle.adapter.specs.Device.{Device}
 use Rattle.adapter.specs.Rules.{MayWrite, Stays}
 use Rattle.agreement.specs.Driven.{AnyUse, IsControl, IsFollowed}
-use Rattle.agreement.specs.Links.{PlugsNone, SparesRegister}
-use Rattle.agreement.specs.Started.{IsUp}
+use Rattle.agreement.specs.Links.{SparesRegister}
 use Rattle.agreement.proofs.Allowing.{write_stays}
 use Rattle.agreement.proofs.Driven.{followed_then, followed_write}
 use Rattle.agreement.proofs.Noting.{access_notes}
 use Rattle.agreement.proofs.Resending.{errors_cleared, causes_cleared}
-use Rattle.port_control.specs.Ports.{IsClearing, IsUsable, IsReceiving, SawDevice, IsClear}
+use Rattle.port_control.specs.Ports.{IsClearing, IsUsable, ReceivesFises, SawDevice, ClearsErrors, HasClearErrors}
 use Rattle.port_control.proofs.Using.{clearing_spares, usable_after}
-use Rattle.port_control.proofs.Settling.{plugs_in_parts, Settles, settles}
+use Rattle.port_control.proofs.Settling.{comes_in_parts, plugs_in_parts, Settles, settles}
 
 pub ones : (place : ℕ) → place < 32 → bit 0xffffffff place ≡ true
 ones place small = ap (λ (n : ℕ). n == 1) (bit_at_ones 32 place small)
@@ -37,7 +36,7 @@ saw_still port r v old new spares call saw =
     let link = (access_notes port (Writing (Px port r) v) old new call).link tt in
     (ap (λ (n : ℕ). n % 16) link.0 ∙ saw.0, link.1 spares ∙ saw.1)
 
-module _ (port : Port) (old mid new : Device) (u : IsUsable AnyUse port old) (receives : IsReceiving port.0 (old.port port.0))
+module _ (port : Port) (old mid new : Device) (u : IsUsable AnyUse port old) (receives : ReceivesFises port.0 (old.port port.0))
     (serr : Writes (Px port Serr) 0xffffffff old mid) where
   first : IsFollowed (IsControl IsClearing port) AnyUse old mid
   first = followed_write (IsControl IsClearing port) AnyUse (Px port Serr) 0xffffffff old mid (refl, inl refl) (serr_may port 0xffffffff old u) (λ uses is. tt) serr
@@ -60,10 +59,16 @@ module _ (port : Port) (old mid new : Device) (u : IsUsable AnyUse port old) (re
     pub cleared_calm : (place : ℕ) → place < 32 → (new.port port.0).is place ≡ false
     cleared_calm place small = causes_cleared port 0xffffffff mid new is place (ones place small)
 
-    pub cleared_clear : PlugsNone port.0 old new → IsUp (old.port port.0) → IsClear (new.port port.0)
-    cleared_clear none up =
+    pub cleared_by : ClearsErrors port old new
+    cleared_by = record { between = mid; errors = serr; causes = is }
+
+    pub cleared_clear : (old.port port.0).link_due ≡ false → HasClearErrors port.0 old new
+    cleared_clear undue =
         let s : Settles port old mid = settles port old mid u.on first.driven in
         let t : Settles port mid new = settles port mid new clearing.on second.driven in
-        let parts = plugs_in_parts port.0 old mid new s.grows t.grows none in
         let errors = errors_cleared port 0xffffffff old mid serr in
-        t.clear parts.1 (s.receiving receives) (s.up parts.0 receives up) (errors.0 (ones 16 (omega arith)), errors.1 (ones 26 (omega arith)))
+        let c = t.change (s.undue undue) in
+        record {
+          serr_n = λ none. c.serr_n (plugs_in_parts port.0 old mid new s.grows t.grows none).1 (errors.0 (ones 16 (omega arith)));
+          serr_x = λ none. c.serr_x (comes_in_parts port.0 old mid new s.grows t.grows none).1 (errors.1 (ones 26 (omega arith)));
+        }

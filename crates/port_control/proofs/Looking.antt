@@ -1,20 +1,28 @@
 -- The waits for a device and until it is idle, and what clears the port's errors.
-use Rattle.std.proofs.Common.{ℕ, ◌≡◌, ◌≢◌, ◌+◌, ◌<◌, ◌≤◌, ◌%◌, ◌||◌, true, false, inl, inr, refl, sym, ◌∙◌, ap, arith, nat_eq, if◌then◌else◌}
+use Rattle.std.proofs.Common.{ℕ, ◌≡◌, ◌≢◌, ◌+◌, ◌<◌, ◌≤◌, ◌%◌, ◌||◌, true, false, [], ◌∷◌, ◌++◌, inl, inr, refl, sym, ◌∙◌, ap, arith, nat_eq, if◌then◌else◌}
 use Rattle.std.proofs.lemmas.Bool.Decides.{eqb_tells}
+use Rattle.std.proofs.lemmas.List.{length-append}
+use Rattle.std.proofs.lemmas.List.Elements.{All-nil, All-cons, All-append}
 use Rattle.ata_types.specs.declared.Port.{Port}
 use Rattle.hba_regs.specs.Bits.{bit}
 use Rattle.hba_regs.specs.declared.reg.PortReg.{PortReg}
 use Rattle.hba_regs.specs.declared.reg.PortReg.TheVariants.{Tfd, Sig, Ssts}
 use Rattle.hba_regs.specs.declared.reg.Reg.TheVariants.{Px}
 use Rattle.adapter.specs.Access.{Reads, counted, link_counted}
-use Rattle.adapter.specs.Device.{Notes, Device}
+use Rattle.adapter.specs.Access.Access.{Reading}
+use Rattle.adapter.proofs.Absurd.{true-false}
+use Rattle.adapter.proofs.Calls.{does_append}
+use Rattle.adapter.specs.Device.{Notes, PortState, Device}
 use Rattle.agreement.specs.Driven.{AnyUse, IsControl, IsFollowed}
 use Rattle.agreement.specs.Errors.{NoneComes}
+use Rattle.agreement.specs.Facts.{IsAwaited, IsQuiet, IsUnflagged}
 use Rattle.agreement.specs.Started.{IsUp, IsComingUp}
+use Rattle.agreement.proofs.Awaiting.{reads_awaited}
 use Rattle.agreement.proofs.ComingUp.{up_is_found}
 use Rattle.agreement.proofs.Driven.{followed_then, followed_read}
 use Rattle.agreement.proofs.Noting.{notes_read, shown_after}
-use Rattle.port_control.specs.Ports.{IsClearing, IsUsable, SawDevice, SawIdle, ShowsSignature}
+use Rattle.agreement.proofs.Starting.{quiet_is_found, reads_quiet, reads_unflagged}
+use Rattle.port_control.specs.Ports.{IsClearing, IsUsable, HasLink, ShowsIdle, SawDevice, SawIdle, ReadsNot, ReadsWithout, ReadsUntil, ShowsSignature}
 use Rattle.port_control.proofs.Using.{usable_read}
 use Rattle.port_control.proofs.Ceasing.{counted_again}
 use Rattle.port_control.proofs.Settling.{comes_in_parts, Settles, settles}
@@ -24,6 +32,27 @@ looks port r v old new call = followed_read (IsControl IsClearing port) (Px port
 
 looks_more : (port : Port) (r : PortReg) (v : ℕ) (start d e : Device) → IsFollowed (IsControl IsClearing port) AnyUse start d → Reads (Px port r) v d e → IsFollowed (IsControl IsClearing port) AnyUse start e
 looks_more port r v start d e f call = followed_then (IsControl IsClearing port) AnyUse start d e f (looks port r v d e call)
+
+-- ---- readings until something shows
+
+module _ (port : Port) (r : PortReg) (Shown : ℕ → Type 0) where
+  pub without_none : (d : Device) → ReadsWithout port r Shown 0 d d
+  without_none d = record { reads = record { accesses = []; all = refl; only = All-nil (ReadsNot port r Shown) }; number = refl }
+
+  module _ {v : ℕ} {start d e : Device} (n : ℕ) where
+    pub without_more : ReadsWithout port r Shown n start d → Reads (Px port r) v d e → (Shown v → ⊥) → ReadsWithout port r Shown (n + 1) start e
+    without_more w call not = record {
+      reads = record {
+        accesses = w.reads.accesses ++ Reading (Px port r) v ∷ [];
+        all = does_append w.reads.accesses (Reading (Px port r) v ∷ []) start d e w.reads.all (e, call, refl);
+        only = All-append (ReadsNot port r Shown) w.reads.accesses (Reading (Px port r) v ∷ []) w.reads.only
+            (All-cons (ReadsNot port r Shown) (Reading (Px port r) v) [] (refl, not) (All-nil (ReadsNot port r Shown)));
+      };
+      number = length-append w.reads.accesses (Reading (Px port r) v ∷ []) ∙ ap (λ (k : ℕ). k + 1) w.number;
+    }
+
+    pub until_shown : n < 64 → ReadsWithout port r Shown n start d → Reads (Px port r) v d e → Shown v → ReadsUntil port r Shown start e
+    until_shown small w call is = record { count = n; few = small; waited = d; waits = w; value = v; shown = is; reads = call }
 
 -- ---- a device is awaited
 
@@ -36,6 +65,7 @@ pub record IsMissing (port : Port) (start : Device) (n : ℕ) (d : Device) : Typ
   pub low : n ≤ (d.port port.0).notes.link_count
   pub high : 0 < n → (d.port port.0).notes.link_count ≤ 64
   pub far : 0 < n → (d.port port.0).notes.last_ssts % 16 ≢ 3
+  pub misses : ReadsWithout port Ssts HasLink n start d
 
 counted_far : (det n count : ℕ) → det ≢ 3 → n ≤ count → n < 64 → (n + 1 ≤ link_counted det count) × (link_counted det count ≤ 64)
 counted_far det n count far low small =
@@ -69,6 +99,9 @@ module _ (port : Port) (start d e : Device) (v n : ℕ) (w : IsMissing port star
       let parts = comes_in_parts port.0 start d e s.grows t.grows none in
       up_is_found port v d e parts.1 call three (s.coming parts.0 coming)
 
+  pub sees_device : n < 64 → v % 16 ≡ 3 → ReadsUntil port Ssts HasLink start e
+  sees_device small three = until_shown port Ssts HasLink n small w.misses call three
+
   pub missing_still : n < 64 → v % 16 ≢ 3 → IsMissing port start (n + 1) e
   missing_still small far =
       let one = counted_far (v % 16) n (d.port port.0).notes.link_count far w.low small in
@@ -81,9 +114,14 @@ module _ (port : Port) (start d e : Device) (v n : ℕ) (w : IsMissing port star
         low = rw count one.0;
         high = λ _. rw count one.1;
         far = λ _ three. far (sym (ap (λ (k : ℕ). k % 16) missing_last) ∙ three);
+        misses = without_more port Ssts HasLink n w.misses call far;
       }
 
 -- ---- what it is doing is awaited
+
+-- a link is awaited on a port whose TFES is clear
+abbrev Awaits : PortState → Type 0
+Awaits p = IsAwaited p × IsUnflagged p
 
 -- so many readings of PxTFD showed BSY or DRQ
 pub record IsBusyStill (port : Port) (start : Device) (n : ℕ) (d : Device) : Type 0 where
@@ -93,6 +131,9 @@ pub record IsBusyStill (port : Port) (start : Device) (n : ℕ) (d : Device) : T
   pub saw : SawDevice (d.port port.0).notes
   pub low : n ≤ (d.port port.0).notes.busy_count
   pub high : 0 < n → (d.port port.0).notes.busy_count ≤ 64
+  pub stays : ReadsWithout port Tfd ShowsIdle n start d
+  pub awaits : Awaits (start.port port.0) → Awaits (d.port port.0)
+  pub quiet : 0 < n → Awaits (start.port port.0) → bit (d.port port.0).notes.last_tfd 3 ≡ false → IsQuiet (d.port port.0)
 
 module _ (port : Port) (start d e : Device) (v n : ℕ) (w : IsBusyStill port start n d) (call : Reads (Px port Tfd) v d e) where
   quiet : d.hr ≡ false
@@ -107,6 +148,16 @@ module _ (port : Port) (start d e : Device) (v n : ℕ) (w : IsBusyStill port st
   pub idle_seen : bit v 7 || bit v 3 ≡ false → SawIdle (e.port port.0).notes
   idle_seen neither = ap (λ (k : Notes). bit k.last_tfd 7 || bit k.last_tfd 3) (notes_read port Tfd v d e quiet call) ∙ neither
 
+  pub busy_waits : n < 64 → bit v 7 || bit v 3 ≡ false → ReadsUntil port Tfd ShowsIdle start e
+  busy_waits small neither = until_shown port Tfd ShowsIdle n small w.stays call neither
+
+  -- without DRQ the link isn't due
+  pub busy_quiet : Awaits (start.port port.0) → bit (e.port port.0).notes.last_tfd 3 ≡ false → IsQuiet (e.port port.0)
+  busy_quiet awaits clear =
+      let h = w.awaits awaits in
+      let last : (e.port port.0).notes.last_tfd ≡ v = ap (λ (k : Notes). k.last_tfd) (notes_read port Tfd v d e quiet call) in
+      quiet_is_found port v d e h.0 h.1 call (ap (λ (k : ℕ). bit k 3) (sym last) ∙ clear)
+
   pub busy_still : n < 64 → bit v 7 || bit v 3 ≡ true → IsBusyStill port start (n + 1) e
   busy_still small busy =
       let one = counted_again (bit v 7 || bit v 3) n (d.port port.0).notes.busy_count busy w.low small in
@@ -120,6 +171,9 @@ module _ (port : Port) (start d e : Device) (v n : ℕ) (w : IsBusyStill port st
         saw = busy_saw;
         low = rw count one.0;
         high = λ _. rw count one.1;
+        stays = without_more port Tfd ShowsIdle n w.stays call (λ neither. true-false busy neither);
+        awaits = λ h. let a = w.awaits h in (reads_awaited port.0 (Px port Tfd) v d e call a.0, reads_unflagged port.0 (Px port Tfd) v d e call a.1);
+        quiet = λ _. busy_quiet;
       }
 
 -- ---- the signature is read
@@ -136,6 +190,10 @@ module _ (port : Port) (d e : Device) (v : ℕ) (u : IsUsable AnyUse port d) (ca
 
   pub sig_last : (e.port port.0).notes.last_sig ≡ v
   sig_last = ap (λ (k : Notes). k.last_sig) signed
+
+  -- what PxTFD was read as stays, and so what it showed
+  pub sig_quiet : (bit (d.port port.0).notes.last_tfd 3 ≡ false → IsQuiet (d.port port.0)) → bit (e.port port.0).notes.last_tfd 3 ≡ false → IsQuiet (e.port port.0)
+  sig_quiet was clear = reads_quiet port.0 (Px port Sig) v d e call (was (ap (λ (k : Notes). bit k.last_tfd 3) (sym signed) ∙ clear))
 
   pub sig_shown : ShowsSignature (e.port port.0)
   sig_shown = sig_last ∙ shown_after port Sig v d e u.on.no_reset call

@@ -1,24 +1,27 @@
 -- COMRESET is sent and ended, and what was found since.
-use Rattle.std.proofs.Common.{ℕ, ◌≡◌, false, ◌+◌, ◌<◌, ◌≤◌, ◌%◌, ◌⊎◌, length, inl, inr, refl, ◌∙◌, ap, arith}
+use Rattle.std.proofs.Common.{ℕ, ◌≡◌, false, ◌+◌, ◌<◌, ◌≤◌, ◌%◌, ◌⊎◌, length, inl, inr, refl, ◌∙◌, ap, subst, arith}
 use Rattle.std.proofs.lemmas.List.{length-append}
 use Rattle.ata_types.specs.declared.Port.{Port}
-use Rattle.hba_regs.specs.declared.reg.PortReg.TheVariants.{Cmd, Sctl}
+use Rattle.hba_regs.specs.Bits.{bit}
+use Rattle.hba_regs.specs.declared.reg.PortReg.TheVariants.{Cmd, Tfd, Sig, Ssts, Sctl}
 use Rattle.hba_regs.specs.declared.reg.Reg.TheVariants.{Px}
-use Rattle.adapter.specs.Access.{Writes}
+use Rattle.adapter.specs.Access.{Reads, Writes}
 use Rattle.adapter.specs.Access.Access.{Writing}
 use Rattle.adapter.specs.Device.{Device}
 use Rattle.adapter.specs.Rules.{IsOn, MayWrite, Stays}
-use Rattle.agreement.specs.Driven.{AnyUse, IsControl, IsDrivenBy, IsFollowed}
+use Rattle.adapter.proofs.KeptLemmas.{steps_keep}
+use Rattle.agreement.specs.Driven.{AnyUse, IsControl, IsFollowed}
 use Rattle.agreement.specs.Errors.{NoneComes}
-use Rattle.agreement.specs.Links.{PlugsNone}
+use Rattle.agreement.specs.Facts.{IsAwaited, IsQuiet, IsUnflagged}
 use Rattle.agreement.specs.Started.{IsUp, IsComingUp}
 use Rattle.agreement.proofs.Allowing.{write_stays}
+use Rattle.agreement.proofs.Awaiting.{comreset_begins, writes_awaited}
 use Rattle.agreement.proofs.ComingUp.{comreset_comes, access_coming}
 use Rattle.agreement.proofs.Controlled.{stays_on, tape_gains, Grows, grows_more, access_grows}
-use Rattle.agreement.proofs.Driven.{by_none, by_then, followed_then, followed_write}
+use Rattle.agreement.proofs.Driven.{followed_then, followed_write}
 use Rattle.agreement.proofs.Erring.{plugs_come}
 use Rattle.agreement.proofs.Setting.{control_set}
-use Rattle.port_control.specs.Ports.{IsClearing, IsResetting, IsUsable, IsReceiving, IsClear, WasReset, FindsDevice, IsFound}
+use Rattle.port_control.specs.Ports.{IsClearing, IsResetting, IsUsable, ReceivesFises, HasLink, ShowsIdle, ReadsWithout, ReadsUntil, ClearsErrors, FindsLink, FindsSignature, FindsBusy, WasReset, HasClearErrors, FindsDevice, IsFound}
 use Rattle.port_control.proofs.Using.{resetting_spares, usable_after, followed_wider, receiving_write}
 use Rattle.port_control.proofs.Settling.{comes_in_parts, plugs_in_parts, no_start, Settles, settles}
 
@@ -27,17 +30,17 @@ grows_longer old new g =
     let sum : length new.tape ≡ length old.tape + length g.0 = ap length g.1 ∙ length-append old.tape g.0 in
     omega (arith, sum)
 
-pub sctl_may : (port : Port) (v : ℕ) (d : Device) → IsUsable AnyUse port d → IsReceiving port.0 (d.port port.0) → (v % 16 ≡ 0) ⊎ (v % 16 ≡ 1) → Stays (MayWrite (Px port Sctl) v) d
+pub sctl_may : (port : Port) (v : ℕ) (d : Device) → IsUsable AnyUse port d → ReceivesFises port.0 (d.port port.0) → (v % 16 ≡ 0) ⊎ (v % 16 ≡ 1) → Stays (MayWrite (Px port Sctl) v) d
 sctl_may port v d u r det = write_stays (Px port Sctl) v d (λ p e. cc) (u.on, u.there, (r.stopped.halted.st, det))
 
-module _ (port : Port) (old sent : Device) (u : IsUsable AnyUse port old) (receives : IsReceiving port.0 (old.port port.0)) (one : Writes (Px port Sctl) 1 old sent) where
+module _ (port : Port) (old sent : Device) (u : IsUsable AnyUse port old) (receives : ReceivesFises port.0 (old.port port.0)) (one : Writes (Px port Sctl) 1 old sent) where
   first : IsFollowed (IsControl IsResetting port) AnyUse old sent
   first = followed_write (IsControl IsResetting port) AnyUse (Px port Sctl) 1 old sent (refl, inl refl) (sctl_may port 1 old u receives (inr refl)) (λ uses is. tt) one
 
   sending : IsUsable AnyUse port sent
   sending = usable_after IsResetting AnyUse port old sent resetting_spares u first
 
-  receives_still : IsReceiving port.0 (sent.port port.0)
+  receives_still : ReceivesFises port.0 (sent.port port.0)
   receives_still = receiving_write port Sctl 1 old sent u.on.no_reset (inl refl) one receives
 
   pub ending_may : Stays (MayWrite (Px port Sctl) 0) sent
@@ -48,7 +51,7 @@ module _ (port : Port) (old sent : Device) (u : IsUsable AnyUse port old) (recei
     reset_followed = followed_then (IsControl IsResetting port) AnyUse old sent new first
         (followed_write (IsControl IsResetting port) AnyUse (Px port Sctl) 0 sent new (refl, inl refl) ending_may (λ uses is. tt) zero)
 
-    pub reset_receives : IsReceiving port.0 (new.port port.0)
+    pub reset_receives : ReceivesFises port.0 (new.port port.0)
     reset_receives = receiving_write port Sctl 0 sent new sending.on.no_reset (inl refl) zero receives_still
 
     early : Grows old sent
@@ -57,7 +60,7 @@ module _ (port : Port) (old sent : Device) (u : IsUsable AnyUse port old) (recei
     late : Grows sent new
     late = access_grows (Writing (Px port Sctl) 0) sent new zero
 
-    pub was_reset : WasReset port old new
+    pub was_reset : WasReset port (λ ended now. now ≡ ended) old new
     was_reset =
         let set = control_set port 0 sent new zero in
         let longer = grows_longer old new (grows_more old sent new early late) in
@@ -67,11 +70,16 @@ module _ (port : Port) (old sent : Device) (u : IsUsable AnyUse port old) (recei
           sends = one;
           ended = new;
           ends = zero;
-          rest = by_none (IsControl IsClearing port) new;
+          rest = refl;
           det = set.0;
           since = rw at longer;
           marked = omega (arith, at);
         }
+
+    pub reset_awaited : IsAwaited (new.port port.0)
+    reset_awaited = writes_awaited port.0 (Px port Sctl) 0 sent new ending_may
+        (λ d steps. ((steps_keep steps).port port.0).cr receives_still.stopped.halted.cr) zero
+        (comreset_begins port 1 old sent receives.stopped.halted.cr refl one)
 
     pub reset_coming : NoneComes port.0 old new → IsComingUp (new.port port.0)
     reset_coming none =
@@ -80,10 +88,10 @@ module _ (port : Port) (old sent : Device) (u : IsUsable AnyUse port old) (recei
         (no_start port (Writing (Px port Sctl) 0) (λ (e : Px port Sctl ≡ Px port Cmd). absurd (cc))) zero parts.1
         (comreset_comes port 1 old sent receives.stopped.halted.cr refl one)
 
--- ---- and nothing but PxSERR and PxIS is written since
+-- ---- and what was done since
 
-module _ (port : Port) (old mid new : Device) (reset : WasReset port old mid) (driven : IsDrivenBy (IsControl IsClearing port) mid new) (s : Settles port mid new) where
-  pub reset_on : WasReset port old new
+module _ (port : Port) (Then : Device → Device → Type 0) (old mid new : Device) (reset : WasReset port (λ ended now. now ≡ ended) old mid) (then : Then mid new) (s : Settles port mid new) where
+  pub reset_on : WasReset port Then old new
   reset_on =
       let longer = grows_longer mid new s.grows in
       let same = s.written in
@@ -94,18 +102,23 @@ module _ (port : Port) (old mid new : Device) (reset : WasReset port old mid) (d
         sends = reset.sends;
         ended = reset.ended;
         ends = reset.ends;
-        rest = by_then reset.rest driven;
+        rest = subst (λ (d : Device). Then d new) reset.rest then;
         det = s.det ∙ reset.det;
         since = omega (arith, same, since);
         marked = omega (arith, same, marked, longer);
       }
 
 -- what was found since, where the link was coming up
-pub found_on : (port : ℕ) (old mid new : Device) → Grows old mid → Grows mid new → (NoneComes port old mid → IsComingUp (mid.port port)) → FindsDevice port mid new → IsFound port old new
-found_on port old mid new early late coming finds = record {
+pub found_on : (port : ℕ) (old mid new : Device) → Grows old mid → Grows mid new → (NoneComes port old mid → IsComingUp (mid.port port)) → IsAwaited (mid.port port) → FindsDevice port mid new → IsFound port old new
+found_on port old mid new early late coming awaited finds = record {
   calm = finds.calm;
+  clear = record {
+    serr_n = λ none. let parts = plugs_in_parts port old mid new early late none in (finds.clear (coming (plugs_come port old mid parts.0))).serr_n parts.1;
+    serr_x = λ none. let parts = comes_in_parts port old mid new early late none in (finds.clear (coming parts.0)).serr_x parts.1;
+  };
+  undue = λ none. let parts = comes_in_parts port old mid new early late none in finds.undue parts.1 (coming parts.0);
   up = λ none. let parts = plugs_in_parts port old mid new early late none in finds.up parts.1 (coming (plugs_come port old mid parts.0));
-  clear = λ none. let parts = plugs_in_parts port old mid new early late none in finds.clear parts.1 (coming (plugs_come port old mid parts.0));
+  quiet = finds.quiet awaited;
 }
 
 -- the two together
@@ -129,36 +142,69 @@ module _ (port : Port) (old mid new : Device) (u : IsUsable AnyUse port old) (se
     pub both_coming : NoneComes port.0 old new → IsComingUp (new.port port.0)
     both_coming none = let parts = comes_in_parts port.0 old mid new sent_grows looked.grows none in looked.coming parts.1 (coming parts.0)
 
-    pub both_found : FindsDevice port.0 mid new → IsFound port.0 old new
-    both_found finds = found_on port.0 old mid new sent_grows looked.grows coming finds
+    pub both_found : IsAwaited (mid.port port.0) → FindsDevice port.0 mid new → IsFound port.0 old new
+    both_found awaited finds = found_on port.0 old mid new sent_grows looked.grows coming awaited finds
 
 -- ---- looking for the device
 
-module _ (port : Port) (old seen cleared new : Device) (receives : IsReceiving port.0 (old.port port.0)) (a : Settles port old seen) (b : Settles port seen cleared) (c : Settles port cleared new)
+module _ (port : Port) (old seen cleared new : Device) (receives : ReceivesFises port.0 (old.port port.0)) (a : Settles port old seen) (b : Settles port seen cleared) (c : Settles port cleared new)
     (up : NoneComes port.0 old seen → IsComingUp (old.port port.0) → IsUp (seen.port port.0))
     (calm : (place : ℕ) → place < 32 → (cleared.port port.0).is place ≡ false)
-    (clear : PlugsNone port.0 seen cleared → IsUp (seen.port port.0) → IsClear (cleared.port port.0)) where
+    (clear : (seen.port port.0).link_due ≡ false → HasClearErrors port.0 seen cleared)
+    (quiet : IsAwaited (cleared.port port.0) → IsUnflagged (cleared.port port.0) → bit (new.port port.0).notes.last_tfd 3 ≡ false → IsQuiet (new.port port.0)) where
   early_half : Grows old cleared
   early_half = grows_more old seen cleared a.grows b.grows
 
-  receives_seen : IsReceiving port.0 (seen.port port.0)
+  late_half : Grows seen new
+  late_half = grows_more seen cleared new b.grows c.grows
+
+  receives_seen : ReceivesFises port.0 (seen.port port.0)
   receives_seen = a.receiving receives
 
-  receives_cleared : IsReceiving port.0 (cleared.port port.0)
+  receives_cleared : ReceivesFises port.0 (cleared.port port.0)
   receives_cleared = b.receiving receives_seen
 
-  up_seen : PlugsNone port.0 old cleared → IsComingUp (old.port port.0) → PlugsNone port.0 seen cleared × IsUp (seen.port port.0)
-  up_seen none coming = let parts = plugs_in_parts port.0 old seen cleared a.grows b.grows none in (parts.1, up (plugs_come port.0 old seen parts.0) coming)
+  -- where no disk came until the device was seen, no link is due from then on
+  undue_seen : NoneComes port.0 old seen → IsComingUp (old.port port.0) → (seen.port port.0).link_due ≡ false
+  undue_seen none coming = (up none coming).linked
+
+  -- and what shows then came since
+  clear_since : (seen.port port.0).link_due ≡ false → HasClearErrors port.0 seen new
+  clear_since undue =
+      let change = c.change (b.undue undue) in
+      record {
+        serr_n = λ none. let parts = plugs_in_parts port.0 seen cleared new b.grows c.grows none in change.serr_n parts.1 ((clear undue).serr_n parts.0);
+        serr_x = λ none. let parts = comes_in_parts port.0 seen cleared new b.grows c.grows none in change.serr_x parts.1 ((clear undue).serr_x parts.0);
+      }
 
   pub finds_device : FindsDevice port.0 old new
   finds_device = record {
     calm = λ place small. c.calm receives_cleared place (calm place small);
+    clear = λ coming. record {
+      serr_n = λ none.
+          let parts = plugs_in_parts port.0 old seen new a.grows late_half none in
+          (clear_since (undue_seen (plugs_come port.0 old seen parts.0) coming)).serr_n parts.1;
+      serr_x = λ none.
+          let parts = comes_in_parts port.0 old seen new a.grows late_half none in
+          (clear_since (undue_seen parts.0 coming)).serr_x parts.1;
+    };
+    undue = λ none coming.
+        let parts = comes_in_parts port.0 old seen new a.grows late_half none in
+        c.undue (b.undue (undue_seen parts.0 coming));
     up = λ none coming.
         let parts = plugs_in_parts port.0 old cleared new early_half c.grows none in
-        let u = up_seen parts.0 coming in
-        c.up parts.1 receives_cleared (b.up u.0 receives_seen u.1);
-    clear = λ none coming.
-        let parts = plugs_in_parts port.0 old cleared new early_half c.grows none in
-        let u = up_seen parts.0 coming in
-        c.clear parts.1 receives_cleared (b.up u.0 receives_seen u.1) (clear u.0 u.1);
+        let first = plugs_in_parts port.0 old seen cleared a.grows b.grows parts.0 in
+        c.up parts.1 receives_cleared (b.up first.1 receives_seen (up (plugs_come port.0 old seen first.0) coming));
+    quiet = λ awaited. quiet (b.awaited (a.awaited awaited)) (receives_cleared.stopped.halted.cr, calm 30 (omega arith));
   }
+
+-- and how it was found
+pub finds_link : (port : Port) {old seen new : Device} → ReadsUntil port Ssts HasLink old seen → ClearsErrors port seen new → FindsLink port old new
+finds_link port {old} {seen} {new} sees clears = record { seen = seen; sees = sees; clears = clears }
+
+pub finds_busy : (port : Port) {old linked new : Device} → FindsLink port old linked → ReadsWithout port Tfd ShowsIdle 64 linked new → FindsBusy port old new
+finds_busy port {old} {linked} {new} links waits = record { linked = linked; links = links; waits = waits }
+
+pub finds_signature : (port : Port) (signature : ℕ) {old linked idle new : Device} → FindsLink port old linked → ReadsUntil port Tfd ShowsIdle linked idle →
+    Reads (Px port Sig) signature idle new → FindsSignature port signature old new
+finds_signature port signature {old} {linked} {idle} {new} links waits reads = record { linked = linked; links = links; idle = idle; waits = waits; reads = reads }

@@ -3,7 +3,7 @@ use Rattle.std.proofs.Common.{ℕ, ◌≡◌, ◌≤◌, ◌%◌, ◌||◌, Bool
 use Rattle.std.proofs.lemmas.Bool.{cond-true, cond-false}
 use Rattle.ata_types.specs.declared.Port.{Port}
 use Rattle.hba_regs.specs.Bits.{bit}
-use Rattle.hba_regs.specs.declared.reg.PortReg.TheVariants.{Cmd}
+use Rattle.hba_regs.specs.declared.reg.PortReg.TheVariants.{Cmd, Sctl}
 use Rattle.hba_regs.specs.declared.reg.Reg.TheVariants.{Px}
 use Rattle.adapter.specs.Access.{Reads, Writes, port_written, with_st, with_fre}
 use Rattle.adapter.specs.Access.Access.{Reading, Writing}
@@ -12,22 +12,28 @@ use Rattle.adapter.specs.Rules.{MayWrite, Stays}
 use Rattle.adapter.proofs.Calls.{SeenAt, seen, PutAt, put}
 use Rattle.agreement.specs.Driven.{AnyUse, IsControl, IsFollowed}
 use Rattle.agreement.specs.Driver.{AllFree, LeavesUses}
+use Rattle.agreement.specs.Errors.{ChangesByDisks}
+use Rattle.agreement.specs.Facts.{IsQuiet, IsRecorded}
 use Rattle.agreement.specs.Links.{PlugsNone}
 use Rattle.agreement.specs.Slots.{Use, Free, Uses, IsOver, IsServed}
 use Rattle.agreement.specs.Started.{IsUp, IsStarted}
 use Rattle.agreement.proofs.Allowing.{starting_may}
 use Rattle.agreement.proofs.Booting.{start_is_made}
-use Rattle.agreement.proofs.Causing.{command_written_notes}
+use Rattle.agreement.proofs.Causing.{access_clear, command_written_notes}
 use Rattle.agreement.proofs.ComingUp.{access_up}
 use Rattle.agreement.proofs.Controlled.{Grows, access_grows, grows_more}
 use Rattle.agreement.proofs.Driven.{followed_as, followed_then, followed_write}
+use Rattle.agreement.proofs.Erring.{access_change, access_undue}
 use Rattle.agreement.proofs.Noting.{command_noted, notes_read, shown_after}
+use Rattle.agreement.proofs.Recording.{stopped_recorded}
+use Rattle.agreement.proofs.Rewriting.{writes_recorded}
 use Rattle.agreement.proofs.Setting.{command_set, start_set}
-use Rattle.port_control.specs.Ports.{IsCommand, IsUsable, IsReceiving, IsRunning, SawIdle, SameButStart}
+use Rattle.agreement.proofs.Starting.{reads_quiet, steps_quiet}
+use Rattle.port_control.specs.Ports.{WritesCommand, IsUsable, ReceivesFises, IsRunning, SawIdle, SameButStart}
 use Rattle.port_control.proofs.Using.{command_spares, usable_after, usable_read, receiving_read}
 use Rattle.port_control.proofs.Ceasing.{IsButAt, bit_four, reading}
 use Rattle.port_control.proofs.Resetting.{grows_longer}
-use Rattle.port_control.proofs.Settling.{plugs_in_parts}
+use Rattle.port_control.proofs.Settling.{change_more, plugs_in_parts}
 
 -- a write of PxCMD leaves the addresses and PxSCTL.DET
 abbrev SameBases : PortState → PortState → Type 0
@@ -55,12 +61,12 @@ over_free P u is h = subst P is h
 abbrev NoneUsed : Port → Uses → Type 0
 NoneUsed port uses = AllFree uses port.0
 
-module _ (port : Port) (was v : ℕ) (old mid : Device) (u : IsUsable (NoneUsed port) port old) (read : Reads (Px port Cmd) was old mid) (receives : IsReceiving port.0 (old.port port.0))
+module _ (port : Port) (was v : ℕ) (old mid : Device) (u : IsUsable (NoneUsed port) port old) (read : Reads (Px port Cmd) was old mid) (receives : ReceivesFises port.0 (old.port port.0))
     (linked : (old.port port.0).notes.last_ssts % 16 ≡ 3) (idle : SawIdle (old.port port.0).notes) (one : bit v 0 ≡ true) (others : IsButAt 0 was v) where
   here : IsUsable (NoneUsed port) port mid
   here = usable_read (NoneUsed port) port Cmd was old mid u read
 
-  still : IsReceiving port.0 (mid.port port.0)
+  still : ReceivesFises port.0 (mid.port port.0)
   still = receiving_read port Cmd was old mid u.on.no_reset read receives
 
   fre : bit v 4 ≡ true
@@ -90,13 +96,13 @@ module _ (port : Port) (was v : ℕ) (old mid : Device) (u : IsUsable (NoneUsed 
   start_leaves uses free = record { start = λ on. inr free; receive = λ on. (here.there.0, ap (λ (b : Bases). b.fb) still.bases) }
 
   module _ (new : Device) (write : Writes (Px port Cmd) v mid new) where
-    pub start_followed : IsFollowed (IsControl IsCommand port) (NoneUsed port) old new
-    start_followed = followed_then (IsControl IsCommand port) (NoneUsed port) old mid new
-        (followed_as (IsControl IsCommand port) (IsControl IsCommand port) AnyUse (NoneUsed port) old mid (λ access is. is) (λ uses is. tt) (reading port was old mid read))
-        (followed_write (IsControl IsCommand port) (NoneUsed port) (Px port Cmd) v mid new (refl, refl) start_may start_leaves write)
+    pub start_followed : IsFollowed (IsControl WritesCommand port) (NoneUsed port) old new
+    start_followed = followed_then (IsControl WritesCommand port) (NoneUsed port) old mid new
+        (followed_as (IsControl WritesCommand port) (IsControl WritesCommand port) AnyUse (NoneUsed port) old mid (λ access is. is) (λ uses is. tt) (reading port was old mid read))
+        (followed_write (IsControl WritesCommand port) (NoneUsed port) (Px port Cmd) v mid new (refl, refl) start_may start_leaves write)
 
     pub start_usable : IsUsable (NoneUsed port) port new
-    start_usable = usable_after IsCommand (NoneUsed port) port old new command_spares u start_followed
+    start_usable = usable_after WritesCommand (NoneUsed port) port old new command_spares u start_followed
 
     started : ((new.port port.0).cr ≡ true) × ((new.port port.0).notes.st_set_at ≡ length new.tape)
     started = start_set port v mid new still.stopped.halted.st one write
@@ -148,3 +154,28 @@ module _ (port : Port) (was v : ℕ) (old mid : Device) (u : IsUsable (NoneUsed 
         start_is_made port v mid new here.on.no_reset still.stopped.halted.st still.stopped.halted.cr one write
         (access_up port (Reading (Px port Cmd) was) old mid u.on.no_reset receives.stopped.halted.cr (λ n (e : Reading (Px port Cmd) was ≡ Writing (Px port Cmd) n). absurd (cc)) tt parts.0 read up)
         parts.1
+
+    -- ---- what was there before: nothing new comes while ST is set
+
+    pub start_calm : (place : ℕ) → (old.port port.0).is place ≡ false → (new.port port.0).is place ≡ false
+    start_calm place clear =
+        access_clear place port (Writing (Px port Cmd) v) mid new still.stopped.halted.cr write
+        (access_clear place port (Reading (Px port Cmd) was) old mid receives.stopped.halted.cr read clear)
+
+    undue_mid : (old.port port.0).link_due ≡ false → (mid.port port.0).link_due ≡ false
+    undue_mid undue = access_undue port (Reading (Px port Cmd) was) old mid u.on.no_reset undue tt read
+
+    pub start_undue : (old.port port.0).link_due ≡ false → (new.port port.0).link_due ≡ false
+    start_undue undue = access_undue port (Writing (Px port Cmd) v) mid new here.on.no_reset (undue_mid undue) (λ (e : Px port Cmd ≡ Px port Sctl). absurd (cc)) write
+
+    pub start_changes : (old.port port.0).link_due ≡ false → ChangesByDisks port.0 old new
+    start_changes undue = change_more port.0 old mid new early late
+        (access_change port (Reading (Px port Cmd) was) old mid u.on.no_reset undue read)
+        (access_change port (Writing (Px port Cmd) v) mid new here.on.no_reset (undue_mid undue) write)
+
+    -- ST is set on a quiet port
+    pub start_recorded : IsQuiet (old.port port.0) → IsRecorded new.tape (new.port port.0) port.0
+    start_recorded quiet =
+        writes_recorded port.0 (Px port Cmd) v mid new start_may
+        (λ d steps set. inr (steps_quiet port.0 mid d steps (reads_quiet port.0 (Px port Cmd) was old mid read quiet))) write
+        (stopped_recorded mid.tape (mid.port port.0) port.0 still.stopped.halted.st)

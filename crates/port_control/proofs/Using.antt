@@ -11,7 +11,7 @@ use Rattle.adapter.specs.Kept.{KeepsPort, KeepsControls}
 use Rattle.adapter.specs.Rules.{HasPort, MayWrite, Stays}
 use Rattle.adapter.proofs.Absurd.{true-false}
 use Rattle.adapter.proofs.Calls.{SeenAt, seen, PutAt, put}
-use Rattle.agreement.specs.Driven.{IsAgreed, IsControl, IsFollowed}
+use Rattle.agreement.specs.Driven.{AnyUse, IsAgreed, IsControl, IsFollowed}
 use Rattle.agreement.specs.Links.{SameAdapter}
 use Rattle.agreement.specs.Slots.{Use, Free, Own, Serves, Uses, IsServed, Stage, OwnWaits, OwnTaken, OwnOver}
 use Rattle.agreement.proofs.Causing.{written_notes}
@@ -20,11 +20,11 @@ use Rattle.agreement.proofs.Driven.{followed_as, followed_read}
 use Rattle.agreement.proofs.Halting.{halted_on, halted_writes}
 use Rattle.agreement.proofs.Noting.{notes_read}
 use Rattle.agreement.proofs.Unarmed.{unarmed_writes}
-use Rattle.port_control.specs.Ports.{IsCommand, IsPlacing, IsClearing, IsResetting, IsUsable, IsStopped, IsReceiving, SameButCommand, SameBeside}
+use Rattle.port_control.specs.Ports.{WritesCommand, IsPlacing, IsClearing, IsResetting, IsUsable, IsStopped, ReceivesFises, SameButCommand, SameBeside}
 
 -- ---- no kind has PxSACT
 
-pub command_spares : IsCommand Sact → ⊥
+pub command_spares : WritesCommand Sact → ⊥
 command_spares e = absurd (let k : Sact ≡ Cmd = e in cc)
 
 pub placing_spares : IsPlacing Sact → ⊥
@@ -64,8 +64,8 @@ followed_wider Written More Fits port old new wider f =
 -- over a reading, of any kind
 pub usable_read : (Fits : Uses → Type 0) (port : Port) (r : PortReg) (v : ℕ) (old new : Device) → IsUsable Fits port old → Reads (Px port r) v old new → IsUsable Fits port new
 usable_read Fits port r v old new u call =
-    let f = followed_read (IsControl IsCommand port) (Px port r) v old new refl call in
-    usable_after IsCommand Fits port old new command_spares u (record { driven = f.driven; adds = λ uses parked is. f.adds uses parked tt })
+    usable_after WritesCommand Fits port old new command_spares u (followed_as (IsControl WritesCommand port) (IsControl WritesCommand port) AnyUse Fits old new (λ access may. may) (λ uses is. tt)
+    (followed_read (IsControl WritesCommand port) (Px port r) v old new refl call))
 
 -- ---- bits of CI and SACT, where ST is 0
 
@@ -133,13 +133,13 @@ module _ (port : Port) (v : ℕ) (old new : Device) (off : old.hr ≡ false) (ze
 pub stopped_on : {p q : PortState} → KeepsPort p q → IsStopped p → IsStopped q
 stopped_on k h = record { halted = halted_on k h.halted; sact = λ slot. k.sact slot (h.sact slot) }
 
-pub receiving_on : {port : ℕ} {p q : PortState} → KeepsPort p q → KeepsControls p q → IsReceiving port p → IsReceiving port q
+pub receiving_on : {port : ℕ} {p q : PortState} → KeepsPort p q → KeepsControls p q → ReceivesFises port p → ReceivesFises port q
 receiving_on k c h = record { stopped = stopped_on k h.stopped; fre = c.fre ∙ h.fre; bases = k.bases ∙ h.bases }
 
 pub stopped_read : (port : Port) (r : PortReg) (v : ℕ) (old new : Device) → old.hr ≡ false → Reads (Px port r) v old new → IsStopped (old.port port.0) → IsStopped (new.port port.0)
 stopped_read port r v old new off call h = stopped_on ((seen port r v old new call off).keeps.port port.0) h
 
-pub receiving_read : (port : Port) (r : PortReg) (v : ℕ) (old new : Device) → old.hr ≡ false → Reads (Px port r) v old new → IsReceiving port.0 (old.port port.0) → IsReceiving port.0 (new.port port.0)
+pub receiving_read : (port : Port) (r : PortReg) (v : ℕ) (old new : Device) → old.hr ≡ false → Reads (Px port r) v old new → ReceivesFises port.0 (old.port port.0) → ReceivesFises port.0 (new.port port.0)
 receiving_read port r v old new off call h = let s = seen port r v old new call off in receiving_on (s.keeps.port port.0) (s.keeps.on.controls port.0) h
 
 pub stopped_command : (port : Port) (v : ℕ) (old new : Device) → Stays (MayWrite (Px port Cmd) v) old → bit v 0 ≡ false → Writes (Px port Cmd) v old new →
@@ -150,8 +150,8 @@ stopped_command port v old new may zero call h = record {
 }
 
 -- PxSCTL, PxSERR or PxIS is written
-module _ (port : ℕ) (v tape : ℕ) (p : PortState) (h : IsReceiving port p) where
-  same_receiving : (q : PortState) → q.st ≡ p.st → q.cr ≡ p.cr → q.ci ≡ p.ci → q.taken ≡ p.taken → q.sact ≡ p.sact → q.fre ≡ p.fre → q.bases ≡ p.bases → IsReceiving port q
+module _ (port : ℕ) (v tape : ℕ) (p : PortState) (h : ReceivesFises port p) where
+  same_receiving : (q : PortState) → q.st ≡ p.st → q.cr ≡ p.cr → q.ci ≡ p.ci → q.taken ≡ p.taken → q.sact ≡ p.sact → q.fre ≡ p.fre → q.bases ≡ p.bases → ReceivesFises port q
   same_receiving q st cr ci taken sact fre bases = record {
     stopped = record {
       halted = record {
@@ -166,12 +166,12 @@ module _ (port : ℕ) (v tape : ℕ) (p : PortState) (h : IsReceiving port p) wh
     bases = bases ∙ h.bases;
   }
 
-  written_receiving : (r : PortReg) → IsResetting r → IsReceiving port (port_written r v tape p)
-  written_receiving r (inl e) = subst (λ (z : PortReg). IsReceiving port (port_written z v tape p)) (sym e) (same_receiving _ refl refl refl refl refl refl refl)
-  written_receiving r (inr (inl e)) = subst (λ (z : PortReg). IsReceiving port (port_written z v tape p)) (sym e) (same_receiving _ refl refl refl refl refl refl refl)
-  written_receiving r (inr (inr e)) = subst (λ (z : PortReg). IsReceiving port (port_written z v tape p)) (sym e) (same_receiving _ refl refl refl refl refl refl refl)
+  written_receiving : (r : PortReg) → IsResetting r → ReceivesFises port (port_written r v tape p)
+  written_receiving r (inl e) = subst (λ (z : PortReg). ReceivesFises port (port_written z v tape p)) (sym e) (same_receiving _ refl refl refl refl refl refl refl)
+  written_receiving r (inr (inl e)) = subst (λ (z : PortReg). ReceivesFises port (port_written z v tape p)) (sym e) (same_receiving _ refl refl refl refl refl refl refl)
+  written_receiving r (inr (inr e)) = subst (λ (z : PortReg). ReceivesFises port (port_written z v tape p)) (sym e) (same_receiving _ refl refl refl refl refl refl refl)
 
-pub receiving_write : (port : Port) (r : PortReg) (v : ℕ) (old new : Device) → old.hr ≡ false → IsResetting r → Writes (Px port r) v old new → IsReceiving port.0 (old.port port.0) → IsReceiving port.0 (new.port port.0)
+pub receiving_write : (port : Port) (r : PortReg) (v : ℕ) (old new : Device) → old.hr ≡ false → IsResetting r → Writes (Px port r) v old new → ReceivesFises port.0 (old.port port.0) → ReceivesFises port.0 (new.port port.0)
 receiving_write port r v old new off kind call h =
     let w : PutAt port.0 r v old new = put port r v old new call off in
-    subst (IsReceiving port.0) (sym w.here) (written_receiving port.0 v _ (w.mid.port port.0) (receiving_on (w.keeps.port port.0) (w.keeps.on.controls port.0) h) r kind)
+    subst (ReceivesFises port.0) (sym w.here) (written_receiving port.0 v _ (w.mid.port port.0) (receiving_on (w.keeps.port port.0) (w.keeps.on.controls port.0) h) r kind)

@@ -4,13 +4,15 @@ use Rattle.std.specs.Prelude.{ℕ, true, false, ◌≡◌, ◌≢◌, ◌<◌, �
 use Rattle.ata_types.specs.declared.Port.{Port}
 use Rattle.hba_regs.specs.Bits.{bit}
 use Rattle.hba_regs.specs.declared.reg.PortReg.{PortReg}
-use Rattle.hba_regs.specs.declared.reg.PortReg.TheVariants.{Clb, Clbu, Fb, Fbu, Is, Cmd, Sctl, Serr}
+use Rattle.hba_regs.specs.declared.reg.PortReg.TheVariants.{Clb, Clbu, Fb, Fbu, Is, Cmd, Tfd, Sig, Ssts, Sctl, Serr}
 use Rattle.hba_regs.specs.declared.reg.Reg.TheVariants.{Px}
-use Rattle.adapter.specs.Access.{Writes}
+use Rattle.adapter.specs.Access.{Access, Reads, Writes}
+use Rattle.adapter.specs.Access.Access.{Reading}
 use Rattle.adapter.specs.Device.{Bases, Notes, PortState, Device}
 use Rattle.adapter.specs.Rules.{IsOn, HasPort}
-use Rattle.agreement.specs.Driven.{AgreesWith, IsControl, IsDrivenBy}
-use Rattle.agreement.specs.Facts.{IsHalted}
+use Rattle.agreement.specs.Driven.{AgreesWith, IsDrivenBy}
+use Rattle.agreement.specs.Errors.{NoneComes}
+use Rattle.agreement.specs.Facts.{IsAwaited, IsHalted, IsQuiet}
 use Rattle.agreement.specs.Links.{PlugsNone}
 use Rattle.agreement.specs.Places.{list_of, received_of}
 use Rattle.agreement.specs.Slots.{Uses}
@@ -21,8 +23,8 @@ use Rattle.port_control.specs.declared.PortFault.TheVariants.{NoDevice, Busy, En
 -- ---- registers
 
 -- PxCMD alone
-abbrev pub IsCommand : PortReg → Type 0
-IsCommand r = r ≡ Cmd
+abbrev pub WritesCommand : PortReg → Type 0
+WritesCommand r = r ≡ Cmd
 
 -- PxCMD, and the addresses of the command list and of the received FIS area
 abbrev pub IsPlacing : PortReg → Type 0
@@ -55,7 +57,7 @@ pub record IsStopped (p : PortState) : Type 0 where
   pub sact : (slot : ℕ) → p.sact slot ≡ false
 
 -- Stopped, and FISes are received, with command list and received FIS area in their places.
-pub record IsReceiving (port : ℕ) (p : PortState) : Type 0 where
+pub record ReceivesFises (port : ℕ) (p : PortState) : Type 0 where
   pub stopped : IsStopped p
   pub fre : p.fre ≡ true
   pub bases : p.bases ≡ programmed port
@@ -70,15 +72,23 @@ pub record IsRunning (port : ℕ) (p : PortState) : Type 0 where
   pub sact : (slot : ℕ) → p.sact slot ≡ false
   pub taken : (slot : ℕ) → p.taken slot ≡ None
 
--- ---- what the last readings showed
+-- ---- what readings show
+
+-- a value of PxSSTS shows a device with a link: DET is 3 (AHCI 1.3.1, 3.3.10)
+abbrev pub HasLink : ℕ → Type 0
+HasLink v = v % 16 ≡ 3
+
+-- a value of PxTFD shows neither BSY nor DRQ (AHCI 1.3.1, 3.3.8)
+abbrev pub ShowsIdle : ℕ → Type 0
+ShowsIdle v = bit v 7 || bit v 3 ≡ false
 
 -- a device with a link, since SCTL was written
 abbrev pub SawDevice : Notes → Type 0
-SawDevice n = (n.last_ssts % 16 ≡ 3) × (n.link_count ≡ 64)
+SawDevice n = HasLink n.last_ssts × (n.link_count ≡ 64)
 
 -- neither BSY nor DRQ
 abbrev pub SawIdle : Notes → Type 0
-SawIdle n = bit n.last_tfd 7 || bit n.last_tfd 3 ≡ false
+SawIdle n = ShowsIdle n.last_tfd
 
 -- What stands behind a fault: the count of the awaited readings is 64; or the signature was another than an ATA
 -- disk's.
@@ -118,33 +128,94 @@ pub record HasStopped (old new : PortState) : Type 0 where
   pub sctl_det : new.sctl_det ≡ old.sctl_det
   pub notes : SameButCommand old.notes new.notes
 
--- COMRESET was sent, and ended; after that nothing but PxSERR and PxIS was written, and PxSCTL.DET is 0.
-pub record WasReset (port : Port) (old new : Device) : Type 0 where
+-- it reads this register of the port, whose value doesn't show this
+abbrev pub ReadsNot : Port → PortReg → (ℕ → Type 0) → Access → Type 0
+ReadsNot port r Shown (Reading at v) = (at ≡ Px port r) × (Shown v → ⊥)
+ReadsNot port r Shown access = ⊥
+
+-- The register was read so many times, and no value showed this; nothing else was done.
+pub record ReadsWithout (port : Port) (r : PortReg) (Shown : ℕ → Type 0) (count : ℕ) (old new : Device) : Type 0 where
+  pub reads : IsDrivenBy (ReadsNot port r Shown) old new
+  pub number : length reads.accesses ≡ count
+
+-- The register was read until its value showed this, 64 times at most.
+pub record ReadsUntil (port : Port) (r : PortReg) (Shown : ℕ → Type 0) (old new : Device) : Type 0 where
+  pub count : ℕ
+  pub few : count < 64
+  pub waited : Device
+  pub waits : ReadsWithout port r Shown count old waited
+  pub value : ℕ
+  pub shown : Shown value
+  pub reads : Reads (Px port r) value waited new
+
+-- Each bit of PxSERR was cleared, and then each of PxIS (AHCI 1.3.1, 3.3.5 and 3.3.12).
+pub record ClearsErrors (port : Port) (old new : Device) : Type 0 where
+  pub between : Device
+  pub errors : Writes (Px port Serr) 0xffffffff old between
+  pub causes : Writes (Px port Is) 0xffffffff between new
+
+-- PxSSTS was read until it showed a device with a link, and the errors were cleared that it told by then (AHCI 1.3.1,
+-- 10.1.2 and 10.4.2).
+pub record FindsLink (port : Port) (old new : Device) : Type 0 where
+  pub seen : Device
+  pub sees : ReadsUntil port Ssts HasLink old seen
+  pub clears : ClearsErrors port seen new
+
+-- After that PxTFD was read until it showed neither BSY nor DRQ, and PxSIG showed this signature.
+pub record FindsSignature (port : Port) (signature : ℕ) (old new : Device) : Type 0 where
+  pub linked : Device
+  pub links : FindsLink port old linked
+  pub idle : Device
+  pub waits : ReadsUntil port Tfd ShowsIdle linked idle
+  pub reads : Reads (Px port Sig) signature idle new
+
+-- Or 64 readings of PxTFD showed BSY or DRQ.
+pub record FindsBusy (port : Port) (old new : Device) : Type 0 where
+  pub linked : Device
+  pub links : FindsLink port old linked
+  pub waits : ReadsWithout port Tfd ShowsIdle 64 linked new
+
+-- What was done after COMRESET, where a fault is told: without a device, 64 readings of PxSSTS never showed one.
+abbrev pub Looks : Port → PortFault → Device → Device → Type 0
+Looks port NoDevice old new = ReadsWithout port Ssts HasLink 64 old new
+Looks port Busy old new = FindsBusy port old new
+Looks port (NotAta signature) old new = FindsSignature port signature old new
+Looks port EngineStuck old new = ⊥
+
+-- COMRESET was sent first of all, and ended; then this was done. PxSCTL.DET is 0.
+pub record WasReset (port : Port) (Then : Device → Device → Type 0) (old new : Device) : Type 0 where
   pub sent : Device
   pub sends : Writes (Px port Sctl) 1 old sent
   pub ended : Device
   pub ends : Writes (Px port Sctl) 0 sent ended
-  pub rest : IsDrivenBy (IsControl IsClearing port) ended new
+  pub rest : Then ended new
   pub det : (new.port port.0).sctl_det ≡ 0
   pub since : length old.tape ≤ (new.port port.0).notes.sctl_written_at
   pub marked : (new.port port.0).notes.sctl_written_at ≤ length new.tape
 
--- PxSERR shows neither N nor X
-abbrev pub IsClear : PortState → Type 0
-IsClear p = (p.serr_n ≡ false) × (p.serr_x ≡ false)
+-- PxSERR shows N only where a disk of the port went or came since, and X only where one came: nothing is left of what was
+-- before (AHCI 1.3.1, 3.3.12).
+pub record HasClearErrors (port : ℕ) (old new : Device) : Type 0 where
+  pub serr_n : PlugsNone port old new → (new.port port).serr_n ≡ false
+  pub serr_x : NoneComes port old new → (new.port port).serr_x ≡ false
 
--- A device was seen since COMRESET: PxIS was cleared; and where no disk went or came, the link is up, with the disk's
--- first FIS received, and PxSERR is clear.
+-- A device was seen since COMRESET, and PxSERR and PxIS were cleared. Where no disk came, the link isn't due to come up
+-- any more; where none went either, it is up, with the disk's first FIS received. And whatever went or came: once PxTFD
+-- is read without DRQ, which it shows from COMRESET until the link comes up, the link isn't due, so that ST may be set.
 pub record IsFound (port : ℕ) (old new : Device) : Type 0 where
   pub calm : (place : ℕ) → place < 32 → (new.port port).is place ≡ false
+  pub clear : HasClearErrors port old new
+  pub undue : NoneComes port old new → (new.port port).link_due ≡ false
   pub up : PlugsNone port old new → IsUp (new.port port)
-  pub clear : PlugsNone port old new → IsClear (new.port port)
+  pub quiet : bit (new.port port).notes.last_tfd 3 ≡ false → IsQuiet (new.port port)
 
--- So it is where the link was coming up before.
+-- So it is where the link was coming up before, and was awaited.
 pub record FindsDevice (port : ℕ) (old new : Device) : Type 0 where
   pub calm : (place : ℕ) → place < 32 → (new.port port).is place ≡ false
+  pub clear : IsComingUp (old.port port) → HasClearErrors port old new
+  pub undue : NoneComes port old new → IsComingUp (old.port port) → (new.port port).link_due ≡ false
   pub up : PlugsNone port old new → IsComingUp (old.port port) → IsUp (new.port port)
-  pub clear : PlugsNone port old new → IsComingUp (old.port port) → IsClear (new.port port)
+  pub quiet : IsAwaited (old.port port) → bit (new.port port).notes.last_tfd 3 ≡ false → IsQuiet (new.port port)
 
 -- the signature that was read last is the one that the port shows
 abbrev pub ShowsSignature : PortState → Type 0

@@ -4,14 +4,15 @@
 
 ghost use Rattle.std.specs.Prelude.{ℕ, ◌≡◌, ◌≢◌, ◌<◌, ◌≤◌, ◌%◌, ◌||◌, true, false, length, IfOk, IfErr, OnOk, OnErr, IsOk};
 ghost use Rattle.hba_regs.specs.Bits.{bit};
+ghost use Rattle.hba_regs.specs.declared.reg.PortReg.TheVariants.{Ssts, Tfd};
 ghost use Rattle.adapter.specs.Rules.{IsOn, HasPort};
 ghost use Rattle.agreement.specs.Driven.{AgreesWith, AnyUse, IsControl, IsFollowed};
 ghost use Rattle.agreement.specs.Driver.{AllFree};
-ghost use Rattle.agreement.specs.Errors.{NoneComes};
-ghost use Rattle.agreement.specs.Facts.{IsAfterReset};
+ghost use Rattle.agreement.specs.Errors.{NoneComes, ChangesByDisks};
+ghost use Rattle.agreement.specs.Facts.{IsAfterReset, IsAwaited, IsQuiet, IsRecorded, IsUnflagged};
 ghost use Rattle.agreement.specs.Links.{PlugsNone};
 ghost use Rattle.agreement.specs.Started.{IsUp, IsComingUp, IsStarted};
-ghost use Rattle.port_control.specs.Ports.{IsCommand, IsPlacing, IsClearing, IsResetting, IsUsable, IsStopped, IsReceiving, IsRunning, SawDevice, SawIdle, Shows, SameBeside, HasStopped, WasReset, IsClear, FindsDevice, IsFound, ShowsSignature, SameButStart, programmed};
+ghost use Rattle.port_control.specs.Ports.{WritesCommand, IsPlacing, IsClearing, IsResetting, IsUsable, IsStopped, ReceivesFises, IsRunning, SawDevice, SawIdle, Shows, SameBeside, HasStopped, HasLink, ShowsIdle, ReadsWithout, ReadsUntil, ClearsErrors, FindsSignature, Looks, WasReset, HasClearErrors, FindsDevice, IsFound, ShowsSignature, SameButStart, programmed};
 
 use adapter::Adapter;
 use ata_types::Port;
@@ -76,7 +77,7 @@ impl Running {
 /// Why a port didn't get where it was to.
 #[derive(Clone, Copy, Debug, PartialEq, Eq)]
 pub enum PortFault {
-    /// No device with a link was seen: by 64 readings, or one was seen and went.
+    /// 64 readings found no device with a link.
     NoDevice,
     /// 64 readings found the device busy, or asking for a transfer.
     Busy,
@@ -101,7 +102,7 @@ pub fn stop<A: Adapter>(adapter: &mut A, port: Port) -> Result<Stopped, PortFaul
     requires on { IsOn (A.device adapter.old) }
     requires there { HasPort (A.device adapter.old) port.0 }
     requires agreed { AgreesWith AnyUse (A.device adapter.old) }
-    ensures followed { IsFollowed (IsControl IsCommand port) AnyUse (A.device adapter.old) (A.device adapter.new) }
+    ensures followed { IsFollowed (IsControl WritesCommand port) AnyUse (A.device adapter.old) (A.device adapter.new) }
     ensures on { IsOn (A.device adapter.new) }
     ensures has { HasStopped ((A.device adapter.old).port port.0) ((A.device adapter.new).port port.0) }
     ensures names { IfOk result (λ token. token.port ≡ port) }
@@ -124,7 +125,7 @@ pub fn stop<A: Adapter>(adapter: &mut A, port: Port) -> Result<Stopped, PortFaul
 fn stop_receiving<A: Adapter>(adapter: &mut A, port: Port) -> bool
     requires usable { IsUsable AnyUse port (A.device adapter.old) }
     requires stopped { IsStopped ((A.device adapter.old).port port.0) }
-    ensures followed { IsFollowed (IsControl IsCommand port) AnyUse (A.device adapter.old) (A.device adapter.new) }
+    ensures followed { IsFollowed (IsControl WritesCommand port) AnyUse (A.device adapter.old) (A.device adapter.new) }
     ensures stopped { IsStopped ((A.device adapter.new).port port.0) }
     ensures fre { ((A.device adapter.new).port port.0).fre ≡ false }
     ensures bases { ((A.device adapter.new).port port.0).bases ≡ ((A.device adapter.old).port port.0).bases }
@@ -165,8 +166,8 @@ fn start_receiving<A: Adapter>(adapter: &mut A, port: Port)
     requires usable { IsUsable AnyUse port (A.device adapter.old) }
     requires quiet { IsAfterReset ((A.device adapter.old).port port.0) }
     requires bases { ((A.device adapter.old).port port.0).bases ≡ programmed port.0 }
-    ensures followed { IsFollowed (IsControl IsCommand port) AnyUse (A.device adapter.old) (A.device adapter.new) }
-    ensures receives { IsReceiving port.0 ((A.device adapter.new).port port.0) }
+    ensures followed { IsFollowed (IsControl WritesCommand port) AnyUse (A.device adapter.old) (A.device adapter.new) }
+    ensures receives { ReceivesFises port.0 ((A.device adapter.new).port port.0) }
     ensures same { SameBeside ((A.device adapter.old).port port.0) ((A.device adapter.new).port port.0) }
 {
     let command = PortCommand(adapter.read(Reg::Px(port, PortReg::Cmd)));
@@ -194,7 +195,7 @@ pub fn receive<A: Adapter>(
     ensures same { SameBeside ((A.device adapter.old).port stopped.port.0)
         ((A.device adapter.new).port stopped.port.0) }
     ensures names { IfOk result (λ token. token.port ≡ stopped.port) }
-    ensures receives { OnOk result (IsReceiving stopped.port.0 ((A.device adapter.new).port stopped.port.0)) }
+    ensures receives { OnOk result (ReceivesFises stopped.port.0 ((A.device adapter.new).port stopped.port.0)) }
     ensures fault { IfErr result (λ fault. (fault.0 ≡ PortFault.EngineStuck) × (fault.1 ≡ stopped)) }
     ensures stuck { OnErr result (Shows PortFault.EngineStuck ((A.device adapter.new).port stopped.port.0).notes) }
     ensures fre { OnErr result (((A.device adapter.new).port stopped.port.0).fre ≡ false) }
@@ -213,10 +214,11 @@ pub fn receive<A: Adapter>(
 // Sends COMRESET, and ends it (AHCI 1.3.1, 10.4.2).
 fn send_comreset<A: Adapter>(adapter: &mut A, port: Port)
     requires usable { IsUsable AnyUse port (A.device adapter.old) }
-    requires receives { IsReceiving port.0 ((A.device adapter.old).port port.0) }
+    requires receives { ReceivesFises port.0 ((A.device adapter.old).port port.0) }
     ensures followed { IsFollowed (IsControl IsResetting port) AnyUse (A.device adapter.old) (A.device adapter.new) }
-    ensures receives { IsReceiving port.0 ((A.device adapter.new).port port.0) }
-    ensures reset { WasReset port (A.device adapter.old) (A.device adapter.new) }
+    ensures receives { ReceivesFises port.0 ((A.device adapter.new).port port.0) }
+    ensures reset { WasReset port (λ ended new. new ≡ ended) (A.device adapter.old) (A.device adapter.new) }
+    ensures awaited { IsAwaited ((A.device adapter.new).port port.0) }
     ensures coming { NoneComes port.0 (A.device adapter.old) (A.device adapter.new) → IsComingUp
         ((A.device adapter.new).port port.0) }
 {
@@ -231,6 +233,9 @@ fn wait_for_device<A: Adapter>(adapter: &mut A, port: Port) -> bool
     ensures followed { IsFollowed (IsControl IsClearing port) AnyUse (A.device adapter.old) (A.device adapter.new) }
     ensures saw { result ≡ true → SawDevice ((A.device adapter.new).port port.0).notes }
     ensures missing { result ≡ false → Shows PortFault.NoDevice ((A.device adapter.new).port port.0).notes }
+    ensures sees { result ≡ true → ReadsUntil port Ssts HasLink (A.device adapter.old) (A.device adapter.new) }
+    ensures misses { result ≡ false → ReadsWithout port Ssts HasLink 64 (A.device adapter.old)
+        (A.device adapter.new) }
     ensures up { result ≡ true → NoneComes port.0 (A.device adapter.old) (A.device adapter.new)
         → IsComingUp ((A.device adapter.old).port port.0) → IsUp ((A.device adapter.new).port port.0) }
 {
@@ -246,13 +251,14 @@ fn wait_for_device<A: Adapter>(adapter: &mut A, port: Port) -> bool
 // Clears what the link and the port have told so far: PxSERR, and then PxIS.
 fn clear_errors<A: Adapter>(adapter: &mut A, port: Port)
     requires usable { IsUsable AnyUse port (A.device adapter.old) }
-    requires receives { IsReceiving port.0 ((A.device adapter.old).port port.0) }
+    requires receives { ReceivesFises port.0 ((A.device adapter.old).port port.0) }
     ensures followed { IsFollowed (IsControl IsClearing port) AnyUse (A.device adapter.old) (A.device adapter.new) }
     ensures saw { SawDevice ((A.device adapter.old).port port.0).notes → SawDevice
         ((A.device adapter.new).port port.0).notes }
     ensures calm { (place : ℕ) → place < 32 → ((A.device adapter.new).port port.0).is place ≡ false }
-    ensures clear { PlugsNone port.0 (A.device adapter.old) (A.device adapter.new) → IsUp
-        ((A.device adapter.old).port port.0) → IsClear ((A.device adapter.new).port port.0) }
+    ensures clears { ClearsErrors port (A.device adapter.old) (A.device adapter.new) }
+    ensures clear { ((A.device adapter.old).port port.0).link_due ≡ false → HasClearErrors port.0
+        (A.device adapter.old) (A.device adapter.new) }
 {
     adapter.write(Reg::Px(port, PortReg::Serr), ALL_ONES);
     adapter.write(Reg::Px(port, PortReg::Is), ALL_ONES);
@@ -267,6 +273,12 @@ fn wait_until_idle<A: Adapter>(adapter: &mut A, port: Port) -> bool
     ensures saw { SawDevice ((A.device adapter.new).port port.0).notes }
     ensures idle { result ≡ true → SawIdle ((A.device adapter.new).port port.0).notes }
     ensures busy { result ≡ false → Shows PortFault.Busy ((A.device adapter.new).port port.0).notes }
+    ensures waits { result ≡ true → ReadsUntil port Tfd ShowsIdle (A.device adapter.old) (A.device adapter.new) }
+    ensures stays { result ≡ false → ReadsWithout port Tfd ShowsIdle 64 (A.device adapter.old)
+        (A.device adapter.new) }
+    ensures quiet { IsAwaited ((A.device adapter.old).port port.0) → IsUnflagged ((A.device adapter.old).port port.0)
+        → bit ((A.device adapter.new).port port.0).notes.last_tfd 3 ≡ false
+        → IsQuiet ((A.device adapter.new).port port.0) }
 {
     for _reading in 0..READINGS {
         let task_file = TaskFile(adapter.read(Reg::Px(port, PortReg::Tfd)));
@@ -280,13 +292,15 @@ fn wait_until_idle<A: Adapter>(adapter: &mut A, port: Port) -> bool
 // Looks for an ATA disk that is idle, once COMRESET was sent.
 fn look<A: Adapter>(adapter: &mut A, port: Port) -> Result<(), PortFault>
     requires usable { IsUsable AnyUse port (A.device adapter.old) }
-    requires receives { IsReceiving port.0 ((A.device adapter.old).port port.0) }
+    requires receives { ReceivesFises port.0 ((A.device adapter.old).port port.0) }
     requires det { ((A.device adapter.old).port port.0).sctl_det ≡ 0 }
     ensures followed { IsFollowed (IsControl IsClearing port) AnyUse (A.device adapter.old) (A.device adapter.new) }
     ensures ready { OnOk result (let notes = ((A.device adapter.new).port port.0).notes in SawDevice notes
         × SawIdle notes × (notes.last_sig ≡ 0x101)) }
     ensures fault { IfErr result (λ fault. Shows fault ((A.device adapter.new).port port.0).notes
         × (fault ≢ PortFault.EngineStuck)) }
+    ensures looks { OnOk result (FindsSignature port 0x101 (A.device adapter.old) (A.device adapter.new)) }
+    ensures looks_at_fault { IfErr result (λ fault. Looks port fault (A.device adapter.old) (A.device adapter.new)) }
     ensures found { OnOk result (FindsDevice port.0 (A.device adapter.old) (A.device adapter.new)) }
     ensures found_at_fault { IfErr result (λ fault. fault ≢ PortFault.NoDevice → FindsDevice port.0
         (A.device adapter.old) (A.device adapter.new)) }
@@ -311,7 +325,7 @@ fn look<A: Adapter>(adapter: &mut A, port: Port) -> Result<(), PortFault>
 /// A stopped port that receives FISes still, with list and area in their places, as `stop` leaves one that did. No
 /// register is read or written.
 pub fn keep_receiving<A: Adapter>(_adapter: &A, stopped: Stopped) -> Receiving
-    requires { IsReceiving stopped.port.0 ((A.device _adapter.now).port stopped.port.0) }
+    requires { ReceivesFises stopped.port.0 ((A.device _adapter.now).port stopped.port.0) }
     ensures { result.port ≡ stopped.port }
 {
     Receiving { port: stopped.port }
@@ -330,12 +344,15 @@ pub fn comreset<A: Adapter>(
     requires on { IsOn (A.device adapter.old) }
     requires there { HasPort (A.device adapter.old) receiving.port.0 }
     requires agreed { AgreesWith AnyUse (A.device adapter.old) }
-    requires receives { IsReceiving receiving.port.0 ((A.device adapter.old).port receiving.port.0) }
+    requires receives { ReceivesFises receiving.port.0 ((A.device adapter.old).port receiving.port.0) }
     ensures followed { IsFollowed (IsControl IsResetting receiving.port) AnyUse (A.device adapter.old)
         (A.device adapter.new) }
     ensures on { IsOn (A.device adapter.new) }
-    ensures receives { IsReceiving receiving.port.0 ((A.device adapter.new).port receiving.port.0) }
-    ensures reset { WasReset receiving.port (A.device adapter.old) (A.device adapter.new) }
+    ensures receives { ReceivesFises receiving.port.0 ((A.device adapter.new).port receiving.port.0) }
+    ensures reset { OnOk result (WasReset receiving.port (FindsSignature receiving.port 0x101) (A.device adapter.old)
+        (A.device adapter.new)) }
+    ensures reset_at_fault { IfErr result (λ fault. WasReset receiving.port (Looks receiving.port fault.0)
+        (A.device adapter.old) (A.device adapter.new)) }
     ensures coming { NoneComes receiving.port.0 (A.device adapter.old) (A.device adapter.new) → IsComingUp
         ((A.device adapter.new).port receiving.port.0) }
     ensures names { IfOk result (λ token. token.port ≡ receiving.port) }
@@ -372,10 +389,10 @@ pub fn start<A: Adapter>(
     requires on { IsOn (A.device adapter.old) }
     requires there { HasPort (A.device adapter.old) receiving.port.0 }
     requires agreed { AgreesWith (λ uses. AllFree uses receiving.port.0) (A.device adapter.old) }
-    requires receives { IsReceiving receiving.port.0 ((A.device adapter.old).port receiving.port.0) }
+    requires receives { ReceivesFises receiving.port.0 ((A.device adapter.old).port receiving.port.0) }
     requires linked { ((A.device adapter.old).port receiving.port.0).notes.last_ssts % 16 ≡ 3 }
     requires idle { SawIdle ((A.device adapter.old).port receiving.port.0).notes }
-    ensures followed { IsFollowed (IsControl IsCommand receiving.port) (λ uses. AllFree uses receiving.port.0)
+    ensures followed { IsFollowed (IsControl WritesCommand receiving.port) (λ uses. AllFree uses receiving.port.0)
         (A.device adapter.old) (A.device adapter.new) }
     ensures on { IsOn (A.device adapter.new) }
     ensures ok { IsOk result }
@@ -390,6 +407,14 @@ pub fn start<A: Adapter>(
     ensures well { IsUp ((A.device adapter.old).port receiving.port.0) → PlugsNone receiving.port.0
         (A.device adapter.old) (A.device adapter.new)
         → IsStarted ((A.device adapter.new).port receiving.port.0) }
+    ensures recorded { IsQuiet ((A.device adapter.old).port receiving.port.0) → IsRecorded
+        (A.device adapter.new).tape ((A.device adapter.new).port receiving.port.0) receiving.port.0 }
+    ensures calm { (place : ℕ) → ((A.device adapter.old).port receiving.port.0).is place ≡ false
+        → ((A.device adapter.new).port receiving.port.0).is place ≡ false }
+    ensures undue { ((A.device adapter.old).port receiving.port.0).link_due ≡ false
+        → ((A.device adapter.new).port receiving.port.0).link_due ≡ false }
+    ensures changes { ((A.device adapter.old).port receiving.port.0).link_due ≡ false → ChangesByDisks
+        receiving.port.0 (A.device adapter.old) (A.device adapter.new) }
 {
     let port = receiving.port;
     let command = PortCommand(adapter.read(Reg::Px(port, PortReg::Cmd)));

@@ -3,11 +3,10 @@ use Rattle.std.proofs.Common.{ℕ, ◌+◌, ◌*◌, ◌≤◌, ◌⊎◌, ◌++
 use Rattle.ata_types.specs.declared.request.ClientId.{ClientId}
 use Rattle.ata_types.specs.declared.request.Frame.{Frame}
 use Rattle.hba_regs.specs.declared.reg.Reg.{Reg}
-use Rattle.adapter.specs.Access.{Access, Reads, Writes, Loads, Stores}
-use Rattle.adapter.specs.Access.Access.{Reading, Writing, Loading, Storing}
+use Rattle.adapter.specs.Access.{Reads, Writes, Loads, Stores}
+use Rattle.adapter.specs.Access.Access.{Loading}
 use Rattle.adapter.specs.Device.{Device}
 use Rattle.adapter.specs.Rules.{MayWrite, Stays}
-use Rattle.adapter.proofs.Runs.{Steps-refl}
 use Rattle.block_machine.specs.Events.{AllMay}
 use Rattle.block_machine.specs.Left.{after}
 use Rattle.block_machine.specs.State.{Machine}
@@ -16,9 +15,9 @@ use Rattle.block_machine.proofs.EventLemmas.{after-append}
 use Rattle.block_machine.proofs.HistoryLemmas.{may-append}
 use Rattle.agreement.specs.Driver.{Known, Knows, ByDevice, EndsWith, LeavesUses}
 use Rattle.agreement.specs.Slots.{Uses}
-use Rattle.agreement.proofs.Adding.{accesses_then, backed_then, device_adds, read_adds, store_adds, write_adds}
+use Rattle.agreement.proofs.Adding.{backed_then}
 use Rattle.agreement.proofs.Clients.{client_loads}
-use Rattle.agreement.proofs.Driven.{by_one, followed_none, followed_read, followed_write}
+use Rattle.agreement.proofs.Driven.{by_one, followed_as, followed_none, followed_read, followed_store, followed_write}
 use Rattle.agreement.proofs.Waiting.{device_append}
 use Rattle.agreement.specs.Driven.{known, AnyAccess, AnyUse, IsFollowed}
 use Rattle.port_driver.specs.Followed.{IsOrdinary, SlotIsFree, LoadsBytes}
@@ -30,7 +29,7 @@ nothing_followed d = followed_none AnyAccess AnyUse d
 
 -- what is followed however the slots are used
 pub followed_so : (Fits : Uses → Type 0) (old new : Device) → IsFollowed AnyAccess AnyUse old new → IsFollowed AnyAccess Fits old new
-followed_so Fits old new a = record { driven = a.driven; adds = λ uses parked is. a.adds uses parked tt }
+followed_so Fits old new = followed_as AnyAccess AnyAccess AnyUse Fits old new (λ access may. may) (λ uses is. tt)
 
 -- a stretch of the device's steps, and then one that ends with the driver's step
 pub ends_then : (k later : Known) (mid : Device) (m : Machine) (step : Step) (early : List Step) → AllMay m early → ByDevice k.device mid m early →
@@ -63,11 +62,8 @@ loading_followed client frame offset bytes old new call = record {
 -- a store to header or table of slot 0
 pub storing_followed : (at : ℕ) (bytes : List ℕ) (old new : Device) → (at + length bytes ≤ 32) ⊎ ((4096 ≤ at) × (at + length bytes ≤ 5120)) →
     Stores at bytes old new → IsFollowed IsOrdinary SlotIsFree old new
-storing_followed at bytes old new here call = record {
-  driven = by_one IsOrdinary (Storing at bytes) old new tt call;
-  adds = λ uses parked free.
-      store_adds (known uses parked old) at bytes new (inl (record { port = 0; slot = 0; below = lit< tt; slot_below = lit< tt; free = free; here = of here })) call;
-}
+storing_followed at bytes old new here call = followed_store IsOrdinary SlotIsFree at bytes old new tt
+    (λ uses free. inl (record { port = 0; slot = 0; below = lit< tt; slot_below = lit< tt; free = free; here = of here })) call
   where
     of : (at + length bytes ≤ 32) ⊎ ((4096 ≤ at) × (at + length bytes ≤ 5120)) → ((0 ≤ at) × (at + length bytes ≤ 32)) ⊎ ((4096 ≤ at) × (at + length bytes ≤ 5120))
     of (inl low) = inl (omega arith, low)

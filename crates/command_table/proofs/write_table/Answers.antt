@@ -1,27 +1,21 @@
-use Rattle.std.proofs.Common.{ℕ, List, ◌≡◌, ◌+◌, ◌*◌, ◌≤◌, subst, sym, inl, inr, arith, length, take}
+use Rattle.std.proofs.Common.{ℕ, List, ◌≡◌, ◌+◌, ◌*◌, ◌≤◌, refl, ap, ◌∙◌, subst, sym, inl, inr, arith, length, take}
+use Rattle.byteorder.specs.Endian.{little_from}
 use Rattle.std.proofs.lemmas.List.{length-take}
 use Rattle.adapter.specs.Access.{Stores}
+use Rattle.adapter.specs.Access.Access.{Storing}
 use Rattle.adapter.specs.Device.{Device}
+use Rattle.adapter.specs.Memory.{bytes_at}
 use Rattle.adapter.specs.Rules.{IsFree, Stays}
 use Rattle.adapter.specs.Spelling.{SpellsHeader}
 use Rattle.agreement.specs.Places.{list_of, table_of}
-use Rattle.command_table.specs.Written.{IsTableStore, IsUnused, IsInTable}
-use Rattle.command_table.proofs.Storing.{store_free, store_followed, store_on, store_size, store_agrees, stored_says}
+use Rattle.command_table.specs.Written.{IsTableStore, IsUnused}
+use Rattle.command_table.proofs.Storing.{store_free, store_followed, store_on, store_size, store_there, store_agrees, stored_says}
 use Rattle.agreement.proofs.Driven.{followed_then}
 use Rattle.command_table.proofs.write_table.Goals as goal
 
 -- a number of the port and one of the slot stand for them
 at_places : (P : ℕ → ℕ → Type 0) (port slot p s : ℕ) → p ≡ port → s ≡ slot → P p s → P port slot
 at_places P port slot p s here there h = let Q : ℕ → Type 0 = λ x. P x slot in subst Q here (let R : ℕ → Type 0 = λ x. P p x in subst R there h)
-
-pub store-requires : goal.store-requires
-store-requires g c =
-    let r = c.requires in
-    let few = r.few in
-    let size = length-take (128 + 16 * length c.args.prds.now) c.table_bytes-bytes.result in
-    let F : ℕ → ℕ → Type 0 = λ p s. Stays (IsFree (40960 * p + 4096 + 1024 * s) (length (take (128 + 16 * length c.args.prds.now) c.table_bytes-bytes.result))) (g.A.Adapter.device c.args.adapter.now) in
-    at_places F c.from-list.result c.from.result c.args.port.0 c.args.slot.0 (sym c.from-list.ensures) (sym c.from.ensures)
-    (store_free r.agreed.0 _ c.args.port.0 c.args.slot.0 _ _ r.agreed.2 r.room r.port r.slot r.agreed.1 (inr (omega arith, omega (arith, few, size))))
 
 -- bytes that were stored at the table's place, or at the header's
 table_stored : (port slot p t : ℕ) (bytes : List ℕ) (old new : Device) → p ≡ port → t ≡ slot → Stores (40960 * p + 4096 + 1024 * t) bytes old new → Stores (table_of port slot) bytes old new
@@ -30,11 +24,18 @@ table_stored port slot p t bytes old new = at_places (λ a b. Stores (40960 * a 
 header_stored : (port slot p t : ℕ) (bytes : List ℕ) (old new : Device) → p ≡ port → t ≡ slot → Stores (40960 * p + 32 * t) bytes old new → Stores (list_of port + 32 * slot) bytes old new
 header_stored port slot p t bytes old new = at_places (λ a b. Stores (40960 * a + 32 * b) bytes old new) port slot p t
 
-table_bounds : (port slot n : ℕ) (table : List ℕ) → n ≤ 32 → IsInTable port slot (table_of port slot) (length (take (128 + 16 * n) table))
+table_bounds : (port slot n : ℕ) (table : List ℕ) → n ≤ 32 → IsTableStore port slot (Storing (table_of port slot) (take (128 + 16 * n) table))
 table_bounds port slot n table few = let size = length-take (128 + 16 * n) table in inr (omega arith, omega (arith, few, size))
 
-header_bounds : (port slot : ℕ) (header : List ℕ) → length header ≡ 32 → IsInTable port slot (list_of port + 32 * slot) (length header)
-header_bounds port slot header size = inl (omega arith, omega (arith, size))
+header_bounds : (port slot : ℕ) (header : List ℕ) → length header ≡ 32 → little_from 4 4 header ≡ 0 → IsTableStore port slot (Storing (list_of port + 32 * slot) header)
+header_bounds port slot header size none = inl (refl, size, none)
+
+pub store-requires : goal.store-requires
+store-requires g c =
+    let r = c.requires in
+    let F : ℕ → ℕ → Type 0 = λ p s. Stays (IsFree (40960 * p + 4096 + 1024 * s) (length (take (128 + 16 * length c.args.prds.now) c.table_bytes-bytes.result))) (g.A.Adapter.device c.args.adapter.now) in
+    at_places F c.from-list.result c.from.result c.args.port.0 c.args.slot.0 (sym c.from-list.ensures) (sym c.from.ensures)
+    (store_free r.agreed.0 _ c.args.port.0 c.args.slot.0 _ _ r.agreed.2 r.room r.port r.slot r.agreed.1 (table_bounds c.args.port.0 c.args.slot.0 (length c.args.prds.now) c.table_bytes-bytes.result r.few))
 
 pub store-requires-2 : goal.store-requires-2
 store-requires-2 g c =
@@ -46,7 +47,7 @@ store-requires-2 g c =
     let F : ℕ → ℕ → Type 0 = λ p s. Stays (IsFree (40960 * p + 32 * s) (length c.header-head.result)) (g.A.Adapter.device c.store.new.self) in
     at_places F c.from-list.result c.from-2.result c.args.port.0 c.args.slot.0 (sym c.from-list.ensures) (sym c.from-2.ensures)
     (store_free r.agreed.0 _ c.args.port.0 c.args.slot.0 _ _ (store_agrees c.args.port.0 c.args.slot.0 r.port r.slot _ _ _ _ here first r.on r.agreed.0 r.agreed.1 r.agreed.2) room r.port r.slot r.agreed.1
-    (header_bounds c.args.port.0 c.args.slot.0 c.header-head.result c.header-head.ensures.says.size))
+    (header_bounds c.args.port.0 c.args.slot.0 c.header-head.result c.header-head.ensures.says.size c.header-head.ensures.none_moved))
 
 pub returns-clause-on : goal.returns-clause-on
 returns-clause-on g c =
@@ -54,7 +55,7 @@ returns-clause-on g c =
     let first = table_stored _ _ _ _ _ _ _ c.from-list.ensures c.from.ensures c.store.ensures in
     let second = header_stored _ _ _ _ _ _ _ c.from-list.ensures c.from-2.ensures c.store-2.ensures in
     let here = table_bounds c.args.port.0 c.args.slot.0 (length c.args.prds.now) c.table_bytes-bytes.result r.few in
-    let there = header_bounds c.args.port.0 c.args.slot.0 c.header-head.result c.header-head.ensures.says.size in
+    let there = header_bounds c.args.port.0 c.args.slot.0 c.header-head.result c.header-head.ensures.says.size c.header-head.ensures.none_moved in
     store_on c.args.port.0 c.args.slot.0 r.port r.slot _ _ _ _ there second (store_on c.args.port.0 c.args.slot.0 r.port r.slot _ _ _ _ here first r.on)
 
 pub returns-clause-followed : goal.returns-clause-followed
@@ -63,7 +64,7 @@ returns-clause-followed g c =
     let first = table_stored _ _ _ _ _ _ _ c.from-list.ensures c.from.ensures c.store.ensures in
     let second = header_stored _ _ _ _ _ _ _ c.from-list.ensures c.from-2.ensures c.store-2.ensures in
     let here = table_bounds c.args.port.0 c.args.slot.0 (length c.args.prds.now) c.table_bytes-bytes.result r.few in
-    let there = header_bounds c.args.port.0 c.args.slot.0 c.header-head.result c.header-head.ensures.says.size in
+    let there = header_bounds c.args.port.0 c.args.slot.0 c.header-head.result c.header-head.ensures.says.size c.header-head.ensures.none_moved in
     followed_then (IsTableStore c.args.port.0 c.args.slot.0) (IsUnused c.args.port.0 c.args.slot.0) _ _ _
     (store_followed c.args.port.0 c.args.slot.0 r.port r.slot _ _ _ _ here first)
     (store_followed c.args.port.0 c.args.slot.0 r.port r.slot _ _ _ _ there second)
@@ -80,4 +81,15 @@ returns-clause-says g c =
     let heads : SpellsHeader c.header-head.result c.args.writes (length c.args.prds.now) (table_of c.args.port.0 c.args.slot.0) =
     at_places H c.args.port.0 c.args.slot.0 _ _ c.from-list.ensures c.from.ensures c.header-head.ensures.says in
     stored_says c.args.port.0 c.args.slot.0 r.port r.slot r.agreed.0 r.agreed.1 _ _ _ r.on r.agreed.2 c.args.prds.now c.table_bytes-bytes.result c.header-head.result few size
-    (omega (arith, cut, size, few)) first second c.args.writes c.args.command.now c.table_bytes-bytes.ensures.fis c.table_bytes-bytes.ensures.prds heads
+    (omega (arith, cut, size, few)) first second c.args.writes c.args.command.now c.table_bytes-bytes.ensures.fis c.table_bytes-bytes.ensures.prds heads c.header-head.ensures.none_moved
+
+pub returns-clause-none_moved : goal.returns-clause-none_moved
+returns-clause-none_moved g c =
+    let r = c.requires in
+    let heads = c.header-head.ensures in
+    let second = header_stored _ _ _ _ _ _ _ c.from-list.ensures c.from-2.ensures c.store-2.ensures in
+    let there = header_bounds c.args.port.0 c.args.slot.0 c.header-head.result heads.says.size heads.none_moved in
+    let at : ℕ = list_of c.args.port.0 + 32 * c.args.slot.0 in
+    let P : ℕ → Type 0 = λ n. bytes_at (g.A.Adapter.device c.store-2.new.self).memory at n ≡ c.header-head.result in
+    let same = subst P heads.says.size (store_there c.args.port.0 c.args.slot.0 r.port r.slot _ _ _ _ there second) in
+    ap (little_from 4 4) same ∙ heads.none_moved

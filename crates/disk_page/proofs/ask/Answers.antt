@@ -1,8 +1,9 @@
 use Rattle.std.proofs.Common.{refl, le_trans}
 use Rattle.agreement.specs.Slots.{Own, put}
+use Rattle.agreement.proofs.Driven.{followed_to_then}
 use Rattle.command_table.specs.Written.{IsUnused}
 use Rattle.disk_page.specs.Asking.{operation_of, IsAsking}
-use Rattle.disk_page.proofs.Asking.{page_is_told, may_after, ask_permitted, asked_to, asked_det, asked_on, asked_there, asked_later, asked_waits, followed_to_then, stores_leave, stores_asking, stores_agree, stores_there, stores_room}
+use Rattle.disk_page.proofs.Asking.{page_is_told, may_after, ask_permitted, asked_to, asked_det, asked_on, asked_there, asked_later, asked_waits, stores_leave, stores_asking, stores_agree, stores_there, stores_room}
 use Rattle.disk_page.proofs.ask.Goals as goal
 
 pub write-requires : goal.write-requires

@@ -1,11 +1,12 @@
-use Rattle.std.proofs.Common.{ℕ, ◌≡◌, ◌*◌, sym, subst, arith}
+use Rattle.std.proofs.Common.{ℕ, ◌≡◌, ◌*◌, refl, sym, subst, arith}
 use Rattle.adapter.specs.Access.{Loads}
 use Rattle.adapter.specs.Rules.{IsFree, Stays}
 use Rattle.agreement.specs.Places.{scratch_of}
 use Rattle.agreement.specs.Slots.{Own, put}
+use Rattle.agreement.proofs.Driven.{followed_to_more}
 use Rattle.command_table.specs.Written.{IsUnused}
 use Rattle.disk_page.specs.Asking.{operation_of, IsAsking}
-use Rattle.disk_page.proofs.Asking.{followed_to_more, followed_back, page_free, load_on, load_clear, load_agrees, agrees_released, load_followed, load_brings}
+use Rattle.disk_page.proofs.Asking.{followed_back, page_free, load_on, load_clear, load_agrees, agrees_released, load_followed, load_brings}
 use Rattle.disk_page.proofs.Leaving.{asking_leaves_running}
 use Rattle.disk_page.proofs.read_page.Goals as goal
 
@@ -52,7 +53,7 @@ returns-clause-reads g c =
     (followed_to_more (IsAsking c.args.port) (IsUnused c.args.port.0 0) (λ uses. put uses c.args.port.0 0 (Own (operation_of c.args.page))) _ _ _ c.ask.ensures.followed c.wait.ensures.followed)
     (load_followed c.args.port _ _ _ _ r.there.0 waiting clear _ _ load size) in (
       load_brings c.args.port _ _ _ _ r.there.0 waiting clear _ _ load size _ c.ask.ensures.later,
-      followed_back (IsAsking c.args.port) c.args.port.0 (operation_of c.args.page) _ _ (load_clear c.args.port _ _ _ _ r.there.0 waiting clear _ _ load size).over followed,
+      followed_back (IsAsking c.args.port) c.args.port (operation_of c.args.page) 1 _ _ (refl, refl) (load_clear c.args.port _ _ _ _ r.there.0 waiting clear _ _ load size).over followed,
     )
 
 pub returns-then-not-wait-clause-leaves : goal.returns-then-not-wait-clause-leaves

@@ -1,8 +1,11 @@
-use Rattle.std.proofs.Common.{◌≡◌, ◌∙◌, subst}
+use Rattle.std.proofs.Common.{◌≢◌, ◌≤◌, length, ◌∙◌, subst}
 use Rattle.std.specs.Prelude.{OnOk, IfErr}
 use Rattle.ata_types.specs.declared.Port.{Port}
-use Rattle.port_boot.specs.States.{IsBoot, IsBootTo}
-use Rattle.port_boot.proofs.Identifying.{whole_ready, whole_ended}
+use Rattle.ata_types.specs.declared.PortState.TheVariants.{Dead}
+use Rattle.port_boot.specs.States.{IsBooting, IsBoot, IsBootTo, GetsAsked, EndsLate, IsLate, RunsOn, StopsThen}
+use Rattle.port_boot.proofs.Identifying.{boots_to, up_boots, whole_ready, whole_ended}
+use Rattle.agreement.proofs.Controlled.{tape_gains}
+use Rattle.port_boot.proofs.Outcomes.{whole_way, whole_news, whole_late, early_is_not_late, handed_on}
 use Rattle.port_boot.proofs.boot.Goals as goal
 
 pub returns-clause-boots : goal.returns-clause-boots
@@ -14,3 +17,42 @@ pub returns-clause-boots_to : goal.returns-clause-boots_to
 returns-clause-boots_to g c =
     let P : Port → Type 0 = λ p. IfErr c.identify_disk.result (λ state. IsBootTo p state (g.A.Adapter.device c.bring_up.new.adapter) (g.A.Adapter.device c.identify_disk.new.adapter)) in
     whole_ended c.args.stopped.port _ _ _ _ c.bring_up.ensures.followed (subst P (c.port.ensures ∙ c.in_ok-running.ensures.names) c.identify_disk.ensures.boots_to)
+
+pub returns-clause-way : goal.returns-clause-way
+returns-clause-way g c =
+    let P : Port → Type 0 = λ p. OnOk c.identify_disk.result (GetsAsked p (g.A.Adapter.device c.bring_up.new.adapter) (g.A.Adapter.device c.identify_disk.new.adapter)) in
+    let early = tape_gains IsBooting c.args.stopped.port _ _ c.bring_up.ensures.followed.driven in
+    whole_way c.args.stopped.port _ _ _ early c.identify_disk.result c.in_ok-running.ensures.up (subst P (c.port.ensures ∙ c.in_ok-running.ensures.names) c.identify_disk.ensures.asked)
+
+pub returns-clause-news : goal.returns-clause-news
+returns-clause-news g c =
+    let at = c.port.ensures ∙ c.in_ok-running.ensures.names in
+    let P : Port → Type 0 = λ p. OnOk c.identify_disk.result (IsBoot p (g.A.Adapter.device c.bring_up.new.adapter) (g.A.Adapter.device c.identify_disk.new.adapter)) in
+    let R : Port → Type 0 = λ p. OnOk c.identify_disk.result (RunsOn p.0 (g.A.Adapter.device c.bring_up.new.adapter) (g.A.Adapter.device c.identify_disk.new.adapter)) in
+    let early = tape_gains IsBooting c.args.stopped.port _ _ c.bring_up.ensures.followed.driven in
+    whole_news c.args.stopped.port _ _ _ early c.identify_disk.result c.in_ok-running.ensures.up (subst P at c.identify_disk.ensures.boots) (subst R at c.identify_disk.ensures.runs_on)
+
+pub returns-clause-late : goal.returns-clause-late
+returns-clause-late g c =
+    let at = c.port.ensures ∙ c.in_ok-running.ensures.names in
+    let P : Port → Type 0 = λ p. IfErr c.identify_disk.result (λ state. IsBootTo p state (g.A.Adapter.device c.bring_up.new.adapter) (g.A.Adapter.device c.identify_disk.new.adapter)) in
+    let R : Port → Type 0 = λ p. IfErr c.identify_disk.result (λ state. StopsThen p (g.A.Adapter.device c.bring_up.new.adapter) (g.A.Adapter.device c.identify_disk.new.adapter)) in
+    let early = tape_gains IsBooting c.args.stopped.port _ _ c.bring_up.ensures.followed.driven in
+    whole_late c.args.stopped.port _ _ _ early c.identify_disk.result c.in_ok-running.ensures.up (subst P at c.identify_disk.ensures.boots_to) (subst R at c.identify_disk.ensures.stops)
+
+pub returns-in_err-running-clause-since_ended : goal.returns-in_err-running-clause-since_ended
+returns-in_err-running-clause-since_ended g c =
+    handed_on (λ state. state ≢ Dead → length (g.A.Adapter.device c.args.adapter.now).tape ≤ ((g.A.Adapter.device c.bring_up.new.adapter).port c.args.stopped.port.0).notes.sctl_written_at)
+    c.from_residual.result c.in_err-running.field-0.0 c.from_residual.ensures.1 c.in_err-running.ensures.since
+
+pub returns-in_err-running-clause-boots_to : goal.returns-in_err-running-clause-boots_to
+returns-in_err-running-clause-boots_to g c =
+    handed_on (λ state. IsBootTo c.args.stopped.port state (g.A.Adapter.device c.args.adapter.now) (g.A.Adapter.device c.bring_up.new.adapter))
+    c.from_residual.result c.in_err-running.field-0.0 c.from_residual.ensures.1
+    (boots_to c.args.stopped.port _ _ c.in_err-running.field-0.0 (up_boots c.args.stopped.port _ _ c.bring_up.ensures.followed))
+
+pub returns-in_err-running-clause-late : goal.returns-in_err-running-clause-late
+returns-in_err-running-clause-late g c =
+    handed_on (λ state. IsLate state → EndsLate c.args.stopped.port (g.A.Adapter.device c.args.adapter.now) (g.A.Adapter.device c.bring_up.new.adapter))
+    c.from_residual.result c.in_err-running.field-0.0 c.from_residual.ensures.1
+    (early_is_not_late c.args.stopped.port c.in_err-running.field-0.0 _ _ c.in_err-running.ensures.early)

@@ -1,6 +1,7 @@
-use Rattle.std.proofs.Common.{ℕ, ◌≡◌, refl, sym, ◌∙◌, ap, subst}
+use Rattle.std.proofs.Common.{◌∙◌, ap}
 use Rattle.adapter.specs.Device.{Notes}
 use Rattle.port_boot.proofs.Identifying.{boots_to, identified, unasked_there, unasked_agreed, unasked_boots, unasked_ends, enabling, enabled_on, enabled_written, enabled_ready, enabled_boots, halted_boots, halted_ends}
+use Rattle.port_boot.proofs.Outcomes.{told_runs_on, stops_then}
 use Rattle.port_boot.proofs.identify_disk.Goals as goal
 
 pub halt-requires-clause-there : goal.halt-requires-clause-there
@@ -22,7 +23,7 @@ returns-in_default-clause-ended g c =
     unasked_ends c.args.port _ _ _ c.requires.up.1 e.on e.leaves e.reads e.agrees _ h.followed h.has c.args.wanted.now _ h.halted
 
 pub write-requires : goal.write-requires
-write-requires g c = let e = c.in-Some.ensures in enabling c.args.port 0x7840004b _ (identified c.args.port _ _ _ c.in-Some.page c.requires.up.1 e.on e.leaves e.reads e.agrees).bootable
+write-requires g c = let e = c.in-Some.ensures in enabling c.args.port c.causes.result _ (identified c.args.port _ _ _ c.in-Some.page c.requires.up.1 e.on e.leaves e.reads e.agrees).bootable
 
 pub halt-requires-in-Err-clause-there : goal.halt-requires-in-Err-clause-there
 halt-requires-in-Err-clause-there g c = let e = c.in-Some.ensures in (identified c.args.port _ _ _ c.in-Some.page c.requires.up.1 e.on e.leaves e.reads e.agrees).bootable.there
@@ -60,3 +61,18 @@ returns-in-Err-clause-boots_to g c =
     let e = c.in-Some.ensures in
     let h = c.halt-in-Err.ensures in
     boots_to c.args.port _ _ c.halt-in-Err.result (halted_boots c.args.port _ _ _ c.in-Some.page c.requires.up.1 e.on e.leaves e.reads e.agrees _ h.followed h.has)
+
+pub returns-in_default-clause-stops : goal.returns-in_default-clause-stops
+returns-in_default-clause-stops g c =
+    let e = c.in_default.ensures in
+    stops_then c.args.port _ _ _ c.requires.up.1 e.reads.1.driven _ e.on e.leaves c.halt.ensures.followed.driven
+
+pub returns-in-Ok-clause-runs_on : goal.returns-in-Ok-clause-runs_on
+returns-in-Ok-clause-runs_on g c =
+    let e = c.in-Some.ensures in
+    told_runs_on c.args.port _ _ _ c.requires.up.1 e.reads.1.driven _ _ e.on c.write.ensures
+
+pub returns-in-Err-clause-stops : goal.returns-in-Err-clause-stops
+returns-in-Err-clause-stops g c =
+    let e = c.in-Some.ensures in
+    stops_then c.args.port _ _ _ c.requires.up.1 e.reads.1.driven _ e.on e.leaves c.halt-in-Err.ensures.followed.driven

@@ -1,4 +1,4 @@
-use Rattle.port_control.proofs.Clearing.{serr_may, is_may, clearing, clears, cleared_saw, cleared_calm, cleared_clear}
+use Rattle.port_control.proofs.Clearing.{serr_may, is_may, clearing, clears, cleared_saw, cleared_calm, cleared_by, cleared_clear}
 use Rattle.port_control.proofs.clear_errors.Goals as goal
 
 pub write-requires : goal.write-requires
@@ -18,3 +18,6 @@ returns-clause-calm g c = cleared_calm _ _ _ _ c.requires.usable c.requires.rece
 
 pub returns-clause-clear : goal.returns-clause-clear
 returns-clause-clear g c = cleared_clear _ _ _ _ c.requires.usable c.requires.receives c.write.ensures c.write-2.ensures
+
+pub returns-clause-clears : goal.returns-clause-clears
+returns-clause-clears g c = cleared_by _ _ _ _ c.requires.usable c.requires.receives c.write.ensures c.write-2.ensures

@@ -1,13 +1,13 @@
-use Rattle.std.proofs.Common.{◌≡◌, ◌∙◌, arith}
+use Rattle.std.proofs.Common.{ℕ, ◌≡◌, ◌∙◌, subst, arith}
 use Rattle.hba_regs.specs.declared.reg.PortReg.TheVariants.{Sig}
 use Rattle.agreement.specs.Driven.{AnyUse, IsControl}
 use Rattle.agreement.proofs.Driven.{followed_then}
-use Rattle.port_control.specs.Ports.{IsClearing}
+use Rattle.port_control.specs.Ports.{IsClearing, FindsSignature}
 use Rattle.port_control.specs.declared.PortFault.TheVariants.{EngineStuck, NotAta}
 use Rattle.port_control.proofs.Using.{clearing_spares, usable_after}
 use Rattle.port_control.proofs.Settling.{settles}
-use Rattle.port_control.proofs.Looking.{looks, sig_saw, sig_idle, sig_last, sig_shown}
-use Rattle.port_control.proofs.Resetting.{finds_device}
+use Rattle.port_control.proofs.Looking.{looks, sig_saw, sig_idle, sig_last, sig_quiet, sig_shown}
+use Rattle.port_control.proofs.Resetting.{finds_device, finds_link, finds_busy, finds_signature}
 use Rattle.port_control.proofs.look.Goals as goal
 
 pub clear_errors-requires-clause-usable : goal.clear_errors-requires-clause-usable
@@ -44,6 +44,7 @@ returns-then-not-wait_until_idle-clause-found_at_fault g c = λ _.
     let cleared = settles c.args.port _ _ first.on c.clear_errors.ensures.followed.driven in
     let waited = settles c.args.port _ _ second.on c.wait_until_idle.ensures.followed.driven in
     finds_device c.args.port _ _ _ _ c.requires.receives seen cleared waited (c.wait_for_device.ensures.up c.if-not-wait_for_device.false) c.clear_errors.ensures.calm c.clear_errors.ensures.clear
+    c.wait_until_idle.ensures.quiet
 
 pub read-signature-requires : goal.read-signature-requires
 read-signature-requires g c =
@@ -71,6 +72,7 @@ returns-then-signature-ne-ATA_SIGNATURE-clause-found_at_fault g c = λ _.
     let third = usable_after IsClearing AnyUse c.args.port _ _ clearing_spares second c.wait_until_idle.ensures.followed in
     let signed = settles c.args.port _ _ second.on (followed_then (IsControl IsClearing c.args.port) AnyUse _ _ _ c.wait_until_idle.ensures.followed (looks c.args.port Sig _ _ _ c.read-signature.ensures)).driven in
     finds_device c.args.port _ _ _ _ c.requires.receives seen cleared signed (c.wait_for_device.ensures.up c.if-not-wait_for_device.false) c.clear_errors.ensures.calm c.clear_errors.ensures.clear
+    (λ awaited unflagged. sig_quiet c.args.port _ _ _ third c.read-signature.ensures (c.wait_until_idle.ensures.quiet awaited unflagged))
 
 pub returns-then-signature-ne-ATA_SIGNATURE-clause-signature_at_fault : goal.returns-then-signature-ne-ATA_SIGNATURE-clause-signature_at_fault
 returns-then-signature-ne-ATA_SIGNATURE-clause-signature_at_fault g c = λ signature is.
@@ -98,6 +100,7 @@ returns-clause-found g c =
     let third = usable_after IsClearing AnyUse c.args.port _ _ clearing_spares second c.wait_until_idle.ensures.followed in
     let signed = settles c.args.port _ _ second.on (followed_then (IsControl IsClearing c.args.port) AnyUse _ _ _ c.wait_until_idle.ensures.followed (looks c.args.port Sig _ _ _ c.read-signature.ensures)).driven in
     finds_device c.args.port _ _ _ _ c.requires.receives seen cleared signed (c.wait_for_device.ensures.up c.if-not-wait_for_device.false) c.clear_errors.ensures.calm c.clear_errors.ensures.clear
+    (λ awaited unflagged. sig_quiet c.args.port _ _ _ third c.read-signature.ensures (c.wait_until_idle.ensures.quiet awaited unflagged))
 
 pub returns-clause-signature : goal.returns-clause-signature
 returns-clause-signature g c =
@@ -105,3 +108,23 @@ returns-clause-signature g c =
     let second = usable_after IsClearing AnyUse c.args.port _ _ clearing_spares first c.clear_errors.ensures.followed in
     let third = usable_after IsClearing AnyUse c.args.port _ _ clearing_spares second c.wait_until_idle.ensures.followed in
     sig_shown c.args.port _ _ _ third c.read-signature.ensures
+
+pub returns-then-not-wait_until_idle-clause-looks_at_fault : goal.returns-then-not-wait_until_idle-clause-looks_at_fault
+returns-then-not-wait_until_idle-clause-looks_at_fault g c =
+    let link = finds_link c.args.port (c.wait_for_device.ensures.sees c.if-not-wait_for_device.false) c.clear_errors.ensures.clears in
+    finds_busy c.args.port link (c.wait_until_idle.ensures.stays c.if-not-wait_until_idle.true)
+
+pub returns-then-signature-ne-ATA_SIGNATURE-clause-looks_at_fault : goal.returns-then-signature-ne-ATA_SIGNATURE-clause-looks_at_fault
+returns-then-signature-ne-ATA_SIGNATURE-clause-looks_at_fault g c =
+    let link = finds_link c.args.port (c.wait_for_device.ensures.sees c.if-not-wait_for_device.false) c.clear_errors.ensures.clears in
+    finds_signature c.args.port _ link (c.wait_until_idle.ensures.waits c.if-not-wait_until_idle.false) c.read-signature.ensures
+
+pub returns-clause-looks : goal.returns-clause-looks
+returns-clause-looks g c =
+    let link = finds_link c.args.port (c.wait_for_device.ensures.sees c.if-not-wait_for_device.false) c.clear_errors.ensures.clears in
+    let ata : c.read-signature.result ≡ 0x101 = omega arith in
+    let F : ℕ → Type 0 = λ n. FindsSignature c.args.port n (g.A.Adapter.device c.args.adapter.now) (g.A.Adapter.device c.read-signature.new.self) in
+    subst F ata (finds_signature c.args.port _ link (c.wait_until_idle.ensures.waits c.if-not-wait_until_idle.false) c.read-signature.ensures)
+
+pub returns-then-not-wait_for_device-clause-looks_at_fault : goal.returns-then-not-wait_for_device-clause-looks_at_fault
+returns-then-not-wait_for_device-clause-looks_at_fault g c = c.wait_for_device.ensures.misses c.if-not-wait_for_device.true

@@ -1,5 +1,5 @@
 use Rattle.std.proofs.Common.{inr, refl}
-use Rattle.port_control.proofs.Resetting.{sctl_may, ending_may, reset_followed, reset_receives, was_reset, reset_coming}
+use Rattle.port_control.proofs.Resetting.{sctl_may, ending_may, reset_followed, reset_receives, was_reset, reset_awaited, reset_coming}
 use Rattle.port_control.proofs.send_comreset.Goals as goal
 
 pub write-requires : goal.write-requires
@@ -19,3 +19,6 @@ returns-clause-reset g c = was_reset _ _ _ c.requires.usable c.requires.receives
 
 pub returns-clause-coming : goal.returns-clause-coming
 returns-clause-coming g c = reset_coming _ _ _ c.requires.usable c.requires.receives c.write.ensures _ c.write-2.ensures
+
+pub returns-clause-awaited : goal.returns-clause-awaited
+returns-clause-awaited g c = reset_awaited _ _ _ c.requires.usable c.requires.receives c.write.ensures _ c.write-2.ensures

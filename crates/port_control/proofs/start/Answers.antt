@@ -1,4 +1,4 @@
-use Rattle.port_control.proofs.Starting.{start_may, start_followed, start_usable, start_runs, start_same, start_set_at, start_marked, start_well}
+use Rattle.port_control.proofs.Starting.{start_may, start_followed, start_usable, start_runs, start_same, start_set_at, start_marked, start_well, start_recorded, start_calm, start_undue, start_changes}
 use Rattle.port_control.proofs.start.Goals as goal
 
 pub write-requires : goal.write-requires
@@ -24,3 +24,15 @@ returns-clause-marked g c = start_marked c.args.receiving.port _ _ _ _ (record {
 
 pub returns-clause-well : goal.returns-clause-well
 returns-clause-well g c = start_well c.args.receiving.port _ _ _ _ (record { on = c.requires.on; there = c.requires.there; agreed = c.requires.agreed }) c.read.ensures c.requires.receives c.requires.linked c.requires.idle c.with_start.ensures.set c.with_start.ensures.others _ c.write.ensures
+
+pub returns-clause-recorded : goal.returns-clause-recorded
+returns-clause-recorded g c = start_recorded c.args.receiving.port _ _ _ _ (record { on = c.requires.on; there = c.requires.there; agreed = c.requires.agreed }) c.read.ensures c.requires.receives c.requires.linked c.requires.idle c.with_start.ensures.set c.with_start.ensures.others _ c.write.ensures
+
+pub returns-clause-calm : goal.returns-clause-calm
+returns-clause-calm g c = start_calm c.args.receiving.port _ _ _ _ (record { on = c.requires.on; there = c.requires.there; agreed = c.requires.agreed }) c.read.ensures c.requires.receives c.requires.linked c.requires.idle c.with_start.ensures.set c.with_start.ensures.others _ c.write.ensures
+
+pub returns-clause-undue : goal.returns-clause-undue
+returns-clause-undue g c = start_undue c.args.receiving.port _ _ _ _ (record { on = c.requires.on; there = c.requires.there; agreed = c.requires.agreed }) c.read.ensures c.requires.receives c.requires.linked c.requires.idle c.with_start.ensures.set c.with_start.ensures.others _ c.write.ensures
+
+pub returns-clause-changes : goal.returns-clause-changes
+returns-clause-changes g c = start_changes c.args.receiving.port _ _ _ _ (record { on = c.requires.on; there = c.requires.there; agreed = c.requires.agreed }) c.read.ensures c.requires.receives c.requires.linked c.requires.idle c.with_start.ensures.set c.with_start.ensures.others _ c.write.ensures

@@ -1,8 +1,9 @@
-use Rattle.std.proofs.Common.{arith}
+use Rattle.std.proofs.Common.{ℕ, ◌≡◌, subst, arith}
+use Rattle.hba_regs.specs.declared.reg.PortReg.TheVariants.{Ssts}
 use Rattle.agreement.specs.Driven.{AnyUse, IsControl}
 use Rattle.agreement.proofs.Driven.{followed_none}
-use Rattle.port_control.proofs.Looking.{missing_followed, device_seen, device_up, missing_still}
-use Rattle.port_control.specs.Ports.{IsClearing}
+use Rattle.port_control.proofs.Looking.{missing_followed, device_seen, device_up, sees_device, without_none, missing_still}
+use Rattle.port_control.specs.Ports.{IsClearing, HasLink, ReadsWithout}
 use Rattle.port_control.proofs.wait_for_device.Goals as goal
 
 pub loop-reading-init : goal.loop-reading-init
@@ -14,6 +15,7 @@ loop-reading-init g c = record {
   low = omega arith;
   high = λ h. absurd (omega (arith, h));
   far = λ h. absurd (omega (arith, h));
+  misses = without_none c.args.port Ssts HasLink _;
 }
 
 pub returns-then-detection-eq-DEVICE_WITH_LINK-clause-followed : goal.returns-then-detection-eq-DEVICE_WITH_LINK-clause-followed
@@ -25,5 +27,13 @@ returns-then-detection-eq-DEVICE_WITH_LINK-clause-saw g c = λ _. device_seen _ 
 pub returns-then-detection-eq-DEVICE_WITH_LINK-clause-up : goal.returns-then-detection-eq-DEVICE_WITH_LINK-clause-up
 returns-then-detection-eq-DEVICE_WITH_LINK-clause-up g c = λ _. device_up _ _ _ _ _ _ c.loop-reading.invariant c.read.ensures (omega arith)
 
+pub returns-then-detection-eq-DEVICE_WITH_LINK-clause-sees : goal.returns-then-detection-eq-DEVICE_WITH_LINK-clause-sees
+returns-then-detection-eq-DEVICE_WITH_LINK-clause-sees g c = λ _. sees_device _ _ _ _ _ _ c.loop-reading.invariant c.read.ensures (omega arith) (omega arith)
+
 pub loop-reading-preserved : goal.loop-reading-preserved
 loop-reading-preserved g c = missing_still _ _ _ _ _ _ c.loop-reading.invariant c.read.ensures (omega arith) (λ three. absurd (omega arith))
+
+pub returns-clause-misses : goal.returns-clause-misses
+returns-clause-misses g c = λ _.
+    let all : c.loop-reading._reading ≡ 64 = omega arith in
+    subst (λ (n : ℕ). ReadsWithout c.args.port Ssts HasLink n (g.A.Adapter.device c.args.adapter.now) (g.A.Adapter.device c.loop-reading.adapter)) all c.loop-reading.invariant.misses

@@ -1,6 +1,6 @@
 use Rattle.agreement.proofs.Allowing.{record_stays}
 use Rattle.agreement.proofs.Recording.{steps_recorded, stopped_recorded}
-use Rattle.agreement.proofs.Rewriting.{reads_recorded, writes_recorded}
+use Rattle.agreement.proofs.Rewriting.{issues_recorded, reads_recorded, writes_recorded}
 use Rattle.agreement.proofs.Witnesses.{first_recorded, first_failed}
 use Rattle.agreement.proofs.facts.faults_are_recorded.Goals as goal
 
@@ -24,3 +24,6 @@ returns-clause-failed c = first_failed
 
 pub returns-clause-asked : goal.returns-clause-asked
 returns-clause-asked c = record_stays
+
+pub returns-clause-issues : goal.returns-clause-issues
+returns-clause-issues c = issues_recorded

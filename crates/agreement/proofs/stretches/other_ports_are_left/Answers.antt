@@ -1,9 +1,14 @@
-use Rattle.agreement.specs.Driven.{AnyRegister}
-use Rattle.agreement.proofs.Controlled.{leaves_none, leaves_more, other_left, stays_on, same_adapter, tape_gains}
+use Rattle.std.proofs.Common.{refl}
+use Rattle.hba_regs.specs.declared.reg.PortReg.TheVariants.{Ci}
+use Rattle.agreement.specs.Driven.{AnyAccess, IsOf}
+use Rattle.agreement.proofs.Controlled.{leaves_none, leaves_more, other_left, other_recorded, of_spares_ghc, of_spares_others, on_over, same_over, tape_over}
 use Rattle.agreement.proofs.stretches.other_ports_are_left.Goals as goal
 
 pub returns-clause-left : goal.returns-clause-left
-returns-clause-left c = λ port q old new other on driven. other_left AnyRegister port old new driven q other on
+returns-clause-left c = λ port q old new other on driven. other_left port old new driven q other on
+
+pub returns-clause-recorded : goal.returns-clause-recorded
+returns-clause-recorded c = λ port q old new other driven. other_recorded port old new driven q other
 
 pub returns-clause-none : goal.returns-clause-none
 returns-clause-none c = leaves_none
@@ -11,11 +16,19 @@ returns-clause-none c = leaves_none
 pub returns-clause-more : goal.returns-clause-more
 returns-clause-more c = leaves_more
 
-pub returns-clause-adapter : goal.returns-clause-adapter
-returns-clause-adapter c = same_adapter AnyRegister
-
 pub returns-clause-on : goal.returns-clause-on
-returns-clause-on c = λ port old new on driven. stays_on AnyRegister port old new driven on
+returns-clause-on c = λ port old new on driven. on_over (IsOf port) old new driven (of_spares_ghc port) on
+
+pub returns-clause-adapter : goal.returns-clause-adapter
+returns-clause-adapter c = same_over AnyAccess
 
 pub returns-clause-tape : goal.returns-clause-tape
-returns-clause-tape c = tape_gains AnyRegister
+returns-clause-tape c = tape_over AnyAccess
+
+pub returns-clause-silent : goal.returns-clause-silent
+returns-clause-silent c = λ port q uses o old new other followed a own none.
+    followed.silent uses a.parked a.machine refl a.reached a.knows q o own (of_spares_others port q Ci other) none
+
+pub returns-clause-silent_to : goal.returns-clause-silent_to
+returns-clause-silent_to c = λ port q uses next o old new other followed a own none later.
+    followed.silent uses a.parked a.machine refl a.reached a.knows q o own (of_spares_others port q Ci other) none later
