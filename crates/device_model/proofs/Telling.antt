@@ -1,6 +1,6 @@
 -- What a tape gains tells of the disk as before.
-use Rattle.std.proofs.Common.{ℕ, Bool, true, false, zero, suc, ◌≡◌, [], ◌∷◌, ◌++◌, All, refl, sym, ◌∙◌, ap, subst, arith}
-use Rattle.std.proofs.lemmas.List.Elements.{All-append}
+use Rattle.std.proofs.Common.{ℕ, Bool, true, false, zero, suc, ◌≡◌, [], ◌∷◌, ◌++◌, List, All, refl, sym, ◌∙◌, ap, subst, arith, append-nil, append_assoc}
+use Rattle.std.proofs.lemmas.List.Elements.{All-append, All-nil}
 use Rattle.adapter.specs.Access.{noted, written}
 use Rattle.adapter.specs.Asked.{DoesDone}
 use Rattle.adapter.specs.Device.{Device}
@@ -52,32 +52,34 @@ module _ {S : Type 0} (size : S → ℕ) where
   keeps_tape old new says sectors same = record {
     says = says;
     sectors = sectors;
-    pages = λ all. subst (AreItsPages (size old.disk0) old.says) (sym same) all;
+    gained = [];
+    tape = same ∙ sym (append-nil old.hardware.tape.items);
+    pages = All-nil (λ x. (m : Move) → x ≡ entry.Move m → m.operation ≡ Identify → IsItsPage (size old.disk0) old.says m.bytes);
   }
 
   -- one more entry, which is no page or the disk's
   pub keeps_entry : (old new : Model S) (e : Entry) → new.says ≡ old.says → size new.disk0 ≡ size old.disk0 →
       new.hardware.tape.items ≡ old.hardware.tape.items ++ e ∷ [] →
       ((m : Move) → e ≡ entry.Move m → m.operation ≡ Identify → IsItsPage (size old.disk0) old.says m.bytes) → KeepsPages size old new
-  keeps_entry old new e says sectors more here =
-      let P : Entry → Type 0 = λ x. (m : Move) → x ≡ entry.Move m → m.operation ≡ Identify → IsItsPage (size old.disk0) old.says m.bytes in
-      record {
-        says = says;
-        sectors = sectors;
-        pages = λ all.
-            subst (AreItsPages (size old.disk0) old.says) (sym more)
-            (All-append P old.hardware.tape.items (e ∷ []) all (all_one P e here));
-      }
+  keeps_entry old new e says sectors more here = record {
+    says = says;
+    sectors = sectors;
+    gained = e ∷ [];
+    tape = more;
+    pages = all_one (λ x. (m : Move) → x ≡ entry.Move m → m.operation ≡ Identify → IsItsPage (size old.disk0) old.says m.bytes) e here;
+  }
 
   pub keeps_on : (a b c : Model S) → KeepsPages size a b → KeepsPages size b c → KeepsPages size a c
-  keeps_on a b c first then = record {
-    says = then.says ∙ first.says;
-    sectors = then.sectors ∙ first.sectors;
-    pages = λ all.
-        let P : ℕ → Description → Type 0 = λ n x. AreItsPages n x b.hardware.tape.items → AreItsPages n x c.hardware.tape.items in
-        let step : P (size a.disk0) a.says = subst (λ x. P (size a.disk0) x) first.says (subst (λ n. P n b.says) first.sectors then.pages) in
-        step (first.pages all);
-  }
+  keeps_on a b c first then =
+      let P : Entry → Type 0 = λ x. (m : Move) → x ≡ entry.Move m → m.operation ≡ Identify → IsItsPage (size a.disk0) a.says m.bytes in
+      record {
+        says = then.says ∙ first.says;
+        sectors = then.sectors ∙ first.sectors;
+        gained = first.gained ++ then.gained;
+        tape = then.tape ∙ (ap (λ (t : List Entry). t ++ then.gained) first.tape ∙ append_assoc a.hardware.tape.items first.gained then.gained);
+        pages = All-append P first.gained then.gained first.pages
+            (subst (λ x. AreItsPages (size a.disk0) x then.gained) first.says (subst (λ n. AreItsPages n b.says then.gained) first.sectors then.pages));
+      }
 
   -- a move was noted
   pub keeps_moved : (old new : Model S) (k : Transfer) (m : Move) → new.says ≡ old.says → size new.disk0 ≡ size old.disk0 →

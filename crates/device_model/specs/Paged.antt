@@ -1,5 +1,5 @@
 -- What the modelled disks say of themselves.
-use Rattle.std.specs.Prelude.{ℕ, ◌≡◌, ◌<◌, List, [], ◌∷◌, All, length, bit_xor, replicate, slice_index, slice_set}
+use Rattle.std.specs.Prelude.{ℕ, ◌≡◌, ◌<◌, ◌++◌, List, [], ◌∷◌, All, length, bit_xor, replicate, slice_index, slice_set}
 use Rattle.adapter.specs.declared.access.DeviceStep.{DeviceStep}
 use Rattle.adapter.specs.declared.access.DeviceStep.TheVariants.{Lie, Truth}
 use Rattle.adapter.specs.declared.command.Operation.TheVariants.{Identify}
@@ -30,16 +30,18 @@ pub record IsItsPage (size : ℕ) (says : Description) (bytes : List ℕ) : Type
   pub true_page : IsPage serial_of_disk0 size says.abilities page
   pub turned : IsTurned page says.lies bytes
 
--- each page of IDENTIFY DEVICE on a tape is this
+-- each page of IDENTIFY DEVICE among these entries is this
 abbrev pub AreItsPages : ℕ → Description → List Entry → Type 0
-AreItsPages size says tape = All (λ e. (m : Move) → e ≡ entry.Move m → m.operation ≡ Identify → IsItsPage size says m.bytes) tape
+AreItsPages size says entries = All (λ e. (m : Move) → e ≡ entry.Move m → m.operation ≡ Identify → IsItsPage size says m.bytes) entries
 
--- A model's disk 0 tells of itself as it did: so many sectors, these abilities and these lies; and if all pages on the tape told so,
--- they do still.
+-- A model's disk 0 tells of itself as it did: so many sectors, these abilities and these lies; and each page that the tape has gained
+-- meanwhile tells so.
 pub record KeepsPages {S : Type 0} (size : S → ℕ) (old new : Model S) : Type 0 where
   pub says : new.says ≡ old.says
   pub sectors : size new.disk0 ≡ size old.disk0
-  pub pages : AreItsPages (size old.disk0) old.says old.hardware.tape.items → AreItsPages (size old.disk0) old.says new.hardware.tape.items
+  pub gained : List Entry
+  pub tape : new.hardware.tape.items ≡ old.hardware.tape.items ++ gained
+  pub pages : AreItsPages (size old.disk0) old.says gained
 
 -- the step has nothing to do with lies
 abbrev pub IsHonest : DeviceStep → Type 0

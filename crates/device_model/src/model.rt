@@ -303,6 +303,9 @@ impl<S: SectorStore> Model<S> {
             self.new.says ≡ record self.old.says { lies = lying self.old.says.lies offset bits } }
         ensures truth { (p : Port) → s.now ≡ DeviceStep.Truth p → p.0 ≡ 0 → self.new.says ≡ record self.old.says { lies = no_lies } }
         ensures told { result ≡ false → (p : Port) → s.now ≡ DeviceStep.Truth p → ⊥ }
+        ensures unlied { result ≡ false → self.new.says ≡ self.old.says }
+        ensures elsewhere { (p : Port) (page : DiskPage) (offset bits : ℕ) → s.now ≡ DeviceStep.Lie p page offset bits → p.0 ≢ 0 → self.new.says ≡ self.old.says }
+        ensures elsewhere_told { (p : Port) → s.now ≡ DeviceStep.Truth p → p.0 ≢ 0 → self.new.says ≡ self.old.says }
         ensures lied { result ≡ false → (p : Port) (page : DiskPage) (offset bits : ℕ) → s.now ≡ DeviceStep.Lie p page offset bits → offset < 512 → ⊥ }
     {
         match *s {
@@ -478,6 +481,9 @@ impl<S: SectorStore> Stepped for Model<S> {
             self.new.says ≡ record self.old.says { lies = lying self.old.says.lies offset bits } }
         ensures truth { (p : Port) → s.now ≡ DeviceStep.Truth p → p.0 ≡ 0 → self.new.says ≡ record self.old.says { lies = no_lies } }
         ensures told { result ≡ false → (p : Port) → s.now ≡ DeviceStep.Truth p → ⊥ }
+        ensures unlied { result ≡ false → self.new.says ≡ self.old.says }
+        ensures elsewhere { (p : Port) (page : DiskPage) (offset bits : ℕ) → s.now ≡ DeviceStep.Lie p page offset bits → p.0 ≢ 0 → self.new.says ≡ self.old.says }
+        ensures elsewhere_told { (p : Port) → s.now ≡ DeviceStep.Truth p → p.0 ≢ 0 → self.new.says ≡ self.old.says }
         ensures lied { result ≡ false → (p : Port) (page : DiskPage) (offset bits : ℕ) → s.now ≡ DeviceStep.Lie p page offset bits → offset < 512 → ⊥ }
     {
         self.do_step(s)
