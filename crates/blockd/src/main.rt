@@ -6,6 +6,8 @@
 use std::io;
 use std::process::ExitCode;
 
+#[cfg(test)]
+mod boots;
 mod session;
 mod told;
 

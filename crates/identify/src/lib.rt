@@ -6,8 +6,11 @@ ghost use Rattle.std.specs.Prelude.{◌≡◌, ◌<◌, ◌↔◌, IsTrue, IfOk,
 ghost use Rattle.std.specs.Int.{bit_at};
 ghost use Rattle.identify.specs.Page.{AllowsTrim, Applies, Describes, HasNoFault, IsFirstFault, IsSerial, number_of, sector_count, word};
 
+mod wanted;
+
 use byteorder::{ByteOrder, LittleEndian};
 use thiserror::Error;
+pub use wanted::Wanted;
 
 /// Why a disk can't be used, in the order in which the causes are told (this project's own).
 #[derive(Clone, Copy, PartialEq, Eq, Debug, Error)]

@@ -1,0 +1,5 @@
+pub mod Leaving
+pub mod Hosting
+pub mod Stopping
+pub mod Ways
+pub mod Taking

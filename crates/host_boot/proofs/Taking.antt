@@ -1,0 +1,435 @@
+-- Port after port is booted, and the machine follows.
+use Rattle.std.proofs.Common.{ℕ, true, ◌≡◌, ◌≢◌, ◌<◌, ◌≤◌, ◌+◌, ◌/◌, ◌%◌, List, length, inl, inr, refl, sym, ◌∙◌, ap, subst, arith, le_trans}
+use Rattle.std.specs.Prelude.{slice_set}
+use Rattle.std.proofs.lemmas.Bool.{cases_eq}
+use Rattle.std.proofs.lemmas.List.{length-set, length-append, get_or-set_same, get_or-set_other}
+use Rattle.ata_types.specs.declared.Port.{Port}
+use Rattle.ata_types.specs.declared.PortState.{PortState}
+use Rattle.ata_types.specs.declared.PortState.TheVariants.{Absent, Ready as ReadyState, Foreign, Unfit, Dead}
+use Rattle.hba_regs.specs.declared.reg.PortReg.TheVariants.{Ci, Ie, Sact}
+use Rattle.hba_regs.specs.declared.reg.Reg.TheVariants.{Bohc, Cap, Cap2, Ghc, Is, Pi, Px, Vs}
+use Rattle.hba_regs.specs.Bits.{bit}
+use Rattle.hba_regs.specs.declared.reg.PortReg.{PortReg}
+use Rattle.adapter.specs.Access.{Access}
+use Rattle.adapter.specs.Access.Access.{Reading, Writing, Loading, Storing}
+use Rattle.adapter.specs.Device.{Device}
+use Rattle.adapter.specs.Idle.{IsIdle, IsIdlePort}
+use Rattle.adapter.specs.Rules.{IsOn}
+use Rattle.adapter.specs.declared.command.Operation.{Operation}
+use Rattle.adapter.specs.declared.command.Operation.TheVariants.{Identify}
+use Rattle.block_machine.specs.Histories.{AddsSteps}
+use Rattle.block_machine.specs.Left.{after}
+use Rattle.block_machine.proofs.HistoryLemmas.{reached_more}
+use Rattle.agreement.specs.Agrees.{AreUnarmed, port_at}
+use Rattle.agreement.specs.Driven.{AnyUse, IsAgreed, IsDrivenBy, IsFollowed, IsFollowedTo, IsOf, IsUse, LeavesPort, NoneWrites, SendsNone, known}
+use Rattle.agreement.specs.Driver.{AllFree, ByDevice, Knows}
+use Rattle.agreement.specs.Links.{SameAdapter, SparesRegister}
+use Rattle.agreement.specs.Slots.{Free, Own, Uses, put, IsMove}
+use Rattle.agreement.proofs.Adding.{accesses_then}
+use Rattle.agreement.proofs.Controlled.{agreed_on, control_is_of, is_control, of_spares_others, other_left, same_over, tape_over, unarmed_over}
+use Rattle.agreement.proofs.Driven.{by_then, driven_as, followed_as, followed_to_as}
+use Rattle.agreement.proofs.Gaining.{gains_more}
+use Rattle.agreement.proofs.Lasting.{same_more, same_refl}
+use Rattle.agreement.proofs.Putting.{put_same, put_other}
+use Rattle.agreement.proofs.Unarmed.{putting_unarmed}
+use Rattle.disk_page.proofs.Asking.{asking_is_of}
+use Rattle.identify.specs.declared.wanted.Wanted.{Wanted}
+use Rattle.identify.specs.declared.wanted.Wanted.TheVariants.{Nothing}
+use Rattle.port_control.proofs.Using.{placing_spares, resetting_spares}
+use Rattle.port_boot.specs.States.{IsBoot, IsBooting, IsBootTo, IsOfBoot}
+use Rattle.host_boot.specs.Taken.{Boots, GoesOver, IsLeft, IsOfHost, IsOfTaking, LeavesPorts, StandsBehind, TakesOver, WroteControl, found_of, unused, wanted_of}
+use Rattle.host_boot.specs.declared.Host.{Host}
+use Rattle.host_boot.specs.declared.Found.{Found}
+use Rattle.host_boot.specs.declared.Found.TheVariants.{Unserved, Ready, Unready}
+use Rattle.host_boot.proofs.Leaving.{idle_on, stands_on, reset_on}
+
+-- ---- what the accesses of a boot are
+
+pub of_boot : (port : Port) (access : Access) → IsOfBoot port access → IsOf port access
+of_boot port access (inl control) = control_is_of IsBooting port access control
+of_boot port access (inr asking) = asking_is_of port access asking
+
+-- ---- stretches that put slots to a fixed use
+
+-- the uses are these at last
+abbrev GoesTo : (Access → Type 0) → Uses → Uses → Device → Device → Type 0
+GoesTo May first uses old new = IsFollowedTo May (IsUse first) (λ _. uses) old new
+
+module _ (May : Access → Type 0) (first : Uses) where
+  -- nothing is put to use
+  pub goes_on : (old new : Device) → IsFollowed May AnyUse old new → GoesTo May first first old new
+  goes_on old new a = record {
+    driven = a.driven;
+    adds = λ uses parked is. subst (λ (u : Uses). AddsSteps Knows (known uses parked old) (known u parked new) (ByDevice old new)) is (a.adds uses parked tt);
+    silent = λ uses parked m is r k port o own none not later. a.silent uses parked m tt r k port o own none not;
+  }
+
+  -- nothing more is
+  pub then_on : (Fits : Uses → Type 0) (uses : Uses) (old mid new : Device) → Fits uses → GoesTo May first uses old mid → IsFollowed May Fits mid new → GoesTo May first uses old new
+  then_on Fits uses old mid new fits a b = record {
+    driven = by_then a.driven b.driven;
+    adds = λ were parked is. accesses_then (known were parked old) (known uses parked mid) (known uses parked new) (a.adds were parked is) (b.adds uses parked fits);
+    silent = λ were parked m is r k port o own none not later.
+        let x = (a.adds were parked is).adds m r k in
+        gains_more (IsMove port.0 o) old mid new (a.silent were parked m is r k port o own none not later)
+        (b.silent uses parked (after m x.0) fits (reached_more m x.0 r x.1) x.2 port o own none later);
+  }
+
+  -- more is, and what was stays so
+  pub then_to : (Fits : Uses → Type 0) (next : Uses → Uses) (uses : Uses) (old mid new : Device) → Fits uses →
+      ((port : ℕ) (o : Operation) → uses port 0 ≡ Own o → next uses port 0 ≡ Own o) → GoesTo May first uses old mid → IsFollowedTo May Fits next mid new →
+      GoesTo May first (next uses) old new
+  then_to Fits next uses old mid new fits stays a b = record {
+    driven = by_then a.driven b.driven;
+    adds = λ were parked is. accesses_then (known were parked old) (known uses parked mid) (known (next uses) parked new) (a.adds were parked is) (b.adds uses parked fits);
+    silent = λ were parked m is r k port o own none not later.
+        let x = (a.adds were parked is).adds m r k in
+        let before : uses port.0 0 ≡ Own o → ⊥ = λ (e : uses port.0 0 ≡ Own o). later (stays port.0 o e) in
+        gains_more (IsMove port.0 o) old mid new (a.silent were parked m is r k port o own none not before)
+        (b.silent uses parked (after m x.0) fits (reached_more m x.0 r x.1) x.2 port o own none before later);
+  }
+
+-- ---- on the way
+
+-- So many ports were booted, as they were found, and the others are idle still.
+pub record IsUnderway (wanted : List Wanted) (ports : List Found) (n : ℕ) (start d : Device) : Type 0 where
+  pub on : IsOn d
+  pub same : SameAdapter start d
+  pub long : length ports ≡ 4
+  pub uses : Uses
+  pub left : (port slot : ℕ) → IsLeft ports uses port slot
+  pub free : (port slot : ℕ) → n ≤ port → uses port slot ≡ Free
+  pub followed : GoesTo (IsOfTaking wanted) unused uses start d
+  pub agreed : IsAgreed uses d
+  pub stands : (port : ℕ) → port < n → StandsBehind (wanted_of wanted port) (found_of ports port) port d
+  pub reset : (port : ℕ) → port < n → WroteControl (found_of ports port) port (length start.tape) d
+  pub idle : (port : ℕ) → n ≤ port → IsIdlePort (d.port port)
+
+-- a boot writes no PxSACT
+booting_spares : IsBooting Sact → ⊥
+booting_spares (inl is) = placing_spares is
+booting_spares (inr (inl is)) = resetting_spares is
+booting_spares (inr (inr e)) = absurd (let k : Sact ≡ Ie = e in cc)
+
+boot_spares : (port q : Port) → NoneWrites (IsOfBoot port) (Px q Sact)
+boot_spares port q access (inl is) =
+    elim (is_control IsBooting port access is) [
+      | inl (r, v, e) ↦ subst (SparesRegister (Px q Sact)) (sym e) tt
+      | inr (r, v, e, w) ↦ subst (SparesRegister (Px q Sact)) (sym e) (λ (z : Px port r ≡ Px q Sact). let same : r ≡ Sact = cc in booting_spares (subst IsBooting same w))
+    ]
+boot_spares port q (Writing r v) (inr is) = λ (e : r ≡ Px q Sact). absurd (let z : Px port Ci ≡ Px q Sact = sym is.0 ∙ e in cc)
+boot_spares port q (Reading r v) (inr is) = tt
+boot_spares port q (Loading at bytes) (inr is) = tt
+boot_spares port q (Storing at bytes) (inr is) = tt
+
+module _ (wanted : List Wanted) (ports : List Found) (port : Port) (below : port.0 < 4) (start old new : Device) (found : Found)
+    (u : IsUnderway wanted ports port.0 start old) (on : IsOn new) (stands : StandsBehind (wanted_of wanted port.0) found port.0 new)
+    (reset : WroteControl found port.0 (length old.tape) new) where
+  abbrev Later : Type 0
+  Later = IsUnderway wanted (slice_set ports port.0 found) (port.0 + 1) start new
+
+  here_is : found_of (slice_set ports port.0 found) port.0 ≡ found
+  here_is = get_or-set_same ports port.0 found Unserved (let l = u.long in omega (arith, l, below))
+
+  other_is : (q : ℕ) → q ≢ port.0 → found_of (slice_set ports port.0 found) q ≡ found_of ports q
+  other_is q other = get_or-set_other ports port.0 q found Unserved other
+
+  -- what was used before it, is
+  was_left : (q slot : ℕ) → q ≢ port.0 → IsLeft (slice_set ports port.0 found) u.uses q slot
+  was_left q slot other = elim (u.left q slot) [
+    | inl free ↦ inl free
+    | inr (head, own, dead) ↦ inr (head, own, other_is q other ∙ dead)
+  ]
+
+  -- a disk is wanted there
+  wants : found ≢ Unserved → wanted_of wanted port.0 ≢ Nothing
+  wants other = served found stands other
+    where
+      served : (f : Found) → StandsBehind (wanted_of wanted port.0) f port.0 new → f ≢ Unserved → wanted_of wanted port.0 ≢ Nothing
+      served Unserved is not = absurd (not refl)
+      served (Ready info) is not = is.0.0
+      served (Unready state) is not = is.0.0
+
+  module _ (driven : IsDrivenBy (IsOfBoot port) old new)
+      (quiet : (q : Port) → q.0 ≢ port.0 → (u.uses q.0 0 ≡ Own Identify → ⊥) → SendsNone q.0 Identify old new) where
+    alone : (q : ℕ) → q ≢ port.0 → LeavesPort (old.port q) (new.port q)
+    alone q other = other_left port old new (driven_as (IsOfBoot port) (IsOf port) old new (of_boot port) driven) q other u.on
+
+    pub later_same : SameAdapter start new
+    later_same = same_more start old new u.same (same_over (IsOfBoot port) old new driven)
+
+    at_other : (q : ℕ) → q ≢ port.0 → q < port.0 → StandsBehind (wanted_of wanted q) (found_of (slice_set ports port.0 found) q) q new
+    at_other q other less =
+        let P : Found → Type 0 = λ f. StandsBehind (wanted_of wanted q) f q new in
+        subst P (sym (other_is q other))
+        (stands_on q old new (alone q other) (same_over (IsOfBoot port) old new driven) (wanted_of wanted q) (found_of ports q)
+        (λ alive. quiet (port_at q) other (λ own. elim (u.left q 0) [
+          | inl free ↦ absurd (let e : Own Identify ≡ Free = sym own ∙ free in cc)
+          | inr (head, is, dead) ↦ alive dead
+        ]))
+        (u.stands q less))
+
+    pub later_stands : (q : ℕ) → q < port.0 + 1 → StandsBehind (wanted_of wanted q) (found_of (slice_set ports port.0 found) q) q new
+    later_stands q less = elim (cases_eq q port.0) [
+      | inl e ↦
+          let P : ℕ → Type 0 = λ k. StandsBehind (wanted_of wanted k) (found_of (slice_set ports port.0 found) k) k new in
+          let Q : Found → Type 0 = λ f. StandsBehind (wanted_of wanted port.0) f port.0 new in
+          subst P (sym e) (subst Q (sym here_is) stands)
+      | inr other ↦ at_other q other (omega (arith, less, other))
+    ]
+
+    -- the tape only grew before it
+    longer : length start.tape ≤ length old.tape
+    longer =
+        let g = tape_over (IsOfTaking wanted) start old u.followed.driven in
+        let n : length old.tape ≡ length start.tape + length g.0 = ap (λ es. length es) g.1 ∙ length-append start.tape g.0 in
+        omega (arith, n)
+
+    since_start : (f : Found) → WroteControl f port.0 (length old.tape) new → WroteControl f port.0 (length start.tape) new
+    since_start Unserved is = is
+    since_start (Ready info) is = le_trans longer is
+    since_start (Unready Absent) is = le_trans longer is
+    since_start (Unready ReadyState) is = le_trans longer is
+    since_start (Unready Foreign) is = le_trans longer is
+    since_start (Unready (Unfit n)) is = le_trans longer is
+    since_start (Unready Dead) is = is
+
+    pub later_reset : (q : ℕ) → q < port.0 + 1 → WroteControl (found_of (slice_set ports port.0 found) q) q (length start.tape) new
+    later_reset q less = elim (cases_eq q port.0) [
+      | inl e ↦
+          let P : ℕ → Type 0 = λ k. WroteControl (found_of (slice_set ports port.0 found) k) k (length start.tape) new in
+          let Q : Found → Type 0 = λ f. WroteControl f port.0 (length start.tape) new in
+          subst P (sym e) (subst Q (sym here_is) (since_start found reset))
+      | inr other ↦
+          let Q : Found → Type 0 = λ f. WroteControl f q (length start.tape) new in
+          subst Q (sym (other_is q other)) (reset_on q old new (alone q other) (found_of ports q) (length start.tape) (u.reset q (omega (arith, less, other))))
+    ]
+
+    pub later_idle : (q : ℕ) → port.0 + 1 ≤ q → IsIdlePort (new.port q)
+    later_idle q more =
+        let other : q ≢ port.0 = λ (e : q ≡ port.0). absurd (omega (arith, e, more)) in
+        idle_on (old.port q) (new.port q) (alone q other) (u.idle q (omega (arith, more)))
+
+    taking : found ≢ Unserved → (access : Access) → IsOfBoot port access → IsOfTaking wanted access
+    taking served access is = inr (port, wants served, is)
+
+  -- ---- its slots are not used afterwards
+
+  unused_here : AllFree u.uses port.0
+  unused_here slot = u.free port.0 slot (omega arith)
+
+  pub booted : found ≢ Unserved → IsBoot port old new → Later
+  booted served f =
+      let quiet : (q : Port) → q.0 ≢ port.0 → (u.uses q.0 0 ≡ Own Identify → ⊥) → SendsNone q.0 Identify old new =
+      λ (q : Port) (other : q.0 ≢ port.0) (not : u.uses q.0 0 ≡ Own Identify → ⊥).
+      f.silent u.uses u.agreed.parked u.agreed.machine unused_here u.agreed.reached u.agreed.knows q Identify refl (λ access may. of_spares_others port q Ci other access (of_boot port access may)) not in
+      record {
+        on = on;
+        same = later_same f.driven quiet;
+        long = length-set ports port.0 found ∙ u.long;
+        uses = u.uses;
+        left = λ q slot. elim (cases_eq q port.0) [
+          | inl e ↦ inl (u.free q slot (omega (arith, e)))
+          | inr other ↦ was_left q slot other
+        ];
+        free = λ q slot more. u.free q slot (omega (arith, more));
+        followed = then_on (IsOfTaking wanted) unused (λ uses. AllFree uses port.0) u.uses start old new unused_here u.followed
+            (followed_as (IsOfBoot port) (IsOfTaking wanted) (λ uses. AllFree uses port.0) (λ uses. AllFree uses port.0) old new (taking f.driven quiet served) (λ uses free. free) f);
+        agreed = agreed_on (IsOfBoot port) (λ uses. AllFree uses port.0) u.uses old new (boot_spares port) unused_here f u.agreed;
+        stands = later_stands f.driven quiet;
+        reset = later_reset f.driven quiet;
+        idle = later_idle f.driven quiet;
+      }
+
+  -- ---- or it is dead, and its disk may yet send its page
+
+  abbrev Asked : Uses → Uses
+  Asked uses = put uses port.0 0 (Own Identify)
+
+  pub died : found ≡ Unready Dead → IsFollowedTo (IsOfBoot port) (λ uses. AllFree uses port.0) Asked old new → Later
+  died dead f =
+      let served : found ≢ Unserved = λ (e : found ≡ Unserved). absurd (let k : Unready Dead ≡ Unserved = sym dead ∙ e in cc) in
+      let quiet : (q : Port) → q.0 ≢ port.0 → (u.uses q.0 0 ≡ Own Identify → ⊥) → SendsNone q.0 Identify old new =
+      λ (q : Port) (other : q.0 ≢ port.0) (not : u.uses q.0 0 ≡ Own Identify → ⊥).
+      f.silent u.uses u.agreed.parked u.agreed.machine unused_here u.agreed.reached u.agreed.knows q Identify refl (λ access may. of_spares_others port q Ci other access (of_boot port access may)) not
+      (λ (e : Asked u.uses q.0 0 ≡ Own Identify). not (sym (put_other u.uses port.0 0 (Own Identify) q.0 0 (λ at head. other at)) ∙ e)) in
+      let stays : (q : ℕ) (o : Operation) → u.uses q 0 ≡ Own o → Asked u.uses q 0 ≡ Own o =
+      λ (q : ℕ) (o : Operation) (e : u.uses q 0 ≡ Own o).
+      put_other u.uses port.0 0 (Own Identify) q 0 (λ at head. absurd (let k : Own o ≡ Free = sym e ∙ u.free q 0 (omega (arith, at)) in cc)) ∙ e in
+      let x = (f.adds u.uses u.agreed.parked unused_here).adds u.agreed.machine u.agreed.reached u.agreed.knows in
+      record {
+        on = on;
+        same = later_same f.driven quiet;
+        long = length-set ports port.0 found ∙ u.long;
+        uses = Asked u.uses;
+        left = λ q slot. elim (cases_eq q port.0) [
+          | inl e ↦ elim (cases_eq slot 0) [
+            | inl head ↦ inr (
+              head,
+              let P : ℕ → Type 0 = λ k. Asked u.uses k 0 ≡ Own Identify in subst P (sym e) (put_same u.uses port.0 0 (Own Identify)),
+              let P : ℕ → Type 0 = λ k. found_of (slice_set ports port.0 found) k ≡ Unready Dead in subst P (sym e) (here_is ∙ dead),
+            )
+            | inr tail ↦ inl (put_other u.uses port.0 0 (Own Identify) q slot (λ at head. tail head) ∙ u.free q slot (omega (arith, e)))
+          ]
+          | inr other ↦ elim (was_left q slot other) [
+            | inl free ↦ inl (put_other u.uses port.0 0 (Own Identify) q slot (λ at head. other at) ∙ free)
+            | inr (head, own, is) ↦ inr (head, stays q Identify own, is)
+          ]
+        ];
+        free = λ q slot more. put_other u.uses port.0 0 (Own Identify) q slot (λ at head. absurd (omega (arith, at, more))) ∙ u.free q slot (omega (arith, more));
+        followed = then_to (IsOfTaking wanted) unused (λ uses. AllFree uses port.0) Asked u.uses start old new unused_here stays u.followed
+            (followed_to_as (IsOfBoot port) (IsOfTaking wanted) (λ uses. AllFree uses port.0) (λ uses. AllFree uses port.0) Asked old new (taking f.driven quiet served) (λ uses free. free) f);
+        agreed = record {
+          machine = after u.agreed.machine x.0;
+          parked = u.agreed.parked;
+          reached = reached_more u.agreed.machine x.0 u.agreed.reached x.1;
+          knows = x.2;
+          unarmed = λ q. elim (cases_eq q port.0) [
+            | inl e ↦
+                let P : ℕ → Type 0 = λ k. AreUnarmed (Asked u.uses) (new.port k) k in
+                subst P (sym e) (putting_unarmed u.uses (new.port port.0) port.0 0 (Own Identify) (λ e. absurd cc)
+                (unarmed_over (IsOfBoot port) old new f.driven u.uses port.0 (boot_spares port (port_at port.0)) (u.agreed.unarmed port.0)))
+            | inr other ↦ λ slot free.
+                unarmed_over (IsOfBoot port) old new f.driven u.uses q (boot_spares port (port_at q)) (u.agreed.unarmed q) slot
+                (sym (put_other u.uses port.0 0 (Own Identify) q slot (λ at head. other at)) ∙ free)
+          ];
+        };
+        stands = later_stands f.driven quiet;
+        reset = later_reset f.driven quiet;
+        idle = later_idle f.driven quiet;
+      }
+
+  -- ---- or it isn't served
+
+  pub passed : found ≡ Unserved → new ≡ old → Later
+  passed is same =
+      let P : Device → Type 0 = λ d. IsUnderway wanted (slice_set ports port.0 found) (port.0 + 1) start d in
+      subst P (sym same) (record {
+        on = u.on;
+        same = u.same;
+        long = length-set ports port.0 found ∙ u.long;
+        uses = u.uses;
+        left = λ q slot. elim (cases_eq q port.0) [
+          | inl e ↦ inl (u.free q slot (omega (arith, e)))
+          | inr other ↦ was_left q slot other
+        ];
+        free = λ q slot more. u.free q slot (omega (arith, more));
+        followed = u.followed;
+        agreed = u.agreed;
+        stands = λ q less. elim (cases_eq q port.0) [
+          | inl e ↦
+              let R : ℕ → Type 0 = λ k. StandsBehind (wanted_of wanted k) (found_of (slice_set ports port.0 found) k) k old in
+              let Q : Found → Type 0 = λ f. StandsBehind (wanted_of wanted port.0) f port.0 old in
+              let D : Device → Type 0 = λ d. StandsBehind (wanted_of wanted port.0) found port.0 d in
+              subst R (sym e) (subst Q (sym here_is) (subst D same stands))
+          | inr other ↦
+              let Q : Found → Type 0 = λ f. StandsBehind (wanted_of wanted q) f q old in
+              subst Q (sym (other_is q other)) (u.stands q (omega (arith, less, other)))
+        ];
+        reset = λ q less. elim (cases_eq q port.0) [
+          | inl e ↦
+              let R : ℕ → Type 0 = λ k. WroteControl (found_of (slice_set ports port.0 found) k) k (length start.tape) old in
+              let Q : Found → Type 0 = λ f. WroteControl f port.0 (length start.tape) old in
+              subst R (sym e) (subst Q (sym (here_is ∙ is)) tt)
+          | inr other ↦
+              let Q : Found → Type 0 = λ f. WroteControl f q (length start.tape) old in
+              subst Q (sym (other_is q other)) (u.reset q (omega (arith, less, other)))
+        ];
+        idle = λ q more. u.idle q (omega (arith, more));
+      })
+
+  -- whatever it was found to be
+  pub next : Boots port found old new → Later
+  next boots = by found refl boots
+    where
+      by_state : (state : PortState) → found ≡ Unready state → IsBootTo port state old new → Later
+      by_state Dead is (inl f) = booted (λ e. absurd (let k : Unready Dead ≡ Unserved = sym is ∙ e in cc)) f
+      by_state Dead is (inr f) = died is f
+      by_state Absent is f = booted (λ e. absurd (let k : Unready Absent ≡ Unserved = sym is ∙ e in cc)) f
+      by_state ReadyState is f = booted (λ e. absurd (let k : Unready ReadyState ≡ Unserved = sym is ∙ e in cc)) f
+      by_state Foreign is f = booted (λ e. absurd (let k : Unready Foreign ≡ Unserved = sym is ∙ e in cc)) f
+      by_state (Unfit n) is f = booted (λ e. absurd (let k : Unready (Unfit n) ≡ Unserved = sym is ∙ e in cc)) f
+
+      by : (f : Found) → found ≡ f → Boots port f old new → Later
+      by Unserved is same = passed is same
+      by (Ready info) is f = booted (λ e. absurd (let k : Ready info ≡ Unserved = sym is ∙ e in cc)) f
+      by (Unready state) is f = by_state state is f
+
+-- the adapter is what it was
+pub boots_same : (port : Port) (old new : Device) (found : Found) → Boots port found old new → SameAdapter old new
+boots_same port old new Unserved is = subst (SameAdapter old) (sym is) (same_refl old)
+boots_same port old new (Ready info) f = same_over (IsOfBoot port) old new f.driven
+boots_same port old new (Unready Dead) (inl f) = same_over (IsOfBoot port) old new f.driven
+boots_same port old new (Unready Dead) (inr f) = same_over (IsOfBoot port) old new f.driven
+boots_same port old new (Unready Absent) f = same_over (IsOfBoot port) old new f.driven
+boots_same port old new (Unready ReadyState) f = same_over (IsOfBoot port) old new f.driven
+boots_same port old new (Unready Foreign) f = same_over (IsOfBoot port) old new f.driven
+boots_same port old new (Unready (Unfit n)) f = same_over (IsOfBoot port) old new f.driven
+
+-- ---- accesses of the adapter's own registers
+
+host_spares : (q : Port) (r : PortReg) → NoneWrites IsOfHost (Px q r)
+host_spares q r (Reading x v) is = tt
+host_spares q r (Loading at bytes) is = absurd is
+host_spares q r (Storing at bytes) is = absurd is
+host_spares q r (Writing Ghc v) is = λ (e : Ghc ≡ Px q r). absurd cc
+host_spares q r (Writing Cap v) is = absurd is
+host_spares q r (Writing Is v) is = absurd is
+host_spares q r (Writing Pi v) is = absurd is
+host_spares q r (Writing Vs v) is = absurd is
+host_spares q r (Writing Cap2 v) is = absurd is
+host_spares q r (Writing Bohc v) is = absurd is
+host_spares q r (Writing (Px p x) v) is = absurd is
+
+hosting : (wanted : List Wanted) (old new : Device) → IsFollowed IsOfHost AnyUse old new → IsFollowed (IsOfTaking wanted) AnyUse old new
+hosting wanted old new f = followed_as IsOfHost (IsOfTaking wanted) AnyUse AnyUse old new (λ access may. inl may) (λ uses is. is) f
+
+module _ (wanted : List Wanted) (start : Device) where
+  -- no port was booted yet
+  pub begins : (ports : List Found) (d : Device) → length ports ≡ 4 → IsIdle start → IsAgreed unused start → IsOn d → LeavesPorts start d → IsFollowed IsOfHost AnyUse start d →
+      IsUnderway wanted ports 0 start d
+  begins ports d long idle agreed on leaves f = record {
+    on = on;
+    same = same_over IsOfHost start d f.driven;
+    long = long;
+    uses = unused;
+    left = λ port slot. inl refl;
+    free = λ port slot more. refl;
+    followed = goes_on (IsOfTaking wanted) unused start d (hosting wanted start d f);
+    agreed = agreed_on IsOfHost AnyUse unused start d (λ q. host_spares q Sact) tt f agreed;
+    stands = λ port less. absurd (omega (arith, less));
+    reset = λ port less. absurd (omega (arith, less));
+    idle = λ port more. idle_on (start.port port) (d.port port) (leaves port) (idle.port port);
+  }
+
+  -- all were
+  module _ (ports : List Found) (d new : Device) (u : IsUnderway wanted ports 4 start d) (leaves : LeavesPorts d new) (f : IsFollowed IsOfHost AnyUse d new) where
+    abbrev Silent : ℕ → Type 0
+    Silent port = SendsNone port Identify d new
+
+    silent : (port : ℕ) → found_of ports port ≢ Unready Dead → Silent port
+    silent port alive = f.silent u.uses u.agreed.parked u.agreed.machine tt u.agreed.reached u.agreed.knows (port_at port) Identify refl (host_spares (port_at port) Ci)
+        (λ own. elim (u.left port 0) [
+          | inl free ↦ absurd (let e : Own Identify ≡ Free = sym own ∙ free in cc)
+          | inr (head, is, dead) ↦ alive dead
+        ])
+
+    pub ends : (host : Host) → host.ports ≡ ports → host.slots ≡ new.cap / 256 % 32 + 1 → host.queued ≡ bit new.cap 30 → IsOn new → new.ie ≡ true → GoesOver ports start new → TakesOver wanted host start new
+    ends host is slots queued on tells way = record {
+      on = on;
+      interrupts = tells;
+      same = same_more start d new u.same (same_over IsOfHost d new f.driven);
+      slots = slots;
+      queued = queued;
+      stands = λ port less.
+          let P : List Found → Type 0 = λ ps. StandsBehind (wanted_of wanted port) (found_of ps port) port new in
+          subst P (sym is) (stands_on port d new (leaves port) (same_over IsOfHost d new f.driven) (wanted_of wanted port) (found_of ports port) (silent port) (u.stands port less));
+      reset = λ port less.
+          let P : List Found → Type 0 = λ ps. WroteControl (found_of ps port) port (length start.tape) new in
+          subst P (sym is) (reset_on port d new (leaves port) (found_of ports port) (length start.tape) (u.reset port less));
+      way = let P : List Found → Type 0 = λ ps. GoesOver ps start new in subst P (sym is) way;
+      uses = u.uses;
+      left = λ port slot. let P : List Found → Type 0 = λ ps. IsLeft ps u.uses port slot in subst P (sym is) (u.left port slot);
+      followed = then_on (IsOfTaking wanted) unused AnyUse u.uses start d new tt u.followed (hosting wanted d new f);
+      agreed = agreed_on IsOfHost AnyUse u.uses d new (λ q. host_spares q Sact) tt f u.agreed;
+    }

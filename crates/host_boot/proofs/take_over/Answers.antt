@@ -1,0 +1,84 @@
+use Rattle.std.proofs.Common.{ℕ, ◌≡◌, ◌+◌, refl, sym, ◌∙◌, ap, subst, arith}
+use Rattle.hba_regs.specs.Bits.{bit, field}
+use Rattle.ata_types.specs.declared.Port.{Port}
+use Rattle.adapter.specs.Device.{Device}
+use Rattle.agreement.specs.Driven.{AnyUse}
+use Rattle.agreement.specs.Links.{SameAdapter}
+use Rattle.agreement.proofs.Controlled.{leaves_more, same_over}
+use Rattle.agreement.proofs.Driven.{followed_then}
+use Rattle.agreement.proofs.Idling.{idle_agrees}
+use Rattle.host_boot.specs.Taken.{IsOfHost}
+use Rattle.host_boot.proofs.Taking.{IsUnderway, begins, boots_same, ends, next}
+use Rattle.host_boot.proofs.Ways.{IsOnWay, way_more, way_over}
+use Rattle.host_boot.proofs.take_over.Goals as goal
+
+pub loop-number-init : goal.loop-number-init
+loop-number-init g c =
+    let old : Device = g.A.Adapter.device c.args.adapter.now in
+    let told = g.met.A.Adapter.tells c.args.adapter.now in
+    record {
+      underway = begins c.args.wanted.now old _ _ refl c.requires.idle (idle_agrees old c.requires.idle told) c.survey-implemented.ensures.on
+          (λ port. leaves_more _ _ _ (c.power_on.ensures.leaves port) (c.survey-implemented.ensures.leaves port))
+          (followed_then IsOfHost AnyUse _ _ _ c.power_on.ensures.followed c.survey-implemented.ensures.followed);
+      way = record {
+        switched = g.A.Adapter.device c.power_on.new.adapter;
+        switches = c.power_on.ensures.switches;
+        surveyed = g.A.Adapter.device c.survey-implemented.new.adapter;
+        surveys = c.survey-implemented.ensures.surveys;
+        boots = refl;
+      };
+      there = c.survey-implemented.ensures.there;
+      capable = c.survey-implemented.ensures.capable;
+    }
+
+pub boot_port-requires-clause-on : goal.boot_port-requires-clause-on
+boot_port-requires-clause-on g c = c.loop-number.invariant.underway.on
+
+pub boot_port-requires-clause-there : goal.boot_port-requires-clause-there
+boot_port-requires-clause-there g c = c.loop-number.invariant.there
+
+pub boot_port-requires-clause-room : goal.boot_port-requires-clause-room
+boot_port-requires-clause-room g c = let same = c.loop-number.invariant.underway.same.size in let room = c.requires.room in omega (arith, same, room)
+
+pub boot_port-requires-clause-agreed : goal.boot_port-requires-clause-agreed
+boot_port-requires-clause-agreed g c =
+    let u = c.loop-number.invariant.underway in
+    (u.uses, λ slot. u.free c.loop-number.number slot (omega arith), u.agreed)
+
+pub boot_port-requires-clause-idle : goal.boot_port-requires-clause-idle
+boot_port-requires-clause-idle g c = c.loop-number.invariant.underway.idle c.loop-number.number (omega arith)
+
+pub loop-number-preserved : goal.loop-number-preserved
+loop-number-preserved g c =
+    let port : Port = record { 0 = c.loop-number.number } in
+    let same : SameAdapter (g.A.Adapter.device c.loop-number.adapter) (g.A.Adapter.device c.boot_port.new.adapter) =
+    boots_same port _ _ c.boot_port.result c.boot_port.ensures.boots in
+    record {
+      underway = next c.args.wanted.now c.loop-number.ports port c.loop-number-test.true _ _ _ c.boot_port.result c.loop-number.invariant.underway
+          c.boot_port.ensures.on c.boot_port.ensures.stands c.boot_port.ensures.reset c.boot_port.ensures.boots;
+      way = way_more c.loop-number.ports c.loop-number.number c.boot_port.result _ _ _ c.loop-number.invariant.underway.long c.loop-number-test.true c.loop-number.invariant.way
+          c.boot_port.ensures.way;
+      there = c.loop-number.invariant.there ∙ sym same.pi;
+      capable = c.loop-number.invariant.capable ∙ sym same.cap;
+    }
+
+pub enable_interrupts-requires : goal.enable_interrupts-requires
+enable_interrupts-requires g c = record { on = c.loop-number.invariant.underway.on }
+
+pub returns : goal.returns
+returns g c =
+    let d : Device = g.A.Adapter.device c.loop-number.adapter in
+    let new : Device = g.A.Adapter.device c.enable_interrupts.new.adapter in
+    let four : c.loop-number.number ≡ 4 = omega (arith, c.loop-number-test.false, c.loop-number.auto.number-end) in
+    let same : SameAdapter d new = same_over IsOfHost d new c.enable_interrupts.ensures.followed.driven in
+    let cap : c.survey-implemented.result.0.0 ≡ new.cap = c.loop-number.invariant.capable ∙ sym same.cap in
+    record {
+      taken = ends c.args.wanted.now (g.A.Adapter.device c.args.adapter.now) c.loop-number.ports d new
+          (subst (λ (n : ℕ). IsUnderway c.args.wanted.now c.loop-number.ports n (g.A.Adapter.device c.args.adapter.now) d) four c.loop-number.invariant.underway)
+          c.enable_interrupts.ensures.leaves c.enable_interrupts.ensures.followed _ refl
+          (ap (λ (n : ℕ). n + 1) (c.last_slot.ensures ∙ ap (λ (v : ℕ). field v 8 5) cap))
+          (c.has_ncq.ensures ∙ ap (λ (v : ℕ). bit v 30) cap)
+          c.enable_interrupts.ensures.on c.enable_interrupts.ensures.tells
+          (way_over c.loop-number.ports (g.A.Adapter.device c.args.adapter.now) d new c.loop-number.invariant.underway.long
+          (subst (λ (n : ℕ). IsOnWay c.loop-number.ports n (g.A.Adapter.device c.args.adapter.now) d) four c.loop-number.invariant.way) c.enable_interrupts.ensures.enables);
+    }

@@ -1,0 +1,12 @@
+use Rattle.std.proofs.Common.{◌≡◌}
+use Rattle.host_boot.proofs.Taking.{IsUnderway}
+use Rattle.host_boot.proofs.Ways.{IsOnWay}
+use Rattle.host_boot.proofs.take_over.Given as goal
+
+abbrev pub invariant-loop-number : goal.invariant-loop-number
+invariant-loop-number g l = record {
+  underway : IsUnderway l.wanted l.ports l.number (g.A.Adapter.device l.fn.adapter) (g.A.Adapter.device l.adapter);
+  way : IsOnWay l.ports l.number (g.A.Adapter.device l.fn.adapter) (g.A.Adapter.device l.adapter);
+  there : l.implemented ≡ (g.A.Adapter.device l.adapter).pi;
+  capable : l.capabilities.0 ≡ (g.A.Adapter.device l.adapter).cap;
+}

@@ -1,0 +1,135 @@
+-- An adapter that is taken over: which of its ports are served, and what stands behind what each was found to be (this project's own;
+-- the way: AHCI 1.3.1, 10.1.2).
+use Rattle.std.specs.Prelude.{ℕ, [], ◌∷◌, true, ◌≡◌, ◌≢◌, ◌+◌, ◌/◌, ◌%◌, ◌<◌, ◌≤◌, ◌⊎◌, List, length, slice_index_or}
+use Rattle.ata_types.specs.declared.Port.{Port}
+use Rattle.ata_types.specs.declared.PortState.TheVariants.{Dead}
+use Rattle.hba_regs.specs.Bits.{bit}
+use Rattle.hba_regs.specs.declared.reg.Reg.TheVariants.{Cap, Ghc, Pi}
+use Rattle.adapter.specs.Access.{Access, Writes}
+use Rattle.adapter.specs.Access.Access.{Reading, Writing}
+use Rattle.adapter.specs.Device.{Device}
+use Rattle.adapter.specs.Idle.{IsIdlePort}
+use Rattle.adapter.specs.Rules.{IsOn}
+use Rattle.adapter.specs.declared.command.Operation.TheVariants.{Identify}
+use Rattle.agreement.specs.Agrees.{port_at}
+use Rattle.agreement.specs.Driven.{IsAgreed, IsControl, IsDrivenBy, IsFollowedTo, IsUse, LeavesPort}
+use Rattle.agreement.specs.Links.{SameAdapter}
+use Rattle.agreement.specs.Slots.{Free, Own, Uses}
+use Rattle.identify.specs.Wanted.{serial_of}
+use Rattle.identify.specs.declared.wanted.Wanted.{Wanted}
+use Rattle.identify.specs.declared.wanted.Wanted.TheVariants.{Nothing}
+use Rattle.port_control.specs.Ports.{WritesCommand}
+use Rattle.port_boot.specs.States.{EndsAs, EndsEarly, EndsLate, GetsReady, IsBoot, IsBootTo, IsEarly, IsLate, IsOfBoot, IsReady, ShowsNews}
+use Rattle.host_boot.specs.declared.Found.{Found}
+use Rattle.host_boot.specs.declared.Found.TheVariants.{Unserved, Ready, Unready}
+use Rattle.host_boot.specs.declared.Host.{Host}
+
+-- ---- ports
+
+-- what is wanted of a port, by its number
+abbrev pub wanted_of : List Wanted → ℕ → Wanted
+wanted_of wanted port = slice_index_or wanted port Nothing
+
+-- what a port was found to be
+abbrev pub found_of : List Found → ℕ → Found
+found_of ports port = slice_index_or ports port Unserved
+
+-- a disk is wanted in the port, and the adapter has it
+abbrev pub IsServed : Wanted → ℕ → Device → Type 0
+IsServed wanted port d = (wanted ≢ Nothing) × (bit d.pi port ≡ true)
+
+-- What stands behind what a port was found to be. One that isn't served is as idle as it was; what stands behind the others is what
+-- their boot found.
+abbrev pub StandsBehind : Wanted → Found → ℕ → Device → Type 0
+StandsBehind wanted Unserved port d = (IsServed wanted port d → ⊥) × IsIdlePort (d.port port)
+StandsBehind wanted (Ready info) port d = IsServed wanted port d × IsReady (serial_of wanted) port d info
+StandsBehind wanted (Unready state) port d = IsServed wanted port d × EndsAs (serial_of wanted) state port d
+
+-- PxSCTL of the port was written after the tape was so long, unless the port isn't served, or was dead before that
+abbrev pub WroteControl : Found → ℕ → ℕ → Device → Type 0
+WroteControl Unserved port since d = Unit {0}
+WroteControl (Unready Dead) port since d = Unit {0}
+WroteControl _ port since d = since ≤ (d.port port).notes.sctl_written_at
+
+-- A port that isn't served isn't touched; another was booted.
+abbrev pub Boots : Port → Found → Device → Device → Type 0
+Boots port Unserved old new = new ≡ old
+Boots port (Ready info) old new = IsBoot port old new
+Boots port (Unready state) old new = IsBootTo port state old new
+
+-- ---- accesses
+
+-- it reads CAP or PI, or writes GHC with AE alone, or with AE and IE
+abbrev pub IsOfHost : Access → Type 0
+IsOfHost (Reading Cap v) = Unit {0}
+IsOfHost (Reading Pi v) = Unit {0}
+IsOfHost (Writing Ghc v) = (v ≡ 0x80000000) ⊎ (v ≡ 0x80000002)
+IsOfHost access = ⊥
+
+-- it reads CAP or PI
+abbrev pub IsSurvey : Access → Type 0
+IsSurvey (Reading Cap v) = Unit {0}
+IsSurvey (Reading Pi v) = Unit {0}
+IsSurvey access = ⊥
+
+-- it is one of these, or one of the boot of a port in which a disk is wanted
+abbrev pub IsOfTaking : List Wanted → Access → Type 0
+IsOfTaking wanted access = IsOfHost access ⊎ ((port : Port) × (wanted_of wanted port.0 ≢ Nothing) × IsOfBoot port access)
+
+-- every port is left to the device
+abbrev pub LeavesPorts : Device → Device → Type 0
+LeavesPorts old new = (port : ℕ) → LeavesPort (old.port port) (new.port port)
+
+-- ---- the way
+
+-- The port was stopped, and then booted: it is ready, and each access of that is told, with what it shows of trouble; or it isn't, and
+-- what was seen is told. One that was dead before that was stopped alone.
+abbrev pub GoesThrough : Port → Found → Device → Device → Type 0
+GoesThrough port Unserved old new = new ≡ old
+GoesThrough port (Ready info) old new = (stopped : Device) × IsDrivenBy (IsControl WritesCommand port) old stopped
+    × GetsReady port stopped new × ShowsNews port.0 stopped new
+GoesThrough port (Unready state) old new = (stopped : Device) × IsDrivenBy (IsControl WritesCommand port) old stopped
+    × (IsEarly state → EndsEarly port state stopped new) × (IsLate state → EndsLate port stopped new)
+
+-- so it was with these ports, one after another, of which the first has this number
+abbrev pub GoThrough : ℕ → List Found → Device → Device → Type 0
+GoThrough port [] old new = new ≡ old
+GoThrough port (found ∷ rest) old new = (mid : Device) × GoesThrough (port_at port) found old mid × GoThrough (port + 1) rest mid new
+
+-- The adapter was switched on with interrupts off, and CAP and PI were read; then each port went its way, in rising number; and last of
+-- all the adapter was let interrupt (AHCI 1.3.1, 3.1.2 and 10.1.2).
+pub record GoesOver (ports : List Found) (old new : Device) : Type 0 where
+  pub switched : Device
+  pub switches : Writes Ghc 0x80000000 old switched
+  pub surveyed : Device
+  pub surveys : IsDrivenBy IsSurvey switched surveyed
+  pub booted : Device
+  pub boots : GoThrough 0 ports surveyed booted
+  pub enables : Writes Ghc 0x80000002 booted new
+
+-- ---- the whole
+
+-- no slot is used
+abbrev pub unused : Uses
+unused = λ port slot. Free
+
+-- A slot isn't used; or it is slot 0 of a port that is dead, which may have IDENTIFY DEVICE still.
+abbrev pub IsLeft : List Found → Uses → ℕ → ℕ → Type 0
+IsLeft ports uses port slot = (uses port slot ≡ Free)
+    ⊎ ((slot ≡ 0) × (uses port 0 ≡ Own Identify) × (found_of ports port ≡ Unready Dead))
+
+-- An idle adapter was taken over: it is on, and may interrupt; what is told of it is so; each of its ports is as it was found, by a
+-- COMRESET of this very call; and the machine followed, by steps of the device alone.
+pub record TakesOver (wanted : List Wanted) (host : Host) (old new : Device) : Type 0 where
+  pub on : IsOn new
+  pub interrupts : new.ie ≡ true
+  pub same : SameAdapter old new
+  pub slots : host.slots ≡ new.cap / 256 % 32 + 1
+  pub queued : host.queued ≡ bit new.cap 30
+  pub stands : (port : ℕ) → port < 4 → StandsBehind (wanted_of wanted port) (found_of host.ports port) port new
+  pub reset : (port : ℕ) → port < 4 → WroteControl (found_of host.ports port) port (length old.tape) new
+  pub way : GoesOver host.ports old new
+  pub uses : Uses
+  pub left : (port slot : ℕ) → IsLeft host.ports uses port slot
+  pub followed : IsFollowedTo (IsOfTaking wanted) (IsUse unused) (λ _. uses) old new
+  pub agreed : IsAgreed uses new

@@ -1,0 +1,132 @@
+//! Taking a host adapter over: it is switched on, each of its ports that is wanted is booted, and then it may interrupt (AHCI 1.3.1,
+//! 10.1.2; which ports are served is this project's own).
+#![tactic(auto)]
+
+ghost use Rattle.std.specs.Prelude.{ℕ, ◌≡◌, ◌≢◌, ◌<◌, ◌≤◌, length, true};
+ghost use Rattle.hba_regs.specs.Bits.{bit};
+ghost use Rattle.hba_regs.specs.declared.reg.Reg.TheVariants.{Ghc};
+ghost use Rattle.adapter.specs.Access.{Writes};
+ghost use Rattle.adapter.specs.Device.{Device};
+ghost use Rattle.adapter.specs.Idle.{IsIdle, IsIdlePort};
+ghost use Rattle.adapter.specs.Rules.{IsOn};
+ghost use Rattle.agreement.specs.Driven.{AgreesWith, AnyUse, IsDrivenBy, IsFollowed};
+ghost use Rattle.agreement.specs.Driver.{AllFree};
+ghost use Rattle.agreement.specs.Links.{SameAdapter};
+ghost use Rattle.host_boot.specs.Taken.{Boots, WroteControl, StandsBehind, GoesThrough, IsOfHost, IsSurvey, LeavesPorts, TakesOver};
+
+use adapter::Adapter;
+use ata_types::{Port, PortState};
+use hba_regs::{Capabilities, GlobalControl, Reg, is_set};
+use identify::{DiskInfo, Wanted};
+use port_boot::boot;
+use port_control::stop;
+
+/// How many ports the driver has memory for.
+pub const PORTS: usize = 4;
+
+/// What a port was found to be.
+#[derive(Clone, Copy, PartialEq, Eq, Debug)]
+pub enum Found {
+    /// It isn't wanted, or the adapter doesn't have it: it isn't touched.
+    Unserved,
+    /// It runs, and its disk says this of itself.
+    Ready(DiskInfo),
+    /// It was booted, and is in this state, which isn't `Ready`.
+    Unready(PortState),
+}
+
+/// An adapter that was taken over.
+#[derive(Clone, Copy, Debug)]
+pub struct Host {
+    /// How many command slots a port has, 1 to 32 (CAP.NCS).
+    pub slots: u8,
+    /// Whether it has native command queuing (CAP.SNCQ).
+    pub queued: bool,
+    /// Its ports, by number.
+    pub ports: [Found; PORTS],
+}
+
+/// Switches an idle adapter on, with interrupts off (AHCI 1.3.1, 10.1.2).
+fn power_on<A: Adapter>(adapter: &mut A)
+    requires idle { IsIdle (A.device adapter.old) }
+    ensures on { IsOn (A.device adapter.new) }
+    ensures switches { Writes Ghc 0x80000000 (A.device adapter.old) (A.device adapter.new) }
+    ensures leaves { LeavesPorts (A.device adapter.old) (A.device adapter.new) }
+    ensures followed { IsFollowed IsOfHost AnyUse (A.device adapter.old) (A.device adapter.new) }
+{
+    adapter.write(Reg::Ghc, GlobalControl::AE.0);
+}
+
+/// What the adapter is capable of (AHCI 1.3.1, 3.1.1), and the ports that it has, by bit (3.1.4).
+fn survey<A: Adapter>(adapter: &mut A) -> (Capabilities, u32)
+    requires on { IsOn (A.device adapter.old) }
+    ensures on { IsOn (A.device adapter.new) }
+    ensures leaves { LeavesPorts (A.device adapter.old) (A.device adapter.new) }
+    ensures followed { IsFollowed IsOfHost AnyUse (A.device adapter.old) (A.device adapter.new) }
+    ensures surveys { IsDrivenBy IsSurvey (A.device adapter.old) (A.device adapter.new) }
+    ensures capable { result.0.0 ≡ (A.device adapter.new).cap }
+    ensures there { result.1 ≡ (A.device adapter.new).pi }
+{
+    let capabilities = Capabilities(adapter.read(Reg::Cap));
+    let implemented = adapter.read(Reg::Pi);
+    (capabilities, implemented)
+}
+
+/// Boots an idle port, if it is wanted and the adapter has it.
+fn boot_port<A: Adapter>(adapter: &mut A, port: Port, implemented: u32, wanted: &Wanted) -> Found
+    requires on { IsOn (A.device adapter.old) }
+    requires port { port.0 < 4 }
+    requires there { implemented ≡ (A.device adapter.old).pi }
+    requires room { 163840 ≤ (A.device adapter.old).size }
+    requires agreed { AgreesWith (λ uses. AllFree uses port.0) (A.device adapter.old) }
+    requires idle { IsIdlePort ((A.device adapter.old).port port.0) }
+    ensures on { IsOn (A.device adapter.new) }
+    ensures stands { StandsBehind wanted.now result port.0 (A.device adapter.new) }
+    ensures reset { WroteControl result port.0 (length (A.device adapter.old).tape) (A.device adapter.new) }
+    ensures boots { Boots port result (A.device adapter.old) (A.device adapter.new) }
+    ensures way { GoesThrough port result (A.device adapter.old) (A.device adapter.new) }
+{
+    if *wanted == Wanted::Nothing || !is_set(implemented, u32::from(port.0)) {
+        return Found::Unserved;
+    }
+    let Ok(stopped) = stop(adapter, port) else {
+        return Found::Unready(PortState::Dead);
+    };
+    match boot(adapter, stopped, &wanted.serial()) {
+        Ok(info) => Found::Ready(info),
+        Err(state) => Found::Unready(state),
+    }
+}
+
+/// Lets the adapter interrupt (AHCI 1.3.1, 3.1.2).
+fn enable_interrupts<A: Adapter>(adapter: &mut A)
+    requires on { IsOn (A.device adapter.old) }
+    ensures on { IsOn (A.device adapter.new) }
+    ensures tells { (A.device adapter.new).ie ≡ true }
+    ensures enables { Writes Ghc 0x80000002 (A.device adapter.old) (A.device adapter.new) }
+    ensures leaves { LeavesPorts (A.device adapter.old) (A.device adapter.new) }
+    ensures followed { IsFollowed IsOfHost AnyUse (A.device adapter.old) (A.device adapter.new) }
+{
+    adapter.write(Reg::Ghc, GlobalControl::AE.0 | GlobalControl::IE.0);
+}
+
+/// Takes an idle adapter over: switches it on, boots each of the ports 0 to 3 that is wanted and that the adapter has, in rising
+/// number, and lets it interrupt. Ports that aren't served are left idle.
+pub fn take_over<A: Adapter>(adapter: &mut A, wanted: &[Wanted; PORTS]) -> Host
+    requires idle { IsIdle (A.device adapter.old) }
+    requires room { 163840 ≤ (A.device adapter.old).size }
+    ensures taken { TakesOver wanted.now result (A.device adapter.old) (A.device adapter.new) }
+{
+    power_on(adapter);
+    let (capabilities, implemented) = survey(adapter);
+    let mut ports = [Found::Unserved; PORTS];
+    for number in 0..PORTS {
+        ports[number] = boot_port(adapter, Port(number as u8), implemented, &wanted[number]);
+    }
+    enable_interrupts(adapter);
+    Host {
+        slots: capabilities.last_slot() as u8 + 1,
+        queued: capabilities.has_ncq(),
+        ports,
+    }
+}
