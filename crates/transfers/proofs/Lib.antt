@@ -1,0 +1,9 @@
+mod Apart
+mod Finding
+mod Issuing
+mod Looking
+mod Serving
+mod Telling
+mod Recording
+mod Seeing
+mod Witness

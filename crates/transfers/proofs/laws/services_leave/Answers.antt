@@ -1,0 +1,24 @@
+use Rattle.transfers.proofs.Recording.{services_recorded}
+use Rattle.transfers.proofs.Serving.{services_on, services_same, services_port, services_well, services_unarmed, services_agree}
+use Rattle.transfers.proofs.laws.services_leave.Goals as goal
+
+pub returns-clause-on : goal.returns-clause-on
+returns-clause-on c = services_on
+
+pub returns-clause-adapter : goal.returns-clause-adapter
+returns-clause-adapter c = services_same
+
+pub returns-clause-port : goal.returns-clause-port
+returns-clause-port c = services_port
+
+pub returns-clause-unarmed : goal.returns-clause-unarmed
+returns-clause-unarmed c = services_unarmed
+
+pub returns-clause-agrees : goal.returns-clause-agrees
+returns-clause-agrees c = services_agree
+
+pub returns-clause-well : goal.returns-clause-well
+returns-clause-well c = services_well
+
+pub returns-clause-recorded : goal.returns-clause-recorded
+returns-clause-recorded c = services_recorded

@@ -1,0 +1,4 @@
+pub mod Looks
+pub mod Services
+pub mod Transfers
+pub mod Witness
