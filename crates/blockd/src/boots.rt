@@ -12,8 +12,12 @@ use sector_store::MemStore;
 use std::alloc::Global;
 use std::test::Fail;
 
+/// PI of an adapter with ports 0 to 3.
+const ALL_PORTS: u8 = 0x0f;
+
 const CONFIG: ModelConfig = ModelConfig {
     frames: 41,
+    pi: ALL_PORTS,
     slots: 32,
     ncq: true,
     depth: 32,
@@ -33,14 +37,15 @@ const IMAGE_DISK: [Wanted; PORTS] = [
     Wanted::Nothing,
 ];
 
-/// An idle adapter with a disk of so many sectors in port 0.
-fn model(alloc: Global, sectors: u32) -> Result<Model<MemStore>, Fail>
+/// An idle adapter with the ports of this PI, and a disk of so many sectors in port 0.
+fn model(alloc: Global, pi: u8, sectors: u32) -> Result<Model<MemStore>, Fail>
+    requires { (1 ≤ pi) × (pi ≤ 15) }
     ensures idle { IfOk result (λ m. IsIdle (⟦<Model<MemStore> as Adapter>⟧.device m)) }
     ensures room { IfOk result (λ m. 163840 ≤ (⟦<Model<MemStore> as Adapter>⟧.device m).size) }
 {
     Ok(Model::new(
         alloc,
-        CONFIG,
+        ModelConfig { pi, ..CONFIG },
         MemStore::new(alloc, sectors)?,
         MemStore::new(alloc, 0)?,
     )?)
@@ -55,7 +60,7 @@ fn lie(model: &mut Model<MemStore>, offset: u16, bits: u8)
 
 /// What port 0 is found to be over an ordinary disk that tells two lies: of these bits of the byte at each offset. No bits are no lie.
 fn found(alloc: Global, first: (u16, u8), second: (u16, u8)) -> Result<Found, Fail> {
-    let mut model = model(alloc, SECTORS)?;
+    let mut model = model(alloc, ALL_PORTS, SECTORS)?;
     lie(&mut model, first.0, first.1);
     lie(&mut model, second.0, second.1);
     Ok(take_over(&mut model, &IMAGE_DISK).ports[0])
@@ -100,14 +105,14 @@ fn a_disk_is_what_its_page_says(rt: HostRuntime) -> Result<(), Fail> {
 
 #[test]
 fn a_disk_without_sectors_is_unfit(rt: HostRuntime) -> Result<(), Fail> {
-    let mut model = model(rt.alloc(), 0)?;
+    let mut model = model(rt.alloc(), ALL_PORTS, 0)?;
     assert_eq!(rt; take_over(&mut model, &IMAGE_DISK).ports[0], unfit(6));
     Ok(())
 }
 
 #[test]
 fn the_adapter_says_what_it_can_do(rt: HostRuntime) -> Result<(), Fail> {
-    let mut model = model(rt.alloc(), 8)?;
+    let mut model = model(rt.alloc(), ALL_PORTS, 8)?;
     let host = take_over(&mut model, &[Wanted::Nothing; PORTS]);
     assert_eq!(rt; host.slots, 32);
     assert!(rt; host.queued);
@@ -115,22 +120,26 @@ fn the_adapter_says_what_it_can_do(rt: HostRuntime) -> Result<(), Fail> {
     Ok(())
 }
 
-/// An adapter that notes what is written to its registers, and counts the readings of a register of one port.
+/// An adapter that notes which of its registers are read, and what is written to them.
 #[derive(Drop)]
 struct Noting<A> {
     adapter: A,
+    read: Vec<Reg>,
     written: Vec<(Reg, u32)>,
-    counted: Reg,
-    readings: u32,
+}
+
+impl<A> Noting<A> {
+    /// How often a register was read.
+    fn readings(&self, r: Reg) -> usize {
+        self.read.iter().filter(|read| **read == r).count()
+    }
 }
 
 impl<A: Adapter> Adapter for Noting<A> {
     ghost device = { λ n. A.device n.adapter };
 
     fn read(&mut self, r: Reg) -> u32 {
-        if r == self.counted {
-            self.readings = self.readings.saturating_add(1);
-        }
+        let _full = self.read.push(r).is_err();
         self.adapter.read(r)
     }
 
@@ -150,17 +159,18 @@ impl<A: Adapter> Adapter for Noting<A> {
     ghost tells = { λ n. A.tells n.adapter };
 }
 
-/// An adapter with an ordinary disk that is taken over, and what was found of it.
+/// An adapter with the ports of this PI and an ordinary disk that is taken over, and what was found of it.
 fn noted(
     alloc: Global,
+    pi: u8,
     wanted: &[Wanted; PORTS],
-    counted: Reg,
-) -> Result<(Noting<Model<MemStore>>, Host), Fail> {
+) -> Result<(Noting<Model<MemStore>>, Host), Fail>
+    requires { (1 ≤ pi) × (pi ≤ 15) }
+{
     let mut noting = Noting {
-        adapter: model(alloc, 8)?,
+        adapter: model(alloc, pi, 8)?,
+        read: Vec::new(alloc),
         written: Vec::new(alloc),
-        counted,
-        readings: 0,
     };
     let host = take_over(&mut noting, wanted);
     Ok((noting, host))
@@ -170,7 +180,7 @@ fn noted(
 // GHC with AE and IE (AHCI 1.3.1, 3.1.2, 3.3 and 10.1.2).
 #[test]
 fn a_boot_writes_these_registers(rt: HostRuntime) -> Result<(), Fail> {
-    let (noting, host) = noted(rt.alloc(), &IMAGE_DISK, Reg::Px(Port(0), PortReg::Ssts))?;
+    let (noting, host) = noted(rt.alloc(), ALL_PORTS, &IMAGE_DISK)?;
     assert!(rt; matches!(host.ports[0], Found::Ready(_)));
     let px = |r| Reg::Px(Port(0), r);
     let expected = [
@@ -192,7 +202,7 @@ fn a_boot_writes_these_registers(rt: HostRuntime) -> Result<(), Fail> {
         (Reg::Ghc, 0x8000_0002),
     ];
     assert_eq!(rt; noting.written.as_slice(), &expected[..]);
-    assert_eq!(rt; noting.readings, 1);
+    assert_eq!(rt; noting.readings(px(PortReg::Ssts)), 1);
     Ok(())
 }
 
@@ -205,7 +215,7 @@ fn a_wait_for_a_device_is_64_readings(rt: HostRuntime) -> Result<(), Fail> {
         Wanted::Any,
         Wanted::Nothing,
     ];
-    let (noting, host) = noted(rt.alloc(), &wanted, Reg::Px(Port(2), PortReg::Ssts))?;
+    let (noting, host) = noted(rt.alloc(), ALL_PORTS, &wanted)?;
     assert_eq!(rt;
         host.ports,
         [
@@ -215,7 +225,7 @@ fn a_wait_for_a_device_is_64_readings(rt: HostRuntime) -> Result<(), Fail> {
             Found::Unserved,
         ]
     );
-    assert_eq!(rt; noting.readings, 64);
+    assert_eq!(rt; noting.readings(Reg::Px(Port(2), PortReg::Ssts)), 64);
     assert!(rt;
         noting.written.iter().any(|write| *write == (Reg::Px(Port(2), PortReg::Clb), 0x14000))
     );
@@ -230,6 +240,28 @@ fn a_wait_for_a_device_is_64_readings(rt: HostRuntime) -> Result<(), Fail> {
             .written
             .iter()
             .all(|write| matches!(write.0, Reg::Ghc | Reg::Px(Port(2), _)))
+    );
+    Ok(())
+}
+
+// PI shows port 0 alone, and a disk is wanted in port 1, too.
+#[test]
+fn a_port_that_is_not_there_is_not_touched(rt: HostRuntime) -> Result<(), Fail> {
+    let wanted = [Wanted::Any, Wanted::Any, Wanted::Nothing, Wanted::Nothing];
+    let (noting, host) = noted(rt.alloc(), 1, &wanted)?;
+    assert!(rt; matches!(host.ports[0], Found::Ready(_)));
+    assert_eq!(rt; host.ports[1], Found::Unserved);
+    assert!(rt;
+        noting
+            .read
+            .iter()
+            .all(|read| !matches!(*read, Reg::Px(Port(1), _)))
+    );
+    assert!(rt;
+        noting
+            .written
+            .iter()
+            .all(|write| !matches!(write.0, Reg::Px(Port(1), _)))
     );
     Ok(())
 }

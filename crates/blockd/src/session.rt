@@ -26,6 +26,7 @@ const FRAMES: u16 = 256;
 /// The adapter and its disk.
 const CONFIG: ModelConfig = ModelConfig {
     frames: FRAMES,
+    pi: 0x0f,
     slots: 1,
     ncq: false,
     depth: 1,

@@ -4,7 +4,7 @@ use Rattle.std.specs.Prelude.{is_some}
 use Rattle.std.proofs.lemmas.Bool.Decides.{eqb_tells}
 use Rattle.std.proofs.lemmas.Nat.Bits.{bit_at-zero}
 use Rattle.hba_regs.specs.Bits.{bit}
-use Rattle.adapter.specs.Device.{Disk, IsDisk, IsTold}
+use Rattle.adapter.specs.Device.{Disk, IsDisk}
 use Rattle.adapter.specs.Idle.{IsIdlePort}
 use Rattle.device_model.specs.Modelled.{IsReset}
 use Rattle.sector_store.specs.Stores.{AreSectors}

@@ -13,7 +13,6 @@ use Rattle.adapter.specs.declared.tape.Move.{Move}
 use Rattle.hba_regs.specs.declared.reg.Reg.{Reg}
 use Rattle.hba_regs.specs.declared.reg.Reg.TheVariants.{Cap, Ghc, Is, Pi, Vs, Cap2, Bohc, Px}
 use Rattle.device_model.specs.Paged.{AreItsPages, IsItsPage, KeepsPages}
-use Rattle.device_model.specs.declared.model.Description.{Description}
 use Rattle.device_model.specs.View.{operation_of}
 use Rattle.device_model.specs.Whole.{Outside, device_of}
 use Rattle.device_model.specs.declared.model.Model.{Model}

@@ -1,5 +1,5 @@
 -- What a model with its disks stands for.
-use Rattle.std.specs.Prelude.{ℕ, Bool, true, false, ◌≡◌, ◌≢◌, ◌+◌, ◌-◌, ◌*◌, ◌^◌, ◌<◌, List, [], ◌∷◌, Option, if◌then◌else◌}
+use Rattle.std.specs.Prelude.{ℕ, Bool, true, false, ◌≡◌, ◌≢◌, ◌+◌, ◌-◌, ◌*◌, ◌^◌, ◌<◌, List, [], ◌∷◌, Option, if◌then◌else◌, count_ones}
 use Rattle.adapter.specs.Device.{PortState, Device}
 use Rattle.adapter.specs.FirstRead.{no_notes}
 use Rattle.device_model.specs.Whole.{Outside, device_of, outside_of, first_disk}
@@ -14,9 +14,9 @@ outside_at size told m =
 abbrev pub device_at : {S : Type 0} → (S → ℕ) → (S → Option (ℕ → List ℕ)) → Model S → Device
 device_at size told m = device_of m.hardware (outside_at size told m)
 
--- NP, NCS and SNCQ (AHCI 1.3.1, 3.1.1)
-abbrev pub cap_of : ℕ → Bool → ℕ
-cap_of slots ncq = 3 + 256 * (slots - 1) + (if ncq then 2 ^ 30 else 0)
+-- NP, by the ports that there are, NCS and SNCQ (AHCI 1.3.1, 3.1.1)
+abbrev pub cap_of : ℕ → ℕ → Bool → ℕ
+cap_of pi slots ncq = (count_ones pi - 1) + 256 * (slots - 1) + (if ncq then 2 ^ 30 else 0)
 
 -- A port's registers as a reset of the adapter leaves them: no device is seen, no link is due to come up, no first FIS came,
 -- no error and no cause is told (AHCI 1.3.1, 3.3 and 10.4.3). Nothing was read or written yet, PxCLB and PxFB neither.
@@ -33,12 +33,12 @@ pub record IsReset (p : PortState) : Type 0 where
   pub link_due : p.link_due ≡ false
   pub notes : p.notes ≡ no_notes
 
--- A new adapter has what its configuration says: four ports, and a disk in port 0 alone. It is switched off, its memory is
+-- A new adapter has what its configuration says, its ports too, and a disk in port 0 alone. It is switched off, its memory is
 -- zero, and its ports are as after a reset.
 pub record IsNew (config : ModelConfig) (size : ℕ) (told : Option (ℕ → List ℕ)) (d : Device) : Type 0 where
   pub memory : d.size ≡ 4096 * config.frames
-  pub cap : d.cap ≡ cap_of config.slots config.ncq
-  pub pi : d.pi ≡ 0x0f
+  pub cap : d.cap ≡ cap_of config.pi config.slots config.ncq
+  pub pi : d.pi ≡ config.pi
   pub disk : (d.port 0).disk ≡ first_disk size told
   pub plugged : (d.port 0).plugged ≡ first_disk size told ∷ []
   pub present : (d.port 0).present ≡ true

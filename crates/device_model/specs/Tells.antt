@@ -1,5 +1,5 @@
 -- Why the adapter's law on its disks holds of a model: each model tells its disks' sectors if it is one that tells.
-use Rattle.std.proofs.Common.{ℕ, Bool, true, false, ◌≡◌, ◌&&◌, List, [], Option, None, Some, refl, inl, inr}
+use Rattle.std.proofs.Common.{ℕ, true, false, ◌≡◌, ◌&&◌, List, [], Option, None, Some, refl, inl, inr}
 use Rattle.std.specs.Prelude.{is_some}
 use Rattle.std.proofs.lemmas.Bool.Decides.{eqb_tells}
 use Rattle.adapter.specs.Device.{Disk, IsTold}

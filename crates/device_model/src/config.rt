@@ -7,6 +7,8 @@ use std::alloc::AllocError;
 pub struct ModelConfig {
     /// The memory, in frames of 4096 bytes: 41 to 1024.
     pub frames: u16,
+    /// Which of ports 0 to 3 there are, by the bits of PI: 1 to 15.
+    pub pi: u8,
     /// The slots of each command list: 1 to 32.
     pub slots: u8,
     /// Whether adapter and disks know queued commands.

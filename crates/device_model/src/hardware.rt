@@ -19,14 +19,12 @@ pub struct Hardware {
     pub memory: Vec<u8>,
     pub ports: [PortModel; 4],
     pub cap: u32,
+    pub pi: u32,
     pub hr: bool,
     pub ae: bool,
     pub ie: bool,
     pub tape: Vec<Entry>,
 }
-
-/// PI: ports 0 to 3.
-const PORTS: u32 = 0x0f;
 
 /// VS: version 1.3.1.
 const VERSION: u32 = 0x0001_0301;
@@ -87,7 +85,7 @@ impl Hardware {
     {
         match r {
             Reg::Cap => self.cap,
-            Reg::Pi => PORTS,
+            Reg::Pi => self.pi,
             Reg::Vs => VERSION,
             Reg::Ghc => global_control(self.hr, self.ie, self.ae),
             Reg::Px(port, r) => self.ports[usize::from(port.0)].shown(r),

@@ -49,8 +49,8 @@ pub struct Description {
     pub lies: [u8; PAGE_BYTES],
 }
 
-/// A modelled adapter. Port 0 has a disk over the first store; ports 1 to 3 have no device. Of all commands it takes
-/// READ DMA EXT, WRITE DMA EXT and IDENTIFY DEVICE alone: a step on another one answers `false`.
+/// A modelled adapter. Port 0 has a disk over the first store; the others of ports 0 to 3 that there are have no device. Of
+/// all commands it takes READ DMA EXT, WRITE DMA EXT and IDENTIFY DEVICE alone: a step on another one answers `false`.
 #[derive(Drop)]
 pub struct Model<S> {
     hardware: Hardware,
@@ -67,10 +67,11 @@ pub struct Model<S> {
 }
 
 impl<S: SectorStore> Model<S> {
-    /// An adapter as after its reset, with four ports, memory of zeros, and the disks 0 and 1 of port 0. Disk 0 is
-    /// plugged in. It tells its disks' sectors where both stores do.
+    /// An adapter as after its reset, with the ports that are asked for, memory of zeros, and the disks 0 and 1 of port 0.
+    /// Disk 0 is plugged in. It tells its disks' sectors where both stores do.
     pub fn new(alloc: Global, config: ModelConfig, disk0: S, disk1: S) -> Result<Model<S>, NoMemory>
         requires frames { (41 ≤ config.frames) × (config.frames ≤ 1024) }
+        requires ports { (1 ≤ config.pi) × (config.pi ≤ 15) }
         requires slots { (1 ≤ config.slots) × (config.slots ≤ 32) }
         requires depth { (1 ≤ config.depth) × (config.depth ≤ 32) }
         ensures idle { IfOk result (λ m. IsIdle (device_at S.size S.told m)) }
@@ -87,7 +88,8 @@ impl<S: SectorStore> Model<S> {
                 PortModel::new(false),
                 PortModel::new(false),
             ],
-            cap: capabilities(config.slots, config.ncq),
+            cap: capabilities(config.pi, config.slots, config.ncq),
+            pi: u32::from(config.pi),
             hr: false,
             ae: false,
             ie: false,
@@ -395,12 +397,13 @@ fn exchange<S: SectorStore>(
     }
 }
 
-/// CAP: four ports, so many slots, and whether there are queued commands.
-fn capabilities(slots: u8, ncq: bool) -> u32
-    requires { (1 ≤ slots) × (slots ≤ 32) }
-    ensures { result ≡ cap_of slots ncq }
+/// CAP: how many ports there are, so many slots, and whether there are queued commands.
+fn capabilities(pi: u8, slots: u8, ncq: bool) -> u32
+    requires ports { (1 ≤ pi) × (pi ≤ 15) }
+    requires slots { (1 ≤ slots) × (slots ≤ 32) }
+    ensures { result ≡ cap_of pi slots ncq }
 {
-    3 + 256 * (u32::from(slots) - 1) + (if ncq { 1 << 30 } else { 0 })
+    (pi.count_ones() - 1) + 256 * (u32::from(slots) - 1) + (if ncq { 1 << 30 } else { 0 })
 }
 
 impl<S: SectorStore> Adapter for Model<S> {

@@ -12,6 +12,7 @@ use std::test::Fail;
 
 const CONFIG: ModelConfig = ModelConfig {
     frames: 41,
+    pi: 0x0f,
     slots: 32,
     ncq: true,
     depth: 32,
@@ -158,6 +159,14 @@ fn is_written(entry: Option<&Entry>, n: u8) -> bool {
 
 fn step<A: Stepped>(adapter: &mut A, s: DeviceStep) -> bool {
     adapter.step(&s)
+}
+
+// Whether the port's disk lies of these bits of a byte of its page from now on.
+fn lie<A: Stepped>(adapter: &mut A, port: u8, offset: u16, bits: u8) -> bool {
+    step(
+        adapter,
+        DeviceStep::Lie(Port(port), DiskPage::Identity, offset, bits),
+    )
 }
 
 #[test]
@@ -338,37 +347,12 @@ fn an_identify_device_goes_step_by_step(rt: HostRuntime) -> Result<(), Fail> {
 fn a_lie_turns_bits_of_the_page(rt: HostRuntime) -> Result<(), Fail> {
     let mut model = issued(rt.alloc())?;
     issue_identify(&mut model);
-    assert!(rt;
-        step(
-            &mut model,
-            DeviceStep::Lie(Port(0), DiskPage::Identity, 510, 0x0f)
-        )
-    );
-    assert!(rt;
-        step(
-            &mut model,
-            DeviceStep::Lie(Port(0), DiskPage::Identity, 510, 0x01)
-        )
-    );
-    assert!(rt;
-        step(
-            &mut model,
-            DeviceStep::Lie(Port(0), DiskPage::Identity, 0, 0x80)
-        )
-    );
+    assert!(rt; lie(&mut model, 0, 510, 0x0f));
+    assert!(rt; lie(&mut model, 0, 510, 0x01));
+    assert!(rt; lie(&mut model, 0, 0, 0x80));
     // Other ports have no disk, and the page no byte 512.
-    assert!(rt;
-        step(
-            &mut model,
-            DeviceStep::Lie(Port(1), DiskPage::Identity, 1, 0xff)
-        )
-    );
-    assert!(rt;
-        !step(
-            &mut model,
-            DeviceStep::Lie(Port(0), DiskPage::Identity, 512, 0xff)
-        )
-    );
+    assert!(rt; lie(&mut model, 1, 1, 0xff));
+    assert!(rt; !lie(&mut model, 0, 512, 0xff));
     assert_eq!(rt; model.tape().len(), 0);
     assert!(rt; step(&mut model, FINISH));
     for at in 0..512usize {
@@ -387,12 +371,7 @@ fn a_lie_turns_bits_of_the_page(rt: HostRuntime) -> Result<(), Fail> {
 fn the_truth_ends_lies(rt: HostRuntime) -> Result<(), Fail> {
     let mut model = issued(rt.alloc())?;
     issue_identify(&mut model);
-    assert!(rt;
-        step(
-            &mut model,
-            DeviceStep::Lie(Port(0), DiskPage::Identity, 0, 0xff)
-        )
-    );
+    assert!(rt; lie(&mut model, 0, 0, 0xff));
     // Another port's disk isn't meant.
     assert!(rt; step(&mut model, DeviceStep::Truth(Port(1))));
     assert!(rt; step(&mut model, FINISH));
@@ -497,6 +476,17 @@ fn the_adapter_is_switched_on(rt: HostRuntime) -> Result<(), Fail> {
     assert_eq!(rt; model.hardware.shown(Reg::Cap), 0x4000_1f03);
     assert_eq!(rt; model.hardware.shown(Reg::Pi), 0x0f);
     assert_eq!(rt; model.hardware.shown(Reg::Vs), 0x0001_0301);
+    Ok(())
+}
+
+#[test]
+fn an_adapter_may_have_ports_0_and_2_alone(rt: HostRuntime) -> Result<(), Fail> {
+    let alloc = rt.alloc();
+    let config = ModelConfig { pi: 5, ..CONFIG };
+    let model = Model::new(alloc, config, disk(alloc)?, MemStore::new(alloc, 16)?)?;
+    assert_eq!(rt; model.hardware.shown(Reg::Pi), 5);
+    // NP is the number of ports less one.
+    assert_eq!(rt; model.hardware.shown(Reg::Cap), 0x4000_1f01);
     Ok(())
 }
 

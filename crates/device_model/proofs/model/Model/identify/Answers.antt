@@ -2,7 +2,6 @@ use Rattle.adapter.proofs.Runs.{Steps-trans}
 use Rattle.adapter.specs.Device.{Device}
 use Rattle.std.proofs.Common.{◌∙◌, sym, subst}
 use Rattle.device_model.specs.Finishing.{HasIdentify}
-use Rattle.device_model.specs.Modelled.{device_at}
 use Rattle.device_model.proofs.Telling.{keeps_on}
 use Rattle.device_model.proofs.model.Model.identify.Goals as goal
 

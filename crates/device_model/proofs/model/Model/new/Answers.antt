@@ -21,7 +21,7 @@ pub returns-clause-made : goal.returns-clause-made
 returns-clause-made g c = record {
   memory = search rules;
   cap = search rules;
-  pi = refl;
+  pi = search rules;
   disk = refl;
   plugged = ap (λ s. first_disk (g.S.SectorStore.size s) (g.S.SectorStore.told s) ∷ []) c.of.ensures;
   present = c.new.ensures.present;
