@@ -1,6 +1,5 @@
 -- What accesses leave of ports that they aren't of: what stands behind a port goes on.
-use Rattle.std.proofs.Common.{ℕ, false, ◌≡◌, ◌≢◌, ◌≤◌, Option, List, inl, inr, sym, ◌∙◌, ap, subst}
-use Rattle.ata_types.specs.declared.PortState.{PortState}
+use Rattle.std.proofs.Common.{ℕ, false, ◌≡◌, ◌≢◌, ◌≤◌, refl, sym, ◌∙◌, ap, subst}
 use Rattle.ata_types.specs.declared.PortState.TheVariants.{Absent, Ready as ReadyState, Foreign, Unfit, Dead}
 use Rattle.hba_regs.specs.Bits.{bit}
 use Rattle.hba_regs.specs.declared.reg.Reg.TheVariants.{Cap, Ghc, Pi}
@@ -16,11 +15,8 @@ use Rattle.agreement.specs.Driven.{LeavesPort, SendsNone}
 use Rattle.agreement.specs.Links.{SameAdapter}
 use Rattle.identify.specs.Wanted.{serial_of}
 use Rattle.identify.specs.declared.wanted.Wanted.{Wanted}
-use Rattle.port_control.specs.Ports.{IsStopped, IsRunning, SawDevice, Shows}
-use Rattle.port_control.specs.declared.PortFault.{PortFault}
-use Rattle.port_boot.specs.States.{EndsAs, HasPage, IsReady, IsUnfit}
-use Rattle.port_boot.proofs.Identifying.{page_on}
-use Rattle.host_boot.specs.Taken.{IsServed, StandsBehind, WroteControl}
+use Rattle.port_boot.proofs.Staying.{disk_on, ends_on, noted_on, ready_on}
+use Rattle.host_boot.specs.Taken.{IsServed, LeavesFound, StandsBehind, StillStandsBehind, WroteControl}
 use Rattle.host_boot.specs.declared.Found.{Found}
 use Rattle.host_boot.specs.declared.Found.TheVariants.{Unserved, Ready, Unready}
 
@@ -38,74 +34,30 @@ module _ (old new : device.PortState) (l : LeavesPort old new) where
     taken = l.keeps.idle i.cr i.taken;
   }
 
-  stopped_on : IsStopped old → IsStopped new
-  stopped_on s = record {
-    halted = record {
-      st = l.keeps.st s.halted.st;
-      cr = l.keeps.cr s.halted.cr;
-      ci = λ slot. l.keeps.ci slot (s.halted.ci slot);
-      taken = l.keeps.idle s.halted.cr s.halted.taken;
-    };
-    sact = λ slot. l.keeps.sact slot (s.sact slot);
-  }
+-- ---- a port that is served
 
-  running_on : (port : ℕ) → IsRunning port old → IsRunning port new
-  running_on port r = record {
-    st = l.controls.st ∙ r.st;
-    cr = l.controls.runs r.st r.cr;
-    fre = l.controls.fre ∙ r.fre;
-    bases = l.keeps.bases ∙ r.bases;
-    ci = λ slot. l.keeps.ci slot (r.ci slot);
-    sact = λ slot. l.keeps.sact slot (r.sact slot);
-    taken = λ slot. l.keeps.free slot (r.ci slot) (r.taken slot);
-  }
+module _ (port : ℕ) (old new : Device) (same : SameAdapter old new) (wanted : Wanted) where
+  served_on : IsServed wanted port old → IsServed wanted port new
+  served_on (is, there) = (is, ap (λ (pi : ℕ). bit pi port) same.pi ∙ there)
 
-  noted_on : (P : Notes → Type 0) → P old.notes → P new.notes
-  noted_on P = subst P (sym l.notes)
+  served_back : IsServed wanted port new → IsServed wanted port old
+  served_back (is, there) = (is, ap (λ (pi : ℕ). bit pi port) (sym same.pi) ∙ there)
+
+-- a port of which a boot found anything is served
+pub is_served : (wanted : Wanted) (port : ℕ) (d : Device) (found : Found) → found ≢ Unserved → StandsBehind wanted found port d → IsServed wanted port d
+is_served wanted port d Unserved other h = absurd (other refl)
+is_served wanted port d (Ready info) other h = h.0
+is_served wanted port d (Unready state) other h = h.0
 
 -- ---- what stands behind it
 
 module _ (port : ℕ) (old new : Device) (l : LeavesPort (old.port port) (new.port port)) where
-  page_stays : SendsNone port Identify old new → (page : List ℕ) → HasPage port old page → HasPage port new page
-  page_stays silent page h = page_on port old new page silent (ap (λ (n : Notes). n.sctl_written_at) l.notes) h
-
-  unfit_on : SendsNone port Identify old new → (n : ℕ) → IsUnfit n port old → IsUnfit n port new
-  unfit_on silent n (inl (is, shown)) = inl (is, noted_on (old.port port) (new.port port) l (λ k. Shows PortFault.Busy k) shown)
-  unfit_on silent n (inr (inl (is, shown))) = inr (inl (is, noted_on (old.port port) (new.port port) l (λ k. (signature : ℕ) × Shows (PortFault.NotAta signature) k) shown))
-  unfit_on silent n (inr (inr (inl (is, saw, count)))) =
-      inr (inr (inl (is, noted_on (old.port port) (new.port port) l SawDevice saw, noted_on (old.port port) (new.port port) l (λ k. k.command_count ≡ 64) count)))
-  unfit_on silent n (inr (inr (inr (page, has, fault)))) = inr (inr (inr (page, page_stays silent page has, fault)))
-
-  -- the page is not asked about where the port is dead
-  ends_on : (wanted : Option (List ℕ)) (state : PortState) → ((state ≢ Dead) → SendsNone port Identify old new) → EndsAs wanted state port old → EndsAs wanted state port new
-  ends_on wanted Absent silent (stopped, shown) = (stopped_on (old.port port) (new.port port) l stopped, noted_on (old.port port) (new.port port) l (λ k. Shows PortFault.NoDevice k) shown)
-  ends_on wanted (Unfit n) silent (stopped, unfit) = (stopped_on (old.port port) (new.port port) l stopped, unfit_on (silent (λ e. absurd cc)) n unfit)
-  ends_on wanted Foreign silent (stopped, (page, has, other)) = (stopped_on (old.port port) (new.port port) l stopped, (page, page_stays (silent (λ e. absurd cc)) page has, other))
-  ends_on wanted Dead silent (st, shown) = (l.keeps.st st, noted_on (old.port port) (new.port port) l (λ k. Shows PortFault.EngineStuck k) shown)
-  ends_on wanted ReadyState silent none = absurd none
-
-  ready_on : (wanted : Option (List ℕ)) → SendsNone port Identify old new → (info : _) → IsReady wanted port old info → IsReady wanted port new info
-  ready_on wanted silent info r = record {
-    runs = running_on (old.port port) (new.port port) l port r.runs;
-    det = l.controls.sctl_det ∙ r.det;
-    saw = noted_on (old.port port) (new.port port) l SawDevice r.saw;
-    page = r.page;
-    has = page_stays silent r.page r.has;
-    fit = r.fit;
-  }
-
-  served_on : SameAdapter old new → (wanted : Wanted) → IsServed wanted port old → IsServed wanted port new
-  served_on same wanted (is, there) = (is, ap (λ (pi : ℕ). bit pi port) same.pi ∙ there)
-
-  served_back : SameAdapter old new → (wanted : Wanted) → IsServed wanted port new → IsServed wanted port old
-  served_back same wanted (is, there) = (is, ap (λ (pi : ℕ). bit pi port) (sym same.pi) ∙ there)
-
   pub stands_on : SameAdapter old new → (wanted : Wanted) (found : Found) → (found ≢ Unready Dead → SendsNone port Identify old new)
       → StandsBehind wanted found port old → StandsBehind wanted found port new
-  stands_on same wanted Unserved silent (not, idle) = (λ is. not (served_back same wanted is), idle_on (old.port port) (new.port port) l idle)
-  stands_on same wanted (Ready info) silent (is, ready) = (served_on same wanted is, ready_on (serial_of wanted) (silent (λ e. absurd cc)) info ready)
+  stands_on same wanted Unserved silent (not, idle) = (λ is. not (served_back port old new same wanted is), idle_on (old.port port) (new.port port) l idle)
+  stands_on same wanted (Ready info) silent (is, ready) = (served_on port old new same wanted is, ready_on port old new l (serial_of wanted) info (silent (λ e. absurd cc)) ready)
   stands_on same wanted (Unready state) silent (is, ends) =
-      (served_on same wanted is, ends_on (serial_of wanted) state (λ other. silent (λ e. other (let k : Unready state ≡ Unready Dead = e in cc))) ends)
+      (served_on port old new same wanted is, ends_on port old new l (serial_of wanted) state (λ other. silent (λ e. other (let k : Unready state ≡ Unready Dead = e in cc))) ends)
 
   pub reset_on : (found : Found) (since : ℕ) → WroteControl found port since old → WroteControl found port since new
   reset_on Unserved since is = is
@@ -116,10 +68,27 @@ module _ (port : ℕ) (old new : Device) (l : LeavesPort (old.port port) (new.po
   reset_on (Unready (Unfit n)) since is = noted_on (old.port port) (new.port port) l (λ k. since ≤ k.sctl_written_at) is
   reset_on (Unready Dead) since is = is
 
--- ---- accesses of the adapter's own registers
+-- ---- and still stands, as long as the port isn't booted anew
+
+pub boots_begin : (wanted : Wanted) (found : Found) (port : ℕ) (d : Device) → StandsBehind wanted found port d → StillStandsBehind wanted found port d
+boots_begin wanted Unserved port d h = h
+boots_begin wanted (Ready info) port d (is, ready) = (is, ready.disk)
+boots_begin wanted (Unready state) port d h = h
+
+pub still_on : (wanted : Wanted) (found : Found) (port : ℕ) (old new : Device) → SameAdapter old new → LeavesFound found (old.port port) (new.port port) →
+    (found ≢ Unready Dead → SendsNone port Identify old new) → StillStandsBehind wanted found port old → StillStandsBehind wanted found port new
+still_on wanted Unserved port old new same left silent h = stands_on port old new left same wanted Unserved silent h
+still_on wanted (Ready info) port old new same left silent (is, disk) =
+    (served_on port old new same wanted is, disk_on (serial_of wanted) port old new info (silent (λ e. absurd cc)) left.0 left.1 disk)
+still_on wanted (Unready state) port old new same left silent h = stands_on port old new left same wanted (Unready state) silent h
+
+-- ---- what the device does by itself, and accesses of the adapter's own registers
+
+pub steps_same : (old new : Device) → Steps old new → SameAdapter old new
+steps_same old new s = let k : Keeps old new = steps_keep s in record { telling = k.telling; size = k.size; cap = k.cap; pi = k.pi }
 
 module _ (old : Device) (off : old.hr ≡ false) (port : ℕ) where
-  steps_leave : (mid : Device) → Steps old mid → LeavesPort (old.port port) (mid.port port)
+  pub steps_leave : (mid : Device) → Steps old mid → LeavesPort (old.port port) (mid.port port)
   steps_leave mid s =
       let k : Keeps old mid = steps_keep s in
       let c : KeepsOn old mid = k.on off in

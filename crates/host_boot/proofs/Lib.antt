@@ -3,3 +3,5 @@ pub mod Hosting
 pub mod Stopping
 pub mod Ways
 pub mod Taking
+pub mod Running
+pub mod Beginning

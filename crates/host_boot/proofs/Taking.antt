@@ -26,28 +26,22 @@ use Rattle.agreement.specs.Driver.{AllFree, ByDevice, Knows}
 use Rattle.agreement.specs.Links.{SameAdapter, SparesRegister}
 use Rattle.agreement.specs.Slots.{Free, Own, Uses, put, IsMove}
 use Rattle.agreement.proofs.Adding.{accesses_then}
-use Rattle.agreement.proofs.Controlled.{agreed_on, control_is_of, is_control, of_spares_others, other_left, same_over, tape_over, unarmed_over}
+use Rattle.agreement.proofs.Controlled.{agreed_on, is_control, of_spares_others, other_left, same_over, tape_over, unarmed_over}
 use Rattle.agreement.proofs.Driven.{by_then, driven_as, followed_as, followed_to_as}
 use Rattle.agreement.proofs.Gaining.{gains_more}
 use Rattle.agreement.proofs.Lasting.{same_more, same_refl}
 use Rattle.agreement.proofs.Putting.{put_same, put_other}
 use Rattle.agreement.proofs.Unarmed.{putting_unarmed}
-use Rattle.disk_page.proofs.Asking.{asking_is_of}
 use Rattle.identify.specs.declared.wanted.Wanted.{Wanted}
 use Rattle.identify.specs.declared.wanted.Wanted.TheVariants.{Nothing}
 use Rattle.port_control.proofs.Using.{placing_spares, resetting_spares}
 use Rattle.port_boot.specs.States.{IsBoot, IsBooting, IsBootTo, IsOfBoot}
+use Rattle.port_boot.proofs.Staying.{of_boot}
 use Rattle.host_boot.specs.Taken.{Boots, GoesOver, IsLeft, IsOfHost, IsOfTaking, LeavesPorts, StandsBehind, TakesOver, WroteControl, found_of, unused, wanted_of}
 use Rattle.host_boot.specs.declared.Host.{Host}
 use Rattle.host_boot.specs.declared.Found.{Found}
 use Rattle.host_boot.specs.declared.Found.TheVariants.{Unserved, Ready, Unready}
-use Rattle.host_boot.proofs.Leaving.{idle_on, stands_on, reset_on}
-
--- ---- what the accesses of a boot are
-
-pub of_boot : (port : Port) (access : Access) → IsOfBoot port access → IsOf port access
-of_boot port access (inl control) = control_is_of IsBooting port access control
-of_boot port access (inr asking) = asking_is_of port access asking
+use Rattle.host_boot.proofs.Leaving.{idle_on, is_served, stands_on, reset_on}
 
 -- ---- stretches that put slots to a fixed use
 
@@ -143,12 +137,7 @@ module _ (wanted : List Wanted) (ports : List Found) (port : Port) (below : port
 
   -- a disk is wanted there
   wants : found ≢ Unserved → wanted_of wanted port.0 ≢ Nothing
-  wants other = served found stands other
-    where
-      served : (f : Found) → StandsBehind (wanted_of wanted port.0) f port.0 new → f ≢ Unserved → wanted_of wanted port.0 ≢ Nothing
-      served Unserved is not = absurd (not refl)
-      served (Ready info) is not = is.0.0
-      served (Unready state) is not = is.0.0
+  wants other = (is_served (wanted_of wanted port.0) port.0 new found other stands).0
 
   module _ (driven : IsDrivenBy (IsOfBoot port) old new)
       (quiet : (q : Port) → q.0 ≢ port.0 → (u.uses q.0 0 ≡ Own Identify → ⊥) → SendsNone q.0 Identify old new) where

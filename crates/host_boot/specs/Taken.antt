@@ -7,7 +7,7 @@ use Rattle.hba_regs.specs.Bits.{bit}
 use Rattle.hba_regs.specs.declared.reg.Reg.TheVariants.{Cap, Ghc, Pi}
 use Rattle.adapter.specs.Access.{Access, Writes}
 use Rattle.adapter.specs.Access.Access.{Reading, Writing}
-use Rattle.adapter.specs.Device.{Device}
+use Rattle.adapter.specs.Device.{PortState, Device}
 use Rattle.adapter.specs.Idle.{IsIdlePort}
 use Rattle.adapter.specs.Rules.{IsOn}
 use Rattle.adapter.specs.declared.command.Operation.TheVariants.{Identify}
@@ -19,7 +19,7 @@ use Rattle.identify.specs.Wanted.{serial_of}
 use Rattle.identify.specs.declared.wanted.Wanted.{Wanted}
 use Rattle.identify.specs.declared.wanted.Wanted.TheVariants.{Nothing}
 use Rattle.port_control.specs.Ports.{WritesCommand}
-use Rattle.port_boot.specs.States.{EndsAs, EndsEarly, EndsLate, GetsReady, IsBoot, IsBootTo, IsEarly, IsLate, IsOfBoot, IsReady, ShowsNews}
+use Rattle.port_boot.specs.States.{EndsAs, EndsEarly, EndsLate, GetsReady, HasFitDisk, IsBoot, IsBootTo, IsEarly, IsLate, IsOfBoot, IsReady, ShowsNews}
 use Rattle.host_boot.specs.declared.Found.{Found}
 use Rattle.host_boot.specs.declared.Found.TheVariants.{Unserved, Ready, Unready}
 use Rattle.host_boot.specs.declared.Host.{Host}
@@ -44,6 +44,16 @@ abbrev pub StandsBehind : Wanted → Found → ℕ → Device → Type 0
 StandsBehind wanted Unserved port d = (IsServed wanted port d → ⊥) × IsIdlePort (d.port port)
 StandsBehind wanted (Ready info) port d = IsServed wanted port d × IsReady (serial_of wanted) port d info
 StandsBehind wanted (Unready state) port d = IsServed wanted port d × EndsAs (serial_of wanted) state port d
+
+-- What still stands behind it as long as the port isn't booted anew: behind a ready port, which takes commands, a disk that fits.
+abbrev pub StillStandsBehind : Wanted → Found → ℕ → Device → Type 0
+StillStandsBehind wanted (Ready info) port d = IsServed wanted port d × HasFitDisk (serial_of wanted) port d info
+StillStandsBehind wanted found port d = StandsBehind wanted found port d
+
+-- What has to be left of a port for that: of a ready one, DET of PxSCTL and when PxSCTL was written; any other is left to the device.
+abbrev pub LeavesFound : Found → PortState → PortState → Type 0
+LeavesFound (Ready info) old new = (new.sctl_det ≡ old.sctl_det) × (new.notes.sctl_written_at ≡ old.notes.sctl_written_at)
+LeavesFound found old new = LeavesPort old new
 
 -- PxSCTL of the port was written after the tape was so long, unless the port isn't served, or was dead before that
 abbrev pub WroteControl : Found → ℕ → ℕ → Device → Type 0
@@ -82,14 +92,15 @@ LeavesPorts old new = (port : ℕ) → LeavesPort (old.port port) (new.port port
 
 -- ---- the way
 
--- The port was stopped, and then booted: it is ready, and each access of that is told, with what it shows of trouble; or it isn't, and
--- what was seen is told. One that was dead before that was stopped alone.
+-- The port was stopped, and then booted, by accesses of a boot of this port alone: it is ready, and each access of that is told, with what
+-- it shows of trouble; or it isn't, and what was seen is told. One that was dead before that was stopped alone.
 abbrev pub GoesThrough : Port → Found → Device → Device → Type 0
 GoesThrough port Unserved old new = new ≡ old
 GoesThrough port (Ready info) old new = (stopped : Device) × IsDrivenBy (IsControl WritesCommand port) old stopped
-    × GetsReady port stopped new × ShowsNews port.0 stopped new
+    × IsDrivenBy (IsOfBoot port) stopped new × GetsReady port stopped new × ShowsNews port.0 stopped new
 GoesThrough port (Unready state) old new = (stopped : Device) × IsDrivenBy (IsControl WritesCommand port) old stopped
-    × (IsEarly state → EndsEarly port state stopped new) × (IsLate state → EndsLate port stopped new)
+    × IsDrivenBy (IsOfBoot port) stopped new × (IsEarly state → EndsEarly port state stopped new)
+    × (IsLate state → EndsLate port stopped new)
 
 -- so it was with these ports, one after another, of which the first has this number
 abbrev pub GoThrough : ℕ → List Found → Device → Device → Type 0

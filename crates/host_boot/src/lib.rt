@@ -21,6 +21,8 @@ use identify::{DiskInfo, Wanted};
 use port_boot::boot;
 use port_control::stop;
 
+pub mod laws;
+
 /// How many ports the driver has memory for.
 pub const PORTS: usize = 4;
 

@@ -28,7 +28,7 @@ use Rattle.agreement.proofs.Lasting.{access_on}
 use Rattle.agreement.proofs.Gaining.{GainsNone}
 use Rattle.agreement.proofs.Unmoving.{access_unmoving, controls_unmoving}
 use Rattle.command_table.specs.Written.{IsUnused}
-use Rattle.disk_page.specs.Asking.{IsAsking, LeavesRunning, Brings, Reads, AgreesAfter, MayAsk}
+use Rattle.disk_page.specs.Asking.{IsAsking, LeavesRunning, Brings, Reads, MayAsk}
 use Rattle.disk_page.proofs.Asking.{followed_back}
 use Rattle.identify.specs.declared.DiskInfo.{DiskInfo}
 use Rattle.port_control.specs.Ports.{WritesCommand, IsRunning, HasStopped, SawDevice}
@@ -245,11 +245,13 @@ module _ (port : Port) (start old mid : Device) (page : List ℕ) (up : IsBrough
         let noted : (new.port port.0).notes ≡ (mid.port port.0).notes = ap (λ (p : device.PortState). p.notes) w.here ∙ w.notes port.0 in
         record {
           runs = subst P (sym w.here) runs;
-          det = ap (λ (p : device.PortState). p.sctl_det) w.here ∙ c.sctl_det ∙ h.det;
           saw = (ap (λ (n : Notes). n.last_ssts % 16) noted ∙ h.saw.0, ap (λ (n : Notes). n.link_count) noted ∙ h.saw.1);
-          page = page;
-          has = page_on port.0 mid new page (access_unmoving port.0 Identify (Writing (Px port Ie) v) mid new (λ slot. record { issued = r.ci slot; free = r.taken slot }) call) enabled_written h.has;
-          fit = fit;
+          disk = record {
+            det = ap (λ (p : device.PortState). p.sctl_det) w.here ∙ c.sctl_det ∙ h.det;
+            page = page;
+            has = page_on port.0 mid new page (access_unmoving port.0 Identify (Writing (Px port Ie) v) mid new (λ slot. record { issued = r.ci slot; free = r.taken slot }) call) enabled_written h.has;
+            fit = fit;
+          };
         }
 
     pub enabled_boots : IsBoot port old new

@@ -2,3 +2,4 @@ pub mod Bringing
 pub mod Identifying
 pub mod Enduring
 pub mod Outcomes
+pub mod Staying

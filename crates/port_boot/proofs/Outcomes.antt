@@ -79,7 +79,7 @@ module _ (port : Port) (start old mid : Device) (up : IsBroughtUp port start old
 pub driven_grows : (May : Access → Type 0) (old new : Device) → IsDrivenBy May old new → Grows old new
 driven_grows May old new driven = along Grows grows_none grows_more May (λ access a b may does. access_grows access a b does) driven.accesses old new driven.only driven.all
 
-boot_driven : (port : Port) (old new : Device) (state : PortState) → IsBootTo port state old new → IsDrivenBy (IsOfBoot port) old new
+pub boot_driven : (port : Port) (old new : Device) (state : PortState) → IsBootTo port state old new → IsDrivenBy (IsOfBoot port) old new
 boot_driven port old new Dead (inl b) = b.driven
 boot_driven port old new Dead (inr b) = b.driven
 boot_driven port old new Absent b = b.driven

@@ -96,14 +96,18 @@ EndsAs wanted Foreign port d = IsStopped (d.port port) × ((page : List ℕ) × 
 EndsAs wanted Dead port d = ((d.port port).st ≡ false) × Shows EngineStuck (d.port port).notes
 EndsAs wanted Ready port d = ⊥
 
--- Behind Ready stands a port that runs, with no command in a slot and no COMRESET being sent, whose last page is of a disk that fits.
-pub record IsReady (wanted : Option (List ℕ)) (port : ℕ) (d : Device) (info : DiskInfo) : Type 0 where
-  pub runs : IsRunning port (d.port port)
+-- What stands behind a ready port as long as it isn't booted anew: no COMRESET is being sent, and the last page is of a disk that fits.
+pub record HasFitDisk (wanted : Option (List ℕ)) (port : ℕ) (d : Device) (info : DiskInfo) : Type 0 where
   pub det : (d.port port).sctl_det ≡ 0
-  pub saw : SawDevice (d.port port).notes
   pub page : List ℕ
   pub has : HasPage port d page
   pub fit : IsFit wanted page info
+
+-- Behind Ready stands such a disk, on a port that runs, with no command in a slot, and on which a device was seen.
+pub record IsReady (wanted : Option (List ℕ)) (port : ℕ) (d : Device) (info : DiskInfo) : Type 0 where
+  pub runs : IsRunning port (d.port port)
+  pub saw : SawDevice (d.port port).notes
+  pub disk : HasFitDisk wanted port d info
 
 -- ---- accesses
 

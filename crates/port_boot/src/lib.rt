@@ -17,6 +17,8 @@ use hba_regs::{PortReg, Reg};
 use identify::{DiskInfo, parse};
 use port_control::{PortFault, Running, Stopped, comreset, receive, start, stop};
 
+pub mod laws;
+
 /// A device that stayed busy after COMRESET.
 const BUSY: u8 = 7;
 

@@ -48,14 +48,18 @@ pub fn other_ports_are_left()
         → LeavesPort (old.port q) (new.port q) }
 {}
 
-/// What serving ports leaves: the adapter, which stays on; each port that may begin a transfer; each port that runs well, where nothing
-/// goes wrong on it; the record of each port's faults; and free slots without a bit of PxSACT. So a machine that agrees goes on to, where
-/// the stretch is followed.
+/// What serving ports leaves: the adapter, which stays on; each port that may begin a transfer; DET of each port's PxSCTL, and when
+/// PxSCTL was written and ST set; each port that runs well, where nothing goes wrong on it; the record of each port's faults; and free
+/// slots without a bit of PxSACT. So a machine that agrees goes on to, where the stretch is followed.
 pub fn services_leave()
     ensures on { (old new : Device) → IsOn old → IsDrivenBy IsService old new → IsOn new }
     ensures adapter { (old new : Device) → IsDrivenBy IsService old new → SameAdapter old new }
     ensures port { (port : Port) (old new : Device) → IsOn old → IsDrivenBy IsService old new → MayTransfer port.0 old
         → MayTransfer port.0 new }
+    ensures controls { (port : ℕ) (old new : Device) → IsOn old → IsDrivenBy IsService old new
+        → ((new.port port).sctl_det ≡ (old.port port).sctl_det)
+        × ((new.port port).notes.sctl_written_at ≡ (old.port port).notes.sctl_written_at)
+        × ((new.port port).notes.st_set_at ≡ (old.port port).notes.st_set_at) }
     ensures well { (port : Port) (old new : Device) → IsOn old → IsDrivenBy IsService old new → Undisturbed port.0 old new
         → RunsWell (old.port port.0) → RunsWell (new.port port.0) }
     ensures recorded { (port : ℕ) (old new : Device) → IsDrivenBy IsService old new → IsRecorded old.tape (old.port port) port

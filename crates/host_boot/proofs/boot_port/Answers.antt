@@ -3,7 +3,9 @@ use Rattle.ata_types.specs.declared.Port.{Port}
 use Rattle.ata_types.specs.declared.PortState.TheVariants.{Dead}
 use Rattle.hba_regs.specs.Bits.{bit}
 use Rattle.identify.specs.declared.wanted.Wanted.TheVariants.{Nothing}
-use Rattle.port_boot.specs.States.{EndsAs, IsBoot, IsBootTo, IsBootable, IsReady, EndsEarly, EndsLate, GetsReady, IsEarly, IsLate, ShowsNews}
+use Rattle.port_boot.specs.States.{EndsAs, IsBoot, IsBootTo, IsBootable, IsOfBoot, IsReady, EndsEarly, EndsLate, GetsReady, IsEarly, IsLate, ShowsNews}
+use Rattle.agreement.proofs.Driven.{by_none}
+use Rattle.port_boot.proofs.Outcomes.{boot_driven}
 use Rattle.host_boot.proofs.Stopping.{bootable, ended_since, since_stop, still_there, stop_boots, boots_there, boots_to_there, then_boot, then_boot_to}
 use Rattle.host_boot.proofs.boot_port.Goals as goal
 
@@ -65,18 +67,21 @@ returns-in-Err-clause-boots g c =
     then_boot_to c.args.port _ _ c.stop.ensures.followed _ c.in-Err.state (subst B c.in-Ok.ensures.names c.in-Err.ensures.boots_to)
 
 pub returns-in_default-clause-way : goal.returns-in_default-clause-way
-returns-in_default-clause-way g c = (g.A.Adapter.device c.stop.new.adapter, c.stop.ensures.followed.driven, λ none. absurd none, λ none. absurd none)
+returns-in_default-clause-way g c = (g.A.Adapter.device c.stop.new.adapter, c.stop.ensures.followed.driven, by_none (IsOfBoot c.args.port) _, λ none. absurd none, λ none. absurd none)
 
 pub returns-in-Ok-boot-clause-way : goal.returns-in-Ok-boot-clause-way
 returns-in-Ok-boot-clause-way g c =
     let at = c.in-Ok.ensures.names in
     let W : Port → Type 0 = λ p. GetsReady p (g.A.Adapter.device c.stop.new.adapter) (g.A.Adapter.device c.boot.new.adapter) in
     let N : Port → Type 0 = λ p. ShowsNews p.0 (g.A.Adapter.device c.stop.new.adapter) (g.A.Adapter.device c.boot.new.adapter) in
-    (g.A.Adapter.device c.stop.new.adapter, c.stop.ensures.followed.driven, subst W at c.in-Ok-boot.ensures.way, subst N at c.in-Ok-boot.ensures.news)
+    let B : Port → Type 0 = λ p. IsBoot p (g.A.Adapter.device c.stop.new.adapter) (g.A.Adapter.device c.boot.new.adapter) in
+    (g.A.Adapter.device c.stop.new.adapter, c.stop.ensures.followed.driven, (subst B at c.in-Ok-boot.ensures.boots).driven, subst W at c.in-Ok-boot.ensures.way, subst N at c.in-Ok-boot.ensures.news)
 
 pub returns-in-Err-clause-way : goal.returns-in-Err-clause-way
 returns-in-Err-clause-way g c =
     let at = c.in-Ok.ensures.names in
     let E : Port → Type 0 = λ p. IsEarly c.in-Err.state → EndsEarly p c.in-Err.state (g.A.Adapter.device c.stop.new.adapter) (g.A.Adapter.device c.boot.new.adapter) in
     let L : Port → Type 0 = λ p. IsLate c.in-Err.state → EndsLate p (g.A.Adapter.device c.stop.new.adapter) (g.A.Adapter.device c.boot.new.adapter) in
-    (g.A.Adapter.device c.stop.new.adapter, c.stop.ensures.followed.driven, subst E at c.in-Err.ensures.early, subst L at c.in-Err.ensures.late)
+    let B : Port → Type 0 = λ p. IsBootTo p c.in-Err.state (g.A.Adapter.device c.stop.new.adapter) (g.A.Adapter.device c.boot.new.adapter) in
+    let driven = boot_driven c.args.port _ _ c.in-Err.state (subst B at c.in-Err.ensures.boots_to) in
+    (g.A.Adapter.device c.stop.new.adapter, c.stop.ensures.followed.driven, driven, subst E at c.in-Err.ensures.early, subst L at c.in-Err.ensures.late)

@@ -1,5 +1,5 @@
 use Rattle.transfers.proofs.Recording.{services_recorded}
-use Rattle.transfers.proofs.Serving.{services_on, services_same, services_port, services_well, services_unarmed, services_agree}
+use Rattle.transfers.proofs.Serving.{services_on, services_same, services_port, services_controls, services_well, services_unarmed, services_agree}
 use Rattle.transfers.proofs.laws.services_leave.Goals as goal
 
 pub returns-clause-on : goal.returns-clause-on
@@ -10,6 +10,9 @@ returns-clause-adapter c = services_same
 
 pub returns-clause-port : goal.returns-clause-port
 returns-clause-port c = services_port
+
+pub returns-clause-controls : goal.returns-clause-controls
+returns-clause-controls c = services_controls
 
 pub returns-clause-unarmed : goal.returns-clause-unarmed
 returns-clause-unarmed c = services_unarmed

@@ -1,0 +1,11 @@
+use Rattle.host_boot.proofs.Beginning.{taken_there, taken_ready, taken_runs}
+use Rattle.host_boot.proofs.laws.what_was_taken_over_may_be_served.Goals as goal
+
+pub returns-clause-there : goal.returns-clause-there
+returns-clause-there c = taken_there
+
+pub returns-clause-ready : goal.returns-clause-ready
+returns-clause-ready c = λ wanted host port info old new taken. taken_ready wanted host port old new taken info
+
+pub returns-clause-well : goal.returns-clause-well
+returns-clause-well c = λ wanted host port info old new idle taken. taken_runs wanted host port old new taken info idle

@@ -1,0 +1,54 @@
+// Laws of the definitions, for callers: the clause is the theorem. Nothing calls these functions.
+ghost use Rattle.std.specs.Prelude.{ℕ, true, false, ◌≡◌, ◌≢◌, ◌<◌, List};
+ghost use Rattle.ata_types.specs.declared.Port.{Port};
+ghost use Rattle.ata_types.specs.declared.PortState.TheVariants.{Dead};
+ghost use Rattle.adapter.specs.Device.{Device};
+ghost use Rattle.adapter.specs.Idle.{IsIdle};
+ghost use Rattle.adapter.specs.Rules.{IsOn, HasPort};
+ghost use Rattle.adapter.specs.Steps.{Steps};
+ghost use Rattle.adapter.specs.declared.command.Operation.TheVariants.{Identify};
+ghost use Rattle.agreement.specs.Driven.{IsDrivenBy, IsOf, SendsNone};
+ghost use Rattle.agreement.specs.Facts.{RunsWell, Undisturbed};
+ghost use Rattle.agreement.specs.Links.{SameAdapter};
+ghost use Rattle.agreement.specs.Places.{list_of};
+ghost use Rattle.identify.specs.declared.DiskInfo.{DiskInfo};
+ghost use Rattle.identify.specs.declared.wanted.Wanted.{Wanted};
+ghost use Rattle.host_boot.specs.Taken.{LeavesFound, LeavesPorts, StandsBehind, StillStandsBehind, TakesOver, found_of};
+ghost use Rattle.host_boot.specs.declared.Found.{Found};
+ghost use Rattle.host_boot.specs.declared.Found.TheVariants.{Unserved, Ready, Unready};
+ghost use Rattle.host_boot.specs.declared.Host.{Host};
+
+/// What stands behind what a port was found to be still stands as long as the port isn't booted anew. A boot begins it. It goes on where
+/// the adapter is the same, enough is left of the port, and its disk sends no page of IDENTIFY DEVICE, which a dead port's may.
+pub fn what_was_found_still_stands()
+    ensures begins { (wanted : Wanted) (found : Found) (port : ℕ) (d : Device) → StandsBehind wanted found port d
+        → StillStandsBehind wanted found port d }
+    ensures goes_on { (wanted : Wanted) (found : Found) (port : ℕ) (old new : Device) → SameAdapter old new
+        → LeavesFound found (old.port port) (new.port port) → (found ≢ Unready Dead → SendsNone port Identify old new)
+        → StillStandsBehind wanted found port old → StillStandsBehind wanted found port new }
+{}
+
+/// What the device does by itself leaves every port to it, while no reset is pending; and the adapter is what it was.
+pub fn the_device_leaves_ports()
+    ensures ports { (old new : Device) → old.hr ≡ false → Steps old new → LeavesPorts old new }
+    ensures adapter { (old new : Device) → Steps old new → SameAdapter old new }
+{}
+
+/// A server may begin with what was taken over. The adapter has each port that is served. A port that was found ready has its command
+/// list in its place, with ST set; and where nothing went wrong on it in the whole taking over, it runs well.
+pub fn what_was_taken_over_may_be_served()
+    ensures there { (wanted : List Wanted) (host : Host) (port : ℕ) (old new : Device) → TakesOver wanted host old new → port < 4
+        → found_of host.ports port ≢ Unserved → HasPort new port }
+    ensures ready { (wanted : List Wanted) (host : Host) (port : ℕ) (info : DiskInfo) (old new : Device)
+        → TakesOver wanted host old new → port < 4 → found_of host.ports port ≡ Ready info
+        → ((new.port port).st ≡ true) × ((new.port port).bases.clb ≡ list_of port) × HasPort new port }
+    ensures well { (wanted : List Wanted) (host : Host) (port : ℕ) (info : DiskInfo) (old new : Device) → IsIdle old
+        → TakesOver wanted host old new → found_of host.ports port ≡ Ready info → Undisturbed port old new
+        → RunsWell (new.port port) }
+{}
+
+/// A port that runs well does so still after accesses of another port, where nothing goes wrong on it meanwhile.
+pub fn other_ports_run_well()
+    ensures { (port other : Port) (old new : Device) → port.0 ≢ other.0 → IsOn old → IsDrivenBy (IsOf other) old new
+        → Undisturbed port.0 old new → RunsWell (old.port port.0) → RunsWell (new.port port.0) }
+{}

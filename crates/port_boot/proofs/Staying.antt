@@ -1,0 +1,86 @@
+-- What a boot found of a port goes on as long as it isn't booted anew.
+use Rattle.std.proofs.Common.{ℕ, ◌≡◌, ◌≢◌, Option, List, inl, inr, sym, ◌∙◌, ap, subst}
+use Rattle.ata_types.specs.declared.Port.{Port}
+use Rattle.ata_types.specs.declared.PortState.{PortState}
+use Rattle.ata_types.specs.declared.PortState.TheVariants.{Absent, Ready, Foreign, Unfit, Dead}
+use Rattle.adapter.specs.Access.{Access}
+use Rattle.adapter.specs.Device.{Notes, Device}
+use Rattle.adapter.specs.Device as device
+use Rattle.adapter.specs.declared.command.Operation.TheVariants.{Identify}
+use Rattle.agreement.specs.Driven.{IsOf, LeavesPort, SendsNone}
+use Rattle.agreement.proofs.Controlled.{control_is_of}
+use Rattle.disk_page.proofs.Asking.{asking_is_of}
+use Rattle.identify.specs.declared.DiskInfo.{DiskInfo}
+use Rattle.port_control.specs.Ports.{IsStopped, IsRunning, SawDevice, Shows}
+use Rattle.port_control.specs.declared.PortFault.{PortFault}
+use Rattle.port_boot.specs.States.{EndsAs, HasFitDisk, HasPage, IsBooting, IsOfBoot, IsReady, IsUnfit}
+use Rattle.port_boot.proofs.Identifying.{page_on}
+
+-- ---- the disk
+
+pub disk_on : (wanted : Option (List ℕ)) (port : ℕ) (old new : Device) (info : DiskInfo) → SendsNone port Identify old new → (new.port port).sctl_det ≡ (old.port port).sctl_det →
+    (new.port port).notes.sctl_written_at ≡ (old.port port).notes.sctl_written_at → HasFitDisk wanted port old info → HasFitDisk wanted port new info
+disk_on wanted port old new info silent det same h = record { det = det ∙ h.det; page = h.page; has = page_on port old new h.page silent same h.has; fit = h.fit }
+
+-- ---- a port that is left to the device
+
+module _ (old new : device.PortState) (l : LeavesPort old new) where
+  stopped_on : IsStopped old → IsStopped new
+  stopped_on s = record {
+    halted = record {
+      st = l.keeps.st s.halted.st;
+      cr = l.keeps.cr s.halted.cr;
+      ci = λ slot. l.keeps.ci slot (s.halted.ci slot);
+      taken = l.keeps.idle s.halted.cr s.halted.taken;
+    };
+    sact = λ slot. l.keeps.sact slot (s.sact slot);
+  }
+
+  running_on : (port : ℕ) → IsRunning port old → IsRunning port new
+  running_on port r = record {
+    st = l.controls.st ∙ r.st;
+    cr = l.controls.runs r.st r.cr;
+    fre = l.controls.fre ∙ r.fre;
+    bases = l.keeps.bases ∙ r.bases;
+    ci = λ slot. l.keeps.ci slot (r.ci slot);
+    sact = λ slot. l.keeps.sact slot (r.sact slot);
+    taken = λ slot. l.keeps.free slot (r.ci slot) (r.taken slot);
+  }
+
+  pub noted_on : (P : Notes → Type 0) → P old.notes → P new.notes
+  noted_on P = subst P (sym l.notes)
+
+module _ (port : ℕ) (old new : Device) (l : LeavesPort (old.port port) (new.port port)) where
+  written_on : (new.port port).notes.sctl_written_at ≡ (old.port port).notes.sctl_written_at
+  written_on = ap (λ (n : Notes). n.sctl_written_at) l.notes
+
+  page_stays : SendsNone port Identify old new → (page : List ℕ) → HasPage port old page → HasPage port new page
+  page_stays silent page h = page_on port old new page silent written_on h
+
+  unfit_on : SendsNone port Identify old new → (n : ℕ) → IsUnfit n port old → IsUnfit n port new
+  unfit_on silent n (inl (is, shown)) = inl (is, noted_on (old.port port) (new.port port) l (λ k. Shows PortFault.Busy k) shown)
+  unfit_on silent n (inr (inl (is, shown))) = inr (inl (is, noted_on (old.port port) (new.port port) l (λ k. (signature : ℕ) × Shows (PortFault.NotAta signature) k) shown))
+  unfit_on silent n (inr (inr (inl (is, saw, count)))) =
+      inr (inr (inl (is, noted_on (old.port port) (new.port port) l SawDevice saw, noted_on (old.port port) (new.port port) l (λ k. k.command_count ≡ 64) count)))
+  unfit_on silent n (inr (inr (inr (page, has, fault)))) = inr (inr (inr (page, page_stays silent page has, fault)))
+
+  -- the page is not asked about where the port is dead
+  pub ends_on : (wanted : Option (List ℕ)) (state : PortState) → (state ≢ Dead → SendsNone port Identify old new) → EndsAs wanted state port old → EndsAs wanted state port new
+  ends_on wanted Absent silent (stopped, shown) = (stopped_on (old.port port) (new.port port) l stopped, noted_on (old.port port) (new.port port) l (λ k. Shows PortFault.NoDevice k) shown)
+  ends_on wanted (Unfit n) silent (stopped, unfit) = (stopped_on (old.port port) (new.port port) l stopped, unfit_on (silent (λ e. absurd cc)) n unfit)
+  ends_on wanted Foreign silent (stopped, (page, has, other)) = (stopped_on (old.port port) (new.port port) l stopped, (page, page_stays (silent (λ e. absurd cc)) page has, other))
+  ends_on wanted Dead silent (st, shown) = (l.keeps.st st, noted_on (old.port port) (new.port port) l (λ k. Shows PortFault.EngineStuck k) shown)
+  ends_on wanted Ready silent none = absurd none
+
+  pub ready_on : (wanted : Option (List ℕ)) (info : DiskInfo) → SendsNone port Identify old new → IsReady wanted port old info → IsReady wanted port new info
+  ready_on wanted info silent r = record {
+    runs = running_on (old.port port) (new.port port) l port r.runs;
+    saw = noted_on (old.port port) (new.port port) l SawDevice r.saw;
+    disk = disk_on wanted port old new info silent l.controls.sctl_det written_on r.disk;
+  }
+
+-- ---- what the accesses of a boot are
+
+pub of_boot : (port : Port) (access : Access) → IsOfBoot port access → IsOf port access
+of_boot port access (inl control) = control_is_of IsBooting port access control
+of_boot port access (inr asking) = asking_is_of port access asking

@@ -1,0 +1,35 @@
+// Laws of the definitions, for callers: the clause is the theorem. Nothing calls these functions.
+ghost use Rattle.std.specs.Prelude.{ℕ, ◌≡◌, ◌≢◌, List, Option};
+ghost use Rattle.ata_types.specs.declared.Port.{Port};
+ghost use Rattle.ata_types.specs.declared.PortState.{PortState};
+ghost use Rattle.ata_types.specs.declared.PortState.TheVariants.{Dead};
+ghost use Rattle.adapter.specs.Access.{Access};
+ghost use Rattle.adapter.specs.Device.{Device};
+ghost use Rattle.adapter.specs.declared.command.Operation.TheVariants.{Identify};
+ghost use Rattle.agreement.specs.Driven.{IsOf, LeavesPort, SendsNone};
+ghost use Rattle.identify.specs.declared.DiskInfo.{DiskInfo};
+ghost use Rattle.port_boot.specs.States.{EndsAs, HasFitDisk, HasPage, IsOfBoot, IsReady};
+
+/// What a boot found of a port goes on as long as the port isn't booted anew. The last page is the last one still where the disk has sent
+/// none since, and PxSCTL wasn't written; so the disk that fits is still there where DET of PxSCTL is as it was, too. A port that is left
+/// to the device stays ready, or goes on to end as it did; where it is dead, its disk may send a page.
+pub fn what_was_found_goes_on()
+    ensures page { (port : ℕ) (old new : Device) (page : List ℕ) → SendsNone port Identify old new
+        → (new.port port).notes.sctl_written_at ≡ (old.port port).notes.sctl_written_at → HasPage port old page
+        → HasPage port new page }
+    ensures disk { (wanted : Option (List ℕ)) (port : ℕ) (old new : Device) (info : DiskInfo) → SendsNone port Identify old new
+        → (new.port port).sctl_det ≡ (old.port port).sctl_det
+        → (new.port port).notes.sctl_written_at ≡ (old.port port).notes.sctl_written_at → HasFitDisk wanted port old info
+        → HasFitDisk wanted port new info }
+    ensures ready { (wanted : Option (List ℕ)) (port : ℕ) (old new : Device) (info : DiskInfo)
+        → LeavesPort (old.port port) (new.port port) → SendsNone port Identify old new → IsReady wanted port old info
+        → IsReady wanted port new info }
+    ensures ends { (wanted : Option (List ℕ)) (state : PortState) (port : ℕ) (old new : Device)
+        → LeavesPort (old.port port) (new.port port) → (state ≢ Dead → SendsNone port Identify old new)
+        → EndsAs wanted state port old → EndsAs wanted state port new }
+{}
+
+/// A boot touches no register of another port: its accesses are of its port.
+pub fn a_boot_is_of_its_port()
+    ensures { (port : Port) (access : Access) → IsOfBoot port access → IsOf port access }
+{}
