@@ -1,5 +1,5 @@
-mod Taking
-mod Giving
+pub mod Taking
+pub mod Giving
 pub mod Standing
 pub mod Due
 pub mod Stepping

@@ -1,9 +1,9 @@
-mod Apart
-mod Finding
-mod Issuing
-mod Looking
-mod Serving
-mod Telling
-mod Recording
-mod Seeing
-mod Witness
+pub mod Apart
+pub mod Finding
+pub mod Issuing
+pub mod Looking
+pub mod Serving
+pub mod Telling
+pub mod Recording
+pub mod Seeing
+pub mod Witness

@@ -1,0 +1,277 @@
+-- A new server keeps what a server keeps, and a history without calls leads to it.
+use Rattle.std.proofs.Common.{ℕ, zero, suc, ◌≡◌, ◌≢◌, ◌+◌, ◌*◌, ◌<◌, ◌≤◌, ◌⊎◌, Bool, true, false, List, [], ◌∷◌, length, Option, Some, None, slice_index, refl, sym, ◌∙◌, ap, subst, arith, inl, inr, ⊎_elim, get_or}
+use Rattle.std.specs.List.{All, AllPairs, Contains}
+use Rattle.std.proofs.lemmas.Bool.{false≢true, cases_lt}
+use Rattle.std.proofs.lemmas.List.Elements.{All-contains, All-nil}
+use Rattle.ata_types.specs.declared.Port.{Port}
+use Rattle.ata_types.specs.declared.PortState.{PortState}
+use Rattle.ata_types.specs.declared.PortState.TheVariants.{Absent, Ready as ReadyState, Foreign, Unfit, Dead}
+use Rattle.ata_types.specs.declared.grant.GrantRow.{GrantRow}
+use Rattle.ata_types.specs.declared.request.ClientId.{ClientId}
+use Rattle.ata_types.specs.declared.request.Frame.{Frame}
+use Rattle.ata_types.specs.declared.request.RequestId.{RequestId}
+use Rattle.hba_regs.specs.Bits.{bit}
+use Rattle.adapter.specs.Device.{Device}
+use Rattle.adapter.specs.Idle.{IsIdle, TellsDisks}
+use Rattle.adapter.specs.Rules.{HasPort}
+use Rattle.adapter.specs.declared.command.Operation.TheVariants.{Identify}
+use Rattle.agreement.specs.Agrees.{AreUnarmed, SameSectors, port_at}
+use Rattle.agreement.specs.Driven.{known}
+use Rattle.agreement.specs.Driver.{Knows, idle}
+use Rattle.agreement.specs.Slots.{Free, Own, Use, Uses}
+use Rattle.agreement.specs.Spares.{AllFurther, SparesBook}
+use Rattle.agreement.proofs.Idling.{idle_knows}
+use Rattle.agreement.proofs.Sparing.{steps_spare}
+use Rattle.block_machine.specs.Histories.{IsReached}
+use Rattle.block_machine.specs.Left.{after, IsStart}
+use Rattle.block_machine.specs.Ports.{AreFit}
+use Rattle.block_machine.specs.State.{Disk, Machine, Pending}
+use Rattle.block_machine.specs.Rules.{DifferInName}
+use Rattle.block_machine.proofs.HistoryLemmas.{reached_more}
+use Rattle.dma_frames.specs.Table.{owner_of, lent_to}
+use Rattle.host_boot.specs.Taken.{IsLeft, StandsBehind, TakesOver, found_of, wanted_of}
+use Rattle.host_boot.specs.declared.Found.{Found}
+use Rattle.host_boot.specs.declared.Found.TheVariants.{Unserved, Ready, Unready}
+use Rattle.host_boot.specs.declared.Host.{Host}
+use Rattle.identify.specs.Page.{number_of}
+use Rattle.identify.specs.declared.Unfit.{Unfit as Fault}
+use Rattle.identify.specs.declared.Unfit.TheVariants as fault
+use Rattle.identify.specs.Wanted.{serial_of}
+use Rattle.identify.specs.declared.wanted.Wanted.{Wanted}
+use Rattle.port_boot.specs.States.{EndsAs, IsUnfit}
+use Rattle.request_book.specs.Entries.{IsAccepted, IsInOrder, first_of}
+use Rattle.request_book.specs.Machine.{IsBook}
+use Rattle.request_book.specs.declared.book.Accepted.{Accepted}
+use Rattle.transfers.specs.Transfers.{MayTransfer}
+use Rattle.server_history.specs.Histories.{AreShown, HasBegun}
+use Rattle.server_history.specs.Server.{Server, AreUsesOf, IsKept, IsMachineOf, IsNewServer, IsPortOf, IsTransferRow, IsUseOf, is_served, none_parked, ports_of, state_of}
+use Rattle.host_boot.proofs.Leaving.{boots_begin}
+
+-- ---- the machine of an idle device
+
+-- what a disk holds, or zeros where it doesn't tell
+abbrev told_bytes : Option (ℕ → List ℕ) → Disk
+told_bytes None k b = 0
+told_bytes (Some told) k b = slice_index (told k) b
+
+-- the device's disks and client frames, with these grants and owners
+abbrev machine_of : Device → List GrantRow → (Frame → Option ClientId) → Machine
+machine_of d rows owner = record {
+  present = λ port. (d.port port.0).present;
+  disk_ids = λ port. (d.port port.0).disk.name;
+  sizes = λ port. (d.port port.0).disk.size;
+  disks = λ port. told_bytes (d.port port.0).disk.sectors;
+  book = [];
+  kept = [];
+  lent = λ frame. None;
+  memory = λ frame b. d.memory (4096 * frame.0 + b);
+  rows = rows;
+  owner = owner;
+  next = 1;
+}
+
+machine_knows : (d : Device) (rows : List GrantRow) (owner : Frame → Option ClientId) → IsStart (machine_of d rows owner) → IsIdle d
+    → TellsDisks d → Knows (machine_of d rows owner) (idle d)
+machine_knows d rows owner start is told =
+    idle_knows (machine_of d rows owner) d start is (λ q. record { present = refl; id = refl; size = refl }) (λ f b low small. refl) sectors
+  where
+    sectors : d.telling ≡ true → (port : ℕ) → SameSectors (machine_of d rows owner) (d.port port).disk port
+    sectors tells q =
+        let t = told tells q in
+        record { told = t.0; tells = t.1; same = λ k b inside small. sym (ap (λ (s : Option (ℕ → List ℕ)). told_bytes s k b) t.1) }
+
+-- ---- steps of the device
+
+-- steps that spare the book leave a machine to begin with
+start_on : (m later : Machine) → IsStart m → SparesBook m later → IsStart later
+start_on m later s spares = record {
+  book = subst (λ (es : List Pending). AllFurther es later.book) s.book spares.book;
+  kept = subst (λ (es : List Pending). AllFurther es later.kept) s.kept spares.kept;
+  lent = λ frame. ap (λ (lent : Frame → Option RequestId). lent frame) spares.lent ∙ s.lent frame;
+  next = spares.next ∙ s.next;
+  few = subst (λ (rows : List GrantRow). length rows ≤ 64) (sym spares.rows) s.few;
+  rows = subst (AllPairs DifferInName) (sym spares.rows) s.rows;
+  configured = λ row here. s.configured row (subst (λ (rows : List GrantRow). Contains rows row) spares.rows here);
+  owned = λ frame client own. s.owned frame client (sym (ap (λ (owner : Frame → Option ClientId). owner frame) spares.owner) ∙ own);
+}
+
+-- ---- the ports
+
+-- a page's fault has a number from 1 to 6
+numbered : (f : Fault) → (1 ≤ number_of f) × (number_of f ≤ 9)
+numbered fault.BadChecksum = (omega arith, omega arith)
+numbered fault.Word83 = (omega arith, omega arith)
+numbered fault.No48Bit = (omega arith, omega arith)
+numbered fault.SectorSize = (omega arith, omega arith)
+numbered fault.NoFlush = (omega arith, omega arith)
+numbered fault.NoSectors = (omega arith, omega arith)
+
+unfit_numbered : (n port : ℕ) (d : Device) → IsUnfit n port d → (1 ≤ n) × (n ≤ 9)
+unfit_numbered n port d (inl (is, shown)) = (omega (arith, is), omega (arith, is))
+unfit_numbered n port d (inr (inl (is, shown))) = (omega (arith, is), omega (arith, is))
+unfit_numbered n port d (inr (inr (inl (is, saw, count)))) = (omega (arith, is), omega (arith, is))
+unfit_numbered n port d (inr (inr (inr (page, has, (f, first, is))))) = let b = numbered f in (omega (arith, is, b.0), omega (arith, is, b.1))
+
+-- a cause to be unfit is one that there is
+cause_is : (wanted : Wanted) (found : Found) (port cause : ℕ) (d : Device) → StandsBehind wanted found port d → state_of found ≡ Unfit cause → (1 ≤ cause) × (cause ≤ 9)
+cause_is wanted Unserved port cause d s is = absurd (let z : Absent ≡ Unfit cause = is in cc)
+cause_is wanted (Ready info) port cause d s is = absurd (let z : ReadyState ≡ Unfit cause = is in cc)
+cause_is wanted (Unready state) port cause d s is = unfit_numbered cause port d ((subst (λ (x : PortState). EndsAs (serial_of wanted) x port d) is s.1).1)
+
+-- ports past the fourth aren't served
+none_past : (ports : List Found) (port : ℕ) → length ports ≤ port → found_of ports port ≡ Unserved
+none_past [] port long = refl
+none_past (f ∷ rest) zero long = absurd (omega (arith, long))
+none_past (f ∷ rest) (suc n) long = none_past rest n (omega (arith, long))
+
+-- what a ready port's boot leaves lets it transfer
+ready_runs : (wanted : Wanted) (found : Found) (port : ℕ) (d : Device) → StandsBehind wanted found port d → state_of found ≡ ReadyState → MayTransfer port d
+ready_runs wanted Unserved port d s is = absurd (let z : Absent ≡ ReadyState = is in cc)
+ready_runs wanted (Ready info) port d s is = record { started = s.1.runs.st; list = ap (λ b. b.clb) s.1.runs.bases }
+ready_runs wanted (Unready state) port d s is = absurd (subst (λ (x : PortState). EndsAs (serial_of wanted) x port d) is s.1)
+
+-- a port that is served is there
+served_there : (wanted : Wanted) (found : Found) (port : ℕ) (d : Device) → StandsBehind wanted found port d → is_served found ≡ true → bit d.pi port ≡ true
+served_there wanted Unserved port d s served = absurd (false≢true served)
+served_there wanted (Ready info) port d s served = s.0.1
+served_there wanted (Unready state) port d s served = s.0.1
+
+-- ---- slots
+
+-- without requests no slot serves one
+use_none : (found : Found) (u : Use) → (u ≡ Free) ⊎ ((u ≡ Own Identify) × (found ≡ Unready Dead)) → IsUseOf found None u
+use_none Unserved u (inl free) = free
+use_none (Ready info) u (inl free) = free
+use_none (Unready Absent) u (inl free) = free
+use_none (Unready ReadyState) u (inl free) = free
+use_none (Unready Foreign) u (inl free) = free
+use_none (Unready (Unfit n)) u (inl free) = free
+use_none (Unready Dead) u (inl free) = inl free
+use_none (Unready Dead) u (inr (own, is)) = inr own
+use_none Unserved u (inr (own, is)) = absurd (let z : Unserved ≡ Unready Dead = is in cc)
+use_none (Ready info) u (inr (own, is)) = absurd (let z : Ready info ≡ Unready Dead = is in cc)
+use_none (Unready Absent) u (inr (own, is)) = absurd (let z : Unready Absent ≡ Unready Dead = is in cc)
+use_none (Unready ReadyState) u (inr (own, is)) = absurd (let z : Unready ReadyState ≡ Unready Dead = is in cc)
+use_none (Unready Foreign) u (inr (own, is)) = absurd (let z : Unready Foreign ≡ Unready Dead = is in cc)
+use_none (Unready (Unfit n)) u (inr (own, is)) = absurd (let z : Unready (Unfit n) ≡ Unready Dead = is in cc)
+
+use_left : (found : Found) (ports : List Found) (uses : Uses) (port : ℕ) → found ≡ found_of ports port → IsLeft ports uses port 0 → (uses port 0 ≡ Free) ⊎ ((uses port 0 ≡ Own Identify) × (found ≡ Unready Dead))
+use_left found ports uses port is (inl free) = inl free
+use_left found ports uses port is (inr (zero_is, own, dead)) = inr (own, is ∙ dead)
+
+other_left : (ports : List Found) (uses : Uses) (port slot : ℕ) → slot ≢ 0 → IsLeft ports uses port slot → uses port slot ≡ Free
+other_left ports uses port slot other (inl free) = free
+other_left ports uses port slot other (inr (zero_is, own, dead)) = absurd (other zero_is)
+
+-- no requests are in order
+none_in_order : (last : ℕ) → IsInOrder last []
+none_in_order last = record { ordered = λ i j d lt small. absurd (omega (arith, small)); handed_out = λ k d small. absurd (omega (arith, small)); few = λ client. omega arith }
+
+-- ---- the whole
+
+module _ (s : Server) (host : Host) (d : Device) (is : IsIdle d) (told : TellsDisks d) (taken : TakesOver s.wanted host d s.device) (n : IsNewServer host s) where
+  abbrev first_machine : Machine
+  first_machine = machine_of d s.grants (owner_of s.table)
+
+  start : IsStart first_machine
+  start = record {
+    book = refl;
+    kept = refl;
+    lent = λ frame. refl;
+    next = refl;
+    few = n.few;
+    rows = n.names;
+    configured = λ row here. (All-contains (λ (row : GrantRow). IsTransferRow row) s.grants row n.rows here).row_is;
+    owned = λ frame client own. let c = n.clients frame client own in (c.0, c.1, (n.owners frame client own).0, c.2);
+  }
+
+  reached_first : IsReached first_machine
+  reached_first = record { first = first_machine; past = []; starts = start; legal = tt; is = refl }
+
+  found_is : (port : ℕ) → found_of s.ports port ≡ found_of host.ports port
+  found_is port = ap (λ (ports : List Found). found_of ports port) n.ports
+
+  behind : (port : ℕ) → port < 4 → StandsBehind (wanted_of s.wanted port) (found_of s.ports port) port s.device
+  behind port below = subst (λ (f : Found). StandsBehind (wanted_of s.wanted port) f port s.device) (sym (found_is port)) (taken.stands port below)
+
+  four : (port : ℕ) → is_served (found_of s.ports port) ≡ true → port < 4
+  four port served = ⊎_elim
+      (λ (low : port < 4). low)
+      (λ (high : 4 ≤ port). absurd (false≢true (sym (ap is_served (found_is port ∙ none_past host.ports port (let l = n.four in omega (arith, l, high)))) ∙ served)))
+      (cases_lt port 4)
+
+  ports_on : (port : ℕ) → port < 4 → IsPortOf s.wanted s.ports port s.device
+  ports_on port below = record {
+    behind = boots_begin (wanted_of s.wanted port) (found_of s.ports port) port s.device (behind port below);
+    runs = ready_runs (wanted_of s.wanted port) (found_of s.ports port) port s.device (behind port below);
+  }
+
+  uses_are : AreUsesOf s taken.uses
+  uses_are = record {
+    first = λ port. subst (λ (book : List Accepted). IsUseOf (found_of s.ports port) (first_of (port_at port) book) (taken.uses port 0)) (sym n.book)
+        (use_none (found_of s.ports port) (taken.uses port 0) (use_left (found_of s.ports port) host.ports taken.uses port (found_is port) (taken.left port 0)));
+    others = λ port slot other. other_left host.ports taken.uses port slot other (taken.left port slot);
+  }
+
+  stands_for : (m : Machine) → IsStart m → SparesBook first_machine m → Knows m (known taken.uses none_parked s.device) → IsMachineOf s m
+  stands_for m begun spares knows = record {
+    uses = taken.uses;
+    used = uses_are;
+    unarmed = taken.agreed.unarmed;
+    knows = knows;
+    book = subst (λ (book : List Accepted). IsBook book m.book) (sym n.book) (subst (λ (es : List Pending). IsBook [] es) (sym begun.book) tt);
+    kept = begun.kept;
+    rows = spares.rows;
+    owner = λ frame. ap (λ (owner : Frame → Option ClientId). owner frame) spares.owner;
+    lent = λ frame. begun.lent frame ∙ sym (n.lent frame);
+    next = begun.next ∙ ap (λ (k : ℕ). k + 1) (sym n.last);
+  }
+
+  ports_fit : AreFit (ports_of s.ports)
+  ports_fit = record {
+    few = λ port served. four port.0 served;
+    absent = λ port other. absent_is (found_of s.ports port.0) other;
+    slots = λ port ready. (omega arith, omega arith, λ _. refl);
+    causes = λ port cause is. ⊎_elim
+        (λ (low : port.0 < 4). cause_is (wanted_of s.wanted port.0) (found_of s.ports port.0) port.0 cause s.device (behind port.0 low) is)
+        (λ (high : 4 ≤ port.0). absurd (let z : Absent ≡ Unfit cause = sym (ap state_of (found_is port.0 ∙ none_past host.ports port.0 (let l = n.four in omega (arith, l, high)))) ∙ is in cc))
+        (cases_lt port.0 4);
+  }
+    where
+      absent_is : (f : Found) → is_served f ≡ false → state_of f ≡ Absent
+      absent_is Unserved other = refl
+      absent_is (Ready info) other = absurd (false≢true (sym other))
+      absent_is (Unready state) other = absurd (false≢true (sym other))
+
+  kept_by : (m : Machine) → IsReached m → IsMachineOf s m → IsKept s
+  kept_by m reached stands = record {
+    on = taken.on;
+    room = n.room;
+    there = λ port served. let low = four port served in (low, served_there (wanted_of s.wanted port) (found_of s.ports port) port s.device (behind port low) served);
+    behind = ports_on;
+    rows = n.rows;
+    owners = n.owners;
+    accepted = subst (λ (book : List Accepted). All (IsAccepted s.grants s.table) book) (sym n.book) (All-nil (IsAccepted s.grants s.table));
+    ordered = subst (λ (book : List Accepted). IsInOrder s.last book) (sym n.book) (none_in_order s.last);
+    ready = subst (λ (book : List Accepted). All (λ e. state_of (found_of s.ports e.port.0) ≡ ReadyState) book) (sym n.book) (All-nil (λ (e : Accepted). state_of (found_of s.ports e.port.0) ≡ ReadyState));
+    machine = m;
+    reached = reached;
+    stands = stands;
+  }
+
+  pub new_server : IsKept s × HasBegun s
+  new_server =
+      let x = (taken.followed.adds (λ port slot. Free) none_parked refl).adds first_machine reached_first (machine_knows d s.grants (owner_of s.table) start is told) in
+      let later : Machine = after first_machine x.0 in
+      let spares : SparesBook first_machine later = steps_spare first_machine x.0 x.3.only in
+      let begun : IsStart later = start_on first_machine later start spares in
+      let stands : IsMachineOf s later = stands_for later begun spares x.2 in (
+        kept_by later (reached_more first_machine x.0 reached_first x.1) stands,
+        (
+          record { device = s.device; moment = record { machine = later; ports = ports_of s.ports } },
+          record {
+            history = ((begun, ports_fit), record { ports = record { found = s.ports; ports_are = refl; behind = ports_on }; uses = taken.uses; plain = uses_are.others; knows = x.2 });
+            stands = record { device_is = refl; ports_are = refl; machine = stands };
+          },
+        ),
+      )

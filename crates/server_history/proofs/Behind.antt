@@ -1,0 +1,29 @@
+-- What stands behind a port goes on.
+use Rattle.std.proofs.Common.{ℕ, ◌≡◌, ◌≢◌, ap}
+use Rattle.ata_types.specs.declared.PortState.TheVariants.{Dead}
+use Rattle.adapter.specs.Device.{Device}
+use Rattle.adapter.specs.declared.command.Operation.TheVariants.{Identify}
+use Rattle.agreement.specs.Driven.{LeavesPort, SendsNone}
+use Rattle.agreement.specs.Links.{SameAdapter}
+use Rattle.host_boot.specs.Taken.{LeavesFound, StillStandsBehind}
+use Rattle.host_boot.specs.declared.Found.{Found}
+use Rattle.host_boot.specs.declared.Found.TheVariants.{Unserved, Ready, Unready}
+use Rattle.host_boot.proofs.Leaving.{still_on}
+use Rattle.identify.specs.declared.DiskInfo.{DiskInfo}
+use Rattle.identify.specs.declared.wanted.Wanted.{Wanted}
+
+-- the port is left to the device
+pub left_on : (wanted : Wanted) (found : Found) (port : ℕ) (old new : Device) → SameAdapter old new → LeavesPort (old.port port) (new.port port)
+    → (found ≢ Unready Dead → SendsNone port Identify old new) → StillStandsBehind wanted found port old → StillStandsBehind wanted found port new
+left_on wanted found port old new same l silent s = still_on wanted found port old new same (enough found) silent s
+  where
+    enough : (f : Found) → LeavesFound f (old.port port) (new.port port)
+    enough Unserved = l
+    enough (Ready info) = (l.controls.sctl_det, ap (λ n. n.sctl_written_at) l.notes)
+    enough (Unready state) = l
+
+-- it is ready, and PxSCTL isn't written
+pub ready_on : (wanted : Wanted) (info : DiskInfo) (port : ℕ) (old new : Device) → SameAdapter old new → (new.port port).sctl_det ≡ (old.port port).sctl_det
+    → (new.port port).notes.sctl_written_at ≡ (old.port port).notes.sctl_written_at → SendsNone port Identify old new
+    → StillStandsBehind wanted (Ready info) port old → StillStandsBehind wanted (Ready info) port new
+ready_on wanted info port old new same det_is written silent s = still_on wanted (Ready info) port old new same (det_is, written) (λ other. silent) s

@@ -1,0 +1,288 @@
+-- Calls that leave the book: the device's steps, refusals, and clients' bytes.
+use Rattle.std.proofs.Common.{ℕ, Bool, ◌≡◌, ◌+◌, ◌*◌, ◌<◌, ◌≤◌, true, false, List, [], ◌∷◌, Ok, Err, ◌≢◌, Option, Some, length, refl, sym, ap, ◌∙◌, subst, inr}
+use Rattle.std.proofs.lemmas.Bool.{false≢true}
+use Rattle.ata_types.specs.declared.Port.{Port}
+use Rattle.ata_types.specs.declared.refusal.MemFault.{MemFault}
+use Rattle.ata_types.specs.declared.refusal.Refusal.{Refusal}
+use Rattle.ata_types.specs.declared.request.ClientId.{ClientId}
+use Rattle.ata_types.specs.declared.request.Frame.{Frame}
+use Rattle.ata_types.specs.declared.request.Request.{Request}
+use Rattle.ata_types.specs.declared.request.RequestId.{RequestId}
+use Rattle.adapter.specs.Access.{Access, Does, Loads, Stores}
+use Rattle.adapter.specs.Access.Access.{Loading, Storing}
+use Rattle.adapter.specs.Asked.{Asked}
+use Rattle.adapter.specs.Device.{Device}
+use Rattle.adapter.specs.Memory as memory
+use Rattle.adapter.specs.Rules.{IsFree, IsOn, Stays}
+use Rattle.adapter.specs.Steps.{Steps}
+use Rattle.adapter.specs.declared.access.DeviceStep.{DeviceStep}
+use Rattle.adapter.specs.declared.command.Operation.TheVariants.{Identify}
+use Rattle.adapter.proofs.Changed.{fun_ext}
+use Rattle.adapter.proofs.Runs.{Steps-refl}
+use Rattle.agreement.specs.Agrees.{AreUnarmed, port_at}
+use Rattle.agreement.specs.Driven.{IsDrivenBy, SendsNone, known}
+use Rattle.agreement.specs.Driver.{EndsWith, Knows}
+use Rattle.agreement.specs.Links.{SameAdapter}
+use Rattle.agreement.specs.Spares.{SparesBook}
+use Rattle.agreement.proofs.Adding.{device_adds, nothing_backed}
+use Rattle.agreement.proofs.Clients.{client_loads, client_stores}
+use Rattle.agreement.proofs.Driven.{by_none, by_one}
+use Rattle.agreement.proofs.Lasting.{access_same}
+use Rattle.agreement.proofs.Paging.{access_sends_none}
+use Rattle.agreement.proofs.Permitting.{clients_are_free}
+use Rattle.agreement.proofs.Sparing.{steps_spare}
+use Rattle.block_machine.specs.Events.{Ask, Submit, StoreAt, LoadAt, Service, State, AllMay, AllDevices, Device as Told, Said, Submitted, Stored, Loaded, Shown, Stepped, IsAnswered}
+use Rattle.block_machine.specs.Histories.{Instant, Happening, IsReached, now}
+use Rattle.block_machine.specs.Left.{after}
+use Rattle.block_machine.specs.Ports.{Ports}
+use Rattle.block_machine.specs.Refusals.{Situation, IsFirstMemFault, IsFirstRefusal, IsOpen}
+use Rattle.block_machine.specs.State.{Machine}
+use Rattle.block_machine.specs.Steps.{Step, Load, Store}
+use Rattle.block_machine.specs.Events as events
+use Rattle.block_machine.proofs.HistoryLemmas.{history_reaches}
+use Rattle.block_machine.proofs.Limits.{owned}
+use Rattle.ata_types.specs.declared.refusal.MemFault.TheVariants.{FrameForeign}
+use Rattle.dma_frames.specs.Table.{owner_of, lent_to}
+use Rattle.host_boot.specs.Taken.{found_of}
+use Rattle.host_boot.specs.declared.Found.TheVariants.{Unready}
+use Rattle.ata_types.specs.declared.PortState.TheVariants.{Dead}
+use Rattle.request_book.specs.Entries.{first_of}
+use Rattle.request_book.proofs.Counts.{as_many}
+use Rattle.transfers.specs.Services.{IsService}
+use Rattle.transfers.proofs.Serving.{services_on, services_unarmed}
+use Rattle.server_history.specs.Histories.{Adds, Begins, CameBy, GoesWell, HeedsAt, Leads, Stands, Ties, load_said, no_evidence, store_said}
+use Rattle.server_history.specs.Server.{Server, IsKept, IsMachineOf, IsPortOf, none_parked, ports_of, situation_of}
+use Rattle.server_history.proofs.Devices.{devices_belong, devices_last, devices_lawful, devices_transfer}
+use Rattle.server_history.proofs.Going.{is_told, kept_on, lead_by, lead_on, machine_on, machine_with, ports_same, uninterrupted}
+use Rattle.server_history.proofs.Ports.{IsOfBytes, bytes_leave, bytes_serve, not_own, port_on}
+
+-- ---- what a history leads to
+
+module _ (first : Instant Device) (past : List (Happening Device DeviceStep)) (s : Server) (leads : Leads first past s) where
+  pub reached : IsReached (now first past).moment.machine
+  reached = history_reaches (Begins s.wanted) (Ties s.wanted) first past leads.history
+
+-- what holds of the server's owners and loans holds of the machine's
+pub as_told : (s : Server) (m : Machine) → IsMachineOf s m → (P : (Frame → Option ClientId) → (Frame → Option RequestId) → Type 0) → P (owner_of s.table) (lent_to s.table) → P m.owner m.lent
+as_told s m is P holds = subst (λ owner. P owner m.lent) (sym (fun_ext is.owner)) (subst (λ lent. P (owner_of s.table) lent) (sym (fun_ext is.lent)) holds)
+
+-- ---- accesses of bytes
+
+module _ (s : Server) (k : IsKept s) (new : Device) (access : Access) (is : IsOfBytes access) (does : Does access s.device new) where
+  served : IsDrivenBy IsService s.device new
+  served = by_one IsService access s.device new (bytes_serve access is) does
+
+  same : SameAdapter s.device new
+  same = access_same access s.device new does
+
+  silent : (port : ℕ) → found_of s.ports port ≢ Unready Dead → SendsNone port Identify s.device new
+  silent port other =
+      access_sends_none k.stands.uses k.machine access s.device new port Identify k.reached k.stands.knows.agrees does refl
+      (not_own (found_of s.ports port) (first_of (port_at port) s.book) (k.stands.uses port 0) other (k.stands.used.first port))
+
+  ports_on : (port : ℕ) → port < 4 → IsPortOf s.wanted s.ports port new
+  ports_on port below =
+      port_on s.wanted s.ports port s.device new same k.on served (λ unready. bytes_leave access s.device new is k.on does port) (silent port) (k.behind port below)
+
+  unarmed : (m : Machine) (is : IsMachineOf s m) (port : ℕ) → AreUnarmed is.uses (new.port port) port
+  unarmed m is port = services_unarmed is.uses port s.device new served (is.unarmed port)
+
+  -- a machine that spares the book
+  kept_with : (steps : List Step) → AllMay k.machine steps → IsMachineOf (record s { device = new }) (after k.machine steps) → IsKept (record s { device = new })
+  kept_with steps may stands = kept_on s new k (services_on s.device new k.on served) same ports_on steps may stands
+
+-- ---- the device's steps
+
+-- as a load of no bytes
+none_loaded : (old new : Device) → Steps old new → Does (Loading 0 []) old new
+unfolding memory.bytes_at
+none_loaded old new steps = record { steps = steps; shows = refl }
+
+pub device_kept : (s : Server) (new : Device) → IsKept s → Steps s.device new → IsKept (record s { device = new })
+device_kept s new k steps =
+    let x = (device_adds (known k.stands.uses none_parked s.device) new steps).adds k.machine k.reached k.stands.knows in
+    kept_with s k new (Loading 0 []) tt (none_loaded s.device new steps) x.0 x.1
+    (machine_on s new k.machine x.0 k.stands x.3.only x.2 (unarmed s k new (Loading 0 []) tt (none_loaded s.device new steps) k.machine k.stands))
+
+abbrev told_of : DeviceStep → Ask DeviceStep → DeviceStep
+told_of other (Told step) = step
+told_of other ask = other
+
+abbrev done_of : Said → Bool
+done_of (Stepped done) = done
+done_of said = false
+
+pub device_adds_event : (s : Server) (new : Device) (step : DeviceStep) → IsKept s → Asked step s.device new → Steps s.device new
+    → Adds s (record s { device = new }) (Told step) (Stepped true)
+device_adds_event s new step k asked moves = record { adds = adds }
+  where
+    adds : (first : Instant Device) (past : List (Happening Device DeviceStep)) → Leads first past s
+        → (h : Happening Device DeviceStep) × (h.event.ask ≡ Told step) × (h.event.said ≡ Stepped true) × Leads first (h ∷ past) (record s { device = new })
+    adds first past leads =
+        let old : Instant Device = now first past in
+        let at : Stands old s = leads.stands in
+        let m = at.machine in
+        let x = (device_adds (known m.uses none_parked s.device) new moves).adds old.moment.machine (reached first past s leads) m.knows in
+        let steps : List Step = x.0 in
+        lead_by first past s (record s { device = new }) (Told step) (Stepped true) steps refl refl leads
+        (λ other is done. subst (λ (y : DeviceStep). Asked y s.device new) (ap (told_of step) is) asked)
+        (λ r. absurd (false≢true r)) x.1 (devices_belong (Told step) (ports_of s.ports) steps x.3.only) (devices_last steps x.3.only)
+        (devices_lawful old.moment no_evidence (ports_of s.ports) steps x.3.only)
+        (x.3.only, ports_same old.moment.ports (ports_of s.ports) at.ports_are)
+        moves
+        (ports_on s k new (Loading 0 []) tt (none_loaded s.device new moves))
+        (λ port well. uninterrupted port)
+        x.3.backed
+        (machine_on s new old.moment.machine steps m x.3.only x.2 (unarmed s k new (Loading 0 []) tt (none_loaded s.device new moves) old.moment.machine m))
+
+-- ---- calls that do nothing
+
+nothing_adds : (s : Server) (ask : Ask DeviceStep) (said : Said) → IsKept s → ((step : DeviceStep) → ask ≡ Told step → said ≡ Stepped true → ⊥) → CameBy s.ports ask said s.device s.device
+    → ((old : Instant Device) → Stands old s → IsAnswered ask said old.moment no_evidence [] (record { machine = old.moment.machine; ports = ports_of s.ports }))
+    → ((port : Port) (old : Instant Device) → HeedsAt port ask old.moment no_evidence [] (record { machine = old.moment.machine; ports = ports_of s.ports }))
+    → Adds s s ask said
+nothing_adds s ask said k other came answered heeds = record { adds = adds }
+  where
+    adds : (first : Instant Device) (past : List (Happening Device DeviceStep)) → Leads first past s
+        → (h : Happening Device DeviceStep) × (h.event.ask ≡ ask) × (h.event.said ≡ said) × Leads first (h ∷ past) s
+    adds first past leads =
+        let old : Instant Device = now first past in
+        lead_by first past s s ask said [] refl refl leads (λ step is done. absurd (other step is done)) (λ r. refl) tt tt tt tt (answered old leads.stands) came k.behind
+        (λ port well. heeds port old) (nothing_backed s.device old.moment.machine) leads.stands.machine
+
+pub undone_adds : (s : Server) (step : DeviceStep) → IsKept s → Adds s s (Told step) (Stepped false)
+undone_adds s step k =
+    nothing_adds s (Told step) (Stepped false) k (λ other is done. absurd (false≢true (ap done_of done))) (Steps-refl s.device)
+    (λ old at. (refl, ports_same old.moment.ports (ports_of s.ports) at.ports_are)) (λ port old. uninterrupted port)
+
+pub state_adds : (s : Server) (port : Port) → IsKept s → Adds s s (State port) (Shown ((ports_of s.ports).state port))
+state_adds s port k =
+    nothing_adds s (State port) (Shown ((ports_of s.ports).state port)) k (λ step is done. let z : Shown ((ports_of s.ports).state port) ≡ Stepped true = done in absurd cc) (by_none IsService s.device)
+    (λ old at. (ap (λ (ports : Ports). ports.state port) (sym at.ports_are), refl, ports_same old.moment.ports (ports_of s.ports) at.ports_are)) (λ other old. uninterrupted other)
+
+pub store_refused : (s : Server) (client : ClientId) (frame : Frame) (offset : ℕ) (bytes : List ℕ) (fault : MemFault) → IsKept s
+    → IsFirstMemFault (owner_of s.table) (lent_to s.table) client frame offset (length bytes) fault → Adds s s (StoreAt client frame offset bytes) (store_said (Err fault))
+store_refused s client frame offset bytes fault k is =
+    nothing_adds s (StoreAt client frame offset bytes) (store_said (Err fault)) k (λ step e done. let z : StoreAt client frame offset bytes ≡ Told step = e in absurd cc) (by_none IsService s.device)
+    (λ old at. (as_told s old.moment.machine at.machine (λ owner lent. IsFirstMemFault owner lent client frame offset (length bytes) fault) is, refl, ports_same old.moment.ports (ports_of s.ports) at.ports_are))
+    (λ port old. uninterrupted port)
+
+pub load_refused : (s : Server) (client : ClientId) (frame : Frame) (offset count : ℕ) (bytes : List ℕ) (fault : MemFault) → IsKept s
+    → IsFirstMemFault (owner_of s.table) (lent_to s.table) client frame offset count fault → Adds s s (LoadAt client frame offset count) (load_said (Err fault) bytes)
+load_refused s client frame offset count bytes fault k is =
+    nothing_adds s (LoadAt client frame offset count) (load_said (Err fault) bytes) k (λ step e done. let z : ◌≡◌ {A = Ask DeviceStep} (LoadAt client frame offset count) (Told step) = e in absurd cc) (by_none IsService s.device)
+    (λ old at. (as_told s old.moment.machine at.machine (λ owner lent. IsFirstMemFault owner lent client frame offset count fault) is, refl, ports_same old.moment.ports (ports_of s.ports) at.ports_are))
+    (λ port old. uninterrupted port)
+
+-- ---- what a request meets
+
+pub situation_is : (s : Server) (old : Instant Device) → Stands old s → events.situation_of old.moment ≡ situation_of s
+situation_is s old at = λ i. record {
+  rows = at.machine.rows i;
+  owner = fun_ext at.machine.owner i;
+  lent = fun_ext at.machine.lent i;
+  state = ap (λ (ports : Ports). ports.state) at.ports_are i;
+  sectors = ap (λ (ports : Ports). ports.sectors) at.ports_are i;
+  trims = ap (λ (ports : Ports). ports.trims) at.ports_are i;
+  unanswered = fun_ext (λ (client : ClientId). as_many (λ port. true) s.book old.moment.machine.book client at.machine.book) i;
+  next = at.machine.next i;
+}
+
+pub submit_refused : (s : Server) (r : Request) (refusal : Refusal) → IsKept s → IsFirstRefusal (situation_of s) r refusal → Adds s s (Submit r) (Submitted (Err refusal))
+submit_refused s r refusal k is =
+    nothing_adds s (Submit r) (Submitted (Err refusal)) k (λ step e done. let z : ◌≡◌ {A = Ask DeviceStep} (Submit r) (Told step) = e in absurd cc) (by_none IsService s.device)
+    (λ old at. (subst (λ (x : Situation). IsFirstRefusal x r refusal) (sym (situation_is s old at)) is, refl, ports_same old.moment.ports (ports_of s.ports) at.ports_are))
+    (λ port old. uninterrupted port)
+
+-- ---- clients' bytes
+
+-- a frame that is open is its client's
+open_owned : (owner : Frame → Option ClientId) (lent : Frame → Option RequestId) (client : ClientId) (frame : Frame) (offset count : ℕ) → IsOpen owner lent client frame offset count → owner frame ≡ Some client
+open_owned owner lent client frame offset count opens = owned (owner frame) client (opens FrameForeign)
+
+pub open_free : (s : Server) (client : ClientId) (frame : Frame) (offset count : ℕ) → IsKept s → IsOpen (owner_of s.table) (lent_to s.table) client frame offset count
+    → Stays (IsFree (4096 * frame.0 + offset) count) s.device
+open_free s client frame offset count k opens =
+    clients_are_free k.stands.uses k.machine s.device k.reached k.stands.knows.agrees client frame offset count (k.owners frame client (open_owned (owner_of s.table) (lent_to s.table) client frame offset count opens)).1
+    (as_told s k.machine k.stands (λ owner lent. IsOpen owner lent client frame offset count) opens)
+
+-- the machine of a load is that of the device's steps
+load_ends : (s : Server) (new : Device) (client : ClientId) (frame : Frame) (offset : ℕ) (bytes : List ℕ) → IsKept s → IsOpen (owner_of s.table) (lent_to s.table) client frame offset (length bytes)
+    → Loads (4096 * frame.0 + offset) bytes s.device new → (m : Machine) → IsReached m → (is : IsMachineOf s m)
+    → (x : EndsWith (known is.uses none_parked s.device) m (Load client frame offset bytes) (known is.uses none_parked new)) × IsMachineOf (record s { device = new }) (after m (Load client frame offset bytes ∷ x.steps))
+load_ends s new client frame offset bytes k opens loads m r is =
+    let x : EndsWith (known is.uses none_parked s.device) m (Load client frame offset bytes) (known is.uses none_parked new) =
+    client_loads (known is.uses none_parked s.device) m client frame offset bytes new r is.knows (as_told s m is (λ owner lent. IsOpen owner lent client frame offset (length bytes)) opens) loads in
+    (x, machine_with s new m (after m (Load client frame offset bytes ∷ x.steps)) is (steps_spare m x.steps x.only) x.knows (unarmed s k new (Loading (4096 * frame.0 + offset) bytes) tt loads m is))
+
+store_ends : (s : Server) (new : Device) (client : ClientId) (frame : Frame) (offset : ℕ) (bytes : List ℕ) → IsKept s → IsOpen (owner_of s.table) (lent_to s.table) client frame offset (length bytes)
+    → Stores (4096 * frame.0 + offset) bytes s.device new → (m : Machine) → IsReached m → (is : IsMachineOf s m)
+    → (x : EndsWith (known is.uses none_parked s.device) m (Store client frame offset bytes) (known is.uses none_parked new)) × IsMachineOf (record s { device = new }) (after m (Store client frame offset bytes ∷ x.steps))
+store_ends s new client frame offset bytes k opens stores m r is =
+    let x : EndsWith (known is.uses none_parked s.device) m (Store client frame offset bytes) (known is.uses none_parked new) =
+    client_stores (known is.uses none_parked s.device) m client frame offset bytes new r is.knows (as_told s m is (λ owner lent. IsOpen owner lent client frame offset (length bytes)) opens) stores in
+    let spares : SparesBook m (after m x.steps) = steps_spare m x.steps x.only in (
+      x,
+      machine_with s new m (after m (Store client frame offset bytes ∷ x.steps)) is
+          (record { rows = spares.rows; owner = spares.owner; lent = spares.lent; next = spares.next; book = spares.book; kept = spares.kept }) x.knows
+          (unarmed s k new (Storing (4096 * frame.0 + offset) bytes) tt stores m is),
+    )
+
+module _ (s : Server) (new : Device) (client : ClientId) (frame : Frame) (offset : ℕ) (bytes : List ℕ) (k : IsKept s) (opens : IsOpen (owner_of s.table) (lent_to s.table) client frame offset (length bytes)) where
+  pub load_kept : Loads (4096 * frame.0 + offset) bytes s.device new → IsKept (record s { device = new })
+  load_kept loads =
+      let x = load_ends s new client frame offset bytes k opens loads k.machine k.reached k.stands in
+      kept_with s k new (Loading (4096 * frame.0 + offset) bytes) tt loads (Load client frame offset bytes ∷ x.0.steps) x.0.may x.1
+
+  pub store_kept : Stores (4096 * frame.0 + offset) bytes s.device new → IsKept (record s { device = new })
+  store_kept stores =
+      let x = store_ends s new client frame offset bytes k opens stores k.machine k.reached k.stands in
+      kept_with s k new (Storing (4096 * frame.0 + offset) bytes) tt stores (Store client frame offset bytes ∷ x.0.steps) x.0.may x.1
+
+  pub load_adds : Loads (4096 * frame.0 + offset) bytes s.device new → Adds s (record s { device = new }) (LoadAt client frame offset (length bytes)) (load_said (Ok tt) bytes)
+  load_adds loads = record { adds = adds }
+    where
+      adds : (first : Instant Device) (past : List (Happening Device DeviceStep)) → Leads first past s
+          → (h : Happening Device DeviceStep) × (h.event.ask ≡ LoadAt client frame offset (length bytes)) × (h.event.said ≡ load_said (Ok tt) bytes) × Leads first (h ∷ past) (record s { device = new })
+      adds first past leads =
+          let old : Instant Device = now first past in
+          let at : Stands old s = leads.stands in
+          let x = load_ends s new client frame offset bytes k opens loads old.moment.machine (reached first past s leads) at.machine in
+          lead_on first past s (record s { device = new }) (LoadAt client frame offset (length bytes)) (load_said (Ok tt) bytes) (Load client frame offset bytes ∷ x.0.steps) refl refl leads refl
+          (λ r. absurd (false≢true r)) x.0.may (devices_belong {D = DeviceStep} (LoadAt client frame offset (length bytes)) (ports_of s.ports) x.0.steps x.0.only, inr (refl, refl, refl, refl))
+          (devices_last x.0.steps x.0.only, λ id h i. false≢true h)
+          (devices_lawful old.moment no_evidence (ports_of s.ports) x.0.steps x.0.only)
+          (as_told s old.moment.machine at.machine (λ owner lent. IsOpen owner lent client frame offset (length bytes)) opens, ap (λ (rest : List (List ℕ)). bytes ∷ rest) (devices_transfer x.0.steps x.0.only), ports_same old.moment.ports (ports_of s.ports) at.ports_are)
+          (served s k new (Loading (4096 * frame.0 + offset) bytes) tt loads)
+          (ports_on s k new (Loading (4096 * frame.0 + offset) bytes) tt loads)
+          (λ port well. uninterrupted port)
+          x.0.backed x.1
+
+  pub store_adds : Stores (4096 * frame.0 + offset) bytes s.device new → Adds s (record s { device = new }) (StoreAt client frame offset bytes) (store_said (Ok tt))
+  store_adds stores = record { adds = adds }
+    where
+      adds : (first : Instant Device) (past : List (Happening Device DeviceStep)) → Leads first past s
+          → (h : Happening Device DeviceStep) × (h.event.ask ≡ StoreAt client frame offset bytes) × (h.event.said ≡ store_said (Ok tt)) × Leads first (h ∷ past) (record s { device = new })
+      adds first past leads =
+          let old : Instant Device = now first past in
+          let at : Stands old s = leads.stands in
+          let x = store_ends s new client frame offset bytes k opens stores old.moment.machine (reached first past s leads) at.machine in
+          lead_on first past s (record s { device = new }) (StoreAt client frame offset bytes) (store_said (Ok tt)) (Store client frame offset bytes ∷ x.0.steps) refl refl leads refl
+          (λ r. absurd (false≢true r)) x.0.may (devices_belong {D = DeviceStep} (StoreAt client frame offset bytes) (ports_of s.ports) x.0.steps x.0.only, inr (refl, refl, refl, refl))
+          (devices_last x.0.steps x.0.only, λ id h i. false≢true h)
+          (devices_lawful old.moment no_evidence (ports_of s.ports) x.0.steps x.0.only)
+          (as_told s old.moment.machine at.machine (λ owner lent. IsOpen owner lent client frame offset (length bytes)) opens, ap (λ (rest : List (List ℕ)). bytes ∷ rest) (devices_transfer x.0.steps x.0.only), ports_same old.moment.ports (ports_of s.ports) at.ports_are)
+          (served s k new (Storing (4096 * frame.0 + offset) bytes) tt stores)
+          (ports_on s k new (Storing (4096 * frame.0 + offset) bytes) tt stores)
+          (λ port well. uninterrupted port)
+          x.0.backed x.1
+
+-- of so many bytes
+pub load_both : (s : Server) (new : Device) (client : ClientId) (frame : Frame) (offset count : ℕ) (bytes : List ℕ) → IsKept s → length bytes ≡ count
+    → IsOpen (owner_of s.table) (lent_to s.table) client frame offset count → Loads (4096 * frame.0 + offset) bytes s.device new
+    → IsKept (record s { device = new }) × Adds s (record s { device = new }) (LoadAt client frame offset count) (load_said (Ok tt) bytes)
+load_both s new client frame offset count bytes k long opens loads =
+    let here : IsOpen (owner_of s.table) (lent_to s.table) client frame offset (length bytes) = subst (λ (n : ℕ). IsOpen (owner_of s.table) (lent_to s.table) client frame offset n) (sym long) opens in (
+      load_kept s new client frame offset bytes k here loads,
+      subst (λ (n : ℕ). Adds s (record s { device = new }) (LoadAt client frame offset n) (load_said (Ok tt) bytes)) long (load_adds s new client frame offset bytes k here loads),
+    )

@@ -1,0 +1,37 @@
+-- Steps of the device in a call of a server.
+use Rattle.std.proofs.Common.{◌≡◌, true, List, [], ◌∷◌, refl, inl}
+use Rattle.std.proofs.lemmas.Bool.{false≢true}
+use Rattle.ata_types.specs.declared.request.RequestId.{RequestId}
+use Rattle.block_machine.specs.Events.{Ask, Moment, IsDevices, AllDevices, Belong, IssuesLast, AllLawful, handles, transfers_of}
+use Rattle.block_machine.specs.Ports.{Ports, Evidence}
+use Rattle.block_machine.specs.Steps.{Step, Issue, Again, Answer, Store, Load}
+
+-- they may come in every call
+pub devices_belong : {D : Type 0} (ask : Ask D) (ports : Ports) (steps : List Step) → AllDevices steps → Belong ask ports steps
+devices_belong ask ports [] a = tt
+devices_belong ask ports (step ∷ before) a = (devices_belong ask ports before a.0, inl a.1)
+
+-- they are none of the server's with a request
+pub not_handled : (id : RequestId) (step : Step) → IsDevices step → handles id step ≡ true → ⊥
+not_handled id (Issue mode e) d h = absurd d
+not_handled id (Again e) d h = absurd d
+not_handled id (Answer e o) d h = absurd d
+not_handled id _ d h = false≢true h
+
+pub devices_last : (steps : List Step) → AllDevices steps → IssuesLast steps
+devices_last [] a = tt
+devices_last (step ∷ before) a = (devices_last before a.0, λ id h i. not_handled id step a.1 h)
+
+-- they answer nobody
+pub devices_lawful : (old : Moment) (evidence : Evidence) (ports : Ports) (steps : List Step) → AllDevices steps → AllLawful old evidence ports steps
+devices_lawful old evidence ports [] a = tt
+devices_lawful old evidence ports (Again e ∷ before) a = absurd a.1
+devices_lawful old evidence ports (Answer e o ∷ before) a = absurd a.1
+devices_lawful old evidence ports (step ∷ before) a = devices_lawful old evidence ports before a.0
+
+-- they move no client's bytes
+pub devices_transfer : (steps : List Step) → AllDevices steps → transfers_of steps ≡ []
+devices_transfer [] a = refl
+devices_transfer (Store c f o bytes ∷ before) a = absurd a.1
+devices_transfer (Load c f o bytes ∷ before) a = absurd a.1
+devices_transfer (step ∷ before) a = devices_transfer before a.0

@@ -1,0 +1,211 @@
+-- A server goes on over steps of the device, and calls add events to its histories.
+use Rattle.std.proofs.Common.{ℕ, ◌≡◌, ◌≤◌, ◌<◌, ◌+◌, ◌*◌, Bool, true, false, get_or, Option, None, List, [], ◌∷◌, refl, sym, ap, ◌∙◌, subst, ⊎_elim}
+use Rattle.std.proofs.lemmas.Bool.{false≢true}
+use Rattle.std.specs.List.{All, AllZip, Contains}
+use Rattle.ata_types.specs.declared.Port.{Port}
+use Rattle.ata_types.specs.declared.PortState.TheVariants.{Ready as ReadyState}
+use Rattle.ata_types.specs.declared.request.ClientId.{ClientId}
+use Rattle.ata_types.specs.declared.request.Frame.{Frame}
+use Rattle.hba_regs.specs.Bits.{bit}
+use Rattle.adapter.specs.Device.{Device}
+use Rattle.adapter.specs.Rules.{IsOn, HasPort}
+use Rattle.adapter.specs.declared.access.DeviceStep.{DeviceStep}
+use Rattle.agreement.specs.Agrees.{AreUnarmed}
+use Rattle.agreement.specs.Driven.{known}
+use Rattle.agreement.specs.Driver.{Knows, IsBacked}
+use Rattle.agreement.specs.Links.{SameAdapter}
+use Rattle.agreement.specs.Spares.{AllFurther, IsFurther, SparesBook}
+use Rattle.agreement.proofs.Sparing.{steps_spare}
+use Rattle.adapter.specs.Asked.{Asked}
+use Rattle.block_machine.specs.Events.{Ask, Device as Told, Said, Stepped, AllMay, AllDevices, Belong, IssuesLast, AllLawful, IsAnswered}
+use Rattle.block_machine.specs.Histories.{Instant, Happening, IsHistory, IsReached, now}
+use Rattle.block_machine.specs.Left.{after}
+use Rattle.block_machine.specs.Ports.{Ports, AreFit, IsInterrupted, SamePorts, SameDisk}
+use Rattle.block_machine.specs.State.{Machine, Pending}
+use Rattle.block_machine.specs.Steps.{Step}
+use Rattle.block_machine.proofs.HistoryLemmas.{reached_more}
+use Rattle.block_machine.proofs.Members.{contains_none}
+use Rattle.dma_frames.specs.Table.{Table}
+use Rattle.host_boot.specs.Taken.{found_of}
+use Rattle.request_book.specs.Entries.{IsAccepted, IsInOrder}
+use Rattle.request_book.specs.Machine.{IsBook, IsBookOn, IsEntry}
+use Rattle.request_book.specs.declared.book.Accepted.{Accepted}
+use Rattle.server_history.specs.Histories.{Begins, CameBy, HeedsAt, GoesWell, Leads, SparesPort, Stands, Ties, is_refusal, no_evidence}
+use Rattle.server_history.specs.Server.{Server, IsKept, IsMachineOf, IsPortOf, none_parked, ports_of, state_of}
+
+-- ---- the book
+
+-- an entry and its request stay so when the request goes further
+pub further_stands : (leads : Type 0) (e : Accepted) (old new : Pending) → IsFurther old new → IsEntry e old.request × ((old.issued ≡ true → leads) × (leads → old.issued ≡ true))
+    → IsEntry e new.request × ((new.issued ≡ true → leads) × (leads → new.issued ≡ true))
+further_stands leads e old new f s = (
+  subst (IsEntry e) (sym f.request) s.0,
+  ((λ issued. s.1.0 (sym f.issued ∙ issued)), (λ is. f.issued ∙ s.1.1 is)),
+)
+
+pub zip_further : (R : Accepted → Pending → Type 0) → ((e : Accepted) (old new : Pending) → IsFurther old new → R e old → R e new)
+    → (book : List Accepted) (olds news : List Pending) → AllFurther olds news → AllZip R book olds → AllZip R book news
+zip_further R on [] [] news further all = subst (AllZip R []) (sym further) tt
+zip_further R on [] (old ∷ olds) news further all = absurd all
+zip_further R on (e ∷ es) [] news further all = absurd all
+zip_further R on (e ∷ es) (old ∷ olds) [] further all = absurd further
+zip_further R on (e ∷ es) (old ∷ olds) (new ∷ news) further all = (on e old new further.0 all.0, zip_further R on es olds news further.1 all.1)
+
+-- a book goes on as its requests go further
+pub book_on : (book : List Accepted) (olds news : List Pending) → AllFurther olds news → IsBook book olds → IsBook book news
+book_on book olds news further is =
+    zip_further _ (λ e old new f s. further_stands _ e old new f s) book olds news further is
+
+none_on : (olds news : List Pending) → AllFurther olds news → olds ≡ [] → news ≡ []
+none_on olds news further is = subst (λ (es : List Pending). AllFurther es news) is further
+
+-- ---- the machine that stands for a server
+
+pub machine_with : (s : Server) (new : Device) (m later : Machine) → (is : IsMachineOf s m) → SparesBook m later
+    → Knows later (known is.uses none_parked new) → ((port : ℕ) → AreUnarmed is.uses (new.port port) port)
+    → IsMachineOf (record s { device = new }) later
+machine_with s new m later is spares knows unarmed = record {
+  uses = is.uses;
+  used = record { first = is.used.first; others = is.used.others };
+  unarmed = unarmed;
+  knows = knows;
+  book = book_on s.book m.book later.book spares.book is.book;
+  kept = none_on m.kept later.kept spares.kept is.kept;
+  rows = spares.rows ∙ is.rows;
+  owner = λ frame. ap (λ f. f frame) spares.owner ∙ is.owner frame;
+  lent = λ frame. ap (λ f. f frame) spares.lent ∙ is.lent frame;
+  next = spares.next ∙ is.next;
+}
+
+-- it goes on over steps of the device
+pub machine_on : (s : Server) (new : Device) (m : Machine) (steps : List Step) → (is : IsMachineOf s m) → AllDevices steps
+    → Knows (after m steps) (known is.uses none_parked new) → ((port : ℕ) → AreUnarmed is.uses (new.port port) port)
+    → IsMachineOf (record s { device = new }) (after m steps)
+machine_on s new m steps is own knows unarmed = machine_with s new m (after m steps) is (steps_spare m steps own) knows unarmed
+
+-- ---- what a server keeps
+
+-- a server with this device, these loans and this book
+pub kept_then : (s : Server) (device : Device) (table : Table) (book : List Accepted) (last : ℕ) → IsKept s → IsOn device → SameAdapter s.device device
+    → ((port : ℕ) → port < 4 → IsPortOf s.wanted s.ports port device) → table.owners ≡ s.table.owners → All (IsAccepted s.grants table) book → IsInOrder last book
+    → All (λ e. state_of (found_of s.ports e.port.0) ≡ ReadyState) book → (m : Machine) → IsReached m
+    → IsMachineOf (record s { device = device; table = table; book = book; last = last }) m → IsKept (record s { device = device; table = table; book = book; last = last })
+kept_then s device table book last k on same behind owners accepted ordered ready m reached is = record {
+  on = on;
+  room = subst (λ (n : ℕ). 163840 ≤ n) (sym same.size) k.room;
+  there = λ port served. let t = k.there port served in (t.0, ap (λ (pi : ℕ). bit pi port) same.pi ∙ t.1);
+  behind = behind;
+  rows = k.rows;
+  owners = λ frame client own.
+      let o = k.owners frame client (ap (λ (list : List (Option ClientId)). get_or list frame.0 None) (sym owners) ∙ own) in
+      (o.0, subst (λ (n : ℕ). 4096 * frame.0 + 4096 ≤ n) (sym same.size) o.1);
+  accepted = accepted;
+  ordered = ordered;
+  ready = ready;
+  machine = m;
+  reached = reached;
+  stands = is;
+}
+
+-- the same with another device alone
+pub kept_on : (s : Server) (new : Device) → (k : IsKept s) → IsOn new → SameAdapter s.device new
+    → ((port : ℕ) → port < 4 → IsPortOf s.wanted s.ports port new) → (steps : List Step) → AllMay k.machine steps
+    → IsMachineOf (record s { device = new }) (after k.machine steps) → IsKept (record s { device = new })
+kept_on s new k on same behind steps may is =
+    kept_then s new s.table s.book s.last k on same behind refl k.accepted k.ordered k.ready (after k.machine steps) (reached_more k.machine steps k.reached may) is
+
+-- ---- events
+
+-- the ports of a history are fit
+pub history_fit : {D E : Type 0} (Begins : Instant D → Type 0) (Agrees : Instant D → Happening D E → Type 0) (first : Instant D) (past : List (Happening D E))
+    → IsHistory Begins Agrees first past → AreFit (now first past).moment.ports
+history_fit Begins Agrees first [] h = h.0.1
+history_fit Begins Agrees first (x ∷ past) h = h.1.fit
+
+-- ports that are the same
+pub ports_same : (old new : Ports) → old ≡ new → SamePorts old new
+ports_same old new is = subst (SamePorts old) is (λ port. (refl, refl, refl, refl, refl, refl))
+
+pub disks_same : (old new : Ports) → old ≡ new → (port : Port) → SameDisk old new port
+disks_same old new is port = subst (λ (ports : Ports). SameDisk old ports port) is (refl, refl)
+
+abbrev pub is_told : Ask DeviceStep → Bool
+is_told (Told step) = true
+is_told ask = false
+
+-- evidence that names nothing names no port
+pub spares_port : (port : Port) → SparesPort no_evidence port
+spares_port port = record { gone = contains_none port; failed = contains_none port; fatal = contains_none port }
+
+-- nothing interrupts a port in it
+pub uninterrupted : (port : Port) → IsInterrupted no_evidence port → ⊥
+uninterrupted port i = ⊎_elim (contains_none port) (contains_none port) i
+
+-- a call, with what its event needs
+pub lead_by : (first : Instant Device) (past : List (Happening Device DeviceStep)) (s new : Server) (ask : Ask DeviceStep) (said : Said) (steps : List Step)
+    → new.wanted ≡ s.wanted → new.ports ≡ s.ports → (leads : Leads first past s) → ((step : DeviceStep) → ask ≡ Told step → said ≡ Stepped true → Asked step s.device new.device) → (is_refusal said ≡ true → new.device ≡ s.device)
+    → AllMay (now first past).moment.machine steps → Belong ask (ports_of new.ports) steps → IssuesLast steps
+    → AllLawful (now first past).moment no_evidence (ports_of new.ports) steps
+    → IsAnswered ask said (now first past).moment no_evidence steps (record { machine = after (now first past).moment.machine steps; ports = ports_of new.ports })
+    → CameBy new.ports ask said s.device new.device
+    → ((port : ℕ) → port < 4 → IsPortOf new.wanted new.ports port new.device)
+    → ((port : Port) → GoesWell port.0 s.device new.device → HeedsAt port ask (now first past).moment no_evidence steps (record { machine = after (now first past).moment.machine steps; ports = ports_of new.ports }))
+    → IsBacked s.device new.device (now first past).moment.machine steps
+    → IsMachineOf new (after (now first past).moment.machine steps)
+    → (h : Happening Device DeviceStep) × (h.event.ask ≡ ask) × (h.event.said ≡ said) × Leads first (h ∷ past) new
+lead_by first past s new ask said steps wanted_is ports_is leads asked still may belong last lawful answered came behind heeds backed stands = (
+  record { event = record { ask = ask; said = said; evidence = no_evidence; steps = steps; ports = ports_of new.ports }; device = new.device },
+  refl,
+  refl,
+  record {
+    history = (
+      subst (λ wanted. IsHistory (Begins wanted) (Ties wanted) first past) (sym wanted_is) leads.history,
+      record {
+        may = may;
+        belong = belong;
+        last = last;
+        lawful = lawful;
+        fit = subst AreFit ports (history_fit (Begins s.wanted) (Ties s.wanted) first past leads.history);
+        disks = λ e o h i same. disks_same old.moment.ports (ports_of new.ports) ports e.request.port;
+        answered = answered;
+      },
+      record {
+        ports = record { found = new.ports; ports_are = refl; behind = behind };
+        came = subst (λ (d : Device). CameBy new.ports ask said d new.device) (sym at.device_is) came;
+        backed = subst (λ (d : Device). IsBacked d new.device old.moment.machine steps) (sym at.device_is) backed;
+        asked = λ step e done. subst (λ (d : Device). Asked step d new.device) (sym at.device_is) (asked step e done);
+        refused = λ r. still r ∙ sym at.device_is;
+        evidence = record { faults = refl; lost = refl; stopped = refl; stuck = refl };
+        heeds = λ port well. (spares_port port, heeds port (subst (λ (d : Device). GoesWell port.0 d new.device) at.device_is well));
+        uses = stands.uses;
+        plain = stands.used.others;
+        knows = stands.knows;
+      },
+    );
+    stands = record { device_is = refl; ports_are = refl; machine = stands };
+  },
+)
+  where
+    old : Instant Device
+    old = now first past
+
+    at : Stands old s
+    at = leads.stands
+
+    ports : old.moment.ports ≡ ports_of new.ports
+    ports = at.ports_are ∙ ap ports_of (sym ports_is)
+
+-- a call that isn't one of the device
+pub lead_on : (first : Instant Device) (past : List (Happening Device DeviceStep)) (s new : Server) (ask : Ask DeviceStep) (said : Said) (steps : List Step)
+    → new.wanted ≡ s.wanted → new.ports ≡ s.ports → (leads : Leads first past s) → is_told ask ≡ false → (is_refusal said ≡ true → new.device ≡ s.device)
+    → AllMay (now first past).moment.machine steps → Belong ask (ports_of new.ports) steps → IssuesLast steps
+    → AllLawful (now first past).moment no_evidence (ports_of new.ports) steps
+    → IsAnswered ask said (now first past).moment no_evidence steps (record { machine = after (now first past).moment.machine steps; ports = ports_of new.ports })
+    → CameBy new.ports ask said s.device new.device
+    → ((port : ℕ) → port < 4 → IsPortOf new.wanted new.ports port new.device)
+    → ((port : Port) → GoesWell port.0 s.device new.device → HeedsAt port ask (now first past).moment no_evidence steps (record { machine = after (now first past).moment.machine steps; ports = ports_of new.ports }))
+    → IsBacked s.device new.device (now first past).moment.machine steps
+    → IsMachineOf new (after (now first past).moment.machine steps)
+    → (h : Happening Device DeviceStep) × (h.event.ask ≡ ask) × (h.event.said ≡ said) × Leads first (h ∷ past) new
+lead_on first past s new ask said steps wanted_is ports_is leads other =
+    lead_by first past s new ask said steps wanted_is ports_is leads (λ step e done. absurd (false≢true (sym other ∙ ap is_told e)))

@@ -1,0 +1,16 @@
+pub mod Behind
+pub mod Going
+pub mod Ports
+pub mod Devices
+pub mod Calls
+pub mod Telling
+pub mod Beginning
+pub mod Turns
+pub mod Unused
+pub mod Looking
+pub mod Issuing
+pub mod Granting
+pub mod Accepting
+pub mod Finishing
+pub mod Services
+pub mod Serving

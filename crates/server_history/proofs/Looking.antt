@@ -1,0 +1,85 @@
+-- A server goes on while a ready port is looked at, and while its transfer is looked for.
+use Rattle.std.proofs.Common.{ℕ, ◌≡◌, ◌≢◌, ◌<◌, true, inl, inr, refl, sym, ap, ◌∙◌, arith}
+use Rattle.ata_types.specs.declared.Port.{Port}
+use Rattle.ata_types.specs.declared.PortState.TheVariants.{Dead, Ready as ReadyState}
+use Rattle.hba_regs.specs.declared.reg.Reg.TheVariants.{Px}
+use Rattle.hba_regs.specs.declared.reg.PortReg.TheVariants.{Is, Ci}
+use Rattle.adapter.specs.Access.{Access}
+use Rattle.adapter.specs.Access.Access.{Reading, Writing, Loading, Storing}
+use Rattle.adapter.specs.Device.{Device}
+use Rattle.adapter.specs.declared.command.Operation.TheVariants.{Identify}
+use Rattle.agreement.specs.Agrees.{port_at}
+use Rattle.agreement.specs.Driven.{AnyUse, IsDrivenBy, IsFollowed, LeavesPort, NoneWrites, SendsNone}
+use Rattle.agreement.specs.Slots.{IsOver, Uses}
+use Rattle.agreement.proofs.Driven.{driven_as}
+use Rattle.host_boot.specs.Taken.{found_of}
+use Rattle.host_boot.specs.declared.Found.TheVariants.{Unready}
+use Rattle.request_book.specs.Entries.{first_of, has_of}
+use Rattle.request_book.proofs.Stepping.{has_first}
+use Rattle.server_history.specs.Server.{Server, IsKept, IsPortOf, none_parked, state_of}
+use Rattle.server_history.proofs.Going.{machine_on, kept_on}
+use Rattle.server_history.proofs.Ports.{not_own, port_on}
+use Rattle.server_history.proofs.Unused.{ready_found, serves_first}
+use Rattle.transfers.specs.Looks.{IsLooking}
+use Rattle.transfers.specs.Services.{IsService}
+use Rattle.transfers.specs.Transfers.{IsFinding, FindsTransfer}
+use Rattle.transfers.proofs.Apart.{finding_apart, looking_apart}
+use Rattle.transfers.proofs.Serving.{finding_ordinary, looking_service, services_on, services_same, services_unarmed}
+
+-- ---- what stands behind the ports
+
+-- Accesses that serve a ready port leave what stands behind each, where the others are left to the device, and no page comes but on
+-- dead ones.
+pub behind_served : (s : Server) (new : Device) (port : Port) → IsKept s → state_of (found_of s.ports port.0) ≡ ReadyState → IsDrivenBy IsService s.device new
+    → ((q : ℕ) → q < 4 → q ≢ port.0 → LeavesPort (s.device.port q) (new.port q)) → ((q : ℕ) → found_of s.ports q ≢ Unready Dead → SendsNone q Identify s.device new)
+    → (q : ℕ) → q < 4 → IsPortOf s.wanted s.ports q new
+behind_served s new port k ready driven left silent q low =
+    port_on s.wanted s.ports q s.device new (services_same s.device new driven) k.on driven
+    (λ unready. left q low (λ same. unready (ap (λ (n : ℕ). state_of (found_of s.ports n)) same ∙ ready))) (silent q) (k.behind q low)
+
+-- ---- the server
+
+module _ (s : Server) (new : Device) (port : Port) (k : IsKept s) (ready : state_of (found_of s.ports port.0) ≡ ReadyState) where
+  -- followed accesses that serve the port, and write no PxCI
+  kept_over : (May : Access → Type 0) → ((access : Access) → May access → IsService access) → ((q : Port) → NoneWrites May (Px q Ci))
+      → ((q : ℕ) → q < 4 → q ≢ port.0 → LeavesPort (s.device.port q) (new.port q)) → IsFollowed May AnyUse s.device new → IsKept (record s { device = new })
+  kept_over May service none left followed =
+      let uses : Uses = k.stands.uses in
+      let driven : IsDrivenBy IsService s.device new = driven_as May IsService s.device new service followed.driven in
+      let x = (followed.adds uses none_parked tt).adds k.machine k.reached k.stands.knows in
+      kept_on s new k (services_on s.device new k.on driven) (services_same s.device new driven)
+      (behind_served s new port k ready driven left
+      (λ q other. followed.silent uses none_parked k.machine tt k.reached k.stands.knows (port_at q) Identify refl (none (port_at q))
+      (not_own (found_of s.ports q) (first_of (port_at q) s.book) (uses q 0) other (k.stands.used.first q))))
+      x.0 x.1
+      (machine_on s new k.machine x.0 k.stands x.3.only x.2 (λ q. services_unarmed uses q s.device new driven (k.stands.unarmed q)))
+
+  looking_spares : (q : Port) → NoneWrites (IsLooking port) (Px q Ci)
+  looking_spares q (Writing r v) (inl e) = λ is. let x : Px port Is ≡ Px q Ci = sym e ∙ is in absurd cc
+  looking_spares q (Writing r v) (inr e) = λ is. let x : _ ≡ Px q Ci = sym e.0 ∙ is in absurd cc
+  looking_spares q (Reading r v) here = tt
+  looking_spares q (Loading at bytes) here = tt
+  looking_spares q (Storing at bytes) here = tt
+
+  finding_spares : (q : Port) → NoneWrites (IsFinding port) (Px q Ci)
+  finding_spares q (Writing r v) here = absurd here
+  finding_spares q (Reading r v) here = tt
+  finding_spares q (Loading at bytes) here = tt
+  finding_spares q (Storing at bytes) here = tt
+
+  pub looking_kept : IsFollowed (IsLooking port) AnyUse s.device new → IsKept (record s { device = new })
+  looking_kept followed =
+      kept_over (IsLooking port) (looking_service port) looking_spares (λ q low other. looking_apart port q other (omega (arith, low)) s.device new k.on followed.driven) followed
+
+  pub finding_kept : IsFollowed (IsFinding port) AnyUse s.device new → IsKept (record s { device = new })
+  finding_kept followed =
+      kept_over (IsFinding port) (λ access here. (finding_ordinary port port access here).0) finding_spares (λ q low other. finding_apart port q other s.device new k.on followed.driven) followed
+
+  -- a transfer that was found done is over
+  pub found_over : has_of port s.book ≡ true → FindsTransfer port true s.device new → IsOver (new.port port.0) 0
+  found_over has finds =
+      let found = (ready_found s port.0 k ready).1 in
+      let first = has_first port s.book has in
+      let serves = serves_first s k.machine port found.0 found.1 k.stands first.0 first.1 in
+      let x = (finds.adds k.stands.uses none_parked first.0.id serves).adds k.machine k.reached k.stands.knows in
+      (x.3.ended refl).0

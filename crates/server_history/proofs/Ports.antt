@@ -1,0 +1,99 @@
+-- What accesses leave of ports, as a server has them.
+use Rattle.std.proofs.Common.{ℕ, suc, ◌≡◌, ◌≢◌, ◌<◌, ◌⊎◌, List, [], Option, Some, None, refl, sym, ap, ◌∙◌, subst, arith, inl, inr}
+use Rattle.ata_types.specs.declared.Port.{Port}
+use Rattle.ata_types.specs.declared.PortState.{PortState}
+use Rattle.ata_types.specs.declared.PortState.TheVariants.{Absent, Ready as ReadyState, Foreign, Unfit, Dead}
+use Rattle.hba_regs.specs.declared.reg.Reg.TheVariants.{Px}
+use Rattle.hba_regs.specs.declared.reg.PortReg.TheVariants.{Sctl}
+use Rattle.adapter.specs.Access.{Access, Does}
+use Rattle.adapter.specs.Access.Access.{Reading, Writing, Loading, Storing}
+use Rattle.adapter.specs.Device.{Device}
+use Rattle.adapter.specs.Rules.{IsOn}
+use Rattle.adapter.specs.declared.command.Operation.TheVariants.{Identify}
+use Rattle.agreement.specs.Agrees.{port_at}
+use Rattle.agreement.specs.Driven.{IsDrivenBy, IsOf, LeavesPort, SendsNone}
+use Rattle.agreement.specs.Links.{SameAdapter}
+use Rattle.agreement.specs.Slots.{Free, Own, Serves, Use}
+use Rattle.agreement.proofs.Controlled.{other_left}
+use Rattle.agreement.proofs.Driven.{by_one}
+use Rattle.agreement.proofs.Linking.{access_controls}
+use Rattle.host_boot.specs.Taken.{StillStandsBehind, found_of, wanted_of}
+use Rattle.host_boot.specs.declared.Found.{Found}
+use Rattle.host_boot.specs.declared.Found.TheVariants.{Unserved, Ready, Unready}
+use Rattle.identify.specs.declared.wanted.Wanted.{Wanted}
+use Rattle.request_book.specs.Entries.{first_of}
+use Rattle.request_book.specs.declared.book.Accepted.{Accepted}
+use Rattle.transfers.specs.Services.{IsService}
+use Rattle.transfers.proofs.Serving.{services_keep, services_port, spares_port}
+use Rattle.server_history.specs.Server.{IsPortOf, IsUseOf, state_of}
+use Rattle.server_history.proofs.Behind.{left_on, ready_on}
+
+-- ---- loads and stores
+
+-- the access loads or stores bytes
+abbrev pub IsOfBytes : Access → Type 0
+IsOfBytes (Loading at bytes) = Unit {0}
+IsOfBytes (Storing at bytes) = Unit {0}
+IsOfBytes access = ⊥
+
+bytes_of : (port : Port) (access : Access) → IsOfBytes access → IsOf port access
+bytes_of port (Loading at bytes) is = tt
+bytes_of port (Storing at bytes) is = tt
+bytes_of port (Reading r v) is = absurd is
+bytes_of port (Writing r v) is = absurd is
+
+pub bytes_serve : (access : Access) → IsOfBytes access → IsService access
+bytes_serve (Loading at bytes) is = tt
+bytes_serve (Storing at bytes) is = tt
+bytes_serve (Reading r v) is = absurd is
+bytes_serve (Writing r v) is = absurd is
+
+-- they leave every port to the device
+pub bytes_leave : (access : Access) (old new : Device) → IsOfBytes access → IsOn old → Does access old new → (port : ℕ) → LeavesPort (old.port port) (new.port port)
+bytes_leave access old new is on does port =
+    other_left (port_at (suc port)) old new (by_one (IsOf (port_at (suc port))) access old new (bytes_of (port_at (suc port)) access is) does) port
+    (λ same. absurd (omega (arith, same))) on
+
+-- ---- controls
+
+-- PxSCTL isn't written
+pub services_controls : (port : ℕ) (old new : Device) → IsOn old → IsDrivenBy IsService old new
+    → ((new.port port).sctl_det ≡ (old.port port).sctl_det) × ((new.port port).notes.sctl_written_at ≡ (old.port port).notes.sctl_written_at)
+services_controls port old new on by =
+    (services_keep (λ a b. ((b.port port).sctl_det ≡ (a.port port).sctl_det) × ((b.port port).notes.sctl_written_at ≡ (a.port port).notes.sctl_written_at))
+    (λ d. (refl, refl))
+    (λ a b c x y. (y.0 ∙ x.0, y.1 ∙ x.1))
+    (λ access a b ready is does. (access_controls (port_at port) access a b ready.no_reset does).control (spares_port (port_at port) Sctl (λ e. cc) (λ e. cc) access is))
+    old new on by).0
+
+-- ---- what stands behind a port
+
+-- only the slot of a dead port has a command of the driver's own
+pub not_own : (found : Found) (first : Option Accepted) (u : Use) → found ≢ Unready Dead → IsUseOf found first u → u ≡ Own Identify → ⊥
+not_own Unserved first u other is own = let z : Free ≡ Own Identify = sym is ∙ own in absurd cc
+not_own (Ready info) None u other is own = let z : Free ≡ Own Identify = sym is ∙ own in absurd cc
+not_own (Ready info) (Some e) u other is own = let z : Serves e.id ≡ Own Identify = sym is ∙ own in absurd cc
+not_own (Unready Dead) first u other is own = absurd (other refl)
+not_own (Unready Absent) first u other is own = let z : Free ≡ Own Identify = sym is ∙ own in absurd cc
+not_own (Unready ReadyState) first u other is own = let z : Free ≡ Own Identify = sym is ∙ own in absurd cc
+not_own (Unready Foreign) first u other is own = let z : Free ≡ Own Identify = sym is ∙ own in absurd cc
+not_own (Unready (Unfit n)) first u other is own = let z : Free ≡ Own Identify = sym is ∙ own in absurd cc
+
+-- over accesses that serve ports, where the port is left to the device, unless it is ready
+pub port_on : (wanted : List Wanted) (found : List Found) (port : ℕ) (old new : Device) → SameAdapter old new → IsOn old → IsDrivenBy IsService old new
+    → (state_of (found_of found port) ≢ ReadyState → LeavesPort (old.port port) (new.port port))
+    → (found_of found port ≢ Unready Dead → SendsNone port Identify old new) → IsPortOf wanted found port old → IsPortOf wanted found port new
+port_on wanted found port old new same on by left silent is =
+    record { behind = behind (found_of found port) left silent is.behind; runs = λ ready. services_port (port_at port) old new on by (is.runs ready) }
+  where
+    behind : (f : Found) → (state_of f ≢ ReadyState → LeavesPort (old.port port) (new.port port)) → (f ≢ Unready Dead → SendsNone port Identify old new)
+        → StillStandsBehind (wanted_of wanted port) f port old → StillStandsBehind (wanted_of wanted port) f port new
+    behind Unserved left silent stays = left_on (wanted_of wanted port) Unserved port old new same (left (λ e. let z : Absent ≡ ReadyState = e in cc)) silent stays
+    behind (Ready info) left silent stays =
+        let c = services_controls port old new on by in
+        ready_on (wanted_of wanted port) info port old new same c.0 c.1 (silent (λ e. let z : Ready info ≡ Unready Dead = e in cc)) stays
+    behind (Unready ReadyState) left silent stays = absurd stays.1
+    behind (Unready Absent) left silent stays = left_on (wanted_of wanted port) (Unready Absent) port old new same (left (λ e. let z : Absent ≡ ReadyState = e in cc)) silent stays
+    behind (Unready Foreign) left silent stays = left_on (wanted_of wanted port) (Unready Foreign) port old new same (left (λ e. let z : Foreign ≡ ReadyState = e in cc)) silent stays
+    behind (Unready (Unfit n)) left silent stays = left_on (wanted_of wanted port) (Unready (Unfit n)) port old new same (left (λ e. let z : Unfit n ≡ ReadyState = e in cc)) silent stays
+    behind (Unready Dead) left silent stays = left_on (wanted_of wanted port) (Unready Dead) port old new same (left (λ e. let z : Dead ≡ ReadyState = e in cc)) silent stays

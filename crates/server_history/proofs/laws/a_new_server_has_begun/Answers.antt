@@ -1,0 +1,5 @@
+use Rattle.server_history.proofs.Beginning.{new_server}
+use Rattle.server_history.proofs.laws.a_new_server_has_begun.Goals as goal
+
+pub returns : goal.returns
+returns c = new_server

@@ -1,0 +1,5 @@
+use Rattle.server_history.proofs.Accepting.{acceptance}
+use Rattle.server_history.proofs.laws.acceptances_add.Goals as goal
+
+pub returns : goal.returns
+returns c = acceptance

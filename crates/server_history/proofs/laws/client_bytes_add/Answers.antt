@@ -1,0 +1,13 @@
+use Rattle.std.proofs.Common.{ℕ, subst}
+use Rattle.block_machine.specs.Events.{LoadAt}
+use Rattle.block_machine.specs.Refusals.{IsOpen}
+use Rattle.dma_frames.specs.Table.{owner_of, lent_to}
+use Rattle.server_history.proofs.Calls.{load_both, store_adds, store_kept}
+use Rattle.server_history.proofs.laws.client_bytes_add.Goals as goal
+
+pub returns-clause-store : goal.returns-clause-store
+returns-clause-store c s new client frame offset bytes kept opens stores =
+    (store_kept s new client frame offset bytes kept opens stores, store_adds s new client frame offset bytes kept opens stores)
+
+pub returns-clause-load : goal.returns-clause-load
+returns-clause-load c = load_both

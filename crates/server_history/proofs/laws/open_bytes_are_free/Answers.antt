@@ -1,0 +1,5 @@
+use Rattle.server_history.proofs.Calls.{open_free}
+use Rattle.server_history.proofs.laws.open_bytes_are_free.Goals as goal
+
+pub returns : goal.returns
+returns c = open_free

@@ -1,0 +1,5 @@
+use Rattle.server_history.proofs.Services.{services_add}
+use Rattle.server_history.proofs.laws.services_add.Goals as goal
+
+pub returns : goal.returns
+returns c = services_add

@@ -1,0 +1,167 @@
+-- Histories of a server of several ports: what ties its device to the block machine, call by call (this project's own).
+use Rattle.std.specs.Prelude.{ℕ, Bool, true, false, ◌≡◌, ◌≢◌, ◌⊎◌, ◌+◌, ◌<◌, ◌++◌, List, [], ◌∷◌, Option, Some, None, Result, Ok, Err, Contains}
+use Rattle.ata_types.specs.declared.Port.{Port}
+use Rattle.ata_types.specs.declared.PortState.TheVariants.{Ready as ReadyState}
+use Rattle.ata_types.specs.declared.refusal.MemFault.{MemFault}
+use Rattle.ata_types.specs.declared.request.Reply.{Reply}
+use Rattle.adapter.specs.Asked.{Asked}
+use Rattle.adapter.specs.Device.{Device}
+use Rattle.adapter.specs.Steps.{Steps}
+use Rattle.adapter.specs.declared.access.DeviceStep.{DeviceStep}
+use Rattle.agreement.specs.Agrees.{port_at}
+use Rattle.agreement.specs.Driven.{known, IsDrivenBy}
+use Rattle.agreement.specs.Driver.{Knows, IsBacked}
+use Rattle.agreement.specs.Facts.{RunsWell, Undisturbed}
+use Rattle.agreement.specs.Slots.{Free, Uses}
+use Rattle.block_machine.specs.Events.{Ask, Submit, StoreAt, LoadAt, Service, Tick, Reset, State, Device as Told, Said, Submitted, Stored, Loaded, Served, Stepped, Moment, ServesReady, moment_after}
+use Rattle.block_machine.specs.Histories.{Instant, Happening}
+use Rattle.block_machine.specs.Histories as histories
+use Rattle.block_machine.specs.Ports.{Ports, Evidence, IsInterrupted}
+use Rattle.block_machine.specs.Steps.{Step}
+use Rattle.host_boot.specs.declared.Found.{Found}
+use Rattle.host_boot.specs.declared.Found.TheVariants.{Unserved, Ready, Unready}
+use Rattle.identify.specs.declared.wanted.Wanted.{Wanted}
+use Rattle.server_history.specs.Server.{Server, ports_of, none_parked, IsMachineOf, IsPortOf}
+use Rattle.transfers.specs.Looks.{LooksAt}
+use Rattle.transfers.specs.Services.{IsService, IsOrdinary}
+use Rattle.transfers.specs.declared.Look.{Look}
+use Rattle.transfers.specs.declared.Look.TheVariants.{Undisturbed as Calm}
+
+-- ---- where a server stands
+
+-- An instant of a history is where the server stands: the device is its own, the ports are what it says, and the machine stands for it.
+pub record Stands (now : Instant Device) (s : Server) : Type 0 where
+  pub device_is : now.device ≡ s.device
+  pub ports_are : now.moment.ports ≡ ports_of s.ports
+  pub machine : IsMachineOf s now.moment.machine
+
+-- ---- what holds at each instant
+
+-- The ports are to clients what they were found to be, and so they are still, whatever the device did since.
+pub record AreShown (wanted : List Wanted) (ports : Ports) (d : Device) : Type 0 where
+  pub found : List Found
+  pub ports_are : ports ≡ ports_of found
+  pub behind : (port : ℕ) → port < 4 → IsPortOf wanted found port d
+
+-- What a new server leaves: the machine agrees with a driver that uses no slot but slot 0 of a port, and each port is as it shows.
+pub record Begins (wanted : List Wanted) (first : Instant Device) : Type 0 where
+  pub ports : AreShown wanted first.moment.ports first.device
+  pub uses : Uses
+  pub plain : (port slot : ℕ) → slot ≢ 0 → uses port slot ≡ Free
+  pub knows : Knows first.moment.machine (known uses none_parked first.device)
+
+-- ---- evidence
+
+-- Nothing is given that an answer may rest on. (The other lists, of ports that failed or whose link told of a change, ask something
+-- of a service. They name no port that goes well, and are else left open.)
+pub record RestsOnNone (evidence : Evidence) : Type 0 where
+  pub faults : evidence.faults ≡ []
+  pub lost : evidence.lost ≡ []
+  pub stopped : evidence.stopped ≡ []
+  pub stuck : evidence.stuck ≡ []
+
+-- The port isn't named as one whose link had told of a change, or that failed.
+pub record SparesPort (evidence : Evidence) (port : Port) : Type 0 where
+  pub gone : Contains evidence.gone port → ⊥
+  pub failed : Contains evidence.failed port → ⊥
+  pub fatal : Contains evidence.fatal port → ⊥
+
+-- no item in any list
+abbrev pub no_evidence : Evidence
+no_evidence = record { faults = []; lost = []; gone = []; failed = []; fatal = []; stopped = []; stuck = [] }
+
+-- ---- what is said
+
+-- what a store of a client's bytes says
+abbrev pub store_said : Result (Unit {0}) MemFault → Said
+store_said (Ok done) = Stored None
+store_said (Err fault) = Stored (Some fault)
+
+-- what a load of a client's bytes says
+abbrev pub load_said : Result (Unit {0}) MemFault → List ℕ → Said
+load_said (Ok done) bytes = Loaded (Ok bytes)
+load_said (Err fault) bytes = Loaded (Err fault)
+
+-- the call refuses what it was asked
+abbrev pub is_refusal : Said → Bool
+is_refusal (Submitted (Err refusal)) = true
+is_refusal (Stored (Some fault)) = true
+is_refusal (Loaded (Err fault)) = true
+is_refusal (Stepped false) = true
+is_refusal said = false
+
+-- ---- how a call came from the one device to the other
+
+-- as a list
+abbrev pub reply_list : Option Reply → List Reply
+reply_list None = []
+reply_list (Some reply) = reply ∷ []
+
+-- The port was looked at; where that told of something, nobody was answered and nothing else done; else ordinary accesses followed.
+pub record ComesThrough (port : Port) (reply : Option Reply) (old new : Device) : Type 0 where
+  pub look : Look
+  pub seen : Device
+  pub looks : LooksAt port look old seen
+  pub later : IsDrivenBy (IsOrdinary port) seen new
+  pub only : look ≢ Calm → (reply ≡ None) × (new ≡ seen)
+
+-- so it was with each of these ports that was found ready, one after another, of which the first has this number
+abbrev pub ComeThrough : ℕ → List Found → List Reply → Device → Device → Type 0
+ComeThrough port [] replies old new = (replies ≡ []) × (new ≡ old)
+ComeThrough port (Ready info ∷ rest) replies old new =
+    (mid : Device) × (reply : Option Reply) × (later : List Reply) × (replies ≡ reply_list reply ++ later)
+    × ComesThrough (port_at port) reply old mid × ComeThrough (port + 1) rest later mid new
+ComeThrough port (found ∷ rest) replies old new = ComeThrough (port + 1) rest replies old new
+
+-- A call for the device came by the device's own steps; a service through the ready ports in rising number; and another call by accesses
+-- that of registers write IS, a port's PxIS or PxCI, if any.
+abbrev pub CameBy : List Found → Ask DeviceStep → Said → Device → Device → Type 0
+CameBy found (Told step) said old new = Steps old new
+CameBy found Service (Served replies) old new = ComeThrough 0 found replies old new
+CameBy found ask said old new = IsDrivenBy IsService old new
+
+-- ---- heeding
+
+-- The port runs well when the call begins, and nothing goes wrong on it meanwhile.
+pub record GoesWell (port : ℕ) (old new : Device) : Type 0 where
+  pub well : RunsWell (old.port port)
+  pub undisturbed : Undisturbed port old new
+
+-- What a call owes a port: a service serves it, where it was ready; a tick and a reset are bound by what they answer; and another call
+-- doesn't stop it.
+abbrev pub HeedsAt : Port → Ask DeviceStep → Moment → Evidence → List Step → Moment → Type 0
+HeedsAt port Service old evidence steps new = old.ports.state port ≡ ReadyState → ServesReady old evidence steps new port
+HeedsAt port Tick old evidence steps new = Unit {0}
+HeedsAt port Reset old evidence steps new = Unit {0}
+HeedsAt port ask old evidence steps new = IsInterrupted evidence port → ⊥
+
+-- ---- the whole
+
+-- The device's part in a call: accesses, or its own steps, led there, and the tape backs the machine's steps; it did the step that
+-- it was told, and nothing where the call is refused; no answer rests on evidence; a port that goes well is heeded: so a service
+-- answers what had ended on it; and after it each port is as it shows, and the machine agrees with a driver that uses no slot but
+-- slot 0 of a port.
+pub record Ties (wanted : List Wanted) (old : Instant Device) (h : Happening Device DeviceStep) : Type 0 where
+  pub ports : AreShown wanted h.event.ports h.device
+  pub came : CameBy ports.found h.event.ask h.event.said old.device h.device
+  pub backed : IsBacked old.device h.device old.moment.machine h.event.steps
+  pub asked : (step : DeviceStep) → h.event.ask ≡ Told step → h.event.said ≡ Stepped true → Asked step old.device h.device
+  pub refused : is_refusal h.event.said ≡ true → h.device ≡ old.device
+  pub evidence : RestsOnNone h.event.evidence
+  pub heeds : (port : Port) → GoesWell port.0 old.device h.device → SparesPort h.event.evidence port
+      × HeedsAt port h.event.ask old.moment h.event.evidence h.event.steps (moment_after old.moment h.event)
+  pub uses : Uses
+  pub plain : (port slot : ℕ) → slot ≢ 0 → uses port slot ≡ Free
+  pub knows : Knows (moment_after old.moment h.event).machine (known uses none_parked h.device)
+
+-- the history leads to the server
+abbrev pub Leads : Instant Device → List (Happening Device DeviceStep) → Server → Type 0
+Leads first past s = histories.Leads (Begins s.wanted) (Ties s.wanted) Stands first past s
+
+-- to every history that leads to the old server, a call that asked this and said that adds one event, which leads to the new one
+abbrev pub Adds : Server → Server → Ask DeviceStep → Said → Type 0
+Adds old new ask said = histories.Adds (Begins new.wanted) (Ties new.wanted) Stands old new ask said
+
+-- a history without calls leads to the server
+abbrev pub HasBegun : Server → Type 0
+HasBegun s = (first : Instant Device) × Leads first [] s
