@@ -1,9 +1,8 @@
 -- A new server keeps what a server keeps, and a history without calls leads to it.
-use Rattle.std.proofs.Common.{ℕ, zero, suc, ◌≡◌, ◌≢◌, ◌+◌, ◌*◌, ◌<◌, ◌≤◌, ◌⊎◌, Bool, true, false, List, [], ◌∷◌, length, Option, Some, None, slice_index, refl, sym, ◌∙◌, ap, subst, arith, inl, inr, ⊎_elim, get_or}
+use Rattle.std.proofs.Common.{ℕ, zero, suc, ◌≡◌, ◌≢◌, ◌+◌, ◌*◌, ◌<◌, ◌≤◌, ◌⊎◌, true, false, List, [], ◌∷◌, length, Option, Some, None, slice_index, refl, sym, ◌∙◌, ap, subst, arith, inl, inr, ⊎_elim}
 use Rattle.std.specs.List.{All, AllPairs, Contains}
 use Rattle.std.proofs.lemmas.Bool.{false≢true, cases_lt}
 use Rattle.std.proofs.lemmas.List.Elements.{All-contains, All-nil}
-use Rattle.ata_types.specs.declared.Port.{Port}
 use Rattle.ata_types.specs.declared.PortState.{PortState}
 use Rattle.ata_types.specs.declared.PortState.TheVariants.{Absent, Ready as ReadyState, Foreign, Unfit, Dead}
 use Rattle.ata_types.specs.declared.grant.GrantRow.{GrantRow}
@@ -13,9 +12,8 @@ use Rattle.ata_types.specs.declared.request.RequestId.{RequestId}
 use Rattle.hba_regs.specs.Bits.{bit}
 use Rattle.adapter.specs.Device.{Device}
 use Rattle.adapter.specs.Idle.{IsIdle, TellsDisks}
-use Rattle.adapter.specs.Rules.{HasPort}
 use Rattle.adapter.specs.declared.command.Operation.TheVariants.{Identify}
-use Rattle.agreement.specs.Agrees.{AreUnarmed, SameSectors, port_at}
+use Rattle.agreement.specs.Agrees.{SameSectors, port_at}
 use Rattle.agreement.specs.Driven.{known}
 use Rattle.agreement.specs.Driver.{Knows, idle}
 use Rattle.agreement.specs.Slots.{Free, Own, Use, Uses}
@@ -28,7 +26,7 @@ use Rattle.block_machine.specs.Ports.{AreFit}
 use Rattle.block_machine.specs.State.{Disk, Machine, Pending}
 use Rattle.block_machine.specs.Rules.{DifferInName}
 use Rattle.block_machine.proofs.HistoryLemmas.{reached_more}
-use Rattle.dma_frames.specs.Table.{owner_of, lent_to}
+use Rattle.dma_frames.specs.Table.{owner_of}
 use Rattle.host_boot.specs.Taken.{IsLeft, StandsBehind, TakesOver, found_of, wanted_of}
 use Rattle.host_boot.specs.declared.Found.{Found}
 use Rattle.host_boot.specs.declared.Found.TheVariants.{Unserved, Ready, Unready}
@@ -43,7 +41,7 @@ use Rattle.request_book.specs.Entries.{IsAccepted, IsInOrder, first_of}
 use Rattle.request_book.specs.Machine.{IsBook}
 use Rattle.request_book.specs.declared.book.Accepted.{Accepted}
 use Rattle.transfers.specs.Transfers.{MayTransfer}
-use Rattle.server_history.specs.Histories.{AreShown, HasBegun}
+use Rattle.server_history.specs.Histories.{HasBegun}
 use Rattle.server_history.specs.Server.{Server, AreUsesOf, IsKept, IsMachineOf, IsNewServer, IsPortOf, IsTransferRow, IsUseOf, is_served, none_parked, ports_of, state_of}
 use Rattle.host_boot.proofs.Leaving.{boots_begin}
 

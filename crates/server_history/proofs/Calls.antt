@@ -1,5 +1,5 @@
 -- Calls that leave the book: the device's steps, refusals, and clients' bytes.
-use Rattle.std.proofs.Common.{ℕ, Bool, ◌≡◌, ◌+◌, ◌*◌, ◌<◌, ◌≤◌, true, false, List, [], ◌∷◌, Ok, Err, ◌≢◌, Option, Some, length, refl, sym, ap, ◌∙◌, subst, inr}
+use Rattle.std.proofs.Common.{ℕ, Bool, ◌≡◌, ◌+◌, ◌*◌, ◌<◌, true, false, List, [], ◌∷◌, Ok, Err, ◌≢◌, Option, Some, length, refl, sym, ap, subst, inr}
 use Rattle.std.proofs.lemmas.Bool.{false≢true}
 use Rattle.ata_types.specs.declared.Port.{Port}
 use Rattle.ata_types.specs.declared.refusal.MemFault.{MemFault}
@@ -13,7 +13,7 @@ use Rattle.adapter.specs.Access.Access.{Loading, Storing}
 use Rattle.adapter.specs.Asked.{Asked}
 use Rattle.adapter.specs.Device.{Device}
 use Rattle.adapter.specs.Memory as memory
-use Rattle.adapter.specs.Rules.{IsFree, IsOn, Stays}
+use Rattle.adapter.specs.Rules.{IsFree, Stays}
 use Rattle.adapter.specs.Steps.{Steps}
 use Rattle.adapter.specs.declared.access.DeviceStep.{DeviceStep}
 use Rattle.adapter.specs.declared.command.Operation.TheVariants.{Identify}
@@ -21,7 +21,7 @@ use Rattle.adapter.proofs.Changed.{fun_ext}
 use Rattle.adapter.proofs.Runs.{Steps-refl}
 use Rattle.agreement.specs.Agrees.{AreUnarmed, port_at}
 use Rattle.agreement.specs.Driven.{IsDrivenBy, SendsNone, known}
-use Rattle.agreement.specs.Driver.{EndsWith, Knows}
+use Rattle.agreement.specs.Driver.{EndsWith}
 use Rattle.agreement.specs.Links.{SameAdapter}
 use Rattle.agreement.specs.Spares.{SparesBook}
 use Rattle.agreement.proofs.Adding.{device_adds, nothing_backed}
@@ -50,10 +50,10 @@ use Rattle.request_book.specs.Entries.{first_of}
 use Rattle.request_book.proofs.Counts.{as_many}
 use Rattle.transfers.specs.Services.{IsService}
 use Rattle.transfers.proofs.Serving.{services_on, services_unarmed}
-use Rattle.server_history.specs.Histories.{Adds, Begins, CameBy, GoesWell, HeedsAt, Leads, Stands, Ties, load_said, no_evidence, store_said}
+use Rattle.server_history.specs.Histories.{Adds, Begins, CameBy, HeedsAt, Leads, Stands, Ties, load_said, no_evidence, store_said}
 use Rattle.server_history.specs.Server.{Server, IsKept, IsMachineOf, IsPortOf, none_parked, ports_of, situation_of}
 use Rattle.server_history.proofs.Devices.{devices_belong, devices_last, devices_lawful, devices_transfer}
-use Rattle.server_history.proofs.Going.{is_told, kept_on, lead_by, lead_on, machine_on, machine_with, ports_same, uninterrupted}
+use Rattle.server_history.proofs.Going.{kept_on, lead_by, lead_on, machine_on, machine_with, ports_same, uninterrupted}
 use Rattle.server_history.proofs.Ports.{IsOfBytes, bytes_leave, bytes_serve, not_own, port_on}
 
 -- ---- what a history leads to

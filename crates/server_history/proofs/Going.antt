@@ -1,14 +1,13 @@
 -- A server goes on over steps of the device, and calls add events to its histories.
 use Rattle.std.proofs.Common.{ℕ, ◌≡◌, ◌≤◌, ◌<◌, ◌+◌, ◌*◌, Bool, true, false, get_or, Option, None, List, [], ◌∷◌, refl, sym, ap, ◌∙◌, subst, ⊎_elim}
 use Rattle.std.proofs.lemmas.Bool.{false≢true}
-use Rattle.std.specs.List.{All, AllZip, Contains}
+use Rattle.std.specs.List.{All, AllZip}
 use Rattle.ata_types.specs.declared.Port.{Port}
 use Rattle.ata_types.specs.declared.PortState.TheVariants.{Ready as ReadyState}
 use Rattle.ata_types.specs.declared.request.ClientId.{ClientId}
-use Rattle.ata_types.specs.declared.request.Frame.{Frame}
 use Rattle.hba_regs.specs.Bits.{bit}
 use Rattle.adapter.specs.Device.{Device}
-use Rattle.adapter.specs.Rules.{IsOn, HasPort}
+use Rattle.adapter.specs.Rules.{IsOn}
 use Rattle.adapter.specs.declared.access.DeviceStep.{DeviceStep}
 use Rattle.agreement.specs.Agrees.{AreUnarmed}
 use Rattle.agreement.specs.Driven.{known}
@@ -28,7 +27,7 @@ use Rattle.block_machine.proofs.Members.{contains_none}
 use Rattle.dma_frames.specs.Table.{Table}
 use Rattle.host_boot.specs.Taken.{found_of}
 use Rattle.request_book.specs.Entries.{IsAccepted, IsInOrder}
-use Rattle.request_book.specs.Machine.{IsBook, IsBookOn, IsEntry}
+use Rattle.request_book.specs.Machine.{IsBook, IsEntry}
 use Rattle.request_book.specs.declared.book.Accepted.{Accepted}
 use Rattle.server_history.specs.Histories.{Begins, CameBy, HeedsAt, GoesWell, Leads, SparesPort, Stands, Ties, is_refusal, no_evidence}
 use Rattle.server_history.specs.Server.{Server, IsKept, IsMachineOf, IsPortOf, none_parked, ports_of, state_of}

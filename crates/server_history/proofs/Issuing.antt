@@ -1,6 +1,6 @@
 -- The first request of a ready port is issued.
-use Rattle.std.proofs.Common.{ℕ, ◌≡◌, ◌≢◌, ◌+◌, ◌==◌, ◌&&◌, ◌||◌, Bool, true, false, not, List, [], ◌∷◌, map, Option, None, Some, refl, sym, ap, ◌∙◌, subst, ⊎_elim, arith, eq-eqb, ◌*◌, ◌<◌, ◌≤◌, get_or}
-use Rattle.std.specs.List.{AllPairs, Contains, All}
+use Rattle.std.proofs.Common.{ℕ, ◌≡◌, ◌≢◌, ◌+◌, ◌==◌, ◌&&◌, ◌||◌, Bool, true, false, not, List, [], ◌∷◌, map, Option, None, Some, refl, sym, ap, ◌∙◌, subst, ⊎_elim, arith, eq-eqb, ◌<◌}
+use Rattle.std.specs.List.{AllPairs, Contains}
 use Rattle.std.proofs.lemmas.Bool.{and_from, cases_eq}
 use Rattle.ata_types.specs.declared.Port.{Port}
 use Rattle.ata_types.specs.declared.request.Frame.{Frame}
@@ -21,12 +21,12 @@ use Rattle.agreement.specs.Slots.{Free, Serves, Use, Uses, put, Own}
 use Rattle.agreement.specs.Spares.{AllFurther, SparesBook}
 use Rattle.agreement.proofs.Putting.{put_other, put_same}
 use Rattle.agreement.proofs.Sparing.{steps_spare}
-use Rattle.dma_frames.specs.Table.{owner_of, lent_to, Table}
+use Rattle.dma_frames.specs.Table.{owner_of, lent_to}
 use Rattle.host_boot.specs.Taken.{found_of}
 use Rattle.host_boot.specs.declared.Found.{Found}
 use Rattle.host_boot.specs.declared.Found.TheVariants.{Ready, Unready}
 use Rattle.identify.specs.declared.DiskInfo.{DiskInfo}
-use Rattle.request_book.specs.Entries.{first_of, has_of, is_of, IsEarlier, IsAccepted, IsInOrder}
+use Rattle.request_book.specs.Entries.{first_of, has_of, is_of, IsEarlier}
 use Rattle.request_book.specs.Machine.{IsBook, IsEntry, IsBookOn, with_port, without_port}
 use Rattle.request_book.specs.declared.book.Accepted.{Accepted}
 use Rattle.request_book.proofs.Due.{first_due}
@@ -39,12 +39,8 @@ use Rattle.server_history.proofs.Unused.{none_first}
 use Rattle.transfers.specs.Transfers.{IssuesTransfer, IsTransferOf, Transfer, IsIssuing}
 use Rattle.transfers.proofs.Serving.{issuing_agrees, issuing_ordinary}
 use Rattle.ata_types.specs.declared.PortState.TheVariants.{Dead, Ready as ReadyState}
-use Rattle.ata_types.specs.declared.request.ClientId.{ClientId}
 use Rattle.ata_types.specs.declared.request.RequestId.{RequestId}
-use Rattle.hba_regs.specs.Bits.{bit}
-use Rattle.adapter.specs.Rules.{IsOn}
 use Rattle.adapter.specs.declared.command.Operation.TheVariants.{Identify}
-use Rattle.agreement.specs.Links.{SameAdapter}
 use Rattle.agreement.proofs.Driven.{driven_as}
 use Rattle.server_history.proofs.Looking.{behind_served}
 use Rattle.transfers.specs.Services.{IsService}

@@ -1,10 +1,7 @@
 -- What accesses leave of ports, as a server has them.
-use Rattle.std.proofs.Common.{ℕ, suc, ◌≡◌, ◌≢◌, ◌<◌, ◌⊎◌, List, [], Option, Some, None, refl, sym, ap, ◌∙◌, subst, arith, inl, inr}
+use Rattle.std.proofs.Common.{ℕ, suc, ◌≡◌, ◌≢◌, List, Option, Some, None, refl, sym, ◌∙◌, arith}
 use Rattle.ata_types.specs.declared.Port.{Port}
-use Rattle.ata_types.specs.declared.PortState.{PortState}
 use Rattle.ata_types.specs.declared.PortState.TheVariants.{Absent, Ready as ReadyState, Foreign, Unfit, Dead}
-use Rattle.hba_regs.specs.declared.reg.Reg.TheVariants.{Px}
-use Rattle.hba_regs.specs.declared.reg.PortReg.TheVariants.{Sctl}
 use Rattle.adapter.specs.Access.{Access, Does}
 use Rattle.adapter.specs.Access.Access.{Reading, Writing, Loading, Storing}
 use Rattle.adapter.specs.Device.{Device}
@@ -16,15 +13,13 @@ use Rattle.agreement.specs.Links.{SameAdapter}
 use Rattle.agreement.specs.Slots.{Free, Own, Serves, Use}
 use Rattle.agreement.proofs.Controlled.{other_left}
 use Rattle.agreement.proofs.Driven.{by_one}
-use Rattle.agreement.proofs.Linking.{access_controls}
 use Rattle.host_boot.specs.Taken.{StillStandsBehind, found_of, wanted_of}
 use Rattle.host_boot.specs.declared.Found.{Found}
 use Rattle.host_boot.specs.declared.Found.TheVariants.{Unserved, Ready, Unready}
 use Rattle.identify.specs.declared.wanted.Wanted.{Wanted}
-use Rattle.request_book.specs.Entries.{first_of}
 use Rattle.request_book.specs.declared.book.Accepted.{Accepted}
 use Rattle.transfers.specs.Services.{IsService}
-use Rattle.transfers.proofs.Serving.{services_keep, services_port, spares_port}
+use Rattle.transfers.proofs.Serving.{services_controls, services_port}
 use Rattle.server_history.specs.Server.{IsPortOf, IsUseOf, state_of}
 use Rattle.server_history.proofs.Behind.{left_on, ready_on}
 
@@ -53,18 +48,6 @@ pub bytes_leave : (access : Access) (old new : Device) → IsOfBytes access → 
 bytes_leave access old new is on does port =
     other_left (port_at (suc port)) old new (by_one (IsOf (port_at (suc port))) access old new (bytes_of (port_at (suc port)) access is) does) port
     (λ same. absurd (omega (arith, same))) on
-
--- ---- controls
-
--- PxSCTL isn't written
-pub services_controls : (port : ℕ) (old new : Device) → IsOn old → IsDrivenBy IsService old new
-    → ((new.port port).sctl_det ≡ (old.port port).sctl_det) × ((new.port port).notes.sctl_written_at ≡ (old.port port).notes.sctl_written_at)
-services_controls port old new on by =
-    (services_keep (λ a b. ((b.port port).sctl_det ≡ (a.port port).sctl_det) × ((b.port port).notes.sctl_written_at ≡ (a.port port).notes.sctl_written_at))
-    (λ d. (refl, refl))
-    (λ a b c x y. (y.0 ∙ x.0, y.1 ∙ x.1))
-    (λ access a b ready is does. (access_controls (port_at port) access a b ready.no_reset does).control (spares_port (port_at port) Sctl (λ e. cc) (λ e. cc) access is))
-    old new on by).0
 
 -- ---- what stands behind a port
 

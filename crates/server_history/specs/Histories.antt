@@ -1,5 +1,5 @@
 -- Histories of a server of several ports: what ties its device to the block machine, call by call (this project's own).
-use Rattle.std.specs.Prelude.{ℕ, Bool, true, false, ◌≡◌, ◌≢◌, ◌⊎◌, ◌+◌, ◌<◌, ◌++◌, List, [], ◌∷◌, Option, Some, None, Result, Ok, Err, Contains}
+use Rattle.std.specs.Prelude.{ℕ, Bool, true, false, ◌≡◌, ◌≢◌, ◌+◌, ◌<◌, ◌++◌, List, [], ◌∷◌, Option, Some, None, Result, Ok, Err, Contains}
 use Rattle.ata_types.specs.declared.Port.{Port}
 use Rattle.ata_types.specs.declared.PortState.TheVariants.{Ready as ReadyState}
 use Rattle.ata_types.specs.declared.refusal.MemFault.{MemFault}
@@ -13,13 +13,13 @@ use Rattle.agreement.specs.Driven.{known, IsDrivenBy}
 use Rattle.agreement.specs.Driver.{Knows, IsBacked}
 use Rattle.agreement.specs.Facts.{RunsWell, Undisturbed}
 use Rattle.agreement.specs.Slots.{Free, Uses}
-use Rattle.block_machine.specs.Events.{Ask, Submit, StoreAt, LoadAt, Service, Tick, Reset, State, Device as Told, Said, Submitted, Stored, Loaded, Served, Stepped, Moment, ServesReady, moment_after}
+use Rattle.block_machine.specs.Events.{Ask, Service, Tick, Reset, Device as Told, Said, Submitted, Stored, Loaded, Served, Stepped, Moment, ServesReady, moment_after}
 use Rattle.block_machine.specs.Histories.{Instant, Happening}
 use Rattle.block_machine.specs.Histories as histories
 use Rattle.block_machine.specs.Ports.{Ports, Evidence, IsInterrupted}
 use Rattle.block_machine.specs.Steps.{Step}
 use Rattle.host_boot.specs.declared.Found.{Found}
-use Rattle.host_boot.specs.declared.Found.TheVariants.{Unserved, Ready, Unready}
+use Rattle.host_boot.specs.declared.Found.TheVariants.{Ready}
 use Rattle.identify.specs.declared.wanted.Wanted.{Wanted}
 use Rattle.server_history.specs.Server.{Server, ports_of, none_parked, IsMachineOf, IsPortOf}
 use Rattle.transfers.specs.Looks.{LooksAt}

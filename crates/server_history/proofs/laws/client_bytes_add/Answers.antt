@@ -1,7 +1,3 @@
-use Rattle.std.proofs.Common.{ℕ, subst}
-use Rattle.block_machine.specs.Events.{LoadAt}
-use Rattle.block_machine.specs.Refusals.{IsOpen}
-use Rattle.dma_frames.specs.Table.{owner_of, lent_to}
 use Rattle.server_history.proofs.Calls.{load_both, store_adds, store_kept}
 use Rattle.server_history.proofs.laws.client_bytes_add.Goals as goal
 
