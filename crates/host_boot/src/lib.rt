@@ -118,6 +118,7 @@ pub fn take_over<A: Adapter>(adapter: &mut A, wanted: &[Wanted; PORTS]) -> Host
     requires idle { IsIdle (A.device adapter.old) }
     requires room { 163840 ≤ (A.device adapter.old).size }
     ensures taken { TakesOver wanted.now result (A.device adapter.old) (A.device adapter.new) }
+    ensures four { length result.ports ≡ 4 }
 {
     power_on(adapter);
     let (capabilities, implemented) = survey(adapter);

@@ -81,4 +81,5 @@ returns g c =
           c.enable_interrupts.ensures.on c.enable_interrupts.ensures.tells
           (way_over c.loop-number.ports (g.A.Adapter.device c.args.adapter.now) d new c.loop-number.invariant.underway.long
           (subst (λ (n : ℕ). IsOnWay c.loop-number.ports n (g.A.Adapter.device c.args.adapter.now) d) four c.loop-number.invariant.way) c.enable_interrupts.ensures.enables);
+      four = c.loop-number.invariant.underway.long;
     }
