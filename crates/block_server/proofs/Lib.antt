@@ -1,21 +1,9 @@
-mod Accepting
-mod Answering
-mod Booking
-mod Covering
-mod Beginning
-mod Making
-mod Loading
-mod Serviced
-mod Refusing
-mod Ruling
-mod Running
-mod Heeding
-mod Shown
-mod Histories
-mod Leading
-mod Witness
-mod Submitting
-mod Servicing
-mod Answered
-mod Holding
-mod Storing
+pub mod Stepping
+pub mod Ruling
+pub mod Refusing
+pub mod Running
+pub mod Finishing
+pub mod Serving
+pub mod Turns
+pub mod Making
+pub mod Accepting

@@ -22,9 +22,8 @@ use Rattle.adapter.proofs.Absurd.{true-false}
 use Rattle.block_machine.specs.Refusals.{Situation, Applies, IsAcceptable, IsFirstRefusal, IsRefusalBefore, refusal_number, refusal_place}
 use Rattle.block_machine.specs.Rules.{IsCount, frames_for, IsNamed, HasNoFault, Breaks, BreaksNone, IsFirstBroken, number, place, Precedes}
 use Rattle.dma_frames.specs.Table.{Table, owner_of, lent_to}
-use Rattle.port_driver.specs.Port.{IsTransfer}
-use Rattle.setup.specs.Setup.{IsTransferGrant}
-use Rattle.block_server.specs.Book.{OwnsClientFrames}
+use Rattle.transfers.specs.Transfers.{IsTransfer}
+use Rattle.server_history.specs.Server.{IsTransferRow, OwnsClientFrames}
 
 -- ---- the first refusal
 
@@ -116,10 +115,10 @@ module _ (s : Situation) (r : Request) where
 is_true_false : {b : Bool} {A : Type 0} → IsTrue b → b ≡ false → A
 is_true_false h e = true-false h e
 
-module _ (rows : List GrantRow) (table : Table) (r : Request) (reads : All IsTransferGrant rows)
+module _ (rows : List GrantRow) (table : Table) (r : Request) (reads : All IsTransferRow rows)
     (none : BreaksNone rows (owner_of table) (lent_to table) r) where
-  pub grant_of : (row : GrantRow) → IsNamed rows r row → IsTransferGrant row
-  grant_of row named = let c = named.0 in let P : GrantRow → Type 0 = λ x. IsTransferGrant x in subst P c.2 (reads c.0 row c.1)
+  pub grant_of : (row : GrantRow) → IsNamed rows r row → IsTransferRow row
+  grant_of row named = let c = named.0 in let P : GrantRow → Type 0 = λ x. IsTransferRow x in subst P c.2 (reads c.0 row c.1)
 
   -- what can be told apart holds if it holds of each row that is named
   by_rows : {A : Type 0} → ((row : GrantRow) → IsNamed rows r row → ⊥) → A
@@ -132,13 +131,13 @@ module _ (rows : List GrantRow) (table : Table) (r : Request) (reads : All IsTra
     row,
     named,
     λ allowed.
-        let P : Op → Type 0 = λ op. Allows row.rights op in is_true_false (subst P e allowed) (grant_of row named).no_trim,
+        let P : Op → Type 0 = λ op. Allows row.rights op in is_true_false (subst P e allowed) (grant_of row named).trim,
   ))
   asks_transfer Flush e = by_rows (λ row named. none NoRight (
     row,
     named,
     λ allowed.
-        let P : Op → Type 0 = λ op. Allows row.rights op in is_true_false (subst P e allowed) (grant_of row named).no_flush,
+        let P : Op → Type 0 = λ op. Allows row.rights op in is_true_false (subst P e allowed) (grant_of row named).flush,
   ))
 
   pub transfers : IsTransfer r.op
@@ -151,14 +150,14 @@ module _ (rows : List GrantRow) (table : Table) (r : Request) (reads : All IsTra
   pub client_from : 1 ≤ r.client.0
   client_from =
       elim (cases_lt r.client.0 1) [
-        | inl low ↦ by_rows (λ row named. let g = grant_of row named in let e = ap (λ (c : ClientId). c.0) named.1.0 in omega (arith, low, e, g.client_from))
+        | inl low ↦ by_rows (λ row named. let g = grant_of row named in let e = ap (λ (c : ClientId). c.0) named.1.0 in omega (arith, low, e, g.row_is.client.0))
         | inr high ↦ high
       ]
 
   pub client_to : r.client.0 ≤ 8
   client_to =
       elim (cases_lt 8 r.client.0) [
-        | inl high ↦ by_rows (λ row named. let g = grant_of row named in let e = ap (λ (c : ClientId). c.0) named.1.0 in omega (arith, high, e, g.client_to))
+        | inl high ↦ by_rows (λ row named. let g = grant_of row named in let e = ap (λ (c : ClientId). c.0) named.1.0 in omega (arith, high, e, g.row_is.client.1))
         | inr low ↦ low
       ]
 
@@ -183,7 +182,7 @@ module _ (rows : List GrantRow) (table : Table) (r : Request) (reads : All IsTra
         | inl low ↦ low
         | inr high ↦ by_rows (λ row named. none OutsideGrant (
           not_flush,
-          (row, named, λ covers. let g = grant_of row named in let c = some in omega (arith, high, covers.1, g.sectors, c)),
+          (row, named, λ covers. let g = grant_of row named in let c = some in omega (arith, high, covers.1, g.row_is.below, c)),
         ))
       ]
 

@@ -7,19 +7,13 @@ use Rattle.adapter.specs.Device.{Device}
 use Rattle.adapter.specs.declared.access.DeviceStep.{DeviceStep}
 use Rattle.block_machine.specs.Events.{Ask, State, Shown}
 use Rattle.block_machine.specs.Events as machine_events
-use Rattle.block_machine.specs.Ports.{Ports}
-use Rattle.block_machine.specs.Histories.{Adds}
-use Rattle.block_server.specs.Calls.{state_of}
-use Rattle.port_driver.specs.Followed.{IsOrdinary}
-use Rattle.block_server.specs.History.{Begins, Ties, Stands, AddsAll, ask_of, said_of, ports_of}
-use Rattle.block_server.specs.Running.{Answered, Ran}
-use Rattle.block_server.specs.View.{ServerView}
+use Rattle.block_server.specs.Running.{AddsAll, Answered, Ran, ask_of, said_of}
+use Rattle.block_server.specs.View.{ServerView, server_of}
+use Rattle.server_history.specs.Histories.{Adds}
+use Rattle.server_history.specs.Server.{IsKept, ports_of}
+use Rattle.server_history.proofs.Calls.{state_adds}
 use Rattle.block_server.specs.declared.types.Event.{Event}
 use Rattle.block_server.specs.declared.types.Said.{Said}
-use Rattle.agreement.proofs.Driven.{by_none}
-use Rattle.block_server.proofs.Heeding.{spared}
-use Rattle.block_server.proofs.Histories.{ports_same}
-use Rattle.block_server.proofs.Leading.{nothing_adds}
 
 module _ {A : Type 0} (device : A → Device) where
   pub ran_none : (s : ServerView A) → Ran device s s [] []
@@ -55,8 +49,6 @@ module _ {A : Type 0} (device : A → Device) where
       last_first f xs x = ap reverse (map-append f xs (x ∷ [])) ∙ reverse-append (map f xs) (f x ∷ [])
 
   -- a look at a port's state
-  pub shown_adds : (s : ServerView A) (port : Port) (state : PortState) → state ≡ state_of s port → Adds Begins Ties (Stands device) s s (State port) (Shown state)
-  shown_adds s port state is =
-      nothing_adds device s (State port) (Shown state) refl (by_none IsOrdinary (device s.adapter))
-      (λ old at. (is ∙ ap (λ (ports : Ports). ports.state port) (sym at.ports_are), refl, ports_same old.moment.ports (ports_of s) at.ports_are))
-      (λ old. spared)
+  pub shown_adds : (s : ServerView A) (port : Port) (state : PortState) → IsKept (server_of device s) → state ≡ (ports_of s.ports).state port → Adds (server_of device s) (server_of device s) (State port) (Shown state)
+  shown_adds s port state k is =
+      subst (λ (x : PortState). Adds (server_of device s) (server_of device s) (State port) (Shown x)) (sym is) (state_adds (server_of device s) port k)

@@ -1,5 +1,5 @@
 -- What a list of events does, one call after another.
-use Rattle.std.specs.Prelude.{ℕ, ◌≡◌, ◌+◌, ◌*◌, min, List, [], ◌∷◌, ◌++◌, length, Ok, Err}
+use Rattle.std.specs.Prelude.{ℕ, ◌≡◌, ◌+◌, ◌*◌, min, map, reverse, List, [], ◌∷◌, ◌++◌, length, Ok, Err}
 use Rattle.ata_types.specs.declared.refusal.MemFault.{MemFault}
 use Rattle.ata_types.specs.declared.request.ClientId.{ClientId}
 use Rattle.ata_types.specs.declared.request.Frame.{Frame}
@@ -7,11 +7,14 @@ use Rattle.adapter.specs.Access.{Loads}
 use Rattle.adapter.specs.Device.{Device}
 use Rattle.block_machine.specs.Refusals.{IsOpen, IsFirstMemFault}
 use Rattle.dma_frames.specs.Table.{owner_of, lent_to}
-use Rattle.port_driver.specs.Port.{Proceeds}
-use Rattle.block_server.specs.Calls.{state_of, served_by, SameServer, Submits, Services, StoresFrame, StepsDevice}
-use Rattle.block_machine.specs.Histories.{Adds}
-use Rattle.block_server.specs.History.{Begins, Ties, Stands, AddsAll, ask_of, said_of}
-use Rattle.block_server.specs.View.{ServerView}
+use Rattle.block_server.specs.Calls.{SameServer, Submits, Services, StoresFrame, StepsDevice}
+use Rattle.block_machine.specs.Events.{Ask, Submit as AskSubmit, StoreAt, LoadAt, Service as AskService, State as AskState, Device as Told, Submitted, Loaded, Served, Shown, Stepped}
+use Rattle.block_machine.specs.Events as machine
+use Rattle.block_machine.specs.Histories.{Happening, Instant}
+use Rattle.adapter.specs.declared.access.DeviceStep.{DeviceStep}
+use Rattle.server_history.specs.Histories.{Adds, Leads, store_said}
+use Rattle.server_history.specs.Server.{ports_of}
+use Rattle.block_server.specs.View.{ServerView, server_of}
 use Rattle.block_server.specs.declared.types.Event.{Event}
 use Rattle.block_server.specs.declared.types.Event.TheVariants.{Submit, ClientStore, ClientLoad, Service, State, Device as Step}
 use Rattle.block_server.specs.declared.types.Said.{Said}
@@ -22,7 +25,7 @@ abbrev pub TellsBytes : {A : Type 0} → (A → Device) → ServerView A → Ser
 TellsBytes device old new client frame offset n bytes = (length bytes ≡ n)
     × IsOpen (owner_of old.table) (lent_to old.table) client frame offset n
     × Loads (4096 * frame.0 + offset) bytes (device old.adapter) (device new.adapter)
-    × SameServer old new × Proceeds (served_by old) (device old.adapter) (device new.adapter)
+    × SameServer old new
 
 -- the first cause against the access is told, and nothing changes
 abbrev pub RefusesBytes : {A : Type 0} → ServerView A → ServerView A → ClientId → Frame → ℕ → ℕ → MemFault → Type 0
@@ -35,14 +38,44 @@ Answers device (ClientStore client frame offset bytes) (said.Stored result) old 
 Answers device (ClientLoad client frame offset n) (said.Loaded (Ok bytes)) old new = TellsBytes device old new client frame offset (min n 64) bytes.items
 Answers device (ClientLoad client frame offset n) (said.Loaded (Err fault)) old new = RefusesBytes old new client frame offset (min n 64) fault
 Answers device Service (said.Served replies) old new = Services device old new replies.items
-Answers device (State port) (said.State state) old new = (state ≡ state_of old port) × (new ≡ old)
+Answers device (State port) (said.State state) old new = (state ≡ (ports_of old.ports).state port) × (new ≡ old)
 Answers device (Step step) (said.Stepped done) old new = StepsDevice device old new step done
 Answers device _ _ old new = ⊥
+
+-- ---- what calls add
+
+-- the call of a list, as the machine is asked; a load is of at most 64 bytes
+abbrev pub ask_of : Event → Ask DeviceStep
+ask_of (Submit r) = AskSubmit r
+ask_of (ClientStore client frame offset bytes) = StoreAt client frame offset bytes.items
+ask_of (ClientLoad client frame offset count) = LoadAt client frame offset (min count 64)
+ask_of Service = AskService
+ask_of (State port) = AskState port
+ask_of (Step step) = Told step
+
+-- what it said
+abbrev pub said_of : Said → machine.Said
+said_of (said.Submitted result) = Submitted result
+said_of (said.Stored result) = store_said result
+said_of (said.Loaded (Ok bytes)) = Loaded (Ok bytes.items)
+said_of (said.Loaded (Err fault)) = Loaded (Err fault)
+said_of (said.Served replies) = Served replies.items
+said_of (said.State state) = Shown state
+said_of (said.Stepped done) = Stepped done
+
+-- To each history that leads to the old server these calls add their events, one each, in their order (the newest first), and the
+-- longer history leads to the new server.
+pub record AddsAll {A : Type 0} (device : A → Device) (old new : ServerView A) (events : List Event) (told : List Said) : Type 0 where
+  pub adds : (first : Instant Device) (past : List (Happening Device DeviceStep)) → Leads first past (server_of device old)
+      → (more : List (Happening Device DeviceStep)) × Leads first (more ++ past) (server_of device new)
+      × (map (λ h. h.event.ask) more ≡ reverse (map ask_of events)) × (map (λ h. h.event.said) more ≡ reverse (map said_of told))
+
+-- ---- a list
 
 -- so the call was made, and adds its event to each history of the server
 pub record Answered {A : Type 0} (device : A → Device) (event : Event) (one : Said) (old new : ServerView A) : Type 0 where
   pub answers : Answers device event one old new
-  pub adds : Adds Begins Ties (Stands device) old new (ask_of event) (said_of one)
+  pub adds : Adds (server_of device old) (server_of device new) (ask_of event) (said_of one)
 
 -- the events lead from the one server to the other, and say this in turn
 abbrev pub Ran : {A : Type 0} → (A → Device) → ServerView A → ServerView A → List Event → List Said → Type 0

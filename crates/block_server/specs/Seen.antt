@@ -1,6 +1,5 @@
 -- What contracts see of a server's fields.
 use Rattle.block_server.specs.declared.server.Server.TheInside.{Inside}
-use Rattle.std.specs.Vec.{vec_capacity}
 use Rattle.block_server.specs.View.{ServerView}
 
 abbrev pub seen : {A : Type 0} → Inside A → ServerView A
@@ -8,10 +7,9 @@ seen s = record {
   adapter = s.adapter;
   grants = s.grants;
   table = s.table;
-  state = s.state;
-  sectors = s.sectors;
-  book = s.book.items;
-  issued = s.issued;
+  wanted = s.wanted;
+  ports = s.ports;
+  book = s.book.entries;
   last = s.last;
-  room = vec_capacity s.book;
+  room = s.book.room;
 }

@@ -1,13 +1,9 @@
-//! The server: it holds clients' grants and frames, and drives the disk for them.
+//! The server: it holds clients' grants and frames, and drives the disks for them.
 #![tactic(auto)]
 
-mod book;
-pub mod laws;
-mod lookup;
 mod run;
 mod server;
 mod types;
 
 pub use server::Server;
-pub use setup::{GrantFault, RunFault, Setup, SetupError};
-pub use types::{Accepted, Event, RunStopped, Said, ServerError};
+pub use types::{Event, RunStopped, Said, ServerError};

@@ -12,9 +12,9 @@ const FEW: usize = 64;
 
 impl<A: Adapter> Server<A> {
     ghost use Rattle.block_machine.specs.Events.{LoadAt};
-    ghost use Rattle.block_machine.specs.Histories.{Adds};
-    ghost use Rattle.block_server.specs.History.{Begins, Ties, Stands, said_of};
-    ghost use Rattle.block_server.specs.Running.{TellsBytes, RefusesBytes};
+    ghost use Rattle.block_server.specs.Running.{TellsBytes, RefusesBytes, said_of};
+    ghost use Rattle.block_server.specs.View.{server_of};
+    ghost use Rattle.server_history.specs.Histories.{Adds};
 
     /// At most 64 bytes of a frame.
     fn load_few(
@@ -26,7 +26,7 @@ impl<A: Adapter> Server<A> {
     ) -> Result<ArrayVec<u8, 64>, MemFault>
         ensures ok { IfOk result (λ bytes. TellsBytes A.device self.old self.new client frame offset (min count 64) bytes.items) }
         ensures err { IfErr result (RefusesBytes self.old self.new client frame offset (min count 64)) }
-        ensures adds { Adds Begins Ties (Stands A.device) self.old self.new (LoadAt client frame offset (min count 64)) (said_of (Said.Loaded result)) }
+        ensures adds { Adds (server_of A.device self.old) (server_of A.device self.new) (LoadAt client frame offset (min count 64)) (said_of (Said.Loaded result)) }
     {
         let mut buffer = [0; FEW];
         let part = &mut buffer[..(count as usize).min(FEW)];

@@ -1,99 +1,127 @@
 // The server.
-ghost use Rattle.std.specs.Prelude.{◌≡◌, ◌≢◌, ◌<◌, ◌+◌, ◌↔◌, ◌*◌, IsTrue, IfOk, IfErr, MatchOption, Ok, length};
+ghost use Rattle.block_server.specs.Made.{transfer_row};
+ghost use Rattle.std.specs.Prelude.{◌≡◌, ◌≢◌, ◌<◌, ◌≤◌, ◌+◌, ◌↔◌, ◌*◌, IsTrue, IfOk, IfErr, MatchOption, None, Ok, Some, length, map, option_map, true};
 
-use crate::book::{give_all_back, issue_first};
-use crate::lookup::{owns, unanswered};
-use crate::{Accepted, ServerError};
+use crate::ServerError;
 use adapter::{Adapter, DeviceStep, Stepped};
+use arrayvec::ArrayVec;
 use ata_types::{
-    ClientId, Frame, GrantRow, MemFault, Op, Outcome, Port, PortState, Range, Refusal, Replies,
-    Reply, Request, RequestId, Rule, Sector,
+    ClientId, Frame, GrantRow, MemFault, Op, Outcome, Port, PortState, Refusal, Replies, Reply,
+    Request, RequestId, Rights,
 };
-use dma_frames::{FrameTable, Loan};
+use configuration::Config;
+use dma_frames::FrameTable;
 use grants::{Grants, decide};
-use port_driver::{bring_up, is_done, issue, look, power_on};
-use setup::Setup;
+use host_boot::{Found, PORTS, take_over};
+use identify::Wanted;
+use plan::Plan;
+use request_book::{Accepted, Book};
 use std::alloc::Global;
 use std::marker::Model;
-
-/// Unanswered requests at most: 16 of each of 8 clients.
-const PLACES: usize = 128;
+use transfers::{Look, is_done, issue, look_at};
 
 /// Unanswered requests of one client at most.
 const CLIENT_PLACES: usize = 16;
 
+const MOST_GRANTS: usize = 64;
+
 const FRAME_BYTES: u32 = 4096;
 
-/// A server of reads and writes on one port of an adapter. It can't be dropped: `close` ends it.
+/// A server of reads and writes on up to four ports of an adapter. It can't be dropped: `close` ends it.
 pub struct Server<A: Adapter> {
     adapter: A,
     grants: Grants,
     table: FrameTable,
-    state: PortState,
-    sectors: u64,
-    book: Vec<Accepted>,
-    issued: bool,
+    wanted: [Wanted; PORTS],
+    ports: [Found; PORTS],
+    book: Book,
     last: u64,
 }
 
 impl<A: Adapter> Model for Server<A> {
-    ghost use Rattle.std.specs.Vec.{vec_capacity};
-    ghost use Rattle.block_server.specs.View.{ServerView};
-    ghost use Rattle.block_server.specs.Book.{IsKept};
+    ghost use Rattle.block_server.specs.Seen.{seen};
+    ghost use Rattle.block_server.specs.View.{ServerView, server_of};
+    ghost use Rattle.server_history.specs.Server.{IsKept};
 
     ghost Value = { ServerView A };
 
-    ghost use Rattle.block_server.specs.Seen.{seen};
-
     ghost view = { seen };
 
-    ghost invariant = { λ s. IsKept A.device (seen s) (vec_capacity s.book) };
+    ghost invariant = { λ s. IsKept (server_of A.device (seen s)) };
+}
+
+/// Whether sectors of a request leave a disk of so many. A flush has none.
+fn leaves_disk(r: &Request, sectors: u64) -> bool
+    ensures { IsTrue result ↔ ((r.now.op ≢ Op.Flush) × (sectors < r.now.first.0 + r.now.count)) }
+{
+    let end = r.first.0 as u128 + r.count as u128;
+    r.op != Op::Flush && end > sectors as u128
+}
+
+/// The rows without the rights to trim and to flush: the server does neither yet.
+fn transfer_rows(rows: &[GrantRow]) -> ArrayVec<GrantRow, MOST_GRANTS>
+    requires few { length rows.now ≤ 64 }
+    ensures { result.items ≡ map transfer_row rows.now }
+{
+    let mut kept = ArrayVec::new();
+    for row in rows {
+        let rights = Rights {
+            trim: false,
+            flush: false,
+            ..row.rights
+        };
+        kept.push(GrantRow { rights, ..*row });
+    }
+    kept
 }
 
 impl<A: Adapter> Server<A> {
-    ghost use Rattle.block_machine.specs.Events.{Service, Served};
-    ghost use Rattle.block_machine.specs.Histories.{Adds};
+    ghost use Rattle.block_machine.specs.Events.{Service, Served, Submit, Submitted, StoreAt, LoadAt, State, Shown};
     ghost use Rattle.block_machine.specs.Refusals.{IsAcceptable, IsFirstRefusal, IsOpen, IsFirstMemFault};
+    ghost use Rattle.block_server.specs.Calls.{AcceptsRequest, IsFor, Submits, Services, StoresFrame, LoadsFrame};
+    ghost use Rattle.block_server.specs.Made.{IsReadyFor, IsNew, Refuses};
+    ghost use Rattle.block_server.specs.View.{server_of};
     ghost use Rattle.dma_frames.specs.Table.{owner_of, lent_to};
-    ghost use Rattle.block_server.specs.Calls.{IsReadyFor, IsNew, state_of, situation_of, Accepts, Submits, AnswersFirst, Services, StoresFrame, LoadsFrame, SameServer};
-    ghost use Rattle.block_machine.specs.Events.{Submit, Submitted, StoreAt, LoadAt};
-    ghost use Rattle.block_machine.specs.Histories.{Adds};
-    ghost use Rattle.block_server.specs.History.{Begins, Ties, Stands, HasBegun, store_said, load_said};
-    ghost use Rattle.port_driver.specs.Followed.{LoadsBytes};
+    ghost use Rattle.host_boot.specs.Taken.{found_of};
+    ghost use Rattle.request_book.specs.Entries.{first_of, has_of};
+    ghost use Rattle.server_history.specs.Histories.{Adds, store_said, load_said};
+    ghost use Rattle.server_history.specs.Served.{ServesPort, FinishesFirst, done_reply};
+    ghost use Rattle.server_history.specs.Server.{IsKept, ports_of, situation_of, state_of, sectors_of};
+    ghost use Rattle.agreement.specs.Slots.{IsOver};
+    ghost use Rattle.ata_types.specs.declared.PortState.TheVariants.{Ready};
+    ghost use Rattle.request_book.specs.declared.book.Accepted.{Accepted};
 
-    /// A server of the port's disk, which has so many sectors: port 0 is brought up, and nothing is asked yet. Provisional:
-    /// the number of sectors isn't read from the disk.
+    /// A server of an idle adapter, by a configuration: who owns which frames, which grants there are, and which disks are wanted. Each
+    /// port is booted in which a disk is wanted; nothing is asked yet. Grants are kept without the rights to trim and to flush.
     ///
-    /// Where memory is refused, the adapter comes back as it was.
-    pub fn first(
-        alloc: Global,
-        setup: &Setup,
-        adapter: A,
-        sectors: u64,
-    ) -> Result<Self, (ServerError, A)>
-        requires ready { IsReadyFor setup.now.frames (A.device adapter) }
-        ensures made { IfOk result (λ s. IsNew A.device setup.now.owners setup.now.grants adapter sectors s) }
-        ensures begins { IfOk result (λ s. HasBegun A.device s) }
-        ensures refused { IfErr result (λ e. (e.0 ≡ ServerError.NoMemory) × (e.1 ≡ adapter)) }
+    /// Where the configuration breaks a rule, or else where memory is refused, no access is made, and the adapter comes back as it
+    /// was.
+    pub fn new(alloc: Global, config: &Config, adapter: A) -> Result<Self, (ServerError, A)>
+        requires ready { IsReadyFor config.now (A.device adapter) }
+        ensures made { IfOk result (IsNew A.device config.now adapter) }
+        ensures refused { IfErr result (λ e. Refuses config.now e.0 × (e.1 ≡ adapter)) }
     {
-        let Ok(grants) = Grants::from_rows(alloc, setup.grants()) else {
+        let plan = match Plan::of(config) {
+            Ok(plan) => plan,
+            Err(kind) => return Err((ServerError::BadConfig(kind), adapter)),
+        };
+        let Ok(grants) = Grants::from_rows(alloc, transfer_rows(plan.grants()).as_slice()) else {
             return Err((ServerError::NoMemory, adapter));
         };
-        let Ok(book) = Vec::with_capacity(alloc, PLACES) else {
+        let Ok(book) = Book::new(alloc) else {
             return Err((ServerError::NoMemory, adapter));
         };
-        let table = FrameTable::new(setup.owners());
+        let table = FrameTable::new(plan.owners());
         let mut adapter = adapter;
-        power_on(&mut adapter);
-        let state = bring_up(&mut adapter);
+        let wanted = *plan.wanted();
+        let ports = take_over(&mut adapter, &wanted).ports;
         Ok(Server {
             adapter,
             grants,
             table,
-            state,
-            sectors,
+            wanted,
+            ports,
             book,
-            issued: false,
             last: 0,
         })
     }
@@ -105,77 +133,89 @@ impl<A: Adapter> Server<A> {
         &self.adapter
     }
 
-    /// What a port is to its clients. No port but port 0 is used: the others are `Absent`.
-    pub fn state(&self, p: Port) -> PortState
-        ensures { result ≡ state_of self.now p }
+    /// What a port was found to be.
+    fn found(&self, port: Port) -> Found
+        ensures { result ≡ found_of self.now.ports port.0 }
     {
-        if p.0 == 0 {
-            self.state
-        } else {
-            PortState::Absent
+        self.ports
+            .get(usize::from(port.0))
+            .copied()
+            .unwrap_or(Found::Unserved)
+    }
+
+    /// What a port is to its clients. One that isn't served is `Absent`.
+    pub fn state(&self, port: Port) -> PortState
+        ensures state { result ≡ (ports_of self.now.ports).state port }
+        ensures adds { Adds (server_of A.device self.now) (server_of A.device self.now) (State port) (Shown result) }
+    {
+        let _ = &self.adapter;
+        match self.found(port) {
+            Found::Unserved => PortState::Absent,
+            Found::Ready(_) => PortState::Ready,
+            Found::Unready(state) => state,
         }
     }
 
-    /// Whether the sectors of a request leave the disk's. A flush has none.
-    fn leaves_disk(&self, r: &Request) -> bool
-        ensures { IsTrue result ↔ ((r.now.op ≢ Op.Flush) × (self.now.sectors < r.now.first.0 + r.now.count)) }
+    /// How many sectors the disk of a ready port has; 0 for another port.
+    fn sectors(&self, port: Port) -> u64
+        ensures { result ≡ sectors_of (found_of self.now.ports port.0) }
     {
-        let end = r.first.0 as u128 + r.count as u128;
-        r.op != Op::Flush && end > self.sectors as u128
+        match self.found(port) {
+            Found::Ready(info) => info.sectors,
+            _ => 0,
+        }
     }
 
-    /// The first cause to refuse the request, if there is one.
-    fn refusal(&self, r: &Request) -> Option<Refusal>
-        ensures { MatchOption result (IsAcceptable (situation_of self.now) r.now) (λ refusal. IsFirstRefusal (situation_of self.now) r.now refusal) }
+    /// The first cause to refuse the request, if there is one; else the port that it is for.
+    fn admit(&self, r: &Request) -> Result<Port, Refusal>
+        ensures admitted { IfOk result (λ port. IsAcceptable (situation_of (server_of A.device self.now)) r.now × IsFor self.now.grants r.now port) }
+        ensures refused { IfErr result (λ refusal. IsFirstRefusal (situation_of (server_of A.device self.now)) r.now refusal) }
     {
         if let Err(rule) = decide(r, &self.grants, &self.table) {
-            return Some(Refusal::Rule(rule));
+            return Err(Refusal::Rule(rule));
         }
         let Some(row) = self.grants.row(r.client, r.grant) else {
             unreachable!()
         };
         let state = self.state(row.port);
         let PortState::Ready = state else {
-            return Some(Refusal::PortNotReady(state));
+            return Err(Refusal::PortNotReady(state));
         };
-        if self.leaves_disk(r) {
-            return Some(Refusal::OutsideDisk);
+        if leaves_disk(r, self.sectors(row.port)) {
+            return Err(Refusal::OutsideDisk);
         }
-        if unanswered(&self.book, r.client) >= CLIENT_PLACES {
-            return Some(Refusal::ClientFull);
+        if self.book.unanswered(r.client) >= CLIENT_PLACES {
+            return Err(Refusal::ClientFull);
         }
         if self.last >= u64::MAX {
-            return Some(Refusal::IdsSpent);
+            return Err(Refusal::IdsSpent);
         }
-        None
+        Ok(row.port)
     }
 
-    /// Puts the request last into the book, lends it its frames, and issues it if it is the first.
-    fn accept(&mut self, r: &Request) -> RequestId
-        requires { IsAcceptable (situation_of self.old) r.now }
-        ensures accepts { Accepts A.device self.old self.new r.now result }
-        ensures adds { Adds Begins Ties (Stands A.device) self.old self.new (Submit r.now) (Submitted (Ok result)) }
+    /// Puts the request last into the book, lends it its frames, and issues it where its port has no other.
+    fn accept(&mut self, r: &Request, port: Port) -> RequestId
+        requires acceptable { IsAcceptable (situation_of (server_of A.device self.old)) r.now }
+        requires port { IsFor self.old.grants r.now port }
+        ensures accepts { AcceptsRequest A.device self.old self.new r.now result }
+        ensures adds { Adds (server_of A.device self.old) (server_of A.device self.new) (Submit r.now) (Submitted (Ok result)) }
     {
         let id = RequestId(self.last + 1);
+        let waits = self.book.has_of(port);
         let loan = self.table.lend(r.client, r.frames.as_slice(), id);
-        self.book.push_reserved(Accepted {
+        self.book.accept(Accepted {
             id,
             client: r.client,
+            port,
             op: r.op,
             first: r.first,
             count: r.count,
             loan,
         });
         self.last = id.0;
-        if !self.issued {
-            issue(
-                &mut self.adapter,
-                r.op,
-                r.first,
-                r.count,
-                r.frames.as_slice(),
-            );
-            self.issued = true;
+        if !waits {
+            let frames = r.frames.as_slice();
+            issue(&mut self.adapter, port, r.op, r.first, r.count, frames);
         }
         id
     }
@@ -184,42 +224,85 @@ impl<A: Adapter> Server<A> {
     /// frames are lent until then. Where refusals apply, the first of them is told, and nothing changes.
     pub fn submit(&mut self, r: &Request) -> Result<RequestId, Refusal>
         ensures submits { Submits A.device self.old self.new r.now result }
-        ensures adds { Adds Begins Ties (Stands A.device) self.old self.new (Submit r.now) (Submitted result) }
+        ensures adds { Adds (server_of A.device self.old) (server_of A.device self.new) (Submit r.now) (Submitted result) }
     {
-        if let Some(refusal) = self.refusal(r) {
-            return Err(refusal);
-        }
-        Ok(self.accept(r))
+        let _ = &self.adapter;
+        let port = self.admit(r)?;
+        Ok(self.accept(r, port))
     }
 
-    /// Looks at the port. Where its transfer is done, that is answered, its frames are given back, and the next is issued. A call
-    /// that sees the port disturbed answers nothing.
-    pub fn service(&mut self) -> Replies
-        ensures services { Services A.device self.old self.new result.items }
-        ensures adds { Adds Begins Ties (Stands A.device) self.old self.new Service (Served result.items) }
+    /// Answers a port's first request, whose command is over: its frames are given back, and the port's next is issued.
+    fn finish_first(&mut self, port: Port) -> Reply
+        requires ready { state_of (found_of self.old.ports port.0) ≡ Ready }
+        requires some { has_of port self.old.book ≡ true }
+        requires over { IsOver ((A.device self.old.adapter).port port.0) 0 }
+        ensures finishes { (first : Accepted) × (result ≡ done_reply first) × FinishesFirst port first (server_of A.device self.old) (server_of A.device self.new) }
+        ensures room { self.new.room ≡ self.old.room }
     {
-        let mut replies = Replies::new();
-        let PortState::Ready = self.state else {
-            return replies;
-        };
-        if !look(&mut self.adapter) || !self.issued || !is_done(&mut self.adapter) {
-            return replies;
-        }
         let Accepted {
             id,
             client,
+            port: _,
             op: _,
             first: _,
             count: _,
             loan,
-        } = self.book.remove(0);
+        } = self.book.end_first_of(port);
         self.table.give_back(loan);
-        self.issued = issue_first(&mut self.adapter, &self.book);
-        replies.push(Reply {
+        if let Some(next) = self.book.first_of(port) {
+            let frames = next.loan.frames();
+            issue(
+                &mut self.adapter,
+                port,
+                next.op,
+                next.first,
+                next.count,
+                frames,
+            );
+        }
+        Reply {
             id,
             client,
             outcome: Outcome::Ok,
-        });
+        }
+    }
+
+    /// Looks at a ready port. Where its transfer is done, that is answered, and the port's next is issued. Where the look tells of
+    /// anything, nobody is answered.
+    fn serve_port(&mut self, port: Port) -> Option<Reply>
+        requires ready { state_of (found_of self.old.ports port.0) ≡ Ready }
+        ensures serves { ServesPort port result (server_of A.device self.old) (server_of A.device self.new) }
+        ensures kept { IsKept (server_of A.device self.new) }
+        ensures room { self.new.room ≡ self.old.room }
+    {
+        let Look::Undisturbed = look_at(&mut self.adapter, port) else {
+            return None;
+        };
+        if !self.book.has_of(port) {
+            return None;
+        }
+        if !is_done(&mut self.adapter, port) {
+            return None;
+        }
+        Some(self.finish_first(port))
+    }
+
+    /// Serves each ready port, in rising number: where its transfer is done, that is answered, its frames are given back, and the port's
+    /// next is issued. Of a port that is disturbed nobody is answered.
+    pub fn service(&mut self) -> Replies
+        ensures services { Services A.device self.old self.new result.items }
+        ensures adds { Adds (server_of A.device self.old) (server_of A.device self.new) Service (Served result.items) }
+    {
+        let mut replies = Replies::new();
+        let ports = self.ports;
+        for number in 0..PORTS {
+            let Found::Ready(_) = ports[number] else {
+                continue;
+            };
+            if let Some(reply) = self.serve_port(Port(number as u8)) {
+                replies.push(reply);
+            }
+        }
         replies
     }
 
@@ -235,7 +318,7 @@ impl<A: Adapter> Server<A> {
         ensures ok { IfOk result (λ address. IsOpen (owner_of self.now.table) (lent_to self.now.table) client frame offset length × (address ≡ 4096 * frame.0 + offset)) }
         ensures err { IfErr result (IsFirstMemFault (owner_of self.now.table) (lent_to self.now.table) client frame offset length) }
     {
-        if !owns(&self.table, client, frame) {
+        if self.table.owner(frame) != Some(client) {
             return Err(MemFault::FrameForeign);
         }
         if self.table.lent_to(frame).is_some() {
@@ -259,7 +342,7 @@ impl<A: Adapter> Server<A> {
         bytes: &[u8],
     ) -> Result<(), MemFault>
         ensures stores { StoresFrame A.device self.old self.new client frame offset bytes.now result }
-        ensures adds { Adds Begins Ties (Stands A.device) self.old self.new (StoreAt client frame offset bytes.now) (store_said result) }
+        ensures adds { Adds (server_of A.device self.old) (server_of A.device self.new) (StoreAt client frame offset bytes.now) (store_said result) }
     {
         let address = self.open(client, frame, offset, bytes.len())?;
         self.adapter.store(address, bytes);
@@ -275,7 +358,7 @@ impl<A: Adapter> Server<A> {
         out: &mut [u8],
     ) -> Result<(), MemFault>
         ensures loads { LoadsFrame A.device self.old self.new client frame offset out.old out.new result }
-        ensures adds { Adds Begins Ties (Stands A.device) self.old self.new (LoadAt client frame offset (length out.old)) (load_said result out.new) }
+        ensures adds { Adds (server_of A.device self.old) (server_of A.device self.new) (LoadAt client frame offset (length out.old)) (load_said result out.new) }
     {
         let address = self.open(client, frame, offset, out.len())?;
         self.adapter.load(address, out);
@@ -290,28 +373,27 @@ impl<A: Adapter> Server<A> {
             adapter,
             grants: _,
             table,
-            state: _,
-            sectors: _,
+            wanted: _,
+            ports: _,
             book,
-            issued: _,
             last: _,
         } = self;
         let mut table = table;
-        give_all_back(book, &mut table);
+        book.give_all_back(&mut table);
         adapter
     }
 }
 
 impl<A: Stepped> Server<A> {
     ghost use Rattle.block_machine.specs.Events.{Device as Told, Stepped};
-    ghost use Rattle.block_machine.specs.Histories.{Adds};
     ghost use Rattle.block_server.specs.Calls.{StepsDevice};
-    ghost use Rattle.block_server.specs.History.{Begins, Ties, Stands};
+    ghost use Rattle.block_server.specs.View.{server_of};
+    ghost use Rattle.server_history.specs.Histories.{Adds};
 
     /// Has the device do a step, if that is possible.
     pub fn device(&mut self, step: &DeviceStep) -> bool
         ensures steps { StepsDevice A.device self.old self.new step.now result }
-        ensures adds { Adds Begins Ties (Stands A.device) self.old self.new (Told step.now) (Stepped result) }
+        ensures adds { Adds (server_of A.device self.old) (server_of A.device self.new) (Told step.now) (Stepped result) }
     {
         self.adapter.step(step)
     }

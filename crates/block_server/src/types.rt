@@ -1,26 +1,16 @@
 // What the server keeps, and what it tells.
 use adapter::DeviceStep;
 use arrayvec::ArrayVec;
-use ata_types::{
-    ClientId, Frame, MemFault, Op, Port, PortState, Refusal, Replies, Request, RequestId, Sector,
-};
-use dma_frames::Loan;
+use ata_types::{ClientId, Frame, MemFault, Port, PortState, Refusal, Replies, Request, RequestId};
+use configuration::Kind;
 
 /// Why no server was made.
 #[derive(Clone, Copy, Debug, PartialEq, Eq)]
 pub enum ServerError {
+    /// The configuration breaks a rule; the least kind of fault is told.
+    BadConfig(Kind),
     /// Memory for it was refused.
     NoMemory,
-}
-
-/// An accepted, unanswered request.
-pub struct Accepted {
-    pub id: RequestId,
-    pub client: ClientId,
-    pub op: Op,
-    pub first: Sector,
-    pub count: u32,
-    pub loan: Loan,
 }
 
 /// A call of the server, for `run`.

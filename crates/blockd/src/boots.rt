@@ -52,7 +52,7 @@ fn model(alloc: Global, pi: u8, sectors: u32) -> Result<Model<MemStore>, Fail>
 }
 
 /// Has the disk lie of these bits of a byte of its page.
-fn lie(model: &mut Model<MemStore>, offset: u16, bits: u8)
+pub fn lie(model: &mut Model<MemStore>, offset: u16, bits: u8)
     ensures { ⟦<Model<MemStore> as Adapter>⟧.device model.new ≡ ⟦<Model<MemStore> as Adapter>⟧.device model.old }
 {
     let _done = model.step(&DeviceStep::Lie(Port(0), DiskPage::Identity, offset, bits));

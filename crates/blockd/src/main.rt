@@ -8,10 +8,14 @@ use std::process::ExitCode;
 
 #[cfg(test)]
 mod boots;
+mod making;
 mod session;
 mod told;
+#[cfg(test)]
+mod watched;
 
-use session::{Fault, answers};
+use making::Fault;
+use session::answers;
 use told::tell;
 
 fn run(rt: &(impl AllocGlobal + Print)) -> Result<io::Result<()>, Fault> {
@@ -26,7 +30,7 @@ fn main(rt: HostRuntime) -> ExitCode {
         Err(Fault::NoMemory) => match eprintln!(rt; "blockd: no memory") {
             Ok(()) | Err(_) => ExitCode::FAILURE,
         },
-        Err(Fault::Setup(error)) => match eprintln!(rt; "blockd: {error:?}") {
+        Err(Fault::BadConfig(kind)) => match eprintln!(rt; "blockd: {kind}") {
             Ok(()) | Err(_) => ExitCode::FAILURE,
         },
     }

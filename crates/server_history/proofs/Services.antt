@@ -405,12 +405,6 @@ came_through (Ready info ∷ found) n old new replies (mid, reply, later, is, ne
 came_through (Unserved ∷ found) n old new replies serves = came_through found (n + 1) old new replies serves
 came_through (Unready state ∷ found) n old new replies serves = came_through found (n + 1) old new replies serves
 
-wanted_stays : (found : List Found) (n : ℕ) (old new : Server) (replies : List Reply) → ServePorts n found replies old new → new.wanted ≡ old.wanted
-wanted_stays [] n old new replies serves = ap (λ (x : Server). x.wanted) serves.1
-wanted_stays (Ready info ∷ found) n old new replies (mid, reply, later, is, next, serves, more) = wanted_stays found (n + 1) mid new later more ∙ ap (λ (x : Server). x.wanted) serves.same
-wanted_stays (Unserved ∷ found) n old new replies serves = wanted_stays found (n + 1) old new replies serves
-wanted_stays (Unready state ∷ found) n old new replies serves = wanted_stays found (n + 1) old new replies serves
-
 module _ (s new : Server) (replies : List Reply) (kept : IsKept s) (serves : ServePorts 0 s.ports replies s new) (first : Instant Device) (past : List (Happening Device DeviceStep)) (leads : Leads first past s) where
   abbrev old : Moment
   old = (now first past).moment
@@ -486,6 +480,4 @@ module _ (s new : Server) (replies : List Reply) (kept : IsKept s) (serves : Ser
       p.turns.may p.turns.belong p.turns.last p.turns.lawful all_answered (came_through s.ports 0 s new replies serves) holds.behind heeds p.backed stands)
 
 pub services_add : (s new : Server) (replies : List Reply) → IsKept s → ServePorts 0 s.ports replies s new → Adds s new Service (Served replies)
-services_add s new replies kept serves = record {
-  adds = λ first past leads. service_event s new replies kept serves first past (record { history = subst (λ wanted. IsHistory (Begins wanted) (Ties wanted) first past) (wanted_stays s.ports 0 s new replies serves) leads.history; stands = leads.stands });
-}
+services_add s new replies kept serves = record { adds = λ first past leads. service_event s new replies kept serves first past leads }

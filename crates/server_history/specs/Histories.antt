@@ -158,9 +158,10 @@ pub record Ties (wanted : List Wanted) (old : Instant Device) (h : Happening Dev
 abbrev pub Leads : Instant Device → List (Happening Device DeviceStep) → Server → Type 0
 Leads first past s = histories.Leads (Begins s.wanted) (Ties s.wanted) Stands first past s
 
--- to every history that leads to the old server, a call that asked this and said that adds one event, which leads to the new one
-abbrev pub Adds : Server → Server → Ask DeviceStep → Said → Type 0
-Adds old new ask said = histories.Adds (Begins new.wanted) (Ties new.wanted) Stands old new ask said
+-- To every history that leads to the old server, a call that asked this and said that adds one event, which leads to the new one.
+pub record Adds (old new : Server) (ask : Ask DeviceStep) (said : Said) : Type 0 where
+  pub adds : (first : Instant Device) (past : List (Happening Device DeviceStep)) → Leads first past old
+      → (h : Happening Device DeviceStep) × (h.event.ask ≡ ask) × (h.event.said ≡ said) × Leads first (h ∷ past) new
 
 -- a history without calls leads to the server
 abbrev pub HasBegun : Server → Type 0

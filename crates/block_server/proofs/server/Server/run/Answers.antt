@@ -1,7 +1,6 @@
 use Rattle.std.proofs.Common.{◌<◌, ◌++◌, ◌∷◌, List, sym, ◌∙◌, ap, subst, [], append_assoc, length, take, arith}
 use Rattle.std.proofs.lemmas.List.{append-nil, take_more}
-use Rattle.block_server.specs.History.{AddsAll}
-use Rattle.block_server.specs.Running.{Ran}
+use Rattle.block_server.specs.Running.{AddsAll, Ran}
 use Rattle.block_server.specs.declared.types.Event.{Event}
 use Rattle.block_server.specs.declared.types.Said.{Said}
 use Rattle.block_server.proofs.Running.{ran_none, ran_more, adds_none, adds_more}

@@ -1,0 +1,52 @@
+-- A server as it is made (this project's own).
+use Rattle.std.specs.Prelude.{ℕ, false, ◌≡◌, ◌≤◌, ◌*◌, List, [], None, map, Some}
+use Rattle.std.specs.List.{Contains}
+use Rattle.ata_types.specs.declared.grant.GrantRow.{GrantRow}
+use Rattle.ata_types.specs.declared.request.ClientId.{ClientId}
+use Rattle.ata_types.specs.declared.request.Frame.{Frame}
+use Rattle.adapter.specs.Device.{Device}
+use Rattle.adapter.specs.Idle.{IsIdle}
+use Rattle.block_server.specs.View.{ServerView, server_of}
+use Rattle.configuration.specs.Rules.{IsSound, IsFirstBroken}
+use Rattle.configuration.specs.declared.Config.{Config}
+use Rattle.dma_frames.specs.Table.{Run, owner_of, lent_to, HasFrame}
+use Rattle.grants.specs.Rows.{SameRows}
+use Rattle.host_boot.specs.Taken.{TakesOver}
+use Rattle.host_boot.specs.declared.Host.{Host}
+use Rattle.plan.specs.Plan.{PlanView, IsPlan, IsPlanOf}
+use Rattle.server_history.specs.Histories.{HasBegun}
+use Rattle.block_server.specs.declared.types.ServerError.{ServerError}
+use Rattle.block_server.specs.declared.types.ServerError.TheVariants.{BadConfig, NoMemory}
+
+-- The adapter is idle; and where the configuration is sound, it has the frames.
+pub record IsReadyFor (config : Config) (d : Device) : Type 0 where
+  pub idle : IsIdle d
+  pub room : IsSound config → 4096 * config.frames ≤ d.size
+
+-- a row without the rights to trim and to flush
+abbrev pub transfer_row : GrantRow → GrantRow
+transfer_row row = record row { rights = record row.rights { trim = false; flush = false } }
+
+-- The server has what the configuration's plan says: its grants, without the rights to trim and to flush, its owners, and the disks that it
+-- asks for. The adapter was taken over. Nothing is asked, nothing lent, no id handed out; and there is memory for 128 requests.
+pub record IsNew {A : Type 0} (device : A → Device) (config : Config) (adapter : A) (s : ServerView A) : Type 0 where
+  pub plan : PlanView
+  pub is_plan : IsPlan plan
+  pub planned : IsPlanOf config plan
+  pub rows : SameRows (map transfer_row plan.grants) s.grants
+  pub owned : (run : Run) (f : Frame) → Contains plan.owners run → HasFrame run f → owner_of s.table f ≡ Some run.0
+  pub only : (f : Frame) (client : ClientId) → owner_of s.table f ≡ Some client → (run : Run) × Contains plan.owners run × HasFrame run f × (run.0 ≡ client)
+  pub free : (f : Frame) → lent_to s.table f ≡ None
+  pub wanted : s.wanted ≡ plan.wanted
+  pub host : Host
+  pub ports : s.ports ≡ host.ports
+  pub taken : TakesOver plan.wanted host (device adapter) (device s.adapter)
+  pub book : s.book ≡ []
+  pub last : s.last ≡ 0
+  pub room : s.room ≡ 128
+  pub begun : HasBegun (server_of device s)
+
+-- why no server is made
+abbrev pub Refuses : Config → ServerError → Type 0
+Refuses config (BadConfig kind) = IsFirstBroken config kind
+Refuses config NoMemory = IsSound config
