@@ -2,7 +2,7 @@
 use Rattle.std.proofs.Common.{ℕ, Bool, true, false, zero, suc, ◌≡◌, refl, sym, subst, inl, inr}
 use Rattle.adapter.specs.Device.{Device}
 use Rattle.adapter.specs.Steps.{Steps}
-use Rattle.adapter.specs.Steps.Step.{Fetch, Move, Done}
+use Rattle.adapter.specs.Steps.Step.{Fetch, Move, Done, Unplug, Plug}
 use Rattle.adapter.specs.declared.access.DeviceStep.{DeviceStep}
 use Rattle.adapter.specs.declared.access.DeviceStep.TheVariants as asked
 use Rattle.adapter.proofs.Runs.{Steps-refl, Steps-one, Steps-trans}
@@ -35,6 +35,10 @@ asked_steps (asked.Done p slot) old new did = one_steps p.0 slot.0 old new (inr 
 asked_steps (asked.Finish p slot) old new did = some_steps (suc did.0) p.0 slot.0 old new did.1
 asked_steps (asked.Lie p page offset bits) old new did = let P : Device → Type 0 = λ d. Steps old d in subst P (sym did) (Steps-refl old)
 asked_steps (asked.Truth p) old new did = let P : Device → Type 0 = λ d. Steps old d in subst P (sym did) (Steps-refl old)
+asked_steps (asked.Hold p) old new did = let P : Device → Type 0 = λ d. Steps old d in subst P (sym did) (Steps-refl old)
+asked_steps (asked.Release p) old new did = let P : Device → Type 0 = λ d. Steps old d in subst P (sym did) (Steps-refl old)
+asked_steps (asked.Unplug p) old new did = Steps-one (Unplug p.0) old new did.can did.effect
+asked_steps (asked.Plug p number) old new did = Steps-one (Plug p.0 did.disk) old new did.can did.effect
 
 -- what was asked was done, or nothing
 pub step_steps : (result : Bool) (s : DeviceStep) (old new : Device) → (result ≡ true → Asked s old new) → (result ≡ false → new ≡ old) → Steps old new

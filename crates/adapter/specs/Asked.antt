@@ -1,9 +1,9 @@
 -- What was asked of the device, and done.
 use Rattle.std.specs.Prelude.{ℕ, zero, suc, ◌≡◌, ◌⊎◌, List}
 use Rattle.adapter.specs.Commands.{Meaning}
-use Rattle.adapter.specs.Device.{Taken, Device}
+use Rattle.adapter.specs.Device.{Disk, Taken, Device}
 use Rattle.adapter.specs.Steps.{Can, after}
-use Rattle.adapter.specs.Steps.Step.{Fetch, Move, Done}
+use Rattle.adapter.specs.Steps.Step.{Fetch, Move, Done, Unplug, Plug}
 use Rattle.adapter.specs.declared.access.DeviceStep.{DeviceStep}
 use Rattle.adapter.specs.declared.access.DeviceStep.TheVariants as asked
 
@@ -41,7 +41,20 @@ DoesSome (suc n) port slot old new = (mid : Device) × DoesSome n port slot old 
 abbrev pub GoesOn : ℕ → ℕ → Device → Device → Type 0
 GoesOn port slot old new = (n : ℕ) × DoesSome (suc n) port slot old new
 
--- What was asked of the device. What its disks will say of themselves is no part of its state.
+-- the disk was taken out
+pub record DoesUnplug (port : ℕ) (old new : Device) : Type 0 where
+  pub can : Can (Unplug port) old
+  pub effect : new ≡ after (Unplug port) old
+
+-- the disk with this number was put in; its name is its number
+pub record DoesPlug (port number : ℕ) (old new : Device) : Type 0 where
+  pub disk : Disk
+  pub name : disk.name ≡ number
+  pub can : Can (Plug port disk) old
+  pub effect : new ≡ after (Plug port disk) old
+
+-- What was asked of the device. What its disks will say of themselves, and on which ports it does nothing by itself, is no part of its
+-- state.
 abbrev pub Asked : DeviceStep → Device → Device → Type 0
 Asked (asked.Fetch p s) old new = DoesFetch p.0 s.0 old new
 Asked (asked.Move p s) old new = DoesMove p.0 s.0 old new
@@ -49,3 +62,7 @@ Asked (asked.Done p s) old new = DoesDone p.0 s.0 old new
 Asked (asked.Finish p s) old new = GoesOn p.0 s.0 old new
 Asked (asked.Lie p page offset bits) old new = new ≡ old
 Asked (asked.Truth p) old new = new ≡ old
+Asked (asked.Hold p) old new = new ≡ old
+Asked (asked.Release p) old new = new ≡ old
+Asked (asked.Unplug p) old new = DoesUnplug p.0 old new
+Asked (asked.Plug p number) old new = DoesPlug p.0 number.0 old new

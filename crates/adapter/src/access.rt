@@ -49,6 +49,10 @@ pub enum DiskPage {
     Identity,
 }
 
+/// Which disk is put into a port, of those that there are for it: disk 0 is the one that it has at first.
+#[derive(Clone, Copy, Debug, PartialEq, Eq)]
+pub struct DiskNumber(pub u8);
+
 /// What a device can be told to do.
 #[derive(Clone, Copy, Debug, PartialEq, Eq)]
 pub enum DeviceStep {
@@ -66,6 +70,14 @@ pub enum DeviceStep {
     Lie(Port, DiskPage, u16, u8),
     /// Tell no lies any more.
     Truth(Port),
+    /// From now on do nothing by itself on the port, until it is told to go on, or a reset of the adapter ends.
+    Hold(Port),
+    /// Go on by itself again.
+    Release(Port),
+    /// Lose the disk: it is taken out.
+    Unplug(Port),
+    /// Get this disk: it is put in.
+    Plug(Port, DiskNumber),
 }
 
 /// An adapter whose device does what it is told, if that is possible then.

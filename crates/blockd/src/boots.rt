@@ -13,7 +13,7 @@ use std::alloc::Global;
 use std::test::Fail;
 
 /// PI of an adapter with ports 0 to 3.
-const ALL_PORTS: u8 = 0x0f;
+pub const ALL_PORTS: u8 = 0x0f;
 
 const CONFIG: ModelConfig = ModelConfig {
     frames: 41,
@@ -30,7 +30,7 @@ const SECTORS: u32 = 70_000;
 const SERIAL: [u8; 20] = *b"IMAGEDISK           ";
 
 /// The disk with this serial number is wanted in port 0, and none in the others.
-const IMAGE_DISK: [Wanted; PORTS] = [
+pub const IMAGE_DISK: [Wanted; PORTS] = [
     Wanted::Serial(SERIAL),
     Wanted::Nothing,
     Wanted::Nothing,
@@ -38,7 +38,7 @@ const IMAGE_DISK: [Wanted; PORTS] = [
 ];
 
 /// An idle adapter with the ports of this PI, and a disk of so many sectors in port 0.
-fn model(alloc: Global, pi: u8, sectors: u32) -> Result<Model<MemStore>, Fail>
+pub fn model(alloc: Global, pi: u8, sectors: u32) -> Result<Model<MemStore>, Fail>
     requires { (1 ≤ pi) × (pi ≤ 15) }
     ensures idle { IfOk result (λ m. IsIdle (⟦<Model<MemStore> as Adapter>⟧.device m)) }
     ensures room { IfOk result (λ m. 163840 ≤ (⟦<Model<MemStore> as Adapter>⟧.device m).size) }
@@ -79,7 +79,7 @@ const INFO: DiskInfo = DiskInfo {
     trim: true,
 };
 
-fn unfit(number: u8) -> Found {
+pub fn unfit(number: u8) -> Found {
     Found::Unready(PortState::Unfit(number))
 }
 
@@ -120,18 +120,41 @@ fn the_adapter_says_what_it_can_do(rt: HostRuntime) -> Result<(), Fail> {
     Ok(())
 }
 
-/// An adapter that notes which of its registers are read, and what is written to them.
+/// A call of an adapter.
+#[derive(Clone, Copy, Debug, PartialEq, Eq)]
+pub enum Access {
+    Read(Reg),
+    Write(Reg),
+    Load,
+    Store,
+}
+
+/// An adapter that notes its calls, and what is written to its registers.
 #[derive(Drop)]
-struct Noting<A> {
-    adapter: A,
-    read: Vec<Reg>,
+pub struct Noting<A> {
+    pub adapter: A,
+    pub accesses: Vec<Access>,
     written: Vec<(Reg, u32)>,
 }
 
 impl<A> Noting<A> {
+    /// An adapter of which nothing is noted yet.
+    pub fn new(alloc: Global, adapter: A) -> Noting<A>
+        ensures { result.adapter ≡ adapter }
+    {
+        Noting {
+            adapter,
+            accesses: Vec::new(alloc),
+            written: Vec::new(alloc),
+        }
+    }
+
     /// How often a register was read.
-    fn readings(&self, r: Reg) -> usize {
-        self.read.iter().filter(|read| **read == r).count()
+    pub fn readings(&self, r: Reg) -> usize {
+        self.accesses
+            .iter()
+            .filter(|access| **access == Access::Read(r))
+            .count()
     }
 }
 
@@ -139,20 +162,23 @@ impl<A: Adapter> Adapter for Noting<A> {
     ghost device = { λ n. A.device n.adapter };
 
     fn read(&mut self, r: Reg) -> u32 {
-        let _full = self.read.push(r).is_err();
+        let _full = self.accesses.push(Access::Read(r)).is_err();
         self.adapter.read(r)
     }
 
     fn write(&mut self, r: Reg, v: u32) {
+        let _full = self.accesses.push(Access::Write(r)).is_err();
         let _full = self.written.push((r, v)).is_err();
         self.adapter.write(r, v);
     }
 
     fn load(&mut self, addr: u32, out: &mut [u8]) {
+        let _full = self.accesses.push(Access::Load).is_err();
         self.adapter.load(addr, out);
     }
 
     fn store(&mut self, addr: u32, bytes: &[u8]) {
+        let _full = self.accesses.push(Access::Store).is_err();
         self.adapter.store(addr, bytes);
     }
 
@@ -167,11 +193,7 @@ fn noted(
 ) -> Result<(Noting<Model<MemStore>>, Host), Fail>
     requires { (1 ≤ pi) × (pi ≤ 15) }
 {
-    let mut noting = Noting {
-        adapter: model(alloc, pi, 8)?,
-        read: Vec::new(alloc),
-        written: Vec::new(alloc),
-    };
+    let mut noting = Noting::new(alloc, model(alloc, pi, 8)?);
     let host = take_over(&mut noting, wanted);
     Ok((noting, host))
 }
@@ -252,10 +274,7 @@ fn a_port_that_is_not_there_is_not_touched(rt: HostRuntime) -> Result<(), Fail> 
     assert!(rt; matches!(host.ports[0], Found::Ready(_)));
     assert_eq!(rt; host.ports[1], Found::Unserved);
     assert!(rt;
-        noting
-            .read
-            .iter()
-            .all(|read| !matches!(*read, Reg::Px(Port(1), _)))
+        noting.accesses.iter().all(|access| !matches!(*access, Access::Read(Reg::Px(Port(1), _))))
     );
     assert!(rt;
         noting

@@ -1,5 +1,5 @@
 -- A read or write that may be done is taken, goes on piece by piece, and ends.
-use Rattle.std.proofs.Common.{ℕ, Bool, true, false, suc, ◌≡◌, ◌≢◌, ◌<◌, ◌≤◌, ◌+◌, ◌^◌, ◌⊎◌, ◌&&◌, List, length, slice_index, slice_index_or, Option, None, Some, refl, sym, ◌∙◌, ap, subst, inl, inr, arith}
+use Rattle.std.proofs.Common.{ℕ, Bool, true, false, suc, ◌≡◌, ◌≢◌, ◌<◌, ◌≤◌, ◌+◌, ◌^◌, ◌⊎◌, ◌&&◌, List, [], ◌∷◌, ◌++◌, length, slice_index, slice_index_or, Option, None, Some, refl, sym, ◌∙◌, ap, subst, inl, inr, arith}
 use Rattle.std.specs.Prelude.{option_map, is_some, if◌then◌else◌}
 use Rattle.std.proofs.lemmas.Bool.Decides.{eqb_tells}
 use Rattle.adapter.specs.Asked.{DoesFetch, DoesMove, DoesDone}
@@ -16,8 +16,8 @@ use Rattle.adapter.proofs.Changed.{fun_ext, changed_same, changed_other}
 use Rattle.adapter.proofs.SaysLemmas.{says_meaning, says_places}
 use Rattle.device_model.specs.Finishing.{HasDisk, HasMove, IsCovered, IsGoing, IsReady}
 use Rattle.device_model.specs.Slots.{HoldsAt}
-use Rattle.device_model.specs.View.{Takes, media_after, operation_of, taken_of, blank}
-use Rattle.device_model.specs.Whole.{Outside, device_of, no_media, outside_of, outside_after}
+use Rattle.device_model.specs.View.{Media, Takes, media_after, operation_of, taken_of, blank}
+use Rattle.device_model.specs.Whole.{Outside, device_of, no_media, outside_of, outside_after, outside_plugged}
 use Rattle.device_model.specs.declared.port.PortModel.{PortModel}
 use Rattle.device_model.specs.declared.hardware.Hardware.{Hardware}
 use Rattle.device_model.specs.declared.port.TakenCommand.{TakenCommand}
@@ -274,3 +274,24 @@ outside_moved disk new other plugged next r bytes kind sector is = λ i. record 
 pub fetched_size : (port slot : ℕ) (did : Bool) (old new : Device) → (did ≡ true → DoesFetch port slot old new) → (did ≡ false → new ≡ old) → new.size ≡ old.size
 fetched_size port slot true old new fetched same = ap (λ (d : Device). d.size) (fetched refl).effect
 fetched_size port slot false old new fetched same = ap (λ (d : Device). d.size) (same refl)
+
+-- ---- what is behind port 0 after its disk was put in again
+
+pub outside_put : (disk : Disk) (other : Option (ℕ → List ℕ)) (plugged : List Disk) →
+    outside_of disk other (plugged ++ disk ∷ []) ≡ outside_plugged (outside_of disk other plugged) disk
+outside_put disk other plugged = λ i. record { telling = is_some disk.sectors && is_some other; media = fun_ext behind i }
+  where
+    old : Outside
+    old = outside_of disk other plugged
+
+    put : Media
+    put = record { disk = disk; plugged = plugged ++ disk ∷ [] }
+
+    behind : (k : ℕ) → (outside_of disk other (plugged ++ disk ∷ [])).media k ≡ changed old.media 0 put k
+    behind k =
+        elim (eqb_tells k 0) [
+          | inl here ↦ rw here.1 (sym (changed_same old.media 0 put))
+          | inr there ↦
+              let was : old.media k ≡ no_media = rw there.0 refl in
+              rw there.0 (sym was ∙ sym (changed_other old.media 0 put k there.1))
+        ]

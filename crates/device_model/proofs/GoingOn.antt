@@ -1,14 +1,18 @@
 -- What a port does by itself is steps, which compose.
-use Rattle.std.proofs.Common.{ℕ, Bool, zero, suc, true, false, ◌≡◌, None, replicate, refl, sym, ◌∙◌, ap, subst, inl, inr, arith}
+use Rattle.std.proofs.Common.{ℕ, Bool, zero, suc, true, false, ◌≡◌, ◌≢◌, ◌⊎◌, List, [], ◌∷◌, None, replicate, refl, sym, ◌∙◌, ap, subst, inl, inr, arith}
 use Rattle.std.proofs.lemmas.Bool.Decides.{eqb_tells}
 use Rattle.adapter.specs.Device.{PortState, Device}
 use Rattle.adapter.specs.Memory.{changed}
-use Rattle.adapter.specs.Asked.{DoesOne, DoesSome, GoesOn}
+use Rattle.adapter.specs.Asked.{Asked, DoesOne, DoesSome, GoesOn}
+use Rattle.adapter.specs.declared.access.DeviceStep.{DeviceStep}
+use Rattle.adapter.specs.declared.access.DeviceStep.TheVariants as asked
+use Rattle.device_model.specs.Queue.{DoesEach}
 use Rattle.adapter.specs.Steps.{MayLinkUp, Steps, with_done, with_fetch, with_link, with_move, with_port, with_reset}
 use Rattle.adapter.specs.Steps.Step.{Fall, FrFall, LinkUp}
 use Rattle.adapter.proofs.Changed.{fun_ext, changed_same, changed_other, changed_each}
 use Rattle.adapter.proofs.Runs.{Steps-refl, Steps-one, Steps-trans}
 use Rattle.device_model.specs.Bits.{bits_of}
+use Rattle.device_model.specs.Held.{IsHeld}
 use Rattle.device_model.specs.Settled.{GoesTo, IsSettled, IsSettledPort}
 use Rattle.device_model.specs.View.{Media, port_of, slots_of, blank}
 use Rattle.device_model.proofs.NewModel.{zero_bit, slots_none}
@@ -90,18 +94,18 @@ record SameControls (p new : PortState) : Type 0 where
   due : new.link_due ≡ p.link_due
 
 settled_with : (old new : Device) (port : ℕ) (p : PortState) → new.hr ≡ old.hr → new.port ≡ changed old.port port p → SameControls (old.port port) p →
-    IsSettled old → IsSettled new
-settled_with old new port p hr is same settled =
+    (held : List Bool) → IsSettled held old → IsSettled held new
+settled_with old new port p hr is same held settled =
     let ports : (P : ℕ → PortState → Type 0) → P port p → ((k : ℕ) → P k (old.port k)) → (k : ℕ) → P k (new.port k) =
     λ (P : ℕ → PortState → Type 0) (here : P port p) (others : (k : ℕ) → P k (old.port k)) (k : ℕ).
     subst (λ (f : ℕ → PortState). P k (f k)) (sym is) (changed_each old.port port p P here others k) in
     record {
       reset = λ on. settled.reset (sym hr ∙ on);
-      engines = ports (λ k x. (x.st ≡ false) × (x.cr ≡ true) → ⊥) (λ may. settled.engines port (sym same.st ∙ may.0, sym same.cr ∙ may.1)) settled.engines;
-      areas = ports (λ k x. (x.fre ≡ false) × (x.cr ≡ false) × (x.fr ≡ true) → ⊥)
+      engines = ports (λ k x. (x.st ≡ false) × (x.cr ≡ true) → IsHeld held k) (λ may. settled.engines port (sym same.st ∙ may.0, sym same.cr ∙ may.1)) settled.engines;
+      areas = ports (λ k x. (x.fre ≡ false) × (x.cr ≡ false) × (x.fr ≡ true) → IsHeld held k)
           (λ may. settled.areas port (sym same.fre ∙ may.0, sym same.cr ∙ may.1, sym same.fr ∙ may.2)) settled.areas;
       links = λ k sig n.
-          ports (λ q x. MayLinkUp x sig → ⊥)
+          ports (λ q x. MayLinkUp x sig → IsHeld held q)
           (λ may. settled.links port sig n
           (record {
             present = sym same.present ∙ may.present;
@@ -117,7 +121,7 @@ abbrev same : (p new : PortState) → new.st ≡ p.st → new.cr ≡ p.cr → ne
     new.sctl_det ≡ p.sctl_det → new.link_due ≡ p.link_due → SameControls p new
 same p new st cr fre fr present det due = record { st = st; cr = cr; fre = fre; fr = fr; present = present; det = det; due = due }
 
-one_settled : (port slot : ℕ) (old new : Device) → DoesOne port slot old new → IsSettled old → IsSettled new
+one_settled : (port slot : ℕ) (old new : Device) → DoesOne port slot old new → (held : List Bool) → IsSettled held old → IsSettled held new
 one_settled port slot old new (inl f) =
     settled_with old new port (with_fetch (old.port port) slot f.meaning f.places) (ap (λ (d : Device). d.hr) f.effect) (ap (λ (d : Device). d.port) f.effect)
     (same _ _ refl refl refl refl refl refl refl)
@@ -128,12 +132,59 @@ one_settled port slot old new (inr (inr e)) =
     settled_with old new port (with_done (old.port port) slot e.flag e.t.meaning.operation) (ap (λ (d : Device). d.hr) e.effect)
     (ap (λ (d : Device). d.port) e.effect) (same _ _ refl refl refl refl refl refl refl)
 
-some_settled : (n port slot : ℕ) (old new : Device) → DoesSome n port slot old new → IsSettled old → IsSettled new
-some_settled zero port slot old new e settled = let P : Device → Type 0 = λ d. IsSettled d in subst P (sym e) settled
-some_settled (suc n) port slot old new s settled = one_settled port slot s.0 new s.2 (some_settled n port slot old s.0 s.1 settled)
+some_settled : (n port slot : ℕ) (old new : Device) → DoesSome n port slot old new → (held : List Bool) → IsSettled held old → IsSettled held new
+some_settled zero port slot old new e held settled = let P : Device → Type 0 = λ d. IsSettled held d in subst P (sym e) settled
+some_settled (suc n) port slot old new s held settled = one_settled port slot s.0 new s.2 held (some_settled n port slot old s.0 s.1 held settled)
 
 -- a command went on, or didn't
 pub gone_settled : (port slot : ℕ) (did : Bool) (old new : Device) → (did ≡ true → GoesOn port slot old new) → (did ≡ false → new ≡ old) →
-    IsSettled old → IsSettled new
-gone_settled port slot true old new went stayed settled = let g = went refl in some_settled (suc g.0) port slot old new g.1 settled
-gone_settled port slot false old new went stayed settled = let P : Device → Type 0 = λ d. IsSettled d in subst P (sym (stayed refl)) settled
+    (held : List Bool) → IsSettled held old → IsSettled held new
+gone_settled port slot true old new went stayed held settled = let g = went refl in some_settled (suc g.0) port slot old new g.1 held settled
+gone_settled port slot false old new went stayed held settled = let P : Device → Type 0 = λ d. IsSettled held d in subst P (sym (stayed refl)) settled
+
+-- ---- and the other ports as they were
+
+one_others : (port slot : ℕ) (old new : Device) → DoesOne port slot old new → (q : ℕ) → q ≢ port → new.port q ≡ old.port q
+one_others port slot old new (inl f) q ne = ap (λ (d : Device). d.port q) f.effect ∙ changed_other old.port port _ q ne
+one_others port slot old new (inr (inl m)) q ne = ap (λ (d : Device). d.port q) m.effect ∙ changed_other old.port port _ q ne
+one_others port slot old new (inr (inr e)) q ne = ap (λ (d : Device). d.port q) e.effect ∙ changed_other old.port port _ q ne
+
+some_others : (n port slot : ℕ) (old new : Device) → DoesSome n port slot old new → (q : ℕ) → q ≢ port → new.port q ≡ old.port q
+some_others zero port slot old new e q ne = ap (λ (d : Device). d.port q) e
+some_others (suc n) port slot old new s q ne = one_others port slot s.0 new s.2 q ne ∙ some_others n port slot old s.0 s.1 q ne
+
+pub gone_others : (port slot : ℕ) (did : Bool) (old new : Device) → (did ≡ true → GoesOn port slot old new) → (did ≡ false → new ≡ old) →
+    (q : ℕ) → q ≢ port → new.port q ≡ old.port q
+gone_others port slot true old new went stayed q ne = let g = went refl in some_others (suc g.0) port slot old new g.1 q ne
+gone_others port slot false old new went stayed q ne = ap (λ (d : Device). d.port q) (stayed refl)
+
+-- ---- no step that is asked for ends a reset
+
+one_reset : (port slot : ℕ) (old new : Device) → DoesOne port slot old new → new.hr ≡ old.hr
+one_reset port slot old new (inl f) = ap (λ (d : Device). d.hr) f.effect
+one_reset port slot old new (inr (inl m)) = ap (λ (d : Device). d.hr) m.effect
+one_reset port slot old new (inr (inr e)) = ap (λ (d : Device). d.hr) e.effect
+
+some_reset : (n port slot : ℕ) (old new : Device) → DoesSome n port slot old new → new.hr ≡ old.hr
+some_reset zero port slot old new e = ap (λ (d : Device). d.hr) e
+some_reset (suc n) port slot old new s = one_reset port slot s.0 new s.2 ∙ some_reset n port slot old s.0 s.1
+
+asked_reset : (s : DeviceStep) (old new : Device) → Asked s old new → new.hr ≡ old.hr
+asked_reset (asked.Fetch p s) old new d = one_reset p.0 s.0 old new (inl d)
+asked_reset (asked.Move p s) old new d = one_reset p.0 s.0 old new (inr (inl d))
+asked_reset (asked.Done p s) old new d = one_reset p.0 s.0 old new (inr (inr d))
+asked_reset (asked.Finish p s) old new g = some_reset (suc g.0) p.0 s.0 old new g.1
+asked_reset (asked.Lie p page offset bits) old new e = ap (λ (d : Device). d.hr) e
+asked_reset (asked.Truth p) old new e = ap (λ (d : Device). d.hr) e
+asked_reset (asked.Hold p) old new e = ap (λ (d : Device). d.hr) e
+asked_reset (asked.Release p) old new e = ap (λ (d : Device). d.hr) e
+asked_reset (asked.Unplug p) old new d = ap (λ (d : Device). d.hr) d.effect
+asked_reset (asked.Plug p number) old new d = ap (λ (d : Device). d.hr) d.effect
+
+pub each_reset : (steps : List DeviceStep) (old new : Device) → DoesEach steps old new → new.hr ≡ old.hr
+each_reset [] old new e = ap (λ (d : Device). d.hr) e
+each_reset (s ∷ steps) old new d = each_reset steps d.0 new d.2 ∙ by d.1
+  where
+    by : Asked s old d.0 ⊎ (d.0 ≡ old) → d.0.hr ≡ old.hr
+    by (inl did) = asked_reset s old d.0 did
+    by (inr same) = ap (λ (x : Device). x.hr) same

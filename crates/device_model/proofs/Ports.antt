@@ -1,5 +1,5 @@
 -- One port of the hardware is changed.
-use Rattle.std.proofs.Common.{ℕ, true, false, ◌≡◌, ◌≢◌, ◌<◌, List, [], ◌∷◌, ◌++◌, length, refl, sym, ◌∙◌, ap, subst, inl, inr, get_or-set_same, get_or-set_other}
+use Rattle.std.proofs.Common.{ℕ, Bool, true, false, ◌≡◌, ◌≢◌, ◌<◌, List, [], ◌∷◌, ◌++◌, length, refl, sym, ◌∙◌, ap, subst, inl, inr, get_or-set_same, get_or-set_other}
 use Rattle.std.specs.Prelude.{slice_set, slice_index_or}
 use Rattle.std.specs.Global.{Vec}
 use Rattle.std.proofs.lemmas.Bool.Decides.{eqb_tells}
@@ -13,6 +13,7 @@ use Rattle.adapter.proofs.Changed.{fun_ext, changed_same, changed_other, changed
 use Rattle.hba_regs.specs.declared.reg.Reg.{Reg}
 use Rattle.hba_regs.specs.declared.reg.Reg.TheVariants.{Cap, Ghc, Is, Pi, Vs, Cap2, Bohc, Px}
 use Rattle.device_model.specs.Fetched.{bytes_of}
+use Rattle.device_model.specs.Held.{IsHeld}
 use Rattle.device_model.specs.Settled.{GoesTo, IsSettled}
 use Rattle.device_model.specs.View.{Media, port_of, blank}
 use Rattle.device_model.specs.Whole.{Outside, device_of, HasPort}
@@ -90,6 +91,14 @@ set_port_recorded h o p new state tape entry small is more =
     set_port (record h { tape = tape }) o p new state small is
     ∙ ap (λ (entries : List Entry). record (with_port (device_of h o) p state) { tape = entries }) more
 
+-- one port is changed with what is behind it, and the tape has one more entry
+pub set_port_plugged : (h : Hardware) (o : Outside) (p : ℕ) (new : PortModel) (media : Media) (state : PortState) (tape : Vec Entry) (entry : Entry) →
+    p < length h.ports → port_of new media ≡ state → tape.items ≡ h.tape.items ++ entry ∷ [] →
+    device_of (record h { ports = slice_set h.ports p new; tape = tape }) (record o { media = changed o.media p media }) ≡ recorded (device_of h o) p state entry
+set_port_plugged h o p new media state tape entry small is more =
+    set_both (record h { tape = tape }) o p new media state small is
+    ∙ ap (λ (entries : List Entry). record (with_port (device_of h o) p state) { tape = entries }) more
+
 -- one port is changed with what is behind it, the tape has one more entry, and the memory other bytes
 pub set_port_moved : (h : Hardware) (o : Outside) (p : ℕ) (new : PortModel) (media : Media) (state : PortState) (tape : Vec Entry) (entry : Entry)
     (memory : Vec ℕ) (bytes : ℕ → ℕ) →
@@ -102,21 +111,40 @@ set_port_moved h o p new media state tape entry memory bytes small is more size 
     ∙ (λ i. record (with_port (device_of h o) p state) { size = size i; memory = same i; tape = more i })
 
 -- a reading leaves settled what is
-pub noted_settled : (r : Reg) (v : ℕ) (d : Device) → IsSettled d → IsSettled (noted r v d)
-noted_settled (Px q r) v d s =
+pub noted_settled : (r : Reg) (v : ℕ) (d : Device) (held : List Bool) → IsSettled held d → IsSettled held (noted r v d)
+noted_settled (Px q r) v d held s =
     let new : PortState = record (d.port q.0) { notes = note r v (d.port q.0) } in
     record {
       reset = s.reset;
-      engines = changed_each d.port q.0 new (λ k p. (p.st ≡ false) × (p.cr ≡ true) → ⊥) (s.engines q.0) s.engines;
-      areas = changed_each d.port q.0 new (λ k p. (p.fre ≡ false) × (p.cr ≡ false) × (p.fr ≡ true) → ⊥) (s.areas q.0) s.areas;
+      engines = changed_each d.port q.0 new (λ k p. (p.st ≡ false) × (p.cr ≡ true) → IsHeld held k) (s.engines q.0) s.engines;
+      areas = changed_each d.port q.0 new (λ k p. (p.fre ≡ false) × (p.cr ≡ false) × (p.fr ≡ true) → IsHeld held k) (s.areas q.0) s.areas;
       links = λ port sig n may.
-          changed_each d.port q.0 new (λ k p. MayLinkUp p sig → ⊥)
+          changed_each d.port q.0 new (λ k p. MayLinkUp p sig → IsHeld held k)
           (λ m. s.links q.0 sig n (record { present = m.present; det = m.det; due = m.due; fits = m.fits })) (λ k m. s.links k sig n m) port may;
     }
-noted_settled Cap v d s = s
-noted_settled Ghc v d s = s
-noted_settled Is v d s = s
-noted_settled Pi v d s = s
-noted_settled Vs v d s = s
-noted_settled Cap2 v d s = s
-noted_settled Bohc v d s = s
+noted_settled Cap v d held s = s
+noted_settled Ghc v d held s = s
+noted_settled Is v d held s = s
+noted_settled Pi v d held s = s
+noted_settled Vs v d held s = s
+noted_settled Cap2 v d held s = s
+noted_settled Bohc v d held s = s
+
+-- and notes nothing at a port but what it showed
+pub noted_port : (r : Reg) (v : ℕ) (old new : Device) (port : ℕ) → new.port port ≡ old.port port → (noted r v new).port port ≡ (noted r v old).port port
+noted_port (Px q r) v old new port is =
+    elim (eqb_tells port q.0) [
+      | inl same ↦
+          let here : new.port q.0 ≡ old.port q.0 = subst (λ k. new.port k ≡ old.port k) same.1 is in
+          rw same.1
+          (changed_same new.port q.0 _
+          ∙ (ap (λ (p : PortState). record p { notes = note r v p }) here ∙ sym (changed_same old.port q.0 _)))
+      | inr differ ↦ changed_other new.port q.0 _ port differ.1 ∙ (is ∙ sym (changed_other old.port q.0 _ port differ.1))
+    ]
+noted_port Cap v old new port is = is
+noted_port Ghc v old new port is = is
+noted_port Is v old new port is = is
+noted_port Pi v old new port is = is
+noted_port Vs v old new port is = is
+noted_port Cap2 v old new port is = is
+noted_port Bohc v old new port is = is

@@ -13,6 +13,7 @@ use Rattle.adapter.specs.Steps.{Steps}
 use Rattle.adapter.specs.declared.access.DeviceStep.{DeviceStep}
 use Rattle.adapter.proofs.Going.{asked_steps}
 use Rattle.adapter.proofs.Runs.{Steps-refl, Steps-trans}
+use Rattle.device_model.specs.Held.{held_after, held_each}
 use Rattle.device_model.specs.Queue.{due, not_due, DoesEach}
 use Rattle.device_model.specs.declared.model.Queued.{Queued}
 
@@ -23,6 +24,11 @@ each_more [] s old mid new e one =
     let P : Device → Type 0 = λ d. Asked s d new ⊎ (new ≡ d) in
     (new, subst P e one, refl)
 each_more (x ∷ done) s old mid new d one = (d.0, d.1, each_more done s d.0 mid new d.2 one)
+
+-- the same of the ports that are held
+held_more : (done : List DeviceStep) (s : DeviceStep) (was : List Bool) → held_each (done ++ s ∷ []) was ≡ held_after s (held_each done was)
+held_more [] s was = refl
+held_more (x ∷ done) s was = held_more done s (held_after x was)
 
 pub each_steps : (done : List DeviceStep) (old new : Device) → DoesEach done old new → Steps old new
 each_steps [] old new e = let P : Device → Type 0 = λ d. Steps old d in subst P (sym e) (Steps-refl old)
@@ -40,7 +46,7 @@ did_or_not false s old new did refused = inr (refused refl)
 -- ---- the queue
 
 -- The queue was gone through up to this place: `rest` is still to be looked at, `kept` stands before it, and `done` was done.
-pub record IsAt (access : ℕ) (queue now : List Queued) (place left : ℕ) (old new : Device) : Type 0 where
+pub record IsAt (access : ℕ) (queue now : List Queued) (place left : ℕ) (old new : Device) (was is_held : List Bool) : Type 0 where
   pub kept : List Queued
   pub rest : List Queued
   pub done : List DeviceStep
@@ -50,9 +56,10 @@ pub record IsAt (access : ℕ) (queue now : List Queued) (place left : ℕ) (old
   pub keeps : not_due access queue ≡ kept ++ not_due access rest
   pub does : due access queue ≡ done ++ due access rest
   pub did : DoesEach done old new
+  pub held : is_held ≡ held_each done was
 
-pub at_start : (access : ℕ) (queue : List Queued) (old : Device) → IsAt access queue queue 0 (length queue) old old
-at_start access queue old = record {
+pub at_start : (access : ℕ) (queue : List Queued) (old : Device) (held : List Bool) → IsAt access queue queue 0 (length queue) old old held held
+at_start access queue old held = record {
   kept = [];
   rest = queue;
   done = [];
@@ -62,6 +69,7 @@ at_start access queue old = record {
   keeps = refl;
   does = refl;
   did = refl;
+  held = refl;
 }
 
 -- the one that is looked at, and those after it
@@ -70,11 +78,13 @@ next_of [] left e = absurd (omega (arith, e))
 next_of (x ∷ after) left e = (x, after, refl, omega (arith, e))
 
 -- the place is inside
-pub at_inside : (access : ℕ) (queue now : List Queued) (place left : ℕ) (old new : Device) → IsAt access queue now place left old new → 0 < left → place < length now
-at_inside access queue now place left old new a some =
+pub at_inside : (access : ℕ) (queue now : List Queued) (place left : ℕ) (old new : Device) (was held : List Bool) → IsAt access queue now place left old new was held → 0 < left →
+    place < length now
+at_inside access queue now place left old new was held a some =
     let n = length-append a.kept a.rest in omega (arith, ap length a.is, n, a.left_is, a.place_is, some)
 
-module _ (access : ℕ) (queue now : List Queued) (place left : ℕ) (old mid new : Device) (a : IsAt access queue now place (suc left) old mid) (d : Queued) where
+module _ (access : ℕ) (queue now : List Queued) (place left : ℕ) (old mid new : Device) (was held : List Bool)
+    (a : IsAt access queue now place (suc left) old mid was held) (d : Queued) where
   -- this is the one that stands there
 
   there : (x : Queued) (after : List Queued) → a.rest ≡ x ∷ after → slice_index_or now place d ≡ x
@@ -84,7 +94,7 @@ module _ (access : ℕ) (queue now : List Queued) (place left : ℕ) (old mid ne
       ∙ (ap (λ k. slice_index_or a.rest k d) (omega (arith, a.place_is)) ∙ ap (λ l. slice_index_or l 0 d) e))
 
   -- it isn't due
-  pub at_kept : access < (slice_index_or now place d).access → new ≡ mid → IsAt access queue now (place + 1) left old new
+  pub at_kept : access < (slice_index_or now place d).access → new ≡ mid → IsAt access queue now (place + 1) left old new was held
   at_kept late same =
       let n = next_of a.rest left a.left_is in
       let x : Queued = n.0 in
@@ -104,12 +114,14 @@ module _ (access : ℕ) (queue now : List Queued) (place left : ℕ) (old mid ne
         keeps = a.keeps ∙ (ap (λ l. a.kept ++ not_due access l) n.2 ∙ (ap (λ l. a.kept ++ l) kept ∙ sym (append_assoc a.kept (x ∷ []) (not_due access after))));
         does = a.does ∙ (ap (λ l. a.done ++ due access l) n.2 ∙ ap (λ l. a.done ++ l) passed);
         did = subst P (sym same) a.did;
+        held = a.held;
       }
 
   -- it is due, and leaves the queue
   pub at_done : (slice_index_or now place d).access ≤ access → Asked (slice_index_or now place d).step mid new ⊎ (new ≡ mid) →
-      IsAt access queue (remove now place) place left old new
-  at_done early one =
+      (after_held : List Bool) → after_held ≡ held_after (slice_index_or now place d).step held →
+      IsAt access queue (remove now place) place left old new was after_held
+  at_done early one after_held told =
       let n = next_of a.rest left a.left_is in
       let x : Queued = n.0 in
       let after : List Queued = n.1 in
@@ -132,10 +144,12 @@ module _ (access : ℕ) (queue now : List Queued) (place left : ℕ) (old mid ne
         keeps = a.keeps ∙ (ap (λ l. a.kept ++ not_due access l) n.2 ∙ ap (λ l. a.kept ++ l) passed);
         does = a.does ∙ (ap (λ l. a.done ++ due access l) n.2 ∙ (ap (λ l. a.done ++ l) taken ∙ sym (append_assoc a.done (x.step ∷ []) (due access after))));
         did = each_more a.done x.step old mid new a.did (subst Q e one);
+        held = told ∙ (ap (λ (q : Queued). held_after q.step held) e ∙ (ap (held_after x.step) a.held ∙ sym (held_more a.done x.step was)));
       }
 
 -- all were looked at
-module _ (access : ℕ) (queue now : List Queued) (place : ℕ) (old new : Device) (a : IsAt access queue now place 0 old new) where
+module _ (access : ℕ) (queue now : List Queued) (place : ℕ) (old new : Device) (was held : List Bool)
+    (a : IsAt access queue now place 0 old new was held) where
   none_left : (rest : List Queued) → length rest ≡ 0 → rest ≡ []
   none_left [] e = refl
   none_left (x ∷ rest) e = absurd (omega (arith, e))
@@ -151,6 +165,12 @@ module _ (access : ℕ) (queue now : List Queued) (place : ℕ) (old new : Devic
       let all : due access queue ≡ a.done = a.does ∙ (ap (λ l. a.done ++ due access l) none ∙ append-nil a.done) in
       let P : List DeviceStep → Type 0 = λ l. DoesEach l old new in
       subst P (sym all) a.did
+
+  pub at_end_held : held ≡ held_each (due access queue) was
+  at_end_held =
+      let none : a.rest ≡ [] = none_left a.rest a.left_is in
+      let all : due access queue ≡ a.done = a.does ∙ (ap (λ l. a.done ++ due access l) none ∙ append-nil a.done) in
+      a.held ∙ ap (λ (l : List DeviceStep). held_each l was) (sym all)
 
 -- ---- steps that have nothing to do with lies
 

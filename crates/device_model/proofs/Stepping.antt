@@ -3,12 +3,12 @@ use Rattle.std.proofs.Common.{ℕ, Bool, true, false, ◌≡◌, ◌<◌, ◌≤
 use Rattle.std.specs.Prelude.{slice_set, slice_index_or, IfSome, if◌then◌else◌}
 use Rattle.std.specs.Global.{Vec}
 use Rattle.adapter.specs.Commands.{Meaning, direction_of, is_ranged, reads_memory}
-use Rattle.adapter.specs.Device.{PortState, Device, IsSector}
+use Rattle.adapter.specs.Device.{Disk, PortState, Device, IsSector}
 use Rattle.adapter.specs.Idle.{IsIdlePort, IsIdle}
 use Rattle.adapter.specs.Memory.{patched, bytes_at}
 use Rattle.adapter.specs.Says.{Says, pieces}
 use Rattle.adapter.specs.Steps.{after, MayFetch, MayMove, Brings, with_fetch, with_move, with_done, done_entry, move_of, memory_after, next_place, next_sector}
-use Rattle.adapter.specs.Steps.Step.{Move, Unplug}
+use Rattle.adapter.specs.Steps.Step.{Move, Unplug, Plug}
 use Rattle.adapter.specs.declared.command.Direction.{Direction}
 use Rattle.adapter.specs.declared.command.Operation.{Operation}
 use Rattle.adapter.specs.declared.tape.Entry.{Entry}
@@ -18,15 +18,15 @@ use Rattle.adapter.specs.Asked.{DoesFetch, DoesDone}
 use Rattle.adapter.proofs.Changed.{changed_each}
 use Rattle.device_model.specs.Fetched.{bytes_of}
 use Rattle.device_model.specs.Slots.{MayTake, HoldsAt, IsNext}
-use Rattle.device_model.specs.View.{media_after, operation_of, port_of, taken_of, blank}
-use Rattle.device_model.specs.Whole.{Outside, device_of, outside_after}
+use Rattle.device_model.specs.View.{Media, media_after, operation_of, port_of, taken_of, blank}
+use Rattle.device_model.specs.Whole.{Outside, device_of, outside_after, outside_plugged}
 use Rattle.device_model.specs.declared.port.TakenCommand.{TakenCommand}
 use Rattle.device_model.specs.declared.port.Transfer.{Transfer}
 use Rattle.device_model.specs.declared.port.Transfer.TheVariants as transfer
 use Rattle.device_model.specs.declared.port.PortModel.{PortModel}
 use Rattle.device_model.specs.declared.hardware.Hardware.{Hardware}
 use Rattle.device_model.specs.declared.steps.NextMove.{NextMove}
-use Rattle.device_model.proofs.Ports.{set_port, set_port_recorded, set_port_moved}
+use Rattle.device_model.proofs.Ports.{set_port, set_port_plugged, set_port_recorded, set_port_moved}
 use Rattle.device_model.proofs.Transfers.{no_trim}
 
 -- an entry of a move, by its parts
@@ -73,6 +73,17 @@ pub unplugged : (h : Hardware) (o : Outside) (new : PortModel) (tape : Vec Entry
     tape.items ≡ h.tape.items ++ entry.Unplug (record { 0 = 0 }) ∷ [] →
     device_of (record h { ports = slice_set h.ports 0 new; tape = tape }) o ≡ after (Unplug 0) (device_of h o)
 unplugged h o new tape some is more = set_port_recorded h o 0 new _ tape (entry.Unplug (record { 0 = 0 })) some is more
+
+-- disk 0 is put in
+pub plugged_in : (h : Hardware) (o : Outside) (new : PortModel) (tape : Vec Entry) (disk : Disk) → disk.name ≡ 0 → 0 < length h.ports →
+    ((m : Media) → port_of new m ≡ record (port_of (slice_index_or h.ports 0 blank) m) { ssts_det = 3; present = true; fresh = false; serr_n = true; serr_x = true }) →
+    tape.items ≡ h.tape.items ++ entry.Plug (record { 0 = 0 }) 0 ∷ [] →
+    device_of (record h { ports = slice_set h.ports 0 new; tape = tape }) (outside_plugged o disk) ≡ after (Plug 0 disk) (device_of h o)
+plugged_in h o new tape disk name some is more =
+    let media : Media = record { disk = disk; plugged = (o.media 0).plugged ++ disk ∷ [] } in
+    let named : entry.Plug (record { 0 = 0 }) 0 ≡ entry.Plug (record { 0 = 0 }) disk.name = ap (entry.Plug (record { 0 = 0 })) (sym name) in
+    set_port_plugged h o 0 new media _ tape (entry.Plug (record { 0 = 0 }) disk.name) some (is media)
+    (more ∙ ap (λ (e : Entry). h.tape.items ++ e ∷ []) named)
 
 -- an idle adapter is idle without it
 pub unplugged_idle : (old new : Device) → new ≡ after (Unplug 0) old → IsIdle old → IsIdle new

@@ -3,6 +3,7 @@ pub mod View
 pub mod Whole
 pub mod Fetched
 pub mod Slots
+pub mod Held
 pub mod Settled
 pub mod Modelled
 pub mod Finishing

@@ -1,15 +1,15 @@
 -- What a model with its disks stands for.
-use Rattle.std.specs.Prelude.{ℕ, Bool, true, false, ◌≡◌, ◌≢◌, ◌+◌, ◌-◌, ◌*◌, ◌^◌, ◌<◌, List, [], ◌∷◌, Option, if◌then◌else◌, count_ones}
+use Rattle.std.specs.Prelude.{ℕ, Bool, true, false, ◌≡◌, ◌≢◌, ◌+◌, ◌-◌, ◌*◌, ◌^◌, ◌<◌, List, [], ◌∷◌, Option, if◌then◌else◌, count_ones, map}
 use Rattle.adapter.specs.Device.{PortState, Device}
 use Rattle.adapter.specs.FirstRead.{no_notes}
 use Rattle.device_model.specs.Whole.{Outside, device_of, outside_of, first_disk}
 use Rattle.device_model.specs.declared.config.ModelConfig.{ModelConfig}
 use Rattle.device_model.specs.declared.model.Model.{Model}
 
--- the model's disks: disk 0 as it is, and as it was when it was plugged in
+-- the model's disks: disk 0 as it is, and as it was each time when it was plugged in
 abbrev pub outside_at : {S : Type 0} → (S → ℕ) → (S → Option (ℕ → List ℕ)) → Model S → Outside
 outside_at size told m =
-    outside_of (first_disk (size m.disk0) (told m.disk0)) (told m.disk1) (first_disk (size m.plugged.value) (told m.plugged.value) ∷ [])
+    outside_of (first_disk (size m.disk0) (told m.disk0)) (told m.disk1) (map (λ s. first_disk (size s.value) (told s.value)) m.plugged.items)
 
 abbrev pub device_at : {S : Type 0} → (S → ℕ) → (S → Option (ℕ → List ℕ)) → Model S → Device
 device_at size told m = device_of m.hardware (outside_at size told m)

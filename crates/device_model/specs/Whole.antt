@@ -1,5 +1,5 @@
 -- The state of the whole adapter that a model stands for.
-use Rattle.std.specs.Prelude.{ℕ, Bool, ◌<◌, ◌&&◌, List, [], length, Option, Some, is_some, if◌then◌else◌, nat_eq, slice_index, slice_index_or}
+use Rattle.std.specs.Prelude.{ℕ, Bool, ◌<◌, ◌&&◌, ◌++◌, ◌∷◌, List, [], length, Option, Some, is_some, if◌then◌else◌, nat_eq, slice_index, slice_index_or}
 use Rattle.adapter.specs.Device.{Disk, Taken, Device}
 use Rattle.adapter.specs.Memory.{changed}
 use Rattle.hba_regs.specs.declared.reg.Reg.{Reg}
@@ -39,6 +39,10 @@ HasPort _ = Unit {0}
 -- no disk, ever
 abbrev pub no_media : Media
 no_media = record { disk = record { name = 0; size = 0; sectors = Some (λ k. []) }; plugged = [] }
+
+-- the same after this disk was put into port 0
+abbrev pub outside_plugged : Outside → Disk → Outside
+outside_plugged o disk = record o { media = changed o.media 0 (record { disk = disk; plugged = (o.media 0).plugged ++ disk ∷ [] }) }
 
 abbrev pub first_disk : ℕ → Option (ℕ → List ℕ) → Disk
 first_disk size told = record { name = 0; size = size; sectors = told }

@@ -1,9 +1,10 @@
 // The model without its disks.
-ghost use Rattle.std.specs.Prelude.{◌≡◌, ◌≢◌, ◌+◌, ◌<◌, ◌≤◌, ◌++◌, ℕ, false, if◌then◌else◌, All, length, take, drop, slice_index_or};
+ghost use Rattle.std.specs.Prelude.{◌≡◌, ◌≢◌, ◌+◌, ◌<◌, ◌≤◌, ◌++◌, ℕ, true, false, if◌then◌else◌, All, length, take, drop, slice_index_or};
 ghost use Rattle.adapter.specs.Access.{Shows, noted, written, unacknowledged};
 ghost use Rattle.adapter.specs.Memory.{patched, bytes_at};
 ghost use Rattle.adapter.specs.Steps.{Steps, with_reset};
 ghost use Rattle.hba_regs.specs.Bits.{bit};
+ghost use Rattle.device_model.specs.Held.{IsHeld, all_held, none_held};
 ghost use Rattle.device_model.specs.Settled.{IsSettled, IsSettledPort};
 ghost use Rattle.device_model.specs.View.{Media, port_of, blank};
 ghost use Rattle.device_model.specs.Whole.{Outside, device_of, HasPort};
@@ -13,11 +14,14 @@ use crate::port::PortModel;
 use adapter::Entry;
 use hba_regs::{Reg, is_set};
 
+/// The model has ports 0 to 3.
+pub const PORTS: usize = 4;
+
 /// Registers, memory and the tape.
 #[derive(Drop)]
 pub struct Hardware {
     pub memory: Vec<u8>,
-    pub ports: [PortModel; 4],
+    pub ports: [PortModel; PORTS],
     pub cap: u32,
     pub pi: u32,
     pub hr: bool,
@@ -147,16 +151,31 @@ impl Hardware {
 
     /// A reset that is pending ends (AHCI 1.3.1, 10.4.3).
     fn end_reset(&mut self)
+        requires { self.old.hr ≡ true }
         ensures steps { (o : Outside) → Steps (device_of self.old o) (device_of self.new o) }
         ensures ended { self.new.hr ≡ false }
         ensures number { length self.new.ports ≡ length self.old.ports }
         ensures tape { self.new.tape ≡ self.old.tape }
     {
-        if self.hr {
-            self.hr = false;
-            self.ae = false;
-            self.ie = false;
-            reset_all(&mut self.ports);
+        self.hr = false;
+        self.ae = false;
+        self.ie = false;
+        reset_all(&mut self.ports);
+    }
+
+    /// A reset that is pending ends unless all ports are held, and ends all holds.
+    fn end_reset_unless_held(&mut self, held: &mut [bool; PORTS])
+        ensures steps { (o : Outside) → Steps (device_of self.old o) (device_of self.new o) }
+        ensures left { self.new.hr ≡ true → held.new ≡ all_held }
+        ensures still { (port : ℕ) → IsHeld held.new port → self.new ≡ self.old }
+        ensures held { (self.old.hr ≡ true → held.old ≡ all_held) → held.new ≡ held.old }
+        ensures freed { self.old.hr ≡ true → held.old ≢ all_held → held.new ≡ none_held }
+        ensures number { length self.new.ports ≡ length self.old.ports }
+        ensures tape { self.new.tape ≡ self.old.tape }
+    {
+        if self.hr && *held != [true; PORTS] {
+            self.end_reset();
+            *held = [false; PORTS];
         }
     }
 
@@ -173,16 +192,22 @@ impl Hardware {
         self.ports[port].settle();
     }
 
-    /// What the adapter does by itself before a register is read: a pending reset ends, and then each port does what it
-    /// does by itself. Afterwards none of this is possible any more.
-    pub fn settle(&mut self)
+    /// What the adapter does by itself before a register is read: a pending reset ends unless all ports are held, and ends all holds;
+    /// then each port that isn't held does what it does by itself. Afterwards none of this is possible any more. A held port stays as
+    /// it is.
+    pub fn settle(&mut self, held: &mut [bool; PORTS])
         ensures steps { (o : Outside) → Steps (device_of self.old o) (device_of self.new o) }
-        ensures settled { (o : Outside) → IsSettled (device_of self.new o) }
+        ensures settled { (o : Outside) → IsSettled held.new (device_of self.new o) }
+        ensures still { (o : Outside) (port : ℕ) → IsHeld held.new port → (device_of self.new o).port port ≡ (device_of self.old o).port port }
+        ensures held { (self.old.hr ≡ true → held.old ≡ all_held) → held.new ≡ held.old }
+        ensures freed { self.old.hr ≡ true → held.old ≢ all_held → held.new ≡ none_held }
         ensures tape { self.new.tape ≡ self.old.tape }
     {
-        self.end_reset();
-        for port in 0..4 {
-            self.settle_port(port);
+        self.end_reset_unless_held(held);
+        for port in 0..PORTS {
+            if !held[port] {
+                self.settle_port(port);
+            }
         }
     }
 }

@@ -1,6 +1,6 @@
 //! A modelled AHCI adapter: registers, memory, and one disk over a store of sectors. Its device does what it is told,
-//! and by itself ends a reset, lets engines fall, brings the link up, and does IDENTIFY DEVICE. For now it takes READ DMA
-//! EXT, WRITE DMA EXT and IDENTIFY DEVICE alone.
+//! and by itself ends a reset, lets engines fall, brings the link up, and does IDENTIFY DEVICE, but not on a port that is
+//! held. For now it takes READ DMA EXT, WRITE DMA EXT and IDENTIFY DEVICE alone.
 #![tactic(auto)]
 
 mod bits;

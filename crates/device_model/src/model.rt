@@ -1,30 +1,32 @@
 // The model as an adapter.
-ghost use Rattle.std.specs.Prelude.{◌≡◌, ◌≢◌, ◌<◌, ◌≤◌, ◌+◌, ◌-◌, ◌*◌, ◌^◌, ◌++◌, ◌∷◌, [], ℕ, List, true, false, is_some, ◌&&◌, min, max, length, IfSome, IfOk, OnOk, OnErr};
+ghost use Rattle.std.specs.Prelude.{◌≡◌, ◌≢◌, ◌↔◌, ◌<◌, ◌≤◌, ◌+◌, ◌-◌, ◌*◌, ◌^◌, ◌++◌, ◌∷◌, [], ℕ, Bool, List, true, false, is_some, ◌&&◌, min, max, map, length, slice_set, IsTrue, IfSome, IfOk, OnOk, OnErr};
+ghost use Rattle.std.specs.Vec.{vec_len, vec_capacity};
 ghost use Rattle.adapter.specs.Commands.{Meaning, is_ranged};
-ghost use Rattle.adapter.specs.Device.{Taken, IsSector};
+ghost use Rattle.adapter.specs.Device.{Disk, Taken, IsSector};
 ghost use Rattle.adapter.specs.Idle.{IsIdle, IsSane};
 ghost use Rattle.adapter.specs.OneCommand.{IsFreeSlot};
-ghost use Rattle.adapter.specs.Access.{Reads, Writes, Loads, Stores};
+ghost use Rattle.adapter.specs.Access.{Reads, Writes, Loads, Stores, noted};
 ghost use Rattle.adapter.specs.Memory.{bytes_at};
 ghost use Rattle.adapter.specs.Rules.{MayRead, MayWrite, IsFree, Stays};
 ghost use Rattle.adapter.specs.Steps.{Steps, Can, after, disk_after};
 ghost use Rattle.adapter.specs.Steps.Step.{Fetch, Move, Done, Unplug};
-ghost use Rattle.adapter.specs.Asked.{DoesMove, GoesOn, Asked};
+ghost use Rattle.adapter.specs.Asked.{DoesMove, DoesPlug, GoesOn, Asked};
 ghost use Rattle.device_model.specs.Fetched.{bytes_of};
 ghost use Rattle.device_model.specs.Finishing.{HasDisk, HasIdentify, HasMove, HasRoom, IsReady};
 ghost use Rattle.device_model.specs.Paged.{AreHonest, IsHonest, IsItsPage, IsTurned, KeepsPages, lying, no_lies, serial_of_disk0};
 ghost use Rattle.device_model.specs.Tells.{disks_told};
 ghost use Rattle.device_model.specs.Queue.{DoesEach, due, not_due};
 ghost use Rattle.device_model.specs.Modelled.{device_at, cap_of, IsNew};
+ghost use Rattle.device_model.specs.Held.{IsHeld, IsHolding, all_held, held_after, held_each, none_held};
 ghost use Rattle.device_model.specs.Settled.{IsSettled};
 ghost use Rattle.device_model.specs.View.{Takes, operation_of};
 ghost use Rattle.device_model.specs.Whole.{first_disk};
 
 use crate::config::{ModelConfig, NoMemory};
-use crate::hardware::Hardware;
+use crate::hardware::{Hardware, PORTS};
 use crate::port::{PortModel, Transfer};
 use crate::steps::NextMove;
-use adapter::{Adapter, DeviceStep, DiskPage, Entry, Stepped};
+use adapter::{Adapter, DeviceStep, DiskNumber, DiskPage, Entry, Stepped};
 use ata_types::{Port, Slot};
 use hba_regs::Reg;
 use sector_store::SectorStore;
@@ -50,7 +52,8 @@ pub struct Description {
 }
 
 /// A modelled adapter. Port 0 has a disk over the first store; the others of ports 0 to 3 that there are have no device. Of
-/// all commands it takes READ DMA EXT, WRITE DMA EXT and IDENTIFY DEVICE alone: a step on another one answers `false`.
+/// all commands it takes READ DMA EXT, WRITE DMA EXT and IDENTIFY DEVICE alone: a step on another one answers `false`. Disk 0 can be
+/// taken out and put in again; disk 1 can't be put in for now.
 #[derive(Drop)]
 pub struct Model<S> {
     hardware: Hardware,
@@ -58,8 +61,10 @@ pub struct Model<S> {
     disk1: S,
     /// What the page of port 0's disk says of it.
     says: Description,
-    /// Disk 0 as it was when it was plugged in, for proofs alone.
-    plugged: Snapshot<S>,
+    /// Disk 0 as it was each time when it was plugged in, for proofs alone.
+    plugged: Vec<Snapshot<S>>,
+    /// On which of ports 0 to 3 it does nothing by itself.
+    held: [bool; PORTS],
     /// In the order in which they were queued.
     queue: Vec<Queued>,
     /// How many accesses were made.
@@ -78,6 +83,7 @@ impl<S: SectorStore> Model<S> {
         ensures sane { IfOk result (λ m. IsSane (device_at S.size S.told m)) }
         ensures telling { IfOk result (λ m. (device_at S.size S.told m).telling ≡ (is_some (S.told disk0) && is_some (S.told disk1))) }
         ensures made { IfOk result (λ m. IsNew config (S.size disk0) (S.told disk0) (device_at S.size S.told m)) }
+        ensures held { IfOk result (λ m. m.held ≡ none_held) }
         ensures says { IfOk result (λ m. m.says ≡ record { abilities = record { ncq = config.ncq; depth = config.depth; trim = config.trim }; lies = no_lies }) }
     {
         let hardware = Hardware {
@@ -95,6 +101,8 @@ impl<S: SectorStore> Model<S> {
             ie: false,
             tape: Vec::new(alloc),
         };
+        let mut plugged = Vec::with_capacity(alloc, 1)?;
+        remember(&mut plugged, &disk0);
         Ok(Model {
             hardware,
             says: Description {
@@ -105,9 +113,10 @@ impl<S: SectorStore> Model<S> {
                 },
                 lies: [0; PAGE_BYTES],
             },
-            plugged: Snapshot::of(&disk0),
+            plugged,
             disk0,
             disk1,
+            held: [false; PORTS],
             queue: Vec::new(alloc),
             accesses: 0,
         })
@@ -126,6 +135,7 @@ impl<S: SectorStore> Model<S> {
         ensures same { device_at S.size S.told self.new ≡ device_at S.size S.told self.old }
         ensures queued { OnOk result (self.new.queue.items ≡ self.old.queue.items ++ record { access = min (self.old.accesses + max n 1) (2 ^ 64 - 1); step = step } ∷ []) }
         ensures counted { self.new.accesses ≡ self.old.accesses }
+        ensures held { self.new.held ≡ self.old.held }
         ensures kept { OnErr result (self.new.queue.items ≡ self.old.queue.items) }
         ensures pages { KeepsPages S.size self.old self.new }
     {
@@ -137,17 +147,40 @@ impl<S: SectorStore> Model<S> {
 
     /// Takes the disk out of port 0; `false` says that there was none, or that the tape found no memory, and that nothing
     /// changed.
-    pub fn unplug(&mut self) -> bool
+    fn unplug(&mut self) -> bool
         ensures did { result ≡ true → Can (Unplug 0) (device_at S.size S.told self.old)
             × (device_at S.size S.told self.new ≡ after (Unplug 0) (device_at S.size S.told self.old)) }
         ensures refused { result ≡ false → device_at S.size S.told self.new ≡ device_at S.size S.told self.old }
         ensures only { result ≡ false → HasRoom self.old.hardware 1 → Can (Unplug 0) (device_at S.size S.told self.old) → ⊥ }
         ensures idle { IsIdle (device_at S.size S.told self.old) → IsIdle (device_at S.size S.told self.new) }
+        ensures held { self.new.held ≡ self.old.held }
         ensures queue { self.new.queue ≡ self.old.queue }
         ensures accesses { self.new.accesses ≡ self.old.accesses }
         ensures pages { KeepsPages S.size self.old self.new }
     {
         self.hardware.unplug()
+    }
+
+    /// Puts disk 0 into port 0 again; `false` says that there was a disk, or that there was no memory to note this, and that nothing
+    /// changed.
+    fn plug(&mut self) -> bool
+        ensures did { result ≡ true → DoesPlug 0 0 (device_at S.size S.told self.old) (device_at S.size S.told self.new) }
+        ensures refused { result ≡ false → device_at S.size S.told self.new ≡ device_at S.size S.told self.old }
+        ensures only { result ≡ false → HasRoom self.old.hardware 1 → vec_len self.old.plugged < vec_capacity self.old.plugged →
+            ((device_at S.size S.told self.old).port 0).present ≡ true }
+        ensures held { self.new.held ≡ self.old.held }
+        ensures queue { self.new.queue ≡ self.old.queue }
+        ensures accesses { self.new.accesses ≡ self.old.accesses }
+        ensures pages { KeepsPages S.size self.old self.new }
+    {
+        if self.plugged.reserve(1).is_err() {
+            return false;
+        }
+        if !self.hardware.plug() {
+            return false;
+        }
+        remember(&mut self.plugged, &self.disk0);
+        true
     }
 
     /// Moves the next piece of a slot's command; `false` says that it isn't possible, or that the store failed or the
@@ -160,6 +193,7 @@ impl<S: SectorStore> Model<S> {
             (t : Taken) → HasMove (device_at S.size S.told self.old) port slot t → ⊥ }
         ensures left { (n : ℕ) → HasRoom self.old.hardware (n + 1) → HasRoom self.new.hardware n }
         ensures disk { S.size self.new.disk0 ≡ S.size self.old.disk0 }
+        ensures held { self.new.held ≡ self.old.held }
         ensures queue { self.new.queue ≡ self.old.queue }
         ensures accesses { self.new.accesses ≡ self.old.accesses }
         ensures pages { KeepsPages S.size self.old self.new }
@@ -200,6 +234,7 @@ impl<S: SectorStore> Model<S> {
             IsFreeSlot ((device_at S.size S.told self.new).port port) slot }
         ensures only { result ≡ false → S.is_sure ≡ true → (device_at S.size S.told self.old).size ≤ 2 ^ 32 → port ≡ 0 → (left : ℕ) →
             HasRoom self.old.hardware (left + 1) → IsReady (device_at S.size S.told self.old) port slot (S.size self.old.disk0) left → ⊥ }
+        ensures held { self.new.held ≡ self.old.held }
         ensures queue { self.new.queue ≡ self.old.queue }
         ensures accesses { self.new.accesses ≡ self.old.accesses }
         ensures pages { KeepsPages S.size self.old self.new }
@@ -228,7 +263,9 @@ impl<S: SectorStore> Model<S> {
     /// changes.
     fn identify_once(&mut self)
         ensures steps { Steps (device_at S.size S.told self.old) (device_at S.size S.told self.new) }
-        ensures settled { IsSettled (device_at S.size S.told self.old) → IsSettled (device_at S.size S.told self.new) }
+        ensures settled { (held : List Bool) → IsSettled held (device_at S.size S.told self.old) → IsSettled held (device_at S.size S.told self.new) }
+        ensures others { (port : ℕ) → port ≢ 0 → (device_at S.size S.told self.new).port port ≡ (device_at S.size S.told self.old).port port }
+        ensures held { self.new.held ≡ self.old.held }
         ensures alone { ((slot : ℕ) → HasIdentify (device_at S.size S.told self.old) slot → ⊥) → device_at S.size S.told self.new ≡ device_at S.size S.told self.old }
         ensures pages { KeepsPages S.size self.old self.new }
         ensures queue { self.new.queue ≡ self.old.queue }
@@ -242,15 +279,21 @@ impl<S: SectorStore> Model<S> {
     }
 
     /// Does each IDENTIFY DEVICE of port 0 that can be done to its end: one that is taken already keeps the others waiting, so the slots
-    /// before it have their turn after it. Where there is none, nothing changes.
+    /// before it have their turn after it. Where there is none, or the port is held, nothing changes.
     fn identify(&mut self)
+        ensures waits { IsHeld self.old.held 0 → device_at S.size S.told self.new ≡ device_at S.size S.told self.old }
         ensures steps { Steps (device_at S.size S.told self.old) (device_at S.size S.told self.new) }
-        ensures settled { IsSettled (device_at S.size S.told self.old) → IsSettled (device_at S.size S.told self.new) }
+        ensures settled { (held : List Bool) → IsSettled held (device_at S.size S.told self.old) → IsSettled held (device_at S.size S.told self.new) }
+        ensures others { (port : ℕ) → port ≢ 0 → (device_at S.size S.told self.new).port port ≡ (device_at S.size S.told self.old).port port }
+        ensures held { self.new.held ≡ self.old.held }
         ensures alone { ((slot : ℕ) → HasIdentify (device_at S.size S.told self.old) slot → ⊥) → device_at S.size S.told self.new ≡ device_at S.size S.told self.old }
         ensures pages { KeepsPages S.size self.old self.new }
         ensures queue { self.new.queue ≡ self.old.queue }
         ensures accesses { self.new.accesses ≡ self.old.accesses }
     {
+        if self.held[0] {
+            return;
+        }
         self.identify_once();
         self.identify_once();
     }
@@ -282,6 +325,19 @@ impl<S: SectorStore> Model<S> {
         }
     }
 
+    /// Holds a port, or releases it; `false` says that it is none of ports 0 to 3.
+    fn hold(&mut self, port: Port, held: bool) -> bool
+        ensures answers { IsTrue result ↔ port.0 < 4 }
+        ensures alone { self.new ≡ record self.old { held = slice_set self.old.held port.0 held } }
+    {
+        let place = usize::from(port.0);
+        if place >= PORTS {
+            return false;
+        }
+        self.held[place] = held;
+        true
+    }
+
     /// Has the device do a step.
     fn do_step(&mut self, s: &DeviceStep) -> bool
         ensures asked { result ≡ true → Asked s.now (device_at S.size S.told self.old) (device_at S.size S.told self.new) }
@@ -309,6 +365,13 @@ impl<S: SectorStore> Model<S> {
         ensures elsewhere { (p : Port) (page : DiskPage) (offset bits : ℕ) → s.now ≡ DeviceStep.Lie p page offset bits → p.0 ≢ 0 → self.new.says ≡ self.old.says }
         ensures elsewhere_told { (p : Port) → s.now ≡ DeviceStep.Truth p → p.0 ≢ 0 → self.new.says ≡ self.old.says }
         ensures lied { result ≡ false → (p : Port) (page : DiskPage) (offset bits : ℕ) → s.now ≡ DeviceStep.Lie p page offset bits → offset < 512 → ⊥ }
+        ensures held { self.new.held ≡ held_after s.now self.old.held }
+        ensures unplugs { result ≡ false → HasRoom self.old.hardware 1 → s.now ≡ DeviceStep.Unplug (record { 0 = 0 }) →
+            Can (Unplug 0) (device_at S.size S.told self.old) → ⊥ }
+        ensures plugs { result ≡ false → HasRoom self.old.hardware 1 → vec_len self.old.plugged < vec_capacity self.old.plugged →
+            s.now ≡ DeviceStep.Plug (record { 0 = 0 }) (record { 0 = 0 }) → ((device_at S.size S.told self.old).port 0).present ≡ true }
+        ensures knows { result ≡ true → (p : Port) (number : DiskNumber) → s.now ≡ DeviceStep.Plug p number → (p.0 ≡ 0) × (number.0 ≡ 0) }
+        ensures holding { (p : Port) → IsHolding s.now p → (IsTrue result ↔ p.0 < 4) × (self.new ≡ record self.old { held = self.new.held }) }
     {
         match *s {
             DeviceStep::Fetch(port, slot) => {
@@ -326,6 +389,10 @@ impl<S: SectorStore> Model<S> {
                 self.tell_truth(port);
                 true
             }
+            DeviceStep::Hold(port) => self.hold(port, true),
+            DeviceStep::Release(port) => self.hold(port, false),
+            DeviceStep::Unplug(port) => port.0 == 0 && self.unplug(),
+            DeviceStep::Plug(port, disk) => port.0 == 0 && disk.0 == 0 && self.plug(),
         }
     }
 
@@ -336,6 +403,7 @@ impl<S: SectorStore> Model<S> {
         ensures did { DoesEach (due self.new.accesses self.old.queue.items) (device_at S.size S.told self.old) (device_at S.size S.told self.new) }
         ensures left { self.new.queue.items ≡ not_due self.new.accesses self.old.queue.items }
         ensures counted { self.new.accesses ≡ min (self.old.accesses + 1) (2 ^ 64 - 1) }
+        ensures held { self.new.held ≡ held_each (due self.new.accesses self.old.queue.items) self.old.held }
         ensures pages { AreHonest self.old.queue.items → KeepsPages S.size self.old self.new }
     {
         self.accesses = self.accesses.saturating_add(1);
@@ -350,6 +418,14 @@ impl<S: SectorStore> Model<S> {
             }
         }
     }
+}
+
+/// Adds a disk, as it is, to those that were plugged in.
+fn remember<S>(plugged: &mut Vec<Snapshot<S>>, disk: &S)
+    requires { vec_len plugged.old < vec_capacity plugged.old }
+    ensures { (f : S → Disk) → map (λ s. f s.value) plugged.new.items ≡ map (λ s. f s.value) plugged.old.items ++ f disk.now ∷ [] }
+{
+    let _pushed = plugged.push(Snapshot::of(disk)).is_ok();
 }
 
 /// Turns these bits of a page.
@@ -409,16 +485,23 @@ fn capabilities(pi: u8, slots: u8, ncq: bool) -> u32
 impl<S: SectorStore> Adapter for Model<S> {
     ghost device = { λ m. device_at S.size S.told m };
 
-    /// Before the value is read, a pending reset ends, each CR and FR that may fall does, and each link that may come up
-    /// does. Then each IDENTIFY DEVICE of port 0 is done that can be done to its end.
+    /// Before the value is read, a pending reset ends unless all four ports are held, and ends all holds; and on each port that isn't
+    /// held, CR and FR fall if they may, and the link comes up if it may. Then each IDENTIFY DEVICE of port 0 is done that can be done to
+    /// its end, unless that port is held. A held port does nothing by itself.
     fn read(&mut self, r: Reg) -> u32
         requires { MayRead r (device_at S.size S.told self.old) }
         ensures reads { Reads r result (device_at S.size S.told self.old) (device_at S.size S.told self.new) }
-        ensures settled { IsSettled (device_at S.size S.told self.new) }
+        ensures settled { IsSettled self.new.held (device_at S.size S.told self.new) }
+        ensures still { due self.new.accesses self.old.queue.items ≡ [] → (port : ℕ) → IsHeld self.new.held port →
+            (device_at S.size S.told self.new).port port ≡ (noted r result (device_at S.size S.told self.old)).port port }
+        ensures held { let told = held_each (due self.new.accesses self.old.queue.items) self.old.held in
+            ((device_at S.size S.told self.old).hr ≡ true → told ≡ all_held) → self.new.held ≡ told }
+        ensures freed { let told = held_each (due self.new.accesses self.old.queue.items) self.old.held in
+            (device_at S.size S.told self.old).hr ≡ true → told ≢ all_held → self.new.held ≡ none_held }
         ensures pages { AreHonest self.old.queue.items → KeepsPages S.size self.old self.new }
     {
         self.do_queued();
-        self.hardware.settle();
+        self.hardware.settle(&mut self.held);
         self.identify();
         let value = self.hardware.shown(r);
         self.hardware.note(r, value);
@@ -428,6 +511,7 @@ impl<S: SectorStore> Adapter for Model<S> {
     fn write(&mut self, r: Reg, v: u32)
         requires { Stays (MayWrite r v) (device_at S.size S.told self.old) }
         ensures writes { Writes r v (device_at S.size S.told self.old) (device_at S.size S.told self.new) }
+        ensures held { self.new.held ≡ held_each (due self.new.accesses self.old.queue.items) self.old.held }
         ensures pages { AreHonest self.old.queue.items → KeepsPages S.size self.old self.new }
     {
         self.do_queued();
@@ -437,6 +521,7 @@ impl<S: SectorStore> Adapter for Model<S> {
     fn load(&mut self, addr: u32, out: &mut [u8])
         requires { Stays (IsFree addr (length out.old)) (device_at S.size S.told self.old) }
         ensures loads { Loads addr out.new (device_at S.size S.told self.old) (device_at S.size S.told self.new) }
+        ensures held { self.new.held ≡ held_each (due self.new.accesses self.old.queue.items) self.old.held }
         ensures pages { AreHonest self.old.queue.items → KeepsPages S.size self.old self.new }
     {
         self.do_queued();
@@ -446,6 +531,7 @@ impl<S: SectorStore> Adapter for Model<S> {
     fn store(&mut self, addr: u32, bytes: &[u8])
         requires { Stays (IsFree addr (length bytes.now)) (device_at S.size S.told self.old) }
         ensures stores { Stores addr bytes.now (device_at S.size S.told self.old) (device_at S.size S.told self.new) }
+        ensures held { self.new.held ≡ held_each (due self.new.accesses self.old.queue.items) self.old.held }
         ensures pages { AreHonest self.old.queue.items → KeepsPages S.size self.old self.new }
     {
         self.do_queued();
@@ -460,7 +546,9 @@ impl<S: SectorStore> Stepped for Model<S> {
     /// possible; a move and an end only where they aren't, the store failed, or the tape has no memory (of IDENTIFY DEVICE,
     /// on port 0 alone); a Finish over a store that never fails ends the command, and on port 0, which alone has a disk, it
     /// is refused only where a move of it isn't possible or the tape has no memory. A page of IDENTIFY DEVICE is that of
-    /// disk 0. What is queued stays queued, for the accesses that it was queued for.
+    /// disk 0. A hold and a release are refused only on a port past 3; on port 0, and there alone, an Unplug is refused only where no disk
+    /// is in or the tape has no memory, and a Plug of disk 0 only where one is in or there is no memory to note it. A Plug of another disk is
+    /// refused. What is queued stays queued, for the accesses that it was queued for.
     fn step(&mut self, s: &DeviceStep) -> bool
         ensures steps { Steps (device_at S.size S.told self.old) (device_at S.size S.told self.new) }
         ensures refused { result ≡ false → device_at S.size S.told self.new ≡ device_at S.size S.told self.old }
@@ -488,6 +576,13 @@ impl<S: SectorStore> Stepped for Model<S> {
         ensures elsewhere { (p : Port) (page : DiskPage) (offset bits : ℕ) → s.now ≡ DeviceStep.Lie p page offset bits → p.0 ≢ 0 → self.new.says ≡ self.old.says }
         ensures elsewhere_told { (p : Port) → s.now ≡ DeviceStep.Truth p → p.0 ≢ 0 → self.new.says ≡ self.old.says }
         ensures lied { result ≡ false → (p : Port) (page : DiskPage) (offset bits : ℕ) → s.now ≡ DeviceStep.Lie p page offset bits → offset < 512 → ⊥ }
+        ensures held { self.new.held ≡ held_after s.now self.old.held }
+        ensures unplugs { result ≡ false → HasRoom self.old.hardware 1 → s.now ≡ DeviceStep.Unplug (record { 0 = 0 }) →
+            Can (Unplug 0) (device_at S.size S.told self.old) → ⊥ }
+        ensures plugs { result ≡ false → HasRoom self.old.hardware 1 → vec_len self.old.plugged < vec_capacity self.old.plugged →
+            s.now ≡ DeviceStep.Plug (record { 0 = 0 }) (record { 0 = 0 }) → ((device_at S.size S.told self.old).port 0).present ≡ true }
+        ensures knows { result ≡ true → (p : Port) (number : DiskNumber) → s.now ≡ DeviceStep.Plug p number → (p.0 ≡ 0) × (number.0 ≡ 0) }
+        ensures holding { (p : Port) → IsHolding s.now p → (IsTrue result ↔ p.0 < 4) × (self.new ≡ record self.old { held = self.new.held }) }
     {
         self.do_step(s)
     }

@@ -175,4 +175,15 @@ impl PortModel {
         self.fresh = false;
         self.serr_n = true;
     }
+
+    /// A disk is put in, and its link is up (AHCI 1.3.1, 3.3.10 and 3.3.12).
+    pub fn plug(&mut self)
+        ensures { (m : Media) → port_of self.new m ≡ record (port_of self.old m) { ssts_det = 3; present = true; fresh = false; serr_n = true; serr_x = true } }
+    {
+        self.detected = true;
+        self.present = true;
+        self.fresh = false;
+        self.serr_n = true;
+        self.serr_x = true;
+    }
 }

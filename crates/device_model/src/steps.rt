@@ -2,17 +2,17 @@
 ghost use Rattle.std.specs.Prelude.{◌≡◌, ◌↔◌, IsTrue, ◌<◌, ◌≤◌, ◌+◌, ◌^◌, ◌++◌, ◌∷◌, [], true, false, ℕ, List, None, Some, IfSome, if◌then◌else◌, length, slice_index, slice_index_or};
 ghost use Rattle.std.specs.Vec.{vec_len, vec_capacity};
 ghost use Rattle.adapter.specs.Commands.{Meaning, is_ranged, reads_memory};
-ghost use Rattle.adapter.specs.Device.{Taken};
+ghost use Rattle.adapter.specs.Device.{Disk, Taken};
 ghost use Rattle.adapter.specs.Memory.{patched};
 ghost use Rattle.adapter.specs.Says.{pieces};
 ghost use Rattle.adapter.specs.Steps.{Can, after, next_sector};
-ghost use Rattle.adapter.specs.Steps.Step.{Fetch as FetchStep, Move as MoveStep, Done as DoneStep, Unplug as UnplugStep};
+ghost use Rattle.adapter.specs.Steps.Step.{Fetch as FetchStep, Move as MoveStep, Done as DoneStep, Unplug as UnplugStep, Plug as PlugStep};
 ghost use Rattle.adapter.specs.Asked.{DoesFetch, DoesDone};
 ghost use Rattle.device_model.specs.Fetched.{bytes_of};
 ghost use Rattle.device_model.specs.Finishing.{HasIdentify, HasRoom, IsInside, AreInside, IsCovered, IsReady};
 ghost use Rattle.device_model.specs.Slots.{HoldsAt, IsNext};
 ghost use Rattle.device_model.specs.View.{Takes, operation_of, taken_of, blank};
-ghost use Rattle.device_model.specs.Whole.{Outside, device_of, outside_after};
+ghost use Rattle.device_model.specs.Whole.{Outside, device_of, outside_after, outside_plugged};
 ghost use Rattle.device_model.specs.declared.port.TakenCommand.{TakenCommand};
 
 use crate::fetch::{count_pieces, piece_at, read_as, read_command};
@@ -252,6 +252,20 @@ impl Hardware {
             return false;
         }
         self.ports[0].unplug();
+        true
+    }
+
+    /// Disk 0 is put into port 0; `false` says that there was a disk, or that the tape found no memory.
+    pub fn plug(&mut self) -> bool
+        ensures free { result ≡ true → (o : Outside) → ((device_of self.old o).port 0).present ≡ false }
+        ensures did { result ≡ true → (o : Outside) (disk : Disk) → disk.name ≡ 0 → device_of self.new (outside_plugged o disk) ≡ after (PlugStep 0 disk) (device_of self.old o) }
+        ensures refused { result ≡ false → (o : Outside) → device_of self.new o ≡ device_of self.old o }
+        ensures only { result ≡ false → HasRoom self.old 1 → (o : Outside) → ((device_of self.old o).port 0).present ≡ true }
+    {
+        if self.ports[0].present || !record(&mut self.tape, Entry::Plug(Port(0), 0)) {
+            return false;
+        }
+        self.ports[0].plug();
         true
     }
 

@@ -3,7 +3,7 @@
 ghost use Rattle.std.specs.Prelude.{◌<◌, ◌^◌};
 
 use crate::{Model, ModelConfig, NoMemory, Trim};
-use adapter::{Adapter, DeviceStep, Direction, DiskPage, Entry, Operation, Stepped};
+use adapter::{Adapter, DeviceStep, Direction, DiskNumber, DiskPage, Entry, Operation, Stepped};
 use ata_types::{Port, Slot};
 use hba_regs::{PortReg, Reg};
 use sector_store::{MemStore, SectorStore};
@@ -32,7 +32,7 @@ const FINISH: DeviceStep = DeviceStep::Finish(Port(0), Slot(0));
 
 fn read<S: SectorStore>(model: &mut Model<S>, r: PortReg) -> u32 {
     model.do_queued();
-    model.hardware.settle();
+    model.hardware.settle(&mut model.held);
     model.identify();
     model.hardware.shown(Reg::Px(Port(0), r))
 }
@@ -533,6 +533,89 @@ fn a_reset_ends_before_a_reading(rt: HostRuntime) -> Result<(), Fail> {
     assert_eq!(rt; read(&mut model, PortReg::Ssts), 3);
     assert_eq!(rt; read(&mut model, PortReg::Sig), 0x101);
     assert_eq!(rt; read(&mut model, PortReg::Tfd), 0x77);
+    Ok(())
+}
+
+#[test]
+fn a_held_port_does_nothing_by_itself(rt: HostRuntime) -> Result<(), Fail> {
+    let mut model = issued(rt.alloc())?;
+    issue_identify(&mut model);
+    assert!(rt; step(&mut model, DeviceStep::Hold(Port(0))));
+    assert!(rt; !step(&mut model, DeviceStep::Hold(Port(4))));
+    // IDENTIFY DEVICE waits, and then CR stays, and the link comes up no more.
+    assert_eq!(rt; read(&mut model, PortReg::Ci), 1);
+    write(&mut model, PortReg::Cmd, 0x10);
+    assert_eq!(rt; read(&mut model, PortReg::Cmd), 0xc010);
+    write(&mut model, PortReg::Sctl, 1);
+    write(&mut model, PortReg::Sctl, 0);
+    assert_eq!(rt; read(&mut model, PortReg::Ssts), 0);
+    assert_eq!(rt; model.tape().len(), 0);
+    // Before the second reading from now it goes on.
+    model.queue_step(2, DeviceStep::Release(Port(0)))?;
+    assert_eq!(rt; read(&mut model, PortReg::Cmd), 0xc010);
+    assert_eq!(rt; read(&mut model, PortReg::Cmd), 0x4010);
+    assert_eq!(rt; read(&mut model, PortReg::Ssts), 3);
+    Ok(())
+}
+
+#[test]
+fn a_held_identify_device_goes_on_after_a_release(rt: HostRuntime) -> Result<(), Fail> {
+    let mut model = issued(rt.alloc())?;
+    issue_identify(&mut model);
+    assert!(rt; step(&mut model, DeviceStep::Hold(Port(0))));
+    assert_eq!(rt; read(&mut model, PortReg::Ci), 1);
+    // What the device is told it does nevertheless.
+    assert!(rt; step(&mut model, DeviceStep::Fetch(Port(0), Slot(0))));
+    assert_eq!(rt; read(&mut model, PortReg::Ci), 1);
+    assert!(rt; step(&mut model, DeviceStep::Release(Port(0))));
+    assert_eq!(rt; read(&mut model, PortReg::Ci), 0);
+    assert_eq!(rt; model.tape().len(), 2);
+    Ok(())
+}
+
+#[test]
+fn disk_0_is_taken_out_and_put_in_again(rt: HostRuntime) -> Result<(), Fail> {
+    let plug = DeviceStep::Plug(Port(0), DiskNumber(0));
+    let mut model = issued(rt.alloc())?;
+    assert!(rt; !step(&mut model, plug));
+    assert!(rt; !step(&mut model, DeviceStep::Unplug(Port(1))));
+    assert!(rt; step(&mut model, DeviceStep::Unplug(Port(0))));
+    assert!(rt; !step(&mut model, DeviceStep::Unplug(Port(0))));
+    assert_eq!(rt; read(&mut model, PortReg::Ssts), 0);
+    assert!(rt; !step(&mut model, FINISH));
+    // Disk 1 can't be put in, and other ports have no disk.
+    assert!(rt; !step(&mut model, DeviceStep::Plug(Port(0), DiskNumber(1))));
+    assert!(rt; !step(&mut model, DeviceStep::Plug(Port(1), DiskNumber(0))));
+    assert!(rt; step(&mut model, plug));
+    assert_eq!(rt; read(&mut model, PortReg::Ssts), 3);
+    // N and X tell that a device was put in.
+    assert_eq!(rt; read(&mut model, PortReg::Serr), 0x0401_0000);
+    assert!(rt;
+        matches!(
+            model.tape(),
+            &[Entry::Unplug(Port(0)), Entry::Plug(Port(0), 0)]
+        )
+    );
+    Ok(())
+}
+
+#[test]
+fn a_reset_waits_while_all_ports_are_held(rt: HostRuntime) -> Result<(), Fail> {
+    let mut model = issued(rt.alloc())?;
+    model.hardware.write(Reg::Ghc, 0x8000_0001);
+    for port in 0..4u8 {
+        assert!(rt; step(&mut model, DeviceStep::Hold(Port(port))));
+    }
+    let _cmd = read(&mut model, PortReg::Cmd);
+    assert_eq!(rt; model.hardware.shown(Reg::Ghc), 0x8000_0001);
+    assert!(rt; step(&mut model, DeviceStep::Release(Port(3))));
+    let _cmd = read(&mut model, PortReg::Cmd);
+    assert_eq!(rt; model.hardware.shown(Reg::Ghc), 0);
+    // It has ended the holds of ports 0 to 2.
+    assert_eq!(rt; model.held, [false; 4]);
+    write(&mut model, PortReg::Sctl, 1);
+    write(&mut model, PortReg::Sctl, 0);
+    assert_eq!(rt; read(&mut model, PortReg::Ssts), 3);
     Ok(())
 }
 

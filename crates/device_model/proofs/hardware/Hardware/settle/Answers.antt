@@ -1,64 +1,106 @@
-use Rattle.std.proofs.Common.{rules, ℕ, ◌≡◌, ◌≢◌, length, ◌∙◌, subst, sym, arith, below_more, inl, inr}
+use Rattle.std.proofs.Common.{rules, ℕ, Bool, true, false, ◌≡◌, ◌≢◌, ◌<◌, length, slice_index_or, ◌∙◌, ap, subst, sym, arith, refl, inl, inr}
 use Rattle.std.proofs.lemmas.Bool.{cases_lt}
+use Rattle.std.proofs.lemmas.Bool.Decides.{eqb_tells}
 use Rattle.std.proofs.lemmas.List.{get_or_past}
-use Rattle.adapter.specs.Device.{PortState, Device}
+use Rattle.adapter.specs.Device.{PortState}
 use Rattle.adapter.proofs.Absurd.{true-false}
 use Rattle.adapter.proofs.Runs.{Steps-trans}
 use Rattle.device_model.specs.Settled.{IsSettledPort}
 use Rattle.device_model.specs.View.{port_of, blank}
 use Rattle.device_model.specs.Whole.{device_of}
+use Rattle.device_model.specs.declared.hardware.Hardware.{Hardware}
 use Rattle.device_model.specs.declared.port.PortModel.{PortModel}
 use Rattle.device_model.proofs.GoingOn.{blank_settled}
 use Rattle.device_model.proofs.hardware.Hardware.settle.Goals as goal
+use Rattle.device_model.proofs.hardware.Hardware.settle.Goals.{then-not-held-port, else-not-held-port}
 
 pub loop-port-init : goal.loop-port-init
 loop-port-init c =
+    let r = c.end_reset_unless_held.ensures in
     let four : length c.args.self.now.ports ≡ 4 = search rules in record {
-      steps = c.end_reset.ensures.steps;
-      settled = λ o q small. absurd (omega (arith, small));
-      number = c.end_reset.ensures.number ∙ four;
-      ended = c.end_reset.ensures.ended;
-      tape = c.end_reset.ensures.tape;
+      steps = r.steps;
+      settled = λ o q small free. absurd (omega (arith, small));
+      still = λ o q is. ap (λ (h : Hardware). (device_of h o).port q) (r.still q is);
+      number = r.number ∙ four;
+      left = r.left;
+      tape = r.tape;
     }
 
 pub loop-port-preserved : goal.loop-port-preserved
-loop-port-preserved c = record {
-  steps = λ o. Steps-trans (c.loop-port.invariant.steps o) (c.settle_port.ensures.steps o);
-  settled = λ o.
-      let new : Device = device_of c.settle_port.new.self o in
-      below_more (λ (q : ℕ). IsSettledPort (new.port q)) c.loop-port.port
-      (λ q small.
-      let P : PortState → Type 0 = λ p. IsSettledPort p in
-      let ne : q ≢ c.loop-port.port = λ e. absurd (omega (arith, e, small)) in
-      subst P (sym (c.settle_port.ensures.others o q ne)) (c.loop-port.invariant.settled o q small))
-      (c.settle_port.ensures.settled o);
-  number = c.settle_port.ensures.number ∙ c.loop-port.invariant.number;
-  ended = c.settle_port.ensures.reset ∙ c.loop-port.invariant.ended;
-  tape = c.settle_port.ensures.tape ∙ c.loop-port.invariant.tape;
-}
+loop-port-preserved c =
+    let is = c.loop-port.invariant in
+    elim c.if-not-held-port.branch [
+      | then-not-held-port w ↦
+          let s = w.settle_port.ensures in
+          rw w.self-is
+          (record {
+            steps = λ o. Steps-trans (is.steps o) (s.steps o);
+            settled = λ o q small free.
+                elim (eqb_tells q c.loop-port.port) [
+                  | inl same ↦ let P : ℕ → Type 0 = λ k. IsSettledPort ((device_of w.settle_port.new.self o).port k) in subst P (sym same.1) (s.settled o)
+                  | inr differ ↦
+                      let P : PortState → Type 0 = λ p. IsSettledPort p in
+                      let ne = differ.1 in
+                      subst P (sym (s.others o q ne)) (is.settled o q (let lt : q < c.loop-port.port = omega (arith, ne, small) in lt) free)
+                ];
+            still = λ o q held.
+                let other : q ≢ c.loop-port.port = λ same. true-false held (ap (λ k. slice_index_or c.end_reset_unless_held.new.held k false) same ∙ search rules) in
+                s.others o q other ∙ is.still o q held;
+            number = s.number ∙ is.number;
+            left = λ on. is.left (sym s.reset ∙ on);
+            tape = s.tape ∙ is.tape;
+          })
+      | else-not-held-port w ↦
+          rw w.self-is
+          (record {
+            steps = is.steps;
+            settled = λ o q small free.
+                elim (eqb_tells q c.loop-port.port) [
+                  | inl same ↦ absurd (true-false (search rules) (ap (λ k. slice_index_or c.end_reset_unless_held.new.held k false) (sym same.1) ∙ free))
+                  | inr differ ↦ let ne = differ.1 in is.settled o q (let lt : q < c.loop-port.port = omega (arith, ne, small) in lt) free
+                ];
+            still = is.still;
+            number = is.number;
+            left = is.left;
+            tape = is.tape;
+          })
+    ]
 
 pub returns-clause-steps : goal.returns-clause-steps
 returns-clause-steps c = c.loop-port.invariant.steps
 
--- each port is settled, also those that aren't there
+pub returns-clause-still : goal.returns-clause-still
+returns-clause-still c = c.loop-port.invariant.still
+
+pub returns-clause-freed : goal.returns-clause-freed
+returns-clause-freed c = c.end_reset_unless_held.ensures.freed
+
+pub returns-clause-held : goal.returns-clause-held
+returns-clause-held c = c.end_reset_unless_held.ensures.held
+
+-- each port that isn't held is settled, also those that aren't there
 pub returns-clause-settled : goal.returns-clause-settled
 returns-clause-settled c = λ o.
     let h = c.loop-port.self in
     let four = c.loop-port.invariant.number in
-    let all : (q : ℕ) → IsSettledPort ((device_of h o).port q) =
-    λ (q : ℕ).
+    let all : (q : ℕ) → slice_index_or c.end_reset_unless_held.new.held q false ≡ false → IsSettledPort ((device_of h o).port q) =
+    λ (q : ℕ) (free : slice_index_or c.end_reset_unless_held.new.held q false ≡ false).
     elim (cases_lt q 4) [
-      | inl small ↦ c.loop-port.invariant.settled o q (omega (arith, small, c.loop-port-test.false))
+      | inl small ↦ c.loop-port.invariant.settled o q (omega (arith, small, c.loop-port-test.false)) free
       | inr past ↦
           let P : PortModel → Type 0 = λ p. IsSettledPort (port_of p (o.media q)) in
           subst P (sym (get_or_past h.ports q blank (omega (arith, past, four)))) (blank_settled (o.media q))
     ] in
     record {
-      reset = λ on. true-false on c.loop-port.invariant.ended;
-      engines = λ q may. (all q).engine may.0 may.1;
-      areas = λ q may. (all q).area may.0 may.1 may.2;
-      links = λ q sig n may. (all q).link sig may;
+      reset = λ on. c.loop-port.invariant.left on;
+      engines = λ q may. held_if _ (λ free. (all q free).engine may.0 may.1);
+      areas = λ q may. held_if _ (λ free. (all q free).area may.0 may.1 may.2);
+      links = λ q sig n may. held_if _ (λ free. (all q free).link sig may);
     }
+  where
+    held_if : (b : Bool) → (b ≡ false → ⊥) → b ≡ true
+    held_if true = λ no. refl
+    held_if false = λ no. absurd (no refl)
 
 pub returns-clause-tape : goal.returns-clause-tape
 returns-clause-tape c = c.loop-port.invariant.tape

@@ -10,5 +10,6 @@ invariant-loop-queued g l = record {
   honest : AreHonest l.fn.self.queue.items → AreHonest l.self.queue.items;
   pages : AreHonest l.fn.self.queue.items → KeepsPages g.S.SectorStore.size l.fn.self l.self;
   at : IsAt l.initial.self.accesses l.fn.self.queue.items l.self.queue.items l.place (l._queued-end - l._queued)
-      (device_at g.S.SectorStore.size g.S.SectorStore.told l.fn.self) (device_at g.S.SectorStore.size g.S.SectorStore.told l.self);
+      (device_at g.S.SectorStore.size g.S.SectorStore.told l.fn.self) (device_at g.S.SectorStore.size g.S.SectorStore.told l.self)
+      l.fn.self.held l.self.held;
 }

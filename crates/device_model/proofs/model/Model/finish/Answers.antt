@@ -27,6 +27,7 @@ loop-piece-init g c =
       size = fetched_size c.args.port c.args.slot c.fetch-did.result _ new (λ e. c.fetch-did.ensures.did e o) (λ e. c.fetch-did.ensures.refused e o)
           ∙ ap (λ (d : Device). d.size) kept;
       disk = sym c.sectors-sectors.ensures;
+      held = refl;
       queue = refl;
       accesses = refl;
       pages = keeps_tape g.S.SectorStore.size _ _ refl refl
@@ -51,6 +52,7 @@ loop-piece-preserved g c = let moved = c.move_piece.ensures.did c.if-not-move_pi
   refused = λ no. absurd (let e : true ≡ false = no in cc);
   size = ap (λ (d : Device). d.size) moved.effect ∙ c.loop-piece.invariant.size;
   disk = c.move_piece.ensures.disk ∙ c.loop-piece.invariant.disk;
+  held = c.move_piece.ensures.held ∙ c.loop-piece.invariant.held;
   queue = c.move_piece.ensures.queue ∙ c.loop-piece.invariant.queue;
   accesses = c.move_piece.ensures.accesses ∙ c.loop-piece.invariant.accesses;
   pages = keeps_on g.S.SectorStore.size _ _ _ c.loop-piece.invariant.pages c.move_piece.ensures.pages;

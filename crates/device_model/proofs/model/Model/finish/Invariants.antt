@@ -15,6 +15,7 @@ invariant-loop-piece g l = record {
   disk : g.S.SectorStore.size l.self.disk0 ≡ l.sectors;
   room : HasRoom l.self.hardware (l.left - l._piece + 1);
   going : IsGoing (device_at g.S.SectorStore.size g.S.SectorStore.told l.self) l.port l.slot l.sectors (l.left - l._piece);
+  held : l.self.held ≡ l.fn.self.held;
   queue : l.self.queue ≡ l.fn.self.queue;
   accesses : l.self.accesses ≡ l.fn.self.accesses;
   pages : KeepsPages g.S.SectorStore.size l.fn.self l.self;

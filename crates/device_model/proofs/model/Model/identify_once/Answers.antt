@@ -5,7 +5,7 @@ use Rattle.adapter.proofs.Runs.{Steps-refl, Steps-trans}
 use Rattle.adapter.specs.Device.{Device}
 use Rattle.device_model.specs.Finishing.{HasIdentify}
 use Rattle.device_model.specs.Modelled.{outside_at}
-use Rattle.device_model.proofs.GoingOn.{gone_settled}
+use Rattle.device_model.proofs.GoingOn.{gone_others, gone_settled}
 use Rattle.device_model.proofs.Telling.{keeps_tape, keeps_on}
 use Rattle.device_model.proofs.model.Model.identify_once.Goals as goal
 use Rattle.device_model.proofs.model.Model.identify_once.Goals.{then-has_identify, else-has_identify}
@@ -13,9 +13,11 @@ use Rattle.device_model.proofs.model.Model.identify_once.Goals.{then-has_identif
 pub loop-slot-init : goal.loop-slot-init
 loop-slot-init g c = record {
   steps = Steps-refl _;
-  settled = λ s. s;
+  settled = λ _ s. s;
+  others = λ port _. refl;
   alone = λ _. refl;
   pages = keeps_tape g.S.SectorStore.size _ _ refl refl refl;
+  held = refl;
   queue = refl;
   accesses = refl;
 }
@@ -30,17 +32,19 @@ loop-slot-preserved g c =
           (record {
             steps = Steps-trans is.steps
                 (step_steps w.finish-did.result (asked.Finish (record { 0 = 0 }) (record { 0 = c.loop-slot.slot })) _ _ f.did f.refused);
-            settled = λ s. gone_settled 0 c.loop-slot.slot w.finish-did.result _ _ f.did f.refused (is.settled s);
+            settled = λ held s. gone_settled 0 c.loop-slot.slot w.finish-did.result _ _ f.did f.refused held (is.settled held s);
+            others = λ port ne. gone_others 0 c.loop-slot.slot w.finish-did.result _ _ f.did f.refused port ne ∙ is.others port ne;
             alone = λ none.
                 let P : Device → Type 0 = λ d. HasIdentify d c.loop-slot.slot in
                 let has = c.has_identify.ensures.has w.if-has_identify.true (outside_at g.S.SectorStore.size g.S.SectorStore.told c.loop-slot.self) in
                 absurd (none c.loop-slot.slot (subst P (is.alone none) has));
             pages = keeps_on g.S.SectorStore.size _ _ _ is.pages f.pages;
+            held = f.held ∙ is.held;
             queue = f.queue ∙ is.queue;
             accesses = f.accesses ∙ is.accesses;
           })
       | else-has_identify w ↦
-          rw w.self-is (record { steps = is.steps; settled = is.settled; alone = is.alone; pages = is.pages; queue = is.queue; accesses = is.accesses })
+          rw w.self-is (record { steps = is.steps; settled = is.settled; others = is.others; alone = is.alone; pages = is.pages; held = is.held; queue = is.queue; accesses = is.accesses })
     ]
 
 pub returns-clause-steps : goal.returns-clause-steps
@@ -54,3 +58,9 @@ returns-clause-pages g c = c.loop-slot.invariant.pages
 
 pub returns-clause-alone : goal.returns-clause-alone
 returns-clause-alone g c = c.loop-slot.invariant.alone
+
+pub returns-clause-others : goal.returns-clause-others
+returns-clause-others g c = c.loop-slot.invariant.others
+
+pub returns-clause-held : goal.returns-clause-held
+returns-clause-held g c = c.loop-slot.invariant.held

@@ -1,4 +1,4 @@
-use Rattle.std.proofs.Common.{ℕ, ◌≡◌}
+use Rattle.std.proofs.Common.{ℕ, Bool, ◌≡◌, ◌≢◌, List}
 use Rattle.adapter.specs.Steps.{Steps}
 use Rattle.device_model.specs.Finishing.{HasIdentify}
 use Rattle.device_model.specs.Modelled.{device_at}
@@ -9,10 +9,14 @@ use Rattle.device_model.proofs.model.Model.identify_once.Given as goal
 abbrev pub invariant-loop-slot : goal.invariant-loop-slot
 invariant-loop-slot g l = record {
   steps : Steps (device_at g.S.SectorStore.size g.S.SectorStore.told l.fn.self) (device_at g.S.SectorStore.size g.S.SectorStore.told l.self);
-  settled : IsSettled (device_at g.S.SectorStore.size g.S.SectorStore.told l.fn.self) → IsSettled (device_at g.S.SectorStore.size g.S.SectorStore.told l.self);
+  settled : (held : List Bool) → IsSettled held (device_at g.S.SectorStore.size g.S.SectorStore.told l.fn.self) →
+      IsSettled held (device_at g.S.SectorStore.size g.S.SectorStore.told l.self);
+  others : (port : ℕ) → port ≢ 0 → (device_at g.S.SectorStore.size g.S.SectorStore.told l.self).port port
+      ≡ (device_at g.S.SectorStore.size g.S.SectorStore.told l.fn.self).port port;
   alone : ((slot : ℕ) → HasIdentify (device_at g.S.SectorStore.size g.S.SectorStore.told l.fn.self) slot → ⊥) →
       device_at g.S.SectorStore.size g.S.SectorStore.told l.self ≡ device_at g.S.SectorStore.size g.S.SectorStore.told l.fn.self;
   pages : KeepsPages g.S.SectorStore.size l.fn.self l.self;
+  held : l.self.held ≡ l.fn.self.held;
   queue : l.self.queue ≡ l.fn.self.queue;
   accesses : l.self.accesses ≡ l.fn.self.accesses;
 }

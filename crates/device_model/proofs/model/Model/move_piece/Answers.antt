@@ -1,3 +1,4 @@
+use Rattle.std.specs.Prelude.{map}
 use Rattle.std.proofs.Common.{refl, ◌++◌, ℕ, true, ◌≡◌, ◌<◌, ◌∙◌, ◌+◌, ◌∷◌, [], List, length, sym, ap, subst, arith}
 use Rattle.adapter.proofs.Absurd.{some_one, true-false}
 use Rattle.adapter.specs.Device.{Device, Disk}
@@ -49,7 +50,7 @@ pub returns-then-not-exchange-clause-refused : goal.returns-then-not-exchange-cl
 returns-then-not-exchange-clause-refused g c = λ _.
     let m = c.args.self.now in
     let o : Outside = outside_at g.S.SectorStore.size g.S.SectorStore.told m in
-    let was : List Disk = first_disk (g.S.SectorStore.size m.plugged.value) (g.S.SectorStore.told m.plugged.value) ∷ [] in
+    let was : List Disk = map (λ s. first_disk (g.S.SectorStore.size s.value) (g.S.SectorStore.told s.value)) m.plugged.items in
     let kept = c.exchange.ensures.kept c.if-not-exchange.true in
     (λ i. device_of c.reserve.new.self (outside_of (first_disk (c.exchange.ensures.size i) (kept i)) (g.S.SectorStore.told m.disk1) was))
     ∙ c.reserve.ensures.same o
@@ -88,7 +89,7 @@ returns-clause-did g c = λ _.
     let is : IsNext h c.args.port c.args.slot c.in-Some.next r = moved.1 in
     let disk : Disk = first_disk (g.S.SectorStore.size m.disk0) (g.S.SectorStore.told m.disk0) in
     let new : Disk = first_disk (g.S.SectorStore.size c.exchange.new.disk) (g.S.SectorStore.told c.exchange.new.disk) in
-    let was : List Disk = first_disk (g.S.SectorStore.size m.plugged.value) (g.S.SectorStore.told m.plugged.value) ∷ [] in
+    let was : List Disk = map (λ s. first_disk (g.S.SectorStore.size s.value) (g.S.SectorStore.told s.value)) m.plugged.items in
     let behind : outside_of new (g.S.SectorStore.told m.disk1) was ≡ outside_after o c.args.port (taken_of r) bytes =
     outside_moved disk new (g.S.SectorStore.told m.disk1) was c.in-Some.next r bytes is.transfer_is is.sector_is (c.exchange.ensures.disk did)
     ∙ ap (λ q. outside_after o q (taken_of r) bytes) (sym zero) in

@@ -1,4 +1,5 @@
-use Rattle.std.proofs.Common.{rules, ◌≡◌, ◌≢◌, [], ◌∷◌, false, refl, ap, arith}
+use Rattle.std.proofs.Common.{rules, ◌≡◌, ◌≢◌, [], ◌∷◌, ◌++◌, ◌∙◌, false, refl, ap, arith}
+use Rattle.std.specs.Prelude.{map}
 use Rattle.device_model.specs.Whole.{first_disk}
 use Rattle.device_model.proofs.NewModel.{IsIdleModel, IsResetModel, blank_idle, ports_are, all_zero, disks_are, zeros_small}
 use Rattle.device_model.specs.Tells.{disks_told}
@@ -23,7 +24,8 @@ returns-clause-made g c = record {
   cap = search rules;
   pi = search rules;
   disk = refl;
-  plugged = ap (λ s. first_disk (g.S.SectorStore.size s) (g.S.SectorStore.told s) ∷ []) c.of.ensures;
+  plugged = c.remember.ensures (λ x. first_disk (g.S.SectorStore.size x) (g.S.SectorStore.told x))
+      ∙ ap (λ l. map (λ s. first_disk (g.S.SectorStore.size s.value) (g.S.SectorStore.told s.value)) l ++ first_disk (g.S.SectorStore.size c.args.disk0) (g.S.SectorStore.told c.args.disk0) ∷ []) {y = []} (search rules);
   present = c.new.ensures.present;
   others = λ port other.
       ports_are (λ k p. k ≢ 0 → p.present ≡ false) _ _ _ _ (λ no. absurd (no refl)) (λ _. c.new-2.ensures.present) (λ _. c.new-3.ensures.present) (λ _. c.new-4.ensures.present) port (λ _ _. refl) other;
