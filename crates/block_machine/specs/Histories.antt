@@ -8,7 +8,7 @@ use Rattle.block_machine.specs.State.{Machine}
 use Rattle.block_machine.specs.Ports.{AreFit}
 use Rattle.block_machine.specs.Steps.{Step}
 use Rattle.block_machine.specs.Left.{after, IsStart, IsLegal}
-use Rattle.block_machine.specs.Events.{Moment, Ask, Said, Event, AllMay, Happens, moment_after}
+use Rattle.block_machine.specs.Events.{Moment, Event, AllMay, Happens, moment_after}
 
 -- device, machine and ports between two calls
 pub record Instant (D : Type 0) : Type 0 where
@@ -35,18 +35,12 @@ IsHistory Begins Agrees first [] = (IsStart first.moment.machine × AreFit first
 IsHistory Begins Agrees first (h ∷ past) =
     IsHistory Begins Agrees first past × Happens (now first past).moment h.event × Agrees (now first past) h
 
--- The history leads to a server's state: `Stands` says when a state is at an instant. A server's invariant is that some
--- history leads to it, so that none of the clauses below is empty.
+-- The history leads to a server's state: `Stands` says when a state is at an instant. What a call adds is said of every history that
+-- leads to the server, and that there is one is said where a server is made: so none of it is empty.
 pub record Leads {D E S : Type 0} (Begins : Instant D → Type 0) (Agrees : Instant D → Happening D E → Type 0)
     (Stands : Instant D → S → Type 0) (first : Instant D) (past : List (Happening D E)) (state : S) : Type 0 where
   pub history : IsHistory Begins Agrees first past
   pub stands : Stands (now first past) state
-
--- To every history that leads to the old state, a call that asked this and said that adds one event, which leads to the new.
-pub record Adds {D E S : Type 0} (Begins : Instant D → Type 0) (Agrees : Instant D → Happening D E → Type 0)
-    (Stands : Instant D → S → Type 0) (old new : S) (ask : Ask E) (said : Said) : Type 0 where
-  pub adds : (first : Instant D) (past : List (Happening D E)) → Leads Begins Agrees Stands first past old
-      → (h : Happening D E) × (h.event.ask ≡ ask) × (h.event.said ≡ said) × Leads Begins Agrees Stands first (h ∷ past) new
 
 -- a history of steps leads to the machine
 pub record IsReached (m : Machine) : Type 0 where

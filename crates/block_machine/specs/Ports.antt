@@ -61,8 +61,8 @@ pub record Fault : Type 0 where
 -- `stopped`: ports whose CR was read 0 in the call after ST was cleared; and the served ports, where the call is a reset that ended.
 -- `stuck`: ports of which a wait of the call read CR, or FR, as 1 at each of its 64 readings; and the served ports, where the call
 -- is a reset that the adapter didn't end.
--- A port may be in both of these: stopped first, and stuck later. `faults` and `lost` may leave some out; the others name all.
--- The layer that knows the device backs each.
+-- A port may be in both of these: stopped first, and stuck later. The layer that knows the device backs each port and fault that is named.
+-- `faults` and `lost` may leave some out; the others name each port that the layer claims to heed, where they apply to it.
 pub record Evidence : Type 0 where
   pub faults : List Fault
   pub lost : List Port

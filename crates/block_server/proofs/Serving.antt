@@ -18,7 +18,7 @@ use Rattle.server_history.proofs.Serving.{finished}
 use Rattle.server_history.proofs.Unused.{ready_found}
 use Rattle.std.specs.Prelude.{Some}
 use Rattle.transfers.specs.Looks.{IsLooking, LooksAt}
-use Rattle.transfers.specs.Transfers.{IsFinding, FindsTransfer}
+use Rattle.transfers.specs.Transfers.{IsFinding, FindsTransfer, ReadsDone}
 use Rattle.transfers.specs.declared.Look.TheVariants.{Undisturbed}
 
 -- the adapter has a ready port
@@ -42,7 +42,7 @@ module _ (s : Server) (seen : Device) (port : Port) (k : IsKept s) (ready : stat
         found_over (record s { device = seen }) found port after_look ready has (tells ((after_look.behind port.0 (ready_found s port.0 k ready).0).runs ready).started)
 
     -- it was answered
-    module _ (over : IsOver (found.port port.0) 0) (new : Server) (reply : Reply)
+    module _ (reads : ReadsDone port true seen found) (over : IsOver (found.port port.0) 0) (new : Server) (reply : Reply)
         (finishes : (first : Accepted) × (reply ≡ done_reply first) × FinishesFirst port first (record s { device = found }) new) where
       pub answered_kept : IsKept new
       answered_kept = finished_kept (record s { device = found }) new port finishes.0 found_kept ready over finishes.2
@@ -50,4 +50,4 @@ module _ (s : Server) (seen : Device) (port : Port) (k : IsKept s) (ready : stat
       pub answered : LooksAt port Undisturbed s.device seen → ServesPort port (Some reply) s new
       answered l =
           subst (λ (r : Reply). ServesPort port (Some r) s new) (sym finishes.1)
-          (finished s seen port k ready looks l new found finishes.0 finds over finishes.2)
+          (finished s seen port k ready looks l new found finishes.0 reads finds over finishes.2)

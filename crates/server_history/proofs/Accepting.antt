@@ -29,7 +29,7 @@ use Rattle.block_machine.proofs.EventLemmas.{after-append}
 use Rattle.block_machine.proofs.HistoryLemmas.{may-append, reached_more}
 use Rattle.block_machine.proofs.Members.{contains_here, contains_there, some_in}
 use Rattle.agreement.specs.Agrees.{port_at}
-use Rattle.agreement.specs.Driven.{known}
+use Rattle.agreement.specs.Driven.{IsDrivenBy, known}
 use Rattle.agreement.specs.Driver.{Knows}
 use Rattle.agreement.proofs.Adding.{backed_then}
 use Rattle.agreement.proofs.Calling.{own_backed}
@@ -51,12 +51,12 @@ use Rattle.server_history.specs.Served.{Accepts, accepted_as, issued_of}
 use Rattle.server_history.specs.Server.{Server, IsKept, IsMachineOf, IsPortOf, IsUseOf, none_parked, plain_mode, ports_of, situation_of, state_of}
 use Rattle.server_history.proofs.Calls.{reached, situation_is}
 use Rattle.server_history.proofs.Devices.{not_handled}
-use Rattle.server_history.proofs.Going.{kept_then, lead_on, ports_same, uninterrupted}
+use Rattle.server_history.proofs.Going.{kept_then, lead_by, ports_same, uninterrupted}
 use Rattle.server_history.proofs.Granting.{has_room, is_accepted, is_new, lent_elsewhere, on_ready, request_in, entry_in}
 use Rattle.server_history.proofs.Issuing.{LacksIssue, IsIssue, apart_all, every, issue_first, behind_issued, issued_serves}
 use Rattle.server_history.proofs.Ports.{not_own}
 use Rattle.server_history.proofs.Unused.{free_without, none_first, ready_found}
-use Rattle.transfers.specs.Services.{IsService}
+use Rattle.transfers.specs.Transfers.{IsIssuing}
 use Rattle.transfers.specs.Transfers.{IssuesTransfer}
 use Rattle.transfers.proofs.Serving.{services_on, services_same}
 
@@ -290,6 +290,9 @@ module _ (s : Server) (k : IsKept s) (r : Request) (acc : IsAcceptable (situatio
     allowed : IsAcceptable (events.situation_of old.moment) r
     allowed = subst (λ (x : Situation). IsAcceptable x r) (sym (situation_is s old leads.stands)) acc
 
+    its_row : IsNamed m.rows r row
+    its_row = subst (λ (rows : List GrantRow). IsNamed rows r row) (sym is.rows) named
+
     same_ports_are : SamePorts old.moment.ports (ports_of s.ports)
     same_ports_are = ports_same old.moment.ports (ports_of s.ports) leads.stands.ports_are
 
@@ -299,10 +302,11 @@ module _ (s : Server) (k : IsKept s) (r : Request) (acc : IsAcceptable (situatio
     waiting_event : has_of port s.book ≡ true → Event s.device
     waiting_event has =
         let stands = waiting m was is has in
-        lead_on first past s (more s.device) (Submit r) (Submitted (Ok id)) (Accept asked ∷ []) refl refl leads refl (λ refused. absurd (false≢true refused))
+        lead_by first past s (more s.device) (Submit r) (Submitted (Ok id)) (Accept asked ∷ []) refl refl leads
         (tt, fresh m was is) (tt, inr refl) (tt, λ other h i. false≢true h) tt
         (allowed, (asked, refl, refl), same_ports_are, all_issued (more s.device) (next m was is) stands)
-        (by_none IsService s.device)
+        (row, its_row, by_none (IsIssuing row.port) s.device)
+        k.on
         k.behind
         (λ other well. uninterrupted other)
         (own_backed s.device m (Accept asked) (λ no. no))
@@ -315,13 +319,14 @@ module _ (s : Server) (k : IsKept s) (r : Request) (acc : IsAcceptable (situatio
         let early : List Step = Accept asked ∷ [] in
         let split : after m (late ++ early) ≡ after (next m was is) late = after-append m late early in
         let stands : IsMachineOf (more new) (after m (late ++ early)) = subst (IsMachineOf (more new)) (sym split) x.stands in
-        lead_on first past s (more new) (Submit r) (Submitted (Ok id)) (late ++ early) refl refl leads refl (λ refused. absurd (false≢true refused))
+        lead_by first past s (more new) (Submit r) (Submitted (Ok id)) (late ++ early) refl refl leads
         (may-append m late early (tt, fresh m was is) x.may)
         (belong_on {D = DeviceStep} (Submit r) (ports_of s.ports) x.steps early x.only (tt, inr refl), inr (ap (λ (p : Port). state_of (found_of s.ports p.0)) x.port_is ∙ ready, refl))
         (last_on x.steps early x.only (tt, λ other h i. false≢true h), λ other h i. none_issued other x.steps early x.only (λ j. false≢true j) i)
         (lawful_on old.moment no_evidence (ports_of s.ports) x.steps early x.only tt)
         (allowed, (asked, accepts_on x.steps early x.only, refl), same_ports_are, all_issued (more new) (after m (late ++ early)) stands)
-        (issued_serves port (issued_of e) s.device new issues)
+        (row, its_row, subst (λ (p : Port). IsDrivenBy (IsIssuing p) s.device new) (sym port_is) issues.driven)
+        (services_on s.device new k.on (issued_serves port (issued_of e) s.device new issues))
         (behind_sent none new issues)
         (λ other well. uninterrupted other)
         (backed_then s.device s.device new m early late (own_backed s.device m (Accept asked) (λ no. no)) x.backed)

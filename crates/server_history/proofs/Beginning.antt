@@ -268,7 +268,7 @@ module _ (s : Server) (host : Host) (d : Device) (is : IsIdle d) (told : TellsDi
         (
           record { device = s.device; moment = record { machine = later; ports = ports_of s.ports } },
           record {
-            history = ((begun, ports_fit), record { ports = record { found = s.ports; ports_are = refl; behind = ports_on }; uses = taken.uses; plain = uses_are.others; knows = x.2 });
+            history = ((begun, ports_fit), record { on = taken.on; ports = record { found = s.ports; ports_are = refl; behind = ports_on }; uses = taken.uses; plain = uses_are.others; knows = x.2 });
             stands = record { device_is = refl; ports_are = refl; machine = stands };
           },
         ),

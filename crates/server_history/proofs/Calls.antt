@@ -1,5 +1,5 @@
 -- Calls that leave the book: the device's steps, refusals, and clients' bytes.
-use Rattle.std.proofs.Common.{ℕ, Bool, ◌≡◌, ◌+◌, ◌*◌, ◌<◌, true, false, List, [], ◌∷◌, Ok, Err, ◌≢◌, Option, Some, length, refl, sym, ap, subst, inr}
+use Rattle.std.proofs.Common.{ℕ, ◌≡◌, ◌+◌, ◌*◌, ◌<◌, true, false, List, [], ◌∷◌, Ok, Err, ◌≢◌, Option, Some, length, refl, sym, ap, subst, inr}
 use Rattle.std.proofs.lemmas.Bool.{false≢true}
 use Rattle.ata_types.specs.declared.Port.{Port}
 use Rattle.ata_types.specs.declared.refusal.MemFault.{MemFault}
@@ -12,13 +12,11 @@ use Rattle.adapter.specs.Access.{Access, Does, Loads, Stores}
 use Rattle.adapter.specs.Access.Access.{Loading, Storing}
 use Rattle.adapter.specs.Asked.{Asked}
 use Rattle.adapter.specs.Device.{Device}
-use Rattle.adapter.specs.Memory as memory
 use Rattle.adapter.specs.Rules.{IsFree, Stays}
 use Rattle.adapter.specs.Steps.{Steps}
 use Rattle.adapter.specs.declared.access.DeviceStep.{DeviceStep}
 use Rattle.adapter.specs.declared.command.Operation.TheVariants.{Identify}
 use Rattle.adapter.proofs.Changed.{fun_ext}
-use Rattle.adapter.proofs.Runs.{Steps-refl}
 use Rattle.agreement.specs.Agrees.{AreUnarmed, port_at}
 use Rattle.agreement.specs.Driven.{IsDrivenBy, SendsNone, known}
 use Rattle.agreement.specs.Driver.{EndsWith}
@@ -26,7 +24,7 @@ use Rattle.agreement.specs.Links.{SameAdapter}
 use Rattle.agreement.specs.Spares.{SparesBook}
 use Rattle.agreement.proofs.Adding.{device_adds, nothing_backed}
 use Rattle.agreement.proofs.Clients.{client_loads, client_stores}
-use Rattle.agreement.proofs.Driven.{by_none, by_one}
+use Rattle.agreement.proofs.Driven.{by_one}
 use Rattle.agreement.proofs.Lasting.{access_same}
 use Rattle.agreement.proofs.Paging.{access_sends_none}
 use Rattle.agreement.proofs.Permitting.{clients_are_free}
@@ -53,7 +51,8 @@ use Rattle.transfers.proofs.Serving.{services_on, services_unarmed}
 use Rattle.server_history.specs.Histories.{Adds, Begins, CameBy, HeedsAt, Leads, Stands, Ties, load_said, no_evidence, store_said}
 use Rattle.server_history.specs.Server.{Server, IsKept, IsMachineOf, IsPortOf, none_parked, ports_of, situation_of}
 use Rattle.server_history.proofs.Devices.{devices_belong, devices_last, devices_lawful, devices_transfer}
-use Rattle.server_history.proofs.Going.{kept_on, lead_by, lead_on, machine_on, machine_with, ports_same, uninterrupted}
+use Rattle.server_history.proofs.Coming.{none_loaded}
+use Rattle.server_history.proofs.Going.{kept_on, lead_by, machine_on, machine_with, ports_same, uninterrupted}
 use Rattle.server_history.proofs.Ports.{IsOfBytes, bytes_leave, bytes_serve, not_own, port_on}
 
 -- ---- what a history leads to
@@ -93,24 +92,11 @@ module _ (s : Server) (k : IsKept s) (new : Device) (access : Access) (is : IsOf
 
 -- ---- the device's steps
 
--- as a load of no bytes
-none_loaded : (old new : Device) → Steps old new → Does (Loading 0 []) old new
-unfolding memory.bytes_at
-none_loaded old new steps = record { steps = steps; shows = refl }
-
 pub device_kept : (s : Server) (new : Device) → IsKept s → Steps s.device new → IsKept (record s { device = new })
 device_kept s new k steps =
     let x = (device_adds (known k.stands.uses none_parked s.device) new steps).adds k.machine k.reached k.stands.knows in
     kept_with s k new (Loading 0 []) tt (none_loaded s.device new steps) x.0 x.1
     (machine_on s new k.machine x.0 k.stands x.3.only x.2 (unarmed s k new (Loading 0 []) tt (none_loaded s.device new steps) k.machine k.stands))
-
-abbrev told_of : DeviceStep → Ask DeviceStep → DeviceStep
-told_of other (Told step) = step
-told_of other ask = other
-
-abbrev done_of : Said → Bool
-done_of (Stepped done) = done
-done_of said = false
 
 pub device_adds_event : (s : Server) (new : Device) (step : DeviceStep) → IsKept s → Asked step s.device new → Steps s.device new
     → Adds s (record s { device = new }) (Told step) (Stepped true)
@@ -124,12 +110,11 @@ device_adds_event s new step k asked moves = record { adds = adds }
         let m = at.machine in
         let x = (device_adds (known m.uses none_parked s.device) new moves).adds old.moment.machine (reached first past s leads) m.knows in
         let steps : List Step = x.0 in
-        lead_by first past s (record s { device = new }) (Told step) (Stepped true) steps refl refl leads
-        (λ other is done. subst (λ (y : DeviceStep). Asked y s.device new) (ap (told_of step) is) asked)
-        (λ r. absurd (false≢true r)) x.1 (devices_belong (Told step) (ports_of s.ports) steps x.3.only) (devices_last steps x.3.only)
+        lead_by first past s (record s { device = new }) (Told step) (Stepped true) steps refl refl leads x.1 (devices_belong (Told step) (ports_of s.ports) steps x.3.only) (devices_last steps x.3.only)
         (devices_lawful old.moment no_evidence (ports_of s.ports) steps x.3.only)
         (x.3.only, ports_same old.moment.ports (ports_of s.ports) at.ports_are)
-        moves
+        asked
+        (services_on s.device new k.on (served s k new (Loading 0 []) tt (none_loaded s.device new moves)))
         (ports_on s k new (Loading 0 []) tt (none_loaded s.device new moves))
         (λ port well. uninterrupted port)
         x.3.backed
@@ -137,40 +122,40 @@ device_adds_event s new step k asked moves = record { adds = adds }
 
 -- ---- calls that do nothing
 
-nothing_adds : (s : Server) (ask : Ask DeviceStep) (said : Said) → IsKept s → ((step : DeviceStep) → ask ≡ Told step → said ≡ Stepped true → ⊥) → CameBy s.ports ask said s.device s.device
+nothing_adds : (s : Server) (ask : Ask DeviceStep) (said : Said) → IsKept s → ((m : Machine) → CameBy m s.ports ask said s.device s.device)
     → ((old : Instant Device) → Stands old s → IsAnswered ask said old.moment no_evidence [] (record { machine = old.moment.machine; ports = ports_of s.ports }))
     → ((port : Port) (old : Instant Device) → HeedsAt port ask old.moment no_evidence [] (record { machine = old.moment.machine; ports = ports_of s.ports }))
     → Adds s s ask said
-nothing_adds s ask said k other came answered heeds = record { adds = adds }
+nothing_adds s ask said k came answered heeds = record { adds = adds }
   where
     adds : (first : Instant Device) (past : List (Happening Device DeviceStep)) → Leads first past s
         → (h : Happening Device DeviceStep) × (h.event.ask ≡ ask) × (h.event.said ≡ said) × Leads first (h ∷ past) s
     adds first past leads =
         let old : Instant Device = now first past in
-        lead_by first past s s ask said [] refl refl leads (λ step is done. absurd (other step is done)) (λ r. refl) tt tt tt tt (answered old leads.stands) came k.behind
+        lead_by first past s s ask said [] refl refl leads tt tt tt tt (answered old leads.stands) (came old.moment.machine) k.on k.behind
         (λ port well. heeds port old) (nothing_backed s.device old.moment.machine) leads.stands.machine
 
 pub undone_adds : (s : Server) (step : DeviceStep) → IsKept s → Adds s s (Told step) (Stepped false)
 undone_adds s step k =
-    nothing_adds s (Told step) (Stepped false) k (λ other is done. absurd (false≢true (ap done_of done))) (Steps-refl s.device)
+    nothing_adds s (Told step) (Stepped false) k (λ m. refl)
     (λ old at. (refl, ports_same old.moment.ports (ports_of s.ports) at.ports_are)) (λ port old. uninterrupted port)
 
 pub state_adds : (s : Server) (port : Port) → IsKept s → Adds s s (State port) (Shown ((ports_of s.ports).state port))
 state_adds s port k =
-    nothing_adds s (State port) (Shown ((ports_of s.ports).state port)) k (λ step is done. let z : Shown ((ports_of s.ports).state port) ≡ Stepped true = done in absurd cc) (by_none IsService s.device)
+    nothing_adds s (State port) (Shown ((ports_of s.ports).state port)) k (λ m. refl)
     (λ old at. (ap (λ (ports : Ports). ports.state port) (sym at.ports_are), refl, ports_same old.moment.ports (ports_of s.ports) at.ports_are)) (λ other old. uninterrupted other)
 
 pub store_refused : (s : Server) (client : ClientId) (frame : Frame) (offset : ℕ) (bytes : List ℕ) (fault : MemFault) → IsKept s
     → IsFirstMemFault (owner_of s.table) (lent_to s.table) client frame offset (length bytes) fault → Adds s s (StoreAt client frame offset bytes) (store_said (Err fault))
 store_refused s client frame offset bytes fault k is =
-    nothing_adds s (StoreAt client frame offset bytes) (store_said (Err fault)) k (λ step e done. let z : StoreAt client frame offset bytes ≡ Told step = e in absurd cc) (by_none IsService s.device)
+    nothing_adds s (StoreAt client frame offset bytes) (store_said (Err fault)) k (λ m. refl)
     (λ old at. (as_told s old.moment.machine at.machine (λ owner lent. IsFirstMemFault owner lent client frame offset (length bytes) fault) is, refl, ports_same old.moment.ports (ports_of s.ports) at.ports_are))
     (λ port old. uninterrupted port)
 
 pub load_refused : (s : Server) (client : ClientId) (frame : Frame) (offset count : ℕ) (bytes : List ℕ) (fault : MemFault) → IsKept s
     → IsFirstMemFault (owner_of s.table) (lent_to s.table) client frame offset count fault → Adds s s (LoadAt client frame offset count) (load_said (Err fault) bytes)
 load_refused s client frame offset count bytes fault k is =
-    nothing_adds s (LoadAt client frame offset count) (load_said (Err fault) bytes) k (λ step e done. let z : ◌≡◌ {A = Ask DeviceStep} (LoadAt client frame offset count) (Told step) = e in absurd cc) (by_none IsService s.device)
+    nothing_adds s (LoadAt client frame offset count) (load_said (Err fault) bytes) k (λ m. refl)
     (λ old at. (as_told s old.moment.machine at.machine (λ owner lent. IsFirstMemFault owner lent client frame offset count fault) is, refl, ports_same old.moment.ports (ports_of s.ports) at.ports_are))
     (λ port old. uninterrupted port)
 
@@ -190,7 +175,7 @@ situation_is s old at = λ i. record {
 
 pub submit_refused : (s : Server) (r : Request) (refusal : Refusal) → IsKept s → IsFirstRefusal (situation_of s) r refusal → Adds s s (Submit r) (Submitted (Err refusal))
 submit_refused s r refusal k is =
-    nothing_adds s (Submit r) (Submitted (Err refusal)) k (λ step e done. let z : ◌≡◌ {A = Ask DeviceStep} (Submit r) (Told step) = e in absurd cc) (by_none IsService s.device)
+    nothing_adds s (Submit r) (Submitted (Err refusal)) k (λ m. refl)
     (λ old at. (subst (λ (x : Situation). IsFirstRefusal x r refusal) (sym (situation_is s old at)) is, refl, ports_same old.moment.ports (ports_of s.ports) at.ports_are))
     (λ port old. uninterrupted port)
 
@@ -248,12 +233,12 @@ module _ (s : Server) (new : Device) (client : ClientId) (frame : Frame) (offset
           let old : Instant Device = now first past in
           let at : Stands old s = leads.stands in
           let x = load_ends s new client frame offset bytes k opens loads old.moment.machine (reached first past s leads) at.machine in
-          lead_on first past s (record s { device = new }) (LoadAt client frame offset (length bytes)) (load_said (Ok tt) bytes) (Load client frame offset bytes ∷ x.0.steps) refl refl leads refl
-          (λ r. absurd (false≢true r)) x.0.may (devices_belong {D = DeviceStep} (LoadAt client frame offset (length bytes)) (ports_of s.ports) x.0.steps x.0.only, inr (refl, refl, refl, refl))
+          lead_by first past s (record s { device = new }) (LoadAt client frame offset (length bytes)) (load_said (Ok tt) bytes) (Load client frame offset bytes ∷ x.0.steps) refl refl leads x.0.may (devices_belong {D = DeviceStep} (LoadAt client frame offset (length bytes)) (ports_of s.ports) x.0.steps x.0.only, inr (refl, refl, refl, refl))
           (devices_last x.0.steps x.0.only, λ id h i. false≢true h)
           (devices_lawful old.moment no_evidence (ports_of s.ports) x.0.steps x.0.only)
           (as_told s old.moment.machine at.machine (λ owner lent. IsOpen owner lent client frame offset (length bytes)) opens, ap (λ (rest : List (List ℕ)). bytes ∷ rest) (devices_transfer x.0.steps x.0.only), ports_same old.moment.ports (ports_of s.ports) at.ports_are)
-          (served s k new (Loading (4096 * frame.0 + offset) bytes) tt loads)
+          loads
+          (services_on s.device new k.on (served s k new (Loading (4096 * frame.0 + offset) bytes) tt loads))
           (ports_on s k new (Loading (4096 * frame.0 + offset) bytes) tt loads)
           (λ port well. uninterrupted port)
           x.0.backed x.1
@@ -267,12 +252,12 @@ module _ (s : Server) (new : Device) (client : ClientId) (frame : Frame) (offset
           let old : Instant Device = now first past in
           let at : Stands old s = leads.stands in
           let x = store_ends s new client frame offset bytes k opens stores old.moment.machine (reached first past s leads) at.machine in
-          lead_on first past s (record s { device = new }) (StoreAt client frame offset bytes) (store_said (Ok tt)) (Store client frame offset bytes ∷ x.0.steps) refl refl leads refl
-          (λ r. absurd (false≢true r)) x.0.may (devices_belong {D = DeviceStep} (StoreAt client frame offset bytes) (ports_of s.ports) x.0.steps x.0.only, inr (refl, refl, refl, refl))
+          lead_by first past s (record s { device = new }) (StoreAt client frame offset bytes) (store_said (Ok tt)) (Store client frame offset bytes ∷ x.0.steps) refl refl leads x.0.may (devices_belong {D = DeviceStep} (StoreAt client frame offset bytes) (ports_of s.ports) x.0.steps x.0.only, inr (refl, refl, refl, refl))
           (devices_last x.0.steps x.0.only, λ id h i. false≢true h)
           (devices_lawful old.moment no_evidence (ports_of s.ports) x.0.steps x.0.only)
           (as_told s old.moment.machine at.machine (λ owner lent. IsOpen owner lent client frame offset (length bytes)) opens, ap (λ (rest : List (List ℕ)). bytes ∷ rest) (devices_transfer x.0.steps x.0.only), ports_same old.moment.ports (ports_of s.ports) at.ports_are)
-          (served s k new (Storing (4096 * frame.0 + offset) bytes) tt stores)
+          stores
+          (services_on s.device new k.on (served s k new (Storing (4096 * frame.0 + offset) bytes) tt stores))
           (ports_on s k new (Storing (4096 * frame.0 + offset) bytes) tt stores)
           (λ port well. uninterrupted port)
           x.0.backed x.1

@@ -1,6 +1,5 @@
 -- A server goes on over steps of the device, and calls add events to its histories.
-use Rattle.std.proofs.Common.{ℕ, ◌≡◌, ◌≤◌, ◌<◌, ◌+◌, ◌*◌, Bool, true, false, get_or, Option, None, List, [], ◌∷◌, refl, sym, ap, ◌∙◌, subst, ⊎_elim}
-use Rattle.std.proofs.lemmas.Bool.{false≢true}
+use Rattle.std.proofs.Common.{ℕ, ◌≡◌, ◌≤◌, ◌<◌, ◌+◌, ◌*◌, true, get_or, Option, None, List, [], ◌∷◌, refl, sym, ap, ◌∙◌, subst, ⊎_elim}
 use Rattle.std.specs.List.{All, AllZip}
 use Rattle.ata_types.specs.declared.Port.{Port}
 use Rattle.ata_types.specs.declared.PortState.TheVariants.{Ready as ReadyState}
@@ -15,8 +14,7 @@ use Rattle.agreement.specs.Driver.{Knows, IsBacked}
 use Rattle.agreement.specs.Links.{SameAdapter}
 use Rattle.agreement.specs.Spares.{AllFurther, IsFurther, SparesBook}
 use Rattle.agreement.proofs.Sparing.{steps_spare}
-use Rattle.adapter.specs.Asked.{Asked}
-use Rattle.block_machine.specs.Events.{Ask, Device as Told, Said, Stepped, AllMay, AllDevices, Belong, IssuesLast, AllLawful, IsAnswered}
+use Rattle.block_machine.specs.Events.{Ask, Said, AllMay, AllDevices, Belong, IssuesLast, AllLawful, IsAnswered}
 use Rattle.block_machine.specs.Histories.{Instant, Happening, IsHistory, IsReached, now}
 use Rattle.block_machine.specs.Left.{after}
 use Rattle.block_machine.specs.Ports.{Ports, AreFit, IsInterrupted, SamePorts, SameDisk}
@@ -29,7 +27,7 @@ use Rattle.host_boot.specs.Taken.{found_of}
 use Rattle.request_book.specs.Entries.{IsAccepted, IsInOrder}
 use Rattle.request_book.specs.Machine.{IsBook, IsEntry}
 use Rattle.request_book.specs.declared.book.Accepted.{Accepted}
-use Rattle.server_history.specs.Histories.{Begins, CameBy, HeedsAt, GoesWell, Leads, SparesPort, Stands, Ties, is_refusal, no_evidence}
+use Rattle.server_history.specs.Histories.{Begins, CameBy, HeedsAt, GoesWell, Leads, SparesPort, Stands, Ties, no_evidence}
 use Rattle.server_history.specs.Server.{Server, IsKept, IsMachineOf, IsPortOf, none_parked, ports_of, state_of}
 
 -- ---- the book
@@ -128,10 +126,6 @@ ports_same old new is = subst (SamePorts old) is (λ port. (refl, refl, refl, re
 pub disks_same : (old new : Ports) → old ≡ new → (port : Port) → SameDisk old new port
 disks_same old new is port = subst (λ (ports : Ports). SameDisk old ports port) is (refl, refl)
 
-abbrev pub is_told : Ask DeviceStep → Bool
-is_told (Told step) = true
-is_told ask = false
-
 -- evidence that names nothing names no port
 pub spares_port : (port : Port) → SparesPort no_evidence port
 spares_port port = record { gone = contains_none port; failed = contains_none port; fatal = contains_none port }
@@ -142,17 +136,18 @@ uninterrupted port i = ⊎_elim (contains_none port) (contains_none port) i
 
 -- a call, with what its event needs
 pub lead_by : (first : Instant Device) (past : List (Happening Device DeviceStep)) (s new : Server) (ask : Ask DeviceStep) (said : Said) (steps : List Step)
-    → new.wanted ≡ s.wanted → new.ports ≡ s.ports → (leads : Leads first past s) → ((step : DeviceStep) → ask ≡ Told step → said ≡ Stepped true → Asked step s.device new.device) → (is_refusal said ≡ true → new.device ≡ s.device)
+    → new.wanted ≡ s.wanted → new.ports ≡ s.ports → Leads first past s
     → AllMay (now first past).moment.machine steps → Belong ask (ports_of new.ports) steps → IssuesLast steps
     → AllLawful (now first past).moment no_evidence (ports_of new.ports) steps
     → IsAnswered ask said (now first past).moment no_evidence steps (record { machine = after (now first past).moment.machine steps; ports = ports_of new.ports })
-    → CameBy new.ports ask said s.device new.device
+    → CameBy (now first past).moment.machine new.ports ask said s.device new.device
+    → IsOn new.device
     → ((port : ℕ) → port < 4 → IsPortOf new.wanted new.ports port new.device)
     → ((port : Port) → GoesWell port.0 s.device new.device → HeedsAt port ask (now first past).moment no_evidence steps (record { machine = after (now first past).moment.machine steps; ports = ports_of new.ports }))
     → IsBacked s.device new.device (now first past).moment.machine steps
     → IsMachineOf new (after (now first past).moment.machine steps)
     → (h : Happening Device DeviceStep) × (h.event.ask ≡ ask) × (h.event.said ≡ said) × Leads first (h ∷ past) new
-lead_by first past s new ask said steps wanted_is ports_is leads asked still may belong last lawful answered came behind heeds backed stands = (
+lead_by first past s new ask said steps wanted_is ports_is leads may belong last lawful answered came on behind heeds backed stands = (
   record { event = record { ask = ask; said = said; evidence = no_evidence; steps = steps; ports = ports_of new.ports }; device = new.device },
   refl,
   refl,
@@ -169,11 +164,11 @@ lead_by first past s new ask said steps wanted_is ports_is leads asked still may
         answered = answered;
       },
       record {
+        on = on;
+        same = sym ports;
         ports = record { found = new.ports; ports_are = refl; behind = behind };
-        came = subst (λ (d : Device). CameBy new.ports ask said d new.device) (sym at.device_is) came;
+        came = subst (λ (d : Device). CameBy old.moment.machine new.ports ask said d new.device) (sym at.device_is) came;
         backed = subst (λ (d : Device). IsBacked d new.device old.moment.machine steps) (sym at.device_is) backed;
-        asked = λ step e done. subst (λ (d : Device). Asked step d new.device) (sym at.device_is) (asked step e done);
-        refused = λ r. still r ∙ sym at.device_is;
         evidence = record { faults = refl; lost = refl; stopped = refl; stuck = refl };
         heeds = λ port well. (spares_port port, heeds port (subst (λ (d : Device). GoesWell port.0 d new.device) at.device_is well));
         uses = stands.uses;
@@ -193,18 +188,3 @@ lead_by first past s new ask said steps wanted_is ports_is leads asked still may
 
     ports : old.moment.ports ≡ ports_of new.ports
     ports = at.ports_are ∙ ap ports_of (sym ports_is)
-
--- a call that isn't one of the device
-pub lead_on : (first : Instant Device) (past : List (Happening Device DeviceStep)) (s new : Server) (ask : Ask DeviceStep) (said : Said) (steps : List Step)
-    → new.wanted ≡ s.wanted → new.ports ≡ s.ports → (leads : Leads first past s) → is_told ask ≡ false → (is_refusal said ≡ true → new.device ≡ s.device)
-    → AllMay (now first past).moment.machine steps → Belong ask (ports_of new.ports) steps → IssuesLast steps
-    → AllLawful (now first past).moment no_evidence (ports_of new.ports) steps
-    → IsAnswered ask said (now first past).moment no_evidence steps (record { machine = after (now first past).moment.machine steps; ports = ports_of new.ports })
-    → CameBy new.ports ask said s.device new.device
-    → ((port : ℕ) → port < 4 → IsPortOf new.wanted new.ports port new.device)
-    → ((port : Port) → GoesWell port.0 s.device new.device → HeedsAt port ask (now first past).moment no_evidence steps (record { machine = after (now first past).moment.machine steps; ports = ports_of new.ports }))
-    → IsBacked s.device new.device (now first past).moment.machine steps
-    → IsMachineOf new (after (now first past).moment.machine steps)
-    → (h : Happening Device DeviceStep) × (h.event.ask ≡ ask) × (h.event.said ≡ said) × Leads first (h ∷ past) new
-lead_on first past s new ask said steps wanted_is ports_is leads other =
-    lead_by first past s new ask said steps wanted_is ports_is leads (λ step e done. absurd (false≢true (sym other ∙ ap is_told e)))

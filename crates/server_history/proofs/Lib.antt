@@ -2,6 +2,8 @@ pub mod Behind
 pub mod Going
 pub mod Ports
 pub mod Devices
+pub mod Coming
+pub mod Placing
 pub mod Calls
 pub mod Telling
 pub mod Beginning

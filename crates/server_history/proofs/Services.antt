@@ -1,8 +1,8 @@
 -- Ready ports that are served one after another add an event.
-use Rattle.std.proofs.Common.{ℕ, suc, ◌≡◌, ◌≢◌, ◌≤◌, ◌<◌, ◌+◌, ◌-◌, true, false, List, [], ◌∷◌, ◌++◌, map, Option, Some, None, refl, sym, ap, ◌∙◌, subst, inl, inr, ⊎_elim, arith, append_assoc, append-nil}
+use Rattle.std.proofs.Common.{ℕ, suc, ◌≡◌, ◌≢◌, ◌≤◌, ◌<◌, ◌+◌, ◌-◌, true, false, List, [], ◌∷◌, ◌++◌, map, Option, Some, None, refl, sym, ap, ◌∙◌, subst, inl, inr, ⊎_elim, arith, append_assoc, append-nil, eq-eqb}
 use Rattle.std.specs.List.{All, AllPairs, Contains, list_any}
 use Rattle.std.specs.List.Sorted.{IsPermutation}
-use Rattle.std.proofs.lemmas.Bool.{false≢true, cases_lt, or_from}
+use Rattle.std.proofs.lemmas.Bool.{cases_Bool, false≢true, cases_lt, or_from}
 use Rattle.std.proofs.lemmas.List.{map-append}
 use Rattle.std.proofs.lemmas.List.Elements.{All-contains, All-nil, All-push, Contains-append_right}
 use Rattle.std.proofs.lemmas.List.Quantifiers.{all_pairs_push}
@@ -23,18 +23,18 @@ use Rattle.agreement.specs.Facts.{RunsWell, Undisturbed}
 use Rattle.agreement.specs.Slots.{Serves}
 use Rattle.agreement.proofs.Adding.{backed_then, nothing_backed}
 use Rattle.agreement.proofs.Controlled.{tape_over}
-use Rattle.agreement.proofs.Driven.{by_none, by_then, driven_as}
+use Rattle.agreement.proofs.Driven.{by_none, by_then}
 use Rattle.agreement.proofs.Finding.{ended_is_clear}
 use Rattle.agreement.proofs.Sparing.{found_later, steps_spare}
 use Rattle.block_machine.specs.Events.{Moment, Service, Served, AllMay, AnswersEnded, AnswersService, IsToldBefore, ServesReady, answers_of, reply_of}
-use Rattle.block_machine.specs.Histories.{Instant, Happening, IsHistory, IsReached, now}
+use Rattle.block_machine.specs.Histories.{Instant, Happening, IsReached, now}
 use Rattle.block_machine.specs.Left.{after}
 use Rattle.block_machine.specs.Ports.{Ports, IsServiced}
 use Rattle.block_machine.specs.State.{Pending, Machine}
 use Rattle.block_machine.specs.Steps.{Step, Issue, Answer, May}
 use Rattle.block_machine.proofs.EventLemmas.{after-append}
 use Rattle.block_machine.proofs.HistoryLemmas.{history_reaches, reached_more}
-use Rattle.block_machine.proofs.Members.{contains_here, contains_none, contains_there}
+use Rattle.block_machine.proofs.Members.{contains_here, contains_none, contains_there, some_in}
 use Rattle.block_machine.proofs.Scene.{calmly, is_refused}
 use Rattle.block_machine.proofs.Standing.{standing}
 use Rattle.block_machine.proofs.Started.{ended_issued}
@@ -42,22 +42,22 @@ use Rattle.host_boot.specs.Taken.{found_of}
 use Rattle.host_boot.specs.declared.Found.{Found}
 use Rattle.host_boot.specs.declared.Found.TheVariants.{Unserved, Ready, Unready}
 use Rattle.identify.specs.declared.DiskInfo.{DiskInfo}
-use Rattle.request_book.specs.Entries.{first_of}
-use Rattle.request_book.specs.Machine.{IsEntry}
+use Rattle.request_book.specs.Entries.{first_of, has_of, is_of, rest_of}
+use Rattle.request_book.specs.Machine.{IsBook, IsEntry}
 use Rattle.request_book.specs.declared.book.Accepted.{Accepted}
 use Rattle.request_book.proofs.Due.{none_due}
+use Rattle.request_book.proofs.Ending.{other_first}
 use Rattle.request_book.proofs.Standing.{at_right, first_is}
-use Rattle.request_book.proofs.Stepping.{Stands as StandsIn, same_some}
-use Rattle.server_history.specs.Histories.{Adds, Begins, ComeThrough, GoesWell, Leads, Ties, no_evidence, reply_list}
-use Rattle.server_history.specs.Served.{AnswersBy, IssuesOnly, SameSettings, ServePorts, ServesPort, done_reply}
+use Rattle.request_book.proofs.Stepping.{Stands as StandsIn, has_first, same_some}
+use Rattle.server_history.specs.Histories.{Adds, Begins, GoesWell, HasNone, HaveTurns, Leads, Ties, no_evidence, reply_list}
+use Rattle.server_history.specs.Served.{AnswersBy, AnswersFirst, IssuesOnly, SameSettings, ServePorts, ServesPort, done_reply}
 use Rattle.server_history.specs.Server.{Server, IsKept, IsMachineOf, IsUseOf, plain_mode, ports_of, state_of}
-use Rattle.server_history.proofs.Going.{lead_on, ports_same}
-use Rattle.server_history.proofs.Unused.{ready_found}
+use Rattle.server_history.proofs.Coming.{turn_serves}
+use Rattle.server_history.proofs.Going.{lead_by, ports_same}
+use Rattle.server_history.proofs.Unused.{none_first, ready_found}
 use Rattle.server_history.proofs.Turns.{AreTurns, IsSame, answer_on, devices_answer, devices_on, issue_on, no_turns, turns_more}
-use Rattle.transfers.specs.Looks.{IsLooking}
-use Rattle.transfers.specs.Services.{IsService, IsOrdinary}
-use Rattle.transfers.proofs.Seeing.{look_driven}
-use Rattle.transfers.proofs.Serving.{calm_parts, looking_service, services_well}
+use Rattle.transfers.specs.Services.{IsService}
+use Rattle.transfers.proofs.Serving.{calm_parts, services_well}
 
 -- ---- steps
 
@@ -190,9 +190,7 @@ module _ (s : Server) (kept : IsKept s) (old : Moment) (reached : IsReached old.
 
     module _ (reply : Option Reply) (serves : ServesPort (port_at n) reply c mid) where
       through : IsDrivenBy IsService c.device mid.device
-      through = by_then
-          (driven_as (IsLooking (port_at n)) IsService c.device serves.comes.seen (looking_service (port_at n)) (look_driven (port_at n) serves.comes.look c.device serves.comes.seen serves.comes.looks))
-          (driven_as (IsOrdinary (port_at n)) IsService serves.comes.seen mid.device (λ access is. is.0) serves.comes.later)
+      through = turn_serves (port_at n) (has_of (port_at n) c.book) reply c.device mid.device serves.turn
 
       -- what goes well in both went well so far, and since
       well_parts : (q : Port) → GoesWell q.0 s.device mid.device → GoesWell q.0 s.device c.device × (RunsWell (c.device.port q.0) × Undisturbed q.0 c.device mid.device)
@@ -398,12 +396,47 @@ module _ (s : Server) (kept : IsKept s) (old : Moment) (reached : IsReached old.
 
 -- ---- the event
 
--- so the call came through the ready ports
-came_through : (found : List Found) (n : ℕ) (old new : Server) (replies : List Reply) → ServePorts n found replies old new → ComeThrough n found replies old.device new.device
-came_through [] n old new replies serves = (serves.0, ap (λ (x : Server). x.device) serves.1)
-came_through (Ready info ∷ found) n old new replies (mid, reply, later, is, next, serves, more) = (mid.device, reply, later, is, serves.comes, came_through found (n + 1) mid new later more)
-came_through (Unserved ∷ found) n old new replies serves = came_through found (n + 1) old new replies serves
-came_through (Unready state ∷ found) n old new replies serves = came_through found (n + 1) old new replies serves
+-- a port without a request in the server's book has none in the machine's
+none_there : (book : List Accepted) (m : Machine) → IsBook book m.book → (port : Port) → has_of port book ≡ false → HasNone m.book port
+none_there book m is port none e here own =
+    let a = at_right (StandsIn (λ _. true) book) book m.book is e here in
+    absurd (false≢true (sym none ∙ some_in (is_of port) book a.0 a.1 (eq-eqb a.0.port.0 port.0 (ap (λ (q : Port). q.0) (sym a.2.0.port ∙ own)))))
+
+-- a book without a port's first has the other ports' requests
+rest_none : (port other : Port) (book : List Accepted) → other.0 ≢ port.0 → has_of other (rest_of port book) ≡ false → has_of other book ≡ false
+rest_none port other book apart none = ⊎_elim
+    (λ (has : has_of other book ≡ true).
+    let f = has_first other book has in
+    let z : Some f.0 ≡ None = sym f.1 ∙ sym (other_first port other book apart) ∙ none_first other (rest_of port book) none in absurd cc)
+    (λ (is : has_of other book ≡ false). is)
+    (cases_Bool (has_of other book))
+
+-- what the book says of ports from one on: where one has no request in it, it had none
+abbrev HadNone : List Pending → ℕ → List Accepted → Type 0
+HadNone pending n book = (q : ℕ) → n ≤ q → has_of (port_at q) book ≡ false → HasNone pending (port_at q)
+
+had_none_on : (pending : List Pending) (n : ℕ) (reply : Option Reply) (old mid : Server) → HadNone pending n old.book → AnswersFirst (port_at n) reply old mid → HadNone pending (n + 1) mid.book
+had_none_on pending n None old mid had answers q most none =
+    had q (omega (arith, most)) (subst (λ (book : List Accepted). has_of (port_at q) book ≡ false) answers.0 none)
+had_none_on pending n (Some reply) old mid had answers q most none =
+    had q (omega (arith, most)) (rest_none (port_at n) (port_at q) old.book (λ same. absurd (omega (arith, most, same))) (subst (λ (book : List Accepted). has_of (port_at q) book ≡ false) answers.3 none))
+
+-- so each ready port had its turn
+had_turns : (pending : List Pending) (found : List Found) (n : ℕ) (old new : Server) (replies : List Reply) → HadNone pending n old.book → ServePorts n found replies old new
+    → HaveTurns pending n found replies old.device new.device
+had_turns pending [] n old new replies had serves = (serves.0, ap (λ (x : Server). x.device) serves.1)
+had_turns pending (Ready info ∷ found) n old new replies had (mid, reply, later, is, next, serves, more) = (
+  mid.device,
+  has_of (port_at n) old.book,
+  reply,
+  later,
+  is,
+  had n (omega arith),
+  serves.turn,
+  had_turns pending found (n + 1) mid new later (had_none_on pending n reply old mid had serves.answers) more,
+)
+had_turns pending (Unserved ∷ found) n old new replies had serves = had_turns pending found (n + 1) old new replies (λ q most. had q (omega (arith, most))) serves
+had_turns pending (Unready state ∷ found) n old new replies had serves = had_turns pending found (n + 1) old new replies (λ q most. had q (omega (arith, most))) serves
 
 module _ (s new : Server) (replies : List Reply) (kept : IsKept s) (serves : ServePorts 0 s.ports replies s new) (first : Instant Device) (past : List (Happening Device DeviceStep)) (leads : Leads first past s) where
   abbrev old : Moment
@@ -476,8 +509,8 @@ module _ (s new : Server) (replies : List Reply) (kept : IsKept s) (serves : Ser
 
   pub service_event : (h : Happening Device DeviceStep) × (h.event.ask ≡ Service) × (h.event.said ≡ Served replies) × Leads first (h ∷ past) new
   service_event = subst (λ (x : Server). (h : Happening Device DeviceStep) × (h.event.ask ≡ Service) × (h.event.said ≡ Served replies) × Leads first (h ∷ past) x) (sym p.same)
-      (lead_on first past s later Service (Served replies) p.steps refl refl leads refl (λ r. absurd (false≢true r))
-      p.turns.may p.turns.belong p.turns.last p.turns.lawful all_answered (came_through s.ports 0 s new replies serves) holds.behind heeds p.backed stands)
+      (lead_by first past s later Service (Served replies) p.steps refl refl leads
+      p.turns.may p.turns.belong p.turns.last p.turns.lawful all_answered (had_turns old.machine.book s.ports 0 s new replies (λ q most none. none_there s.book old.machine at.book (port_at q) none) serves) holds.on holds.behind heeds p.backed stands)
 
 pub services_add : (s new : Server) (replies : List Reply) → IsKept s → ServePorts 0 s.ports replies s new → Adds s new Service (Served replies)
 services_add s new replies kept serves = record { adds = λ first past leads. service_event s new replies kept serves first past leads }

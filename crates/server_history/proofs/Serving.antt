@@ -17,7 +17,7 @@ use Rattle.agreement.specs.Facts.{RunsWell, Undisturbed}
 use Rattle.agreement.specs.Slots.{Free, IsOver, Own, ServesRequest, Stage, Uses, put}
 use Rattle.agreement.specs.Agrees.{AreUnarmed}
 use Rattle.agreement.proofs.Adding.{backed_then}
-use Rattle.agreement.proofs.Driven.{along, by_none, by_then, driven_as, followed_as, followed_then}
+use Rattle.agreement.proofs.Driven.{along, by_none, driven_as, followed_as, followed_then}
 use Rattle.agreement.proofs.Finished.{access_over}
 use Rattle.agreement.proofs.Putting.{put_cases, put_same}
 use Rattle.agreement.proofs.Waiting.{device_append}
@@ -34,7 +34,7 @@ use Rattle.identify.specs.declared.DiskInfo.{DiskInfo}
 use Rattle.request_book.specs.Entries.{first_of, has_of}
 use Rattle.request_book.specs.declared.book.Accepted.{Accepted}
 use Rattle.request_book.proofs.Stepping.{has_first}
-use Rattle.server_history.specs.Histories.{ComesThrough}
+use Rattle.server_history.specs.Histories.{HasTurn}
 use Rattle.server_history.specs.Served.{AnswersBy, FinishesFirst, ServesPort, done_reply}
 use Rattle.server_history.specs.Server.{Server, IsKept, IsMachineOf, none_parked, state_of}
 use Rattle.server_history.proofs.Finishing.{finishing}
@@ -42,12 +42,12 @@ use Rattle.server_history.proofs.Going.{machine_on}
 use Rattle.server_history.proofs.Looking.{finding_kept, looking_kept}
 use Rattle.server_history.proofs.Unused.{first_or_none, none_first, ready_found, served_by, serves_first}
 use Rattle.transfers.specs.Looks.{IsLooking, LooksAt}
-use Rattle.transfers.specs.Services.{IsService, IsOrdinary}
-use Rattle.transfers.specs.Transfers.{IsFinding, IsIssuing}
+use Rattle.transfers.specs.Services.{IsService}
+use Rattle.transfers.specs.Transfers.{IsFinding, IsIssuing, ReadsDone}
 use Rattle.transfers.specs.declared.Look.{Look}
 use Rattle.transfers.specs.declared.Look.TheVariants.{Undisturbed as Calm}
 use Rattle.transfers.proofs.Seeing.{seen_well}
-use Rattle.transfers.proofs.Serving.{finding_ordinary, issuing_ordinary, looking_service, services_unarmed}
+use Rattle.transfers.proofs.Serving.{finding_ordinary, looking_service, services_unarmed}
 
 -- accesses of a look, and of finding a transfer done, serve ports
 looks_serve : (port : Port) (old new : Device) → IsFollowed (IsLooking port) AnyUse old new → IsFollowed IsService AnyUse old new
@@ -63,11 +63,11 @@ followed_steps s new followed m reached is =
     let x = (followed.adds is.uses none_parked tt).adds m reached is.knows in
     (x.0, x.1, machine_on s new m x.0 is x.3.only x.2 (λ q. services_unarmed is.uses q s.device new followed.driven (is.unarmed q)), x.3.backed, x.3.only)
 
-nobody_answered : (s : Server) (new : Device) (port : Port) → ComesThrough port None s.device new → IsFollowed IsService AnyUse s.device new
+nobody_answered : (s : Server) (new : Device) (port : Port) → HasTurn port (has_of port s.book) None s.device new → IsFollowed IsService AnyUse s.device new
     → (RunsWell (s.device.port port.0) → Undisturbed port.0 s.device new → (s.device.port port.0).ci 0 ≡ false → (s.device.port port.0).sact 0 ≡ false → first_of port s.book ≢ None → ⊥)
     → ServesPort port None s (record s { device = new })
-nobody_answered s new port comes followed never = record {
-  comes = comes;
+nobody_answered s new port turn followed never = record {
+  turn = turn;
   same = refl;
   answers = (refl, refl);
   adds = λ m reached is. followed_steps s new followed m reached is;
@@ -75,13 +75,18 @@ nobody_answered s new port comes followed never = record {
 }
 
 -- what a finished port does last
-last_ordinary : (s new : Server) (port : Port) (first : Accepted) (found : Device) → FinishesFirst port first (record s { device = found }) new → IsDrivenBy (IsOrdinary port) found new.device
-last_ordinary s new port first found f = ⊎_elim
-    (λ (has : has_of port new.book ≡ true).
-    let next = has_first port new.book has in
-    driven_as (IsIssuing port) (IsOrdinary port) found new.device (issuing_ordinary port port) (f.next next.0 next.1).driven)
-    (λ (none : has_of port new.book ≡ false). subst (λ (d : Device). IsDrivenBy (IsOrdinary port) found d) (sym (f.none none)) (by_none (IsOrdinary port) found))
+last_issues : (s new : Server) (port : Port) (first : Accepted) (found : Device) → FinishesFirst port first (record s { device = found }) new → IsDrivenBy (IsIssuing port) found new.device
+last_issues s new port first found f = ⊎_elim
+    (λ (has : has_of port new.book ≡ true). let next = has_first port new.book has in (f.next next.0 next.1).driven)
+    (λ (none : has_of port new.book ≡ false). subst (λ (d : Device). IsDrivenBy (IsIssuing port) found d) (sym (f.none none)) (by_none (IsIssuing port) found))
     (cases_Bool (has_of port new.book))
+
+-- a port with a first request has one
+first_has : (port : Port) (book : List Accepted) (first : Accepted) → first_of port book ≡ Some first → has_of port book ≡ true
+first_has port book first is = ⊎_elim
+    (λ (has : has_of port book ≡ true). has)
+    (λ (none : has_of port book ≡ false). let z : Some first ≡ None = sym is ∙ none_first port book none in absurd cc)
+    (cases_Bool (has_of port book))
 
 -- ---- bits that are clear
 
@@ -151,7 +156,8 @@ module _ (s : Server) (seen : Device) (port : Port) (k : IsKept s) (ready : stat
   -- it was looked at, and that is all
   pub looked : (look : Look) → LooksAt port look s.device seen → (look ≢ Calm) ⊎ (has_of port s.book ≡ false) → ServesPort port None s (record s { device = seen })
   looked look l why =
-      nobody_answered s seen port (record { look = look; seen = seen; looks = l; later = by_none (IsOrdinary port) seen; only = λ told. (refl, refl) })
+      nobody_answered s seen port
+      (record { look = look; seen = seen; looks = l; only = λ _. (refl, refl); checks = λ calm busy. absurd (⊎_elim (λ told. told calm) (λ none. false≢true (sym none ∙ busy)) why) })
       (looks_serve port s.device seen looks)
       (λ well calm ci sact some. ⊎_elim
       (λ (told : look ≢ Calm). told (seen_well port look s.device seen l k.on well calm).0)
@@ -160,15 +166,21 @@ module _ (s : Server) (seen : Device) (port : Port) (k : IsKept s) (ready : stat
 
   module _ (l : LooksAt port Calm s.device seen) where
     -- its transfer wasn't found done
-    pub unfinished : (new : Device) → ((seen.port port.0).ci 0 ≡ false → (seen.port port.0).sact 0 ≡ false → ⊥) → IsFollowed (IsFinding port) AnyUse seen new → ServesPort port None s (record s { device = new })
-    unfinished new running finds =
+    pub unfinished : (new : Device) → has_of port s.book ≡ true → ReadsDone port false seen new → ((seen.port port.0).ci 0 ≡ false → (seen.port port.0).sact 0 ≡ false → ⊥) → IsFollowed (IsFinding port) AnyUse seen new → ServesPort port None s (record s { device = new })
+    unfinished new has reads running finds =
         nobody_answered s new port
-        (record { look = Calm; seen = seen; looks = l; later = driven_as (IsFinding port) (IsOrdinary port) seen new (finding_ordinary port port) finds.driven; only = λ told. absurd (told refl) })
+        (record {
+          look = Calm;
+          seen = seen;
+          looks = l;
+          only = λ why. absurd (⊎_elim (λ told. told refl) (λ none. false≢true (sym none ∙ has)) why);
+          checks = λ calm busy. record { done = false; read = new; reads = reads; running = λ _. (refl, refl); over = λ done. absurd (false≢true done) };
+        })
         (followed_then IsService AnyUse s.device seen new (looks_serve port s.device seen looks) (finds_serve port seen new finds))
         (λ well calm ci sact some. let c = still_clear s port k ready seen looks.driven ci sact some in running c.0 c.1)
 
     -- it was found done, and answered
-    module _ (new : Server) (found : Device) (first : Accepted) (finds : IsFollowed (IsFinding port) AnyUse seen found) (over : IsOver (found.port port.0) 0)
+    module _ (new : Server) (found : Device) (first : Accepted) (reads : ReadsDone port true seen found) (finds : IsFollowed (IsFinding port) AnyUse seen found) (over : IsOver (found.port port.0) 0)
         (finishes : FinishesFirst port first (record s { device = found }) new) where
       served : IsFollowed IsService AnyUse s.device found
       served = followed_then IsService AnyUse s.device seen found (looks_serve port s.device seen looks) (finds_serve port seen found finds)
@@ -202,17 +214,23 @@ module _ (s : Server) (seen : Device) (port : Port) (k : IsKept s) (ready : stat
             ),
           )
 
-      last_driven : IsDrivenBy (IsOrdinary port) found new.device
-      last_driven = last_ordinary s new port first found finishes
+      has : has_of port s.book ≡ true
+      has = first_has port s.book first finishes.first_is
 
       pub finished : ServesPort port (Some (done_reply first)) s new
       finished = record {
-        comes = record {
+        turn = record {
           look = Calm;
           seen = seen;
           looks = l;
-          later = by_then (driven_as (IsFinding port) (IsOrdinary port) seen found (finding_ordinary port port) finds.driven) last_driven;
-          only = λ told. absurd (told refl);
+          only = λ why. absurd (⊎_elim (λ told. told refl) (λ none. false≢true (sym none ∙ has)) why);
+          checks = λ calm busy. record {
+            done = true;
+            read = found;
+            reads = reads;
+            running = λ still. absurd (false≢true (sym still));
+            over = λ _. ((λ none. let z : Some (done_reply first) ≡ None = none in absurd cc), last_issues s new port first found finishes);
+          };
         };
         same = finishes.server ∙ ap (λ (book : List Accepted). record s { device = new.device; table = new.table; book = book }) (sym (ap (λ (x : Server). x.book) finishes.server));
         answers = (first, finishes.first_is, refl, ap (λ (x : Server). x.book) finishes.server, finishes.lent);

@@ -21,7 +21,7 @@ module _ (wanted : List Wanted) where
   telling_stays first [] h = refl
   telling_stays first (x ∷ past) h = h.2.backed.telling ∙ telling_stays first past h.0
 
-  machine_is : (first : Instant Device) (past : List (Happening Device DeviceStep)) → (now first past).moment.machine ≡ after first.moment.machine (steps_of (events_of past))
+  pub machine_is : (first : Instant Device) (past : List (Happening Device DeviceStep)) → (now first past).moment.machine ≡ after first.moment.machine (steps_of (events_of past))
   machine_is first past = ap (λ (m : Moment). m.machine) (now_is first past) ∙ moment_is first.moment (events_of past)
 
   all_told : (first : Instant Device) (past : List (Happening Device DeviceStep)) → IsHistory (Begins wanted) (Ties wanted) first past → first.device.telling ≡ true → AllTold first.moment.machine (steps_of (events_of past))

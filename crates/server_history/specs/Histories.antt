@@ -1,29 +1,33 @@
 -- Histories of a server of several ports: what ties its device to the block machine, call by call (this project's own).
-use Rattle.std.specs.Prelude.{ℕ, Bool, true, false, ◌≡◌, ◌≢◌, ◌+◌, ◌<◌, ◌++◌, List, [], ◌∷◌, Option, Some, None, Result, Ok, Err, Contains}
+use Rattle.std.specs.Prelude.{ℕ, Bool, true, false, ◌≡◌, ◌≢◌, ◌⊎◌, ◌+◌, ◌*◌, ◌<◌, ◌++◌, List, [], ◌∷◌, Option, Some, None, Result, Ok, Err, Contains}
 use Rattle.ata_types.specs.declared.Port.{Port}
 use Rattle.ata_types.specs.declared.PortState.TheVariants.{Ready as ReadyState}
+use Rattle.ata_types.specs.declared.grant.GrantRow.{GrantRow}
 use Rattle.ata_types.specs.declared.refusal.MemFault.{MemFault}
 use Rattle.ata_types.specs.declared.request.Reply.{Reply}
+use Rattle.adapter.specs.Access.{Loads, Stores}
 use Rattle.adapter.specs.Asked.{Asked}
 use Rattle.adapter.specs.Device.{Device}
-use Rattle.adapter.specs.Steps.{Steps}
+use Rattle.adapter.specs.Rules.{IsOn}
 use Rattle.adapter.specs.declared.access.DeviceStep.{DeviceStep}
 use Rattle.agreement.specs.Agrees.{port_at}
 use Rattle.agreement.specs.Driven.{known, IsDrivenBy}
 use Rattle.agreement.specs.Driver.{Knows, IsBacked}
 use Rattle.agreement.specs.Facts.{RunsWell, Undisturbed}
 use Rattle.agreement.specs.Slots.{Free, Uses}
-use Rattle.block_machine.specs.Events.{Ask, Service, Tick, Reset, Device as Told, Said, Submitted, Stored, Loaded, Served, Stepped, Moment, ServesReady, moment_after}
+use Rattle.block_machine.specs.Events.{Ask, Submit, StoreAt, LoadAt, Service, Tick, Reset, Device as Told, Said, Submitted, Stored, Loaded, Served, Stepped, Moment, ServesReady, moment_after}
 use Rattle.block_machine.specs.Histories.{Instant, Happening}
 use Rattle.block_machine.specs.Histories as histories
 use Rattle.block_machine.specs.Ports.{Ports, Evidence, IsInterrupted}
+use Rattle.block_machine.specs.Rules.{IsNamed}
+use Rattle.block_machine.specs.State.{Pending, Machine}
 use Rattle.block_machine.specs.Steps.{Step}
 use Rattle.host_boot.specs.declared.Found.{Found}
 use Rattle.host_boot.specs.declared.Found.TheVariants.{Ready}
 use Rattle.identify.specs.declared.wanted.Wanted.{Wanted}
 use Rattle.server_history.specs.Server.{Server, ports_of, none_parked, IsMachineOf, IsPortOf}
 use Rattle.transfers.specs.Looks.{LooksAt}
-use Rattle.transfers.specs.Services.{IsService, IsOrdinary}
+use Rattle.transfers.specs.Transfers.{IsIssuing, ReadsDone}
 use Rattle.transfers.specs.declared.Look.{Look}
 use Rattle.transfers.specs.declared.Look.TheVariants.{Undisturbed as Calm}
 
@@ -43,8 +47,10 @@ pub record AreShown (wanted : List Wanted) (ports : Ports) (d : Device) : Type 0
   pub ports_are : ports ≡ ports_of found
   pub behind : (port : ℕ) → port < 4 → IsPortOf wanted found port d
 
--- What a new server leaves: the machine agrees with a driver that uses no slot but slot 0 of a port, and each port is as it shows.
+-- What a new server leaves: the adapter is on, the machine agrees with a driver that uses no slot but slot 0 of a port, and each port is
+-- as it shows.
 pub record Begins (wanted : List Wanted) (first : Instant Device) : Type 0 where
+  pub on : IsOn first.device
   pub ports : AreShown wanted first.moment.ports first.device
   pub uses : Uses
   pub plain : (port slot : ℕ) → slot ≢ 0 → uses port slot ≡ Free
@@ -82,14 +88,6 @@ abbrev pub load_said : Result (Unit {0}) MemFault → List ℕ → Said
 load_said (Ok done) bytes = Loaded (Ok bytes)
 load_said (Err fault) bytes = Loaded (Err fault)
 
--- the call refuses what it was asked
-abbrev pub is_refusal : Said → Bool
-is_refusal (Submitted (Err refusal)) = true
-is_refusal (Stored (Some fault)) = true
-is_refusal (Loaded (Err fault)) = true
-is_refusal (Stepped false) = true
-is_refusal said = false
-
 -- ---- how a call came from the one device to the other
 
 -- as a list
@@ -97,28 +95,47 @@ abbrev pub reply_list : Option Reply → List Reply
 reply_list None = []
 reply_list (Some reply) = reply ∷ []
 
--- The port was looked at; where that told of something, nobody was answered and nothing else done; else ordinary accesses followed.
-pub record ComesThrough (port : Port) (reply : Option Reply) (old new : Device) : Type 0 where
+-- PxCI and PxSACT were read. Where slot 0's bit was set in one of them, nobody was answered, and that was all. Where it was clear in both,
+-- a request was answered (which one, the machine's steps say); of accesses, only those followed that issue a request of the port's, if any.
+pub record Checks (port : Port) (reply : Option Reply) (old new : Device) : Type 0 where
+  pub done : Bool
+  pub read : Device
+  pub reads : ReadsDone port done old read
+  pub running : done ≡ false → (reply ≡ None) × (new ≡ read)
+  pub over : done ≡ true → (reply ≢ None) × IsDrivenBy (IsIssuing port) read new
+
+-- A port's turn in a service. The port was looked at. Where that told of something, or the port had no request, that was all, and nobody
+-- was answered; else its first request was checked.
+pub record HasTurn (port : Port) (busy : Bool) (reply : Option Reply) (old new : Device) : Type 0 where
   pub look : Look
   pub seen : Device
   pub looks : LooksAt port look old seen
-  pub later : IsDrivenBy (IsOrdinary port) seen new
-  pub only : look ≢ Calm → (reply ≡ None) × (new ≡ seen)
+  pub only : (look ≢ Calm) ⊎ (busy ≡ false) → (reply ≡ None) × (new ≡ seen)
+  pub checks : look ≡ Calm → busy ≡ true → Checks port reply seen new
 
--- so it was with each of these ports that was found ready, one after another, of which the first has this number
-abbrev pub ComeThrough : ℕ → List Found → List Reply → Device → Device → Type 0
-ComeThrough port [] replies old new = (replies ≡ []) × (new ≡ old)
-ComeThrough port (Ready info ∷ rest) replies old new =
-    (mid : Device) × (reply : Option Reply) × (later : List Reply) × (replies ≡ reply_list reply ++ later)
-    × ComesThrough (port_at port) reply old mid × ComeThrough (port + 1) rest later mid new
-ComeThrough port (found ∷ rest) replies old new = ComeThrough (port + 1) rest replies old new
+-- none of the requests is of the port
+abbrev pub HasNone : List Pending → Port → Type 0
+HasNone book port = (e : Pending) → Contains book e → e.request.port ≢ port
 
--- A call for the device came by the device's own steps; a service through the ready ports in rising number; and another call by accesses
--- that of registers write IS, a port's PxIS or PxCI, if any.
-abbrev pub CameBy : List Found → Ask DeviceStep → Said → Device → Device → Type 0
-CameBy found (Told step) said old new = Steps old new
-CameBy found Service (Served replies) old new = ComeThrough 0 found replies old new
-CameBy found ask said old new = IsDrivenBy IsService old new
+-- Each of these ports that was found ready had its turn, one after another; the first of them has this number. One that took no request
+-- for its own had none in this book.
+abbrev pub HaveTurns : List Pending → ℕ → List Found → List Reply → Device → Device → Type 0
+HaveTurns book port [] replies old new = (replies ≡ []) × (new ≡ old)
+HaveTurns book port (Ready info ∷ rest) replies old new =
+    (mid : Device) × (busy : Bool) × (reply : Option Reply) × (later : List Reply) × (replies ≡ reply_list reply ++ later)
+    × (busy ≡ false → HasNone book (port_at port)) × HasTurn (port_at port) busy reply old mid × HaveTurns book (port + 1) rest later mid new
+HaveTurns book port (found ∷ rest) replies old new = HaveTurns book (port + 1) rest replies old new
+
+-- What was done in a call, from a machine with these requests and grants. The device did what it was told; in a service, each ready port
+-- had its turn, in rising number; for a request that was accepted there are only accesses that issue it on its row's port, if any; a
+-- client's bytes are stored, or loaded, by one access. Each other call leaves the device as it was: a refused one is among them.
+abbrev pub CameBy : Machine → List Found → Ask DeviceStep → Said → Device → Device → Type 0
+CameBy m found (Told step) (Stepped true) old new = Asked step old new
+CameBy m found Service (Served replies) old new = HaveTurns m.book 0 found replies old new
+CameBy m found (Submit r) (Submitted (Ok id)) old new = (row : GrantRow) × IsNamed m.rows r row × IsDrivenBy (IsIssuing row.port) old new
+CameBy m found (StoreAt client frame offset bytes) (Stored None) old new = Stores (4096 * frame.0 + offset) bytes old new
+CameBy m found (LoadAt client frame offset count) (Loaded (Ok bytes)) old new = Loads (4096 * frame.0 + offset) bytes old new
+CameBy m found ask said old new = new ≡ old
 
 -- ---- heeding
 
@@ -137,16 +154,15 @@ HeedsAt port ask old evidence steps new = IsInterrupted evidence port → ⊥
 
 -- ---- the whole
 
--- The device's part in a call: accesses, or its own steps, led there, and the tape backs the machine's steps; it did the step that
--- it was told, and nothing where the call is refused; no answer rests on evidence; a port that goes well is heeded: so a service
--- answers what had ended on it; and after it each port is as it shows, and the machine agrees with a driver that uses no slot but
--- slot 0 of a port.
+-- The device's part in a call: what was done led there, and the tape backs the machine's steps; no answer rests on evidence; a port
+-- that goes well is heeded: so a service answers what had ended on it; and after it the adapter is on, each port is to clients what it was,
+-- and as it shows, and the machine agrees with a driver that uses no slot but slot 0 of a port.
 pub record Ties (wanted : List Wanted) (old : Instant Device) (h : Happening Device DeviceStep) : Type 0 where
+  pub on : IsOn h.device
+  pub same : h.event.ports ≡ old.moment.ports
   pub ports : AreShown wanted h.event.ports h.device
-  pub came : CameBy ports.found h.event.ask h.event.said old.device h.device
+  pub came : CameBy old.moment.machine ports.found h.event.ask h.event.said old.device h.device
   pub backed : IsBacked old.device h.device old.moment.machine h.event.steps
-  pub asked : (step : DeviceStep) → h.event.ask ≡ Told step → h.event.said ≡ Stepped true → Asked step old.device h.device
-  pub refused : is_refusal h.event.said ≡ true → h.device ≡ old.device
   pub evidence : RestsOnNone h.event.evidence
   pub heeds : (port : Port) → GoesWell port.0 old.device h.device → SparesPort h.event.evidence port
       × HeedsAt port h.event.ask old.moment h.event.evidence h.event.steps (moment_after old.moment h.event)

@@ -21,7 +21,7 @@ use Rattle.host_boot.specs.declared.Found.TheVariants.{Ready}
 use Rattle.request_book.specs.Entries.{first_of, has_of, rest_of}
 use Rattle.request_book.specs.Machine.{IsEntry}
 use Rattle.request_book.specs.declared.book.Accepted.{Accepted}
-use Rattle.server_history.specs.Histories.{ComesThrough, reply_list}
+use Rattle.server_history.specs.Histories.{HasTurn, reply_list}
 use Rattle.server_history.specs.Server.{Server, IsKept, IsMachineOf, plain_mode}
 use Rattle.transfers.specs.Transfers.{Transfer, IssuesTransfer}
 
@@ -61,7 +61,7 @@ pub record Accepts (port : Port) (r : Request) (id : RequestId) (old new : Serve
 
 -- ---- a port is served
 
--- but for the device, the loans, and the book, and the book, the server is as it was
+-- but for the device, the loans and the book, the server is as it was
 abbrev pub SameSettings : Server → Server → Type 0
 SameSettings old new = new ≡ record old { device = new.device; table = new.table; book = new.book }
 
@@ -85,10 +85,11 @@ AnswersBy port (Some reply) old steps = (first : Accepted) × (done : Pending) �
     × (first_of port old.book ≡ Some first) × IsEntry first done.request × (done.issued ≡ true) × (done.ended ≡ true) × AllTouched done
     × (steps ≡ later ++ Answer done outcome.Ok ∷ before) × AllDevices before × IssuesOnly port later
 
--- What serving a port does: it comes through, answers its first request or nobody, and from each machine that stands for the old server
--- such steps lead to one that stands for the new. On a port that goes well, a first request that had ended is answered.
+-- What serving a port does: the port has its turn, in which its first request is answered, or nobody is; and from each machine that stands
+-- for the old server such steps lead to one that stands for the new. On a port that goes well, a first request is answered whose command's
+-- bits were clear when the turn began.
 pub record ServesPort (port : Port) (reply : Option Reply) (old new : Server) : Type 0 where
-  pub comes : ComesThrough port reply old.device new.device
+  pub turn : HasTurn port (has_of port old.book) reply old.device new.device
   pub same : SameSettings old new
   pub answers : AnswersFirst port reply old new
   pub adds : (m : Machine) → IsReached m → IsMachineOf old m

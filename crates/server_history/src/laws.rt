@@ -1,5 +1,5 @@
 // Laws of the definitions, for callers: the clause is the theorem. These functions do nothing.
-ghost use Rattle.std.specs.Prelude.{ℕ, true, false, ◌≡◌, ◌≢◌, ◌⊎◌, ◌+◌, ◌*◌, List, Some, None, Ok, Err, length};
+ghost use Rattle.std.specs.Prelude.{ℕ, true, false, ◌≡◌, ◌≢◌, ◌⊎◌, ◌+◌, ◌*◌, List, ◌∷◌, Some, None, Ok, Err, length, Contains};
 ghost use Rattle.ata_types.specs.declared.Port.{Port};
 ghost use Rattle.ata_types.specs.declared.PortState.TheVariants.{Ready as ReadyState};
 ghost use Rattle.ata_types.specs.declared.refusal.MemFault.{MemFault};
@@ -17,10 +17,12 @@ ghost use Rattle.adapter.specs.Rules.{IsFree, Stays};
 ghost use Rattle.adapter.specs.Steps.{Steps};
 ghost use Rattle.adapter.specs.declared.access.DeviceStep.{DeviceStep};
 ghost use Rattle.agreement.specs.Driven.{AgreesWith, AnyUse, IsFollowed};
-ghost use Rattle.agreement.specs.Slots.{IsOver};
-ghost use Rattle.block_machine.specs.Events.{Submit, StoreAt, LoadAt, Service, State, Device as Told, Submitted, Served, Shown, Stepped, IsRun, EveryReadHolds};
-ghost use Rattle.block_machine.specs.Histories.{Instant, Happening, IsHistory, events_of};
+ghost use Rattle.agreement.specs.Facts.{RunsWell, Undisturbed};
+ghost use Rattle.agreement.specs.Slots.{IsOver, ServesRequest};
+ghost use Rattle.block_machine.specs.Events.{steps_of, Submit, StoreAt, LoadAt, Service, State, Device as Told, Submitted, Served, Shown, Stepped, IsRun, EveryReadHolds};
+ghost use Rattle.block_machine.specs.Histories.{Instant, Happening, IsHistory, events_of, now};
 ghost use Rattle.block_machine.specs.Refusals.{IsAcceptable, IsFirstRefusal, IsOpen, IsFirstMemFault};
+ghost use Rattle.block_machine.specs.State.{Pending};
 ghost use Rattle.command_table.specs.Written.{IsUnused};
 ghost use Rattle.dma_frames.specs.Table.{owner_of, lent_to};
 ghost use Rattle.host_boot.specs.Taken.{found_of, TakesOver};
@@ -28,13 +30,14 @@ ghost use Rattle.host_boot.specs.declared.Host.{Host};
 ghost use Rattle.identify.specs.declared.wanted.Wanted.{Wanted};
 ghost use Rattle.request_book.specs.Entries.{has_of};
 ghost use Rattle.request_book.specs.declared.book.Accepted.{Accepted};
-ghost use Rattle.server_history.specs.Histories.{Adds, Begins, HasBegun, Ties, load_said, store_said};
+ghost use Rattle.server_history.specs.Histories.{Adds, AreShown, Begins, GoesWell, HasBegun, Ties, load_said, store_said};
+ghost use Rattle.server_history.specs.Moves.{KeepsMoves};
 ghost use Rattle.server_history.specs.Served.{Accepts, FinishesFirst, ServePorts, ServesPort, done_reply};
 ghost use Rattle.server_history.specs.Server.{Server, IsKept, IsNewServer, ports_of, situation_of, state_of};
 ghost use Rattle.transfers.specs.Looks.{IsLooking, LooksAt};
-ghost use Rattle.transfers.specs.Transfers.{IsFinding, FindsTransfer};
+ghost use Rattle.transfers.specs.Transfers.{IsFinding, FindsTransfer, ReadsDone};
 ghost use Rattle.transfers.specs.declared.Look.{Look};
-ghost use Rattle.transfers.specs.declared.Look.TheVariants.{Undisturbed};
+ghost use Rattle.transfers.specs.declared.Look.TheVariants.{Undisturbed as Calm};
 
 /// The calls of a history of the server are a run of the block machine. So its laws on runs hold of them: each request that is
 /// issued was accepted and broke no rule, each touch is of an accepted request's own sector at a frame that is lent to it, and
@@ -49,6 +52,48 @@ pub fn histories_are_runs()
 pub fn reads_hold()
     ensures { (wanted : List Wanted) (first : Instant Device) (past : List (Happening Device DeviceStep))
         → IsHistory (Begins wanted) (Ties wanted) first past → first.device.telling ≡ true → EveryReadHolds first.moment (events_of past) }
+{}
+
+/// Each move of a client's data, of any call of a history, is of a sector of its own request's, at its place in a frame that is lent to that
+/// request then, in the direction of its operation; the request was accepted, when it broke no rule, and is issued or kept. Each other
+/// move stays in its port's scratch frame.
+pub fn moves_keep_to_their_places()
+    ensures { (wanted : List Wanted) (first : Instant Device) (past : List (Happening Device DeviceStep)) (h : Happening Device DeviceStep)
+        → IsHistory (Begins wanted) (Ties wanted) first (h ∷ past)
+        → KeepsMoves first.moment.machine (steps_of (events_of past)) h.event.steps (now first past).device h.device }
+{}
+
+/// At each instant of a history, a request that is issued on a ready port has slot 0 of that port, on which ST is one: the header and the
+/// table there say its command; and its bit of PxCI is set, or the device has taken the command, or the request has ended and the bits are
+/// clear. (Only where ST is zero may a command have been given up.)
+pub fn issued_requests_have_their_slots()
+    ensures { (wanted : List Wanted) (first : Instant Device) (past : List (Happening Device DeviceStep)) (e : Pending)
+        → IsHistory (Begins wanted) (Ties wanted) first past → (now first past).moment.ports.state e.request.port ≡ ReadyState
+        → Contains (now first past).moment.machine.book e → e.issued ≡ true
+        → ServesRequest (now first past).moment.machine (now first past).device.memory ((now first past).device.port e.request.port.0)
+        e.request.port.0 0 e.request.id
+        × (((now first past).device.port e.request.port.0).st ≡ true) }
+{}
+
+/// At each instant of a history, the ports are to clients what they were when it began, and what stands behind that is so still.
+pub fn ports_are_what_they_were_found()
+    ensures { (wanted : List Wanted) (first : Instant Device) (past : List (Happening Device DeviceStep))
+        → IsHistory (Begins wanted) (Ties wanted) first past
+        → ((now first past).moment.ports ≡ first.moment.ports) × AreShown wanted (now first past).moment.ports (now first past).device }
+{}
+
+/// A port that runs well when a call of a history begins, and on which nothing goes wrong meanwhile, runs well when it ends.
+pub fn calls_leave_ports_well()
+    ensures { (wanted : List Wanted) (first : Instant Device) (past : List (Happening Device DeviceStep)) (h : Happening Device DeviceStep)
+        (port : Port) → IsHistory (Begins wanted) (Ties wanted) first (h ∷ past) → GoesWell port.0 (now first past).device h.device
+        → RunsWell (h.device.port port.0) }
+{}
+
+/// A ready port of a new server runs well, if nothing went wrong on it since the adapter was idle.
+pub fn new_ready_ports_run_well()
+    ensures { (s : Server) (host : Host) (idle : Device) (port : Port) → IsKept s → IsIdle idle → TakesOver s.wanted host idle s.device
+        → s.ports ≡ host.ports → state_of (found_of s.ports port.0) ≡ ReadyState → Undisturbed port.0 idle s.device
+        → RunsWell (s.device.port port.0) }
 {}
 
 /// A server of an adapter that was taken over holds what a server keeps, and a history without calls leads to it.
@@ -128,16 +173,17 @@ pub fn a_finished_port_is_kept()
 pub fn a_port_is_served()
     ensures looked { (s : Server) (seen : Device) (port : Port) (look : Look) → IsKept s → state_of (found_of s.ports port.0) ≡ ReadyState
         → LooksAt port look s.device seen → IsFollowed (IsLooking port) AnyUse s.device seen
-        → (look ≢ Undisturbed) ⊎ (has_of port s.book ≡ false)
+        → (look ≢ Calm) ⊎ (has_of port s.book ≡ false)
         → ServesPort port None s (record s { device = seen }) }
     ensures unfinished { (s : Server) (seen new : Device) (port : Port) → IsKept s → state_of (found_of s.ports port.0) ≡ ReadyState
-        → LooksAt port Undisturbed s.device seen → IsFollowed (IsLooking port) AnyUse s.device seen
-        → ((seen.port port.0).ci 0 ≡ false → (seen.port port.0).sact 0 ≡ false → ⊥) → IsFollowed (IsFinding port) AnyUse seen new
+        → LooksAt port Calm s.device seen → IsFollowed (IsLooking port) AnyUse s.device seen
+        → has_of port s.book ≡ true → ((seen.port port.0).ci 0 ≡ false → (seen.port port.0).sact 0 ≡ false → ⊥)
+        → ReadsDone port false seen new → IsFollowed (IsFinding port) AnyUse seen new
         → ServesPort port None s (record s { device = new }) }
     ensures finished { (s new : Server) (seen found : Device) (port : Port) (first : Accepted) → IsKept s
         → state_of (found_of s.ports port.0) ≡ ReadyState
-        → LooksAt port Undisturbed s.device seen → IsFollowed (IsLooking port) AnyUse s.device seen
-        → IsFollowed (IsFinding port) AnyUse seen found → IsOver (found.port port.0) 0
+        → LooksAt port Calm s.device seen → IsFollowed (IsLooking port) AnyUse s.device seen
+        → ReadsDone port true seen found → IsFollowed (IsFinding port) AnyUse seen found → IsOver (found.port port.0) 0
         → FinishesFirst port first (record s { device = found }) new → ServesPort port (Some (done_reply first)) s new }
 {}
 

@@ -15,7 +15,7 @@ use Rattle.agreement.specs.Driven.{known, AnyUse, IsDrivenBy, IsFollowed}
 use Rattle.agreement.specs.Facts.{EndedIn}
 use Rattle.agreement.proofs.Driven.{by_one, by_then, followed_then, followed_read}
 use Rattle.agreement.proofs.Finding.{done_adds}
-use Rattle.transfers.specs.Transfers.{IsFinding, FindsTransfer}
+use Rattle.transfers.specs.Transfers.{IsFinding, FindsTransfer, ReadsDone}
 
 -- the adapter has the port still
 pub there_after : (port : ℕ) (old new : Device) → KeepsAll old new → HasPort old port → HasPort new port
@@ -76,3 +76,6 @@ pub read_there : (port : Port) (v : ℕ) (old new : Device) → Reads (Px port C
 read_there port v old new call on there =
     let s : SeenAt port.0 Ci v old new = seen port Ci v old new call on.no_reset in
     (on_after on s.keeps.on, there_after port.0 old new s.keeps there)
+
+pub reading_driven : (port : Port) (done : Bool) (old new : Device) → ReadsDone port done old new → IsDrivenBy (IsFinding port) old new
+reading_driven port done old new r = finding_driven port old r.seen new r.issued r.active r.shows_issued r.shows_active

@@ -1,14 +1,15 @@
 -- One plain transfer in slot 0 of a port: how it is issued, and how it is found done (AHCI 1.3.1, 5.5; ACS-3: READ DMA EXT,
 -- WRITE DMA EXT).
-use Rattle.std.specs.Prelude.{ℕ, Bool, None, true, ◌≡◌, ◌⊎◌, ◌<◌, List}
+use Rattle.std.specs.Prelude.{ℕ, Bool, None, true, not, ◌&&◌, ◌≡◌, ◌⊎◌, ◌<◌, List}
 use Rattle.ata_types.specs.declared.Port.{Port}
 use Rattle.ata_types.specs.declared.request.Frame.{Frame}
 use Rattle.ata_types.specs.declared.request.Op.{Op}
 use Rattle.ata_types.specs.declared.request.Op.TheVariants.{Read, Write, Trim, Flush}
 use Rattle.ata_types.specs.declared.request.RequestId.{RequestId}
+use Rattle.hba_regs.specs.Bits.{bit}
 use Rattle.hba_regs.specs.declared.reg.Reg.TheVariants.{Px}
 use Rattle.hba_regs.specs.declared.reg.PortReg.TheVariants.{Ci, Sact}
-use Rattle.adapter.specs.Access.{Access}
+use Rattle.adapter.specs.Access.{Access, Reads}
 use Rattle.adapter.specs.Access.Access.{Reading, Writing, Storing}
 use Rattle.adapter.specs.Commands.{Meaning}
 use Rattle.adapter.specs.Device.{Device}
@@ -89,6 +90,15 @@ pub record IssuesTransfer (port : Port) (r : Transfer) (old new : Device) : Type
 abbrev pub IsFinding : Port → Access → Type 0
 IsFinding port (Reading r v) = (r ≡ Px port Ci) ⊎ (r ≡ Px port Sact)
 IsFinding port access = ⊥
+
+-- PxCI is read, and then PxSACT. Slot 0's command is found done where its bits were clear in both.
+pub record ReadsDone (port : Port) (done : Bool) (old new : Device) : Type 0 where
+  pub issued : ℕ
+  pub seen : Device
+  pub shows_issued : Reads (Px port Ci) issued old seen
+  pub active : ℕ
+  pub shows_active : Reads (Px port Sact) active seen new
+  pub tells : done ≡ not (bit issued 0) && not (bit active 0)
 
 -- The steps are the device's. Where slot 0's request was found done, the slot's command is over and the request has ended; and no
 -- request of the port was kept meanwhile.

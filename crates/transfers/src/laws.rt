@@ -1,5 +1,5 @@
 // Laws of the definitions, for callers: the clause is the theorem. Nothing calls these functions.
-ghost use Rattle.std.specs.Prelude.{ℕ, true, false, ◌≡◌, ◌≢◌, ◌<◌, ◌≤◌, ◌%◌, ◌⊎◌};
+ghost use Rattle.std.specs.Prelude.{ℕ, Bool, true, false, ◌≡◌, ◌≢◌, ◌<◌, ◌≤◌, ◌%◌, ◌⊎◌};
 ghost use Rattle.ata_types.specs.declared.Port.{Port};
 ghost use Rattle.hba_regs.specs.Bits.{bit};
 ghost use Rattle.adapter.specs.Access.{Access};
@@ -17,7 +17,7 @@ ghost use Rattle.agreement.specs.Links.{SameAdapter};
 ghost use Rattle.agreement.specs.Slots.{Free, Serves, Uses, put};
 ghost use Rattle.transfers.specs.Looks.{look_of, IsLooking, LooksAt};
 ghost use Rattle.transfers.specs.Services.{IsService, IsOrdinary, KeepsChanges};
-ghost use Rattle.transfers.specs.Transfers.{Transfer, MayTransfer, IsTransferOf, IsIssuing, IssuesTransfer, IsFinding};
+ghost use Rattle.transfers.specs.Transfers.{Transfer, MayTransfer, IsTransferOf, IsIssuing, IssuesTransfer, IsFinding, ReadsDone};
 ghost use Rattle.transfers.specs.Witness.{FirstMayBeIssued};
 ghost use Rattle.transfers.specs.declared.Look.{Look};
 ghost use Rattle.transfers.specs.declared.Look.TheVariants as look;
@@ -31,6 +31,7 @@ pub fn calls_are_services()
     ensures beside { (port other : Port) (access : Access) → port.0 ≢ other.0 → IsLooking port access → IsOrdinary other access }
     ensures look { (port : Port) (result : Look) (old new : Device) → LooksAt port result old new
         → IsDrivenBy (IsLooking port) old new }
+    ensures reading { (port : Port) (done : Bool) (old new : Device) → ReadsDone port done old new → IsDrivenBy (IsFinding port) old new }
 {}
 
 /// There is an adapter on which a transfer may be issued, so that the clauses on issuing speak of something.

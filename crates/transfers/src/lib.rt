@@ -12,7 +12,7 @@ ghost use Rattle.command_table.specs.Places.{places_of};
 ghost use Rattle.command_table.specs.Written.{IsUnused};
 ghost use Rattle.disk_page.specs.Asking.{LeavesRunning};
 ghost use Rattle.transfers.specs.Looks.{look_of, IsBitOf, IsLooking, LooksAt};
-ghost use Rattle.transfers.specs.Transfers.{IsTransfer, operation_of, meaning_of, MayTransfer, IssuesTransfer, IsFinding, FindsTransfer};
+ghost use Rattle.transfers.specs.Transfers.{IsTransfer, operation_of, meaning_of, MayTransfer, IssuesTransfer, IsFinding, FindsTransfer, ReadsDone};
 
 use adapter::{Adapter, Command};
 use ata_types::{Frame, Op, Port, Sector, Slot};
@@ -153,6 +153,7 @@ pub fn is_done<A: Adapter>(adapter: &mut A, port: Port) -> bool
     requires there { HasPort (A.device adapter.old) port.0 }
     ensures on { IsOn (A.device adapter.new) }
     ensures finds { ((A.device adapter.old).port port.0).st ≡ true → FindsTransfer port result (A.device adapter.old) (A.device adapter.new) }
+    ensures reads { ReadsDone port result (A.device adapter.old) (A.device adapter.new) }
     ensures seen { ((A.device adapter.old).port port.0).ci 0 ≡ false → ((A.device adapter.old).port port.0).sact 0 ≡ false → result ≡ true }
     ensures followed { IsFollowed (IsFinding port) AnyUse (A.device adapter.old) (A.device adapter.new) }
 {

@@ -1,4 +1,5 @@
 use Rattle.transfers.proofs.Serving.{issuing_ordinary, finding_ordinary, looking_service, looking_beside}
+use Rattle.transfers.proofs.Finding.{reading_driven}
 use Rattle.transfers.proofs.Seeing.{look_driven}
 use Rattle.transfers.proofs.laws.calls_are_services.Goals as goal
 
@@ -16,3 +17,6 @@ returns-clause-beside c = looking_beside
 
 pub returns-clause-look : goal.returns-clause-look
 returns-clause-look c = look_driven
+
+pub returns-clause-reading : goal.returns-clause-reading
+returns-clause-reading c = reading_driven

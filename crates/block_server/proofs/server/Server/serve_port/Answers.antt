@@ -81,7 +81,7 @@ returns-then-not-is_done-clause-serves g c =
     let ready = subst R (sym c.self.view_is) c.requires.ready in
     let P : ServerView g.row.A.Denot → Type 0 = λ v. ServesPort c.args.port None (server_of device v) (record s { device = device c.is_done.new.adapter }) in
     subst P c.self.view_is (unfinished s (device c.look_at.new.adapter) c.args.port c.self.invariant ready c.look_at.ensures.followed c.in-Undisturbed.ensures.looks (device c.is_done.new.adapter)
-    (λ ci sact. false≢true (c.if-not-is_done.ensures.seen ci sact)) c.is_done.ensures.followed)
+    (sym c.if-not-has_of.ensures) c.if-not-is_done.ensures.reads (λ ci sact. false≢true (c.if-not-is_done.ensures.seen ci sact)) c.is_done.ensures.followed)
 
 pub returns-then-not-is_done-clause-kept : goal.returns-then-not-is_done-clause-kept
 returns-then-not-is_done-clause-kept g c =
@@ -114,7 +114,7 @@ returns-clause-serves g c =
     let R : ServerView g.row.A.Denot → Type 0 = λ v. state_of (found_of v.ports c.args.port.0) ≡ Ready in
     let ready = subst R (sym c.self.view_is) c.requires.ready in
     let P : ServerView g.row.A.Denot → Type 0 = λ v. ServesPort c.args.port (Some c.finish_first.result) (server_of device v) (server_of device c.finish_first.new.self) in
-    subst P c.self.view_is (answered s (device c.look_at.new.adapter) c.args.port c.self.invariant ready c.look_at.ensures.followed (device c.is_done.new.adapter) c.is_done.ensures.followed
+    subst P c.self.view_is (answered s (device c.look_at.new.adapter) c.args.port c.self.invariant ready c.look_at.ensures.followed (device c.is_done.new.adapter) c.is_done.ensures.followed c.if-not-is_done.ensures.reads
     (done_over s (device c.look_at.new.adapter) c.args.port c.self.invariant ready c.look_at.ensures.followed (device c.is_done.new.adapter) c.is_done.ensures.followed (sym c.if-not-has_of.ensures) c.if-not-is_done.ensures.finds)
     (server_of device c.finish_first.new.self) c.finish_first.result c.finish_first.ensures.finishes c.in-Undisturbed.ensures.looks)
 
@@ -124,6 +124,6 @@ returns-clause-kept g c =
     let s = server_of device (seen c.self.inside) in
     let R : ServerView g.row.A.Denot → Type 0 = λ v. state_of (found_of v.ports c.args.port.0) ≡ Ready in
     let ready = subst R (sym c.self.view_is) c.requires.ready in
-    answered_kept s (device c.look_at.new.adapter) c.args.port c.self.invariant ready c.look_at.ensures.followed (device c.is_done.new.adapter) c.is_done.ensures.followed
+    answered_kept s (device c.look_at.new.adapter) c.args.port c.self.invariant ready c.look_at.ensures.followed (device c.is_done.new.adapter) c.is_done.ensures.followed c.if-not-is_done.ensures.reads
     (done_over s (device c.look_at.new.adapter) c.args.port c.self.invariant ready c.look_at.ensures.followed (device c.is_done.new.adapter) c.is_done.ensures.followed (sym c.if-not-has_of.ensures) c.if-not-is_done.ensures.finds)
     (server_of device c.finish_first.new.self) c.finish_first.result c.finish_first.ensures.finishes

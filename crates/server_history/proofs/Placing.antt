@@ -1,0 +1,212 @@
+-- Where moves go, and what slots issued requests have, in a history.
+use Rattle.std.proofs.Common.{ℕ, ◌≡◌, ◌≢◌, true, List, [], ◌∷◌, ◌++◌, Option, Some, None, slice_index, refl, sym, ap, ◌∙◌, subst, inl, ⊎_elim, append_assoc}
+use Rattle.std.proofs.lemmas.Bool.{cases_eq}
+use Rattle.std.specs.List.{Contains}
+use Rattle.ata_types.specs.declared.Port.{Port}
+use Rattle.ata_types.specs.declared.PortState.TheVariants.{Ready as ReadyState}
+use Rattle.ata_types.specs.declared.request.Op.{Op}
+use Rattle.ata_types.specs.declared.request.Op.TheVariants.{Read, Write, Trim, Flush}
+use Rattle.adapter.specs.Device.{Device}
+use Rattle.adapter.specs.Idle.{IsIdle}
+use Rattle.adapter.specs.Rules.{IsOn}
+use Rattle.adapter.specs.declared.access.DeviceStep.{DeviceStep}
+use Rattle.adapter.specs.declared.tape.Entry.{Entry}
+use Rattle.adapter.specs.declared.tape.Entry.TheVariants as entry
+use Rattle.adapter.specs.declared.tape.Move as tape_move
+use Rattle.agreement.specs.Driven.{known}
+use Rattle.agreement.specs.Driver.{Knows}
+use Rattle.agreement.specs.Facts.{RunsWell, Undisturbed}
+use Rattle.agreement.specs.Slots.{Free, Serves, ServesRequest, IsServed, Use, Uses, op_of}
+use Rattle.agreement.specs.Places.{scratch_of}
+use Rattle.agreement.specs.Tape.{IsTouch, TellsAmong, TellsEntry, TellsMove}
+use Rattle.block_machine.specs.Events.{IsRun, steps_of}
+use Rattle.block_machine.specs.Histories.{Instant, Happening, IsHistory, events_of, now}
+use Rattle.block_machine.specs.Left.{after}
+use Rattle.block_machine.specs.Ports.{Ports}
+use Rattle.block_machine.specs.State.{Machine, Pending}
+use Rattle.block_machine.specs.Steps.{Step, Touch}
+use Rattle.block_machine.proofs.Accepts.{touch_is_confined}
+use Rattle.block_machine.proofs.EventLemmas.{after-append, run_starts}
+use Rattle.block_machine.proofs.Members.{contains_cases, contains_none}
+use Rattle.block_machine.proofs.Touching.{step_of_run}
+use Rattle.host_boot.specs.Taken.{TakesOver, found_of}
+use Rattle.host_boot.specs.declared.Found.{Found}
+use Rattle.host_boot.specs.declared.Host.{Host}
+use Rattle.host_boot.proofs.Beginning.{taken_runs}
+use Rattle.identify.specs.declared.wanted.Wanted.{Wanted}
+use Rattle.server_history.specs.Histories.{AreShown, Begins, GoesWell, Ties}
+use Rattle.server_history.specs.Moves.{IsConfinedMove, KeepsMoves, KeepsTo}
+use Rattle.server_history.specs.Server.{Server, IsKept, none_parked, state_of}
+use Rattle.server_history.proofs.Coming.{left_well}
+use Rattle.server_history.proofs.Telling.{history_runs, machine_is}
+use Rattle.server_history.proofs.Unused.{ready_found}
+
+-- ---- among a call's steps
+
+-- the move is a touch among the steps, from this machine on
+record IsAmong (m : Machine) (steps : List Step) (op : Op) (move : tape_move.Move) : Type 0 where
+  later : List Step
+  step : Step
+  before : List Step
+  here : steps ≡ later ++ step ∷ before
+  touch : IsTouch (after m before) op move (step ∷ [])
+
+-- The move goes on as the tape tells it.
+abbrev Goes : Option Op → Machine → List Step → tape_move.Move → Type 0
+Goes (Some Read) m steps move = IsAmong m steps Read move
+Goes (Some Write) m steps move = IsAmong m steps Write move
+Goes other m steps move = move.address ≡ scratch_of move.port.0
+
+among_first : (m : Machine) (op : Op) (move : tape_move.Move) (own first rest : List Step) → IsTouch (after m own) op move first → IsAmong m (rest ++ (first ++ own)) op move
+among_first m op move own first rest t = record {
+  later = rest;
+  step = Touch t.pending t.number (slice_index move.bytes);
+  before = own;
+  here = ap (λ (steps : List Step). rest ++ (steps ++ own)) t.step;
+  touch = subst (IsTouch (after m own) op move) t.step t;
+}
+
+goes_first : (o : Option Op) (m : Machine) (move : tape_move.Move) (own first rest : List Step) → TellsMove o (after m own) move first → Goes o m (rest ++ (first ++ own)) move
+goes_first None m move own first rest t = t.place_is
+goes_first (Some Read) m move own first rest t = among_first m Read move own first rest t
+goes_first (Some Write) m move own first rest t = among_first m Write move own first rest t
+goes_first (Some Trim) m move own first rest t = t.place_is
+goes_first (Some Flush) m move own first rest t = absurd t
+
+among_later : (m : Machine) (op : Op) (move : tape_move.Move) (rest early : List Step) → IsAmong (after m early) rest op move → IsAmong m (rest ++ early) op move
+among_later m op move rest early a = record {
+  later = a.later;
+  step = a.step;
+  before = a.before ++ early;
+  here = ap (λ (steps : List Step). steps ++ early) a.here ∙ append_assoc a.later (a.step ∷ a.before) early;
+  touch = subst (λ (n : Machine). IsTouch n op move (a.step ∷ [])) (sym (after-append m a.before early)) a.touch;
+}
+
+goes_later : (o : Option Op) (m : Machine) (move : tape_move.Move) (rest early : List Step) → Goes o (after m early) rest move → Goes o m (rest ++ early) move
+goes_later (Some Read) m move rest early a = among_later m Read move rest early a
+goes_later (Some Write) m move rest early a = among_later m Write move rest early a
+goes_later None m move rest early a = a
+goes_later (Some Trim) m move rest early a = a
+goes_later (Some Flush) m move rest early a = a
+
+goes : (m : Machine) (entries : List Entry) (steps : List Step) → TellsAmong m entries steps → (move : tape_move.Move) → Contains entries (entry.Move move) → Goes (op_of move.operation) m steps move
+goes m [] steps tells move here = absurd (contains_none (entry.Move move) here)
+goes m (e ∷ entries) steps (own, first, rest, alone, tells, more, is) move here =
+    subst (λ (all : List Step). Goes (op_of move.operation) m all move) (sym is) (⊎_elim
+    (λ (same : entry.Move move ≡ e).
+    goes_first (op_of move.operation) m move own first rest (subst (λ (x : Entry). TellsEntry (after m own) x first) (sym same) tells))
+    (λ (there : Contains entries (entry.Move move)). goes_later (op_of move.operation) m move rest (first ++ own) (goes (after m (first ++ own)) entries rest more move there))
+    (contains_cases e entries (entry.Move move) here))
+
+-- ---- in a history
+
+module _ (wanted : List Wanted) (first : Instant Device) (past : List (Happening Device DeviceStep)) (h : Happening Device DeviceStep) (history : IsHistory (Begins wanted) (Ties wanted) first (h ∷ past)) where
+  abbrev start : Machine
+  start = first.moment.machine
+
+  abbrev early : List Step
+  early = steps_of (events_of past)
+
+  run : IsRun first.moment (events_of (h ∷ past))
+  run = history_runs wanted first (h ∷ past) history
+
+  abbrev m : Machine
+  m = (now first past).moment.machine
+
+  confined : (op : Op) (move : tape_move.Move) → IsAmong m h.event.steps op move → IsConfinedMove start early h.event.steps op move
+  confined op move a = record {
+    later = a.later;
+    step = a.step;
+    before = a.before;
+    here = a.here;
+    touch = then;
+    confined =
+        let s = step_of_run first.moment (events_of (h ∷ past)) a.later (Touch then.pending then.number (slice_index move.bytes)) (a.before ++ early) run split in
+        touch_is_confined start (a.before ++ early) then.pending then.number (slice_index move.bytes) (run_starts first.moment (events_of (h ∷ past)) run) s.0 s.1;
+  }
+    where
+      then : IsTouch (after start (a.before ++ early)) op move (a.step ∷ [])
+      then = subst (λ (n : Machine). IsTouch n op move (a.step ∷ [])) (ap (λ (n : Machine). after n a.before) (machine_is wanted first past) ∙ sym (after-append start a.before early)) a.touch
+
+      split : h.event.steps ++ early ≡ a.later ++ Touch then.pending then.number (slice_index move.bytes) ∷ (a.before ++ early)
+      split = ap (λ (steps : List Step). steps ++ early) a.here ∙ append_assoc a.later (a.step ∷ a.before) early
+          ∙ ap (λ (steps : List Step). a.later ++ (steps ++ (a.before ++ early))) then.step
+
+  keeps : (o : Option Op) (move : tape_move.Move) → Goes o m h.event.steps move → KeepsTo o start early h.event.steps move
+  keeps (Some Read) move a = confined Read move a
+  keeps (Some Write) move a = confined Write move a
+  keeps None move a = a
+  keeps (Some Trim) move a = a
+  keeps (Some Flush) move a = a
+
+  pub keeps_moves : KeepsMoves start early h.event.steps (now first past).device h.device
+  keeps_moves = record {
+    gained = history.2.backed.gained;
+    tape = history.2.backed.tape;
+    moves = λ move here. keeps (op_of move.operation) move (goes m history.2.backed.gained h.event.steps history.2.backed.tells move here);
+  }
+
+-- ---- at an instant of it
+
+-- what holds of ports and slots
+record IsAt (wanted : List Wanted) (here : Instant Device) : Type 0 where
+  ports : AreShown wanted here.moment.ports here.device
+  uses : Uses
+  plain : (port slot : ℕ) → slot ≢ 0 → uses port slot ≡ Free
+  knows : Knows here.moment.machine (known uses none_parked here.device)
+
+module _ (wanted : List Wanted) where
+  at : (first : Instant Device) (past : List (Happening Device DeviceStep)) → IsHistory (Begins wanted) (Ties wanted) first past → IsAt wanted (now first past)
+  at first [] h = record { ports = h.1.ports; uses = h.1.uses; plain = h.1.plain; knows = h.1.knows }
+  at first (x ∷ past) h = record { ports = h.2.ports; uses = h.2.uses; plain = h.2.plain; knows = h.2.knows }
+
+  same_still : (first : Instant Device) (past : List (Happening Device DeviceStep)) → IsHistory (Begins wanted) (Ties wanted) first past → (now first past).moment.ports ≡ first.moment.ports
+  same_still first [] h = refl
+  same_still first (x ∷ past) h = h.2.same ∙ same_still first past h.0
+
+  pub shown_still : (first : Instant Device) (past : List (Happening Device DeviceStep)) → IsHistory (Begins wanted) (Ties wanted) first past
+      → ((now first past).moment.ports ≡ first.moment.ports) × AreShown wanted (now first past).moment.ports (now first past).device
+  shown_still first past h = (same_still first past h, (at first past h).ports)
+
+  is_on : (first : Instant Device) (past : List (Happening Device DeviceStep)) → IsHistory (Begins wanted) (Ties wanted) first past → IsOn (now first past).device
+  is_on first [] h = h.1.on
+  is_on first (x ∷ past) h = h.2.on
+
+  pub stays_well : (first : Instant Device) (past : List (Happening Device DeviceStep)) (h : Happening Device DeviceStep) (port : Port) → IsHistory (Begins wanted) (Ties wanted) first (h ∷ past)
+      → GoesWell port.0 (now first past).device h.device → RunsWell (h.device.port port.0)
+  stays_well first past h port history well = left_well wanted (now first past) h port (is_on first past history.0) history.2 well
+
+  pub has_slot : (first : Instant Device) (past : List (Happening Device DeviceStep)) (e : Pending) → IsHistory (Begins wanted) (Ties wanted) first past
+      → (now first past).moment.ports.state e.request.port ≡ ReadyState → Contains (now first past).moment.machine.book e → e.issued ≡ true
+      → ServesRequest (now first past).moment.machine (now first past).device.memory ((now first past).device.port e.request.port.0) e.request.port.0 0 e.request.id
+      × (((now first past).device.port e.request.port.0).st ≡ true)
+  has_slot first past e h ready here issued = (serves, ((a.ports.behind port serves.placed.port_below).runs found_ready).started)
+    where
+      a : IsAt wanted (now first past)
+      a = at first past h
+
+      port : ℕ
+      port = e.request.port.0
+
+      slot : (slot : ℕ) × (a.uses port slot ≡ Serves e.request.id)
+      slot = ⊎_elim (λ parked. absurd (contains_none e.request.id parked)) (λ s. s) (a.knows.have port e (inl (here, issued)) refl)
+
+      head : a.uses port 0 ≡ Serves e.request.id
+      head = ⊎_elim
+          (λ (same : slot.0 ≡ 0). subst (λ (n : ℕ). a.uses port n ≡ Serves e.request.id) same slot.1)
+          (λ (other : slot.0 ≢ 0). let z : Free ≡ Serves e.request.id = sym (a.plain port slot.0 other) ∙ slot.1 in absurd cc)
+          (cases_eq slot.0 0)
+
+      serves : ServesRequest (now first past).moment.machine (now first past).device.memory ((now first past).device.port port) port 0 e.request.id
+      serves = subst (λ (u : Use). IsServed (now first past).moment.machine (now first past).device.memory (now first past).device.tape ((now first past).device.port port) port 0 u) head (a.knows.agrees.slot port 0)
+
+      found_ready : state_of (found_of a.ports.found port) ≡ ReadyState
+      found_ready = ap (λ (ports : Ports). ports.state e.request.port) (sym a.ports.ports_are) ∙ ready
+
+-- ---- a new server
+
+pub new_well : (s : Server) (host : Host) (idle : Device) (port : Port) → IsKept s → IsIdle idle → TakesOver s.wanted host idle s.device → s.ports ≡ host.ports
+    → state_of (found_of s.ports port.0) ≡ ReadyState → Undisturbed port.0 idle s.device → RunsWell (s.device.port port.0)
+new_well s host idle port k rest taken same ready calm =
+    let found = (ready_found s port.0 k ready).1 in
+    taken_runs s.wanted host port.0 idle s.device taken found.0 rest (ap (λ (ports : List Found). found_of ports port.0) (sym same) ∙ found.1) calm

@@ -1,0 +1,39 @@
+-- The moves of a history: whose they are, and where they go (this project's own).
+use Rattle.std.specs.Prelude.{◌≡◌, ◌++◌, List, [], ◌∷◌, Option, Some, Contains}
+use Rattle.ata_types.specs.declared.request.Op.{Op}
+use Rattle.ata_types.specs.declared.request.Op.TheVariants.{Read, Write}
+use Rattle.adapter.specs.Device.{Device}
+use Rattle.adapter.specs.declared.tape.Entry.{Entry}
+use Rattle.adapter.specs.declared.tape.Entry.TheVariants as entry
+use Rattle.adapter.specs.declared.tape.Move as tape_move
+use Rattle.agreement.specs.Places.{scratch_of}
+use Rattle.agreement.specs.Slots.{op_of}
+use Rattle.agreement.specs.Tape.{IsTouch}
+use Rattle.block_machine.specs.Confined.{IsConfined}
+use Rattle.block_machine.specs.Left.{after}
+use Rattle.block_machine.specs.State.{Machine}
+use Rattle.block_machine.specs.Steps.{Step}
+
+-- Among a call's steps, the newest first, which followed these earlier ones of the run, the move is a touch. At that moment it goes between
+-- a sector of a request that is issued or kept and that sector's place in a frame that is lent to the request, in the direction of its
+-- operation; and the request was accepted, when it broke no rule.
+pub record IsConfinedMove (start : Machine) (earlier steps : List Step) (op : Op) (move : tape_move.Move) : Type 0 where
+  pub later : List Step
+  pub step : Step
+  pub before : List Step
+  pub here : steps ≡ later ++ step ∷ before
+  pub touch : IsTouch (after start (before ++ earlier)) op move (step ∷ [])
+  pub confined : IsConfined start (before ++ earlier) touch.pending.request touch.number
+
+-- A move by a read or a write of a client's is confined; any other, of a page or of a trim's block, goes to the scratch frame of its port
+-- or comes from there.
+abbrev pub KeepsTo : Option Op → Machine → List Step → List Step → tape_move.Move → Type 0
+KeepsTo (Some Read) start earlier steps move = IsConfinedMove start earlier steps Read move
+KeepsTo (Some Write) start earlier steps move = IsConfinedMove start earlier steps Write move
+KeepsTo other start earlier steps move = move.address ≡ scratch_of move.port.0
+
+-- The moves that the tape has gained in a call of these steps, after these earlier ones, keep to their places.
+pub record KeepsMoves (start : Machine) (earlier steps : List Step) (old new : Device) : Type 0 where
+  pub gained : List Entry
+  pub tape : new.tape ≡ old.tape ++ gained
+  pub moves : (move : tape_move.Move) → Contains gained (entry.Move move) → KeepsTo (op_of move.operation) start earlier steps move
