@@ -25,6 +25,7 @@ pub trait SectorStore: Drop {
         ensures inside { result ≡ true → sector < size self.old }
         ensures gives { result ≡ true → IfSome (told self.old) (λ told. out.new ≡ told sector) }
         ensures bytes { result ≡ true → IsSector out.new }
+        ensures kept { result ≡ false → out.new ≡ out.old }
         ensures sure { is_sure ≡ true → sector < size self.old → result ≡ true }
         ensures told { told self.new ≡ told self.old }
         ensures size { size self.new ≡ size self.old };

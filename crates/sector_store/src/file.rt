@@ -1,0 +1,98 @@
+// A disk over an open file.
+ghost use Rattle.std.specs.Prelude.{◌≡◌, ◌<◌, ◌≤◌, ◌*◌, ◌/◌, ◌^◌, Some, None, false};
+ghost use Rattle.sector_store.specs.Stores.{IsSector};
+
+use crate::SectorStore;
+use std::fs::{File, Files, OpenOptions};
+use std::io;
+use std::os::unix::fs::FileExt;
+
+const SECTOR_BYTES: u64 = 512;
+
+/// The whole sectors that a file has when it is opened. It tells no sectors, since what a file holds isn't known from
+/// its calls; and any call may fail. Nothing is said of a file that others change or cut meanwhile: a sector that is no
+/// longer there isn't read, and a write may bring it back.
+#[derive(Drop)]
+pub struct FileStore {
+    file: File,
+    sectors: u64,
+    ghost few: { sectors < 2 ^ 64 },
+    ghost within_offsets: { sectors * 512 < 2 ^ 64 },
+}
+
+impl FileStore {
+    /// Opens a file that is there for reading and writing. The end of a file that isn't a whole sector is left alone.
+    /// An error is the system's own.
+    pub fn open(files: &impl Files<File = File>, path: &str) -> io::Result<FileStore> {
+        let file = OpenOptions::new().read(true).write(true).open(files, path)?;
+        let bytes = file.metadata()?.len();
+        Ok(FileStore::over(file, bytes))
+    }
+
+    /// The whole sectors of a file of so many bytes.
+    fn over(file: File, bytes: u64) -> FileStore
+        ensures { result.sectors ≡ bytes / 512 }
+    {
+        FileStore {
+            file,
+            sectors: bytes / SECTOR_BYTES,
+        }
+    }
+
+    /// The byte of the file at which a sector begins, if the sector is there.
+    fn place_of(&self, sector: u64) -> Option<u64>
+        ensures there { sector < self.now.sectors → result ≡ Some (512 * sector) }
+        ensures past { self.now.sectors ≤ sector → result ≡ None }
+    {
+        if sector < self.sectors {
+            Some(SECTOR_BYTES * sector)
+        } else {
+            None
+        }
+    }
+}
+
+/// Copies the bytes of a sector.
+fn copy(bytes: &[u8; 512], out: &mut [u8; 512])
+    ensures { IsSector out.new }
+{
+    out.copy_from_slice(bytes);
+}
+
+impl SectorStore for FileStore {
+    ghost size = { λ s. s.sectors };
+
+    ghost told = { λ _. None };
+
+    ghost is_sure = { false };
+
+    ghost tells_sectors = { λ _. tt };
+
+    ghost fits = { λ s. s.few };
+
+    fn sectors(&self) -> u64 {
+        self.sectors
+    }
+
+    fn read(&mut self, sector: u64, out: &mut [u8; 512]) -> bool {
+        let Some(place) = self.place_of(sector) else {
+            return false;
+        };
+        let mut bytes = [0; 512];
+        if self.file.read_exact_at(&mut bytes, place).is_err() {
+            return false;
+        }
+        copy(&bytes, out);
+        true
+    }
+
+    fn write(&mut self, sector: u64, bytes: &[u8; 512]) -> bool {
+        match self.place_of(sector) {
+            Some(place) => self.file.write_all_at(bytes, place).is_ok(),
+            None => false,
+        }
+    }
+}
+
+#[cfg(test)]
+mod tests;
