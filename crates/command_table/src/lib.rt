@@ -153,35 +153,4 @@ pub fn write_table<A: Adapter>(
 }
 
 #[cfg(test)]
-mod tests {
-    use super::*;
-    use std::test::Fail;
-
-    /// A read of eight sectors from 100 on, into frame 40.
-    #[test]
-    fn a_read_is_spelled(rt: HostRuntime) -> Result<(), Fail> {
-        let command = Command {
-            code: 0x25,
-            features: 0,
-            count: 8,
-            lba: 100,
-            device: 0x40,
-        };
-        let entries = prds(&[Frame(40)], 4096);
-        let table = table_bytes(&command, entries.as_slice());
-        let fis = [
-            0x27, 0x80, 0x25, 0, 0x64, 0, 0, 0x40, 0, 0, 0, 0, 8, 0, 0, 0, 0, 0, 0, 0,
-        ];
-        assert_eq!(rt; encode_h2d(&command), fis);
-        assert_eq!(rt; &table[..20], &fis[..]);
-        assert_eq!(rt;
-            &table[128..144],
-            &[0, 0x80, 2, 0, 0, 0, 0, 0, 0, 0, 0, 0, 0xff, 0x0f, 0, 0][..]
-        );
-        assert_eq!(rt;
-            &header(false, 1, 4096)[..16],
-            &[5, 0, 1, 0, 0, 0, 0, 0, 0, 0x10, 0, 0, 0, 0, 0, 0][..]
-        );
-        Ok(())
-    }
-}
+mod tests;
