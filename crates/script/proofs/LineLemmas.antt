@@ -1,0 +1,152 @@
+-- The words of each line are such that parting its text gives them back.
+use Rattle.std.proofs.Common.{◌≡◌, ◌<◌, ◌≤◌, ◌^◌, ◌∙◌, ℕ, true, List, [], ◌∷◌, length, get_or, arith, ap, sym, refl, Option, Some, None, IfSome, nat_le, nat_lt, ◌&&◌, map}
+use Rattle.std.proofs.lemmas.List.Elements.{All-nil, All-cons}
+use Rattle.std.specs.Prelude.{codes}
+use Rattle.std.specs.Bool.{◌==◌}
+use Rattle.std.specs.Fmt.{decimal}
+use Rattle.std.specs.List.{All, list_all, join_with_byte, slice_split}
+use Rattle.std.specs.Str.{IsUtf8}
+use Rattle.hex.specs.Hex.{encode_lower}
+use Rattle.ata_types.specs.declared.request.Frame.{Frame}
+use Rattle.ata_types.specs.declared.request.Op.{Op}
+use Rattle.ata_types.specs.declared.request.Op.TheVariants.{Read, Write, Trim, Flush}
+use Rattle.ata_types.specs.declared.request.Request.{Request}
+use Rattle.ata_types.specs.declared.Port.{Port}
+use Rattle.ata_types.specs.declared.Slot.{Slot}
+use Rattle.adapter.specs.declared.access.DiskPage.{DiskPage}
+use Rattle.adapter.specs.declared.access.DiskPage.TheVariants.{Identity}
+use Rattle.adapter.specs.declared.access.DeviceStep.{DeviceStep}
+use Rattle.adapter.specs.declared.access.DeviceStep.TheVariants as step
+use Rattle.script.specs.declared.line.Line.{Line}
+use Rattle.script.specs.declared.line.Line.TheVariants.{Submit, Store, Load, Service, State, Device}
+use Rattle.script.specs.Fields.{Word, frames_word}
+use Rattle.script.specs.Line.{IsLine, IsPlace, IsRequest, IsStep, line_text, line_words, op_word, page_word, place_words, request_words, step_words}
+use Rattle.script.proofs.FrameLemmas.{IsFrame, decimals}
+use Rattle.script.proofs.FrameLemmas as frame
+use Rattle.script.proofs.WordLemmas.{Lacks-below, Within, Within-decimal, Within-hex, Within-join, Within-literal, Within-weaker, IsUtf8-from_Within, slice_split-join}
+
+-- printable bytes without a space
+record IsWord (w : Word) : Type 0 where
+  within : Within 33 128 w
+
+data AreWords : List Word → Type 0 where
+  none : AreWords []
+  more : {w : Word} {words : List Word} → IsWord w → AreWords words → AreWords (w ∷ words)
+
+number : (n : ℕ) → n < 2 ^ 64 → IsWord (decimal n)
+number n fits = record { within = Within-weaker 48 58 33 128 (decimal n) (omega arith) (omega arith) (Within-decimal n fits) }
+
+fixed : (w : Word) → list_all (λ b. nat_le 33 b && nat_lt b 128) w ≡ true → IsWord w
+fixed w passes = record { within = Within-literal w passes }
+
+pairs : (bytes : List ℕ) → All (λ b. b < 256) bytes → IsWord (encode_lower bytes)
+pairs bytes all = record { within = Within-hex bytes all }
+
+listed : (frames : List Frame) → All IsFrame frames → IsWord (frames_word frames)
+listed [] h = fixed (codes "-") refl
+listed (f ∷ frames) h = record {
+  within = Within-join 33 128 44 (omega arith) (omega arith) (map frame.spelled (f ∷ frames))
+      (λ k d l. Within-weaker 48 58 33 128 (get_or (map frame.spelled (f ∷ frames)) k d) (omega arith) (omega arith) (decimals (f ∷ frames) h k d l));
+}
+
+op_is : (op : Op) → IsWord (op_word op)
+op_is Read = fixed (op_word Read) refl
+op_is Write = fixed (op_word Write) refl
+op_is Trim = fixed (op_word Trim) refl
+op_is Flush = fixed (op_word Flush) refl
+
+page_is : (page : DiskPage) → IsWord (page_word page)
+page_is Identity = fixed (page_word Identity) refl
+
+request_are : (r : Request) → IsRequest r → AreWords (request_words r)
+request_are r h =
+    more (number r.client.0 (omega (arith, h.client))) (more (number r.grant (omega (arith, h.grant))) (more (number r.first.0 h.first)
+    (more (number r.count (omega (arith, h.count))) (more (listed r.frames.items h.frames) none))))
+
+place_are : (port : Port) (slot : Slot) → IsPlace port slot → AreWords (place_words port slot)
+place_are port slot h = more (number port.0 (omega (arith, h.0))) (more (number slot.0 (omega (arith, h.1))) none)
+
+port_are : (w : Word) (port : Port) → IsWord w → port.0 < 4 → AreWords (w ∷ decimal port.0 ∷ [])
+port_are w port first small = more first (more (number port.0 (omega (arith, small))) none)
+
+step_are : (s : DeviceStep) → IsStep s → AreWords (step_words s)
+step_are (step.Fetch port slot) h = more (fixed (codes "fetch") refl) (place_are port slot h)
+step_are (step.Move port slot) h = more (fixed (codes "move") refl) (place_are port slot h)
+step_are (step.Done port slot) h = more (fixed (codes "done") refl) (place_are port slot h)
+step_are (step.Finish port slot) h = more (fixed (codes "finish") refl) (place_are port slot h)
+step_are (step.Lie port page offset bits) h =
+    more (fixed (codes "lie") refl) (more (number port.0 (omega (arith, h.0))) (more (page_is page)
+    (more (number offset (omega (arith, h.1))) (more (pairs (bits ∷ []) (All-cons (λ b. b < 256) bits [] h.2 (All-nil (λ b. b < 256)))) none))))
+step_are (step.Truth port) h = port_are (codes "truth") port (fixed (codes "truth") refl) h
+step_are (step.Hold port) h = port_are (codes "hold") port (fixed (codes "hold") refl) h
+step_are (step.Release port) h = port_are (codes "release") port (fixed (codes "release") refl) h
+step_are (step.Unplug port) h = port_are (codes "unplug") port (fixed (codes "unplug") refl) h
+step_are (step.Plug port disk) h =
+    more (fixed (codes "plug") refl) (more (number port.0 (omega (arith, h.0))) (more (number disk.0 (omega (arith, h.1))) none))
+
+line_are : (line : Line) → IsLine line → AreWords (line_words line)
+line_are (Submit r) h = more (op_is r.op) (request_are r h.1)
+line_are (Store client frame offset bytes) h =
+    more (fixed (codes "store") refl) (more (number client.0 (omega (arith, h.0))) (more (number frame.0 (omega (arith, h.1)))
+    (more (number offset (omega (arith, h.2))) (more (pairs bytes.items h.3) none))))
+line_are (Load client frame offset count) h =
+    more (fixed (codes "load") refl) (more (number client.0 (omega (arith, h.0))) (more (number frame.0 (omega (arith, h.1)))
+    (more (number offset (omega (arith, h.2))) (more (number count (omega (arith, h.4))) none))))
+line_are Service h = more (fixed (codes "service") refl) none
+line_are (State port) h = port_are (codes "state") port (fixed (codes "state") refl) h
+line_are (Device s) h = more (fixed (codes "dev") refl) (step_are s h)
+
+all_within : (words : List Word) → AreWords words → All (Within 33 128) words
+all_within [] h = All-nil (Within 33 128)
+all_within (w ∷ words) (more first rest) = All-cons (Within 33 128) w words first.within (all_within words rest)
+
+step_few : (s : DeviceStep) → length (step_words s) ≤ 5
+step_few (step.Fetch port slot) = omega arith
+step_few (step.Move port slot) = omega arith
+step_few (step.Done port slot) = omega arith
+step_few (step.Finish port slot) = omega arith
+step_few (step.Lie port page offset bits) = omega arith
+step_few (step.Truth port) = omega arith
+step_few (step.Hold port) = omega arith
+step_few (step.Release port) = omega arith
+step_few (step.Unplug port) = omega arith
+step_few (step.Plug port disk) = omega arith
+
+-- no line has more words
+pub few_words : (line : Line) → length (line_words line) ≤ 6
+few_words (Submit r) = omega arith
+few_words (Store client frame offset bytes) = omega arith
+few_words (Load client frame offset count) = omega arith
+few_words Service = omega arith
+few_words (State port) = omega arith
+few_words (Device s) = omega (arith, step_few s)
+
+some_words : (line : Line) → 0 < length (line_words line)
+some_words (Submit r) = omega arith
+some_words (Store client frame offset bytes) = omega arith
+some_words (Load client frame offset count) = omega arith
+some_words Service = omega arith
+some_words (State port) = omega arith
+some_words (Device s) = omega arith
+
+parted : (words : List Word) → 0 < length words → AreWords words → slice_split (λ b. b == 32) (join_with_byte 32 words) ≡ words
+parted [] l h = absurd (omega arith)
+parted (w ∷ words) l h = slice_split-join 32 w words
+    (λ k d l. Lacks-below 33 128 32 (get_or (w ∷ words) k d) (omega arith) (all_within (w ∷ words) h k d l))
+
+-- parting a line's text gives its words back
+pub parted_line : (line : Line) (text : List ℕ) → IsLine line → line_text line ≡ text → slice_split (λ b. b == 32) text ≡ line_words line
+parted_line line text h e = ap (slice_split (λ b. b == 32)) (sym e) ∙ parted (line_words line) (some_words line) (line_are line h)
+
+-- a line's text is UTF-8
+pub line_is_utf8 : (line : Line) → IsLine line → IsUtf8 (line_text line)
+line_is_utf8 line h =
+    IsUtf8-from_Within 32 (line_text line)
+    (Within-join 32 128 32 (omega arith) (omega arith) (line_words line)
+    (λ k d l. Within-weaker 33 128 32 128 (get_or (line_words line) k d) (omega arith) (omega arith) (all_within (line_words line) (line_are line h) k d l)))
+
+-- what spells the words spells the text that they make
+pub spelled : (found : Option Line) (words : List Word) (text : List ℕ) → join_with_byte 32 words ≡ text
+    → IfSome found (λ line. IsLine line × (line_words line ≡ words)) → IfSome found (λ line. IsLine line × (line_text line ≡ text))
+spelled None words text e h = h
+spelled (Some line) words text e h = (h.0, ap (join_with_byte 32) h.1 ∙ e)

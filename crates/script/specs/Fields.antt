@@ -1,0 +1,14 @@
+-- The words of a script's lines, and how values are spelled in them (this project's own).
+use Rattle.std.specs.Prelude.{ℕ, List, [], ◌∷◌, map, codes}
+use Rattle.std.specs.List.{join_with_byte}
+use Rattle.std.specs.Fmt.{decimal}
+use Rattle.ata_types.specs.declared.request.Frame.{Frame}
+
+-- the bytes of a word
+abbrev pub Word : Type 0
+Word = List ℕ
+
+-- frames by their numbers, parted by commas, or `-` for none
+abbrev pub frames_word : List Frame → Word
+frames_word [] = codes "-"
+frames_word (frame ∷ frames) = join_with_byte 44 (map (λ f. decimal f.0) (frame ∷ frames))

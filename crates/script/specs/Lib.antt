@@ -1,0 +1,4 @@
+pub mod Answer
+pub mod Fields
+pub mod Line
+pub mod Script

@@ -1,0 +1,105 @@
+-- How a line of a script is spelled (this project's own): each line in one way, and some values have no line.
+use Rattle.std.specs.Prelude.{ℕ, ◌<◌, ◌≤◌, ◌^◌, List, [], ◌∷◌, length, codes}
+use Rattle.std.specs.List.{All, join_with_byte}
+use Rattle.std.specs.Fmt.{decimal}
+use Rattle.hex.specs.Hex.{encode_lower}
+use Rattle.ata_types.specs.declared.Port.{Port}
+use Rattle.ata_types.specs.declared.Slot.{Slot}
+use Rattle.ata_types.specs.declared.request.Op.{Op}
+use Rattle.ata_types.specs.declared.request.Op.TheVariants.{Read, Write, Trim, Flush}
+use Rattle.ata_types.specs.declared.request.Request.{Request}
+use Rattle.adapter.specs.declared.access.DiskPage.{DiskPage}
+use Rattle.adapter.specs.declared.access.DiskPage.TheVariants.{Identity}
+use Rattle.adapter.specs.declared.access.DeviceStep.{DeviceStep}
+use Rattle.adapter.specs.declared.access.DeviceStep.TheVariants as step
+use Rattle.script.specs.Fields.{Word, frames_word}
+use Rattle.script.specs.declared.line.Line.{Line}
+use Rattle.script.specs.declared.line.Line.TheVariants.{Submit, Store, Load, Service, State, Device}
+
+abbrev pub op_word : Op → Word
+op_word Read = codes "read"
+op_word Write = codes "write"
+op_word Trim = codes "trim"
+op_word Flush = codes "flush"
+
+abbrev pub page_word : DiskPage → Word
+page_word Identity = codes "id"
+
+-- what stands after `read` or `write`
+abbrev pub request_words : Request → List Word
+request_words r = decimal r.client.0 ∷ decimal r.grant ∷ decimal r.first.0 ∷ decimal r.count ∷ frames_word r.frames.items ∷ []
+
+-- a port, and a slot of it
+abbrev pub place_words : Port → Slot → List Word
+place_words port slot = decimal port.0 ∷ decimal slot.0 ∷ []
+
+-- what stands after `dev`
+abbrev pub step_words : DeviceStep → List Word
+step_words (step.Fetch port slot) = codes "fetch" ∷ place_words port slot
+step_words (step.Move port slot) = codes "move" ∷ place_words port slot
+step_words (step.Done port slot) = codes "done" ∷ place_words port slot
+step_words (step.Finish port slot) = codes "finish" ∷ place_words port slot
+step_words (step.Lie port page offset bits) =
+    codes "lie" ∷ decimal port.0 ∷ page_word page ∷ decimal offset ∷ encode_lower (bits ∷ []) ∷ []
+step_words (step.Truth port) = codes "truth" ∷ decimal port.0 ∷ []
+step_words (step.Hold port) = codes "hold" ∷ decimal port.0 ∷ []
+step_words (step.Release port) = codes "release" ∷ decimal port.0 ∷ []
+step_words (step.Unplug port) = codes "unplug" ∷ decimal port.0 ∷ []
+step_words (step.Plug port disk) = codes "plug" ∷ decimal port.0 ∷ decimal disk.0 ∷ []
+
+abbrev pub line_words : Line → List Word
+line_words (Submit request) = op_word request.op ∷ request_words request
+line_words (Store client frame offset bytes) =
+    codes "store" ∷ decimal client.0 ∷ decimal frame.0 ∷ decimal offset ∷ encode_lower bytes.items ∷ []
+line_words (Load client frame offset count) =
+    codes "load" ∷ decimal client.0 ∷ decimal frame.0 ∷ decimal offset ∷ decimal count ∷ []
+line_words Service = codes "service" ∷ []
+line_words (State port) = codes "state" ∷ decimal port.0 ∷ []
+line_words (Device asked) = codes "dev" ∷ step_words asked
+
+-- the words, parted by one space
+abbrev pub line_text : Line → List ℕ
+line_text line = join_with_byte 32 (line_words line)
+
+-- the operation has lines; trims and flushes have none as yet
+abbrev pub HasLines : Op → Type 0
+HasLines Read = Unit {0}
+HasLines Write = Unit {0}
+HasLines Trim = ⊥
+HasLines Flush = ⊥
+
+-- the request's numbers are in their ranges
+pub record IsRequest (r : Request) : Type 0 where
+  pub client : r.client.0 < 256
+  pub grant : r.grant < 256
+  pub first : r.first.0 < 2 ^ 64
+  pub count : r.count < 2 ^ 32
+  pub frames : All (λ f. f.0 < 65536) r.frames.items
+  pub most : length r.frames.items ≤ 32
+
+-- the port and slot are ones that an adapter can have
+abbrev pub IsPlace : Port → Slot → Type 0
+IsPlace port slot = (port.0 < 4) × (slot.0 < 32)
+
+-- the step's numbers are in their ranges
+abbrev pub IsStep : DeviceStep → Type 0
+IsStep (step.Fetch port slot) = IsPlace port slot
+IsStep (step.Move port slot) = IsPlace port slot
+IsStep (step.Done port slot) = IsPlace port slot
+IsStep (step.Finish port slot) = IsPlace port slot
+IsStep (step.Lie port page offset bits) = (port.0 < 4) × (offset < 512) × (bits < 256)
+IsStep (step.Truth port) = port.0 < 4
+IsStep (step.Hold port) = port.0 < 4
+IsStep (step.Release port) = port.0 < 4
+IsStep (step.Unplug port) = port.0 < 4
+IsStep (step.Plug port disk) = (port.0 < 4) × (disk.0 < 2)
+
+-- the value has a line
+abbrev pub IsLine : Line → Type 0
+IsLine (Submit request) = HasLines request.op × IsRequest request
+IsLine (Store client frame offset bytes) = (client.0 < 256) × (frame.0 < 65536) × (offset < 2 ^ 32)
+    × All (λ b. b < 256) bytes.items × (1 ≤ length bytes.items) × (length bytes.items ≤ 64)
+IsLine (Load client frame offset count) = (client.0 < 256) × (frame.0 < 65536) × (offset < 2 ^ 32) × (1 ≤ count) × (count ≤ 64)
+IsLine Service = Unit {0}
+IsLine (State port) = port.0 < 4
+IsLine (Device asked) = IsStep asked

@@ -1,0 +1,244 @@
+// The lines that answer a script.
+ghost use Rattle.std.specs.Prelude.{◌≡◌, ◌++◌, Some, OnOk};
+ghost use Rattle.std.specs.Io.KnownBytes.{Appends};
+ghost use Rattle.std.specs.List.{flat_map, join_with_byte};
+ghost use Rattle.hex.specs.Hex.{encode_lower};
+ghost use Rattle.block_machine.specs.Refusals.{refusal_number};
+ghost use Rattle.script.specs.Answer.{answer_line, answer_text, fault_words, kind_word, mem_fault_word, outcome_words, refusal_words, rule_words, state_words};
+
+use adapter::{Clear, Move, Operation};
+use ata_types::{FrameFault, MemFault, Outcome, PortState, Refusal, Reply, RequestId, Rule};
+use std::{fmt, io};
+
+/// One line that is printed.
+#[derive(Clone, Copy)]
+pub enum Answer<'a> {
+    /// The request is accepted, and will be answered by this id.
+    Accepted(RequestId),
+    /// The request is refused.
+    Refused(Refusal),
+    /// The bytes were stored.
+    Stored,
+    /// The client may not load or store there.
+    Barred(MemFault),
+    /// The bytes that were loaded. More than 64 of them can't be printed.
+    Bytes(&'a [u8]),
+    /// A request has ended.
+    Replied(Reply),
+    /// No request has ended.
+    Quiet,
+    /// The state of a port.
+    State(PortState),
+    /// Whether the device did its step.
+    Stepped(bool),
+    /// 512 bytes were moved.
+    Moved(&'a Move),
+    /// Sectors were made zero.
+    Cleared(Clear),
+}
+
+/// The most bytes that one line has.
+const MOST_BYTES: usize = 64;
+
+/// At most 64 bytes, each as two lower-case hexadecimal digits.
+#[derive(Clone, Copy)]
+struct Hex<'a>(&'a [u8]);
+
+impl fmt::Display for Hex<'_> {
+    ghost output = { λ h. Some (encode_lower h.0.now) };
+
+    fn fmt<W: fmt::Write>(&self, f: &mut fmt::Formatter<W>) -> fmt::Result {
+        let mut digits = [0u8; 2 * MOST_BYTES];
+        let digits = digits.get_mut(..2 * self.0.len()).ok_or(fmt::Error)?;
+        hex::encode_to_slice(self.0, digits).ok().ok_or(fmt::Error)?;
+        let text = str::from_utf8(digits).ok().ok_or(fmt::Error)?;
+        write!(f, "{text}")
+    }
+}
+
+/// A port's state, with the cause for which it is unfit.
+#[derive(Clone, Copy)]
+struct State(PortState);
+
+impl fmt::Display for State {
+    ghost output = { λ s. Some (join_with_byte 32 (state_words s.0)) };
+
+    fn fmt<W: fmt::Write>(&self, f: &mut fmt::Formatter<W>) -> fmt::Result {
+        match self.0 {
+            PortState::Absent => write!(f, "Absent"),
+            PortState::Ready => write!(f, "Ready"),
+            PortState::Foreign => write!(f, "Foreign"),
+            PortState::Unfit(cause) => write!(f, "Unfit {cause}"),
+            PortState::Dead => write!(f, "Dead"),
+        }
+    }
+}
+
+/// How a request ended, with the two bytes of a device's error.
+#[derive(Clone, Copy)]
+struct Ended(Outcome);
+
+impl fmt::Display for Ended {
+    ghost output = { λ e. Some (join_with_byte 32 (outcome_words e.0)) };
+
+    fn fmt<W: fmt::Write>(&self, f: &mut fmt::Formatter<W>) -> fmt::Result {
+        match self.0 {
+            Outcome::Ok => write!(f, "Ok"),
+            Outcome::DeviceError { status, error } => {
+                let status = [status];
+                let error = [error];
+                write!(f, "DeviceError {} {}", Hex(&status), Hex(&error))
+            }
+            Outcome::Aborted => write!(f, "Aborted"),
+            Outcome::Unplugged => write!(f, "Unplugged"),
+            Outcome::PortDead => write!(f, "PortDead"),
+        }
+    }
+}
+
+/// A fault of frames, with the place of the frame.
+#[derive(Clone, Copy)]
+struct Faulty(FrameFault);
+
+impl fmt::Display for Faulty {
+    ghost output = { λ x. Some (join_with_byte 32 (fault_words x.0)) };
+
+    fn fmt<W: fmt::Write>(&self, f: &mut fmt::Formatter<W>) -> fmt::Result {
+        match self.0 {
+            FrameFault::FrameForeign(place) => write!(f, "FrameForeign {place}"),
+            FrameFault::FrameTwice(place) => write!(f, "FrameTwice {place}"),
+            FrameFault::FrameLent(place) => write!(f, "FrameLent {place}"),
+        }
+    }
+}
+
+/// A rule that is broken.
+#[derive(Clone, Copy)]
+struct Broken(Rule);
+
+impl fmt::Display for Broken {
+    ghost output = { λ b. Some (join_with_byte 32 (rule_words b.0)) };
+
+    fn fmt<W: fmt::Write>(&self, f: &mut fmt::Formatter<W>) -> fmt::Result {
+        match self.0 {
+            Rule::NoGrant => write!(f, "NoGrant"),
+            Rule::NoRight => write!(f, "NoRight"),
+            Rule::BadCount => write!(f, "BadCount"),
+            Rule::OutsideGrant => write!(f, "OutsideGrant"),
+            Rule::FrameCount => write!(f, "FrameCount"),
+            Rule::Frames(fault) => write!(f, "{}", Faulty(fault)),
+        }
+    }
+}
+
+/// A refusal's name, with its place or state.
+#[derive(Clone, Copy)]
+struct Named(Refusal);
+
+impl fmt::Display for Named {
+    ghost output = { λ n. Some (join_with_byte 32 (refusal_words n.0)) };
+
+    fn fmt<W: fmt::Write>(&self, f: &mut fmt::Formatter<W>) -> fmt::Result {
+        match self.0 {
+            Refusal::Rule(rule) => write!(f, "{}", Broken(rule)),
+            Refusal::PortNotReady(state) => write!(f, "PortNotReady {}", State(state)),
+            Refusal::OutsideDisk => write!(f, "OutsideDisk"),
+            Refusal::TrimUnsupported => write!(f, "TrimUnsupported"),
+            Refusal::ClientFull => write!(f, "ClientFull"),
+            Refusal::IdsSpent => write!(f, "IdsSpent"),
+        }
+    }
+}
+
+/// The number of a refusal, 1 to 13: of those that apply, the one with the least is told.
+pub fn number(refusal: Refusal) -> u8
+    ensures { result ≡ refusal_number refusal }
+{
+    match refusal {
+        Refusal::Rule(Rule::NoGrant) => 1,
+        Refusal::Rule(Rule::NoRight) => 2,
+        Refusal::Rule(Rule::BadCount) => 3,
+        Refusal::Rule(Rule::OutsideGrant) => 4,
+        Refusal::Rule(Rule::FrameCount) => 5,
+        Refusal::Rule(Rule::Frames(FrameFault::FrameForeign(_))) => 6,
+        Refusal::Rule(Rule::Frames(FrameFault::FrameTwice(_))) => 7,
+        Refusal::Rule(Rule::Frames(FrameFault::FrameLent(_))) => 8,
+        Refusal::PortNotReady(_) => 9,
+        Refusal::OutsideDisk => 10,
+        Refusal::TrimUnsupported => 11,
+        Refusal::ClientFull => 12,
+        Refusal::IdsSpent => 13,
+    }
+}
+
+/// The word for a fault of a client's load or store.
+fn fault_name(fault: MemFault) -> &'static str
+    ensures { result.now ≡ mem_fault_word fault }
+{
+    match fault {
+        MemFault::FrameForeign => "FrameForeign",
+        MemFault::FrameLent => "FrameLent",
+        MemFault::OutsideFrame => "OutsideFrame",
+    }
+}
+
+/// The word for what a command moves.
+fn kind_name(operation: Operation) -> &'static str
+    ensures { result.now ≡ kind_word operation }
+{
+    match operation {
+        Operation::Identify => "identify",
+        Operation::Read | Operation::ReadQueued => "read",
+        Operation::Write | Operation::WriteQueued => "write",
+        Operation::Flush => "flush",
+        Operation::Trim => "block",
+        Operation::ReadLog => "log",
+    }
+}
+
+impl fmt::Display for Answer<'_> {
+    ghost output = { λ a. Some (answer_text a) };
+
+    fn fmt<W: fmt::Write>(&self, f: &mut fmt::Formatter<W>) -> fmt::Result {
+        match *self {
+            Answer::Accepted(id) => write!(f, "ok {}", id.0),
+            Answer::Refused(refusal) => write!(f, "refused {} {}", number(refusal), Named(refusal)),
+            Answer::Stored => write!(f, "stored"),
+            Answer::Barred(fault) => write!(f, "refused {}", fault_name(fault)),
+            Answer::Bytes(bytes) => write!(f, "bytes {}", Hex(bytes)),
+            Answer::Replied(reply) => write!(f, "reply {} {}", reply.id.0, Ended(reply.outcome)),
+            Answer::Quiet => write!(f, "quiet"),
+            Answer::State(state) => write!(f, "state {}", State(state)),
+            Answer::Stepped(true) => write!(f, "did"),
+            Answer::Stepped(false) => write!(f, "no"),
+            Answer::Moved(moved) => {
+                let address = moved.address.to_be_bytes();
+                let kind = kind_name(moved.operation);
+                write!(
+                    f,
+                    "move {} {} {kind} {} {}",
+                    moved.port.0,
+                    moved.slot.0,
+                    moved.sector,
+                    Hex(&address)
+                )
+            }
+            Answer::Cleared(clear) => {
+                write!(
+                    f,
+                    "clear {} {} {} {}",
+                    clear.port.0, clear.slot.0, clear.first, clear.count
+                )
+            }
+        }
+    }
+}
+
+impl Answer<'_> {
+    /// Prints the line, with its line feed.
+    pub fn print<W: io::Write>(&self, out: &mut W) -> io::Result<()>
+        ensures { OnOk result (Appends (W.contents out.old) (W.contents out.new) (answer_line self.now)) }
+    {
+        writeln!(out, "{self}")
+    }
+}

@@ -1,0 +1,132 @@
+// The fields of a line: words that spell values, each value in one way.
+ghost use Rattle.std.specs.Prelude.{◌≡◌, ◌<◌, ◌≤◌, ℕ, ◌∷◌, [], Some, None, IfSome, length, map};
+ghost use Rattle.std.specs.List.{All};
+ghost use Rattle.std.specs.Fmt.{decimal};
+ghost use Rattle.arrayvec.specs.ArrayVec.{ArrayVec as Items};
+ghost use Rattle.hex.specs.Hex.{encode_lower};
+ghost use Rattle.script.specs.Fields.{frames_word};
+
+use adapter::DiskNumber;
+use arrayvec::ArrayVec;
+use ata_types::{ClientId, Frame, Port, Slot};
+use itoa::Buffer;
+
+/// A number up to the last one allowed, in decimal digits without needless zeros.
+pub(crate) fn number(word: &str, last: u64) -> Option<u64>
+    ensures spelled { IfSome result (λ n. (n ≤ last) × (decimal n ≡ word.now)) }
+    ensures only { (n : ℕ) → n ≤ last → decimal n ≡ word.now → result ≡ Some n }
+{
+    match word.parse::<u64>() {
+        Ok(number) if number <= last && Buffer::new().format(number) == word => Some(number),
+        _ => None,
+    }
+}
+
+/// A client's number: 0 to 255.
+pub(crate) fn client(word: &str) -> Option<ClientId>
+    ensures spelled { IfSome result (λ c. (c.0 < 256) × (decimal c.0 ≡ word.now)) }
+    ensures only { (c : ClientId) → c.0 < 256 → decimal c.0 ≡ word.now → result ≡ Some c }
+{
+    Some(ClientId(number(word, 255)? as u8))
+}
+
+/// A number of 32 bits.
+pub(crate) fn wide(word: &str) -> Option<u32>
+    ensures spelled { IfSome result (λ n. (n < 4294967296) × (decimal n ≡ word.now)) }
+    ensures only { (n : ℕ) → n < 4294967296 → decimal n ≡ word.now → result ≡ Some n }
+{
+    Some(number(word, 0xffff_ffff)? as u32)
+}
+
+/// How many bytes are loaded: 1 to 64.
+pub(crate) fn count(word: &str) -> Option<u32>
+    ensures spelled { IfSome result (λ n. (1 ≤ n) × (n ≤ 64) × (decimal n ≡ word.now)) }
+    ensures only { (n : ℕ) → 1 ≤ n → n ≤ 64 → decimal n ≡ word.now → result ≡ Some n }
+{
+    let count = number(word, 64)? as u32;
+    if count == 0 {
+        return None;
+    }
+    Some(count)
+}
+
+/// A frame's number: 0 to 65,535.
+pub(crate) fn frame(word: &str) -> Option<Frame>
+    ensures spelled { IfSome result (λ f. (f.0 < 65536) × (decimal f.0 ≡ word.now)) }
+    ensures only { (f : Frame) → f.0 < 65536 → decimal f.0 ≡ word.now → result ≡ Some f }
+{
+    Some(Frame(number(word, 65_535)? as u16))
+}
+
+/// A port's number: 0 to 3.
+pub(crate) fn port(word: &str) -> Option<Port>
+    ensures spelled { IfSome result (λ p. (p.0 < 4) × (decimal p.0 ≡ word.now)) }
+    ensures only { (p : Port) → p.0 < 4 → decimal p.0 ≡ word.now → result ≡ Some p }
+{
+    Some(Port(number(word, 3)? as u8))
+}
+
+/// A slot's number: 0 to 31.
+pub(crate) fn slot(word: &str) -> Option<Slot>
+    ensures spelled { IfSome result (λ s. (s.0 < 32) × (decimal s.0 ≡ word.now)) }
+    ensures only { (s : Slot) → s.0 < 32 → decimal s.0 ≡ word.now → result ≡ Some s }
+{
+    Some(Slot(number(word, 31)? as u8))
+}
+
+/// A disk's number: 0 or 1.
+pub(crate) fn disk(word: &str) -> Option<DiskNumber>
+    ensures spelled { IfSome result (λ d. (d.0 < 2) × (decimal d.0 ≡ word.now)) }
+    ensures only { (d : DiskNumber) → d.0 < 2 → decimal d.0 ≡ word.now → result ≡ Some d }
+{
+    Some(DiskNumber(number(word, 1)? as u8))
+}
+
+/// Frames by their numbers, at most 32, parted by commas; `-` is none.
+pub(crate) fn frames(word: &str) -> Option<ArrayVec<Frame, 32>>
+    ensures spelled { IfSome result (λ v. All (λ f. f.0 < 65536) v.items × (frames_word v.items ≡ word.now)) }
+    ensures only { (v : Items Frame) → All (λ f. f.0 < 65536) v.items → length v.items ≤ 32 → frames_word v.items ≡ word.now → result ≡ Some v }
+{
+    let mut frames = ArrayVec::new();
+    if word == "-" {
+        return Some(frames);
+    }
+    for piece in word.split(',') {
+        frames.try_push(frame(piece)?).ok()?;
+    }
+    Some(frames)
+}
+
+/// 1 to 64 bytes, each as two lower-case hexadecimal digits.
+pub(crate) fn bytes(word: &str) -> Option<ArrayVec<u8, 64>>
+    ensures spelled { IfSome result (λ v. (1 ≤ length v.items) × (encode_lower v.items ≡ word.now)) }
+    ensures most { IfSome result (λ v. length v.items ≤ 64) }
+    ensures bytes { IfSome result (λ v. All (λ b. b < 256) v.items) }
+    ensures only { (v : Items ℕ) → All (λ b. b < 256) v.items → 1 ≤ length v.items → length v.items ≤ 64 → encode_lower v.items ≡ word.now
+        → result ≡ Some v }
+{
+    let length = word.len() / 2;
+    let mut read = [0u8; 64];
+    let mut spelled = [0u8; 128];
+    let bytes = read.get_mut(..length)?;
+    hex::decode_to_slice(word.as_bytes(), bytes).ok()?;
+    let digits = spelled.get_mut(..2 * length)?;
+    hex::encode_to_slice(&*bytes, digits).ok()?;
+    if bytes.is_empty() || &*digits != word.as_bytes() {
+        return None;
+    }
+    let mut found = ArrayVec::new();
+    found.try_extend_from_slice(bytes).ok()?;
+    Some(found)
+}
+
+/// One byte, as two lower-case hexadecimal digits.
+pub(crate) fn byte(word: &str) -> Option<u8>
+    ensures spelled { IfSome result (λ b. (b < 256) × (encode_lower (b ∷ []) ≡ word.now)) }
+    ensures only { (b : ℕ) → b < 256 → encode_lower (b ∷ []) ≡ word.now → result ≡ Some b }
+{
+    match bytes(word)?.as_slice() {
+        [byte] => Some(*byte),
+        _ => None,
+    }
+}

@@ -1,0 +1,13 @@
+//! The lines of a script for a block server, and the lines that answer them.
+#![tactic(auto)]
+
+mod answer;
+mod fields;
+mod line;
+mod script;
+#[cfg(test)]
+mod tests;
+
+pub use answer::Answer;
+pub use line::{Line, read_line};
+pub use script::{Numbered, ScriptFault, read_script};

@@ -1,0 +1,187 @@
+// One line of a script.
+ghost use Rattle.std.specs.Prelude.{◌≡◌, ◌<◌, ◌==◌, ◌∷◌, [], codes, Some, None, IfSome, length, map};
+ghost use Rattle.std.specs.List.{slice_split};
+ghost use Rattle.script.specs.Line.{IsLine, IsRequest, IsStep, line_text, line_words, request_words, step_words};
+ghost use Rattle.ata_types.specs.declared.request.Op.{Op};
+ghost use Rattle.ata_types.specs.declared.request.Request.{Request};
+ghost use Rattle.adapter.specs.declared.access.DeviceStep.{DeviceStep};
+
+use crate::fields;
+use adapter::{DeviceStep, DiskPage};
+use arrayvec::ArrayVec;
+use ata_types::{ClientId, Frame, Op, Port, Request, Sector};
+
+/// The words of the longest line.
+const MOST_WORDS: usize = 6;
+
+/// What a line of a script asks.
+#[derive(Debug, Drop)]
+pub enum Line {
+    /// Make this request.
+    Submit(Request),
+    /// Put bytes into a frame.
+    Store {
+        client: ClientId,
+        frame: Frame,
+        /// In bytes, from the frame's first byte on.
+        offset: u32,
+        /// 1 to 64 of them.
+        bytes: ArrayVec<u8, 64>,
+    },
+    /// Show bytes of a frame.
+    Load {
+        client: ClientId,
+        frame: Frame,
+        /// In bytes, from the frame's first byte on.
+        offset: u32,
+        /// In bytes: 1 to 64.
+        count: u32,
+    },
+    /// Answer what is done.
+    Service,
+    /// Show the state of a port.
+    State(Port),
+    /// Have the device do a step.
+    Device(DeviceStep),
+}
+
+/// The words of a line, which one space parts, if there are no more than a line has.
+fn words(text: &str) -> Option<ArrayVec<&str, MOST_WORDS>>
+    ensures parted { IfSome result (λ v. map (λ w. w.now) v.items ≡ slice_split (λ b. b == 32) text.now) }
+    ensures many { result ≡ None → 6 < length (slice_split (λ b. b == 32) text.now) }
+{
+    let mut words = ArrayVec::new();
+    for word in text.split(' ') {
+        words.try_push(word).ok()?;
+    }
+    Some(words)
+}
+
+/// The request that is asked, from the words after the first.
+fn request(op: Op, words: &[&str]) -> Option<Request>
+    ensures found { IfSome result (λ r. (r.op ≡ op) × IsRequest r × (request_words r ≡ map (λ w. w.now) words.now)) }
+    ensures only { (r : Request) → r.op ≡ op → IsRequest r → request_words r ≡ map (λ w. w.now) words.now → result ≡ Some r }
+{
+    match words {
+        [client, grant, first, count, frames] => Some(Request {
+            client: fields::client(client)?,
+            grant: fields::number(grant, 255)? as u8,
+            op,
+            first: Sector(fields::number(first, u64::MAX)?),
+            count: fields::wide(count)?,
+            frames: fields::frames(frames)?,
+        }),
+        _ => None,
+    }
+}
+
+/// The lie that the disk of the port is to tell of its IDENTIFY DEVICE page: where, and which bits are turned.
+fn lie(port: &str, offset: &str, bits: &str) -> Option<DeviceStep>
+    ensures found { IfSome result (λ s. IsStep s × (step_words s ≡ codes "lie" ∷ port.now ∷ codes "id" ∷ offset.now ∷ bits.now ∷ [])) }
+    ensures only { (s : DeviceStep) → IsStep s → step_words s ≡ codes "lie" ∷ port.now ∷ codes "id" ∷ offset.now ∷ bits.now ∷ [] → result ≡ Some s }
+{
+    let offset = fields::number(offset, 511)? as u16;
+    Some(DeviceStep::Lie(
+        fields::port(port)?,
+        DiskPage::Identity,
+        offset,
+        fields::byte(bits)?,
+    ))
+}
+
+/// The step that the device is to do, from the words after `dev`.
+fn step(words: &[&str]) -> Option<DeviceStep>
+    ensures found { IfSome result (λ s. IsStep s × (step_words s ≡ map (λ w. w.now) words.now)) }
+    ensures only { (s : DeviceStep) → IsStep s → step_words s ≡ map (λ w. w.now) words.now → result ≡ Some s }
+{
+    Some(match words {
+        ["fetch", port, slot] => DeviceStep::Fetch(fields::port(port)?, fields::slot(slot)?),
+        ["move", port, slot] => DeviceStep::Move(fields::port(port)?, fields::slot(slot)?),
+        ["done", port, slot] => DeviceStep::Done(fields::port(port)?, fields::slot(slot)?),
+        ["finish", port, slot] => DeviceStep::Finish(fields::port(port)?, fields::slot(slot)?),
+        ["unplug", port] => DeviceStep::Unplug(fields::port(port)?),
+        ["plug", port, disk] => DeviceStep::Plug(fields::port(port)?, fields::disk(disk)?),
+        ["hold", port] => DeviceStep::Hold(fields::port(port)?),
+        ["release", port] => DeviceStep::Release(fields::port(port)?),
+        ["truth", port] => DeviceStep::Truth(fields::port(port)?),
+        ["lie", port, "id", offset, bits] => lie(port, offset, bits)?,
+        _ => return None,
+    })
+}
+
+/// The store that is asked, from the words after `store`.
+fn store(client: &str, frame: &str, offset: &str, bytes: &str) -> Option<Line>
+    ensures found { IfSome result (λ line. IsLine line
+        × (line_words line ≡ codes "store" ∷ client.now ∷ frame.now ∷ offset.now ∷ bytes.now ∷ [])) }
+    ensures only { (line : Line) → IsLine line → line_words line ≡ codes "store" ∷ client.now ∷ frame.now ∷ offset.now ∷ bytes.now ∷ []
+        → result ≡ Some line }
+{
+    let client = fields::client(client)?;
+    let frame = fields::frame(frame)?;
+    let offset = fields::wide(offset)?;
+    let bytes = fields::bytes(bytes)?;
+    Some(Line::Store {
+        client,
+        frame,
+        offset,
+        bytes,
+    })
+}
+
+/// The load that is asked, from the words after `load`.
+fn load(client: &str, frame: &str, offset: &str, count: &str) -> Option<Line>
+    ensures found { IfSome result (λ line. IsLine line
+        × (line_words line ≡ codes "load" ∷ client.now ∷ frame.now ∷ offset.now ∷ count.now ∷ [])) }
+    ensures only { (line : Line) → IsLine line → line_words line ≡ codes "load" ∷ client.now ∷ frame.now ∷ offset.now ∷ count.now ∷ []
+        → result ≡ Some line }
+{
+    let client = fields::client(client)?;
+    let frame = fields::frame(frame)?;
+    let offset = fields::wide(offset)?;
+    let count = fields::count(count)?;
+    Some(Line::Load {
+        client,
+        frame,
+        offset,
+        count,
+    })
+}
+
+/// What the words of a line ask.
+fn asked(words: &[&str]) -> Option<Line>
+    ensures found { IfSome result (λ line. IsLine line × (line_words line ≡ map (λ w. w.now) words.now)) }
+    ensures only { (line : Line) → IsLine line → line_words line ≡ map (λ w. w.now) words.now → result ≡ Some line }
+{
+    let (first, rest) = words.split_first()?;
+    match *first {
+        "read" => Some(Line::Submit(request(Op::Read, rest)?)),
+        "write" => Some(Line::Submit(request(Op::Write, rest)?)),
+        "store" => match rest {
+            [client, frame, offset, bytes] => store(client, frame, offset, bytes),
+            _ => None,
+        },
+        "load" => match rest {
+            [client, frame, offset, count] => load(client, frame, offset, count),
+            _ => None,
+        },
+        "service" => match rest {
+            [] => Some(Line::Service),
+            _ => None,
+        },
+        "state" => match rest {
+            [port] => Some(Line::State(fields::port(port)?)),
+            _ => None,
+        },
+        "dev" => Some(Line::Device(step(rest)?)),
+        _ => None,
+    }
+}
+
+/// Reads a line, without its line feed. `None` says that no line is spelled so.
+pub fn read_line(text: &[u8]) -> Option<Line>
+    ensures found { IfSome result (λ line. IsLine line × (line_text line ≡ text.now)) }
+    ensures only { (line : Line) → IsLine line → line_text line ≡ text.now → result ≡ Some line }
+{
+    let text = str::from_utf8(text).ok()?;
+    asked(words(text)?.as_slice())
+}
