@@ -12,6 +12,8 @@ mod making;
 mod session;
 mod told;
 #[cfg(test)]
+mod waits;
+#[cfg(test)]
 mod watched;
 
 use making::Fault;
@@ -20,7 +22,7 @@ use told::tell;
 
 fn run(rt: &(impl AllocGlobal + Print)) -> Result<io::Result<()>, Fault> {
     let said = answers(rt.alloc())?;
-    Ok(tell(rt, said.as_slice()))
+    Ok(tell(&mut io::writer(rt), said.as_slice()))
 }
 
 fn main(rt: HostRuntime) -> ExitCode {

@@ -1,6 +1,7 @@
 ghost use Rattle.std.specs.Prelude.{◌≤◌, length};
 
 use super::*;
+use adapter::DiskNumber;
 use ata_types::{FrameFault, MemFault, Outcome, PortState, Refusal, Reply, RequestId, Rule};
 use configuration::Kind;
 use std::test::Fail;
@@ -446,5 +447,45 @@ fn a_trim_has_no_right(rt: HostRuntime) -> Result<(), Fail> {
 fn a_wrong_text_has_no_server(rt: HostRuntime) -> Result<(), Fail> {
     let fault = said_of(rt.alloc(), "frames = 256", &[]).err();
     assert_eq!(rt; fault, Some(Fault::BadConfig(Kind::WrongKeys)));
+    Ok(())
+}
+
+// The read is taken and half moved when its disk goes: nobody is told, its frame stays lent, and the port stays what it was found to be.
+// A look at a disk that was put in answers nobody either.
+#[test]
+fn a_read_whose_disk_went_is_not_answered(rt: HostRuntime) -> Result<(), Fail> {
+    let events = [
+        Event::Submit(read(0, 100, 8, 40)),
+        Event::Device(DeviceStep::Fetch(Port(0), Slot(0))),
+        Event::Device(DeviceStep::Unplug(Port(0))),
+        Event::Service,
+        load(40, 0),
+        Event::State(Port(0)),
+        Event::Device(DeviceStep::Plug(Port(0), DiskNumber(0))),
+        Event::Service,
+    ];
+    let said = said_of(rt.alloc(), CONFIGURATION, &events)?;
+    assert!(rt; matches!(said.get(2), Some(Said::Stepped(true))));
+    assert!(rt; matches!(said.get(3), Some(Said::Served(replies)) if replies.is_empty()));
+    assert!(rt; matches!(said.get(4), Some(Said::Loaded(Err(MemFault::FrameLent)))));
+    assert!(rt; matches!(said.get(5), Some(Said::State(PortState::Ready))));
+    assert!(rt; matches!(said.get(6), Some(Said::Stepped(true))));
+    assert!(rt; matches!(said.get(7), Some(Said::Served(replies)) if replies.is_empty()));
+    Ok(())
+}
+
+// The read was done when its disk went: a look that tells of that answers nobody.
+#[test]
+fn a_done_read_waits_where_its_disk_went(rt: HostRuntime) -> Result<(), Fail> {
+    let events = [
+        Event::Submit(read(0, 100, 8, 40)),
+        Event::Device(DeviceStep::Finish(Port(0), Slot(0))),
+        Event::Device(DeviceStep::Unplug(Port(0))),
+        Event::Service,
+        load(40, 0),
+    ];
+    let said = said_of(rt.alloc(), CONFIGURATION, &events)?;
+    assert!(rt; matches!(said.get(3), Some(Said::Served(replies)) if replies.is_empty()));
+    assert!(rt; matches!(said.get(4), Some(Said::Loaded(Err(MemFault::FrameLent)))));
     Ok(())
 }
