@@ -1,11 +1,15 @@
 -- The bytes of each FIS that a device sends, by place (Serial ATA; AHCI 1.3.1, 4.2.1). A byte or a bit that no line names is zero.
-use Rattle.std.specs.Prelude.{◌≡◌, ℕ, ◌+◌, ◌*◌, ◌^◌, Bool, if◌then◌else◌, List, length, slice_index}
+use Rattle.std.specs.Prelude.{◌≡◌, ◌<◌, ℕ, ◌+◌, ◌*◌, ◌^◌, Bool, if◌then◌else◌, List, length, slice_index}
 use Rattle.std.specs.Int.RustNames.{bit_and}
 use Rattle.byteorder.specs.Endian.{little_from}
 use Rattle.adapter.specs.Spelling.{AreZero}
 use Rattle.fis.specs.declared.DeviceToHost.{DeviceToHost}
 use Rattle.fis.specs.declared.SetDeviceBits.{SetDeviceBits}
 use Rattle.fis.specs.declared.PioSetup.{PioSetup}
+
+-- each number is one that a byte has
+abbrev pub AreBytes : List ℕ → Type 0
+AreBytes bytes = (i : ℕ) → slice_index bytes i < 256
 
 -- a bit at its place, where it is one
 abbrev pub bit : Bool → ℕ → ℕ

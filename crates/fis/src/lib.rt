@@ -11,6 +11,8 @@ ghost use Rattle.fis.specs.declared.PioSetup.{PioSetup};
 ghost use Rattle.fis.specs.declared.SetDeviceBits.{SetDeviceBits};
 ghost use Rattle.fis.specs.Spelling.{lba_at, SpellsDeviceToHost, SpellsPioSetup, SpellsSetDeviceBits};
 
+pub mod laws;
+
 use adapter::Command;
 use byteorder::{ByteOrder, LittleEndian};
 
@@ -62,6 +64,15 @@ const DEVICE_TO_HOST: u8 = 0x34;
 const SET_DEVICE_BITS: u8 = 0xa1;
 
 const PIO_SETUP: u8 = 0x5f;
+
+/// How many bytes each FIS has.
+const COMMAND_BYTES: usize = 20;
+
+const REGISTER_BYTES: usize = 20;
+
+const TAG_BYTES: usize = 8;
+
+const SETUP_BYTES: usize = 20;
 
 /// The bits of byte 1: C of a command, I of what the device sends, and D of a PIO Setup FIS.
 const COMMAND_BIT: u8 = 0x80;
@@ -135,10 +146,10 @@ pub fn decode_h2d(bytes: &[u8]) -> Option<Command>
     ensures found { IfSome result (SpellsCommand bytes.now) }
     ensures only { (c : Command) → SpellsCommand bytes.now c → result ≡ Some c }
 {
-    if bytes.len() != 20
+    if bytes.len() != COMMAND_BYTES
         || bytes[0] != HOST_TO_DEVICE
         || bytes[1] != COMMAND_BIT
-        || !are_zero(bytes, 14, 20)
+        || !are_zero(bytes, 14, COMMAND_BYTES)
     {
         return None;
     }
@@ -187,10 +198,10 @@ pub fn decode_d2h(bytes: &[u8]) -> Option<DeviceToHost>
     ensures found { IfSome result (SpellsDeviceToHost bytes.now) }
     ensures only { (d : DeviceToHost) → SpellsDeviceToHost bytes.now d → result ≡ Some d }
 {
-    if bytes.len() != 20
+    if bytes.len() != REGISTER_BYTES
         || bytes[0] != DEVICE_TO_HOST
         || bytes[11] != 0
-        || !are_zero(bytes, 14, 20)
+        || !are_zero(bytes, 14, REGISTER_BYTES)
     {
         return None;
     }
@@ -232,7 +243,7 @@ pub fn decode_set_device_bits(bytes: &[u8]) -> Option<SetDeviceBits>
     ensures found { IfSome result (SpellsSetDeviceBits bytes.now) }
     ensures only { (s : SetDeviceBits) → SpellsSetDeviceBits bytes.now s → result ≡ Some s }
 {
-    if bytes.len() != 8 || bytes[0] != SET_DEVICE_BITS || bytes[2] & UNSET_STATUS != 0 {
+    if bytes.len() != TAG_BYTES || bytes[0] != SET_DEVICE_BITS || bytes[2] & UNSET_STATUS != 0 {
         return None;
     }
     let interrupt = match bytes[1] {
@@ -287,11 +298,11 @@ pub fn decode_pio_setup(bytes: &[u8]) -> Option<PioSetup>
     ensures found { IfSome result (SpellsPioSetup bytes.now) }
     ensures only { (p : PioSetup) → SpellsPioSetup bytes.now p → result ≡ Some p }
 {
-    if bytes.len() != 20
+    if bytes.len() != SETUP_BYTES
         || bytes[0] != PIO_SETUP
         || bytes[11] != 0
         || bytes[14] != 0
-        || !are_zero(bytes, 18, 20)
+        || !are_zero(bytes, 18, SETUP_BYTES)
     {
         return None;
     }

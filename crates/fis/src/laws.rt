@@ -1,0 +1,55 @@
+// Laws of the codecs, for callers. What is encoded comes back from its decoder, and each value has one spelling.
+ghost use Rattle.std.specs.Prelude.{◌≡◌, ◌<◌, ◌^◌, ℕ, List, Some};
+ghost use Rattle.std.specs.Int.RustNames.{bit_and};
+ghost use Rattle.adapter.specs.Spelling.{SpellsCommand};
+ghost use Rattle.adapter.specs.declared.command.Command.{Command};
+ghost use Rattle.fis.specs.declared.DeviceToHost.{DeviceToHost};
+ghost use Rattle.fis.specs.declared.PioSetup.{PioSetup};
+ghost use Rattle.fis.specs.declared.SetDeviceBits.{SetDeviceBits};
+ghost use Rattle.fis.specs.Spelling.{AreBytes, SpellsDeviceToHost, SpellsPioSetup, SpellsSetDeviceBits};
+
+use crate::{
+    DeviceToHost, PioSetup, SetDeviceBits, decode_d2h, decode_h2d, decode_pio_setup,
+    decode_set_device_bits, encode_d2h, encode_h2d, encode_pio_setup, encode_set_device_bits,
+};
+use adapter::Command;
+
+/// A command that is encoded and decoded is the same command. Its LBA is below 2^48.
+pub fn a_command_comes_back(command: &Command) -> Option<Command>
+    requires { command.now.lba < 2 ^ 48 }
+    ensures { result ≡ Some command.now }
+{
+    decode_h2d(&encode_h2d(command))
+}
+
+/// Registers that are encoded and decoded are the same registers. Their LBA is below 2^48.
+pub fn registers_come_back(fis: &DeviceToHost) -> Option<DeviceToHost>
+    requires { fis.now.lba < 2 ^ 48 }
+    ensures { result ≡ Some fis.now }
+{
+    decode_d2h(&encode_d2h(fis))
+}
+
+/// Tags that are encoded and decoded are the same tags. Bits 7 and 3 of their status are zero.
+pub fn tags_come_back(fis: &SetDeviceBits) -> Option<SetDeviceBits>
+    requires { bit_and fis.now.status 0x88 ≡ 0 }
+    ensures { result ≡ Some fis.now }
+{
+    decode_set_device_bits(&encode_set_device_bits(fis))
+}
+
+/// A transfer that is encoded and decoded is the same transfer. Its LBA is below 2^48.
+pub fn a_setup_comes_back(fis: &PioSetup) -> Option<PioSetup>
+    requires { fis.now.lba < 2 ^ 48 }
+    ensures { result ≡ Some fis.now }
+{
+    decode_pio_setup(&encode_pio_setup(fis))
+}
+
+/// No value has two spellings in bytes. This function does nothing.
+pub fn each_has_one_spelling()
+    ensures command { (c : Command) (a b : List ℕ) → AreBytes a → AreBytes b → SpellsCommand a c → SpellsCommand b c → a ≡ b }
+    ensures registers { (d : DeviceToHost) (a b : List ℕ) → AreBytes a → AreBytes b → SpellsDeviceToHost a d → SpellsDeviceToHost b d → a ≡ b }
+    ensures tags { (s : SetDeviceBits) (a b : List ℕ) → AreBytes a → AreBytes b → SpellsSetDeviceBits a s → SpellsSetDeviceBits b s → a ≡ b }
+    ensures setup { (p : PioSetup) (a b : List ℕ) → AreBytes a → AreBytes b → SpellsPioSetup a p → SpellsPioSetup b p → a ≡ b }
+{}
