@@ -1,11 +1,12 @@
 -- A table and a header that stand in memory say their command.
 use Rattle.std.proofs.Common.{ℕ, suc, ◌≡◌, ◌+◌, ◌*◌, ◌<◌, ◌≤◌, Bool, List, [], ◌∷◌, length, take, drop, refl, sym, ◌∙◌, ap, subst, arith, slice_index, slice_index_or, length-drop}
 use Rattle.std.proofs.lemmas.List.{get_or-take, get_or-drop, length-take}
-use Rattle.adapter.specs.Commands.{Meaning}
+use Rattle.adapter.specs.Commands.{Meaning, command_of, reads_memory}
 use Rattle.adapter.specs.Memory.{bytes_at}
 use Rattle.adapter.specs.Says.{Says, HasPrds}
 use Rattle.adapter.specs.Spelling.{SpellsCommand, SpellsHeader, SpellsPrd}
 use Rattle.adapter.specs.declared.command.Command.{Command}
+use Rattle.adapter.specs.declared.command.Operation.{Operation}
 use Rattle.adapter.specs.declared.command.Prd.{Prd}
 use Rattle.adapter.proofs.MemoryLemmas.{bytes_length, bytes_index}
 use Rattle.command_table.specs.Bytes.{part}
@@ -41,7 +42,7 @@ prds_stand memory (e ∷ es) at each =
 -- a table of 640 bytes, of which memory holds the front with FIS and PRDs, and a header
 module _ (memory : ℕ → ℕ) (list slot at : ℕ) (prds : List Prd) (table header : List ℕ) (few : length prds ≤ 32) (size : length table ≡ 640)
     (here : bytes_at memory at (128 + 16 * length prds) ≡ take (128 + 16 * length prds) table) (head : bytes_at memory (list + 32 * slot) 32 ≡ header)
-    (writes : Bool) (command : Command) (fis : SpellsCommand (part table 0 20) command)
+    (writes : Bool) (command : Command) (direction : (o : Operation) (s first count : ℕ) → command ≡ command_of o s first count → writes ≡ reads_memory o) (fis : SpellsCommand (part table 0 20) command)
     (each : (i : ℕ) (d : Prd) → i < length prds → SpellsPrd (part table (128 + 16 * i) 16) (slice_index_or prds i d))
     (heads : SpellsHeader header writes (length prds) at) where
   part_here : (i k : ℕ) → i + k ≤ 128 + 16 * length prds → bytes_at memory (at + i) k ≡ part table i k
@@ -50,7 +51,7 @@ module _ (memory : ℕ → ℕ) (list slot at : ℕ) (prds : List Prd) (table he
   fis_here : bytes_at memory at 20 ≡ part table 0 20
   fis_here = let same : at + 0 ≡ at = omega arith in ap (λ (a : ℕ). bytes_at memory a 20) (sym same) ∙ part_here 0 20 (omega arith)
 
-  pub table_says : (m : Meaning) (places : List ℕ) → IsTableFor slot writes command prds m places →
+  pub table_says : (m : Meaning) (places : List ℕ) → IsTableFor slot command prds m places →
       (s : Says memory list slot m places) × (s.table ≡ at) × (s.prds ≡ prds)
   table_says m places is =
       let H : List ℕ → Type 0 = λ bytes. SpellsHeader bytes writes (length prds) at in
@@ -60,7 +61,7 @@ module _ (memory : ℕ → ℕ) (list slot at : ℕ) (prds : List Prd) (table he
         record {
           table = at;
           prds = prds;
-          header = subst W is.direction (subst H (sym head) heads);
+          header = subst W (direction m.operation slot m.first m.count is.fields) (subst H (sym head) heads);
           fis = subst C is.fields (subst F (sym fis_here) fis);
           meaning = is.meaning;
           stand = prds_stand memory prds (at + 128) (λ i d lt.

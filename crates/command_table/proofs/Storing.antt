@@ -7,12 +7,13 @@ use Rattle.hba_regs.specs.declared.reg.Reg.TheVariants.{Px}
 use Rattle.hba_regs.specs.declared.reg.PortReg.TheVariants.{Sact}
 use Rattle.adapter.specs.Access.{Access, Stores}
 use Rattle.adapter.specs.Access.Access.{Reading, Writing, Loading, Storing}
-use Rattle.adapter.specs.Commands.{Meaning}
+use Rattle.adapter.specs.Commands.{Meaning, command_of, reads_memory}
 use Rattle.adapter.specs.Device.{Device}
 use Rattle.adapter.specs.Memory.{patched, bytes_at}
 use Rattle.adapter.specs.Rules.{IsOn, IsFree, Stays}
 use Rattle.adapter.specs.Spelling.{SpellsCommand, SpellsHeader, SpellsPrd}
 use Rattle.adapter.specs.declared.command.Command.{Command}
+use Rattle.adapter.specs.declared.command.Operation.{Operation}
 use Rattle.adapter.specs.declared.command.Prd.{Prd}
 use Rattle.adapter.proofs.MemoryLemmas.{bytes_same, patched_apart, patched_bytes}
 use Rattle.agreement.specs.Driven.{IsAgreed, IsFollowed, IsOf, NoneWrites}
@@ -86,7 +87,7 @@ module _ (port slot : ℕ) (below : port < 4) (small : slot < 32) (at : ℕ) (by
 module _ (port slot : ℕ) (below : port < 4) (small : slot < 32) (uses : Uses) (free : IsUnused port slot uses) (old mid new : Device) (on : IsOn old) (a : IsAgreed uses old)
     (prds : List Prd) (table header : List ℕ) (few : length prds ≤ 32) (size : length table ≡ 640) (front : length (take (128 + 16 * length prds) table) ≡ 128 + 16 * length prds)
     (first : Stores (table_of port slot) (take (128 + 16 * length prds) table) old mid) (second : Stores (list_of port + 32 * slot) header mid new)
-    (writes : Bool) (command : Command) (fis : SpellsCommand (part table 0 20) command)
+    (writes : Bool) (command : Command) (direction : (o : Operation) (s first count : ℕ) → command ≡ command_of o s first count → writes ≡ reads_memory o) (fis : SpellsCommand (part table 0 20) command)
     (each : (i : ℕ) (d : Prd) → i < length prds → SpellsPrd (part table (128 + 16 * i) 16) (slice_index_or prds i d))
     (heads : SpellsHeader header writes (length prds) (table_of port slot)) (none_moved : little_from 4 4 header ≡ 0) where
   in_table : IsTableStore port slot (Storing (table_of port slot) (take (128 + 16 * length prds) table))
@@ -120,9 +121,9 @@ module _ (port slot : ℕ) (below : port < 4) (small : slot < 32) (uses : Uses) 
   header_there : bytes_at stored (list_of port + 32 * slot) 32 ≡ header
   header_there = ap (bytes_at stored (list_of port + 32 * slot)) (sym heads.size) ∙ patched_bytes mid.memory (list_of port + 32 * slot) header
 
-  pub stored_says : (m : Meaning) (places : List ℕ) → IsTableFor slot writes command prds m places → Told new.memory (list_of port) port slot m places
+  pub stored_says : (m : Meaning) (places : List ℕ) → IsTableFor slot command prds m places → Told new.memory (list_of port) port slot m places
   stored_says m places is =
-      let x = table_says stored (list_of port) slot (table_of port slot) prds table header few size table_there header_there writes command fis each heads m places is in
+      let x = table_says stored (list_of port) slot (table_of port slot) prds table header few size table_there header_there writes command direction fis each heads m places is in
       told_is_left uses (record mid { memory = stored }) new
       (store_left port slot below small (list_of port + 32 * slot) header mid new in_header second mid_on uses free mid_agrees)
       port slot m places below small

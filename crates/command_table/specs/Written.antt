@@ -1,20 +1,30 @@
 -- What is stored for a slot's command (AHCI 1.3.1, 4.2.2 and 4.2.3), and what the stores may touch.
-use Rattle.std.specs.Prelude.{ℕ, Bool, ◌≡◌, ◌+◌, ◌*◌, ◌≤◌, ◌⊎◌, List, length, All}
+use Rattle.std.specs.Prelude.{ℕ, ◌≡◌, ◌+◌, ◌*◌, ◌≤◌, ◌<◌, ◌⊎◌, List, length, slice_index_or, All}
 use Rattle.byteorder.specs.Endian.{little_from}
 use Rattle.adapter.specs.Access.{Access}
 use Rattle.adapter.specs.Access.Access.{Storing}
-use Rattle.adapter.specs.Commands.{Meaning, IsMeaning, command_of, reads_memory, pieces_moved}
+use Rattle.adapter.specs.Commands.{Meaning, IsMeaning, command_of, pieces_moved}
 use Rattle.adapter.specs.Says.{pieces, IsWhole}
+use Rattle.adapter.specs.Spelling.{AreZero, SpellsCommand, SpellsPrd}
 use Rattle.adapter.specs.declared.command.Command.{Command}
 use Rattle.adapter.specs.declared.command.Prd.{Prd}
 use Rattle.agreement.specs.Places.{list_of, table_of}
 use Rattle.agreement.specs.Slots.{Free, Uses}
+use Rattle.command_table.specs.Bytes.{part}
 
--- Command, direction and PRDs are those of this meaning in the slot: the command has its fields, and the PRDs cut into its places, as
--- many as it moves pieces.
-pub record IsTableFor (slot : ℕ) (writes : Bool) (command : Command) (prds : List Prd) (m : Meaning) (places : List ℕ) : Type 0 where
+-- A command table (AHCI 1.3.1, 4.2.3) with room for 32 PRDs: the FIS at 00h, the PRDs from 80h on, and zeros between them, where ACMD
+-- stands at 40h, and behind them.
+pub record IsTable (bytes : List ℕ) (command : Command) (prds : List Prd) : Type 0 where
+  pub size : length bytes ≡ 640
+  pub fis : SpellsCommand (part bytes 0 20) command
+  pub between : AreZero bytes 20 128
+  pub entries : (i : ℕ) (d : Prd) → i < length prds → SpellsPrd (part bytes (128 + 16 * i) 16) (slice_index_or prds i d)
+  pub behind : AreZero bytes (128 + 16 * length prds) 640
+
+-- Command and PRDs are those of this meaning in the slot: the command has its fields, and the PRDs cut into its places, as many as it
+-- moves pieces.
+pub record IsTableFor (slot : ℕ) (command : Command) (prds : List Prd) (m : Meaning) (places : List ℕ) : Type 0 where
   pub meaning : IsMeaning m
-  pub direction : writes ≡ reads_memory m.operation
   pub fields : command ≡ command_of m.operation slot m.first m.count
   pub whole : All IsWhole prds
   pub in_order : places ≡ pieces prds

@@ -5,14 +5,15 @@ ghost use Rattle.std.specs.Prelude.{◌≡◌, ℕ, List, ◌+◌, ◌*◌, ◌/
 ghost use Rattle.byteorder.specs.Endian.{little_from};
 ghost use Rattle.adapter.specs.Says.{pieces, IsWhole};
 ghost use Rattle.adapter.specs.Spelling.{SpellsCommand, SpellsHeader, SpellsPrd, IsAllowed};
-ghost use Rattle.adapter.specs.Commands.{Meaning};
+ghost use Rattle.adapter.specs.Commands.{Meaning, command_of, reads_memory};
 ghost use Rattle.adapter.specs.Memory.{bytes_at};
 ghost use Rattle.adapter.specs.Rules.{IsOn};
+ghost use Rattle.adapter.specs.declared.command.Operation.{Operation};
 ghost use Rattle.adapter.specs.declared.command.Prd.{Prd};
 ghost use Rattle.agreement.specs.Driven.{AgreesWith, IsFollowed};
 ghost use Rattle.agreement.specs.Places.{list_of};
 ghost use Rattle.agreement.specs.Slots.{Told};
-ghost use Rattle.command_table.specs.Written.{IsTableFor, IsTableStore, IsUnused};
+ghost use Rattle.command_table.specs.Written.{IsTable, IsTableFor, IsTableStore, IsUnused};
 ghost use Rattle.command_table.specs.Places.{IsPrdOf, places_of};
 ghost use Rattle.command_table.specs.Bytes.{Stores, part};
 
@@ -26,6 +27,13 @@ use fis::encode_h2d;
 const FIS_DWORDS: u32 = 5;
 
 const WRITE_BIT: u32 = 1 << 6;
+
+/// The commands by which the device reads memory: DATA SET MANAGEMENT, WRITE DMA EXT and WRITE FPDMA QUEUED (ACS-3; Serial ATA).
+const DATA_SET_MANAGEMENT: u8 = 0x06;
+
+const WRITE_DMA_EXT: u8 = 0x35;
+
+const WRITE_FPDMA_QUEUED: u8 = 0x61;
 
 const FRAME_BYTES: u32 = 4096;
 
@@ -102,14 +110,12 @@ pub fn prds(frames: &[Frame], bytes: u32) -> ArrayVec<Prd, 32>
     entries
 }
 
-/// A command table: the FIS at its head, and the PRDs from byte 128 on. What is past them is zero.
+/// A command table: the FIS at its head, the PRDs from byte 128 on, and zeros between and behind them.
 pub fn table_bytes(command: &Command, prds: &[Prd]) -> [u8; 640]
     requires lba { command.now.lba < 2 ^ 48 }
     requires room { length prds.now ≤ 32 }
     requires allowed { All IsAllowed prds.now }
-    ensures size { length result ≡ 640 }
-    ensures fis { SpellsCommand (part result 0 20) command.now }
-    ensures prds { (i : ℕ) (d : Prd) → i < length prds.now → SpellsPrd (part result (128 + 16 * i) 16) (slice_index_or prds.now i d) }
+    ensures { IsTable result command.now prds.now }
 {
     let mut bytes = [0; 640];
     store_at(&mut bytes, 0, &encode_h2d(command));
@@ -119,14 +125,23 @@ pub fn table_bytes(command: &Command, prds: &[Prd]) -> [u8; 640]
     bytes
 }
 
+/// Whether the device reads memory to do a command, of those that the driver knows.
+fn is_write(command: &Command) -> bool
+    ensures { (o : Operation) (slot first count : ℕ) → command.now ≡ command_of o slot first count → result ≡ reads_memory o }
+{
+    matches!(
+        command.code,
+        DATA_SET_MANAGEMENT | WRITE_DMA_EXT | WRITE_FPDMA_QUEUED
+    )
+}
+
 /// Writes the table and then the header of an unused slot, so that they say the command that is meant, with its PRDs, and PRDBC
-/// tells that nothing was moved yet; no other byte is stored. `writes` says that the device reads memory. The slot's places are this project's own: list and tables stand in the ten
-/// frames of the port.
+/// tells that nothing was moved yet; no other byte is stored. The slot's places are this project's own: list and tables stand in the
+/// ten frames of the port.
 pub fn write_table<A: Adapter>(
     adapter: &mut A,
     port: Port,
     slot: Slot,
-    writes: bool,
     command: &Command,
     prds: &[Prd],
 )
@@ -141,14 +156,14 @@ pub fn write_table<A: Adapter>(
     ensures on { IsOn (A.device adapter.new) }
     ensures followed { IsFollowed (IsTableStore port.0 slot.0) (IsUnused port.0 slot.0) (A.device adapter.old) (A.device adapter.new) }
     ensures none_moved { little_from 4 4 (bytes_at (A.device adapter.new).memory (list_of port.0 + 32 * slot.0) 32) ≡ 0 }
-    ensures says { (m : Meaning) (places : List ℕ) → IsTableFor slot.0 writes command.now prds.now m places
+    ensures says { (m : Meaning) (places : List ℕ) → IsTableFor slot.0 command.now prds.now m places
         → Told (A.device adapter.new).memory (list_of port.0) port.0 slot.0 m places }
 {
     let list = PORT_BYTES * u32::from(port.0);
     let table = list + TABLES + TABLE_BYTES * u32::from(slot.0);
     let bytes = table_bytes(command, prds);
     adapter.store(table, &bytes[..128 + 16 * prds.len()]);
-    let head = header(writes, prds.len() as u16, table);
+    let head = header(is_write(command), prds.len() as u16, table);
     adapter.store(list + HEADER_BYTES * u32::from(slot.0), &head);
 }
 

@@ -20,46 +20,49 @@ fn ends_in_zeros(first: [u8; 14]) -> [u8; 20] {
     bytes
 }
 
+/// Name, the fields code, features, count, LBA and device, and the bytes of the FIS up to its zeros.
+const COMMANDS: [(&str, (u8, u16, u16, u32, u8), [u8; 14]); 7] = [
+    (
+        "READ FPDMA QUEUED of 8 sectors at 100 in slot 0",
+        (0x60, 8, 0, 100, 0x40),
+        [0x27, 0x80, 0x60, 8, 0x64, 0, 0, 0x40, 0, 0, 0, 0, 0, 0],
+    ),
+    (
+        "WRITE FPDMA QUEUED of 3 sectors at 100 in slot 0",
+        (0x61, 3, 0, 100, 0x40),
+        [0x27, 0x80, 0x61, 3, 0x64, 0, 0, 0x40, 0, 0, 0, 0, 0, 0],
+    ),
+    (
+        "READ FPDMA QUEUED of 256 sectors at 100 in slot 5",
+        (0x60, 256, 5 << 3, 100, 0x40),
+        [0x27, 0x80, 0x60, 0, 0x64, 0, 0, 0x40, 0, 0, 0, 1, 0x28, 0],
+    ),
+    (
+        "READ DMA EXT of 8 sectors at 100",
+        (0x25, 0, 8, 100, 0x40),
+        [0x27, 0x80, 0x25, 0, 0x64, 0, 0, 0x40, 0, 0, 0, 0, 8, 0],
+    ),
+    (
+        "DATA SET MANAGEMENT with TRIM and one block",
+        (0x06, 1, 1, 0, 0),
+        [0x27, 0x80, 0x06, 1, 0, 0, 0, 0, 0, 0, 0, 0, 1, 0],
+    ),
+    (
+        "IDENTIFY DEVICE",
+        (0xec, 0, 0, 0, 0),
+        [0x27, 0x80, 0xec, 0, 0, 0, 0, 0, 0, 0, 0, 0, 0, 0],
+    ),
+    (
+        "FLUSH CACHE EXT",
+        (0xea, 0, 0, 0, 0),
+        [0x27, 0x80, 0xea, 0, 0, 0, 0, 0, 0, 0, 0, 0, 0, 0],
+    ),
+];
+
 #[test]
 fn commands_are_spelled(rt: HostRuntime) {
-    let cases = [
-        (
-            "READ FPDMA QUEUED of 8 sectors at 100 in slot 0",
-            fis(0x60, 8, 0, 100, 0x40),
-            [0x27, 0x80, 0x60, 8, 0x64, 0, 0, 0x40, 0, 0, 0, 0, 0, 0],
-        ),
-        (
-            "WRITE FPDMA QUEUED of 3 sectors at 100 in slot 0",
-            fis(0x61, 3, 0, 100, 0x40),
-            [0x27, 0x80, 0x61, 3, 0x64, 0, 0, 0x40, 0, 0, 0, 0, 0, 0],
-        ),
-        (
-            "READ FPDMA QUEUED of 256 sectors at 100 in slot 5",
-            fis(0x60, 256, 5 << 3, 100, 0x40),
-            [0x27, 0x80, 0x60, 0, 0x64, 0, 0, 0x40, 0, 0, 0, 1, 0x28, 0],
-        ),
-        (
-            "READ DMA EXT of 8 sectors at 100",
-            fis(0x25, 0, 8, 100, 0x40),
-            [0x27, 0x80, 0x25, 0, 0x64, 0, 0, 0x40, 0, 0, 0, 0, 8, 0],
-        ),
-        (
-            "DATA SET MANAGEMENT with TRIM and one block",
-            fis(0x06, 1, 1, 0, 0),
-            [0x27, 0x80, 0x06, 1, 0, 0, 0, 0, 0, 0, 0, 0, 1, 0],
-        ),
-        (
-            "IDENTIFY DEVICE",
-            fis(0xec, 0, 0, 0, 0),
-            [0x27, 0x80, 0xec, 0, 0, 0, 0, 0, 0, 0, 0, 0, 0, 0],
-        ),
-        (
-            "FLUSH CACHE EXT",
-            fis(0xea, 0, 0, 0, 0),
-            [0x27, 0x80, 0xea, 0, 0, 0, 0, 0, 0, 0, 0, 0, 0, 0],
-        ),
-    ];
-    for (name, found, first) in cases {
+    for (name, (code, features, count, lba, device), first) in COMMANDS {
+        let found = fis(code, features, count, lba, device);
         assert_eq!(rt; found, ends_in_zeros(first), "{name}");
     }
 }
@@ -102,46 +105,48 @@ fn headers_are_spelled(rt: HostRuntime) {
     }
 }
 
+/// Name, address, number of bytes, and the bytes of the entry that aren't zero.
+const ENTRIES: [(&str, u32, u32, [u8; 4], [u8; 2]); 5] = [
+    (
+        "frame 40 whole",
+        0x28000,
+        4096,
+        [0, 0x80, 2, 0],
+        [0xff, 0x0f],
+    ),
+    (
+        "three sectors of frame 41",
+        0x29000,
+        1536,
+        [0, 0x90, 2, 0],
+        [0xff, 5],
+    ),
+    (
+        "frame 45 whole",
+        0x2d000,
+        4096,
+        [0, 0xd0, 2, 0],
+        [0xff, 0x0f],
+    ),
+    (
+        "frame 76 whole",
+        0x4c000,
+        4096,
+        [0, 0xc0, 4, 0],
+        [0xff, 0x0f],
+    ),
+    (
+        "one sector of frame 9",
+        0x9000,
+        512,
+        [0, 0x90, 0, 0],
+        [0xff, 1],
+    ),
+];
+
 #[test]
 fn entries_are_spelled(rt: HostRuntime) {
-    let cases = [
-        (
-            "frame 40 whole",
-            0x28000,
-            4096,
-            [0, 0x80, 2, 0],
-            [0xff, 0x0f],
-        ),
-        (
-            "three sectors of frame 41",
-            0x29000,
-            1536,
-            [0, 0x90, 2, 0],
-            [0xff, 5],
-        ),
-        (
-            "frame 45 whole",
-            0x2d000,
-            4096,
-            [0, 0xd0, 2, 0],
-            [0xff, 0x0f],
-        ),
-        (
-            "frame 76 whole",
-            0x4c000,
-            4096,
-            [0, 0xc0, 4, 0],
-            [0xff, 0x0f],
-        ),
-        (
-            "one sector of frame 9",
-            0x9000,
-            512,
-            [0, 0x90, 0, 0],
-            [0xff, 1],
-        ),
-    ];
-    for (name, address, bytes, place, count) in cases {
+    for (name, address, bytes, place, count) in ENTRIES {
         let mut entry = [0; 16];
         entry[..4].copy_from_slice(&place);
         entry[12..14].copy_from_slice(&count);
@@ -154,44 +159,46 @@ fn entries_are_spelled(rt: HostRuntime) {
     }
 }
 
+/// The frames 45 to 76.
+const RUN: [Frame; 32] = [
+    Frame(45),
+    Frame(46),
+    Frame(47),
+    Frame(48),
+    Frame(49),
+    Frame(50),
+    Frame(51),
+    Frame(52),
+    Frame(53),
+    Frame(54),
+    Frame(55),
+    Frame(56),
+    Frame(57),
+    Frame(58),
+    Frame(59),
+    Frame(60),
+    Frame(61),
+    Frame(62),
+    Frame(63),
+    Frame(64),
+    Frame(65),
+    Frame(66),
+    Frame(67),
+    Frame(68),
+    Frame(69),
+    Frame(70),
+    Frame(71),
+    Frame(72),
+    Frame(73),
+    Frame(74),
+    Frame(75),
+    Frame(76),
+];
+
 // A read of 256 sectors into frames 45 to 76, a write of three from frame 41, and one block in the scratch frame.
 #[test]
 fn frames_are_covered(rt: HostRuntime) -> Result<(), Fail> {
-    let frames = [
-        Frame(45),
-        Frame(46),
-        Frame(47),
-        Frame(48),
-        Frame(49),
-        Frame(50),
-        Frame(51),
-        Frame(52),
-        Frame(53),
-        Frame(54),
-        Frame(55),
-        Frame(56),
-        Frame(57),
-        Frame(58),
-        Frame(59),
-        Frame(60),
-        Frame(61),
-        Frame(62),
-        Frame(63),
-        Frame(64),
-        Frame(65),
-        Frame(66),
-        Frame(67),
-        Frame(68),
-        Frame(69),
-        Frame(70),
-        Frame(71),
-        Frame(72),
-        Frame(73),
-        Frame(74),
-        Frame(75),
-        Frame(76),
-    ];
-    let entries = prds(&frames, 131_072);
+    let entries = prds(&RUN, 131_072);
     assert_eq!(rt; entries.len(), 32);
     let first = Prd {
         address: 0x2d000,

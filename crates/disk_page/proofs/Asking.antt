@@ -48,7 +48,6 @@ use Rattle.agreement.proofs.Unarmed.{unarmed_writes}
 use Rattle.agreement.proofs.Witness.{bit_one_other}
 use Rattle.command_table.specs.Places.{places_of}
 use Rattle.command_table.specs.Written.{IsTableFor, IsTableStore, IsUnused}
-use Rattle.command_table.proofs.Storing.{table_spares}
 use Rattle.disk_page.specs.Asking.{operation_of, MayAsk, IsAsking, Brings}
 use Rattle.disk_page.specs.Waiting.{IsWaiting}
 use Rattle.disk_page.specs.declared.Page.{Page}
@@ -271,8 +270,15 @@ module _ (port : Port) (old mid : Device) (on : IsOn old) (stores : IsFollowed (
       kind (Writing r v) here = absurd here
       kind (Loading at bytes) here = absurd here
 
+  -- no store is of a register
+  stores_spare : (r : Reg) → NoneWrites (IsTableStore port.0 0) r
+  stores_spare r (Storing at bytes) here = tt
+  stores_spare r (Loading at bytes) here = absurd here
+  stores_spare r (Reading q v) here = absurd here
+  stores_spare r (Writing q v) here = absurd here
+
   pub stores_agree : (uses : Uses) → IsUnused port.0 0 uses → IsAgreed uses old → IsAgreed uses mid
-  stores_agree uses free = agreed_on (IsTableStore port.0 0) (IsUnused port.0 0) uses old mid (λ q. table_spares port.0 0 (Px q Sact)) free stores
+  stores_agree uses free = agreed_on (IsTableStore port.0 0) (IsUnused port.0 0) uses old mid (λ q. stores_spare (Px q Sact)) free stores
 
   pub stores_there : HasPort old port.0 → HasPort mid port.0
   stores_there there = (there.0, ap (λ (pi : ℕ). bit pi port.0) stores_leave.all.pi ∙ there.1)
@@ -282,10 +288,9 @@ module _ (port : Port) (old mid : Device) (on : IsOn old) (stores : IsFollowed (
 
 -- one frame, of which the page takes the first 512 bytes
 pub table_for : (page : Page) (command : Command) (prds : List Prd) (port n : ℕ) → n ≡ port → command ≡ command_of (operation_of page) 0 0 0 → All IsWhole prds →
-    pieces prds ≡ places_of (record { 0 = 10 * n + 9 } ∷ []) 1 → IsTableFor 0 false command prds (meaning_of page) (scratch_of port ∷ [])
+    pieces prds ≡ places_of (record { 0 = 10 * n + 9 } ∷ []) 1 → IsTableFor 0 command prds (meaning_of page) (scratch_of port ∷ [])
 table_for page command prds port n same is whole places = record {
   meaning = record { ranged = λ ranged. true-false ranged (unranged page); not_ranged = λ _. (refl, refl) };
-  direction = sym (brings_in page);
   fields = is;
   whole = whole;
   in_order = (let at : 4096 * (10 * n + 9) + 512 * (0 % 8) ≡ scratch_of port = omega (arith, same) in ap (λ (a : ℕ). a ∷ []) (sym at)) ∙ sym places;
@@ -295,10 +300,10 @@ table_for page command prds port n same is whole places = record {
 -- so they say the command
 pub page_is_told : (page : Page) (command : Command) (prds written : List Prd) (port n : ℕ) (memory : ℕ → ℕ) → n ≡ port → command ≡ command_of (operation_of page) 0 0 0 → All IsWhole prds →
     pieces prds ≡ places_of (record { 0 = 10 * n + 9 } ∷ []) 1 → written ≡ prds →
-    ((m : Meaning) (places : List ℕ) → IsTableFor 0 false command written m places → Told memory (list_of port) port 0 m places) →
+    ((m : Meaning) (places : List ℕ) → IsTableFor 0 command written m places → Told memory (list_of port) port 0 m places) →
     Told memory (list_of port) port 0 (meaning_of page) (scratch_of port ∷ [])
 page_is_told page command prds written port n memory same is whole places value says =
-    let P : List Prd → Type 0 = λ es. IsTableFor 0 false command es (meaning_of page) (scratch_of port ∷ []) in
+    let P : List Prd → Type 0 = λ es. IsTableFor 0 command es (meaning_of page) (scratch_of port ∷ []) in
     says (meaning_of page) (scratch_of port ∷ []) (subst P (sym value) (table_for page command prds port n same is whole places))
 
 -- ---- waiting

@@ -83,14 +83,7 @@ fn ask<A: Adapter>(adapter: &mut A, port: Port, page: Page)
 {
     let scratch = Frame(PORT_FRAMES * u16::from(port.0) + SCRATCH);
     let prds = prds(&[scratch], PAGE_BYTES);
-    write_table(
-        adapter,
-        port,
-        Slot(0),
-        false,
-        &command(page),
-        prds.as_slice(),
-    );
+    write_table(adapter, port, Slot(0), &command(page), prds.as_slice());
     adapter.write(Reg::Px(port, PortReg::Ci), 1);
 }
 

@@ -8,11 +8,12 @@ use Rattle.ata_types.specs.declared.request.Frame.{Frame}
 use Rattle.ata_types.specs.declared.request.Op.{Op}
 use Rattle.ata_types.specs.declared.request.Op.TheVariants.{Read, Write, Trim, Flush}
 use Rattle.hba_regs.specs.Bits.{bit}
+use Rattle.hba_regs.specs.declared.reg.Reg.{Reg}
 use Rattle.hba_regs.specs.declared.reg.Reg.TheVariants.{Px}
 use Rattle.hba_regs.specs.declared.reg.PortReg.TheVariants.{Ci}
 use Rattle.adapter.specs.Access.{Access, Writes}
 use Rattle.adapter.specs.Access.Access.{Reading, Writing, Loading, Storing}
-use Rattle.adapter.specs.Commands.{Meaning, command_of, is_queued, is_ranged, pieces_moved, reads_memory}
+use Rattle.adapter.specs.Commands.{Meaning, command_of, is_queued, is_ranged, pieces_moved}
 use Rattle.adapter.specs.Device.{Bases, PortState, Device}
 use Rattle.adapter.specs.Rules.{IsOn, HasPort, MayWrite, Stays}
 use Rattle.adapter.specs.Says.{Says, pieces, IsWhole}
@@ -30,14 +31,13 @@ use Rattle.block_machine.specs.Steps.{Step, Issue, May}
 use Rattle.block_machine.specs.declared.due.Mode.{Mode}
 use Rattle.block_machine.proofs.EventLemmas.{after-append}
 use Rattle.block_machine.proofs.HistoryLemmas.{may-append, reached_more}
-use Rattle.agreement.specs.Driven.{known, IsAgreed, IsDrivenBy, IsFollowed}
+use Rattle.agreement.specs.Driven.{known, IsAgreed, IsDrivenBy, IsFollowed, NoneWrites}
 use Rattle.agreement.specs.Driver.{Known, Knows, ByDevice, EndsWith, IsPrepared, serving}
 use Rattle.agreement.specs.Follows.{Follows}
 use Rattle.agreement.specs.Places.{list_of, place_in}
 use Rattle.agreement.specs.Slots.{Use, Free, Uses, ArePlaces, Told, HasBlock, IsMove, IsOver, IsServed, op_of}
 use Rattle.agreement.proofs.Gaining.{gains_more}
 use Rattle.agreement.proofs.Paging.{access_sends_none}
-use Rattle.command_table.proofs.Storing.{table_spares}
 use Rattle.agreement.proofs.Adding.{backed_then}
 use Rattle.agreement.proofs.Calling.{issue_follows}
 use Rattle.agreement.proofs.Driven.{by_one, by_then, driven_as}
@@ -83,26 +83,25 @@ pub record IsIssuable (r : Transfer) : Type 0 where
 pub as_many : (r : Transfer) → length (places_of r.frames r.count) ≡ r.count
 as_many r = length-map-range_with_len (place_of r.frames) 0 r.count
 
-table_for : (r : Transfer) → IsIssuable r → (writes : Bool) (command : Command) (prds : List Prd) → writes ≡ reads_memory (operation_of r.op) → command ≡ command_of (operation_of r.op) 0 r.first r.count →
-    All IsWhole prds → pieces prds ≡ places_of r.frames r.count → IsTableFor 0 writes command prds (meaning_of r) (places_of r.frames r.count)
-table_for r is writes command prds direction fields whole places = record {
+table_for : (r : Transfer) → IsIssuable r → (command : Command) (prds : List Prd) → command ≡ command_of (operation_of r.op) 0 r.first r.count →
+    All IsWhole prds → pieces prds ≡ places_of r.frames r.count → IsTableFor 0 command prds (meaning_of r) (places_of r.frames r.count)
+table_for r is command prds fields whole places = record {
   meaning = record {
     ranged = λ _. (is.some, let few = is.few in omega (arith, few), is.first);
     not_ranged = λ h. true-false (of_transfer (λ (o : Op). is_ranged (operation_of o) ≡ true) refl refl r.op is.transfers) h;
   };
-  direction = direction;
   fields = fields;
   whole = whole;
   in_order = sym places;
   as_many = as_many r ∙ sym (of_transfer (λ (o : Op). pieces_moved (operation_of o) r.count ≡ r.count) refl refl r.op is.transfers);
 }
 
-pub transfer_is_told : (r : Transfer) → IsIssuable r → (writes : Bool) (command : Command) (prds written : List Prd) (port : ℕ) (memory : ℕ → ℕ) → writes ≡ reads_memory (operation_of r.op) →
+pub transfer_is_told : (r : Transfer) → IsIssuable r → (command : Command) (prds written : List Prd) (port : ℕ) (memory : ℕ → ℕ) →
     command ≡ command_of (operation_of r.op) 0 r.first r.count → All IsWhole prds → pieces prds ≡ places_of r.frames r.count → written ≡ prds →
-    ((m : Meaning) (places : List ℕ) → IsTableFor 0 writes command written m places → Told memory (list_of port) port 0 m places) → Told memory (list_of port) port 0 (meaning_of r) (places_of r.frames r.count)
-transfer_is_told r is writes command prds written port memory direction fields whole places value says =
-    let P : List Prd → Type 0 = λ es. IsTableFor 0 writes command es (meaning_of r) (places_of r.frames r.count) in
-    says (meaning_of r) (places_of r.frames r.count) (subst P (sym value) (table_for r is writes command prds direction fields whole places))
+    ((m : Meaning) (places : List ℕ) → IsTableFor 0 command written m places → Told memory (list_of port) port 0 m places) → Told memory (list_of port) port 0 (meaning_of r) (places_of r.frames r.count)
+transfer_is_told r is command prds written port memory fields whole places value says =
+    let P : List Prd → Type 0 = λ es. IsTableFor 0 command es (meaning_of r) (places_of r.frames r.count) in
+    says (meaning_of r) (places_of r.frames r.count) (subst P (sym value) (table_for r is command prds fields whole places))
 
 -- ---- its request
 
@@ -257,6 +256,13 @@ module _ (port : Port) (r : Transfer) (old mid : Device) (transfers : IsTransfer
         kind (Writing reg v) here = absurd here
         kind (Loading at bytes) here = absurd here
 
+    -- no store is of a register
+    stores_spare : (reg : Reg) → NoneWrites (IsTableStore port.0 0) reg
+    stores_spare reg (Storing at bytes) here = tt
+    stores_spare reg (Loading at bytes) here = absurd here
+    stores_spare reg (Reading q v) here = absurd here
+    stores_spare reg (Writing q v) here = absurd here
+
     pub issued_leaves : LeavesRunning port.0 old new
     issued_leaves = asking_leaves_running port old new on (driven_as (IsIssuing port) (IsAsking port) old new kind driven)
       where
@@ -278,6 +284,6 @@ module _ (port : Port) (r : Transfer) (old mid : Device) (transfers : IsTransfer
           (prepared other later mode e unused still plain usable is) call);
       silent = λ other parked m reached knows unused q o own not.
           let x = (stores.adds other parked unused).adds m reached knows in
-          gains_more (IsMove q.0 o) old mid new (stores.silent other parked m unused reached knows q o own (table_spares port.0 0 (Px q Ci)) not)
+          gains_more (IsMove q.0 o) old mid new (stores.silent other parked m unused reached knows q o own (stores_spare (Px q Ci)) not)
           (access_sends_none other (after m x.0) (Writing (Px port Ci) 1) mid new q.0 o (reached_more m x.0 reached x.1) x.2.agrees call own not);
     }

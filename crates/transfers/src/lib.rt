@@ -105,7 +105,6 @@ pub fn issue<A: Adapter>(
         adapter,
         port,
         Slot(0),
-        writes(op),
         &command(op, first, count),
         prds.as_slice(),
     );

@@ -1,7 +1,8 @@
-use Rattle.std.proofs.Common.{◌≡◌, ℕ, ◌+◌, ◌*◌, ◌<◌, List, length, slice_index_or, sym, subst, ap, ◌∙◌, arith, below_more}
+use Rattle.std.proofs.Common.{◌≡◌, ℕ, ◌+◌, ◌*◌, ◌<◌, ◌≤◌, List, length, slice_index, slice_index_or, sym, subst, ap, ◌∙◌, arith, below_more}
 use Rattle.std.proofs.lemmas.List.{get_or_default}
 use Rattle.command_table.specs.Bytes.{part}
 use Rattle.command_table.proofs.Parts.{part_before, part_whole}
+use Rattle.command_table.proofs.Zeros.{zero_of}
 use Rattle.adapter.specs.Spelling.{SpellsCommand}
 use Rattle.adapter.specs.declared.command.Prd.{Prd}
 use Rattle.adapter.specs.Spelling.{SpellsPrd}
@@ -12,10 +13,13 @@ loop-i-init c =
     let n : length c.encode_h2d.result ≡ 20 = c.encode_h2d.ensures.size in
     let stored : part c.store_at.new.buffer 0 20 ≡ c.encode_h2d.result =
     ap (part c.store_at.new.buffer 0) (sym n) ∙ part_whole _ _ _ _ c.store_at.ensures (omega arith) in
+    let zero_at : (k : ℕ) → 20 ≤ k → k < 640 → slice_index c.store_at.new.buffer k ≡ 0 = λ k low high. c.store_at.ensures.after k (omega (arith, n)) ∙ zero_of 640 k in
     record {
       size = omega (arith, c.store_at.ensures.size);
       fis = subst (λ (b : List ℕ). SpellsCommand b c.args.command.now) (sym stored) c.encode_h2d.ensures;
+      between = λ k low high. zero_at k (omega arith) (omega arith);
       entries = λ k d lt. absurd (omega arith);
+      behind = λ k low high. zero_at k (omega arith) high;
     }
 
 pub loop-i-preserved : goal.loop-i-preserved
@@ -36,8 +40,18 @@ loop-i-preserved c =
     record {
       size = omega (arith, s.size);
       fis = subst (λ (b : List ℕ). SpellsCommand b c.args.command.now) (sym fis_stays) c.loop-i.invariant.fis;
+      between = λ k low high. s.before k (omega arith) ∙ c.loop-i.invariant.between k low high;
       entries = λ k d lt. below_more Here c.loop-i.i below here k lt d;
+      behind = λ k low high. s.after k (omega (arith, n)) ∙ c.loop-i.invariant.behind k (omega (arith, n)) high;
     }
 
-pub returns-clause-prds : goal.returns-clause-prds
-returns-clause-prds c = λ k d lt. c.loop-i.invariant.entries k d (omega arith)
+pub returns : goal.returns
+returns c =
+    let v = c.loop-i.invariant in
+    record {
+      size = v.size;
+      fis = v.fis;
+      between = v.between;
+      entries = λ k d lt. v.entries k d (omega arith);
+      behind = λ k low high. v.behind k (omega arith) high;
+    }

@@ -1,6 +1,6 @@
 use Rattle.std.proofs.Common.{◌≡◌, ℕ, ◌+◌, ◌*◌, ◌<◌, length, slice_index_or}
 use Rattle.command_table.specs.Bytes.{part}
-use Rattle.adapter.specs.Spelling.{SpellsCommand}
+use Rattle.adapter.specs.Spelling.{AreZero, SpellsCommand}
 use Rattle.adapter.specs.declared.command.Prd.{Prd}
 use Rattle.adapter.specs.Spelling.{SpellsPrd}
 use Rattle.command_table.proofs.table_bytes.Given as goal
@@ -9,5 +9,7 @@ abbrev pub invariant-loop-i : goal.invariant-loop-i
 invariant-loop-i l = record {
   size : length l.bytes ≡ 640;
   fis : SpellsCommand (part l.bytes 0 20) l.command;
+  between : AreZero l.bytes 20 128;
   entries : (k : ℕ) (d : Prd) → k < l.i → SpellsPrd (part l.bytes (128 + 16 * k) 16) (slice_index_or l.prds k d);
+  behind : AreZero l.bytes (128 + 16 * l.i) 640;
 }

@@ -77,11 +77,11 @@ returns-clause-says g c =
     let second = header_stored _ _ _ _ _ _ _ c.from-list.ensures c.from-2.ensures c.store-2.ensures in
     let size = c.table_bytes-bytes.ensures.size in
     let cut = length-take (128 + 16 * length c.args.prds.now) c.table_bytes-bytes.result in
-    let H : ℕ → ℕ → Type 0 = λ p s. SpellsHeader c.header-head.result c.args.writes (length c.args.prds.now) (40960 * p + 4096 + 1024 * s) in
-    let heads : SpellsHeader c.header-head.result c.args.writes (length c.args.prds.now) (table_of c.args.port.0 c.args.slot.0) =
+    let H : ℕ → ℕ → Type 0 = λ p s. SpellsHeader c.header-head.result c.is_write.result (length c.args.prds.now) (40960 * p + 4096 + 1024 * s) in
+    let heads : SpellsHeader c.header-head.result c.is_write.result (length c.args.prds.now) (table_of c.args.port.0 c.args.slot.0) =
     at_places H c.args.port.0 c.args.slot.0 _ _ c.from-list.ensures c.from.ensures c.header-head.ensures.says in
     stored_says c.args.port.0 c.args.slot.0 r.port r.slot r.agreed.0 r.agreed.1 _ _ _ r.on r.agreed.2 c.args.prds.now c.table_bytes-bytes.result c.header-head.result few size
-    (omega (arith, cut, size, few)) first second c.args.writes c.args.command.now c.table_bytes-bytes.ensures.fis c.table_bytes-bytes.ensures.prds heads c.header-head.ensures.none_moved
+    (omega (arith, cut, size, few)) first second c.is_write.result c.args.command.now c.is_write.ensures c.table_bytes-bytes.ensures.fis c.table_bytes-bytes.ensures.entries heads c.header-head.ensures.none_moved
 
 pub returns-clause-none_moved : goal.returns-clause-none_moved
 returns-clause-none_moved g c =

@@ -14,7 +14,7 @@ write-requires g c =
     let t : Transfer = record { op = c.args.op; first = c.args.first.0; count = c.args.count; frames = c.args.frames.now } in
     let places : pieces c.prds-prds.result.items ≡ places_of t.frames t.count = c.prds-prds.ensures.places (omega arith) ∙ ap (places_of t.frames) (omega arith) in
     let told : Told (g.A.Adapter.device c.write_table.new.adapter).memory (list_of c.args.port.0) c.args.port.0 0 (meaning_of t) (places_of t.frames t.count) =
-    transfer_is_told t (record { transfers = r.transfers; some = r.some; few = r.few; first = r.first }) _ _ c.prds-prds.result.items _ c.args.port.0 _ c.writes.ensures c.command.ensures
+    transfer_is_told t (record { transfers = r.transfers; some = r.some; few = r.few; first = r.first }) _ c.prds-prds.result.items _ c.args.port.0 _ c.command.ensures
     (c.prds-prds.ensures.whole (omega arith)) places c.as_slice.ensures.value w.says in
     issue_permitted c.args.port t _ _ r.transfers r.on w.on r.there r.may r.agreed.0 r.agreed.1 r.agreed.2 w.followed told
 
@@ -25,7 +25,7 @@ returns-clause-on g c =
     let t : Transfer = record { op = c.args.op; first = c.args.first.0; count = c.args.count; frames = c.args.frames.now } in
     let places : pieces c.prds-prds.result.items ≡ places_of t.frames t.count = c.prds-prds.ensures.places (omega arith) ∙ ap (places_of t.frames) (omega arith) in
     let told : Told (g.A.Adapter.device c.write_table.new.adapter).memory (list_of c.args.port.0) c.args.port.0 0 (meaning_of t) (places_of t.frames t.count) =
-    transfer_is_told t (record { transfers = r.transfers; some = r.some; few = r.few; first = r.first }) _ _ c.prds-prds.result.items _ c.args.port.0 _ c.writes.ensures c.command.ensures
+    transfer_is_told t (record { transfers = r.transfers; some = r.some; few = r.few; first = r.first }) _ c.prds-prds.result.items _ c.args.port.0 _ c.command.ensures
     (c.prds-prds.ensures.whole (omega arith)) places c.as_slice.ensures.value w.says in
     issued_on c.args.port t _ _ r.transfers r.on w.on r.there r.may r.agreed.0 r.agreed.1 r.agreed.2 w.followed told _ c.write.ensures
 
@@ -36,7 +36,7 @@ returns-clause-issues g c =
     let t : Transfer = record { op = c.args.op; first = c.args.first.0; count = c.args.count; frames = c.args.frames.now } in
     let places : pieces c.prds-prds.result.items ≡ places_of t.frames t.count = c.prds-prds.ensures.places (omega arith) ∙ ap (places_of t.frames) (omega arith) in
     let told : Told (g.A.Adapter.device c.write_table.new.adapter).memory (list_of c.args.port.0) c.args.port.0 0 (meaning_of t) (places_of t.frames t.count) =
-    transfer_is_told t (record { transfers = r.transfers; some = r.some; few = r.few; first = r.first }) _ _ c.prds-prds.result.items _ c.args.port.0 _ c.writes.ensures c.command.ensures
+    transfer_is_told t (record { transfers = r.transfers; some = r.some; few = r.few; first = r.first }) _ c.prds-prds.result.items _ c.args.port.0 _ c.command.ensures
     (c.prds-prds.ensures.whole (omega arith)) places c.as_slice.ensures.value w.says in
     transfer_issued c.args.port t _ _ r.transfers r.on w.on r.there r.may r.agreed.0 r.agreed.1 r.agreed.2 w.followed told _ c.write.ensures
 
@@ -47,7 +47,7 @@ returns-clause-told g c =
     let t : Transfer = record { op = c.args.op; first = c.args.first.0; count = c.args.count; frames = c.args.frames.now } in
     let places : pieces c.prds-prds.result.items ≡ places_of t.frames t.count = c.prds-prds.ensures.places (omega arith) ∙ ap (places_of t.frames) (omega arith) in
     let told : Told (g.A.Adapter.device c.write_table.new.adapter).memory (list_of c.args.port.0) c.args.port.0 0 (meaning_of t) (places_of t.frames t.count) =
-    transfer_is_told t (record { transfers = r.transfers; some = r.some; few = r.few; first = r.first }) _ _ c.prds-prds.result.items _ c.args.port.0 _ c.writes.ensures c.command.ensures
+    transfer_is_told t (record { transfers = r.transfers; some = r.some; few = r.few; first = r.first }) _ c.prds-prds.result.items _ c.args.port.0 _ c.command.ensures
     (c.prds-prds.ensures.whole (omega arith)) places c.as_slice.ensures.value w.says in
     issued_told c.args.port t _ _ r.transfers r.on w.on r.there r.may r.agreed.0 r.agreed.1 r.agreed.2 w.followed told _ c.write.ensures
 
@@ -58,7 +58,7 @@ returns-clause-set g c =
     let t : Transfer = record { op = c.args.op; first = c.args.first.0; count = c.args.count; frames = c.args.frames.now } in
     let places : pieces c.prds-prds.result.items ≡ places_of t.frames t.count = c.prds-prds.ensures.places (omega arith) ∙ ap (places_of t.frames) (omega arith) in
     let told : Told (g.A.Adapter.device c.write_table.new.adapter).memory (list_of c.args.port.0) c.args.port.0 0 (meaning_of t) (places_of t.frames t.count) =
-    transfer_is_told t (record { transfers = r.transfers; some = r.some; few = r.few; first = r.first }) _ _ c.prds-prds.result.items _ c.args.port.0 _ c.writes.ensures c.command.ensures
+    transfer_is_told t (record { transfers = r.transfers; some = r.some; few = r.few; first = r.first }) _ c.prds-prds.result.items _ c.args.port.0 _ c.command.ensures
     (c.prds-prds.ensures.whole (omega arith)) places c.as_slice.ensures.value w.says in
     issued_set c.args.port t _ _ r.transfers r.on w.on r.there r.may r.agreed.0 r.agreed.1 r.agreed.2 w.followed told _ c.write.ensures
 
@@ -69,6 +69,6 @@ returns-clause-leaves g c =
     let t : Transfer = record { op = c.args.op; first = c.args.first.0; count = c.args.count; frames = c.args.frames.now } in
     let places : pieces c.prds-prds.result.items ≡ places_of t.frames t.count = c.prds-prds.ensures.places (omega arith) ∙ ap (places_of t.frames) (omega arith) in
     let told : Told (g.A.Adapter.device c.write_table.new.adapter).memory (list_of c.args.port.0) c.args.port.0 0 (meaning_of t) (places_of t.frames t.count) =
-    transfer_is_told t (record { transfers = r.transfers; some = r.some; few = r.few; first = r.first }) _ _ c.prds-prds.result.items _ c.args.port.0 _ c.writes.ensures c.command.ensures
+    transfer_is_told t (record { transfers = r.transfers; some = r.some; few = r.few; first = r.first }) _ c.prds-prds.result.items _ c.args.port.0 _ c.command.ensures
     (c.prds-prds.ensures.whole (omega arith)) places c.as_slice.ensures.value w.says in
     issued_leaves c.args.port t _ _ r.transfers r.on w.on r.there r.may r.agreed.0 r.agreed.1 r.agreed.2 w.followed told _ c.write.ensures
