@@ -1,5 +1,5 @@
 -- What a model with its disks stands for.
-use Rattle.std.specs.Prelude.{ℕ, Bool, true, false, ◌≡◌, ◌≢◌, ◌+◌, ◌-◌, ◌*◌, ◌^◌, ◌<◌, List, [], ◌∷◌, Option, if◌then◌else◌, count_ones, map}
+use Rattle.std.specs.Prelude.{ℕ, Bool, true, false, ◌≡◌, ◌≢◌, ◌+◌, ◌-◌, ◌*◌, ◌^◌, ◌<◌, ◌&&◌, List, [], ◌∷◌, Option, if◌then◌else◌, count_ones, map}
 use Rattle.adapter.specs.Device.{PortState, Device}
 use Rattle.adapter.specs.FirstRead.{no_notes}
 use Rattle.device_model.specs.Whole.{Outside, device_of, outside_of, first_disk}
@@ -13,6 +13,10 @@ outside_at size told m =
 
 abbrev pub device_at : {S : Type 0} → (S → ℕ) → (S → Option (ℕ → List ℕ)) → Model S → Device
 device_at size told m = device_of m.hardware (outside_at size told m)
+
+-- no call on a sector of its disks fails
+abbrev pub is_sure_at : {S : Type 0} → (S → Bool) → Model S → Bool
+is_sure_at is_sure m = is_sure m.disk0 && is_sure m.disk1
 
 -- NP, by the ports that there are, NCS and SNCQ (AHCI 1.3.1, 3.1.1)
 abbrev pub cap_of : ℕ → ℕ → Bool → ℕ

@@ -16,7 +16,7 @@ ghost use Rattle.device_model.specs.Finishing.{HasDisk, HasIdentify, HasMove, Ha
 ghost use Rattle.device_model.specs.Paged.{AreHonest, IsHonest, IsItsPage, IsTurned, KeepsPages, lying, no_lies, serial_of_disk0};
 ghost use Rattle.device_model.specs.Tells.{disks_told};
 ghost use Rattle.device_model.specs.Queue.{DoesEach, due, not_due};
-ghost use Rattle.device_model.specs.Modelled.{device_at, cap_of, IsNew};
+ghost use Rattle.device_model.specs.Modelled.{device_at, cap_of, is_sure_at, IsNew};
 ghost use Rattle.device_model.specs.Held.{IsHeld, IsHolding, all_held, held_after, held_each, none_held};
 ghost use Rattle.device_model.specs.Settled.{IsSettled};
 ghost use Rattle.device_model.specs.View.{Takes, operation_of};
@@ -82,6 +82,7 @@ impl<S: SectorStore> Model<S> {
         ensures idle { IfOk result (λ m. IsIdle (device_at S.size S.told m)) }
         ensures sane { IfOk result (λ m. IsSane (device_at S.size S.told m)) }
         ensures telling { IfOk result (λ m. (device_at S.size S.told m).telling ≡ (is_some (S.told disk0) && is_some (S.told disk1))) }
+        ensures sure { IfOk result (λ m. is_sure_at S.is_sure m ≡ (S.is_sure disk0 && S.is_sure disk1)) }
         ensures made { IfOk result (λ m. IsNew config (S.size disk0) (S.told disk0) (device_at S.size S.told m)) }
         ensures held { IfOk result (λ m. m.held ≡ none_held) }
         ensures says { IfOk result (λ m. m.says ≡ record { abilities = record { ncq = config.ncq; depth = config.depth; trim = config.trim }; lies = no_lies }) }
@@ -138,6 +139,7 @@ impl<S: SectorStore> Model<S> {
         ensures held { self.new.held ≡ self.old.held }
         ensures kept { OnErr result (self.new.queue.items ≡ self.old.queue.items) }
         ensures pages { KeepsPages S.size self.old self.new }
+        ensures sure { is_sure_at S.is_sure self.new ≡ is_sure_at S.is_sure self.old }
     {
         let access = self.accesses.saturating_add(n.max(1));
         self.queue
@@ -157,6 +159,7 @@ impl<S: SectorStore> Model<S> {
         ensures queue { self.new.queue ≡ self.old.queue }
         ensures accesses { self.new.accesses ≡ self.old.accesses }
         ensures pages { KeepsPages S.size self.old self.new }
+        ensures sure { is_sure_at S.is_sure self.new ≡ is_sure_at S.is_sure self.old }
     {
         self.hardware.unplug()
     }
@@ -172,6 +175,7 @@ impl<S: SectorStore> Model<S> {
         ensures queue { self.new.queue ≡ self.old.queue }
         ensures accesses { self.new.accesses ≡ self.old.accesses }
         ensures pages { KeepsPages S.size self.old self.new }
+        ensures sure { is_sure_at S.is_sure self.new ≡ is_sure_at S.is_sure self.old }
     {
         if self.plugged.reserve(1).is_err() {
             return false;
@@ -189,7 +193,7 @@ impl<S: SectorStore> Model<S> {
         requires { slot < 32 }
         ensures did { result ≡ true → DoesMove port slot (device_at S.size S.told self.old) (device_at S.size S.told self.new) }
         ensures refused { result ≡ false → device_at S.size S.told self.new ≡ device_at S.size S.told self.old }
-        ensures only { result ≡ false → S.is_sure ≡ true → HasRoom self.old.hardware 1 → (device_at S.size S.told self.old).size ≤ 2 ^ 32 →
+        ensures only { result ≡ false → is_sure_at S.is_sure self.old ≡ true → HasRoom self.old.hardware 1 → (device_at S.size S.told self.old).size ≤ 2 ^ 32 →
             (t : Taken) → HasMove (device_at S.size S.told self.old) port slot t → ⊥ }
         ensures left { (n : ℕ) → HasRoom self.old.hardware (n + 1) → HasRoom self.new.hardware n }
         ensures disk { S.size self.new.disk0 ≡ S.size self.old.disk0 }
@@ -197,6 +201,7 @@ impl<S: SectorStore> Model<S> {
         ensures queue { self.new.queue ≡ self.old.queue }
         ensures accesses { self.new.accesses ≡ self.old.accesses }
         ensures pages { KeepsPages S.size self.old self.new }
+        ensures sure { is_sure_at S.is_sure self.new ≡ is_sure_at S.is_sure self.old }
     {
         // No other port has a disk.
         if port != 0 {
@@ -230,14 +235,15 @@ impl<S: SectorStore> Model<S> {
         requires { slot < 32 }
         ensures did { result ≡ true → GoesOn port slot (device_at S.size S.told self.old) (device_at S.size S.told self.new) }
         ensures refused { result ≡ false → device_at S.size S.told self.new ≡ device_at S.size S.told self.old }
-        ensures ends { result ≡ true → S.is_sure ≡ true → (device_at S.size S.told self.old).size ≤ 2 ^ 32 →
+        ensures ends { result ≡ true → is_sure_at S.is_sure self.old ≡ true → (device_at S.size S.told self.old).size ≤ 2 ^ 32 →
             IsFreeSlot ((device_at S.size S.told self.new).port port) slot }
-        ensures only { result ≡ false → S.is_sure ≡ true → (device_at S.size S.told self.old).size ≤ 2 ^ 32 → port ≡ 0 → (left : ℕ) →
+        ensures only { result ≡ false → is_sure_at S.is_sure self.old ≡ true → (device_at S.size S.told self.old).size ≤ 2 ^ 32 → port ≡ 0 → (left : ℕ) →
             HasRoom self.old.hardware (left + 1) → IsReady (device_at S.size S.told self.old) port slot (S.size self.old.disk0) left → ⊥ }
         ensures held { self.new.held ≡ self.old.held }
         ensures queue { self.new.queue ≡ self.old.queue }
         ensures accesses { self.new.accesses ≡ self.old.accesses }
         ensures pages { KeepsPages S.size self.old self.new }
+        ensures sure { is_sure_at S.is_sure self.new ≡ is_sure_at S.is_sure self.old }
     {
         if port != 0 {
             return false;
@@ -268,6 +274,7 @@ impl<S: SectorStore> Model<S> {
         ensures held { self.new.held ≡ self.old.held }
         ensures alone { ((slot : ℕ) → HasIdentify (device_at S.size S.told self.old) slot → ⊥) → device_at S.size S.told self.new ≡ device_at S.size S.told self.old }
         ensures pages { KeepsPages S.size self.old self.new }
+        ensures sure { is_sure_at S.is_sure self.new ≡ is_sure_at S.is_sure self.old }
         ensures queue { self.new.queue ≡ self.old.queue }
         ensures accesses { self.new.accesses ≡ self.old.accesses }
     {
@@ -288,6 +295,7 @@ impl<S: SectorStore> Model<S> {
         ensures held { self.new.held ≡ self.old.held }
         ensures alone { ((slot : ℕ) → HasIdentify (device_at S.size S.told self.old) slot → ⊥) → device_at S.size S.told self.new ≡ device_at S.size S.told self.old }
         ensures pages { KeepsPages S.size self.old self.new }
+        ensures sure { is_sure_at S.is_sure self.new ≡ is_sure_at S.is_sure self.old }
         ensures queue { self.new.queue ≡ self.old.queue }
         ensures accesses { self.new.accesses ≡ self.old.accesses }
     {
@@ -344,19 +352,20 @@ impl<S: SectorStore> Model<S> {
         ensures refused { result ≡ false → device_at S.size S.told self.new ≡ device_at S.size S.told self.old }
         ensures fetches { result ≡ false → (p : Port) (slot : Slot) (m : Meaning) (places : List ℕ) → s.now ≡ DeviceStep.Fetch p slot → p.0 < 4 → slot.0 < 32 →
             Takes m.operation → Can (Fetch p.0 slot.0 m places) (device_at S.size S.told self.old) → ⊥ }
-        ensures moves { result ≡ false → S.is_sure ≡ true → HasRoom self.old.hardware 1 → (device_at S.size S.told self.old).size ≤ 2 ^ 32 →
+        ensures moves { result ≡ false → is_sure_at S.is_sure self.old ≡ true → HasRoom self.old.hardware 1 → (device_at S.size S.told self.old).size ≤ 2 ^ 32 →
             (p : Port) (slot : Slot) (t : Taken) (bytes : List ℕ) → s.now ≡ DeviceStep.Move p slot → slot.0 < 32 →
             HasDisk p.0 t.meaning.operation → Can (Move p.0 slot.0 t bytes) (device_at S.size S.told self.old) → ⊥ }
         ensures dones { result ≡ false → HasRoom self.old.hardware 1 → (p : Port) (slot : Slot) (flag : ℕ) (t : Taken) →
             s.now ≡ DeviceStep.Done p slot → p.0 < 4 → slot.0 < 32 → Can (Done p.0 slot.0 flag t) (device_at S.size S.told self.old) → ⊥ }
-        ensures finishes { result ≡ true → S.is_sure ≡ true → (device_at S.size S.told self.old).size ≤ 2 ^ 32 →
+        ensures finishes { result ≡ true → is_sure_at S.is_sure self.old ≡ true → (device_at S.size S.told self.old).size ≤ 2 ^ 32 →
             (p : Port) (slot : Slot) → s.now ≡ DeviceStep.Finish p slot → IsFreeSlot ((device_at S.size S.told self.new).port p.0) slot.0 }
-        ensures ready { result ≡ false → S.is_sure ≡ true → (device_at S.size S.told self.old).size ≤ 2 ^ 32 →
+        ensures ready { result ≡ false → is_sure_at S.is_sure self.old ≡ true → (device_at S.size S.told self.old).size ≤ 2 ^ 32 →
             (p : Port) (slot : Slot) (left : ℕ) → s.now ≡ DeviceStep.Finish p slot → p.0 ≡ 0 → slot.0 < 32 → HasRoom self.old.hardware (left + 1) →
             IsReady (device_at S.size S.told self.old) p.0 slot.0 (S.size self.old.disk0) left → ⊥ }
         ensures queue { self.new.queue ≡ self.old.queue }
         ensures accesses { self.new.accesses ≡ self.old.accesses }
         ensures pages { IsHonest s.now → KeepsPages S.size self.old self.new }
+        ensures sure { is_sure_at S.is_sure self.new ≡ is_sure_at S.is_sure self.old }
         ensures lies { result ≡ true → (p : Port) (page : DiskPage) (offset bits : ℕ) → s.now ≡ DeviceStep.Lie p page offset bits → p.0 ≡ 0 →
             self.new.says ≡ record self.old.says { lies = lying self.old.says.lies offset bits } }
         ensures truth { (p : Port) → s.now ≡ DeviceStep.Truth p → p.0 ≡ 0 → self.new.says ≡ record self.old.says { lies = no_lies } }
@@ -405,6 +414,7 @@ impl<S: SectorStore> Model<S> {
         ensures counted { self.new.accesses ≡ min (self.old.accesses + 1) (2 ^ 64 - 1) }
         ensures held { self.new.held ≡ held_each (due self.new.accesses self.old.queue.items) self.old.held }
         ensures pages { AreHonest self.old.queue.items → KeepsPages S.size self.old self.new }
+        ensures sure { is_sure_at S.is_sure self.new ≡ is_sure_at S.is_sure self.old }
     {
         self.accesses = self.accesses.saturating_add(1);
         let mut place = 0;
@@ -457,7 +467,8 @@ fn exchange<S: SectorStore>(
         ≡ disk_after (operation_of next.transfer) (first_disk (S.size disk.old) (S.told disk.old)) next.sector bytes.new }
     ensures kept { result ≡ false → S.told disk.new ≡ S.told disk.old }
     ensures size { S.size disk.new ≡ S.size disk.old }
-    ensures sure { S.is_sure ≡ true → (is_ranged (operation_of next.transfer) ≡ true → next.sector < S.size disk.old) → result ≡ true }
+    ensures lasts { S.is_sure disk.new ≡ S.is_sure disk.old }
+    ensures sure { S.is_sure disk.old ≡ true → (is_ranged (operation_of next.transfer) ≡ true → next.sector < S.size disk.old) → result ≡ true }
 {
     match next.transfer {
         Transfer::Read => disk.read(next.sector, bytes),
@@ -499,6 +510,7 @@ impl<S: SectorStore> Adapter for Model<S> {
         ensures freed { let told = held_each (due self.new.accesses self.old.queue.items) self.old.held in
             (device_at S.size S.told self.old).hr ≡ true → told ≢ all_held → self.new.held ≡ none_held }
         ensures pages { AreHonest self.old.queue.items → KeepsPages S.size self.old self.new }
+        ensures sure { is_sure_at S.is_sure self.new ≡ is_sure_at S.is_sure self.old }
     {
         self.do_queued();
         self.hardware.settle(&mut self.held);
@@ -513,6 +525,7 @@ impl<S: SectorStore> Adapter for Model<S> {
         ensures writes { Writes r v (device_at S.size S.told self.old) (device_at S.size S.told self.new) }
         ensures held { self.new.held ≡ held_each (due self.new.accesses self.old.queue.items) self.old.held }
         ensures pages { AreHonest self.old.queue.items → KeepsPages S.size self.old self.new }
+        ensures sure { is_sure_at S.is_sure self.new ≡ is_sure_at S.is_sure self.old }
     {
         self.do_queued();
         self.hardware.write(r, v);
@@ -523,6 +536,7 @@ impl<S: SectorStore> Adapter for Model<S> {
         ensures loads { Loads addr out.new (device_at S.size S.told self.old) (device_at S.size S.told self.new) }
         ensures held { self.new.held ≡ held_each (due self.new.accesses self.old.queue.items) self.old.held }
         ensures pages { AreHonest self.old.queue.items → KeepsPages S.size self.old self.new }
+        ensures sure { is_sure_at S.is_sure self.new ≡ is_sure_at S.is_sure self.old }
     {
         self.do_queued();
         self.hardware.load(addr as usize, out);
@@ -533,6 +547,7 @@ impl<S: SectorStore> Adapter for Model<S> {
         ensures stores { Stores addr bytes.now (device_at S.size S.told self.old) (device_at S.size S.told self.new) }
         ensures held { self.new.held ≡ held_each (due self.new.accesses self.old.queue.items) self.old.held }
         ensures pages { AreHonest self.old.queue.items → KeepsPages S.size self.old self.new }
+        ensures sure { is_sure_at S.is_sure self.new ≡ is_sure_at S.is_sure self.old }
     {
         self.do_queued();
         self.hardware.store(addr as usize, bytes);
@@ -555,19 +570,20 @@ impl<S: SectorStore> Stepped for Model<S> {
         ensures asked { result ≡ true → Asked s.now (device_at S.size S.told self.old) (device_at S.size S.told self.new) }
         ensures fetches { result ≡ false → (p : Port) (slot : Slot) (m : Meaning) (places : List ℕ) → s.now ≡ DeviceStep.Fetch p slot → p.0 < 4 → slot.0 < 32 →
             Takes m.operation → Can (Fetch p.0 slot.0 m places) (device_at S.size S.told self.old) → ⊥ }
-        ensures moves { result ≡ false → S.is_sure ≡ true → HasRoom self.old.hardware 1 → (device_at S.size S.told self.old).size ≤ 2 ^ 32 →
+        ensures moves { result ≡ false → is_sure_at S.is_sure self.old ≡ true → HasRoom self.old.hardware 1 → (device_at S.size S.told self.old).size ≤ 2 ^ 32 →
             (p : Port) (slot : Slot) (t : Taken) (bytes : List ℕ) → s.now ≡ DeviceStep.Move p slot → slot.0 < 32 →
             HasDisk p.0 t.meaning.operation → Can (Move p.0 slot.0 t bytes) (device_at S.size S.told self.old) → ⊥ }
         ensures dones { result ≡ false → HasRoom self.old.hardware 1 → (p : Port) (slot : Slot) (flag : ℕ) (t : Taken) →
             s.now ≡ DeviceStep.Done p slot → p.0 < 4 → slot.0 < 32 → Can (Done p.0 slot.0 flag t) (device_at S.size S.told self.old) → ⊥ }
-        ensures finishes { result ≡ true → S.is_sure ≡ true → (device_at S.size S.told self.old).size ≤ 2 ^ 32 →
+        ensures finishes { result ≡ true → is_sure_at S.is_sure self.old ≡ true → (device_at S.size S.told self.old).size ≤ 2 ^ 32 →
             (p : Port) (slot : Slot) → s.now ≡ DeviceStep.Finish p slot → IsFreeSlot ((device_at S.size S.told self.new).port p.0) slot.0 }
-        ensures ready { result ≡ false → S.is_sure ≡ true → (device_at S.size S.told self.old).size ≤ 2 ^ 32 →
+        ensures ready { result ≡ false → is_sure_at S.is_sure self.old ≡ true → (device_at S.size S.told self.old).size ≤ 2 ^ 32 →
             (p : Port) (slot : Slot) (left : ℕ) → s.now ≡ DeviceStep.Finish p slot → p.0 ≡ 0 → slot.0 < 32 → HasRoom self.old.hardware (left + 1) →
             IsReady (device_at S.size S.told self.old) p.0 slot.0 (S.size self.old.disk0) left → ⊥ }
         ensures queue { self.new.queue ≡ self.old.queue }
         ensures accesses { self.new.accesses ≡ self.old.accesses }
         ensures pages { IsHonest s.now → KeepsPages S.size self.old self.new }
+        ensures sure { is_sure_at S.is_sure self.new ≡ is_sure_at S.is_sure self.old }
         ensures lies { result ≡ true → (p : Port) (page : DiskPage) (offset bits : ℕ) → s.now ≡ DeviceStep.Lie p page offset bits → p.0 ≡ 0 →
             self.new.says ≡ record self.old.says { lies = lying self.old.says.lies offset bits } }
         ensures truth { (p : Port) → s.now ≡ DeviceStep.Truth p → p.0 ≡ 0 → self.new.says ≡ record self.old.says { lies = no_lies } }

@@ -1,7 +1,11 @@
 -- What a disk is that is a file or stands in memory (this project's own).
-use Rattle.std.specs.Prelude.{ℕ, List, [], Option, Some, None, length, slice_index_or}
+use Rattle.std.specs.Prelude.{ℕ, Bool, true, false, List, [], Option, Some, None, length, slice_index_or}
 use Rattle.sector_store.specs.declared.disks.Disk.{Disk}
 use Rattle.sector_store.specs.declared.disks.Disk.TheVariants.{File, Memory}
+
+abbrev pub is_in_memory : Disk → Bool
+is_in_memory (File file) = false
+is_in_memory (Memory memory) = true
 
 -- how many sectors there are
 abbrev pub size_of : Disk → ℕ

@@ -9,9 +9,10 @@ use std::os::unix::fs::FileExt;
 
 const SECTOR_BYTES: u64 = 512;
 
-/// The whole sectors that a file has when it is opened. It tells no sectors, since what a file holds isn't known from
-/// its calls; and any call may fail. Nothing is said of a file that others change or cut meanwhile: a sector that is no
-/// longer there isn't read, and a write may bring it back.
+/// The whole sectors that a file has when it is opened. The system's calls promise nothing of what a file holds, nor of
+/// where they read and write; so it tells no sectors, and any call may fail. Sector k begins at byte 512 k of the file.
+/// Others may change the file meanwhile, and then their bytes are read. Where they cut it, reads of the sectors that are gone
+/// fail, and a write to one makes the file longer again.
 #[derive(Drop)]
 pub struct FileStore {
     file: File,
@@ -64,7 +65,7 @@ impl SectorStore for FileStore {
 
     ghost told = { λ _. None };
 
-    ghost is_sure = { false };
+    ghost is_sure = { λ _. false };
 
     ghost tells_sectors = { λ _. tt };
 

@@ -4,8 +4,8 @@ ghost use Rattle.sector_store.specs.Stores.{AreSectors, HoldSectors, IsSector, r
 
 use std::alloc::{AllocError, Global};
 
-/// The sectors of a disk, by their numbers. A sector has 512 bytes. A call that answers `false` failed: it gave no
-/// sector, or changed none.
+/// The sectors of a disk, by their numbers. A sector has 512 bytes. A call that answers `false` failed: a read gave no
+/// sector; a write changed none where the store tells its sectors, and else may have changed a part of its own.
 pub trait SectorStore: Drop {
     /// How many sectors there are.
     ghost size: { Self → ℕ };
@@ -14,7 +14,7 @@ pub trait SectorStore: Drop {
     ghost told: { Self → Option (ℕ → List ℕ) };
 
     /// Whether no call on a sector that is there fails, as in memory.
-    ghost is_sure: { Bool };
+    ghost is_sure: { Self → Bool };
 
     /// How many sectors there are.
     fn sectors(&self) -> u64
@@ -26,7 +26,8 @@ pub trait SectorStore: Drop {
         ensures gives { result ≡ true → IfSome (told self.old) (λ told. out.new ≡ told sector) }
         ensures bytes { result ≡ true → IsSector out.new }
         ensures kept { result ≡ false → out.new ≡ out.old }
-        ensures sure { is_sure ≡ true → sector < size self.old → result ≡ true }
+        ensures sure { is_sure self.old ≡ true → sector < size self.old → result ≡ true }
+        ensures lasts { is_sure self.new ≡ is_sure self.old }
         ensures told { told self.new ≡ told self.old }
         ensures size { size self.new ≡ size self.old };
 
@@ -35,7 +36,8 @@ pub trait SectorStore: Drop {
         ensures inside { result ≡ true → sector < size self.old }
         ensures puts { result ≡ true → told self.new ≡ option_map (λ told. replaced told sector bytes.now) (told self.old) }
         ensures kept { result ≡ false → told self.new ≡ told self.old }
-        ensures sure { is_sure ≡ true → sector < size self.old → result ≡ true }
+        ensures sure { is_sure self.old ≡ true → sector < size self.old → result ≡ true }
+        ensures lasts { is_sure self.new ≡ is_sure self.old }
         ensures size { size self.new ≡ size self.old };
 
     /// What it tells are sectors.
@@ -71,7 +73,7 @@ impl SectorStore for MemStore {
 
     ghost told = { λ s. Some (λ k. slice_index_or s.sectors.items k []) };
 
-    ghost is_sure = { true };
+    ghost is_sure = { λ _. true };
 
     ghost tells_sectors = { λ s. s.are_sectors };
 

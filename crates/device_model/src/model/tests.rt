@@ -635,7 +635,7 @@ impl SectorStore for Failing {
 
     ghost told = { λ _. None };
 
-    ghost is_sure = { false };
+    ghost is_sure = { λ _. false };
 
     ghost tells_sectors = { λ _. tt };
 

@@ -5,7 +5,7 @@ use Rattle.adapter.specs.Device.{Device, Taken}
 use Rattle.adapter.specs.Asked.{DoesFetch, GoesOn}
 use Rattle.adapter.specs.declared.tape.Entry.{Entry}
 use Rattle.device_model.specs.Finishing.{HasMove, IsGoing, IsReady}
-use Rattle.device_model.specs.Modelled.{device_at, outside_at}
+use Rattle.device_model.specs.Modelled.{device_at, is_sure_at, outside_at}
 use Rattle.device_model.specs.Whole.{Outside, device_of}
 use Rattle.adapter.proofs.Absurd.{true-false, some-none, some_one}
 use Rattle.adapter.proofs.Going.{goes_one, goes_next}
@@ -32,6 +32,7 @@ loop-piece-init g c =
       accesses = refl;
       pages = keeps_tape g.S.SectorStore.size _ _ refl refl
           (ap (λ (v : Vec Entry). v.items) c.fetch-did.ensures.tape ∙ ap (λ (d : Device). d.tape) kept);
+      sure = refl;
       room =
           let P : Vec Entry → Type 0 = λ tape. vec_len tape + (c.in-Some.left + 1) ≤ vec_capacity tape in
           let enough = subst P (sym c.fetch-did.ensures.tape) (c.reserve.ensures.room c.if-not-reserve.false) in
@@ -56,6 +57,7 @@ loop-piece-preserved g c = let moved = c.move_piece.ensures.did c.if-not-move_pi
   queue = c.move_piece.ensures.queue ∙ c.loop-piece.invariant.queue;
   accesses = c.move_piece.ensures.accesses ∙ c.loop-piece.invariant.accesses;
   pages = keeps_on g.S.SectorStore.size _ _ _ c.loop-piece.invariant.pages c.move_piece.ensures.pages;
+  sure = c.move_piece.ensures.sure ∙ c.loop-piece.invariant.sure;
   room = c.move_piece.ensures.left _ (omega (arith, c.loop-piece.invariant.room, c.loop-piece-test.true));
   going =
       let P : ℕ → Type 0 = λ n. IsGoing (device_at g.S.SectorStore.size g.S.SectorStore.told c.loop-piece.self) c.args.port c.args.slot c.sectors-sectors.result n in
@@ -72,7 +74,7 @@ pub returns-then-not-move_piece-clause-refused : goal.returns-then-not-move_piec
 returns-then-not-move_piece-clause-refused g c = λ e. c.move_piece.ensures.refused c.if-not-move_piece.true ∙ c.loop-piece.invariant.refused e
 
 -- a move that is left is possible, so it isn't refused
-move_is_done : (g : Over) (c : goal.Then-not-move_piece g) → g.S.SectorStore.is_sure ≡ true →
+move_is_done : (g : Over) (c : goal.Then-not-move_piece g) → is_sure_at g.S.SectorStore.is_sure c.args.self.now ≡ true →
     (device_at g.S.SectorStore.size g.S.SectorStore.told c.args.self.now).size ≤ 2 ^ 32 → ⊥
 move_is_done g c sure small =
     let m = c.loop-piece.self in
@@ -88,7 +90,7 @@ move_is_done g c sure small =
     let zero : c.args.port ≡ 0 = c.if-port-ne0.false in
     let here : IsGoing d 0 c.args.slot size (suc left) = subst R zero going in
     let found = subst S (sym zero) (here.t, going_has_move d 0 c.args.slot left refl here) in
-    c.move_piece.ensures.only c.if-not-move_piece.true sure (omega (arith, c.loop-piece.invariant.room)) (omega (arith, c.loop-piece.invariant.size, small))
+    c.move_piece.ensures.only c.if-not-move_piece.true (c.loop-piece.invariant.sure ∙ sure) (omega (arith, c.loop-piece.invariant.room)) (omega (arith, c.loop-piece.invariant.size, small))
     found.0 found.1
 
 pub returns-then-not-move_piece-clause-ends : goal.returns-then-not-move_piece-clause-ends

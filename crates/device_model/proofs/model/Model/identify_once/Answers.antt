@@ -17,6 +17,7 @@ loop-slot-init g c = record {
   others = λ port _. refl;
   alone = λ _. refl;
   pages = keeps_tape g.S.SectorStore.size _ _ refl refl refl;
+  sure = refl;
   held = refl;
   queue = refl;
   accesses = refl;
@@ -39,12 +40,13 @@ loop-slot-preserved g c =
                 let has = c.has_identify.ensures.has w.if-has_identify.true (outside_at g.S.SectorStore.size g.S.SectorStore.told c.loop-slot.self) in
                 absurd (none c.loop-slot.slot (subst P (is.alone none) has));
             pages = keeps_on g.S.SectorStore.size _ _ _ is.pages f.pages;
+            sure = f.sure ∙ is.sure;
             held = f.held ∙ is.held;
             queue = f.queue ∙ is.queue;
             accesses = f.accesses ∙ is.accesses;
           })
       | else-has_identify w ↦
-          rw w.self-is (record { steps = is.steps; settled = is.settled; others = is.others; alone = is.alone; pages = is.pages; held = is.held; queue = is.queue; accesses = is.accesses })
+          rw w.self-is (record { steps = is.steps; settled = is.settled; others = is.others; alone = is.alone; pages = is.pages; sure = is.sure; held = is.held; queue = is.queue; accesses = is.accesses })
     ]
 
 pub returns-clause-steps : goal.returns-clause-steps

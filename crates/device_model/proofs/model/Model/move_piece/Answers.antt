@@ -1,5 +1,5 @@
 use Rattle.std.specs.Prelude.{map}
-use Rattle.std.proofs.Common.{refl, ◌++◌, ℕ, true, ◌≡◌, ◌<◌, ◌∙◌, ◌+◌, ◌∷◌, [], List, length, sym, ap, subst, arith}
+use Rattle.std.proofs.Common.{refl, ◌++◌, ℕ, Bool, true, false, ◌&&◌, ◌≡◌, ◌<◌, ◌∙◌, ◌+◌, ◌∷◌, [], List, length, sym, ap, subst, arith}
 use Rattle.adapter.proofs.Absurd.{some_one, true-false}
 use Rattle.adapter.specs.Device.{Device, Disk}
 use Rattle.adapter.specs.Commands.{is_ranged}
@@ -55,6 +55,11 @@ returns-then-not-exchange-clause-refused g c = λ _.
     (λ i. device_of c.reserve.new.self (outside_of (first_disk (c.exchange.ensures.size i) (kept i)) (g.S.SectorStore.told m.disk1) was))
     ∙ c.reserve.ensures.same o
 
+-- the first of two that both hold
+first_holds : (a b : Bool) → a && b ≡ true → a ≡ true
+first_holds true b both = refl
+first_holds false b both = both
+
 pub returns-then-not-exchange-clause-only : goal.returns-then-not-exchange-clause-only
 returns-then-not-exchange-clause-only g c = λ _ sure room small t move.
     let m = c.args.self.now in
@@ -68,7 +73,7 @@ returns-then-not-exchange-clause-only g c = λ _ sure room small t move.
     λ (ranged : is_ranged (operation_of c.in-Some.next.transfer) ≡ true).
     let at = found.on_disk (sym (ap (λ (k : Transfer). is_ranged (operation_of k)) kind) ∙ ranged) in
     omega (arith, sector, at) in
-    true-false (c.exchange.ensures.sure sure there) c.if-not-exchange.true
+    true-false (c.exchange.ensures.sure (first_holds _ _ sure) there) c.if-not-exchange.true
 
 pub returns-then-not-exchange-clause-left : goal.returns-then-not-exchange-clause-left
 returns-then-not-exchange-clause-left g c = λ n room. let kept = c.reserve.ensures.kept (n + 1) room in omega (arith, kept)
