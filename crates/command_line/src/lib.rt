@@ -117,8 +117,8 @@ impl Args {
     }
 
     /// Reads the words of `blockd --config FILE --image FILE --script FILE [--trace]`, the program's name first. Words
-    /// are refused exactly where `clap` finds a fault in them under this command: a file is missing or named twice, a
-    /// word is unknown or too many, or help is asked for.
+    /// are refused exactly where `clap` finds a fault in them under this command: a file is missing, a file or the flag is
+    /// given twice, the flag has a value, a word is unknown or too many, or help is asked for.
     pub fn read(alloc: Global, words: &[&str]) -> Result<Args, ArgsFault>
         ensures ok { IfOk result (AreGiven (map (λ word. word.now) words.now)) }
         ensures refused { result ≡ Err ArgsFault.Refused

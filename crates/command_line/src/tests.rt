@@ -28,47 +28,49 @@ fn words_are_read(rt: HostRuntime) -> Result<(), Fail> {
     Ok(())
 }
 
+/// Words that are no command line.
+const REFUSED: [&[&str]; 14] = [
+    &[],
+    &["blockd"],
+    &["blockd", "--help"],
+    &["blockd", "a", "b", "c"],
+    &["blockd", "--config", "a", "--image", "b"],
+    &["blockd", "--config", "a", "--script", "c"],
+    &["blockd", "--image", "b", "--script", "c", "--trace"],
+    &["blockd", "--config", "a", "--image", "b", "--script"],
+    // A word too many, and an option that is unknown.
+    &[
+        "blockd", "--config", "a", "--image", "b", "--script", "c", "d",
+    ],
+    &[
+        "blockd", "--config", "a", "--image", "b", "--script", "c", "--quiet",
+    ],
+    // A file or the flag given twice.
+    &[
+        "blockd", "--config", "a", "--image", "b", "--script", "c", "--image", "b",
+    ],
+    &[
+        "blockd",
+        "--config=a",
+        "--image=b",
+        "--script=c",
+        "--trace",
+        "--trace",
+    ],
+    // A flag has no value, and a value that begins with a dash stands behind `=`.
+    &[
+        "blockd",
+        "--config=a",
+        "--image=b",
+        "--script=c",
+        "--trace=yes",
+    ],
+    &["blockd", "--config", "-a", "--image", "b", "--script", "c"],
+];
+
 #[test]
 fn other_words_are_refused(rt: HostRuntime) -> Result<(), Fail> {
-    let refused: [&[&str]; 14] = [
-        &[],
-        &["blockd"],
-        &["blockd", "--help"],
-        &["blockd", "a", "b", "c"],
-        &["blockd", "--config", "a", "--image", "b"],
-        &["blockd", "--config", "a", "--script", "c"],
-        &["blockd", "--image", "b", "--script", "c", "--trace"],
-        &["blockd", "--config", "a", "--image", "b", "--script"],
-        // A word too many, and an option that is unknown.
-        &[
-            "blockd", "--config", "a", "--image", "b", "--script", "c", "d",
-        ],
-        &[
-            "blockd", "--config", "a", "--image", "b", "--script", "c", "--quiet",
-        ],
-        // A file or the flag given twice.
-        &[
-            "blockd", "--config", "a", "--image", "b", "--script", "c", "--image", "b",
-        ],
-        &[
-            "blockd",
-            "--config=a",
-            "--image=b",
-            "--script=c",
-            "--trace",
-            "--trace",
-        ],
-        // A flag has no value, and a value that begins with a dash stands behind `=`.
-        &[
-            "blockd",
-            "--config=a",
-            "--image=b",
-            "--script=c",
-            "--trace=yes",
-        ],
-        &["blockd", "--config", "-a", "--image", "b", "--script", "c"],
-    ];
-    for words in refused {
+    for words in REFUSED {
         assert_eq!(rt;
             read(rt.alloc(), words),
             Err(ArgsFault::Refused),

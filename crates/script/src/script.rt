@@ -17,7 +17,7 @@ pub struct Numbered {
 #[derive(Clone, Copy, Debug, PartialEq, Eq, Error)]
 pub enum ScriptFault {
     /// The first line that is spelled as none has this number.
-    #[error("line {0} of the script is bad")]
+    #[error("line {0}: bad")]
     BadLine(u64),
     /// Memory for the lines was refused.
     #[error("no memory")]

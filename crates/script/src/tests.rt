@@ -294,6 +294,15 @@ fn printed_otherwise<'a>(
 }
 
 #[test]
+fn faults_have_texts(rt: HostRuntime) -> Result<(), AllocError> {
+    let bad = format!(in rt.alloc(); "{}", ScriptFault::BadLine(2))?;
+    assert_eq!(rt; bad.as_str(), "line 2: bad");
+    let no_memory = format!(in rt.alloc(); "{}", ScriptFault::NoMemory)?;
+    assert_eq!(rt; no_memory.as_str(), "no memory");
+    Ok(())
+}
+
+#[test]
 fn refusals_are_printed(rt: HostRuntime) -> Result<(), AllocError> {
     for (refusal, want) in [
         (Refusal::Rule(Rule::NoGrant), "refused 1 NoGrant"),
