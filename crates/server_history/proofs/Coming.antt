@@ -75,7 +75,7 @@ turn_serves port busy reply old new t = by_then (looks_serve port t.look old t.s
 
 turns_serve : (book : List Pending) (port : ℕ) (found : List Found) (replies : List Reply) (old new : Device) → HaveTurns book port found replies old new → IsDrivenBy IsService old new
 turns_serve book port [] replies old new t = subst (IsDrivenBy IsService old) (sym t.1) (by_none IsService old)
-turns_serve book port (Ready info ∷ found) replies old new (mid, busy, reply, later, is, none, turn, more) =
+turns_serve book port (Ready info ∷ found) replies old new (mid, busy, reply, later, is, none, issued, turn, more) =
     by_then (turn_serves (port_at port) busy reply old mid turn) (turns_serve book (port + 1) found later mid new more)
 turns_serve book port (Unserved ∷ found) replies old new t = turns_serve book (port + 1) found replies old new t
 turns_serve book port (Unready state ∷ found) replies old new t = turns_serve book (port + 1) found replies old new t

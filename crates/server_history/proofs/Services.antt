@@ -47,9 +47,9 @@ use Rattle.request_book.specs.Machine.{IsBook, IsEntry}
 use Rattle.request_book.specs.declared.book.Accepted.{Accepted}
 use Rattle.request_book.proofs.Due.{none_due}
 use Rattle.request_book.proofs.Ending.{other_first}
-use Rattle.request_book.proofs.Standing.{at_right, first_is}
+use Rattle.request_book.proofs.Standing.{at_left, at_right, first_is}
 use Rattle.request_book.proofs.Stepping.{Stands as StandsIn, has_first, same_some}
-use Rattle.server_history.specs.Histories.{Adds, Begins, GoesWell, HasNone, HaveTurns, Leads, Ties, no_evidence, reply_list}
+use Rattle.server_history.specs.Histories.{Adds, Begins, GoesWell, HasNone, HaveTurns, IsOfIssued, Leads, Ties, no_evidence, reply_list}
 use Rattle.server_history.specs.Served.{AnswersBy, AnswersFirst, IssuesOnly, SameSettings, ServePorts, ServesPort, done_reply}
 use Rattle.server_history.specs.Server.{Server, IsKept, IsMachineOf, IsUseOf, plain_mode, ports_of, state_of}
 use Rattle.server_history.proofs.Coming.{turn_serves}
@@ -411,18 +411,46 @@ rest_none port other book apart none = ⊎_elim
     (λ (is : has_of other book ≡ false). is)
     (cases_Bool (has_of other book))
 
--- what the book says of ports from one on: where one has no request in it, it had none
-abbrev HadNone : List Pending → ℕ → List Accepted → Type 0
-HadNone pending n book = (q : ℕ) → n ≤ q → has_of (port_at q) book ≡ false → HasNone pending (port_at q)
+-- what the book says of ports from one on: where one has no request in it, it had none; and its first was issued on it
+record Had (pending : List Pending) (n : ℕ) (book : List Accepted) : Type 0 where
+  none : (q : ℕ) → n ≤ q → has_of (port_at q) book ≡ false → HasNone pending (port_at q)
+  first : (q : ℕ) (e : Accepted) (reply : Reply) → n ≤ q → first_of (port_at q) book ≡ Some e → reply.id ≡ e.id → IsOfIssued pending (port_at q) (Some reply)
 
-had_none_on : (pending : List Pending) (n : ℕ) (reply : Option Reply) (old mid : Server) → HadNone pending n old.book → AnswersFirst (port_at n) reply old mid → HadNone pending (n + 1) mid.book
-had_none_on pending n None old mid had answers q most none =
-    had q (omega (arith, most)) (subst (λ (book : List Accepted). has_of (port_at q) book ≡ false) answers.0 none)
-had_none_on pending n (Some reply) old mid had answers q most none =
-    had q (omega (arith, most)) (rest_none (port_at n) (port_at q) old.book (λ same. absurd (omega (arith, most, same))) (subst (λ (book : List Accepted). has_of (port_at q) book ≡ false) answers.3 none))
+-- a port's first request is issued in the machine's book
+first_there : (book : List Accepted) (m : Machine) → IsBook book m.book → (port : Port) (e : Accepted) (reply : Reply) → first_of port book ≡ Some e → reply.id ≡ e.id → IsOfIssued m.book port (Some reply)
+first_there book m is port e reply first same =
+    let here = first_is port book e first in
+    let q = at_left (StandsIn (λ _. true) book) book m.book is e here.0 in
+    let leads = ap (λ (p : Port). first_of p book) here.1 ∙ first in
+    (q.0, q.1, q.2.0.port ∙ here.1, q.2.1.1 (refl, leads), q.2.0.id ∙ sym same)
+
+-- and of those from the next on
+had_past : (pending : List Pending) (n : ℕ) (book : List Accepted) → Had pending n book → Had pending (n + 1) book
+had_past pending n book had = record {
+  none = λ q most. had.none q (omega (arith, most));
+  first = λ q e reply most. had.first q e reply (omega (arith, most));
+}
+
+had_on : (pending : List Pending) (n : ℕ) (reply : Option Reply) (old mid : Server) → Had pending n old.book → AnswersFirst (port_at n) reply old mid → Had pending (n + 1) mid.book
+had_on pending n None old mid had answers = record {
+  none = λ q most none. had.none q (omega (arith, most)) (subst (λ (book : List Accepted). has_of (port_at q) book ≡ false) answers.0 none);
+  first = λ q e reply most first. had.first q e reply (omega (arith, most)) (subst (λ (book : List Accepted). first_of (port_at q) book ≡ Some e) answers.0 first);
+}
+had_on pending n (Some reply) old mid had answers = record {
+  none = λ q most none.
+      had.none q (omega (arith, most)) (rest_none (port_at n) (port_at q) old.book (λ same. absurd (omega (arith, most, same))) (subst (λ (book : List Accepted). has_of (port_at q) book ≡ false) answers.3 none));
+  first = λ q e reply most first.
+      had.first q e reply (omega (arith, most))
+      (sym (other_first (port_at n) (port_at q) old.book (λ same. absurd (omega (arith, most, same)))) ∙ subst (λ (book : List Accepted). first_of (port_at q) book ≡ Some e) answers.3 first);
+}
+
+-- who is answered in a turn had been issued
+answered_issued : (pending : List Pending) (n : ℕ) (reply : Option Reply) (old mid : Server) → Had pending n old.book → AnswersFirst (port_at n) reply old mid → IsOfIssued pending (port_at n) reply
+answered_issued pending n None old mid had answers = tt
+answered_issued pending n (Some reply) old mid had answers = had.first n answers.0 reply (omega arith) answers.1 (ap (λ (r : Reply). r.id) answers.2)
 
 -- so each ready port had its turn
-had_turns : (pending : List Pending) (found : List Found) (n : ℕ) (old new : Server) (replies : List Reply) → HadNone pending n old.book → ServePorts n found replies old new
+had_turns : (pending : List Pending) (found : List Found) (n : ℕ) (old new : Server) (replies : List Reply) → Had pending n old.book → ServePorts n found replies old new
     → HaveTurns pending n found replies old.device new.device
 had_turns pending [] n old new replies had serves = (serves.0, ap (λ (x : Server). x.device) serves.1)
 had_turns pending (Ready info ∷ found) n old new replies had (mid, reply, later, is, next, serves, more) = (
@@ -431,12 +459,13 @@ had_turns pending (Ready info ∷ found) n old new replies had (mid, reply, late
   reply,
   later,
   is,
-  had n (omega arith),
+  had.none n (omega arith),
+  answered_issued pending n reply old mid had serves.answers,
   serves.turn,
-  had_turns pending found (n + 1) mid new later (had_none_on pending n reply old mid had serves.answers) more,
+  had_turns pending found (n + 1) mid new later (had_on pending n reply old mid had serves.answers) more,
 )
-had_turns pending (Unserved ∷ found) n old new replies had serves = had_turns pending found (n + 1) old new replies (λ q most. had q (omega (arith, most))) serves
-had_turns pending (Unready state ∷ found) n old new replies had serves = had_turns pending found (n + 1) old new replies (λ q most. had q (omega (arith, most))) serves
+had_turns pending (Unserved ∷ found) n old new replies had serves = had_turns pending found (n + 1) old new replies (had_past pending n old.book had) serves
+had_turns pending (Unready state ∷ found) n old new replies had serves = had_turns pending found (n + 1) old new replies (had_past pending n old.book had) serves
 
 module _ (s new : Server) (replies : List Reply) (kept : IsKept s) (serves : ServePorts 0 s.ports replies s new) (first : Instant Device) (past : List (Happening Device DeviceStep)) (leads : Leads first past s) where
   abbrev old : Moment
@@ -510,7 +539,10 @@ module _ (s new : Server) (replies : List Reply) (kept : IsKept s) (serves : Ser
   pub service_event : (h : Happening Device DeviceStep) × (h.event.ask ≡ Service) × (h.event.said ≡ Served replies) × Leads first (h ∷ past) new
   service_event = subst (λ (x : Server). (h : Happening Device DeviceStep) × (h.event.ask ≡ Service) × (h.event.said ≡ Served replies) × Leads first (h ∷ past) x) (sym p.same)
       (lead_by first past s later Service (Served replies) p.steps refl refl leads
-      p.turns.may p.turns.belong p.turns.last p.turns.lawful all_answered (had_turns old.machine.book s.ports 0 s new replies (λ q most none. none_there s.book old.machine at.book (port_at q) none) serves) holds.on holds.behind heeds p.backed stands)
+      p.turns.may p.turns.belong p.turns.last p.turns.lawful all_answered (had_turns old.machine.book s.ports 0 s new replies (record {
+        none = λ q most. none_there s.book old.machine at.book (port_at q);
+        first = λ q e reply most. first_there s.book old.machine at.book (port_at q) e reply;
+      }) serves) holds.on holds.behind heeds p.backed stands)
 
 pub services_add : (s new : Server) (replies : List Reply) → IsKept s → ServePorts 0 s.ports replies s new → Adds s new Service (Served replies)
 services_add s new replies kept serves = record { adds = λ first past leads. service_event s new replies kept serves first past leads }

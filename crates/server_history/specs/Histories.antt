@@ -96,7 +96,7 @@ reply_list None = []
 reply_list (Some reply) = reply ∷ []
 
 -- PxCI and PxSACT were read. Where slot 0's bit was set in one of them, nobody was answered, and that was all. Where it was clear in both,
--- a request was answered (which one, the machine's steps say); of accesses, only those followed that issue a request of the port's, if any.
+-- a request was answered; of accesses, only those followed that issue a request of the port's, if any.
 pub record Checks (port : Port) (reply : Option Reply) (old new : Device) : Type 0 where
   pub done : Bool
   pub read : Device
@@ -117,13 +117,19 @@ pub record HasTurn (port : Port) (busy : Bool) (reply : Option Reply) (old new :
 abbrev pub HasNone : List Pending → Port → Type 0
 HasNone book port = (e : Pending) → Contains book e → e.request.port ≢ port
 
+-- who is answered in a port's turn, if anybody: a request of the port's that was issued
+abbrev pub IsOfIssued : List Pending → Port → Option Reply → Type 0
+IsOfIssued book port None = Unit {0}
+IsOfIssued book port (Some reply) = (e : Pending) × Contains book e × (e.request.port ≡ port) × (e.issued ≡ true) × (e.request.id ≡ reply.id)
+
 -- Each of these ports that was found ready had its turn, one after another; the first of them has this number. One that took no request
--- for its own had none in this book.
+-- for its own had none in this book; and who was answered had been issued on the port.
 abbrev pub HaveTurns : List Pending → ℕ → List Found → List Reply → Device → Device → Type 0
 HaveTurns book port [] replies old new = (replies ≡ []) × (new ≡ old)
 HaveTurns book port (Ready info ∷ rest) replies old new =
     (mid : Device) × (busy : Bool) × (reply : Option Reply) × (later : List Reply) × (replies ≡ reply_list reply ++ later)
-    × (busy ≡ false → HasNone book (port_at port)) × HasTurn (port_at port) busy reply old mid × HaveTurns book (port + 1) rest later mid new
+    × (busy ≡ false → HasNone book (port_at port)) × IsOfIssued book (port_at port) reply × HasTurn (port_at port) busy reply old mid
+    × HaveTurns book (port + 1) rest later mid new
 HaveTurns book port (found ∷ rest) replies old new = HaveTurns book (port + 1) rest replies old new
 
 -- What was done in a call, from a machine with these requests and grants. The device did what it was told; in a service, each ready port
