@@ -1,39 +1,91 @@
-//! `blockd`: a client reads eight sectors of a modelled disk, and asks for a grant that it doesn't have.
+//! `blockd --config FILE --image FILE --script FILE [--trace]`: a script, played against a block server over a modelled adapter.
 //!
-//! Sector k of the disk holds the byte k alone. Each line tells what one call answered.
+//! The disk of the adapter's port 0 is the image. What the lines of the script answer is printed; where it can't be played, a line on
+//! standard error says why.
 #![tactic(auto)]
 
-use std::io;
+use command_line::{Args, ArgsFault};
+use fault::{Fault, outcome};
+use play::play;
+use sector_store::{Disk, FileStore, MemStore};
+use std::fs::{self, File, Files};
+use std::io::{self, BufWriter, Write};
 use std::process::ExitCode;
+use std::rt::Env;
+use std::{env, str};
 
 #[cfg(test)]
 mod boots;
-mod making;
-mod session;
-mod told;
+mod fault;
 #[cfg(test)]
 mod waits;
 #[cfg(test)]
 mod watched;
 
-use making::Fault;
-use session::answers;
-use told::tell;
+/// The sectors of the blank disk.
+const BLANK_SECTORS: u32 = 2048;
 
-fn run(rt: &(impl AllocGlobal + Print)) -> Result<io::Result<()>, Fault> {
-    let said = answers(rt.alloc())?;
-    Ok(tell(&mut io::writer(rt), said.as_slice()))
+/// Want of memory, where that is the error, or else this fault.
+fn unless_memory(error: &io::Error, fault: Fault) -> Fault {
+    if error.kind() == io::ErrorKind::OutOfMemory {
+        Fault::NoMemory
+    } else {
+        fault
+    }
+}
+
+/// What the words of the command line ask.
+fn words(rt: &(impl Env + AllocGlobal)) -> Result<Args, Fault> {
+    // Words that are no text aren't a command line either.
+    let words = env::args(rt).map_err(|error| unless_memory(&error, Fault::CommandLine))?;
+    let words: Vec<String> = words.collect(rt.alloc())?;
+    let texts: Vec<&str> = words.iter().map(|word| word.as_str()).collect(rt.alloc())?;
+    Args::read(rt.alloc(), texts.as_slice()).map_err(|fault| match fault {
+        ArgsFault::Refused => Fault::CommandLine,
+        ArgsFault::NoMemory => Fault::NoMemory,
+    })
+}
+
+fn run(rt: &(impl Env + AllocGlobal + Files<File = File> + Print)) -> Result<(), Fault> {
+    let args = words(rt)?;
+    let config = fs::read(rt, args.config.as_str()).map_err(|error| unless_memory(
+        &error,
+        Fault::Config(0),
+    ))?;
+    let script = fs::read(rt, args.script.as_str()).map_err(|error| unless_memory(
+        &error,
+        Fault::Script,
+    ))?;
+    let image = FileStore::open(rt, args.image.as_str()).map_err(|error| unless_memory(
+        &error,
+        Fault::Image,
+    ))?;
+    let blank = MemStore::new(rt.alloc(), BLANK_SECTORS)?;
+    let mut out = BufWriter::new(rt.alloc(), io::writer(rt)).map_err(|error| unless_memory(
+        &error,
+        Fault::Unwritten,
+    ))?;
+    let ended = play(
+        rt.alloc(),
+        config.as_slice(),
+        script.as_slice(),
+        Disk::File(image),
+        Disk::Memory(blank),
+        args.trace,
+        &mut out,
+    );
+    let flushed = out.flush();
+    outcome(ended)?;
+    flushed.map_err(|_error| Fault::Unwritten)
 }
 
 fn main(rt: HostRuntime) -> ExitCode {
     match run(&rt) {
-        Ok(Ok(())) => ExitCode::SUCCESS,
-        Ok(Err(_)) => ExitCode::FAILURE,
-        Err(Fault::NoMemory) => match eprintln!(rt; "blockd: no memory") {
-            Ok(()) | Err(_) => ExitCode::FAILURE,
-        },
-        Err(Fault::BadConfig(kind)) => match eprintln!(rt; "blockd: {kind}") {
-            Ok(()) | Err(_) => ExitCode::FAILURE,
-        },
+        Ok(()) => ExitCode::SUCCESS,
+        Err(fault) => {
+            // Where standard error fails, too, the status says what it can.
+            let _told = fault.tell(&rt);
+            ExitCode::from(fault.status())
+        }
     }
 }

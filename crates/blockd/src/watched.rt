@@ -1,19 +1,52 @@
 // What a server does to its adapter, seen through one that watches.
 ghost use Rattle.std.specs.Prelude.{◌≡◌, IfOk};
+ghost use Rattle.block_server.specs.Made.{IsReadyFor};
 ghost use Rattle.configuration.specs.Rules.{IsSound};
 
 use crate::boots::lie;
-use crate::making::new_model;
-use crate::session::{CONFIGURATION, read};
 use adapter::Adapter;
-use ata_types::{Op, Port, PortState, Refusal, Request, RequestId};
+use arrayvec::ArrayVec;
+use ata_types::{ClientId, Frame, Op, Port, PortState, Refusal, Request, RequestId, Sector};
 use block_server::{Server, ServerError};
 use configuration::{ClientConfig, Config, GrantConfig, Kind, PortConfig};
 use device_model::{Model, ModelConfig, Trim};
 use hba_regs::Reg;
+use play::new_model;
 use sector_store::MemStore;
 use std::alloc::Global;
 use std::test::Fail;
+
+/// Client 1 owns frames 40 to 79, and may read and write sectors 100 to 163; client 2 owns frames 80 to 119, and may read sectors 140 to 199.
+const CONFIGURATION: &str = "frames = 256
+slots = 1
+ncq = false
+depth = 1
+trim = \"full\"
+[[port]]
+number = 0
+[[client]]
+id = 1
+first_frame = 40
+frames = 40
+[[client]]
+id = 2
+first_frame = 80
+frames = 40
+[[grant]]
+client = 1
+number = 0
+port = 0
+first = 100
+count = 64
+rights = \"rw\"
+[[grant]]
+client = 2
+number = 0
+port = 0
+first = 140
+count = 60
+rights = \"r\"
+";
 
 /// As many frames as there may be.
 const LARGE: ModelConfig = ModelConfig {
@@ -78,7 +111,30 @@ impl<A: Adapter> Adapter for Watched<A> {
     ghost tells = { λ w. A.tells w.adapter };
 }
 
-/// The values of the program's text.
+/// The model that the configuration asks for, with a disk of 256 sectors in port 0.
+fn model_of(alloc: Global, config: &Config) -> Result<Model<MemStore>, Fail>
+    requires { IsSound config.now }
+    ensures { IfOk result (λ m. IsReadyFor config.now (⟦<Model<MemStore> as Adapter>⟧.device m)) }
+{
+    let image = MemStore::new(alloc, 256)?;
+    Ok(new_model(alloc, config, image, MemStore::new(alloc, 0)?)?)
+}
+
+/// Client 1's read into one frame, by its grant.
+fn read(first: u64, count: u32, frame: u16) -> Request {
+    let mut frames = ArrayVec::new();
+    frames.push(Frame(frame));
+    Request {
+        client: ClientId(1),
+        grant: 0,
+        op: Op::Read,
+        first: Sector(first),
+        count,
+        frames,
+    }
+}
+
+/// The values of the text.
 fn config(alloc: Global) -> Result<Config, Fail>
     ensures { IfOk result IsSound }
 {
@@ -150,7 +206,7 @@ fn a_bad_configuration_makes_no_access(rt: HostRuntime) -> Result<(), Fail> {
 #[test]
 fn a_disk_ends_where_its_page_says(rt: HostRuntime) -> Result<(), Fail> {
     let config = config(rt.alloc())?;
-    let mut model = new_model(rt.alloc(), &config)?;
+    let mut model = model_of(rt.alloc(), &config)?;
     lie(&mut model, 510, 0x01);
     lie(&mut model, 200, 0x80);
     lie(&mut model, 201, 0x01);
@@ -159,8 +215,8 @@ fn a_disk_ends_where_its_page_says(rt: HostRuntime) -> Result<(), Fail> {
     };
     let mut server = server;
     let state = server.state(Port(0));
-    let beyond = server.submit(&read(0, 121, 8, 40));
-    let within = server.submit(&read(0, 120, 8, 40));
+    let beyond = server.submit(&read(121, 8, 40));
+    let within = server.submit(&read(120, 8, 40));
     let _model = server.close();
     assert_eq!(rt; state, PortState::Ready);
     assert_eq!(rt; beyond, Err(Refusal::OutsideDisk));
@@ -171,7 +227,7 @@ fn a_disk_ends_where_its_page_says(rt: HostRuntime) -> Result<(), Fail> {
 /// The first bytes of memory once the request is issued.
 fn stored(alloc: Global, request: &Request) -> Result<[u8; LOW], Fail> {
     let config = config(alloc)?;
-    let watched = Watched::new(new_model(alloc, &config)?);
+    let watched = Watched::new(model_of(alloc, &config)?);
     let Ok(server) = Server::new(alloc, &config, watched) else {
         return Err(Fail::from("no server"));
     };
@@ -186,7 +242,7 @@ fn stored(alloc: Global, request: &Request) -> Result<[u8; LOW], Fail> {
 
 #[test]
 fn a_read_stands_in_memory(rt: HostRuntime) -> Result<(), Fail> {
-    let low = stored(rt.alloc(), &read(0, 100, 8, 40))?;
+    let low = stored(rt.alloc(), &read(100, 8, 40))?;
     assert_eq!(rt;
         &low[..16],
         &[5, 0, 1, 0, 0, 0, 0, 0, 0, 0x10, 0, 0, 0, 0, 0, 0][..]
@@ -206,7 +262,7 @@ fn a_read_stands_in_memory(rt: HostRuntime) -> Result<(), Fail> {
 
 #[test]
 fn a_write_stands_in_memory(rt: HostRuntime) -> Result<(), Fail> {
-    let mut request = read(0, 100, 3, 41);
+    let mut request = read(100, 3, 41);
     request.op = Op::Write;
     let low = stored(rt.alloc(), &request)?;
     assert_eq!(rt;

@@ -1,0 +1,170 @@
+// The accesses that calls make, as a table.
+use crate::counted::{Counted, Counts};
+use adapter::DeviceStep;
+use arrayvec::ArrayVec;
+use ata_types::{ClientId, Frame, Op, Port, Request, Sector, Slot};
+use block_server::Server;
+use configuration::Config;
+use device_model::Model;
+use play::new_model;
+use sector_store::MemStore;
+use std::alloc::Global;
+use std::io;
+
+const CONFIGURATION: &str = "frames = 256
+slots = 32
+ncq = true
+depth = 32
+trim = \"full\"
+[[port]]
+number = 0
+[[client]]
+id = 1
+first_frame = 40
+frames = 40
+[[grant]]
+client = 1
+number = 0
+port = 0
+first = 0
+count = 256
+rights = \"rw\"
+";
+
+/// The sectors of the disk.
+const SECTORS: u32 = 256;
+
+/// As many requests as a client may have unanswered.
+const MOST: u16 = 16;
+
+/// The first frame of the client.
+const FIRST: u16 = 40;
+
+/// A server whose accesses are counted.
+type Served = Server<Counted<Model<MemStore>>>;
+
+/// Reads or writes eight sectors from sector 0 on. `None` if it is refused.
+fn transfer(server: &mut Served, op: Op, frame: u16) -> Option<()> {
+    let mut frames = ArrayVec::new();
+    frames.push(Frame(frame));
+    let request = Request {
+        client: ClientId(1),
+        grant: 0,
+        op,
+        first: Sector(0),
+        count: 8,
+        frames,
+    };
+    server.submit(&request).ok()?;
+    Some(())
+}
+
+/// Has the disk do what is issued, and asks the server for replies: `None` if there aren't this many.
+fn answer(server: &mut Served, replies: usize) -> Option<()> {
+    let _done = server.device(&DeviceStep::Finish(Port(0), Slot(0)));
+    (server.service().len() == replies).then_some(())
+}
+
+/// A table of calls and of the accesses that each makes.
+#[derive(Drop)]
+struct Table<'a, W> {
+    out: &'a mut W,
+    /// Those that stand in the rows above.
+    told: Counts,
+}
+
+impl<W: io::Write> Table<'_, W> {
+    /// A row of these calls: the accesses since the row above.
+    fn row(&mut self, calls: &str, server: &Served) -> Option<()> {
+        let counts = server.adapter().counts;
+        let Counts {
+            reads,
+            writes,
+            stores,
+            loads,
+        } = counts.since(self.told);
+        self.told = counts;
+        writeln!(
+            self.out,
+            "{calls} | {reads} | {writes} | {stores} | {loads}"
+        )
+        .ok()
+    }
+}
+
+/// Calls that go one after another, each for itself.
+fn each<W: io::Write>(server: &mut Served, table: &mut Table<'_, W>) -> Option<()> {
+    table.row("a server is made, and a port with a disk is booted", server)?;
+    answer(server, 0)?;
+    table.row("a service, nothing is asked", server)?;
+    transfer(server, Op::Read, FIRST)?;
+    table.row("a read of 8 sectors, which is issued", server)?;
+    transfer(server, Op::Write, FIRST + 1)?;
+    table.row("a write of 8 sectors, which waits", server)?;
+    let _none = server.service();
+    table.row("a service, nothing is done", server)?;
+    answer(server, 1)?;
+    table.row("a service, which answers one and issues the next", server)?;
+    answer(server, 1)?;
+    table.row("a service, which answers the last", server)?;
+    let mut bytes = [0u8; 64];
+    server
+        .client_load(ClientId(1), Frame(FIRST), 0, &mut bytes)
+        .ok()?;
+    table.row("a load of 64 bytes", server)?;
+    server
+        .client_store(ClientId(1), Frame(FIRST), 0, &bytes)
+        .ok()?;
+    table.row("a store of 64 bytes", server)
+}
+
+/// As many reads as there may be, each answered before the next is asked, and then all asked before the first is answered.
+fn many<W: io::Write>(server: &mut Served, table: &mut Table<'_, W>) -> Option<()> {
+    for place in 0..MOST {
+        transfer(server, Op::Read, FIRST + place)?;
+        answer(server, 1)?;
+    }
+    table.row("16 reads of 8 sectors, one after another", server)?;
+    for place in 0..MOST {
+        transfer(server, Op::Read, FIRST + place)?;
+    }
+    for _ in 0..MOST {
+        answer(server, 1)?;
+    }
+    table.row("16 reads of 8 sectors, all asked at first", server)
+}
+
+/// The whole table.
+fn rows<W: io::Write>(server: &mut Served, out: &mut W) -> Option<()> {
+    writeln!(
+        out,
+        "calls | register reads | register writes | stores | loads"
+    )
+    .ok()?;
+    let mut table = Table {
+        out,
+        told: Counts::NONE,
+    };
+    each(server, &mut table)?;
+    many(server, &mut table)
+}
+
+/// Prints a row for each kind of call: its register reads and writes, and its stores and loads of memory. `None` where a call did something
+/// else than it should, or memory or output was refused.
+pub fn print<W: io::Write>(alloc: Global, out: &mut W) -> Option<()> {
+    let image = MemStore::new(alloc, SECTORS).ok()?;
+    let blank = MemStore::new(alloc, 0).ok()?;
+    let Ok(config) = Config::parse(alloc, CONFIGURATION.as_bytes()) else {
+        return None;
+    };
+    let Ok(model) = new_model(alloc, &config, image, blank) else {
+        return None;
+    };
+    let Ok(server) = Server::new(alloc, &config, Counted::new(model)) else {
+        return None;
+    };
+    let mut server = server;
+    let printed = rows(&mut server, out);
+    let _adapter = server.close();
+    printed
+}

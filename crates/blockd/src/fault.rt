@@ -1,0 +1,85 @@
+// Why the program ends without having played a script, and how it says so.
+ghost use Rattle.std.specs.Prelude.{◌≡◌, Some};
+ghost use Rattle.blockd.specs.Faults.{fault_text, outcome_of, status_of};
+ghost use Rattle.blockd.specs.declared.fault.Fault.TheVariants.{NoMemory};
+
+use play::Ended;
+use std::alloc::AllocError;
+use std::{fmt, io};
+
+/// Why a run of the program doesn't end well.
+#[derive(Clone, Copy, Debug, PartialEq, Eq)]
+pub enum Fault {
+    /// The words of the command line ask nothing.
+    CommandLine,
+    /// The configuration has a fault of the kind with this number, 1 to 8; or 0, where its file can't be read.
+    Config(u8),
+    /// The image's file can't be opened.
+    Image,
+    /// The script's file can't be read.
+    Script,
+    /// The line of the script with this number is bad.
+    Line(u64),
+    /// Memory was refused.
+    NoMemory,
+    /// Standard output can't be written.
+    Unwritten,
+}
+
+impl From<AllocError> for Fault {
+    ghost from_gives = { λ _ fault. fault ≡ NoMemory };
+
+    fn from(_error: AllocError) -> Fault {
+        Fault::NoMemory
+    }
+}
+
+impl fmt::Display for Fault {
+    ghost output = { λ fault. Some (fault_text fault) };
+
+    fn fmt<W: fmt::Write>(&self, f: &mut fmt::Formatter<W>) -> fmt::Result {
+        match self {
+            Fault::CommandLine => write!(f, "bad command line"),
+            Fault::Config(kind) => write!(f, "config {kind}"),
+            Fault::Image => write!(f, "image"),
+            Fault::Script => write!(f, "script"),
+            Fault::Line(number) => write!(f, "line {number}: bad"),
+            Fault::NoMemory => write!(f, "no memory"),
+            Fault::Unwritten => write!(f, "output"),
+        }
+    }
+}
+
+impl Fault {
+    /// The status with which the program ends: 2 for a bad command line, 3 for a script that can't be read, and else 1.
+    pub fn status(self) -> u8
+        ensures { result ≡ status_of self }
+    {
+        match self {
+            Fault::CommandLine => 2,
+            Fault::Script | Fault::Line(_) => 3,
+            Fault::Config(_) | Fault::Image | Fault::NoMemory | Fault::Unwritten => 1,
+        }
+    }
+
+    /// Tells the fault in one line on standard error. Of an output that fails nothing is told.
+    pub fn tell(self, rt: &impl Eprint) -> io::Result<()> {
+        match self {
+            Fault::Unwritten => Ok(()),
+            _ => eprintln!(rt; "blockd: {self}"),
+        }
+    }
+}
+
+/// What the program makes of how a script's play ended.
+pub fn outcome(ended: Ended) -> Result<(), Fault>
+    ensures { result ≡ outcome_of ended }
+{
+    match ended {
+        Ended::Done => Ok(()),
+        Ended::Config(kind) => Err(Fault::Config(kind.number())),
+        Ended::Line(number) => Err(Fault::Line(number)),
+        Ended::NoMemory => Err(Fault::NoMemory),
+        Ended::Unwritten => Err(Fault::Unwritten),
+    }
+}

@@ -1,0 +1,50 @@
+-- What is printed of a call: what the tape gained, and what the call said (this project's own).
+use Rattle.std.specs.Prelude.{ℕ, Bool, true, false, List, [], ◌∷◌, drop, Ok, Err}
+use Rattle.std.specs.Borrow.{Bor}
+use Rattle.std.specs.List.{flat_map}
+use Rattle.ata_types.specs.declared.request.Reply.{Reply}
+use Rattle.adapter.specs.declared.tape.Entry.{Entry}
+use Rattle.adapter.specs.declared.tape.Entry.TheVariants as entry
+use Rattle.block_server.specs.declared.types.Said.{Said}
+use Rattle.block_server.specs.declared.types.Said.TheVariants as said
+use Rattle.script.specs.Answer.{answer_line}
+use Rattle.script.specs.declared.answer.Answer.TheVariants as answer
+
+-- a value as an answer refers to it; no line tells where it lies
+abbrev pub referred : {X : Type 0} → X → Bor X
+referred x = record { ref_ptr = (0, 0); now = x }
+
+-- a line for each reply, or one that there is none
+abbrev pub replies_text : List Reply → List ℕ
+replies_text [] = answer_line answer.Quiet
+replies_text (reply ∷ replies) = flat_map (λ r. answer_line (answer.Replied r)) (reply ∷ replies)
+
+-- what a call said
+abbrev pub said_text : Said → List ℕ
+said_text (said.Submitted (Ok id)) = answer_line (answer.Accepted id)
+said_text (said.Submitted (Err refusal)) = answer_line (answer.Refused refusal)
+said_text (said.Stored (Ok done)) = answer_line answer.Stored
+said_text (said.Stored (Err fault)) = answer_line (answer.Barred fault)
+said_text (said.Loaded (Ok bytes)) = answer_line (answer.Bytes (referred bytes.items))
+said_text (said.Loaded (Err fault)) = answer_line (answer.Barred fault)
+said_text (said.Served replies) = replies_text replies.items
+said_text (said.State state) = answer_line (answer.State state)
+said_text (said.Stepped done) = answer_line (answer.Stepped done)
+
+-- a move and a clear have a line; nothing else on a tape has one
+abbrev pub entry_text : Entry → List ℕ
+entry_text (entry.Move moved) = answer_line (answer.Moved (referred moved))
+entry_text (entry.Clear cleared) = answer_line (answer.Cleared cleared)
+entry_text (entry.Done done) = []
+entry_text (entry.Fault fault) = []
+entry_text (entry.Fatal port) = []
+entry_text (entry.Unplug port) = []
+entry_text (entry.Plug port name) = []
+
+abbrev pub gained_text : List Entry → List ℕ
+gained_text entries = flat_map entry_text entries
+
+-- with a trace, what a tape has gained past so many entries
+abbrev pub trace_text : Bool → ℕ → List Entry → List ℕ
+trace_text true shown tape = gained_text (drop shown tape)
+trace_text false shown tape = []

@@ -1,0 +1,15 @@
+//! A script that is played against a block server over a modelled adapter.
+//!
+//! The lines of the script are the server's calls. Each is answered at once, in lines of text.
+#![tactic(auto)]
+
+mod calls;
+mod printed;
+mod session;
+mod setting;
+#[cfg(test)]
+mod tests;
+
+pub use calls::event;
+pub use session::{Ended, play};
+pub use setting::new_model;

@@ -1,0 +1,72 @@
+// What is printed of a call.
+ghost use Rattle.std.specs.Prelude.{OnOk};
+ghost use Rattle.std.specs.Io.KnownBytes.{Appends};
+ghost use Rattle.play.specs.Lines.{gained_text, replies_text, said_text, trace_text};
+
+use adapter::Entry;
+use ata_types::Reply;
+use block_server::Said;
+use script::Answer;
+use std::io;
+
+/// Prints a line for each reply, or one that there is none.
+fn print_replies<W: io::Write>(out: &mut W, replies: &[Reply]) -> io::Result<()>
+    ensures { OnOk result (Appends (W.contents out.old) (W.contents out.new) (replies_text replies.now)) }
+{
+    if replies.is_empty() {
+        return Answer::Quiet.print(out);
+    }
+    for reply in replies {
+        Answer::Replied(*reply).print(out)?;
+    }
+    Ok(())
+}
+
+/// Prints what a call said.
+pub fn print_said<W: io::Write>(out: &mut W, said: &Said) -> io::Result<()>
+    ensures { OnOk result (Appends (W.contents out.old) (W.contents out.new) (said_text said.now)) }
+{
+    match said {
+        Said::Submitted(Ok(id)) => Answer::Accepted(*id).print(out),
+        Said::Submitted(Err(refusal)) => Answer::Refused(*refusal).print(out),
+        Said::Stored(Ok(())) => Answer::Stored.print(out),
+        Said::Loaded(Ok(bytes)) => Answer::Bytes(bytes.as_slice()).print(out),
+        Said::Stored(Err(fault)) | Said::Loaded(Err(fault)) => Answer::Barred(*fault).print(out),
+        Said::Served(replies) => print_replies(out, replies.as_slice()),
+        Said::State(state) => Answer::State(*state).print(out),
+        Said::Stepped(did) => Answer::Stepped(*did).print(out),
+    }
+}
+
+/// Prints a line for each move and each clear, in their order.
+fn print_gained<W: io::Write>(out: &mut W, gained: &[Entry]) -> io::Result<()>
+    ensures { OnOk result (Appends (W.contents out.old) (W.contents out.new) (gained_text gained.now)) }
+{
+    for entry in gained {
+        match entry {
+            Entry::Move(moved) => Answer::Moved(moved).print(out)?,
+            Entry::Clear(cleared) => Answer::Cleared(*cleared).print(out)?,
+            Entry::Done(_)
+            | Entry::Fault(_)
+            | Entry::Fatal(_)
+            | Entry::Unplug(_)
+            | Entry::Plug(..) => {}
+        }
+    }
+    Ok(())
+}
+
+/// With a trace, prints what a tape has gained past so many entries.
+pub fn print_trace<W: io::Write>(
+    out: &mut W,
+    trace: bool,
+    tape: &[Entry],
+    shown: usize,
+) -> io::Result<()>
+    ensures { OnOk result (Appends (W.contents out.old) (W.contents out.new) (trace_text trace shown tape.now)) }
+{
+    if !trace {
+        return Ok(());
+    }
+    print_gained(out, tape.get(shown..).unwrap_or_default())
+}

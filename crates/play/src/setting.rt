@@ -1,0 +1,50 @@
+// The model behind the server, as a configuration says.
+ghost use Rattle.std.specs.Prelude.{◌≡◌, ◌&&◌, IfOk, is_some, string_bytes};
+ghost use Rattle.block_server.specs.Made.{IsReadyFor};
+ghost use Rattle.configuration.specs.Rules.{IsSound, IsTrim};
+ghost use Rattle.device_model.specs.Modelled.{device_at};
+ghost use Rattle.play.specs.Played.{IsModelOf, word_of};
+
+use configuration::Config;
+use device_model::{Model, ModelConfig, NoMemory, Trim};
+use sector_store::SectorStore;
+use std::alloc::Global;
+
+/// Ports 0 to 3 are there, as bits of PI.
+const ALL_PORTS: u8 = 0x0f;
+
+/// The promise on trims that a configuration's word names.
+fn trim_of(word: &str) -> Trim
+    requires { IsTrim word.now }
+    ensures { word_of result ≡ word.now }
+{
+    match word {
+        "full" => Trim::Full,
+        "weak" => Trim::Weak,
+        _ => Trim::Without,
+    }
+}
+
+/// An idle adapter as the configuration says, with the image as the disk of port 0. The blank disk can't be plugged in for now. The adapter
+/// tells its disks' sectors where both stores tell theirs.
+pub fn new_model<S: SectorStore>(
+    alloc: Global,
+    config: &Config,
+    image: S,
+    blank: S,
+) -> Result<Model<S>, NoMemory>
+    requires { IsSound config.now }
+    ensures ready { IfOk result (λ m. IsReadyFor config.now (device_at S.size S.told m)) }
+    ensures made { IfOk result (IsModelOf S.size S.told config.now image) }
+    ensures telling { IfOk result (λ m. (device_at S.size S.told m).telling ≡ (is_some (S.told image) && is_some (S.told blank))) }
+{
+    let settings = ModelConfig {
+        frames: config.frames as u16,
+        pi: ALL_PORTS,
+        slots: config.slots as u8,
+        ncq: config.ncq,
+        depth: config.depth as u8,
+        trim: trim_of(config.trim.as_str()),
+    };
+    Model::new(alloc, settings, image, blank)
+}
