@@ -14,4 +14,5 @@ part() {
 }
 
 part "rt ci" rt ci
+part "examples" scripts/examples.sh
 part "compile-fail" scripts/compile-fail.sh
