@@ -2,7 +2,7 @@
 """Times the program and the server, and prints tables. `bench/run.py [REQUESTS]` builds `bench` and `blockd` first.
 
 Each script is of reads of eight sectors: asked, done by the disk, and answered; the one asks each after the last is answered, the other asks
-16 at a time. A time is the least of five runs, less that of a script of one line.
+16 at a time. A time is the least of five runs, less that of a script of one line. Instructions are those that callgrind counts.
 """
 import pathlib
 import re
@@ -14,6 +14,8 @@ import time
 ROOT = pathlib.Path(__file__).resolve().parent.parent
 RUNS = 5
 SECTORS = 70_000
+# The functions by which the server reaches the model.
+MODEL = r"device_model::model::(ModelAdapter::(read|write|load|store)|Model::do_step)\b"
 CONFIGURATION = """frames = 256
 slots = 32
 ncq = true
@@ -55,7 +57,7 @@ def seconds(words, folder):
 
 
 def instructions(words, folder):
-    """How many instructions were executed, in all and in functions of the model, those that they call among them."""
+    """How many instructions were executed in each function, with those that it calls."""
     subprocess.run(
         ["valgrind", "--tool=callgrind", "--callgrind-out-file=profile", *words],
         cwd=folder, stdout=subprocess.DEVNULL, stderr=subprocess.DEVNULL, check=True,
@@ -72,12 +74,16 @@ def instructions(words, folder):
 
 
 def build(program):
-    """Proves and builds the program, and returns where it is."""
+    """Returns where the program is. It is proved and built where a source is newer."""
     folder = ROOT / "crates" / program
+    built = folder / "out" / program
+    sources = [it for it in (ROOT / "crates").rglob("*") if it.suffix in (".rt", ".antt") and "out" not in it.parts]
+    if built.exists() and all(it.stat().st_mtime < built.stat().st_mtime for it in sources):
+        return str(built)
     subprocess.run(["rt", "check"], cwd=folder, stdout=subprocess.DEVNULL, check=True)
     # Without words the one ends with status 2.
     subprocess.run(["rt", "run"], cwd=folder, stdout=subprocess.DEVNULL, stderr=subprocess.DEVNULL, check=False)
-    return str(folder / "out" / program)
+    return str(built)
 
 
 def main():
@@ -106,11 +112,14 @@ def main():
         (room / "few").write_text(script(few, 1))
         (room / "more").write_text(script(more, 1))
         less, much = (instructions([bench, "config", name], room) for name in ("few", "more"))
-        print("\nInstructions a request, over memory:\n")
-        for name in sorted(much, key=much.get, reverse=True):
-            each = (much[name] - less.get(name, 0)) / (more - few)
-            if each >= 20:
-                print(f"{each:10.0f}  {name}")
+        each = {name: (count - less.get(name, 0)) / (more - few) for name, count in much.items()}
+        whole = max(each.values())
+        model = sum(count for name, count in each.items() if re.match(MODEL, name))
+        print("\n| Part | Instructions a request |")
+        print("|---|---|")
+        print(f"| all | {whole:,.0f} |")
+        print(f"| the model: register accesses and steps | {model:,.0f} |")
+        print(f"| server, and reading and printing the script | {whole - model:,.0f} |")
 
 
 if __name__ == "__main__":
