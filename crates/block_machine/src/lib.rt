@@ -5,8 +5,6 @@ mod due;
 mod history;
 pub mod laws;
 mod refuse;
-#[cfg(test)]
-mod tests;
 
 pub use due::{Mode, Unanswered, due_list, is_due};
 pub use history::{Filled, Happened, left};

@@ -131,6 +131,3 @@ pub enum ConfigFault {
     #[error("no memory")]
     NoMemory,
 }
-
-#[cfg(test)]
-mod tests;

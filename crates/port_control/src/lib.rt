@@ -421,26 +421,3 @@ pub fn start<A: Adapter>(
     adapter.write(Reg::Px(port, PortReg::Cmd), command.with_start().0);
     Ok(Running { port })
 }
-
-#[cfg(test)]
-mod tests {
-    use super::*;
-
-    // Status bytes as disks show them: after COMRESET, with nothing to do, at work, ready to transfer, and after an
-    // error.
-    #[test]
-    fn status_bytes(rt: HostRuntime) {
-        assert!(rt; is_occupied(TaskFile(0x7f)));
-        assert!(rt; !is_occupied(TaskFile(0x50)));
-        assert!(rt; is_occupied(TaskFile(0xd0)));
-        assert!(rt; is_occupied(TaskFile(0x58)));
-        assert!(rt; !is_occupied(TaskFile(0x4041)));
-    }
-
-    #[test]
-    fn tokens_name_their_port(rt: HostRuntime) {
-        assert_eq!(rt; Stopped { port: Port(3) }.port(), Port(3));
-        assert_eq!(rt; Receiving { port: Port(2) }.port(), Port(2));
-        assert_eq!(rt; Running { port: Port(1) }.port(), Port(1));
-    }
-}

@@ -5,8 +5,6 @@ mod answer;
 mod fields;
 mod line;
 mod script;
-#[cfg(test)]
-mod tests;
 
 pub use answer::Answer;
 pub use line::{Line, read_line};

@@ -1,5 +1,5 @@
 -- A transfer's header and table are written, and then its bit of PxCI.
-use Rattle.std.proofs.Common.{ℕ, ◌≡◌, ◌^◌, ◌<◌, ◌≤◌, ◌++◌, ◌||◌, Bool, true, false, not, List, ◌∷◌, length, None, Some, slice_index, inl, inr, refl, sym, ◌∙◌, ap, subst, ⊎_elim, arith, lit<}
+use Rattle.std.proofs.Common.{ℕ, ◌≡◌, ◌+◌, ◌^◌, ◌<◌, ◌≤◌, ◌++◌, ◌||◌, Bool, true, false, not, List, ◌∷◌, length, None, Some, slice_index, inl, inr, refl, sym, ◌∙◌, ap, subst, ⊎_elim, arith, lit<}
 use Rattle.std.proofs.lemmas.Bool.{cases_eq}
 use Rattle.std.proofs.lemmas.List.FromFn.{length-map-range_with_len, get_or-map-range_with_len}
 use Rattle.std.specs.List.{All}
@@ -10,7 +10,7 @@ use Rattle.ata_types.specs.declared.request.Op.TheVariants.{Read, Write, Trim, F
 use Rattle.hba_regs.specs.Bits.{bit}
 use Rattle.hba_regs.specs.declared.reg.Reg.{Reg}
 use Rattle.hba_regs.specs.declared.reg.Reg.TheVariants.{Px}
-use Rattle.hba_regs.specs.declared.reg.PortReg.TheVariants.{Ci}
+use Rattle.hba_regs.specs.declared.reg.PortReg.TheVariants.{Sact, Ci}
 use Rattle.adapter.specs.Access.{Access, Writes}
 use Rattle.adapter.specs.Access.Access.{Reading, Writing, Loading, Storing}
 use Rattle.adapter.specs.Commands.{Meaning, command_of, is_queued, is_ranged, pieces_moved}
@@ -31,7 +31,7 @@ use Rattle.block_machine.specs.Steps.{Step, Issue, May}
 use Rattle.block_machine.specs.declared.due.Mode.{Mode}
 use Rattle.block_machine.proofs.EventLemmas.{after-append}
 use Rattle.block_machine.proofs.HistoryLemmas.{may-append, reached_more}
-use Rattle.agreement.specs.Driven.{known, IsAgreed, IsDrivenBy, IsFollowed, NoneWrites}
+use Rattle.agreement.specs.Driven.{known, IsAgreed, IsDrivenBy, IsFollowed, IsOf, LeavesPort, NoneWrites}
 use Rattle.agreement.specs.Driver.{Known, Knows, ByDevice, EndsWith, IsPrepared, serving}
 use Rattle.agreement.specs.Follows.{Follows}
 use Rattle.agreement.specs.Places.{list_of, place_in}
@@ -40,6 +40,7 @@ use Rattle.agreement.proofs.Gaining.{gains_more}
 use Rattle.agreement.proofs.Paging.{access_sends_none}
 use Rattle.agreement.proofs.Adding.{backed_then}
 use Rattle.agreement.proofs.Calling.{issue_follows}
+use Rattle.agreement.proofs.Controlled.{agreed_on, other_left, same_over}
 use Rattle.agreement.proofs.Driven.{by_one, by_then, driven_as}
 use Rattle.agreement.proofs.Following.{steps_follow}
 use Rattle.agreement.proofs.Keeping.{steps_leave, told_is_left}
@@ -48,7 +49,6 @@ use Rattle.agreement.proofs.Witness.{bit_one_other}
 use Rattle.command_table.specs.Places.{place_of, places_of}
 use Rattle.command_table.specs.Written.{IsTableFor, IsTableStore, IsUnused}
 use Rattle.disk_page.specs.Asking.{IsAsking, LeavesRunning}
-use Rattle.disk_page.proofs.Asking.{stores_leave, stores_agree, stores_there}
 use Rattle.disk_page.proofs.Leaving.{asking_leaves_running}
 use Rattle.transfers.specs.Transfers.{IsTransfer, Transfer, operation_of, meaning_of, IsTransferOf, MayTransfer, IsIssuing, IssuesTransfer}
 
@@ -141,23 +141,37 @@ ends_then k later mid m step early may device x = record {
 module _ (port : Port) (r : Transfer) (old mid : Device) (transfers : IsTransfer r.op) (on : IsOn old) (mid_on : IsOn mid) (there : HasPort old port.0) (may : MayTransfer port.0 old)
     (uses : Uses) (free : IsUnused port.0 0 uses) (agreed : IsAgreed uses old) (stores : IsFollowed (IsTableStore port.0 0) (IsUnused port.0 0) old mid)
     (told : Told mid.memory (list_of port.0) port.0 0 (meaning_of r) (places_of r.frames r.count)) where
-  left : KeepsAll old mid
-  left = (stores_leave port old mid on stores).all
+  -- no store is of a register
+  stores_spare : (reg : Reg) → NoneWrites (IsTableStore port.0 0) reg
+  stores_spare reg (Storing at bytes) here = tt
+  stores_spare reg (Loading at bytes) here = absurd here
+  stores_spare reg (Reading q v) here = absurd here
+  stores_spare reg (Writing q v) here = absurd here
+
+  -- so the port is left as by accesses of a neighbour
+  left : LeavesPort (old.port port.0) (mid.port port.0)
+  left = other_left (record { 0 = port.0 + 1 }) old mid (driven_as (IsTableStore port.0 0) (IsOf (record { 0 = port.0 + 1 })) old mid kind stores.driven) port.0 (λ (e : port.0 ≡ port.0 + 1). omega (arith, e)) on
+    where
+      kind : (access : Access) → IsTableStore port.0 0 access → IsOf (record { 0 = port.0 + 1 }) access
+      kind (Storing at bytes) here = tt
+      kind (Reading reg v) here = absurd here
+      kind (Writing reg v) here = absurd here
+      kind (Loading at bytes) here = absurd here
 
   mid_there : HasPort mid port.0
-  mid_there = stores_there port old mid on stores there
+  mid_there = (there.0, ap (λ (pi : ℕ). bit pi port.0) (same_over (IsTableStore port.0 0) old mid stores.driven).pi ∙ there.1)
 
   mid_agreed : IsAgreed uses mid
-  mid_agreed = stores_agree port old mid on stores uses free agreed
+  mid_agreed = agreed_on (IsTableStore port.0 0) (IsUnused port.0 0) uses old mid (λ q. stores_spare (Px q Sact)) free stores agreed
 
   started : (mid.port port.0).st ≡ true
-  started = (left.on.controls port.0).st ∙ may.started
+  started = left.controls.st ∙ may.started
 
   list : (mid.port port.0).bases.clb ≡ list_of port.0
-  list = ap (λ (b : Bases). b.clb) (left.port port.0).bases ∙ may.list
+  list = ap (λ (b : Bases). b.clb) left.keeps.bases ∙ may.list
 
   unqueued : (mid.port port.0).sact 0 ≡ false
-  unqueued = (left.port port.0).sact 0 (agreed.unarmed port.0 0 free)
+  unqueued = left.keeps.sact 0 (agreed.unarmed port.0 0 free)
 
   -- whatever the device does, the slot's bytes say the transfer
   told_later : (later : Device) → Steps mid later → Told later.memory (list_of port.0) port.0 0 (meaning_of r) (places_of r.frames r.count)
@@ -255,13 +269,6 @@ module _ (port : Port) (r : Transfer) (old mid : Device) (transfers : IsTransfer
         kind (Reading reg v) here = absurd here
         kind (Writing reg v) here = absurd here
         kind (Loading at bytes) here = absurd here
-
-    -- no store is of a register
-    stores_spare : (reg : Reg) → NoneWrites (IsTableStore port.0 0) reg
-    stores_spare reg (Storing at bytes) here = tt
-    stores_spare reg (Loading at bytes) here = absurd here
-    stores_spare reg (Reading q v) here = absurd here
-    stores_spare reg (Writing q v) here = absurd here
 
     pub issued_leaves : LeavesRunning port.0 old new
     issued_leaves = asking_leaves_running port old new on (driven_as (IsIssuing port) (IsAsking port) old new kind driven)

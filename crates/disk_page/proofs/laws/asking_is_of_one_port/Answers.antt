@@ -1,5 +1,9 @@
 use Rattle.disk_page.proofs.Asking.{asking_is_of}
+use Rattle.disk_page.proofs.Leaving.{asking_leaves_running}
 use Rattle.disk_page.proofs.laws.asking_is_of_one_port.Goals as goal
 
-pub returns : goal.returns
-returns c = asking_is_of
+pub returns-clause-of : goal.returns-clause-of
+returns-clause-of c = asking_is_of
+
+pub returns-clause-leaves : goal.returns-clause-leaves
+returns-clause-leaves c = asking_leaves_running

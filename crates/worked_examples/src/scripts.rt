@@ -1,11 +1,11 @@
 // Lines of each kind, with outside values written by hand, texts that are no line, and every answer.
-use crate::{Answer, Line, ScriptFault, read_line, read_script};
 use adapter::{Clear, DeviceStep, Direction, DiskNumber, DiskPage, Move, Operation};
 use arrayvec::ArrayVec;
 use ata_types::{
     ClientId, Frame, FrameFault, MemFault, Op, Outcome, Port, PortState, Refusal, Reply, Request,
     RequestId, Rule, Sector, Slot,
 };
+use script::{Answer, Line, ScriptFault, read_line, read_script};
 use std::alloc::{AllocError, Global};
 
 /// The bytes 0 to 63, as a line spells them.

@@ -1,6 +1,7 @@
+// Texts of configurations, and the kind of fault that each is told of.
 ghost use Rattle.std.specs.Prelude.{◌<◌};
 
-use crate::{ClientConfig, Config, ConfigFault, GrantConfig, Kind, PortConfig};
+use configuration::{ClientConfig, Config, ConfigFault, GrantConfig, Kind, PortConfig};
 use std::alloc::Global;
 use std::test::Fail;
 

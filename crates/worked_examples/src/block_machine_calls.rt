@@ -1,10 +1,10 @@
-// Values from worked examples: what is refused, what is due, and what is left.
-use crate::{Filled, Happened, Mode, PortShown, Tables, Unanswered, due_list, left};
+// What the block machine refuses, what it has due, and what a disk holds in the end.
 use arrayvec::ArrayVec;
 use ata_types::{
     ClientId, Frame, FrameFault, GrantRow, MemFault, Op, Port, PortState, Range, Refusal, Request,
     RequestId, Rights, Rule, Sector,
 };
+use block_machine::{Filled, Happened, Mode, PortShown, Tables, Unanswered, due_list, left};
 use std::process::Abort;
 
 fn request(
