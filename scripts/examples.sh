@@ -113,6 +113,7 @@ done <<'END'
 6 s/^first_frame = 80/first_frame = 79/
 7 s/^client = 2/client = 3/
 8 s/^port = 0/port = 1/
+4 s/^frames = 256/frames = 40/;s/^client = 2/client = 3/
 END
 printf '\xff' >bytes.toml
 compare 'a configuration that is no text' $'on standard error: blockd: config 1\nstatus 1' "$(play bytes.toml first.script)"
@@ -121,6 +122,24 @@ compare 'a configuration that is no text' $'on standard error: blockd: config 1\
 printf 'state 0\nread 1 0 100 8 40\n' >empty.script
 compare 'an image without sectors' $'state Unfit 6\nrefused 9 PortNotReady Unfit 6\nstatus 0' \
     "$(run --config blockd.toml --image empty.img --script empty.script)"
+
+# What scripts print: the edit of the configuration, the sectors of the image, the script, and its answers.
+row() {
+    sed "$2" blockd.toml >row.toml
+    head -c $((512 * $3)) fresh.img >row.img
+    printf '%b' "$4" >row.script
+    compare "$1" "$(printf '%b' "$5"; echo 'status 0')" "$(run --config row.toml --image row.img --script row.script)"
+}
+row 'a read ends within its grant' '' 256 'read 1 0 156 8 40\nread 1 0 157 8 41\n' 'ok 1\nrefused 4 OutsideGrant\n'
+row 'counts that no read has' '' 256 'read 1 0 100 0 -\nread 1 0 100 257 40\n' 'refused 3 BadCount\nrefused 3 BadCount\n'
+row 'no right, and no grant' '' 256 'write 2 0 140 8 80\nwrite 2 1 140 8 80\n' 'refused 2 NoRight\nrefused 1 NoGrant\n'
+row 'a frame is lent once' '' 256 \
+    'read 1 0 100 16 41,41\nread 1 0 100 8 41\nread 1 0 110 8 41\nload 1 41 0 1\nload 2 41 0 1\n' \
+    'refused 7 FrameTwice 1\nok 1\nrefused 8 FrameLent 0\nrefused FrameLent\nrefused FrameForeign\n'
+row 'plain commands, one after another' 's/ncq = true/ncq = false/' 256 \
+    'read 1 0 100 8 40\nread 1 0 110 8 41\ndev fetch 0 1\ndev finish 0 0\nservice\ndev finish 0 0\nservice\n' \
+    'ok 1\nok 2\nno\ndid\nreply 1 Ok\ndid\nreply 2 Ok\n'
+row 'a disk ends before its grant' '' 150 'read 1 0 148 8 40\nread 1 0 142 8 40\n' 'refused 10 OutsideDisk\nok 1\n'
 
 status=0
 cp fresh.img disk.img
