@@ -3,14 +3,14 @@ ghost use Rattle.std.specs.Prelude.{◌≡◌, IfOk};
 ghost use Rattle.block_server.specs.Made.{IsReadyFor};
 ghost use Rattle.configuration.specs.Rules.{IsSound};
 
-use crate::boots::lie;
+use crate::boots::{Access, Noting, lie};
 use adapter::Adapter;
 use arrayvec::ArrayVec;
 use ata_types::{ClientId, Frame, Op, Port, PortState, Refusal, Request, RequestId, Sector};
 use block_server::{Server, ServerError};
 use configuration::{ClientConfig, Config, GrantConfig, Kind, PortConfig};
 use device_model::{Model, ModelConfig, Trim};
-use hba_regs::Reg;
+use hba_regs::{PortReg, Reg};
 use play::new_model;
 use sector_store::MemStore;
 use std::alloc::Global;
@@ -24,6 +24,7 @@ depth = 1
 trim = \"full\"
 [[port]]
 number = 0
+serial = \"IMAGEDISK\"
 [[client]]
 id = 1
 first_frame = 40
@@ -111,12 +112,12 @@ impl<A: Adapter> Adapter for Watched<A> {
     ghost tells = { λ w. A.tells w.adapter };
 }
 
-/// The model that the configuration asks for, with a disk of 256 sectors in port 0.
-fn model_of(alloc: Global, config: &Config) -> Result<Model<MemStore>, Fail>
+/// The model that the configuration asks for, with a disk of so many sectors in port 0.
+fn model_of(alloc: Global, config: &Config, sectors: u32) -> Result<Model<MemStore>, Fail>
     requires { IsSound config.now }
     ensures { IfOk result (λ m. IsReadyFor config.now (⟦<Model<MemStore> as Adapter>⟧.device m)) }
 {
-    let image = MemStore::new(alloc, 256)?;
+    let image = MemStore::new(alloc, sectors)?;
     Ok(new_model(alloc, config, image, MemStore::new(alloc, 0)?)?)
 }
 
@@ -206,7 +207,7 @@ fn a_bad_configuration_makes_no_access(rt: HostRuntime) -> Result<(), Fail> {
 #[test]
 fn a_disk_ends_where_its_page_says(rt: HostRuntime) -> Result<(), Fail> {
     let config = config(rt.alloc())?;
-    let mut model = model_of(rt.alloc(), &config)?;
+    let mut model = model_of(rt.alloc(), &config, 256)?;
     lie(&mut model, 510, 0x01);
     lie(&mut model, 200, 0x80);
     lie(&mut model, 201, 0x01);
@@ -224,10 +225,80 @@ fn a_disk_ends_where_its_page_says(rt: HostRuntime) -> Result<(), Fail> {
     Ok(())
 }
 
+/// What port 0 is to clients where its disk tells two lies before the server is made: of these bits of the byte at each offset. No bits
+/// are no lie.
+fn state_over(alloc: Global, first: (u16, u8), second: (u16, u8)) -> Result<PortState, Fail> {
+    let config = config(alloc)?;
+    let mut model = model_of(alloc, &config, 70_000)?;
+    lie(&mut model, first.0, first.1);
+    lie(&mut model, second.0, second.1);
+    let Ok(server) = Server::new(alloc, &config, model) else {
+        return Err(Fail::from("no server"));
+    };
+    let state = server.state(Port(0));
+    let _model = server.close();
+    Ok(state)
+}
+
+// Byte 510 of IDENTIFY DEVICE holds the signature of the checksum, bytes 166 and 167 word 83, bytes 212 and 213 word 106, bytes 200 to
+// 207 the number of sectors, and bytes 20 to 39 the serial number (ACS-3, 7.12.7).
+#[test]
+fn a_port_is_what_its_disk_says(rt: HostRuntime) -> Result<(), Fail> {
+    let no_checksum = (510, 0x01);
+    for (first, second, state) in [
+        ((0, 0), (0, 0), PortState::Ready),
+        ((0, 0x01), (0, 0), PortState::Unfit(1)),
+        (no_checksum, (167, 0x40), PortState::Unfit(2)),
+        (no_checksum, (167, 0x04), PortState::Unfit(3)),
+        (no_checksum, (213, 0x10), PortState::Unfit(4)),
+        (no_checksum, (167, 0x20), PortState::Unfit(5)),
+        (no_checksum, (206, 0x01), PortState::Unfit(6)),
+        (no_checksum, (20, 0x01), PortState::Foreign),
+        (no_checksum, (0, 0), PortState::Ready),
+    ] {
+        assert_eq!(rt; state_over(rt.alloc(), first, second)?, state);
+    }
+    Ok(())
+}
+
+// The boot's IDENTIFY DEVICE ended with a Register FIS, which DHRS of PxIS tells (AHCI 1.3.1, 3.3.5). A service writes back what it read
+// there, and then the port's bit of IS alone (3.1.3), and reads PxSSTS.
+#[test]
+fn a_service_clears_the_causes_that_it_read(rt: HostRuntime) -> Result<(), Fail> {
+    let config = config(rt.alloc())?;
+    let noting = Noting::new(rt.alloc(), model_of(rt.alloc(), &config, 256)?);
+    let Ok(server) = Server::new(rt.alloc(), &config, noting) else {
+        return Err(Fail::from("no server"));
+    };
+    let mut server = server;
+    let accesses = server.adapter().accesses.len();
+    let writes = server.adapter().written.len();
+    let replies = server.service();
+    let noting = server.close();
+    assert!(rt; replies.is_empty());
+    let px = |r| Reg::Px(Port(0), r);
+    assert_eq!(rt;
+        noting.accesses.get(accesses..),
+        Some(
+            &[
+                Access::Read(px(PortReg::Is)),
+                Access::Write(px(PortReg::Is)),
+                Access::Write(Reg::Is),
+                Access::Read(px(PortReg::Ssts)),
+            ][..]
+        )
+    );
+    assert_eq!(rt;
+        noting.written.get(writes..),
+        Some(&[(px(PortReg::Is), 1), (Reg::Is, 1)][..])
+    );
+    Ok(())
+}
+
 /// The first bytes of memory once the request is issued.
 fn stored(alloc: Global, request: &Request) -> Result<[u8; LOW], Fail> {
     let config = config(alloc)?;
-    let watched = Watched::new(model_of(alloc, &config)?);
+    let watched = Watched::new(model_of(alloc, &config, 256)?);
     let Ok(server) = Server::new(alloc, &config, watched) else {
         return Err(Fail::from("no server"));
     };
