@@ -2,7 +2,9 @@
 """Times the program and the server, and prints tables. `bench/run.py [REQUESTS]` builds `bench` and `blockd` first.
 
 Each script is of reads of eight sectors: asked, done by the disk, and answered; the one asks each after the last is answered, the other asks
-16 at a time. A time is the least of five runs, less that of a script of one line. Instructions are those that callgrind counts.
+16 at a time. A time is the least of five runs, less that of a script of one line. Instructions are those that callgrind counts. The
+server's calls are compiled into what plays the script, so its part is what is left without the model and without as many lines that ask
+nothing of it but what a port's state is.
 """
 import pathlib
 import re
@@ -73,6 +75,15 @@ def instructions(words, folder):
     return found
 
 
+def of_each(text, bench, room):
+    """How many instructions a request takes in each function: what more requests take, less what fewer take."""
+    few, more = 1_600, 3_200
+    (room / "few").write_text(text(few))
+    (room / "more").write_text(text(more))
+    less, much = (instructions([bench, "config", name], room) for name in ("few", "more"))
+    return {name: (count - less.get(name, 0)) / (more - few) for name, count in much.items()}
+
+
 def build(program):
     """Returns where the program is. It is proved and built where a source is newer."""
     folder = ROOT / "crates" / program
@@ -108,18 +119,16 @@ def main():
             for disk, words in over.items():
                 spent = seconds(words(name), room) - seconds(words("one"), room)
                 print(f"| {disk} | {at_a_time} | {spent:.3f} | {3 * requests / spent:,.0f} | {1e6 * spent / requests:.2f} |")
-        few, more = 1_600, 3_200
-        (room / "few").write_text(script(few, 1))
-        (room / "more").write_text(script(more, 1))
-        less, much = (instructions([bench, "config", name], room) for name in ("few", "more"))
-        each = {name: (count - less.get(name, 0)) / (more - few) for name, count in much.items()}
+        each = of_each(lambda requests: script(requests, 1), bench, room)
         whole = max(each.values())
         model = sum(count for name, count in each.items() if re.match(MODEL, name))
+        lines = max(of_each(lambda requests: "state 0\n" * 3 * requests, bench, room).values())
         print("\n| Part | Instructions a request |")
         print("|---|---|")
         print(f"| all | {whole:,.0f} |")
         print(f"| the model: register accesses and steps | {model:,.0f} |")
-        print(f"| server, and reading and printing the script | {whole - model:,.0f} |")
+        print(f"| reading and printing three lines | {lines:,.0f} |")
+        print(f"| the server | {whole - model - lines:,.0f} |")
 
 
 if __name__ == "__main__":
