@@ -166,6 +166,3 @@ pub fn write_table<A: Adapter>(
     let head = header(is_write(command), prds.len() as u16, table);
     adapter.store(list + HEADER_BYTES * u32::from(slot.0), &head);
 }
-
-#[cfg(test)]
-mod tests;

@@ -325,6 +325,3 @@ pub fn decode_pio_setup(bytes: &[u8]) -> Option<PioSetup>
         transfer_count: LittleEndian::read_u16(&bytes[16..]),
     })
 }
-
-#[cfg(test)]
-mod tests;

@@ -186,6 +186,3 @@ pub fn parse(page: &[u8; 512]) -> Result<DiskInfo, Unfit>
     }
     Ok(info_of(page))
 }
-
-#[cfg(test)]
-mod tests;

@@ -205,6 +205,3 @@ fn filled(serial: &str) -> [u8; SERIAL_LENGTH]
     bytes[..serial.len()].copy_from_slice(serial.as_bytes());
     bytes
 }
-
-#[cfg(test)]
-mod tests;

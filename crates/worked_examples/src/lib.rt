@@ -1,12 +1,24 @@
-//! Worked examples of the public calls of the libraries that are too large to be proved once more with tests of their own:
-//! values, texts and answers from outside. There is no other code here.
+//! Worked examples of the public calls of libraries that aren't proved once more with tests of their own: values, bytes, texts
+//! and answers from outside. There is no other code here.
 #![tactic(auto)]
 
 #[cfg(test)]
 mod block_machine_calls;
 #[cfg(test)]
+mod command_tables;
+#[cfg(test)]
 mod configurations;
 #[cfg(test)]
+mod frame_information_structures;
+#[cfg(test)]
+mod frame_loans;
+#[cfg(test)]
+mod identity_pages;
+#[cfg(test)]
+mod plans;
+#[cfg(test)]
 mod registers;
+#[cfg(test)]
+mod requests_of_clients;
 #[cfg(test)]
 mod scripts;

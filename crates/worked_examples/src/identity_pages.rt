@@ -1,6 +1,7 @@
+// Pages of IDENTIFY DEVICE, with what is told of them.
 ghost use Rattle.std.specs.Prelude.{◌<◌};
 
-use crate::{Unfit, parse};
+use identify::{Unfit, parse};
 use std::test::Fail;
 
 /// The page of a disk of 70,000 sectors with a queue of 32, native command queuing, and trim with zeros after it. It has no

@@ -1,5 +1,8 @@
 // Bytes worked out by hand from AHCI 1.3.1, 4.2.2 and 4.2.3, ACS-3 and Serial ATA. Frame 9 is the driver's scratch frame.
-use super::*;
+use adapter::{Command, Prd};
+use ata_types::Frame;
+use command_table::{header, prds, table_bytes};
+use fis::encode_h2d;
 use std::test::Fail;
 
 /// The FIS of a command.
@@ -146,13 +149,21 @@ const ENTRIES: [(&str, u32, u32, [u8; 4], [u8; 2]); 5] = [
 
 #[test]
 fn entries_are_spelled(rt: HostRuntime) {
+    let command = Command {
+        code: 0x25,
+        features: 0,
+        count: 8,
+        lba: 100,
+        device: 0x40,
+    };
     for (name, address, bytes, place, count) in ENTRIES {
         let mut entry = [0; 16];
         entry[..4].copy_from_slice(&place);
         entry[12..14].copy_from_slice(&count);
         let prd = Prd { address, bytes };
         if address % 2 == 0 && bytes % 2 == 0 && 2 <= bytes && bytes <= 4096 {
-            assert_eq!(rt; prd_bytes(&prd), entry, "{name}");
+            let table = table_bytes(&command, &[prd]);
+            assert_eq!(rt; &table[128..144], &entry[..], "{name}");
         } else {
             assert!(rt; false, "{name}");
         }

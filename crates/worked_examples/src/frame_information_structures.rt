@@ -1,8 +1,9 @@
-use crate::{
+// Frame information structures (FISes) as bytes.
+use adapter::Command;
+use fis::{
     DeviceToHost, PioSetup, SetDeviceBits, decode_d2h, decode_h2d, decode_pio_setup,
     decode_set_device_bits, encode_d2h, encode_h2d, encode_pio_setup, encode_set_device_bits,
 };
-use adapter::Command;
 
 /// A READ DMA EXT of 8 sectors from sector 100 on.
 const READ: [u8; 20] = [

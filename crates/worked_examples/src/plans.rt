@@ -1,8 +1,9 @@
-use crate::Plan;
+// What a configuration asks of a server.
 use ata_types::{ClientId, Frame, GrantRow, Port, Rights, Sector};
 use configuration::{ClientConfig, Config, GrantConfig, Kind, PortConfig};
 use dma_frames::FrameTable;
 use identify::Wanted;
+use plan::Plan;
 use std::alloc::Global;
 use std::test::Fail;
 
