@@ -295,6 +295,37 @@ fn a_service_clears_the_causes_that_it_read(rt: HostRuntime) -> Result<(), Fail>
     Ok(())
 }
 
+/// The first bytes of memory once a server is made.
+fn booted(alloc: Global) -> Result<[u8; LOW], Fail> {
+    let config = config(alloc)?;
+    let watched = Watched::new(model_of(alloc, &config, 256)?);
+    let Ok(server) = Server::new(alloc, &config, watched) else {
+        return Err(Fail::from("no server"));
+    };
+    Ok(server.close().low)
+}
+
+// The page comes to the port's scratch frame, frame 9.
+#[test]
+fn an_identify_device_stands_in_memory(rt: HostRuntime) -> Result<(), Fail> {
+    let low = booted(rt.alloc())?;
+    assert_eq!(rt;
+        &low[..16],
+        &[5, 0, 1, 0, 0, 0, 0, 0, 0, 0x10, 0, 0, 0, 0, 0, 0][..]
+    );
+    assert_eq!(rt;
+        &low[0x1000..0x1014],
+        &[
+            0x27, 0x80, 0xec, 0, 0, 0, 0, 0, 0, 0, 0, 0, 0, 0, 0, 0, 0, 0, 0, 0
+        ][..]
+    );
+    assert_eq!(rt;
+        &low[0x1080..],
+        &[0, 0x90, 0, 0, 0, 0, 0, 0, 0, 0, 0, 0, 0xff, 1, 0, 0][..]
+    );
+    Ok(())
+}
+
 /// The first bytes of memory once the request is issued.
 fn stored(alloc: Global, request: &Request) -> Result<[u8; LOW], Fail> {
     let config = config(alloc)?;
