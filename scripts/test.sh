@@ -1,18 +1,43 @@
 #!/usr/bin/env bash
-# Proves and runs everything, from nothing, and tells on standard error how long each part took.
+# Proves and runs everything, from nothing: `rt ci`, the edits that the prover must refuse, the cases of the built program, and
+# the edits that the compiler must refuse. The last line is 'N passed, M failed', of all four. What each part took is told on
+# standard error.
 set -euo pipefail
 cd "$(dirname "$0")/.."
+if [[ -z ${IS_MEASURED:-} ]]; then
+    export IS_MEASURED=1
+    exec scripts/processor_time.py scripts/test.sh
+fi
 
-# Runs a part of the check, and tells its time whether it passes or not.
+said=$(mktemp)
+trap 'rm -f "$said"' EXIT
+passed=0 failed=0
+
+# Runs a part of the check, whose last line is 'N passed, M failed', perhaps behind a word, and tells its time whether it passes
+# or not. Once a part has failed, the others are left out.
 part() {
-    local name=$1
+    local name=$1 begin=$SECONDS status=0 count
     shift
-    local begin=$SECONDS status=0
-    "$@" || status=$?
+    "$@" | tee "$said" || status=$?
     echo "time: $name took $((SECONDS - begin)) s" >&2
-    return "$status"
+    count=$(tail -n 1 "$said")
+    if [[ $count =~ ([0-9]+)\ passed,\ ([0-9]+)\ failed$ ]]; then
+        passed=$((passed + BASH_REMATCH[1])) failed=$((failed + BASH_REMATCH[2]))
+    else
+        failed=$((failed + 1))
+    fi
+    if [[ $status != 0 ]]; then
+        [[ $failed != 0 ]] || failed=1
+        echo "$passed passed, $failed failed"
+        exit 1
+    fi
 }
 
+# `rt ci` would put older libraries back, and the edits are to be tried over those that it makes.
+rm -rf crates/*/out/rlib
 part "rt ci" rt ci
+scripts/toolchain.py stamp
+part "edits" scripts/edits.py
 part "examples" scripts/examples.sh
 part "compile-fail" scripts/compile-fail.sh
+echo "$passed passed, $failed failed"

@@ -1,0 +1,420 @@
+#!/usr/bin/env python3
+"""Tries the edits crates/NAME/edits/*.edit: the prover must refuse each. With names, those of these crates alone; with
+--tries, what each try took is told too.
+
+It stands on libraries that were proved (crates/*/out/rlib), as scripts/test.sh has them made. Several edits are tried at
+a time, each in a function of its own, on a copy of their crate. An edit is refused where a function that it changes is
+told as not proved, and not merely because it calls another one that isn't. What isn't refused so is tried again, without
+those that were, and at last alone.
+Each try has a function that no edit reaches, which must be proved; so a crate that can't be read, or libraries that
+don't fit, refuse nothing.
+
+An edit has the form of those of `rt must-fail`: a line 'file: src/NAME.rt', then pairs of lines 'old: TEXT' and
+'new: TEXT', where TEXT stands once in that file. An edit of a text outside of functions, such as a constant, names the
+function whose meaning it turns by a line 'function: NAME'.
+
+The last line is 'N passed, M failed'.
+"""
+import os
+import re
+import shutil
+import subprocess
+import sys
+import tempfile
+import threading
+import time
+from concurrent.futures import ThreadPoolExecutor
+from dataclasses import dataclass, field
+
+import toolchain
+
+PARTS = ("src", "specs", "proofs")
+# As many edits stand in one try at the most: a text that can't be read spoils it for all.
+MOST = 24
+# Whether each try is told, with the time that it took: for finding what is dear.
+SHOWS_TRIES = "--tries" in sys.argv
+PRINTING = threading.Lock()
+
+
+def say(text):
+    with PRINTING:
+        print(f"edits: {text}", flush=True)
+
+
+def read(path):
+    with open(path, encoding="utf-8") as it:
+        return it.read()
+
+
+class BadEdit(Exception):
+    """Why an edit can't be tried."""
+
+
+@dataclass
+class Function:
+    """A function of a crate: the name that the prover prints, its lines, and the words of its body."""
+
+    name: str
+    file: str
+    first: int
+    last: int
+    words: set
+    simple: str
+    reaches: set = field(default_factory=set)
+
+
+# ---- the functions of a crate, by the layout of `rt fmt` ----
+
+HEAD = re.compile(r"^( *)(?:pub(?:\([a-z ]+\))? )?(?:const )?(?:unsafe )?fn (\w+)")
+BLOCK = re.compile(r"^( *)(?:pub(?:\([a-z ]+\))? )?(impl|trait|mod)\b(.*)\{$")
+
+
+def end_of(lines, at, indent):
+    """The line that ends what begins at a line: the first brace with its indentation."""
+    for place in range(at, len(lines)):
+        line = lines[place]
+        is_there = line.startswith(indent) and not line.startswith(indent + " ")
+        if is_there and (line.strip().startswith("}") or line.rstrip().endswith("{}")):
+            return place
+    return len(lines) - 1
+
+
+def body_of(lines, first, last, indent):
+    """The words of a function's body. Its clauses name definitions, and call nothing."""
+    begin = next((at for at in range(first, last + 1) if lines[at].rstrip() == indent + "{"), first)
+    code = re.sub(r"//[^\n]*", "", "\n".join(lines[begin : last + 1]))
+    return {*re.findall(r"\w+", re.sub(r'"(?:[^"\\]|\\.)*"', '""', code))}
+
+
+def without_parameters(text):
+    """A path without what stands in angle brackets."""
+    while "<" in text:
+        shorter = re.sub(r"<[^<>]*>", "", text)
+        if shorter == text:
+            break
+        text = shorter
+    return text
+
+
+def block_name(kind, head):
+    """What a block adds to the names of the functions in it, and the type that it is of, if it is of one."""
+    head = re.sub(r"^<(?:[^<>]|<[^<>]*>)*>", "", head.partition(" where ")[0].strip()).strip()
+    if kind != "impl":
+        return without_parameters(head).partition(":")[0].strip(), None
+    of, _, to = head.partition(" for ")
+    last = lambda path: without_parameters(path).strip().lstrip("& ").rpartition("::")[2]
+    # (where a trait has arguments, their types are a part of the name)
+    arguments = of.partition("<")[2].rpartition(">")[0]
+    whole = last(to) + last(of) + "".join(map(last, arguments.split(", "))) if to else last(of)
+    return whole, last(to) if to else last(of)
+
+
+def module_of(path):
+    inside = path[len("src/") : -len(".rt")]
+    parts = [it for it in inside.split("/") if it not in ("lib", "main", "mod")]
+    return parts
+
+
+def functions_in(path, text, types):
+    """The functions of a file. A method's name begins with the module in which its type stands."""
+    lines, found, inside = text.split("\n"), [], []
+    for at, line in enumerate(lines):
+        inside = [it for it in inside if at <= it[1]]
+        block = BLOCK.match(line)
+        if block:
+            name, of = block_name(block[2], block[3])
+            last = end_of(lines, at + 1, block[1])
+            # (what a trait declares has no body, and tests aren't read)
+            inside.append((name, last, types.get(of), block[2] == "trait" or name == "tests"))
+        head = HEAD.match(line)
+        if head and not line.rstrip().endswith(";") and not any(it[3] for it in inside):
+            last = end_of(lines, at, head[1])
+            module = next((it[2] for it in inside if it[2] is not None), module_of(path))
+            name = "::".join([*module, *[it[0] for it in inside], head[2]])
+            found.append(Function(name, path, at, last, body_of(lines, at, last, head[1]), head[2]))
+    return found
+
+
+TYPE = re.compile(r"^(?:pub(?:\([a-z ]+\))? )?(?:struct|enum) (\w+)", re.M)
+
+
+def functions_of(folder):
+    texts = {}
+    for at, _, names in sorted(os.walk(f"{folder}/src")):
+        for name in sorted(names):
+            if name.endswith(".rt") and "tests" not in f"{at}/{name[:-3]}".split("/"):
+                texts[os.path.relpath(f"{at}/{name}", folder)] = read(f"{at}/{name}")
+    types = {name: module_of(path) for path, text in texts.items() for name in TYPE.findall(text)}
+    found = [it for path, text in texts.items() for it in functions_in(path, text, types)]
+    link(found)
+    return found
+
+
+def link(functions):
+    """Fills in which functions each may come to call, by the words of their bodies."""
+    by_word = {}
+    for it in functions:
+        by_word.setdefault(it.simple, []).append(it)
+    for it in functions:
+        left = [it]
+        while left:
+            for word in left.pop().words & by_word.keys():
+                for callee in by_word[word]:
+                    if callee is not it and callee.name not in it.reaches:
+                        it.reaches.add(callee.name)
+                        left.append(callee)
+
+
+# ---- edits ----
+
+
+class Edit:
+    """An edit: what it makes of which files, and the functions that it turns."""
+
+    def __init__(self, path, folder, functions):
+        self.name = os.path.basename(path)
+        self.pairs, self.functions = [], {}
+        self.read(read(path), folder, functions)
+
+    def read(self, text, folder, functions):
+        path, old, named, texts = None, None, None, {}
+        for line in text.split("\n"):
+            if line.startswith("file: "):
+                path = line[len("file: ") :].strip()
+                if not path.startswith("src/") or not os.path.isfile(f"{folder}/{path}"):
+                    raise BadEdit(f"it is of {path}, which is no file of src/: an edit of anything else shows nothing")
+            elif line.startswith("function: "):
+                named = line[len("function: ") :].strip()
+            elif line.startswith("old: "):
+                old = line[len("old: ") :]
+            elif line.startswith("new:"):
+                if not path or not old:
+                    raise BadEdit("a line 'new:' stands before any 'file:' or 'old:'")
+                self.pairs.append((path, old, line[len("new:") :].removeprefix(" ")))
+                old = None
+        if not self.pairs:
+            raise BadEdit("it has no pair of lines 'old:' and 'new:'")
+        self.place(folder, functions, named, texts)
+
+    def place(self, folder, functions, named, texts):
+        """Finds the functions that the edit stands in."""
+        for path, old, new in self.pairs:
+            text = texts.setdefault(path, read(f"{folder}/{path}"))
+            if old == new:
+                raise BadEdit("it changes nothing")
+            if text.count(old) != 1:
+                raise BadEdit(f"'{old.strip()}' stands {text.count(old)} times in {path}, and not once")
+            line = text[: text.index(old)].count("\n")
+            own = [it for it in functions if it.file == path and it.first <= line <= it.last]
+            if named is None and not own:
+                raise BadEdit("it stands in no function: a line 'function: NAME' has to tell which it turns")
+            for it in own[-1:] if named is None else []:
+                self.functions[it.name] = it
+            texts[path] = text.replace(old, new)
+        for it in functions:
+            if named is not None and (it.name == named or it.name.endswith("::" + named)):
+                self.functions[it.name] = it
+        if not self.functions:
+            raise BadEdit(f"there is no function {named}")
+        if len(self.functions) > 1 and named is not None:
+            raise BadEdit(f"{named} is the end of several functions' names")
+
+    def apply(self, folder):
+        """Changes the files. Answers no, and changes nothing, where what others changed is in the way."""
+        texts = {}
+        for path, old, new in self.pairs:
+            text = texts.setdefault(path, read(f"{folder}/{path}"))
+            if text.count(old) != 1:
+                return False
+            texts[path] = text.replace(old, new)
+        for path, text in texts.items():
+            with open(f"{folder}/{path}", "w", encoding="utf-8") as it:
+                it.write(text)
+        return True
+
+
+# ---- trying them ----
+
+
+VERDICT = re.compile(r"^fn (\S+): (.*)$", re.M)
+# A proof that names what an edit took away says little of the contract.
+NAMES = re.compile(r"has no field|is not in scope|has no `|was not admitted|depends on")
+
+
+class Crate:
+    """A crate whose edits are tried, with a folder in which its tries keep what they proved."""
+
+    def __init__(self, crate, room):
+        self.crate, self.name, self.folder, self.room = crate, crate.name, crate.folder, f"{room}/{crate.name}"
+        self.seconds, self.tries, self.refused, self.failed = 0.0, 0, [], []
+        self.functions = functions_of(self.folder)
+        folder = f"{self.folder}/edits"
+        self.files = sorted(os.listdir(folder)) if os.path.isdir(folder) else []
+        self.edits = []
+
+    def fail(self, edit, why):
+        self.failed.append(edit)
+        say(f"{self.name}/{edit}: {why}")
+
+    def read_edits(self):
+        for it in self.files:
+            try:
+                if not it.endswith(".edit"):
+                    raise BadEdit("its name doesn't end in .edit")
+                self.edits.append(Edit(f"{self.folder}/edits/{it}", self.folder, self.functions))
+            except (BadEdit, OSError, UnicodeDecodeError) as why:
+                self.fail(it, f"BAD EDIT: {why}")
+
+    def control(self, batch):
+        """The name of a function that no edit of these reaches: the shortest one."""
+        changed = {it for edit in batch for it in edit.functions}
+        left = [it for it in self.functions if it.name not in changed and not it.reaches & changed]
+        return min(left, key=lambda it: (len(it.reaches), len(it.words), it.name)).name if left else None
+
+    def batch(self, edits):
+        """The first of these edits that can be tried at once: each in functions of its own, and one function is left to be proved."""
+        found, changed = [], set()
+        for it in edits:
+            if len(found) < MOST and not changed & it.functions.keys() and self.control([*found, it]):
+                found.append(it)
+                changed |= it.functions.keys()
+        return found
+
+    def run(self, batch, control):
+        """Proves the functions of a copy of the crate with these edits. Answers what was printed, and which edits are in it."""
+        at = tempfile.mkdtemp(prefix="copy-", dir=self.room)
+        for part in PARTS:
+            if os.path.isdir(f"{self.folder}/{part}"):
+                shutil.copytree(f"{self.folder}/{part}", f"{at}/{part}")
+        tried = [it for it in batch if it.apply(at)]
+        names = {name for it in tried for name in it.functions}
+        only = [word for it in [control, *sorted(names)] for word in ("--only", it)]
+        words = [toolchain.rtlib.RATTLE, "check", *toolchain.words_of(self.crate)]
+        words += ["--incremental", f"{self.room}/kept", *only]
+        with tempfile.TemporaryFile("w+", encoding="utf-8", errors="replace") as out:
+            ran = subprocess.Popen(words, cwd=at, stdin=subprocess.DEVNULL, stdout=out, stderr=subprocess.STDOUT)
+            _, _, usage = os.wait4(ran.pid, 0)
+            out.seek(0)
+            said = out.read()
+        shutil.rmtree(at)
+        seconds = usage.ru_utime + usage.ru_stime
+        self.seconds, self.tries = self.seconds + seconds, self.tries + 1
+        if SHOWS_TRIES:
+            say(f"{self.name}: {seconds:.0f} s for {', '.join(it.name for it in tried)}")
+        return said, tried
+
+    def verdicts(self, said):
+        return {name.partition("::")[2]: text for name, text in VERDICT.findall(said)}
+
+    def is_refused(self, edit, said):
+        """Whether one of the edit's own functions isn't proved, for a reason of its own."""
+        told = self.verdicts(said)
+        own = [told.get(name, "") for name in edit.functions]
+        return any(it.startswith(("not proved", "no proof")) and "it calls" not in it for it in own)
+
+    def is_weak(self, edit, said):
+        """Whether all that is told of the edit's functions is that their proofs name what it took away."""
+        told = []
+        for name in edit.functions:
+            place = re.escape(name.replace("::", "/"))
+            if re.search(rf"^fn {self.name}::{re.escape(name)}: no proof", said, re.M):
+                return False
+            told += re.findall(rf"^(?:\./)?proofs/{place}/\S+ error: (.*)$", said, re.M)
+        return bool(told) and all(NAMES.search(it) for it in told)
+
+    def try_batch(self, batch):
+        """Tries these edits at once, and notes which are refused. Where one spoils the try, the halves are tried apart."""
+        control = self.control(batch)
+        said, tried = self.run(batch, control)
+        why = why_unread(said) or (self.verdicts(said).get(control) != "proved" and f"{control}, which they don't change, isn't proved")
+        if why:
+            if SHOWS_TRIES:
+                say(f"{self.name}: that try told nothing: {why}")
+            half = len(batch) // 2
+            for part in (batch[:half], batch[half:]) if half else ():
+                self.try_batch(part)
+            return
+        for it in tried:
+            if self.is_refused(it, said):
+                self.refuse(it, said)
+
+    def try_alone(self, edit):
+        control = self.control([edit])
+        if control is None:
+            return self.fail(edit.name, "BAD EDIT: each function of its crate may come to call what it changes, so none is left to be proved")
+        said, _ = self.run([edit], control)
+        why = why_unread(said)
+        if why:
+            self.fail(edit.name, f"BAD EDIT: the prover can't read it: {why}")
+        elif self.verdicts(said).get(control) != "proved":
+            self.fail(edit.name, f"BAD EDIT: {control}, which it doesn't change, isn't proved beside it")
+        elif self.is_refused(edit, said):
+            self.refuse(edit, said)
+        elif any("it calls" in self.verdicts(said).get(it, "") for it in edit.functions):
+            self.fail(edit.name, "NOT REFUSED: its function is told only because it calls another one")
+        else:
+            self.fail(edit.name, "NOT REFUSED: its function is proved with it")
+        return None
+
+    def refuse(self, edit, said):
+        self.refused.append(edit)
+        if self.is_weak(edit, said):
+            say(f"{self.name}/{edit.name}: refused only because a proof names what it took away, which says little: change a value")
+
+    def try_all(self):
+        begin = time.monotonic()
+        os.makedirs(self.room)
+        lacking = toolchain.lacking(self.crate)
+        if lacking:
+            self.fail(self.files[0], f"the library {lacking[0]} isn't that of its sources: run scripts/test.sh, or rt check in {self.name}")
+            return self
+        self.read_edits()
+        left, passed_over = self.edits, []
+        while left:
+            batch = self.batch(left)
+            if not batch:
+                break
+            before = len(self.refused)
+            self.try_batch(batch)
+            # (an edit that a whole try taught nothing of waits for its function's callees, or is tried alone in the end)
+            passed_over += [] if len(self.refused) > before else batch
+            left = [it for it in left if it not in self.refused and it not in passed_over]
+        for it in self.edits:
+            if it not in self.refused:
+                self.try_alone(it)
+        shutil.rmtree(self.room)
+        say(
+            f"{self.name}: {len(self.refused)} of {len(self.files)} refused; "
+            f"{self.tries} tries, {self.seconds:.0f} processor seconds, {time.monotonic() - begin:.0f} s"
+        )
+        return self
+
+
+def why_unread(said):
+    """Why the prover couldn't read an edited text, if it couldn't."""
+    lines = said.rstrip("\n").split("\n")
+    unread = [it for it in lines if re.match(r"(?:\./)?(?:src|specs)/\S+ error", it)]
+    if not unread and lines[-1].startswith("only="):
+        return None
+    return (unread or [it for it in lines if "error" in it] or lines)[0][:200]
+
+
+def main(names):
+    known = toolchain.crates()
+    unknown = {*names} - {it.name for it in known}
+    if unknown:
+        sys.exit(f"edits: no crate is named {', '.join(sorted(unknown))}")
+    with tempfile.TemporaryDirectory(prefix="edits-") as room:
+        of = [Crate(it, room) for it in known if not names or it.name in names]
+        of = sorted((it for it in of if it.files), key=lambda it: -sum(len(f.words) for f in it.functions))
+        with ThreadPoolExecutor(len(os.sched_getaffinity(0))) as pool:
+            done = [*pool.map(Crate.try_all, of)]
+    failed = [f"{it.name}/{edit}" for it in done for edit in it.failed]
+    if failed:
+        say(f"FAILED: {' '.join(failed)}")
+    print(f"{sum(len(it.refused) for it in done)} passed, {len(failed)} failed")
+    return 1 if failed else 0
+
+
+if __name__ == "__main__":
+    sys.exit(main([it for it in sys.argv[1:] if it != "--tries"]))
