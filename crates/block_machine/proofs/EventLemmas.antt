@@ -6,9 +6,8 @@ use Rattle.ata_types.specs.declared.request.Frame.{Frame}
 use Rattle.ata_types.specs.declared.request.RequestId.{RequestId}
 use Rattle.ata_types.specs.declared.request.Outcome.TheVariants.{Ok, DeviceError, Aborted, Unplugged, PortDead}
 use Rattle.block_machine.specs.State.{Block, Memory, Pending, Machine, frame_at, is_reader}
-use Rattle.block_machine.specs.Steps.{Step, Accept, Touch, Again, Answer, Release, Store, May, after_step, stays, unlend, is_lent_to, put_bytes, memory_after}
+use Rattle.block_machine.specs.Steps.{Step, Accept, Touch, Again, Answer, Release, Store, May, after_step, stays, unlend, is_lent_to, put_bytes, memory_after, AllTouched}
 use Rattle.block_machine.specs.Left.{after, IsLegal, IsStart, AllTold}
-use Rattle.block_machine.specs.Durable.{IsVolatile, EveryPlugFinds}
 use Rattle.block_machine.specs.Ports.{Ports, Evidence}
 use Rattle.block_machine.specs.Events.{Moment, Ask, Submit, StoreAt, LoadAt, Service, Tick, Reset, State, Device, Event, AllMay, IsDevices, IsServers, Belong, AllLawful, moment_of, IsRun, steps_of, AnswerHolds, AnswersHold, EveryReadHolds}
 use Rattle.block_machine.proofs.Order.{In}
@@ -16,7 +15,6 @@ use Rattle.block_machine.proofs.Sound.{Sound}
 use Rattle.block_machine.proofs.Trace.{runs_lives}
 use Rattle.block_machine.proofs.Reading.{put_other}
 use Rattle.block_machine.proofs.Runs.{traced, read_holds_left}
-use Rattle.block_machine.proofs.Lasting.{IsWhole, AllWhole, every_plug_finds}
 
 -- Steps one after the other.
 
@@ -45,6 +43,15 @@ run_legal first (event ∷ past) r = legal_more first.machine event.steps (steps
 
 -- Each Ok is told of a whole request.
 
+-- where the step tells an Ok, its request has all its sectors touched, and ended
+abbrev pub IsWhole : Step → Type 0
+IsWhole (Answer e Ok) = AllTouched e × (e.ended ≡ true)
+IsWhole _ = Unit {0}
+
+abbrev pub AllWhole : List Step → Type 0
+AllWhole [] = Unit {0}
+AllWhole (step ∷ past) = AllWhole past × IsWhole step
+
 answer_whole : (old : Moment) (evidence : Evidence) (ports : Ports) (step : Step) (before : List Step) → AllLawful old evidence ports (step ∷ before) → AllLawful old evidence ports before × IsWhole step
 answer_whole old evidence ports (Answer e Ok) before l = (l.0, (l.1.2, l.1.3))
 answer_whole old evidence ports (Answer e (DeviceError status error)) before l = (l.0, tt)
@@ -63,9 +70,15 @@ pub run_whole : {D : Type 0} (first : Moment) (run : List (Event D)) → IsRun f
 run_whole first [] r = tt
 run_whole first (event ∷ past) r = call_whole (moment_of first past) event.evidence event.ports event.steps (steps_of past) r.1.lawful (run_whole first past r.0)
 
--- a disk that comes back in a run has the writes that were flushed
-pub run_finds : {D : Type 0} (first : Moment) (run : List (Event D)) → IsRun first run → IsVolatile first.machine (steps_of run) → EveryPlugFinds first.machine (steps_of run)
-run_finds first run r back = every_plug_finds first.machine (steps_of run) (run_starts first run r) (run_legal first run r) (run_whole first run r) back
+-- the history up to a step of it
+pub up_to : (start : Machine) (late : List Step) (step : Step) (early : List Step) → IsLegal start (late ++ step ∷ early) → AllWhole (late ++ step ∷ early) → IsLegal start early × May (after start early) step × IsWhole step
+up_to start [] step early l w = (l.0, l.1, w.1)
+up_to start (x ∷ late) step early l w = up_to start late step early l.0 w.0
+
+-- a step of a run
+pub step_of_run : {D : Type 0} (first : Moment) (run : List (Event D)) (late : List Step) (step : Step) (early : List Step) → IsRun first run → steps_of run ≡ late ++ step ∷ early
+    → IsLegal first.machine early × May (after first.machine early) step × IsWhole step
+step_of_run first run late step early r split = up_to first.machine late step early (subst (IsLegal first.machine) split (run_legal first run r)) (subst AllWhole split (run_whole first run r))
 
 -- In a call that answers, no request is accepted and no client stores.
 

@@ -3,10 +3,9 @@ use Rattle.std.proofs.Common.{◌≡◌, List, [], ◌∷◌, ◌++◌, refl, sy
 use Rattle.block_machine.specs.State.{Machine}
 use Rattle.block_machine.specs.Steps.{Step, May}
 use Rattle.block_machine.specs.Left.{after, AllTold}
-use Rattle.block_machine.specs.Durable.{IsVolatile, EveryPlugFinds}
 use Rattle.block_machine.specs.Events.{Moment, AllMay, Happens, moment_after, moment_of, IsRun, steps_of, EveryReadHolds}
 use Rattle.block_machine.specs.Histories.{Instant, Happening, now, events_of, IsHistory, IsReached, AddsSteps}
-use Rattle.block_machine.proofs.EventLemmas.{after-append, legal_more, run_starts, run_legal, moment_is, every_read_holds, run_finds}
+use Rattle.block_machine.proofs.EventLemmas.{after-append, legal_more, run_starts, run_legal, moment_is, every_read_holds}
 
 pub now_is : {D E : Type 0} (first : Instant D) (past : List (Happening D E)) → (now first past).moment ≡ moment_of first.moment (events_of past)
 now_is first [] = refl
@@ -23,10 +22,6 @@ history_is_run Begins Agrees first (x ∷ past) h =
 pub history_reads : {D E : Type 0} (Begins : Instant D → Type 0) (Agrees : Instant D → Happening D E → Type 0) (first : Instant D) (past : List (Happening D E))
     → IsHistory Begins Agrees first past → AllTold first.moment.machine (steps_of (events_of past)) → EveryReadHolds first.moment (events_of past)
 history_reads Begins Agrees first past h told = every_read_holds first.moment (events_of past) (history_is_run Begins Agrees first past h) told
-
-pub history_finds : {D E : Type 0} (Begins : Instant D → Type 0) (Agrees : Instant D → Happening D E → Type 0) (first : Instant D) (past : List (Happening D E))
-    → IsHistory Begins Agrees first past → IsVolatile first.moment.machine (steps_of (events_of past)) → EveryPlugFinds first.moment.machine (steps_of (events_of past))
-history_finds Begins Agrees first past h back = run_finds first.moment (events_of past) (history_is_run Begins Agrees first past h) back
 
 -- the machine of a history is reached
 pub history_reaches : {D E : Type 0} (Begins : Instant D → Type 0) (Agrees : Instant D → Happening D E → Type 0) (first : Instant D) (past : List (Happening D E))
@@ -65,6 +60,3 @@ steps_then {S} {Fits} {a} {b} {c} R ab bc join = record {
       let y = bc.adds (after m x.0) (reached_more m x.0 r x.1) x.2 in
       (y.0 ++ x.0, may-append m y.0 x.0 x.1 y.1, subst (λ (n : Machine). Fits n c) (sym (after-append m y.0 x.0)) y.2, join m x.0 y.0 x.3 y.3);
 }
-
-pub no_steps : {S : Type 0} (Fits : Machine → S → Type 0) (s : S) → AddsSteps Fits s s (λ m steps. steps ≡ [])
-no_steps Fits s = record { adds = λ m r fits. ([], tt, fits, refl) }

@@ -1,5 +1,5 @@
 -- Members and order of a book, by recursion on the list.
-use Rattle.std.proofs.Common.{◌≡◌, ◌⊎◌, ℕ, ◌<◌, List, [], ◌∷◌, length, get_or, zero, suc, inl, inr, ⊎_elim, refl, sym, ap, subst, arith, ◌∙◌}
+use Rattle.std.proofs.Common.{◌≡◌, ◌⊎◌, ℕ, ◌<◌, List, [], ◌∷◌, length, get_or, zero, suc, inl, inr, ⊎_elim, refl, subst, arith}
 use Rattle.std.specs.List.{Contains}
 use Rattle.block_machine.specs.declared.due.Unanswered.{Unanswered}
 use Rattle.block_machine.specs.Due.{IsInOrder}
@@ -46,10 +46,3 @@ from_ordered book o i j d lt below = go book o i j lt below
     go (x ∷ xs) o zero (suc j) lt below = o.0 (get_or xs j d) (at xs j (omega (arith, below)))
     go (x ∷ xs) o (suc i) zero lt below = absurd (omega (arith, lt))
     go (x ∷ xs) o (suc i) (suc j) lt below = go xs o.1 i j (omega (arith, lt)) (omega (arith, below))
-
-pub in_order_one : (es : List Unanswered) → Ordered es → (a b : Unanswered) → In a es → In b es → a.id.0 ≡ b.id.0 → a ≡ b
-in_order_one [] o a b h k eq = absurd h
-in_order_one (x ∷ xs) o a b (inl p) (inl q) eq = p ∙ sym q
-in_order_one (x ∷ xs) o a b (inl p) (inr k) eq = let lt = o.0 b k in let e : a.id.0 ≡ x.id.0 = ap (λ (y : Unanswered). y.id.0) p in absurd (omega (arith, lt, e, eq))
-in_order_one (x ∷ xs) o a b (inr h) (inl q) eq = let lt = o.0 a h in let e : b.id.0 ≡ x.id.0 = ap (λ (y : Unanswered). y.id.0) q in absurd (omega (arith, lt, e, eq))
-in_order_one (x ∷ xs) o a b (inr h) (inr k) eq = in_order_one xs o.1 a b h k eq

@@ -6,9 +6,5 @@ pub mod Steps
 pub mod Ports
 pub mod Left
 pub mod Confined
-pub mod Durable
 pub mod Events
-pub mod Worked
 pub mod Histories
-pub mod Plain
-pub mod PlainLeft

@@ -2,10 +2,6 @@
 #![tactic(auto)]
 
 mod due;
-mod history;
 pub mod laws;
-mod refuse;
 
-pub use due::{Mode, Unanswered, due_list, is_due};
-pub use history::{Filled, Happened, left};
-pub use refuse::{PortShown, Tables};
+pub use due::{Mode, Unanswered};

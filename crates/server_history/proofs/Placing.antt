@@ -26,9 +26,8 @@ use Rattle.block_machine.specs.Ports.{Ports}
 use Rattle.block_machine.specs.State.{Machine, Pending}
 use Rattle.block_machine.specs.Steps.{Step, Touch}
 use Rattle.block_machine.proofs.Accepts.{touch_is_confined}
-use Rattle.block_machine.proofs.EventLemmas.{after-append, run_starts}
+use Rattle.block_machine.proofs.EventLemmas.{after-append, run_starts, step_of_run}
 use Rattle.block_machine.proofs.Members.{contains_cases, contains_none}
-use Rattle.block_machine.proofs.Touching.{step_of_run}
 use Rattle.host_boot.specs.Taken.{TakesOver, found_of}
 use Rattle.host_boot.specs.declared.Found.{Found}
 use Rattle.host_boot.specs.declared.Host.{Host}

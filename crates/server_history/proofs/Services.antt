@@ -32,10 +32,10 @@ use Rattle.block_machine.specs.Left.{after}
 use Rattle.block_machine.specs.Ports.{Ports, IsServiced}
 use Rattle.block_machine.specs.State.{Pending, Machine}
 use Rattle.block_machine.specs.Steps.{Step, Issue, Answer, May}
+use Rattle.block_machine.proofs.Calm.{calmly, is_refused}
 use Rattle.block_machine.proofs.EventLemmas.{after-append}
 use Rattle.block_machine.proofs.HistoryLemmas.{history_reaches, reached_more}
 use Rattle.block_machine.proofs.Members.{contains_here, contains_none, contains_there, some_in}
-use Rattle.block_machine.proofs.Scene.{calmly, is_refused}
 use Rattle.block_machine.proofs.Standing.{standing}
 use Rattle.block_machine.proofs.Started.{ended_issued}
 use Rattle.host_boot.specs.Taken.{found_of}

@@ -4,7 +4,8 @@ use ata_types::{
     ClientId, Frame, FrameFault, GrantRow, MemFault, Op, Port, PortState, Range, Refusal, Request,
     RequestId, Rights, Rule, Sector,
 };
-use block_machine::{Filled, Happened, Mode, PortShown, Tables, Unanswered, due_list, left};
+use block_machine::{Mode, Unanswered};
+use machine_rules::{Filled, Happened, PortShown, Tables, due_list, left};
 use std::process::Abort;
 
 fn request(

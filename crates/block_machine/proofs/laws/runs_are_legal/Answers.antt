@@ -1,7 +1,6 @@
 use Rattle.block_machine.specs.Steps.{Touch, Issue}
 use Rattle.block_machine.proofs.Accepts.{touch_is_confined, issue_was_accepted}
-use Rattle.block_machine.proofs.EventLemmas.{run_starts, run_legal, moment_is}
-use Rattle.block_machine.proofs.Touching.{step_of_run}
+use Rattle.block_machine.proofs.EventLemmas.{run_starts, run_legal, moment_is, step_of_run}
 use Rattle.block_machine.proofs.laws.runs_are_legal.Goals as goal
 
 pub returns-clause-legal : goal.returns-clause-legal

@@ -1,5 +1,0 @@
-use Rattle.block_machine.proofs.ResetRun.{ends_with_a_reset}
-use Rattle.block_machine.proofs.laws.a_reset_run_exists.Goals as goal
-
-pub returns : goal.returns
-returns c = ends_with_a_reset

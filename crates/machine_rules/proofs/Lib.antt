@@ -1,0 +1,6 @@
+mod Firsts
+mod PlainRules
+mod Ranks
+mod Dues
+mod PlainDue
+mod PlainLeft

@@ -1,0 +1,5 @@
+use Rattle.machine_rules.proofs.PlainDue.{overlap_is_overlaps}
+use Rattle.machine_rules.proofs.laws.overlap_is_tested.Goals as goal
+
+pub returns : goal.returns
+returns c = overlap_is_overlaps

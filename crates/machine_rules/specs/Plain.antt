@@ -1,0 +1,56 @@
+-- What the plain programs of this crate are about: small tables and histories, as the machine's own.
+use Rattle.std.specs.Prelude.{◌≡◌, ℕ, ◌+◌, ◌<◌, ◌==◌, false, List, count_by, Option, None, IsTrue, IfSome, IfNone, slice_index_or}
+use Rattle.ata_types.specs.declared.Port.{Port}
+use Rattle.ata_types.specs.declared.PortState.TheVariants.{Absent}
+use Rattle.ata_types.specs.declared.request.Frame.{Frame}
+use Rattle.ata_types.specs.declared.request.Request.{Request}
+use Rattle.ata_types.specs.declared.grant.GrantRow.{GrantRow}
+use Rattle.ata_types.specs.declared.refusal.Refusal.{Refusal}
+use Rattle.ata_types.specs.declared.refusal.Refusal.TheVariants as refused
+use Rattle.ata_types.specs.declared.refusal.Rule.TheVariants.{NoRight, OutsideGrant}
+use Rattle.ata_types.specs.Grant.{Allows, Covers}
+use Rattle.machine_rules.specs.declared.refuse.PortShown.{PortShown}
+use Rattle.machine_rules.specs.declared.refuse.Tables.{Tables}
+use Rattle.block_machine.specs.Rules.{IsNamed}
+use Rattle.block_machine.specs.Refusals.{Situation, Applies, refusal_number, refusal_place}
+
+-- what a table has for a frame; past its end nothing
+abbrev pub for_frame : {X : Type 0} → List (Option X) → Frame → Option X
+for_frame table f = slice_index_or table f.0 None
+
+-- a port past the table's end is absent
+abbrev pub shown_at : List PortShown → Port → PortShown
+shown_at ports p = slice_index_or ports p.0 (record { state = Absent; sectors = 0; trims = false })
+
+-- what a request meets by these tables
+abbrev pub situation_in : Tables → Situation
+situation_in t = record {
+  rows = t.rows.items;
+  owner = for_frame t.owners.items;
+  lent = for_frame t.lent.items;
+  state = λ p. (shown_at t.ports.items p).state;
+  sectors = λ p. (shown_at t.ports.items p).sectors;
+  trims = λ p. (shown_at t.ports.items p).trims;
+  unanswered = λ client. count_by (λ c. c.0 == client.0) t.unanswered.items;
+  next = t.last + 1;
+}
+
+-- the row has what the cause says of a row that the request names
+abbrev pub RowHas : Situation → Request → Refusal → GrantRow → Type 0
+RowHas s r (refused.Rule NoRight) row = Allows row.rights r.op → ⊥
+RowHas s r (refused.Rule OutsideGrant) row = Covers row r.first.0 r.count → ⊥
+RowHas s r (refused.PortNotReady state) row = s.state row.port ≡ state
+RowHas s r refused.OutsideDisk row = s.sectors row.port < r.first.0 + r.count
+RowHas s r refused.TrimUnsupported row = IsTrue (s.trims row.port) → ⊥
+RowHas s r refusal row = Unit {0}
+
+-- a row that the request names has it
+abbrev pub SomeRowHas : Situation → Request → Refusal → Type 0
+SomeRowHas s r refusal = (row : GrantRow) × IsNamed s.rows r row × RowHas s r refusal row
+
+-- of the causes with this number, the first that applies, or that none does
+pub record IsFirstNumbered (s : Situation) (r : Request) (number : ℕ) (found : Option Refusal) : Type 0 where
+  pub applies : IfSome found (Applies s r)
+  pub numbered : IfSome found (λ cause. refusal_number cause ≡ number)
+  pub first : IfSome found (λ cause. (other : Refusal) → refusal_number other ≡ number → refusal_place other < refusal_place cause → Applies s r other → ⊥)
+  pub none : IfNone found ((other : Refusal) → refusal_number other ≡ number → Applies s r other → ⊥)

@@ -1,0 +1,127 @@
+// Which requests are due, as a plain and slow program: each function is its definition in specs/Due.antt.
+ghost use Rattle.std.specs.Prelude.{◌≡◌, ◌≤◌, length, filter};
+ghost use Rattle.std.specs.List.{list_any};
+ghost use Rattle.block_machine.specs.Due as due;
+
+use arrayvec::ArrayVec;
+use ata_types::{Op, Port, Range, RequestId};
+use block_machine::{Mode, Unanswered};
+
+/// Whether the operation changes sectors.
+pub fn is_writer(op: Op) -> bool
+    ensures { result ≡ due.is_writer op }
+{
+    match op {
+        Op::Read | Op::Flush => false,
+        Op::Write | Op::Trim => true,
+    }
+}
+
+/// Whether the operation is issued alone, in this mode.
+pub fn is_plain(mode: Mode, op: Op) -> bool
+    ensures { result ≡ due.is_plain mode op }
+{
+    match op {
+        Op::Read | Op::Write => !mode.queued,
+        Op::Trim | Op::Flush => true,
+    }
+}
+
+/// Whether the ranges have a sector in common.
+fn overlap(a: &Range, b: &Range) -> bool
+    ensures { result ≡ due.overlap a.now b.now }
+{
+    a.overlaps(b)
+}
+
+/// Whether the two conflict: a flush with every request of its port, and two with a sector in common if one of them writes
+/// or trims.
+pub fn conflict(a: &Unanswered, b: &Unanswered) -> bool
+    ensures { result ≡ due.conflict a.now b.now }
+{
+    let flush = a.op == Op::Flush || b.op == Op::Flush;
+    let writes = is_writer(a.op) || is_writer(b.op);
+    a.port.0 == b.port.0 && (flush || (writes && overlap(&a.range, &b.range)))
+}
+
+/// Whether `other` stands in the way of `r`.
+pub fn holds_back(mode: Mode, r: &Unanswered, other: &Unanswered) -> bool
+    ensures { result ≡ due.holds_back mode r.now other.now }
+{
+    let earlier = other.id.0 < r.id.0;
+    let blocks = if is_plain(mode, r.op) {
+        other.issued || earlier
+    } else {
+        let plain = is_plain(mode, other.op);
+        (plain && other.issued) || (earlier && (plain || conflict(other, r)))
+    };
+    other.port.0 == r.port.0 && blocks
+}
+
+/// Whether a request of the book stands in the way of `r`.
+fn is_held(mode: Mode, book: &[Unanswered], r: &Unanswered) -> bool
+    ensures { result ≡ list_any (due.holds_back mode r.now) book.now }
+{
+    for other in book {
+        if holds_back(mode, r, other) {
+            return true;
+        }
+    }
+    false
+}
+
+/// Whether the request waits, and nothing in the book stands in its way.
+pub fn is_clear(mode: Mode, book: &[Unanswered], r: &Unanswered) -> bool
+    ensures { result ≡ due.is_clear mode book.now r.now }
+{
+    !r.issued && !is_held(mode, book, r)
+}
+
+/// How many earlier requests of its port are clear to go.
+pub fn ahead(mode: Mode, book: &[Unanswered], r: &Unanswered) -> usize
+    ensures { result ≡ due.ahead mode book.now r.now }
+{
+    let mut count = 0;
+    for other in book {
+        let earlier = other.port.0 == r.port.0 && other.id.0 < r.id.0;
+        if earlier && is_clear(mode, book, other) {
+            count += 1;
+        }
+    }
+    count
+}
+
+/// How many usable slots of the port are free.
+pub fn free_slots(mode: Mode, book: &[Unanswered], port: Port) -> usize
+    ensures { result ≡ due.free_slots mode book.now port }
+{
+    let mut issued = 0usize;
+    for other in book {
+        if other.port.0 == port.0 && other.issued {
+            issued += 1;
+        }
+    }
+    (mode.usable as usize).saturating_sub(issued)
+}
+
+/// Whether the request of the book is due.
+pub fn is_due(mode: Mode, book: &[Unanswered], r: &Unanswered) -> bool
+    ensures { result ≡ due.is_due mode book.now r.now }
+{
+    is_clear(mode, book, r)
+        && (is_plain(mode, r.op) || ahead(mode, book, r) < free_slots(mode, book, r.port))
+}
+
+/// The due requests of the book, in its order, for a port that takes commands in this mode.
+pub fn due_list(mode: Mode, book: &[Unanswered]) -> ArrayVec<Unanswered, 128>
+    requires { length book.now ≤ 128 }
+    ensures { result.items ≡ filter (due.is_due mode book.now) book.now }
+{
+    let mut list = ArrayVec::new();
+    for r in book {
+        if is_due(mode, book, r) {
+            list.push(*r);
+        }
+    }
+    list
+}

@@ -1,0 +1,144 @@
+-- A run in which a port meets a fatal error, is stopped, and gets stuck in its boot.
+use Rattle.std.proofs.Common.{◌≡◌, ℕ, ◌<◌, zero, suc, List, [], ◌∷◌, map, Ok, inl, inr, ⊎_elim, refl, ap, arith}
+use Rattle.std.proofs.lemmas.Bool.{false≢true}
+use Rattle.std.proofs.lemmas.List.Sorted.{IsPermutation-append_comm}
+use Rattle.std.specs.List.{Contains}
+use Rattle.std.specs.Prelude.{slice_index_or}
+use Rattle.ata_types.specs.declared.Port.{Port}
+use Rattle.ata_types.specs.declared.PortState.TheVariants.{Ready, Dead}
+use Rattle.ata_types.specs.declared.request.Op.TheVariants.{Write}
+use Rattle.ata_types.specs.declared.request.Outcome.{Outcome}
+use Rattle.ata_types.specs.declared.request.Outcome.TheVariants as outcome
+use Rattle.block_machine.specs.Ports.{Evidence}
+use Rattle.block_machine.specs.State.{Accepted, Pending, unanswered}
+use Rattle.block_machine.specs.Steps.{Accept, Issue, Answer, newly_accepted, issue}
+use Rattle.block_machine.specs.Events.{Submit, Service, Submitted, Served, Event, Happens, ServesReady, Tells, IsToldBefore, reply_of, moment_of, situation_of}
+use Rattle.machine_runs.specs.Worked.{DiesInAService}
+use Rattle.block_machine.proofs.Members.{contains_none, contains_here, contains_there, contains_cases}
+use Rattle.block_machine.proofs.Setting.{port, frame, empty_starts, acceptable}
+use Rattle.machine_runs.proofs.Scene.{mode, id, call, one_sector, ports_in, first, ready_port, shows_none, changed_here, spares_ports, IsQuiet, row_zero, write_at, new, none_waits, none_ended, none_unplugged, no_faults, ports_fit, none_dead}
+use Rattle.machine_runs.proofs.WaitingRun.{write, run1, happens1}
+use Rattle.machine_runs.proofs.ResetRun.{dead_not_ready, dead_here}
+
+-- a write of another sector
+abbrev other : Accepted
+other = one_sector 0 (moment_of first run1).machine 2 Write 101 41
+
+abbrev submit : Event (Unit {0})
+submit = call (Submit other.asked) (Submitted (Ok (id 2))) (Issue mode (newly_accepted other) ∷ Accept other ∷ [])
+
+abbrev run2 : List (Event (Unit {0}))
+run2 = submit ∷ run1
+
+abbrev one : Pending
+one = issue (newly_accepted write)
+
+abbrev two : Pending
+two = issue (newly_accepted other)
+
+-- the port met a fatal error; it was stopped, and got stuck then
+abbrev seen : Evidence
+seen = record { faults = []; lost = []; gone = []; failed = port ∷ []; fatal = port ∷ []; stopped = port ∷ []; stuck = port ∷ [] }
+
+abbrev told : List (Pending × Outcome)
+told = (one, outcome.PortDead) ∷ (two, outcome.PortDead) ∷ []
+
+abbrev service : Event (Unit {0})
+service = record { ask = Service; said = Served (map reply_of told); evidence = seen; steps = Answer two outcome.PortDead ∷ Answer one outcome.PortDead ∷ []; ports = ports_in Dead }
+
+abbrev run3 : List (Event (Unit {0}))
+run3 = service ∷ run2
+
+quiet : IsQuiet 0 (moment_of first run1)
+quiet = record { rows = refl; mine = row_zero; ready = refl; size = refl; room = omega arith; few = omega arith }
+
+second : {X : Type 0} (a b : X) → Contains (a ∷ b ∷ []) b
+second a b = contains_there a (b ∷ []) b (contains_here b [] b refl)
+
+happens2 : Happens (moment_of first run1) submit
+happens2 = record {
+  may = ((tt, new 0 (moment_of first run1) other quiet (write_at 0 (moment_of first run1) 101 41 quiet (omega arith) (omega arith) refl refl) refl refl refl), (second one (newly_accepted other), record { here = second (unanswered one) (unanswered (newly_accepted other)); clear = refl; slot = λ _. omega arith }, λ e h. absurd (contains_none e h)));
+  belong = ((tt, inr refl), inr (refl, refl));
+  last = ((tt, λ id h i. false≢true i), λ id h i. false≢true i);
+  lawful = tt;
+  fit = ports_fit Ready refl;
+  disks = λ e o h i same. (refl, refl);
+  answered = (acceptable 0 (situation_of (moment_of first run1)) other.asked (write_at 0 (moment_of first run1) 101 41 quiet (omega arith) (omega arith) refl refl), (other, refl, refl), λ p. (refl, refl, refl, refl, refl, refl), λ p _. none_waits _ refl p);
+}
+
+tells : Tells service.steps (map reply_of told)
+tells = record {
+  answers = told;
+  same = IsPermutation-append_comm ((one, outcome.PortDead) ∷ []) ((two, outcome.PortDead) ∷ []);
+  ordered = go;
+  told = refl;
+}
+  where
+    go : (i j : ℕ) (d : Pending × Outcome) → i < j → j < 2 → IsToldBefore (slice_index_or told i d) (slice_index_or told j d)
+    go zero (suc zero) d lt below = inr (refl, omega arith)
+    go i j d lt below = absurd (omega (arith, lt, below))
+
+happens3 : Happens (moment_of first run2) service
+happens3 = record {
+  may = ((tt, contains_here one (two ∷ []) one refl), contains_here two [] two refl);
+  belong = ((tt, inr tt), inr tt);
+  last = ((tt, λ id h i. false≢true i), λ id h i. false≢true i);
+  lawful = ((tt, (refl, inr (contains_here port [] port refl))), (refl, inr (contains_here port [] port refl)));
+  fit = ports_fit Dead refl;
+  disks = λ e o h i same. (refl, refl);
+  answered = record {
+    tells = tells;
+    dead = λ e o h dead. none_dead e.request.port dead;
+    grounded = tt;
+    unplugs = none_unplugged service.steps (moment_of first run3).machine refl;
+    issues = λ p ready. dead_not_ready p ready;
+    emptied = λ p ne e h. absurd (contains_none e h);
+    becomes = λ p. (λ dead. none_dead p dead, λ _. (record { served = refl; stuck = dead_here p; dies = λ h. dies p h; disk = λ ready. inr (inl (ap (ports_in Dead).state (ready_port p ready))); keeps = λ _. (refl, refl) }, changed_here Ready Dead seen (inl (contains_here port [] port refl)) p));
+    disk = λ p. inr (λ shows. shows_none Dead (λ s. s) p shows);
+  };
+}
+  where
+    only : (x p : Port) → Contains (x ∷ []) p → p ≡ x
+    only x p h = ⊎_elim (λ same. same) (λ n. absurd (contains_none p n)) (contains_cases x [] p h)
+
+    dies : (p : Port) → Contains (port ∷ []) p → (ports_in Dead).state p ≡ Dead
+    dies p h = ap (ports_in Dead).state (only port p h)
+
+notices : (p : Port) → first.ports.state p ≡ Ready → ServesReady (moment_of first run2) seen service.steps (moment_of first run3) p
+notices p ready = record {
+  ended = none_ended (moment_of first run2).machine service.steps refl p;
+  emptied = λ gone. absurd (contains_none p gone);
+  told = λ gone. absurd (contains_none p gone);
+  interrupts = λ _. inl (contains_here port [] p (ready_port p ready));
+  anew = λ _ e h. absurd (contains_none e h);
+  changes = inr (inl (contains_here port [] p (ready_port p ready)));
+  single = let zero = no_faults service.steps refl p in omega (arith, zero);
+  disk = λ shows. shows_none Dead (λ s. s) p shows;
+  fatal = λ _. (contains_here port [] p (ready_port p ready), no_faults service.steps refl p);
+  calm = inl (inl (contains_here port [] p (ready_port p ready)));
+}
+
+pub dies_in_a_service : DiesInAService
+dies_in_a_service = record {
+  first = first;
+  asked = run2;
+  service = service;
+  runs = ((((empty_starts, ports_fit Ready refl), happens1), happens2), happens3);
+  heeds = (((tt, spares_ports), spares_ports), notices);
+  one = one;
+  two = two;
+  book = refl;
+  issued = (refl, refl);
+  together = refl;
+  ready = refl;
+  serves = refl;
+  fails = contains_here port [] port refl;
+  stops = contains_here port [] port refl;
+  sticks = contains_here port [] port refl;
+  answers = refl;
+  dies = refl;
+  stay = refl;
+  frame = frame 41;
+  its = refl;
+  lent = refl;
+}

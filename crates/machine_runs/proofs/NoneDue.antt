@@ -1,0 +1,110 @@
+-- At each moment of a run no request of a ready port is due: what comes between two calls that issue changes nothing of it.
+use Rattle.std.proofs.Common.{◌≡◌, Bool, true, false, List, [], ◌∷◌, map, Some, None, Ok, Err, ⊎_elim, refl, sym, ap, ◌∙◌, subst}
+use Rattle.std.specs.List.{Contains}
+use Rattle.std.proofs.lemmas.Bool.{cases_Bool, false≢true}
+use Rattle.ata_types.specs.declared.Port.{Port}
+use Rattle.ata_types.specs.declared.request.RequestId.{RequestId}
+use Rattle.block_machine.specs.declared.due.Mode.{Mode}
+use Rattle.block_machine.specs.declared.due.Unanswered.{Unanswered}
+use Rattle.block_machine.specs.Due.{NoneDue}
+use Rattle.block_machine.specs.Ports.{Ports, Evidence, AreFit, SamePorts, IsStuck}
+use Rattle.block_machine.specs.State.{Pending, Machine, unanswered}
+use Rattle.block_machine.specs.Steps.{Step, Accept, Issue, Touch, End, Age, Again, Answer, Store, Load, after_step, at, touch, mark_ended}
+use Rattle.block_machine.specs.Left.{after}
+use Rattle.block_machine.specs.Events.{Moment, Ask, Submit, StoreAt, LoadAt, Service, Tick, Reset, State, Device, Said, Submitted, Stored, Loaded, Served, WasReset, Shown, Stepped, Event, AllIssued, IsAnswered, IsDevices, IsServers, Belong, IsRun, moment_of}
+use Rattle.block_machine.proofs.Members.{contains_none, at_cases}
+use Rattle.machine_runs.proofs.RunLaws.{is_ready}
+
+same_due : (id : RequestId) (f : Pending → Pending) → ((e : Pending) → unanswered (f e) ≡ unanswered e) → (es : List Pending) → map unanswered (map (at id f) es) ≡ map unanswered es
+same_due id f same [] = refl
+same_due id f same (x ∷ xs) =
+    ap (λ (u : Unanswered). u ∷ map unanswered (map (at id f) xs)) (⊎_elim (λ c. ap unanswered c.1 ∙ same x) (λ c. ap unanswered c.1) (at_cases id f x))
+    ∙ ap (λ (us : List Unanswered). unanswered x ∷ us) (same_due id f same xs)
+
+-- the step changes nothing of what is due
+abbrev IsIdle : Step → Type 0
+IsIdle (Accept r) = ⊥
+IsIdle (Issue mode e) = ⊥
+IsIdle (Age ready) = ⊥
+IsIdle (Again e) = ⊥
+IsIdle (Answer e o) = ⊥
+IsIdle _ = Unit {0}
+
+idle_due : (m : Machine) (step : Step) → IsIdle step → map unanswered (after_step m step).book ≡ map unanswered m.book
+idle_due m (Touch p i block) h = same_due p.request.id (touch i) (λ e. refl) m.book
+idle_due m (End p) h = same_due p.request.id mark_ended (λ e. refl) m.book
+idle_due m (Accept r) h = absurd h
+idle_due m (Issue mode e) h = absurd h
+idle_due m (Age ready) h = absurd h
+idle_due m (Again e) h = absurd h
+idle_due m (Answer e o) h = absurd h
+idle_due m _ h = refl
+
+devices_idle : (step : Step) → IsDevices step → IsIdle step
+devices_idle (Accept r) h = absurd h
+devices_idle (Issue mode e) h = absurd h
+devices_idle (Age ready) h = absurd h
+devices_idle (Again e) h = absurd h
+devices_idle (Answer e o) h = absurd h
+devices_idle _ h = tt
+
+-- a call that neither issues nor answers
+abbrev is_idle : {D : Type 0} → Ask D → Bool
+is_idle (StoreAt c f o b) = true
+is_idle (LoadAt c f o n) = true
+is_idle (State p) = true
+is_idle (Device d) = true
+is_idle _ = false
+
+servers_idle : {D : Type 0} (ask : Ask D) (ports : Ports) (step : Step) → is_idle ask ≡ true → IsServers ask ports step → IsIdle step
+servers_idle (StoreAt c f o b) ports (Store _ _ _ _) t h = tt
+servers_idle (StoreAt c f o b) ports _ t h = absurd h
+servers_idle (LoadAt c f o n) ports (Load _ _ _ _) t h = tt
+servers_idle (LoadAt c f o n) ports _ t h = absurd h
+servers_idle (State p) ports _ t h = absurd h
+servers_idle (Device d) ports _ t h = absurd h
+servers_idle ask ports _ t h = absurd (false≢true t)
+
+idle_steps : {D : Type 0} (ask : Ask D) (ports : Ports) (m : Machine) (steps : List Step) → is_idle ask ≡ true → Belong ask ports steps → map unanswered (after m steps).book ≡ map unanswered m.book
+idle_steps ask ports m [] t b = refl
+idle_steps ask ports m (step ∷ before) t b =
+    idle_due (after m before) step (⊎_elim (devices_idle step) (servers_idle ask ports step t) b.1) ∙ idle_steps ask ports m before t b.0
+
+-- with the same ports and the same requests, none is due
+issued_still : (old new : Moment) → map unanswered new.machine.book ≡ map unanswered old.machine.book → SamePorts old.ports new.ports → AllIssued old → AllIssued new
+issued_still old new book same all port ready =
+    subst (λ (mode : Mode). NoneDue mode (map unanswered new.machine.book) port) (sym (same port).5)
+    (subst (λ (us : List Unanswered). NoneDue (old.ports.mode port) us port) (sym book) (all port (sym (same port).1 ∙ ready)))
+
+-- and where each served port is dead, none is ready
+issued_stuck : (old new : Moment) (evidence : Evidence) → AreFit new.ports → ((port : Port) → IsStuck old.ports evidence new.ports port) → AllIssued new
+issued_stuck old new evidence fit stuck port ready = absurd (⊎_elim
+    (λ served. false≢true (ap is_ready (sym ((stuck port).1 served).0) ∙ ap is_ready ready))
+    (λ other. false≢true (ap is_ready (sym (fit.absent port ((stuck port).0 ∙ other))) ∙ ap is_ready ready))
+    (cases_Bool (old.ports.served port)))
+
+-- what these steps leave, with these ports
+abbrev left : Moment → List Step → Ports → Moment
+left old steps ports = record { machine = after old.machine steps; ports = ports }
+
+issued_event : {D : Type 0} (ask : Ask D) (said : Said) (old : Moment) (evidence : Evidence) (steps : List Step) (ports : Ports)
+    → IsAnswered ask said old evidence steps (left old steps ports) → Belong ask ports steps → AreFit ports → AllIssued old → AllIssued (left old steps ports)
+issued_event (Submit r) (Submitted (Ok id)) old evidence steps ports a b fit all = a.3
+issued_event (Submit r) (Submitted (Err refusal)) old evidence steps ports a b fit all =
+    issued_still old (left old steps ports) (ap (λ (xs : List Step). map unanswered (after old.machine xs).book) a.1) a.2 all
+issued_event {D} (StoreAt c f o x) (Stored None) old evidence steps ports a b fit all = issued_still old (left old steps ports) (idle_steps {D = D} (StoreAt c f o x) ports old.machine steps refl b) a.2 all
+issued_event {D} (StoreAt c f o x) (Stored (Some fault)) old evidence steps ports a b fit all = issued_still old (left old steps ports) (idle_steps {D = D} (StoreAt c f o x) ports old.machine steps refl b) a.2 all
+issued_event {D} (LoadAt c f o n) (Loaded (Ok bytes)) old evidence steps ports a b fit all = issued_still old (left old steps ports) (idle_steps {D = D} (LoadAt c f o n) ports old.machine steps refl b) a.2 all
+issued_event {D} (LoadAt c f o n) (Loaded (Err fault)) old evidence steps ports a b fit all = issued_still old (left old steps ports) (idle_steps {D = D} (LoadAt c f o n) ports old.machine steps refl b) a.2 all
+issued_event {D} (State p) (Shown state) old evidence steps ports a b fit all = issued_still old (left old steps ports) (idle_steps {D = D} (State p) ports old.machine steps refl b) a.2 all
+issued_event {D} (Device d) (Stepped true) old evidence steps ports a b fit all = issued_still old (left old steps ports) (idle_steps {D = D} (Device d) ports old.machine steps refl b) a.1 all
+issued_event {D} (Device d) (Stepped false) old evidence steps ports a b fit all = issued_still old (left old steps ports) (idle_steps {D = D} (Device d) ports old.machine steps refl b) a.1 all
+issued_event Service (Served replies) old evidence steps ports a b fit all = a.issues
+issued_event Tick (Served replies) old evidence steps ports a b fit all = a.issues
+issued_event Reset (WasReset (Some replies)) old evidence steps ports a b fit all = a.issues
+issued_event Reset (WasReset None) old evidence steps ports a b fit all = issued_stuck old (left old steps ports) evidence fit a.1
+issued_event ask said old evidence steps ports a b fit all = absurd a
+
+pub none_due_between : {D : Type 0} (first : Moment) (run : List (Event D)) → IsRun first run → AllIssued (moment_of first run)
+none_due_between first [] r = λ port ready x here due. contains_none x (subst (λ (es : List Pending). Contains (map unanswered es) x) r.0.book due.here)
+none_due_between first (event ∷ past) r = issued_event event.ask event.said (moment_of first past) event.evidence event.steps event.ports r.1.answered r.1.belong r.1.fit (none_due_between first past r.0)

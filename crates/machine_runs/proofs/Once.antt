@@ -1,0 +1,233 @@
+-- Over every run an id is accepted once at most, and answered once at most, after it was accepted: as steps, and as what calls say.
+use Rattle.std.proofs.Common.{◌≡◌, ◌⊎◌, ℕ, ◌+◌, ◌≤◌, ◌==◌, Bool, true, false, cond, List, [], ◌∷◌, ◌++◌, map, Some, Ok, Err, inl, inr, ⊎_elim, refl, sym, ap, ◌∙◌, subst, arith, eqb-true}
+use Rattle.std.proofs.lemmas.List.Sorted.{sum_by-IsPermutation, Contains-permutation}
+use Rattle.std.specs.List.{Contains, count_by}
+use Rattle.ata_types.specs.declared.request.RequestId.{RequestId}
+use Rattle.ata_types.specs.declared.request.ClientId.{ClientId}
+use Rattle.ata_types.specs.declared.request.Request.{Request}
+use Rattle.ata_types.specs.declared.request.Outcome.{Outcome}
+use Rattle.ata_types.specs.declared.request.Reply.{Reply}
+use Rattle.block_machine.specs.Ports.{Ports, Evidence}
+use Rattle.block_machine.specs.State.{Accepted, Pending, Machine}
+use Rattle.block_machine.specs.Steps.{Step, Accept, Answer, May, after_step}
+use Rattle.block_machine.specs.Left.{after, IsLegal, IsStart}
+use Rattle.block_machine.specs.Confined.{WasAccepted}
+use Rattle.block_machine.specs.Events.{Moment, Ask, Submit, Service, Tick, Reset, Said, Submitted, Served, WasReset, Event, AllMay, Belong, Tells, IsAnswered, IsRun, accepts_it, answers_it, accepts_of, answers_of, reply_of, replies_of, all_replies, gives_id, WasGiven, moment_of, steps_of}
+use Rattle.block_machine.proofs.Members.{contains_none, contains_here, contains_cases, map_in, without_in, append_in}
+use Rattle.block_machine.proofs.Sound.{Sound}
+use Rattle.block_machine.proofs.Runs.{traced, nobody}
+use Rattle.block_machine.proofs.Accepts.{living_accepted}
+use Rattle.block_machine.proofs.Counting.{count_cons, count_append, count_map}
+use Rattle.machine_runs.proofs.CallSteps.{Came, came, Since, IsAccepted, since, is_submit, none_accepted, all_fit, accepted_asked}
+use Rattle.block_machine.proofs.EventLemmas.{run_starts, run_legal, step_of_run}
+
+-- How often an id was accepted: not yet where it is still to come, and once at most.
+record IsFresh (m : Machine) (id : RequestId) (n : ℕ) : Type 0 where
+  most : n ≤ 1
+  none : m.next ≤ id.0 → n ≡ 0
+
+fresh_step : (m : Machine) (step : Step) (id : RequestId) (n : ℕ) → May m step → IsFresh m id n → IsFresh (after_step m step) id (cond (accepts_it id step) 1 0 + n)
+fresh_step m (Accept r) id n may f = go (r.id.0 == id.0) refl
+  where
+    next : r.id.0 ≡ m.next
+    next = may.id
+
+    go : (b : Bool) → (r.id.0 == id.0) ≡ b → IsFresh (after_step m (Accept r)) id (cond b 1 0 + n)
+    go true e =
+        let same = eqb-true r.id.0 id.0 e in
+        let zero = f.none (omega (arith, same, next)) in
+        record { most = omega (arith, zero); none = λ le. absurd (omega (arith, le, same, next)) }
+    go false e = let most = f.most in record { most = omega (arith, most); none = λ le. let zero = f.none (omega (arith, le)) in omega (arith, zero) }
+fresh_step m step id n may f = let most = f.most in record { most = omega (arith, most); none = λ le. let zero = f.none le in omega (arith, zero) }
+
+fresh : (start : Machine) (h : List Step) (id : RequestId) → IsStart start → IsLegal start h → IsFresh (after start h) id (count_by (accepts_it id) h)
+fresh start [] id s legal = record { most = omega arith; none = λ le. refl }
+fresh start (step ∷ past) id s legal = subst (IsFresh (after start (step ∷ past)) id) (sym (count_cons (accepts_it id) step past))
+    (fresh_step (after start past) step id (count_by (accepts_it id) past) legal.1 (fresh start past id s legal.0))
+
+pub accepted_once : {D : Type 0} (first : Moment) (run : List (Event D)) (id : RequestId) → IsRun first run → count_by (accepts_it id) (steps_of run) ≤ 1
+accepted_once first run id r = (fresh first.machine (steps_of run) id (run_starts first run r) (run_legal first run r)).most
+
+-- How often an id was answered: not yet where it is still to come, or unanswered, and once at most.
+record IsUntold (m : Machine) (id : RequestId) (n : ℕ) : Type 0 where
+  most : n ≤ 1
+  none : m.next ≤ id.0 → n ≡ 0
+  here : (e : Pending) → Contains m.book e → e.request.id.0 ≡ id.0 → n ≡ 0
+
+untold_step : (m : Machine) (step : Step) (id : RequestId) (n : ℕ) → May m step → Sound m → IsUntold m id n → IsUntold (after_step m step) id (cond (answers_it id step) 1 0 + n)
+untold_step m (Answer p o) id n may s f = go (p.request.id.0 == id.0) refl
+  where
+    go : (b : Bool) → (p.request.id.0 == id.0) ≡ b → IsUntold (after_step m (Answer p o)) id (cond b 1 0 + n)
+    go true e =
+        let same = eqb-true p.request.id.0 id.0 e in
+        let zero = f.here p may same in
+        let below = s.below p (inl may) in
+        record { most = omega (arith, zero); none = λ le. absurd (omega (arith, le, same, below)); here = λ x i q. absurd ((without_in p.request.id m.book x i).1 (q ∙ sym same)) }
+    go false e =
+        let most = f.most in
+        record {
+          most = omega (arith, most);
+          none = λ le. let zero = f.none le in omega (arith, zero);
+          here = λ x i q. let zero = f.here x (without_in p.request.id m.book x i).0 q in omega (arith, zero);
+        }
+untold_step m (Accept r) id n may s f =
+    let most = f.most in
+    let next : r.id.0 ≡ m.next = may.id in
+    record {
+      most = omega (arith, most);
+      none = λ le. let zero = f.none (omega (arith, le)) in omega (arith, zero);
+      here = λ x i q. ⊎_elim
+          (λ old. let zero = f.here x old q in omega (arith, zero))
+          (λ new. let mine = ap (λ (y : Pending). y.request.id.0) new in let zero = f.none (omega (arith, next, mine, q)) in omega (arith, zero))
+          (append_in m.book _ x i);
+    }
+untold_step m step id n may s f =
+    let most = f.most in
+    record {
+      most = omega (arith, most);
+      none = λ le. let zero = f.none le in omega (arith, zero);
+      here = λ x i q. ⊎_elim
+          (λ (c : Came m step x). let zero = f.here c.old c.here (ap (λ (r : Accepted). r.id.0) c.same ∙ q) in omega (arith, zero))
+          (λ new. absurd new.0)
+          (came m step x i);
+    }
+
+untold : (start : Machine) (h : List Step) (id : RequestId) → IsStart start → IsLegal start h → IsUntold (after start h) id (count_by (answers_it id) h)
+untold start [] id s legal = record { most = omega arith; none = λ le. refl; here = λ e i q. refl }
+untold start (step ∷ past) id s legal = subst (IsUntold (after start (step ∷ past)) id) (sym (count_cons (answers_it id) step past))
+    (untold_step (after start past) step id (count_by (answers_it id) past) legal.1 (traced start past s legal.0).sound (untold start past id s legal.0))
+
+pub answered_once : {D : Type 0} (first : Moment) (run : List (Event D)) (id : RequestId) → IsRun first run → count_by (answers_it id) (steps_of run) ≤ 1
+answered_once first run id r = (untold first.machine (steps_of run) id (run_starts first run r) (run_legal first run r)).most
+
+pub answered_was_accepted : {D : Type 0} (first : Moment) (run : List (Event D)) (late early : List Step) (e : Pending) (outcome : Outcome) → IsRun first run
+    → steps_of run ≡ late ++ Answer e outcome ∷ early → WasAccepted first.machine early e.request
+answered_was_accepted first run late early e outcome r split =
+    let u = step_of_run first run late (Answer e outcome) early r split in
+    living_accepted first.machine early (run_starts first run r) u.0 e (inl u.1)
+
+-- What a call says of it.
+
+-- a call tells the answers of its steps, or gives no reply
+told_or_none : {D : Type 0} (ask : Ask D) (said : Said) (old : Moment) (evidence : Evidence) (steps : List Step) (new : Moment) → IsAnswered ask said old evidence steps new
+    → (Tells steps (replies_of said) × (is_submit ask ≡ false)) ⊎ (replies_of said ≡ [])
+told_or_none Service (Served replies) old evidence steps new a = inl (a.tells, refl)
+told_or_none Tick (Served replies) old evidence steps new a = inl (a.tells, refl)
+told_or_none Reset (WasReset (Some replies)) old evidence steps new a = inl (a.tells, refl)
+told_or_none ask (Served replies) old evidence steps new a = absurd a
+told_or_none ask (WasReset (Some replies)) old evidence steps new a = absurd a
+told_or_none ask said old evidence steps new a = inr refl
+
+-- the answers of this id
+abbrev is_of : RequestId → Pending × Outcome → Bool
+is_of id answer = answer.0.request.id.0 == id.0
+
+-- a step, counted
+count_answers : (id : RequestId) (steps : List Step) → count_by (is_of id) (answers_of steps) ≡ count_by (answers_it id) steps
+count_answers id [] = refl
+count_answers id (Answer e o ∷ before) =
+    let rest = count_answers id before in omega (arith, rest, count_cons (is_of id) (e, o) (answers_of before), count_cons (answers_it id) (Answer e o) before)
+count_answers id (step ∷ before) = let rest = count_answers id before in omega (arith, rest, count_cons (answers_it id) step before)
+
+count_replies : (id : RequestId) (answers : List (Pending × Outcome)) → count_by (λ (reply : Reply). reply.id.0 == id.0) (map reply_of answers) ≡ count_by (is_of id) answers
+count_replies id answers = count_map (λ (reply : Reply). reply.id.0 == id.0) (is_of id) reply_of answers (λ y i. refl)
+
+-- a call replies as often as it answers, or not
+replies_few : (id : RequestId) (steps : List Step) (replies : List Reply) → Tells steps replies ⊎ (replies ≡ []) → count_by (λ (reply : Reply). reply.id.0 == id.0) replies ≤ count_by (answers_it id) steps
+replies_few id steps replies (inl t) =
+    let same = ap (count_by (λ (reply : Reply). reply.id.0 == id.0)) t.told in
+    let swapped : count_by (is_of id) (answers_of steps) ≡ count_by (is_of id) t.answers = sum_by-IsPermutation (λ a. cond (is_of id a) 1 0) t.answers (answers_of steps) t.same in
+    omega (arith, same, swapped, count_answers id steps, count_replies id t.answers)
+replies_few id steps replies (inr e) = let same = ap (count_by (λ (reply : Reply). reply.id.0 == id.0)) e in omega (arith, same)
+
+run_replies : {D : Type 0} (first : Moment) (run : List (Event D)) (id : RequestId) → IsRun first run → count_by (λ (reply : Reply). reply.id.0 == id.0) (all_replies run) ≤ count_by (answers_it id) (steps_of run)
+run_replies first [] id r = omega arith
+run_replies first (event ∷ past) id r =
+    let rest = run_replies first past id r.0 in
+    let now = replies_few id event.steps (replies_of event.said)
+    (⊎_elim (λ t. inl t.0) (λ e. inr e) (told_or_none event.ask event.said (moment_of first past) event.evidence event.steps _ r.1.answered)) in
+    omega (arith, rest, now, count_append (λ (reply : Reply). reply.id.0 == id.0) (replies_of event.said) (all_replies past), count_append (answers_it id) event.steps (steps_of past))
+
+pub replied_once : {D : Type 0} (first : Moment) (run : List (Event D)) (id : RequestId) → IsRun first run → count_by (λ (reply : Reply). reply.id.0 == id.0) (all_replies run) ≤ 1
+replied_once first run id r = let few = run_replies first run id r in let once = answered_once first run id r in omega (arith, few, once)
+
+-- a call that accepts says so
+accepts_count : (id : RequestId) (steps : List Step) → count_by (λ (r : Accepted). r.id.0 == id.0) (accepts_of steps) ≡ count_by (accepts_it id) steps
+accepts_count id [] = refl
+accepts_count id (Accept r ∷ before) =
+    let rest = accepts_count id before in omega (arith, rest, count_cons (λ (x : Accepted). x.id.0 == id.0) r (accepts_of before), count_cons (accepts_it id) (Accept r) before)
+accepts_count id (step ∷ before) = let rest = accepts_count id before in omega (arith, rest, count_cons (accepts_it id) step before)
+
+gives_accepted : {D : Type 0} (id : RequestId) (ask : Ask D) (said : Said) (old : Moment) (evidence : Evidence) (steps : List Step) (new : Moment) → IsAnswered ask said old evidence steps new
+    → cond (gives_id id said) 1 0 ≤ count_by (accepts_it id) steps
+gives_accepted id (Submit q) (Submitted (Ok given)) old evidence steps new a =
+    let one : count_by (λ (r : Accepted). r.id.0 == id.0) (accepts_of steps) ≡ cond (a.1.0.id.0 == id.0) 1 0 + 0 =
+    ap (count_by (λ (r : Accepted). r.id.0 == id.0)) a.1.1 ∙ count_cons (λ (r : Accepted). r.id.0 == id.0) a.1.0 [] in
+    let same : cond (a.1.0.id.0 == id.0) 1 0 ≡ cond (given.0 == id.0) 1 0 = ap (λ (x : RequestId). cond {A = ℕ} (x.0 == id.0) 1 0) a.1.2 in
+    omega (arith, one, same, accepts_count id steps)
+gives_accepted id ask (Submitted (Ok given)) old evidence steps new a = absurd a
+gives_accepted id ask said old evidence steps new a = omega arith
+
+run_gives : {D : Type 0} (first : Moment) (run : List (Event D)) (id : RequestId) → IsRun first run → count_by (λ (event : Event D). gives_id id event.said) run ≤ count_by (accepts_it id) (steps_of run)
+run_gives first [] id r = omega arith
+run_gives {D} first (event ∷ past) id r =
+    let rest = run_gives first past id r.0 in
+    let now = gives_accepted id event.ask event.said (moment_of first past) event.evidence event.steps _ r.1.answered in
+    omega (arith, rest, now, count_cons (λ (x : Event D). gives_id id x.said) event past, count_append (accepts_it id) event.steps (steps_of past))
+
+pub given_once : {D : Type 0} (first : Moment) (run : List (Event D)) (id : RequestId) → IsRun first run → count_by (λ (event : Event D). gives_id id event.said) run ≤ 1
+given_once first run id r = let few = run_gives first run id r in let once = accepted_once first run id r in omega (arith, few, once)
+
+-- Each unanswered request has an id that a submit of its client gave.
+
+abbrev IsGiven : {D : Type 0} → RequestId → ClientId → Ask D → Said → Type 0
+IsGiven id client ask said = (r : Request) × (ask ≡ Submit r) × (said ≡ Submitted (Ok id)) × (r.client ≡ client)
+
+accepts_gives : {D : Type 0} (r : Accepted) (ask : Ask D) (said : Said) (old : Moment) (evidence : Evidence) (steps : List Step) (ports : Ports) (new : Moment) → Belong ask ports steps
+    → IsAnswered ask said old evidence steps new → Contains (accepts_of steps) r → IsGiven r.id r.asked.client ask said
+accepts_gives {D} r (Submit q) (Submitted (Ok given)) old evidence steps ports new b a h =
+    let same : r ≡ a.1.0 = ⊎_elim (λ e. e) (λ n. absurd (contains_none r n)) (contains_cases a.1.0 [] r (subst (λ (xs : List Accepted). Contains xs r) a.1.1 h)) in
+    (q, refl, ap (λ (x : RequestId). Submitted (Ok x)) (sym a.1.2 ∙ ap (λ (x : Accepted). x.id) (sym same)), ap (λ (x : Request). x.client) (sym (accepted_asked D q ports steps r b h)))
+accepts_gives r (Submit q) (Submitted (Err refusal)) old evidence steps ports new b a h = absurd (contains_none r (subst (λ (xs : List Step). Contains (accepts_of xs) r) a.1 h))
+accepts_gives r (Submit q) said old evidence steps ports new b a h = absurd a
+accepts_gives r ask said old evidence steps ports new b a h = absurd (contains_none r (subst (λ (xs : List Accepted). Contains xs r) (none_accepted ask steps refl (all_fit ask ports steps b)) h))
+
+was_given : {D : Type 0} (first : Moment) (run : List (Event D)) (e : Pending) → IsRun first run → Contains (moment_of first run).machine.book e → WasGiven e.request.id e.request.asked.client run
+was_given first [] e r h = absurd (nobody first.machine r.0 e (inl h))
+was_given first (event ∷ past) e r h = ⊎_elim
+    (λ (s : Since (moment_of first past).machine event.steps e). inr
+    (subst (λ (x : Accepted). WasGiven x.id x.asked.client past) s.same (was_given first past s.old r.0 s.here)))
+    (λ (a : IsAccepted event.steps e). inl
+    (accepts_gives e.request event.ask event.said (moment_of first past) event.evidence event.steps event.ports _ r.1.belong r.1.answered a.0))
+    (since (moment_of first past).machine event.steps e h)
+
+-- So has each reply.
+
+not_cons : {X : Type 0} (x : X) (xs : List X) → x ∷ xs ≡ [] → ⊥
+not_cons x xs e = contains_none x (subst (λ ys. Contains ys x) e (contains_here x xs x refl))
+
+-- a request that these steps answer was unanswered before them, where they accept none
+was_open : (m : Machine) (steps : List Step) (answer : Pending × Outcome) → AllMay m steps → accepts_of steps ≡ [] → Contains (answers_of steps) answer
+    → (e : Pending) × Contains m.book e × (e.request ≡ answer.0.request)
+was_open m [] answer may none h = absurd (contains_none answer h)
+was_open m (Accept r ∷ before) answer may none h = absurd (not_cons r (accepts_of before) none)
+was_open m (Answer p o ∷ before) answer may none h = ⊎_elim
+    (λ (same : answer ≡ (p, o)). ⊎_elim
+    (λ (s : Since m before p). (s.old, s.here, s.same ∙ ap (λ (x : Pending × Outcome). x.0.request) (sym same)))
+    (λ (a : IsAccepted before p). absurd (contains_none p.request (subst (λ (xs : List Accepted). Contains xs p.request) none a.0)))
+    (since m before p may.1))
+    (λ i. was_open m before answer may.0 none i)
+    (contains_cases (p, o) (answers_of before) answer h)
+was_open m (step ∷ before) answer may none h = was_open m before answer may.0 none h
+
+pub replied_was_given : {D : Type 0} (first : Moment) (past : List (Event D)) (event : Event D) (reply : Reply) → IsRun first (event ∷ past) → Contains (replies_of event.said) reply
+    → WasGiven reply.id reply.client past
+replied_was_given first past event reply r h = ⊎_elim
+    (λ (t : Tells event.steps (replies_of event.said) × (is_submit event.ask ≡ false)).
+    let a = map_in reply_of t.0.answers reply (subst (λ (xs : List Reply). Contains xs reply) t.0.told h) in
+    let waited = was_open (moment_of first past).machine event.steps a.0 r.1.may
+    (none_accepted event.ask event.steps t.1 (all_fit event.ask event.ports event.steps r.1.belong)) (Contains-permutation t.0.answers (answers_of event.steps) a.0 t.0.same a.1) in
+    subst (λ (x : Reply). WasGiven x.id x.client past) (sym a.2)
+    (subst (λ (x : Accepted). WasGiven x.id x.asked.client past) waited.2 (was_given first past waited.0 r.0 waited.1)))
+    (λ e. absurd (contains_none reply (subst (λ (xs : List Reply). Contains xs reply) e h)))
+    (told_or_none event.ask event.said (moment_of first past) event.evidence event.steps _ r.1.answered)

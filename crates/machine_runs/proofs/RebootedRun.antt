@@ -1,0 +1,121 @@
+-- A run in which resets issue a request anew, abort it in the end, and issue one that waited for it.
+use Rattle.std.proofs.Common.{◌≡◌, ℕ, ◌<◌, true, suc, List, [], ◌∷◌, Some, inl, inr, refl, arith}
+use Rattle.std.proofs.lemmas.Bool.{false≢true}
+use Rattle.ata_types.specs.declared.Port.{Port}
+use Rattle.ata_types.specs.declared.PortState.TheVariants.{Ready}
+use Rattle.ata_types.specs.declared.request.Outcome.TheVariants as outcome
+use Rattle.block_machine.specs.Ports.{MayBecome}
+use Rattle.block_machine.specs.State.{Pending, Machine, unanswered}
+use Rattle.block_machine.specs.Steps.{Issue, Again, Answer, Release, newly_accepted, issue, requeued}
+use Rattle.block_machine.specs.Events.{Moment, Reset, WasReset, Event, Happens, IsIssuedIn, reply_of, moment_of, moment_after}
+use Rattle.machine_runs.specs.Worked.{GoesAgainInResets}
+use Rattle.block_machine.proofs.Members.{contains_none, contains_here}
+use Rattle.block_machine.proofs.Setting.{port, empty_starts}
+use Rattle.machine_runs.proofs.Scene.{mode, ports, first, one_issued, one_told, none_told, none_unplugged, finds_none, emptied_of, only_one, of_two, ports_fit, none_dead, spares_ports}
+use Rattle.machine_runs.proofs.WaitingRun.{write, read, run2, happens1, happens2, none_due}
+use Rattle.machine_runs.proofs.ResetRun.{halted, stopped_here}
+
+-- the write, in its n-th issue
+abbrev tried : ℕ → Pending
+tried n = record (issue (newly_accepted write)) { issues = n }
+
+-- the read, which waits for it
+abbrev waits : Pending
+waits = newly_accepted read
+
+abbrev retry : ℕ → Event (Unit {0})
+retry n = record { ask = Reset; said = WasReset (Some []); evidence = halted; steps = Issue mode (requeued (tried n)) ∷ Again (tried n) ∷ Release ∷ []; ports = ports }
+
+abbrev run5 : List (Event (Unit {0}))
+run5 = retry 3 ∷ retry 2 ∷ retry 1 ∷ run2
+
+abbrev abort : Event (Unit {0})
+abort = record { ask = Reset; said = WasReset (Some (reply_of (tried 4, outcome.Aborted) ∷ [])); evidence = halted; steps = Issue mode waits ∷ Answer (tried 4) outcome.Aborted ∷ Release ∷ []; ports = ports }
+
+becomes : (p : Port) → MayBecome ports halted ports p
+becomes p = record { served = refl; stuck = λ dead. none_dead p dead; dies = λ h. absurd (contains_none p h); disk = λ ready. inr (inr (ready, (refl, refl))); keeps = λ _. (refl, refl) }
+
+-- the moment before a reset
+abbrev before : Machine → ℕ → Moment
+before m n = record { machine = record m { book = tried n ∷ waits ∷ []; kept = [] }; ports = ports }
+
+again : (m : Machine) (n : ℕ) → ((p : Port) → m.present p ≡ true) → n < 4 → Happens (before m n) (retry n)
+again m n present few = record {
+  may = (
+    ((tt, tt), (contains_here (tried n) (waits ∷ []) (tried n) refl, refl, few)),
+    (contains_here (requeued (tried n)) (waits ∷ []) (requeued (tried n)) refl, record { here = contains_here (unanswered (requeued (tried n))) (unanswered waits ∷ []) (unanswered (requeued (tried n))) refl; clear = refl; slot = λ _. omega arith }, λ e h. absurd (contains_none e h)),
+  );
+  belong = (((tt, inr tt), inr refl), inr (refl, refl));
+  last = (((tt, λ id h i. false≢true i), λ id h i. false≢true i), λ id h i. false≢true i);
+  lawful = (tt, contains_here port [] port refl);
+  fit = ports_fit Ready refl;
+  disks = λ e o h i same. (refl, refl);
+  answered = record {
+    tells = none_told (retry n).steps refl;
+    releases = record { later = Issue mode (requeued (tried n)) ∷ Again (tried n) ∷ []; earlier = []; split = refl; before = tt; once = refl };
+    unplugs = none_unplugged (retry n).steps (moment_after (before m n) (retry n)).machine refl;
+    finds = finds_none (retry n).steps ports ports refl;
+    issues = λ p _. none_due p;
+    reboots = λ p. record {
+      emptied = emptied_of (tried (suc n) ∷ waits ∷ []) (of_two (tried (suc n)) waits (λ e. e.request.port ≡ port) refl refl) p;
+      becomes = becomes p;
+      anew = λ e h _ issued. of_two (tried (suc n)) waits (λ x. x.issued ≡ true → IsIssuedIn x.request.id (retry n).steps) (λ _. refl) (λ t. absurd (false≢true t)) e h issued;
+      stopped = stopped_here p;
+      disk = λ _. inl (present p);
+    };
+  };
+}
+
+happens6 : Happens (moment_of first run5) abort
+happens6 = record {
+  may = (
+    ((tt, tt), contains_here (tried 4) (waits ∷ []) (tried 4) refl),
+    (contains_here waits [] waits refl, record { here = contains_here (unanswered waits) [] (unanswered waits) refl; clear = refl; slot = λ _. omega arith }, λ e h. absurd (contains_none e h)),
+  );
+  belong = (((tt, inr tt), inr tt), inr (refl, refl));
+  last = (((tt, λ id h i. false≢true i), λ id h i. false≢true i), λ id h i. false≢true i);
+  lawful = (tt, (record { pending = tried 4; here = contains_here (tried 4) (waits ∷ []) (tried 4) refl; id_is = refl; issued = refl }, refl, refl, contains_here port [] port refl, (refl, refl)));
+  fit = ports_fit Ready refl;
+  disks = λ e o h i same. (refl, refl);
+  answered = record {
+    tells = one_told (tried 4) outcome.Aborted abort.steps refl (reply_of (tried 4, outcome.Aborted)) refl;
+    releases = record { later = Issue mode waits ∷ Answer (tried 4) outcome.Aborted ∷ []; earlier = []; split = refl; before = tt; once = refl };
+    unplugs = none_unplugged abort.steps (moment_after (moment_of first run5) abort).machine refl;
+    finds = finds_none abort.steps ports ports refl;
+    issues = λ p _. one_issued (unanswered (issue waits)) refl p;
+    reboots = λ p. record {
+      emptied = emptied_of (issue waits ∷ []) (only_one (issue waits) (λ x. x.request.port ≡ port) refl) p;
+      becomes = becomes p;
+      anew = λ e h _ _. only_one (issue waits) (λ x. IsIssuedIn x.request.id abort.steps) refl e h;
+      stopped = stopped_here p;
+      disk = λ _. inl refl;
+    };
+  };
+}
+
+pub goes_again_in_resets : GoesAgainInResets
+goes_again_in_resets = record {
+  first = first;
+  asked = run2;
+  one = retry 1;
+  two = retry 2;
+  three = retry 3;
+  four = abort;
+  runs = (((((((empty_starts, ports_fit Ready refl), happens1), happens2), again (moment_of first run2).machine 1 (λ p. refl) (omega arith)), again (moment_of first (retry 1 ∷ run2)).machine 2 (λ p. refl) (omega arith)), again (moment_of first (retry 2 ∷ retry 1 ∷ run2)).machine 3 (λ p. refl) (omega arith)), happens6);
+  heeds = ((((((tt, spares_ports), spares_ports), tt), tt), tt), tt);
+  resets = (refl, refl, refl, refl);
+  issued = tried 1;
+  waits = waits;
+  book = refl;
+  once = (refl, refl, refl);
+  anew = tried 2;
+  after_one = refl;
+  twice = (refl, refl, refl);
+  spent = tried 4;
+  after_three = refl;
+  four_times = (refl, refl, refl);
+  aborts = refl;
+  turn = issue waits;
+  after_four = refl;
+  issues = (refl, refl);
+}

@@ -1,0 +1,336 @@
+-- A run in which a request hangs, is issued again by the third tick, and stays with a reset that is stuck.
+use Rattle.std.proofs.Common.{◌≡◌, ℕ, ◌<◌, ◌==◌, Bool, true, false, cond, List, [], ◌∷◌, ◌++◌, Option, Some, None, inl, inr, ⊎_elim, refl, sym, ap, subst, arith, eqb-true}
+use Rattle.std.proofs.lemmas.Bool.{false≢true}
+use Rattle.std.specs.List.{Contains, count_by}
+use Rattle.ata_types.specs.declared.Port.{Port}
+use Rattle.ata_types.specs.declared.PortState.TheVariants.{Absent, Ready, Dead}
+use Rattle.ata_types.specs.declared.request.Outcome.{Outcome}
+use Rattle.ata_types.specs.declared.request.Outcome.TheVariants as outcome
+use Rattle.block_machine.specs.Ports.{Evidence, SamePorts}
+use Rattle.block_machine.specs.State.{Pending, unanswered}
+use Rattle.block_machine.specs.Steps.{Step, Issue, Age, Again, Answer, Release, newly_accepted, issue, requeued}
+use Rattle.block_machine.specs.Events.{Moment, Service, Tick, Reset, Served, WasReset, Event, TellsDead, AgesOnce, IsHung, IsIssuedIn, RestartsHung, Happens, is_age, reply_of, moment_of}
+use Rattle.machine_runs.specs.Worked.{EndsWithAReset}
+use Rattle.block_machine.proofs.Members.{contains_none, contains_here, contains_cases}
+use Rattle.block_machine.proofs.Keeps.{same_port}
+use Rattle.block_machine.proofs.Setting.{port, frame, empty_starts}
+use Rattle.machine_runs.proofs.Scene.{mode, ports, ports_in, at_port, first, call, at_here, is_ready, is_dead, ready_here, none_dead, emptied_one, one_issued, none_there, one_told, none_told, none_ended, none_unplugged, finds_none, ready_port, restarts_here, spares_ports, only_one, ports_fit}
+use Rattle.block_machine.proofs.Calm.{none}
+use Rattle.machine_runs.proofs.WaitingRun.{write, run1, happens1}
+
+-- the ports that a tick ages
+abbrev pub aging : Port → Bool
+aging p = p.0 == 0
+
+abbrev pub tick : List Step → Event (Unit {0})
+tick later = call Tick (Served []) (later ++ Age aging ∷ [])
+
+abbrev pub run2 : List (Event (Unit {0}))
+run2 = tick [] ∷ run1
+
+abbrev pub run3 : List (Event (Unit {0}))
+run3 = tick [] ∷ run2
+
+-- the write, issued so many ticks ago
+abbrev pub aged : ℕ → Pending
+aged n = record (issue (newly_accepted write)) { age = n }
+
+abbrev waits : Pending
+waits = requeued (aged 3)
+
+abbrev restarts : List Step
+restarts = Issue mode waits ∷ Again (aged 3) ∷ []
+
+-- the port's engine was seen to stop, or the adapter's reset to end
+abbrev pub halted : Evidence
+halted = record { faults = []; lost = []; gone = []; failed = []; fatal = []; stopped = port ∷ []; stuck = [] }
+
+abbrev restarting : Event (Unit {0})
+restarting = record (tick restarts) { evidence = halted }
+
+abbrev run4 : List (Event (Unit {0}))
+run4 = restarting ∷ run3
+
+abbrev again : Pending
+again = issue waits
+
+abbrev seen : Evidence
+seen = record { faults = []; lost = []; gone = []; failed = []; fatal = []; stopped = []; stuck = port ∷ [] }
+
+abbrev stuck : Event (Unit {0})
+stuck = record { ask = Reset; said = WasReset None; evidence = seen; steps = []; ports = ports_in Dead }
+
+abbrev run5 : List (Event (Unit {0}))
+run5 = stuck ∷ run4
+
+abbrev service : Event (Unit {0})
+service = record { ask = Service; said = Served (reply_of (again, outcome.PortDead) ∷ []); evidence = none; steps = Answer again outcome.PortDead ∷ []; ports = ports_in Dead }
+
+abbrev run6 : List (Event (Unit {0}))
+run6 = service ∷ run5
+
+-- the one port that is served
+pub stopped_here : (p : Port) → (p.0 == 0) ≡ true → Contains (port ∷ []) p
+stopped_here p here = contains_here port [] p (same_port p port (eqb-true p.0 0 here))
+
+abbrev reset : Event (Unit {0})
+reset = record { ask = Reset; said = WasReset (Some []); evidence = halted; steps = Release ∷ []; ports = ports }
+
+abbrev run7 : List (Event (Unit {0}))
+run7 = reset ∷ run6
+
+-- What holds of the parts.
+
+pub ages_once : (later : List Step) → count_by is_age later ≡ 0 → AgesOnce ports (later ++ Age aging ∷ [])
+ages_once later once = record {
+  ready = aging;
+  is_ready = λ p. (at_here Ready p, ready_here p);
+  later = later;
+  first = refl;
+  once = once;
+}
+
+-- a tick before the third leaves the port alone
+abbrev pub IsYoung : Moment → Type 0
+IsYoung m = (e : Pending) → Contains m.machine.book e → e.age < 2
+
+not_hung : (m : Moment) → IsYoung m → (p : Port) → IsHung m p → ⊥
+not_hung m young p hung = let age = young hung.pending hung.here in let enough = hung.old_enough in omega (arith, age, enough)
+
+only_age : (step : Step) → Contains (Age aging ∷ []) step → is_age step ≡ true
+only_age step h = ⊎_elim (λ same. ap is_age same) (λ n. absurd (contains_none step n)) (contains_cases (Age aging) [] step h)
+
+pub ticks : (old : Moment) → IsYoung old → (new : Moment) → SamePorts old.ports new.ports → RestartsHung old none (Age aging ∷ []) new
+ticks old young new same = record {
+  ports = λ p. inl (not_hung old young p, same p);
+  again = λ e h. absurd (false≢true (only_age (Again e) h));
+  answer = λ e o h. absurd (false≢true (only_age (Answer e o) h));
+  ended = λ p hung. absurd (not_hung old young p hung);
+  interrupts = λ p hung. absurd (not_hung old young p hung);
+  spares = λ p i. absurd (⊎_elim (contains_none p) (contains_none p) i);
+  finds = finds_none (Age aging ∷ []) old.ports new.ports refl;
+  disk = λ p hung. absurd (not_hung old young p hung);
+  anew = λ p hung. absurd (not_hung old young p hung);
+}
+
+pub happens2 : Happens (moment_of first run1) (tick [])
+happens2 = record {
+  may = (tt, tt);
+  belong = (tt, inr tt);
+  last = (tt, λ id h i. false≢true i);
+  lawful = tt;
+  fit = ports_fit Ready refl;
+  disks = λ e o h i same. (refl, refl);
+  answered = record {
+    tells = none_told (Age aging ∷ []) refl;
+    ages = ages_once [] refl;
+    restarts = ticks (moment_of first run1) (only_one (aged 0) (λ e. e.age < 2) (omega arith)) (moment_of first run2) (λ p. (refl, refl, refl, refl, refl, refl));
+    unplugs = none_unplugged (Age aging ∷ []) (moment_of first run2).machine refl;
+    issues = λ p _. one_issued (unanswered (aged 1)) refl p;
+    emptied = λ p _ ne e h. emptied_one (aged 1) refl p ne e h;
+  };
+}
+
+pub happens3 : Happens (moment_of first run2) (tick [])
+happens3 = record {
+  may = (tt, tt);
+  belong = (tt, inr tt);
+  last = (tt, λ id h i. false≢true i);
+  lawful = tt;
+  fit = ports_fit Ready refl;
+  disks = λ e o h i same. (refl, refl);
+  answered = record {
+    tells = none_told (Age aging ∷ []) refl;
+    ages = ages_once [] refl;
+    restarts = ticks (moment_of first run2) (only_one (aged 1) (λ e. e.age < 2) (omega arith)) (moment_of first run3) (λ p. (refl, refl, refl, refl, refl, refl));
+    unplugs = none_unplugged (Age aging ∷ []) (moment_of first run3).machine refl;
+    issues = λ p _. one_issued (unanswered (aged 2)) refl p;
+    emptied = λ p _ ne e h. emptied_one (aged 2) refl p ne e h;
+  };
+}
+
+-- the third restarts it
+
+pub hung : IsHung (moment_of first run3) port
+hung = record { ready = refl; pending = aged 2; here = contains_here (aged 2) [] (aged 2) refl; port_is = refl; issued = refl; old_enough = omega arith }
+
+abbrev again_of : Step → Option Pending
+again_of (Again e) = Some e
+again_of _ = None
+
+abbrev is_answer : Step → Bool
+is_answer (Answer e o) = true
+is_answer _ = false
+
+-- a fact of each of the steps
+each_step : (P : Step → Type 0) → P (Issue mode waits) → P (Again (aged 3)) → P (Age aging) → (step : Step) → Contains restarting.steps step → P step
+each_step P a b c step h = ⊎_elim
+    (λ same. subst P (sym same) a)
+    (λ n. ⊎_elim
+    (λ same. subst P (sym same) b)
+    (λ k. ⊎_elim (λ same. subst P (sym same) c) (λ l. absurd (contains_none step l)) (contains_cases (Age aging) [] step k))
+    (contains_cases (Again (aged 3)) (Age aging ∷ []) step n))
+    (contains_cases (Issue mode waits) (Again (aged 3) ∷ Age aging ∷ []) step h)
+
+restarted : RestartsHung (moment_of first run3) halted restarting.steps (moment_of first run4)
+restarted = record {
+  ports = restarts_here (moment_of first run3).machine halted refl hung;
+  again = λ e h. each_step (λ step. (x : Pending) → again_of step ≡ Some x → IsHung (moment_of first run3) x.request.port)
+      (λ x q. absurd (none_some x q))
+      (λ x q. let same : aged 3 ≡ x = some_same x q in subst (λ (y : Pending). IsHung (moment_of first run3) y.request.port) same hung)
+      (λ x q. absurd (none_some x q))
+      (Again e) h e refl;
+  answer = λ e o h. absurd (false≢true (sym (each_step (λ step. is_answer step ≡ false) refl refl refl (Answer e o) h)));
+  ended = λ p _. none_ended (moment_of first run3).machine restarting.steps refl p;
+  interrupts = λ p h. inl (contains_here port [] p (ready_port p h.ready));
+  spares = λ p i. ⊎_elim
+      (λ h. ⊎_elim (λ (same : p ≡ port). subst (λ (x : Port). IsHung (moment_of first run3) x) (sym same) hung) (λ n. absurd (contains_none p n)) (contains_cases port [] p h))
+      (λ h. absurd (contains_none p h))
+      i;
+  finds = finds_none restarting.steps ports ports refl;
+  disk = λ p _ _. inl refl;
+  anew = λ p _ e h _ _. ⊎_elim
+      (λ (same : e ≡ again). subst (λ (y : Pending). IsIssuedIn y.request.id restarting.steps) (sym same) refl)
+      (λ n. absurd (contains_none e n))
+      (contains_cases again [] e h);
+}
+  where
+    none_some : (x : Pending) → None ≡ Some x → ⊥
+    none_some x q = cc
+
+    some_same : (x : Pending) → Some (aged 3) ≡ Some x → aged 3 ≡ x
+    some_same x q = cc
+
+happens4 : Happens (moment_of first run3) restarting
+happens4 = record {
+  may = (
+    ((tt, tt), (contains_here (aged 3) [] (aged 3) refl, refl, omega arith)),
+    (contains_here waits [] waits refl, record { here = contains_here (unanswered waits) [] (unanswered waits) refl; clear = refl; slot = λ _. omega arith }, λ e h. absurd (contains_none e h)),
+  );
+  belong = (((tt, inr tt), inr refl), inr (refl, refl));
+  last = (((tt, λ id h i. false≢true i), λ id h i. false≢true i), λ id h i. false≢true i);
+  lawful = (tt, contains_here port [] port refl);
+  fit = ports_fit Ready refl;
+  disks = λ e o h i same. (refl, refl);
+  answered = record {
+    tells = none_told restarting.steps refl;
+    ages = ages_once restarts refl;
+    restarts = restarted;
+    unplugs = none_unplugged restarting.steps (moment_of first run4).machine refl;
+    issues = λ p _. one_issued (unanswered again) refl p;
+    emptied = λ p _ ne e h. emptied_one again refl p ne e h;
+  };
+}
+
+-- The reset that is stuck, and what comes after it.
+
+pub dead_not_ready : {A : Type 0} (p : Port) → at_port Dead p ≡ Ready → A
+dead_not_ready {A} p e = go (p.0 == 0) e
+  where
+    go : (b : Bool) → cond b Dead Absent ≡ Ready → A
+    go true e = absurd (false≢true (ap is_ready e))
+    go false e = absurd (false≢true (ap is_ready e))
+
+pub dead_here : (p : Port) → at_port Dead p ≡ Dead → Contains (port ∷ []) p
+dead_here p e = contains_here port [] p (same_port p port (eqb-true p.0 0 (go (p.0 == 0) e)))
+  where
+    go : (b : Bool) → cond b Dead Absent ≡ Dead → b ≡ true
+    go true e = refl
+    go false e = absurd (false≢true (ap is_dead e))
+
+happens5 : Happens (moment_of first run4) stuck
+happens5 = record {
+  may = tt;
+  belong = tt;
+  last = tt;
+  lawful = tt;
+  fit = ports_fit Dead refl;
+  disks = λ e o h i same. (refl, refl);
+  answered = (tt, λ p. (refl, λ here. let dead = at_here Dead p here in (dead, dead_here p dead), (refl, refl)));
+}
+
+abbrev outcome_of : Step → Outcome
+outcome_of (Answer e o) = o
+outcome_of _ = outcome.Ok
+
+told_dead : TellsDead (moment_of first run5) service.steps
+told_dead e o h dead = ⊎_elim
+    (λ same. ap outcome_of same)
+    (λ n. absurd (contains_none (Answer e o) n))
+    (contains_cases (Answer again outcome.PortDead) [] (Answer e o) h)
+
+happens6 : Happens (moment_of first run5) service
+happens6 = record {
+  may = (tt, contains_here again [] again refl);
+  belong = (tt, inr tt);
+  last = (tt, λ id h i. false≢true i);
+  lawful = (tt, (refl, inl refl));
+  fit = ports_fit Dead refl;
+  disks = λ e o h i same. (refl, refl);
+  answered = record {
+    tells = one_told again outcome.PortDead service.steps refl (reply_of (again, outcome.PortDead)) refl;
+    dead = told_dead;
+    grounded = tt;
+    unplugs = none_unplugged service.steps (moment_of first run6).machine refl;
+    issues = λ p ready. dead_not_ready p ready;
+    emptied = λ p ne e h. absurd (contains_none e h);
+    becomes = λ p. (λ _. (refl, refl, refl, refl, refl, refl), λ alive. (record { served = refl; stuck = λ dead. absurd (alive dead); dies = λ h. absurd (contains_none p h); disk = λ ready. dead_not_ready p ready; keeps = λ _. (refl, refl) }, inl (refl, refl, refl, refl, refl, refl)));
+    disk = λ p. inl (refl, refl, refl, refl, refl, refl);
+  };
+}
+
+happens7 : Happens (moment_of first run6) reset
+happens7 = record {
+  may = (tt, tt);
+  belong = (tt, inr tt);
+  last = (tt, λ id h i. false≢true i);
+  lawful = tt;
+  fit = ports_fit Ready refl;
+  disks = λ e o h i same. (refl, refl);
+  answered = record {
+    tells = none_told reset.steps refl;
+    releases = record { later = []; earlier = []; split = refl; before = tt; once = refl };
+    unplugs = none_unplugged reset.steps (moment_of first run7).machine refl;
+    finds = finds_none reset.steps (ports_in Dead) ports refl;
+    issues = λ p _. none_there p;
+    reboots = λ p. record {
+      emptied = λ ne e h. absurd (contains_none e h);
+      becomes = record { served = refl; stuck = λ e. none_dead p e; dies = λ h. absurd (contains_none p h); disk = λ ready. dead_not_ready p ready; keeps = λ _. (refl, refl) };
+      anew = λ e h. absurd (contains_none e h);
+      stopped = stopped_here p;
+      disk = λ _. inl refl;
+    };
+  };
+}
+
+pub ends_with_a_reset : EndsWithAReset
+ends_with_a_reset = record {
+  first = first;
+  asked = run1;
+  one = tick [];
+  two = tick [];
+  three = restarting;
+  stuck = stuck;
+  service = service;
+  reset = reset;
+  runs = ((((((((empty_starts, ports_fit Ready refl), happens1), happens2), happens3), happens4), happens5), happens6), happens7);
+  heeds = (((((((tt, spares_ports), tt), tt), tt), tt), λ p ready. dead_not_ready p ready), tt);
+  ticks = (refl, refl, refl);
+  aged = aged 2;
+  old = refl;
+  once = (refl, refl, refl);
+  again = again;
+  same = refl;
+  hung = refl;
+  twice = (refl, refl, refl);
+  stays = refl;
+  serves = refl;
+  answers = contains_here (Answer again outcome.PortDead) [] (Answer again outcome.PortDead) refl;
+  kept = refl;
+  frame = frame 40;
+  its = refl;
+  lent = refl;
+  ends = refl;
+  freed = refl;
+  ready = refl;
+}

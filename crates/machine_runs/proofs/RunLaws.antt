@@ -1,0 +1,336 @@
+-- What holds at each moment of a run: of the ages of requests, of their ports, and of their sectors.
+use Rattle.std.proofs.Common.{◌≡◌, ◌≢◌, ◌⊎◌, ℕ, ◌+◌, ◌<◌, ◌≤◌, Bool, true, false, cond, List, [], ◌∷◌, Some, None, Ok, Err, inl, inr, ⊎_elim, refl, sym, ap, ◌∙◌, subst, arith}
+use Rattle.std.proofs.lemmas.Bool.{cases_lt, or_parts, false_from_ne_true, true_from_ne_false, false≢true}
+use Rattle.std.specs.List.{Contains, count_by, list_any}
+use Rattle.ata_types.specs.declared.Port.{Port}
+use Rattle.ata_types.specs.declared.PortState.{PortState}
+use Rattle.ata_types.specs.declared.PortState.TheVariants.{Ready, Dead}
+use Rattle.ata_types.specs.declared.request.RequestId.{RequestId}
+use Rattle.ata_types.specs.declared.request.Request.{Request}
+use Rattle.ata_types.specs.declared.request.Op.TheVariants.{Flush}
+use Rattle.ata_types.specs.declared.request.Outcome.TheVariants as outcome
+use Rattle.ata_types.specs.declared.refusal.Refusal.TheVariants as refused
+use Rattle.ata_types.specs.declared.grant.GrantRow.{GrantRow}
+use Rattle.block_machine.specs.Rules.{IsNamed}
+use Rattle.block_machine.specs.Refusals.{IsAcceptable}
+use Rattle.block_machine.specs.Ports.{Ports, Evidence, SamePorts, AreFit, IsServiced, IsStuck}
+use Rattle.block_machine.specs.State.{Accepted, Pending, Machine}
+use Rattle.block_machine.specs.Steps.{Step, Issue, Age, Touch, End, Again, Answer, Release, IsNew, touch, mark_ended}
+use Rattle.block_machine.specs.Left.{after}
+use Rattle.block_machine.specs.Events.{Moment, Ask, AllMay, Belong, IsEmptied, IsRebooted, Submit, StoreAt, LoadAt, Service, Tick, Reset, State, Device, Said, Submitted, Stored, Loaded, Served, WasReset, Shown, Stepped, Event, IsAnswered, Happens, AllLawful, AgesOnce, RestartsHung, ReleasesOnce, IssuesLast, IsRun, IsStillStuck, StaysStuck, accepts_of, is_age, is_release, issues_it, handles, moment_of, situation_of}
+use Rattle.block_machine.proofs.Members.{contains_none, contains_cases, map_in}
+use Rattle.block_machine.proofs.Keeps.{at_keeps}
+use Rattle.block_machine.specs.Confined.{IsGranted}
+use Rattle.block_machine.proofs.Runs.{nobody}
+use Rattle.block_machine.proofs.Accepts.{accepted_is_granted}
+use Rattle.block_machine.proofs.Counting.{count_cons, count_append, count_least}
+use Rattle.machine_runs.proofs.CallSteps.{Since, IsAccepted, since, accepted_new, accepted_asked, ages_it, is_tick, is_reset, AllFit, all_fit, none_accepted, none_aged}
+
+-- A call issues a request once at most.
+
+issuing_handles : (id : RequestId) (step : Step) → issues_it id step ≡ true → handles id step ≡ true
+issuing_handles id (Issue mode e) t = t
+issuing_handles id _ t = absurd (false≢true t)
+
+issued_once : (id : RequestId) (steps : List Step) → IssuesLast steps → (list_any (issues_it id) steps ≡ false → count_by (issues_it id) steps ≡ 0) × (count_by (issues_it id) steps ≤ 1)
+issued_once id [] l = ((λ _. refl), omega arith)
+issued_once id (step ∷ before) l = go (issues_it id step) refl (issued_once id before l.0)
+  where
+    go : (b : Bool) → issues_it id step ≡ b → (list_any (issues_it id) before ≡ false → count_by (issues_it id) before ≡ 0) × (count_by (issues_it id) before ≤ 1)
+        → (list_any (issues_it id) (step ∷ before) ≡ false → count_by (issues_it id) (step ∷ before) ≡ 0) × (count_by (issues_it id) (step ∷ before) ≤ 1)
+    go true e rest =
+        let none = rest.0 (false_from_ne_true _ (l.1 id (issuing_handles id step e))) in
+        let one : ◌≡◌ {A = ℕ} (cond (issues_it id step) 1 0) 1 = ap (λ (b : Bool). cond {A = ℕ} b 1 0) e in
+        ((λ f. absurd (false≢true (sym (or_parts _ _ f).0 ∙ e))), omega (arith, none, one, count_cons (issues_it id) step before))
+    go false e rest =
+        let most = rest.1 in
+        let zero : ◌≡◌ {A = ℕ} (cond (issues_it id step) 1 0) 0 = ap (λ (b : Bool). cond {A = ℕ} b 1 0) e in (
+          (λ f. let none = rest.0 (or_parts _ _ f).1 in omega (arith, none, zero, count_cons (issues_it id) step before)),
+          omega (arith, most, zero, count_cons (issues_it id) step before),
+        )
+
+pub issued_once_a_call : {D : Type 0} (old : Moment) (event : Event D) (id : RequestId) → Happens old event → count_by (issues_it id) event.steps ≤ 1
+issued_once_a_call old event id h = (issued_once id event.steps h.last).1
+
+-- What a call that was answered may have done to ports and book. `was`: a reset was stuck before it, and is so still.
+data Kind {D : Type 0} (ask : Ask D) (said : Said) (old : Moment) (evidence : Evidence) (steps : List Step) (new : Moment) (was : Type 0) : Type 0 where
+  Leaves : is_tick ask ≡ false → is_reset ask ≡ false → SamePorts old.ports new.ports → (was → StaysStuck ask said was) → Kind ask said old evidence steps new was
+  Serves : is_tick ask ≡ false → is_reset ask ≡ false → ((port : Port) → IsEmptied new port × IsServiced old.ports evidence new.ports port) → Kind ask said old evidence steps new was
+  Ticks : is_reset ask ≡ false → AgesOnce old.ports steps → RestartsHung old evidence steps new → ((port : Port) → old.ports.state port ≡ Ready → IsEmptied new port)
+      → (was → StaysStuck ask said was) → Kind ask said old evidence steps new was
+  Resets : is_tick ask ≡ false → ReleasesOnce steps → ((port : Port) → IsRebooted old evidence steps new port) → Kind ask said old evidence steps new was
+  Sticks : is_tick ask ≡ false → ((port : Port) → IsStuck old.ports evidence new.ports port) → StaysStuck ask said was → Kind ask said old evidence steps new was
+
+kind : {D : Type 0} (ask : Ask D) (said : Said) (old : Moment) (evidence : Evidence) (steps : List Step) (new : Moment) (was : Type 0) → IsAnswered ask said old evidence steps new → Kind ask said old evidence steps new was
+kind (Submit r) (Submitted (Ok id)) old evidence steps new was a = Leaves refl refl a.2 (λ w. w)
+kind (Submit r) (Submitted (Err refusal)) old evidence steps new was a = Leaves refl refl a.2 (λ w. w)
+kind (StoreAt c f o b) (Stored None) old evidence steps new was a = Leaves refl refl a.2 (λ w. w)
+kind (StoreAt c f o b) (Stored (Some fault)) old evidence steps new was a = Leaves refl refl a.2 (λ w. w)
+kind (LoadAt c f o n) (Loaded (Ok bytes)) old evidence steps new was a = Leaves refl refl a.2 (λ w. w)
+kind (LoadAt c f o n) (Loaded (Err fault)) old evidence steps new was a = Leaves refl refl a.2 (λ w. w)
+kind (State port) (Shown state) old evidence steps new was a = Leaves refl refl a.2 (λ w. w)
+kind (Device d) (Stepped true) old evidence steps new was a = Leaves refl refl a.1 (λ w. w)
+kind (Device d) (Stepped false) old evidence steps new was a = Leaves refl refl a.1 (λ w. w)
+kind Service (Served replies) old evidence steps new was a = Serves refl refl (λ port. (a.emptied port, a.becomes port))
+kind Tick (Served replies) old evidence steps new was a = Ticks refl a.ages a.restarts a.emptied (λ w. w)
+kind Reset (WasReset (Some replies)) old evidence steps new was a = Resets refl a.releases a.reboots
+kind Reset (WasReset None) old evidence steps new was a = Sticks refl a.1 tt
+kind ask said old evidence steps new was a = absurd a
+
+-- Ports.
+
+abbrev pub is_ready : PortState → Bool
+is_ready Ready = true
+is_ready _ = false
+
+abbrev is_dead : PortState → Bool
+is_dead Dead = true
+is_dead _ = false
+
+-- whether a port is ready
+ready_or : (s : PortState) → (s ≡ Ready) ⊎ (s ≢ Ready)
+ready_or Ready = inl refl
+ready_or _ = inr (λ e. false≢true (ap is_ready e))
+
+run_fit : {D : Type 0} (first : Moment) (run : List (Event D)) → IsRun first run → AreFit (moment_of first run).ports
+run_fit first [] r = r.1
+run_fit first (event ∷ past) r = r.1.fit
+
+-- The port and the sectors of a request that a call accepts. Such a call leaves the ports alone.
+record IsWelcome (old : Moment) (new : Ports) (r : Accepted) : Type 0 where
+  ready : old.ports.state r.port ≡ Ready
+  within : r.asked.op ≢ Flush → r.asked.first.0 + r.asked.count ≤ old.ports.sectors r.port
+  same : SamePorts old.ports new
+
+welcome : (old : Moment) (new : Ports) (q : Request) (n : Machine) (r : Accepted) → n.rows ≡ old.machine.rows → r.asked ≡ q → IsNew n r → IsAcceptable (situation_of old) q → SamePorts old.ports new
+    → IsWelcome old new r
+welcome old new q n r rows asked fresh ok same = record {
+  ready = ⊎_elim (λ y. y) (λ ne. absurd (ok (refused.PortNotReady (old.ports.state r.port)) (ne, (g.row, named, ap old.ports.state (sym g.port))))) (ready_or (old.ports.state r.port));
+  within = λ op. ⊎_elim
+      (λ (lt : old.ports.sectors r.port < r.asked.first.0 + r.asked.count). absurd (ok refused.OutsideDisk (
+        subst (λ (x : Request). x.op ≢ Flush) asked op,
+        (
+          g.row,
+          named,
+          subst (λ (x : Request). old.ports.sectors g.row.port < x.first.0 + x.count) asked (subst (λ (p : Port). old.ports.sectors p < r.asked.first.0 + r.asked.count) g.port lt),
+        ),
+      )))
+      (λ le. le)
+      (cases_lt (old.ports.sectors r.port) (r.asked.first.0 + r.asked.count));
+  same = same;
+}
+  where
+    g : IsGranted n.rows r
+    g = accepted_is_granted n r fresh
+
+    named : IsNamed old.machine.rows q g.row
+    named = subst (λ (x : Request). IsNamed old.machine.rows x g.row) asked (subst (λ (xs : List GrantRow). IsNamed xs r.asked g.row) rows g.named)
+
+welcomed : {D : Type 0} (ask : Ask D) (said : Said) (old : Moment) (evidence : Evidence) (steps : List Step) (ports : Ports) (r : Accepted)
+    → IsAnswered ask said old evidence steps (record { machine = after old.machine steps; ports = ports }) → AllMay old.machine steps → Belong ask ports steps → Contains (accepts_of steps) r → IsWelcome old ports r
+welcomed {D} (Submit q) (Submitted (Ok id)) old evidence steps ports r a may b h =
+    let x = accepted_new old.machine steps r may h in
+    welcome old ports q x.0 r x.1 (accepted_asked D q ports steps r b h) x.2 a.0 a.2
+welcomed (Submit q) (Submitted (Err refusal)) old evidence steps ports r a may b h = absurd (contains_none r (subst (λ (xs : List Step). Contains (accepts_of xs) r) a.1 h))
+welcomed (Submit q) said old evidence steps ports r a may b h = absurd a
+welcomed ask said old evidence steps ports r a may b h = absurd (contains_none r (subst (λ (xs : List Accepted). Contains xs r) (none_accepted ask steps refl (all_fit ask ports steps b)) h))
+
+-- a request that the event accepts
+welcomes : {D : Type 0} (old : Moment) (event : Event D) → Happens old event → (r : Accepted) → Contains (accepts_of event.steps) r → IsWelcome old event.ports r
+welcomes old event h r i = welcomed event.ask event.said old event.evidence event.steps event.ports r h.answered h.may h.belong i
+
+-- An unanswered request is on a ready port, or on one that is dead since a reset that was stuck.
+
+abbrev IsPlaced : Ports → Port → Type 0 → Type 0
+IsPlaced ports port was = (ports.state port ≡ Ready) ⊎ ((ports.state port ≡ Dead) × was)
+
+emptied_ready : (m : Moment) (e : Pending) → Contains m.machine.book e → IsEmptied m e.request.port → m.ports.state e.request.port ≡ Ready
+emptied_ready m e h empty = ⊎_elim (λ y. y) (λ ne. absurd (empty ne e h refl)) (ready_or (m.ports.state e.request.port))
+
+-- a ready or dead port is served
+placed_served : (ports : Ports) (port : Port) (was : Type 0) → AreFit ports → IsPlaced ports port was → ports.served port ≡ true
+placed_served ports port was fit placed = true_from_ne_false _ (λ f. ⊎_elim
+    (λ ready. false≢true (ap is_ready (sym (fit.absent port f)) ∙ ap is_ready ready))
+    (λ (dead : (ports.state port ≡ Dead) × was). false≢true (ap is_dead (sym (fit.absent port f)) ∙ ap is_dead dead.0)) placed)
+
+placed_event : {D : Type 0} (ask : Ask D) (said : Said) (old : Moment) (evidence : Evidence) (steps : List Step) (new : Moment) (was : Type 0) (e : Pending) → AreFit old.ports
+    → Contains new.machine.book e → IsPlaced old.ports e.request.port was → Kind ask said old evidence steps new was → IsPlaced new.ports e.request.port (StaysStuck ask said was)
+placed_event ask said old evidence steps new was e fit here placed (Leaves t r same keep) = ⊎_elim
+    (λ ready. inl ((same e.request.port).1 ∙ ready)) (λ dead. inr ((same e.request.port).1 ∙ dead.0, keep dead.1)) placed
+placed_event ask said old evidence steps new was e fit here placed (Serves t r ports) = inl (emptied_ready new e here (ports e.request.port).0)
+placed_event ask said old evidence steps new was e fit here placed (Ticks r ages hung empty keep) = ⊎_elim
+    (λ ready. inl (emptied_ready new e here (empty e.request.port ready)))
+    (λ dead. ⊎_elim
+    (λ same. inr (same.1.1 ∙ dead.0, keep dead.1))
+    (λ h. absurd (false≢true (ap is_ready (sym dead.0) ∙ ap is_ready h.0.ready)))
+    (hung.ports e.request.port))
+    placed
+placed_event ask said old evidence steps new was e fit here placed (Resets t releases ports) = inl (emptied_ready new e here (ports e.request.port).emptied)
+placed_event ask said old evidence steps new was e fit here placed (Sticks t ports keep) = inr (((ports e.request.port).1 (placed_served old.ports e.request.port was fit placed)).0, keep)
+
+pub unanswered_where_ready : {D : Type 0} (first : Moment) (run : List (Event D)) (e : Pending) → IsRun first run → Contains (moment_of first run).machine.book e
+    → ((moment_of first run).ports.state e.request.port ≡ Ready) ⊎ (((moment_of first run).ports.state e.request.port ≡ Dead) × IsStillStuck run)
+unanswered_where_ready first [] e r h = absurd (nobody first.machine r.0 e (inl h))
+unanswered_where_ready first (event ∷ past) e r h = ⊎_elim
+    (λ (s : Since (moment_of first past).machine event.steps e). placed_event event.ask event.said (moment_of first past) event.evidence event.steps (moment_of first (event ∷ past)) (IsStillStuck past) e
+    (run_fit first past r.0) h
+    (subst (λ (x : Accepted). IsPlaced (moment_of first past).ports x.port (IsStillStuck past)) s.same (unanswered_where_ready first past s.old r.0 s.here))
+    (kind event.ask event.said (moment_of first past) event.evidence event.steps (moment_of first (event ∷ past)) (IsStillStuck past) r.1.answered))
+    (λ (a : IsAccepted event.steps e). let w = welcomes (moment_of first past) event r.1 e.request a.0 in inl ((w.same e.request.port).1 ∙ w.ready))
+    (since (moment_of first past).machine event.steps e h)
+
+-- Its sectors are sectors of the disk that the port showed.
+
+pub unanswered_on_disk : {D : Type 0} (first : Moment) (run : List (Event D)) (e : Pending) → IsRun first run → Contains (moment_of first run).machine.book e → e.request.asked.op ≢ Flush
+    → e.request.asked.first.0 + e.request.asked.count ≤ (moment_of first run).ports.sectors e.request.port
+unanswered_on_disk first [] e r h op = absurd (nobody first.machine r.0 e (inl h))
+unanswered_on_disk first (event ∷ past) e r h op = ⊎_elim
+    (λ (s : Since (moment_of first past).machine event.steps e).
+    let le = subst (λ (x : Accepted). x.asked.first.0 + x.asked.count ≤ (moment_of first past).ports.sectors x.port) s.same
+    (unanswered_on_disk first past s.old r.0 s.here (subst (λ (x : Accepted). x.asked.op ≢ Flush) (sym s.same) op)) in
+    let same = (r.1.disks e s.old h s.here (ap (λ (x : Accepted). x.id) s.same)).1 in
+    omega (arith, le, same))
+    (λ (a : IsAccepted event.steps e).
+    let w = welcomes (moment_of first past) event r.1 e.request a.0 in
+    let le = w.within op in
+    let same = (w.same e.request.port).3 in
+    omega (arith, le, same))
+    (since (moment_of first past).machine event.steps e h)
+
+-- The age of an issued request is two at most.
+
+-- a tick ages a port once, where it is ready
+aged_once : (ports : Ports) (steps : List Step) (port : Port) → AgesOnce ports steps → (count_by (ages_it port) steps ≤ 1) × (ports.state port ≢ Ready → count_by (ages_it port) steps ≡ 0)
+aged_once ports steps port a =
+    let split : count_by (ages_it port) steps ≡ count_by (ages_it port) a.later + count_by (ages_it port) (Age a.ready ∷ []) =
+    ap (λ (xs : List Step). count_by (ages_it port) xs) a.first ∙ count_append (ages_it port) a.later (Age a.ready ∷ []) in
+    let last = count_cons (ages_it port) (Age a.ready) [] in
+    let fewer = count_least (ages_it port) is_age a.later (λ y _. aging y) in
+    let none = a.once in (
+      (let one = at_most (a.ready port) in omega (arith, split, last, fewer, none, one)),
+      (λ ne. let zero : ◌≡◌ {A = ℕ} (cond (a.ready port) 1 0) 0 = ap (λ (b : Bool). cond {A = ℕ} b 1 0) (false_from_ne_true _ (λ t. ne ((a.is_ready port).0 t))) in
+          omega (arith, split, last, fewer, none, zero)),
+    )
+  where
+    aging : (y : Step) → ages_it port y ≡ true → is_age y ≡ true
+    aging (Age ready) t = refl
+    aging _ t = absurd (false≢true t)
+
+    at_most : (b : Bool) → cond {A = ℕ} b 1 0 ≤ 1
+    at_most true = omega arith
+    at_most false = omega arith
+
+-- where a call ages nothing, or ages and restarts, ages stay two at most
+young : {D : Type 0} (ask : Ask D) (said : Said) (old : Moment) (evidence : Evidence) (steps : List Step) (new : Moment) (e : Pending) → AllFit ask steps → Kind ask said old evidence steps new (Unit {0})
+    → Contains new.machine.book e → e.issued ≡ true → ((o : Pending) → Contains old.machine.book o → o.issued ≡ true → o.age ≤ 2)
+    → Since old.machine steps e ⊎ IsAccepted steps e → e.age ≤ 2
+young {D} ask said old evidence steps new e fit k here t all from = by k
+  where
+    -- as it is where the port isn't aged
+    unaged : count_by (ages_it e.request.port) steps ≡ 0 → e.age ≤ 2
+    unaged none = ⊎_elim
+        (λ (s : Since old.machine steps e). ⊎_elim
+        (λ anew. let le = anew.1 in omega (arith, le, none))
+        (λ kept. let le = kept.2 in let was = all s.old s.here kept.1 in omega (arith, le, was, none))
+        (s.issued t))
+        (λ (a : IsAccepted steps e). let le = (a.1 t).1 in omega (arith, le, none))
+        from
+
+    quiet : is_tick ask ≡ false → e.age ≤ 2
+    quiet still = unaged (none_aged ask e.request.port steps still fit)
+
+    -- and where it is, and a request that keeps its issue isn't old enough to be hung
+    aged : AgesOnce old.ports steps → RestartsHung old evidence steps new → old.ports.state e.request.port ≡ Ready → e.age ≤ 2
+    aged ages hung ready =
+        let once = (aged_once old.ports steps e.request.port ages).0 in
+        ⊎_elim
+        (λ (s : Since old.machine steps e). ⊎_elim
+        (λ anew. let le = anew.1 in omega (arith, le, once))
+        (λ kept. ⊎_elim
+        (λ (less : s.old.age < 2). let le = kept.2 in omega (arith, le, once, less))
+        (λ (more : 2 ≤ s.old.age). absurd (false≢true (sym kept.0 ∙ hung.anew e.request.port
+        (record { ready = ready; pending = s.old; here = s.here; port_is = ap (λ (x : Accepted). x.port) s.same; issued = kept.1; old_enough = more }) e here refl t)))
+        (cases_lt s.old.age 2))
+        (s.issued t))
+        (λ (a : IsAccepted steps e). let le = (a.1 t).1 in omega (arith, le, once))
+        from
+
+    by : Kind ask said old evidence steps new (Unit {0}) → e.age ≤ 2
+    by (Leaves still r same keep) = quiet still
+    by (Serves still r ports) = quiet still
+    by (Ticks r ages hung empty keep) = ⊎_elim (aged ages hung)
+        (λ ne. unaged ((aged_once old.ports steps e.request.port ages).1 ne)) (ready_or (old.ports.state e.request.port))
+    by (Resets still releases ports) = quiet still
+    by (Sticks still ports keep) = quiet still
+
+pub ages_are_bounded : {D : Type 0} (first : Moment) (run : List (Event D)) (e : Pending) → IsRun first run → Contains (moment_of first run).machine.book e → e.issued ≡ true → e.age ≤ 2
+ages_are_bounded first [] e r h t = absurd (nobody first.machine r.0 e (inl h))
+ages_are_bounded first (event ∷ past) e r h t = young event.ask event.said (moment_of first past) event.evidence event.steps (moment_of first (event ∷ past)) e
+    (all_fit event.ask event.ports event.steps r.1.belong)
+    (kind event.ask event.said (moment_of first past) event.evidence event.steps (moment_of first (event ∷ past)) (Unit {0}) r.1.answered)
+    h t (λ o i u. ages_are_bounded first past o r.0 i u) (since (moment_of first past).machine event.steps e h)
+
+-- A kept request is on a dead port.
+
+-- where a kept request comes from: it was kept before, and nothing was released, or it was answered PortDead
+moved_kept : (ports : Ports) (m : Machine) (step : Step) (before : List Step) (e x : Pending) → e.request ≡ x.request → is_release step ≡ false
+    → ((o : Pending) × Contains m.kept o × (o.request ≡ x.request) × (count_by is_release before ≡ 0)) ⊎ (ports.state x.request.port ≡ Dead)
+    → ((o : Pending) × Contains m.kept o × (o.request ≡ e.request) × (count_by is_release (step ∷ before) ≡ 0)) ⊎ (ports.state e.request.port ≡ Dead)
+moved_kept ports m step before e x same quiet (inl o) =
+    let none = o.3 in
+    let zero : ◌≡◌ {A = ℕ} (cond (is_release step) 1 0) 0 = ap (λ (b : Bool). cond {A = ℕ} b 1 0) quiet in
+    inl (o.0, o.1, o.2 ∙ sym same, omega (arith, none, zero, count_cons is_release step before))
+moved_kept ports m step before e x same quiet (inr dead) = inr (ap (λ (r : Accepted). ports.state r.port) same ∙ dead)
+
+kept_from : (old : Moment) (evidence : Evidence) (ports : Ports) (m : Machine) (steps : List Step) → AllLawful old evidence ports steps → (e : Pending) → Contains (after m steps).kept e
+    → ((o : Pending) × Contains m.kept o × (o.request ≡ e.request) × (count_by is_release steps ≡ 0)) ⊎ (ports.state e.request.port ≡ Dead)
+kept_from old evidence ports m [] l e h = inl (e, h, refl, refl)
+kept_from old evidence ports m (Touch p i block ∷ before) l e h =
+    let r = map_in _ (after m before).kept e h in
+    moved_kept ports m (Touch p i block) before e r.0 (ap (λ (x : Pending). x.request) r.2 ∙ at_keeps p.request.id (touch i) (λ x. refl) r.0) refl (kept_from old evidence ports m before l r.0 r.1)
+kept_from old evidence ports m (End p ∷ before) l e h =
+    let r = map_in _ (after m before).kept e h in
+    moved_kept ports m (End p) before e r.0 (ap (λ (x : Pending). x.request) r.2 ∙ at_keeps p.request.id mark_ended (λ x. refl) r.0) refl (kept_from old evidence ports m before l r.0 r.1)
+kept_from old evidence ports m (Release ∷ before) l e h = absurd (contains_none e h)
+kept_from old evidence ports m (Answer p outcome.Ok ∷ before) l e h = moved_kept ports m (Answer p outcome.Ok) before e e refl refl (kept_from old evidence ports m before l.0 e h)
+kept_from old evidence ports m (Answer p (outcome.DeviceError status error) ∷ before) l e h =
+    moved_kept ports m (Answer p (outcome.DeviceError status error)) before e e refl refl (kept_from old evidence ports m before l.0 e h)
+kept_from old evidence ports m (Answer p outcome.Aborted ∷ before) l e h = moved_kept ports m (Answer p outcome.Aborted) before e e refl refl (kept_from old evidence ports m before l.0 e h)
+kept_from old evidence ports m (Answer p outcome.Unplugged ∷ before) l e h = moved_kept ports m (Answer p outcome.Unplugged) before e e refl refl (kept_from old evidence ports m before l.0 e h)
+kept_from old evidence ports m (Answer p outcome.PortDead ∷ before) l e h = go p.issued h (kept_from old evidence ports m before l.0 e)
+  where
+    go : (b : Bool) → Contains (cond b (p ∷ (after m before).kept) (after m before).kept) e
+        → (Contains (after m before).kept e → ((o : Pending) × Contains m.kept o × (o.request ≡ e.request) × (count_by is_release before ≡ 0)) ⊎ (ports.state e.request.port ≡ Dead))
+        → ((o : Pending) × Contains m.kept o × (o.request ≡ e.request) × (count_by is_release (Answer p outcome.PortDead ∷ before) ≡ 0)) ⊎ (ports.state e.request.port ≡ Dead)
+    go true h rest = ⊎_elim
+        (λ same. inr (subst (λ (x : Pending). ports.state x.request.port ≡ Dead) (sym same) l.1.0))
+        (λ i. moved_kept ports m (Answer p outcome.PortDead) before e e refl refl (rest i))
+        (contains_cases p (after m before).kept e h)
+    go false h rest = moved_kept ports m (Answer p outcome.PortDead) before e e refl refl (rest h)
+kept_from old evidence ports m (Again p ∷ before) l e h = moved_kept ports m (Again p) before e e refl refl (kept_from old evidence ports m before l.0 e h)
+kept_from old evidence ports m (step ∷ before) l e h = moved_kept ports m step before e e refl refl (kept_from old evidence ports m before l e h)
+
+kept_event : {D : Type 0} (ask : Ask D) (said : Said) (old : Moment) (evidence : Evidence) (steps : List Step) (new : Moment) (port : Port) → AreFit old.ports
+    → count_by is_release steps ≡ 0 → old.ports.state port ≡ Dead → Kind ask said old evidence steps new (Unit {0}) → new.ports.state port ≡ Dead
+kept_event ask said old evidence steps new port fit none dead (Leaves t r same keep) = (same port).1 ∙ dead
+kept_event ask said old evidence steps new port fit none dead (Serves t r ports) = ((ports port).1.0 dead).1 ∙ dead
+kept_event ask said old evidence steps new port fit none dead (Ticks r ages hung empty keep) = ⊎_elim
+    (λ same. same.1.1 ∙ dead)
+    (λ h. absurd (false≢true (ap is_ready (sym dead) ∙ ap is_ready h.0.ready)))
+    (hung.ports port)
+kept_event ask said old evidence steps new port fit none dead (Resets t releases ports) =
+    let split : count_by is_release steps ≡ count_by is_release releases.later + count_by is_release (Release ∷ releases.earlier) =
+    ap (λ (xs : List Step). count_by is_release xs) releases.split ∙ count_append is_release releases.later (Release ∷ releases.earlier) in
+    let one = count_cons is_release Release releases.earlier in
+    absurd (omega (arith, split, one, none))
+kept_event ask said old evidence steps new port fit none dead (Sticks t ports keep) = ((ports port).1 (placed_served old.ports port (Unit {0}) fit (inr (dead, tt)))).0
+
+pub kept_where_dead : {D : Type 0} (first : Moment) (run : List (Event D)) (e : Pending) → IsRun first run → Contains (moment_of first run).machine.kept e → (moment_of first run).ports.state e.request.port ≡ Dead
+kept_where_dead first [] e r h = absurd (nobody first.machine r.0 e (inr h))
+kept_where_dead first (event ∷ past) e r h = ⊎_elim
+    (λ o. kept_event event.ask event.said (moment_of first past) event.evidence event.steps (moment_of first (event ∷ past)) e.request.port
+    (run_fit first past r.0) o.3
+    (subst (λ (x : Accepted). (moment_of first past).ports.state x.port ≡ Dead) o.2 (kept_where_dead first past o.0 r.0 o.1))
+    (kind event.ask event.said (moment_of first past) event.evidence event.steps (moment_of first (event ∷ past)) (Unit {0}) r.1.answered))
+    (λ dead. dead)
+    (kept_from (moment_of first past) event.evidence event.ports (moment_of first past).machine event.steps r.1.lawful e h)

@@ -1,0 +1,65 @@
+-- What is left for a read that was answered stays what it is, however long the run goes on.
+use Rattle.std.proofs.Common.{◌≡◌, ◌≢◌, ℕ, ◌<◌, true, false, List, ◌∷◌, refl, sym, ap, ◌∙◌, subst, arith, eqb-true, ◌-◌, [], inl, inr}
+use Rattle.std.proofs.lemmas.Bool.{or_left, and_parts, cond-false, false_from_ne_true}
+use Rattle.block_machine.specs.Due.{is_writer}
+use Rattle.block_machine.specs.State.{Block, Accepted, Pending, Machine, sector_of, written_by}
+use Rattle.block_machine.specs.Steps.{Step, Touch, May, IsLiving}
+use Rattle.block_machine.specs.Left.{after, IsLegal, IsStart, IsTouch, touches, HasTouched, plug_count, disk_read, IsLast, IsLeft}
+use Rattle.block_machine.proofs.Keeps.{same_id}
+use Rattle.block_machine.proofs.Trace.{Seen, runs_lives, conflict_at, read_number, last_from}
+use Rattle.block_machine.proofs.Runs.{traced}
+
+-- a request that isn't there touches nothing
+no_touch : (m : Machine) (step : Step) → May m step → (r : Accepted) (k : ℕ) → ((e : Pending) → IsLiving m e → e.request.id ≢ r.id) → touches r.id k step ≡ false
+no_touch m (Touch e i block) may r k gone = false_from_ne_true _ (λ t.
+    gone e (runs_lives m e may.0) (same_id e.request.id r.id (eqb-true e.request.id.0 r.id.0 (and_parts _ _ t).0)))
+no_touch m _ may r k gone = refl
+
+-- no earlier write or trim touches a sector that the read touched
+no_earlier : (m : Machine) (step : Step) → May m step → (r : Accepted) (k : ℕ) → Seen m r k → (w : Accepted) → is_writer w.asked.op ≡ true → w.port ≡ r.port → w.id.0 < r.id.0 → IsTouch step w k → ⊥
+no_earlier m (Touch e i block) may r k seen w writes here less t =
+    let less_e : e.request.id.0 < r.id.0 = subst (λ (a : Accepted). a.id.0 < r.id.0) (sym t.0) less in
+    let here_e : e.request.port ≡ r.port = ap (λ (a : Accepted). a.port) t.0 ∙ here in
+    let writes_e : is_writer e.request.asked.op ≡ true = subst (λ (a : Accepted). is_writer a.asked.op ≡ true) (sym t.0) writes in
+    let at : sector_of e.request i ≡ k = ap (λ (a : Accepted). sector_of a i) t.0 ∙ t.1 in
+    seen.order e (runs_lives m e may.0) less_e
+    (conflict_at e.request r k here_e (or_left _ _ writes_e) (omega (arith, at)) (omega (arith, at, may.1)) seen.from seen.to)
+no_earlier m _ may r k seen w writes here less t = absurd t
+
+pub left_stays : (start : Machine) (h : List Step) (step : Step) (read : Accepted) (k n : ℕ) (block : Block) → IsStart start → IsLegal start (step ∷ h)
+    → HasTouched read k n h → ((e : Pending) → IsLiving (after start h) e → e.request.id ≢ read.id) → IsLeft start h read k block → IsLeft start (step ∷ h) read k block
+left_stays start h step read k n block s legal touched gone left =
+    let m = after start h in
+    let seen = (traced start h s legal.0).seen read k n touched in
+    let same : disk_read read k (step ∷ h) ≡ disk_read read k h = cond-false (touches read.id k step) (plug_count read.port h) (disk_read read k h) (no_touch m step legal.1 read k gone) in
+    subst (λ (x : ℕ). IsLast start read.port k x read.id.0 (step ∷ h) block) (sym same)
+    (last_from start read.port k (disk_read read k h) read.id.0 read.id.0 step h block (read_number read k h)
+    (no_earlier m step legal.1 read k seen) (λ w o. o.earlier) (λ w o. o.earlier) left)
+
+-- Left is one block: requests that touched and have one id are one.
+
+meets : {m : Machine} {x : Accepted} {j : ℕ} {w : Accepted} (k : ℕ) (step : Step) → May m step → IsTouch step w k → Seen m x j → w.id.0 ≡ x.id.0 → w ≡ x
+meets {m} k (Touch e i block) may t s id = sym t.0 ∙ s.one e (runs_lives m e may.0) (ap (λ (y : Accepted). y.id.0) t.0 ∙ id)
+meets k _ may t s id = absurd t
+
+touched_one : (start : Machine) (h : List Step) → IsStart start → IsLegal start h → (w x : Accepted) (k n j o : ℕ) → HasTouched w k n h → HasTouched x j o h → w.id.0 ≡ x.id.0 → w ≡ x
+touched_one start [] s legal w x k n j o a b id = absurd a
+touched_one start (step ∷ past) s legal w x k n j o (inl a) (inl b) id = both step a.0 b.0
+  where
+    both : (y : Step) → IsTouch y w k → IsTouch y x j → w ≡ x
+    both (Touch e i block) p q = sym p.0 ∙ q.0
+    both _ p q = absurd p
+touched_one start (step ∷ past) s legal w x k n j o (inl a) (inr b) id = meets k step legal.1 a.0 ((traced start past s legal.0).seen x j o b) id
+touched_one start (step ∷ past) s legal w x k n j o (inr a) (inl b) id = sym (meets j step legal.1 b.0 ((traced start past s legal.0).seen w k n a) (sym id))
+touched_one start (step ∷ past) s legal w x k n j o (inr a) (inr b) id = touched_one start past s legal.0 w x k n j o a b id
+
+-- on a history that is legal, Left is one block
+pub left_is_one : (start : Machine) (h : List Step) (read : Accepted) (k : ℕ) (a b : Block) → IsStart start → IsLegal start h → IsLeft start h read k a → IsLeft start h read k b → a ≡ b
+left_is_one start h read k a b s legal (inl p) (inl q) =
+    let le = p.2 q.0 q.1 in
+    let ge = q.2 p.0 p.1 in
+    let same : p.0 ≡ q.0 = touched_one start h s legal p.0 q.0 k _ k _ p.1.touched q.1.touched (omega (arith, le, ge)) in
+    p.3 ∙ ap (λ (w : Accepted). written_by w.asked.op w.held (k - w.asked.first.0)) same ∙ sym q.3
+left_is_one start h read k a b s legal (inl p) (inr q) = absurd (q.0 p.0 p.1)
+left_is_one start h read k a b s legal (inr p) (inl q) = absurd (p.0 q.0 q.1)
+left_is_one start h read k a b s legal (inr p) (inr q) = p.1 ∙ sym q.1

@@ -1,0 +1,128 @@
+-- A run in which a request ends when it is two ticks old, and the third tick answers it.
+use Rattle.std.proofs.Common.{◌≡◌, Bool, true, false, List, [], ◌∷◌, inl, inr, ⊎_elim, refl, sym, ap, subst, arith}
+use Rattle.std.proofs.lemmas.Bool.{false≢true}
+use Rattle.std.specs.List.{Contains}
+use Rattle.ata_types.specs.declared.Port.{Port}
+use Rattle.ata_types.specs.declared.PortState.TheVariants.{Ready}
+use Rattle.ata_types.specs.declared.request.Outcome.{Outcome}
+use Rattle.ata_types.specs.declared.request.Outcome.TheVariants as outcome
+use Rattle.block_machine.specs.State.{Pending}
+use Rattle.block_machine.specs.Steps.{Step, Touch, End, Age, Again, Answer, touch, mark_ended}
+use Rattle.block_machine.specs.Events.{Tick, Device, Served, Stepped, Event, IsHung, RestartsHung, Happens, reply_of, moment_of}
+use Rattle.machine_runs.specs.Worked.{EndsAtATick}
+use Rattle.block_machine.proofs.Members.{contains_none, contains_here, contains_cases}
+use Rattle.block_machine.proofs.Setting.{port, empty_starts}
+use Rattle.machine_runs.proofs.Scene.{first, ports, call, ready_port, none_there, one_told, none_unplugged, finds_none, last_ended, one_touched, restarts_here, spares_ports, ports_fit}
+use Rattle.machine_runs.proofs.WaitingRun.{write, happens1}
+use Rattle.machine_runs.proofs.ResetRun.{aging, aged, halted, run3, happens2, happens3, ages_once}
+
+-- the device ends the write that is two ticks old
+abbrev ending : Event (Unit {0})
+ending = call (Device tt) (Stepped true) (End (touch 0 (aged 2)) ∷ Touch (aged 2) 0 (write.held 0) ∷ [])
+
+abbrev run4 : List (Event (Unit {0}))
+run4 = ending ∷ run3
+
+-- the write that has ended, so many ticks old
+abbrev over : Pending
+over = mark_ended (touch 0 (aged 2))
+
+abbrev older_still : Pending
+older_still = mark_ended (touch 0 (aged 3))
+
+abbrev tick : Event (Unit {0})
+tick = record { ask = Tick; said = Served (reply_of (older_still, outcome.Ok) ∷ []); evidence = halted; steps = Answer older_still outcome.Ok ∷ Age aging ∷ []; ports = ports }
+
+abbrev run5 : List (Event (Unit {0}))
+run5 = tick ∷ run4
+
+happens4 : Happens (moment_of first run3) ending
+happens4 = record {
+  may = ((tt, (inl (contains_here (aged 2) [] (aged 2) refl, refl), omega arith, refl, omega arith, λ _ b lt. refl)), (inl (contains_here (touch 0 (aged 2)) [] (touch 0 (aged 2)) refl, refl), one_touched, refl));
+  belong = ((tt, inl tt), inl tt);
+  last = ((tt, λ id h i. false≢true i), λ id h i. false≢true i);
+  lawful = tt;
+  fit = ports_fit Ready refl;
+  disks = λ e o h i same. (refl, refl);
+  answered = (((tt, tt), tt), λ p. (refl, refl, refl, refl, refl, refl));
+}
+
+hung : IsHung (moment_of first run4) port
+hung = record { ready = refl; pending = over; here = contains_here over [] over refl; port_is = refl; issued = refl; old_enough = omega arith }
+
+abbrev is_again : Step → Bool
+is_again (Again e) = true
+is_again _ = false
+
+abbrev is_answer : Step → Bool
+is_answer (Answer e o) = true
+is_answer _ = false
+
+-- the port of the request that is answered
+abbrev port_of : Step → Port
+port_of (Answer e o) = e.request.port
+port_of _ = port
+
+restarted : RestartsHung (moment_of first run4) halted tick.steps (moment_of first run5)
+restarted = record {
+  ports = restarts_here (moment_of first run4).machine halted refl hung;
+  again = λ e h. absurd (false≢true (sym (each (λ step. is_again step ≡ false) refl refl (Again e) h)));
+  answer = λ e o h. each (λ step. (x : Pending) (a : Outcome) → step ≡ Answer x a → IsHung (moment_of first run4) x.request.port)
+      (λ x a q. subst (λ (y : Step). IsHung (moment_of first run4) (port_of y)) q hung)
+      (λ x a q. absurd (false≢true (ap is_answer q)))
+      (Answer e o) h e o refl;
+  ended = λ p _. last_ended (moment_of first run4).machine tick.steps [] over refl refl older_still refl (contains_here (Answer older_still outcome.Ok) (Age aging ∷ []) (Answer older_still outcome.Ok) refl) p;
+  anew = λ p _ e h. absurd (contains_none e h);
+  interrupts = λ p h. inl (contains_here port [] p (ready_port p h.ready));
+  spares = λ p i. ⊎_elim
+      (λ h. ⊎_elim (λ (same : p ≡ port). subst (λ (x : Port). IsHung (moment_of first run4) x) (sym same) hung) (λ n. absurd (contains_none p n)) (contains_cases port [] p h))
+      (λ h. absurd (contains_none p h))
+      i;
+  finds = finds_none tick.steps ports ports refl;
+  disk = λ p _ _. inl refl;
+}
+  where
+    each : (P : Step → Type 0) → P (Answer older_still outcome.Ok) → P (Age aging) → (step : Step) → Contains tick.steps step → P step
+    each P a b step h = ⊎_elim
+        (λ same. subst P (sym same) a)
+        (λ n. ⊎_elim (λ same. subst P (sym same) b) (λ k. absurd (contains_none step k)) (contains_cases (Age aging) [] step n))
+        (contains_cases (Answer older_still outcome.Ok) (Age aging ∷ []) step h)
+
+happens5 : Happens (moment_of first run4) tick
+happens5 = record {
+  may = ((tt, tt), contains_here older_still [] older_still refl);
+  belong = ((tt, inr tt), inr (inr refl));
+  last = ((tt, λ id h i. false≢true i), λ id h i. false≢true i);
+  lawful = (tt, (record { pending = over; here = contains_here over [] over refl; id_is = refl; issued = refl }, refl, one_touched, refl));
+  fit = ports_fit Ready refl;
+  disks = λ e o h i same. (refl, refl);
+  answered = record {
+    tells = one_told older_still outcome.Ok tick.steps refl (reply_of (older_still, outcome.Ok)) refl;
+    ages = ages_once (Answer older_still outcome.Ok ∷ []) refl;
+    restarts = restarted;
+    unplugs = none_unplugged tick.steps (moment_of first run5).machine refl;
+    issues = λ p _. none_there p;
+    emptied = λ p _ ne e h. absurd (contains_none e h);
+  };
+}
+
+pub ends_at_a_tick : EndsAtATick
+ends_at_a_tick = record {
+  first = first;
+  early = run3;
+  ending = ending;
+  tick = tick;
+  runs = ((((((empty_starts, ports_fit Ready refl), happens1), happens2), happens3), happens4), happens5);
+  heeds = (((((tt, spares_ports), tt), tt), spares_ports), tt);
+  aged = aged 2;
+  old = refl;
+  not_ended = (refl, refl);
+  told_to = refl;
+  ended = over;
+  same = refl;
+  book = refl;
+  is_ended = (refl, refl);
+  ticks = refl;
+  answers = refl;
+  none_left = refl;
+}

@@ -1,0 +1,550 @@
+-- A run in which one port fails and another loses its disk.
+use Rattle.std.proofs.Common.{◌≡◌, ◌⊎◌, ℕ, ◌<◌, ◌≤◌, ◌||◌, ◌==◌, Bool, true, false, cond, zero, suc, List, [], ◌∷◌, map, Ok, inl, inr, ⊎_elim, refl, sym, ap, ◌∙◌, subst, arith, eqb-true, eq-eqb}
+use Rattle.std.proofs.lemmas.Bool.{false≢true, or_cases, cond-true, cond-false}
+use Rattle.std.proofs.lemmas.List.Sorted.{IsPermutation-append_comm}
+use Rattle.std.specs.List.{Contains, list_any}
+use Rattle.std.specs.Prelude.{slice_index_or}
+use Rattle.ata_types.specs.declared.Port.{Port}
+use Rattle.ata_types.specs.declared.PortState.{PortState}
+use Rattle.ata_types.specs.declared.PortState.TheVariants.{Absent, Ready, Unfit, Dead}
+use Rattle.ata_types.specs.declared.request.RequestId.{RequestId}
+use Rattle.ata_types.specs.declared.request.Op.TheVariants.{Read, Write}
+use Rattle.ata_types.specs.declared.request.Outcome.{Outcome}
+use Rattle.ata_types.specs.declared.request.Outcome.TheVariants as outcome
+use Rattle.block_machine.specs.Ports.{Ports, Evidence, AreFit, SamePort, IsInterrupted, IsServiced}
+use Rattle.block_machine.specs.State.{Accepted, Pending, Machine, unanswered, is_reader}
+use Rattle.block_machine.specs.Steps.{Step, Accept, Issue, Touch, End, Again, Answer, Unplug, newly_accepted, issue, touch, requeued}
+use Rattle.block_machine.specs.Events.{Moment, Submit, Service, Device, Submitted, Served, Stepped, Event, Happens, NoneKeepsIssue, ServesReady, UnplugsAll, Tells, IsToldBefore, IsIssuedIn, moment_after, moment_of, situation_of, steps_of, reply_of, ShowsDisk}
+use Rattle.machine_runs.specs.Worked.{MeetsTrouble}
+use Rattle.block_machine.proofs.Members.{contains_none, contains_here, contains_there, contains_cases, none_of}
+use Rattle.block_machine.proofs.Keeps.{same_port}
+use Rattle.block_machine.proofs.Setting.{on, frame, row, two_rows, empty, empty_starts, acceptable}
+use Rattle.machine_runs.proofs.Scene.{mode, id, one_sector, done, is_ready, is_dead, IsQuiet, row_zero, write_at, fit_read, new, none_waits, none_there, one_told, none_told, one_touched, none_ended, last_ended, none_unplugged, is_unfit, is_told_dead, spares_ports, no_faults, one_fault, emptied_at}
+use Rattle.block_machine.proofs.Calm.{none, is_fault}
+
+-- ports 0 and 1 in these states, and no other port
+abbrev both : PortState → PortState → Port → PortState
+both low high p = cond (p.0 == 0) low (cond (p.0 == 1) high Absent)
+
+abbrev ports_in : PortState → PortState → Ports
+ports_in low high = record { served = λ p. p.0 == 0 || p.0 == 1; state = both low high; serial = λ p. []; sectors = λ p. 200; trims = λ p. true; mode = λ p. mode }
+
+abbrev first : Moment
+first = record { machine = empty; ports = ports_in Ready Ready }
+
+abbrev submit : Accepted → Event (Unit {0})
+submit r = record { ask = Submit r.asked; said = Submitted (Ok r.id); evidence = none; steps = Issue mode (newly_accepted r) ∷ Accept r ∷ []; ports = ports_in Ready Ready }
+
+abbrev run0 : List (Event (Unit {0}))
+run0 = []
+
+abbrev lost : Accepted
+lost = one_sector 1 empty 1 Read 100 42
+
+abbrev run1 : List (Event (Unit {0}))
+run1 = submit lost ∷ run0
+
+abbrev failed : Accepted
+failed = one_sector 0 empty 2 Write 100 40
+
+abbrev run2 : List (Event (Unit {0}))
+run2 = submit failed ∷ run1
+
+abbrev again : Accepted
+again = one_sector 0 empty 3 Write 101 41
+
+abbrev run3 : List (Event (Unit {0}))
+run3 = submit again ∷ run2
+
+abbrev finished : Accepted
+finished = one_sector 0 empty 4 Write 102 43
+
+abbrev run4 : List (Event (Unit {0}))
+run4 = submit finished ∷ run3
+
+abbrev finishing : Pending
+finishing = issue (newly_accepted finished)
+
+-- the device ends it
+abbrev ending : Event (Unit {0})
+ending = record { ask = Device tt; said = Stepped true; evidence = none; steps = End (touch 0 finishing) ∷ Touch finishing 0 (finished.held 0) ∷ []; ports = ports_in Ready Ready }
+
+abbrev run5 : List (Event (Unit {0}))
+run5 = ending ∷ run4
+
+abbrev unplug : Event (Unit {0})
+unplug = record { ask = Device tt; said = Stepped true; evidence = none; steps = Unplug (on 1) ∷ []; ports = ports_in Ready Ready }
+
+abbrev run6 : List (Event (Unit {0}))
+run6 = unplug ∷ run5
+
+-- the request that goes again, in its n-th issue
+abbrev tried : ℕ → Pending
+tried n = record (issue (newly_accepted again)) { issues = n }
+
+abbrev failing : Pending
+failing = issue (newly_accepted failed)
+
+abbrev losing : Pending
+losing = issue (newly_accepted lost)
+
+-- port 0 failed and told a fault, and port 1 told that its disk went; both were stopped
+abbrev trouble : Evidence
+trouble = record { faults = record { id = id 2; status = 65; error = 64 } ∷ []; lost = on 1 ∷ []; gone = on 1 ∷ []; failed = on 0 ∷ []; fatal = []; stopped = on 0 ∷ on 1 ∷ []; stuck = [] }
+
+abbrev requeuing : List Step
+requeuing = Again (tried 1) ∷ Answer failing (outcome.DeviceError 65 64) ∷ Answer (done finished) outcome.Ok ∷ []
+
+abbrev serving : List Step
+serving = Answer losing outcome.Unplugged ∷ Issue mode (requeued (tried 1)) ∷ requeuing
+
+abbrev service : Event (Unit {0})
+service = record {
+  ask = Service;
+  said = Served (reply_of (failing, outcome.DeviceError 65 64) ∷ reply_of (done finished, outcome.Ok) ∷ reply_of (losing, outcome.Unplugged) ∷ []);
+  evidence = trouble;
+  steps = serving;
+  ports = ports_in Ready Absent;
+}
+
+abbrev run7 : List (Event (Unit {0}))
+run7 = service ∷ run6
+
+-- port 0 failed, and was stopped
+abbrev failure : Evidence
+failure = record { faults = []; lost = []; gone = []; failed = on 0 ∷ []; fatal = []; stopped = on 0 ∷ []; stuck = [] }
+
+-- a service that issues it again
+abbrev retry : ℕ → Event (Unit {0})
+retry n = record { ask = Service; said = Served []; evidence = failure; steps = Issue mode (requeued (tried n)) ∷ Again (tried n) ∷ []; ports = ports_in Ready Absent }
+
+abbrev run9 : List (Event (Unit {0}))
+run9 = retry 3 ∷ retry 2 ∷ run7
+
+abbrev abort : Event (Unit {0})
+abort = record { ask = Service; said = Served (reply_of (tried 4, outcome.Aborted) ∷ []); evidence = failure; steps = Answer (tried 4) outcome.Aborted ∷ []; ports = ports_in Ready Absent }
+
+-- What holds of the ports.
+
+not_dead : {A : Type 0} (low high : PortState) → is_dead low ≡ false → is_dead high ≡ false → (p : Port) → both low high p ≡ Dead → A
+not_dead {A} low high z o p e = go (p.0 == 0) (p.0 == 1) e
+  where
+    go : (a b : Bool) → cond a low (cond b high Absent) ≡ Dead → A
+    go true b e = absurd (false≢true (sym z ∙ ap is_dead e))
+    go false true e = absurd (false≢true (sym o ∙ ap is_dead e))
+    go false false e = absurd (false≢true (ap is_dead e))
+
+fit : (low high : PortState) → is_unfit low ≡ false → is_unfit high ≡ false → AreFit (ports_in low high)
+fit low high l h = record {
+  few = λ p e. ⊎_elim (λ q. let n = eqb-true p.0 0 q in omega (arith, n)) (λ q. let n = eqb-true p.0 1 q in omega (arith, n)) (or_cases (p.0 == 0) (p.0 == 1) e);
+  absent = λ p. go (p.0 == 0) (p.0 == 1);
+  slots = λ p e. (omega arith, omega arith, λ f. absurd (false≢true (sym f)));
+  causes = λ p cause e. unfit cause (p.0 == 0) (p.0 == 1) e;
+}
+  where
+    unfit : (cause : ℕ) (a b : Bool) → cond a low (cond b high Absent) ≡ Unfit cause → (1 ≤ cause) × (cause ≤ 9)
+    unfit cause true b e = absurd (false≢true (sym l ∙ ap is_unfit e))
+    unfit cause false true e = absurd (false≢true (sym h ∙ ap is_unfit e))
+    unfit cause false false e = absurd (false≢true (ap is_unfit e))
+
+    go : (a b : Bool) → (a || b) ≡ false → cond a low (cond b high Absent) ≡ Absent
+    go true b e = absurd (false≢true (sym e))
+    go false true e = absurd (false≢true (sym e))
+    go false false e = refl
+
+-- where port 1 is out, port 0 alone is ready
+still_ready : (p : Port) → both Ready Ready p ≡ Ready → (p ≡ on 1) ⊎ (both Ready Absent p ≡ Ready)
+still_ready p e = go (p.0 == 0) refl (p.0 == 1) refl e
+  where
+    go : (a : Bool) → (p.0 == 0) ≡ a → (b : Bool) → (p.0 == 1) ≡ b → cond a Ready (cond b Ready Absent) ≡ Ready → (p ≡ on 1) ⊎ (both Ready Absent p ≡ Ready)
+    go true z b o e = inr (cond-true (p.0 == 0) Ready (cond (p.0 == 1) Absent Absent) z)
+    go false z true o e = inl (same_port p (on 1) (eqb-true p.0 1 o))
+    go false z false o e = absurd (false≢true (ap is_ready e))
+
+-- and it is the one that is left
+zero_ready : (p : Port) → both Ready Absent p ≡ Ready → p ≡ on 0
+zero_ready p e = go (p.0 == 0) refl (p.0 == 1) e
+  where
+    go : (a : Bool) → (p.0 == 0) ≡ a → (b : Bool) → cond a Ready (cond b Absent Absent) ≡ Ready → p ≡ on 0
+    go true z b e = same_port p (on 0) (eqb-true p.0 0 z)
+    go false z true e = absurd (false≢true (ap is_ready e))
+    go false z false e = absurd (false≢true (ap is_ready e))
+
+-- where port 0 has a disk, each port that shows one has
+in_zero : (m : Machine) → m.present (on 0) ≡ true → (p : Port) → ShowsDisk (both Ready Absent p) → m.present p ≡ true
+in_zero m present p shows = go (p.0 == 0) refl (p.0 == 1) shows
+  where
+    go : (a : Bool) → (p.0 == 0) ≡ a → (b : Bool) → ShowsDisk (cond a Ready (cond b Absent Absent)) → m.present p ≡ true
+    go true z b s = ap m.present (same_port p (on 0) (eqb-true p.0 0 z)) ∙ present
+    go false z true s = absurd s
+    go false z false s = absurd s
+
+-- a port that isn't interrupted is what it was where port 1 loses its disk
+changed_there : (evidence : Evidence) → Contains evidence.stopped (on 1) → (p : Port) → SamePort (ports_in Ready Ready) (ports_in Ready Absent) p ⊎ IsInterrupted evidence p
+changed_there evidence here p = go (p.0 == 0) refl (p.0 == 1) refl
+  where
+    go : (a : Bool) → (p.0 == 0) ≡ a → (b : Bool) → (p.0 == 1) ≡ b → SamePort (ports_in Ready Ready) (ports_in Ready Absent) p ⊎ IsInterrupted evidence p
+    go true z b o = inl (refl, cond-true (p.0 == 0) Ready (cond (p.0 == 1) Absent Absent) z ∙ sym (cond-true (p.0 == 0) Ready (cond (p.0 == 1) Ready Absent) z), refl, refl, refl, refl)
+    go false z true o = inr (inl (subst (λ (x : Port). Contains evidence.stopped x) (sym (same_port p (on 1) (eqb-true p.0 1 o))) here))
+    go false z false o = inl (
+      refl,
+      cond-false (p.0 == 0) Ready (cond (p.0 == 1) Absent Absent) z ∙ cond-false (p.0 == 1) Absent Absent o
+          ∙ sym (cond-false (p.0 == 0) Ready (cond (p.0 == 1) Ready Absent) z ∙ cond-false (p.0 == 1) Ready Absent o),
+      refl,
+      refl,
+      refl,
+      refl,
+    )
+
+-- a service that changes no port
+stays : (p : Port) → IsServiced (ports_in Ready Absent) failure (ports_in Ready Absent) p
+stays p = (
+  λ dead. not_dead Ready Absent refl refl p dead,
+  λ _. (
+    record { served = refl; stuck = λ dead. not_dead Ready Absent refl refl p dead; dies = λ h. absurd (contains_none p h); disk = λ ready. inr (inr (ready, (refl, refl))); keeps = λ _. (refl, refl) },
+    inl (refl, refl, refl, refl, refl, refl),
+  ),
+)
+
+-- one of them waits for nothing
+
+quiet : (p : ℕ) (m : Moment) → Contains two_rows (row p) → m.machine.rows ≡ two_rows → m.ports.state (on p) ≡ Ready → m.ports.sectors (on p) ≡ 200 → (situation_of m).unanswered (record { 0 = 1 }) < 16 → m.machine.next < 5 → IsQuiet p m
+quiet p m mine rows ready size room next = record { rows = rows; mine = mine; ready = ready; size = size; room = room; few = omega (arith, next) }
+
+quiet0 : IsQuiet 1 (moment_of first run0)
+quiet0 = quiet 1 (moment_of first run0) (contains_there (row 0) (row 1 ∷ []) (row 1) (contains_here (row 1) [] (row 1) refl)) refl refl refl (omega arith) (omega arith)
+
+quiet1 : IsQuiet 0 (moment_of first run1)
+quiet1 = quiet 0 (moment_of first run1) row_zero refl refl refl (omega arith) (omega arith)
+
+quiet2 : IsQuiet 0 (moment_of first run2)
+quiet2 = quiet 0 (moment_of first run2) row_zero refl refl refl (omega arith) (omega arith)
+
+quiet3 : IsQuiet 0 (moment_of first run3)
+quiet3 = quiet 0 (moment_of first run3) row_zero refl refl refl (omega arith) (omega arith)
+
+happens1 : Happens (moment_of first run0) (submit lost)
+happens1 = record {
+  may = ((tt, new 1 (moment_of first run0) lost quiet0 (fit_read 1 (moment_of first run0) 42 quiet0 refl refl) refl refl refl), (contains_here (newly_accepted lost) [] (newly_accepted lost) refl, record { here = contains_here (unanswered (newly_accepted lost)) [] (unanswered (newly_accepted lost)) refl; clear = refl; slot = λ _. omega arith }, λ e h. absurd (contains_none e h)));
+  belong = ((tt, inr refl), inr (refl, refl));
+  last = ((tt, λ id h i. false≢true i), λ id h i. false≢true i);
+  lawful = tt;
+  fit = fit Ready Ready refl refl;
+  disks = λ e o h i same. (refl, refl);
+  answered = (acceptable 1 (situation_of (moment_of first run0)) lost.asked (fit_read 1 (moment_of first run0) 42 quiet0 refl refl), (lost, refl, refl), λ p. (refl, refl, refl, refl, refl, refl), λ p _. none_waits _ refl p);
+}
+
+-- a request of the book's end
+second : {X : Type 0} (a b : X) → Contains (a ∷ b ∷ []) b
+second a b = contains_there a (b ∷ []) b (contains_here b [] b refl)
+
+third : {X : Type 0} (a b c : X) → Contains (a ∷ b ∷ c ∷ []) c
+third a b c = contains_there a (b ∷ c ∷ []) c (second b c)
+
+fourth : {X : Type 0} (a b c d : X) → Contains (a ∷ b ∷ c ∷ d ∷ []) d
+fourth a b c d = contains_there a (b ∷ c ∷ d ∷ []) d (third b c d)
+
+happens2 : Happens (moment_of first run1) (submit failed)
+happens2 = record {
+  may = ((tt, new 0 (moment_of first run1) failed quiet1 (write_at 0 (moment_of first run1) 100 40 quiet1 (omega arith) (omega arith) refl refl) refl refl refl), (second losing (newly_accepted failed), record { here = second (unanswered losing) (unanswered (newly_accepted failed)); clear = refl; slot = λ _. omega arith }, λ e h. absurd (contains_none e h)));
+  belong = ((tt, inr refl), inr (refl, refl));
+  last = ((tt, λ id h i. false≢true i), λ id h i. false≢true i);
+  lawful = tt;
+  fit = fit Ready Ready refl refl;
+  disks = λ e o h i same. (refl, refl);
+  answered = (acceptable 0 (situation_of (moment_of first run1)) failed.asked (write_at 0 (moment_of first run1) 100 40 quiet1 (omega arith) (omega arith) refl refl), (failed, refl, refl), λ p. (refl, refl, refl, refl, refl, refl), λ p _. none_waits _ refl p);
+}
+
+happens3 : Happens (moment_of first run2) (submit again)
+happens3 = record {
+  may = ((tt, new 0 (moment_of first run2) again quiet2 (write_at 0 (moment_of first run2) 101 41 quiet2 (omega arith) (omega arith) refl refl) refl refl refl), (third losing failing (newly_accepted again), record { here = third (unanswered losing) (unanswered failing) (unanswered (newly_accepted again)); clear = refl; slot = λ _. omega arith }, λ e h. absurd (contains_none e h)));
+  belong = ((tt, inr refl), inr (refl, refl));
+  last = ((tt, λ id h i. false≢true i), λ id h i. false≢true i);
+  lawful = tt;
+  fit = fit Ready Ready refl refl;
+  disks = λ e o h i same. (refl, refl);
+  answered = (acceptable 0 (situation_of (moment_of first run2)) again.asked (write_at 0 (moment_of first run2) 101 41 quiet2 (omega arith) (omega arith) refl refl), (again, refl, refl), λ p. (refl, refl, refl, refl, refl, refl), λ p _. none_waits _ refl p);
+}
+
+happens4 : Happens (moment_of first run3) (submit finished)
+happens4 = record {
+  may = ((tt, new 0 (moment_of first run3) finished quiet3 (write_at 0 (moment_of first run3) 102 43 quiet3 (omega arith) (omega arith) refl refl) refl refl refl), (fourth losing failing (tried 1) (newly_accepted finished), record { here = fourth (unanswered losing) (unanswered failing) (unanswered (tried 1)) (unanswered (newly_accepted finished)); clear = refl; slot = λ _. omega arith }, λ e h. absurd (contains_none e h)));
+  belong = ((tt, inr refl), inr (refl, refl));
+  last = ((tt, λ id h i. false≢true i), λ id h i. false≢true i);
+  lawful = tt;
+  fit = fit Ready Ready refl refl;
+  disks = λ e o h i same. (refl, refl);
+  answered = (acceptable 0 (situation_of (moment_of first run3)) finished.asked (write_at 0 (moment_of first run3) 102 43 quiet3 (omega arith) (omega arith) refl refl), (finished, refl, refl), λ p. (refl, refl, refl, refl, refl, refl), λ p _. none_waits _ refl p);
+}
+
+happens5 : Happens (moment_of first run4) ending
+happens5 = record {
+  may = ((tt, (inl (fourth losing failing (tried 1) finishing, refl), omega arith, refl, omega arith, λ _ b lt. refl)), (inl (fourth losing failing (tried 1) (touch 0 finishing), refl), one_touched, refl));
+  belong = ((tt, inl tt), inl tt);
+  last = ((tt, λ id h i. false≢true i), λ id h i. false≢true i);
+  lawful = tt;
+  fit = fit Ready Ready refl refl;
+  disks = λ e o h i same. (refl, refl);
+  answered = (((tt, tt), tt), λ p. (refl, refl, refl, refl, refl, refl));
+}
+
+happens6 : Happens (moment_of first run5) unplug
+happens6 = record {
+  may = (tt, refl);
+  belong = (tt, inl tt);
+  last = (tt, λ id h i. false≢true i);
+  lawful = tt;
+  fit = fit Ready Ready refl refl;
+  disks = λ e o h i same. (refl, refl);
+  answered = ((tt, tt), λ p. (refl, refl, refl, refl, refl, refl));
+}
+
+-- The call that finds both troubles.
+
+-- the one request that is left was issued in it, and isn't of the port that went
+left_anew : (n : ℕ) (steps : List Step) → IsIssuedIn again.id steps → (e : Pending) → Contains (tried n ∷ []) e → IsIssuedIn e.request.id steps
+left_anew n steps issued e h = ⊎_elim
+    (λ (same : e ≡ tried n). subst (λ (x : Pending). IsIssuedIn x.request.id steps) (sym same) issued)
+    (λ none. absurd (contains_none e none))
+    (contains_cases (tried n) [] e h)
+
+left_here : (n : ℕ) (e : Pending) → Contains (tried n ∷ []) e → e.request.port.0 ≡ 0
+left_here n e h = ⊎_elim (λ (same : e ≡ tried n). ap (λ (x : Pending). x.request.port.0) same) (λ none. absurd (contains_none e none)) (contains_cases (tried n) [] e h)
+
+abbrev all_told : List (Pending × Outcome)
+all_told = (failing, outcome.DeviceError 65 64) ∷ (done finished, outcome.Ok) ∷ (losing, outcome.Unplugged) ∷ []
+
+told_in_order : Tells serving (map reply_of all_told)
+told_in_order = record {
+  answers = all_told;
+  same = IsPermutation-append_comm ((failing, outcome.DeviceError 65 64) ∷ (done finished, outcome.Ok) ∷ []) ((losing, outcome.Unplugged) ∷ []);
+  ordered = λ i j d lt below. go i j d lt below;
+  told = refl;
+}
+  where
+    go : (i j : ℕ) (d : Pending × Outcome) → i < j → j < 3 → IsToldBefore (slice_index_or all_told i d) (slice_index_or all_told j d)
+    go zero (suc zero) d lt below = inr (refl, omega arith)
+    go zero (suc (suc zero)) d lt below = inl (omega arith)
+    go (suc zero) (suc (suc zero)) d lt below = inl (omega arith)
+    go i j d lt below = absurd (omega (arith, lt, below))
+
+-- tests of steps
+
+-- the step answers a request of port 1 otherwise than Ok and Unplugged
+abbrev tells_other : Step → Bool
+tells_other (Answer e outcome.Ok) = false
+tells_other (Answer e outcome.Unplugged) = false
+tells_other (Answer e o) = e.request.port.0 == 1
+tells_other _ = false
+
+-- the step answers a request of port 0 Unplugged
+abbrev unplugs_zero : Step → Bool
+unplugs_zero (Answer e outcome.Unplugged) = e.request.port.0 == 0
+unplugs_zero _ = false
+
+told_one : (e : Pending) (o : Outcome) → e.request.port.0 ≡ 1 → tells_other (Answer e o) ≡ false → (o ≡ outcome.Ok) ⊎ (o ≡ outcome.Unplugged)
+told_one e outcome.Ok one h = inl refl
+told_one e outcome.Unplugged one h = inr refl
+told_one e (outcome.DeviceError status error) one h = absurd (false≢true (sym h ∙ eq-eqb e.request.port.0 1 one))
+told_one e outcome.Aborted one h = absurd (false≢true (sym h ∙ eq-eqb e.request.port.0 1 one))
+told_one e outcome.PortDead one h = absurd (false≢true (sym h ∙ eq-eqb e.request.port.0 1 one))
+
+-- both ready ports were stopped
+stopped : (p : Port) → both Ready Ready p ≡ Ready → Contains (on 0 ∷ on 1 ∷ []) p
+stopped p ready = ⊎_elim (λ (same : p ≡ on 1). contains_there (on 0) (on 1 ∷ []) p (contains_here (on 1) [] p same)) (λ still. contains_here (on 0) (on 1 ∷ []) p (zero_ready p still)) (still_ready p ready)
+
+-- what each ready port finds of it
+serves_ready : (p : Port) → both Ready Ready p ≡ Ready → ServesReady (moment_of first run6) trouble serving (moment_of first run7) p
+serves_ready p ready = record {
+  disk = λ shows. inl (in_zero (moment_of first run6).machine refl p shows);
+  ended = last_ended (moment_of first run6).machine serving (losing ∷ failing ∷ tried 1 ∷ []) (done finished) refl refl (done finished) refl
+      (contains_there (Answer losing outcome.Unplugged) (Issue mode (requeued (tried 1)) ∷ requeuing) (Answer (done finished) outcome.Ok)
+      (fourth (Issue mode (requeued (tried 1))) (Again (tried 1)) (Answer failing (outcome.DeviceError 65 64)) (Answer (done finished) outcome.Ok))) p;
+  emptied = λ gone e h q. other_port gone e h q;
+  told = λ gone. inl (λ e o h here. told_one e o (ap (λ (x : Port). x.0) (here ∙ only_one gone)) (none_of tells_other serving (Answer e o) refl h));
+  interrupts = λ _. inl (stopped p ready);
+  anew = λ _ e h _ _. left_anew 2 serving refl e h;
+  changes = inr (inl (stopped p ready));
+  fatal = λ h. absurd (contains_none p h);
+  single = one_fault (Answer losing outcome.Unplugged ∷ Issue mode (requeued (tried 1)) ∷ Again (tried 1) ∷ []) (Answer failing (outcome.DeviceError 65 64)) (Answer (done finished) outcome.Ok ∷ []) refl refl p;
+  calm = inl (⊎_elim (λ same. inr (inl (contains_here (on 1) [] p same))) (λ still. inl (contains_here (on 0) [] p (zero_ready p still))) (still_ready p ready));
+}
+  where
+    only_one : Contains (on 1 ∷ []) p → p ≡ on 1
+    only_one gone = ⊎_elim (λ same. same) (λ n. absurd (contains_none p n)) (contains_cases (on 1) [] p gone)
+
+    other_port : Contains (on 1 ∷ []) p → (e : Pending) → Contains (tried 2 ∷ []) e → e.request.port ≡ p → ⊥
+    other_port gone e h q = let at_zero = left_here 2 e h in let at_one = ap (λ (x : Port). x.0) (q ∙ only_one gone) in omega (arith, at_zero, at_one)
+
+-- port 1's alone are answered Unplugged
+unplugs_all : UnplugsAll serving (moment_of first run7).machine
+unplugs_all = record {
+  emptied = λ e other h i q. false≢true (sym (none_of unplugs_zero serving (Answer e outcome.Unplugged) refl h)
+      ∙ eq-eqb e.request.port.0 0 (ap (λ (x : Port). x.0) (sym q) ∙ left_here 2 other i));
+  alike = λ e other h i. absurd (false≢true (sym (none_of is_told_dead serving (Answer other outcome.PortDead) refl i)));
+}
+
+happens7 : Happens (moment_of first run6) service
+happens7 = record {
+  may = (
+    (
+      (
+        ((tt, fourth losing failing (tried 1) (done finished)), contains_there losing (failing ∷ tried 1 ∷ []) failing (contains_here failing (tried 1 ∷ []) failing refl)),
+        (second losing (tried 1), refl, omega arith),
+      ),
+      (second losing (requeued (tried 1)), record { here = second (unanswered losing) (unanswered (requeued (tried 1))); clear = refl; slot = λ _. omega arith }, λ e h. absurd (contains_none e h)),
+    ),
+    contains_here losing (tried 2 ∷ []) losing refl,
+  );
+  belong = (((((tt, inr tt), inr tt), inr refl), inr (refl, refl)), inr tt);
+  last = (((((tt, λ id h i. false≢true i), λ id h i. false≢true i), λ id h i. false≢true i), λ id h i. false≢true i), apart);
+  lawful = (
+    (
+      (
+        (tt, (record { pending = done finished; here = fourth losing failing (tried 1) (done finished); id_is = refl; issued = refl }, refl, one_touched, refl)),
+        (record { pending = failing; here = contains_there losing (failing ∷ tried 1 ∷ done finished ∷ []) failing (contains_here failing (tried 1 ∷ done finished ∷ []) failing refl); id_is = refl; issued = refl }, refl, contains_here _ [] _ refl, contains_here (on 0) (on 1 ∷ []) (on 0) refl),
+      ),
+      contains_here (on 0) (on 1 ∷ []) (on 0) refl,
+    ),
+    (contains_here (on 1) [] (on 1) refl, second (on 0) (on 1)),
+  );
+  fit = fit Ready Absent refl refl;
+  disks = λ e o h i same. (refl, refl);
+  answered = record {
+    tells = told_in_order;
+    dead = λ e o i dead. not_dead Ready Ready refl refl e.request.port dead;
+    grounded = ((tt, contains_here (on 0) [] (on 0) refl), contains_here (on 0) [] (on 0) refl);
+    unplugs = unplugs_all;
+    issues = λ p _. none_waits _ refl p;
+    emptied = λ p ne e h. emptied_at (both Ready Absent) (tried 2) refl p ne e h;
+    becomes = λ p. (
+      λ dead. not_dead Ready Ready refl refl p dead,
+      λ _. (
+        record {
+          served = refl;
+          stuck = λ dead. not_dead Ready Absent refl refl p dead;
+          dies = λ h. absurd (contains_none p h);
+          disk = λ ready. ⊎_elim (λ same. inl (contains_here (on 1) [] p same)) (λ still. inr (inr (still, (refl, refl)))) (still_ready p ready);
+          keeps = λ _. (refl, refl);
+        },
+        changed_there service.evidence (second (on 0) (on 1)) p,
+      ),
+    );
+    disk = λ p. inr (λ shows. inl (in_zero (moment_of first run6).machine refl p shows));
+  };
+}
+  where
+    apart : (id : RequestId) → (1 == id.0) ≡ true → IsIssuedIn id (Issue mode (requeued (tried 1)) ∷ requeuing) → ⊥
+    apart id h i = ⊎_elim
+        (λ three. let a = eqb-true 1 id.0 h in let b = eqb-true 3 id.0 three in omega (arith, a, b))
+        (λ none. false≢true none)
+        (or_cases (3 == id.0) false i)
+
+-- A service that issues the request again, and the one that aborts it.
+
+-- port 0 has failed, where no request had ended and none keeps its issue
+fails : (old new : Moment) (steps : List Step) (p : Port) → both Ready Absent p ≡ Ready → old.machine.present (on 0) ≡ true → list_any (λ e. e.ended) old.machine.book ≡ false → list_any is_fault steps ≡ false
+    → NoneKeepsIssue steps new.machine p → ServesReady old failure steps new p
+fails old new steps p ready present none faults anew = record {
+  disk = λ _. inl (ap old.machine.present (zero_ready p ready) ∙ present);
+  ended = none_ended old.machine steps none p;
+  emptied = λ gone. absurd (contains_none p gone);
+  told = λ gone. absurd (contains_none p gone);
+  interrupts = λ _. inl (contains_here (on 0) [] p (zero_ready p ready));
+  anew = λ _. anew;
+  changes = inr (inl (contains_here (on 0) [] p (zero_ready p ready)));
+  fatal = λ h. absurd (contains_none p h);
+  single = let zero = no_faults steps faults p in omega (arith, zero);
+  calm = inl (inl (contains_here (on 0) [] p (zero_ready p ready)));
+}
+
+-- the moment before such a service
+abbrev before : Machine → ℕ → Moment
+before m n = record { machine = record m { book = tried n ∷ []; kept = [] }; ports = ports_in Ready Absent }
+
+retry_heeds : (m : Machine) (n : ℕ) → m.present (on 0) ≡ true → (p : Port) → both Ready Absent p ≡ Ready → ServesReady (before m n) failure (retry n).steps (moment_after (before m n) (retry n)) p
+retry_heeds m n in_before p ready = fails (before m n) (moment_after (before m n) (retry n)) (retry n).steps p ready in_before refl refl (λ e h _ _. left_anew (suc n) (retry n).steps refl e h)
+
+retried : (m : Machine) (n : ℕ) → n < 4 → Happens (before m n) (retry n)
+retried m n few = record {
+  may = ((tt, (contains_here (tried n) [] (tried n) refl, refl, few)), (contains_here (requeued (tried n)) [] (requeued (tried n)) refl, record { here = contains_here (unanswered (requeued (tried n))) [] (unanswered (requeued (tried n))) refl; clear = refl; slot = λ _. omega arith }, λ e h. absurd (contains_none e h)));
+  belong = ((tt, inr refl), inr (refl, refl));
+  last = ((tt, λ id h i. false≢true i), λ id h i. false≢true i);
+  lawful = (tt, contains_here (on 0) [] (on 0) refl);
+  fit = fit Ready Absent refl refl;
+  disks = λ e o h i same. (refl, refl);
+  answered = record {
+    tells = none_told (retry n).steps refl;
+    dead = λ e o i dead. not_dead Ready Absent refl refl e.request.port dead;
+    grounded = (tt, contains_here (on 0) [] (on 0) refl);
+    unplugs = none_unplugged (retry n).steps (moment_after (before m n) (retry n)).machine refl;
+    issues = λ p _. none_waits _ refl p;
+    emptied = λ p ne e h. emptied_at (both Ready Absent) (tried (suc n)) refl p ne e h;
+    becomes = stays;
+    disk = λ p. inl (refl, refl, refl, refl, refl, refl);
+  };
+}
+
+happens10 : Happens (moment_of first run9) abort
+happens10 = record {
+  may = (tt, contains_here (tried 4) [] (tried 4) refl);
+  belong = (tt, inr tt);
+  last = (tt, λ id h i. false≢true i);
+  lawful = (tt, (record { pending = tried 4; here = contains_here (tried 4) [] (tried 4) refl; id_is = refl; issued = refl }, refl, refl, contains_here (on 0) [] (on 0) refl, (refl, refl)));
+  fit = fit Ready Absent refl refl;
+  disks = λ e o h i same. (refl, refl);
+  answered = record {
+    tells = one_told (tried 4) outcome.Aborted abort.steps refl (reply_of (tried 4, outcome.Aborted)) refl;
+    dead = λ e o i dead. not_dead Ready Absent refl refl e.request.port dead;
+    grounded = (tt, contains_here (on 0) [] (on 0) refl);
+    unplugs = none_unplugged abort.steps (moment_after (moment_of first run9) abort).machine refl;
+    issues = λ p _. none_there p;
+    emptied = λ p ne e h. absurd (contains_none e h);
+    becomes = stays;
+    disk = λ p. inl (refl, refl, refl, refl, refl, refl);
+  };
+}
+
+pub meets_trouble : MeetsTrouble
+meets_trouble = record {
+  first = first;
+  asked = run6;
+  service = service;
+  third = retry 2;
+  fourth = retry 3;
+  last = abort;
+  runs = (((((((((((empty_starts, fit Ready Ready refl refl), happens1), happens2), happens3), happens4), happens5), happens6), happens7), retried (moment_of first run7).machine 2 (omega arith)), retried (moment_of first (retry 2 ∷ run7)).machine 3 (omega arith)), happens10);
+  heeds = ((((((((((tt, spares_ports), spares_ports), spares_ports), spares_ports), spares_ports), spares_ports), serves_ready), retry_heeds (moment_of first run7).machine 2 refl), retry_heeds (moment_of first (retry 2 ∷ run7)).machine 3 refl), λ p ready. fails (moment_of first run9) (moment_after (moment_of first run9) abort) abort.steps p ready refl refl refl (λ e h. absurd (contains_none e h)));
+  told = (((((((((((((((((((((tt, tt), tt), tt), tt), tt), tt), tt), tt), λ e. absurd (false≢true (ap is_reader e))), tt), tt), tt), tt), tt), tt), tt), tt), tt), tt), tt), tt);
+  volatile = (((((((((((((((((((((tt, tt), tt), tt), tt), tt), tt), tt), tt), tt), tt), tt), tt), tt), tt), tt), tt), tt), tt), tt), tt), tt);
+  lost = losing;
+  failed = failing;
+  again = tried 1;
+  ended = done finished;
+  book = refl;
+  issued = (refl, refl, refl, refl);
+  had_ended = refl;
+  apart = λ e. distinct (ap (λ (x : Port). x.0) e);
+  together = (refl, refl);
+  goes = contains_here (Unplug (on 1)) (steps_of run5) (Unplug (on 1)) refl;
+  serves = (refl, refl, refl, refl);
+  tells = refl;
+  requeues = contains_there (Answer losing outcome.Unplugged) (Issue mode (requeued (tried 1)) ∷ requeuing) (Again (tried 1))
+      (contains_there (Issue mode (requeued (tried 1))) requeuing (Again (tried 1)) (contains_here (Again (tried 1)) (Answer failing (outcome.DeviceError 65 64) ∷ Answer (done finished) outcome.Ok ∷ []) (Again (tried 1)) refl));
+  absent = refl;
+  ready = refl;
+  anew = tried 2;
+  left = refl;
+  twice = (refl, refl, refl);
+  spent = tried 4;
+  still = refl;
+  four = (refl, refl, refl);
+  ends = refl;
+  none_left = refl;
+  frame = frame 41;
+  its = refl;
+  freed = refl;
+}
+  where
+    distinct : ◌≡◌ {A = ℕ} 1 0 → ⊥
+    distinct e = omega (arith, e)

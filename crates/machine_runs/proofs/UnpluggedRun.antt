@@ -1,0 +1,195 @@
+-- A run in which a disk is taken out under a request that hangs, and the third tick tells of it.
+use Rattle.std.proofs.Common.{◌≡◌, ℕ, ◌<◌, Bool, true, false, zero, suc, List, [], ◌∷◌, map, inl, inr, ⊎_elim, refl, sym, subst, arith}
+use Rattle.std.proofs.lemmas.Bool.{false≢true}
+use Rattle.std.proofs.lemmas.List.Sorted.{IsPermutation-append_comm}
+use Rattle.std.specs.List.{Contains}
+use Rattle.std.specs.Prelude.{slice_index_or}
+use Rattle.ata_types.specs.declared.Port.{Port}
+use Rattle.ata_types.specs.declared.PortState.TheVariants.{Absent, Ready}
+use Rattle.ata_types.specs.declared.request.Outcome.{Outcome}
+use Rattle.ata_types.specs.declared.request.Outcome.TheVariants as outcome
+use Rattle.block_machine.specs.Ports.{Evidence}
+use Rattle.block_machine.specs.State.{Pending, Machine}
+use Rattle.block_machine.specs.Steps.{Step, Age, Again, Answer, Unplug, newly_accepted, older}
+use Rattle.block_machine.specs.Events.{Moment, Tick, Device, Served, Stepped, Event, IsHung, RestartsHung, Happens, Tells, IsToldBefore, reply_of, moment_of, moment_after}
+use Rattle.machine_runs.specs.Worked.{IsTakenOutBeforeATick}
+use Rattle.block_machine.proofs.Members.{contains_none, contains_here, contains_cases, none_of}
+use Rattle.block_machine.proofs.Setting.{port, frame, empty_starts}
+use Rattle.machine_runs.proofs.Scene.{first, ports, ports_in, call, none_told, ready_port, spares_ports, restarts_into, shows_none, is_told_dead, emptied_of, of_two, none_ended, none_unplugged, absent_not_ready, absent_not_dead, ports_fit}
+use Rattle.machine_runs.proofs.WaitingRun.{read, run2, happens1, happens2, none_due}
+use Rattle.machine_runs.proofs.ResetRun.{aging, aged, ages_once, ticks}
+use Rattle.machine_runs.proofs.ResetRun as reset_run
+
+-- the read, which waits for the write
+abbrev waits : Pending
+waits = newly_accepted read
+
+abbrev run3 : List (Event (Unit {0}))
+run3 = reset_run.tick [] ∷ run2
+
+abbrev run4 : List (Event (Unit {0}))
+run4 = reset_run.tick [] ∷ run3
+
+abbrev going : Event (Unit {0})
+going = call (Device tt) (Stepped true) (Unplug port ∷ [])
+
+abbrev run5 : List (Event (Unit {0}))
+run5 = going ∷ run4
+
+-- the link had told that the disk went, and the engine was seen to stop
+abbrev gone : Evidence
+gone = record { faults = []; lost = port ∷ []; gone = port ∷ []; failed = []; fatal = []; stopped = port ∷ []; stuck = [] }
+
+abbrev told : List (Pending × Outcome)
+told = (aged 3, outcome.Unplugged) ∷ (waits, outcome.Unplugged) ∷ []
+
+abbrev answers : List Step
+answers = Answer waits outcome.Unplugged ∷ Answer (aged 3) outcome.Unplugged ∷ []
+
+abbrev tick : Event (Unit {0})
+tick = record { ask = Tick; said = Served (map reply_of told); evidence = gone; steps = Answer waits outcome.Unplugged ∷ Answer (aged 3) outcome.Unplugged ∷ Age aging ∷ []; ports = ports_in Absent }
+
+abbrev run6 : List (Event (Unit {0}))
+run6 = tick ∷ run5
+
+-- the moment before a tick
+abbrev before : Machine → ℕ → Moment
+before m n = record { machine = record m { book = aged n ∷ waits ∷ []; kept = [] }; ports = ports }
+
+ticked : (m : Machine) (n : ℕ) → n < 2 → Happens (before m n) (reset_run.tick [])
+ticked m n young = record {
+  may = (tt, tt);
+  belong = (tt, inr tt);
+  last = (tt, λ id h i. false≢true i);
+  lawful = tt;
+  fit = ports_fit Ready refl;
+  disks = λ e o h i same. (refl, refl);
+  answered = record {
+    tells = none_told (Age aging ∷ []) refl;
+    ages = ages_once [] refl;
+    restarts = ticks (before m n) (of_two (aged n) waits (λ e. e.age < 2) young (omega arith)) (moment_after (before m n) (reset_run.tick [])) (λ p. (refl, refl, refl, refl, refl, refl));
+    unplugs = none_unplugged (Age aging ∷ []) (moment_after (before m n) (reset_run.tick [])).machine refl;
+    issues = λ p _. none_due p;
+    emptied = λ p _. emptied_of (older aging (aged n) ∷ older aging waits ∷ []) (of_two (older aging (aged n)) (older aging waits) (λ e. e.request.port ≡ port) refl refl) p;
+  };
+}
+
+happens5 : Happens (moment_of first run4) going
+happens5 = record {
+  may = (tt, refl);
+  belong = (tt, inl tt);
+  last = (tt, λ id h i. false≢true i);
+  lawful = tt;
+  fit = ports_fit Ready refl;
+  disks = λ e o h i same. (refl, refl);
+  answered = ((tt, tt), λ p. (refl, refl, refl, refl, refl, refl));
+}
+
+-- The third tick.
+
+hung : IsHung (moment_of first run5) port
+hung = record { ready = refl; pending = aged 2; here = contains_here (aged 2) (waits ∷ []) (aged 2) refl; port_is = refl; issued = refl; old_enough = omega arith }
+
+only_port : (p : Port) → Contains (port ∷ []) p → p ≡ port
+only_port p h = ⊎_elim (λ same. same) (λ n. absurd (contains_none p n)) (contains_cases port [] p h)
+
+-- the port of the request that is answered, else this port
+abbrev port_of : Step → Port
+port_of (Answer e o) = e.request.port
+port_of _ = port
+
+abbrev is_again : Step → Bool
+is_again (Again e) = true
+is_again _ = false
+
+each_step : (P : Step → Type 0) → P (Answer waits outcome.Unplugged) → P (Answer (aged 3) outcome.Unplugged) → P (Age aging) → (step : Step) → Contains tick.steps step → P step
+each_step P a b c step h = ⊎_elim
+    (λ same. subst P (sym same) a)
+    (λ n. ⊎_elim
+    (λ same. subst P (sym same) b)
+    (λ k. ⊎_elim (λ same. subst P (sym same) c) (λ l. absurd (contains_none step l)) (contains_cases (Age aging) [] step k))
+    (contains_cases (Answer (aged 3) outcome.Unplugged) (Age aging ∷ []) step n))
+    (contains_cases (Answer waits outcome.Unplugged) (Answer (aged 3) outcome.Unplugged ∷ Age aging ∷ []) step h)
+
+restarted : RestartsHung (moment_of first run5) gone tick.steps (moment_of first run6)
+restarted = record {
+  ports = restarts_into (moment_of first run5).machine Absent gone hung (λ p. record {
+    served = refl;
+    stuck = λ dead. absent_not_dead p dead;
+    dies = λ h. absurd (contains_none p h);
+    disk = λ ready. inl (contains_here port [] p (ready_port p ready));
+    keeps = λ _. (refl, refl);
+  });
+  again = λ e h. absurd (false≢true (sym (none_of is_again tick.steps (Again e) refl h)));
+  answer = λ e o h. subst (λ (x : Port). IsHung (moment_of first run5) x) (sym (each_step (λ step. port_of step ≡ port) refl refl refl (Answer e o) h)) hung;
+  ended = λ p _. none_ended (moment_of first run5).machine tick.steps refl p;
+  anew = λ p _ e h. absurd (contains_none e h);
+  interrupts = λ p h. inl (contains_here port [] p (ready_port p h.ready));
+  spares = λ p i. ⊎_elim
+      (λ h. subst (λ (x : Port). IsHung (moment_of first run5) x) (sym (only_port p h)) hung)
+      (λ h. absurd (contains_none p h))
+      i;
+  finds = λ e h. (λ dead. absent_not_dead e.request.port dead, λ ready. absent_not_ready e.request.port ready);
+  disk = λ p _ shows. shows_none Absent (λ s. s) p shows;
+}
+
+told_in_order : Tells tick.steps (map reply_of told)
+told_in_order = record {
+  answers = told;
+  same = IsPermutation-append_comm ((aged 3, outcome.Unplugged) ∷ []) ((waits, outcome.Unplugged) ∷ []);
+  ordered = go;
+  told = refl;
+}
+  where
+    go : (i j : ℕ) (d : Pending × Outcome) → i < j → j < 2 → IsToldBefore (slice_index_or told i d) (slice_index_or told j d)
+    go zero (suc zero) d lt below = inr (refl, omega arith)
+    go i j d lt below = absurd (omega (arith, lt, below))
+
+happens6 : Happens (moment_of first run5) tick
+happens6 = record {
+  may = (((tt, tt), contains_here (aged 3) (waits ∷ []) (aged 3) refl), contains_here waits [] waits refl);
+  belong = (((tt, inr tt), inr (inl tt)), inr (inl tt));
+  last = (((tt, λ id h i. false≢true i), λ id h i. false≢true i), λ id h i. false≢true i);
+  lawful = (
+    (tt, (contains_here port [] port refl, contains_here port [] port refl)),
+    (contains_here port [] port refl, contains_here port [] port refl),
+  );
+  fit = ports_fit Absent refl;
+  disks = λ e o h i same. (refl, refl);
+  answered = record {
+    tells = told_in_order;
+    ages = ages_once answers refl;
+    restarts = restarted;
+    unplugs = record {
+      emptied = λ e other h i. absurd (contains_none other i);
+      alike = λ e other h i. absurd (false≢true (sym (none_of is_told_dead tick.steps (Answer other outcome.PortDead) refl i)));
+    };
+    issues = λ p ready. absent_not_ready p ready;
+    emptied = λ p _ ne e h. absurd (contains_none e h);
+  };
+}
+
+pub is_taken_out_before_a_tick : IsTakenOutBeforeATick
+is_taken_out_before_a_tick = record {
+  first = first;
+  early = run4;
+  going = going;
+  tick = tick;
+  runs = (((((((empty_starts, ports_fit Ready refl), happens1), happens2), ticked (moment_of first run2).machine 0 (omega arith)), ticked (moment_of first run3).machine 1 (omega arith)), happens5), happens6);
+  heeds = ((((((tt, spares_ports), spares_ports), tt), tt), spares_ports), tt);
+  issued = aged 2;
+  waits = waits;
+  book = refl;
+  old = (refl, refl, refl, refl);
+  told_to = refl;
+  goes = refl;
+  ticks = refl;
+  tells = refl;
+  lost = (contains_here port [] port refl, contains_here port [] port refl);
+  absent = refl;
+  none_left = refl;
+  frame = frame 40;
+  its = refl;
+  lent = refl;
+  freed = refl;
+}

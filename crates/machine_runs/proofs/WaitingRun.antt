@@ -1,0 +1,181 @@
+-- A run in which a read waits for a write of its sector.
+use Rattle.std.proofs.Common.{◌≡◌, true, List, [], ◌∷◌, Ok, inl, inr, ⊎_elim, refl, sym, ap, ◌∙◌, arith}
+use Rattle.std.proofs.lemmas.Bool.{false≢true}
+use Rattle.ata_types.specs.declared.Port.{Port}
+use Rattle.ata_types.specs.declared.PortState.TheVariants.{Ready}
+use Rattle.ata_types.specs.declared.request.Op.TheVariants.{Read, Write}
+use Rattle.ata_types.specs.declared.request.Outcome.TheVariants as outcome
+use Rattle.block_machine.specs.declared.due.Unanswered.{Unanswered}
+use Rattle.block_machine.specs.Due.{NoneDue, is_clear}
+use Rattle.block_machine.specs.State.{Block, Accepted, is_reader, unanswered}
+use Rattle.block_machine.specs.Steps.{Accept, Issue, Touch, End, Answer, newly_accepted, issue, touch}
+use Rattle.block_machine.specs.Events.{Submit, Service, Device, Submitted, Served, Stepped, Event, Happens, moment_of, situation_of}
+use Rattle.machine_runs.specs.Worked.{WaitsItsTurn}
+use Rattle.block_machine.proofs.Members.{contains_none, contains_here, contains_there, contains_cases}
+use Rattle.block_machine.proofs.Counting.{issued_not_due}
+use Rattle.block_machine.proofs.Setting.{port, empty_starts, acceptable}
+use Rattle.machine_runs.proofs.Scene.{mode, first, id, call, reply, sector_request, done, served, IsQuiet, row_zero, fit_write, fit_read, new, one_issued, none_there, one_told, one_touched, ports_fit, none_ended, last_ended, all_calmly, plain_service, only_one, in_ready, spares_ports}
+
+abbrev pub run0 : List (Event (Unit {0}))
+run0 = []
+
+abbrev pub write : Accepted
+write = sector_request (moment_of first run0).machine 1 Write 40
+
+abbrev pub event1 : Event (Unit {0})
+event1 = call (Submit write.asked) (Submitted (Ok (id 1))) (Issue mode (newly_accepted write) ∷ Accept write ∷ [])
+
+abbrev pub run1 : List (Event (Unit {0}))
+run1 = event1 ∷ run0
+
+abbrev pub read : Accepted
+read = sector_request (moment_of first run1).machine 2 Read 41
+
+abbrev event2 : Event (Unit {0})
+event2 = call (Submit read.asked) (Submitted (Ok (id 2))) (Accept read ∷ [])
+
+abbrev pub run2 : List (Event (Unit {0}))
+run2 = event2 ∷ run1
+
+abbrev event3 : Event (Unit {0})
+event3 = call Service (Served (reply 1 ∷ [])) (Issue mode (newly_accepted read) ∷ served write)
+
+abbrev run3 : List (Event (Unit {0}))
+run3 = event3 ∷ run2
+
+-- the bytes that the write left
+abbrev moved : Block
+moved = (moment_of first run3).machine.disks port 100
+
+-- the device ends the read
+abbrev event4 : Event (Unit {0})
+event4 = call (Device tt) (Stepped true) (End (touch 0 (issue (newly_accepted read))) ∷ Touch (issue (newly_accepted read)) 0 moved ∷ [])
+
+abbrev run4 : List (Event (Unit {0}))
+run4 = event4 ∷ run3
+
+abbrev event5 : Event (Unit {0})
+event5 = call Service (Served (reply 2 ∷ [])) (Answer (done read) outcome.Ok ∷ [])
+
+abbrev run5 : List (Event (Unit {0}))
+run5 = event5 ∷ run4
+
+quiet0 : IsQuiet 0 (moment_of first run0)
+quiet0 = record { rows = refl; mine = row_zero; ready = refl; size = refl; room = omega arith; few = omega arith }
+
+quiet1 : IsQuiet 0 (moment_of first run1)
+quiet1 = record { rows = refl; mine = row_zero; ready = refl; size = refl; room = omega arith; few = omega arith }
+
+pub happens1 : Happens (moment_of first run0) event1
+happens1 = record {
+  may = ((tt, new 0 (moment_of first run0) write quiet0 (fit_write (moment_of first run0) 40 quiet0 refl refl) refl refl refl), (contains_here (newly_accepted write) [] (newly_accepted write) refl, record { here = contains_here (unanswered (newly_accepted write)) [] (unanswered (newly_accepted write)) refl; clear = refl; slot = λ _. omega arith }, λ e h. absurd (contains_none e h)));
+  belong = ((tt, inr refl), inr (refl, refl));
+  last = ((tt, λ id h i. false≢true i), λ id h i. false≢true i);
+  lawful = tt;
+  fit = ports_fit Ready refl;
+  disks = λ e o h i same. (refl, refl);
+  answered = (acceptable 0 (situation_of (moment_of first run0)) write.asked (fit_write (moment_of first run0) 40 quiet0 refl refl), (write, refl, refl), λ p. (refl, refl, refl, refl, refl, refl), λ p _. one_issued (unanswered (issue (newly_accepted write))) refl p);
+}
+
+-- the write in its slot, and the read after it
+abbrev pub book : List Unanswered
+book = unanswered (issue (newly_accepted write)) ∷ unanswered (newly_accepted read) ∷ []
+
+-- neither is due
+pub none_due : (p : Port) → NoneDue mode book p
+none_due p r here due = ⊎_elim
+    (λ e. issued_not_due mode book r (ap (λ (x : Unanswered). x.issued) e) due)
+    (λ i. ⊎_elim
+    (λ e. false≢true (ap (λ (x : Unanswered). is_clear mode book x) (sym e) ∙ due.clear))
+    (λ n. contains_none r n)
+    (contains_cases (unanswered (newly_accepted read)) [] r i))
+    (contains_cases (unanswered (issue (newly_accepted write))) (unanswered (newly_accepted read) ∷ []) r due.here)
+
+pub happens2 : Happens (moment_of first run1) event2
+happens2 = record {
+  may = (tt, new 0 (moment_of first run1) read quiet1 (fit_read 0 (moment_of first run1) 41 quiet1 refl refl) refl refl refl);
+  belong = (tt, inr refl);
+  last = (tt, λ id h i. false≢true i);
+  lawful = tt;
+  fit = ports_fit Ready refl;
+  disks = λ e o h i same. (refl, refl);
+  answered = (acceptable 0 (situation_of (moment_of first run1)) read.asked (fit_read 0 (moment_of first run1) 41 quiet1 refl refl), (read, refl, refl), λ p. (refl, refl, refl, refl, refl, refl), λ p _. none_due p);
+}
+
+happens3 : Happens (moment_of first run2) event3
+happens3 = record {
+  may = (
+    (
+      (
+        (tt, (inl (contains_here (issue (newly_accepted write)) (newly_accepted read ∷ []) (issue (newly_accepted write)) refl, refl), omega arith, refl, omega arith, λ _ b lt. refl)),
+        (inl (contains_here (touch 0 (issue (newly_accepted write))) (newly_accepted read ∷ []) (touch 0 (issue (newly_accepted write))) refl, refl), one_touched, refl),
+      ),
+      contains_here (done write) (newly_accepted read ∷ []) (done write) refl,
+    ),
+    (contains_here (newly_accepted read) [] (newly_accepted read) refl, record { here = contains_here (unanswered (newly_accepted read)) [] (unanswered (newly_accepted read)) refl; clear = refl; slot = λ _. omega arith }, λ e h. absurd (contains_none e h)),
+  );
+  belong = ((((tt, inl tt), inl tt), inr tt), inr (refl, refl));
+  last = ((((tt, λ id h i. false≢true i), λ id h i. false≢true i), λ id h i. false≢true i), λ id h i. false≢true i);
+  lawful = (tt, (record { pending = issue (newly_accepted write); here = contains_here (issue (newly_accepted write)) (newly_accepted read ∷ []) (issue (newly_accepted write)) refl; id_is = refl; issued = refl }, refl, one_touched, refl));
+  fit = ports_fit Ready refl;
+  disks = λ e o h i same. (refl, refl);
+  answered = plain_service (moment_of first run2).machine (moment_of first run3).machine event3.steps (reply 1 ∷ []) (one_told (done write) outcome.Ok event3.steps refl (reply 1) refl) refl tt (λ p. one_issued (unanswered (issue (newly_accepted read))) refl p) (only_one (issue (newly_accepted read)) (λ e. e.request.port ≡ port) refl);
+}
+
+happens4 : Happens (moment_of first run3) event4
+happens4 = record {
+  may = ((tt, (inl (contains_here (issue (newly_accepted read)) [] (issue (newly_accepted read)) refl, refl), omega arith, refl, omega arith, λ e. absurd (false≢true (sym (ap is_reader e))))), (inl (contains_here (touch 0 (issue (newly_accepted read))) [] (touch 0 (issue (newly_accepted read))) refl, refl), one_touched, refl));
+  belong = ((tt, inl tt), inl tt);
+  last = ((tt, λ id h i. false≢true i), λ id h i. false≢true i);
+  lawful = tt;
+  fit = ports_fit Ready refl;
+  disks = λ e o h i same. (refl, refl);
+  answered = (((tt, tt), tt), λ p. (refl, refl, refl, refl, refl, refl));
+}
+
+happens5 : Happens (moment_of first run4) event5
+happens5 = record {
+  may = (tt, contains_here (done read) [] (done read) refl);
+  belong = (tt, inr tt);
+  last = (tt, λ id h i. false≢true i);
+  lawful = (tt, (record { pending = done read; here = contains_here (done read) [] (done read) refl; id_is = refl; issued = refl }, refl, one_touched, refl));
+  fit = ports_fit Ready refl;
+  disks = λ e o h i same. (refl, refl);
+  answered = plain_service (moment_of first run4).machine (moment_of first run5).machine event5.steps (reply 2 ∷ []) (one_told (done read) outcome.Ok event5.steps refl (reply 2) refl) refl tt (λ p. none_there p) (λ e h. absurd (contains_none e h));
+}
+
+pub waits_its_turn : WaitsItsTurn
+waits_its_turn = record {
+  first = first;
+  run = run5;
+  runs = ((((((empty_starts, ports_fit Ready refl), happens1), happens2), happens3), happens4), happens5);
+  heeds = (((((tt, spares_ports), spares_ports), all_calmly (moment_of first run2) (moment_of first run3) event3.steps (in_ready (moment_of first run2).machine refl) (λ p. (refl, refl, refl, refl, refl, refl)) refl (none_ended (moment_of first run2).machine event3.steps refl)), spares_ports), all_calmly (moment_of first run4) (moment_of first run5) event5.steps (in_ready (moment_of first run4).machine refl) (λ p. (refl, refl, refl, refl, refl, refl)) refl (last_ended (moment_of first run4).machine event5.steps [] (done read) refl refl (done read) refl (contains_here (Answer (done read) outcome.Ok) [] (Answer (done read) outcome.Ok) refl)));
+  told = ((((((((((tt, tt), tt), tt), λ e. absurd (false≢true (ap is_reader e))), tt), tt), tt), λ _ b lt. refl), tt), tt);
+  early = run2;
+  call = event3;
+  ending = event4;
+  service = event5;
+  comes = refl;
+  issued = issue (newly_accepted write);
+  waits = newly_accepted read;
+  both = refl;
+  is_issued = refl;
+  is_waiting = refl;
+  conflicts = refl;
+  done = done write;
+  answers = contains_there (Issue mode (newly_accepted read)) (served write) (Answer (done write) outcome.Ok)
+      (contains_here (Answer (done write) outcome.Ok) (End (touch 0 (issue (newly_accepted write))) ∷ Touch (issue (newly_accepted write)) 0 (write.held 0) ∷ []) (Answer (done write) outcome.Ok) refl);
+  its = refl;
+  mode = mode;
+  issues = contains_here (Issue mode (newly_accepted read)) (served write) (Issue mode (newly_accepted read)) refl;
+  running = issue (newly_accepted read);
+  issued_too = refl;
+  not_ended = (refl, refl);
+  told_to = refl;
+  last = done read;
+  its_too = refl;
+  alone = refl;
+  had_ended = refl;
+  serves = refl;
+  answered = contains_here (Answer (done read) outcome.Ok) [] (Answer (done read) outcome.Ok) refl;
+}

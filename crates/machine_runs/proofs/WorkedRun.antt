@@ -1,0 +1,467 @@
+-- A run in which a write is flushed and a later one isn't, and a read finds the one or the other after its disk was out.
+use Rattle.std.proofs.Common.{Bool, false, cond, ◌==◌, ◌≡◌, ◌⊎◌, ℕ, ◌+◌, ◌-◌, ◌<◌, ◌&&◌, true, List, [], ◌∷◌, ◌++◌, slice_index, None, Ok, inl, inr, ⊎_elim, refl, sym, ap, ◌∙◌, subst, arith, le-leb, lt-ltb}
+use Rattle.std.proofs.lemmas.Bool.{and_from, cond-true, false≢true}
+use Rattle.std.specs.List.{Contains}
+use Rattle.std.specs.Prelude.{nat_le, nat_lt}
+use Rattle.ata_types.specs.declared.Port.{Port}
+use Rattle.ata_types.specs.declared.PortState.TheVariants.{Absent, Ready}
+use Rattle.ata_types.specs.declared.request.Op.TheVariants.{Read, Write, Flush}
+use Rattle.ata_types.specs.declared.request.Outcome.TheVariants as outcome
+use Rattle.block_machine.specs.Due.{is_flush}
+use Rattle.block_machine.specs.Ports.{Evidence}
+use Rattle.block_machine.specs.State.{Block, Disk, Accepted, block_of, is_reader, unanswered}
+use Rattle.block_machine.specs.Steps.{Step, Accept, Issue, Touch, End, Answer, Unplug, Replace, Store, Load, newly_accepted, issue, touch, mark_ended}
+use Rattle.block_machine.specs.Events.{Submit, StoreAt, LoadAt, Service, Device, Submitted, Stored, Loaded, Served, Stepped, Event, Happens, IsRun, ServesReady, AllHeed, moment_of, situation_of, steps_of, ShowsDisk}
+use Rattle.machine_runs.specs.Durable.{SameBytes, HeldSince}
+use Rattle.machine_runs.specs.Worked.{FindsTheFlushed, MayComeBack, ReadsOneOf}
+use Rattle.block_machine.proofs.Members.{contains_none, contains_here, contains_there, contains_cases}
+use Rattle.block_machine.proofs.Setting.{client, port, frame, request, empty, empty_starts, acceptable}
+use Rattle.machine_runs.proofs.Scene.{mode, first, at_port, ports_in, id, call, reply, sector_request, done, served, is_open, IsQuiet, row_zero, fit_write, fit_read, fit_flush, new, one_issued, none_there, one_told, none_told, one_touched, ports_fit, none_dead, none_ended, none_unplugged, all_calmly, plain_service, ready_port, in_ready, shows_none, changed_here, spares_ports, absent_not_ready, absent_not_dead}
+use Rattle.block_machine.proofs.Calm.{none}
+
+abbrev run0 : List (Event (Unit {0}))
+run0 = []
+
+abbrev event1 : Event (Unit {0})
+event1 = call (StoreAt client (frame 40) 0 (90 ∷ [])) (Stored None) (Store client (frame 40) 0 (90 ∷ []) ∷ [])
+
+abbrev run1 : List (Event (Unit {0}))
+run1 = event1 ∷ []
+
+abbrev write : Accepted
+write = sector_request (moment_of first run1).machine 1 Write 40
+
+abbrev event2 : Event (Unit {0})
+event2 = call (Submit write.asked) (Submitted (Ok (id 1))) (Issue mode (newly_accepted write) ∷ Accept write ∷ [])
+
+abbrev run2 : List (Event (Unit {0}))
+run2 = event2 ∷ run1
+
+abbrev event3 : Event (Unit {0})
+event3 = call Service (Served (reply 1 ∷ [])) (served write)
+
+abbrev run3 : List (Event (Unit {0}))
+run3 = event3 ∷ run2
+
+abbrev flush : Accepted
+flush = record { id = id 2; port = port; asked = request 0 Flush 0 0 []; held = block_of (moment_of first run3).machine.memory [] }
+
+abbrev event4 : Event (Unit {0})
+event4 = call (Submit flush.asked) (Submitted (Ok (id 2))) (Issue mode (newly_accepted flush) ∷ Accept flush ∷ [])
+
+abbrev run4 : List (Event (Unit {0}))
+run4 = event4 ∷ run3
+
+abbrev event5 : Event (Unit {0})
+event5 = call Service (Served (reply 2 ∷ [])) (Answer (mark_ended (issue (newly_accepted flush))) outcome.Ok ∷ End (issue (newly_accepted flush)) ∷ [])
+
+abbrev run5 : List (Event (Unit {0}))
+run5 = event5 ∷ run4
+
+abbrev event6 : Event (Unit {0})
+event6 = call (StoreAt client (frame 40) 0 (91 ∷ [])) (Stored None) (Store client (frame 40) 0 (91 ∷ []) ∷ [])
+
+abbrev run6 : List (Event (Unit {0}))
+run6 = event6 ∷ run5
+
+abbrev later : Accepted
+later = sector_request (moment_of first run6).machine 3 Write 40
+
+abbrev event7 : Event (Unit {0})
+event7 = call (Submit later.asked) (Submitted (Ok (id 3))) (Issue mode (newly_accepted later) ∷ Accept later ∷ [])
+
+abbrev run7 : List (Event (Unit {0}))
+run7 = event7 ∷ run6
+
+abbrev event8 : Event (Unit {0})
+event8 = call Service (Served (reply 3 ∷ [])) (served later)
+
+abbrev run8 : List (Event (Unit {0}))
+run8 = event8 ∷ run7
+
+-- what the disk held when the flush was ended
+abbrev flushed_disk : Disk
+flushed_disk = (moment_of first run5).machine.disks port
+
+-- the disk is taken out
+abbrev event9 : Event (Unit {0})
+event9 = call (Device tt) (Stepped true) (Unplug port ∷ [])
+
+abbrev run9 : List (Event (Unit {0}))
+run9 = event9 ∷ run8
+
+-- what the device vouches for where port 0 told that its disk went
+abbrev gone : Evidence
+gone = record { faults = []; lost = port ∷ []; gone = port ∷ []; failed = []; fatal = []; stopped = port ∷ []; stuck = [] }
+
+-- a service notices
+abbrev event10 : Event (Unit {0})
+event10 = record { ask = Service; said = Served []; evidence = gone; steps = []; ports = ports_in Absent }
+
+abbrev run10 : List (Event (Unit {0}))
+run10 = event10 ∷ run9
+
+-- the disk comes back, with these bytes
+abbrev event11 : Disk → Event (Unit {0})
+event11 disk = record { ask = Device tt; said = Stepped true; evidence = none; steps = Replace port 0 200 disk ∷ []; ports = ports_in Absent }
+
+abbrev run11 : Disk → List (Event (Unit {0}))
+run11 disk = event11 disk ∷ run10
+
+-- a service boots the port, which it stops first
+abbrev booting : Evidence
+booting = record { faults = []; lost = port ∷ []; gone = []; failed = []; fatal = []; stopped = port ∷ []; stuck = [] }
+
+abbrev event12 : Event (Unit {0})
+event12 = record { ask = Service; said = Served []; evidence = booting; steps = []; ports = ports_in Ready }
+
+abbrev run12 : Disk → List (Event (Unit {0}))
+run12 disk = event12 ∷ run11 disk
+
+abbrev read : Disk → Accepted
+read disk = sector_request (moment_of first (run12 disk)).machine 4 Read 41
+
+abbrev event13 : Disk → Event (Unit {0})
+event13 disk = call (Submit (read disk).asked) (Submitted (Ok (id 4))) (Issue mode (newly_accepted (read disk)) ∷ Accept (read disk) ∷ [])
+
+abbrev run13 : Disk → List (Event (Unit {0}))
+run13 disk = event13 disk ∷ run12 disk
+
+abbrev read_served : Disk → List Step
+read_served disk = Answer (done (read disk)) outcome.Ok ∷ End (touch 0 (issue (newly_accepted (read disk)))) ∷ Touch (issue (newly_accepted (read disk))) 0 (disk 100) ∷ []
+
+abbrev event14 : Disk → Event (Unit {0})
+event14 disk = call Service (Served (reply 4 ∷ [])) (read_served disk)
+
+abbrev run14 : Disk → List (Event (Unit {0}))
+run14 disk = event14 disk ∷ run13 disk
+
+-- the client is told the first byte
+abbrev event15 : Disk → Event (Unit {0})
+event15 disk = call (LoadAt client (frame 41) 0 1) (Loaded (Ok (disk 100 0 ∷ []))) (Load client (frame 41) 0 (disk 100 0 ∷ []) ∷ [])
+
+abbrev run15 : Disk → List (Event (Unit {0}))
+run15 disk = event15 disk ∷ run14 disk
+
+quiet1 : IsQuiet 0 (moment_of first run1)
+quiet1 = record { rows = refl; mine = row_zero; ready = refl; size = refl; room = omega arith; few = omega arith }
+
+quiet3 : IsQuiet 0 (moment_of first run3)
+quiet3 = record { rows = refl; mine = row_zero; ready = refl; size = refl; room = omega arith; few = omega arith }
+
+quiet6 : IsQuiet 0 (moment_of first run6)
+quiet6 = record { rows = refl; mine = row_zero; ready = refl; size = refl; room = omega arith; few = omega arith }
+
+quiet12 : (disk : Disk) → IsQuiet 0 (moment_of first (run12 disk))
+quiet12 disk = record { rows = refl; mine = row_zero; ready = refl; size = refl; room = omega arith; few = omega arith }
+
+happens1 : Happens (moment_of first run0) event1
+happens1 = record {
+  may = (tt, is_open (moment_of first run0).machine 40 0 1 refl refl (omega arith));
+  belong = (tt, inr (refl, refl, refl, refl));
+  last = (tt, λ id h i. false≢true i);
+  lawful = tt;
+  fit = ports_fit Ready refl;
+  disks = λ e o h i same. (refl, refl);
+  answered = (is_open (moment_of first run0).machine 40 0 1 refl refl (omega arith), refl, λ p. (refl, refl, refl, refl, refl, refl));
+}
+
+happens2 : Happens (moment_of first run1) event2
+happens2 = record {
+  may = ((tt, new 0 (moment_of first run1) write quiet1 (fit_write (moment_of first run1) 40 quiet1 refl refl) refl refl refl), (contains_here (newly_accepted write) [] (newly_accepted write) refl, record { here = contains_here (unanswered (newly_accepted write)) [] (unanswered (newly_accepted write)) refl; clear = refl; slot = λ _. omega arith }, λ e h. absurd (contains_none e h)));
+  belong = ((tt, inr refl), inr (refl, refl));
+  last = ((tt, λ id h i. false≢true i), λ id h i. false≢true i);
+  lawful = tt;
+  fit = ports_fit Ready refl;
+  disks = λ e o h i same. (refl, refl);
+  answered = (acceptable 0 (situation_of (moment_of first run1)) write.asked (fit_write (moment_of first run1) 40 quiet1 refl refl), (write, refl, refl), λ p. (refl, refl, refl, refl, refl, refl), λ p _. one_issued (unanswered (issue (newly_accepted write))) refl p);
+}
+
+happens3 : Happens (moment_of first run2) event3
+happens3 = record {
+  may = (((tt, (inl (contains_here (issue (newly_accepted write)) [] (issue (newly_accepted write)) refl, refl), omega arith, refl, omega arith, λ _ b lt. refl)), (inl (contains_here (touch 0 (issue (newly_accepted write))) [] (touch 0 (issue (newly_accepted write))) refl, refl), one_touched, refl)), contains_here (done write) [] (done write) refl);
+  belong = (((tt, inl tt), inl tt), inr tt);
+  last = (((tt, λ id h i. false≢true i), λ id h i. false≢true i), λ id h i. false≢true i);
+  lawful = (tt, (record { pending = issue (newly_accepted write); here = contains_here (issue (newly_accepted write)) [] (issue (newly_accepted write)) refl; id_is = refl; issued = refl }, refl, one_touched, refl));
+  fit = ports_fit Ready refl;
+  disks = λ e o h i same. (refl, refl);
+  answered = plain_service (moment_of first run2).machine (moment_of first run3).machine event3.steps (reply 1 ∷ []) (one_told (done write) outcome.Ok event3.steps refl (reply 1) refl) refl tt (λ p. none_there p) (λ e h. absurd (contains_none e h));
+}
+
+happens4 : Happens (moment_of first run3) event4
+happens4 = record {
+  may = ((tt, new 0 (moment_of first run3) flush quiet3 (fit_flush (moment_of first run3) quiet3) refl refl refl), (contains_here (newly_accepted flush) [] (newly_accepted flush) refl, record { here = contains_here (unanswered (newly_accepted flush)) [] (unanswered (newly_accepted flush)) refl; clear = refl; slot = λ _. omega arith }, λ e h. absurd (contains_none e h)));
+  belong = ((tt, inr refl), inr (refl, refl));
+  last = ((tt, λ id h i. false≢true i), λ id h i. false≢true i);
+  lawful = tt;
+  fit = ports_fit Ready refl;
+  disks = λ e o h i same. (refl, refl);
+  answered = (acceptable 0 (situation_of (moment_of first run3)) flush.asked (fit_flush (moment_of first run3) quiet3), (flush, refl, refl), λ p. (refl, refl, refl, refl, refl, refl), λ p _. one_issued (unanswered (issue (newly_accepted flush))) refl p);
+}
+
+happens5 : Happens (moment_of first run4) event5
+happens5 = record {
+  may = ((tt, (inl (contains_here (issue (newly_accepted flush)) [] (issue (newly_accepted flush)) refl, refl), (λ k lt. absurd (omega (arith, lt))), refl)), contains_here (mark_ended (issue (newly_accepted flush))) [] (mark_ended (issue (newly_accepted flush))) refl);
+  belong = ((tt, inl tt), inr tt);
+  last = ((tt, λ id h i. false≢true i), λ id h i. false≢true i);
+  lawful = (tt, (record { pending = issue (newly_accepted flush); here = contains_here (issue (newly_accepted flush)) [] (issue (newly_accepted flush)) refl; id_is = refl; issued = refl }, refl, (λ k lt. absurd (omega (arith, lt))), refl));
+  fit = ports_fit Ready refl;
+  disks = λ e o h i same. (refl, refl);
+  answered = plain_service (moment_of first run4).machine (moment_of first run5).machine event5.steps (reply 2 ∷ []) (one_told (mark_ended (issue (newly_accepted flush))) outcome.Ok event5.steps refl (reply 2) refl) refl tt (λ p. none_there p) (λ e h. absurd (contains_none e h));
+}
+
+happens6 : Happens (moment_of first run5) event6
+happens6 = record {
+  may = (tt, is_open (moment_of first run5).machine 40 0 1 refl refl (omega arith));
+  belong = (tt, inr (refl, refl, refl, refl));
+  last = (tt, λ id h i. false≢true i);
+  lawful = tt;
+  fit = ports_fit Ready refl;
+  disks = λ e o h i same. (refl, refl);
+  answered = (is_open (moment_of first run5).machine 40 0 1 refl refl (omega arith), refl, λ p. (refl, refl, refl, refl, refl, refl));
+}
+
+happens7 : Happens (moment_of first run6) event7
+happens7 = record {
+  may = ((tt, new 0 (moment_of first run6) later quiet6 (fit_write (moment_of first run6) 40 quiet6 refl refl) refl refl refl), (contains_here (newly_accepted later) [] (newly_accepted later) refl, record { here = contains_here (unanswered (newly_accepted later)) [] (unanswered (newly_accepted later)) refl; clear = refl; slot = λ _. omega arith }, λ e h. absurd (contains_none e h)));
+  belong = ((tt, inr refl), inr (refl, refl));
+  last = ((tt, λ id h i. false≢true i), λ id h i. false≢true i);
+  lawful = tt;
+  fit = ports_fit Ready refl;
+  disks = λ e o h i same. (refl, refl);
+  answered = (acceptable 0 (situation_of (moment_of first run6)) later.asked (fit_write (moment_of first run6) 40 quiet6 refl refl), (later, refl, refl), λ p. (refl, refl, refl, refl, refl, refl), λ p _. one_issued (unanswered (issue (newly_accepted later))) refl p);
+}
+
+happens8 : Happens (moment_of first run7) event8
+happens8 = record {
+  may = (((tt, (inl (contains_here (issue (newly_accepted later)) [] (issue (newly_accepted later)) refl, refl), omega arith, refl, omega arith, λ _ b lt. refl)), (inl (contains_here (touch 0 (issue (newly_accepted later))) [] (touch 0 (issue (newly_accepted later))) refl, refl), one_touched, refl)), contains_here (done later) [] (done later) refl);
+  belong = (((tt, inl tt), inl tt), inr tt);
+  last = (((tt, λ id h i. false≢true i), λ id h i. false≢true i), λ id h i. false≢true i);
+  lawful = (tt, (record { pending = issue (newly_accepted later); here = contains_here (issue (newly_accepted later)) [] (issue (newly_accepted later)) refl; id_is = refl; issued = refl }, refl, one_touched, refl));
+  fit = ports_fit Ready refl;
+  disks = λ e o h i same. (refl, refl);
+  answered = plain_service (moment_of first run7).machine (moment_of first run8).machine event8.steps (reply 3 ∷ []) (one_told (done later) outcome.Ok event8.steps refl (reply 3) refl) refl tt (λ p. none_there p) (λ e h. absurd (contains_none e h));
+}
+
+happens9 : Happens (moment_of first run8) event9
+happens9 = record {
+  may = (tt, refl);
+  belong = (tt, inl tt);
+  last = (tt, λ id h i. false≢true i);
+  lawful = tt;
+  fit = ports_fit Ready refl;
+  disks = λ e o h i same. (refl, refl);
+  answered = ((tt, tt), λ p. (refl, refl, refl, refl, refl, refl));
+}
+
+happens10 : Happens (moment_of first run9) event10
+happens10 = record {
+  may = tt;
+  belong = tt;
+  last = tt;
+  lawful = tt;
+  fit = ports_fit Absent refl;
+  disks = λ e o h i same. (refl, refl);
+  answered = record {
+    tells = none_told [] refl;
+    dead = λ e o i dead. none_dead e.request.port dead;
+    grounded = tt;
+    unplugs = none_unplugged [] (moment_of first run10).machine refl;
+    issues = λ p _. none_there p;
+    emptied = λ p ne e h. absurd (contains_none e h);
+    becomes = λ p. (λ dead. none_dead p dead, λ _. (record { served = refl; stuck = λ dead. absent_not_dead p dead; dies = λ h. absurd (contains_none p h); disk = λ ready. inl (contains_here port [] p (ready_port p ready)); keeps = λ _. (refl, refl) }, changed_here Ready Absent gone (inl (contains_here port [] port refl)) p));
+    disk = λ p. inr (λ shows. shows_none Absent (λ s. s) p shows);
+  };
+}
+
+happens11 : (disk : Disk) → Happens (moment_of first run10) (event11 disk)
+happens11 disk = record {
+  may = (tt, (refl, λ _. refl));
+  belong = (tt, inl tt);
+  last = (tt, λ id h i. false≢true i);
+  lawful = tt;
+  fit = ports_fit Absent refl;
+  disks = λ e o h i same. (refl, refl);
+  answered = ((tt, tt), λ p. (refl, refl, refl, refl, refl, refl));
+}
+
+shows_ready : (p : Port) → ShowsDisk (at_port Ready p) → at_port Ready p ≡ Ready
+shows_ready p shows = go (p.0 == 0) shows
+  where
+    go : (b : Bool) → ShowsDisk (cond b Ready Absent) → cond b Ready Absent ≡ Ready
+    go true s = refl
+    go false s = absurd s
+
+-- the port that gets ready has the disk that was put in
+present : (p : Port) → at_port Ready p ≡ Ready → (moment_of first (run11 (λ k b. 0))).machine.present p ≡ true
+present p ready = ap (moment_of first (run11 (λ k b. 0))).machine.present (ready_port p ready)
+
+happens12 : (disk : Disk) → Happens (moment_of first (run11 disk)) event12
+happens12 disk = record {
+  may = tt;
+  belong = tt;
+  last = tt;
+  lawful = tt;
+  fit = ports_fit Ready refl;
+  disks = λ e o h i same. absurd (contains_none e h);
+  answered = record {
+    tells = none_told [] refl;
+    dead = λ e o i dead. absent_not_dead e.request.port dead;
+    grounded = tt;
+    unplugs = none_unplugged [] (moment_of first (run12 disk)).machine refl;
+    issues = λ p _. none_there p;
+    emptied = λ p ne e h. absurd (contains_none e h);
+    becomes = λ p. (λ dead. absent_not_dead p dead, λ _. (record { served = refl; stuck = λ dead. none_dead p dead; dies = λ h. absurd (contains_none p h); disk = λ ready. absent_not_ready p ready; keeps = λ _. (refl, refl) }, changed_here Absent Ready booting (inl (contains_here port [] port refl)) p));
+    disk = λ p. inr (λ shows. inl (present p (shows_ready p shows)));
+  };
+}
+
+happens13 : (disk : Disk) → Happens (moment_of first (run12 disk)) (event13 disk)
+happens13 disk = record {
+  may = ((tt, new 0 (moment_of first (run12 disk)) (read disk) (quiet12 disk) (fit_read 0 (moment_of first (run12 disk)) 41 (quiet12 disk) refl refl) refl refl refl), (contains_here (newly_accepted (read disk)) [] (newly_accepted (read disk)) refl, record { here = contains_here (unanswered (newly_accepted (read disk))) [] (unanswered (newly_accepted (read disk))) refl; clear = refl; slot = λ _. omega arith }, λ e h. absurd (contains_none e h)));
+  belong = ((tt, inr refl), inr (refl, refl));
+  last = ((tt, λ id h i. false≢true i), λ id h i. false≢true i);
+  lawful = tt;
+  fit = ports_fit Ready refl;
+  disks = λ e o h i same. (refl, refl);
+  answered = (acceptable 0 (situation_of (moment_of first (run12 disk))) (read disk).asked (fit_read 0 (moment_of first (run12 disk)) 41 (quiet12 disk) refl refl), (read disk, refl, refl), λ p. (refl, refl, refl, refl, refl, refl), λ p _. one_issued (unanswered (issue (newly_accepted (read disk)))) refl p);
+}
+
+happens14 : (disk : Disk) → Happens (moment_of first (run13 disk)) (event14 disk)
+happens14 disk = record {
+  may = (((tt, (inl (contains_here (issue (newly_accepted (read disk))) [] (issue (newly_accepted (read disk))) refl, refl), omega arith, refl, omega arith, λ e. absurd (false≢true (sym (ap is_reader e))))), (inl (contains_here (touch 0 (issue (newly_accepted (read disk)))) [] (touch 0 (issue (newly_accepted (read disk)))) refl, refl), one_touched, refl)), contains_here (done (read disk)) [] (done (read disk)) refl);
+  belong = (((tt, inl tt), inl tt), inr tt);
+  last = (((tt, λ id h i. false≢true i), λ id h i. false≢true i), λ id h i. false≢true i);
+  lawful = (tt, (record { pending = issue (newly_accepted (read disk)); here = contains_here (issue (newly_accepted (read disk))) [] (issue (newly_accepted (read disk))) refl; id_is = refl; issued = refl }, refl, one_touched, refl));
+  fit = ports_fit Ready refl;
+  disks = λ e o h i same. (refl, refl);
+  answered = plain_service (moment_of first (run13 disk)).machine (moment_of first (run14 disk)).machine (event14 disk).steps (reply 4 ∷ []) (one_told (done (read disk)) outcome.Ok (event14 disk).steps refl (reply 4) refl) refl tt (λ p. none_there p) (λ e h. absurd (contains_none e h));
+}
+
+loaded : (disk : Disk) (b : ℕ) → b < 1 → slice_index (disk 100 0 ∷ []) b ≡ (moment_of first (run14 disk)).machine.memory (frame 41) (0 + b)
+loaded disk b lt = let z : b ≡ 0 = omega arith in subst (λ k. slice_index (disk 100 0 ∷ []) k ≡ (moment_of first (run14 disk)).machine.memory (frame 41) (0 + k)) (sym z) refl
+
+happens15 : (disk : Disk) → Happens (moment_of first (run14 disk)) (event15 disk)
+happens15 disk = record {
+  may = (tt, (is_open (moment_of first (run14 disk)).machine 41 0 1 refl refl (omega arith), loaded disk));
+  belong = (tt, inr (refl, refl, refl, refl));
+  last = (tt, λ id h i. false≢true i);
+  lawful = tt;
+  fit = ports_fit Ready refl;
+  disks = λ e o h i same. (refl, refl);
+  answered = (is_open (moment_of first (run14 disk)).machine 41 0 1 refl refl (omega arith), refl, λ p. (refl, refl, refl, refl, refl, refl));
+}
+
+runs10 : IsRun first run10
+runs10 = (((((((((((empty_starts, ports_fit Ready refl), happens1), happens2), happens3), happens4), happens5), happens6), happens7), happens8), happens9), happens10)
+
+-- the service that notices
+notices : (p : Port) → at_port Ready p ≡ Ready → ServesReady (moment_of first run9) gone [] (moment_of first run10) p
+notices p ready = record {
+  ended = none_ended (moment_of first run9).machine [] refl p;
+  emptied = λ _ e h. absurd (contains_none e h);
+  told = λ _. inl (λ e o h. absurd (contains_none (Answer e o) h));
+  interrupts = λ _. inl (contains_here port [] p (ready_port p ready));
+  anew = λ _ e h. absurd (contains_none e h);
+  changes = inr (inl (contains_here port [] p (ready_port p ready)));
+  disk = λ shows. shows_none Absent (λ s. s) p shows;
+  fatal = λ h. absurd (contains_none p h);
+  single = omega arith;
+  calm = inl (inr (inl (contains_here port [] p (ready_port p ready))));
+}
+
+heeds10 : AllHeed first run10
+heeds10 = ((((((((((tt, spares_ports), spares_ports), all_calmly (moment_of first run2) (moment_of first run3) event3.steps (in_ready (moment_of first run2).machine refl) (λ p. (refl, refl, refl, refl, refl, refl)) refl (none_ended (moment_of first run2).machine event3.steps refl)), spares_ports), all_calmly (moment_of first run4) (moment_of first run5) event5.steps (in_ready (moment_of first run4).machine refl) (λ p. (refl, refl, refl, refl, refl, refl)) refl (none_ended (moment_of first run4).machine event5.steps refl)), spares_ports), spares_ports), all_calmly (moment_of first run7) (moment_of first run8) event8.steps (in_ready (moment_of first run7).machine refl) (λ p. (refl, refl, refl, refl, refl, refl)) refl (none_ended (moment_of first run7).machine event8.steps refl)), spares_ports), notices)
+
+-- What the sector held since the flush was ended: the bytes of the one write or of the other.
+since_flush : (block : Block) → HeldSince empty port 100 block (steps_of run10) → SameBytes block (write.held 0) ⊎ SameBytes block (later.held 0)
+since_flush block (inl p) = inr p
+since_flush block (inr (_, h)) = of8 h
+  where
+    of5 : HeldSince empty port 100 block (Answer (mark_ended (issue (newly_accepted flush))) outcome.Ok ∷ End (issue (newly_accepted flush)) ∷ steps_of run4) → SameBytes block (write.held 0)
+    of5 (inl p) = p
+    of5 (inr (_, inl p)) = p
+    of5 (inr (_, inr (last, _))) = absurd (false≢true (sym last))
+
+    of7 : HeldSince empty port 100 block (steps_of run7) → SameBytes block (write.held 0)
+    of7 (inl p) = p
+    of7 (inr (_, inl p)) = p
+    of7 (inr (_, inr (_, inl p))) = p
+    of7 (inr (_, inr (_, inr (_, h)))) = of5 h
+
+    of8 : HeldSince empty port 100 block (steps_of run8) → SameBytes block (write.held 0) ⊎ SameBytes block (later.held 0)
+    of8 (inl p) = inr p
+    of8 (inr (_, inl p)) = inr p
+    of8 (inr (_, inr (_, inl p))) = inr p
+    of8 (inr (_, inr (_, inr (_, h)))) = inl (of7 h)
+
+finds : (disk : Disk) → MayComeBack first run10 port disk → ReadsOneOf first run10 disk write later
+finds disk back = record {
+  plug = event11 disk;
+  service = event12;
+  late = event15 disk ∷ event14 disk ∷ event13 disk ∷ [];
+  runs = (((((runs10, happens11 disk), happens12 disk), happens13 disk), happens14 disk), happens15 disk);
+  heeds = (((((heeds10, spares_ports), λ p ready. absent_not_ready p ready), spares_ports), all_calmly (moment_of first (run13 disk)) (moment_of first (run14 disk)) (event14 disk).steps (in_ready (moment_of first (run13 disk)).machine refl) (λ p. (refl, refl, refl, refl, refl, refl)) refl (none_ended (moment_of first (run13 disk)).machine (event14 disk).steps refl)), spares_ports);
+  told = ((((((((((((((((((((((((tt, tt), tt), tt), λ e. absurd (false≢true (ap is_reader e))), tt), tt), tt), tt), tt), tt), tt), tt), tt), λ e. absurd (false≢true (ap is_reader e))), tt), tt), tt), tt), tt), tt), λ _ b lt. refl), tt), tt), tt);
+  volatile = ((((((((((((((((((((((((tt, tt), tt), tt), tt), tt), tt), tt), tt), tt), tt), tt), tt), tt), tt), tt), tt), tt), back), tt), tt), tt), tt), tt), tt);
+  comes = refl;
+  serves = refl;
+  boots = refl;
+  read = done (read disk);
+  reads = refl;
+  there = refl;
+  sector = refl;
+  single = refl;
+  answered = contains_there (Load client (frame 41) 0 (disk 100 0 ∷ [])) (read_served disk ++ (event13 disk).steps) (Answer (done (read disk)) outcome.Ok)
+      (contains_here (Answer (done (read disk)) outcome.Ok) (End (touch 0 (issue (newly_accepted (read disk)))) ∷ Touch (issue (newly_accepted (read disk))) 0 (disk 100) ∷ (event13 disk).steps) (Answer (done (read disk)) outcome.Ok) refl);
+  memory = (moment_of first (run15 disk)).machine.memory;
+  at_last = refl;
+  found = ⊎_elim (λ p. inl (has (write.held 0) p)) (λ p. inr (has (later.held 0) p)) (since_flush (disk 100) (back refl 100 (omega arith)));
+}
+  where
+    has : (block : Block) → SameBytes (disk 100) block → SameBytes (block_of (moment_of first (run15 disk)).machine.memory (frame 41 ∷ []) 0) block
+    has block same b lt = let all : (0 + b) - 0 ≡ b = omega arith in
+        cond-true (nat_le 0 (0 + b) && nat_lt (0 + b) 512) (disk 100 ((0 + b) - 0)) ((moment_of first (run12 disk)).machine.memory (frame 41) (0 + b))
+        (and_from _ _ (le-leb 0 (0 + b) (omega arith)) (lt-ltb (0 + b) 512 (omega (arith, lt)))) ∙ ap (disk 100) all ∙ same b lt
+
+pub finds_the_flushed : FindsTheFlushed
+finds_the_flushed = record {
+  first = first;
+  early = run8;
+  unplug = event9;
+  service = event10;
+  runs = runs10;
+  heeds = heeds10;
+  write = write;
+  flush = flush;
+  later = later;
+  single = refl;
+  flushed = record { write = refl; flush_is = refl; port = refl; answered = inr (refl, inr (refl, inr (refl, inr (refl, inr (refl, inr (refl, inl (refl, inr (refl, inr (refl, inl (refl, inl (refl, inr (refl, inr (refl, inr (refl, inl refl)))))))))))))) };
+  over = (refl, refl);
+  differs = λ e. differ e;
+  done = done later;
+  its = refl;
+  answered = contains_here (Answer (done later) outcome.Ok) (End (touch 0 (issue (newly_accepted later))) ∷ Touch (issue (newly_accepted later)) 0 (later.held 0) ∷ steps_of run7) (Answer (done later) outcome.Ok) refl;
+  unflushed = unflushed;
+  goes = refl;
+  serves = refl;
+  notices = refl;
+  finds = finds;
+  kept = ((moment_of first run8).machine.disks port, (λ _ k lt. inl (λ b lb. refl)), λ b lb. refl);
+  lost = (flushed_disk, (λ _ k lt. inr (refl, inr (refl, inr (refl, inr (refl, inr (refl, inr (refl, inr (refl, inr (refl, inl (λ b lb. refl)))))))))), λ b lb. refl);
+}
+  where
+    differ : ◌≡◌ {A = ℕ} 91 90 → ⊥
+    differ e = omega (arith, e)
+
+    unflushed : (r : Accepted) → Contains (later ∷ flush ∷ write ∷ []) r → r.asked.op ≡ Flush → r.id.0 < 3
+    unflushed r h op = ⊎_elim
+        (λ (p : r ≡ later). absurd (false≢true (ap is_flush (sym (ap (λ (x : Accepted). x.asked.op) p) ∙ op))))
+        (λ i. ⊎_elim
+        (λ (p : r ≡ flush). let two = ap (λ (x : Accepted). x.id.0) p in omega (arith, two))
+        (λ j. ⊎_elim
+        (λ (p : r ≡ write). let one = ap (λ (x : Accepted). x.id.0) p in omega (arith, one))
+        (λ n. absurd (contains_none r n))
+        (contains_cases write [] r j))
+        (contains_cases flush (write ∷ []) r i))
+        (contains_cases later (flush ∷ write ∷ []) r h)

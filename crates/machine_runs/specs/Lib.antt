@@ -1,0 +1,2 @@
+pub mod Durable
+pub mod Worked

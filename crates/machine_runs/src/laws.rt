@@ -1,0 +1,220 @@
+//! Laws over whole histories and runs, and that such runs exist. The clause of each function is the law; the functions do
+//! nothing, and nothing calls them. `D` are the steps that a device can be told to do: a law on runs holds for any device.
+
+ghost use Rattle.std.specs.Prelude.{◌≡◌, ◌≢◌, ◌⊎◌, ◌+◌, ◌<◌, ◌≤◌, ◌==◌, ℕ, true, List, ◌∷◌, ◌++◌, count_by, Contains};
+ghost use Rattle.ata_types.specs.declared.Port.{Port};
+ghost use Rattle.ata_types.specs.declared.PortState.TheVariants.{Ready, Dead};
+ghost use Rattle.ata_types.specs.declared.request.Frame.{Frame};
+ghost use Rattle.ata_types.specs.declared.request.RequestId.{RequestId};
+ghost use Rattle.ata_types.specs.declared.request.Op.TheVariants.{Flush};
+ghost use Rattle.ata_types.specs.declared.request.Outcome.{Outcome};
+ghost use Rattle.ata_types.specs.declared.request.Outcome.TheVariants.{Ok};
+ghost use Rattle.ata_types.specs.declared.request.Reply.{Reply};
+ghost use Rattle.ata_types.specs.declared.grant.GrantRow.{GrantRow};
+ghost use Rattle.block_machine.specs.State.{Block, Accepted, Pending, Machine, sector_of};
+ghost use Rattle.block_machine.specs.Steps.{Step, Answer, after_step, IsLiving};
+ghost use Rattle.block_machine.specs.Left.{IsStart, IsLegal, HasTouched, HasTouchedSince, HasEndedSince, IsLeft, after, bytes_when_plugged, disk_read};
+ghost use Rattle.block_machine.specs.Confined.{GrantsNoWrites, WasAccepted, MayChangeByte, MayChangeSector};
+ghost use Rattle.machine_runs.specs.Durable.{IsVolatile, EveryPlugFinds};
+ghost use Rattle.block_machine.specs.Events.{Moment, Event, AllIssued, Happens, IsRun, IsStillStuck, accepts_it, answers_it, issues_it, gives_id, replies_of, all_replies, WasGiven, moment_of, steps_of};
+ghost use Rattle.machine_runs.specs.Worked.{FindsTheFlushed, WaitsItsTurn, EndsWithAReset, MeetsTrouble, EndsAtATick, IsTakenOutBeforeATick, GoesAgainInResets, DiesInAService, GoesWrong};
+
+/// Where no grant lets its client write or trim, what is left on a sector for a read is what the disk that it found
+/// there held when it was put in.
+pub fn unwritten_disks_are_left()
+    ensures { (start : Machine) (history : List Step) (read : Accepted) (sector : ℕ) (block : Block)
+        → IsStart start → IsLegal start history
+        → ((row : GrantRow) → Contains start.rows row → GrantsNoWrites row)
+        → IsLeft start history read sector block
+        → block ≡ bytes_when_plugged start read.port (disk_read read sector history) history sector }
+{}
+
+/// What is left on a sector is one block.
+pub fn left_is_one()
+    ensures { (start : Machine) (history : List Step) (read : Accepted) (sector : ℕ)
+        (one other : Block)
+        → IsStart start → IsLegal start history → IsLeft start history read sector one
+        → IsLeft start history read sector other → one ≡ other }
+{}
+
+/// What is left for a read that was answered stays what it is: no write or trim accepted before it touches the sector any
+/// more, however long the run goes on.
+pub fn left_stays()
+    ensures { (start : Machine) (history : List Step) (step : Step) (read : Accepted)
+        (sector disk : ℕ) (block : Block)
+        → IsStart start → IsLegal start (step ∷ history) → HasTouched read sector disk history
+        → ((e : Pending) → IsLiving (after start history) e → e.request.id ≢ read.id)
+        → IsLeft start history read sector block → IsLeft start (step ∷ history) read sector block }
+{}
+
+/// Over every run of calls on disks with volatile caches: where a write was answered Ok before a flush of its port was
+/// accepted, the flush was answered Ok, and no disk was taken out between, the same disk has the write's bytes or later
+/// ones each time that it comes back.
+pub fn every_plug_finds<D>()
+    ensures { (first : Moment) (run : List (Event D)) → IsRun first run
+        → IsVolatile first.machine (steps_of run)
+        → EveryPlugFinds first.machine (steps_of run) }
+{}
+
+/// A run exists in which ticks, a reset that is stuck, and one that ends do what they have to.
+pub fn a_reset_run_exists()
+    ensures { EndsWithAReset }
+{}
+
+/// Where a run answers a request Ok, each of its sectors was touched, and since then the request wasn't issued again.
+pub fn ok_was_touched<D>()
+    ensures { (first : Moment) (run : List (Event D)) (late early : List Step) (e : Pending)
+        → IsRun first run → steps_of run ≡ late ++ Answer e Ok ∷ early
+        → (i : ℕ) → i < e.request.asked.count
+        → HasTouchedSince e.request (sector_of e.request i) early }
+{}
+
+/// Over every run an id is accepted once at most.
+pub fn accepted_once<D>()
+    ensures { (first : Moment) (run : List (Event D)) (id : RequestId) → IsRun first run
+        → count_by (accepts_it id) (steps_of run) ≤ 1 }
+{}
+
+/// Over every run a request is answered once at most.
+pub fn answered_once<D>()
+    ensures { (first : Moment) (run : List (Event D)) (id : RequestId) → IsRun first run
+        → count_by (answers_it id) (steps_of run) ≤ 1 }
+{}
+
+/// Each request that a run answers was accepted before.
+pub fn answered_was_accepted<D>()
+    ensures { (first : Moment) (run : List (Event D)) (late early : List Step) (e : Pending)
+        (outcome : Outcome) → IsRun first run → steps_of run ≡ late ++ Answer e outcome ∷ early
+        → WasAccepted first.machine early e.request }
+{}
+
+/// Over every run one submit at most gives an id.
+pub fn given_once<D>()
+    ensures { (first : Moment) (run : List (Event D)) (id : RequestId) → IsRun first run
+        → count_by (λ event. gives_id id event.said) run ≤ 1 }
+{}
+
+/// Over every run an id stands in one reply at most.
+pub fn replied_once<D>()
+    ensures { (first : Moment) (run : List (Event D)) (id : RequestId) → IsRun first run
+        → count_by (λ reply. reply.id.0 == id.0) (all_replies run) ≤ 1 }
+{}
+
+/// Each reply of a call tells a client of an id that an earlier submit of that client gave.
+pub fn replied_was_given<D>()
+    ensures { (first : Moment) (past : List (Event D)) (event : Event D) (reply : Reply)
+        → IsRun first (event ∷ past) → Contains (replies_of event.said) reply
+        → WasGiven reply.id reply.client past }
+{}
+
+/// Where a run answers a request Ok, the device ended it, and since then it wasn't issued again.
+pub fn ok_was_ended<D>()
+    ensures { (first : Moment) (run : List (Event D)) (late early : List Step) (e : Pending)
+        → IsRun first run → steps_of run ≡ late ++ Answer e Ok ∷ early
+        → HasEndedSince e.request early }
+{}
+
+/// A call issues a request once at most.
+pub fn issued_once_a_call<D>()
+    ensures { (old : Moment) (event : Event D) (id : RequestId) → Happens old event
+        → count_by (issues_it id) event.steps ≤ 1 }
+{}
+
+/// At each moment of a run no request of a ready port is due: calls that issue leave none, and no other makes one due.
+pub fn none_due_between<D>()
+    ensures { (first : Moment) (run : List (Event D)) → IsRun first run
+        → AllIssued (moment_of first run) }
+{}
+
+/// At each moment of a run the age of an issued request is two at most: the tick that would bring it to three restarts its
+/// port.
+pub fn ages_are_bounded<D>()
+    ensures { (first : Moment) (run : List (Event D)) (e : Pending) → IsRun first run
+        → Contains (moment_of first run).machine.book e → e.issued ≡ true → e.age ≤ 2 }
+{}
+
+/// At each moment of a run an unanswered request is on a port that is ready, or on one that is dead since a reset that was
+/// stuck.
+pub fn unanswered_where_ready<D>()
+    ensures { (first : Moment) (run : List (Event D)) (e : Pending) → IsRun first run
+        → Contains (moment_of first run).machine.book e
+        → ((moment_of first run).ports.state e.request.port ≡ Ready)
+        ⊎ (((moment_of first run).ports.state e.request.port ≡ Dead) × IsStillStuck run) }
+{}
+
+/// At each moment of a run the sectors of an unanswered request are sectors that its port's disk showed to have.
+pub fn unanswered_on_disk<D>()
+    ensures { (first : Moment) (run : List (Event D)) (e : Pending) → IsRun first run
+        → Contains (moment_of first run).machine.book e → e.request.asked.op ≢ Flush
+        → e.request.asked.first.0 + e.request.asked.count
+        ≤ (moment_of first run).ports.sectors e.request.port }
+{}
+
+/// At each moment of a run a kept request is on a dead port: so nothing that is due waits for kept requests.
+pub fn kept_where_dead<D>()
+    ensures { (first : Moment) (run : List (Event D)) (e : Pending) → IsRun first run
+        → Contains (moment_of first run).machine.kept e
+        → (moment_of first run).ports.state e.request.port ≡ Dead }
+{}
+
+/// A byte of a client's frame changes by a touch of a read that the frame is lent to, or by its owner's store.
+pub fn bytes_change_by()
+    ensures { (start : Machine) (history : List Step) (step : Step) (frame : Frame) (place : ℕ)
+        → IsStart start → IsLegal start (step ∷ history)
+        → (after start (step ∷ history)).memory frame place ≢ (after start history).memory frame place
+        → MayChangeByte (after start history) step frame place }
+{}
+
+/// A sector of a port's disk changes by a touch of it by a write or trim of the port, or by a disk that is put in.
+pub fn sectors_change_by()
+    ensures { (m : Machine) (step : Step) (port : Port) (sector place : ℕ)
+        → (after_step m step).disks port sector place ≢ m.disks port sector place
+        → MayChangeSector step port sector }
+{}
+
+/// A machine to begin with exists.
+pub fn a_start_exists()
+    ensures { (m : Machine) × IsStart m }
+{}
+
+/// A run exists in which a read finds a flushed write or a later one, whichever the disk kept while it was out: so the laws
+/// on reads and on flushed writes have something to say.
+pub fn a_worked_run_exists()
+    ensures { FindsTheFlushed }
+{}
+
+/// A run exists in which a request waits for another, and is issued by the call that answers that one.
+pub fn a_waiting_run_exists()
+    ensures { WaitsItsTurn }
+{}
+
+/// A run exists in which two ports serve requests, the one fails and the other loses its disk, and a fault, an unplugged
+/// request, one that is issued anew and one that is aborted are told as they have to be.
+pub fn a_troubled_run_exists()
+    ensures { MeetsTrouble }
+{}
+
+/// A run exists in which a tick answers a request that had ended.
+pub fn a_ticked_run_exists()
+    ensures { EndsAtATick }
+{}
+
+/// A run exists in which a tick finds a port hung whose disk was taken out, and tells its requests Unplugged, issued or not.
+pub fn an_unplugged_run_exists()
+    ensures { IsTakenOutBeforeATick }
+{}
+
+/// A run exists in which resets issue a request anew, abort it after its fourth issue, and issue one that waited for it.
+pub fn a_rebooted_run_exists()
+    ensures { GoesAgainInResets }
+{}
+
+/// A run exists in which a port meets a fatal error, is stopped by a service, and gets stuck in its boot.
+pub fn a_dying_run_exists()
+    ensures { DiesInAService }
+{}
+
+/// Without the rule on kept requests a read may go wrong.
+pub fn kept_requests_matter()
+    ensures { GoesWrong }
+{}
