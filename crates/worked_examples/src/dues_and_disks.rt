@@ -1,0 +1,475 @@
+// Which requests the block machine has due, and what a disk holds in the end.
+use arrayvec::ArrayVec;
+use ata_types::{Op, Port, Range, RequestId, Sector};
+use block_machine::{Mode, Unanswered};
+use machine_rules::{Filled, Happened, due_list, left};
+use std::process::Abort;
+
+/// A request in a book: its id, port, operation, first sector and sectors, and whether it is issued.
+type InBook = (u64, u8, Op, u64, u32, bool);
+
+const WRITE: InBook = (1, 0, Op::Write, 100, 8, false);
+
+const ISSUED_WRITE: InBook = (1, 0, Op::Write, 100, 8, true);
+
+const FLUSH: InBook = (2, 0, Op::Flush, 0, 0, false);
+
+const ISSUED_FLUSH: InBook = (2, 0, Op::Flush, 0, 0, true);
+
+const READ_APART: InBook = (3, 0, Op::Read, 130, 8, false);
+
+const READ_ACROSS: InBook = (2, 0, Op::Read, 104, 8, false);
+
+const WRITE_ACROSS: InBook = (3, 0, Op::Write, 104, 8, false);
+
+const LAST_READ: InBook = (4, 0, Op::Read, 120, 8, false);
+
+const ISSUED_LAST_READ: InBook = (4, 0, Op::Read, 120, 8, true);
+
+const READ_THERE: InBook = (3, 1, Op::Read, 104, 8, false);
+
+const NEXT_THERE: InBook = (4, 1, Op::Read, 120, 8, false);
+
+const ISSUED_THERE: InBook = (3, 1, Op::Read, 104, 8, true);
+
+const WRITE_APART: InBook = (2, 0, Op::Write, 120, 8, false);
+
+const ISSUED_READ: InBook = (1, 0, Op::Read, 100, 8, true);
+
+const TRIM: InBook = (2, 0, Op::Trim, 120, 8, false);
+
+/// What is told of a book: the case's name, whether commands are queued, the slots that are usable, the book, and the ids of those due.
+const DUE: &[(&str, bool, u8, &[InBook], &[u64])] = &[
+    ("two writes apart", true, 32, &[WRITE, WRITE_APART], &[1, 2]),
+    (
+        "two writes and one slot",
+        true,
+        1,
+        &[WRITE, WRITE_APART],
+        &[1],
+    ),
+    ("two plain writes", false, 1, &[WRITE, WRITE_APART], &[1]),
+    (
+        "a flush waits for a write",
+        true,
+        32,
+        &[WRITE, FLUSH, READ_APART],
+        &[1],
+    ),
+    (
+        "a flush waits for an issued write",
+        true,
+        32,
+        &[ISSUED_WRITE, FLUSH, READ_APART],
+        &[],
+    ),
+    (
+        "a flush holds back a read",
+        true,
+        32,
+        &[FLUSH, READ_APART],
+        &[2],
+    ),
+    (
+        "an issued flush holds back a read",
+        true,
+        32,
+        &[ISSUED_FLUSH, READ_APART],
+        &[],
+    ),
+    ("a read alone", true, 32, &[READ_APART], &[3]),
+    (
+        "conflicts are passed over",
+        true,
+        32,
+        &[WRITE, READ_ACROSS, WRITE_ACROSS, LAST_READ],
+        &[1, 4],
+    ),
+    (
+        "conflicts with an issued write",
+        true,
+        32,
+        &[ISSUED_WRITE, READ_ACROSS, WRITE_ACROSS, ISSUED_LAST_READ],
+        &[],
+    ),
+    (
+        "conflicts that are left",
+        true,
+        32,
+        &[ISSUED_WRITE, READ_ACROSS, WRITE_ACROSS],
+        &[],
+    ),
+    (
+        "the next in order",
+        true,
+        32,
+        &[READ_ACROSS, WRITE_ACROSS],
+        &[2],
+    ),
+    ("the last", true, 32, &[WRITE_ACROSS], &[3]),
+    (
+        "a waiting trim holds back later reads",
+        true,
+        32,
+        &[ISSUED_READ, TRIM, READ_APART],
+        &[],
+    ),
+    (
+        "another port with one slot",
+        true,
+        1,
+        &[ISSUED_WRITE, FLUSH, READ_THERE, NEXT_THERE],
+        &[3],
+    ),
+    (
+        "another port",
+        true,
+        32,
+        &[ISSUED_WRITE, FLUSH, READ_THERE, NEXT_THERE],
+        &[3, 4],
+    ),
+    (
+        "another port's slot is taken",
+        true,
+        1,
+        &[ISSUED_WRITE, FLUSH, ISSUED_THERE, NEXT_THERE],
+        &[],
+    ),
+];
+
+fn unanswered(entry: &InBook) -> Unanswered {
+    let (id, port, op, first, count, issued) = *entry;
+    Unanswered {
+        id: RequestId(id),
+        port: Port(port),
+        op,
+        range: Range {
+            first: Sector(first),
+            count,
+        },
+        issued,
+    }
+}
+
+/// The ids of the due requests.
+fn due_ids(rt: &impl Abort, mode: Mode, entries: &[InBook]) -> ArrayVec<u64, 128> {
+    let mut book: ArrayVec<Unanswered, 128> = ArrayVec::new();
+    for entry in entries {
+        assert!(rt; book.try_push(unanswered(entry)).is_ok());
+    }
+    let mut ids = ArrayVec::new();
+    for r in due_list(mode, book.as_slice()).as_slice() {
+        assert!(rt; ids.try_push(r.id.0).is_ok());
+    }
+    ids
+}
+
+#[test]
+fn due_requests_are_told(rt: HostRuntime) {
+    for (name, queued, usable, book, want) in DUE {
+        let mode = Mode {
+            queued: *queued,
+            usable: *usable,
+        };
+        assert_eq!(rt; due_ids(&rt, mode, book).as_slice(), *want, "{name}");
+    }
+}
+
+const LONG_WRITE: Filled = Filled {
+    id: RequestId(1),
+    port: Port(0),
+    op: Op::Write,
+    range: Range {
+        first: Sector(100),
+        count: 8,
+    },
+    fill: 7,
+};
+
+const LONG_READ: Filled = Filled {
+    id: RequestId(2),
+    port: Port(0),
+    op: Op::Read,
+    range: Range {
+        first: Sector(100),
+        count: 8,
+    },
+    fill: 0,
+};
+
+const FIRST_WRITE: Filled = Filled {
+    id: RequestId(1),
+    port: Port(0),
+    op: Op::Write,
+    range: Range {
+        first: Sector(100),
+        count: 1,
+    },
+    fill: 1,
+};
+
+const SECOND_READ: Filled = Filled {
+    id: RequestId(2),
+    port: Port(0),
+    op: Op::Read,
+    range: Range {
+        first: Sector(100),
+        count: 1,
+    },
+    fill: 0,
+};
+
+const THIRD_WRITE: Filled = Filled {
+    id: RequestId(3),
+    port: Port(0),
+    op: Op::Write,
+    range: Range {
+        first: Sector(100),
+        count: 1,
+    },
+    fill: 3,
+};
+
+const FOURTH_TRIM: Filled = Filled {
+    id: RequestId(4),
+    port: Port(0),
+    op: Op::Trim,
+    range: Range {
+        first: Sector(100),
+        count: 1,
+    },
+    fill: 0,
+};
+
+const FIFTH_READ: Filled = Filled {
+    id: RequestId(5),
+    port: Port(0),
+    op: Op::Read,
+    range: Range {
+        first: Sector(100),
+        count: 1,
+    },
+    fill: 0,
+};
+
+const SECOND_WRITE: Filled = Filled {
+    id: RequestId(2),
+    port: Port(0),
+    op: Op::Write,
+    range: Range {
+        first: Sector(100),
+        count: 1,
+    },
+    fill: 2,
+};
+
+const THIRD_READ: Filled = Filled {
+    id: RequestId(3),
+    port: Port(0),
+    op: Op::Read,
+    range: Range {
+        first: Sector(100),
+        count: 1,
+    },
+    fill: 0,
+};
+
+const WRITE_FROM_100: Filled = Filled {
+    id: RequestId(1),
+    port: Port(0),
+    op: Op::Write,
+    range: Range {
+        first: Sector(100),
+        count: 8,
+    },
+    fill: 1,
+};
+
+const WRITE_FROM_104: Filled = Filled {
+    id: RequestId(2),
+    port: Port(0),
+    op: Op::Write,
+    range: Range {
+        first: Sector(104),
+        count: 8,
+    },
+    fill: 2,
+};
+
+const READ_FROM_98: Filled = Filled {
+    id: RequestId(3),
+    port: Port(0),
+    op: Op::Read,
+    range: Range {
+        first: Sector(98),
+        count: 8,
+    },
+    fill: 0,
+};
+
+const WRITE_FROM_96: Filled = Filled {
+    id: RequestId(1),
+    port: Port(0),
+    op: Op::Write,
+    range: Range {
+        first: Sector(96),
+        count: 8,
+    },
+    fill: 7,
+};
+
+const WRITE_THERE: Filled = Filled {
+    id: RequestId(1),
+    port: Port(1),
+    op: Op::Write,
+    range: Range {
+        first: Sector(96),
+        count: 8,
+    },
+    fill: 7,
+};
+
+// What happened, the latest first.
+const CUT_SHORT: &[Happened] = &[
+    Happened::Touched(LONG_WRITE, 1),
+    Happened::Touched(LONG_WRITE, 0),
+];
+
+const ANOTHER_DISK: &[Happened] = &[
+    Happened::Touched(LONG_READ, 0),
+    Happened::Plugged(Port(0), 9),
+    Happened::Touched(LONG_WRITE, 1),
+    Happened::Touched(LONG_WRITE, 0),
+];
+
+const WRITTEN_AGAIN: &[Happened] = &[
+    Happened::Touched(FIFTH_READ, 0),
+    Happened::Touched(FOURTH_TRIM, 0),
+    Happened::Touched(THIRD_WRITE, 0),
+    Happened::Touched(SECOND_READ, 0),
+    Happened::Touched(FIRST_WRITE, 0),
+    Happened::Touched(FIRST_WRITE, 0),
+];
+
+const AN_EARLIER_ONE_AGAIN: &[Happened] = &[
+    Happened::Touched(THIRD_READ, 0),
+    Happened::Touched(FIRST_WRITE, 0),
+    Happened::Touched(SECOND_WRITE, 0),
+    Happened::Touched(FIRST_WRITE, 0),
+];
+
+const PLUGGED: &[Happened] = &[
+    Happened::Touched(SECOND_READ, 0),
+    Happened::Plugged(Port(1), 4),
+    Happened::Plugged(Port(0), 8),
+    Happened::Touched(FIRST_WRITE, 0),
+];
+
+const PLUGGED_AND_WRITTEN: &[Happened] = &[
+    Happened::Touched(SECOND_READ, 0),
+    Happened::Touched(FIRST_WRITE, 0),
+    Happened::Plugged(Port(0), 8),
+    Happened::Touched(FIRST_WRITE, 0),
+];
+
+const PLUGGED_LATER: &[Happened] = &[
+    Happened::Plugged(Port(0), 8),
+    Happened::Touched(SECOND_READ, 0),
+    Happened::Touched(FIRST_WRITE, 0),
+];
+
+const ACROSS: &[Happened] = &[
+    Happened::Touched(READ_FROM_98, 7),
+    Happened::Touched(READ_FROM_98, 6),
+    Happened::Touched(READ_FROM_98, 5),
+    Happened::Touched(READ_FROM_98, 1),
+    Happened::Touched(WRITE_FROM_104, 0),
+    Happened::Touched(WRITE_FROM_100, 4),
+    Happened::Touched(WRITE_FROM_100, 3),
+];
+
+const HERE: &[Happened] = &[
+    Happened::Touched(SECOND_READ, 0),
+    Happened::Touched(WRITE_FROM_96, 4),
+];
+
+const THERE: &[Happened] = &[
+    Happened::Touched(SECOND_READ, 0),
+    Happened::Touched(WRITE_THERE, 4),
+];
+
+/// A case's name, what happened on a disk that is filled from 5 on, the read, a sector, and the byte that is left on it.
+const LEFT: &[(&str, &[Happened], Filled, u64, u8)] = &[
+    ("a write that was cut short", CUT_SHORT, LONG_READ, 100, 7),
+    ("its second sector", CUT_SHORT, LONG_READ, 101, 8),
+    (
+        "a sector that it didn't reach",
+        CUT_SHORT,
+        LONG_READ,
+        102,
+        107,
+    ),
+    ("another disk", ANOTHER_DISK, LONG_READ, 100, 109),
+    (
+        "a write that goes again",
+        WRITTEN_AGAIN,
+        SECOND_READ,
+        100,
+        1,
+    ),
+    ("a trim", WRITTEN_AGAIN, FIFTH_READ, 100, 0),
+    (
+        "what stood before a trim",
+        WRITTEN_AGAIN,
+        FOURTH_TRIM,
+        100,
+        3,
+    ),
+    (
+        "a later write stays",
+        AN_EARLIER_ONE_AGAIN,
+        THIRD_READ,
+        100,
+        2,
+    ),
+    (
+        "a disk that is plugged in again",
+        PLUGGED,
+        SECOND_READ,
+        100,
+        108,
+    ),
+    (
+        "and is written again",
+        PLUGGED_AND_WRITTEN,
+        SECOND_READ,
+        100,
+        1,
+    ),
+    (
+        "a disk that comes later",
+        PLUGGED_LATER,
+        SECOND_READ,
+        100,
+        1,
+    ),
+    ("a sector that nobody wrote", ACROSS, READ_FROM_98, 99, 104),
+    ("a sector of the first write", ACROSS, READ_FROM_98, 103, 4),
+    ("a sector of the second", ACROSS, READ_FROM_98, 104, 2),
+    (
+        "a sector that the second didn't reach",
+        ACROSS,
+        READ_FROM_98,
+        105,
+        110,
+    ),
+    ("a write on the port", HERE, SECOND_READ, 100, 11),
+    ("a write on another port", THERE, SECOND_READ, 100, 105),
+];
+
+#[test]
+fn what_is_left_is_told(rt: HostRuntime) {
+    for (name, history, read, sector, want) in LEFT {
+        assert_eq!(rt; left(5, history, read, *sector), *want, "{name}");
+    }
+}
