@@ -1,5 +1,6 @@
 // Models that are taken over: what port 0 is found to be, what a register shows then, and the page that its disk has sent.
-ghost use Rattle.std.specs.Prelude.{◌≡◌, ◌≤◌};
+ghost use Rattle.std.specs.Prelude.{◌≡◌, ◌≤◌, IfOk};
+ghost use Rattle.adapter.specs.Idle.{IsIdle};
 
 use adapter::{Adapter, DeviceStep, Direction, DiskPage, Entry, Move, Operation, Stepped};
 use ata_types::{Port, PortState, Slot};
@@ -197,45 +198,63 @@ fn has_page(tape: &[Entry], page: Option<&[(usize, u8)]>) -> bool {
 }
 
 /// Tells lies or the truth, holds or releases. Other steps aren't for it.
-fn tell(model: &mut Model<MemStore>, step: &DeviceStep)
-    ensures { ⟦<Model<MemStore> as Adapter>⟧.device model.new ≡ ⟦<Model<MemStore> as Adapter>⟧.device model.old }
+fn tell<A: Stepped>(adapter: &mut A, step: &DeviceStep)
+    ensures { A.device adapter.new ≡ A.device adapter.old }
 {
     if let DeviceStep::Lie(..)
     | DeviceStep::Truth(_)
     | DeviceStep::Hold(_)
     | DeviceStep::Release(_) = *step
     {
-        let _did = model.step(step);
+        let _did = adapter.step(step);
     }
 }
 
-/// Whether a model of this case is found as the case says.
-fn is_as_said(alloc: Global, case: &Case) -> Result<bool, Fail>
-    requires { (1 ≤ case.now.pi) × (case.now.pi ≤ 15) }
+/// Takes an adapter over: what port 0 is found to be, and what the register shows then, one of CAP, PI and VS.
+fn taken_over<A: Adapter>(adapter: &mut A, r: Reg) -> (Found, u32)
+    requires idle { IsIdle (A.device adapter.old) }
+    requires room { 163840 ≤ (A.device adapter.old).size }
+{
+    let host = take_over(adapter, &IMAGE_DISK);
+    let shown = match r {
+        Reg::Cap => adapter.read(Reg::Cap),
+        Reg::Pi => adapter.read(Reg::Pi),
+        _ => adapter.read(Reg::Vs),
+    };
+    (host.ports[0], shown)
+}
+
+/// A model with these ports, idle.
+fn model(alloc: Global, pi: u8) -> Result<Model<MemStore>, Fail>
+    requires { (1 ≤ pi) × (pi ≤ 15) }
+    ensures idle { IfOk result (λ m. IsIdle (⟦<Model<MemStore> as Adapter>⟧.device m)) }
+    ensures room { IfOk result (λ m. 163840 ≤ (⟦<Model<MemStore> as Adapter>⟧.device m).size) }
 {
     let config = ModelConfig {
         frames: 41,
-        pi: case.pi,
+        pi,
         slots: 32,
         ncq: true,
         depth: 32,
         trim: Trim::Full,
     };
     let image = MemStore::new(alloc, SECTORS)?;
-    let mut model = Model::new(alloc, config, image, MemStore::new(alloc, 0)?)?;
+    Ok(Model::new(alloc, config, image, MemStore::new(alloc, 0)?)?)
+}
+
+/// Whether a model of this case is found as the case says.
+fn is_as_said(alloc: Global, case: &Case) -> Result<bool, Fail>
+    requires { (1 ≤ case.now.pi) × (case.now.pi ≤ 15) }
+{
+    let mut model = model(alloc, case.pi)?;
     let told = case.told;
     tell(&mut model, &told[0]);
     tell(&mut model, &told[1]);
     tell(&mut model, &told[2]);
     model.queue_step(case.queued[0].0, case.queued[0].1)?;
     model.queue_step(case.queued[1].0, case.queued[1].1)?;
-    let host = take_over(&mut model, &IMAGE_DISK);
-    let shown = match case.shown.0 {
-        Reg::Cap => model.read(Reg::Cap),
-        Reg::Pi => model.read(Reg::Pi),
-        _ => model.read(Reg::Vs),
-    };
-    Ok(host.ports[0] == case.found && shown == case.shown.1 && has_page(model.tape(), case.page))
+    let found = taken_over(&mut model, case.shown.0);
+    Ok(found == (case.found, case.shown.1) && has_page(model.tape(), case.page))
 }
 
 /// The same of a case that may have any ports.

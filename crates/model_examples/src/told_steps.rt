@@ -160,15 +160,28 @@ fn are_told(tape: &[Entry], changes: &[Change]) -> bool {
             .all(|(entry, change)| is_told(entry, *change))
 }
 
+// Through the traits' bounds.
+fn step<A: Stepped>(adapter: &mut A, s: &DeviceStep) -> bool {
+    adapter.step(s)
+}
+
+fn read<A: Adapter>(adapter: &mut A) -> u32 {
+    adapter.read(Reg::Ghc)
+}
+
+fn write<A: Adapter>(adapter: &mut A, value: u32) {
+    adapter.write(Reg::Ghc, value);
+}
+
 /// Whether it goes as the act says.
 fn goes(model: &mut Model<MemStore>, act: Act) -> bool {
     match act {
-        Act::Does(step) => model.step(&step),
-        Act::Refuses(step) => !model.step(&step),
-        Act::Queue(access, step) => model.queue_step(access, step).is_ok(),
-        Act::Reads(value) => model.read(Reg::Ghc) == value,
+        Act::Does(s) => step(model, &s),
+        Act::Refuses(s) => !step(model, &s),
+        Act::Queue(access, s) => model.queue_step(access, s).is_ok(),
+        Act::Reads(value) => read(model) == value,
         Act::Writes(value) => {
-            model.write(Reg::Ghc, value);
+            write(model, value);
             true
         }
         Act::Tape(changes) => are_told(model.tape(), changes),
