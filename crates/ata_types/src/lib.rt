@@ -6,8 +6,6 @@ mod grant;
 mod range;
 mod refusal;
 mod request;
-#[cfg(test)]
-mod tests;
 
 pub use grant::{GrantRow, Rights};
 pub use range::{Range, Sector};

@@ -127,6 +127,3 @@ impl Args {
         Args::from_matches(alloc, &matches(alloc, words)?)
     }
 }
-
-#[cfg(test)]
-mod tests;

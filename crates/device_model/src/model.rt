@@ -603,6 +603,3 @@ impl<S: SectorStore> Stepped for Model<S> {
         self.do_step(s)
     }
 }
-
-#[cfg(test)]
-mod tests;

@@ -44,6 +44,3 @@ impl SectorStore for Disk {
         }
     }
 }
-
-#[cfg(test)]
-mod tests;

@@ -94,6 +94,3 @@ impl SectorStore for FileStore {
         }
     }
 }
-
-#[cfg(test)]
-mod tests;

@@ -112,6 +112,3 @@ pub fn identify_page(serial: &[u8], sectors: u64, abilities: Abilities) -> [u8; 
     page[511] = 0u8.wrapping_sub(sum_of(&page));
     page
 }
-
-#[cfg(test)]
-mod tests;

@@ -99,6 +99,3 @@ impl SectorStore for MemStore {
         true
     }
 }
-
-#[cfg(test)]
-mod tests;

@@ -24,7 +24,7 @@ fn ends_in_zeros(first: [u8; 14]) -> [u8; 20] {
 }
 
 /// Name, the fields code, features, count, LBA and device, and the bytes of the FIS up to its zeros.
-const COMMANDS: [(&str, (u8, u16, u16, u32, u8), [u8; 14]); 7] = [
+const COMMANDS: [(&str, (u8, u16, u16, u32, u8), [u8; 14]); 9] = [
     (
         "READ FPDMA QUEUED of 8 sectors at 100 in slot 0",
         (0x60, 8, 0, 100, 0x40),
@@ -44,6 +44,16 @@ const COMMANDS: [(&str, (u8, u16, u16, u32, u8), [u8; 14]); 7] = [
         "READ DMA EXT of 8 sectors at 100",
         (0x25, 0, 8, 100, 0x40),
         [0x27, 0x80, 0x25, 0, 0x64, 0, 0, 0x40, 0, 0, 0, 0, 8, 0],
+    ),
+    (
+        "READ DMA EXT of 256 sectors at 100",
+        (0x25, 0, 256, 100, 0x40),
+        [0x27, 0x80, 0x25, 0, 0x64, 0, 0, 0x40, 0, 0, 0, 0, 0, 1],
+    ),
+    (
+        "WRITE DMA EXT of 3 sectors at 100",
+        (0x35, 0, 3, 100, 0x40),
+        [0x27, 0x80, 0x35, 0, 0x64, 0, 0, 0x40, 0, 0, 0, 0, 3, 0],
     ),
     (
         "DATA SET MANAGEMENT with TRIM and one block",

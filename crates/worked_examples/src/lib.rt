@@ -19,6 +19,8 @@ mod identity_pages;
 #[cfg(test)]
 mod plans;
 #[cfg(test)]
+mod ranges;
+#[cfg(test)]
 mod registers;
 #[cfg(test)]
 mod requests_of_clients;

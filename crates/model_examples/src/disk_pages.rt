@@ -1,0 +1,127 @@
+// Pages of IDENTIFY DEVICE, byte by byte, worked out by hand (ACS-3, 7.12.7).
+use sector_store::pages::{Abilities, Trim, identify_page};
+
+/// A disk, and what its page holds.
+struct Case {
+    what: &'static str,
+    serial: &'static [u8],
+    sectors: u64,
+    abilities: Abilities,
+    /// Words 10 to 19.
+    words: &'static [u8; 20],
+    /// Places and bytes; elsewhere there are zeros.
+    bytes: &'static [(usize, u8)],
+}
+
+const CASES: [Case; 4] = [
+    // A disk of 70,000 sectors (11170h). The serial number's bytes sum to 654 and eleven spaces to 352, the others to 589: 1595, or 59
+    // modulo 256. The last byte is 256 - 59.
+    Case {
+        what: "all abilities",
+        serial: b"IMAGEDISK",
+        sectors: 70_000,
+        abilities: Abilities {
+            ncq: true,
+            depth: 32,
+            trim: Trim::Full,
+        },
+        words: b"MIGADESI K          ",
+        bytes: &[
+            (138, 0x20),
+            (139, 0x40),
+            (150, 31),
+            (153, 1),
+            (167, 0x64),
+            (200, 0x70),
+            (201, 0x11),
+            (202, 1),
+            (210, 1),
+            (213, 0x40),
+            (338, 1),
+            (510, 0xa5),
+            (511, 197),
+        ],
+    },
+    // A disk of 8 sectors whose trims promise nothing. 659 and 352, and 403 for the others: 1414, or 134 modulo 256.
+    Case {
+        what: "few abilities",
+        serial: b"BLANKDISK",
+        sectors: 8,
+        abilities: Abilities {
+            ncq: false,
+            depth: 1,
+            trim: Trim::Weak,
+        },
+        words: b"LBNADKSI K          ",
+        bytes: &[
+            (139, 0x40),
+            (167, 0x64),
+            (200, 8),
+            (210, 1),
+            (213, 0x40),
+            (338, 1),
+            (510, 0xa5),
+            (511, 122),
+        ],
+    },
+    // A disk of 2^48 sectors without trims. 640 for the spaces, and 331 for the others: 971, or 203 modulo 256.
+    Case {
+        what: "no serial number",
+        serial: b"",
+        sectors: 1 << 48,
+        abilities: Abilities {
+            ncq: false,
+            depth: 2,
+            trim: Trim::Without,
+        },
+        words: b"                    ",
+        bytes: &[
+            (150, 1),
+            (167, 0x64),
+            (206, 1),
+            (213, 0x40),
+            (510, 0xa5),
+            (511, 53),
+        ],
+    },
+    // A serial number of 20 characters fills its words: 525 for the digits and 695 for the letters, and 330 for the others: 1550, or 14
+    // modulo 256.
+    Case {
+        what: "a long serial number",
+        serial: b"0123456789ABCDEFGHIJ",
+        sectors: 1,
+        abilities: Abilities {
+            ncq: false,
+            depth: 1,
+            trim: Trim::Without,
+        },
+        words: b"1032547698BADCFEHGJI",
+        bytes: &[(167, 0x64), (200, 1), (213, 0x40), (510, 0xa5), (511, 242)],
+    },
+];
+
+/// A page with these words, and with these bytes at places.
+fn page_of(words: &[u8; 20], bytes: &[(usize, u8)]) -> [u8; 512] {
+    let mut page = [0; 512];
+    page[20..40].copy_from_slice(words);
+    for (place, byte) in bytes {
+        if *place < 512 {
+            page[*place] = *byte;
+        }
+    }
+    page
+}
+
+/// Whether the case's disk sends its page.
+fn is_sent(case: &Case) -> bool {
+    case.serial.len() <= 20
+        && identify_page(case.serial, case.sectors, case.abilities)
+            == page_of(case.words, case.bytes)
+}
+
+#[test]
+fn pages_say_what_disks_are(rt: HostRuntime) {
+    for case in &CASES {
+        assert!(rt; is_sent(case), "{}", case.what);
+    }
+}
