@@ -4,9 +4,13 @@
 set -euo pipefail
 cd "$(dirname "$0")/.."
 blockd=${BLOCKD:-crates/blockd/out/blockd}
-if [[ -z ${BLOCKD:-} ]] && [[ ! -x $blockd || -n $(find crates crates.txt -name out -prune -o -type f -newer "$blockd" -print -quit) ]]; then
+# Says whether the program that is built here is older than a source.
+is_old() {
+    [[ ! -x $blockd || -n $(find crates crates.txt -name out -prune -o -type f -newer "$blockd" -print -quit) ]]
+}
+if [[ -z ${BLOCKD:-} ]] && is_old; then
     rm -f "$blockd"
     # Without words the program ends at once.
     (cd crates/blockd && rt run >/dev/null 2>&1) || [[ -x $blockd ]]
 fi
-exec scripts/run_cases.py "$blockd" docs/FORMATS.md examples/cases/*.session examples/cases/*.bad-lines examples/cases/*.configurations
+exec scripts/run_cases.py "$blockd" docs/FORMATS.md examples/cases/*.{session,bad-lines,configurations}

@@ -59,13 +59,15 @@ def unescaped(text):
     return re.sub(rb"\\(x[0-9a-f]{2}|\{\d+ .\}|.)", spelled, text.encode(), flags=re.DOTALL)
 
 
-def changed(configuration, change):
-    """A configuration with another text in the first place of one that stands in it."""
-    old, arrow, new = change.partition(" =>")
-    old, new = unescaped(old), unescaped(new[1:])
-    if not arrow or old not in configuration:
-        raise Misspelled(f"no place for the change {change!r}")
-    return configuration.replace(old, new, 1)
+def changed(configuration, changes):
+    """A configuration with another text in the first place of each of some that stand in it."""
+    for change in changes.split(" ;; "):
+        old, arrow, new = change.partition(" =>")
+        old, new = unescaped(old), unescaped(new[1:])
+        if not arrow or old not in configuration:
+            raise Misspelled(f"no place for the change {change!r}")
+        configuration = configuration.replace(old, new, 1)
+    return configuration
 
 
 def given(name):
@@ -116,12 +118,14 @@ def session(case, lines):
         elif not in_head:
             answered.append(line)
         else:
-            key, colon, value = line.partition(":")
+            key, colon, value = f"{line} ".partition(": ")
             if not colon:
                 raise Misspelled(f"{line!r} in a head")
-            case = with_head(case, key, value.removeprefix(" "))
+            case = with_head(case, key, value[:-1])
     if in_head:
         return case
+    if case.script or case.printed:
+        raise Misspelled(f"{case.name} has two scripts")
     script = "".join(f"{line}\n" for line in asked).encode()
     return dataclasses.replace(case, script=script, printed="".join(f"{line}\n" for line in answered).encode())
 
@@ -129,7 +133,7 @@ def session(case, lines):
 def sessions(file):
     """The cases of a file of sessions: each begins with its name."""
     case, lines = None, []
-    for number, line in enumerate(file.read_text().splitlines(), 1):
+    for number, line in enumerate(file.read_text(encoding="utf-8").splitlines(), 1):
         if line.startswith("== "):
             if case:
                 yield session(case, lines)
@@ -144,7 +148,7 @@ def sessions(file):
 
 def rows(file):
     """The lines of a file of rows, with the number of each; but for comments and empty lines."""
-    for number, line in enumerate(file.read_text().splitlines(), 1):
+    for number, line in enumerate(file.read_text(encoding="utf-8").splitlines(), 1):
         if line and not line.startswith("#"):
             yield number, line
 
@@ -176,7 +180,7 @@ def configurations(file):
 
 def formats(file):
     """The sessions in docs/FORMATS.md, each over the configuration there and an image of 256 sectors."""
-    text = file.read_text()
+    text = file.read_text(encoding="utf-8")
     (configuration,) = re.findall("^```toml\n(.*?)^```$", text, re.DOTALL | re.MULTILINE)
     for found in re.finditer("^```session\n(.*?)^```$", text, re.DOTALL | re.MULTILINE):
         line = text.count("\n", 0, found.start()) + 1

@@ -53,7 +53,11 @@ fn ended(alloc: Global, script: &[u8], room: usize) -> Result<Ended, AllocError>
 #[test]
 fn an_output_that_fails_ends_the_run(rt: HostRuntime) -> Result<(), Fail> {
     for room in 0..14 {
-        let wanted = if room < 12 { Ended::Unwritten } else { Ended::Done };
+        let wanted = if room < 12 {
+            Ended::Unwritten
+        } else {
+            Ended::Done
+        };
         let told = ended(rt.alloc(), b"service\nservice\n", room)?;
         assert_eq!(rt; told, wanted, "{room} bytes");
         let told = ended(rt.alloc(), b"service\nserve\n", room)?;

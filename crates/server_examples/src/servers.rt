@@ -3,7 +3,7 @@ ghost use Rattle.std.specs.Prelude.{IfOk};
 ghost use Rattle.block_server.specs.Made.{IsReadyFor};
 ghost use Rattle.configuration.specs.Rules.{IsSound};
 
-use crate::watched::{Access, LOW, Watched, lie};
+use crate::watched::{Access, Lie, NO_LIE, Watched, lie};
 use adapter::Adapter;
 use arrayvec::ArrayVec;
 use ata_types::{
@@ -76,16 +76,24 @@ fn request(op: Op, first: u64, count: u32, frame: Option<u16>) -> Request {
     }
 }
 
+/// What is said of a port that isn't ready.
+const fn unready(state: PortState) -> (PortState, Result<RequestId, Refusal>) {
+    (state, Err(Refusal::PortNotReady(state)))
+}
+
 /// What port 0 is where its disk, of so many sectors, tells some lies, and what is said of a read of eight sectors.
 fn found(
     alloc: Global,
     sectors: u32,
-    lies: &[(u16, u8)],
+    lies: [Lie; 3],
     first: u64,
 ) -> Result<(PortState, Result<RequestId, Refusal>), Fail> {
     let config = config(alloc)?;
     let mut model = model_of(alloc, &config, sectors)?;
-    lie(&mut model, lies);
+    let [one, another, last] = lies;
+    lie(&mut model, one);
+    lie(&mut model, another);
+    lie(&mut model, last);
     let Ok(server) = Server::new(alloc, &config, model) else {
         return Err(Fail::from("no server"));
     };
@@ -102,23 +110,58 @@ fn found(
 fn a_port_is_what_its_disk_says(rt: HostRuntime) -> Result<(), Fail> {
     let ready = (PortState::Ready, Ok(RequestId(1)));
     let beyond = (PortState::Ready, Err(Refusal::OutsideDisk));
-    let unready = |state| (state, Err(Refusal::PortNotReady(state)));
-    let shorter: &[(u16, u8)] = &[(510, 0x01), (200, 0x80), (201, 0x01)];
-    let cases: [(u32, &[(u16, u8)], u64, _); 11] = [
-        (70_000, &[], 100, ready),
-        (70_000, &[(0, 0x01)], 100, unready(PortState::Unfit(1))),
-        (70_000, &[(510, 0x01), (167, 0x40)], 100, unready(PortState::Unfit(2))),
-        (70_000, &[(510, 0x01), (167, 0x04)], 100, unready(PortState::Unfit(3))),
-        (70_000, &[(510, 0x01), (213, 0x10)], 100, unready(PortState::Unfit(4))),
-        (70_000, &[(510, 0x01), (167, 0x20)], 100, unready(PortState::Unfit(5))),
-        (70_000, &[(510, 0x01), (206, 0x01)], 100, unready(PortState::Unfit(6))),
-        (70_000, &[(510, 0x01), (20, 0x01)], 100, unready(PortState::Foreign)),
-        (70_000, &[(510, 0x01)], 100, ready),
+    let unsigned = (510, 0x01);
+    let shorter = [unsigned, (200, 0x80), (201, 0x01)];
+    for (sectors, lies, first, wanted) in [
+        (70_000, [NO_LIE; 3], 100, ready),
+        (
+            70_000,
+            [(0, 0x01), NO_LIE, NO_LIE],
+            100,
+            unready(PortState::Unfit(1)),
+        ),
+        (
+            70_000,
+            [unsigned, (167, 0x40), NO_LIE],
+            100,
+            unready(PortState::Unfit(2)),
+        ),
+        (
+            70_000,
+            [unsigned, (167, 0x04), NO_LIE],
+            100,
+            unready(PortState::Unfit(3)),
+        ),
+        (
+            70_000,
+            [unsigned, (213, 0x10), NO_LIE],
+            100,
+            unready(PortState::Unfit(4)),
+        ),
+        (
+            70_000,
+            [unsigned, (167, 0x20), NO_LIE],
+            100,
+            unready(PortState::Unfit(5)),
+        ),
+        (
+            70_000,
+            [unsigned, (206, 0x01), NO_LIE],
+            100,
+            unready(PortState::Unfit(6)),
+        ),
+        (
+            70_000,
+            [unsigned, (20, 0x01), NO_LIE],
+            100,
+            unready(PortState::Foreign),
+        ),
+        (70_000, [unsigned, NO_LIE, NO_LIE], 100, ready),
         (256, shorter, 121, beyond),
         (256, shorter, 120, ready),
-    ];
-    for (sectors, lies, first, wanted) in cases {
-        assert_eq!(rt; found(rt.alloc(), sectors, lies, first)?, wanted);
+    ] {
+        let found = found(rt.alloc(), sectors, lies, first)?;
+        assert_eq!(rt; found, wanted);
     }
     Ok(())
 }
@@ -128,7 +171,7 @@ fn a_port_is_what_its_disk_says(rt: HostRuntime) -> Result<(), Fail> {
 #[test]
 fn a_service_clears_the_causes_that_it_read(rt: HostRuntime) -> Result<(), Fail> {
     let config = config(rt.alloc())?;
-    let watched = Watched::new(rt.alloc(), model_of(rt.alloc(), &config, 256)?);
+    let watched = Watched::new(rt.alloc(), model_of(rt.alloc(), &config, 256)?)?;
     let Ok(server) = Server::new(rt.alloc(), &config, watched) else {
         return Err(Fail::from("no server"));
     };
@@ -137,25 +180,32 @@ fn a_service_clears_the_causes_that_it_read(rt: HostRuntime) -> Result<(), Fail>
     let replies = server.service();
     let watched = server.close();
     assert!(rt; replies.is_empty());
-    let px = |r| Reg::Px(Port(0), r);
-    assert_eq!(rt;
-        watched.accesses.get(before..),
-        Some(
-            &[
-                Access::Read(px(PortReg::Is)),
-                Access::Write(px(PortReg::Is), 1),
-                Access::Write(Reg::Is, 1),
-                Access::Read(px(PortReg::Ssts)),
-            ][..]
-        )
-    );
+    let expected = [
+        Access::Read(Reg::Px(Port(0), PortReg::Is)),
+        Access::Write(Reg::Px(Port(0), PortReg::Is), 1),
+        Access::Write(Reg::Is, 1),
+        Access::Read(Reg::Px(Port(0), PortReg::Ssts)),
+    ];
+    assert_eq!(rt; watched.accesses.get(before..), Some(&expected[..]));
     Ok(())
 }
 
-/// The first bytes of memory once a server is made, and has issued the request if there is one.
-fn stored(alloc: Global, request: Option<&Request>) -> Result<[u8; LOW], Fail> {
+/// The bytes of slot 0's header, FIS and first entry.
+type Slot = ([u8; 16], [u8; 20], [u8; 16]);
+
+/// Bytes from a place of memory on.
+fn piece<const N: usize>(memory: &[u8], place: usize) -> [u8; N] {
+    let mut piece = [0; N];
+    for (to, from) in piece.iter_mut().zip(memory.iter().skip(place)) {
+        *to = *from;
+    }
+    piece
+}
+
+/// What stands in memory once a server is made, and has issued the request if there is one.
+fn stored(alloc: Global, request: Option<&Request>) -> Result<Slot, Fail> {
     let config = config(alloc)?;
-    let watched = Watched::new(alloc, model_of(alloc, &config, 256)?);
+    let watched = Watched::new(alloc, model_of(alloc, &config, 256)?)?;
     let Ok(server) = Server::new(alloc, &config, watched) else {
         return Err(Fail::from("no server"));
     };
@@ -164,48 +214,45 @@ fn stored(alloc: Global, request: Option<&Request>) -> Result<[u8; LOW], Fail> {
         Some(request) => server.submit(request).is_ok(),
         None => true,
     };
-    let watched = server.close();
+    let low = server.close().low;
     if !accepted {
         return Err(Fail::from("the request is refused"));
     }
-    Ok(watched.low)
+    Ok((piece(&low, 0), piece(&low, 0x1000), piece(&low, 0x1080)))
 }
-
-/// What is asked, and the bytes of header, FIS and entry; the FIS ends in zeros.
-type Row<'a> = (&'a str, Option<Request>, [u8; 16], [u8; 14], [u8; 16]);
 
 // The page comes to the port's scratch frame, frame 9.
 #[test]
 fn commands_stand_in_memory(rt: HostRuntime) -> Result<(), Fail> {
-    let rows: [Row; 3] = [
-        (
-            "the boot's IDENTIFY DEVICE",
-            None,
-            [5, 0, 1, 0, 0, 0, 0, 0, 0, 0x10, 0, 0, 0, 0, 0, 0],
-            [0x27, 0x80, 0xec, 0, 0, 0, 0, 0, 0, 0, 0, 0, 0, 0],
-            [0, 0x90, 0, 0, 0, 0, 0, 0, 0, 0, 0, 0, 0xff, 1, 0, 0],
-        ),
-        (
-            "a read of eight sectors",
-            Some(request(Op::Read, 100, 8, Some(40))),
-            [5, 0, 1, 0, 0, 0, 0, 0, 0, 0x10, 0, 0, 0, 0, 0, 0],
-            [0x27, 0x80, 0x25, 0, 0x64, 0, 0, 0x40, 0, 0, 0, 0, 8, 0],
-            [0, 0x80, 2, 0, 0, 0, 0, 0, 0, 0, 0, 0, 0xff, 0x0f, 0, 0],
-        ),
-        (
-            "a write of three sectors",
-            Some(request(Op::Write, 100, 3, Some(41))),
-            [0x45, 0, 1, 0, 0, 0, 0, 0, 0, 0x10, 0, 0, 0, 0, 0, 0],
-            [0x27, 0x80, 0x35, 0, 0x64, 0, 0, 0x40, 0, 0, 0, 0, 3, 0],
-            [0, 0x90, 2, 0, 0, 0, 0, 0, 0, 0, 0, 0, 0xff, 0x05, 0, 0],
-        ),
-    ];
-    for (what, request, header, fis, entry) in &rows {
-        let low = stored(rt.alloc(), request.as_ref())?;
-        assert_eq!(rt; &low[..16], &header[..], "{what}");
-        assert_eq!(rt; &low[0x1000..0x100e], &fis[..], "{what}");
-        assert_eq!(rt; &low[0x100e..0x1014], &[0; 6][..], "{what}");
-        assert_eq!(rt; &low[0x1080..], &entry[..], "{what}");
+    let identify = (
+        [5, 0, 1, 0, 0, 0, 0, 0, 0, 0x10, 0, 0, 0, 0, 0, 0],
+        [
+            0x27, 0x80, 0xec, 0, 0, 0, 0, 0, 0, 0, 0, 0, 0, 0, 0, 0, 0, 0, 0, 0,
+        ],
+        [0, 0x90, 0, 0, 0, 0, 0, 0, 0, 0, 0, 0, 0xff, 1, 0, 0],
+    );
+    let read = (
+        [5, 0, 1, 0, 0, 0, 0, 0, 0, 0x10, 0, 0, 0, 0, 0, 0],
+        [
+            0x27, 0x80, 0x25, 0, 0x64, 0, 0, 0x40, 0, 0, 0, 0, 8, 0, 0, 0, 0, 0, 0, 0,
+        ],
+        [0, 0x80, 2, 0, 0, 0, 0, 0, 0, 0, 0, 0, 0xff, 0x0f, 0, 0],
+    );
+    let write = (
+        [0x45, 0, 1, 0, 0, 0, 0, 0, 0, 0x10, 0, 0, 0, 0, 0, 0],
+        [
+            0x27, 0x80, 0x35, 0, 0x64, 0, 0, 0x40, 0, 0, 0, 0, 3, 0, 0, 0, 0, 0, 0, 0,
+        ],
+        [0, 0x90, 2, 0, 0, 0, 0, 0, 0, 0, 0, 0, 0xff, 0x05, 0, 0],
+    );
+    let eight = request(Op::Read, 100, 8, Some(40));
+    let three = request(Op::Write, 100, 3, Some(41));
+    for (asked, wanted) in [
+        (None, identify),
+        (Some(&eight), read),
+        (Some(&three), write),
+    ] {
+        assert_eq!(rt; stored(rt.alloc(), asked)?, wanted);
     }
     Ok(())
 }
@@ -223,9 +270,14 @@ fn unspelled_calls_are_answered(rt: HostRuntime) -> Result<(), Fail> {
     let at_end = server.client_store(ClientId(1), Frame(40), 4096, &[]);
     let past_end = server.client_store(ClientId(1), Frame(40), 4097, &[]);
     let _model = server.close();
-    assert_eq!(rt; asked, Err(Refusal::Rule(Rule::NoRight)));
-    assert_eq!(rt; past_all, PortState::Absent);
-    assert_eq!(rt; at_end, Ok(()));
-    assert_eq!(rt; past_end, Err(MemFault::OutsideFrame));
+    assert_eq!(rt;
+        (asked, past_all, at_end, past_end),
+        (
+            Err(Refusal::Rule(Rule::NoRight)),
+            PortState::Absent,
+            Ok(()),
+            Err(MemFault::OutsideFrame),
+        )
+    );
     Ok(())
 }

@@ -4,35 +4,26 @@ ghost use Rattle.std.specs.Prelude.{◌≤◌};
 ghost use Rattle.adapter.specs.Idle.{IsIdle};
 
 use crate::boots::IMAGE_DISK;
-use crate::watched::{ALL_PORTS, Watched, model};
+use crate::watched::{ALL_PORTS, Readings, Watched, model};
 use adapter::{Adapter, DeviceStep, DiskNumber};
 use ata_types::{Port, PortState};
-use device_model::Model;
 use hba_regs::{PortReg, Reg};
 use host_boot::{Found, take_over};
 use port_control::{PortFault, receive, stop};
-use sector_store::MemStore;
 use std::alloc::Global;
+use std::process::Abort;
 use std::test::Fail;
 
 /// The number of an access that doesn't come.
 const NEVER: u64 = u64::MAX;
 
 /// What is done with an adapter that has a disk in port 0.
-#[derive(Clone, Copy, PartialEq, Eq)]
+#[derive(Clone, Copy)]
 enum Driven {
     /// It is taken over.
     Boot,
     /// Then its port 0 is stopped, and receives FISes anew.
     BootAndReceive,
-}
-
-/// What comes of it.
-#[derive(Clone, Copy, Debug, PartialEq, Eq)]
-enum Shown {
-    State(PortState),
-    Received,
-    Fault(PortFault),
 }
 
 /// Before which accesses the device does something: it is held, its disk is taken out and put in again, and it is released.
@@ -49,76 +40,78 @@ const UNDISTURBED: Times = Times {
     released: NEVER,
 };
 
-/// Takes an adapter over, stops port 0 if it is ready, and has it receive FISes anew.
-fn received_anew<A: Adapter>(adapter: &mut A) -> Shown
+/// Takes an adapter over, stops port 0 if it is ready, and has it receive FISes anew. A port whose engine doesn't stop is dead.
+fn received_anew<A: Adapter>(adapter: &mut A) -> PortState
     requires idle { IsIdle (A.device adapter.old) }
     requires room { 163840 ≤ (A.device adapter.old).size }
 {
     let host = take_over(adapter, &IMAGE_DISK);
     let Found::Ready(_) = host.ports[0] else {
-        return state(host.ports[0]);
+        return PortState::Absent;
     };
     let Ok(stopped) = stop(adapter, Port(0)) else {
-        return Shown::State(PortState::Dead);
+        return PortState::Absent;
     };
     match receive(adapter, stopped) {
-        Ok(_receiving) => Shown::Received,
-        Err((fault, _stopped)) => Shown::Fault(fault),
+        Ok(_receiving) => PortState::Ready,
+        Err((PortFault::EngineStuck, _stopped)) => PortState::Dead,
+        Err(_) => PortState::Absent,
     }
 }
 
-/// The state of a port that is served.
-fn state(found: Found) -> Shown {
+/// What a port that is served was found to be.
+fn state(found: Found) -> PortState {
     match found {
-        Found::Ready(_) => Shown::State(PortState::Ready),
-        Found::Unready(state) => Shown::State(state),
-        Found::Unserved => Shown::Received,
+        Found::Ready(_) => PortState::Ready,
+        Found::Unready(state) => state,
+        Found::Unserved => PortState::Absent,
     }
 }
 
-/// Drives an adapter with a disk in port 0: what it is found to be then.
-fn driven(
-    alloc: Global,
-    driven: Driven,
-    times: Times,
-) -> Result<(Watched<Model<MemStore>>, Shown), Fail> {
-    let mut watched = Watched::new(alloc, model(alloc, ALL_PORTS, 8)?);
-    for (access, step) in [
-        (times.held, DeviceStep::Hold(Port(0))),
-        (times.exchanged, DeviceStep::Unplug(Port(0))),
-        (times.exchanged, DeviceStep::Plug(Port(0), DiskNumber(0))),
-        (times.released, DeviceStep::Release(Port(0))),
-    ] {
-        watched.adapter.queue_step(access, step)?;
-    }
+/// What port 0 is then, the readings of one of its registers, and how many accesses were made.
+type Seen = (PortState, Readings, usize);
+
+/// Drives an adapter with a disk in port 0.
+fn drive(alloc: Global, driven: Driven, times: Times, register: PortReg) -> Result<Seen, Fail> {
+    let mut watched = Watched::new(alloc, model(alloc, ALL_PORTS, 8)?)?;
+    let unplug = DeviceStep::Unplug(Port(0));
+    let plug = DeviceStep::Plug(Port(0), DiskNumber(0));
+    let device = &mut watched.adapter;
+    device.queue_step(times.held, DeviceStep::Hold(Port(0)))?;
+    device.queue_step(times.exchanged, unplug)?;
+    device.queue_step(times.exchanged, plug)?;
+    device.queue_step(times.released, DeviceStep::Release(Port(0)))?;
     let shown = match driven {
         Driven::Boot => state(take_over(&mut watched, &IMAGE_DISK).ports[0]),
         Driven::BootAndReceive => received_anew(&mut watched),
     };
-    Ok((watched, shown))
+    let readings = watched.readings(Reg::Px(Port(0), register));
+    Ok((shown, readings, watched.accesses.len()))
 }
 
 /// A wait: what is driven, from which access on the device is held, before which its disk is exchanged, which register is read, what is
 /// shown where the device goes on after the last reading, also where it never does, and what where it goes on before it.
+#[derive(Clone, Copy)]
 struct Wait<'a> {
     what: &'a str,
     driven: Driven,
     held: u64,
     exchanged: u64,
     register: PortReg,
-    never: Shown,
-    late: Shown,
-    in_time: Shown,
+    never: PortState,
+    late: PortState,
+    in_time: PortState,
 }
 
-const READY: Shown = Shown::State(PortState::Ready);
-
-const ABSENT: Shown = Shown::State(PortState::Absent);
-
-const DEAD: Shown = Shown::State(PortState::Dead);
-
-const fn unfit(cause: u8) -> Shown {
-    Shown::State(PortState::Unfit(cause))
+impl Wait<'_> {
+    /// The device is released before this access.
+    const fn until(&self, released: u64) -> Times {
+        Times {
+            held: self.held,
+            exchanged: self.exchanged,
+            released,
+        }
+    }
 }
 
 const A_LINK: Wait<'static> = Wait {
@@ -127,33 +120,27 @@ const A_LINK: Wait<'static> = Wait {
     held: 1,
     exchanged: NEVER,
     register: PortReg::Ssts,
-    never: ABSENT,
-    late: ABSENT,
-    in_time: READY,
+    never: PortState::Absent,
+    late: PortState::Absent,
+    in_time: PortState::Ready,
 };
 
 /// Compares what comes of a wait.
 fn check(rt: &(impl Abort + AllocGlobal), wait: &Wait) -> Result<(), Fail> {
-    let register = Reg::Px(Port(0), wait.register);
-    let times = Times {
-        held: wait.held,
-        exchanged: wait.exchanged,
-        released: NEVER,
-    };
-    let (stuck, never) = driven(rt.alloc(), wait.driven, times)?;
-    let readings = stuck.readings(register);
-    let released = readings.last.saturating_add(1);
-    let (after, late) = driven(rt.alloc(), wait.driven, Times { released, ..times })?;
-    let released = readings.last;
-    let (_, in_time) = driven(rt.alloc(), wait.driven, Times { released, ..times })?;
+    let stuck = wait.until(NEVER);
+    let (never, readings, _) = drive(rt.alloc(), wait.driven, stuck, wait.register)?;
+    let after = wait.until(readings.last.saturating_add(1));
+    let (late, later, _) = drive(rt.alloc(), wait.driven, after, wait.register)?;
+    let before = wait.until(readings.last);
+    let (in_time, _, _) = drive(rt.alloc(), wait.driven, before, wait.register)?;
     assert_eq!(rt;
         (never, late, in_time),
         (wait.never, wait.late, wait.in_time),
         "{}",
         wait.what
     );
-    let late = after.readings(register).since_write;
-    assert_eq!(rt; (readings.since_write, late), (64, 64), "{}", wait.what);
+    let counts = (readings.since_write, later.since_write);
+    assert_eq!(rt; counts, (64, 64), "{}", wait.what);
     Ok(())
 }
 
@@ -165,29 +152,30 @@ const RECEIVING: u64 = 9;
 // so BSY stays (AHCI 1.3.1, 3.3.8 and 10.4.2).
 #[test]
 fn each_wait_is_64_readings(rt: HostRuntime) -> Result<(), Fail> {
-    let (plain, shown) = driven(rt.alloc(), Driven::Boot, UNDISTURBED)?;
-    assert_eq!(rt; shown, READY);
-    let link = plain.readings(Reg::Px(Port(0), PortReg::Ssts)).first;
-    let (plain, shown) = driven(rt.alloc(), Driven::BootAndReceive, UNDISTURBED)?;
-    assert_eq!(rt; shown, Shown::Received);
-    let stopped = (plain.accesses.len() as u64).saturating_sub(RECEIVING - 1);
+    let (shown, readings, _) = drive(rt.alloc(), Driven::Boot, UNDISTURBED, PortReg::Ssts)?;
+    assert_eq!(rt; shown, PortState::Ready);
+    let link = readings.first;
+    let driven = Driven::BootAndReceive;
+    let (shown, _, accesses) = drive(rt.alloc(), driven, UNDISTURBED, PortReg::Cmd)?;
+    assert_eq!(rt; shown, PortState::Ready);
+    let stopped = (accesses as u64).saturating_sub(RECEIVING - 1);
     for wait in [
         Wait {
             what: "for a page",
             held: link.saturating_add(1),
             register: PortReg::Ci,
-            never: DEAD,
-            late: unfit(9),
-            in_time: READY,
+            never: PortState::Dead,
+            late: PortState::Unfit(9),
+            in_time: PortState::Ready,
             ..A_LINK
         },
         Wait {
             what: "for an engine",
             held: link.saturating_add(1),
             register: PortReg::Cmd,
-            never: DEAD,
-            late: DEAD,
-            in_time: unfit(9),
+            never: PortState::Dead,
+            late: PortState::Dead,
+            in_time: PortState::Unfit(9),
             ..A_LINK
         },
         A_LINK,
@@ -195,8 +183,8 @@ fn each_wait_is_64_readings(rt: HostRuntime) -> Result<(), Fail> {
             what: "for an idle device",
             exchanged: link,
             register: PortReg::Tfd,
-            never: unfit(7),
-            late: unfit(7),
+            never: PortState::Unfit(7),
+            late: PortState::Unfit(7),
             ..A_LINK
         },
         Wait {
@@ -204,9 +192,9 @@ fn each_wait_is_64_readings(rt: HostRuntime) -> Result<(), Fail> {
             driven: Driven::BootAndReceive,
             held: stopped,
             register: PortReg::Cmd,
-            never: Shown::Fault(PortFault::EngineStuck),
-            late: Shown::Fault(PortFault::EngineStuck),
-            in_time: Shown::Received,
+            never: PortState::Dead,
+            late: PortState::Dead,
+            in_time: PortState::Ready,
             ..A_LINK
         },
     ] {

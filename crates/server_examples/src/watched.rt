@@ -36,18 +36,17 @@ pub fn model(alloc: Global, pi: u8, sectors: u32) -> Result<Model<MemStore>, Fai
     )?)
 }
 
-/// Has the disk lie of these bits of the bytes of its page at these offsets.
-pub fn lie(model: &mut Model<MemStore>, lies: &[(u16, u8)])
+/// Bits of a byte of a page, by the byte's offset: a disk lies of them. No bits are no lie.
+pub type Lie = (u16, u8);
+
+pub const NO_LIE: Lie = (0, 0);
+
+/// Has the disk lie.
+pub fn lie(model: &mut Model<MemStore>, lie: Lie)
     ensures { ⟦<Model<MemStore> as Adapter>⟧.device model.new ≡ ⟦<Model<MemStore> as Adapter>⟧.device model.old }
 {
-    for (offset, bits) in lies {
-        let _done = model.step(&DeviceStep::Lie(
-            Port(0),
-            DiskPage::Identity,
-            *offset,
-            *bits,
-        ));
-    }
+    let (offset, bits) = lie;
+    let _done = model.step(&DeviceStep::Lie(Port(0), DiskPage::Identity, offset, bits));
 }
 
 /// A call of an adapter.
@@ -67,7 +66,7 @@ pub const LOW: usize = 0x1090;
 pub struct Watched<A> {
     pub adapter: A,
     pub accesses: Vec<Access>,
-    pub low: [u8; LOW],
+    pub low: Vec<u8>,
 }
 
 /// The readings of a register.
@@ -83,16 +82,16 @@ pub struct Readings {
     pub last: u64,
 }
 
-impl<A> Watched<A> {
+impl<A: Drop> Watched<A> {
     /// An adapter of which nothing is noted yet.
-    pub fn new(alloc: Global, adapter: A) -> Watched<A>
-        ensures { result.adapter ≡ adapter }
+    pub fn new(alloc: Global, adapter: A) -> Result<Watched<A>, Fail>
+        ensures { IfOk result (λ w. w.adapter ≡ adapter) }
     {
-        Watched {
+        Ok(Watched {
             adapter,
             accesses: Vec::new(alloc),
-            low: [0; LOW],
-        }
+            low: vec![in alloc; 0u8; LOW]?,
+        })
     }
 
     /// The readings of a register so far.
@@ -120,12 +119,28 @@ impl<A> Watched<A> {
         readings
     }
 
-    /// Whether a register of a port was read or written.
-    pub fn touches(&self, port: Port) -> bool {
-        self.accesses.iter().any(|access| match access {
-            Access::Read(Reg::Px(of, _)) | Access::Write(Reg::Px(of, _), _) => *of == port,
-            _ => false,
-        })
+    /// What was written to registers, in its order.
+    pub fn writes(&self, alloc: Global) -> Result<Vec<Access>, Fail> {
+        let mut writes = Vec::new(alloc);
+        for access in &self.accesses {
+            if let Access::Write(..) = access {
+                writes.push(*access)?;
+            }
+        }
+        Ok(writes)
+    }
+
+    /// Of which of the ports 0 to 3 a register was read or written.
+    pub fn touched(&self) -> [bool; 4] {
+        let mut touched = [false; 4];
+        for access in &self.accesses {
+            if let Access::Read(Reg::Px(port, _)) | Access::Write(Reg::Px(port, _), _) = access {
+                if let Some(place) = touched.get_mut(usize::from(port.0)) {
+                    *place = true;
+                }
+            }
+        }
+        touched
     }
 }
 
@@ -149,8 +164,7 @@ impl<A: Adapter> Adapter for Watched<A> {
 
     fn store(&mut self, addr: u32, bytes: &[u8]) {
         let _full = self.accesses.push(Access::Store).is_err();
-        let begin = (addr as usize).min(LOW);
-        for (kept, byte) in self.low[begin..].iter_mut().zip(bytes.iter()) {
+        for (kept, byte) in self.low.iter_mut().skip(addr as usize).zip(bytes.iter()) {
             *kept = *byte;
         }
         self.adapter.store(addr, bytes);
