@@ -14,13 +14,7 @@ use std::process::ExitCode;
 use std::rt::Env;
 use std::{env, str};
 
-#[cfg(test)]
-mod boots;
 mod fault;
-#[cfg(test)]
-mod waits;
-#[cfg(test)]
-mod watched;
 
 /// The sectors of the blank disk.
 const BLANK_SECTORS: u32 = 2048;

@@ -7,8 +7,6 @@ mod calls;
 mod printed;
 mod session;
 mod setting;
-#[cfg(test)]
-mod tests;
 
 pub use calls::event;
 pub use session::{Ended, play};

@@ -1,4 +1,4 @@
-// What a configuration asks of a server.
+// What a configuration asks of a server, and which values break its rules. Texts of configurations stand in the cases of the program.
 use ata_types::{ClientId, Frame, GrantRow, Port, Rights, Sector};
 use configuration::{ClientConfig, Config, GrantConfig, Kind, PortConfig};
 use dma_frames::FrameTable;
@@ -47,6 +47,26 @@ fn grant(alloc: Global, number: u64, rights: &str) -> Result<GrantConfig, Fail> 
     })
 }
 
+const ALL: [bool; 4] = [true; 4];
+
+/// Client 1's grant of sectors of port 0, with the rights to read, write, trim and flush.
+const fn row(number: u8, first: u64, count: u64, rights: [bool; 4]) -> GrantRow {
+    let [read, write, trim, flush] = rights;
+    GrantRow {
+        client: ClientId(1),
+        number,
+        port: Port(0),
+        first: Sector(first),
+        count,
+        rights: Rights {
+            read,
+            write,
+            trim,
+            flush,
+        },
+    }
+}
+
 const fn client(id: u64, first_frame: u64) -> ClientConfig {
     ClientConfig {
         id,
@@ -55,37 +75,21 @@ const fn client(id: u64, first_frame: u64) -> ClientConfig {
     }
 }
 
-fn refused(config: &Config) -> Option<Kind> {
-    Plan::of(config).err()
-}
-
+// Beside what the plan tells: the values that no script shows.
 #[test]
-fn the_plan_of_the_example(rt: HostRuntime) -> Result<(), Fail> {
+fn the_example_is_planned(rt: HostRuntime) -> Result<(), Fail> {
     let config = example(rt.alloc())?;
+    assert_eq!(rt; (config.slots, config.ncq, config.depth), (32, true, 32));
+    assert_eq!(rt; config.trim.as_str(), "full");
     let plan = Plan::of(&config).ok().ok_or("refused")?;
     assert_eq!(rt; plan.frames(), 256);
     assert_eq!(rt; plan.owners(), &[(ClientId(1), Frame(40), 40)][..]);
     let table = FrameTable::new(plan.owners());
-    assert_eq!(rt; table.owner(Frame(79)), Some(ClientId(1)));
-    assert_eq!(rt; table.owner(Frame(80)), None);
-    let row = GrantRow {
-        client: ClientId(1),
-        number: 0,
-        port: Port(0),
-        first: Sector(100),
-        count: 64,
-        rights: Rights {
-            read: true,
-            write: true,
-            trim: true,
-            flush: true,
-        },
-    };
-    assert_eq!(rt; plan.grants(), &[row][..]);
-    assert_eq!(rt; plan.wanted()[0], Wanted::Serial(*b"IMAGEDISK           "));
-    for wanted in &plan.wanted()[1..] {
-        assert_eq!(rt; *wanted, Wanted::Nothing);
-    }
+    assert_eq!(rt;
+        (table.owner(Frame(79)), table.owner(Frame(80))),
+        (Some(ClientId(1)), None)
+    );
+    assert_eq!(rt; plan.grants(), &[row(0, 100, 64, ALL)][..]);
     Ok(())
 }
 
@@ -101,10 +105,15 @@ fn ports_ask_for_disks(rt: HostRuntime) -> Result<(), Fail> {
         serial: Some(String::from_str(rt.alloc(), "TWENTY CHARACTERS 20")?),
     })?;
     let plan = Plan::of(&config).ok().ok_or("refused")?;
-    assert_eq!(rt; plan.wanted()[0], Wanted::Serial(*b"IMAGEDISK           "));
-    assert_eq!(rt; plan.wanted()[1], Wanted::Serial(*b"TWENTY CHARACTERS 20"));
-    assert_eq!(rt; plan.wanted()[2], Wanted::Nothing);
-    assert_eq!(rt; plan.wanted()[3], Wanted::Any);
+    assert_eq!(rt;
+        *plan.wanted(),
+        [
+            Wanted::Serial(*b"IMAGEDISK           "),
+            Wanted::Serial(*b"TWENTY CHARACTERS 20"),
+            Wanted::Nothing,
+            Wanted::Any,
+        ]
+    );
     Ok(())
 }
 
@@ -116,39 +125,61 @@ fn letters_name_rights(rt: HostRuntime) -> Result<(), Fail> {
         config.grant.push(grant(rt.alloc(), number, letters)?)?;
     }
     let plan = Plan::of(&config).ok().ok_or("refused")?;
-    assert_eq!(rt; plan.owners().len(), 2);
-    assert_eq!(rt; plan.owners()[1], (ClientId(8), Frame(255), 1));
-    assert_eq!(rt; plan.grants().len(), 5);
-    let read = plan.grants()[1];
-    assert_eq!(rt; (read.first, read.count), (Sector(7), 9));
-    assert!(rt; read.rights.read && !read.rights.write);
-    let write = plan.grants()[2].rights;
-    assert!(rt; write.write && !write.trim);
-    let trim = plan.grants()[3].rights;
-    assert!(rt; trim.trim && !trim.flush);
-    let flush = plan.grants()[4];
-    assert_eq!(rt; flush.number, 63);
-    assert!(rt; flush.rights.flush && !flush.rights.read);
+    assert_eq!(rt; plan.owners()[1..], [(ClientId(8), Frame(255), 1)]);
+    assert_eq!(rt;
+        plan.grants()[1..],
+        [
+            row(1, 7, 9, [true, false, false, false]),
+            row(2, 7, 9, [false, true, false, false]),
+            row(3, 7, 9, [false, false, true, false]),
+            row(63, 7, 9, [false, false, false, true]),
+        ]
+    );
     Ok(())
 }
 
+/// What is added to a configuration: a port, a client with its first frame and how many, or a grant with its client, number and port.
+#[derive(Clone, Copy)]
+enum Added {
+    Port(u64),
+    Client(u64, u64, u64),
+    Grant(u64, u64, u64),
+}
+
+// Each is added to the ones before it, and each further fault is of a lesser kind. No text has the last client.
 #[test]
-fn a_configuration_that_breaks_a_rule_has_no_plan(rt: HostRuntime) -> Result<(), Fail> {
+fn values_that_break_a_rule_are_refused(rt: HostRuntime) -> Result<(), Fail> {
     let mut config = example(rt.alloc())?;
-    assert_eq!(rt; refused(&config), None);
-    let mut other = grant(rt.alloc(), 1, "r")?;
-    other.port = 1;
-    config.grant.push(other)?;
-    assert_eq!(rt; refused(&config), Some(Kind::UnknownPort));
-    let mut other = grant(rt.alloc(), 1, "r")?;
-    other.client = 2;
-    config.grant.push(other)?;
-    assert_eq!(rt; refused(&config), Some(Kind::UnknownClient));
-    config.client.push(client(3, 79))?;
-    assert_eq!(rt; refused(&config), Some(Kind::SharedFrames));
-    config.client.push(client(1, 100))?;
-    assert_eq!(rt; refused(&config), Some(Kind::Duplicate));
-    config.frames = 40;
-    assert_eq!(rt; refused(&config), Some(Kind::OutOfRange));
+    for (added, kind) in [
+        (Added::Client(8, 255, 1), None),
+        (Added::Grant(8, 1, 0), None),
+        (Added::Grant(1, 1, 1), Some(Kind::UnknownPort)),
+        (Added::Grant(2, 1, 0), Some(Kind::UnknownClient)),
+        (Added::Client(3, 79, 1), Some(Kind::SharedFrames)),
+        (Added::Port(0), Some(Kind::Duplicate)),
+        (Added::Client(1, u64::MAX, u64::MAX), Some(Kind::OutOfRange)),
+    ] {
+        match added {
+            Added::Port(number) => config.port.push(PortConfig {
+                number,
+                serial: None,
+            })?,
+            Added::Client(id, first_frame, frames) => config.client.push(ClientConfig {
+                id,
+                first_frame,
+                frames,
+            })?,
+            Added::Grant(client, number, port) => config.grant.push(GrantConfig {
+                client,
+                number,
+                port,
+                ..grant(rt.alloc(), number, "w")?
+            })?,
+        }
+        assert_eq!(rt;
+            (config.check().err(), Plan::of(&config).err()),
+            (kind, kind)
+        );
+    }
     Ok(())
 }

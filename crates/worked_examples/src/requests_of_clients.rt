@@ -1,129 +1,62 @@
-// Requests of two clients with a grant each, and what is said of them.
-ghost use Rattle.block_machine.specs.Rules.{Names};
-
+// Requests that no script asks for so far, and what is said of them. Reads and writes stand in the cases of the program.
 use arrayvec::ArrayVec;
-use ata_types::{
-    ClientId, Frame, FrameFault, GrantRow, Op, Port, Range, Request, Rights, Rule, Sector,
-};
+use ata_types::{ClientId, Frame, GrantRow, Op, Port, Request, Rights, Rule, Sector};
 use dma_frames::FrameTable;
 use grants::{Grants, decide};
+use std::alloc::Global;
 use std::test::Fail;
 
-/// The client's grant 0: some sectors of port 0's disk, and all rights or that to read alone.
-fn row(client: ClientId, first: u64, count: u64, is_all: bool) -> GrantRow
-    ensures { Names client 0 result }
-{
-    let rights = Rights {
+/// Client 1's grant 0: all rights to sectors 100 to 163 of port 0's disk.
+const ROW: GrantRow = GrantRow {
+    client: ClientId(1),
+    number: 0,
+    port: Port(0),
+    first: Sector(100),
+    count: 64,
+    rights: Rights {
         read: true,
-        write: is_all,
-        trim: is_all,
-        flush: is_all,
-    };
-    GrantRow {
-        client,
-        number: 0,
-        port: Port(0),
-        first: Sector(first),
-        count,
-        rights,
-    }
-}
+        write: true,
+        trim: true,
+        flush: true,
+    },
+};
 
-/// What is said of a request of a client, under its grant of this number, with these frames.
+/// What is said of a request of client 1, under its grant 0, with these frames.
 fn said(
-    rt: &HostRuntime,
-    client: u8,
-    grant: u8,
+    alloc: Global,
     op: Op,
-    sectors: Range,
+    first: u64,
+    count: u32,
     frames: &[Frame],
 ) -> Result<Result<(), Rule>, Fail> {
-    let rows = [
-        row(ClientId(1), 100, 64, true),
-        row(ClientId(2), 140, 60, false),
-    ];
-    let grants = Grants::from_rows(rt.alloc(), &rows)?;
-    let table = FrameTable::new(&[(ClientId(1), Frame(40), 40), (ClientId(2), Frame(80), 40)]);
+    let grants = Grants::from_rows(alloc, &[ROW])?;
+    let table = FrameTable::new(&[(ClientId(1), Frame(40), 40)]);
     let Ok(frames) = ArrayVec::try_from(frames) else {
         return Err(Fail::from("too many frames"));
     };
     let request = Request {
-        client: ClientId(client),
-        grant,
+        client: ClientId(1),
+        grant: 0,
         op,
-        first: sectors.first,
-        count: sectors.count,
+        first: Sector(first),
+        count,
         frames,
     };
     Ok(decide(&request, &grants, &table))
 }
 
-fn sectors(first: u64, count: u32) -> Range {
-    Range {
-        first: Sector(first),
-        count,
-    }
-}
-
 #[test]
-fn sectors_stay_in_the_grant(rt: HostRuntime) -> Result<(), Fail> {
-    let one = [Frame(40)];
-    assert_eq!(rt; said(&rt, 1, 0, Op::Read, sectors(156, 8), &one)?, Ok(()));
-    assert_eq!(rt;
-        said(&rt, 1, 0, Op::Read, sectors(157, 8), &one)?,
-        Err(Rule::OutsideGrant)
-    );
-    assert_eq!(rt;
-        said(&rt, 1, 0, Op::Read, sectors(u64::MAX, 8), &one)?,
-        Err(Rule::OutsideGrant)
-    );
-    assert_eq!(rt;
-        said(&rt, 1, 0, Op::Read, sectors(100, 0), &[])?,
-        Err(Rule::BadCount)
-    );
-    assert_eq!(rt;
-        said(&rt, 1, 0, Op::Read, sectors(100, 257), &one)?,
-        Err(Rule::BadCount)
-    );
-    Ok(())
-}
-
-#[test]
-fn a_right_is_the_clients_own(rt: HostRuntime) -> Result<(), Fail> {
-    let one = [Frame(80)];
-    assert_eq!(rt; said(&rt, 2, 0, Op::Read, sectors(140, 8), &one)?, Ok(()));
-    assert_eq!(rt;
-        said(&rt, 2, 0, Op::Write, sectors(140, 8), &one)?,
-        Err(Rule::NoRight)
-    );
-    assert_eq!(rt;
-        said(&rt, 2, 1, Op::Write, sectors(140, 8), &one)?,
-        Err(Rule::NoGrant)
-    );
-    assert_eq!(rt;
-        said(&rt, 1, 0, Op::Write, sectors(140, 8), &one)?,
-        Err(Rule::Frames(FrameFault::FrameForeign(0)))
-    );
-    Ok(())
-}
-
-#[test]
-fn frames_fit_the_operation(rt: HostRuntime) -> Result<(), Fail> {
+fn trims_and_flushes_have_no_frames(rt: HostRuntime) -> Result<(), Fail> {
     let two = [Frame(41), Frame(42)];
-    assert_eq!(rt; said(&rt, 1, 0, Op::Read, sectors(100, 9), &two)?, Ok(()));
-    assert_eq!(rt;
-        said(&rt, 1, 0, Op::Read, sectors(100, 9), &[Frame(41)])?,
-        Err(Rule::FrameCount)
-    );
-    assert_eq!(rt;
-        said(&rt, 1, 0, Op::Trim, sectors(100, 8), &two)?,
-        Err(Rule::FrameCount)
-    );
-    let twice = [Frame(41), Frame(41)];
-    assert_eq!(rt;
-        said(&rt, 1, 0, Op::Read, sectors(100, 16), &twice)?,
-        Err(Rule::Frames(FrameFault::FrameTwice(1)))
-    );
-    assert_eq!(rt; said(&rt, 1, 0, Op::Flush, sectors(7, 0), &[])?, Ok(()));
+    let cases: [(Op, u64, u32, &[Frame], _); 5] = [
+        (Op::Read, 100, 9, &two, Ok(())),
+        (Op::Trim, 100, 8, &[], Ok(())),
+        (Op::Trim, 100, 8, &two, Err(Rule::FrameCount)),
+        (Op::Flush, 7, 0, &[], Ok(())),
+        (Op::Flush, 7, 0, &two, Err(Rule::FrameCount)),
+    ];
+    for (op, first, count, frames, wanted) in cases {
+        assert_eq!(rt; said(rt.alloc(), op, first, count, frames)?, wanted);
+    }
     Ok(())
 }

@@ -10,7 +10,7 @@ use Rattle.host_boot.specs.declared.Found.{Found}
 use Rattle.host_boot.specs.declared.Found.TheVariants.{Ready, Unserved}
 use Rattle.host_boot.proofs.Beginning.{taken_there}
 use Rattle.port_control.specs.Ports.{WritesCommand}
-use Rattle.blockd.proofs.waits.received_anew.Goals as goal
+use Rattle.server_examples.proofs.waits.received_anew.Goals as goal
 
 pub receive-requires-clause-there : goal.receive-requires-clause-there
 receive-requires-clause-there g c =

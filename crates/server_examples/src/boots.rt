@@ -1,0 +1,171 @@
+// What the ports of a modelled adapter are found to be when it is taken over, and what is written and read for that.
+use crate::watched::{ALL_PORTS, Access, Lie, NO_LIE, Watched, lie, model};
+use ata_types::{Port, PortState};
+use hba_regs::{PortReg, Reg};
+use host_boot::{Found, PORTS, take_over};
+use identify::{DiskInfo, Wanted};
+use std::alloc::Global;
+use std::process::Abort;
+use std::test::Fail;
+
+const SERIAL: [u8; 20] = *b"IMAGEDISK           ";
+
+/// The disk with this serial number is wanted in port 0, and none in the others.
+pub const IMAGE_DISK: [Wanted; PORTS] = [
+    Wanted::Serial(SERIAL),
+    Wanted::Nothing,
+    Wanted::Nothing,
+    Wanted::Nothing,
+];
+
+/// What an ordinary disk of so many sectors says of itself.
+const fn ready(sectors: u64) -> Found {
+    Found::Ready(DiskInfo {
+        serial: SERIAL,
+        depth: 32,
+        ncq: true,
+        sectors,
+        trim: true,
+    })
+}
+
+/// What port 0 is found to be where its disk, of so many sectors, tells two lies; with the slots of the adapter, and whether it does native
+/// command queuing.
+fn found(alloc: Global, sectors: u32, first: Lie, second: Lie) -> Result<(u8, bool, Found), Fail> {
+    let mut model = model(alloc, ALL_PORTS, sectors)?;
+    lie(&mut model, first);
+    lie(&mut model, second);
+    let host = take_over(&mut model, &IMAGE_DISK);
+    Ok((host.slots, host.queued, host.ports[0]))
+}
+
+// Byte 510 of IDENTIFY DEVICE holds the signature of the checksum, and bytes 200 to 207 are the number of sectors (ACS-3, 7.12.7).
+#[test]
+fn a_disk_is_what_its_page_says(rt: HostRuntime) -> Result<(), Fail> {
+    let unfit = Found::Unready(PortState::Unfit(6));
+    for (sectors, first, second, what) in [
+        (70_000, NO_LIE, NO_LIE, ready(70_000)),
+        (70_000, (510, 0x01), NO_LIE, ready(70_000)),
+        (70_000, (510, 0x01), (206, 0x01), unfit),
+        (0, NO_LIE, NO_LIE, unfit),
+    ] {
+        let found = found(rt.alloc(), sectors, first, second)?;
+        assert_eq!(rt; found, (32, true, what));
+    }
+    Ok(())
+}
+
+/// A boot: the ports that the adapter has, the disks that are wanted, what is found, how often PxSSTS of a port is read, of which ports
+/// registers are read or written, and what is written to registers first.
+#[derive(Clone, Copy)]
+struct Boot<'a> {
+    pi: u8,
+    wanted: [Wanted; PORTS],
+    found: [Found; PORTS],
+    read: (Port, usize),
+    touched: [bool; PORTS],
+    writes: &'a [Access],
+}
+
+const NONE: Wanted = Wanted::Nothing;
+
+const UNSERVED: Found = Found::Unserved;
+
+const ABSENT: Found = Found::Unready(PortState::Absent);
+
+const ENABLE: Access = Access::Write(Reg::Ghc, 0x8000_0000);
+
+const ALLOW_INTERRUPTS: Access = Access::Write(Reg::Ghc, 0x8000_0002);
+
+const fn px(port: u8, r: PortReg, value: u32) -> Access {
+    Access::Write(Reg::Px(Port(port), r), value)
+}
+
+/// Compares what comes of a boot.
+fn check(rt: &(impl Abort + AllocGlobal), boot: &Boot) -> Result<(), Fail> {
+    if boot.pi < 1 || boot.pi > 15 {
+        return Err(Fail::from("no such adapter"));
+    }
+    let mut watched = Watched::new(rt.alloc(), model(rt.alloc(), boot.pi, 8)?)?;
+    let host = take_over(&mut watched, &boot.wanted);
+    let (port, readings) = boot.read;
+    let read = watched.readings(Reg::Px(port, PortReg::Ssts)).all;
+    assert_eq!(rt;
+        (host.ports, read, watched.touched()),
+        (boot.found, readings, boot.touched)
+    );
+    let writes = watched.writes(rt.alloc())?;
+    assert_eq!(rt; writes.get(..boot.writes.len()), Some(boot.writes));
+    Ok(())
+}
+
+// GHC with AE; ST and FRE are clear already; the places; FRE; COMRESET; PxSERR and PxIS; ST, with FRE and FR as they were read; slot 0; PxIE;
+// GHC with AE and IE (AHCI 1.3.1, 3.1.2, 3.3 and 10.1.2). Port 2 has its frames from 14000h on, and no disk: a wait for a device is 64
+// readings. PI of the last adapter shows port 0 alone.
+#[test]
+fn ports_that_are_wanted_and_there_are_booted(rt: HostRuntime) -> Result<(), Fail> {
+    let ready_port = [
+        ENABLE,
+        px(0, PortReg::Cmd, 0),
+        px(0, PortReg::Cmd, 0),
+        px(0, PortReg::Clb, 0),
+        px(0, PortReg::Clbu, 0),
+        px(0, PortReg::Fb, 0x400),
+        px(0, PortReg::Fbu, 0),
+        px(0, PortReg::Cmd, 0x10),
+        px(0, PortReg::Sctl, 1),
+        px(0, PortReg::Sctl, 0),
+        px(0, PortReg::Serr, 0xffff_ffff),
+        px(0, PortReg::Is, 0xffff_ffff),
+        px(0, PortReg::Cmd, 0x4011),
+        px(0, PortReg::Ci, 1),
+        px(0, PortReg::Ie, 0x7840_004b),
+        ALLOW_INTERRUPTS,
+    ];
+    let absent_port = [
+        ENABLE,
+        px(2, PortReg::Cmd, 0),
+        px(2, PortReg::Cmd, 0),
+        px(2, PortReg::Clb, 0x14000),
+        px(2, PortReg::Clbu, 0),
+        px(2, PortReg::Fb, 0x14400),
+        px(2, PortReg::Fbu, 0),
+    ];
+    for boot in [
+        Boot {
+            pi: ALL_PORTS,
+            wanted: [NONE; PORTS],
+            found: [UNSERVED; PORTS],
+            read: (Port(0), 0),
+            touched: [false; PORTS],
+            writes: &[ENABLE, ALLOW_INTERRUPTS],
+        },
+        Boot {
+            pi: ALL_PORTS,
+            wanted: IMAGE_DISK,
+            found: [ready(8), UNSERVED, UNSERVED, UNSERVED],
+            read: (Port(0), 1),
+            touched: [true, false, false, false],
+            writes: &ready_port,
+        },
+        Boot {
+            pi: ALL_PORTS,
+            wanted: [NONE, NONE, Wanted::Any, NONE],
+            found: [UNSERVED, UNSERVED, ABSENT, UNSERVED],
+            read: (Port(2), 64),
+            touched: [false, false, true, false],
+            writes: &absent_port,
+        },
+        Boot {
+            pi: 1,
+            wanted: [Wanted::Any, Wanted::Any, NONE, NONE],
+            found: [ready(8), UNSERVED, UNSERVED, UNSERVED],
+            read: (Port(0), 1),
+            touched: [true, false, false, false],
+            writes: &ready_port,
+        },
+    ] {
+        check(&rt, &boot)?;
+    }
+    Ok(())
+}

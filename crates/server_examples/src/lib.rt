@@ -1,0 +1,14 @@
+//! What the server, its boot and the play of a script do where no script shows it: which accesses are made, when waits end, what lying
+//! disks are found to be, and what comes of an output that fails. There is no other code here.
+#![tactic(auto)]
+
+#[cfg(test)]
+mod boots;
+#[cfg(test)]
+mod outputs;
+#[cfg(test)]
+mod servers;
+#[cfg(test)]
+mod waits;
+#[cfg(test)]
+mod watched;

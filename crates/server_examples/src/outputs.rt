@@ -1,0 +1,67 @@
+// Outputs that fail while a script is played.
+use play::{Ended, play};
+use sector_store::MemStore;
+use std::alloc::{AllocError, Global};
+use std::io;
+use std::test::Fail;
+
+/// A configuration without ports, clients and grants.
+const SETTINGS: &[u8] = b"frames = 41
+slots = 1
+ncq = false
+depth = 1
+trim = \"none\"
+";
+
+/// An output that takes so many bytes, and fails then.
+#[derive(Drop)]
+struct Narrow {
+    room: usize,
+}
+
+impl io::Write for Narrow {
+    fn write(&mut self, bytes: &[u8]) -> io::Result<usize> {
+        let taken = bytes.len().min(self.room);
+        if taken == 0 {
+            return Err(io::Error::from(io::ErrorKind::StorageFull));
+        }
+        self.room -= taken;
+        Ok(taken)
+    }
+
+    fn flush(&mut self) -> io::Result<()> {
+        Ok(())
+    }
+}
+
+/// How the play of a script ends whose output takes so many bytes.
+fn ended(alloc: Global, script: &[u8], room: usize) -> Result<Ended, AllocError> {
+    let image = MemStore::new(alloc, 8)?;
+    let blank = MemStore::new(alloc, 0)?;
+    Ok(play(
+        alloc,
+        SETTINGS,
+        script,
+        image,
+        blank,
+        false,
+        &mut Narrow { room },
+    ))
+}
+
+// Two lines have 12 bytes.
+#[test]
+fn an_output_that_fails_ends_the_run(rt: HostRuntime) -> Result<(), Fail> {
+    for room in 0..14 {
+        let wanted = if room < 12 {
+            Ended::Unwritten
+        } else {
+            Ended::Done
+        };
+        let told = ended(rt.alloc(), b"service\nservice\n", room)?;
+        assert_eq!(rt; told, wanted, "{room} bytes");
+        let told = ended(rt.alloc(), b"service\nserve\n", room)?;
+        assert_eq!(rt; told, Ended::Line(2), "{room} bytes");
+    }
+    Ok(())
+}

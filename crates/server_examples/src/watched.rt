@@ -1,0 +1,174 @@
+// A modelled adapter that is watched.
+ghost use Rattle.std.specs.Prelude.{◌≡◌, ◌≤◌, IfOk};
+ghost use Rattle.adapter.specs.Idle.{IsIdle};
+
+use adapter::{Adapter, DeviceStep, DiskPage, Stepped};
+use ata_types::Port;
+use device_model::{Model, ModelConfig, Trim};
+use hba_regs::Reg;
+use sector_store::MemStore;
+use std::alloc::Global;
+use std::test::Fail;
+
+/// PI of an adapter with ports 0 to 3.
+pub const ALL_PORTS: u8 = 0x0f;
+
+const CONFIG: ModelConfig = ModelConfig {
+    frames: 41,
+    pi: ALL_PORTS,
+    slots: 32,
+    ncq: true,
+    depth: 32,
+    trim: Trim::Full,
+};
+
+/// An idle adapter with the ports of this PI, and a disk of so many sectors in port 0.
+pub fn model(alloc: Global, pi: u8, sectors: u32) -> Result<Model<MemStore>, Fail>
+    requires { (1 ≤ pi) × (pi ≤ 15) }
+    ensures idle { IfOk result (λ m. IsIdle (⟦<Model<MemStore> as Adapter>⟧.device m)) }
+    ensures room { IfOk result (λ m. 163840 ≤ (⟦<Model<MemStore> as Adapter>⟧.device m).size) }
+{
+    Ok(Model::new(
+        alloc,
+        ModelConfig { pi, ..CONFIG },
+        MemStore::new(alloc, sectors)?,
+        MemStore::new(alloc, 0)?,
+    )?)
+}
+
+/// Bits of a byte of a page, by the byte's offset: a disk lies of them. No bits are no lie.
+pub type Lie = (u16, u8);
+
+pub const NO_LIE: Lie = (0, 0);
+
+/// Has the disk lie.
+pub fn lie(model: &mut Model<MemStore>, lie: Lie)
+    ensures { ⟦<Model<MemStore> as Adapter>⟧.device model.new ≡ ⟦<Model<MemStore> as Adapter>⟧.device model.old }
+{
+    let (offset, bits) = lie;
+    let _done = model.step(&DeviceStep::Lie(Port(0), DiskPage::Identity, offset, bits));
+}
+
+/// A call of an adapter.
+#[derive(Clone, Copy, Debug, PartialEq, Eq)]
+pub enum Access {
+    Read(Reg),
+    Write(Reg, u32),
+    Load,
+    Store,
+}
+
+/// The end of what a port's slot 0 needs: its header at 0, its FIS at 1000h and its first entry at 1080h.
+pub const LOW: usize = 0x1090;
+
+/// An adapter that notes its calls, and what is stored in the first bytes of memory.
+#[derive(Drop)]
+pub struct Watched<A> {
+    pub adapter: A,
+    pub accesses: Vec<Access>,
+    pub low: Vec<u8>,
+}
+
+/// The readings of a register.
+#[derive(Clone, Copy)]
+pub struct Readings {
+    /// How many there were.
+    pub all: usize,
+    /// How many there were since it was last written.
+    pub since_write: usize,
+    /// Which access the first was, where the first access has the number 1; 0 if there was none.
+    pub first: u64,
+    /// Which access the last was.
+    pub last: u64,
+}
+
+impl<A: Drop> Watched<A> {
+    /// An adapter of which nothing is noted yet.
+    pub fn new(alloc: Global, adapter: A) -> Result<Watched<A>, Fail>
+        ensures { IfOk result (λ w. w.adapter ≡ adapter) }
+    {
+        Ok(Watched {
+            adapter,
+            accesses: Vec::new(alloc),
+            low: vec![in alloc; 0u8; LOW]?,
+        })
+    }
+
+    /// The readings of a register so far.
+    pub fn readings(&self, r: Reg) -> Readings {
+        let mut readings = Readings {
+            all: 0,
+            since_write: 0,
+            first: 0,
+            last: 0,
+        };
+        for (place, access) in self.accesses.iter().enumerate() {
+            match access {
+                Access::Read(read) if *read == r => {
+                    readings.last = (place as u64).saturating_add(1);
+                    if readings.all == 0 {
+                        readings.first = readings.last;
+                    }
+                    readings.all = readings.all.saturating_add(1);
+                    readings.since_write = readings.since_write.saturating_add(1);
+                }
+                Access::Write(written, _) if *written == r => readings.since_write = 0,
+                _ => {}
+            }
+        }
+        readings
+    }
+
+    /// What was written to registers, in its order.
+    pub fn writes(&self, alloc: Global) -> Result<Vec<Access>, Fail> {
+        let mut writes = Vec::new(alloc);
+        for access in &self.accesses {
+            if let Access::Write(..) = access {
+                writes.push(*access)?;
+            }
+        }
+        Ok(writes)
+    }
+
+    /// Of which of the ports 0 to 3 a register was read or written.
+    pub fn touched(&self) -> [bool; 4] {
+        let mut touched = [false; 4];
+        for access in &self.accesses {
+            if let Access::Read(Reg::Px(port, _)) | Access::Write(Reg::Px(port, _), _) = access {
+                if let Some(place) = touched.get_mut(usize::from(port.0)) {
+                    *place = true;
+                }
+            }
+        }
+        touched
+    }
+}
+
+impl<A: Adapter> Adapter for Watched<A> {
+    ghost device = { λ w. A.device w.adapter };
+
+    fn read(&mut self, r: Reg) -> u32 {
+        let _full = self.accesses.push(Access::Read(r)).is_err();
+        self.adapter.read(r)
+    }
+
+    fn write(&mut self, r: Reg, v: u32) {
+        let _full = self.accesses.push(Access::Write(r, v)).is_err();
+        self.adapter.write(r, v);
+    }
+
+    fn load(&mut self, addr: u32, out: &mut [u8]) {
+        let _full = self.accesses.push(Access::Load).is_err();
+        self.adapter.load(addr, out);
+    }
+
+    fn store(&mut self, addr: u32, bytes: &[u8]) {
+        let _full = self.accesses.push(Access::Store).is_err();
+        for (kept, byte) in self.low.iter_mut().skip(addr as usize).zip(bytes.iter()) {
+            *kept = *byte;
+        }
+        self.adapter.store(addr, bytes);
+    }
+
+    ghost tells = { λ w. A.tells w.adapter };
+}

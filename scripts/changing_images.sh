@@ -1,0 +1,92 @@
+#!/usr/bin/env bash
+# Runs the built program over an image that changes, or that the system lets it write in part, while it runs. BLOCKD names the program;
+# without it, it is crates/blockd/out/blockd. scripts/examples.sh calls this.
+set -euo pipefail
+cd "$(dirname "$0")/.."
+blockd=$(realpath "${BLOCKD:-crates/blockd/out/blockd}")
+configuration=$PWD/examples/blockd.toml
+make_image=$PWD/examples/make_image.sh
+
+scratch=$(mktemp -d)
+trap 'rm -rf "$scratch"' EXIT
+"$make_image" "$scratch/fresh.img"
+cd "$scratch"
+cp "$configuration" blockd.toml
+passed=0 failed=0
+
+# Compares what is wanted of a run with what it gave.
+compare() {
+    local name=$1 wanted=$2 given=$3
+    if [[ $wanted == "$given" ]]; then
+        passed=$((passed + 1))
+    else
+        printf 'example: %s: wanted\n%s\nbut it was\n%s\n' "$name" "$wanted" "$given"
+        failed=$((failed + 1))
+    fi
+}
+
+# The bytes of a file.
+bytes_of() {
+    sha256sum <"$1"
+}
+
+# A sector of an image that is zeros.
+clear_sector() {
+    head -c 512 /dev/zero | dd of="$1" bs=512 seek="$2" conv=notrunc status=none
+}
+
+# Plays two parts of a script with many answers between them, which wait to be read while something is done: tells what was told of the
+# first part, and of the second. The program has opened the image by then, and can't go on to the second part before. `limit` is how long
+# a file it may write, in units of 1024 bytes: past it, a write fails where the signal for this is ignored.
+limit=unlimited
+played_around() {
+    local first=$1 second=$2
+    (printf '%b' "$first"; yes 'state 0' | head -n 10000; printf '%b' "$second") >around.script
+    shift 2
+    rm -f answers
+    mkfifo answers
+    (trap '' XFSZ; ulimit -S -f "$limit"; exec "$blockd" --config blockd.toml --image disk.img --script around.script --trace) >answers &
+    exec 3<answers
+    while read -r line <&3 && [[ $line != 'state Ready' ]]; do
+        echo "$line"
+    done
+    "$@" $!
+    grep -v '^state Ready$' <&3
+    exec 3<&-
+    wait $!
+}
+
+# Ten bytes of sector 103 are left.
+cut_disk() {
+    truncate -s $((512 * 103 + 10)) disk.img
+}
+
+cp fresh.img disk.img
+compare 'a read of an image that was cut' $'move 0 0 identify 0 00009000\nok 1\nmove 0 0 read 100 00028000\nmove 0 0 read 101 00028200\nmove 0 0 read 102 00028400\ndid\nno\nno\nquiet' \
+    "$(played_around '' 'read 1 0 100 8 40\ndev finish 0 0\ndev finish 0 0\ndev move 0 0\nservice\n' cut_disk)"
+compare 'it is as long as it was cut' $((512 * 103 + 10)) "$(stat -c %s disk.img)"
+cp fresh.img disk.img
+compare 'a write to an image that was cut' $'move 0 0 identify 0 00009000\nstored\nok 1\nmove 0 0 write 103 00028000\ndid\nreply 1 Ok\nok 2\nmove 0 0 read 103 00029000\ndid\nreply 2 Ok\nbytes c0c0' \
+    "$(played_around '' 'store 1 40 0 c0c0\nwrite 1 0 103 1 40\ndev finish 0 0\nservice\nread 1 0 103 1 41\ndev finish 0 0\nservice\nload 1 41 0 2\n' cut_disk)"
+compare 'it is longer again' $((512 * 104)) "$(stat -c %s disk.img)"
+
+# The file may be written up to the end of sector 101, and then further.
+lift_limit() {
+    prlimit --pid "$1" --fsize=unlimited
+}
+
+cp fresh.img disk.img
+cp fresh.img wanted.img
+for sector in 100 101 102; do
+    clear_sector wanted.img $sector
+done
+compare 'a write that the system refuses goes on later' $'move 0 0 identify 0 00009000\nok 1\nmove 0 0 write 100 00028000\nmove 0 0 write 101 00028200\ndid\nno\nno\nquiet\nno\nmove 0 0 write 102 00028400\ndid\nreply 1 Ok' \
+    "$(limit=51
+    played_around 'write 1 0 100 3 40\ndev finish 0 0\ndev finish 0 0\ndev move 0 0\nservice\ndev done 0 0\n' 'dev finish 0 0\nservice\n' lift_limit)"
+compare 'and writes the sector that was left' "$(bytes_of wanted.img)" "$(bytes_of disk.img)"
+compare 'an image that is not there is not made' $'blockd: image\nnot there' \
+    "$("$blockd" --config blockd.toml --image missing.img --script /dev/null 2>&1 || true; [[ -e missing.img ]] || echo 'not there')"
+compare 'an image that runs' 'blockd: image' "$("$blockd" --config blockd.toml --image "$blockd" --script /dev/null 2>&1 || true)"
+
+echo "images: $passed passed, $failed failed"
+[[ $failed == 0 ]]
