@@ -72,56 +72,56 @@ const CLEARED: Clear = Clear {
 
 #[test]
 fn untold_answers_are_printed(rt: HostRuntime) -> Result<(), AllocError> {
-let untold = [
-    (
-        Answer::Refused(Refusal::PortNotReady(PortState::Dead)),
-        "refused 9 PortNotReady Dead",
-    ),
-    (
-        Answer::Refused(Refusal::TrimUnsupported),
-        "refused 11 TrimUnsupported",
-    ),
-    (Answer::Refused(Refusal::IdsSpent), "refused 13 IdsSpent"),
-    (Answer::State(PortState::Unfit(0)), "state Unfit 0"),
-    (Answer::State(PortState::Unfit(255)), "state Unfit 255"),
-    (Answer::State(PortState::Dead), "state Dead"),
-    (reply(7, ERROR), "reply 7 DeviceError 41 04"),
-    (reply(7, Outcome::Aborted), "reply 7 Aborted"),
-    (reply(7, Outcome::Unplugged), "reply 7 Unplugged"),
-    (
-        reply(u64::MAX, Outcome::PortDead),
-        "reply 18446744073709551615 PortDead",
-    ),
-    (Answer::Cleared(CLEARED), "clear 1 2 300 4"),
-    (
-        Answer::Moved(&moved(Operation::ReadQueued, 1, 1)),
-        "move 1 31 read 1 00000001",
-    ),
-    (
-        Answer::Moved(&moved(Operation::Write, 1, 0xffff_fe00)),
-        "move 1 31 write 1 fffffe00",
-    ),
-    (
-        Answer::Moved(&moved(Operation::WriteQueued, u64::MAX, 0x0abc_de00)),
-        "move 1 31 write 18446744073709551615 0abcde00",
-    ),
-    (
-        Answer::Moved(&moved(Operation::Flush, 0, 0)),
-        "move 1 31 flush 0 00000000",
-    ),
-    (
-        Answer::Moved(&moved(Operation::Trim, 0, 512)),
-        "move 1 31 block 0 00000200",
-    ),
-    (
-        Answer::Moved(&moved(Operation::ReadLog, 0, 512)),
-        "move 1 31 log 0 00000200",
-    ),
-    (
-        Answer::Moved(&moved(Operation::Identify, 0, 0)),
-        "move 1 31 identify 0 00000000",
-    ),
-];
+    let untold = [
+        (
+            Answer::Refused(Refusal::PortNotReady(PortState::Dead)),
+            "refused 9 PortNotReady Dead",
+        ),
+        (
+            Answer::Refused(Refusal::TrimUnsupported),
+            "refused 11 TrimUnsupported",
+        ),
+        (Answer::Refused(Refusal::IdsSpent), "refused 13 IdsSpent"),
+        (Answer::State(PortState::Unfit(0)), "state Unfit 0"),
+        (Answer::State(PortState::Unfit(255)), "state Unfit 255"),
+        (Answer::State(PortState::Dead), "state Dead"),
+        (reply(7, ERROR), "reply 7 DeviceError 41 04"),
+        (reply(7, Outcome::Aborted), "reply 7 Aborted"),
+        (reply(7, Outcome::Unplugged), "reply 7 Unplugged"),
+        (
+            reply(u64::MAX, Outcome::PortDead),
+            "reply 18446744073709551615 PortDead",
+        ),
+        (Answer::Cleared(CLEARED), "clear 1 2 300 4"),
+        (
+            Answer::Moved(&moved(Operation::ReadQueued, 1, 1)),
+            "move 1 31 read 1 00000001",
+        ),
+        (
+            Answer::Moved(&moved(Operation::Write, 1, 0xffff_fe00)),
+            "move 1 31 write 1 fffffe00",
+        ),
+        (
+            Answer::Moved(&moved(Operation::WriteQueued, u64::MAX, 0x0abc_de00)),
+            "move 1 31 write 18446744073709551615 0abcde00",
+        ),
+        (
+            Answer::Moved(&moved(Operation::Flush, 0, 0)),
+            "move 1 31 flush 0 00000000",
+        ),
+        (
+            Answer::Moved(&moved(Operation::Trim, 0, 512)),
+            "move 1 31 block 0 00000200",
+        ),
+        (
+            Answer::Moved(&moved(Operation::ReadLog, 0, 512)),
+            "move 1 31 log 0 00000200",
+        ),
+        (
+            Answer::Moved(&moved(Operation::Identify, 0, 0)),
+            "move 1 31 identify 0 00000000",
+        ),
+    ];
     for (answer, want) in &untold {
         let text = String::format(rt.alloc(), answer)?;
         assert_eq!(rt; text.as_str(), *want);
