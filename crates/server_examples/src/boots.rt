@@ -29,27 +29,43 @@ const fn ready(sectors: u64) -> Found {
     })
 }
 
-/// What port 0 is found to be where its disk, of so many sectors, tells two lies; with the slots of the adapter, and whether it does native
+const FOREIGN: Found = Found::Unready(PortState::Foreign);
+
+const fn unfit(cause: u8) -> Found {
+    Found::Unready(PortState::Unfit(cause))
+}
+
+/// What port 0 is found to be where its disk, of so many sectors, tells some lies; with the slots of the adapter, and whether it does native
 /// command queuing.
-fn found(alloc: Global, sectors: u32, first: Lie, second: Lie) -> Result<(u8, bool, Found), Fail> {
+fn found(alloc: Global, sectors: u32, lies: [Lie; 3]) -> Result<(u8, bool, Found), Fail> {
     let mut model = model(alloc, ALL_PORTS, sectors)?;
-    lie(&mut model, first);
-    lie(&mut model, second);
+    let [one, another, last] = lies;
+    lie(&mut model, one);
+    lie(&mut model, another);
+    lie(&mut model, last);
     let host = take_over(&mut model, &IMAGE_DISK);
     Ok((host.slots, host.queued, host.ports[0]))
 }
 
-// Byte 510 of IDENTIFY DEVICE holds the signature of the checksum, and bytes 200 to 207 are the number of sectors (ACS-3, 7.12.7).
+// Byte 510 of IDENTIFY DEVICE holds the signature of the checksum, bytes 166 and 167 word 83, bytes 212 and 213 word 106, bytes 200 to
+// 207 the number of sectors, and bytes 20 to 39 the serial number (ACS-3, 7.12.7). The last disk but one tells 128 sectors in the place of 256.
 #[test]
 fn a_disk_is_what_its_page_says(rt: HostRuntime) -> Result<(), Fail> {
-    let unfit = Found::Unready(PortState::Unfit(6));
-    for (sectors, first, second, what) in [
-        (70_000, NO_LIE, NO_LIE, ready(70_000)),
-        (70_000, (510, 0x01), NO_LIE, ready(70_000)),
-        (70_000, (510, 0x01), (206, 0x01), unfit),
-        (0, NO_LIE, NO_LIE, unfit),
+    let unsigned = (510, 0x01);
+    for (sectors, lies, what) in [
+        (70_000, [NO_LIE, NO_LIE, NO_LIE], ready(70_000)),
+        (70_000, [NO_LIE, NO_LIE, (0, 0x01)], unfit(1)),
+        (70_000, [unsigned, NO_LIE, (167, 0x40)], unfit(2)),
+        (70_000, [unsigned, NO_LIE, (167, 0x04)], unfit(3)),
+        (70_000, [unsigned, NO_LIE, (213, 0x10)], unfit(4)),
+        (70_000, [unsigned, NO_LIE, (167, 0x20)], unfit(5)),
+        (70_000, [unsigned, NO_LIE, (206, 0x01)], unfit(6)),
+        (70_000, [unsigned, NO_LIE, (20, 0x01)], FOREIGN),
+        (70_000, [unsigned, NO_LIE, NO_LIE], ready(70_000)),
+        (256, [unsigned, (200, 0x80), (201, 0x01)], ready(128)),
+        (0, [NO_LIE, NO_LIE, NO_LIE], unfit(6)),
     ] {
-        let found = found(rt.alloc(), sectors, first, second)?;
+        let found = found(rt.alloc(), sectors, lies)?;
         assert_eq!(rt; found, (32, true, what));
     }
     Ok(())
