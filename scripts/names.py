@@ -1,0 +1,86 @@
+#!/usr/bin/env python3
+"""Checks that what the documents name is there: each definition of docs/DEFINITIONS.md in its file, each path, and each name in
+backticks somewhere in the crates or scripts. The last line is 'N passed, M failed', of documents.
+"""
+import os
+import re
+import sys
+
+ROOT = os.path.dirname(os.path.dirname(os.path.realpath(__file__)))
+DOCUMENTS = ["README.md", "CONTRIBUTING.md", "docs/ARCHITECTURE.md", "docs/DEFINITIONS.md", "docs/PROVED.md", "docs/DECISIONS.md"]
+PLACES = ("crates", "scripts", "examples", "bench", "docs", ".ci")
+# What is made by a run, or stands for a name.
+MADE = re.compile(r"out/|/NAME|NAME\b|FILE|CRATE")
+PATH = re.compile(r"(?:crates|scripts|examples|bench|docs|src|specs|proofs)/[\w./+-]*[\w/+]")
+NAME = re.compile(r"[A-Za-z_]\w*(?:(?:::|\.)[A-Za-z_]\w*)*")
+
+
+def read(path):
+    with open(f"{ROOT}/{path}", encoding="utf-8") as it:
+        return it.read()
+
+
+def words():
+    """All words of the repository's code, and the stems of its files' names."""
+    found = set()
+    for place in (*PLACES, "crates.txt"):
+        for at, folders, names in os.walk(f"{ROOT}/{place}"):
+            folders[:] = [it for it in folders if it != "out"]
+            found |= {it.rpartition("/")[2] for it in folders}
+            for name in names:
+                found |= {name, name.partition(".")[0]}
+                if at != f"{ROOT}/docs" and name.endswith((".rt", ".antt", ".py", ".sh", ".toml", ".script", ".edit")):
+                    found |= {*re.findall(r"\w+", read(os.path.relpath(f"{at}/{name}", ROOT)))}
+    return found | {*re.findall(r"\w+", read("crates.txt"))}
+
+
+def definitions(text):
+    """Of each row of a table of definitions its names and the file that they have to stand in."""
+    folder = ""
+    for line in text.split("\n"):
+        heading = re.match(r"## .*\(`(crates/\w+/specs)`", line)
+        folder = heading[1] if heading else folder
+        row = re.match(r"\| (.+?) \| `([\w/]+\.antt)` \|", line)
+        if row and folder:
+            yield from ((name, f"{folder}/{row[2]}") for name in re.findall(r"`([^`]+)`", row[1]))
+
+
+def lacking_definitions(text):
+    for name, path in definitions(text):
+        where = f"{ROOT}/{path}"
+        if not os.path.isfile(where):
+            yield f"{path} isn't there, which has to have {name}"
+        elif not re.search(rf"(?<![\w-]){re.escape(name.rpartition('.')[2])}(?![\w-])", read(path)):
+            yield f"{path} has no {name}"
+        else:
+            yield None
+
+
+def lacking_names(document, known):
+    """Of each path and each name in backticks what is wrong with it, if anything is."""
+    text = re.sub(r"^```.*?^```$", "", read(document), flags=re.S | re.M)
+    for word in sorted({*re.findall(r"`([^`\n]+)`", text)}):
+        if MADE.search(word):
+            continue
+        if PATH.fullmatch(word) and word.startswith(PLACES):
+            yield None if os.path.exists(f"{ROOT}/{word}") else f"{document}: there is no {word}"
+        elif NAME.fullmatch(word) and re.search(r"[a-z]", word):
+            missing = [it for it in re.split(r"::|\.", word) if it not in known]
+            yield f"{document}: nothing is named {word}" if missing else None
+
+
+def main():
+    known, passed = words(), 0
+    for document in DOCUMENTS:
+        told = [*lacking_names(document, known)]
+        if document == "docs/DEFINITIONS.md":
+            told += lacking_definitions(read(document))
+        for line in filter(None, told):
+            print(f"names: {line}")
+        passed += bool(told) and not any(told)
+    print(f"names: {passed} passed, {len(DOCUMENTS) - passed} failed")
+    return 0 if passed == len(DOCUMENTS) else 1
+
+
+if __name__ == "__main__":
+    sys.exit(main())
