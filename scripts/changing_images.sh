@@ -1,6 +1,6 @@
 #!/usr/bin/env bash
-# Runs the built program over an image that changes, or that the system lets it write in part, while it runs. BLOCKD names the program;
-# without it, it is crates/blockd/out/blockd. scripts/examples.sh calls this.
+# Runs the built program over an image that changes, or that the system lets it write in part, while it runs; and where standard input,
+# output or error is closed. BLOCKD names the program; without it, it is crates/blockd/out/blockd. scripts/examples.sh calls this.
 set -euo pipefail
 cd "$(dirname "$0")/.."
 blockd=$(realpath "${BLOCKD:-crates/blockd/out/blockd}")
@@ -87,6 +87,33 @@ compare 'and writes the sector that was left' "$(bytes_of wanted.img)" "$(bytes_
 compare 'an image that is not there is not made' $'blockd: image\nnot there' \
     "$("$blockd" --config blockd.toml --image missing.img --script /dev/null 2>&1 || true; [[ -e missing.img ]] || echo 'not there')"
 compare 'an image that runs' 'blockd: image' "$("$blockd" --config blockd.toml --image "$blockd" --script /dev/null 2>&1 || true)"
+
+# Some of the program's first three files are closed: the image must not come in their place, where output would be written into it.
+printf 'load 1 40 0 64\n%.0s' {1..3000} >loads.script
+zeros=$(printf '00%.0s' {1..64})
+wanted_loads=$(printf "bytes $zeros\n%.0s" {1..3000}; echo 'status 0')
+echo 'no line' >bad.script
+closed() {
+    local script=$1 status=0
+    : >printed
+    (
+        exec >printed 2>&1
+        for number in "${@:2}"; do
+            eval "exec $number<&-"
+        done
+        exec "$blockd" --config blockd.toml --image disk.img --script "$script"
+    ) || status=$?
+    cat printed
+    echo "status $status"
+}
+cp fresh.img disk.img
+compare 'standard input is closed' "$wanted_loads" "$(closed loads.script 0)"
+compare 'standard output is closed' 'status 1' "$(closed loads.script 1)"
+compare 'standard error is closed' "$wanted_loads" "$(closed loads.script 2)"
+compare 'all three are closed' 'status 1' "$(closed loads.script 0 1 2)"
+compare 'a bad line, and standard error is closed' 'status 3' "$(closed bad.script 2)"
+compare 'a bad line, and all three are closed' 'status 3' "$(closed bad.script 0 1 2)"
+compare 'the image is as it was' "$(bytes_of fresh.img)" "$(bytes_of disk.img)"
 
 echo "images: $passed passed, $failed failed"
 [[ $failed == 0 ]]

@@ -9,7 +9,7 @@ use fault::{Fault, outcome};
 use play::play;
 use sector_store::{Disk, FileStore, MemStore};
 use std::fs::{self, File, Files};
-use std::io::{self, BufWriter, Write};
+use std::io::{self, BufWriter, Read, Write};
 use std::process::ExitCode;
 use std::rt::Env;
 use std::{env, str};
@@ -40,13 +40,23 @@ fn words(rt: &(impl Env + AllocGlobal)) -> Result<Args, Fault> {
     })
 }
 
+/// The bytes of a file, and the file, which is still open.
+fn read(rt: &(impl AllocGlobal + Files<File = File>), path: &str) -> io::Result<(Vec<u8>, File)> {
+    let mut file = fs::open(rt, path)?;
+    let mut bytes = Vec::new(rt.alloc());
+    file.read_to_end(&mut bytes)?;
+    Ok((bytes, file))
+}
+
 fn run(rt: &(impl Env + AllocGlobal + Files<File = File> + Print)) -> Result<(), Fault> {
     let args = words(rt)?;
-    let config = fs::read(rt, args.config.as_str()).map_err(|error| unless_memory(
-        &error,
-        Fault::Config(0),
-    ))?;
-    let script = fs::read(rt, args.script.as_str()).map_err(|error| unless_memory(
+    // The system gives a file the lowest number that is free, and 0, 1 and 2 are those of standard input, output and error. Where
+    // some of these were closed, three files that can only be read take their places until the end, and never the image: else
+    // what is printed would be written into it.
+    let unread = |error: io::Error| unless_memory(&error, Fault::Config(0));
+    let (config, config_file) = read(rt, args.config.as_str()).map_err(unread)?;
+    let _second = config_file.try_clone().map_err(unread)?;
+    let (script, _third) = read(rt, args.script.as_str()).map_err(|error| unless_memory(
         &error,
         Fault::Script,
     ))?;

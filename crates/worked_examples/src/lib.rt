@@ -7,8 +7,6 @@ mod block_machine_calls;
 #[cfg(test)]
 mod command_tables;
 #[cfg(test)]
-mod configurations;
-#[cfg(test)]
 mod dues_and_disks;
 #[cfg(test)]
 mod frame_information_structures;
