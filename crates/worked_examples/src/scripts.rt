@@ -46,18 +46,6 @@ const fn reply(id: u64, outcome: Outcome) -> Answer<'static> {
     })
 }
 
-const fn moved(operation: Operation, sector: u64, address: u32) -> Move {
-    Move {
-        port: Port(1),
-        slot: Slot(31),
-        operation,
-        sector,
-        address,
-        direction: Direction::ToMemory,
-        bytes: [0; 512],
-    }
-}
-
 const ERROR: Outcome = Outcome::DeviceError {
     status: 0x41,
     error: 0x04,
@@ -93,38 +81,41 @@ fn untold_answers_are_printed(rt: HostRuntime) -> Result<(), AllocError> {
             "reply 18446744073709551615 PortDead",
         ),
         (Answer::Cleared(CLEARED), "clear 1 2 300 4"),
-        (
-            Answer::Moved(&moved(Operation::ReadQueued, 1, 1)),
-            "move 1 31 read 1 00000001",
-        ),
-        (
-            Answer::Moved(&moved(Operation::Write, 1, 0xffff_fe00)),
-            "move 1 31 write 1 fffffe00",
-        ),
-        (
-            Answer::Moved(&moved(Operation::WriteQueued, u64::MAX, 0x0abc_de00)),
-            "move 1 31 write 18446744073709551615 0abcde00",
-        ),
-        (
-            Answer::Moved(&moved(Operation::Flush, 0, 0)),
-            "move 1 31 flush 0 00000000",
-        ),
-        (
-            Answer::Moved(&moved(Operation::Trim, 0, 512)),
-            "move 1 31 block 0 00000200",
-        ),
-        (
-            Answer::Moved(&moved(Operation::ReadLog, 0, 512)),
-            "move 1 31 log 0 00000200",
-        ),
-        (
-            Answer::Moved(&moved(Operation::Identify, 0, 0)),
-            "move 1 31 identify 0 00000000",
-        ),
     ];
     for (answer, want) in &untold {
         let text = String::format(rt.alloc(), answer)?;
         assert_eq!(rt; text.as_str(), *want);
+    }
+    for (operation, sector, address, want) in [
+        (Operation::ReadQueued, 1, 1, "move 1 31 read 1 00000001"),
+        (
+            Operation::Write,
+            1,
+            0xffff_fe00,
+            "move 1 31 write 1 fffffe00",
+        ),
+        (
+            Operation::WriteQueued,
+            u64::MAX,
+            0x0abc_de00,
+            "move 1 31 write 18446744073709551615 0abcde00",
+        ),
+        (Operation::Flush, 0, 0, "move 1 31 flush 0 00000000"),
+        (Operation::Trim, 0, 512, "move 1 31 block 0 00000200"),
+        (Operation::ReadLog, 0, 512, "move 1 31 log 0 00000200"),
+        (Operation::Identify, 0, 0, "move 1 31 identify 0 00000000"),
+    ] {
+        let moved = Move {
+            port: Port(1),
+            slot: Slot(31),
+            operation,
+            sector,
+            address,
+            direction: Direction::ToMemory,
+            bytes: [0; 512],
+        };
+        let text = String::format(rt.alloc(), &Answer::Moved(&moved))?;
+        assert_eq!(rt; text.as_str(), want);
     }
     for (fault, want) in [
         (ScriptFault::BadLine(2), "line 2: bad"),
