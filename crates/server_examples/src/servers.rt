@@ -90,8 +90,8 @@ fn piece<const N: usize>(memory: &[u8], place: usize) -> [u8; N] {
 /// Compares what stands in memory once a server is made, and has issued the request if there is one; and the accesses of a service then.
 fn check(
     rt: &(impl Abort + AllocGlobal),
-    request: Option<&Request>,
-    wanted: &Slot,
+    request: Option<Request>,
+    wanted: Slot,
     accesses: &[Access],
 ) -> Result<(), Fail> {
     let config = config(rt.alloc())?;
@@ -101,7 +101,7 @@ fn check(
     };
     let mut server = server;
     let accepted = match request {
-        Some(request) => server.submit(request).is_ok(),
+        Some(request) => server.submit(&request).is_ok(),
         None => true,
     };
     let before = server.adapter().accesses.len();
@@ -111,7 +111,7 @@ fn check(
     let low = watched.low.as_slice();
     assert_eq!(rt;
         (piece(low, 0), piece(low, 0x1000), piece(low, 0x1080)),
-        *wanted
+        wanted
     );
     assert_eq!(rt; watched.accesses.get(before..), Some(accesses));
     Ok(())
@@ -151,11 +151,11 @@ fn commands_stand_in_memory(rt: HostRuntime) -> Result<(), Fail> {
         Access::Read(Reg::Px(Port(0), PortReg::Ci)),
         Access::Read(Reg::Px(Port(0), PortReg::Sact)),
     ];
+    check(&rt, None, identify, &service[..4])?;
     let eight = request(Op::Read, 100, 8, Some(40));
+    check(&rt, Some(eight), read, &service)?;
     let three = request(Op::Write, 100, 3, Some(41));
-    check(&rt, None, &identify, &service[..4])?;
-    check(&rt, Some(&eight), &read, &service)?;
-    check(&rt, Some(&three), &write, &service)?;
+    check(&rt, Some(three), write, &service)?;
     Ok(())
 }
 

@@ -6,7 +6,6 @@ use Rattle.hba_regs.specs.declared.reg.PortReg.TheVariants.{Cmd, Sact}
 use Rattle.adapter.specs.Rules.{HasPort}
 use Rattle.agreement.specs.Driven.{AnyUse, IsControl}
 use Rattle.agreement.proofs.Controlled.{agreeing_goes_on, same_over}
-use Rattle.host_boot.specs.declared.Found.{Found}
 use Rattle.host_boot.specs.declared.Found.TheVariants.{Ready, Unserved}
 use Rattle.host_boot.proofs.Beginning.{taken_there}
 use Rattle.port_control.specs.Ports.{WritesCommand}
