@@ -38,11 +38,12 @@ def definitions(text):
     """Of each row of a table of definitions its names and the file that they have to stand in."""
     folder = ""
     for line in text.split("\n"):
-        heading = re.match(r"## .*\(`(crates/\w+/specs)`", line)
+        heading = re.match(r"## .*?(?:\(`(crates/\w+/specs)`|$)", line)
         folder = heading[1] if heading else folder
         row = re.match(r"\| (.+?) \| `([\w/]+\.antt)` \|", line)
-        if row and folder:
-            yield from ((name, f"{folder}/{row[2]}") for name in re.findall(r"`([^`]+)`", row[1]))
+        if row and (folder or row[2].startswith("crates/")):
+            path = row[2] if row[2].startswith("crates/") else f"{folder}/{row[2]}"
+            yield from ((name, path) for name in re.findall(r"`([^`]+)`", row[1]))
 
 
 def lacking_definitions(text):
