@@ -1,13 +1,16 @@
 #!/usr/bin/env python3
 """Tries the edits crates/NAME/edits/*.edit: the prover must refuse each. With names, those of these crates alone; with
---tries, what each try took is told too.
+--tries, what each try took is told too; with --kept, what an earlier run refused over the same files isn't tried again.
 
 It stands on libraries that were proved (crates/*/out/rlib), as scripts/test.sh has them made. Several edits are tried at
 a time, each in a function of its own, on a copy of their crate. An edit is refused where a function that it changes is
-told as not proved, and not merely because it calls another one that isn't. What isn't refused so is tried again, without
-those that were, and at last alone.
+told as not proved, and not merely because it calls another one that isn't; so an edit waits for those of functions that
+its own may come to call. What isn't refused so is tried alone.
 Each try has a function that no edit reaches, which must be proved; so a crate that can't be read, or libraries that
 don't fit, refuse nothing.
+
+With --kept, an edit that was refused is not tried again on this machine while nothing changes that its try read: the crate's
+files, the libraries below it as they were built, the toolchain, the edit, and this script. The whole check tries all.
 
 An edit has the form of those of `rt must-fail`: a line 'file: src/NAME.rt', then pairs of lines 'old: TEXT' and
 'new: TEXT', where TEXT stands once in that file. An edit of a text outside of functions, such as a constant, names the
@@ -15,6 +18,8 @@ function whose meaning it turns by a line 'function: NAME'.
 
 The last line is 'N passed, M failed'.
 """
+import hashlib
+import json
 import os
 import re
 import shutil
@@ -34,6 +39,10 @@ PARTS = ("src", "specs", "proofs")
 MOST = 24
 # Whether each try is told, with the time that it took: for finding what is dear.
 SHOWS_TRIES = "--tries" in sys.argv
+# Whether what an earlier run found is taken over.
+IS_KEPT = "--kept" in sys.argv
+# What earlier runs on this machine refused: a file for each edit, named by the sum of all that its try read.
+STORE = os.path.join(os.environ.get("XDG_CACHE_HOME") or os.path.expanduser("~/.cache"), "block-server-edits")
 PRINTING = threading.Lock()
 
 
@@ -247,7 +256,7 @@ class Crate:
 
     def __init__(self, crate, room):
         self.crate, self.name, self.folder, self.room = crate, crate.name, crate.folder, f"{room}/{crate.name}"
-        self.seconds, self.tries, self.refused, self.failed = 0.0, 0, [], []
+        self.seconds, self.tries, self.refused, self.failed, self.known = 0.0, 0, [], [], 0
         self.functions = functions_of(self.folder)
         folder = f"{self.folder}/edits"
         self.files = sorted(os.listdir(folder)) if os.path.isdir(folder) else []
@@ -266,6 +275,32 @@ class Crate:
             except (BadEdit, OSError, UnicodeDecodeError) as why:
                 self.fail(it, f"BAD EDIT: {why}")
 
+    def name_kept(self, edit):
+        """The file that says that the edit was refused, if an earlier run found so."""
+        it = hashlib.sha256(toolchain.sum_read(self.crate).encode())
+        for path in (os.path.realpath(__file__), f"{self.folder}/edits/{edit.name}"):
+            it.update(read(path).encode())
+        return f"{STORE}/{self.name}-{it.hexdigest()}"
+
+    def is_known(self, edit):
+        """Whether an earlier run refused the edit over the same files. Tells what it told then."""
+        try:
+            said = json.loads(read(self.name_kept(edit)))
+        except (OSError, ValueError):
+            return False
+        for it in said:
+            say(it)
+        return True
+
+    def keep(self, edit, said):
+        try:
+            os.makedirs(STORE, exist_ok=True)
+            with tempfile.NamedTemporaryFile("w", dir=STORE, delete=False, encoding="utf-8") as it:
+                json.dump(said, it)
+            os.replace(it.name, self.name_kept(edit))
+        except OSError as why:
+            say(f"{self.name}/{edit.name}: not kept: {why}")
+
     def control(self, batch):
         """The name of a function that no edit of these reaches: the shortest one."""
         changed = {it for edit in batch for it in edit.functions}
@@ -273,9 +308,11 @@ class Crate:
         return min(left, key=lambda it: (len(it.reaches), len(it.words), it.name)).name if left else None
 
     def batch(self, edits):
-        """The first of these edits that can be tried at once: each in functions of its own, and one function is left to be proved."""
+        """Edits of these that can be tried at once: each in functions of its own, of which none may come to call one that another of
+        these edits changes, since nothing is told of a function that calls one which isn't proved; and one function is left to be proved."""
+        waits = {it.name: any(of.reaches & other.functions.keys() for other in edits if other is not it for of in it.functions.values()) for it in edits}
         found, changed = [], set()
-        for it in edits:
+        for it in [it for it in edits if not waits[it.name]] or edits:
             if len(found) < MOST and not changed & it.functions.keys() and self.control([*found, it]):
                 found.append(it)
                 changed |= it.functions.keys()
@@ -359,8 +396,11 @@ class Crate:
 
     def refuse(self, edit, said):
         self.refused.append(edit)
-        if self.is_weak(edit, said):
-            say(f"{self.name}/{edit.name}: refused only because a proof names what it took away, which says little: change a value")
+        weak = f"{self.name}/{edit.name}: refused only because a proof names what it took away, which says little: change a value"
+        told = [weak] if self.is_weak(edit, said) else []
+        for it in told:
+            say(it)
+        self.keep(edit, told)
 
     def try_all(self):
         begin = time.monotonic()
@@ -370,22 +410,23 @@ class Crate:
             self.fail(self.files[0], f"the library {lacking[0]} isn't that of its sources: run scripts/test.sh, or rt check in {self.name}")
             return self
         self.read_edits()
-        left, passed_over = self.edits, []
+        self.refused += filter(self.is_known, self.edits) if IS_KEPT else []
+        self.known = len(self.refused)
+        left = [it for it in self.edits if it not in self.refused]
         while left:
             batch = self.batch(left)
             if not batch:
                 break
-            before = len(self.refused)
             self.try_batch(batch)
-            # (an edit that a whole try taught nothing of waits for its function's callees, or is tried alone in the end)
-            passed_over += [] if len(self.refused) > before else batch
-            left = [it for it in left if it not in self.refused and it not in passed_over]
+            # (what isn't refused is tried alone in the end)
+            left = [it for it in left if it not in batch]
         for it in self.edits:
             if it not in self.refused:
                 self.try_alone(it)
         shutil.rmtree(self.room)
+        earlier = f", {self.known} of them by earlier runs" if IS_KEPT else ""
         say(
-            f"{self.name}: {len(self.refused)} of {len(self.files)} refused; "
+            f"{self.name}: {len(self.refused)} of {len(self.files)} refused{earlier}; "
             f"{self.tries} tries, {self.seconds:.0f} processor seconds, {time.monotonic() - begin:.0f} s"
         )
         return self
@@ -411,6 +452,9 @@ def main(names):
         with ThreadPoolExecutor(len(os.sched_getaffinity(0))) as pool:
             done = [*pool.map(Crate.try_all, of)]
     failed = [f"{it.name}/{edit}" for it in done for edit in it.failed]
+    known = sum(it.known for it in done)
+    if known:
+        say(f"{known} were refused by earlier runs over the same files, and not tried again")
     if failed:
         say(f"FAILED: {' '.join(failed)}")
     print(f"{sum(len(it.refused) for it in done)} passed, {len(failed)} failed")
@@ -418,4 +462,4 @@ def main(names):
 
 
 if __name__ == "__main__":
-    sys.exit(main([it for it in sys.argv[1:] if it != "--tries"]))
+    sys.exit(main([it for it in sys.argv[1:] if it not in ("--tries", "--kept")]))

@@ -4,6 +4,7 @@
 `toolchain.py stamp` marks the libraries that `rt ci` has just made as those of the sources as they are, so that `rt check`
 and the scripts take them. `toolchain.py above NAME..` lists these crates and all that stand on them, lowest first.
 """
+import hashlib
 import importlib.util
 import os
 import subprocess
@@ -34,6 +35,16 @@ def crates():
 def lacking(crate):
     """The names of the libraries below a crate that aren't there, or aren't those of the sources as they are."""
     return [it.name for it in crate.below() if not it.is_built()]
+
+
+def sum_read(crate):
+    """A sum of all that a check of a crate reads: its own files, the libraries below it as they were built, and the toolchain."""
+    it = hashlib.sha256(repr((crate.said, [rtlib.sum_of(f"{rtlib.KIT}/{name}") for name in ("KIT-ID", "WHAT")])).encode())
+    for path in sorted(rtlib.files_of(crate.folder)):
+        it.update(repr((os.path.relpath(path, crate.folder), rtlib.sum_of(path))).encode())
+    # (a library's format has the sum of its files)
+    it.update(repr([(below.name, rtlib.sum_of(f"{below.rlib}/format")) for below in crate.below()]).encode())
+    return it.hexdigest()
 
 
 def words_of(crate):
