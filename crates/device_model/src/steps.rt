@@ -21,6 +21,7 @@ use crate::port::{TakenCommand, Transfer};
 use crate::slots::{may_take, working_on};
 use adapter::{Done, Entry, Move, Prd};
 use ata_types::{Port, Slot};
+use std::snapshot::Snapshot;
 
 /// What a command moves next: a sector, or 0 where it names none, and the address that the bytes go to or come from.
 #[derive(Clone, Copy, Debug)]
@@ -189,7 +190,7 @@ impl Hardware {
             sector: next.sector,
             address: next.address,
             direction: next.transfer.direction(),
-            bytes: *bytes,
+            bytes: Snapshot::of(bytes),
         });
         let _recorded = record(&mut self.tape, entry);
         put_piece(&mut self.memory, next, bytes);
