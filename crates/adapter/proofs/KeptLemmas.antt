@@ -63,17 +63,18 @@ KeepsPort-refl p = still p p (same_engine p)
 -- what the driver's controls are, and the flags, are the same, and CR is
 abbrev pub SameControls : PortState → PortState → Type 0
 SameControls old new =
-    (new.st ≡ old.st) × (new.fre ≡ old.fre) × (new.sctl_det ≡ old.sctl_det) × (new.is ≡ old.is)
+    (new.st ≡ old.st) × (new.fre ≡ old.fre) × (new.sctl_det ≡ old.sctl_det) × (new.ie ≡ old.ie) × (new.is ≡ old.is)
     × (new.serr_n ≡ old.serr_n) × (new.serr_x ≡ old.serr_x) × (new.cr ≡ old.cr)
 
 pub same_controls : (p : PortState) → SameControls p p
-same_controls p = (refl, refl, refl, refl, refl, refl, refl)
+same_controls p = (refl, refl, refl, refl, refl, refl, refl, refl)
 
 pub calm : (old new : PortState) → SameControls old new → KeepsControls old new
-calm old new (st, fre, det, is, n, x, cr) = record {
+calm old new (st, fre, det, ie, is, n, x, cr) = record {
   st = st;
   fre = fre;
   sctl_det = det;
+  ie = ie;
   is = λ k h. ap (λ (f : ℕ → Bool). f k) is ∙ h;
   serr_n = λ h. n ∙ h;
   serr_x = λ h. x ∙ h;
@@ -85,10 +86,11 @@ KeepsControls-refl p = calm p p (same_controls p)
 
 -- a flag rises
 flagged : (p : PortState) (place : ℕ) (new : PortState) → SameControls (record p { is = changed p.is place true }) new → KeepsControls p new
-flagged p place new (st, fre, det, is, n, x, cr) = record {
+flagged p place new (st, fre, det, ie, is, n, x, cr) = record {
   st = st;
   fre = fre;
   sctl_det = det;
+  ie = ie;
   is = λ k h. ap (λ (f : ℕ → Bool). f k) is ∙ rise_keeps p.is place k h;
   serr_n = λ h. n ∙ h;
   serr_x = λ h. x ∙ h;
@@ -233,6 +235,7 @@ step_keeps (Fall port) d can =
       st = refl;
       fre = refl;
       sctl_det = refl;
+      ie = refl;
       is = λ k h. h;
       serr_n = λ h. h;
       serr_x = λ h. h;
@@ -261,6 +264,7 @@ step_keeps (LinkUp port sig n) d can =
       st = refl;
       fre = refl;
       sctl_det = refl;
+      ie = refl;
       is = λ k h. h;
       serr_n = or_keeps (d.port port).serr_n n;
       serr_x = λ _. refl;
@@ -273,6 +277,7 @@ step_keeps (Unplug port) d can =
       st = refl;
       fre = refl;
       sctl_det = refl;
+      ie = refl;
       is = λ k h. h;
       serr_n = λ _. refl;
       serr_x = λ h. h;
@@ -285,6 +290,7 @@ step_keeps (Plug port disk) d can =
       st = refl;
       fre = refl;
       sctl_det = refl;
+      ie = refl;
       is = λ k h. h;
       serr_n = λ _. refl;
       serr_x = λ _. refl;
@@ -352,6 +358,7 @@ KeepsControls-trans a b = record {
   st = b.st ∙ a.st;
   fre = b.fre ∙ a.fre;
   sctl_det = b.sctl_det ∙ a.sctl_det;
+  ie = b.ie ∙ a.ie;
   is = λ k h. b.is k (a.is k h);
   serr_n = λ h. b.serr_n (a.serr_n h);
   serr_x = λ h. b.serr_x (a.serr_x h);

@@ -6,7 +6,7 @@ use Rattle.hba_regs.specs.declared.reg.Reg.{Reg}
 use Rattle.hba_regs.specs.declared.reg.Reg.TheVariants.{Cap, Ghc, Pi, Vs, Px}
 use Rattle.hba_regs.specs.declared.reg.Reg.TheVariants as adapter
 use Rattle.hba_regs.specs.declared.reg.PortReg.{PortReg}
-use Rattle.hba_regs.specs.declared.reg.PortReg.TheVariants.{Clb, Clbu, Fb, Fbu, Is, Cmd, Tfd, Sig, Ssts, Sctl, Serr, Sact, Ci}
+use Rattle.hba_regs.specs.declared.reg.PortReg.TheVariants.{Clb, Clbu, Fb, Fbu, Is, Ie, Cmd, Tfd, Sig, Ssts, Sctl, Serr, Sact, Ci}
 use Rattle.adapter.specs.Memory.{patched, bytes_at}
 use Rattle.adapter.specs.Device.{Notes, PortState, Device}
 use Rattle.adapter.specs.Steps.{Steps, with_port, restarted}
@@ -33,6 +33,7 @@ PortShows Serr v p = (bit v 16 ≡ p.serr_n) × (bit v 26 ≡ p.serr_x)
 PortShows Ci v p = (slot : ℕ) → slot < 32 → bit v slot ≡ p.ci slot
 PortShows Sact v p = (slot : ℕ) → slot < 32 → bit v slot ≡ p.sact slot
 PortShows Is v p = (place : ℕ) → is_cause place ≡ true → bit v place ≡ shown_interrupt p place
+PortShows Ie v p = (place : ℕ) → is_cause place ≡ true → bit v place ≡ bit p.ie place
 PortShows _ v p = Unit {0}
 
 abbrev pub Shows : Reg → ℕ → Device → Type 0
@@ -122,6 +123,7 @@ port_written Sctl v tape p = with_det (v % 16) tape p
 port_written Serr v tape p = record p { serr_n = p.serr_n && not (bit v 16); serr_x = p.serr_x && not (bit v 26) }
 port_written Is v tape p =
     record p { is = λ place. p.is place && not (bit v place); notes = record p.notes { acknowledged = true } }
+port_written Ie v tape p = record p { ie = v }
 port_written Ci v tape p = record p { ci = λ slot. p.ci slot || bit v slot }
 port_written Sact v tape p = record p { sact = λ slot. p.sact slot || bit v slot }
 port_written _ v tape p = p

@@ -72,6 +72,8 @@ pub record PortState : Type 0 where
   pub st : Bool
   pub fre : Bool
   pub sctl_det : ℕ
+  -- PxIE
+  pub ie : ℕ
   -- as the device shows them: PxCMD, PxTFD, PxSIG, PxSSTS.DET, PxSERR.N and X, PxIS, PxCI, PxSACT
   pub cr : Bool
   pub fr : Bool

@@ -57,6 +57,7 @@ quiet_port =
       st = false;
       fre = false;
       sctl_det = 0;
+      ie = 0;
       cr = false;
       fr = false;
       tfd = 0x7f;

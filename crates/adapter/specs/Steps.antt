@@ -257,6 +257,7 @@ with_reset p =
       serr_x = false;
       link_due = p.link_due || nat_eq p.sctl_det 1;
       sctl_det = 0;
+      ie = 0;
       ssts_det = 0;
       tfd = 0x7f;
       sig = 0xffffffff;

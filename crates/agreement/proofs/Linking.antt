@@ -5,7 +5,7 @@ use Rattle.ata_types.specs.declared.Port.{Port}
 use Rattle.hba_regs.specs.Bits.{bit}
 use Rattle.hba_regs.specs.declared.reg.Reg.TheVariants.{Px}
 use Rattle.hba_regs.specs.declared.reg.PortReg.{PortReg}
-use Rattle.hba_regs.specs.declared.reg.PortReg.TheVariants.{Clb, Clbu, Fb, Fbu, Is, Cmd, Sctl, Serr, Sact, Ci}
+use Rattle.hba_regs.specs.declared.reg.PortReg.TheVariants.{Clb, Clbu, Fb, Fbu, Ie, Is, Cmd, Sctl, Serr, Sact, Ci}
 use Rattle.adapter.specs.Access.{Access, Does, note, port_written, with_st, with_fre}
 use Rattle.adapter.specs.Access.Access.{Writing}
 use Rattle.adapter.specs.Device.{Bases, Disk, Notes, PortState, Device}
@@ -118,6 +118,7 @@ written_disk first Clb v tape p h = disk_on first p _ refl refl refl refl h
 written_disk first Clbu v tape p h = disk_on first p _ refl refl refl refl h
 written_disk first Fb v tape p h = disk_on first p _ refl refl refl refl h
 written_disk first Fbu v tape p h = disk_on first p _ refl refl refl refl h
+written_disk first Ie v tape p h = disk_on first p _ refl refl refl refl h
 written_disk first Is v tape p h = disk_on first p _ refl refl refl refl h
 written_disk first Sctl v tape p h = disk_on first p _ refl refl refl refl h
 written_disk first Serr v tape p h = disk_on first p _ refl refl refl refl h
@@ -197,6 +198,7 @@ written_link first Clb v tape p other h = link_on first p _ refl refl refl refl 
 written_link first Clbu v tape p other h = link_on first p _ refl refl refl refl refl refl h
 written_link first Fb v tape p other h = link_on first p _ refl refl refl refl refl refl h
 written_link first Fbu v tape p other h = link_on first p _ refl refl refl refl refl refl h
+written_link first Ie v tape p other h = link_on first p _ refl refl refl refl refl refl h
 written_link first Is v tape p other h = link_on first p _ refl refl refl refl refl refl h
 written_link first Serr v tape p other h = link_on first p _ refl refl refl refl refl refl h
 written_link first Sact v tape p other h = link_on first p _ refl refl refl refl refl refl h
@@ -216,19 +218,20 @@ access_link port access old new off spares x plugs =
 
 -- ---- the controls
 
--- PxSCTL and the addresses are the same
+-- PxSCTL, the addresses and PxIE are the same
 abbrev SameRest : PortState → PortState → Type 0
-SameRest p new = (new.sctl_det ≡ p.sctl_det) × (new.notes.sctl_written_at ≡ p.notes.sctl_written_at) × (new.bases ≡ p.bases)
+SameRest p new = (new.sctl_det ≡ p.sctl_det) × (new.notes.sctl_written_at ≡ p.notes.sctl_written_at) × (new.bases ≡ p.bases) × (new.ie ≡ p.ie)
 
 module _ (access : Access) (port : Port) (first : PortState) where
   abbrev Controls : PortState → Type 0
   Controls p = LeavesControls access port first p
 
-  controls_on : (p new : PortState) → new.st ≡ p.st → new.fre ≡ p.fre → new.notes.st_set_at ≡ p.notes.st_set_at → new.cr ≡ p.cr → new.sctl_det ≡ p.sctl_det → new.notes.sctl_written_at ≡ p.notes.sctl_written_at → new.bases ≡ p.bases →
+  controls_on : (p new : PortState) → new.st ≡ p.st → new.fre ≡ p.fre → new.notes.st_set_at ≡ p.notes.st_set_at → new.cr ≡ p.cr → new.sctl_det ≡ p.sctl_det → new.notes.sctl_written_at ≡ p.notes.sctl_written_at → new.bases ≡ p.bases → new.ie ≡ p.ie →
       Controls p → Controls new
-  controls_on p new st fre set cr det written bases h = record {
+  controls_on p new st fre set cr det written bases ie h = record {
     command = λ s. (st ∙ (h.command s).0, fre ∙ (h.command s).1, set ∙ (h.command s).2, λ on runs. cr ∙ (h.command s).3 on runs);
     control = λ s. (det ∙ (h.control s).0, written ∙ (h.control s).1);
+    interrupts = λ s. ie ∙ h.interrupts s;
     list = λ s. (ap (λ (b : Bases). b.clb) bases ∙ (h.list s).0, ap (λ (b : Bases). b.clb_set) bases ∙ (h.list s).1);
     list_upper = λ s. ap (λ (b : Bases). b.clbu_set) bases ∙ h.list_upper s;
     received = λ s. (ap (λ (b : Bases). b.fb) bases ∙ (h.received s).0, ap (λ (b : Bases). b.fb_set) bases ∙ (h.received s).1);
@@ -236,13 +239,14 @@ module _ (access : Access) (port : Port) (first : PortState) where
   }
 
   noted_controls : (p : PortState) (r : PortReg) (v : ℕ) → Controls p → Controls (record p { notes = note r v p })
-  noted_controls p r v h = controls_on p _ refl refl (note_times r v p).0 refl refl (note_times r v p).1 refl h
+  noted_controls p r v h = controls_on p _ refl refl (note_times r v p).0 refl refl (note_times r v p).1 refl refl h
 
   -- PxCMD leaves the others
   command_controls : (v tape : ℕ) (p : PortState) → (SparesRegister (Px port Cmd) access → ⊥) → Controls p → Controls (port_written Cmd v tape p)
   command_controls v tape p here h = record {
     command = λ s. absurd (here s);
     control = λ s. (rest.0 ∙ (h.control s).0, rest.1 ∙ (h.control s).1);
+    interrupts = λ s. rest.3 ∙ h.interrupts s;
     list = λ s. (ap (λ (b : Bases). b.clb) rest.2 ∙ (h.list s).0, ap (λ (b : Bases). b.clb_set) rest.2 ∙ (h.list s).1);
     list_upper = λ s. ap (λ (b : Bases). b.clbu_set) rest.2 ∙ h.list_upper s;
     received = λ s. (ap (λ (b : Bases). b.fb) rest.2 ∙ (h.received s).0, ap (λ (b : Bases). b.fb_set) rest.2 ∙ (h.received s).1);
@@ -250,24 +254,25 @@ module _ (access : Access) (port : Port) (first : PortState) where
   }
     where
       by : (b s : Bool) → p.st ≡ s → SameRest p (with_fre (bit v 4) (with_st b tape p))
-      by false s is = (refl, refl, refl)
-      by true true is = subst (λ (x : PortState). SameRest p (with_fre (bit v 4) x)) (sym (cond-true p.st p _ is)) (refl, refl, refl)
-      by true false is = subst (λ (x : PortState). SameRest p (with_fre (bit v 4) x)) (sym (cond-false p.st p _ is)) (refl, refl, refl)
+      by false s is = (refl, refl, refl, refl)
+      by true true is = subst (λ (x : PortState). SameRest p (with_fre (bit v 4) x)) (sym (cond-true p.st p _ is)) (refl, refl, refl, refl)
+      by true false is = subst (λ (x : PortState). SameRest p (with_fre (bit v 4) x)) (sym (cond-false p.st p _ is)) (refl, refl, refl, refl)
 
       rest : SameRest p (with_fre (bit v 4) (with_st (bit v 0) tape p))
       rest = by (bit v 0) p.st refl
 
   written_controls : (r : PortReg) (v tape : ℕ) (p : PortState) → (SparesRegister (Px port r) access → ⊥) → Controls p → Controls (port_written r v tape p)
   written_controls Cmd v tape p here h = command_controls v tape p here h
-  written_controls Sctl v tape p here h = record { command = h.command; control = λ s. absurd (here s); list = h.list; list_upper = h.list_upper; received = h.received; received_upper = h.received_upper }
-  written_controls Clb v tape p here h = record { command = h.command; control = h.control; list = λ s. absurd (here s); list_upper = h.list_upper; received = h.received; received_upper = h.received_upper }
-  written_controls Clbu v tape p here h = record { command = h.command; control = h.control; list = h.list; list_upper = λ s. absurd (here s); received = h.received; received_upper = h.received_upper }
-  written_controls Fb v tape p here h = record { command = h.command; control = h.control; list = h.list; list_upper = h.list_upper; received = λ s. absurd (here s); received_upper = h.received_upper }
-  written_controls Fbu v tape p here h = record { command = h.command; control = h.control; list = h.list; list_upper = h.list_upper; received = h.received; received_upper = λ s. absurd (here s) }
-  written_controls Is v tape p here h = controls_on p _ refl refl refl refl refl refl refl h
-  written_controls Serr v tape p here h = controls_on p _ refl refl refl refl refl refl refl h
-  written_controls Sact v tape p here h = controls_on p _ refl refl refl refl refl refl refl h
-  written_controls Ci v tape p here h = controls_on p _ refl refl refl refl refl refl refl h
+  written_controls Sctl v tape p here h = record { command = h.command; control = λ s. absurd (here s); interrupts = h.interrupts; list = h.list; list_upper = h.list_upper; received = h.received; received_upper = h.received_upper }
+  written_controls Clb v tape p here h = record { command = h.command; control = h.control; interrupts = h.interrupts; list = λ s. absurd (here s); list_upper = h.list_upper; received = h.received; received_upper = h.received_upper }
+  written_controls Clbu v tape p here h = record { command = h.command; control = h.control; interrupts = h.interrupts; list = h.list; list_upper = λ s. absurd (here s); received = h.received; received_upper = h.received_upper }
+  written_controls Fb v tape p here h = record { command = h.command; control = h.control; interrupts = h.interrupts; list = h.list; list_upper = h.list_upper; received = λ s. absurd (here s); received_upper = h.received_upper }
+  written_controls Fbu v tape p here h = record { command = h.command; control = h.control; interrupts = h.interrupts; list = h.list; list_upper = h.list_upper; received = h.received; received_upper = λ s. absurd (here s) }
+  written_controls Ie v tape p here h = record { command = h.command; control = h.control; interrupts = λ s. absurd (here s); list = h.list; list_upper = h.list_upper; received = h.received; received_upper = h.received_upper }
+  written_controls Is v tape p here h = controls_on p _ refl refl refl refl refl refl refl refl h
+  written_controls Serr v tape p here h = controls_on p _ refl refl refl refl refl refl refl refl h
+  written_controls Sact v tape p here h = controls_on p _ refl refl refl refl refl refl refl refl h
+  written_controls Ci v tape p here h = controls_on p _ refl refl refl refl refl refl refl refl h
   written_controls _ v tape p here h = h
 
 pub access_controls : (port : Port) (access : Access) (old new : Device) → old.hr ≡ false → Does access old new → LeavesControls access port (old.port port.0) (new.port port.0)
@@ -275,11 +280,12 @@ access_controls port access old new off x =
     let s = access_steps access old new x in
     let k : Keeps old s.0 = steps_keep s.1 in
     let c : KeepsControls (old.port port.0) (s.0.port port.0) = (k.on off).controls port.0 in
-    effect_keeps (LeavesControls access port (old.port port.0)) port (noted_controls access port (old.port port.0)) (λ p h. controls_on access port (old.port port.0) p _ refl refl refl refl refl refl refl h) access old new x
+    effect_keeps (LeavesControls access port (old.port port.0)) port (noted_controls access port (old.port port.0)) (λ p h. controls_on access port (old.port port.0) p _ refl refl refl refl refl refl refl refl h) access old new x
     (λ r v mid is steps h. written_controls access port (old.port port.0) r v (length mid.tape) (mid.port port.0) (λ spares. spared port r r access v spares is refl) h)
     (record {
       command = λ s. (c.st, c.fre, ap (λ (n : Notes). n.st_set_at) (k.notes port.0), c.runs);
       control = λ s. (c.sctl_det, ap (λ (n : Notes). n.sctl_written_at) (k.notes port.0));
+      interrupts = λ s. c.ie;
       list = λ s. (ap (λ (b : Bases). b.clb) (k.port port.0).bases, ap (λ (b : Bases). b.clb_set) (k.port port.0).bases);
       list_upper = λ s. ap (λ (b : Bases). b.clbu_set) (k.port port.0).bases;
       received = λ s. (ap (λ (b : Bases). b.fb) (k.port port.0).bases, ap (λ (b : Bases). b.fb_set) (k.port port.0).bases);

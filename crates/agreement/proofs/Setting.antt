@@ -5,7 +5,7 @@ use Rattle.ata_types.specs.declared.Port.{Port}
 use Rattle.hba_regs.specs.Bits.{bit}
 use Rattle.hba_regs.specs.declared.reg.Reg.TheVariants.{Px}
 use Rattle.hba_regs.specs.declared.reg.PortReg.{PortReg}
-use Rattle.hba_regs.specs.declared.reg.PortReg.TheVariants.{Clb, Clbu, Fb, Fbu, Cmd, Sctl}
+use Rattle.hba_regs.specs.declared.reg.PortReg.TheVariants.{Clb, Clbu, Fb, Fbu, Ie, Cmd, Sctl}
 use Rattle.adapter.specs.Access.{Writes, port_written, with_st, with_fre}
 use Rattle.adapter.specs.Device.{PortState, Device}
 use Rattle.adapter.specs.Steps.{restarted}
@@ -57,6 +57,9 @@ start_set port v old new off on x = seen (λ (p : PortState). (p.cr ≡ true) ×
 
 pub control_set : (port : Port) (v : ℕ) (old new : Device) → Writes (Px port Sctl) v old new → ((new.port port.0).sctl_det ≡ v % 16) × ((new.port port.0).notes.sctl_written_at ≡ length new.tape)
 control_set port v old new x = seen (λ (p : PortState). (p.sctl_det ≡ v % 16) × (p.notes.sctl_written_at ≡ length new.tape)) port Sctl v old new x (refl, tape_is port Sctl v old new x)
+
+pub interrupts_set : (port : Port) (v : ℕ) (old new : Device) → Writes (Px port Ie) v old new → (new.port port.0).ie ≡ v
+interrupts_set port v old new x = seen (λ (p : PortState). p.ie ≡ v) port Ie v old new x refl
 
 pub list_set : (port : Port) (v : ℕ) (old new : Device) → Writes (Px port Clb) v old new → ((new.port port.0).bases.clb ≡ v) × ((new.port port.0).bases.clb_set ≡ true)
 list_set port v old new x = seen (λ (p : PortState). (p.bases.clb ≡ v) × (p.bases.clb_set ≡ true)) port Clb v old new x (refl, refl)

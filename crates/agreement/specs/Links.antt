@@ -3,7 +3,7 @@ use Rattle.std.specs.Prelude.{ℕ, true, false, ◌≡◌, ◌≢◌, ◌⊎◌,
 use Rattle.ata_types.specs.declared.Port.{Port}
 use Rattle.hba_regs.specs.declared.reg.Reg.{Reg}
 use Rattle.hba_regs.specs.declared.reg.Reg.TheVariants.{Px}
-use Rattle.hba_regs.specs.declared.reg.PortReg.TheVariants.{Clb, Clbu, Fb, Fbu, Cmd, Sctl}
+use Rattle.hba_regs.specs.declared.reg.PortReg.TheVariants.{Clb, Clbu, Fb, Fbu, Ie, Cmd, Sctl}
 use Rattle.adapter.specs.Access.{Access}
 use Rattle.adapter.specs.Access.Access.{Writing}
 use Rattle.adapter.specs.Device.{PortState, Device}
@@ -34,6 +34,7 @@ pub record LeavesControls (access : Access) (port : Port) (old new : PortState) 
       × (old.st ≡ true → old.cr ≡ true → new.cr ≡ true)
   pub control : SparesRegister (Px port Sctl) access
       → (new.sctl_det ≡ old.sctl_det) × (new.notes.sctl_written_at ≡ old.notes.sctl_written_at)
+  pub interrupts : SparesRegister (Px port Ie) access → new.ie ≡ old.ie
   pub list : SparesRegister (Px port Clb) access → (new.bases.clb ≡ old.bases.clb) × (new.bases.clb_set ≡ old.bases.clb_set)
   pub list_upper : SparesRegister (Px port Clbu) access → new.bases.clbu_set ≡ old.bases.clbu_set
   pub received : SparesRegister (Px port Fb) access → (new.bases.fb ≡ old.bases.fb) × (new.bases.fb_set ≡ old.bases.fb_set)

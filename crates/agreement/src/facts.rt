@@ -6,7 +6,7 @@ ghost use Rattle.ata_types.specs.declared.request.RequestId.{RequestId};
 ghost use Rattle.hba_regs.specs.Bits.{bit};
 ghost use Rattle.hba_regs.specs.declared.reg.Reg.{Reg};
 ghost use Rattle.hba_regs.specs.declared.reg.Reg.TheVariants.{Ghc, Px};
-ghost use Rattle.hba_regs.specs.declared.reg.PortReg.TheVariants.{Is, Cmd, Tfd, Sig, Ssts, Sctl, Serr, Ci, Sact, Clb, Clbu, Fb, Fbu};
+ghost use Rattle.hba_regs.specs.declared.reg.PortReg.TheVariants.{Is, Ie, Cmd, Tfd, Sig, Ssts, Sctl, Serr, Ci, Sact, Clb, Clbu, Fb, Fbu};
 ghost use Rattle.hba_regs.specs.declared.reg.PortReg.{PortReg};
 ghost use Rattle.adapter.specs.Access.{Reads, Writes, Loads, Stores, Access, Does, PortShows, note};
 ghost use Rattle.adapter.specs.Access.Access.{Writing};
@@ -331,14 +331,14 @@ pub fn loads_and_stores_leave_ports()
 {}
 
 /// While no reset is pending, what the driver has written of a port's controls stays over each access but a write of the register: ST
-/// and FRE, and when ST was set, and a port that runs goes on running; DET of PxSCTL, and when it was written; and the addresses.
+/// and FRE, and when ST was set, and a port that runs goes on running; DET of PxSCTL, and when it was written; PxIE; and the addresses.
 pub fn controls_stay()
     ensures { (port : Port) (access : Access) (old new : Device) → old.hr ≡ false → Does access old new
         → LeavesControls access port (old.port port.0) (new.port port.0) }
 {}
 
 /// And a write of the register sets it: ST and FRE of PxCMD, and with ST going to 1 also CR, and when it was set; DET of PxSCTL, and when
-/// it was written; and the addresses.
+/// it was written; PxIE; and the addresses.
 pub fn controls_are_set()
     ensures command { (port : Port) (v : ℕ) (old new : Device) → Writes (Px port Cmd) v old new
         → ((new.port port.0).st ≡ bit v 0) × ((new.port port.0).fre ≡ bit v 4) }
@@ -347,6 +347,7 @@ pub fn controls_are_set()
         → ((new.port port.0).cr ≡ true) × ((new.port port.0).notes.st_set_at ≡ length new.tape) }
     ensures control { (port : Port) (v : ℕ) (old new : Device) → Writes (Px port Sctl) v old new
         → ((new.port port.0).sctl_det ≡ v % 16) × ((new.port port.0).notes.sctl_written_at ≡ length new.tape) }
+    ensures interrupts { (port : Port) (v : ℕ) (old new : Device) → Writes (Px port Ie) v old new → (new.port port.0).ie ≡ v }
     ensures list { (port : Port) (v : ℕ) (old new : Device) → Writes (Px port Clb) v old new
         → ((new.port port.0).bases.clb ≡ v) × ((new.port port.0).bases.clb_set ≡ true) }
     ensures list_upper { (port : Port) (v : ℕ) (old new : Device) → Writes (Px port Clbu) v old new

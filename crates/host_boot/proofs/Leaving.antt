@@ -79,7 +79,7 @@ pub still_on : (wanted : Wanted) (found : Found) (port : ℕ) (old new : Device)
     (found ≢ Unready Dead → SendsNone port Identify old new) → StillStandsBehind wanted found port old → StillStandsBehind wanted found port new
 still_on wanted Unserved port old new same left silent h = stands_on port old new left same wanted Unserved silent h
 still_on wanted (Ready info) port old new same left silent (is, disk) =
-    (served_on port old new same wanted is, disk_on (serial_of wanted) port old new info (silent (λ e. absurd cc)) left.0 left.1 disk)
+    (served_on port old new same wanted is, disk_on (serial_of wanted) port old new info (silent (λ e. absurd cc)) left.0 left.1 left.2 disk)
 still_on wanted (Unready state) port old new same left silent h = stands_on port old new left same wanted (Unready state) silent h
 
 -- ---- what the device does by itself, and accesses of the adapter's own registers

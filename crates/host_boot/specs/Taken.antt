@@ -50,9 +50,10 @@ abbrev pub StillStandsBehind : Wanted → Found → ℕ → Device → Type 0
 StillStandsBehind wanted (Ready info) port d = IsServed wanted port d × HasFitDisk (serial_of wanted) port d info
 StillStandsBehind wanted found port d = StandsBehind wanted found port d
 
--- What has to be left of a port for that: of a ready one, DET of PxSCTL and when PxSCTL was written; any other is left to the device.
+-- What has to be left of a port for that: of a ready one, DET of PxSCTL, PxIE, and when PxSCTL was written; any other is left to the device.
 abbrev pub LeavesFound : Found → PortState → PortState → Type 0
-LeavesFound (Ready info) old new = (new.sctl_det ≡ old.sctl_det) × (new.notes.sctl_written_at ≡ old.notes.sctl_written_at)
+LeavesFound (Ready info) old new =
+    (new.sctl_det ≡ old.sctl_det) × (new.ie ≡ old.ie) × (new.notes.sctl_written_at ≡ old.notes.sctl_written_at)
 LeavesFound found old new = LeavesPort old new
 
 -- PxSCTL of the port was written after the tape was so long, unless the port isn't served, or was dead before that

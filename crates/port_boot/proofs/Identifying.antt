@@ -8,7 +8,7 @@ use Rattle.ata_types.specs.declared.PortState.{PortState}
 use Rattle.ata_types.specs.declared.PortState.TheVariants.{Absent, Ready, Foreign, Unfit, Dead}
 use Rattle.hba_regs.specs.declared.reg.PortReg.TheVariants.{Ci, Cmd, Ie}
 use Rattle.hba_regs.specs.declared.reg.Reg.TheVariants.{Px}
-use Rattle.adapter.specs.Access.{Access, Writes}
+use Rattle.adapter.specs.Access.{Access, Writes, port_written}
 use Rattle.adapter.specs.Access.Access.{Writing}
 use Rattle.adapter.specs.Device.{Notes, Device}
 use Rattle.adapter.specs.Device as device
@@ -32,7 +32,7 @@ use Rattle.disk_page.specs.Asking.{IsAsking, LeavesRunning, Brings, Reads, MayAs
 use Rattle.disk_page.proofs.Asking.{followed_back}
 use Rattle.identify.specs.declared.DiskInfo.{DiskInfo}
 use Rattle.port_control.specs.Ports.{WritesCommand, IsRunning, HasStopped, SawDevice}
-use Rattle.port_boot.specs.States.{HasPage, IsFit, Judges, EndsAs, IsReady, IsBooting, IsOfBoot, IsBoot, IsBootTo, IsBootable, IsBroughtUp, IsHaltedAs}
+use Rattle.port_boot.specs.States.{told_causes, HasPage, IsFit, Judges, EndsAs, IsReady, IsBooting, IsOfBoot, IsBoot, IsBootTo, IsBootable, IsBroughtUp, IsHaltedAs}
 use Rattle.port_control.proofs.Using.{there_after}
 use Rattle.port_boot.proofs.Bringing.{starting}
 
@@ -226,14 +226,14 @@ module _ (port : Port) (start old mid : Device) (page : List ℕ) (up : IsBrough
     pub enabled_written : (new.port port.0).notes.sctl_written_at ≡ (mid.port port.0).notes.sctl_written_at
     enabled_written = ap (λ (p : device.PortState). p.notes.sctl_written_at) w.here ∙ ap (λ (n : Notes). n.sctl_written_at) (w.notes port.0)
 
-    pub enabled_ready : (wanted : Option (List ℕ)) (info : DiskInfo) → IsFit wanted page info → IsReady wanted port.0 new info
-    enabled_ready wanted info fit =
+    pub enabled_ready : (wanted : Option (List ℕ)) (info : DiskInfo) → v ≡ told_causes → IsFit wanted page info → IsReady wanted port.0 new info
+    enabled_ready wanted info told fit =
         let h = identified in
         let r = h.runs in
         let k = w.keeps.port port.0 in
         let c = w.keeps.on.controls port.0 in
         let P : device.PortState → Type 0 = λ p. IsRunning port.0 p in
-        let runs : IsRunning port.0 (w.mid.port port.0) = record {
+        let runs : IsRunning port.0 (port_written Ie v (length w.mid.tape) (w.mid.port port.0)) = record {
           st = c.st ∙ r.st;
           cr = c.runs r.st r.cr;
           fre = c.fre ∙ r.fre;
@@ -248,6 +248,7 @@ module _ (port : Port) (start old mid : Device) (page : List ℕ) (up : IsBrough
           saw = (ap (λ (n : Notes). n.last_ssts % 16) noted ∙ h.saw.0, ap (λ (n : Notes). n.link_count) noted ∙ h.saw.1);
           disk = record {
             det = ap (λ (p : device.PortState). p.sctl_det) w.here ∙ c.sctl_det ∙ h.det;
+            tells = ap (λ (p : device.PortState). p.ie) w.here ∙ told;
             page = page;
             has = page_on port.0 mid new page (access_unmoving port.0 Identify (Writing (Px port Ie) v) mid new (λ slot. record { issued = r.ci slot; free = r.taken slot }) call) enabled_written h.has;
             fit = fit;

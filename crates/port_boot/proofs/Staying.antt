@@ -18,9 +18,9 @@ use Rattle.port_boot.proofs.Identifying.{page_on}
 
 -- ---- the disk
 
-pub disk_on : (wanted : Option (List ℕ)) (port : ℕ) (old new : Device) (info : DiskInfo) → SendsNone port Identify old new → (new.port port).sctl_det ≡ (old.port port).sctl_det →
+pub disk_on : (wanted : Option (List ℕ)) (port : ℕ) (old new : Device) (info : DiskInfo) → SendsNone port Identify old new → (new.port port).sctl_det ≡ (old.port port).sctl_det → (new.port port).ie ≡ (old.port port).ie →
     (new.port port).notes.sctl_written_at ≡ (old.port port).notes.sctl_written_at → HasFitDisk wanted port old info → HasFitDisk wanted port new info
-disk_on wanted port old new info silent det same h = record { det = det ∙ h.det; page = h.page; has = page_on port old new h.page silent same h.has; fit = h.fit }
+disk_on wanted port old new info silent det ie same h = record { det = det ∙ h.det; tells = ie ∙ h.tells; page = h.page; has = page_on port old new h.page silent same h.has; fit = h.fit }
 
 -- ---- a port that is left to the device
 
@@ -76,7 +76,7 @@ module _ (port : ℕ) (old new : Device) (l : LeavesPort (old.port port) (new.po
   ready_on wanted info silent r = record {
     runs = running_on (old.port port) (new.port port) l port r.runs;
     saw = noted_on (old.port port) (new.port port) l SawDevice r.saw;
-    disk = disk_on wanted port old new info silent l.controls.sctl_det written_on r.disk;
+    disk = disk_on wanted port old new info silent l.controls.sctl_det l.controls.ie written_on r.disk;
   }
 
 -- ---- what the accesses of a boot are

@@ -96,9 +96,15 @@ EndsAs wanted Foreign port d = IsStopped (d.port port) × ((page : List ℕ) × 
 EndsAs wanted Dead port d = ((d.port port).st ≡ false) × Shows EngineStuck (d.port port).notes
 EndsAs wanted Ready port d = ⊥
 
--- What stands behind a ready port as long as it isn't booted anew: no COMRESET is being sent, and the last page is of a disk that fits.
+-- The causes that a ready port tells of by interrupts: DHRS, PSS, SDBS, PCS, PRCS, IFS, HBDS, HBFS and TFES (PxIE: AHCI 1.3.1, 3.3.6).
+abbrev pub told_causes : ℕ
+told_causes = 0x7840004b
+
+-- What stands behind a ready port as long as it isn't booted anew: no COMRESET is being sent, it tells of these causes, and the last page is
+-- of a disk that fits.
 pub record HasFitDisk (wanted : Option (List ℕ)) (port : ℕ) (d : Device) (info : DiskInfo) : Type 0 where
   pub det : (d.port port).sctl_det ≡ 0
+  pub tells : (d.port port).ie ≡ told_causes
   pub page : List ℕ
   pub has : HasPage port d page
   pub fit : IsFit wanted page info
@@ -140,12 +146,11 @@ pub record GetsUp (port : Port) (old new : Device) : Type 0 where
   pub resets : WasReset port (FindsSignature port 0x101) placed found
   pub starts : IsDrivenBy (IsControl WritesCommand port) found new
 
--- The disk was asked for its page; and last of all the port was made to tell of the causes of interrupts: DHRS, PSS, SDBS, PCS, PRCS, IFS,
--- HBDS, HBFS and TFES (AHCI 1.3.1, 3.3.6). A port as `adapter` has it has no PxIE: that value shows nowhere else.
+-- The disk was asked for its page; and last of all the port was made to tell of the causes of interrupts.
 pub record GetsAsked (port : Port) (old new : Device) : Type 0 where
   pub asked : Device
   pub asks : IsDrivenBy (IsAsking port) old asked
-  pub tells : Writes (Px port Ie) 0x7840004b asked new
+  pub tells : Writes (Px port Ie) told_causes asked new
 
 -- the whole way to a port that is ready
 pub record GetsReady (port : Port) (old new : Device) : Type 0 where

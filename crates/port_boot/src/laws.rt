@@ -11,14 +11,14 @@ ghost use Rattle.identify.specs.declared.DiskInfo.{DiskInfo};
 ghost use Rattle.port_boot.specs.States.{EndsAs, HasFitDisk, HasPage, IsOfBoot, IsReady};
 
 /// What a boot found of a port goes on as long as the port isn't booted anew. The last page is the last one still where the disk has sent
-/// none since, and PxSCTL wasn't written; so the disk that fits is still there where DET of PxSCTL is as it was, too. A port that is left
+/// none since, and PxSCTL wasn't written; so the disk that fits is still there where DET of PxSCTL and PxIE are as they were, too. A port that is left
 /// to the device stays ready, or goes on to end as it did; where it is dead, its disk may send a page.
 pub fn what_was_found_goes_on()
     ensures page { (port : ℕ) (old new : Device) (page : List ℕ) → SendsNone port Identify old new
         → (new.port port).notes.sctl_written_at ≡ (old.port port).notes.sctl_written_at → HasPage port old page
         → HasPage port new page }
     ensures disk { (wanted : Option (List ℕ)) (port : ℕ) (old new : Device) (info : DiskInfo) → SendsNone port Identify old new
-        → (new.port port).sctl_det ≡ (old.port port).sctl_det
+        → (new.port port).sctl_det ≡ (old.port port).sctl_det → (new.port port).ie ≡ (old.port port).ie
         → (new.port port).notes.sctl_written_at ≡ (old.port port).notes.sctl_written_at → HasFitDisk wanted port old info
         → HasFitDisk wanted port new info }
     ensures ready { (wanted : Option (List ℕ)) (port : ℕ) (old new : Device) (info : DiskInfo)

@@ -8,7 +8,7 @@ ghost use Rattle.adapter.specs.Rules.{IsOn, HasPort};
 ghost use Rattle.agreement.specs.Driven.{AgreesWith, AnyUse, IsControl, IsFollowed};
 ghost use Rattle.agreement.specs.Driver.{AllFree};
 ghost use Rattle.port_control.specs.Ports.{WritesCommand, IsStopped, HasStopped};
-ghost use Rattle.port_boot.specs.States.{TellsFault, Fits, IsFit, Judges, EndsAs, IsReady, IsBooting, IsBoot, IsBootTo, IsBootable, IsBroughtUp, IsHaltedAs, GetsAsked, GetsReady, EndsEarly, EndsLate, IsEarly, IsLate, ShowsNews, RunsOn, StopsThen};
+ghost use Rattle.port_boot.specs.States.{told_causes, TellsFault, Fits, IsFit, Judges, EndsAs, IsReady, IsBooting, IsBoot, IsBootTo, IsBootable, IsBroughtUp, IsHaltedAs, GetsAsked, GetsReady, EndsEarly, EndsLate, IsEarly, IsLate, ShowsNews, RunsOn, StopsThen};
 
 use adapter::Adapter;
 use ata_types::{Port, PortState};
@@ -110,7 +110,7 @@ fn halt<A: Adapter>(adapter: &mut A, port: Port, state: PortState) -> PortState
 
 /// The causes of which a port tells by interrupts: TFES, HBFS, HBDS, IFS, PRCS, PCS, SDBS, PSS and DHRS (AHCI 1.3.1, 3.3.6).
 fn causes() -> u32
-    ensures { result ≡ 0x7840004b }
+    ensures { result ≡ told_causes }
 {
     0x7840_004b
 }

@@ -19,11 +19,12 @@ left_on wanted found port old new same l silent s = still_on wanted found port o
   where
     enough : (f : Found) → LeavesFound f (old.port port) (new.port port)
     enough Unserved = l
-    enough (Ready info) = (l.controls.sctl_det, ap (λ n. n.sctl_written_at) l.notes)
+    enough (Ready info) = (l.controls.sctl_det, l.controls.ie, ap (λ n. n.sctl_written_at) l.notes)
     enough (Unready state) = l
 
--- it is ready, and PxSCTL isn't written
+-- it is ready, and neither PxSCTL nor PxIE is written
 pub ready_on : (wanted : Wanted) (info : DiskInfo) (port : ℕ) (old new : Device) → SameAdapter old new → (new.port port).sctl_det ≡ (old.port port).sctl_det
+    → (new.port port).ie ≡ (old.port port).ie
     → (new.port port).notes.sctl_written_at ≡ (old.port port).notes.sctl_written_at → SendsNone port Identify old new
     → StillStandsBehind wanted (Ready info) port old → StillStandsBehind wanted (Ready info) port new
-ready_on wanted info port old new same det_is written silent s = still_on wanted (Ready info) port old new same (det_is, written) (λ other. silent) s
+ready_on wanted info port old new same det_is ie_is written silent s = still_on wanted (Ready info) port old new same (det_is, ie_is, written) (λ other. silent) s

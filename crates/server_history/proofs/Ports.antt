@@ -74,7 +74,7 @@ port_on wanted found port old new same on by left silent is =
     behind Unserved left silent stays = left_on (wanted_of wanted port) Unserved port old new same (left (λ e. let z : Absent ≡ ReadyState = e in cc)) silent stays
     behind (Ready info) left silent stays =
         let c = services_controls port old new on by in
-        ready_on (wanted_of wanted port) info port old new same c.0 c.1 (silent (λ e. let z : Ready info ≡ Unready Dead = e in cc)) stays
+        ready_on (wanted_of wanted port) info port old new same c.0 c.1 c.2 (silent (λ e. let z : Ready info ≡ Unready Dead = e in cc)) stays
     behind (Unready ReadyState) left silent stays = absurd stays.1
     behind (Unready Absent) left silent stays = left_on (wanted_of wanted port) (Unready Absent) port old new same (left (λ e. let z : Absent ≡ ReadyState = e in cc)) silent stays
     behind (Unready Foreign) left silent stays = left_on (wanted_of wanted port) (Unready Foreign) port old new same (left (λ e. let z : Foreign ≡ ReadyState = e in cc)) silent stays

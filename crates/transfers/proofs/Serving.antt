@@ -5,7 +5,7 @@ use Rattle.hba_regs.specs.declared.reg.Reg.{Reg}
 use Rattle.hba_regs.specs.declared.reg.Reg.TheVariants as reg
 use Rattle.hba_regs.specs.declared.reg.Reg.TheVariants.{Ghc, Px}
 use Rattle.hba_regs.specs.declared.reg.PortReg.{PortReg}
-use Rattle.hba_regs.specs.declared.reg.PortReg.TheVariants.{Clb, Is, Cmd, Sctl, Serr, Sact, Ci}
+use Rattle.hba_regs.specs.declared.reg.PortReg.TheVariants.{Clb, Is, Ie, Cmd, Sctl, Serr, Sact, Ci}
 use Rattle.adapter.specs.Access.{Access, Does}
 use Rattle.adapter.specs.Access.Access.{Reading, Writing, Loading, Storing}
 use Rattle.adapter.specs.Device.{PortState, Device}
@@ -103,18 +103,19 @@ services_port port old new on a =
     })
     old new on a).0
 
--- DET of PxSCTL, and when it was written and ST set, are as they were
+-- DET of PxSCTL, PxIE, and when PxSCTL was written and ST set, are as they were
 abbrev LeavesNoted : PortState → PortState → Type 0
-LeavesNoted old new = (new.sctl_det ≡ old.sctl_det) × (new.notes.sctl_written_at ≡ old.notes.sctl_written_at) × (new.notes.st_set_at ≡ old.notes.st_set_at)
+LeavesNoted old new =
+    (new.sctl_det ≡ old.sctl_det) × (new.ie ≡ old.ie) × (new.notes.sctl_written_at ≡ old.notes.sctl_written_at) × (new.notes.st_set_at ≡ old.notes.st_set_at)
 
 pub services_controls : (port : ℕ) (old new : Device) → IsOn old → IsDrivenBy IsService old new → LeavesNoted (old.port port) (new.port port)
 services_controls port old new on a =
-    (services_keep (λ x y. LeavesNoted (x.port port) (y.port port)) (λ d. (refl, refl, refl))
-    (λ x y z p q. (q.0 ∙ p.0, q.1 ∙ p.1, q.2 ∙ p.2))
+    (services_keep (λ x y. LeavesNoted (x.port port) (y.port port)) (λ d. (refl, refl, refl, refl))
+    (λ x y z p q. (q.0 ∙ p.0, q.1 ∙ p.1, q.2 ∙ p.2, q.3 ∙ p.3))
     (λ access x y ready is does.
     let left : LeavesControls access (port_at port) (x.port port) (y.port port) = access_controls (port_at port) access x y ready.no_reset does in
     let control = left.control (spares_port (port_at port) Sctl (λ e. cc) (λ e. cc) access is) in
-    (control.0, control.1, (left.command (spares_port (port_at port) Cmd (λ e. cc) (λ e. cc) access is)).2))
+    (control.0, left.interrupts (spares_port (port_at port) Ie (λ e. cc) (λ e. cc) access is), control.1, (left.command (spares_port (port_at port) Cmd (λ e. cc) (λ e. cc) access is)).2))
     old new on a).0
 
 -- free slots keep their bits of PxSACT clear

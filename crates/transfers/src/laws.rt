@@ -49,8 +49,8 @@ pub fn other_ports_are_left()
         → LeavesPort (old.port q) (new.port q) }
 {}
 
-/// What serving ports leaves: the adapter, which stays on; each port that may begin a transfer; DET of each port's PxSCTL, and when
-/// PxSCTL was written and ST set; each port that runs well, where nothing goes wrong on it; the record of each port's faults; and free
+/// What serving ports leaves: the adapter, which stays on; each port that may begin a transfer; DET of each port's PxSCTL, its PxIE,
+/// and when PxSCTL was written and ST set; each port that runs well, where nothing goes wrong on it; the record of each port's faults; and free
 /// slots without a bit of PxSACT. So a machine that agrees goes on to, where the stretch is followed.
 pub fn services_leave()
     ensures on { (old new : Device) → IsOn old → IsDrivenBy IsService old new → IsOn new }
@@ -58,7 +58,7 @@ pub fn services_leave()
     ensures port { (port : Port) (old new : Device) → IsOn old → IsDrivenBy IsService old new → MayTransfer port.0 old
         → MayTransfer port.0 new }
     ensures controls { (port : ℕ) (old new : Device) → IsOn old → IsDrivenBy IsService old new
-        → ((new.port port).sctl_det ≡ (old.port port).sctl_det)
+        → ((new.port port).sctl_det ≡ (old.port port).sctl_det) × ((new.port port).ie ≡ (old.port port).ie)
         × ((new.port port).notes.sctl_written_at ≡ (old.port port).notes.sctl_written_at)
         × ((new.port port).notes.st_set_at ≡ (old.port port).notes.st_set_at) }
     ensures well { (port : Port) (old new : Device) → IsOn old → IsDrivenBy IsService old new → Undisturbed port.0 old new

@@ -40,7 +40,7 @@ returns-in-Ok-clause-on g c = let e = c.in-Some.ensures in enabled_on c.args.por
 pub returns-in-Ok-clause-ready : goal.returns-in-Ok-clause-ready
 returns-in-Ok-clause-ready g c =
     let e = c.in-Some.ensures in
-    enabled_ready c.args.port _ _ _ c.in-Some.page c.requires.up.1 e.on e.leaves e.reads e.agrees _ _ c.write.ensures c.args.wanted.now _ c.in-Ok.ensures.fit
+    enabled_ready c.args.port _ _ _ c.in-Some.page c.requires.up.1 e.on e.leaves e.reads e.agrees _ _ c.write.ensures c.args.wanted.now _ c.causes.ensures c.in-Ok.ensures.fit
 
 pub returns-in-Ok-clause-written : goal.returns-in-Ok-clause-written
 returns-in-Ok-clause-written g c =

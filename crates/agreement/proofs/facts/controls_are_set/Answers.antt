@@ -1,4 +1,4 @@
-use Rattle.agreement.proofs.Setting.{command_set, start_set, control_set, list_set, list_upper_set, received_set, received_upper_set}
+use Rattle.agreement.proofs.Setting.{command_set, start_set, control_set, interrupts_set, list_set, list_upper_set, received_set, received_upper_set}
 use Rattle.agreement.proofs.facts.controls_are_set.Goals as goal
 
 pub returns-clause-command : goal.returns-clause-command
@@ -9,6 +9,9 @@ returns-clause-start c = start_set
 
 pub returns-clause-control : goal.returns-clause-control
 returns-clause-control c = control_set
+
+pub returns-clause-interrupts : goal.returns-clause-interrupts
+returns-clause-interrupts c = interrupts_set
 
 pub returns-clause-list : goal.returns-clause-list
 returns-clause-list c = list_set
