@@ -30,6 +30,7 @@ pub record IsReset (p : PortState) : Type 0 where
   pub sig : p.sig ≡ 0xffffffff
   pub ssts_det : p.ssts_det ≡ 0
   pub sctl_det : p.sctl_det ≡ 0
+  pub ie : p.ie ≡ 0
   pub serr_n : p.serr_n ≡ false
   pub serr_x : p.serr_x ≡ false
   pub is : (place : ℕ) → p.is place ≡ false

@@ -109,6 +109,8 @@ pub struct PortModel {
     pub st: bool,
     pub fre: bool,
     pub sctl_det: u8,
+    /// PxIE.
+    pub enabled: u32,
     pub cr: bool,
     pub fr: bool,
     /// PxTFD, where something was written to it since the last reset of the adapter; else it is 7Fh.
@@ -141,6 +143,7 @@ impl PortModel {
             st: false,
             fre: false,
             sctl_det: 0,
+            enabled: 0,
             cr: false,
             fr: false,
             tfd: None,

@@ -38,7 +38,8 @@ impl PortModel {
             PortReg::Ci => self.ci,
             PortReg::Sact => self.sact,
             PortReg::Is => with_bit_as(with_bit_as(self.is, 22, self.serr_n), 6, self.serr_x),
-            PortReg::Clb | PortReg::Clbu | PortReg::Fb | PortReg::Fbu | PortReg::Ie => 0,
+            PortReg::Clb | PortReg::Clbu | PortReg::Fb | PortReg::Fbu => 0,
+            PortReg::Ie => self.enabled,
         }
     }
 
@@ -153,6 +154,7 @@ impl PortModel {
                 self.addresses.fb_set = true;
             }
             PortReg::Fbu => self.addresses.fbu_set = true,
+            PortReg::Ie => self.enabled = value,
             PortReg::Ci => self.ci |= value,
             PortReg::Sact => self.sact |= value,
             _ => {}

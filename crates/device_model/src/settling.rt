@@ -79,6 +79,7 @@ impl PortModel {
     {
         self.link_due = self.link_due || self.sctl_det % 16 == 1;
         self.sctl_det = 0;
+        self.enabled = 0;
         self.st = false;
         self.cr = false;
         self.fre = false;

@@ -27,6 +27,7 @@ returns-clause-reset c = λ m. record {
   sig = refl;
   ssts_det = refl;
   sctl_det = refl;
+  ie = refl;
   serr_n = refl;
   serr_x = refl;
   is = zero_bit;
