@@ -3,3 +3,7 @@ pub mod Scene
 pub mod Ports
 pub mod Started
 pub mod Queued
+pub mod Resetting
+pub mod Trimming
+pub mod Stopping
+pub mod Senseless

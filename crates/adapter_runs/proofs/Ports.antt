@@ -1,5 +1,5 @@
 -- The adapter that the runs begin with, and what makes accesses allowed and commands safe there.
-use Rattle.std.proofs.Common.{ℕ, zero, suc, ◌≡◌, ◌≢◌, ◌<◌, ◌≤◌, ◌⊎◌, ◌+◌, ◌*◌, ◌/◌, ◌%◌, ◌^◌, ◌&&◌, ◌||◌, Bool, true, false, cond, not, List, [], ◌∷◌, ◌++◌, Option, Some, None, length, nat_eq, ne_eqb, ◌==◌, subst, inl, inr, arith, refl, sym, ap, ◌∙◌}
+use Rattle.std.proofs.Common.{ℕ, zero, suc, ◌≡◌, ◌≢◌, ◌<◌, ◌≤◌, ◌+◌, ◌*◌, ◌/◌, ◌%◌, ◌^◌, ◌&&◌, ◌||◌, Bool, true, false, List, [], ◌∷◌, ◌++◌, Some, None, length, nat_eq, ne_eqb, ◌==◌, subst, inl, inr, arith, refl, sym, ap, ◌∙◌}
 use Rattle.std.proofs.lemmas.Bool.{eqb-true}
 use Rattle.std.proofs.lemmas.Bool.Decides.{eqb_tells, nat_tests}
 use Rattle.std.proofs.lemmas.List.{length-replicate}
@@ -9,19 +9,19 @@ use Rattle.std.specs.Int.{bit_at}
 use Rattle.hba_regs.specs.Bits.{bit}
 use Rattle.hba_regs.specs.declared.reg.Reg.TheVariants.{Ghc, Px}
 use Rattle.adapter.specs.Access.Access.{Reading, Writing}
-use Rattle.adapter.specs.Steps.Step.{LinkUp}
+use Rattle.adapter.specs.Steps.Step.{Fall, LinkUp, Unplug}
 use Rattle.adapter_runs.specs.Runs.Event.{Made, Came}
 use Rattle.adapter.specs.Commands.{Meaning, is_queued}
-use Rattle.adapter.specs.Device.{Disk, IsDisk, IsSector, IsTold, Taken, PortState, Device}
+use Rattle.adapter.specs.Device.{Disk, IsDisk, IsSector, IsTold, PortState, Device}
 use Rattle.adapter.specs.FirstRead.{first_disk, no_disk, quiet_port, sector_of}
 use Rattle.adapter.specs.Guarded.{IsGuardedSlot, IsGuardedPort, Passing}
 use Rattle.adapter.specs.Idle.{IsIdle, IsIdlePort, IsSane}
 use Rattle.adapter.specs.Memory.{changed}
-use Rattle.adapter.specs.Rules.{MayCommand, MayIssue, InUse}
+use Rattle.adapter.specs.Rules.{IsProgrammed, MayCommand, MayIssue}
 use Rattle.adapter.specs.Says.{Says}
-use Rattle.adapter_runs.specs.Runs.{Event, IsReached, MayAllCome, run, after_event}
+use Rattle.adapter_runs.specs.Runs.{Event, IsReached, IsSafe, MayAllCome, run, after_event}
 use Rattle.adapter_runs.proofs.Scene.{memory, memory_bytes}
-use Rattle.adapter_runs.proofs.Sets.{Range, is_in, covers, spares, spares_all, covered, spared, avoided, is_sector, are_bytes, both, true-false}
+use Rattle.adapter_runs.proofs.Sets.{Range, is_in, covers, spares, spares_all, covered, spared, avoided, both, true-false}
 
 -- ---- the adapter
 
@@ -86,6 +86,8 @@ is_of p (Made (Reading (Px port r) v)) = nat_eq port.0 p
 is_of p (Made (Writing (Px port r) v)) = nat_eq port.0 p
 is_of p (Made (Writing Ghc v)) = true
 is_of p (Came (LinkUp q sig n)) = nat_eq q p
+is_of p (Came (Fall q)) = nat_eq q p
+is_of p (Came (Unplug q)) = nat_eq q p
 is_of p _ = false
 
 unfoldable pub are_of : ℕ → List Event → Bool
@@ -105,6 +107,8 @@ event_elsewhere p (Made (Reading (Px port r) v)) d h q other = changed_elsewhere
 event_elsewhere p (Made (Writing (Px port r) v)) d h q other = changed_elsewhere d.port port.0 p q _ h other
 event_elsewhere p (Made (Writing Ghc v)) d h q other = refl
 event_elsewhere p (Came (LinkUp port sig n)) d h q other = changed_elsewhere d.port port p q _ h other
+event_elsewhere p (Came (Fall port)) d h q other = changed_elsewhere d.port port p q _ h other
+event_elsewhere p (Came (Unplug port)) d h q other = changed_elsewhere d.port port p q _ h other
 event_elsewhere p _ d h q other = absurd (true-false h refl)
 
 -- the events of one port leave the others
@@ -145,6 +149,24 @@ no_bit n k other = ap (λ (b : ℕ). b == 1) (bit_at-pow_other n k other)
 
 one_bit : (n k : ℕ) → bit (2 ^ n) k ≡ true → k ≡ n
 one_bit n k set = elim (eqb_tells k n) [ inl same ↦ same.1 | inr other ↦ absurd (true-false set (no_bit n k other.1)) ]
+
+-- PxCMD: FRE is set; ST is set beside it
+pub may_receive : (p : PortState) → p.fr ≡ false → p.bases.fb_set ≡ true → p.bases.fbu_set ≡ true → same_others 0x10 p.notes.last_cmd 32 ≡ true → MayCommand p 0x10
+may_receive p fallen fb fbu same = record {
+  start = λ h. absurd (true-false h refl);
+  receive = λ _. inr (record { fallen = fallen; fb = fb; fbu = fbu });
+  stop_receiving = λ h. absurd (true-false refl h);
+  others = others_are 0x10 p.notes.last_cmd same;
+}
+
+pub may_start : (p : PortState) → p.cr ≡ false → p.fre ≡ true → IsProgrammed p → p.notes.last_ssts % 16 ≡ 3
+    → bit p.notes.last_tfd 7 || bit p.notes.last_tfd 3 ≡ false → same_others 0x11 p.notes.last_cmd 32 ≡ true → MayCommand p 0x11
+may_start p fallen receives programmed link not_busy same = record {
+  start = λ _. inr (record { fallen = fallen; receives = receives; programmed = programmed; link = link; not_busy = not_busy });
+  receive = λ _. inl receives;
+  stop_receiving = λ h. absurd (true-false refl h);
+  others = others_are 0x11 p.notes.last_cmd same;
+}
 
 -- one slot is issued, by its own bit
 pub issue_allowed : (d : Device) (p : PortState) (k : ℕ) → p.st ≡ true → k ≤ d.cap / 256 % 32 → p.ci k ≡ false → p.taken k ≡ None
@@ -231,3 +253,21 @@ untouched rs mem =
     at_each (IsGuardedPort (Passing (is_in rs)) (Passing (is_in rs)) mem)
     (unused_port rs mem disk_port (λ k. refl) (λ k. refl) (λ on. absurd (true-false on refl)))
     (unused_port rs mem quiet_port (λ k. refl) (λ k. refl) (λ on. absurd (true-false on refl)))
+
+-- An adapter is safe on which nothing was issued, where port 0 alone was touched.
+pub unused_safe : (d : Device) → ((k : ℕ) → (d.port 0).ci k ≡ false) → ((k : ℕ) → (d.port 0).taken k ≡ None)
+    → ((q : ℕ) → q ≢ 0 → d.port q ≡ first.port q) → IsSafe d
+unfolding spares
+unused_safe d clear none elsewhere = record {
+  tables = is_in [];
+  kept = is_in [];
+  guarded = record {
+    within = λ at h. h;
+    port = λ q. elim (eqb_tells q 0) [
+      | inl here ↦ (let P : ℕ → Type 0 = λ n. IsGuardedPort (Passing (is_in [])) (Passing (is_in [])) d.memory (d.port n) in
+          subst P (sym here.1) (unused_port [] d.memory (d.port 0) clear none (λ on. refl)))
+      | inr away ↦ (let P : PortState → Type 0 = λ p. IsGuardedPort (Passing (is_in [])) (Passing (is_in [])) d.memory p in
+          subst P (sym (elsewhere q away.1)) (untouched [] d.memory q))
+    ];
+  };
+}

@@ -1,7 +1,6 @@
 -- Two queued reads are issued and taken; the second moves its sector and may end, while the first is taken still, or fails.
-use Rattle.std.proofs.Common.{ℕ, ◌≡◌, ◌≢◌, subst, ◌<◌, ◌⊎◌, ◌+◌, ◌||◌, Bool, true, false, cond, List, [], ◌∷◌, Option, Some, None, length, nat_eq, ne_eqb, inl, inr, arith, refl, sym, ap, ◌∙◌}
+use Rattle.std.proofs.Common.{ℕ, ◌≡◌, ◌≢◌, subst, ◌⊎◌, ◌+◌, ◌*◌, ◌%◌, ◌≤◌, ◌||◌, true, false, List, [], ◌∷◌, Option, Some, None, ne_eqb, inl, inr, arith, refl, sym, ap, ◌∙◌}
 use Rattle.std.proofs.lemmas.Bool.Decides.{eqb_tells}
-use Rattle.std.proofs.lemmas.Nat.Bits.{bit_at-zero}
 use Rattle.hba_regs.specs.Bits.{bit}
 use Rattle.hba_regs.specs.declared.reg.Reg.TheVariants.{Px}
 use Rattle.hba_regs.specs.declared.reg.PortReg.TheVariants.{Ci, Sact}
@@ -11,12 +10,12 @@ use Rattle.adapter.specs.Device.{Taken, PortState, Device}
 use Rattle.adapter.specs.FirstRead.{sector_of}
 use Rattle.adapter.specs.Guarded.{IsGuarded, IsGuardedPort, IsGuardedSlot, Passing}
 use Rattle.adapter.specs.Memory.{changed}
-use Rattle.adapter.specs.Steps.{Step, Steps, Can, begun, after}
+use Rattle.adapter.specs.Steps.{Steps, Can, begun, after}
 use Rattle.adapter.specs.Steps.Step.{Fetch, Move, Done, Fault}
 use Rattle.adapter.specs.declared.command.Operation.TheVariants.{ReadQueued, Trim}
 use Rattle.adapter_runs.specs.Runs.{Event, IsReached, run}
 use Rattle.adapter_runs.specs.Runs.Event.{Made, Came}
-use Rattle.adapter_runs.proofs.Ports.{reached_more, issue_allowed, slot_guarded, issued_port, unused_port, told_bytes, are_of, is_of, run_elsewhere, first, no_bit, untouched}
+use Rattle.adapter_runs.proofs.Ports.{reached_more, issue_allowed, slot_guarded, issued_port, told_bytes, are_of, is_of, run_elsewhere, first, no_bit, untouched}
 use Rattle.adapter_runs.proofs.Scene.{memory, queued_read, first_says, first_table, second_says, second_table}
 use Rattle.adapter_runs.proofs.Sets.{Range, is_in, covers, spares, spares_all, true-false}
 use Rattle.adapter_runs.proofs.Started.{at_port, started, started_reached, started_elsewhere}
@@ -25,25 +24,38 @@ use Rattle.adapter_runs.proofs.Started.{at_port, started, started_reached, start
 abbrev pub queue : ℕ → ℕ → List Event
 queue p bits = Made (Writing (Px (at_port p) Sact) bits) ∷ Made (Writing (Px (at_port p) Ci) bits) ∷ []
 
+-- the read in slot 0 is issued, whatever the received FIS area is
+abbrev pub issued_at : ℕ → Device
+issued_at area = run (queue 0 1) (started area)
+
+pub issued_at_reached : (area : ℕ) → area % 256 ≡ 0 → area + 256 ≤ 4096 * 256 → IsReached (issued_at area)
+unfolding changed
+issued_at_reached area aligned inside = reached_more (started_reached area aligned inside) (queue 0 1) (
+  (record { ae = refl; no_reset = refl }, (omega arith, refl), refl),
+  (
+    (record { ae = refl; no_reset = refl }, (omega arith, refl), issue_allowed _ _ 0 refl (omega arith) refl refl queued_read (0x28000 ∷ []) first_says (λ n more says is. refl)),
+    tt,
+  ),
+)
+
 abbrev pub one_issued : Device
-one_issued = run (queue 0 1) started
+one_issued = issued_at 0x400
 
 pub one_issued_reached : IsReached one_issued
-unfolding changed
-one_issued_reached = reached_more started_reached (queue 0 1)
-    ((record { ae = refl; no_reset = refl }, (omega arith, refl), refl),
-    ((record { ae = refl; no_reset = refl }, (omega arith, refl), issue_allowed _ _ 0 refl (omega arith) refl refl queued_read (0x28000 ∷ []) first_says (λ n more says is. refl)),
-    tt))
+one_issued_reached = issued_at_reached 0x400 refl (omega arith)
 
 abbrev pub issued : Device
 issued = run (queue 0 2) one_issued
 
 pub issued_reached : IsReached issued
 unfolding changed
-issued_reached = reached_more one_issued_reached (queue 0 2)
-    ((record { ae = refl; no_reset = refl }, (omega arith, refl), refl),
-    ((record { ae = refl; no_reset = refl }, (omega arith, refl), issue_allowed _ _ 1 refl (omega arith) refl refl queued_read (0x29000 ∷ []) second_says (λ n more says is. refl)),
-    tt))
+issued_reached = reached_more one_issued_reached (queue 0 2) (
+  (record { ae = refl; no_reset = refl }, (omega arith, refl), refl),
+  (
+    (record { ae = refl; no_reset = refl }, (omega arith, refl), issue_allowed _ _ 1 refl (omega arith) refl refl queued_read (0x29000 ∷ []) second_says (λ n more says is. refl)),
+    tt,
+  ),
+)
 
 -- ---- safe
 
@@ -76,7 +88,7 @@ either_slot k h =
 
 issued_elsewhere : (q : ℕ) → q ≢ 0 → issued.port q ≡ first.port q
 unfolding are_of is_of
-issued_elsewhere q other = run_elsewhere 0 (queue 0 2) one_issued refl q other ∙ (run_elsewhere 0 (queue 0 1) started refl q other ∙ started_elsewhere q other)
+issued_elsewhere q other = run_elsewhere 0 (queue 0 2) one_issued refl q other ∙ (run_elsewhere 0 (queue 0 1) (started 0x400) refl q other ∙ started_elsewhere 0x400 q other)
 
 issued_here : IsGuardedPort (Passing (is_in kept)) (Passing (is_in kept)) memory (issued.port 0)
 unfolding changed spares
@@ -99,6 +111,9 @@ issued_safe = record {
 
 not_a_trim : ReadQueued ≡ Trim → ⊥
 not_a_trim e = (cc)
+
+pub no_steps : Steps issued issued
+no_steps = record { steps = []; lead = refl }
 
 -- ---- the commands are taken, and the second ends first
 

@@ -1,9 +1,9 @@
 -- The memory that the runs begin with: commands for two queued reads and a trim on port 0, and a read on port 1; each of one PRD.
-use Rattle.std.proofs.Common.{ℕ, ◌≡◌, ◌<◌, ◌≤◌, ◌+◌, ◌*◌, ◌^◌, ◌%◌, Bool, true, false, cond, List, [], ◌∷◌, ◌++◌, length, slice_index, replicate, refl, zero, suc, All, arith}
+use Rattle.std.proofs.Common.{ℕ, ◌≡◌, ◌<◌, ◌+◌, ◌*◌, ◌^◌, ◌%◌, true, cond, List, [], ◌∷◌, ◌++◌, length, replicate, refl, zero, suc, All, arith}
 use Rattle.byteorder.specs.Endian.{little_from}
-use Rattle.adapter.specs.Commands.{Meaning, IsMeaning, command_of, is_ranged, pieces_moved, reads_memory}
+use Rattle.adapter.specs.Commands.{Meaning, IsMeaning, command_of, pieces_moved, reads_memory}
 use Rattle.adapter.specs.Memory.{patched, bytes_at}
-use Rattle.adapter.specs.Says.{Says, IsWhole, pieces}
+use Rattle.adapter.specs.Says.{Says, IsWhole}
 use Rattle.adapter.specs.Spelling.{SpellsCommand, SpellsPrd}
 use Rattle.adapter.specs.declared.command.Operation.TheVariants.{ReadQueued, Trim}
 use Rattle.adapter.specs.declared.command.Prd.{Prd}

@@ -1,11 +1,10 @@
 -- Sets of bytes by their ranges, and tests that tell what is in them.
-use Rattle.std.proofs.Common.{ℕ, zero, suc, ◌≡◌, ◌<◌, ◌≤◌, ◌+◌, ◌&&◌, ◌||◌, Bool, true, false, List, [], ◌∷◌, length, slice_index, slice_index_or, nat_le, nat_lt, nat_eq, ◌⊎◌, inl, inr, arith, refl, sym, ap, ◌∙◌, ◌-◌, All}
+use Rattle.std.proofs.Common.{ℕ, zero, suc, ◌≡◌, ◌<◌, ◌≤◌, ◌+◌, ◌&&◌, ◌||◌, Bool, true, false, List, [], ◌∷◌, length, slice_index, slice_index_or, nat_le, nat_lt, nat_eq, ◌⊎◌, inl, inr, arith, refl, ap, ◌∙◌, ◌-◌, All}
 use Rattle.std.proofs.lemmas.Bool.{eqb-true, ltb-true}
 use Rattle.std.proofs.lemmas.Bool.Decides.{nat_tests, eqb_tells, leb_tells}
 use Rattle.adapter.specs.Device.{IsSector}
 use Rattle.adapter.specs.Guarded.{Passing, Holds, Spares, Avoids}
 use Rattle.adapter.specs.Memory.{patched}
-use Rattle.adapter.specs.Rules.{InPlaces}
 use Rattle.adapter.specs.Spelling.{AreZero}
 
 -- the bytes from one address up to another

@@ -1,16 +1,15 @@
 -- A port is brought up: its command list and received FIS area are programmed, the link comes up, and it runs.
-use Rattle.std.proofs.Common.{ℕ, ◌≡◌, ◌≢◌, ◌∙◌, ◌<◌, ◌⊎◌, true, false, List, [], ◌∷◌, None, length, inl, inr, arith, refl}
+use Rattle.std.proofs.Common.{ℕ, ◌≡◌, ◌≢◌, ◌∙◌, ◌+◌, ◌*◌, ◌%◌, ◌≤◌, true, List, [], ◌∷◌, inl, inr, arith, refl}
 use Rattle.ata_types.specs.declared.Port.{Port}
 use Rattle.hba_regs.specs.declared.reg.Reg.TheVariants.{Ghc, Px}
 use Rattle.hba_regs.specs.declared.reg.PortReg.TheVariants.{Clb, Clbu, Fb, Fbu, Cmd, Tfd, Ssts, Sctl}
 use Rattle.adapter.specs.Access.Access.{Reading, Writing}
-use Rattle.adapter.specs.Device.{Device, PortState}
+use Rattle.adapter.specs.Device.{Device}
 use Rattle.adapter.specs.Memory.{changed}
 use Rattle.adapter.specs.Steps.Step.{LinkUp}
-use Rattle.adapter_runs.specs.Runs.{Event, IsReached, MayAllCome, run}
+use Rattle.adapter_runs.specs.Runs.{Event, IsReached, run}
 use Rattle.adapter_runs.specs.Runs.Event.{Made, Came}
-use Rattle.adapter_runs.proofs.Ports.{are_of, is_of, first, first_reached, reached_more, run_elsewhere, same_others, others_are}
-use Rattle.adapter_runs.proofs.Sets.{true-false}
+use Rattle.adapter_runs.proofs.Ports.{are_of, is_of, first, first_reached, may_receive, may_start, reached_more, run_elsewhere, same_others}
 
 abbrev pub at_port : ℕ → Port
 at_port p = record { 0 = p }
@@ -37,48 +36,63 @@ on = run switch_on first
 pub on_reached : IsReached on
 on_reached = reached_more first_reached switch_on (tt, tt)
 
-abbrev pub prepared : Device
-prepared = run (prepare 0 0 0x400) on
+-- where the received FIS area is, is the driver's choice
+abbrev pub prepared : ℕ → Device
+prepared area = run (prepare 0 0 area) on
 
-pub prepared_reached : IsReached prepared
+pub prepared_reached : (area : ℕ) → area % 256 ≡ 0 → area + 256 ≤ 4096 * 256 → IsReached (prepared area)
 unfolding changed same_others
-prepared_reached = reached_more on_reached (prepare 0 0 0x400)
-    ((record { ae = refl; no_reset = refl }, (omega arith, refl), (refl, refl, refl, omega arith)),
-    ((record { ae = refl; no_reset = refl }, (omega arith, refl), (refl, refl, refl)),
-    ((record { ae = refl; no_reset = refl }, (omega arith, refl), (refl, refl, refl, omega arith)),
-    ((record { ae = refl; no_reset = refl }, (omega arith, refl), (refl, refl, refl)),
-    ((record { ae = refl; no_reset = refl }, (omega arith, refl), record {
-      start = λ h. absurd (true-false h refl);
-      receive = λ _. inr (record { fallen = refl; fb = refl; fbu = refl });
-      stop_receiving = λ h. absurd (true-false refl h);
-      others = others_are 0x10 0 refl;
-    }),
-    ((record { ae = refl; no_reset = refl }, (omega arith, refl), (refl, inr refl)),
-    ((record { ae = refl; no_reset = refl }, (omega arith, refl), (refl, inl refl)),
-    tt)))))))
+prepared_reached area aligned inside = reached_more on_reached (prepare 0 0 area) (
+  (record { ae = refl; no_reset = refl }, (omega arith, refl), (refl, refl, refl, omega arith)),
+  (
+    (record { ae = refl; no_reset = refl }, (omega arith, refl), (refl, refl, refl)),
+    (
+      (record { ae = refl; no_reset = refl }, (omega arith, refl), (refl, refl, aligned, inside)),
+      (
+        (record { ae = refl; no_reset = refl }, (omega arith, refl), (refl, refl, refl)),
+        (
+          (record { ae = refl; no_reset = refl }, (omega arith, refl), may_receive _ refl refl refl refl),
+          (
+            (record { ae = refl; no_reset = refl }, (omega arith, refl), (refl, inr refl)),
+            (
+              (record { ae = refl; no_reset = refl }, (omega arith, refl), (refl, inl refl)),
+              tt,
+            ),
+          ),
+        ),
+      ),
+    ),
+  ),
+)
 
-abbrev pub started : Device
-started = run (start 0) prepared
+abbrev pub started : ℕ → Device
+started area = run (start 0) (prepared area)
 
-pub started_reached : IsReached started
+pub started_reached : (area : ℕ) → area % 256 ≡ 0 → area + 256 ≤ 4096 * 256 → IsReached (started area)
 unfolding changed same_others
-started_reached = reached_more prepared_reached (start 0)
-    (record { present = refl; det = refl; due = refl; fits = omega arith },
-    (((record { ae = refl; no_reset = refl }, (omega arith, refl)), refl),
-    (((record { ae = refl; no_reset = refl }, (omega arith, refl)), refl),
-    ((record { ae = refl; no_reset = refl }, (omega arith, refl), record {
-      start = λ _. inr (record { fallen = refl; receives = refl; programmed = record { clb = refl; clbu = refl; fb = refl; fbu = refl }; link = refl; not_busy = refl });
-      receive = λ _. inl refl;
-      stop_receiving = λ h. absurd (true-false refl h);
-      others = others_are 0x11 0 refl;
-    }),
-    tt))))
+started_reached area aligned inside = reached_more (prepared_reached area aligned inside) (start 0) (
+  record { present = refl; det = refl; due = refl; fits = omega arith },
+  (
+    ((record { ae = refl; no_reset = refl }, (omega arith, refl)), refl),
+    (
+      ((record { ae = refl; no_reset = refl }, (omega arith, refl)), refl),
+      (
+        (
+          record { ae = refl; no_reset = refl },
+          (omega arith, refl),
+          may_start _ refl refl (record { clb = refl; clbu = refl; fb = refl; fbu = refl }) refl refl refl,
+        ),
+        tt,
+      ),
+    ),
+  ),
+)
 
 -- the other ports are as they were
-pub prepared_elsewhere : (q : ℕ) → q ≢ 0 → prepared.port q ≡ first.port q
+pub prepared_elsewhere : (area q : ℕ) → q ≢ 0 → (prepared area).port q ≡ first.port q
 unfolding are_of is_of
-prepared_elsewhere q other = run_elsewhere 0 (prepare 0 0 0x400) on refl q other
+prepared_elsewhere area q other = run_elsewhere 0 (prepare 0 0 area) on refl q other
 
-pub started_elsewhere : (q : ℕ) → q ≢ 0 → started.port q ≡ first.port q
+pub started_elsewhere : (area q : ℕ) → q ≢ 0 → (started area).port q ≡ first.port q
 unfolding are_of is_of
-started_elsewhere q other = run_elsewhere 0 (start 0) prepared refl q other ∙ prepared_elsewhere q other
+started_elsewhere area q other = run_elsewhere 0 (start 0) (prepared area) refl q other ∙ prepared_elsewhere area q other

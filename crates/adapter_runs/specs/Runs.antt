@@ -1,5 +1,5 @@
 -- Runs of an adapter with its driver: accesses that keep to the rules, and steps of the device (this project's own).
-use Rattle.std.specs.Prelude.{ℕ, Bool, true, ◌≡◌, ◌≢◌, List, [], ◌∷◌, ◌++◌, Some, length}
+use Rattle.std.specs.Prelude.{ℕ, Bool, true, ◌≡◌, List, [], ◌∷◌, Some, length}
 use Rattle.adapter.specs.Access.{Access, Shows, noted, written}
 use Rattle.adapter.specs.Access.Access.{Reading, Writing, Loading, Storing}
 use Rattle.adapter.specs.Commands.{is_queued}
@@ -17,7 +17,7 @@ pub data Event : Type 0 where
   Made : Access → Event
   Came : Step → Event
 
--- the access keeps to the rules, and what it gives is what it shows
+-- the access keeps to the rules in the state in which it is made, and what it gives is what is there
 abbrev pub IsAllowed : Access → Device → Type 0
 IsAllowed (Reading r v) d = MayRead r d × Shows r v d
 IsAllowed (Writing r v) d = MayWrite r v d

@@ -6,14 +6,17 @@ ghost use Rattle.adapter.specs.Steps.Step.{FetchFault as SenselessFetch};
 ghost use Rattle.adapter_runs.specs.Runs.{Comes, ComesSafely, HasFailed, IsBeingReset, IsSafe, Kind, SecondEndsFirst};
 ghost use Rattle.adapter_runs.specs.Runs.Kind.{FetchFault};
 
-use adapter::laws::kept_bytes_stay;
+use adapter::laws::{kept_bytes_stay, saying_is_one};
 
 /// Each step of the device can come, in a state that an idle adapter comes to by accesses that keep to the rules: and where its
 /// commands stand on bytes that no step changes, but for the one on bytes that mean no command.
 pub fn each_step_can_come()
     ensures safely { (kind : Kind) → kind ≢ FetchFault → ComesSafely kind }
     ensures senseless { Comes FetchFault }
-{}
+{
+    kept_bytes_stay();
+    saying_is_one();
+}
 
 /// Where the commands stand on bytes that no step changes, none is taken for no command.
 pub fn safe_commands_make_sense()
