@@ -1,0 +1,9 @@
+pub mod Sets
+pub mod Scene
+pub mod Ports
+pub mod Started
+pub mod Queued
+pub mod Resetting
+pub mod Trimming
+pub mod Stopping
+pub mod Senseless

@@ -1,0 +1,129 @@
+-- Runs of an adapter with its driver: accesses that keep to the rules, and steps of the device (this project's own).
+use Rattle.std.specs.Prelude.{ℕ, Bool, true, ◌≡◌, List, [], ◌∷◌, Some, length}
+use Rattle.adapter.specs.Access.{Access, Shows, noted, written}
+use Rattle.adapter.specs.Access.Access.{Reading, Writing, Loading, Storing}
+use Rattle.adapter.specs.Commands.{is_queued}
+use Rattle.adapter.specs.Device.{Taken, Device}
+use Rattle.adapter.specs.Device.Halt.{HaltedQueued}
+use Rattle.adapter.specs.Guarded.{IsGuarded, Passing}
+use Rattle.adapter.specs.Idle.{IsIdle, IsSane}
+use Rattle.adapter.specs.Memory.{patched, bytes_at}
+use Rattle.adapter.specs.Rules.{InUse, IsFree, MayRead, MayWrite}
+use Rattle.adapter.specs.Steps.{Step, Can, after}
+use Rattle.adapter.specs.Steps.Step.{Fetch as Fetching, FetchFault as SenselessFetching, Move as Moving, Clear as Clearing, Done as Ending, Fault as Failing, Fatal as FailingFatally, Fall as Falling, FrFall as FallingSilent, LinkUp as Linking, Unplug as Unplugging, Plug as Plugging, ResetEnds as EndingReset, Scribble as Scribbling}
+
+-- an access of the driver, or a step of the device
+pub data Event : Type 0 where
+  Made : Access → Event
+  Came : Step → Event
+
+-- the access keeps to the rules in the state in which it is made, and what it gives is what is there
+abbrev pub IsAllowed : Access → Device → Type 0
+IsAllowed (Reading r v) d = MayRead r d × Shows r v d
+IsAllowed (Writing r v) d = MayWrite r v d
+IsAllowed (Loading at bytes) d = IsFree at (length bytes) d × (bytes ≡ bytes_at d.memory at (length bytes))
+IsAllowed (Storing at bytes) d = IsFree at (length bytes) d
+
+abbrev pub after_access : Access → Device → Device
+after_access (Reading r v) d = noted r v d
+after_access (Writing r v) d = written r v d
+after_access (Loading at bytes) d = d
+after_access (Storing at bytes) d = record d { memory = patched d.memory at bytes }
+
+abbrev pub MayCome : Event → Device → Type 0
+MayCome (Made access) d = IsAllowed access d
+MayCome (Came step) d = Can step d
+
+abbrev pub after_event : Event → Device → Device
+after_event (Made access) d = after_access access d
+after_event (Came step) d = after step d
+
+-- what events, the first of them first, lead to, and that each of them may come where it does
+abbrev pub run : List Event → Device → Device
+run [] d = d
+run (event ∷ events) d = run events (after_event event d)
+
+abbrev pub MayAllCome : List Event → Device → Type 0
+MayAllCome [] d = Unit {0}
+MayAllCome (event ∷ events) d = MayCome event d × MayAllCome events (after_event event d)
+
+-- An idle adapter, handed over to its driver, has come to this state.
+pub record IsReached (d : Device) : Type 0 where
+  pub first : Device
+  pub idle : IsIdle first
+  pub sane : IsSane first
+  pub events : List Event
+  pub may : MayAllCome events first
+  pub is : d ≡ run events first
+
+-- Its commands stand on bytes that no step of the device changes.
+pub record IsSafe (d : Device) : Type 0 where
+  pub tables : ℕ → Bool
+  pub kept : ℕ → Bool
+  pub guarded : IsGuarded (Passing tables) (Passing kept) d
+
+-- ---- the kinds of steps
+
+pub data Kind : Type 0 where
+  Fetch FetchFault Move Clear Done Fault Fatal Fall FrFall LinkUp Unplug Plug ResetEnds Scribble : Kind
+
+abbrev pub kind_of : Step → Kind
+kind_of (Fetching port slot meaning places) = Fetch
+kind_of (SenselessFetching port slot queued kept_bits) = FetchFault
+kind_of (Moving port slot t bytes) = Move
+kind_of (Clearing port slot t first count) = Clear
+kind_of (Ending port slot flag t) = Done
+kind_of (Failing port slot error kept_bits t) = Fault
+kind_of (FailingFatally port place) = Fatal
+kind_of (Falling port) = Fall
+kind_of (FallingSilent port) = FrFall
+kind_of (Linking port sig n) = LinkUp
+kind_of (Unplugging port) = Unplug
+kind_of (Plugging port disk) = Plug
+kind_of EndingReset = ResetEnds
+kind_of (Scribbling port slot at bytes) = Scribble
+
+-- a step of the kind can come, in a state that an idle adapter comes to
+pub record Comes (kind : Kind) : Type 0 where
+  pub device : Device
+  pub reached : IsReached device
+  pub step : Step
+  pub kind_is : kind_of step ≡ kind
+  pub can : Can step device
+
+-- the same in a state in which the commands are safe
+pub record ComesSafely (kind : Kind) : Type 0 where
+  pub comes : Comes kind
+  pub safe : IsSafe comes.device
+
+-- ---- what runs come to
+
+-- Two queued commands were taken, and the second may end before the first; the first is taken still then.
+pub record SecondEndsFirst : Type 0 where
+  pub device : Device
+  pub reached : IsReached device
+  pub safe : IsSafe device
+  pub one : Taken
+  pub other : Taken
+  pub queued : (is_queued one.meaning.operation ≡ true) × (is_queued other.meaning.operation ≡ true)
+  pub taken : (device.port 0).taken 0 ≡ Some one
+  pub ends : Can (Ending 0 1 3 other) device
+  pub stays : ((after (Ending 0 1 3 other) device).port 0).taken 0 ≡ Some one
+
+-- A queued command has failed while another was taken.
+pub record HasFailed : Type 0 where
+  pub device : Device
+  pub reached : IsReached device
+  pub safe : IsSafe device
+  pub halted : (device.port 0).halt ≡ HaltedQueued
+  pub told : (device.port 0).is 30 ≡ true
+  pub other : InUse (device.port 0) 1
+
+-- A reset of the adapter is pending, and two ports have commands in use.
+pub record IsBeingReset : Type 0 where
+  pub device : Device
+  pub reached : IsReached device
+  pub safe : IsSafe device
+  pub pending : device.hr ≡ true
+  pub first_used : InUse (device.port 0) 0
+  pub second_used : InUse (device.port 1) 0

@@ -1,0 +1,43 @@
+// Laws on runs: the clause is the theorem. Nothing calls these functions.
+ghost use Rattle.std.specs.Prelude.{◌≢◌, Bool, ℕ};
+ghost use Rattle.adapter.specs.Device.{Device};
+ghost use Rattle.adapter.specs.Steps.{Can};
+ghost use Rattle.adapter.specs.Steps.Step.{FetchFault as SenselessFetch};
+ghost use Rattle.adapter_runs.specs.Runs.{Comes, ComesSafely, HasFailed, IsBeingReset, IsSafe, Kind, SecondEndsFirst};
+ghost use Rattle.adapter_runs.specs.Runs.Kind.{FetchFault};
+
+use adapter::laws::{kept_bytes_stay, saying_is_one};
+
+/// Each step of the device can come, in a state that an idle adapter comes to by accesses that keep to the rules: and where its
+/// commands stand on bytes that no step changes, but for the one on bytes that mean no command.
+pub fn each_step_can_come()
+    ensures safely { (kind : Kind) → kind ≢ FetchFault → ComesSafely kind }
+    ensures senseless { Comes FetchFault }
+{
+    kept_bytes_stay();
+    saying_is_one();
+}
+
+/// Where the commands stand on bytes that no step changes, none is taken for no command.
+pub fn safe_commands_make_sense()
+    ensures { (d : Device) (port slot kept_bits : ℕ) (queued : Bool) → IsSafe d → Can (SenselessFetch port slot queued kept_bits) d → ⊥ }
+{}
+
+/// Queued commands may end in another order than that in which they were issued.
+pub fn a_second_command_ends_first()
+    ensures { SecondEndsFirst }
+{
+    kept_bytes_stay();
+}
+
+/// A queued command may fail beside another.
+pub fn a_command_fails_beside_another()
+    ensures { HasFailed }
+{
+    kept_bytes_stay();
+}
+
+/// A reset of the adapter may be pending while two of its ports are in use.
+pub fn two_used_ports_are_reset()
+    ensures { IsBeingReset }
+{}
