@@ -323,7 +323,7 @@ impl<S: SectorStore> Model<S> {
         ensures queue { self.new.queue ≡ self.old.queue }
         ensures accesses { self.new.accesses ≡ self.old.accesses }
     {
-        if self.held[0] {
+        if self.held[0] || !self.hardware.has_command() {
             return;
         }
         self.identify_once();

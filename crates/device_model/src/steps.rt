@@ -166,6 +166,13 @@ impl Hardware {
         read_as(&self.memory, list, slot, Transfer::Identify).is_some()
     }
 
+    /// Whether a command of port 0 is issued or taken.
+    pub fn has_command(&self) -> bool
+        ensures { IsTrue result ↔ (((slice_index_or self.now.ports 0 blank).ci ≡ 0) × ((slice_index_or self.now.ports 0 blank).taken ≡ None) → ⊥) }
+    {
+        self.ports[0].ci != 0 || self.ports[0].taken.is_some()
+    }
+
     /// Whether a slot of port 0 has an IDENTIFY DEVICE that may be taken, or is taken and worked on.
     pub fn has_identify(&self, slot: u8) -> bool
         requires { slot < 32 }
