@@ -2,11 +2,11 @@
 ghost use Rattle.std.specs.Prelude.{◌≡◌, ◌≢◌, ◌↔◌, ◌<◌, ◌≤◌, ◌+◌, ◌-◌, ◌*◌, ◌^◌, ◌++◌, ◌∷◌, [], ℕ, Bool, List, true, false, is_some, ◌&&◌, min, max, map, length, slice_set, IsTrue, IfSome, IfOk, OnOk, OnErr};
 ghost use Rattle.std.specs.Vec.{vec_len, vec_capacity};
 ghost use Rattle.adapter.specs.Commands.{Meaning, is_ranged};
-ghost use Rattle.adapter.specs.Device.{Disk, Taken, IsSector};
+ghost use Rattle.adapter.specs.Device.{Device, Disk, Taken, IsSector};
 ghost use Rattle.adapter.specs.Idle.{IsIdle, IsSane};
 ghost use Rattle.adapter.specs.OneCommand.{IsFreeSlot};
-ghost use Rattle.adapter.specs.Access.{Reads, Writes, Loads, Stores, noted};
-ghost use Rattle.adapter.specs.Memory.{bytes_at};
+ghost use Rattle.adapter.specs.Access.{Reads, Writes, Loads, Stores, noted, written};
+ghost use Rattle.adapter.specs.Memory.{bytes_at, patched};
 ghost use Rattle.adapter.specs.Rules.{MayRead, MayWrite, IsFree, Stays};
 ghost use Rattle.adapter.specs.Steps.{Steps, Can, after, disk_after};
 ghost use Rattle.adapter.specs.Steps.Step.{Fetch, Move, Done, Unplug};
@@ -15,7 +15,7 @@ ghost use Rattle.device_model.specs.Fetched.{bytes_of};
 ghost use Rattle.device_model.specs.Finishing.{HasDisk, HasIdentify, HasMove, HasRoom, IsReady, IsStarved, StaysStarved};
 ghost use Rattle.device_model.specs.Paged.{AreHonest, IsHonest, IsItsPage, IsTurned, KeepsPages, lying, no_lies, serial_of_disk0};
 ghost use Rattle.device_model.specs.Tells.{disks_told};
-ghost use Rattle.device_model.specs.Queue.{DoesEach, due, not_due};
+ghost use Rattle.device_model.specs.Queue.{CountsAccess, DoesDue, DoesEach, due, not_due};
 ghost use Rattle.device_model.specs.Modelled.{device_at, cap_of, is_sure_at, IsNew};
 ghost use Rattle.device_model.specs.Held.{IsHeld, IsHolding, all_held, held_after, held_each, none_held};
 ghost use Rattle.device_model.specs.Settled.{IsSettled};
@@ -85,6 +85,7 @@ impl<S: SectorStore> Model<S> {
         ensures sure { IfOk result (λ m. is_sure_at S.is_sure m ≡ (S.is_sure disk0 && S.is_sure disk1)) }
         ensures made { IfOk result (λ m. IsNew config (S.size disk0) (S.told disk0) (device_at S.size S.told m)) }
         ensures held { IfOk result (λ m. m.held ≡ none_held) }
+        ensures queue { IfOk result (λ m. (m.queue.items ≡ []) × (m.accesses ≡ 0)) }
         ensures sated { IfOk result (λ m. m.hardware.starved ≡ false) }
         ensures says { IfOk result (λ m. m.says ≡ record { abilities = record { ncq = config.ncq; depth = config.depth; trim = config.trim }; lies = no_lies }) }
     {
@@ -189,6 +190,7 @@ impl<S: SectorStore> Model<S> {
         ensures pages { KeepsPages S.size self.old self.new }
         ensures sure { is_sure_at S.is_sure self.new ≡ is_sure_at S.is_sure self.old }
         ensures starved { StaysStarved self.old.hardware self.new.hardware }
+        ensures disks { (self.new.disk0 ≡ self.old.disk0) × (self.new.disk1 ≡ self.old.disk1) }
     {
         if self.hardware.ports[0].present {
             return false;
@@ -405,6 +407,7 @@ impl<S: SectorStore> Model<S> {
         ensures plugs { result ≡ false → s.now ≡ DeviceStep.Plug (record { 0 = 0 }) (record { 0 = 0 }) →
             ((device_at S.size S.told self.old).port 0).present ≡ false →
             (HasRoom self.old.hardware 1 → vec_len self.old.plugged < vec_capacity self.old.plugged → ⊥) × (self.new.hardware.starved ≡ true) }
+        ensures disks { (p : Port) (number : DiskNumber) → s.now ≡ DeviceStep.Plug p number → (self.new.disk0 ≡ self.old.disk0) × (self.new.disk1 ≡ self.old.disk1) }
         ensures knows { result ≡ true → (p : Port) (number : DiskNumber) → s.now ≡ DeviceStep.Plug p number → (p.0 ≡ 0) × (number.0 ≡ 0) }
         ensures holding { (p : Port) → IsHolding s.now p → (IsTrue result ↔ p.0 < 4) × (self.new ≡ record self.old { held = self.new.held }) }
     {
@@ -529,6 +532,7 @@ impl<S: SectorStore> Adapter for Model<S> {
     fn read(&mut self, r: Reg) -> u32
         requires { MayRead r (device_at S.size S.told self.old) }
         ensures reads { Reads r result (device_at S.size S.told self.old) (device_at S.size S.told self.new) }
+        ensures counts { CountsAccess self.old self.new }
         ensures settled { IsSettled self.new.held (device_at S.size S.told self.new) }
         ensures still { due self.new.accesses self.old.queue.items ≡ [] → (port : ℕ) → IsHeld self.new.held port →
             (device_at S.size S.told self.new).port port ≡ (noted r result (device_at S.size S.told self.old)).port port }
@@ -551,6 +555,8 @@ impl<S: SectorStore> Adapter for Model<S> {
     fn write(&mut self, r: Reg, v: u32)
         requires { Stays (MayWrite r v) (device_at S.size S.told self.old) }
         ensures writes { Writes r v (device_at S.size S.told self.old) (device_at S.size S.told self.new) }
+        ensures counts { CountsAccess self.old self.new }
+        ensures alone { (mid : Device) × DoesDue self.old self.new (device_at S.size S.told self.old) mid × (device_at S.size S.told self.new ≡ written r v mid) }
         ensures held { self.new.held ≡ held_each (due self.new.accesses self.old.queue.items) self.old.held }
         ensures pages { AreHonest self.old.queue.items → KeepsPages S.size self.old self.new }
         ensures sure { is_sure_at S.is_sure self.new ≡ is_sure_at S.is_sure self.old }
@@ -563,6 +569,8 @@ impl<S: SectorStore> Adapter for Model<S> {
     fn load(&mut self, addr: u32, out: &mut [u8])
         requires { Stays (IsFree addr (length out.old)) (device_at S.size S.told self.old) }
         ensures loads { Loads addr out.new (device_at S.size S.told self.old) (device_at S.size S.told self.new) }
+        ensures counts { CountsAccess self.old self.new }
+        ensures alone { DoesDue self.old self.new (device_at S.size S.told self.old) (device_at S.size S.told self.new) }
         ensures held { self.new.held ≡ held_each (due self.new.accesses self.old.queue.items) self.old.held }
         ensures pages { AreHonest self.old.queue.items → KeepsPages S.size self.old self.new }
         ensures sure { is_sure_at S.is_sure self.new ≡ is_sure_at S.is_sure self.old }
@@ -575,6 +583,9 @@ impl<S: SectorStore> Adapter for Model<S> {
     fn store(&mut self, addr: u32, bytes: &[u8])
         requires { Stays (IsFree addr (length bytes.now)) (device_at S.size S.told self.old) }
         ensures stores { Stores addr bytes.now (device_at S.size S.told self.old) (device_at S.size S.told self.new) }
+        ensures counts { CountsAccess self.old self.new }
+        ensures alone { (mid : Device) × DoesDue self.old self.new (device_at S.size S.told self.old) mid
+            × (device_at S.size S.told self.new ≡ record mid { memory = patched mid.memory addr bytes.now }) }
         ensures held { self.new.held ≡ held_each (due self.new.accesses self.old.queue.items) self.old.held }
         ensures pages { AreHonest self.old.queue.items → KeepsPages S.size self.old self.new }
         ensures sure { is_sure_at S.is_sure self.new ≡ is_sure_at S.is_sure self.old }
@@ -630,6 +641,7 @@ impl<S: SectorStore> Stepped for Model<S> {
         ensures plugs { result ≡ false → s.now ≡ DeviceStep.Plug (record { 0 = 0 }) (record { 0 = 0 }) →
             ((device_at S.size S.told self.old).port 0).present ≡ false →
             (HasRoom self.old.hardware 1 → vec_len self.old.plugged < vec_capacity self.old.plugged → ⊥) × (self.new.hardware.starved ≡ true) }
+        ensures disks { (p : Port) (number : DiskNumber) → s.now ≡ DeviceStep.Plug p number → (self.new.disk0 ≡ self.old.disk0) × (self.new.disk1 ≡ self.old.disk1) }
         ensures knows { result ≡ true → (p : Port) (number : DiskNumber) → s.now ≡ DeviceStep.Plug p number → (p.0 ≡ 0) × (number.0 ≡ 0) }
         ensures holding { (p : Port) → IsHolding s.now p → (IsTrue result ↔ p.0 < 4) × (self.new ≡ record self.old { held = self.new.held }) }
     {

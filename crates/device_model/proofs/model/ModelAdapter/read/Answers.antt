@@ -3,7 +3,8 @@ use Rattle.std.proofs.Common.{Bool, ◌≡◌, List, subst, sym, refl, ap, ◌�
 use Rattle.std.proofs.lemmas.Bool.Decides.{eqb_tells}
 use Rattle.adapter.specs.Device.{Device}
 use Rattle.device_model.specs.Held.{IsHeld, held_each}
-use Rattle.device_model.specs.Queue.{DoesEach, due}
+use Rattle.device_model.specs.Queue.{DoesEach, due, not_due}
+use Rattle.device_model.specs.declared.model.Queued.{Queued}
 use Rattle.device_model.specs.Settled.{IsSettled}
 use Rattle.adapter.specs.declared.access.DeviceStep.{DeviceStep}
 use Rattle.device_model.proofs.GoingOn.{each_reset}
@@ -89,3 +90,10 @@ returns-clause-freed g c =
     c.do_queued.ensures.held ∙ ap (λ n. held_each (due n c.args.self.now.queue.items) c.args.self.now.held) (sym c.identify.ensures.accesses) in
     let pending = each_reset _ _ _ c.do_queued.ensures.did in
     λ on some. c.identify.ensures.held ∙ c.settle.ensures.freed (pending ∙ on) (λ all. some (sym told ∙ all))
+
+pub returns-clause-counts : goal.returns-clause-counts
+returns-clause-counts g c = record {
+  counted = c.identify.ensures.accesses ∙ c.do_queued.ensures.counted;
+  waiting = ap (λ (q : Vec Queued). q.items) c.identify.ensures.queue
+      ∙ (c.do_queued.ensures.left ∙ ap (λ n. not_due n c.args.self.now.queue.items) (sym c.identify.ensures.accesses));
+}

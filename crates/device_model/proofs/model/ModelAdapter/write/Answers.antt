@@ -17,3 +17,9 @@ returns-clause-pages g c = λ honest.
     let o : Outside = outside_at g.S.SectorStore.size g.S.SectorStore.told c.do_queued.new.self in
     keeps_on g.S.SectorStore.size _ _ _ (c.do_queued.ensures.pages honest)
     (keeps_tape g.S.SectorStore.size c.do_queued.new.self _ refl refl (ap (λ (d : Device). d.tape) (c.write.ensures.written o) ∙ written_tape c.args.r c.args.v (device_of c.do_queued.new.self.hardware o)))
+
+pub returns-clause-counts : goal.returns-clause-counts
+returns-clause-counts g c = record { counted = c.do_queued.ensures.counted; waiting = c.do_queued.ensures.left }
+
+pub returns-clause-alone : goal.returns-clause-alone
+returns-clause-alone g c = (_, c.do_queued.ensures.did, c.write.ensures.written _)
