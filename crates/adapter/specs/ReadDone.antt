@@ -5,7 +5,7 @@ use Rattle.adapter.specs.Memory.{bytes_at, changed}
 use Rattle.adapter.specs.Commands.{Meaning}
 use Rattle.adapter.specs.Device.{IsDisk, Device}
 use Rattle.adapter.specs.OneCommand.{IsFreeSlot}
-use Rattle.adapter.specs.Steps.{Can, Steps, done_entry}
+use Rattle.adapter.specs.Steps.{Can, Steps, done_entry, noted_bytes}
 use Rattle.adapter.specs.Steps.Step.{Fetch}
 use Rattle.adapter.specs.declared.command.Operation.TheVariants.{Read}
 use Rattle.adapter.specs.declared.command.Direction.TheVariants.{ToMemory}
@@ -38,7 +38,7 @@ moves port slot first places told (suc n) =
       sector = first + n;
       address = slice_index places n;
       direction = ToMemory;
-      bytes = told (first + n);
+      bytes = noted_bytes (told (first + n));
     })
     ∷ []
 

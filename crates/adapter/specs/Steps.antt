@@ -1,6 +1,7 @@
 -- What the device may do by itself between two accesses, step by step: when each step is possible, and what it changes.
 -- The choices that the device makes stand in the step.
 use Rattle.std.specs.Prelude.{ℕ, Bool, true, false, ◌≡◌, ◌+◌, ◌*◌, ◌^◌, ◌<◌, ◌≤◌, ◌⊎◌, ◌&&◌, ◌||◌, List, [], ◌∷◌, ◌++◌, length, None, Some, IfSome, option_map, if◌then◌else◌, slice_index, bit_and, bit_or, take, drop, replicate, nat_le, nat_lt, nat_eq, All}
+use Rattle.std.specs.declared.snapshot.Snapshot.{Snapshot}
 use Rattle.adapter.specs.Memory.{patched, bytes_at, changed}
 use Rattle.adapter.specs.Commands.{Meaning, is_queued, is_ranged, reads_memory, direction_of}
 use Rattle.adapter.specs.Device.{Disk, IsTold, IsDisk, IsSector, Taken, Halt, PortState, Device}
@@ -307,6 +308,10 @@ with_port d port new = record d { port = changed d.port port new }
 abbrev pub recorded : Device → ℕ → PortState → Entry → Device
 recorded d port new entry = record d { port = changed d.port port new; tape = d.tape ++ entry ∷ [] }
 
+-- a move's bytes as its entry has them, for contracts alone
+abbrev pub noted_bytes : List ℕ → Snapshot (List ℕ)
+noted_bytes bytes = record { marker = record {}; value = bytes }
+
 abbrev pub move_of : ℕ → ℕ → Taken → List ℕ → tape_move.Move
 move_of port slot t bytes = record {
   port = record { 0 = port };
@@ -315,7 +320,7 @@ move_of port slot t bytes = record {
   sector = next_sector t;
   address = next_place t;
   direction = direction_of t.meaning.operation;
-  bytes = bytes;
+  bytes = noted_bytes bytes;
 }
 
 abbrev pub clear_entry : ℕ → ℕ → ℕ → ℕ → Entry

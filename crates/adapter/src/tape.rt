@@ -1,9 +1,10 @@
 // What the device did, as its tape tells it. Entries are named as the steps that leave them.
 use crate::command::{Direction, Operation};
 use ata_types::{Port, Slot};
+use std::snapshot::Snapshot;
 
 /// 512 bytes that a command moved between disk and memory.
-#[derive(Clone, Copy, Debug)]
+#[derive(Drop)]
 pub struct Move {
     pub port: Port,
     pub slot: Slot,
@@ -12,7 +13,8 @@ pub struct Move {
     pub sector: u64,
     pub address: u32,
     pub direction: Direction,
-    pub bytes: [u8; 512],
+    /// For contracts alone: nothing is kept of them when the program runs.
+    pub bytes: Snapshot<[u8; 512]>,
 }
 
 /// Sectors that a trim has made zero.
@@ -42,7 +44,7 @@ pub struct Fault {
 }
 
 /// One entry of the tape.
-#[derive(Clone, Copy, Debug)]
+#[derive(Drop)]
 pub enum Entry {
     Move(Move),
     Clear(Clear),

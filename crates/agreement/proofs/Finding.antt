@@ -163,7 +163,7 @@ page_is_read uses m port o v old new reached a h st u call clear =
 
 pub page_is_loaded : (uses : Uses) (m : Machine) (port : ℕ) (o : Operation) (bytes : List ℕ) (old new : Device) → IsReached m → Agrees uses m old → old.hr ≡ false → (old.port port).st ≡ true →
     uses port 0 ≡ Own o → IsOver (old.port port) 0 → Loads (scratch_of port) bytes old new → length bytes ≡ 512 →
-    (page : FindsPage uses m port o old new) × (bytes ≡ page.brought.move.bytes)
+    (page : FindsPage uses m port o old new) × (bytes ≡ page.brought.move.bytes.value)
 page_is_loaded uses m port o bytes old new reached a h st u over call size =
     let f : Follows uses m old new = load_follows uses m (scratch_of port) bytes old new reached a call in
     let k : Keeps old new = steps_keep call.steps in
@@ -185,8 +185,8 @@ page_read_adds k port o v new h st u call clear =
 
 pub page_load_adds : (k : Known) (port : ℕ) (o : Operation) (bytes : List ℕ) (new : Device) → k.device.hr ≡ false → (k.device.port port).st ≡ true → k.uses port 0 ≡ Own o →
     IsOver (k.device.port port) 0 → Loads (scratch_of port) bytes k.device new → length bytes ≡ 512 →
-    AddsSteps Knows k (record k { device = new }) (λ m steps. (page : FindsPage k.uses m port o k.device new) × AreStepsOf page.follows steps × (bytes ≡ page.brought.move.bytes))
+    AddsSteps Knows k (record k { device = new }) (λ m steps. (page : FindsPage k.uses m port o k.device new) × AreStepsOf page.follows steps × (bytes ≡ page.brought.move.bytes.value))
 page_load_adds k port o bytes new h st u over call size =
-    let all = found_adds k new (λ m. (page : FindsPage k.uses m port o k.device new) × (bytes ≡ page.brought.move.bytes)) (λ m found. found.0.follows)
+    let all = found_adds k new (λ m. (page : FindsPage k.uses m port o k.device new) × (bytes ≡ page.brought.move.bytes.value)) (λ m found. found.0.follows)
     (λ m reached a. page_is_loaded k.uses m port o bytes k.device new reached a h st u over call size) in
     record { adds = λ m reached x. let y = all.adds m reached x in (y.0, y.1, y.2, (y.3.0.0, y.3.1, y.3.0.1)) }

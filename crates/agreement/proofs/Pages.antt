@@ -321,10 +321,10 @@ page_is_awaited uses m port o since v old new r a w call clear =
     (page, (brought_since new.memory new.tape port.0 o since (new.port port.0).notes.st_set_at there page.brought).0)
 
 pub awaited_is_loaded : (uses : Uses) (m : Machine) (port : ℕ) (o : Operation) (since : ℕ) (bytes : List ℕ) (old new : Device) → IsReached m → Agrees uses m old → AwaitsPage uses port o since old → IsOver (old.port port) 0 →
-    Loads (scratch_of port) bytes old new → length bytes ≡ 512 → (b : Brought new.memory new.tape port o since) × (bytes ≡ b.move.bytes)
+    Loads (scratch_of port) bytes old new → length bytes ≡ 512 → (b : Brought new.memory new.tape port o since) × (bytes ≡ b.move.bytes.value)
 awaited_is_loaded uses m port o since bytes old new r a w over call size =
     let page = page_is_loaded uses m port o bytes old new r a w.off w.st w.own over call size in
     let y : AwaitsPage uses port o since new = steps_wait uses m port o since old new r a call.steps w in
     let come : HasCome new.tape port o since = come_of uses port o since new y (((steps_keep call.steps).port port).ci 0 over.issued) in
     let b = brought_since new.memory new.tape port o since (new.port port).notes.st_set_at come page.0.brought in
-    (b.0, page.1 ∙ ap (λ (x : tape_move.Move). x.bytes) (sym b.1))
+    (b.0, page.1 ∙ ap (λ (x : tape_move.Move). x.bytes.value) (sym b.1))

@@ -185,7 +185,7 @@ pub record Brought (memory : ℕ → ℕ) (tape : List Entry) (port : ℕ) (o : 
   pub here : tape ≡ before ++ entry.Move move ∷ later
   pub is_move : IsMove port o (entry.Move move)
   pub last : All (λ e. IsMove port o e → ⊥) later
-  pub bytes : bytes_at memory (scratch_of port) 512 ≡ move.bytes
+  pub bytes : bytes_at memory (scratch_of port) 512 ≡ move.bytes.value
 
 -- issued, and not taken yet
 pub record OwnWaits (p : PortState) (slot : ℕ) : Type 0 where

@@ -30,7 +30,7 @@ pub record IsTouch (m : Machine) (op : Op) (move : tape_move.Move) (steps : List
   pub place_is : move.address ≡ place_in pending.request.asked.frames.items number
   pub direction_is : move.direction ≡ direction_of move.operation
   pub lent : m.lent (frame_at pending.request.asked.frames.items (number / 8)) ≡ Some pending.request.id
-  pub step : steps ≡ Touch pending number (slice_index move.bytes) ∷ []
+  pub step : steps ≡ Touch pending number (slice_index move.bytes.value) ∷ []
 
 -- a page or a block went between disk and scratch frame: no step of the machine
 pub record IsPage (move : tape_move.Move) (steps : List Step) : Type 0 where

@@ -135,7 +135,7 @@ pub fn page_is_found()
     ensures load { (uses : Uses) (m : Machine) (port : ℕ) (o : Operation) (bytes : List ℕ) (old new : Device) → IsReached m → Agrees uses m old
         → old.hr ≡ false → (old.port port).st ≡ true → uses port 0 ≡ Own o → IsOver (old.port port) 0
         → Loads (scratch_of port) bytes old new → length bytes ≡ 512
-        → (page : FindsPage uses m port o old new) × (bytes ≡ page.brought.move.bytes) }
+        → (page : FindsPage uses m port o old new) × (bytes ≡ page.brought.move.bytes.value) }
     ensures read_adds { (k : Known) (port : Port) (o : Operation) (v : ℕ) (new : Device) → k.device.hr ≡ false
         → (k.device.port port.0).st ≡ true → k.uses port.0 0 ≡ Own o → Reads (Px port Ci) v k.device new → bit v 0 ≡ false
         → AddsSteps Knows k (record k { device = new })
@@ -145,7 +145,7 @@ pub fn page_is_found()
         → Loads (scratch_of port) bytes k.device new → length bytes ≡ 512
         → AddsSteps Knows k (record k { device = new })
         (λ m steps. (page : FindsPage k.uses m port o k.device new) × AreStepsOf page.follows steps
-        × (bytes ≡ page.brought.move.bytes)) }
+        × (bytes ≡ page.brought.move.bytes.value)) }
 {}
 
 /// While the driver waits for the page of a command of its own, over as many readings as it takes. The write of PxCI
@@ -167,7 +167,7 @@ pub fn page_is_awaited()
     ensures loaded { (uses : Uses) (m : Machine) (port : ℕ) (o : Operation) (since : ℕ) (bytes : List ℕ) (old new : Device)
         → IsReached m → Agrees uses m old → AwaitsPage uses port o since old → IsOver (old.port port) 0
         → Loads (scratch_of port) bytes old new → length bytes ≡ 512
-        → (b : Brought new.memory new.tape port o since) × (bytes ≡ b.move.bytes) }
+        → (b : Brought new.memory new.tape port o since) × (bytes ≡ b.move.bytes.value) }
 {}
 
 /// Where the commands of a request are over, the device uses none of the frames that are lent to it any more, whatever it does;

@@ -7,7 +7,7 @@ use Rattle.adapter.specs.Device.{Disk, PortState, Device, IsSector}
 use Rattle.adapter.specs.Idle.{IsIdlePort, IsIdle}
 use Rattle.adapter.specs.Memory.{patched, bytes_at}
 use Rattle.adapter.specs.Says.{Says, pieces}
-use Rattle.adapter.specs.Steps.{after, MayFetch, MayMove, Brings, with_fetch, with_move, with_done, done_entry, move_of, memory_after, next_place, next_sector}
+use Rattle.adapter.specs.Steps.{after, MayFetch, MayMove, Brings, with_fetch, with_move, with_done, done_entry, move_of, noted_bytes, memory_after, next_place, next_sector}
 use Rattle.adapter.specs.Steps.Step.{Move, Unplug, Plug}
 use Rattle.adapter.specs.declared.command.Direction.{Direction}
 use Rattle.adapter.specs.declared.command.Operation.{Operation}
@@ -38,7 +38,7 @@ moved_by port slot operation sector address direction bytes = record {
   sector = sector;
   address = address;
   direction = direction;
-  bytes = bytes;
+  bytes = noted_bytes bytes;
 }
 
 -- a command is taken

@@ -53,24 +53,24 @@ module _ {S : Type 0} (size : S → ℕ) where
     sectors = sectors;
     gained = [];
     tape = same ∙ sym (append-nil old.hardware.tape.items);
-    pages = All-nil (λ x. (m : Move) → x ≡ entry.Move m → m.operation ≡ Identify → IsItsPage (size old.disk0) old.says m.bytes);
+    pages = All-nil (λ x. (m : Move) → x ≡ entry.Move m → m.operation ≡ Identify → IsItsPage (size old.disk0) old.says m.bytes.value);
   }
 
   -- one more entry, which is no page or the disk's
   pub keeps_entry : (old new : Model S) (e : Entry) → new.says ≡ old.says → size new.disk0 ≡ size old.disk0 →
       new.hardware.tape.items ≡ old.hardware.tape.items ++ e ∷ [] →
-      ((m : Move) → e ≡ entry.Move m → m.operation ≡ Identify → IsItsPage (size old.disk0) old.says m.bytes) → KeepsPages size old new
+      ((m : Move) → e ≡ entry.Move m → m.operation ≡ Identify → IsItsPage (size old.disk0) old.says m.bytes.value) → KeepsPages size old new
   keeps_entry old new e says sectors more here = record {
     says = says;
     sectors = sectors;
     gained = e ∷ [];
     tape = more;
-    pages = all_one (λ x. (m : Move) → x ≡ entry.Move m → m.operation ≡ Identify → IsItsPage (size old.disk0) old.says m.bytes) e here;
+    pages = all_one (λ x. (m : Move) → x ≡ entry.Move m → m.operation ≡ Identify → IsItsPage (size old.disk0) old.says m.bytes.value) e here;
   }
 
   pub keeps_on : (a b c : Model S) → KeepsPages size a b → KeepsPages size b c → KeepsPages size a c
   keeps_on a b c first then =
-      let P : Entry → Type 0 = λ x. (m : Move) → x ≡ entry.Move m → m.operation ≡ Identify → IsItsPage (size a.disk0) a.says m.bytes in
+      let P : Entry → Type 0 = λ x. (m : Move) → x ≡ entry.Move m → m.operation ≡ Identify → IsItsPage (size a.disk0) a.says m.bytes.value in
       record {
         says = then.says ∙ first.says;
         sectors = then.sectors ∙ first.sectors;
@@ -83,13 +83,13 @@ module _ {S : Type 0} (size : S → ℕ) where
   -- a move was noted
   pub keeps_moved : (old new : Model S) (k : Transfer) (m : Move) → new.says ≡ old.says → size new.disk0 ≡ size old.disk0 →
       new.hardware.tape.items ≡ old.hardware.tape.items ++ entry.Move m ∷ [] → m.operation ≡ operation_of k →
-      (k ≡ transfer.Identify → IsItsPage (size old.disk0) old.says m.bytes) → KeepsPages size old new
+      (k ≡ transfer.Identify → IsItsPage (size old.disk0) old.says m.bytes.value) → KeepsPages size old new
   keeps_moved old new k m says sectors more named page =
       keeps_entry old new (entry.Move m) says sectors more
       (λ x e identify.
       let same : m ≡ x = cc in
       let kind : k ≡ transfer.Identify = is_identify k (sym named ∙ (ap (λ (y : Move). y.operation) same ∙ identify)) in
-      subst (λ (y : Move). IsItsPage (size old.disk0) old.says y.bytes) same (page kind))
+      subst (λ (y : Move). IsItsPage (size old.disk0) old.says y.bytes.value) same (page kind))
 
   -- a command ended, or didn't
   pub keeps_done : (o : Outside) (port slot : ℕ) (did : Bool) (old new : Model S) → new.says ≡ old.says → size new.disk0 ≡ size old.disk0 →

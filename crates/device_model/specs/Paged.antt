@@ -32,7 +32,7 @@ pub record IsItsPage (size : ℕ) (says : Description) (bytes : List ℕ) : Type
 
 -- each page of IDENTIFY DEVICE among these entries is this
 abbrev pub AreItsPages : ℕ → Description → List Entry → Type 0
-AreItsPages size says entries = All (λ e. (m : Move) → e ≡ entry.Move m → m.operation ≡ Identify → IsItsPage size says m.bytes) entries
+AreItsPages size says entries = All (λ e. (m : Move) → e ≡ entry.Move m → m.operation ≡ Identify → IsItsPage size says m.bytes.value) entries
 
 -- A model's disk 0 tells of itself as it did: so many sectors, these abilities and these lies; and each page that the tape has gained
 -- meanwhile tells so.

@@ -28,6 +28,8 @@ pub struct Hardware {
     pub ae: bool,
     pub ie: bool,
     pub tape: Vec<Entry>,
+    /// Whether a step was left out since there was no memory to note it.
+    pub starved: bool,
 }
 
 /// VS: version 1.3.1.
@@ -100,7 +102,8 @@ impl Hardware {
     /// Notes what a register showed.
     pub fn note(&mut self, r: Reg, value: u32)
         requires { HasPort r }
-        ensures { (o : Outside) → device_of self.new o ≡ noted r value (device_of self.old o) }
+        ensures notes { (o : Outside) → device_of self.new o ≡ noted r value (device_of self.old o) }
+        ensures starved { self.new.starved ≡ self.old.starved }
     {
         if let Reg::Px(port, r) = r {
             self.ports[usize::from(port.0)].note(r, value);
@@ -109,7 +112,8 @@ impl Hardware {
 
     /// GHC is written.
     fn set_global(&mut self, value: u32)
-        ensures { (o : Outside) → device_of self.new o ≡ written Reg.Ghc value (device_of self.old o) }
+        ensures written { (o : Outside) → device_of self.new o ≡ written Reg.Ghc value (device_of self.old o) }
+        ensures starved { self.new.starved ≡ self.old.starved }
     {
         self.hr = self.hr || is_set(value, 0);
         self.ae = is_set(value, 31);
@@ -119,7 +123,8 @@ impl Hardware {
     /// Writes a register.
     pub fn write(&mut self, r: Reg, value: u32)
         requires { HasPort r }
-        ensures { (o : Outside) → device_of self.new o ≡ written r value (device_of self.old o) }
+        ensures written { (o : Outside) → device_of self.new o ≡ written r value (device_of self.old o) }
+        ensures starved { self.new.starved ≡ self.old.starved }
     {
         match r {
             Reg::Ghc => self.set_global(value),
@@ -144,7 +149,8 @@ impl Hardware {
     /// Puts bytes into memory.
     pub fn store(&mut self, at: usize, bytes: &[u8])
         requires { at + length bytes.now ≤ length self.old.memory.items }
-        ensures { (o : Outside) → device_of self.new o ≡ record (device_of self.old o) { memory = patched (device_of self.old o).memory at bytes.now } }
+        ensures stored { (o : Outside) → device_of self.new o ≡ record (device_of self.old o) { memory = patched (device_of self.old o).memory at bytes.now } }
+        ensures starved { self.new.starved ≡ self.old.starved }
     {
         put(&mut self.memory, at, bytes);
     }
@@ -156,6 +162,7 @@ impl Hardware {
         ensures ended { self.new.hr ≡ false }
         ensures number { length self.new.ports ≡ length self.old.ports }
         ensures tape { self.new.tape ≡ self.old.tape }
+        ensures starved { self.new.starved ≡ self.old.starved }
     {
         self.hr = false;
         self.ae = false;
@@ -172,6 +179,7 @@ impl Hardware {
         ensures freed { self.old.hr ≡ true → held.old ≢ all_held → held.new ≡ none_held }
         ensures number { length self.new.ports ≡ length self.old.ports }
         ensures tape { self.new.tape ≡ self.old.tape }
+        ensures starved { self.new.starved ≡ self.old.starved }
     {
         if self.hr && *held != [true; PORTS] {
             self.end_reset();
@@ -188,6 +196,7 @@ impl Hardware {
         ensures number { length self.new.ports ≡ length self.old.ports }
         ensures reset { self.new.hr ≡ self.old.hr }
         ensures tape { self.new.tape ≡ self.old.tape }
+        ensures starved { self.new.starved ≡ self.old.starved }
     {
         self.ports[port].settle();
     }
@@ -202,6 +211,7 @@ impl Hardware {
         ensures held { (self.old.hr ≡ true → held.old ≡ all_held) → held.new ≡ held.old }
         ensures freed { self.old.hr ≡ true → held.old ≢ all_held → held.new ≡ none_held }
         ensures tape { self.new.tape ≡ self.old.tape }
+        ensures starved { self.new.starved ≡ self.old.starved }
     {
         self.end_reset_unless_held(held);
         for port in 0..PORTS {

@@ -12,7 +12,7 @@ ghost use Rattle.adapter.specs.Steps.{Steps, Can, after, disk_after};
 ghost use Rattle.adapter.specs.Steps.Step.{Fetch, Move, Done, Unplug};
 ghost use Rattle.adapter.specs.Asked.{DoesMove, DoesPlug, GoesOn, Asked};
 ghost use Rattle.device_model.specs.Fetched.{bytes_of};
-ghost use Rattle.device_model.specs.Finishing.{HasDisk, HasIdentify, HasMove, HasRoom, IsReady};
+ghost use Rattle.device_model.specs.Finishing.{HasDisk, HasIdentify, HasMove, HasRoom, IsReady, IsStarved, StaysStarved};
 ghost use Rattle.device_model.specs.Paged.{AreHonest, IsHonest, IsItsPage, IsTurned, KeepsPages, lying, no_lies, serial_of_disk0};
 ghost use Rattle.device_model.specs.Tells.{disks_told};
 ghost use Rattle.device_model.specs.Queue.{DoesEach, due, not_due};
@@ -85,6 +85,7 @@ impl<S: SectorStore> Model<S> {
         ensures sure { IfOk result (λ m. is_sure_at S.is_sure m ≡ (S.is_sure disk0 && S.is_sure disk1)) }
         ensures made { IfOk result (λ m. IsNew config (S.size disk0) (S.told disk0) (device_at S.size S.told m)) }
         ensures held { IfOk result (λ m. m.held ≡ none_held) }
+        ensures sated { IfOk result (λ m. m.hardware.starved ≡ false) }
         ensures says { IfOk result (λ m. m.says ≡ record { abilities = record { ncq = config.ncq; depth = config.depth; trim = config.trim }; lies = no_lies }) }
     {
         let hardware = Hardware {
@@ -101,6 +102,7 @@ impl<S: SectorStore> Model<S> {
             ae: false,
             ie: false,
             tape: Vec::new(alloc),
+            starved: false,
         };
         let mut plugged = Vec::with_capacity(alloc, 1)?;
         remember(&mut plugged, &disk0);
@@ -130,6 +132,14 @@ impl<S: SectorStore> Model<S> {
         self.hardware.tape.as_slice()
     }
 
+    /// Whether a step of the device, one that was asked for, that was queued or that the model does by itself, was left out since there was no
+    /// memory to note it. From then on this is `true`, and what the model answers is no longer what an adapter with memory would.
+    pub fn starved(&self) -> bool
+        ensures { result ≡ self.now.hardware.starved }
+    {
+        self.hardware.starved
+    }
+
     /// Has the device do a step before the n-th access from now, if it is possible then. The next access is the first;
     /// 0 is read as 1. Steps before one access are done in the order in which they were queued.
     pub fn queue_step(&mut self, n: u64, step: DeviceStep) -> Result<(), NoMemory>
@@ -140,6 +150,7 @@ impl<S: SectorStore> Model<S> {
         ensures kept { OnErr result (self.new.queue.items ≡ self.old.queue.items) }
         ensures pages { KeepsPages S.size self.old self.new }
         ensures sure { is_sure_at S.is_sure self.new ≡ is_sure_at S.is_sure self.old }
+        ensures starved { StaysStarved self.old.hardware self.new.hardware }
     {
         let access = self.accesses.saturating_add(n.max(1));
         self.queue
@@ -153,13 +164,14 @@ impl<S: SectorStore> Model<S> {
         ensures did { result ≡ true → Can (Unplug 0) (device_at S.size S.told self.old)
             × (device_at S.size S.told self.new ≡ after (Unplug 0) (device_at S.size S.told self.old)) }
         ensures refused { result ≡ false → device_at S.size S.told self.new ≡ device_at S.size S.told self.old }
-        ensures only { result ≡ false → HasRoom self.old.hardware 1 → Can (Unplug 0) (device_at S.size S.told self.old) → ⊥ }
+        ensures only { result ≡ false → Can (Unplug 0) (device_at S.size S.told self.old) → IsStarved self.old.hardware self.new.hardware 1 }
         ensures idle { IsIdle (device_at S.size S.told self.old) → IsIdle (device_at S.size S.told self.new) }
         ensures held { self.new.held ≡ self.old.held }
         ensures queue { self.new.queue ≡ self.old.queue }
         ensures accesses { self.new.accesses ≡ self.old.accesses }
         ensures pages { KeepsPages S.size self.old self.new }
         ensures sure { is_sure_at S.is_sure self.new ≡ is_sure_at S.is_sure self.old }
+        ensures starved { StaysStarved self.old.hardware self.new.hardware }
     {
         self.hardware.unplug()
     }
@@ -169,15 +181,20 @@ impl<S: SectorStore> Model<S> {
     fn plug(&mut self) -> bool
         ensures did { result ≡ true → DoesPlug 0 0 (device_at S.size S.told self.old) (device_at S.size S.told self.new) }
         ensures refused { result ≡ false → device_at S.size S.told self.new ≡ device_at S.size S.told self.old }
-        ensures only { result ≡ false → HasRoom self.old.hardware 1 → vec_len self.old.plugged < vec_capacity self.old.plugged →
-            ((device_at S.size S.told self.old).port 0).present ≡ true }
+        ensures only { result ≡ false → ((device_at S.size S.told self.old).port 0).present ≡ false →
+            (HasRoom self.old.hardware 1 → vec_len self.old.plugged < vec_capacity self.old.plugged → ⊥) × (self.new.hardware.starved ≡ true) }
         ensures held { self.new.held ≡ self.old.held }
         ensures queue { self.new.queue ≡ self.old.queue }
         ensures accesses { self.new.accesses ≡ self.old.accesses }
         ensures pages { KeepsPages S.size self.old self.new }
         ensures sure { is_sure_at S.is_sure self.new ≡ is_sure_at S.is_sure self.old }
+        ensures starved { StaysStarved self.old.hardware self.new.hardware }
     {
+        if self.hardware.ports[0].present {
+            return false;
+        }
         if self.plugged.reserve(1).is_err() {
+            self.hardware.starved = true;
             return false;
         }
         if !self.hardware.plug() {
@@ -193,8 +210,8 @@ impl<S: SectorStore> Model<S> {
         requires { slot < 32 }
         ensures did { result ≡ true → DoesMove port slot (device_at S.size S.told self.old) (device_at S.size S.told self.new) }
         ensures refused { result ≡ false → device_at S.size S.told self.new ≡ device_at S.size S.told self.old }
-        ensures only { result ≡ false → is_sure_at S.is_sure self.old ≡ true → HasRoom self.old.hardware 1 → (device_at S.size S.told self.old).size ≤ 2 ^ 32 →
-            (t : Taken) → HasMove (device_at S.size S.told self.old) port slot t → ⊥ }
+        ensures only { result ≡ false → is_sure_at S.is_sure self.old ≡ true → (device_at S.size S.told self.old).size ≤ 2 ^ 32 →
+            (t : Taken) → HasMove (device_at S.size S.told self.old) port slot t → IsStarved self.old.hardware self.new.hardware 1 }
         ensures left { (n : ℕ) → HasRoom self.old.hardware (n + 1) → HasRoom self.new.hardware n }
         ensures disk { S.size self.new.disk0 ≡ S.size self.old.disk0 }
         ensures held { self.new.held ≡ self.old.held }
@@ -202,18 +219,21 @@ impl<S: SectorStore> Model<S> {
         ensures accesses { self.new.accesses ≡ self.old.accesses }
         ensures pages { KeepsPages S.size self.old self.new }
         ensures sure { is_sure_at S.is_sure self.new ≡ is_sure_at S.is_sure self.old }
+        ensures starved { StaysStarved self.old.hardware self.new.hardware }
     {
         // No other port has a disk.
         if port != 0 {
             return false;
         }
         // A sector that was written can't be taken back, so the memory of its entry is found first.
-        if !self.hardware.reserve(1) {
-            return false;
-        }
+        let room = self.hardware.reserve(1);
         let Some(next) = self.hardware.next_move(port, slot) else {
             return false;
         };
+        if !room {
+            self.hardware.starved = true;
+            return false;
+        }
         let mut bytes = [0; 512];
         if !exchange(
             &mut self.disk0,
@@ -238,12 +258,13 @@ impl<S: SectorStore> Model<S> {
         ensures ends { result ≡ true → is_sure_at S.is_sure self.old ≡ true → (device_at S.size S.told self.old).size ≤ 2 ^ 32 →
             IsFreeSlot ((device_at S.size S.told self.new).port port) slot }
         ensures only { result ≡ false → is_sure_at S.is_sure self.old ≡ true → (device_at S.size S.told self.old).size ≤ 2 ^ 32 → port ≡ 0 → (left : ℕ) →
-            HasRoom self.old.hardware (left + 1) → IsReady (device_at S.size S.told self.old) port slot (S.size self.old.disk0) left → ⊥ }
+            IsReady (device_at S.size S.told self.old) port slot (S.size self.old.disk0) left → IsStarved self.old.hardware self.new.hardware (left + 1) }
         ensures held { self.new.held ≡ self.old.held }
         ensures queue { self.new.queue ≡ self.old.queue }
         ensures accesses { self.new.accesses ≡ self.old.accesses }
         ensures pages { KeepsPages S.size self.old self.new }
         ensures sure { is_sure_at S.is_sure self.new ≡ is_sure_at S.is_sure self.old }
+        ensures starved { StaysStarved self.old.hardware self.new.hardware }
     {
         if port != 0 {
             return false;
@@ -253,6 +274,7 @@ impl<S: SectorStore> Model<S> {
             return false;
         };
         if !self.hardware.reserve(left as usize + 1) {
+            self.hardware.starved = true;
             return false;
         }
         let mut did = self.hardware.fetch(port, slot);
@@ -275,6 +297,7 @@ impl<S: SectorStore> Model<S> {
         ensures alone { ((slot : ℕ) → HasIdentify (device_at S.size S.told self.old) slot → ⊥) → device_at S.size S.told self.new ≡ device_at S.size S.told self.old }
         ensures pages { KeepsPages S.size self.old self.new }
         ensures sure { is_sure_at S.is_sure self.new ≡ is_sure_at S.is_sure self.old }
+        ensures starved { StaysStarved self.old.hardware self.new.hardware }
         ensures queue { self.new.queue ≡ self.old.queue }
         ensures accesses { self.new.accesses ≡ self.old.accesses }
     {
@@ -296,6 +319,7 @@ impl<S: SectorStore> Model<S> {
         ensures alone { ((slot : ℕ) → HasIdentify (device_at S.size S.told self.old) slot → ⊥) → device_at S.size S.told self.new ≡ device_at S.size S.told self.old }
         ensures pages { KeepsPages S.size self.old self.new }
         ensures sure { is_sure_at S.is_sure self.new ≡ is_sure_at S.is_sure self.old }
+        ensures starved { StaysStarved self.old.hardware self.new.hardware }
         ensures queue { self.new.queue ≡ self.old.queue }
         ensures accesses { self.new.accesses ≡ self.old.accesses }
     {
@@ -352,20 +376,21 @@ impl<S: SectorStore> Model<S> {
         ensures refused { result ≡ false → device_at S.size S.told self.new ≡ device_at S.size S.told self.old }
         ensures fetches { result ≡ false → (p : Port) (slot : Slot) (m : Meaning) (places : List ℕ) → s.now ≡ DeviceStep.Fetch p slot → p.0 < 4 → slot.0 < 32 →
             Takes m.operation → Can (Fetch p.0 slot.0 m places) (device_at S.size S.told self.old) → ⊥ }
-        ensures moves { result ≡ false → is_sure_at S.is_sure self.old ≡ true → HasRoom self.old.hardware 1 → (device_at S.size S.told self.old).size ≤ 2 ^ 32 →
-            (p : Port) (slot : Slot) (t : Taken) (bytes : List ℕ) → s.now ≡ DeviceStep.Move p slot → slot.0 < 32 →
-            HasDisk p.0 t.meaning.operation → Can (Move p.0 slot.0 t bytes) (device_at S.size S.told self.old) → ⊥ }
-        ensures dones { result ≡ false → HasRoom self.old.hardware 1 → (p : Port) (slot : Slot) (flag : ℕ) (t : Taken) →
-            s.now ≡ DeviceStep.Done p slot → p.0 < 4 → slot.0 < 32 → Can (Done p.0 slot.0 flag t) (device_at S.size S.told self.old) → ⊥ }
+        ensures moves { result ≡ false → is_sure_at S.is_sure self.old ≡ true → (device_at S.size S.told self.old).size ≤ 2 ^ 32 →
+            (p : Port) (slot : Slot) (t : Taken) (bytes : List ℕ) → s.now ≡ DeviceStep.Move p slot → slot.0 < 32 → HasDisk p.0 t.meaning.operation →
+            Can (Move p.0 slot.0 t bytes) (device_at S.size S.told self.old) → IsStarved self.old.hardware self.new.hardware 1 }
+        ensures dones { result ≡ false → (p : Port) (slot : Slot) (flag : ℕ) (t : Taken) → s.now ≡ DeviceStep.Done p slot → p.0 < 4 → slot.0 < 32 →
+            Can (Done p.0 slot.0 flag t) (device_at S.size S.told self.old) → IsStarved self.old.hardware self.new.hardware 1 }
         ensures finishes { result ≡ true → is_sure_at S.is_sure self.old ≡ true → (device_at S.size S.told self.old).size ≤ 2 ^ 32 →
             (p : Port) (slot : Slot) → s.now ≡ DeviceStep.Finish p slot → IsFreeSlot ((device_at S.size S.told self.new).port p.0) slot.0 }
         ensures ready { result ≡ false → is_sure_at S.is_sure self.old ≡ true → (device_at S.size S.told self.old).size ≤ 2 ^ 32 →
-            (p : Port) (slot : Slot) (left : ℕ) → s.now ≡ DeviceStep.Finish p slot → p.0 ≡ 0 → slot.0 < 32 → HasRoom self.old.hardware (left + 1) →
-            IsReady (device_at S.size S.told self.old) p.0 slot.0 (S.size self.old.disk0) left → ⊥ }
+            (p : Port) (slot : Slot) (left : ℕ) → s.now ≡ DeviceStep.Finish p slot → p.0 ≡ 0 → slot.0 < 32 →
+            IsReady (device_at S.size S.told self.old) p.0 slot.0 (S.size self.old.disk0) left → IsStarved self.old.hardware self.new.hardware (left + 1) }
         ensures queue { self.new.queue ≡ self.old.queue }
         ensures accesses { self.new.accesses ≡ self.old.accesses }
         ensures pages { IsHonest s.now → KeepsPages S.size self.old self.new }
         ensures sure { is_sure_at S.is_sure self.new ≡ is_sure_at S.is_sure self.old }
+        ensures starved { StaysStarved self.old.hardware self.new.hardware }
         ensures lies { result ≡ true → (p : Port) (page : DiskPage) (offset bits : ℕ) → s.now ≡ DeviceStep.Lie p page offset bits → p.0 ≡ 0 →
             self.new.says ≡ record self.old.says { lies = lying self.old.says.lies offset bits } }
         ensures truth { (p : Port) → s.now ≡ DeviceStep.Truth p → p.0 ≡ 0 → self.new.says ≡ record self.old.says { lies = no_lies } }
@@ -375,10 +400,11 @@ impl<S: SectorStore> Model<S> {
         ensures elsewhere_told { (p : Port) → s.now ≡ DeviceStep.Truth p → p.0 ≢ 0 → self.new.says ≡ self.old.says }
         ensures lied { result ≡ false → (p : Port) (page : DiskPage) (offset bits : ℕ) → s.now ≡ DeviceStep.Lie p page offset bits → offset < 512 → ⊥ }
         ensures held { self.new.held ≡ held_after s.now self.old.held }
-        ensures unplugs { result ≡ false → HasRoom self.old.hardware 1 → s.now ≡ DeviceStep.Unplug (record { 0 = 0 }) →
-            Can (Unplug 0) (device_at S.size S.told self.old) → ⊥ }
-        ensures plugs { result ≡ false → HasRoom self.old.hardware 1 → vec_len self.old.plugged < vec_capacity self.old.plugged →
-            s.now ≡ DeviceStep.Plug (record { 0 = 0 }) (record { 0 = 0 }) → ((device_at S.size S.told self.old).port 0).present ≡ true }
+        ensures unplugs { result ≡ false → s.now ≡ DeviceStep.Unplug (record { 0 = 0 }) → Can (Unplug 0) (device_at S.size S.told self.old) →
+            IsStarved self.old.hardware self.new.hardware 1 }
+        ensures plugs { result ≡ false → s.now ≡ DeviceStep.Plug (record { 0 = 0 }) (record { 0 = 0 }) →
+            ((device_at S.size S.told self.old).port 0).present ≡ false →
+            (HasRoom self.old.hardware 1 → vec_len self.old.plugged < vec_capacity self.old.plugged → ⊥) × (self.new.hardware.starved ≡ true) }
         ensures knows { result ≡ true → (p : Port) (number : DiskNumber) → s.now ≡ DeviceStep.Plug p number → (p.0 ≡ 0) × (number.0 ≡ 0) }
         ensures holding { (p : Port) → IsHolding s.now p → (IsTrue result ↔ p.0 < 4) × (self.new ≡ record self.old { held = self.new.held }) }
     {
@@ -415,6 +441,7 @@ impl<S: SectorStore> Model<S> {
         ensures held { self.new.held ≡ held_each (due self.new.accesses self.old.queue.items) self.old.held }
         ensures pages { AreHonest self.old.queue.items → KeepsPages S.size self.old self.new }
         ensures sure { is_sure_at S.is_sure self.new ≡ is_sure_at S.is_sure self.old }
+        ensures starved { StaysStarved self.old.hardware self.new.hardware }
     {
         self.accesses = self.accesses.saturating_add(1);
         let mut place = 0;
@@ -511,6 +538,7 @@ impl<S: SectorStore> Adapter for Model<S> {
             (device_at S.size S.told self.old).hr ≡ true → told ≢ all_held → self.new.held ≡ none_held }
         ensures pages { AreHonest self.old.queue.items → KeepsPages S.size self.old self.new }
         ensures sure { is_sure_at S.is_sure self.new ≡ is_sure_at S.is_sure self.old }
+        ensures starved { StaysStarved self.old.hardware self.new.hardware }
     {
         self.do_queued();
         self.hardware.settle(&mut self.held);
@@ -526,6 +554,7 @@ impl<S: SectorStore> Adapter for Model<S> {
         ensures held { self.new.held ≡ held_each (due self.new.accesses self.old.queue.items) self.old.held }
         ensures pages { AreHonest self.old.queue.items → KeepsPages S.size self.old self.new }
         ensures sure { is_sure_at S.is_sure self.new ≡ is_sure_at S.is_sure self.old }
+        ensures starved { StaysStarved self.old.hardware self.new.hardware }
     {
         self.do_queued();
         self.hardware.write(r, v);
@@ -537,6 +566,7 @@ impl<S: SectorStore> Adapter for Model<S> {
         ensures held { self.new.held ≡ held_each (due self.new.accesses self.old.queue.items) self.old.held }
         ensures pages { AreHonest self.old.queue.items → KeepsPages S.size self.old self.new }
         ensures sure { is_sure_at S.is_sure self.new ≡ is_sure_at S.is_sure self.old }
+        ensures starved { StaysStarved self.old.hardware self.new.hardware }
     {
         self.do_queued();
         self.hardware.load(addr as usize, out);
@@ -548,6 +578,7 @@ impl<S: SectorStore> Adapter for Model<S> {
         ensures held { self.new.held ≡ held_each (due self.new.accesses self.old.queue.items) self.old.held }
         ensures pages { AreHonest self.old.queue.items → KeepsPages S.size self.old self.new }
         ensures sure { is_sure_at S.is_sure self.new ≡ is_sure_at S.is_sure self.old }
+        ensures starved { StaysStarved self.old.hardware self.new.hardware }
     {
         self.do_queued();
         self.hardware.store(addr as usize, bytes);
@@ -558,8 +589,8 @@ impl<S: SectorStore> Adapter for Model<S> {
 
 impl<S: SectorStore> Stepped for Model<S> {
     /// Beside what every such adapter says: a fetch of a command that the model takes is refused only where it isn't
-    /// possible; a move and an end only where they aren't, the store failed, or the tape has no memory (of IDENTIFY DEVICE,
-    /// on port 0 alone); a Finish over a store that never fails ends the command, and on port 0, which alone has a disk, it
+    /// possible; a move and an end only where they aren't, the store failed, or the tape has no memory, as `starved` then tells (of IDENTIFY
+    /// DEVICE, on port 0 alone); a Finish over a store that never fails ends the command, and on port 0, which alone has a disk, it
     /// is refused only where a move of it isn't possible or the tape has no memory. A page of IDENTIFY DEVICE is that of
     /// disk 0. A hold and a release are refused only on a port past 3; on port 0, and there alone, an Unplug is refused only where no disk
     /// is in or the tape has no memory, and a Plug of disk 0 only where one is in or there is no memory to note it. A Plug of another disk is
@@ -570,20 +601,21 @@ impl<S: SectorStore> Stepped for Model<S> {
         ensures asked { result ≡ true → Asked s.now (device_at S.size S.told self.old) (device_at S.size S.told self.new) }
         ensures fetches { result ≡ false → (p : Port) (slot : Slot) (m : Meaning) (places : List ℕ) → s.now ≡ DeviceStep.Fetch p slot → p.0 < 4 → slot.0 < 32 →
             Takes m.operation → Can (Fetch p.0 slot.0 m places) (device_at S.size S.told self.old) → ⊥ }
-        ensures moves { result ≡ false → is_sure_at S.is_sure self.old ≡ true → HasRoom self.old.hardware 1 → (device_at S.size S.told self.old).size ≤ 2 ^ 32 →
-            (p : Port) (slot : Slot) (t : Taken) (bytes : List ℕ) → s.now ≡ DeviceStep.Move p slot → slot.0 < 32 →
-            HasDisk p.0 t.meaning.operation → Can (Move p.0 slot.0 t bytes) (device_at S.size S.told self.old) → ⊥ }
-        ensures dones { result ≡ false → HasRoom self.old.hardware 1 → (p : Port) (slot : Slot) (flag : ℕ) (t : Taken) →
-            s.now ≡ DeviceStep.Done p slot → p.0 < 4 → slot.0 < 32 → Can (Done p.0 slot.0 flag t) (device_at S.size S.told self.old) → ⊥ }
+        ensures moves { result ≡ false → is_sure_at S.is_sure self.old ≡ true → (device_at S.size S.told self.old).size ≤ 2 ^ 32 →
+            (p : Port) (slot : Slot) (t : Taken) (bytes : List ℕ) → s.now ≡ DeviceStep.Move p slot → slot.0 < 32 → HasDisk p.0 t.meaning.operation →
+            Can (Move p.0 slot.0 t bytes) (device_at S.size S.told self.old) → IsStarved self.old.hardware self.new.hardware 1 }
+        ensures dones { result ≡ false → (p : Port) (slot : Slot) (flag : ℕ) (t : Taken) → s.now ≡ DeviceStep.Done p slot → p.0 < 4 → slot.0 < 32 →
+            Can (Done p.0 slot.0 flag t) (device_at S.size S.told self.old) → IsStarved self.old.hardware self.new.hardware 1 }
         ensures finishes { result ≡ true → is_sure_at S.is_sure self.old ≡ true → (device_at S.size S.told self.old).size ≤ 2 ^ 32 →
             (p : Port) (slot : Slot) → s.now ≡ DeviceStep.Finish p slot → IsFreeSlot ((device_at S.size S.told self.new).port p.0) slot.0 }
         ensures ready { result ≡ false → is_sure_at S.is_sure self.old ≡ true → (device_at S.size S.told self.old).size ≤ 2 ^ 32 →
-            (p : Port) (slot : Slot) (left : ℕ) → s.now ≡ DeviceStep.Finish p slot → p.0 ≡ 0 → slot.0 < 32 → HasRoom self.old.hardware (left + 1) →
-            IsReady (device_at S.size S.told self.old) p.0 slot.0 (S.size self.old.disk0) left → ⊥ }
+            (p : Port) (slot : Slot) (left : ℕ) → s.now ≡ DeviceStep.Finish p slot → p.0 ≡ 0 → slot.0 < 32 →
+            IsReady (device_at S.size S.told self.old) p.0 slot.0 (S.size self.old.disk0) left → IsStarved self.old.hardware self.new.hardware (left + 1) }
         ensures queue { self.new.queue ≡ self.old.queue }
         ensures accesses { self.new.accesses ≡ self.old.accesses }
         ensures pages { IsHonest s.now → KeepsPages S.size self.old self.new }
         ensures sure { is_sure_at S.is_sure self.new ≡ is_sure_at S.is_sure self.old }
+        ensures starved { StaysStarved self.old.hardware self.new.hardware }
         ensures lies { result ≡ true → (p : Port) (page : DiskPage) (offset bits : ℕ) → s.now ≡ DeviceStep.Lie p page offset bits → p.0 ≡ 0 →
             self.new.says ≡ record self.old.says { lies = lying self.old.says.lies offset bits } }
         ensures truth { (p : Port) → s.now ≡ DeviceStep.Truth p → p.0 ≡ 0 → self.new.says ≡ record self.old.says { lies = no_lies } }
@@ -593,10 +625,11 @@ impl<S: SectorStore> Stepped for Model<S> {
         ensures elsewhere_told { (p : Port) → s.now ≡ DeviceStep.Truth p → p.0 ≢ 0 → self.new.says ≡ self.old.says }
         ensures lied { result ≡ false → (p : Port) (page : DiskPage) (offset bits : ℕ) → s.now ≡ DeviceStep.Lie p page offset bits → offset < 512 → ⊥ }
         ensures held { self.new.held ≡ held_after s.now self.old.held }
-        ensures unplugs { result ≡ false → HasRoom self.old.hardware 1 → s.now ≡ DeviceStep.Unplug (record { 0 = 0 }) →
-            Can (Unplug 0) (device_at S.size S.told self.old) → ⊥ }
-        ensures plugs { result ≡ false → HasRoom self.old.hardware 1 → vec_len self.old.plugged < vec_capacity self.old.plugged →
-            s.now ≡ DeviceStep.Plug (record { 0 = 0 }) (record { 0 = 0 }) → ((device_at S.size S.told self.old).port 0).present ≡ true }
+        ensures unplugs { result ≡ false → s.now ≡ DeviceStep.Unplug (record { 0 = 0 }) → Can (Unplug 0) (device_at S.size S.told self.old) →
+            IsStarved self.old.hardware self.new.hardware 1 }
+        ensures plugs { result ≡ false → s.now ≡ DeviceStep.Plug (record { 0 = 0 }) (record { 0 = 0 }) →
+            ((device_at S.size S.told self.old).port 0).present ≡ false →
+            (HasRoom self.old.hardware 1 → vec_len self.old.plugged < vec_capacity self.old.plugged → ⊥) × (self.new.hardware.starved ≡ true) }
         ensures knows { result ≡ true → (p : Port) (number : DiskNumber) → s.now ≡ DeviceStep.Plug p number → (p.0 ≡ 0) × (number.0 ≡ 0) }
         ensures holding { (p : Port) → IsHolding s.now p → (IsTrue result ↔ p.0 < 4) × (self.new ≡ record self.old { held = self.new.held }) }
     {

@@ -9,7 +9,7 @@ ghost use Rattle.adapter.specs.Steps.{Can, after, next_sector};
 ghost use Rattle.adapter.specs.Steps.Step.{Fetch as FetchStep, Move as MoveStep, Done as DoneStep, Unplug as UnplugStep, Plug as PlugStep};
 ghost use Rattle.adapter.specs.Asked.{DoesFetch, DoesDone};
 ghost use Rattle.device_model.specs.Fetched.{bytes_of};
-ghost use Rattle.device_model.specs.Finishing.{HasIdentify, HasRoom, IsInside, AreInside, IsCovered, IsReady};
+ghost use Rattle.device_model.specs.Finishing.{HasIdentify, HasRoom, IsInside, AreInside, IsCovered, IsReady, IsStarved, StaysStarved};
 ghost use Rattle.device_model.specs.Slots.{HoldsAt, IsNext};
 ghost use Rattle.device_model.specs.View.{Takes, operation_of, taken_of, blank};
 ghost use Rattle.device_model.specs.Whole.{Outside, device_of, outside_after, outside_plugged};
@@ -21,6 +21,7 @@ use crate::port::{TakenCommand, Transfer};
 use crate::slots::{may_take, working_on};
 use adapter::{Done, Entry, Move, Prd};
 use ata_types::{Port, Slot};
+use std::snapshot::Snapshot;
 
 /// What a command moves next: a sector, or 0 where it names none, and the address that the bytes go to or come from.
 #[derive(Clone, Copy, Debug)]
@@ -30,14 +31,20 @@ pub struct NextMove {
     pub address: u32,
 }
 
-/// Adds an entry to the tape; `false` says that there was no memory.
-fn record(tape: &mut Vec<Entry>, entry: Entry) -> bool
+/// Adds an entry to the tape; `false` says that there was no memory, which is told from then on.
+fn record(tape: &mut Vec<Entry>, starved: &mut bool, entry: Entry) -> bool
     ensures added { result ≡ true → tape.new.items ≡ tape.old.items ++ entry ∷ [] }
     ensures kept { result ≡ false → tape.new.items ≡ tape.old.items }
     ensures room { vec_len tape.old < vec_capacity tape.old → result ≡ true }
     ensures left { (n : ℕ) → vec_len tape.old + (n + 1) ≤ vec_capacity tape.old → vec_len tape.new + n ≤ vec_capacity tape.new }
+    ensures starved { result ≡ false → starved.new ≡ true }
+    ensures fed { result ≡ true → starved.new ≡ starved.old }
 {
-    tape.push(entry).is_ok()
+    let added = tape.push(entry).is_ok();
+    if !added {
+        *starved = true;
+    }
+    added
 }
 
 /// Whether each piece of a region is in a memory of this size.
@@ -119,6 +126,7 @@ impl Hardware {
         ensures refused { result ≡ false → (o : Outside) → device_of self.new o ≡ device_of self.old o }
         ensures only { result ≡ false → (o : Outside) (m : Meaning) (places : List ℕ) → Takes m.operation → Can (FetchStep port slot m places) (device_of self.old o) → ⊥ }
         ensures tape { self.new.tape ≡ self.old.tape }
+        ensures starved { self.new.starved ≡ self.old.starved }
     {
         let place = usize::from(port);
         if !may_take(&self.ports, place, slot) {
@@ -181,6 +189,7 @@ impl Hardware {
         ensures moved { (o : Outside) → (t : TakenCommand) × IsNext self.old port slot next t
             × (device_of self.new (outside_after o port (taken_of t) bytes.now) ≡ after (MoveStep port slot (taken_of t) bytes.now) (device_of self.old o)) }
         ensures left { (n : ℕ) → HasRoom self.old (n + 1) → HasRoom self.new n }
+        ensures starved { self.new.starved ≡ self.old.starved }
     {
         let entry = Entry::Move(Move {
             port: Port(port),
@@ -189,9 +198,9 @@ impl Hardware {
             sector: next.sector,
             address: next.address,
             direction: next.transfer.direction(),
-            bytes: *bytes,
+            bytes: Snapshot::of(bytes),
         });
-        let _recorded = record(&mut self.tape, entry);
+        let _recorded = record(&mut self.tape, &mut self.starved, entry);
         put_piece(&mut self.memory, next, bytes);
         self.ports[usize::from(port)].advance(slot);
     }
@@ -202,8 +211,9 @@ impl Hardware {
         requires slot { slot < 32 }
         ensures did { result ≡ true → (o : Outside) → DoesDone port slot (device_of self.old o) (device_of self.new o) }
         ensures refused { result ≡ false → (o : Outside) → device_of self.new o ≡ device_of self.old o }
-        ensures only { result ≡ false → HasRoom self.old 1 → (o : Outside) (flag : ℕ) (t : Taken) →
-            Can (DoneStep port slot flag t) (device_of self.old o) → ⊥ }
+        ensures only { result ≡ false → (o : Outside) (flag : ℕ) (t : Taken) → Can (DoneStep port slot flag t) (device_of self.old o) →
+            IsStarved self.old self.new 1 }
+        ensures starved { StaysStarved self.old self.new }
     {
         let Some(command) = working_on(&self.ports, usize::from(port), slot) else {
             return false;
@@ -216,7 +226,7 @@ impl Hardware {
             slot: Slot(slot),
             operation: command.transfer.operation(),
         });
-        if !record(&mut self.tape, entry) {
+        if !record(&mut self.tape, &mut self.starved, entry) {
             return false;
         }
         self.ports[usize::from(port)].end(slot);
@@ -246,9 +256,12 @@ impl Hardware {
     pub fn unplug(&mut self) -> bool
         ensures did { result ≡ true → (o : Outside) → Can (UnplugStep 0) (device_of self.old o) × (device_of self.new o ≡ after (UnplugStep 0) (device_of self.old o)) }
         ensures refused { result ≡ false → (o : Outside) → device_of self.new o ≡ device_of self.old o }
-        ensures only { result ≡ false → HasRoom self.old 1 → (o : Outside) → Can (UnplugStep 0) (device_of self.old o) → ⊥ }
+        ensures only { result ≡ false → (o : Outside) → Can (UnplugStep 0) (device_of self.old o) → IsStarved self.old self.new 1 }
+        ensures starved { StaysStarved self.old self.new }
     {
-        if !self.ports[0].present || !record(&mut self.tape, Entry::Unplug(Port(0))) {
+        if !self.ports[0].present
+            || !record(&mut self.tape, &mut self.starved, Entry::Unplug(Port(0)))
+        {
             return false;
         }
         self.ports[0].unplug();
@@ -260,21 +273,25 @@ impl Hardware {
         ensures free { result ≡ true → (o : Outside) → ((device_of self.old o).port 0).present ≡ false }
         ensures did { result ≡ true → (o : Outside) (disk : Disk) → disk.name ≡ 0 → device_of self.new (outside_plugged o disk) ≡ after (PlugStep 0 disk) (device_of self.old o) }
         ensures refused { result ≡ false → (o : Outside) → device_of self.new o ≡ device_of self.old o }
-        ensures only { result ≡ false → HasRoom self.old 1 → (o : Outside) → ((device_of self.old o).port 0).present ≡ true }
+        ensures only { result ≡ false → (o : Outside) → ((device_of self.old o).port 0).present ≡ false → IsStarved self.old self.new 1 }
+        ensures starved { StaysStarved self.old self.new }
     {
-        if self.ports[0].present || !record(&mut self.tape, Entry::Plug(Port(0), 0)) {
+        if self.ports[0].present
+            || !record(&mut self.tape, &mut self.starved, Entry::Plug(Port(0), 0))
+        {
             return false;
         }
         self.ports[0].plug();
         true
     }
 
-    /// Finds memory for more entries of the tape; `false` says that there was none.
+    /// Finds memory for more entries of the tape; `false` says that there was none. That something was left out for that is not told yet.
     pub fn reserve(&mut self, entries: usize) -> bool
         ensures same { (o : Outside) → device_of self.new o ≡ device_of self.old o }
         ensures room { result ≡ true → HasRoom self.new entries }
         ensures kept { (n : ℕ) → HasRoom self.old n → HasRoom self.new n }
         ensures enough { HasRoom self.old entries → result ≡ true }
+        ensures starved { self.new.starved ≡ self.old.starved }
     {
         self.tape.reserve(entries).is_ok()
     }

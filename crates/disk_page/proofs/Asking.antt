@@ -422,8 +422,8 @@ followed_back May port o v old new issues over a = record {
 }
 
 -- a page that came since a time came since an earlier one
-sooner : (memory : ℕ → ℕ) (tape : List Entry) (port : ℕ) (o : Operation) (since early : ℕ) → early ≤ since → (b : Brought memory tape port o since) → (bytes : List ℕ) → bytes ≡ b.move.bytes →
-    (c : Brought memory tape port o early) × (bytes ≡ c.move.bytes)
+sooner : (memory : ℕ → ℕ) (tape : List Entry) (port : ℕ) (o : Operation) (since early : ℕ) → early ≤ since → (b : Brought memory tape port o since) → (bytes : List ℕ) → bytes ≡ b.move.bytes.value →
+    (c : Brought memory tape port o early) × (bytes ≡ c.move.bytes.value)
 sooner memory tape port o since early le b bytes same = (
   record { before = b.before; after = le_trans le b.after; move = b.move; later = b.later; here = b.here; is_move = b.is_move; last = b.last; bytes = b.bytes },
   same,

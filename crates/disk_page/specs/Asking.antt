@@ -58,7 +58,7 @@ pub record LeavesRunning (port : ℕ) (old new : Device) : Type 0 where
 -- long, and it is over.
 pub record Brings (port : ℕ) (o : Operation) (since : ℕ) (bytes : List ℕ) (d : Device) : Type 0 where
   pub brought : Brought d.memory d.tape port o since
-  pub same : bytes ≡ brought.move.bytes
+  pub same : bytes ≡ brought.move.bytes.value
   pub clear : IsClear (d.port port) 0
 
 -- The page came: slot 0 isn't used any more. Or 64 readings of PxCI showed its bit: then the command may be in slot 0 still.

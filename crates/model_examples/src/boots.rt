@@ -175,26 +175,59 @@ fn page_but(others: &[(usize, u8)]) -> [u8; 512] {
     page
 }
 
-/// Whether it is the move of this page to the driver's scratch frame, frame 9.
-fn is_page(moved: &Move, page: &[u8; 512]) -> bool {
+/// Whether it is the move of a page to the driver's scratch frame, frame 9.
+fn is_page(moved: &Move) -> bool {
     moved.port == Port(0)
         && moved.slot == Slot(0)
         && moved.operation == Operation::Identify
         && moved.direction == Direction::ToMemory
         && moved.sector == 0
         && moved.address == 0x9000
-        && moved.bytes == *page
 }
 
-/// Whether the tape tells of this page, the only one, and of the end of its command; or of no page.
-fn has_page(tape: &[Entry], page: Option<&[(usize, u8)]>) -> bool {
-    match (page, tape) {
-        (Some(others), [Entry::Move(moved), Entry::Done(done)]) => {
-            is_page(moved, &page_but(others)) && done.operation == Operation::Identify
+/// Whether the tape tells of a page, the only one, and of the end of its command; or of no page.
+fn has_page(tape: &[Entry], page: bool) -> bool {
+    match tape {
+        [Entry::Move(moved), Entry::Done(done)] => {
+            page && is_page(moved) && done.operation == Operation::Identify
         }
-        (None, [] | [Entry::Unplug(_)]) => true,
+        [] | [Entry::Unplug(_)] => !page,
         _ => false,
     }
+}
+
+/// An adapter that keeps the page that was loaded last.
+#[derive(Drop)]
+struct Watched<A> {
+    adapter: A,
+    page: Option<[u8; 512]>,
+}
+
+impl<A: Adapter> Adapter for Watched<A> {
+    ghost device = { λ w. A.device w.adapter };
+
+    fn read(&mut self, r: Reg) -> u32 {
+        self.adapter.read(r)
+    }
+
+    fn write(&mut self, r: Reg, v: u32) {
+        self.adapter.write(r, v);
+    }
+
+    fn load(&mut self, addr: u32, out: &mut [u8]) {
+        self.adapter.load(addr, out);
+        let mut page = [0; 512];
+        for (kept, byte) in page.iter_mut().zip(out.iter()) {
+            *kept = *byte;
+        }
+        self.page = Some(page);
+    }
+
+    fn store(&mut self, addr: u32, bytes: &[u8]) {
+        self.adapter.store(addr, bytes);
+    }
+
+    ghost tells = { λ w. A.tells w.adapter };
 }
 
 /// Tells lies or the truth, holds or releases. Other steps aren't for it.
@@ -253,8 +286,16 @@ fn is_as_said(alloc: Global, case: &Case) -> Result<bool, Fail>
     tell(&mut model, &told[2]);
     model.queue_step(case.queued[0].0, case.queued[0].1)?;
     model.queue_step(case.queued[1].0, case.queued[1].1)?;
-    let found = taken_over(&mut model, case.shown.0);
-    Ok(found == (case.found, case.shown.1) && has_page(model.tape(), case.page))
+    let mut watched = Watched {
+        adapter: model,
+        page: None,
+    };
+    let found = taken_over(&mut watched, case.shown.0);
+    Ok(
+        found == (case.found, case.shown.1)
+            && watched.page == case.page.map(page_but)
+            && has_page(watched.adapter.tape(), case.page.is_some()),
+    )
 }
 
 /// The same of a case that may have any ports.

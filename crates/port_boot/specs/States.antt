@@ -40,7 +40,7 @@ pub record HasPage (port : ℕ) (d : Device) (page : List ℕ) : Type 0 where
   pub since : (d.port port).notes.sctl_written_at ≤ length before
   pub is_move : IsMove port Identify (entry.Move move)
   pub last : All (λ e. IsMove port Identify e → ⊥) later
-  pub bytes : page ≡ move.bytes
+  pub bytes : page ≡ move.bytes.value
 
 -- the serial number is the one that is named, if one is: 20 characters, filled with spaces
 abbrev pub Fits : Option (List ℕ) → List ℕ → Type 0

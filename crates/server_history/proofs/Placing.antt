@@ -59,7 +59,7 @@ Goes other m steps move = move.address ≡ scratch_of move.port.0
 among_first : (m : Machine) (op : Op) (move : tape_move.Move) (own first rest : List Step) → IsTouch (after m own) op move first → IsAmong m (rest ++ (first ++ own)) op move
 among_first m op move own first rest t = record {
   later = rest;
-  step = Touch t.pending t.number (slice_index move.bytes);
+  step = Touch t.pending t.number (slice_index move.bytes.value);
   before = own;
   here = ap (λ (steps : List Step). rest ++ (steps ++ own)) t.step;
   touch = subst (IsTouch (after m own) op move) t.step t;
@@ -120,14 +120,14 @@ module _ (wanted : List Wanted) (first : Instant Device) (past : List (Happening
     here = a.here;
     touch = then;
     confined =
-        let s = step_of_run first.moment (events_of (h ∷ past)) a.later (Touch then.pending then.number (slice_index move.bytes)) (a.before ++ early) run split in
-        touch_is_confined start (a.before ++ early) then.pending then.number (slice_index move.bytes) (run_starts first.moment (events_of (h ∷ past)) run) s.0 s.1;
+        let s = step_of_run first.moment (events_of (h ∷ past)) a.later (Touch then.pending then.number (slice_index move.bytes.value)) (a.before ++ early) run split in
+        touch_is_confined start (a.before ++ early) then.pending then.number (slice_index move.bytes.value) (run_starts first.moment (events_of (h ∷ past)) run) s.0 s.1;
   }
     where
       then : IsTouch (after start (a.before ++ early)) op move (a.step ∷ [])
       then = subst (λ (n : Machine). IsTouch n op move (a.step ∷ [])) (ap (λ (n : Machine). after n a.before) (machine_is wanted first past) ∙ sym (after-append start a.before early)) a.touch
 
-      split : h.event.steps ++ early ≡ a.later ++ Touch then.pending then.number (slice_index move.bytes) ∷ (a.before ++ early)
+      split : h.event.steps ++ early ≡ a.later ++ Touch then.pending then.number (slice_index move.bytes.value) ∷ (a.before ++ early)
       split = ap (λ (steps : List Step). steps ++ early) a.here ∙ append_assoc a.later (a.step ∷ a.before) early
           ∙ ap (λ (steps : List Step). a.later ++ (steps ++ (a.before ++ early))) then.step
 

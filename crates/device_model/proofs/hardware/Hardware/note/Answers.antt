@@ -5,8 +5,8 @@ use Rattle.device_model.specs.Whole.{device_of}
 use Rattle.device_model.proofs.Ports.{set_port}
 use Rattle.device_model.proofs.hardware.Hardware.note.Goals as goal
 
-pub returns-in-Px : goal.returns-in-Px
-returns-in-Px c = λ o.
+pub returns-in-Px-clause-notes : goal.returns-in-Px-clause-notes
+returns-in-Px-clause-notes c = λ o.
     let h : c.in-Px.port.0 < 4 = rw c.in-Px.is at c.requires in
     let small : c.from.result < length c.args.self.now.ports = search rules in
     rw c.in-Px.is

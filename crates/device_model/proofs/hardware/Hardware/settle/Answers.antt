@@ -24,6 +24,7 @@ loop-port-init c =
       number = r.number ∙ four;
       left = r.left;
       tape = r.tape;
+      starved = r.starved;
     }
 
 pub loop-port-preserved : goal.loop-port-preserved
@@ -49,6 +50,7 @@ loop-port-preserved c =
             number = s.number ∙ is.number;
             left = λ on. is.left (sym s.reset ∙ on);
             tape = s.tape ∙ is.tape;
+            starved = s.starved ∙ is.starved;
           })
       | else-not-held-port w ↦
           rw w.self-is
@@ -63,6 +65,7 @@ loop-port-preserved c =
             number = is.number;
             left = is.left;
             tape = is.tape;
+            starved = is.starved;
           })
     ]
 
@@ -104,3 +107,6 @@ returns-clause-settled c = λ o.
 
 pub returns-clause-tape : goal.returns-clause-tape
 returns-clause-tape c = c.loop-port.invariant.tape
+
+pub returns-clause-starved : goal.returns-clause-starved
+returns-clause-starved c = c.loop-port.invariant.starved

@@ -13,4 +13,5 @@ invariant-loop-port l = record {
   number : length l.self.ports ≡ 4;
   left : l.self.hr ≡ true → l.held ≡ all_held;
   tape : l.self.tape ≡ l.fn.self.tape;
+  starved : l.self.starved ≡ l.fn.self.starved;
 }

@@ -5,8 +5,8 @@ use Rattle.device_model.specs.Whole.{device_of}
 use Rattle.device_model.proofs.Bytes.{memory_put}
 use Rattle.device_model.proofs.hardware.Hardware.store.Goals as goal
 
-pub returns : goal.returns
-returns c = λ o.
+pub returns-clause-stored : goal.returns-clause-stored
+returns-clause-stored c = λ o.
     let size : length c.put.new.memory ≡ c.args.self.now.memory.len = c.put.auto.memory ∙ c.deref_mut.ensures.len in
     memory_put (device_of c.args.self.now o) c.args.self.now.memory.items c.args.bytes.now (with_items c.args.self.now.memory c.put.new.memory).items
     c.args.at c.requires

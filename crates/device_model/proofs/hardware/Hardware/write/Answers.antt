@@ -5,13 +5,13 @@ use Rattle.device_model.specs.Whole.{device_of}
 use Rattle.device_model.proofs.Ports.{set_port}
 use Rattle.device_model.proofs.hardware.Hardware.write.Goals as goal
 
-pub returns-in-Px : goal.returns-in-Px
-returns-in-Px c = λ o.
+pub returns-in-Px-clause-written : goal.returns-in-Px-clause-written
+returns-in-Px-clause-written c = λ o.
     let h : c.in-Px.port.0 < 4 = rw c.in-Px.is at c.requires in
     let small : c.from.result < length c.args.self.now.ports = search rules in
     rw c.in-Px.is
     (set_port c.args.self.now o c.from.result _ _ small (rw (c.len-tape.ensures, c.args.self.now.tape.ok.0) at (c.write.ensures (o.media c.from.result)))
     ∙ ap (λ (p : ℕ). written (Px (record { 0 = p }) c.in-Px.r) c.args.value (device_of c.args.self.now o)) c.from.ensures)
 
-pub returns-in-Ghc : goal.returns-in-Ghc
-returns-in-Ghc c = λ o. rw c.in-Ghc.is (c.set_global.ensures o)
+pub returns-in-Ghc-clause-written : goal.returns-in-Ghc-clause-written
+returns-in-Ghc-clause-written c = λ o. rw c.in-Ghc.is (c.set_global.ensures.written o)

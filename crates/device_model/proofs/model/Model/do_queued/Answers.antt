@@ -20,7 +20,7 @@ loop-queued-init g c =
     let ok = c.args.self.now.queue.ok.0 in
     let P : ℕ → Type 0 = λ n. IsAt c.saturating_add-self.result items items 0 n d d c.args.self.now.held c.args.self.now.held in
     let all : length items ≡ c.len-queued-end.result - 0 = omega (arith, ok, c.len-queued-end.ensures) in
-    record { same = refl; honest = λ all. all; pages = λ all. keeps_tape g.S.SectorStore.size _ _ refl refl refl; sure = refl; at = subst P all (at_start c.saturating_add-self.result items d c.args.self.now.held) }
+    record { same = refl; honest = λ all. all; pages = λ all. keeps_tape g.S.SectorStore.size _ _ refl refl refl; sure = refl; starved = λ told. told; at = subst P all (at_start c.saturating_add-self.result items d c.args.self.now.held) }
 
 -- there is one at the place while some are left to look at
 pub index-requires : goal.index-requires
@@ -63,7 +63,7 @@ loop-queued-preserved g c =
           let Q : Queued → Type 0 = λ q. access < q.access in
           subst Q c.index.ensures (omega (arith, same, w.if-queued-self.true)) in
           rw (w.self-is, w.place-is)
-          (record { same = same; honest = c.loop-queued.invariant.honest; pages = c.loop-queued.invariant.pages; sure = c.loop-queued.invariant.sure; at = at_kept access c.args.self.now.queue.items m.queue.items c.loop-queued.place left old mid mid c.args.self.now.held m.held at x late refl })
+          (record { same = same; honest = c.loop-queued.invariant.honest; pages = c.loop-queued.invariant.pages; sure = c.loop-queued.invariant.sure; starved = c.loop-queued.invariant.starved; at = at_kept access c.args.self.now.queue.items m.queue.items c.loop-queued.place left old mid mid c.args.self.now.held m.held at x late refl })
       | else-queued-self w ↦
           let early : (slice_index_or m.queue.items c.loop-queued.place x).access ≤ access =
           let Q : Queued → Type 0 = λ q. q.access ≤ access in
@@ -85,6 +85,7 @@ loop-queued-preserved g c =
                 keeps_on g.S.SectorStore.size _ _ _ (c.loop-queued.invariant.pages all)
                 (keeps_on g.S.SectorStore.size _ _ _ (keeps_tape g.S.SectorStore.size m _ refl refl refl) (w.do_step-done.ensures.pages honest));
             sure = w.do_step-done.ensures.sure ∙ c.loop-queued.invariant.sure;
+            starved = λ told. w.do_step-done.ensures.starved (c.loop-queued.invariant.starved told);
             at = subst T (sym items) gone;
           })
     ]

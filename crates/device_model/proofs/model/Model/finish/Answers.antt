@@ -33,6 +33,7 @@ loop-piece-init g c =
       pages = keeps_tape g.S.SectorStore.size _ _ refl refl
           (ap (λ (v : Vec Entry). v.items) c.fetch-did.ensures.tape ∙ ap (λ (d : Device). d.tape) kept);
       sure = refl;
+      starved = λ told. c.fetch-did.ensures.starved ∙ (c.reserve.ensures.starved ∙ told);
       room =
           let P : Vec Entry → Type 0 = λ tape. vec_len tape + (c.in-Some.left + 1) ≤ vec_capacity tape in
           let enough = subst P (sym c.fetch-did.ensures.tape) (c.reserve.ensures.room c.if-not-reserve.false) in
@@ -58,6 +59,7 @@ loop-piece-preserved g c = let moved = c.move_piece.ensures.did c.if-not-move_pi
   accesses = c.move_piece.ensures.accesses ∙ c.loop-piece.invariant.accesses;
   pages = keeps_on g.S.SectorStore.size _ _ _ c.loop-piece.invariant.pages c.move_piece.ensures.pages;
   sure = c.move_piece.ensures.sure ∙ c.loop-piece.invariant.sure;
+  starved = λ told. c.move_piece.ensures.starved (c.loop-piece.invariant.starved told);
   room = c.move_piece.ensures.left _ (omega (arith, c.loop-piece.invariant.room, c.loop-piece-test.true));
   going =
       let P : ℕ → Type 0 = λ n. IsGoing (device_at g.S.SectorStore.size g.S.SectorStore.told c.loop-piece.self) c.args.port c.args.slot c.sectors-sectors.result n in
@@ -90,14 +92,14 @@ move_is_done g c sure small =
     let zero : c.args.port ≡ 0 = c.if-port-ne0.false in
     let here : IsGoing d 0 c.args.slot size (suc left) = subst R zero going in
     let found = subst S (sym zero) (here.t, going_has_move d 0 c.args.slot left refl here) in
-    c.move_piece.ensures.only c.if-not-move_piece.true (c.loop-piece.invariant.sure ∙ sure) (omega (arith, c.loop-piece.invariant.room)) (omega (arith, c.loop-piece.invariant.size, small))
-    found.0 found.1
+    (c.move_piece.ensures.only c.if-not-move_piece.true (c.loop-piece.invariant.sure ∙ sure) (omega (arith, c.loop-piece.invariant.size, small)) found.0 found.1).0
+    (omega (arith, c.loop-piece.invariant.room))
 
 pub returns-then-not-move_piece-clause-ends : goal.returns-then-not-move_piece-clause-ends
 returns-then-not-move_piece-clause-ends g c = λ _ sure small. absurd (move_is_done g c sure small)
 
 pub returns-then-not-move_piece-clause-only : goal.returns-then-not-move_piece-clause-only
-returns-then-not-move_piece-clause-only g c = λ _ sure small zero left room ready. move_is_done g c sure small
+returns-then-not-move_piece-clause-only g c = λ _ sure small zero left ready. absurd (move_is_done g c sure small)
 
 pub returns-then-done-clause-ends : goal.returns-then-done-clause-ends
 returns-then-done-clause-ends g c = λ _ sure small.
@@ -115,29 +117,30 @@ end_is_done g c =
     let P : ℕ → Type 0 = λ n. IsGoing (device_at g.S.SectorStore.size g.S.SectorStore.told m) c.args.port c.args.slot c.sectors-sectors.result n in
     let none : c.in-Some.left - c.loop-piece._piece ≡ 0 = omega (arith, c.loop-piece-test.false) in
     let going = subst P none c.loop-piece.invariant.going in
-    c.done.ensures.only c.if-done.false (omega (arith, c.loop-piece.invariant.room)) o 0 going.t (going_may_end c.args.port c.args.slot c.sectors-sectors.result _ going)
+    (c.done.ensures.only c.if-done.false o 0 going.t (going_may_end c.args.port c.args.slot c.sectors-sectors.result _ going)).0
+    (omega (arith, c.loop-piece.invariant.room))
 
 pub returns-else-done-clause-ends : goal.returns-else-done-clause-ends
 returns-else-done-clause-ends g c = λ _ sure small. absurd (end_is_done g c)
 
 pub returns-else-done-clause-only : goal.returns-else-done-clause-only
-returns-else-done-clause-only g c = λ _ sure small zero left room ready. end_is_done g c
+returns-else-done-clause-only g c = λ _ sure small zero left ready. absurd (end_is_done g c)
 
--- the moves that are left are found, and there is room for them
+-- the moves that are left are found, and if there is no room for them, that is told
 pub returns-in_default-clause-only : goal.returns-in_default-clause-only
-returns-in_default-clause-only g c = λ _ sure small zero left room ready.
+returns-in_default-clause-only g c = λ _ sure small zero left ready.
     let m = c.args.self.now in
     let o : Outside = outside_at g.S.SectorStore.size g.S.SectorStore.told m in
     let P : ℕ → Type 0 = λ n. IsReady (device_of m.hardware o) c.args.port c.args.slot n left in
-    some-none (c.moves_left.ensures.only o left (subst P (sym c.sectors-sectors.ensures) ready)) c.in_default.is
+    absurd (some-none (c.moves_left.ensures.only o left (subst P (sym c.sectors-sectors.ensures) ready)) c.in_default.is)
 
 pub returns-then-not-reserve-clause-only : goal.returns-then-not-reserve-clause-only
-returns-then-not-reserve-clause-only g c = λ _ sure small zero left room ready.
+returns-then-not-reserve-clause-only g c = λ _ sure small zero left ready.
     let m = c.args.self.now in
     let o : Outside = outside_at g.S.SectorStore.size g.S.SectorStore.told m in
     let P : ℕ → Type 0 = λ n. IsReady (device_of m.hardware o) c.args.port c.args.slot n left in
     let same = some_one (c.in-Some.ensures.only o left (subst P (sym c.sectors-sectors.ensures) ready)) in
-    true-false (c.reserve.ensures.enough (omega (arith, same, room))) c.if-not-reserve.true
+    (λ room. true-false (c.reserve.ensures.enough (omega (arith, same, room))) c.if-not-reserve.true, refl)
 
 pub returns-then-not-reserve-clause-refused : goal.returns-then-not-reserve-clause-refused
 returns-then-not-reserve-clause-refused g c = λ _. c.reserve.ensures.same _

@@ -21,6 +21,7 @@ loop-slot-init g c = record {
   held = refl;
   queue = refl;
   accesses = refl;
+  starved = λ told. told;
 }
 
 pub loop-slot-preserved : goal.loop-slot-preserved
@@ -44,9 +45,10 @@ loop-slot-preserved g c =
             held = f.held ∙ is.held;
             queue = f.queue ∙ is.queue;
             accesses = f.accesses ∙ is.accesses;
+            starved = λ told. f.starved (is.starved told);
           })
       | else-has_identify w ↦
-          rw w.self-is (record { steps = is.steps; settled = is.settled; others = is.others; alone = is.alone; pages = is.pages; sure = is.sure; held = is.held; queue = is.queue; accesses = is.accesses })
+          rw w.self-is (record { steps = is.steps; settled = is.settled; others = is.others; alone = is.alone; pages = is.pages; sure = is.sure; held = is.held; queue = is.queue; accesses = is.accesses; starved = is.starved })
     ]
 
 pub returns-clause-steps : goal.returns-clause-steps

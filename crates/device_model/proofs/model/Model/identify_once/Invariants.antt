@@ -1,6 +1,6 @@
 use Rattle.std.proofs.Common.{ℕ, Bool, ◌≡◌, ◌≢◌, List}
 use Rattle.adapter.specs.Steps.{Steps}
-use Rattle.device_model.specs.Finishing.{HasIdentify}
+use Rattle.device_model.specs.Finishing.{HasIdentify, StaysStarved}
 use Rattle.device_model.specs.Modelled.{device_at, is_sure_at}
 use Rattle.device_model.specs.Paged.{KeepsPages}
 use Rattle.device_model.specs.Settled.{IsSettled}
@@ -20,4 +20,5 @@ invariant-loop-slot g l = record {
   held : l.self.held ≡ l.fn.self.held;
   queue : l.self.queue ≡ l.fn.self.queue;
   accesses : l.self.accesses ≡ l.fn.self.accesses;
+  starved : StaysStarved l.fn.self.hardware l.self.hardware;
 }

@@ -22,8 +22,9 @@ returns-then-not-plug-clause-refused g c = λ _.
     ∙ c.plug.ensures.refused c.if-not-plug.true o
 
 pub returns-then-not-plug-clause-only : goal.returns-then-not-plug-clause-only
-returns-then-not-plug-clause-only g c = λ _ room _.
-    c.plug.ensures.only c.if-not-plug.true room (outside_at g.S.SectorStore.size g.S.SectorStore.told c.args.self.now)
+returns-then-not-plug-clause-only g c = λ _ free.
+    let told = c.plug.ensures.only c.if-not-plug.true (outside_at g.S.SectorStore.size g.S.SectorStore.told c.args.self.now) free in
+    (λ room _. told.0 room, told.1)
 
 pub returns-then-not-plug-clause-pages : goal.returns-then-not-plug-clause-pages
 returns-then-not-plug-clause-pages g c =

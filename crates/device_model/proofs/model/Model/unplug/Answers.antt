@@ -12,9 +12,9 @@ pub returns-clause-refused : goal.returns-clause-refused
 returns-clause-refused g c = λ refused. c.unplug.ensures.refused refused _
 
 pub returns-clause-only : goal.returns-clause-only
-returns-clause-only g c = λ refused room may.
+returns-clause-only g c = λ refused may.
     let m = c.args.self.now in
-    c.unplug.ensures.only refused room (outside_at g.S.SectorStore.size g.S.SectorStore.told m) may
+    c.unplug.ensures.only refused (outside_at g.S.SectorStore.size g.S.SectorStore.told m) may
 
 pub returns-clause-idle : goal.returns-clause-idle
 returns-clause-idle g c = stays_idle c.unplug.result _ _ (λ yes. (c.unplug.ensures.did yes _).1) (λ refused. c.unplug.ensures.refused refused _)

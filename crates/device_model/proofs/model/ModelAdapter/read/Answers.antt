@@ -29,7 +29,7 @@ returns-clause-reads g c =
       mid = device_of c.identify.new.self.hardware last;
       steps = Steps-trans c.do_queued.ensures.steps (Steps-trans (c.settle.ensures.steps o) c.identify.ensures.steps);
       shows = c.shown-value.ensures last;
-      effect = c.note.ensures last;
+      effect = c.note.ensures.notes last;
     }
 
 pub returns-clause-settled : goal.returns-clause-settled
@@ -38,7 +38,7 @@ returns-clause-settled g c =
     let last : Outside = outside_at g.S.SectorStore.size g.S.SectorStore.told c.identify.new.self in
     let P : Device → Type 0 = λ d. IsSettled c.identify.new.self.held d in
     let Q : List Bool → Type 0 = λ held. IsSettled held (device_of c.identify.new.self.hardware last) in
-    subst P (sym (c.note.ensures last))
+    subst P (sym (c.note.ensures.notes last))
     (noted_settled c.args.r c.shown-value.result (device_of c.identify.new.self.hardware last) _
     (subst Q (sym c.identify.ensures.held) (c.identify.ensures.settled _ (c.settle.ensures.settled o))))
 
@@ -50,7 +50,7 @@ returns-clause-pages g c = λ honest.
     (keeps_tape g.S.SectorStore.size c.do_queued.new.self _ refl refl (ap (λ (v : Vec Entry). v.items) c.settle.ensures.tape))
     (keeps_on g.S.SectorStore.size _ c.identify.new.self _ c.identify.ensures.pages
     (keeps_tape g.S.SectorStore.size c.identify.new.self _ refl refl
-    (ap (λ (d : Device). d.tape) (c.note.ensures last) ∙ noted_tape c.args.r c.shown-value.result (device_of c.identify.new.self.hardware last)))))
+    (ap (λ (d : Device). d.tape) (c.note.ensures.notes last) ∙ noted_tape c.args.r c.shown-value.result (device_of c.identify.new.self.hardware last)))))
 
 -- nothing was due; a held port is held after the reset that may have ended, too
 pub returns-clause-still : goal.returns-clause-still
@@ -70,7 +70,7 @@ returns-clause-still g c = λ none port held.
           ap (λ (d : Device). d.port port) (c.identify.ensures.waits here)
       | inr other ↦ c.identify.ensures.others port other.1
     ] in
-    ap (λ (d : Device). d.port port) (c.note.ensures last)
+    ap (λ (d : Device). d.port port) (c.note.ensures.notes last)
     ∙ noted_port c.args.r c.shown-value.result first _ port
     (stays ∙ (c.settle.ensures.still o port was ∙ ap (λ (d : Device). d.port port) same))
 

@@ -10,10 +10,10 @@ pub write-requires : goal.write-requires
 write-requires g c = has_port_write c.args.r c.args.v _ (c.requires _ c.do_queued.ensures.steps)
 
 pub returns-clause-writes : goal.returns-clause-writes
-returns-clause-writes g c = record { mid = _; steps = c.do_queued.ensures.steps; effect = c.write.ensures _ }
+returns-clause-writes g c = record { mid = _; steps = c.do_queued.ensures.steps; effect = c.write.ensures.written _ }
 
 pub returns-clause-pages : goal.returns-clause-pages
 returns-clause-pages g c = λ honest.
     let o : Outside = outside_at g.S.SectorStore.size g.S.SectorStore.told c.do_queued.new.self in
     keeps_on g.S.SectorStore.size _ _ _ (c.do_queued.ensures.pages honest)
-    (keeps_tape g.S.SectorStore.size c.do_queued.new.self _ refl refl (ap (λ (d : Device). d.tape) (c.write.ensures o) ∙ written_tape c.args.r c.args.v (device_of c.do_queued.new.self.hardware o)))
+    (keeps_tape g.S.SectorStore.size c.do_queued.new.self _ refl refl (ap (λ (d : Device). d.tape) (c.write.ensures.written o) ∙ written_tape c.args.r c.args.v (device_of c.do_queued.new.self.hardware o)))
