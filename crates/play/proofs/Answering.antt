@@ -26,12 +26,12 @@ pub record GoesOn {A : Type 0} (device : A → Device) (new : ServerView A) (eve
   pub asked : map (λ h. h.event.ask) more ≡ reverse (map ask_of events)
   pub answered : map (λ h. h.event.said) more ≡ reverse (map said_of said)
 
-pub goes_on : {A : Type 0} (device : A → Device) (trace : Bool) (old new : ServerView A) (shown : ℕ) (events : List Event) (said : List Said)
-    (text last : List ℕ) → Prints device trace old new shown events said text last → (first : Instant Device) (past : List (Happening Device DeviceStep))
+pub goes_on : {A : Type 0} (device : A → Device) (starved : A → Bool) (trace : Bool) (old new : ServerView A) (shown : ℕ) (events : List Event) (said : List Said)
+    (text last : List ℕ) → Prints device starved trace old new shown events said text last → (first : Instant Device) (past : List (Happening Device DeviceStep))
     → Leads first past (server_of device old) → GoesOn device new events said first past
-goes_on device trace old new shown events said text last none first past leads = record { more = []; leads = leads; asked = refl; answered = refl }
-goes_on device trace old new shown events said text last (call {mid = mid} {shown = before} {events = calls} {event = event} {said = saying} {one = one} {before = printed} {last = latest} prints answered) first past leads =
-    let on = goes_on device trace old mid before calls saying printed latest prints first past leads in
+goes_on device starved trace old new shown events said text last none first past leads = record { more = []; leads = leads; asked = refl; answered = refl }
+goes_on device starved trace old new shown events said text last (call {mid = mid} {shown = before} {events = calls} {event = event} {said = saying} {one = one} {before = printed} {last = latest} prints fed answered) first past leads =
+    let on = goes_on device starved trace old mid before calls saying printed latest prints first past leads in
     let here = answered.adds.adds first (on.more ++ past) on.leads in
     record {
       more = here.0 ∷ on.more;

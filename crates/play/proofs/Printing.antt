@@ -1,10 +1,11 @@
 -- What the lines so far have printed.
-use Rattle.std.proofs.Common.{ℕ, ◌≡◌, ◌≤◌, ◌-◌, drop, Bool, List, [], ◌∷◌, ◌++◌, ◌+◌, Option, Some, None, sym, ap, ◌∙◌, append-nil, append_assoc, subst, length, take, refl, arith}
+use Rattle.std.proofs.Common.{ℕ, true, false, ◌≡◌, ◌≤◌, ◌-◌, drop, Bool, List, [], ◌∷◌, ◌++◌, ◌+◌, Option, Some, None, sym, ap, ◌∙◌, append-nil, append_assoc, subst, length, take, refl, arith}
 use Rattle.std.specs.Prelude.{IsErr, OnOk, Ok, Err}
 use Rattle.std.specs.declared.result.Result.{Result}
 use Rattle.std.specs.Borrow.{Bor}
 use Rattle.std.specs.Io.KnownBytes.{Appends, Keeps}
 use Rattle.std.proofs.Math.Seq.{take-add}
+use Rattle.std.proofs.lemmas.Bool.{false≢true}
 use Rattle.std.proofs.lemmas.Grind.{common_steps}
 use Rattle.std.proofs.lemmas.List.{take_all}
 use mathlib.Core.List.{map-append}
@@ -56,7 +57,7 @@ left_ask all before text after lines cut asks = ask_from before text after lines
 pub none_bad : (text : List ℕ) (after : List (List ℕ)) → AskFrom text after → IsBad text → ⊥
 none_bad text after from bad = not_bad text from.asked from.asks bad
 
-module _ {A : Type 0} (device : A → Device) (trace : Bool) (first : ServerView A) (all : List (List ℕ)) where
+module _ {A : Type 0} (device : A → Device) (starved : A → Bool) (trace : Bool) (first : ServerView A) (all : List (List ℕ)) where
   -- these texts were read, their lines led to the server, and what they printed stands in the output
   pub record PlayedSoFar (now : ServerView A) (shown : ℕ) (left : Option (Bor (List ℕ))) (before after : Option (List ℕ)) : Type 0 where
     pub texts : List (List ℕ)
@@ -66,7 +67,7 @@ module _ {A : Type 0} (device : A → Device) (trace : Bool) (first : ServerView
     pub said : List Said
     pub text : List ℕ
     pub last : List ℕ
-    pub prints : Prints device trace first now shown (events_of played) said text last
+    pub prints : Prints device starved trace first now shown (events_of played) said text last
     pub printed : Appends before after (text ++ last)
 
   pub played_none : (left : Option (Bor (List ℕ))) (before : Option (List ℕ)) → all ≡ lines_after left → PlayedSoFar first 0 left before before
@@ -109,19 +110,19 @@ module _ {A : Type 0} (device : A → Device) (trace : Bool) (first : ServerView
 
   -- one more call
   prints_more : (now next : ServerView A) (shown : ℕ) (lines : List Line) (line : Line) (said : List Said) (text last : List ℕ) (one : Said)
-      → Prints device trace first now shown (events_of lines) said text last → Answered device (event_of line) one now next
-      → Prints device trace first next (length (device next.adapter).tape) (events_of (lines ++ line ∷ [])) (said ++ one ∷ []) (text ++ last)
+      → Prints device starved trace first now shown (events_of lines) said text last → starved now.adapter ≡ false → Answered device (event_of line) one now next
+      → Prints device starved trace first next (length (device next.adapter).tape) (events_of (lines ++ line ∷ [])) (said ++ one ∷ []) (text ++ last)
       (call_text trace shown (device next.adapter).tape one)
-  prints_more now next shown lines line said text last one prints answered =
-      subst (λ (events : List Event). Prints device trace first next (length (device next.adapter).tape) events (said ++ one ∷ []) (text ++ last)
-      (call_text trace shown (device next.adapter).tape one)) (sym (map-append event_of lines (line ∷ []))) (call prints answered)
+  prints_more now next shown lines line said text last one prints fed answered =
+      subst (λ (events : List Event). Prints device starved trace first next (length (device next.adapter).tape) events (said ++ one ∷ []) (text ++ last)
+      (call_text trace shown (device next.adapter).tape one)) (sym (map-append event_of lines (line ∷ []))) (call prints fed answered)
 
   -- a line that was played, and printed whole
   pub played_line : (now next : ServerView A) (shown : ℕ) (text : List ℕ) (line : Line) (t : Bor (List ℕ)) (left : Option (Bor (List ℕ)))
       (before mid after : Option (List ℕ)) → PlayedSoFar now shown (Some t) before mid → IsFirstLine t.now text left → Asks text (Some line)
-      → (p : PrintsPart device trace shown (event_of line) now next mid after) → length p.text ≤ p.part
-      → PlayedSoFar next (length (device next.adapter).tape) left before after
-  played_line now next shown text line t left before mid after so_far is asks p whole = record {
+      → (p : PrintsPart device starved trace shown (event_of line) now next mid after) → length p.text ≤ p.part
+      → starved now.adapter ≡ false → PlayedSoFar next (length (device next.adapter).tape) left before after
+  played_line now next shown text line t left before mid after so_far is asks p whole fed = record {
     texts = so_far.texts ++ text ∷ [];
     cut = cut_on so_far.texts text left (cut_more all so_far.texts t.now text left so_far.cut is);
     played = so_far.played ++ line ∷ [];
@@ -129,37 +130,55 @@ module _ {A : Type 0} (device : A → Device) (trace : Bool) (first : ServerView
     said = so_far.said ++ p.one ∷ [];
     text = so_far.text ++ so_far.last;
     last = call_text trace shown (device next.adapter).tape p.one;
-    prints = prints_more now next shown so_far.played line so_far.said so_far.text so_far.last p.one so_far.prints p.answered;
+    prints = prints_more now next shown so_far.played line so_far.said so_far.text so_far.last p.one so_far.prints fed p.answered;
     printed = appends_more before mid after (so_far.text ++ so_far.last) _ so_far.printed
         (subst (λ (printed : List ℕ). Appends mid after printed) (take_all p.part p.text whole ∙ p.text_is) p.printed);
   }
 
-module _ {A : Type 0} (device : A → Device) (trace : Bool) (first : ServerView A) (script : List ℕ) where
+module _ {A : Type 0} (device : A → Device) (starved : A → Bool) (trace : Bool) (first : ServerView A) (script : List ℕ) where
   -- a line that was played, and that was the last one; the lines after it ask what they ask
   pub ran_part : (now next : ServerView A) (shown : ℕ) (text : List ℕ) (line : Line) (t : Bor (List ℕ)) (left : Option (Bor (List ℕ)))
-      (before mid after : Option (List ℕ)) → PlayedSoFar device trace first (lines_of script) now shown (Some t) before mid → IsFirstLine t.now text left → Asks text (Some line)
-      → AskFrom text (lines_after left) → PrintsPart device trace shown (event_of line) now next mid after → Ran device trace script first next before after
-  ran_part now next shown text line t left before mid after so_far is asks from p = record {
+      (before mid after : Option (List ℕ)) → PlayedSoFar device starved trace first (lines_of script) now shown (Some t) before mid → IsFirstLine t.now text left → Asks text (Some line)
+      → AskFrom text (lines_after left) → PrintsPart device starved trace shown (event_of line) now next mid after
+      → starved now.adapter ≡ false → Ran device starved trace script first next before after
+  ran_part now next shown text line t left before mid after so_far is asks from p fed = record {
     played = so_far.played ++ line ∷ [];
     rest = from.rest;
     asks = subst (λ (texts : List (List ℕ)). AskInTurn texts ((so_far.played ++ line ∷ []) ++ from.rest))
-        (sym (cut_on device trace first (lines_of script) so_far.texts text left (cut_more (lines_of script) so_far.texts t.now text left so_far.cut is)))
+        (sym (cut_on device starved trace first (lines_of script) so_far.texts text left (cut_more (lines_of script) so_far.texts t.now text left so_far.cut is)))
         (ask_more (so_far.texts ++ text ∷ []) (lines_after left) (so_far.played ++ line ∷ []) from.rest
-        (asks_more device trace first (lines_of script) so_far.texts so_far.played text (Some line) so_far.asks asks) from.others);
+        (asks_more device starved trace first (lines_of script) so_far.texts so_far.played text (Some line) so_far.asks asks) from.others);
     shown = length (device next.adapter).tape;
     said = so_far.said ++ p.one ∷ [];
     text = so_far.text ++ so_far.last;
     last = call_text trace shown (device next.adapter).tape p.one;
-    prints = prints_more device trace first (lines_of script) now next shown so_far.played line so_far.said so_far.text so_far.last p.one so_far.prints p.answered;
+    prints = prints_more device starved trace first (lines_of script) now next shown so_far.played line so_far.said so_far.text so_far.last p.one so_far.prints fed p.answered;
     part = p.part;
     printed = appends_more before mid after (so_far.text ++ so_far.last) _ so_far.printed
         (subst (λ (whole : List ℕ). Appends mid after (take p.part whole)) p.text_is p.printed);
+    silent = p.silent;
+  }
+
+  -- before the first one
+  pub ran_none : (before : Option (List ℕ)) (lines : List Line) → IsScript script lines → Ran device starved trace script first first before before
+  ran_none before lines asks = record {
+    played = [];
+    rest = lines;
+    asks = asks;
+    shown = 0;
+    said = [];
+    text = [];
+    last = [];
+    prints = none;
+    part = 0;
+    printed = appends_none before;
+    silent = λ is. refl;
   }
 
   -- at the end
-  pub ran_all : (now : ServerView A) (shown : ℕ) (before after : Option (List ℕ)) → PlayedSoFar device trace first (lines_of script) now shown None before after
-      → (ran : Ran device trace script first now before after) × IsWhole ran
-  ran_all now shown before after so_far = (
+  pub ran_all : (now : ServerView A) (shown : ℕ) (before after : Option (List ℕ)) → PlayedSoFar device starved trace first (lines_of script) now shown None before after
+      → starved now.adapter ≡ false → (ran : Ran device starved trace script first now before after) × IsWhole ran
+  ran_all now shown before after so_far fed = (
     record {
       played = so_far.played;
       rest = [];
@@ -172,22 +191,24 @@ module _ {A : Type 0} (device : A → Device) (trace : Bool) (first : ServerView
       prints = so_far.prints;
       part = length so_far.last;
       printed = subst (λ (part : List ℕ). Appends before after (so_far.text ++ part)) (sym (take_all (length so_far.last) so_far.last (omega arith))) so_far.printed;
+      silent = λ is. absurd (false≢true (sym fed ∙ is));
     },
-    record { played = refl; printed = omega arith },
+    record { played = refl; printed = omega arith; fed = fed },
   )
 
 -- a call whose text is these bytes, of which a part was printed
-abbrev pub part_of : {A : Type 0} (device : A → Device) (trace : Bool) (shown : ℕ) (event asked : Event) (one : Said) (old new : ServerView A)
+abbrev pub part_of : {A : Type 0} (device : A → Device) (starved : A → Bool) (trace : Bool) (shown : ℕ) (event asked : Event) (one : Said) (old new : ServerView A)
     (before after : Option (List ℕ)) (part : ℕ) (bytes : List ℕ) (tape : List Entry) → asked ≡ event → Answered device asked one old new
     → tape ≡ (device new.adapter).tape → bytes ≡ call_text trace shown tape one → Appends before after (take part bytes)
-    → PrintsPart device trace shown event old new before after
-part_of device trace shown event asked one old new before after part bytes tape is answered tape_is bytes_are printed = record {
+    → (starved new.adapter ≡ true → part ≡ 0) → PrintsPart device starved trace shown event old new before after
+part_of device starved trace shown event asked one old new before after part bytes tape is answered tape_is bytes_are printed silent = record {
   one = one;
   answered = subst (λ (e : Event). Answered device e one old new) is answered;
   text = bytes;
   text_is = bytes_are ∙ ap (λ (t : List Entry). call_text trace shown t one) tape_is;
   part = part;
   printed = printed;
+  silent = silent;
 }
 
 -- some bytes were written, and then some of those after them

@@ -1,5 +1,5 @@
 -- A script that is played against a server over a modelled adapter (this project's own).
-use Rattle.std.specs.Prelude.{ℕ, Bool, ◌≡◌, ◌≤◌, ◌&&◌, ◌⊎◌, List, [], ◌∷◌, ◌++◌, Option, IsSome, codes, is_some, length, map, reverse, string_bytes, take}
+use Rattle.std.specs.Prelude.{ℕ, Bool, true, false, ◌≡◌, ◌≤◌, ◌&&◌, ◌⊎◌, List, [], ◌∷◌, ◌++◌, Option, IsSome, codes, is_some, length, map, reverse, string_bytes, take}
 use Rattle.std.specs.Io.KnownBytes.{Appends}
 use Rattle.adapter.specs.Device.{Device}
 use Rattle.adapter.specs.declared.access.DeviceStep.{DeviceStep}
@@ -55,6 +55,10 @@ pub record IsModelOf {S : Type 0} (size : S → ℕ) (told : S → Option (ℕ �
   pub set : IsSetBy config settings
   pub made : model.IsNew settings (size image) (told image) (device_at size told m)
 
+-- a step of the device was left out, since there was no memory to note it
+abbrev pub is_starved : {S : Type 0} → Model S → Bool
+is_starved m = m.hardware.starved
+
 -- ---- the calls
 
 -- a new server, of this configuration, and of such a model
@@ -82,18 +86,19 @@ pub record AreAnswers {S : Type 0} (size : S → ℕ) (told : S → Option (ℕ 
   pub run : IsRun first.moment (histories.events_of past)
   pub reads : IsSome (told image) → IsSome (told blank) → EveryReadHolds first.moment (histories.events_of past)
 
--- These calls lead from the old server to the new one, and say this in turn. The text of the last call stands by itself, after that of those
--- before it; where there is none, both are empty. So many entries of the tape count as shown then: all, once a call was made.
-pub data Prints {A : Type 0} (device : A → Device) (trace : Bool) (old : ServerView A)
+-- These calls lead from the old server to the new one, and say this in turn; none is made of an adapter that is starved. The text of the last
+-- call stands by itself, after that of those before it; where there is none, both are empty. So many entries of the tape count as shown
+-- then: all, once a call was made.
+pub data Prints {A : Type 0} (device : A → Device) (starved : A → Bool) (trace : Bool) (old : ServerView A)
     : ServerView A → ℕ → List Event → List Said → List ℕ → List ℕ → Type 0 where
-  none : Prints device trace old old 0 [] [] [] []
+  none : Prints device starved trace old old 0 [] [] [] []
   call : {mid new : ServerView A} {shown : ℕ} {events : List Event} {event : Event} {said : List Said} {one : Said} {before last : List ℕ}
-      → Prints device trace old mid shown events said before last → Answered device event one mid new
-      → Prints device trace old new (length (device new.adapter).tape) (events ++ event ∷ []) (said ++ one ∷ []) (before ++ last)
+      → Prints device starved trace old mid shown events said before last → starved mid.adapter ≡ false → Answered device event one mid new
+      → Prints device starved trace old new (length (device new.adapter).tape) (events ++ event ∷ []) (said ++ one ∷ []) (before ++ last)
       (call_text trace shown (device new.adapter).tape one)
 
--- A call was made, and of what is printed of it a part was, from its beginning on.
-pub record PrintsPart {A : Type 0} (device : A → Device) (trace : Bool) (shown : ℕ) (event : Event) (old new : ServerView A)
+-- A call was made, and of what is printed of it a part was, from its beginning on: nothing, where it starved the adapter.
+pub record PrintsPart {A : Type 0} (device : A → Device) (starved : A → Bool) (trace : Bool) (shown : ℕ) (event : Event) (old new : ServerView A)
     (before after : Option (List ℕ)) : Type 0 where
   pub one : Said
   pub answered : Answered device event one old new
@@ -101,13 +106,14 @@ pub record PrintsPart {A : Type 0} (device : A → Device) (trace : Bool) (shown
   pub text_is : text ≡ call_text trace shown (device new.adapter).tape one
   pub part : ℕ
   pub printed : Appends before after (take part text)
+  pub silent : starved new.adapter ≡ true → part ≡ 0
 
 -- ---- the whole
 
 -- Of a script the first lines were played, which lead from the old server to the new one, and the rest were not. Each of them was printed but
--- for the last one, of whose text a part was, from its beginning on.
-pub record Ran {A : Type 0} (device : A → Device) (trace : Bool) (script : List ℕ) (old new : ServerView A) (before after : Option (List ℕ))
-    : Type 0 where
+-- for the last one, of whose text a part was, from its beginning on: nothing, where it starved the adapter.
+pub record Ran {A : Type 0} (device : A → Device) (starved : A → Bool) (trace : Bool) (script : List ℕ) (old new : ServerView A)
+    (before after : Option (List ℕ)) : Type 0 where
   pub played : List Line
   pub rest : List Line
   pub asks : IsScript script (played ++ rest)
@@ -115,15 +121,17 @@ pub record Ran {A : Type 0} (device : A → Device) (trace : Bool) (script : Lis
   pub said : List Said
   pub text : List ℕ
   pub last : List ℕ
-  pub prints : Prints device trace old new shown (events_of played) said text last
+  pub prints : Prints device starved trace old new shown (events_of played) said text last
   pub part : ℕ
   pub printed : Appends before after (text ++ take part last)
+  pub silent : starved new.adapter ≡ true → part ≡ 0
 
--- all of it was played and printed
-pub record IsWhole {A : Type 0} {device : A → Device} {trace : Bool} {script : List ℕ} {old new : ServerView A} {before after : Option (List ℕ)}
-    (ran : Ran device trace script old new before after) : Type 0 where
+-- all of it was played and printed, and nothing was left out
+pub record IsWhole {A : Type 0} {device : A → Device} {starved : A → Bool} {trace : Bool} {script : List ℕ} {old new : ServerView A}
+    {before after : Option (List ℕ)} (ran : Ran device starved trace script old new before after) : Type 0 where
   pub played : ran.rest ≡ []
   pub printed : length ran.last ≤ ran.part
+  pub fed : starved new.adapter ≡ false
 
 -- The configuration's text and the whole script were read. A new server was asked what the first lines ask, and of what they print all was printed
 -- but for a part of the last one's. At first nothing of the tape counts as shown: so with a trace, what moved while the server was made
@@ -134,7 +142,7 @@ pub record Played {S : Type 0} (size : S → ℕ) (told : S → Option (ℕ → 
   pub read : IsReadFrom config values
   pub server : ServerView (Model S)
   pub last : ServerView (Model S)
-  pub ran : Ran (device_at size told) trace script server last old new
+  pub ran : Ran (device_at size told) is_starved trace script server last old new
   pub answers : AreAnswers size told values image blank server last (events_of ran.played) ran.said
 
 -- what a fault of a configuration's text ends a run as

@@ -1,5 +1,5 @@
 // A script, played from its first line to its last.
-ghost use Rattle.std.specs.Prelude.{◌≡◌, ◌≤◌, List, IfOk, IfErr, OnOk, length, vec_len};
+ghost use Rattle.std.specs.Prelude.{◌≡◌, ◌≤◌, false, List, IfOk, IfErr, OnOk, length, vec_len};
 ghost use Rattle.std.specs.Vec.{vec_capacity};
 ghost use Rattle.block_server.specs.Running.{Answered};
 ghost use Rattle.configuration.specs.Document.{IsReadFrom};
@@ -8,7 +8,7 @@ ghost use Rattle.script.specs.Script.{IsScript};
 ghost use Rattle.script.specs.declared.line.Line.{Line};
 ghost use Rattle.device_model.specs.Modelled.{device_at};
 ghost use Rattle.play.specs.Events.{event_of};
-ghost use Rattle.play.specs.Played.{Ends, IsRefused, IsStarted, IsWhole, PrintsPart, Ran};
+ghost use Rattle.play.specs.Played.{Ends, IsRefused, IsStarted, IsWhole, PrintsPart, Ran, is_starved};
 
 use crate::event;
 use crate::printed::{print_call, write_out};
@@ -141,16 +141,22 @@ fn play_line<S: SectorStore, W: io::Write>(
     shown: usize,
     out: &mut W,
 ) -> Result<usize, Stop>
+    requires fed { is_starved server.old.adapter ≡ false }
     requires empty { vec_len room.old.said ≡ 0 }
     requires room { 1 ≤ vec_capacity room.old.said }
-    ensures printed { (p : PrintsPart (device_at S.size S.told) trace shown (event_of line) server.old server.new (W.contents out.old) (W.contents out.new))
+    ensures printed { (p : PrintsPart (device_at S.size S.told) is_starved trace shown (event_of line) server.old server.new (W.contents out.old) (W.contents out.new))
         × OnOk result (length p.text ≤ p.part) }
+    ensures fed { OnOk result (is_starved server.new.adapter ≡ false) }
     ensures shown { IfOk result (λ count. count ≡ length (device_at S.size S.told server.new.adapter).tape) }
     ensures empty { vec_len room.new.said ≡ 0 }
     ensures room { 1 ≤ vec_capacity room.new.said }
 {
     let said = ask(server, event(line), &mut room.said);
-    let tape = server.adapter().tape();
+    let model = server.adapter();
+    if model.starved() {
+        return Err(Stop::NoMemory);
+    }
+    let tape = model.tape();
     let Ok(()) = print_call(&mut room.text, trace, tape, shown, &said) else {
         // A text in memory wants nothing but memory.
         return Err(Stop::NoMemory);
@@ -162,7 +168,7 @@ fn play_line<S: SectorStore, W: io::Write>(
 }
 
 /// Asks a server what the lines of a script ask, one after another, and prints of each at once what the tape gained, with a trace, and what it
-/// said. Where memory or the output fails, it stops at that line: no later one is played.
+/// said. Where memory is refused, to the model too, or the output fails, it stops at that line: no later one is played.
 fn perform<S: SectorStore, W: io::Write>(
     server: &mut Server<Model<S>>,
     script: &[u8],
@@ -173,9 +179,12 @@ fn perform<S: SectorStore, W: io::Write>(
     requires good { (lines : List Line) × IsScript script.now lines }
     requires empty { vec_len room.old.said ≡ 0 }
     requires room { 1 ≤ vec_capacity room.old.said }
-    ensures { (ran : Ran (device_at S.size S.told) trace script.now server.old server.new (W.contents out.old) (W.contents out.new))
+    ensures { (ran : Ran (device_at S.size S.told) is_starved trace script.now server.old server.new (W.contents out.old) (W.contents out.new))
         × OnOk result (IsWhole ran) }
 {
+    if server.adapter().starved() {
+        return Err(Stop::NoMemory);
+    }
     let mut shown = 0;
     let mut rest = Some(script);
     while let Some(text) = rest {

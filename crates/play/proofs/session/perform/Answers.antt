@@ -1,14 +1,19 @@
-use Rattle.std.proofs.Common.{refl, sym, subst, Option, Some, None, List, ℕ, length}
+use Rattle.std.proofs.Common.{refl, ap, ◌∙◌, sym, subst, Option, Some, None, List, ℕ, length}
 use Rattle.std.specs.Borrow.{Bor}
 use Rattle.device_model.specs.Modelled.{device_at}
+use Rattle.device_model.specs.declared.model.Model.{Model}
 use Rattle.script.specs.Script.{Asks, lines_of, lines_after}
 use Rattle.script.specs.declared.line.Line.{Line}
-use Rattle.play.specs.Played.{IsWhole}
-use Rattle.play.proofs.Printing.{PlayedSoFar, played_none, played_nothing, played_line, ran_part, ran_all, cut_more, left_ask, none_bad, on_error}
+use Rattle.play.specs.Played.{is_starved}
+use Rattle.play.proofs.Printing.{PlayedSoFar, played_none, played_nothing, played_line, ran_none, ran_part, ran_all, cut_more, left_ask, none_bad, on_error}
 use Rattle.play.proofs.session.perform.Goals as goal
 
 pub loop-rest-init : goal.loop-rest-init
-loop-rest-init g c = record { empty = c.requires.empty; room = c.requires.room; played = played_none _ _ _ _ _ _ refl }
+loop-rest-init g c = record { fed = ap (λ (m : Model g.row.S.Denot). is_starved m) (sym c.adapter.ensures) ∙ sym c.starved.ensures ∙ c.if-starved.false; empty = c.requires.empty; room = c.requires.room; played = played_none _ _ _ _ _ _ _ refl }
+
+pub returns-then-starved : goal.returns-then-starved
+returns-then-starved g c =
+    (ran_none (device_at g.S.SectorStore.size g.S.SectorStore.told) is_starved c.args.trace c.args.server.now c.args.script.now _ c.requires.good.0 c.requires.good.1, tt)
 
 -- a line that asks nothing
 pub loop-rest-preserved-in-Ok-None : goal.loop-rest-preserved-in-Ok-None
@@ -17,12 +22,13 @@ loop-rest-preserved-in-Ok-None g c =
     let before = g.W.Write.contents c.args.out.now in
     let here = g.W.Write.contents c.loop-rest.out in
     let all = lines_of c.args.script.now in
-    let so_far = subst (λ (rest : Option (Bor (List ℕ))). PlayedSoFar device c.args.trace c.args.server.now all c.loop-rest.server c.loop-rest.shown rest before here) c.in-Some.is c.loop-rest.invariant.played in
+    let so_far = subst (λ (rest : Option (Bor (List ℕ))). PlayedSoFar device is_starved c.args.trace c.args.server.now all c.loop-rest.server c.loop-rest.shown rest before here) c.in-Some.is c.loop-rest.invariant.played in
     let asks = subst (λ (asked : Option Line). Asks c.first_line.result.0.now asked) c.in-Ok-None.field-0-is c.in-Ok-None.ensures.ok in
     record {
+      fed = c.loop-rest.invariant.fed;
       empty = c.loop-rest.invariant.empty;
       room = c.loop-rest.invariant.room;
-      played = played_nothing device c.args.trace c.args.server.now all c.loop-rest.server c.loop-rest.shown c.in-Some.text.now c.first_line.result.0.now c.in-Some.text
+      played = played_nothing device is_starved c.args.trace c.args.server.now all c.loop-rest.server c.loop-rest.shown c.in-Some.text.now c.first_line.result.0.now c.in-Some.text
           c.first_line.result.1 before here so_far c.first_line.ensures.first asks;
     }
 
@@ -33,7 +39,7 @@ loop-rest-preserved g c =
     let before = g.W.Write.contents c.args.out.now in
     let here = g.W.Write.contents c.loop-rest.out in
     let all = lines_of c.args.script.now in
-    let so_far = subst (λ (rest : Option (Bor (List ℕ))). PlayedSoFar device c.args.trace c.args.server.now all c.loop-rest.server c.loop-rest.shown rest before here) c.in-Some.is c.loop-rest.invariant.played in
+    let so_far = subst (λ (rest : Option (Bor (List ℕ))). PlayedSoFar device is_starved c.args.trace c.args.server.now all c.loop-rest.server c.loop-rest.shown rest before here) c.in-Some.is c.loop-rest.invariant.played in
     let cut = cut_more all so_far.texts c.in-Some.text.now c.first_line.result.0.now c.first_line.result.1 so_far.cut c.first_line.ensures.first in
     let from = left_ask all so_far.texts c.first_line.result.0.now (lines_after c.first_line.result.1) c.requires.good.0 cut c.requires.good.1 in
     absurd (none_bad c.first_line.result.0.now (lines_after c.first_line.result.1) from c.in-Err.ensures.bad)
@@ -46,13 +52,13 @@ returns-in_err-shown-in-Ok-Some g c =
     let here = g.W.Write.contents c.loop-rest.out in
     let after = g.W.Write.contents c.play_line.new.out in
     let all = lines_of c.args.script.now in
-    let so_far = subst (λ (rest : Option (Bor (List ℕ))). PlayedSoFar device c.args.trace c.args.server.now all c.loop-rest.server c.loop-rest.shown rest before here) c.in-Some.is c.loop-rest.invariant.played in
+    let so_far = subst (λ (rest : Option (Bor (List ℕ))). PlayedSoFar device is_starved c.args.trace c.args.server.now all c.loop-rest.server c.loop-rest.shown rest before here) c.in-Some.is c.loop-rest.invariant.played in
     let cut = cut_more all so_far.texts c.in-Some.text.now c.first_line.result.0.now c.first_line.result.1 so_far.cut c.first_line.ensures.first in
     let from = left_ask all so_far.texts c.first_line.result.0.now (lines_after c.first_line.result.1) c.requires.good.0 cut c.requires.good.1 in
     let asks = subst (λ (asked : Option Line). Asks c.first_line.result.0.now asked) c.in-Ok-Some.field-0-is c.in-Ok-Some.ensures.ok in
-    (ran_part device c.args.trace c.args.server.now c.args.script.now c.loop-rest.server c.play_line.new.server c.loop-rest.shown c.first_line.result.0.now
+    (ran_part device is_starved c.args.trace c.args.server.now c.args.script.now c.loop-rest.server c.play_line.new.server c.loop-rest.shown c.first_line.result.0.now
         c.in-Ok-Some.asked c.in-Some.text c.first_line.result.1 before here after so_far c.first_line.ensures.first asks from
-        c.in_err-shown-in-Ok-Some.ensures.printed.0, on_error c.from_residual.result _ c.from_residual.ensures.0)
+        c.in_err-shown-in-Ok-Some.ensures.printed.0 c.loop-rest.invariant.fed, on_error c.from_residual.result _ c.from_residual.ensures.0)
 
 pub returns : goal.returns
 returns g c =
@@ -60,8 +66,8 @@ returns g c =
     let before = g.W.Write.contents c.args.out.now in
     let here = g.W.Write.contents c.loop-rest.out in
     let all = lines_of c.args.script.now in
-    let so_far = subst (λ (rest : Option (Bor (List ℕ))). PlayedSoFar device c.args.trace c.args.server.now all c.loop-rest.server c.loop-rest.shown rest before here) c.in_default.is c.loop-rest.invariant.played in
-    ran_all device c.args.trace c.args.server.now c.args.script.now c.loop-rest.server c.loop-rest.shown before here so_far
+    let so_far = subst (λ (rest : Option (Bor (List ℕ))). PlayedSoFar device is_starved c.args.trace c.args.server.now all c.loop-rest.server c.loop-rest.shown rest before here) c.in_default.is c.loop-rest.invariant.played in
+    ran_all device is_starved c.args.trace c.args.server.now c.args.script.now c.loop-rest.server c.loop-rest.shown before here so_far c.loop-rest.invariant.fed
 
 -- the line was played and printed
 pub loop-rest-preserved-in_ok-shown-in-Ok-Some : goal.loop-rest-preserved-in_ok-shown-in-Ok-Some
@@ -71,13 +77,14 @@ loop-rest-preserved-in_ok-shown-in-Ok-Some g c =
     let here = g.W.Write.contents c.loop-rest.out in
     let after = g.W.Write.contents c.play_line.new.out in
     let all = lines_of c.args.script.now in
-    let so_far = subst (λ (rest : Option (Bor (List ℕ))). PlayedSoFar device c.args.trace c.args.server.now all c.loop-rest.server c.loop-rest.shown rest before here) c.in-Some.is c.loop-rest.invariant.played in
+    let so_far = subst (λ (rest : Option (Bor (List ℕ))). PlayedSoFar device is_starved c.args.trace c.args.server.now all c.loop-rest.server c.loop-rest.shown rest before here) c.in-Some.is c.loop-rest.invariant.played in
     let asks = subst (λ (asked : Option Line). Asks c.first_line.result.0.now asked) c.in-Ok-Some.field-0-is c.in-Ok-Some.ensures.ok in
     let printed = c.in_ok-shown-in-Ok-Some.ensures.printed in
     record {
+      fed = c.in_ok-shown-in-Ok-Some.ensures.fed;
       empty = c.play_line.ensures.empty;
       room = c.play_line.ensures.room;
-      played = subst (λ (shown : ℕ). PlayedSoFar device c.args.trace c.args.server.now all c.play_line.new.server shown c.first_line.result.1 before after) (sym c.in_ok-shown-in-Ok-Some.ensures.shown)
-          (played_line device c.args.trace c.args.server.now all c.loop-rest.server c.play_line.new.server c.loop-rest.shown c.first_line.result.0.now
-          c.in-Ok-Some.asked c.in-Some.text c.first_line.result.1 before here after so_far c.first_line.ensures.first asks printed.0 printed.1);
+      played = subst (λ (shown : ℕ). PlayedSoFar device is_starved c.args.trace c.args.server.now all c.play_line.new.server shown c.first_line.result.1 before after) (sym c.in_ok-shown-in-Ok-Some.ensures.shown)
+          (played_line device is_starved c.args.trace c.args.server.now all c.loop-rest.server c.play_line.new.server c.loop-rest.shown c.first_line.result.0.now
+          c.in-Ok-Some.asked c.in-Some.text c.first_line.result.1 before here after so_far c.first_line.ensures.first asks printed.0 printed.1 c.loop-rest.invariant.fed);
     }

@@ -7,7 +7,7 @@ use Rattle.configuration.specs.declared.Config.{Config}
 use Rattle.device_model.specs.Modelled.{device_at}
 use Rattle.server_history.specs.Histories.{Leads}
 use Rattle.play.specs.Events.{events_of}
-use Rattle.play.specs.Played.{Played, Ends, AreAnswers, ended_by_stop}
+use Rattle.play.specs.Played.{Played, Ends, AreAnswers, ended_by_stop, is_starved}
 use Rattle.play.specs.declared.session.Ended.{Ended}
 use Rattle.play.specs.declared.session.Stop.{Stop}
 use Rattle.play.specs.declared.session.Stop.TheVariants.{NoMemory, Unwritten}
@@ -27,7 +27,7 @@ returns-in-Ok-performed g c =
     let started = c.in-Ok-start.ensures in
     let ran = c.in-Ok-performed.ensures in
     let begun = started.made.begun in
-    let on = goes_on device c.args.trace c.in-Ok-start.server c.perform-performed.new.server ran.0.shown (events_of ran.0.played) ran.0.said ran.0.text ran.0.last
+    let on = goes_on device is_starved c.args.trace c.in-Ok-start.server c.perform-performed.new.server ran.0.shown (events_of ran.0.played) ran.0.said ran.0.text ran.0.last
     ran.0.prints begun.0 [] begun.1 in
     let leads = subst (λ (past : List (Happening Device DeviceStep)). Leads begun.0 past (server_of device c.perform-performed.new.server)) (append-nil on.more) on.leads in (
       record {
@@ -62,7 +62,7 @@ returns g c =
     let started = c.in-Ok-start.ensures in
     let ran = c.in-Err-performed.ensures.0 in
     let begun = started.made.begun in
-    let on = goes_on device c.args.trace c.in-Ok-start.server c.perform-performed.new.server ran.shown (events_of ran.played) ran.said ran.text ran.last
+    let on = goes_on device is_starved c.args.trace c.in-Ok-start.server c.perform-performed.new.server ran.shown (events_of ran.played) ran.said ran.text ran.last
     ran.prints begun.0 [] begun.1 in
     let leads = subst (λ (past : List (Happening Device DeviceStep)). Leads begun.0 past (server_of device c.perform-performed.new.server)) (append-nil on.more) on.leads in
     let played : Played g.S.SectorStore.size g.S.SectorStore.told c.args.config.now c.args.script.now c.args.image c.args.blank c.args.trace
