@@ -6,10 +6,10 @@
 
 use command_line::{Args, ArgsFault};
 use fault::{Fault, outcome};
-use play::play;
+use play::{Ended, play};
 use sector_store::{Disk, FileStore, MemStore};
 use std::fs::{self, File, Files};
-use std::io::{self, BufWriter, Read, Write};
+use std::io::{self, BufWriter, IsTerminal, Read, Write};
 use std::process::ExitCode;
 use std::rt::Env;
 use std::{env, str};
@@ -18,6 +18,9 @@ mod fault;
 
 /// The sectors of the blank disk.
 const BLANK_SECTORS: u32 = 2048;
+
+/// The bytes that are gathered before they are written.
+const GATHERED: usize = 8192;
 
 /// Want of memory, where that is the error, or else this fault.
 fn unless_memory(error: &io::Error, fault: Fault) -> Fault {
@@ -48,7 +51,11 @@ fn read(rt: &(impl AllocGlobal + Files<File = File>), path: &str) -> io::Result<
     Ok((bytes, file))
 }
 
-fn run(rt: &(impl Env + AllocGlobal + Files<File = File> + Print)) -> Result<(), Fault> {
+/// Does what the words ask. Where somebody watches, what a line answers is written at once, and else it is gathered.
+fn run(
+    rt: &(impl Env + AllocGlobal + Files<File = File> + Print),
+    is_watched: bool,
+) -> Result<(), Fault> {
     let args = words(rt)?;
     // The system gives a file the lowest number that is free, and 0, 1 and 2 are those of standard input, output and error. Where
     // some of these were closed, three files that can only be read take their places until the end, and never the image: else
@@ -65,10 +72,9 @@ fn run(rt: &(impl Env + AllocGlobal + Files<File = File> + Print)) -> Result<(),
         Fault::Image,
     ))?;
     let blank = MemStore::new(rt.alloc(), BLANK_SECTORS)?;
-    let mut out = BufWriter::new(rt.alloc(), io::writer(rt)).map_err(|error| unless_memory(
-        &error,
-        Fault::Unwritten,
-    ))?;
+    let gathered = if is_watched { 0 } else { GATHERED };
+    let mut out = BufWriter::with_capacity(rt.alloc(), gathered, io::writer(rt))
+        .map_err(|error| unless_memory(&error, Fault::Unwritten))?;
     let ended = play(
         rt.alloc(),
         config.as_slice(),
@@ -78,13 +84,18 @@ fn run(rt: &(impl Env + AllocGlobal + Files<File = File> + Print)) -> Result<(),
         args.trace,
         &mut out,
     );
-    let flushed = out.flush();
+    let flushed = match ended {
+        Ended::Unwritten => Ok(()),
+        _ => out.flush(),
+    };
+    // What couldn't be written isn't tried again.
+    let (_writer, _unwritten) = out.into_parts();
     outcome(ended)?;
     flushed.map_err(|_error| Fault::Unwritten)
 }
 
 fn main(rt: HostRuntime) -> ExitCode {
-    match run(&rt) {
+    match run(&rt, rt.stdout().is_terminal()) {
         Ok(()) => ExitCode::SUCCESS,
         Err(fault) => {
             // Where standard error fails, too, the status says what it can.

@@ -14,6 +14,10 @@ use Rattle.block_server.specs.declared.types.Said.{Said}
 use Rattle.server_history.specs.Histories.{Leads}
 use Rattle.play.specs.Played.{Prints, none, call}
 
+-- the last one comes first in the reverse
+reversed_last : {T : Type 0} (all : List T) (last : T) → reverse (all ++ last ∷ []) ≡ last ∷ reverse all
+reversed_last all last = reverse-append all (last ∷ [])
+
 -- a history that leads to the old server, and to the new one with an event for each of these calls, the newest first
 pub record GoesOn {A : Type 0} (device : A → Device) (new : ServerView A) (events : List Event) (said : List Said) (first : Instant Device)
     (past : List (Happening Device DeviceStep)) : Type 0 where
@@ -22,22 +26,18 @@ pub record GoesOn {A : Type 0} (device : A → Device) (new : ServerView A) (eve
   pub asked : map (λ h. h.event.ask) more ≡ reverse (map ask_of events)
   pub answered : map (λ h. h.event.said) more ≡ reverse (map said_of said)
 
-pub goes_on : {A : Type 0} (device : A → Device) (trace : Bool) (shown : ℕ) (old new : ServerView A) (events : List Event) (said : List Said)
-    (text : List ℕ) → Prints device trace shown old new events said text → (first : Instant Device) (past : List (Happening Device DeviceStep))
+pub goes_on : {A : Type 0} (device : A → Device) (starved : A → Bool) (trace : Bool) (old new : ServerView A) (shown : ℕ) (events : List Event) (said : List Said)
+    (text last : List ℕ) → Prints device starved trace old new shown events said text last → (first : Instant Device) (past : List (Happening Device DeviceStep))
     → Leads first past (server_of device old) → GoesOn device new events said first past
-goes_on device trace shown old new [] [] text none first past leads = record { more = []; leads = leads; asked = refl; answered = refl }
-goes_on device trace shown old new [] (one ∷ said) text prints first past leads = elim prints [ ]
-goes_on device trace shown old new (event ∷ events) [] text prints first past leads = elim prints [ ]
-goes_on device trace shown old new (event ∷ events) (one ∷ said) text (call {mid = mid} {text = rest} answered prints) first past leads =
-    let here = answered.adds.adds first past leads in
-    let on = goes_on device trace _ mid new events said rest prints first (here.0 ∷ past) here.3 in
+goes_on device starved trace old new shown events said text last none first past leads = record { more = []; leads = leads; asked = refl; answered = refl }
+goes_on device starved trace old new shown events said text last (call {mid = mid} {shown = before} {events = calls} {event = event} {said = saying} {one = one} {before = printed} {last = latest} prints fed answered) first past leads =
+    let on = goes_on device starved trace old mid before calls saying printed latest prints first past leads in
+    let here = answered.adds.adds first (on.more ++ past) on.leads in
     record {
-      more = on.more ++ here.0 ∷ [];
-      leads = subst (λ (all : List (Happening Device DeviceStep)). Leads first all (server_of device new)) (sym (append_assoc on.more (here.0 ∷ []) past)) on.leads;
-      asked = map-append (λ h. h.event.ask) on.more (here.0 ∷ []) ∙ ap₂ (λ (x y : List (Ask DeviceStep)). x ++ y) on.asked (ap (λ (ask : Ask DeviceStep). ask ∷ []) here.1)
-          ∙ sym (reverse-append (ask_of event ∷ []) (map ask_of events));
-      answered = map-append (λ h. h.event.said) on.more (here.0 ∷ []) ∙ ap₂ (λ (x y : List machine.Said). x ++ y) on.answered (ap (λ (s : machine.Said). s ∷ []) here.2)
-          ∙ sym (reverse-append (said_of one ∷ []) (map said_of said));
+      more = here.0 ∷ on.more;
+      leads = here.3;
+      asked = ap₂ (λ (ask : Ask DeviceStep) (asks : List (Ask DeviceStep)). ask ∷ asks) here.1 on.asked ∙ sym (ap reverse (map-append ask_of calls (event ∷ [])) ∙ reversed_last (map ask_of calls) (ask_of event));
+      answered = ap₂ (λ (s : machine.Said) (all : List machine.Said). s ∷ all) here.2 on.answered ∙ sym (ap reverse (map-append said_of saying (one ∷ [])) ∙ reversed_last (map said_of saying) (said_of one));
     }
 
 -- where both tell, the test of both is true

@@ -1,13 +1,26 @@
--- What the calls so far have printed.
-use Rattle.std.proofs.Common.{ℕ, Bool, List, [], ◌∷◌, ◌++◌, Option, Some, None, length, sym, ap, ◌∙◌, subst, append-nil, append_assoc}
-use Rattle.std.specs.Io.KnownBytes.{Appends}
+-- What the lines so far have printed.
+use Rattle.std.proofs.Common.{ℕ, true, false, ◌≡◌, ◌≤◌, ◌-◌, drop, Bool, List, [], ◌∷◌, ◌++◌, ◌+◌, Option, Some, None, sym, ap, ◌∙◌, append-nil, append_assoc, subst, length, take, refl, arith}
+use Rattle.std.specs.Prelude.{IsErr, OnOk, Ok, Err}
+use Rattle.std.specs.declared.result.Result.{Result}
+use Rattle.std.specs.Borrow.{Bor}
+use Rattle.std.specs.Io.KnownBytes.{Appends, Keeps}
+use Rattle.std.proofs.Math.Seq.{take-add}
+use Rattle.std.proofs.lemmas.Bool.{false≢true}
+use Rattle.std.proofs.lemmas.Grind.{common_steps}
+use Rattle.std.proofs.lemmas.List.{take_all}
+use mathlib.Core.List.{map-append}
 use Rattle.adapter.specs.Device.{Device}
+use Rattle.adapter.specs.declared.tape.Entry.{Entry}
 use Rattle.block_server.specs.Running.{Answered}
 use Rattle.block_server.specs.View.{ServerView}
 use Rattle.block_server.specs.declared.types.Event.{Event}
 use Rattle.block_server.specs.declared.types.Said.{Said}
-use Rattle.play.specs.Lines.{said_text, trace_text}
-use Rattle.play.specs.Played.{Prints, none, call}
+use Rattle.script.specs.Script.{Asks, AskInTurn, done, IsBad, IsFirstLine, IsScript, lines_of, lines_after}
+use Rattle.script.specs.declared.line.Line.{Line}
+use Rattle.script.proofs.ScriptLemmas.{AskFrom, ask_more, ask_one, ask_from, asked_lines, not_bad}
+use Rattle.play.specs.Events.{event_of, events_of}
+use Rattle.play.specs.Lines.{call_text}
+use Rattle.play.specs.Played.{Prints, none, call, PrintsPart, Ran, IsWhole}
 
 pub appends_none : (known : Option (List ℕ)) → Appends known known []
 appends_none None = tt
@@ -19,48 +32,193 @@ appends_more (Some xs) None new a b x y = absurd x
 appends_more (Some xs) (Some ys) None a b x y = y
 appends_more (Some xs) (Some ys) (Some zs) a b x y = y ∙ ap (λ (text : List ℕ). text ++ b) x ∙ append_assoc xs a b
 
-module _ {A : Type 0} (device : A → Device) (trace : Bool) (first : ServerView A) (before : Option (List ℕ)) where
-  -- these calls led to the server, and what they printed stands in the output; whatever calls go on from there print the rest
-  pub record PrintedSoFar (shown : ℕ) (now : ServerView A) (events : List Event) (after : Option (List ℕ)) : Type 0 where
+pub appends_kept : (old mid new : Option (List ℕ)) (a : List ℕ) → Appends old mid a → Keeps mid new → Appends old new a
+appends_kept None mid new a x y = tt
+appends_kept (Some xs) None new a x y = absurd x
+appends_kept (Some xs) (Some ys) None a x y = y
+appends_kept (Some xs) (Some ys) (Some zs) a x y = y ∙ x
+
+-- how much there is to read
+abbrev pub bytes_left : Option (Bor (List ℕ)) → ℕ
+bytes_left None = 0
+bytes_left (Some left) = length left.now + 1
+
+-- the first line and those after it stand after the lines before
+pub cut_more : (all before : List (List ℕ)) (text first : List ℕ) (after : Option (Bor (List ℕ))) → all ≡ before ++ lines_of text → IsFirstLine text first after
+    → all ≡ before ++ first ∷ lines_after after
+cut_more all before text first after cut is = cut ∙ ap (λ (lines : List (List ℕ)). before ++ lines) is
+
+-- what is left of a script asks, where the script does
+pub left_ask : (all before : List (List ℕ)) (text : List ℕ) (after : List (List ℕ)) (lines : List Line) → all ≡ before ++ text ∷ after → AskInTurn all lines
+    → AskFrom text after
+left_ask all before text after lines cut asks = ask_from before text after lines (subst (λ (texts : List (List ℕ)). AskInTurn texts lines) cut asks)
+
+-- so a text that is looked at isn't bad
+pub none_bad : (text : List ℕ) (after : List (List ℕ)) → AskFrom text after → IsBad text → ⊥
+none_bad text after from bad = not_bad text from.asked from.asks bad
+
+module _ {A : Type 0} (device : A → Device) (starved : A → Bool) (trace : Bool) (first : ServerView A) (all : List (List ℕ)) where
+  -- these texts were read, their lines led to the server, and what they printed stands in the output
+  pub record PlayedSoFar (now : ServerView A) (shown : ℕ) (left : Option (Bor (List ℕ))) (before after : Option (List ℕ)) : Type 0 where
+    pub texts : List (List ℕ)
+    pub cut : all ≡ texts ++ lines_after left
+    pub played : List Line
+    pub asks : AskInTurn texts played
     pub said : List Said
     pub text : List ℕ
-    pub printed : Appends before after text
-    pub on : (last : ServerView A) (more : List Event) (saying : List Said) (rest : List ℕ) → Prints device trace shown now last more saying rest
-        → Prints device trace 0 first last (events ++ more) (said ++ saying) (text ++ rest)
+    pub last : List ℕ
+    pub prints : Prints device starved trace first now shown (events_of played) said text last
+    pub printed : Appends before after (text ++ last)
 
-  pub printed_none : PrintedSoFar 0 first [] before
-  printed_none = record { said = []; text = []; printed = appends_none before; on = λ last more saying rest p. p }
+  pub played_none : (left : Option (Bor (List ℕ))) (before : Option (List ℕ)) → all ≡ lines_after left → PlayedSoFar first 0 left before before
+  played_none left before cut = record {
+    texts = [];
+    cut = cut;
+    played = [];
+    asks = done;
+    said = [];
+    text = [];
+    last = [];
+    prints = none;
+    printed = appends_none before;
+  }
+
+  -- the lines of one text more
+  asks_more : (texts : List (List ℕ)) (played : List Line) (text : List ℕ) (asked : Option Line) → AskInTurn texts played → Asks text asked
+      → AskInTurn (texts ++ text ∷ []) (played ++ asked_lines asked)
+  asks_more texts played text asked asks more = ask_more texts (text ∷ []) played (asked_lines asked) asks (ask_one text asked more)
+
+  cut_on : (texts : List (List ℕ)) (text : List ℕ) (left : Option (Bor (List ℕ))) → all ≡ texts ++ text ∷ lines_after left
+      → all ≡ (texts ++ text ∷ []) ++ lines_after left
+  cut_on texts text left cut = cut ∙ sym (append_assoc texts (text ∷ []) (lines_after left))
+
+  -- a text that asks nothing
+  pub played_nothing : (now : ServerView A) (shown : ℕ) (text line : List ℕ) (t : Bor (List ℕ)) (left : Option (Bor (List ℕ))) (before after : Option (List ℕ))
+      → PlayedSoFar now shown (Some t) before after → IsFirstLine t.now line left → Asks line None → PlayedSoFar now shown left before after
+  played_nothing now shown text line t left before after so_far is asks = record {
+    texts = so_far.texts ++ line ∷ [];
+    cut = cut_on so_far.texts line left (cut_more all so_far.texts t.now line left so_far.cut is);
+    played = so_far.played;
+    asks = subst (λ (lines : List Line). AskInTurn (so_far.texts ++ line ∷ []) lines) (append-nil so_far.played)
+        (asks_more so_far.texts so_far.played line None so_far.asks asks);
+    said = so_far.said;
+    text = so_far.text;
+    last = so_far.last;
+    prints = so_far.prints;
+    printed = so_far.printed;
+  }
 
   -- one more call
-  pub printed_more : (shown : ℕ) (now next : ServerView A) (events : List Event) (event : Event) (one : Said) (after traced later : Option (List ℕ))
-      → PrintedSoFar shown now events after → Answered device event one now next
-      → Appends after traced (trace_text trace shown (device next.adapter).tape) → Appends traced later (said_text one)
-      → PrintedSoFar (length (device next.adapter).tape) next (events ++ event ∷ []) later
-  printed_more shown now next events event one after traced later so_far answered gained told =
-      let new = trace_text trace shown (device next.adapter).tape ++ said_text one in
-      record {
-        said = so_far.said ++ one ∷ [];
-        text = so_far.text ++ new;
-        printed = appends_more before after later so_far.text new so_far.printed (appends_more after traced later _ _ gained told);
-        on = λ last more saying rest p.
-            let all = so_far.on last (event ∷ more) (one ∷ saying) (new ++ rest) (call answered p) in
-            subst (λ (e : List Event). Prints device trace 0 first last e ((so_far.said ++ one ∷ []) ++ saying) ((so_far.text ++ new) ++ rest))
-            (sym (append_assoc events (event ∷ []) more))
-            (subst (λ (s : List Said). Prints device trace 0 first last (events ++ event ∷ more) s ((so_far.text ++ new) ++ rest))
-            (sym (append_assoc so_far.said (one ∷ []) saying))
-            (subst (λ (t : List ℕ). Prints device trace 0 first last (events ++ event ∷ more) (so_far.said ++ one ∷ saying) t)
-            (sym (append_assoc so_far.text new rest)) all));
-      }
+  prints_more : (now next : ServerView A) (shown : ℕ) (lines : List Line) (line : Line) (said : List Said) (text last : List ℕ) (one : Said)
+      → Prints device starved trace first now shown (events_of lines) said text last → starved now.adapter ≡ false → Answered device (event_of line) one now next
+      → Prints device starved trace first next (length (device next.adapter).tape) (events_of (lines ++ line ∷ [])) (said ++ one ∷ []) (text ++ last)
+      (call_text trace shown (device next.adapter).tape one)
+  prints_more now next shown lines line said text last one prints fed answered =
+      subst (λ (events : List Event). Prints device starved trace first next (length (device next.adapter).tape) events (said ++ one ∷ []) (text ++ last)
+      (call_text trace shown (device next.adapter).tape one)) (sym (map-append event_of lines (line ∷ []))) (call prints fed answered)
 
-  -- where no call follows, this is all
-  pub printed_all : (shown : ℕ) (now : ServerView A) (events : List Event) (after : Option (List ℕ)) → PrintedSoFar shown now events after
-      → (said : List Said) × (text : List ℕ) × Appends before after text × Prints device trace 0 first now events said text
-  printed_all shown now events after so_far = (
-    so_far.said,
-    so_far.text,
-    so_far.printed,
-    subst (λ (e : List Event). Prints device trace 0 first now e so_far.said so_far.text) (append-nil events)
-        (subst (λ (s : List Said). Prints device trace 0 first now (events ++ []) s so_far.text) (append-nil so_far.said)
-        (subst (λ (t : List ℕ). Prints device trace 0 first now (events ++ []) (so_far.said ++ []) t) (append-nil so_far.text)
-        (so_far.on now [] [] [] none))),
+  -- a line that was played, and printed whole
+  pub played_line : (now next : ServerView A) (shown : ℕ) (text : List ℕ) (line : Line) (t : Bor (List ℕ)) (left : Option (Bor (List ℕ)))
+      (before mid after : Option (List ℕ)) → PlayedSoFar now shown (Some t) before mid → IsFirstLine t.now text left → Asks text (Some line)
+      → (p : PrintsPart device starved trace shown (event_of line) now next mid after) → length p.text ≤ p.part
+      → starved now.adapter ≡ false → PlayedSoFar next (length (device next.adapter).tape) left before after
+  played_line now next shown text line t left before mid after so_far is asks p whole fed = record {
+    texts = so_far.texts ++ text ∷ [];
+    cut = cut_on so_far.texts text left (cut_more all so_far.texts t.now text left so_far.cut is);
+    played = so_far.played ++ line ∷ [];
+    asks = asks_more so_far.texts so_far.played text (Some line) so_far.asks asks;
+    said = so_far.said ++ p.one ∷ [];
+    text = so_far.text ++ so_far.last;
+    last = call_text trace shown (device next.adapter).tape p.one;
+    prints = prints_more now next shown so_far.played line so_far.said so_far.text so_far.last p.one so_far.prints fed p.answered;
+    printed = appends_more before mid after (so_far.text ++ so_far.last) _ so_far.printed
+        (subst (λ (printed : List ℕ). Appends mid after printed) (take_all p.part p.text whole ∙ p.text_is) p.printed);
+  }
+
+module _ {A : Type 0} (device : A → Device) (starved : A → Bool) (trace : Bool) (first : ServerView A) (script : List ℕ) where
+  -- a line that was played, and that was the last one; the lines after it ask what they ask
+  pub ran_part : (now next : ServerView A) (shown : ℕ) (text : List ℕ) (line : Line) (t : Bor (List ℕ)) (left : Option (Bor (List ℕ)))
+      (before mid after : Option (List ℕ)) → PlayedSoFar device starved trace first (lines_of script) now shown (Some t) before mid → IsFirstLine t.now text left → Asks text (Some line)
+      → AskFrom text (lines_after left) → PrintsPart device starved trace shown (event_of line) now next mid after
+      → starved now.adapter ≡ false → Ran device starved trace script first next before after
+  ran_part now next shown text line t left before mid after so_far is asks from p fed = record {
+    played = so_far.played ++ line ∷ [];
+    rest = from.rest;
+    asks = subst (λ (texts : List (List ℕ)). AskInTurn texts ((so_far.played ++ line ∷ []) ++ from.rest))
+        (sym (cut_on device starved trace first (lines_of script) so_far.texts text left (cut_more (lines_of script) so_far.texts t.now text left so_far.cut is)))
+        (ask_more (so_far.texts ++ text ∷ []) (lines_after left) (so_far.played ++ line ∷ []) from.rest
+        (asks_more device starved trace first (lines_of script) so_far.texts so_far.played text (Some line) so_far.asks asks) from.others);
+    shown = length (device next.adapter).tape;
+    said = so_far.said ++ p.one ∷ [];
+    text = so_far.text ++ so_far.last;
+    last = call_text trace shown (device next.adapter).tape p.one;
+    prints = prints_more device starved trace first (lines_of script) now next shown so_far.played line so_far.said so_far.text so_far.last p.one so_far.prints fed p.answered;
+    part = p.part;
+    printed = appends_more before mid after (so_far.text ++ so_far.last) _ so_far.printed
+        (subst (λ (whole : List ℕ). Appends mid after (take p.part whole)) p.text_is p.printed);
+    silent = p.silent;
+  }
+
+  -- before the first one
+  pub ran_none : (before : Option (List ℕ)) (lines : List Line) → IsScript script lines → Ran device starved trace script first first before before
+  ran_none before lines asks = record {
+    played = [];
+    rest = lines;
+    asks = asks;
+    shown = 0;
+    said = [];
+    text = [];
+    last = [];
+    prints = none;
+    part = 0;
+    printed = appends_none before;
+    silent = λ is. refl;
+  }
+
+  -- at the end
+  pub ran_all : (now : ServerView A) (shown : ℕ) (before after : Option (List ℕ)) → PlayedSoFar device starved trace first (lines_of script) now shown None before after
+      → starved now.adapter ≡ false → (ran : Ran device starved trace script first now before after) × IsWhole ran
+  ran_all now shown before after so_far fed = (
+    record {
+      played = so_far.played;
+      rest = [];
+      asks = subst (λ (lines : List Line). AskInTurn (lines_of script) lines) (sym (append-nil so_far.played))
+          (subst (λ (texts : List (List ℕ)). AskInTurn texts so_far.played) (sym (so_far.cut ∙ append-nil so_far.texts)) so_far.asks);
+      shown = shown;
+      said = so_far.said;
+      text = so_far.text;
+      last = so_far.last;
+      prints = so_far.prints;
+      part = length so_far.last;
+      printed = subst (λ (part : List ℕ). Appends before after (so_far.text ++ part)) (sym (take_all (length so_far.last) so_far.last (omega arith))) so_far.printed;
+      silent = λ is. absurd (false≢true (sym fed ∙ is));
+    },
+    record { played = refl; printed = omega arith; fed = fed },
   )
+
+-- a call whose text is these bytes, of which a part was printed
+abbrev pub part_of : {A : Type 0} (device : A → Device) (starved : A → Bool) (trace : Bool) (shown : ℕ) (event asked : Event) (one : Said) (old new : ServerView A)
+    (before after : Option (List ℕ)) (part : ℕ) (bytes : List ℕ) (tape : List Entry) → asked ≡ event → Answered device asked one old new
+    → tape ≡ (device new.adapter).tape → bytes ≡ call_text trace shown tape one → Appends before after (take part bytes)
+    → (starved new.adapter ≡ true → part ≡ 0) → PrintsPart device starved trace shown event old new before after
+part_of device starved trace shown event asked one old new before after part bytes tape is answered tape_is bytes_are printed silent = record {
+  one = one;
+  answered = subst (λ (e : Event). Answered device e one old new) is answered;
+  text = bytes;
+  text_is = bytes_are ∙ ap (λ (t : List Entry). call_text trace shown t one) tape_is;
+  part = part;
+  printed = printed;
+  silent = silent;
+}
+
+-- some bytes were written, and then some of those after them
+pub written_more : (bytes : List ℕ) (written count : ℕ)
+    → take written bytes ++ take count (take (length bytes - written) (drop written bytes)) ≡ take (written + count) bytes
+written_more bytes written count =
+    let rest : take (length bytes - written) (drop written bytes) ≡ drop written bytes = grind (arith, common_steps) in
+    ap (λ (left : List ℕ). take written bytes ++ take count left) rest ∙ sym (take-add written count bytes)
+
+-- what holds of an Ok holds where there is an error
+pub on_error : {T E : Type 0} (r : Result T E) (P : Type 0) → IsErr r → OnOk r P
+on_error (Ok x) P err = cc
+on_error (Err e) P err = tt

@@ -4,7 +4,6 @@ use Rattle.block_server.specs.declared.types.Event.{Event}
 use Rattle.block_server.specs.declared.types.Event.TheVariants as calls
 use Rattle.script.specs.declared.line.Line.{Line}
 use Rattle.script.specs.declared.line.Line.TheVariants.{Submit, Store, Load, Service, State, Device}
-use Rattle.script.specs.declared.script.Numbered.{Numbered}
 
 -- the call that a line asks for
 abbrev pub event_of : Line → Event
@@ -15,6 +14,6 @@ event_of Service = calls.Service
 event_of (State port) = calls.State port
 event_of (Device step) = calls.Device step
 
--- those of a script's lines, in their order
-abbrev pub events_of : List Numbered → List Event
-events_of lines = map (λ numbered. event_of numbered.line) lines
+-- those of lines, in their order
+abbrev pub events_of : List Line → List Event
+events_of lines = map event_of lines

@@ -1,5 +1,5 @@
 -- What is printed of a call: what the tape gained, and what the call said (this project's own).
-use Rattle.std.specs.Prelude.{ℕ, Bool, true, false, List, [], ◌∷◌, drop, Ok, Err}
+use Rattle.std.specs.Prelude.{ℕ, Bool, true, false, List, [], ◌∷◌, ◌++◌, drop, Ok, Err}
 use Rattle.std.specs.Borrow.{Bor}
 use Rattle.std.specs.List.{flat_map}
 use Rattle.ata_types.specs.declared.request.Reply.{Reply}
@@ -48,3 +48,7 @@ gained_text entries = flat_map entry_text entries
 abbrev pub trace_text : Bool → ℕ → List Entry → List ℕ
 trace_text true shown tape = gained_text (drop shown tape)
 trace_text false shown tape = []
+
+-- what is printed of a call: with a trace, what the tape has gained past the entries that were shown before, and then what the call said
+abbrev pub call_text : Bool → ℕ → List Entry → Said → List ℕ
+call_text trace shown tape one = trace_text trace shown tape ++ said_text one

@@ -1,5 +1,5 @@
 -- A script that is played against a server over a modelled adapter (this project's own).
-use Rattle.std.specs.Prelude.{ℕ, Bool, ◌≡◌, ◌&&◌, List, [], ◌∷◌, ◌++◌, Option, IsSome, codes, is_some, length, map, reverse, string_bytes}
+use Rattle.std.specs.Prelude.{ℕ, Bool, true, false, ◌≡◌, ◌≤◌, ◌&&◌, ◌⊎◌, List, [], ◌∷◌, ◌++◌, Option, IsSome, codes, is_some, length, map, reverse, string_bytes, take}
 use Rattle.std.specs.Io.KnownBytes.{Appends}
 use Rattle.adapter.specs.Device.{Device}
 use Rattle.adapter.specs.declared.access.DeviceStep.{DeviceStep}
@@ -20,16 +20,17 @@ use Rattle.device_model.specs.Modelled as model
 use Rattle.device_model.specs.declared.config.ModelConfig.{ModelConfig}
 use Rattle.device_model.specs.declared.model.Model.{Model}
 use Rattle.script.specs.Script.{IsFirstBad, IsScript}
-use Rattle.script.specs.declared.script.Numbered.{Numbered}
-use Rattle.script.specs.declared.script.ScriptFault.{ScriptFault}
-use Rattle.script.specs.declared.script.ScriptFault.TheVariants as script
+use Rattle.script.specs.declared.line.Line.{Line}
+use Rattle.script.specs.declared.script.BadLine.{BadLine as FirstBad}
 use Rattle.sector_store.specs.declared.pages.Trim.{Trim}
 use Rattle.sector_store.specs.declared.pages.Trim.TheVariants.{Full, Weak, Without}
 use Rattle.server_history.specs.Histories.{Leads}
 use Rattle.play.specs.Events.{events_of}
-use Rattle.play.specs.Lines.{said_text, trace_text}
+use Rattle.play.specs.Lines.{call_text}
 use Rattle.play.specs.declared.session.Ended.{Ended}
-use Rattle.play.specs.declared.session.Ended.TheVariants.{Done, Config as BadConfig, Line, NoMemory, Unwritten}
+use Rattle.play.specs.declared.session.Stop.{Stop}
+use Rattle.play.specs.declared.session.Stop.TheVariants as stop
+use Rattle.play.specs.declared.session.Ended.TheVariants.{Done, Config as BadConfig, Line as BadLine, NoMemory, Unwritten}
 
 -- ---- the model
 
@@ -54,6 +55,10 @@ pub record IsModelOf {S : Type 0} (size : S → ℕ) (told : S → Option (ℕ �
   pub set : IsSetBy config settings
   pub made : model.IsNew settings (size image) (told image) (device_at size told m)
 
+-- a step of the device was left out, since there was no memory to note it
+abbrev pub is_starved : {S : Type 0} → Model S → Bool
+is_starved m = m.hardware.starved
+
 -- ---- the calls
 
 -- a new server, of this configuration, and of such a model
@@ -63,76 +68,110 @@ pub record IsStarted {S : Type 0} (size : S → ℕ) (told : S → Option (ℕ �
   pub telling : (device_at size told model).telling ≡ (is_some (told image) && is_some (told blank))
   pub made : IsNew (device_at size told) config model server
 
--- What these calls answered is a run of the block machine. It begins where a new server stands, of this configuration and of a model of the
--- image; it has one event for each call, in their order (the newest first), with what was asked and said; and where image and blank disk
--- tell their sectors, each read that was answered Ok has, at the end of the call that answered it, what was left.
-pub record AreAnswers {S : Type 0} (size : S → ℕ) (told : S → Option (ℕ → List ℕ)) (config : Config) (image blank : S) (events : List Event)
-    (said : List Said) : Type 0 where
+-- What these calls answered, from this server to that one, is a run of the block machine. It begins where a new server stands, of this
+-- configuration and of a model of the image; it has one event for each call, in their order (the newest first), with what was asked and
+-- said; and where image and blank disk tell their sectors, each read that was answered Ok has, at the end of the call that answered it,
+-- what was left.
+pub record AreAnswers {S : Type 0} (size : S → ℕ) (told : S → Option (ℕ → List ℕ)) (config : Config) (image blank : S)
+    (server last : ServerView (Model S)) (events : List Event) (said : List Said) : Type 0 where
   pub model : Model S
   pub modelled : IsModelOf size told config image model
-  pub server : ServerView (Model S)
   pub made : IsNew (device_at size told) config model server
   pub first : Instant Device
   pub begun : Leads first [] (server_of (device_at size told) server)
   pub past : List (Happening Device DeviceStep)
-  pub last : ServerView (Model S)
   pub leads : Leads first past (server_of (device_at size told) last)
   pub asked : map (λ h. h.event.ask) past ≡ reverse (map ask_of events)
   pub answered : map (λ h. h.event.said) past ≡ reverse (map said_of said)
   pub run : IsRun first.moment (histories.events_of past)
   pub reads : IsSome (told image) → IsSome (told blank) → EveryReadHolds first.moment (histories.events_of past)
 
--- The calls lead from the one server to the other, say this in turn, and print this text: of each call, with a trace, what the tape has
--- gained past the entries that were shown before, and then what the call said. After it all of the tape counts as shown.
-pub data Prints {A : Type 0} (device : A → Device) (trace : Bool) : ℕ → ServerView A → ServerView A → List Event → List Said → List ℕ → Type 0 where
-  none : {shown : ℕ} {server : ServerView A} → Prints device trace shown server server [] [] []
-  call : {shown : ℕ} {old mid new : ServerView A} {event : Event} {events : List Event} {one : Said} {said : List Said} {text : List ℕ}
-      → Answered device event one old mid
-      → Prints device trace (length (device mid.adapter).tape) mid new events said text
-      → Prints device trace shown old new (event ∷ events) (one ∷ said) (trace_text trace shown (device mid.adapter).tape ++ said_text one ++ text)
+-- These calls lead from the old server to the new one, and say this in turn; none is made of an adapter that is starved. The text of the last
+-- call stands by itself, after that of those before it; where there is none, both are empty. So many entries of the tape count as shown
+-- then: all, once a call was made.
+pub data Prints {A : Type 0} (device : A → Device) (starved : A → Bool) (trace : Bool) (old : ServerView A)
+    : ServerView A → ℕ → List Event → List Said → List ℕ → List ℕ → Type 0 where
+  none : Prints device starved trace old old 0 [] [] [] []
+  call : {mid new : ServerView A} {shown : ℕ} {events : List Event} {event : Event} {said : List Said} {one : Said} {before last : List ℕ}
+      → Prints device starved trace old mid shown events said before last → starved mid.adapter ≡ false → Answered device event one mid new
+      → Prints device starved trace old new (length (device new.adapter).tape) (events ++ event ∷ []) (said ++ one ∷ []) (before ++ last)
+      (call_text trace shown (device new.adapter).tape one)
+
+-- A call was made, and of what is printed of it a part was, from its beginning on: nothing, where it starved the adapter.
+pub record PrintsPart {A : Type 0} (device : A → Device) (starved : A → Bool) (trace : Bool) (shown : ℕ) (event : Event) (old new : ServerView A)
+    (before after : Option (List ℕ)) : Type 0 where
+  pub one : Said
+  pub answered : Answered device event one old new
+  pub text : List ℕ
+  pub text_is : text ≡ call_text trace shown (device new.adapter).tape one
+  pub part : ℕ
+  pub printed : Appends before after (take part text)
+  pub silent : starved new.adapter ≡ true → part ≡ 0
 
 -- ---- the whole
 
--- The configuration's text and the whole script were read. A new server was asked what the lines ask, and what the calls print is this text.
--- At first nothing of the tape counts as shown: so with a trace, what moved while the server was made stands before the first answer.
-pub record Played {S : Type 0} (size : S → ℕ) (told : S → Option (ℕ → List ℕ)) (config script : List ℕ) (image blank : S) (trace : Bool)
-    (text : List ℕ) : Type 0 where
-  pub values : Config
-  pub read : IsReadFrom config values
-  pub lines : List Numbered
-  pub asks : IsScript script lines
+-- Of a script the first lines were played, which lead from the old server to the new one, and the rest were not. Each of them was printed but
+-- for the last one, of whose text a part was, from its beginning on: nothing, where it starved the adapter.
+pub record Ran {A : Type 0} (device : A → Device) (starved : A → Bool) (trace : Bool) (script : List ℕ) (old new : ServerView A)
+    (before after : Option (List ℕ)) : Type 0 where
+  pub played : List Line
+  pub rest : List Line
+  pub asks : IsScript script (played ++ rest)
+  pub shown : ℕ
   pub said : List Said
-  pub answers : AreAnswers size told values image blank (events_of lines) said
-  pub prints : Prints (device_at size told) trace 0 answers.server answers.last (events_of lines) said text
+  pub text : List ℕ
+  pub last : List ℕ
+  pub prints : Prints device starved trace old new shown (events_of played) said text last
+  pub part : ℕ
+  pub printed : Appends before after (text ++ take part last)
+  pub silent : starved new.adapter ≡ true → part ≡ 0
 
--- the texts of a configuration and of a script are read
-pub record AreRead (config script : List ℕ) : Type 0 where
+-- all of it was played and printed, and nothing was left out
+pub record IsWhole {A : Type 0} {device : A → Device} {starved : A → Bool} {trace : Bool} {script : List ℕ} {old new : ServerView A}
+    {before after : Option (List ℕ)} (ran : Ran device starved trace script old new before after) : Type 0 where
+  pub played : ran.rest ≡ []
+  pub printed : length ran.last ≤ ran.part
+  pub fed : starved new.adapter ≡ false
+
+-- The configuration's text and the whole script were read. A new server was asked what the first lines ask, and of what they print all was printed
+-- but for a part of the last one's. At first nothing of the tape counts as shown: so with a trace, what moved while the server was made
+-- stands before the first answer.
+pub record Played {S : Type 0} (size : S → ℕ) (told : S → Option (ℕ → List ℕ)) (config script : List ℕ) (image blank : S) (trace : Bool)
+    (old new : Option (List ℕ)) : Type 0 where
   pub values : Config
   pub read : IsReadFrom config values
-  pub lines : List Numbered
-  pub asks : IsScript script lines
+  pub server : ServerView (Model S)
+  pub last : ServerView (Model S)
+  pub ran : Ran (device_at size told) is_starved trace script server last old new
+  pub answers : AreAnswers size told values image blank server last (events_of ran.played) ran.said
 
 -- what a fault of a configuration's text ends a run as
 abbrev pub ended_by_config : ConfigFault → Ended
 ended_by_config (config.Refused kind) = BadConfig kind
 ended_by_config config.NoMemory = NoMemory
 
--- what a script's fault ends it as
-abbrev pub ended_by_script : ScriptFault → Ended
-ended_by_script (script.BadLine number) = Line number
-ended_by_script script.NoMemory = NoMemory
+-- what a bad line ends it as
+abbrev pub ended_by_line : FirstBad → Ended
+ended_by_line bad = BadLine bad.0
+
+-- what a stop in its midst ends it as
+abbrev pub ended_by_stop : Stop → Ended
+ended_by_stop stop.NoMemory = NoMemory
+ended_by_stop stop.Unwritten = Unwritten
 
 -- Why nothing is played: the configuration has a fault, or it has none and the script has a bad line, or memory was refused.
 abbrev pub IsRefused : List ℕ → List ℕ → Ended → Type 0
 IsRefused config script (BadConfig kind) = IsToldOf config kind
-IsRefused config script (Line number) = (values : Config) × IsReadFrom config values × IsFirstBad script number
+IsRefused config script (BadLine number) = (values : Config) × IsReadFrom config values × IsFirstBad script number
 IsRefused config script NoMemory = Unit {0}
 IsRefused config script Done = ⊥
 IsRefused config script Unwritten = ⊥
 
--- How it ended, with what the output was and is. It is done where all was played and printed. Nothing is printed where nothing is played. Where
--- the output failed, both texts were read.
+-- How it ended, with what the output was and is. It is done where all was played and printed; where the output failed, or memory was refused
+-- after the beginning, the first lines were; and else nothing is printed.
 abbrev pub Ends : {S : Type 0} → (S → ℕ) → (S → Option (ℕ → List ℕ)) → List ℕ → List ℕ → S → S → Bool → Option (List ℕ) → Option (List ℕ) → Ended → Type 0
-Ends size told config script image blank trace old new Done = (text : List ℕ) × Appends old new text × Played size told config script image blank trace text
-Ends size told config script image blank trace old new Unwritten = AreRead config script
+Ends size told config script image blank trace old new Done =
+    (played : Played size told config script image blank trace old new) × IsWhole played.ran
+Ends size told config script image blank trace old new Unwritten = Played size told config script image blank trace old new
+Ends size told config script image blank trace old new NoMemory = (new ≡ old) ⊎ Played size told config script image blank trace old new
 Ends size told config script image blank trace old new ended = IsRefused config script ended × (new ≡ old)

@@ -1,13 +1,17 @@
 // What is printed of a call.
-ghost use Rattle.std.specs.Prelude.{OnOk};
+ghost use Rattle.std.specs.Prelude.{◌≡◌, ◌≤◌, ℕ, OnOk, length, take};
 ghost use Rattle.std.specs.Io.KnownBytes.{Appends};
-ghost use Rattle.play.specs.Lines.{gained_text, replies_text, said_text, trace_text};
+ghost use Rattle.play.specs.Lines.{call_text, gained_text, replies_text, said_text, trace_text};
 
 use adapter::Entry;
 use ata_types::Reply;
 use block_server::Said;
 use script::Answer;
 use std::io;
+
+/// The output failed.
+#[derive(Clone, Copy, Debug, PartialEq, Eq)]
+pub struct Unwritten;
 
 /// Prints a line for each reply, or one that there is none.
 fn print_replies<W: io::Write>(out: &mut W, replies: &[Reply]) -> io::Result<()>
@@ -23,7 +27,7 @@ fn print_replies<W: io::Write>(out: &mut W, replies: &[Reply]) -> io::Result<()>
 }
 
 /// Prints what a call said.
-pub fn print_said<W: io::Write>(out: &mut W, said: &Said) -> io::Result<()>
+fn print_said<W: io::Write>(out: &mut W, said: &Said) -> io::Result<()>
     ensures { OnOk result (Appends (W.contents out.old) (W.contents out.new) (said_text said.now)) }
 {
     match said {
@@ -57,7 +61,7 @@ fn print_gained<W: io::Write>(out: &mut W, gained: &[Entry]) -> io::Result<()>
 }
 
 /// With a trace, prints what a tape has gained past so many entries.
-pub fn print_trace<W: io::Write>(
+fn print_trace<W: io::Write>(
     out: &mut W,
     trace: bool,
     tape: &[Entry],
@@ -69,4 +73,40 @@ pub fn print_trace<W: io::Write>(
         return Ok(());
     }
     print_gained(out, tape.get(shown..).unwrap_or_default())
+}
+
+/// Writes what is printed of a call, in place of what the text had: with a trace, what the tape gained past so many entries, and then what the
+/// call said. It fails where memory is refused.
+pub fn print_call(
+    text: &mut Vec<u8>,
+    trace: bool,
+    tape: &[Entry],
+    shown: usize,
+    said: &Said,
+) -> io::Result<()>
+    ensures { OnOk result (text.new.items ≡ call_text trace shown tape.now said.now) }
+{
+    text.clear();
+    print_trace(text, trace, tape, shown)?;
+    print_said(text, said)
+}
+
+/// Writes bytes. Where the output fails, it has taken a beginning of them, which may be nothing.
+pub fn write_out<W: io::Write>(out: &mut W, bytes: &[u8]) -> Result<(), Unwritten>
+    ensures { (part : ℕ) × Appends (W.contents out.old) (W.contents out.new) (take part bytes.now) × OnOk result (length bytes.now ≤ part) }
+{
+    let mut written = 0;
+    // A write that a signal interrupted is made again.
+    for _turn in 0..u64::MAX {
+        if written == bytes.len() {
+            return Ok(());
+        }
+        match out.write(&bytes[written..]) {
+            Ok(0) => return Err(Unwritten),
+            Ok(count) => written += count,
+            Err(error) if error.kind() == io::ErrorKind::Interrupted => {}
+            Err(_) => return Err(Unwritten),
+        }
+    }
+    Err(Unwritten)
 }

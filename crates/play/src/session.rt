@@ -1,25 +1,23 @@
 // A script, played from its first line to its last.
-ghost use Rattle.std.specs.Prelude.{◌≡◌, ◌≤◌, ℕ, List, IfOk, IfErr, OnOk, vec_len};
-ghost use Rattle.std.specs.Io.KnownBytes.{Appends};
+ghost use Rattle.std.specs.Prelude.{◌≡◌, ◌≤◌, false, List, IfOk, IfErr, OnOk, length, vec_len};
 ghost use Rattle.std.specs.Vec.{vec_capacity};
 ghost use Rattle.block_server.specs.Running.{Answered};
-ghost use Rattle.block_server.specs.declared.types.Said.{Said};
 ghost use Rattle.configuration.specs.Document.{IsReadFrom};
 ghost use Rattle.configuration.specs.Rules.{IsSound};
-ghost use Rattle.configuration.specs.declared.Config.{Config};
 ghost use Rattle.script.specs.Script.{IsScript};
+ghost use Rattle.script.specs.declared.line.Line.{Line};
 ghost use Rattle.device_model.specs.Modelled.{device_at};
-ghost use Rattle.play.specs.Events.{events_of};
-ghost use Rattle.play.specs.Played.{Ends, IsRefused, IsStarted, Prints};
+ghost use Rattle.play.specs.Events.{event_of};
+ghost use Rattle.play.specs.Played.{Ends, IsRefused, IsStarted, IsWhole, PrintsPart, Ran, is_starved};
 
 use crate::event;
-use crate::printed::{print_said, print_trace};
+use crate::printed::{print_call, write_out};
 use crate::setting::new_model;
 use adapter::Stepped;
 use block_server::{Event, Said, Server};
 use configuration::{Config, ConfigFault, Kind};
 use device_model::{Model, NoMemory};
-use script::{Numbered, ScriptFault, read_script};
+use script::{BadLine, Line, check_script, first_line, read_asked};
 use sector_store::SectorStore;
 use server_history::laws::{histories_are_runs, reads_hold};
 use std::alloc::Global;
@@ -34,10 +32,39 @@ pub enum Ended {
     Config(Kind),
     /// The first line of the script that is spelled as none has this number. Nothing is printed.
     Line(u64),
-    /// Memory was refused. Nothing is printed.
+    /// Memory was refused. What the lines before printed stays printed; of the line that wanted memory nothing is.
     NoMemory,
-    /// The output failed.
+    /// The output failed. Of what the last line that was played prints, a part may be missing at its end; no line after it was played.
     Unwritten,
+}
+
+/// Why a run stops before its script's end.
+#[derive(Clone, Copy, Debug, PartialEq, Eq)]
+enum Stop {
+    NoMemory,
+    Unwritten,
+}
+
+impl From<Stop> for Ended {
+    ghost use Rattle.play.specs.Played.{ended_by_stop};
+
+    ghost from_gives = { λ stop ended. ended ≡ ended_by_stop stop };
+
+    fn from(stop: Stop) -> Ended {
+        match stop {
+            Stop::NoMemory => Ended::NoMemory,
+            Stop::Unwritten => Ended::Unwritten,
+        }
+    }
+}
+
+/// Memory that a run keeps from line to line.
+#[derive(Drop)]
+struct Room {
+    /// Room for what one call says.
+    said: Vec<Said>,
+    /// What is printed of one line.
+    text: Vec<u8>,
 }
 
 impl From<ConfigFault> for Ended {
@@ -53,27 +80,25 @@ impl From<ConfigFault> for Ended {
     }
 }
 
-impl From<ScriptFault> for Ended {
-    ghost use Rattle.play.specs.Played.{ended_by_script};
+impl From<BadLine> for Ended {
+    ghost use Rattle.play.specs.Played.{ended_by_line};
 
-    ghost from_gives = { λ fault ended. ended ≡ ended_by_script fault };
+    ghost from_gives = { λ bad ended. ended ≡ ended_by_line bad };
 
-    fn from(fault: ScriptFault) -> Ended {
-        match fault {
-            ScriptFault::BadLine(number) => Ended::Line(number),
-            ScriptFault::NoMemory => Ended::NoMemory,
-        }
+    fn from(bad: BadLine) -> Ended {
+        Ended::Line(bad.0)
     }
 }
 
-/// The values of a configuration's text, and then the lines of a script.
-fn read(alloc: Global, config: &[u8], script: &[u8]) -> Result<(Config, Vec<Numbered>), Ended>
-    ensures read { IfOk result (λ r. IsReadFrom config.now r.0 × IsScript script.now r.1.items) }
+/// The values of a configuration's text, where the lines of the script are good, too.
+fn read(alloc: Global, config: &[u8], script: &[u8]) -> Result<Config, Ended>
+    ensures read { IfOk result (IsReadFrom config.now) }
+    ensures good { OnOk result ((lines : List Line) × IsScript script.now lines) }
     ensures refused { IfErr result (IsRefused config.now script.now) }
 {
     let values = Config::parse(alloc, config)?;
-    let lines = read_script(alloc, script)?;
-    Ok((values, lines))
+    check_script(script)?;
+    Ok(values)
 }
 
 /// A new server of a new model, both as the configuration says.
@@ -106,35 +131,83 @@ fn ask<A: Stepped>(server: &mut Server<A>, event: Event, room: &mut Vec<Said>) -
     room.pop().unwrap()
 }
 
-/// Asks a server what the lines ask, one after another, and prints of each at once what the tape gained, with a trace, and what it said.
+/// Plays a line: makes its call, and prints of it what the tape gained past so many entries, with a trace, and what it said. Gives how many
+/// entries the tape has then. Where it fails, a beginning of that text is printed, which may be nothing.
+fn play_line<S: SectorStore, W: io::Write>(
+    server: &mut Server<Model<S>>,
+    line: Line,
+    room: &mut Room,
+    trace: bool,
+    shown: usize,
+    out: &mut W,
+) -> Result<usize, Stop>
+    requires fed { is_starved server.old.adapter ≡ false }
+    requires empty { vec_len room.old.said ≡ 0 }
+    requires room { 1 ≤ vec_capacity room.old.said }
+    ensures printed { (p : PrintsPart (device_at S.size S.told) is_starved trace shown (event_of line) server.old server.new (W.contents out.old) (W.contents out.new))
+        × OnOk result (length p.text ≤ p.part) }
+    ensures fed { OnOk result (is_starved server.new.adapter ≡ false) }
+    ensures shown { IfOk result (λ count. count ≡ length (device_at S.size S.told server.new.adapter).tape) }
+    ensures empty { vec_len room.new.said ≡ 0 }
+    ensures room { 1 ≤ vec_capacity room.new.said }
+{
+    let said = ask(server, event(line), &mut room.said);
+    let model = server.adapter();
+    if model.starved() {
+        return Err(Stop::NoMemory);
+    }
+    let tape = model.tape();
+    let Ok(()) = print_call(&mut room.text, trace, tape, shown, &said) else {
+        // A text in memory wants nothing but memory.
+        return Err(Stop::NoMemory);
+    };
+    let Ok(()) = write_out(out, room.text.as_slice()) else {
+        return Err(Stop::Unwritten);
+    };
+    Ok(tape.len())
+}
+
+/// Asks a server what the lines of a script ask, one after another, and prints of each at once what the tape gained, with a trace, and what it
+/// said. Where memory is refused, to the model too, or the output fails, it stops at that line: no later one is played.
 fn perform<S: SectorStore, W: io::Write>(
     server: &mut Server<Model<S>>,
-    lines: Vec<Numbered>,
-    room: &mut Vec<Said>,
+    script: &[u8],
+    room: &mut Room,
     trace: bool,
     out: &mut W,
-) -> io::Result<()>
-    requires empty { vec_len room.old ≡ 0 }
-    requires room { 1 ≤ vec_capacity room.old }
-    ensures { OnOk result ((said : List Said) × (text : List ℕ) × Appends (W.contents out.old) (W.contents out.new) text
-        × Prints (device_at S.size S.told) trace 0 server.old server.new (events_of lines.items) said text) }
+) -> Result<(), Stop>
+    requires good { (lines : List Line) × IsScript script.now lines }
+    requires empty { vec_len room.old.said ≡ 0 }
+    requires room { 1 ≤ vec_capacity room.old.said }
+    ensures { (ran : Ran (device_at S.size S.told) is_starved trace script.now server.old server.new (W.contents out.old) (W.contents out.new))
+        × OnOk result (IsWhole ran) }
 {
+    if server.adapter().starved() {
+        return Err(Stop::NoMemory);
+    }
     let mut shown = 0;
-    for numbered in lines {
-        let said = ask(server, event(numbered.line), room);
-        let tape = server.adapter().tape();
-        print_trace(out, trace, tape, shown)?;
-        shown = tape.len();
-        print_said(out, &said)?;
+    let mut rest = Some(script);
+    while let Some(text) = rest {
+        let (line, after) = first_line(text);
+        match read_asked(line) {
+            Ok(Some(asked)) => shown = play_line(server, asked, room, trace, shown, out)?,
+            Ok(None) => {}
+            // No line is: the script was looked at.
+            Err(_misspelled) => {}
+        }
+        rest = after;
     }
     Ok(())
 }
 
 /// Plays a script against a new server over a modelled adapter, and prints at once what each line answers.
 ///
-/// The text of the configuration is read first, and then the whole script; the first fault that is found ends it. Disk 0 of port 0 is the
-/// image, and disk 1 the blank one. With a trace, the moves and clears that the tape has gained stand before a line's own answers; before
-/// the first line's also those since the model was made.
+/// The text of the configuration is read first, and then the whole script; the first fault that is found ends it. Then each line is read
+/// again when it is played. Disk 0 of port 0 is the image, and disk 1 the blank one. With a trace, the moves and clears that the tape has
+/// gained stand before a line's own answers; before the first line's also those since the model was made.
+///
+/// Where the output fails, or memory is refused, the line that it happens at was the last one that was played, and those before it were
+/// printed. What the output has of that line then is a beginning of its text.
 pub fn play<S: SectorStore, W: io::Write>(
     alloc: Global,
     config: &[u8],
@@ -146,22 +219,26 @@ pub fn play<S: SectorStore, W: io::Write>(
 ) -> Ended
     ensures { Ends S.size S.told config.now script.now image blank trace (W.contents out.old) (W.contents out.new) result }
 {
-    let (values, lines) = match read(alloc, config, script) {
-        Ok(texts) => texts,
+    let values = match read(alloc, config, script) {
+        Ok(values) => values,
         Err(ended) => return ended,
     };
-    let Ok(mut room) = Vec::with_capacity(alloc, 1) else {
+    let Ok(said) = Vec::with_capacity(alloc, 1) else {
         return Ended::NoMemory;
+    };
+    let mut room = Room {
+        said,
+        text: Vec::new(alloc),
     };
     let Ok(mut server) = start(alloc, &values, image, blank) else {
         return Ended::NoMemory;
     };
     histories_are_runs();
     reads_hold();
-    let printed = perform(&mut server, lines, &mut room, trace, out);
+    let performed = perform(&mut server, script, &mut room, trace, out);
     let _model = server.close();
-    match printed {
+    match performed {
         Ok(()) => Ended::Done,
-        Err(_) => Ended::Unwritten,
+        Err(stop) => Ended::from(stop),
     }
 }

@@ -1,21 +1,52 @@
 -- Scripts line by line.
-use Rattle.std.proofs.Common.{◌≡◌, ◌<◌, ◌+◌, ◌∙◌, ℕ, zero, suc, List, [], ◌∷◌, ◌++◌, length, arith, ap, ap₂, sym, subst, refl, append-nil, append_assoc, take, get_or, map, Option, Some, None}
-use Rattle.script.specs.Script.{Asks, AskInTurn, done, next}
+use Rattle.std.proofs.Common.{◌≡◌, ◌<◌, ◌≤◌, ◌+◌, ◌∙◌, ℕ, zero, suc, Bool, true, false, cond, ltb, List, [], ◌∷◌, ◌++◌, length, arith, ap, ap₂, subst, sym, refl, take, drop, get_or, map, Option, Some, None}
+use Rattle.std.specs.Prelude.{MatchOption}
+use Rattle.std.specs.Bool.{◌==◌}
+use Rattle.std.specs.List.{position, position_or_len}
+use borrow.Author.Tests.{ltb-true, ltb-false}
+use Rattle.std.proofs.lemmas.List.Splits.{slice_split_first, slice_split_none}
+use Rattle.std.proofs.lemmas.List.Sums.{fails_before_first}
+use Rattle.script.specs.Script.{Asks, AskInTurn, done, nothing, one, IsBad, lines_of}
 use Rattle.std.specs.Iterator.{Yields}
 use Rattle.std.proofs.lemmas.Iterator.{YieldsList}
 use Rattle.std.proofs.lemmas.Iterator.Consumers.{YieldsList-turn, YieldsList-end, YieldsList-so_far}
-use Rattle.script.specs.declared.script.Numbered.{Numbered}
+use Rattle.script.specs.declared.line.Line.{Line}
 
--- one line more
-pub ask_last : (n m : ℕ) (texts : List (List ℕ)) (text : List ℕ) (lines more : List Numbered) → m ≡ n + length texts
-    → AskInTurn n texts lines → Asks m text more → AskInTurn n (texts ++ text ∷ []) (lines ++ more)
-ask_last n m [] text [] more at done last =
-    subst (λ k. AskInTurn k (text ∷ []) more) (omega (arith, at))
-    (subst (λ ls. AskInTurn m (text ∷ []) ls) (append-nil more) (next last done))
-ask_last n m [] text (_ ∷ _) more at none last = elim none [ ]
-ask_last n m (t ∷ texts) text lines more at (next {first = first} {rest = rest} one others) last =
-    subst (λ ls. AskInTurn n (t ∷ texts ++ text ∷ []) ls) (sym (append_assoc first rest more))
-    (next one (ask_last (suc n) m texts text rest more (omega (arith, at)) others last))
+-- what one text asks, as a list
+abbrev pub asked_lines : Option Line → List Line
+asked_lines None = []
+asked_lines (Some line) = line ∷ []
+
+-- lines after lines
+pub ask_more : (texts more : List (List ℕ)) (lines rest : List Line) → AskInTurn texts lines → AskInTurn more rest → AskInTurn (texts ++ more) (lines ++ rest)
+ask_more [] more [] rest done then = then
+ask_more [] more (_ ∷ _) rest first then = elim first [ ]
+ask_more (t ∷ texts) more lines rest (nothing asks others) then = nothing asks (ask_more texts more lines rest others then)
+ask_more (t ∷ texts) more (line ∷ lines) rest (one asks others) then = one asks (ask_more texts more lines rest others then)
+
+-- one line
+pub ask_one : (text : List ℕ) (asked : Option Line) → Asks text asked → AskInTurn (text ∷ []) (asked_lines asked)
+ask_one text None asks = nothing asks done
+ask_one text (Some line) asks = one asks done
+
+-- what a text that stands among others asks, and what those after it do
+pub record AskFrom (text : List ℕ) (after : List (List ℕ)) : Type 0 where
+  pub asked : Option Line
+  pub asks : Asks text asked
+  pub rest : List Line
+  pub others : AskInTurn after rest
+
+pub ask_from : (before : List (List ℕ)) (text : List ℕ) (after : List (List ℕ)) (lines : List Line) → AskInTurn (before ++ text ∷ after) lines
+    → AskFrom text after
+ask_from [] text after lines (nothing asks others) = record { asked = None; asks = asks; rest = lines; others = others }
+ask_from [] text after (line ∷ lines) (one asks others) = record { asked = Some line; asks = asks; rest = lines; others = others }
+ask_from (t ∷ before) text after lines (nothing asks others) = ask_from before text after lines others
+ask_from (t ∷ before) text after (line ∷ lines) (one asks others) = ask_from before text after lines others
+
+-- a text that asks something or nothing isn't bad
+pub not_bad : (text : List ℕ) (asked : Option Line) → Asks text asked → IsBad text → ⊥
+not_bad text None asks bad = bad.0 asks
+not_bad text (Some line) asks bad = bad.1 line asks.0 asks.1
 
 -- a list, cut at one of its elements
 pub cut_at : (texts : List (List ℕ)) (k : ℕ) (d : List ℕ) → k < length texts
@@ -38,3 +69,19 @@ turn_of {v = v} {all = all} xs t y r u x e k road =
     let at = YieldsList-turn road xs t y r u x e k in
     let cut = cut_at all (length xs) (v x) at.0 in
     (cut.0, cut.1 ∙ ap₂ (λ before here. before ++ here ∷ cut.0) (sym (YieldsList-so_far road xs t y)) (sym at.1))
+
+-- where a text's first line feed is
+pub record IsLineFeed (text : List ℕ) (at : ℕ) : Type 0 where
+  pub within : at < length text
+  pub lines : lines_of text ≡ take at text ∷ lines_of (drop (at + 1) text)
+
+pub line_feed_at : (text : List ℕ) (r : Option ℕ) → r ≡ position (λ b. b == 10) text → MatchOption r (lines_of text ≡ text ∷ []) (IsLineFeed text)
+line_feed_at text r is = subst (λ (o : Option ℕ). MatchOption o (lines_of text ≡ text ∷ []) (IsLineFeed text)) (sym is)
+    (by_test (ltb (position_or_len (λ b. b == 10) text) (length text)) refl)
+  where
+    by_test : (b : Bool) → b ≡ ltb (position_or_len (λ b. b == 10) text) (length text)
+        → MatchOption (cond b (Some (position_or_len (λ b. b == 10) text)) None) (lines_of text ≡ text ∷ []) (IsLineFeed text)
+    by_test true e = let l = ltb-true _ _ (sym e) in record { within = l; lines = slice_split_first (λ b. b == 10) text 0 l }
+    by_test false e =
+        let past : length text ≤ position_or_len (λ b. b == 10) text = ltb-false _ _ (sym e) in
+        slice_split_none (λ b. b == 10) text (λ k d l. fails_before_first (λ b. b == 10) text k d (omega arith))

@@ -8,4 +8,4 @@ mod script;
 
 pub use answer::Answer;
 pub use line::{Line, read_line};
-pub use script::{Numbered, ScriptFault, read_script};
+pub use script::{BadLine, Misspelled, check_script, first_line, read_asked};

@@ -1,48 +1,21 @@
 // A whole script.
-ghost use Rattle.std.specs.Prelude.{◌≡◌, ◌↔◌, IsTrue, IfOk, IfErr};
-ghost use Rattle.script.specs.Script.{AsksNothing, IsScript, IsToldOf};
+ghost use Rattle.std.specs.Prelude.{◌≡◌, ◌<◌, ◌==◌, ◌↔◌, IsTrue, IfOk, IfErr, IfSome, List, OnErr, OnOk, length};
+ghost use Rattle.std.specs.List.{position};
+ghost use Rattle.script.specs.Script.{Asks, AsksNothing, IsBad, IsFirstBad, IsFirstLine, IsScript};
+ghost use Rattle.script.specs.declared.line.Line.{Line};
 
 use crate::{Line, read_line};
-use std::alloc::{AllocError, AllocFailed, Global};
 use thiserror::Error;
 
-/// A line of a script that asks something, with its number. The first line of the text has number 1.
-#[derive(Debug, Drop)]
-pub struct Numbered {
-    pub number: u64,
-    pub line: Line,
-}
-
-/// Why a script wasn't read.
+/// A line is spelled as none.
 #[derive(Clone, Copy, Debug, PartialEq, Eq, Error)]
-pub enum ScriptFault {
-    /// The first line that is spelled as none has this number.
-    #[error("line {0}: bad")]
-    BadLine(u64),
-    /// Memory for the lines was refused.
-    #[error("no memory")]
-    NoMemory,
-}
+#[error("bad")]
+pub struct Misspelled;
 
-impl From<AllocError> for ScriptFault {
-    ghost use Rattle.script.specs.declared.script.ScriptFault.TheVariants.{NoMemory};
-
-    ghost from_gives = { λ _ e. e ≡ NoMemory };
-
-    fn from(_error: AllocError) -> ScriptFault {
-        ScriptFault::NoMemory
-    }
-}
-
-impl<T: Drop> From<AllocFailed<T>> for ScriptFault {
-    ghost use Rattle.script.specs.declared.script.ScriptFault.TheVariants.{NoMemory};
-
-    ghost from_gives = { λ _ e. e ≡ NoMemory };
-
-    fn from(_error: AllocFailed<T>) -> ScriptFault {
-        ScriptFault::NoMemory
-    }
-}
+/// The first line of a script that is spelled as none has this number. The first line of the text has number 1.
+#[derive(Clone, Copy, Debug, PartialEq, Eq, Error)]
+#[error("line {0}: bad")]
+pub struct BadLine(pub u64);
 
 /// Whether a line is empty or begins with `#`.
 fn asks_nothing(text: &[u8]) -> bool
@@ -51,20 +24,51 @@ fn asks_nothing(text: &[u8]) -> bool
     matches!(text, [] | [b'#', ..])
 }
 
-/// Reads the lines of a script: what stands between its line feeds, and what stands after the last one. The fault tells
-/// the first bad line; lines that are empty or begin with `#` are passed over, but counted.
-pub fn read_script(alloc: Global, text: &[u8]) -> Result<Vec<Numbered>, ScriptFault>
-    ensures ok { IfOk result (λ lines. IsScript text.now lines.items) }
-    ensures bad { IfErr result (IsToldOf text.now) }
+/// Reads what a line of a script asks, without its line feed: nothing where it is empty or begins with `#`.
+pub fn read_asked(text: &[u8]) -> Result<Option<Line>, Misspelled>
+    ensures ok { IfOk result (Asks text.now) }
+    ensures bad { OnErr result (IsBad text.now) }
 {
-    let mut lines = Vec::new(alloc);
+    if asks_nothing(text) {
+        return Ok(None);
+    }
+    match read_line(text) {
+        Some(line) => Ok(Some(line)),
+        None => Err(Misspelled),
+    }
+}
+
+/// Looks at the lines of a script: what stands between its line feeds, and what stands after the last one. The fault tells the first
+/// bad line; lines that ask nothing are counted, too. It takes no memory, and keeps no line: `read_asked` reads each again.
+pub fn check_script(text: &[u8]) -> Result<(), BadLine>
+    ensures ok { OnOk result ((lines : List Line) × IsScript text.now lines) }
+    ensures bad { IfErr result (λ bad. IsFirstBad text.now bad.0) }
+{
     let mut number = 0;
     for line in text.split(|byte| *byte == b'\n') {
         number += 1;
-        if !asks_nothing(line) {
-            let line = read_line(line).ok_or(ScriptFault::BadLine(number))?;
-            lines.push(Numbered { number, line })?;
+        match read_asked(line) {
+            Ok(_asked) => {}
+            Err(_misspelled) => return Err(BadLine(number)),
         }
     }
-    Ok(lines)
+    Ok(())
+}
+
+/// Where the first line of a text ends with a line feed.
+fn line_feed(text: &[u8]) -> Option<usize>
+    ensures { result ≡ position (λ b. b == 10) text.now }
+{
+    text.iter().position(|byte| *byte == b'\n')
+}
+
+/// The first line of a text, without its line feed, and what stands after it; `None` where no line feed ends it, so that it is the last.
+pub fn first_line(text: &[u8]) -> (&[u8], Option<&[u8]>)
+    ensures first { IsFirstLine text.now result.0.now result.1 }
+    ensures less { IfSome result.1 (λ after. length after.now < length text.now) }
+{
+    match line_feed(text) {
+        Some(at) => (&text[..at], Some(&text[at + 1..])),
+        None => (text, None),
+    }
 }

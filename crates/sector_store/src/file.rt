@@ -3,13 +3,13 @@ ghost use Rattle.std.specs.Prelude.{◌≡◌, ◌<◌, ◌≤◌, ◌*◌, ◌/
 ghost use Rattle.sector_store.specs.Stores.{IsSector};
 
 use crate::SectorStore;
-use std::fs::{File, Files, OpenOptions};
-use std::io;
+use std::fs::{File, Files, OpenOptions, TryLockError};
+use std::io::{self, Seek, SeekFrom};
 use std::os::unix::fs::FileExt;
 
 const SECTOR_BYTES: u64 = 512;
 
-/// The whole sectors that a file has when it is opened. The system's calls promise nothing of what a file holds, nor of
+/// The whole sectors that a file or a block device has when it is opened. The system's calls promise nothing of what a file holds, nor of
 /// where they read and write; so it tells no sectors, and any call may fail. Sector k begins at byte 512 k of the file.
 /// Others may change the file meanwhile, and then their bytes are read. Where they cut it, reads of the sectors that are gone
 /// fail, and a write to one makes the file longer again.
@@ -22,11 +22,16 @@ pub struct FileStore {
 }
 
 impl FileStore {
-    /// Opens a file that is there for reading and writing. The end of a file that isn't a whole sector is left alone.
-    /// An error is the system's own.
+    /// Opens a file or a block device that is there for reading and writing, and locks it until the store is dropped: where another holds
+    /// its lock, the error is `WouldBlock`. The lock binds those who ask for it. Where the file system knows none, the file is opened
+    /// without. The end of a file that isn't a whole sector is left alone. Another error is the system's own.
     pub fn open(files: &impl Files<File = File>, path: &str) -> io::Result<FileStore> {
-        let file = OpenOptions::new().read(true).write(true).open(files, path)?;
-        let bytes = file.metadata()?.len();
+        let mut file = OpenOptions::new().read(true).write(true).open(files, path)?;
+        if let Err(TryLockError::WouldBlock) = file.try_lock() {
+            return Err(io::Error::from(io::ErrorKind::WouldBlock));
+        }
+        // A block device's own length is told as 0; its end is where the sectors end.
+        let bytes = file.seek(SeekFrom::End(0))?;
         Ok(FileStore::over(file, bytes))
     }
 

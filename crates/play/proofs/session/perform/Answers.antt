@@ -1,58 +1,90 @@
-use Rattle.std.proofs.Common.{◌≡◌, ◌∙◌, List, [], ◌∷◌, ◌++◌, length, sym, ap, subst}
-use mathlib.Core.List.{map-append}
-use Rattle.std.proofs.lemmas.List.{map-id}
-use Rattle.std.proofs.lemmas.Iterator.Adapters.{YieldsList-from_vec}
-use Rattle.std.proofs.lemmas.Iterator.Consumers.{YieldsList-end}
-use Rattle.std.specs.Io.KnownBytes.{Appends}
-use Rattle.adapter.specs.declared.tape.Entry.{Entry}
-use Rattle.block_server.specs.declared.types.Event.{Event}
-use Rattle.device_model.specs.declared.model.Model.{Model}
-use Rattle.play.specs.Lines.{trace_text}
+use Rattle.std.proofs.Common.{refl, ap, ◌∙◌, sym, subst, Option, Some, None, List, ℕ, length}
+use Rattle.std.specs.Borrow.{Bor}
 use Rattle.device_model.specs.Modelled.{device_at}
-use Rattle.script.specs.declared.script.Numbered.{Numbered}
-use Rattle.play.specs.Events.{event_of, events_of}
-use Rattle.play.proofs.Printing.{PrintedSoFar, printed_none, printed_more, printed_all}
+use Rattle.device_model.specs.declared.model.Model.{Model}
+use Rattle.script.specs.Script.{Asks, lines_of, lines_after}
+use Rattle.script.specs.declared.line.Line.{Line}
+use Rattle.play.specs.Played.{is_starved}
+use Rattle.play.proofs.Printing.{PlayedSoFar, played_none, played_nothing, played_line, ran_none, ran_part, ran_all, cut_more, left_ask, none_bad, on_error}
 use Rattle.play.proofs.session.perform.Goals as goal
 
-pub loop-numbered-init : goal.loop-numbered-init
-loop-numbered-init g c = record { empty = c.requires.empty; room = c.requires.room; printed = printed_none _ _ _ _ }
+pub loop-rest-init : goal.loop-rest-init
+loop-rest-init g c = record { fed = ap (λ (m : Model g.row.S.Denot). is_starved m) (sym c.adapter.ensures) ∙ sym c.starved.ensures ∙ c.if-starved.false; empty = c.requires.empty; room = c.requires.room; played = played_none _ _ _ _ _ _ _ refl }
 
-pub loop-numbered-preserved : goal.loop-numbered-preserved
-loop-numbered-preserved g c =
+pub returns-then-starved : goal.returns-then-starved
+returns-then-starved g c =
+    (ran_none (device_at g.S.SectorStore.size g.S.SectorStore.told) is_starved c.args.trace c.args.server.now c.args.script.now _ c.requires.good.0 c.requires.good.1, tt)
+
+-- a line that asks nothing
+pub loop-rest-preserved-in-Ok-None : goal.loop-rest-preserved-in-Ok-None
+loop-rest-preserved-in-Ok-None g c =
     let device = device_at g.S.SectorStore.size g.S.SectorStore.told in
-    let contents = g.W.Write.contents in
-    let server = c.ask-said.new.server in
-    let tape : c.tape-tape.result.now ≡ (device server.adapter).tape =
-    c.tape-tape.ensures ∙ ap (λ (m : Model g.row.S.Denot). (device m).tape) c.adapter.ensures in
-    let calls : events_of c.loop-numbered.yielded ++ c.event.result ∷ [] ≡ events_of (c.loop-numbered.yielded ++ c.in-Some.numbered ∷ []) =
-    ap (λ (event : Event). events_of c.loop-numbered.yielded ++ event ∷ []) c.event.ensures
-    ∙ sym (map-append (λ (n : Numbered). event_of n.line) c.loop-numbered.yielded (c.in-Some.numbered ∷ [])) in
-    let before = contents c.args.out.now in
-    let after = contents c.loop-numbered.out in
-    let traced = contents c.print_trace.new.out in
-    let gained = subst (λ (entries : List Entry). Appends after traced (trace_text c.args.trace c.loop-numbered.shown entries)) tape c.in_ok-print_trace.ensures in
-    let more = printed_more device c.args.trace c.args.server.now before c.loop-numbered.shown c.loop-numbered.server server
-    (events_of c.loop-numbered.yielded) c.event.result c.ask-said.result after traced (contents c.print_said.new.out)
-    c.loop-numbered.invariant.printed c.ask-said.ensures.answered gained c.in_ok-print_said.ensures in
+    let before = g.W.Write.contents c.args.out.now in
+    let here = g.W.Write.contents c.loop-rest.out in
+    let all = lines_of c.args.script.now in
+    let so_far = subst (λ (rest : Option (Bor (List ℕ))). PlayedSoFar device is_starved c.args.trace c.args.server.now all c.loop-rest.server c.loop-rest.shown rest before here) c.in-Some.is c.loop-rest.invariant.played in
+    let asks = subst (λ (asked : Option Line). Asks c.first_line.result.0.now asked) c.in-Ok-None.field-0-is c.in-Ok-None.ensures.ok in
     record {
-      empty = c.ask-said.ensures.empty;
-      room = c.ask-said.ensures.room;
-      printed = subst (λ (entries : List Entry). PrintedSoFar device c.args.trace c.args.server.now before (length entries) server
-          (events_of (c.loop-numbered.yielded ++ c.in-Some.numbered ∷ [])) (contents c.print_said.new.out)) (sym tape)
-          (subst (λ (events : List Event). PrintedSoFar device c.args.trace c.args.server.now before (length (device server.adapter).tape) server
-          events (contents c.print_said.new.out)) calls more);
+      fed = c.loop-rest.invariant.fed;
+      empty = c.loop-rest.invariant.empty;
+      room = c.loop-rest.invariant.room;
+      played = played_nothing device is_starved c.args.trace c.args.server.now all c.loop-rest.server c.loop-rest.shown c.in-Some.text.now c.first_line.result.0.now c.in-Some.text
+          c.first_line.result.1 before here so_far c.first_line.ensures.first asks;
     }
 
--- at the end, each line was yielded
+-- no line of a script that was looked at is bad
+pub loop-rest-preserved : goal.loop-rest-preserved
+loop-rest-preserved g c =
+    let device = device_at g.S.SectorStore.size g.S.SectorStore.told in
+    let before = g.W.Write.contents c.args.out.now in
+    let here = g.W.Write.contents c.loop-rest.out in
+    let all = lines_of c.args.script.now in
+    let so_far = subst (λ (rest : Option (Bor (List ℕ))). PlayedSoFar device is_starved c.args.trace c.args.server.now all c.loop-rest.server c.loop-rest.shown rest before here) c.in-Some.is c.loop-rest.invariant.played in
+    let cut = cut_more all so_far.texts c.in-Some.text.now c.first_line.result.0.now c.first_line.result.1 so_far.cut c.first_line.ensures.first in
+    let from = left_ask all so_far.texts c.first_line.result.0.now (lines_after c.first_line.result.1) c.requires.good.0 cut c.requires.good.1 in
+    absurd (none_bad c.first_line.result.0.now (lines_after c.first_line.result.1) from c.in-Err.ensures.bad)
+
+-- the line is the last one that was played
+pub returns-in_err-shown-in-Ok-Some : goal.returns-in_err-shown-in-Ok-Some
+returns-in_err-shown-in-Ok-Some g c =
+    let device = device_at g.S.SectorStore.size g.S.SectorStore.told in
+    let before = g.W.Write.contents c.args.out.now in
+    let here = g.W.Write.contents c.loop-rest.out in
+    let after = g.W.Write.contents c.play_line.new.out in
+    let all = lines_of c.args.script.now in
+    let so_far = subst (λ (rest : Option (Bor (List ℕ))). PlayedSoFar device is_starved c.args.trace c.args.server.now all c.loop-rest.server c.loop-rest.shown rest before here) c.in-Some.is c.loop-rest.invariant.played in
+    let cut = cut_more all so_far.texts c.in-Some.text.now c.first_line.result.0.now c.first_line.result.1 so_far.cut c.first_line.ensures.first in
+    let from = left_ask all so_far.texts c.first_line.result.0.now (lines_after c.first_line.result.1) c.requires.good.0 cut c.requires.good.1 in
+    let asks = subst (λ (asked : Option Line). Asks c.first_line.result.0.now asked) c.in-Ok-Some.field-0-is c.in-Ok-Some.ensures.ok in
+    (ran_part device is_starved c.args.trace c.args.server.now c.args.script.now c.loop-rest.server c.play_line.new.server c.loop-rest.shown c.first_line.result.0.now
+        c.in-Ok-Some.asked c.in-Some.text c.first_line.result.1 before here after so_far c.first_line.ensures.first asks from
+        c.in_err-shown-in-Ok-Some.ensures.printed.0 c.loop-rest.invariant.fed, on_error c.from_residual.result _ c.from_residual.ensures.0)
+
 pub returns : goal.returns
 returns g c =
     let device = device_at g.S.SectorStore.size g.S.SectorStore.told in
     let before = g.W.Write.contents c.args.out.now in
-    let after = g.W.Write.contents c.loop-numbered.out in
-    let given = c.into_iter-numbered-iterator.ensures.into_iter_gives in
-    let end = (YieldsList-end (YieldsList-from_vec c.args.lines.items given.0 (cc)) c.loop-numbered.yielded c.loop-numbered.numbered-iterator c.loop-numbered.yielded_by
-    c.next.result c.next.new.self c.in-None.is c.next.ensures.steps).0 in
-    let all : c.loop-numbered.yielded ≡ c.args.lines.items = sym (map-id c.loop-numbered.yielded) ∙ end in
-    let printed = subst (λ (lines : List Numbered). PrintedSoFar device c.args.trace c.args.server.now before c.loop-numbered.shown c.loop-numbered.server (events_of lines) after)
-    all c.loop-numbered.invariant.printed in
-    printed_all device c.args.trace c.args.server.now before c.loop-numbered.shown c.loop-numbered.server (events_of c.args.lines.items) after printed
+    let here = g.W.Write.contents c.loop-rest.out in
+    let all = lines_of c.args.script.now in
+    let so_far = subst (λ (rest : Option (Bor (List ℕ))). PlayedSoFar device is_starved c.args.trace c.args.server.now all c.loop-rest.server c.loop-rest.shown rest before here) c.in_default.is c.loop-rest.invariant.played in
+    ran_all device is_starved c.args.trace c.args.server.now c.args.script.now c.loop-rest.server c.loop-rest.shown before here so_far c.loop-rest.invariant.fed
+
+-- the line was played and printed
+pub loop-rest-preserved-in_ok-shown-in-Ok-Some : goal.loop-rest-preserved-in_ok-shown-in-Ok-Some
+loop-rest-preserved-in_ok-shown-in-Ok-Some g c =
+    let device = device_at g.S.SectorStore.size g.S.SectorStore.told in
+    let before = g.W.Write.contents c.args.out.now in
+    let here = g.W.Write.contents c.loop-rest.out in
+    let after = g.W.Write.contents c.play_line.new.out in
+    let all = lines_of c.args.script.now in
+    let so_far = subst (λ (rest : Option (Bor (List ℕ))). PlayedSoFar device is_starved c.args.trace c.args.server.now all c.loop-rest.server c.loop-rest.shown rest before here) c.in-Some.is c.loop-rest.invariant.played in
+    let asks = subst (λ (asked : Option Line). Asks c.first_line.result.0.now asked) c.in-Ok-Some.field-0-is c.in-Ok-Some.ensures.ok in
+    let printed = c.in_ok-shown-in-Ok-Some.ensures.printed in
+    record {
+      fed = c.in_ok-shown-in-Ok-Some.ensures.fed;
+      empty = c.play_line.ensures.empty;
+      room = c.play_line.ensures.room;
+      played = subst (λ (shown : ℕ). PlayedSoFar device is_starved c.args.trace c.args.server.now all c.play_line.new.server shown c.first_line.result.1 before after) (sym c.in_ok-shown-in-Ok-Some.ensures.shown)
+          (played_line device is_starved c.args.trace c.args.server.now all c.loop-rest.server c.play_line.new.server c.loop-rest.shown c.first_line.result.0.now
+          c.in-Ok-Some.asked c.in-Some.text c.first_line.result.1 before here after so_far c.first_line.ensures.first asks printed.0 printed.1 c.loop-rest.invariant.fed);
+    }

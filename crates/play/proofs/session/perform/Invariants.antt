@@ -1,14 +1,19 @@
-use Rattle.std.proofs.Common.{◌≡◌, ◌≤◌, vec_len}
+use Rattle.std.proofs.Common.{◌≡◌, ◌≤◌, false, vec_len}
 use Rattle.std.specs.Vec.{vec_capacity}
 use Rattle.device_model.specs.Modelled.{device_at}
-use Rattle.play.specs.Events.{events_of}
-use Rattle.play.proofs.Printing.{PrintedSoFar}
+use Rattle.script.specs.Script.{lines_of}
+use Rattle.play.specs.Played.{is_starved}
+use Rattle.play.proofs.Printing.{PlayedSoFar, bytes_left}
 use Rattle.play.proofs.session.perform.Given as goal
 
-abbrev pub invariant-loop-numbered : goal.invariant-loop-numbered
-invariant-loop-numbered g l = record {
-  empty : vec_len l.room ≡ 0;
-  room : 1 ≤ vec_capacity l.room;
-  printed : PrintedSoFar (device_at g.S.SectorStore.size g.S.SectorStore.told) l.trace l.initial.server (g.W.Write.contents l.initial.out)
-      l.shown l.server (events_of l.yielded) (g.W.Write.contents l.out);
+abbrev pub invariant-loop-rest : goal.invariant-loop-rest
+invariant-loop-rest g l = record {
+  fed : is_starved l.server.adapter ≡ false;
+  empty : vec_len l.room.said ≡ 0;
+  room : 1 ≤ vec_capacity l.room.said;
+  played : PlayedSoFar (device_at g.S.SectorStore.size g.S.SectorStore.told) is_starved l.trace l.initial.server (lines_of l.script) l.server l.shown l.rest
+      (g.W.Write.contents l.initial.out) (g.W.Write.contents l.out);
 }
+
+abbrev pub decreases-loop-rest : goal.decreases-loop-rest
+decreases-loop-rest g l = bytes_left l.rest

@@ -1,0 +1,55 @@
+use Rattle.std.proofs.Common.{◌≡◌, ◌∙◌, refl, ap, sym, false}
+use Rattle.device_model.specs.Modelled.{device_at}
+use Rattle.device_model.specs.declared.model.Model.{Model}
+use Rattle.std.proofs.lemmas.Bool.{false≢true}
+use Rattle.play.specs.Lines.{call_text}
+use Rattle.play.specs.Played.{is_starved}
+use Rattle.play.proofs.Printing.{appends_none, part_of}
+use Rattle.play.proofs.session.play_line.Goals as goal
+
+-- nothing of it is printed
+pub returns-in_default-clause-printed : goal.returns-in_default-clause-printed
+returns-in_default-clause-printed g c =
+    let device = device_at g.S.SectorStore.size g.S.SectorStore.told in
+    let out = g.W.Write.contents c.args.out.now in
+    let tape = (device c.ask-said.new.server.adapter).tape in (
+      part_of device is_starved c.args.trace c.args.shown _ c.event.result c.ask-said.result c.args.server.now c.ask-said.new.server out out 0
+          (call_text c.args.trace c.args.shown tape c.ask-said.result) tape c.event.ensures c.ask-said.ensures.answered refl refl (appends_none out) (λ is. refl),
+      tt,
+    )
+
+pub returns-in_default-write_out-clause-printed : goal.returns-in_default-write_out-clause-printed
+returns-in_default-write_out-clause-printed g c =
+    let device = device_at g.S.SectorStore.size g.S.SectorStore.told in
+    let tape : c.tape-tape.result.now ≡ (device c.ask-said.new.server.adapter).tape =
+    c.tape-tape.ensures ∙ ap (λ (m : Model g.row.S.Denot). (device m).tape) c.adapter-model.ensures in
+    let fed : is_starved c.ask-said.new.server.adapter ≡ false =
+    ap (λ (m : Model g.row.S.Denot). is_starved m) (sym c.adapter-model.ensures) ∙ sym c.starved.ensures ∙ c.if-starved.false in
+    let wrote = c.in_default-write_out.ensures in (
+      part_of device is_starved c.args.trace c.args.shown _ c.event.result c.ask-said.result c.args.server.now c.ask-said.new.server _ _ wrote.0
+          c.as_slice.result.now c.tape-tape.result.now c.event.ensures c.ask-said.ensures.answered tape (c.as_slice.ensures.value ∙ c.in-Ok.ensures) wrote.1 (λ is. absurd (false≢true (sym fed ∙ is))),
+      tt,
+    )
+
+pub returns-clause-printed : goal.returns-clause-printed
+returns-clause-printed g c =
+    let device = device_at g.S.SectorStore.size g.S.SectorStore.told in
+    let tape : c.tape-tape.result.now ≡ (device c.ask-said.new.server.adapter).tape =
+    c.tape-tape.ensures ∙ ap (λ (m : Model g.row.S.Denot). (device m).tape) c.adapter-model.ensures in
+    let fed : is_starved c.ask-said.new.server.adapter ≡ false =
+    ap (λ (m : Model g.row.S.Denot). is_starved m) (sym c.adapter-model.ensures) ∙ sym c.starved.ensures ∙ c.if-starved.false in
+    let wrote = c.in-Ok-write_out.ensures in (
+      part_of device is_starved c.args.trace c.args.shown _ c.event.result c.ask-said.result c.args.server.now c.ask-said.new.server _ _ wrote.0
+          c.as_slice.result.now c.tape-tape.result.now c.event.ensures c.ask-said.ensures.answered tape (c.as_slice.ensures.value ∙ c.in-Ok.ensures) wrote.1 (λ is. absurd (false≢true (sym fed ∙ is))),
+      wrote.2,
+    )
+
+pub returns-then-starved-clause-printed : goal.returns-then-starved-clause-printed
+returns-then-starved-clause-printed g c =
+    let device = device_at g.S.SectorStore.size g.S.SectorStore.told in
+    let out = g.W.Write.contents c.args.out.now in
+    let tape = (device c.ask-said.new.server.adapter).tape in (
+      part_of device is_starved c.args.trace c.args.shown _ c.event.result c.ask-said.result c.args.server.now c.ask-said.new.server out out 0
+          (call_text c.args.trace c.args.shown tape c.ask-said.result) tape c.event.ensures c.ask-said.ensures.answered refl refl (appends_none out) (λ is. refl),
+      tt,
+    )
