@@ -44,8 +44,8 @@ compare 'some lines were answered' 'yes' "$([[ $lines -gt 1000 && $lines -lt 120
 compare 'the lines before are answered' "$(read_answers 40000 | head -n "$lines" | sha256sum)" "$(head -n "$lines" <<<"$starved" | sha256sum)"
 
 # A script of many lines is no want of memory.
-yes 'state 0' | head -n 100000 >states.script
-compare '100,000 lines' "$(yes 'state Ready' | head -n 100000 | sha256sum; echo 'status 0')" \
+printf 'state 0\n%.0s' {1..100000} >states.script
+compare '100,000 lines' "$(printf 'state Ready\n%.0s' {1..100000} | sha256sum; echo 'status 0')" \
     "$(ends blockd.toml disk.img states.script | { head -n 100000 | sha256sum; cat; })"
 
 # The stack is small.
@@ -59,7 +59,7 @@ done
 cp fresh.img disk.img
 (
     printf 'store 1 40 0 c0c0\nwrite 1 0 100 1 40\ndev finish 0 0\nservice\n'
-    yes 'state 0' | head -n 10000
+    printf 'state 0\n%.0s' {1..10000}
     printf 'store 1 40 0 d1d1\nwrite 1 0 101 1 40\ndev finish 0 0\nservice\n'
 ) >writes.script
 status=0
