@@ -1,6 +1,6 @@
 -- A read or write that may be done is taken, goes on piece by piece, and ends.
 use Rattle.std.proofs.Common.{ℕ, Bool, true, false, suc, ◌≡◌, ◌≢◌, ◌<◌, ◌≤◌, ◌+◌, ◌^◌, ◌⊎◌, ◌&&◌, List, [], ◌∷◌, ◌++◌, length, slice_index, slice_index_or, Option, None, Some, refl, sym, ◌∙◌, ap, subst, inl, inr, arith}
-use Rattle.std.specs.Prelude.{option_map, is_some, if◌then◌else◌}
+use Rattle.std.specs.Prelude.{is_some, if◌then◌else◌}
 use Rattle.std.proofs.lemmas.Bool.Decides.{eqb_tells}
 use Rattle.adapter.specs.Asked.{DoesFetch, DoesMove, DoesDone}
 use Rattle.adapter.specs.Commands.{Meaning, is_queued, is_ranged}
@@ -24,6 +24,7 @@ use Rattle.device_model.specs.declared.port.TakenCommand.{TakenCommand}
 use Rattle.device_model.specs.declared.port.Transfer.{Transfer}
 use Rattle.device_model.specs.declared.port.Transfer.TheVariants as transfer
 use Rattle.device_model.specs.declared.steps.NextMove.{NextMove}
+use Rattle.device_model.proofs.SlotLemmas.{slot_taken, taken_slot}
 use Rattle.device_model.proofs.Transfers.{is_taken, no_trim, plain, still_tells, transfer_of}
 
 -- ---- a command goes on
@@ -135,21 +136,18 @@ module _ (port slot sectors : ℕ) where
 
 -- ---- what a move and an end find
 
-held : (o : Option TakenCommand) (t : Taken) → option_map taken_of o ≡ Some t → (r : TakenCommand) × (o ≡ Some r) × (t ≡ taken_of r)
-held None t e = some-none e refl
-held (Some r) t e = (r, refl, sym (some_one e))
-
 -- a command that a port works on is one that its slot holds
 pub holds : (h : Hardware) (o : Outside) (port slot : ℕ) (t : Taken) (operation : Operation) → WorksOn ((device_of h o).port port) slot t operation →
     (r : TakenCommand) × HoldsAt (slice_index_or h.ports port blank) slot r × (t ≡ taken_of r)
 holds h o port slot t operation works =
     let p : PortModel = slice_index_or h.ports port blank in
-    let w = held (slice_index_or p.taken slot None) t works.taken in (
+    let w = taken_slot p.taken slot t works.taken in (
       w.0,
       record {
         held = w.1;
+        slot_is = w.2;
         works = λ m. record {
-          taken = ap (λ (x : Option TakenCommand). option_map taken_of x) w.1;
+          taken = slot_taken p.taken w.0 slot w.1 w.2;
           working = record {
             running = works.working.running;
             present = works.working.present;
@@ -159,7 +157,7 @@ holds h o port slot t operation works =
           };
         };
       },
-      w.2,
+      w.3,
     )
 
 -- what a move of port 0 that is possible says of the command

@@ -1,5 +1,5 @@
 -- What a port does by itself is steps, which compose.
-use Rattle.std.proofs.Common.{ℕ, Bool, zero, suc, true, false, ◌≡◌, ◌≢◌, ◌⊎◌, List, [], ◌∷◌, None, replicate, refl, sym, ◌∙◌, ap, subst, inl, inr, arith}
+use Rattle.std.proofs.Common.{ℕ, Bool, zero, suc, true, false, ◌≡◌, ◌≢◌, ◌⊎◌, List, [], ◌∷◌, None, refl, sym, ◌∙◌, ap, subst, inl, inr, arith}
 use Rattle.std.proofs.lemmas.Bool.Decides.{eqb_tells}
 use Rattle.adapter.specs.Device.{PortState, Device}
 use Rattle.adapter.specs.Memory.{changed}
@@ -14,8 +14,8 @@ use Rattle.adapter.proofs.Runs.{Steps-refl, Steps-one, Steps-trans}
 use Rattle.device_model.specs.Bits.{bits_of}
 use Rattle.device_model.specs.Held.{IsHeld}
 use Rattle.device_model.specs.Settled.{GoesTo, IsSettled, IsSettledPort}
-use Rattle.device_model.specs.View.{Media, port_of, slots_of, blank}
-use Rattle.device_model.proofs.NewModel.{zero_bit, slots_none}
+use Rattle.device_model.specs.View.{Media, port_of, blank}
+use Rattle.device_model.proofs.NewModel.{zero_bit}
 
 pub with_same : (d : Device) (port : ℕ) (p : PortState) → d.port port ≡ p → with_port d port p ≡ d
 with_same d port p is =
@@ -69,9 +69,6 @@ goes_linked old new present det due is d port here =
       fits = omega arith;
     })
     (ap (λ (p : PortState). with_port d port p) (is ∙ ap (λ (p : PortState). with_link p 0x101 true) (sym here)))
-
-pub no_slots : slots_of (replicate 32 None) ≡ (λ _. None)
-no_slots = fun_ext (slots_none 32)
 
 pub no_bits : bits_of 0 ≡ (λ _. false)
 no_bits = fun_ext zero_bit

@@ -8,17 +8,12 @@ use Rattle.adapter.specs.Device.{Disk, IsDisk}
 use Rattle.adapter.specs.Idle.{IsIdlePort}
 use Rattle.device_model.specs.Modelled.{IsReset}
 use Rattle.sector_store.specs.Stores.{AreSectors}
-use Rattle.device_model.specs.View.{Media, port_of, slots_of, blank}
+use Rattle.device_model.specs.View.{Media, port_of, blank}
 use Rattle.device_model.specs.Whole.{outside_of}
 use Rattle.device_model.specs.declared.port.PortModel.{PortModel}
 
 pub zero_bit : (k : ℕ) → bit 0 k ≡ false
 zero_bit k = rw bit_at-zero refl
-
-pub slots_none : (n k : ℕ) → slots_of (replicate n None) k ≡ None
-slots_none zero k = refl
-slots_none (suc n) zero = refl
-slots_none (suc n) (suc k) = slots_none n k
 
 zero_at : (n k : ℕ) → slice_index (replicate n 0) k ≡ 0
 zero_at zero k = refl

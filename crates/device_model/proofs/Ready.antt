@@ -18,7 +18,7 @@ use Rattle.adapter.proofs.Absurd.{some-none, some_one}
 use Rattle.adapter.proofs.SaysLemmas.{says_meaning, says_places, cut_length, cut_index}
 use Rattle.device_model.specs.Finishing.{HasIdentify, IsInside, AreInside, IsCovered, IsReady}
 use Rattle.device_model.specs.Fetched.{bytes_of}
-use Rattle.device_model.specs.Slots.{MayTake, HoldsAt}
+use Rattle.device_model.specs.Slots.{MayTake, MayTakeAny, HoldsAt}
 use Rattle.device_model.specs.View.{Media, Takes, operation_of, port_of, taken_of, blank}
 use Rattle.device_model.specs.Whole.{Outside, device_of}
 use Rattle.device_model.specs.declared.port.PortModel.{PortModel}
@@ -104,10 +104,7 @@ left_is moved n left (Some x) is some = let same : x ≡ left = omega (arith, is
 
 -- ---- what is ready: a command that may be taken, or one that is
 
--- the commands that the model takes may be taken in this slot; none of them may
-abbrev pub MayTakeAny : PortModel → ℕ → Type 0
-MayTakeAny p slot = (m : Media) (operation : Operation) → Takes operation → MayTake (port_of p m) slot operation
-
+-- none of the commands that the model takes may be taken in this slot
 abbrev pub MayTakeNone : PortModel → ℕ → Type 0
 MayTakeNone p slot = (m : Media) (operation : Operation) → Takes operation → MayTake (port_of p m) slot operation → ⊥
 

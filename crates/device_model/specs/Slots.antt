@@ -1,10 +1,10 @@
 -- What a port may do with its slots.
-use Rattle.std.specs.Prelude.{ℕ, ◌≡◌, ◌+◌, ◌^◌, ◌<◌, ◌≤◌, None, Some, length, slice_index, slice_index_or}
+use Rattle.std.specs.Prelude.{ℕ, ◌≡◌, ◌+◌, ◌^◌, ◌<◌, ◌≤◌, Some, length, slice_index, slice_index_or}
 use Rattle.adapter.specs.Device.{PortState}
 use Rattle.adapter.specs.Says.{pieces}
 use Rattle.adapter.specs.Steps.{IsFetchable, IsWorking, IsAlone, WorksOn, next_sector}
 use Rattle.adapter.specs.declared.command.Operation.{Operation}
-use Rattle.device_model.specs.View.{Media, port_of, operation_of, taken_of, blank}
+use Rattle.device_model.specs.View.{Media, Takes, port_of, operation_of, taken_of, blank}
 use Rattle.device_model.specs.declared.port.TakenCommand.{TakenCommand}
 use Rattle.device_model.specs.declared.port.PortModel.{PortModel}
 use Rattle.device_model.specs.declared.hardware.Hardware.{Hardware}
@@ -16,9 +16,14 @@ pub record MayTake (p : PortState) (slot : ℕ) (operation : Operation) : Type 0
   pub working : IsWorking p operation
   pub alone : IsAlone p operation
 
--- the port works on this command, which its slot holds
+-- the commands that the model takes may be taken in this slot, if its bytes say one
+abbrev pub MayTakeAny : PortModel → ℕ → Type 0
+MayTakeAny p slot = (m : Media) (operation : Operation) → Takes operation → MayTake (port_of p m) slot operation
+
+-- the port works on this command, which it has taken in this slot
 pub record HoldsAt (p : PortModel) (slot : ℕ) (t : TakenCommand) : Type 0 where
-  pub held : slice_index_or p.taken slot None ≡ Some t
+  pub held : p.taken ≡ Some t
+  pub slot_is : t.slot ≡ slot
   pub works : (m : Media) → WorksOn (port_of p m) slot (taken_of t) (operation_of t.transfer)
 
 -- the next piece of this command goes to or from this address, and is this sector, if it is one

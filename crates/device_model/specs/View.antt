@@ -1,9 +1,10 @@
 -- The state that a model stands for.
-use Rattle.std.specs.Prelude.{ℕ, false, ◌≡◌, ◌%◌, ◌⊎◌, List, [], Option, None, option_map, unwrap_or, if◌then◌else◌, slice_index_or}
+use Rattle.std.specs.Prelude.{ℕ, false, ◌≡◌, ◌%◌, ◌⊎◌, List, [], Option, None, Some, unwrap_or, if◌then◌else◌}
 use Rattle.adapter.specs.Device.{Disk, Taken, Bases, Notes, PortState}
 use Rattle.adapter.specs.Device.Halt.{NotHalted}
 use Rattle.adapter.specs.Says.{pieces}
 use Rattle.adapter.specs.Access.{unacknowledged}
+use Rattle.adapter.specs.Memory.{changed}
 use Rattle.adapter.specs.Steps.{next_sector, disk_after}
 use Rattle.hba_regs.specs.Bits.{bit}
 use Rattle.adapter.specs.declared.command.Operation.{Operation}
@@ -64,8 +65,10 @@ taken_of t =
       cleared = 0;
     }
 
-abbrev pub slots_of : List (Option TakenCommand) → ℕ → Option Taken
-slots_of taken = λ slot. option_map taken_of (slice_index_or taken slot None)
+-- by slot, where one command is taken, or none
+abbrev pub slots_of : Option TakenCommand → ℕ → Option Taken
+slots_of None = λ slot. None
+slots_of (Some t) = changed (λ slot. None) t.slot (Some (taken_of t))
 
 -- what is behind a port: its disk, and those that were plugged in
 pub record Media : Type 0 where
@@ -129,7 +132,7 @@ blank =
       present = false;
       fresh = false;
       link_due = false;
-      taken = [];
+      taken = None;
       readings = record {
         st_set_at = 0;
         sctl_written_at = 0;

@@ -252,6 +252,7 @@ pub fn read_as(memory: &[u8], list: u32, slot: u8, transfer: Transfer) -> Option
     requires { slot < 32 }
     ensures found { IfSome result (λ t. (t.moved ≡ 0) × Says (bytes_of memory.now) list slot (taken_of t).meaning (taken_of t).places) }
     ensures kind { IfSome result (λ t. t.transfer ≡ transfer) }
+    ensures placed { IfSome result (λ t. t.slot ≡ slot) }
     ensures only { result ≡ None → (m : Meaning) (places : List ℕ) → m.operation ≡ operation_of transfer → Says (bytes_of memory.now) list slot m places → ⊥ }
 {
     let writes = transfer.reads_memory();
@@ -272,6 +273,7 @@ pub fn read_as(memory: &[u8], list: u32, slot: u8, transfer: Transfer) -> Option
         return None;
     }
     Some(TakenCommand {
+        slot,
         transfer,
         first: sectors.first,
         count: sectors.count,
@@ -284,6 +286,7 @@ pub fn read_as(memory: &[u8], list: u32, slot: u8, transfer: Transfer) -> Option
 pub fn read_command(memory: &[u8], list: u32, slot: u8) -> Option<TakenCommand>
     requires { slot < 32 }
     ensures found { IfSome result (λ t. (t.moved ≡ 0) × Says (bytes_of memory.now) list slot (taken_of t).meaning (taken_of t).places) }
+    ensures placed { IfSome result (λ t. t.slot ≡ slot) }
     ensures only { result ≡ None → (m : Meaning) (places : List ℕ) → Takes m.operation → Says (bytes_of memory.now) list slot m places → ⊥ }
 {
     if let Some(command) = read_as(memory, list, slot, Transfer::Read) {

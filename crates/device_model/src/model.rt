@@ -172,6 +172,7 @@ impl<S: SectorStore> Model<S> {
         ensures pages { KeepsPages S.size self.old self.new }
         ensures sure { is_sure_at S.is_sure self.new ≡ is_sure_at S.is_sure self.old }
         ensures starved { StaysStarved self.old.hardware self.new.hardware }
+        ensures fed { result ≡ true → self.new.hardware.starved ≡ self.old.hardware.starved }
     {
         self.hardware.unplug()
     }
@@ -189,6 +190,7 @@ impl<S: SectorStore> Model<S> {
         ensures pages { KeepsPages S.size self.old self.new }
         ensures sure { is_sure_at S.is_sure self.new ≡ is_sure_at S.is_sure self.old }
         ensures starved { StaysStarved self.old.hardware self.new.hardware }
+        ensures fed { result ≡ true → self.new.hardware.starved ≡ self.old.hardware.starved }
     {
         if self.hardware.ports[0].present {
             return false;
@@ -220,6 +222,8 @@ impl<S: SectorStore> Model<S> {
         ensures pages { KeepsPages S.size self.old self.new }
         ensures sure { is_sure_at S.is_sure self.new ≡ is_sure_at S.is_sure self.old }
         ensures starved { StaysStarved self.old.hardware self.new.hardware }
+        ensures fed { result ≡ true → self.new.hardware.starved ≡ self.old.hardware.starved }
+        ensures ample { HasRoom self.old.hardware 1 → self.new.hardware.starved ≡ self.old.hardware.starved }
     {
         // No other port has a disk.
         if port != 0 {
@@ -265,6 +269,7 @@ impl<S: SectorStore> Model<S> {
         ensures pages { KeepsPages S.size self.old self.new }
         ensures sure { is_sure_at S.is_sure self.new ≡ is_sure_at S.is_sure self.old }
         ensures starved { StaysStarved self.old.hardware self.new.hardware }
+        ensures fed { result ≡ true → self.new.hardware.starved ≡ self.old.hardware.starved }
     {
         if port != 0 {
             return false;
@@ -323,7 +328,7 @@ impl<S: SectorStore> Model<S> {
         ensures queue { self.new.queue ≡ self.old.queue }
         ensures accesses { self.new.accesses ≡ self.old.accesses }
     {
-        if self.held[0] {
+        if self.held[0] || !self.hardware.has_command() {
             return;
         }
         self.identify_once();
@@ -391,6 +396,7 @@ impl<S: SectorStore> Model<S> {
         ensures pages { IsHonest s.now → KeepsPages S.size self.old self.new }
         ensures sure { is_sure_at S.is_sure self.new ≡ is_sure_at S.is_sure self.old }
         ensures starved { StaysStarved self.old.hardware self.new.hardware }
+        ensures fed { result ≡ true → self.new.hardware.starved ≡ self.old.hardware.starved }
         ensures lies { result ≡ true → (p : Port) (page : DiskPage) (offset bits : ℕ) → s.now ≡ DeviceStep.Lie p page offset bits → p.0 ≡ 0 →
             self.new.says ≡ record self.old.says { lies = lying self.old.says.lies offset bits } }
         ensures truth { (p : Port) → s.now ≡ DeviceStep.Truth p → p.0 ≡ 0 → self.new.says ≡ record self.old.says { lies = no_lies } }
@@ -616,6 +622,7 @@ impl<S: SectorStore> Stepped for Model<S> {
         ensures pages { IsHonest s.now → KeepsPages S.size self.old self.new }
         ensures sure { is_sure_at S.is_sure self.new ≡ is_sure_at S.is_sure self.old }
         ensures starved { StaysStarved self.old.hardware self.new.hardware }
+        ensures fed { result ≡ true → self.new.hardware.starved ≡ self.old.hardware.starved }
         ensures lies { result ≡ true → (p : Port) (page : DiskPage) (offset bits : ℕ) → s.now ≡ DeviceStep.Lie p page offset bits → p.0 ≡ 0 →
             self.new.says ≡ record self.old.says { lies = lying self.old.says.lies offset bits } }
         ensures truth { (p : Port) → s.now ≡ DeviceStep.Truth p → p.0 ≡ 0 → self.new.says ≡ record self.old.says { lies = no_lies } }

@@ -93,6 +93,7 @@ impl Transfer {
 /// A command that the device has taken.
 #[derive(Clone, Copy, Debug)]
 pub struct TakenCommand {
+    pub slot: u8,
     pub transfer: Transfer,
     pub first: u64,
     pub count: u32,
@@ -125,7 +126,8 @@ pub struct PortModel {
     pub present: bool,
     pub fresh: bool,
     pub link_due: bool,
-    pub taken: [Option<TakenCommand>; 32],
+    /// The command that is taken: no more than one at a time.
+    pub taken: Option<TakenCommand>,
     pub readings: Readings,
 }
 
@@ -154,7 +156,7 @@ impl PortModel {
             present,
             fresh: false,
             link_due: false,
-            taken: [None; 32],
+            taken: None,
             readings: Readings::default(),
         }
     }

@@ -5,6 +5,7 @@ ghost use Rattle.device_model.specs.Settled.{GoesTo, IsSettledPort};
 ghost use Rattle.device_model.specs.View.{Media, port_of};
 
 use crate::port::PortModel;
+use crate::slots::forget;
 
 impl PortModel {
     /// PxCMD.CR falls where ST is zero (AHCI 1.3.1, 3.3.7): no command is taken any more.
@@ -14,7 +15,7 @@ impl PortModel {
     {
         if !self.st && self.cr {
             self.cr = false;
-            self.taken = [None; 32];
+            forget(&mut self.taken);
         }
     }
 
@@ -91,7 +92,7 @@ impl PortModel {
         self.detected = false;
         self.tfd = None;
         self.sig = None;
-        self.taken = [None; 32];
+        forget(&mut self.taken);
         self.fresh = false;
     }
 }

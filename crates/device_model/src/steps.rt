@@ -10,7 +10,7 @@ ghost use Rattle.adapter.specs.Steps.Step.{Fetch as FetchStep, Move as MoveStep,
 ghost use Rattle.adapter.specs.Asked.{DoesFetch, DoesDone};
 ghost use Rattle.device_model.specs.Fetched.{bytes_of};
 ghost use Rattle.device_model.specs.Finishing.{HasIdentify, HasRoom, IsInside, AreInside, IsCovered, IsReady, IsStarved, StaysStarved};
-ghost use Rattle.device_model.specs.Slots.{HoldsAt, IsNext};
+ghost use Rattle.device_model.specs.Slots.{HoldsAt, IsNext, MayTakeAny};
 ghost use Rattle.device_model.specs.View.{Takes, operation_of, taken_of, blank};
 ghost use Rattle.device_model.specs.Whole.{Outside, device_of, outside_after, outside_plugged};
 ghost use Rattle.device_model.specs.declared.port.TakenCommand.{TakenCommand};
@@ -128,16 +128,49 @@ impl Hardware {
         ensures tape { self.new.tape ≡ self.old.tape }
         ensures starved { self.new.starved ≡ self.old.starved }
     {
+        may_take(&self.ports, usize::from(port), slot) && self.fetch_said(port, slot)
+    }
+
+    /// Takes the command that the bytes of a slot say, which may be taken; `false` says that they say none that the model takes. It is entered
+    /// only then, since its frame has room for a command.
+    #[inline(never)]
+    fn fetch_said(&mut self, port: u8, slot: u8) -> bool
+        requires port { port < 4 }
+        requires slot { slot < 32 }
+        requires may { MayTakeAny (slice_index_or self.old.ports port blank) slot }
+        requires free { (slice_index_or self.old.ports port blank).taken ≡ None }
+        ensures did { result ≡ true → (o : Outside) → DoesFetch port slot (device_of self.old o) (device_of self.new o) }
+        ensures refused { result ≡ false → (o : Outside) → device_of self.new o ≡ device_of self.old o }
+        ensures only { result ≡ false → (o : Outside) (m : Meaning) (places : List ℕ) → Takes m.operation → Can (FetchStep port slot m places) (device_of self.old o) → ⊥ }
+        ensures tape { self.new.tape ≡ self.old.tape }
+        ensures starved { self.new.starved ≡ self.old.starved }
+    {
         let place = usize::from(port);
-        if !may_take(&self.ports, place, slot) {
-            return false;
-        }
         let list = self.ports[place].addresses.clb;
         let Some(command) = read_command(&self.memory, list, slot) else {
             return false;
         };
-        self.ports[place].take(slot, command);
+        self.ports[place].take(command);
         true
+    }
+
+    /// Whether the bytes of a slot of port 0 say an IDENTIFY DEVICE, which may be taken.
+    #[inline(never)]
+    fn says_identify(&self, slot: u8) -> bool
+        requires slot { slot < 32 }
+        requires may { MayTakeAny (slice_index_or self.now.ports 0 blank) slot }
+        ensures has { result ≡ true → (o : Outside) → HasIdentify (device_of self.now o) slot }
+        ensures only { result ≡ false → (o : Outside) → HasIdentify (device_of self.now o) slot → ⊥ }
+    {
+        let list = self.ports[0].addresses.clb;
+        read_as(&self.memory, list, slot, Transfer::Identify).is_some()
+    }
+
+    /// Whether a command of port 0 is issued or taken.
+    pub fn has_command(&self) -> bool
+        ensures { IsTrue result ↔ (((slice_index_or self.now.ports 0 blank).ci ≡ 0) × ((slice_index_or self.now.ports 0 blank).taken ≡ None) → ⊥) }
+    {
+        self.ports[0].ci != 0 || self.ports[0].taken.is_some()
     }
 
     /// Whether a slot of port 0 has an IDENTIFY DEVICE that may be taken, or is taken and worked on.
@@ -147,8 +180,7 @@ impl Hardware {
         ensures only { result ≡ false → (o : Outside) → HasIdentify (device_of self.now o) slot → ⊥ }
     {
         if may_take(&self.ports, 0, slot) {
-            let list = self.ports[0].addresses.clb;
-            read_as(&self.memory, list, slot, Transfer::Identify).is_some()
+            self.says_identify(slot)
         } else {
             match working_on(&self.ports, 0, slot) {
                 Some(command) => matches!(command.transfer, Transfer::Identify),
@@ -202,7 +234,7 @@ impl Hardware {
         });
         let _recorded = record(&mut self.tape, &mut self.starved, entry);
         put_piece(&mut self.memory, next, bytes);
-        self.ports[usize::from(port)].advance(slot);
+        self.ports[usize::from(port)].advance();
     }
 
     /// Ends a slot's command, all of which was moved; `false` says that there is none, or that the tape found no memory.
@@ -214,6 +246,8 @@ impl Hardware {
         ensures only { result ≡ false → (o : Outside) (flag : ℕ) (t : Taken) → Can (DoneStep port slot flag t) (device_of self.old o) →
             IsStarved self.old self.new 1 }
         ensures starved { StaysStarved self.old self.new }
+        ensures fed { result ≡ true → self.new.starved ≡ self.old.starved }
+        ensures ample { HasRoom self.old 1 → self.new.starved ≡ self.old.starved }
     {
         let Some(command) = working_on(&self.ports, usize::from(port), slot) else {
             return false;
@@ -233,6 +267,20 @@ impl Hardware {
         true
     }
 
+    /// How many moves the command has that the bytes of a slot say, which may be taken, if each is possible on a disk of so many sectors.
+    #[inline(never)]
+    fn moves_said(&self, port: u8, slot: u8, sectors: u64) -> Option<u32>
+        requires port { port < 4 }
+        requires slot { slot < 32 }
+        requires may { MayTakeAny (slice_index_or self.now.ports port blank) slot }
+        ensures ready { IfSome result (λ left. (o : Outside) → IsReady (device_of self.now o) port slot sectors left) }
+        ensures only { (o : Outside) (left : ℕ) → IsReady (device_of self.now o) port slot sectors left → result ≡ Some left }
+    {
+        let list = self.ports[usize::from(port)].addresses.clb;
+        let command = read_command(&self.memory, list, slot)?;
+        left_of(&command, self.memory.len(), sectors)
+    }
+
     /// How many moves are left until a slot's command can end, if it may be taken or is taken, and each move is possible on
     /// a disk of so many sectors.
     pub fn moves_left(&self, port: u8, slot: u8, sectors: u64) -> Option<u32>
@@ -243,9 +291,7 @@ impl Hardware {
     {
         let place = usize::from(port);
         if may_take(&self.ports, place, slot) {
-            let list = self.ports[place].addresses.clb;
-            let command = read_command(&self.memory, list, slot)?;
-            left_of(&command, self.memory.len(), sectors)
+            self.moves_said(port, slot, sectors)
         } else {
             let command = working_on(&self.ports, place, slot)?;
             left_of(command, self.memory.len(), sectors)
@@ -258,6 +304,7 @@ impl Hardware {
         ensures refused { result ≡ false → (o : Outside) → device_of self.new o ≡ device_of self.old o }
         ensures only { result ≡ false → (o : Outside) → Can (UnplugStep 0) (device_of self.old o) → IsStarved self.old self.new 1 }
         ensures starved { StaysStarved self.old self.new }
+        ensures fed { result ≡ true → self.new.starved ≡ self.old.starved }
     {
         if !self.ports[0].present
             || !record(&mut self.tape, &mut self.starved, Entry::Unplug(Port(0)))
@@ -275,6 +322,7 @@ impl Hardware {
         ensures refused { result ≡ false → (o : Outside) → device_of self.new o ≡ device_of self.old o }
         ensures only { result ≡ false → (o : Outside) → ((device_of self.old o).port 0).present ≡ false → IsStarved self.old self.new 1 }
         ensures starved { StaysStarved self.old self.new }
+        ensures fed { result ≡ true → self.new.starved ≡ self.old.starved }
     {
         if self.ports[0].present
             || !record(&mut self.tape, &mut self.starved, Entry::Plug(Port(0), 0))

@@ -1,5 +1,5 @@
 use Rattle.std.proofs.Common.{refl}
-use Rattle.device_model.proofs.NewModel.{zero_bit, slots_none}
+use Rattle.device_model.proofs.NewModel.{zero_bit}
 use Rattle.device_model.proofs.port.PortModel.new.Goals as goal
 
 pub returns-clause-idle : goal.returns-clause-idle
@@ -10,7 +10,7 @@ returns-clause-idle c = λ m. record {
   fr = refl;
   ci = zero_bit;
   sact = zero_bit;
-  taken = slots_none 32;
+  taken = λ slot. refl;
 }
 
 pub returns-clause-reset : goal.returns-clause-reset
