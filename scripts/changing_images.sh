@@ -3,32 +3,7 @@
 # output or error is closed. BLOCKD names the program; without it, it is crates/blockd/out/blockd. scripts/examples.sh calls this.
 set -euo pipefail
 cd "$(dirname "$0")/.."
-blockd=$(realpath "${BLOCKD:-crates/blockd/out/blockd}")
-configuration=$PWD/examples/blockd.toml
-make_image=$PWD/examples/make_image.sh
-
-scratch=$(mktemp -d)
-trap 'rm -rf "$scratch"' EXIT
-"$make_image" "$scratch/fresh.img"
-cd "$scratch"
-cp "$configuration" blockd.toml
-passed=0 failed=0
-
-# Compares what is wanted of a run with what it gave.
-compare() {
-    local name=$1 wanted=$2 given=$3
-    if [[ $wanted == "$given" ]]; then
-        passed=$((passed + 1))
-    else
-        printf 'example: %s: wanted\n%s\nbut it was\n%s\n' "$name" "$wanted" "$given"
-        failed=$((failed + 1))
-    fi
-}
-
-# The bytes of a file.
-bytes_of() {
-    sha256sum <"$1"
-}
+source scripts/comparing.sh
 
 # A sector of an image that is zeros.
 clear_sector() {
@@ -115,5 +90,4 @@ compare 'a bad line, and standard error is closed' 'status 3' "$(closed bad.scri
 compare 'a bad line, and all three are closed' 'status 3' "$(closed bad.script 0 1 2)"
 compare 'the image is as it was' "$(bytes_of fresh.img)" "$(bytes_of disk.img)"
 
-echo "images: $passed passed, $failed failed"
-[[ $failed == 0 ]]
+tell_comparisons images

@@ -14,4 +14,5 @@ if [[ -z ${BLOCKD:-} ]] && is_old; then
     (cd crates/blockd && rt run >/dev/null 2>&1) || [[ -x $blockd ]]
 fi
 scripts/changing_images.sh
+scripts/limited_runs.sh
 exec scripts/run_cases.py "$blockd" docs/FORMATS.md examples/cases/*.{session,bad-lines,configurations}

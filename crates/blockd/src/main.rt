@@ -73,8 +73,9 @@ fn run(
     ))?;
     let blank = MemStore::new(rt.alloc(), BLANK_SECTORS)?;
     let gathered = if is_watched { 0 } else { GATHERED };
-    let mut out = BufWriter::with_capacity(rt.alloc(), gathered, io::writer(rt))
-        .map_err(|error| unless_memory(&error, Fault::Unwritten))?;
+    let mut out = BufWriter::with_capacity(rt.alloc(), gathered, io::writer(rt)).map_err(
+        |error| unless_memory(&error, Fault::Unwritten),
+    )?;
     let ended = play(
         rt.alloc(),
         config.as_slice(),

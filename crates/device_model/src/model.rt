@@ -173,6 +173,7 @@ impl<S: SectorStore> Model<S> {
         ensures pages { KeepsPages S.size self.old self.new }
         ensures sure { is_sure_at S.is_sure self.new ≡ is_sure_at S.is_sure self.old }
         ensures starved { StaysStarved self.old.hardware self.new.hardware }
+        ensures fed { result ≡ true → self.new.hardware.starved ≡ self.old.hardware.starved }
     {
         self.hardware.unplug()
     }
@@ -190,6 +191,7 @@ impl<S: SectorStore> Model<S> {
         ensures pages { KeepsPages S.size self.old self.new }
         ensures sure { is_sure_at S.is_sure self.new ≡ is_sure_at S.is_sure self.old }
         ensures starved { StaysStarved self.old.hardware self.new.hardware }
+        ensures fed { result ≡ true → self.new.hardware.starved ≡ self.old.hardware.starved }
         ensures disks { (self.new.disk0 ≡ self.old.disk0) × (self.new.disk1 ≡ self.old.disk1) }
     {
         if self.hardware.ports[0].present {
@@ -222,6 +224,8 @@ impl<S: SectorStore> Model<S> {
         ensures pages { KeepsPages S.size self.old self.new }
         ensures sure { is_sure_at S.is_sure self.new ≡ is_sure_at S.is_sure self.old }
         ensures starved { StaysStarved self.old.hardware self.new.hardware }
+        ensures fed { result ≡ true → self.new.hardware.starved ≡ self.old.hardware.starved }
+        ensures ample { HasRoom self.old.hardware 1 → self.new.hardware.starved ≡ self.old.hardware.starved }
     {
         // No other port has a disk.
         if port != 0 {
@@ -267,6 +271,7 @@ impl<S: SectorStore> Model<S> {
         ensures pages { KeepsPages S.size self.old self.new }
         ensures sure { is_sure_at S.is_sure self.new ≡ is_sure_at S.is_sure self.old }
         ensures starved { StaysStarved self.old.hardware self.new.hardware }
+        ensures fed { result ≡ true → self.new.hardware.starved ≡ self.old.hardware.starved }
     {
         if port != 0 {
             return false;
@@ -393,6 +398,7 @@ impl<S: SectorStore> Model<S> {
         ensures pages { IsHonest s.now → KeepsPages S.size self.old self.new }
         ensures sure { is_sure_at S.is_sure self.new ≡ is_sure_at S.is_sure self.old }
         ensures starved { StaysStarved self.old.hardware self.new.hardware }
+        ensures fed { result ≡ true → self.new.hardware.starved ≡ self.old.hardware.starved }
         ensures lies { result ≡ true → (p : Port) (page : DiskPage) (offset bits : ℕ) → s.now ≡ DeviceStep.Lie p page offset bits → p.0 ≡ 0 →
             self.new.says ≡ record self.old.says { lies = lying self.old.says.lies offset bits } }
         ensures truth { (p : Port) → s.now ≡ DeviceStep.Truth p → p.0 ≡ 0 → self.new.says ≡ record self.old.says { lies = no_lies } }
@@ -627,6 +633,7 @@ impl<S: SectorStore> Stepped for Model<S> {
         ensures pages { IsHonest s.now → KeepsPages S.size self.old self.new }
         ensures sure { is_sure_at S.is_sure self.new ≡ is_sure_at S.is_sure self.old }
         ensures starved { StaysStarved self.old.hardware self.new.hardware }
+        ensures fed { result ≡ true → self.new.hardware.starved ≡ self.old.hardware.starved }
         ensures lies { result ≡ true → (p : Port) (page : DiskPage) (offset bits : ℕ) → s.now ≡ DeviceStep.Lie p page offset bits → p.0 ≡ 0 →
             self.new.says ≡ record self.old.says { lies = lying self.old.says.lies offset bits } }
         ensures truth { (p : Port) → s.now ≡ DeviceStep.Truth p → p.0 ≡ 0 → self.new.says ≡ record self.old.says { lies = no_lies } }

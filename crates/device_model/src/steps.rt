@@ -246,6 +246,8 @@ impl Hardware {
         ensures only { result ≡ false → (o : Outside) (flag : ℕ) (t : Taken) → Can (DoneStep port slot flag t) (device_of self.old o) →
             IsStarved self.old self.new 1 }
         ensures starved { StaysStarved self.old self.new }
+        ensures fed { result ≡ true → self.new.starved ≡ self.old.starved }
+        ensures ample { HasRoom self.old 1 → self.new.starved ≡ self.old.starved }
     {
         let Some(command) = working_on(&self.ports, usize::from(port), slot) else {
             return false;
@@ -302,6 +304,7 @@ impl Hardware {
         ensures refused { result ≡ false → (o : Outside) → device_of self.new o ≡ device_of self.old o }
         ensures only { result ≡ false → (o : Outside) → Can (UnplugStep 0) (device_of self.old o) → IsStarved self.old self.new 1 }
         ensures starved { StaysStarved self.old self.new }
+        ensures fed { result ≡ true → self.new.starved ≡ self.old.starved }
     {
         if !self.ports[0].present
             || !record(&mut self.tape, &mut self.starved, Entry::Unplug(Port(0)))
@@ -319,6 +322,7 @@ impl Hardware {
         ensures refused { result ≡ false → (o : Outside) → device_of self.new o ≡ device_of self.old o }
         ensures only { result ≡ false → (o : Outside) → ((device_of self.old o).port 0).present ≡ false → IsStarved self.old self.new 1 }
         ensures starved { StaysStarved self.old self.new }
+        ensures fed { result ≡ true → self.new.starved ≡ self.old.starved }
     {
         if self.ports[0].present
             || !record(&mut self.tape, &mut self.starved, Entry::Plug(Port(0), 0))

@@ -1,18 +1,25 @@
 -- What the calls that were printed answered.
-use Rattle.std.proofs.Common.{ℕ, Bool, true, ◌≡◌, ◌&&◌, List, [], ◌∷◌, ◌++◌, Option, Some, None, map, reverse, refl, sym, ap, ap₂, ◌∙◌, subst, append_assoc}
+use Rattle.std.proofs.Common.{ℕ, Bool, true, ◌≡◌, ◌&&◌, List, [], ◌∷◌, ◌++◌, Option, Some, None, map, reverse, refl, sym, ap, ap₂, ◌∙◌, subst, append-nil}
 use Rattle.std.specs.Prelude.{IsSome, is_some}
 use mathlib.Core.List.{map-append, reverse-append}
 use Rattle.adapter.specs.Device.{Device}
 use Rattle.adapter.specs.declared.access.DeviceStep.{DeviceStep}
-use Rattle.block_machine.specs.Events.{Ask}
+use Rattle.block_machine.specs.Events.{Ask, IsRun, EveryReadHolds}
 use Rattle.block_machine.specs.Events as machine
-use Rattle.block_machine.specs.Histories.{Instant, Happening}
+use Rattle.block_machine.specs.Histories.{Instant, Happening, IsHistory}
+use Rattle.block_machine.specs.Histories as histories
+use Rattle.identify.specs.declared.wanted.Wanted.{Wanted}
+use Rattle.configuration.specs.Document.{IsReadFrom}
+use Rattle.configuration.specs.declared.Config.{Config}
+use Rattle.device_model.specs.Modelled.{device_at}
+use Rattle.device_model.specs.declared.model.Model.{Model}
 use Rattle.block_server.specs.Running.{ask_of, said_of}
 use Rattle.block_server.specs.View.{ServerView, server_of}
 use Rattle.block_server.specs.declared.types.Event.{Event}
 use Rattle.block_server.specs.declared.types.Said.{Said}
-use Rattle.server_history.specs.Histories.{Leads}
-use Rattle.play.specs.Played.{Prints, none, call}
+use Rattle.server_history.specs.Histories.{Leads, Begins, Ties}
+use Rattle.play.specs.Events.{events_of}
+use Rattle.play.specs.Played.{Prints, none, call, IsStarted, Played, Ran, is_starved}
 
 -- the last one comes first in the reverse
 reversed_last : {T : Type 0} (all : List T) (last : T) → reverse (all ++ last ∷ []) ≡ last ∷ reverse all
@@ -45,3 +52,42 @@ pub both_tell : {T : Type 0} (one other : Option T) → IsSome one → IsSome ot
 both_tell None other a b = a
 both_tell (Some x) None a b = b
 both_tell (Some x) (Some y) a b = refl
+
+-- What a new server ran of a script was played. The calls add their events to the history without calls that leads to it; of histories two laws
+-- hold.
+abbrev pub played_of : {S : Type 0} (size : S → ℕ) (told : S → Option (ℕ → List ℕ)) (config script : List ℕ) (image blank : S) (trace : Bool)
+    (old new : Option (List ℕ)) (values : Config) → IsReadFrom config values → (server last : ServerView (Model S))
+    → IsStarted size told values image blank server → Ran (device_at size told) is_starved trace script server last old new
+    → ((wanted : List Wanted) (first : Instant Device) (past : List (Happening Device DeviceStep)) → IsHistory (Begins wanted) (Ties wanted) first past
+    → IsRun first.moment (histories.events_of past))
+    → ((wanted : List Wanted) (first : Instant Device) (past : List (Happening Device DeviceStep)) → IsHistory (Begins wanted) (Ties wanted) first past
+    → first.device.telling ≡ true → EveryReadHolds first.moment (histories.events_of past))
+    → Played size told config script image blank trace old new
+played_of size told config script image blank trace old new values read server last started ran runs holds =
+    let device = device_at size told in
+    let begun = started.made.begun in
+    let on = goes_on device is_starved trace server last ran.shown (events_of ran.played) ran.said ran.text ran.last ran.prints begun.0 [] begun.1 in
+    let leads = subst (λ (past : List (Happening Device DeviceStep)). Leads begun.0 past (server_of device last)) (append-nil on.more) on.leads in
+    record {
+      values = values;
+      read = read;
+      server = server;
+      last = last;
+      ran = ran;
+      answers = record {
+        model = started.model;
+        modelled = started.modelled;
+        made = started.made;
+        first = begun.0;
+        begun = begun.1;
+        past = on.more;
+        leads = leads;
+        asked = on.asked;
+        answered = on.answered;
+        run = runs _ begun.0 on.more leads.history;
+        reads = λ image_tells blank_tells.
+            let tells : begun.0.device.telling ≡ true =
+            ap (λ (d : Device). d.telling) begun.1.stands.device_is ∙ started.made.taken.same.telling ∙ started.telling ∙ both_tell _ _ image_tells blank_tells in
+            holds _ begun.0 on.more leads.history tells;
+      };
+    }

@@ -1,4 +1,4 @@
-use Rattle.std.proofs.Common.{refl, ap, ◌∙◌, sym, subst, Option, Some, None, List, ℕ, length}
+use Rattle.std.proofs.Common.{refl, ap, ◌∙◌, sym, subst, Option, List, ℕ}
 use Rattle.std.specs.Borrow.{Bor}
 use Rattle.device_model.specs.Modelled.{device_at}
 use Rattle.device_model.specs.declared.model.Model.{Model}
@@ -55,10 +55,12 @@ returns-in_err-shown-in-Ok-Some g c =
     let so_far = subst (λ (rest : Option (Bor (List ℕ))). PlayedSoFar device is_starved c.args.trace c.args.server.now all c.loop-rest.server c.loop-rest.shown rest before here) c.in-Some.is c.loop-rest.invariant.played in
     let cut = cut_more all so_far.texts c.in-Some.text.now c.first_line.result.0.now c.first_line.result.1 so_far.cut c.first_line.ensures.first in
     let from = left_ask all so_far.texts c.first_line.result.0.now (lines_after c.first_line.result.1) c.requires.good.0 cut c.requires.good.1 in
-    let asks = subst (λ (asked : Option Line). Asks c.first_line.result.0.now asked) c.in-Ok-Some.field-0-is c.in-Ok-Some.ensures.ok in
-    (ran_part device is_starved c.args.trace c.args.server.now c.args.script.now c.loop-rest.server c.play_line.new.server c.loop-rest.shown c.first_line.result.0.now
-        c.in-Ok-Some.asked c.in-Some.text c.first_line.result.1 before here after so_far c.first_line.ensures.first asks from
-        c.in_err-shown-in-Ok-Some.ensures.printed.0 c.loop-rest.invariant.fed, on_error c.from_residual.result _ c.from_residual.ensures.0)
+    let asks = subst (λ (asked : Option Line). Asks c.first_line.result.0.now asked) c.in-Ok-Some.field-0-is c.in-Ok-Some.ensures.ok in (
+      ran_part device is_starved c.args.trace c.args.server.now c.args.script.now c.loop-rest.server c.play_line.new.server c.loop-rest.shown c.first_line.result.0.now
+          c.in-Ok-Some.asked c.in-Some.text c.first_line.result.1 before here after so_far c.first_line.ensures.first asks from
+          c.in_err-shown-in-Ok-Some.ensures.printed.0 c.loop-rest.invariant.fed,
+      on_error c.from_residual.result _ c.from_residual.ensures.0,
+    )
 
 pub returns : goal.returns
 returns g c =

@@ -33,7 +33,7 @@ loop-piece-init g c =
       pages = keeps_tape g.S.SectorStore.size _ _ refl refl
           (ap (λ (v : Vec Entry). v.items) c.fetch-did.ensures.tape ∙ ap (λ (d : Device). d.tape) kept);
       sure = refl;
-      starved = λ told. c.fetch-did.ensures.starved ∙ (c.reserve.ensures.starved ∙ told);
+      starved = c.fetch-did.ensures.starved ∙ c.reserve.ensures.starved;
       room =
           let P : Vec Entry → Type 0 = λ tape. vec_len tape + (c.in-Some.left + 1) ≤ vec_capacity tape in
           let enough = subst P (sym c.fetch-did.ensures.tape) (c.reserve.ensures.room c.if-not-reserve.false) in
@@ -59,7 +59,7 @@ loop-piece-preserved g c = let moved = c.move_piece.ensures.did c.if-not-move_pi
   accesses = c.move_piece.ensures.accesses ∙ c.loop-piece.invariant.accesses;
   pages = keeps_on g.S.SectorStore.size _ _ _ c.loop-piece.invariant.pages c.move_piece.ensures.pages;
   sure = c.move_piece.ensures.sure ∙ c.loop-piece.invariant.sure;
-  starved = λ told. c.move_piece.ensures.starved (c.loop-piece.invariant.starved told);
+  starved = c.move_piece.ensures.fed c.if-not-move_piece.false ∙ c.loop-piece.invariant.starved;
   room = c.move_piece.ensures.left _ (omega (arith, c.loop-piece.invariant.room, c.loop-piece-test.true));
   going =
       let P : ℕ → Type 0 = λ n. IsGoing (device_at g.S.SectorStore.size g.S.SectorStore.told c.loop-piece.self) c.args.port c.args.slot c.sectors-sectors.result n in
@@ -185,3 +185,22 @@ returns-else-done-clause-pages g c =
     let o : Outside = outside_at g.S.SectorStore.size g.S.SectorStore.told m in
     keeps_on g.S.SectorStore.size _ _ _ c.loop-piece.invariant.pages
     (keeps_done g.S.SectorStore.size o c.args.port c.args.slot c.done.result m _ refl refl (λ e. c.done.ensures.did e o) (λ e. c.done.ensures.refused e o))
+
+pub returns-then-not-move_piece-clause-starved : goal.returns-then-not-move_piece-clause-starved
+returns-then-not-move_piece-clause-starved g c = λ told. c.move_piece.ensures.starved (c.loop-piece.invariant.starved ∙ told)
+
+-- there was room for the move that failed
+pub returns-then-not-move_piece-clause-fed : goal.returns-then-not-move_piece-clause-fed
+returns-then-not-move_piece-clause-fed g c = λ _. c.move_piece.ensures.ample (omega (arith, c.loop-piece.invariant.room)) ∙ c.loop-piece.invariant.starved
+
+pub returns-then-done-clause-starved : goal.returns-then-done-clause-starved
+returns-then-done-clause-starved g c = λ told. c.done.ensures.starved (c.loop-piece.invariant.starved ∙ told)
+
+pub returns-then-done-clause-fed : goal.returns-then-done-clause-fed
+returns-then-done-clause-fed g c = λ _. c.done.ensures.fed c.if-done.true ∙ c.loop-piece.invariant.starved
+
+pub returns-else-done-clause-starved : goal.returns-else-done-clause-starved
+returns-else-done-clause-starved g c = λ told. c.done.ensures.starved (c.loop-piece.invariant.starved ∙ told)
+
+pub returns-else-done-clause-fed : goal.returns-else-done-clause-fed
+returns-else-done-clause-fed g c = λ _. c.done.ensures.ample (omega (arith, c.loop-piece.invariant.room)) ∙ c.loop-piece.invariant.starved

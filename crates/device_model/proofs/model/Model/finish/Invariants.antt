@@ -1,6 +1,6 @@
 use Rattle.std.proofs.Common.{◌≡◌, ◌+◌, ◌-◌, true, false}
 use Rattle.adapter.specs.Asked.{GoesOn}
-use Rattle.device_model.specs.Finishing.{HasRoom, IsGoing, StaysStarved}
+use Rattle.device_model.specs.Finishing.{HasRoom, IsGoing}
 use Rattle.device_model.specs.Modelled.{device_at, is_sure_at}
 use Rattle.device_model.specs.Paged.{KeepsPages}
 use Rattle.device_model.proofs.model.Model.finish.Given as goal
@@ -20,5 +20,5 @@ invariant-loop-piece g l = record {
   accesses : l.self.accesses ≡ l.fn.self.accesses;
   pages : KeepsPages g.S.SectorStore.size l.fn.self l.self;
   sure : is_sure_at g.S.SectorStore.is_sure l.self ≡ is_sure_at g.S.SectorStore.is_sure l.fn.self;
-  starved : StaysStarved l.fn.self.hardware l.self.hardware;
+  starved : l.self.hardware.starved ≡ l.fn.self.hardware.starved;
 }

@@ -141,3 +141,6 @@ returns-clause-pages g c =
     keeps_moved g.S.SectorStore.size _ _ moved.0.transfer (move_of c.args.port c.args.slot (taken_of moved.0) c.exchange.new.bytes) refl c.exchange.ensures.size
     (ap (λ (d : Device). d.tape) moved.2 ∙ ap (λ (d : Device). d.tape ++ entry ∷ []) (c.reserve-room.ensures.same o)) refl
     (λ identify. c.exchange.ensures.page c.if-not-exchange.false (is.transfer_is ∙ identify))
+
+pub returns-then-not-room-clause-ample : goal.returns-then-not-room-clause-ample
+returns-then-not-room-clause-ample g c = λ room. true-false (c.reserve-room.ensures.enough room) c.if-not-room.true

@@ -1,0 +1,96 @@
+#!/usr/bin/env bash
+# Runs the built program where something is short or taken: memory, the stack, room on the output's device, or the image. BLOCKD names the
+# program; without it, it is crates/blockd/out/blockd. scripts/examples.sh calls this.
+set -euo pipefail
+cd "$(dirname "$0")/.."
+source scripts/comparing.sh
+
+# A grant of 256 sectors, and 32 frames for them.
+sed 's/^first = 100$/first = 0/; s/^count = 64$/count = 256/' blockd.toml >wide.toml
+frames=$(seq -s , 40 71)
+
+# So many reads of 256 sectors, one after another.
+reads() {
+    for ((k = 0; k < $1; k++)); do
+        printf 'read 1 0 0 256 %s\ndev finish 0 0\nservice\n' "$frames"
+    done
+}
+
+# What so many reads print.
+read_answers() {
+    for ((k = 1; k <= $1; k++)); do
+        printf 'ok %d\ndid\nreply %d Ok\n' "$k" "$k"
+    done
+}
+
+# Runs a script over the image, and ends with a line that says how it ended.
+ends() {
+    local status=0
+    "$blockd" --config "$1" --image "$2" --script "$3" 2>&1 || status=$?
+    echo "status $status"
+}
+
+cp fresh.img disk.img
+reads 4000 >reads.script
+read_answers 4000 >reads.output
+compare '4,000 reads of 256 sectors in 300 MB' "$(cat reads.output; echo 'status 0')" "$(ulimit -v 300000; ends wide.toml disk.img reads.script)"
+
+# Memory is refused in the midst of a run: the lines before are answered, in whole lines, and none after.
+reads 40000 >many.script
+starved=$(ulimit -v 120000; ends wide.toml disk.img many.script)
+compare 'memory is refused' $'blockd: no memory\nstatus 1' "$(tail -n 2 <<<"$starved")"
+lines=$(($(wc -l <<<"$starved") - 2))
+compare 'some lines were answered' 'yes' "$([[ $lines -gt 1000 && $lines -lt 120000 ]] && echo yes || echo "$lines")"
+compare 'the lines before are answered' "$(read_answers 40000 | head -n "$lines" | sha256sum)" "$(head -n "$lines" <<<"$starved" | sha256sum)"
+
+# A script of many lines is no want of memory.
+printf 'state 0\n%.0s' {1..100000} >states.script
+compare '100,000 lines' "$(printf 'state Ready\n%.0s' {1..100000} | sha256sum; echo 'status 0')" \
+    "$(ends blockd.toml disk.img states.script | { head -n 100000 | sha256sum; cat; })"
+
+# The stack is small.
+for kibibytes in 256 128; do
+    cp fresh.img disk.img
+    compare "a stack of $kibibytes KiB" "$(cat first.output; echo 'status 0')" \
+        "$(ulimit -s $kibibytes; ends blockd.toml disk.img first.script)"
+done
+
+# The output's device is full: the image is what the lines before left, and no later line is played.
+cp fresh.img disk.img
+(
+    printf 'store 1 40 0 c0c0\nwrite 1 0 100 1 40\ndev finish 0 0\nservice\n'
+    printf 'state 0\n%.0s' {1..10000}
+    printf 'store 1 40 0 d1d1\nwrite 1 0 101 1 40\ndev finish 0 0\nservice\n'
+) >writes.script
+status=0
+"$blockd" --config blockd.toml --image disk.img --script writes.script >/dev/full 2>told || status=$?
+compare 'a full device' 'status 1' "$(cat told; echo "status $status")"
+cp fresh.img wanted.img
+{ printf '\xc0\xc0'; head -c 510 /dev/zero; } | dd of=wanted.img bs=512 seek=100 conv=notrunc status=none
+compare 'the image is as the lines before left it' "$(bytes_of wanted.img)" "$(bytes_of disk.img)"
+
+# Another run has the image: it waits for its output to be read.
+cp fresh.img disk.img
+cp fresh.img other.img
+mkfifo answers
+"$blockd" --config blockd.toml --image disk.img --script states.script >answers &
+exec 3<answers
+read -r -u 3 _first
+compare 'an image that a run has' $'blockd: image\nstatus 1' "$(ends blockd.toml disk.img first.script)"
+compare 'another image' "$(cat first.output; echo 'status 0')" "$(ends blockd.toml other.img first.script)"
+cat <&3 >/dev/null
+exec 3<&-
+wait $!
+compare 'and when that run has ended' "$(cat first.output; echo 'status 0')" "$(ends blockd.toml disk.img first.script)"
+
+# A block device is an image, where the system lets one be made.
+cp fresh.img disk.img
+if device=$(losetup --find --show disk.img 2>/dev/null); then
+    given=$(ends blockd.toml "$device" first.script)
+    sync "$device"
+    losetup --detach "$device"
+    compare 'a block device' "$(cat first.output; echo 'status 0')" "$given"
+    compare 'is written' "$(bytes_of other.img)" "$(bytes_of disk.img)"
+fi
+
+tell_comparisons 'limited runs'
