@@ -45,15 +45,11 @@ compare 'the lines before are answered' "$(read_answers 40000 | head -n "$lines"
 
 # A script of many lines is no want of memory.
 printf 'state 0\n%.0s' {1..100000} >states.script
-compare '100,000 lines' "$(printf 'state Ready\n%.0s' {1..100000} | sha256sum; echo 'status 0')" \
-    "$(ends blockd.toml disk.img states.script | { head -n 100000 | sha256sum; cat; })"
+compare '100,000 lines' "$({ printf 'state Ready\n%.0s' {1..100000}; echo 'status 0'; } | sha256sum)" "$(ends blockd.toml disk.img states.script | sha256sum)"
 
 # The stack is small.
-for kibibytes in 256 128; do
-    cp fresh.img disk.img
-    compare "a stack of $kibibytes KiB" "$(cat first.output; echo 'status 0')" \
-        "$(ulimit -s $kibibytes; ends blockd.toml disk.img first.script)"
-done
+cp fresh.img disk.img
+compare 'a stack of 256 KiB' "$(cat first.output; echo 'status 0')" "$(ulimit -s 256; ends blockd.toml disk.img first.script)"
 
 # The output's device is full: the image is what the lines before left, and no later line is played.
 cp fresh.img disk.img
