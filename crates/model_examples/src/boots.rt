@@ -175,26 +175,78 @@ fn page_but(others: &[(usize, u8)]) -> [u8; 512] {
     page
 }
 
-/// Whether it is the move of this page to the driver's scratch frame, frame 9.
-fn is_page(moved: &Move, page: &[u8; 512]) -> bool {
+/// Where the driver's scratch frame of port 0, frame 9, begins.
+const SCRATCH: u32 = 0x9000;
+
+/// Whether it is the move of a page to the scratch frame.
+fn is_of_page(moved: &Move) -> bool {
     moved.port == Port(0)
         && moved.slot == Slot(0)
         && moved.operation == Operation::Identify
         && moved.direction == Direction::ToMemory
         && moved.sector == 0
-        && moved.address == 0x9000
-        && moved.bytes == *page
+        && moved.address == SCRATCH
 }
 
-/// Whether the tape tells of this page, the only one, and of the end of its command; or of no page.
-fn has_page(tape: &[Entry], page: Option<&[(usize, u8)]>) -> bool {
+/// Whether the tape tells of one page and of the end of its command, and this page is what was loaded; or of no page.
+fn has_page(tape: &[Entry], loaded: Option<[u8; 512]>, page: Option<&[(usize, u8)]>) -> bool {
     match (page, tape) {
         (Some(others), [Entry::Move(moved), Entry::Done(done)]) => {
-            is_page(moved, &page_but(others)) && done.operation == Operation::Identify
+            is_of_page(moved)
+                && done.operation == Operation::Identify
+                && loaded == Some(page_but(others))
         }
-        (None, [] | [Entry::Unplug(_)]) => true,
+        (None, [] | [Entry::Unplug(_)]) => loaded.is_none(),
         _ => false,
     }
+}
+
+/// An adapter that notes what is loaded from the scratch frame.
+#[derive(Drop)]
+struct Noting<A> {
+    adapter: A,
+    loaded: Option<[u8; 512]>,
+}
+
+impl<A> Noting<A> {
+    /// An adapter of which nothing is noted yet.
+    fn new(adapter: A) -> Noting<A>
+        ensures { result.adapter ≡ adapter }
+    {
+        Noting {
+            adapter,
+            loaded: None,
+        }
+    }
+}
+
+impl<A: Adapter> Adapter for Noting<A> {
+    ghost device = { λ w. A.device w.adapter };
+
+    fn read(&mut self, r: Reg) -> u32 {
+        self.adapter.read(r)
+    }
+
+    fn write(&mut self, r: Reg, v: u32) {
+        self.adapter.write(r, v);
+    }
+
+    fn load(&mut self, addr: u32, out: &mut [u8]) {
+        self.adapter.load(addr, out);
+        if addr == SCRATCH {
+            let mut bytes = [0; 512];
+            for (to, from) in bytes.iter_mut().zip(out.iter()) {
+                *to = *from;
+            }
+            self.loaded = Some(bytes);
+        }
+    }
+
+    fn store(&mut self, addr: u32, bytes: &[u8]) {
+        self.adapter.store(addr, bytes);
+    }
+
+    ghost tells = { λ w. A.tells w.adapter };
 }
 
 /// Tells lies or the truth, holds or releases. Other steps aren't for it.
@@ -253,8 +305,10 @@ fn is_as_said(alloc: Global, case: &Case) -> Result<bool, Fail>
     tell(&mut model, &told[2]);
     model.queue_step(case.queued[0].0, case.queued[0].1)?;
     model.queue_step(case.queued[1].0, case.queued[1].1)?;
-    let found = taken_over(&mut model, case.shown.0);
-    Ok(found == (case.found, case.shown.1) && has_page(model.tape(), case.page))
+    let mut noting = Noting::new(model);
+    let found = taken_over(&mut noting, case.shown.0);
+    let tape = noting.adapter.tape();
+    Ok(found == (case.found, case.shown.1) && has_page(tape, noting.loaded, case.page))
 }
 
 /// The same of a case that may have any ports.
