@@ -4,8 +4,9 @@
 
 It stands on libraries that were proved (crates/*/out/rlib), as scripts/test.sh has them made. Several edits are tried at
 a time, each in a function of its own, on a copy of their crate. An edit is refused where a function that it changes is
-told as not proved, and not merely because it calls another one that isn't; so an edit waits for those of functions that
-its own may come to call. What isn't refused so is tried alone.
+told as not proved for a reason of its own: a goal that stays open, or an answer that is wrong, and not merely that it
+calls another function that isn't proved. A function's goals rest on the contracts of what it calls, and not on their
+bodies, so edits of callers and callees can share a try. What isn't refused so is tried alone.
 Each try has a function that no edit reaches, which must be proved; so a crate that can't be read, or libraries that
 don't fit, refuse nothing.
 
@@ -36,7 +37,7 @@ import toolchain
 
 PARTS = ("src", "specs", "proofs")
 # As many edits stand in one try at the most: a text that can't be read spoils it for all.
-MOST = 24
+MOST = 40
 # Whether each try is told, with the time that it took: for finding what is dear.
 SHOWS_TRIES = "--tries" in sys.argv
 # Whether what an earlier run found is taken over.
@@ -247,6 +248,8 @@ class Edit:
 
 
 VERDICT = re.compile(r"^fn (\S+): (.*)$", re.M)
+# What is told of a function itself, also where it calls one that isn't proved.
+OPEN = re.compile(r"`(?:search|grind)` did not prove")
 # A proof that names what an edit took away says little of the contract.
 NAMES = re.compile(r"has no field|is not in scope|has no `|was not admitted|depends on")
 
@@ -308,11 +311,9 @@ class Crate:
         return min(left, key=lambda it: (len(it.reaches), len(it.words), it.name)).name if left else None
 
     def batch(self, edits):
-        """Edits of these that can be tried at once: each in functions of its own, of which none may come to call one that another of
-        these edits changes, since nothing is told of a function that calls one which isn't proved; and one function is left to be proved."""
-        waits = {it.name: any(of.reaches & other.functions.keys() for other in edits if other is not it for of in it.functions.values()) for it in edits}
+        """Edits of these that can be tried at once: each in functions of its own, and one function is left to be proved."""
         found, changed = [], set()
-        for it in [it for it in edits if not waits[it.name]] or edits:
+        for it in edits:
             if len(found) < MOST and not changed & it.functions.keys() and self.control([*found, it]):
                 found.append(it)
                 changed |= it.functions.keys()
@@ -344,20 +345,30 @@ class Crate:
     def verdicts(self, said):
         return {name.partition("::")[2]: text for name, text in VERDICT.findall(said)}
 
+    def errors(self, name, said):
+        """What is told of the files of a function's own proof."""
+        place = re.escape(name.replace("::", "/"))
+        return re.findall(rf"^(?:\./)?proofs/{place}/\S+ error: (.*)$", said, re.M)
+
     def is_refused(self, edit, said):
         """Whether one of the edit's own functions isn't proved, for a reason of its own."""
         told = self.verdicts(said)
-        own = [told.get(name, "") for name in edit.functions]
-        return any(it.startswith(("not proved", "no proof")) and "it calls" not in it for it in own)
+        return any(self.is_own(name, told.get(name, ""), said) for name in edit.functions)
+
+    def is_own(self, name, verdict, said):
+        """Whether the verdict on a function says that it isn't proved, for a reason of its own."""
+        if not verdict.startswith(("not proved", "no proof")):
+            return False
+        own = (it for it in self.errors(name, said) if not NAMES.search(it))
+        return "it calls" not in verdict or bool(OPEN.search(verdict)) or any(own)
 
     def is_weak(self, edit, said):
         """Whether all that is told of the edit's functions is that their proofs name what it took away."""
         told = []
         for name in edit.functions:
-            place = re.escape(name.replace("::", "/"))
-            if re.search(rf"^fn {self.name}::{re.escape(name)}: no proof", said, re.M):
+            if self.verdicts(said).get(name, "").startswith("no proof"):
                 return False
-            told += re.findall(rf"^(?:\./)?proofs/{place}/\S+ error: (.*)$", said, re.M)
+            told += self.errors(name, said)
         return bool(told) and all(NAMES.search(it) for it in told)
 
     def try_batch(self, batch):

@@ -37,36 +37,105 @@ const fn unfit(cause: u8) -> Found {
 
 /// What port 0 is found to be where its disk, of so many sectors, tells some lies; with the slots of the adapter, and whether it does native
 /// command queuing.
-fn found(alloc: Global, sectors: u32, lies: [Lie; 3]) -> Result<(u8, bool, Found), Fail> {
+fn found(alloc: Global, sectors: u32, lies: [Lie; 4]) -> Result<(u8, bool, Found), Fail> {
     let mut model = model(alloc, ALL_PORTS, sectors)?;
-    let [one, another, last] = lies;
+    let [one, another, third, last] = lies;
     lie(&mut model, one);
     lie(&mut model, another);
+    lie(&mut model, third);
     lie(&mut model, last);
     let host = take_over(&mut model, &IMAGE_DISK);
     Ok((host.slots, host.queued, host.ports[0]))
 }
 
-// Byte 510 of IDENTIFY DEVICE holds the signature of the checksum, bytes 166 and 167 word 83, bytes 212 and 213 word 106, bytes 200 to
-// 207 the number of sectors, and bytes 20 to 39 the serial number (ACS-3, 7.12.7). The last disk but one tells 128 sectors in the place of 256.
+/// The page has no signature of a checksum, so that its bytes may sum to anything.
+const UNSIGNED: Lie = (510, 0x01);
+
+// Byte 510 of IDENTIFY DEVICE holds the signature of the checksum, bytes 166 and 167 word 83, bytes 212 and 213 word 106, bytes 200 to 207 the
+// number of sectors, and bytes 20 to 39 the serial number (ACS-3, 7.12.7).
 #[test]
 fn a_disk_is_what_its_page_says(rt: HostRuntime) -> Result<(), Fail> {
-    let unsigned = (510, 0x01);
     for (sectors, lies, what) in [
-        (70_000, [NO_LIE, NO_LIE, NO_LIE], ready(70_000)),
-        (70_000, [NO_LIE, NO_LIE, (0, 0x01)], unfit(1)),
-        (70_000, [unsigned, NO_LIE, (167, 0x40)], unfit(2)),
-        (70_000, [unsigned, NO_LIE, (167, 0x04)], unfit(3)),
-        (70_000, [unsigned, NO_LIE, (213, 0x10)], unfit(4)),
-        (70_000, [unsigned, NO_LIE, (167, 0x20)], unfit(5)),
-        (70_000, [unsigned, NO_LIE, (206, 0x01)], unfit(6)),
-        (70_000, [unsigned, NO_LIE, (20, 0x01)], FOREIGN),
-        (70_000, [unsigned, NO_LIE, NO_LIE], ready(70_000)),
-        (256, [unsigned, (200, 0x80), (201, 0x01)], ready(128)),
-        (0, [NO_LIE, NO_LIE, NO_LIE], unfit(6)),
+        (70_000, [NO_LIE; 4], ready(70_000)),
+        (70_000, [(0, 0x01), NO_LIE, NO_LIE, NO_LIE], unfit(1)),
+        (70_000, [UNSIGNED, NO_LIE, NO_LIE, NO_LIE], ready(70_000)),
+        (70_000, [UNSIGNED, (167, 0x40), NO_LIE, NO_LIE], unfit(2)),
+        (70_000, [UNSIGNED, (167, 0x80), NO_LIE, NO_LIE], unfit(2)),
+        (70_000, [UNSIGNED, (167, 0x04), NO_LIE, NO_LIE], unfit(3)),
+        (70_000, [UNSIGNED, (213, 0x10), NO_LIE, NO_LIE], unfit(4)),
+        (
+            70_000,
+            [UNSIGNED, (213, 0x50), NO_LIE, NO_LIE],
+            ready(70_000),
+        ),
+        (70_000, [UNSIGNED, (167, 0x20), NO_LIE, NO_LIE], unfit(5)),
+        (70_000, [UNSIGNED, (206, 0x01), NO_LIE, NO_LIE], unfit(6)),
+        (70_000, [UNSIGNED, (20, 0x01), NO_LIE, NO_LIE], FOREIGN),
     ] {
         let found = found(rt.alloc(), sectors, lies)?;
-        assert_eq!(rt; found, (32, true, what));
+        assert_eq!(rt; found, (32, true, what), "{sectors} sectors, {lies:?}");
+    }
+    Ok(())
+}
+
+#[test]
+fn the_first_fault_of_a_page_is_told(rt: HostRuntime) -> Result<(), Fail> {
+    for (sectors, lies, what) in [
+        (
+            70_000,
+            [UNSIGNED, (206, 0x01), (167, 0x20), NO_LIE],
+            unfit(5),
+        ),
+        (
+            70_000,
+            [UNSIGNED, (206, 0x01), (167, 0x24), NO_LIE],
+            unfit(3),
+        ),
+        (
+            70_000,
+            [UNSIGNED, (206, 0x01), (167, 0x20), (213, 0x10)],
+            unfit(4),
+        ),
+        (
+            70_000,
+            [UNSIGNED, (206, 0x01), (167, 0x64), (213, 0x10)],
+            unfit(2),
+        ),
+        (
+            70_000,
+            [NO_LIE, (206, 0x01), (167, 0x64), (213, 0x10)],
+            unfit(1),
+        ),
+    ] {
+        let found = found(rt.alloc(), sectors, lies)?;
+        assert_eq!(rt; found, (32, true, what), "{sectors} sectors, {lies:?}");
+    }
+    Ok(())
+}
+
+// 128 sectors in the place of 256; then 2^48, and one more; and none.
+#[test]
+fn sectors_are_1_to_2_to_the_48(rt: HostRuntime) -> Result<(), Fail> {
+    for (sectors, lies, what) in [
+        (
+            256,
+            [UNSIGNED, (200, 0x80), (201, 0x01), NO_LIE],
+            ready(128),
+        ),
+        (
+            256,
+            [UNSIGNED, (201, 0x01), (206, 0x01), NO_LIE],
+            ready(1 << 48),
+        ),
+        (
+            256,
+            [UNSIGNED, (201, 0x01), (206, 0x01), (200, 0x01)],
+            unfit(6),
+        ),
+        (0, [NO_LIE; 4], unfit(6)),
+    ] {
+        let found = found(rt.alloc(), sectors, lies)?;
+        assert_eq!(rt; found, (32, true, what), "{sectors} sectors, {lies:?}");
     }
     Ok(())
 }

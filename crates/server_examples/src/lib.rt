@@ -7,6 +7,8 @@ mod boots;
 #[cfg(test)]
 mod outputs;
 #[cfg(test)]
+mod plans;
+#[cfg(test)]
 mod servers;
 #[cfg(test)]
 mod waits;

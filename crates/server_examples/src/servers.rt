@@ -17,7 +17,7 @@ use std::alloc::Global;
 use std::process::Abort;
 use std::test::Fail;
 
-/// Client 1 owns frames 40 to 79, and may do all with sectors 100 to 163.
+/// Client 1 owns frames 40 to 79, and may do all with sectors 100 to 355.
 const CONFIGURATION: &str = "frames = 256
 slots = 1
 ncq = false
@@ -35,7 +35,7 @@ client = 1
 number = 0
 port = 0
 first = 100
-count = 64
+count = 256
 rights = \"rwtf\"
 ";
 
@@ -59,11 +59,11 @@ fn model_of(alloc: Global, config: &Config, sectors: u32) -> Result<Model<MemSto
     Ok(new_model(alloc, config, image, MemStore::new(alloc, 0)?)?)
 }
 
-/// Client 1's request by its grant, with one frame or none.
-fn request(op: Op, first: u64, count: u32, frame: Option<u16>) -> Request {
-    let mut frames = ArrayVec::new();
-    if let Some(frame) = frame {
-        frames.push(Frame(frame));
+/// Client 1's request by its grant, with so many frames from one on.
+fn request(op: Op, first: u64, count: u32, frame: u16, frames: u16) -> Request {
+    let mut list = ArrayVec::new();
+    for next in frame..frame.saturating_add(frames) {
+        let _full = list.try_push(Frame(next)).is_err();
     }
     Request {
         client: ClientId(1),
@@ -71,12 +71,12 @@ fn request(op: Op, first: u64, count: u32, frame: Option<u16>) -> Request {
         op,
         first: Sector(first),
         count,
-        frames,
+        frames: list,
     }
 }
 
-/// The bytes of slot 0's header, FIS and first entry.
-type Slot = ([u8; 16], [u8; 20], [u8; 16]);
+/// The bytes of slot 0's header, of its FIS, and of its first and its 32nd entry.
+type Slot = ([u8; 16], [u8; 20], [u8; 16], [u8; 16]);
 
 /// Bytes from a place of memory on.
 fn piece<const N: usize>(memory: &[u8], place: usize) -> [u8; N] {
@@ -95,7 +95,7 @@ fn check(
     accesses: &[Access],
 ) -> Result<(), Fail> {
     let config = config(rt.alloc())?;
-    let watched = Watched::new(rt.alloc(), model_of(rt.alloc(), &config, 256)?)?;
+    let watched = Watched::new(rt.alloc(), model_of(rt.alloc(), &config, 356)?)?;
     let Ok(server) = Server::new(rt.alloc(), &config, watched) else {
         return Err(Fail::from("no server"));
     };
@@ -109,65 +109,87 @@ fn check(
     let watched = server.close();
     assert_eq!(rt; (accepted, replies), (true, 0));
     let low = watched.low.as_slice();
-    assert_eq!(rt;
-        (piece(low, 0), piece(low, 0x1000), piece(low, 0x1080)),
-        wanted
-    );
+    let (header, fis) = (piece(low, 0), piece(low, 0x1000));
+    let (first, last) = (piece(low, 0x1080), piece(low, 0x1270));
+    assert_eq!(rt; (header, fis, first, last), wanted);
     assert_eq!(rt; watched.accesses.get(before..), Some(accesses));
     Ok(())
 }
 
-// The page comes to the port's scratch frame, frame 9. The boot's IDENTIFY DEVICE ended with a Register FIS, which DHRS of PxIS tells (AHCI
-// 1.3.1, 3.3.5). A service writes back what it read there, and then the port's bit of IS alone (3.1.3), and reads PxSSTS; and then PxCI
-// and PxSACT, where there is a request.
+const NO_ENTRY: [u8; 16] = [0; 16];
+
+// Headers have the number of entries in bytes 2 and 3, and the place of the table, 1000h, from byte 8 on (AHCI 1.3.1, 4.2.2). An entry
+// has the place of a frame, and the number of its bytes less one (4.2.3). The page comes to the port's scratch frame, frame 9.
+const IDENTIFY: Slot = (
+    [5, 0, 1, 0, 0, 0, 0, 0, 0, 0x10, 0, 0, 0, 0, 0, 0],
+    [
+        0x27, 0x80, 0xec, 0, 0, 0, 0, 0, 0, 0, 0, 0, 0, 0, 0, 0, 0, 0, 0, 0,
+    ],
+    [0, 0x90, 0, 0, 0, 0, 0, 0, 0, 0, 0, 0, 0xff, 1, 0, 0],
+    NO_ENTRY,
+);
+
+/// A read of eight sectors from 100 on into frame 40.
+const SHORT_READ: Slot = (
+    [5, 0, 1, 0, 0, 0, 0, 0, 0, 0x10, 0, 0, 0, 0, 0, 0],
+    [
+        0x27, 0x80, 0x25, 0, 0x64, 0, 0, 0x40, 0, 0, 0, 0, 8, 0, 0, 0, 0, 0, 0, 0,
+    ],
+    [0, 0x80, 2, 0, 0, 0, 0, 0, 0, 0, 0, 0, 0xff, 0x0f, 0, 0],
+    NO_ENTRY,
+);
+
+/// A read of 256 sectors from 100 on into frames 45 to 76.
+const LONG_READ: Slot = (
+    [5, 0, 0x20, 0, 0, 0, 0, 0, 0, 0x10, 0, 0, 0, 0, 0, 0],
+    [
+        0x27, 0x80, 0x25, 0, 0x64, 0, 0, 0x40, 0, 0, 0, 0, 0, 1, 0, 0, 0, 0, 0, 0,
+    ],
+    [0, 0xd0, 2, 0, 0, 0, 0, 0, 0, 0, 0, 0, 0xff, 0x0f, 0, 0],
+    [0, 0xc0, 4, 0, 0, 0, 0, 0, 0, 0, 0, 0, 0xff, 0x0f, 0, 0],
+);
+
+/// A write of three sectors from 100 on from frame 41.
+const WRITE: Slot = (
+    [0x45, 0, 1, 0, 0, 0, 0, 0, 0, 0x10, 0, 0, 0, 0, 0, 0],
+    [
+        0x27, 0x80, 0x35, 0, 0x64, 0, 0, 0x40, 0, 0, 0, 0, 3, 0, 0, 0, 0, 0, 0, 0,
+    ],
+    [0, 0x90, 2, 0, 0, 0, 0, 0, 0, 0, 0, 0, 0xff, 0x05, 0, 0],
+    NO_ENTRY,
+);
+
+// The boot's IDENTIFY DEVICE ended with a Register FIS, which DHRS of PxIS tells (AHCI 1.3.1, 3.3.5). A service writes back what it read
+// there, and then the port's bit of IS alone (3.1.3), and reads PxSSTS; and then PxCI and PxSACT, where there is a request.
+const SERVICE: [Access; 6] = [
+    Access::Read(Reg::Px(Port(0), PortReg::Is)),
+    Access::Write(Reg::Px(Port(0), PortReg::Is), 1),
+    Access::Write(Reg::Is, 1),
+    Access::Read(Reg::Px(Port(0), PortReg::Ssts)),
+    Access::Read(Reg::Px(Port(0), PortReg::Ci)),
+    Access::Read(Reg::Px(Port(0), PortReg::Sact)),
+];
+
 #[test]
 fn commands_stand_in_memory(rt: HostRuntime) -> Result<(), Fail> {
-    let identify = (
-        [5, 0, 1, 0, 0, 0, 0, 0, 0, 0x10, 0, 0, 0, 0, 0, 0],
-        [
-            0x27, 0x80, 0xec, 0, 0, 0, 0, 0, 0, 0, 0, 0, 0, 0, 0, 0, 0, 0, 0, 0,
-        ],
-        [0, 0x90, 0, 0, 0, 0, 0, 0, 0, 0, 0, 0, 0xff, 1, 0, 0],
-    );
-    let read = (
-        [5, 0, 1, 0, 0, 0, 0, 0, 0, 0x10, 0, 0, 0, 0, 0, 0],
-        [
-            0x27, 0x80, 0x25, 0, 0x64, 0, 0, 0x40, 0, 0, 0, 0, 8, 0, 0, 0, 0, 0, 0, 0,
-        ],
-        [0, 0x80, 2, 0, 0, 0, 0, 0, 0, 0, 0, 0, 0xff, 0x0f, 0, 0],
-    );
-    let write = (
-        [0x45, 0, 1, 0, 0, 0, 0, 0, 0, 0x10, 0, 0, 0, 0, 0, 0],
-        [
-            0x27, 0x80, 0x35, 0, 0x64, 0, 0, 0x40, 0, 0, 0, 0, 3, 0, 0, 0, 0, 0, 0, 0,
-        ],
-        [0, 0x90, 2, 0, 0, 0, 0, 0, 0, 0, 0, 0, 0xff, 0x05, 0, 0],
-    );
-    let service = [
-        Access::Read(Reg::Px(Port(0), PortReg::Is)),
-        Access::Write(Reg::Px(Port(0), PortReg::Is), 1),
-        Access::Write(Reg::Is, 1),
-        Access::Read(Reg::Px(Port(0), PortReg::Ssts)),
-        Access::Read(Reg::Px(Port(0), PortReg::Ci)),
-        Access::Read(Reg::Px(Port(0), PortReg::Sact)),
-    ];
-    check(&rt, None, identify, &service[..4])?;
-    let eight = request(Op::Read, 100, 8, Some(40));
-    check(&rt, Some(eight), read, &service)?;
-    let three = request(Op::Write, 100, 3, Some(41));
-    check(&rt, Some(three), write, &service)?;
-    Ok(())
+    check(&rt, None, IDENTIFY, &SERVICE[..4])?;
+    let eight = request(Op::Read, 100, 8, 40, 1);
+    check(&rt, Some(eight), SHORT_READ, &SERVICE)?;
+    let most = request(Op::Read, 100, 256, 45, 32);
+    check(&rt, Some(most), LONG_READ, &SERVICE)?;
+    let three = request(Op::Write, 100, 3, 41, 1);
+    check(&rt, Some(three), WRITE, &SERVICE)
 }
 
 #[test]
 fn unspelled_calls_are_answered(rt: HostRuntime) -> Result<(), Fail> {
     let config = config(rt.alloc())?;
-    let model = model_of(rt.alloc(), &config, 256)?;
+    let model = model_of(rt.alloc(), &config, 356)?;
     let Ok(server) = Server::new(rt.alloc(), &config, model) else {
         return Err(Fail::from("no server"));
     };
     let mut server = server;
-    let asked = server.submit(&request(Op::Trim, 100, 8, None));
+    let asked = server.submit(&request(Op::Trim, 100, 8, 0, 0));
     let past_all = server.state(Port(4));
     let at_end = server.client_store(ClientId(1), Frame(40), 4096, &[]);
     let past_end = server.client_store(ClientId(1), Frame(40), 4097, &[]);

@@ -58,8 +58,8 @@ pub enum Access {
     Store,
 }
 
-/// The end of what a port's slot 0 needs: its header at 0, its FIS at 1000h and its first entry at 1080h.
-pub const LOW: usize = 0x1090;
+/// The end of what a port's slot 0 needs: its header at 0, its FIS at 1000h and its 32 entries from 1080h on.
+pub const LOW: usize = 0x1280;
 
 /// An adapter that notes its calls, and what is stored in the first bytes of memory.
 #[derive(Drop)]

@@ -46,6 +46,18 @@ fn row(client: u8, first: u64, count: u64, all: bool) -> GrantRow {
     }
 }
 
+/// Port 0 alone, as it is told.
+fn port(rt: &impl Abort, state: PortState, sectors: u64, trims: bool) -> ArrayVec<PortShown, 4> {
+    let shown = PortShown {
+        state,
+        sectors,
+        trims,
+    };
+    let mut ports = ArrayVec::new();
+    assert!(rt; ports.try_push(shown).is_ok());
+    ports
+}
+
 /// Client 1 has frames 40 to 79 and may do all to sectors 100 to 163; client 2 has frames 80 to 119 and may read 140 to 199.
 /// Port 0 is ready, with a disk of 70,000 sectors.
 fn tables(rt: &impl Abort) -> Tables {
@@ -65,18 +77,11 @@ fn tables(rt: &impl Abort) -> Tables {
         assert!(rt; owners.try_push(owner).is_ok());
         assert!(rt; lent.try_push(None).is_ok());
     }
-    let mut ports = ArrayVec::new();
-    let shown = PortShown {
-        state: PortState::Ready,
-        sectors: 70_000,
-        trims: true,
-    };
-    assert!(rt; ports.try_push(shown).is_ok());
     Tables {
         rows,
         owners,
         lent,
-        ports,
+        ports: port(rt, PortState::Ready, 70_000, true),
         unanswered: ArrayVec::new(),
         last: 0,
     }
@@ -107,17 +112,6 @@ enum Setting {
     Granted(u64),
 }
 
-/// Port 0 alone, as it is told.
-fn show(rt: &impl Abort, tables: &mut Tables, state: PortState, sectors: u64, trims: bool) {
-    let shown = PortShown {
-        state,
-        sectors,
-        trims,
-    };
-    tables.ports = ArrayVec::new();
-    assert!(rt; tables.ports.try_push(shown).is_ok());
-}
-
 fn set(rt: &impl Abort, setting: Setting) -> Tables {
     let mut tables = tables(rt);
     match setting {
@@ -129,12 +123,12 @@ fn set(rt: &impl Abort, setting: Setting) -> Tables {
             }
         }
         Setting::Last(id) => tables.last = id,
-        Setting::Shown(state, sectors, trims) => show(rt, &mut tables, state, sectors, trims),
+        Setting::Shown(state, sectors, trims) => tables.ports = port(rt, state, sectors, trims),
         Setting::NoPort => tables.ports = ArrayVec::new(),
         Setting::Granted(sectors) => {
             tables.rows = ArrayVec::new();
             assert!(rt; tables.rows.try_push(row(1, 0, sectors, true)).is_ok());
-            show(rt, &mut tables, PortState::Ready, sectors, true);
+            tables.ports = port(rt, PortState::Ready, sectors, true);
         }
     }
     tables

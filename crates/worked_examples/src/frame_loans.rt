@@ -18,49 +18,48 @@ fn a_frame_is_lent_until_its_loan_is_given_back(rt: HostRuntime) -> Result<(), F
     match table.check(ONE, &frames) {
         Ok(()) => {
             let loan = table.lend(ONE, &frames, RequestId(7));
-            let request = loan.request();
-            let first = loan.frames().first().copied();
-            let lent = table.check(ONE, &[Frame(45)]);
-            let to = table.lent_to(Frame(46));
+            let told = (loan.request(), loan.frames().first().copied());
+            let lent = (table.check(ONE, &[Frame(45)]), table.lent_to(Frame(46)));
             let free = table.check(ONE, &[Frame(44)]);
             table.give_back(loan);
-            assert_eq!(rt; request, RequestId(7));
-            assert_eq!(rt; first, Some(Frame(46)));
-            assert_eq!(rt; lent, Err(FrameFault::FrameLent(0)));
-            assert_eq!(rt; to, Some(RequestId(7)));
-            assert_eq!(rt; free, Ok(()));
-            assert_eq!(rt; table.check(ONE, &frames), Ok(()));
+            let again = table.check(ONE, &frames);
+            assert_eq!(rt; told, (RequestId(7), Some(Frame(46))));
+            assert_eq!(rt; lent, (Err(FrameFault::FrameLent(0)), Some(RequestId(7))));
+            assert_eq!(rt; (free, again), (Ok(()), Ok(())));
             Ok(())
         }
         Err(_) => Err(Fail::from("refused")),
     }
 }
 
+/// A client, the frames that it names, and the first fault of them.
+const NAMED: &[(ClientId, &[Frame], Result<(), FrameFault>)] = &[
+    (ONE, &[Frame(40), Frame(79)], Ok(())),
+    (TWO, &[Frame(80)], Ok(())),
+    (
+        TWO,
+        &[Frame(119), Frame(120)],
+        Err(FrameFault::FrameForeign(1)),
+    ),
+    (ONE, &[Frame(41), Frame(41)], Err(FrameFault::FrameTwice(1))),
+    (ONE, &[Frame(80)], Err(FrameFault::FrameForeign(0))),
+    (
+        ONE,
+        &[Frame(41), Frame(41), Frame(80)],
+        Err(FrameFault::FrameForeign(2)),
+    ),
+    (ONE, &[Frame(2000)], Err(FrameFault::FrameForeign(0))),
+    (ClientId(0), &[Frame(40)], Err(FrameFault::FrameForeign(0))),
+    (ClientId(0), &[], Ok(())),
+];
+
 #[test]
 fn the_first_fault_is_told(rt: HostRuntime) {
     let table = FrameTable::new(&[(ONE, Frame(40), 40), (TWO, Frame(80), 40)]);
-    assert_eq!(rt; table.owner(Frame(79)), Some(ONE));
-    assert_eq!(rt; table.owner(Frame(80)), Some(TWO));
-    assert_eq!(rt; table.owner(Frame(120)), None);
-    assert_eq!(rt;
-        table.check(ONE, &[Frame(41), Frame(41)]),
-        Err(FrameFault::FrameTwice(1))
-    );
-    assert_eq!(rt;
-        table.check(ONE, &[Frame(80)]),
-        Err(FrameFault::FrameForeign(0))
-    );
-    assert_eq!(rt;
-        table.check(ONE, &[Frame(41), Frame(41), Frame(80)]),
-        Err(FrameFault::FrameForeign(2))
-    );
-    assert_eq!(rt;
-        table.check(ONE, &[Frame(2000)]),
-        Err(FrameFault::FrameForeign(0))
-    );
-    assert_eq!(rt;
-        table.check(ClientId(0), &[Frame(40)]),
-        Err(FrameFault::FrameForeign(0))
-    );
-    assert_eq!(rt; table.check(ClientId(0), &[]), Ok(()));
+    for (client, frames, want) in NAMED {
+        assert_eq!(rt; table.check(*client, frames), *want, "{frames:?}");
+    }
+    for (frame, owner) in [(79, Some(ONE)), (80, Some(TWO)), (120, None)] {
+        assert_eq!(rt; table.owner(Frame(frame)), owner);
+    }
 }

@@ -13,10 +13,6 @@ mod frame_information_structures;
 #[cfg(test)]
 mod frame_loans;
 #[cfg(test)]
-mod identity_pages;
-#[cfg(test)]
-mod plans;
-#[cfg(test)]
 mod ranges;
 #[cfg(test)]
 mod registers;

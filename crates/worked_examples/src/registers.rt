@@ -5,39 +5,54 @@ use hba_regs::{
     SataStatus, TaskFile, is_set, with_bit, without_bit,
 };
 
-// Values of registers, with what the names of AHCI's bits and fields say of them.
 #[test]
-fn values_by_name(rt: HostRuntime) {
+fn bits_of_the_adapter(rt: HostRuntime) {
     let control = GlobalControl(0x8000_0001);
-    assert!(rt; control.is_resetting() && control.is_enabled());
-
+    assert_eq!(rt;
+        (control.is_resetting(), control.is_enabled()),
+        (true, true)
+    );
     let capabilities = Capabilities(0x4000_1f03);
-    assert!(rt; capabilities.has_ncq());
-    assert_eq!(rt;
-        (capabilities.last_port(), capabilities.last_slot()),
-        (3, 31)
+    let found = (
+        capabilities.has_ncq(),
+        capabilities.last_port(),
+        capabilities.last_slot(),
     );
-
-    let command = PortCommand(0x0000_c011);
-    assert!(rt; command.is_started() && command.receives());
-    assert!(rt; command.receive_running() && command.list_running());
-    assert_eq!(rt; command.current_slot(), 0);
-    assert_eq!(rt;
-        command.without_start().without_receive(),
-        PortCommand(0x0000_c000)
-    );
-    assert_eq!(rt;
-        PortCommand(0).with_receive().with_start(),
-        PortCommand(0x11)
-    );
-
-    let task_file = TaskFile(0x4041);
-    assert!(rt; task_file.has_error() && !task_file.is_busy() && !task_file.has_data_request());
-    assert_eq!(rt; (task_file.status(), task_file.error()), (0x41, 0x40));
-
-    assert_eq!(rt; SataStatus(0x123).detection(), SataStatus::DEVICE_WITH_LINK);
-    assert_eq!(rt; SataControl(0x301).detection(), SataControl::SEND_COMRESET);
+    assert_eq!(rt; found, (true, 3, 31));
     assert_eq!(rt; Reg::Px(Port(3), PortReg::Ci).offset(), 0x2b8);
+}
+
+#[test]
+fn bits_of_an_engine(rt: HostRuntime) {
+    let command = PortCommand(0x0000_c011);
+    let set = (command.is_started(), command.receives());
+    let running = (command.receive_running(), command.list_running());
+    assert_eq!(rt;
+        (set, running, command.current_slot()),
+        ((true, true), (true, true), 0)
+    );
+    let stopped = command.without_start().without_receive();
+    let started = PortCommand(0).with_receive().with_start();
+    assert_eq!(rt;
+        (stopped, started),
+        (PortCommand(0x0000_c000), PortCommand(0x11))
+    );
+}
+
+#[test]
+fn bits_of_a_link(rt: HostRuntime) {
+    let found = (
+        SataStatus(0x123).detection(),
+        SataControl(0x301).detection(),
+    );
+    let want = (SataStatus::DEVICE_WITH_LINK, SataControl::SEND_COMRESET);
+    assert_eq!(rt; found, want);
+    let errors = SataError::X | SataError::N;
+    assert_eq!(rt; errors, SataError(0x0401_0000));
+    assert_eq!(rt;
+        (errors.has_exchanged(), errors.has_phy_ready_change()),
+        (true, true)
+    );
 }
 
 // The causes that a driver of queued commands asks for.
@@ -57,10 +72,6 @@ fn interrupt_causes(rt: HostRuntime) {
     assert!(rt;
         causes.has_interface_fatal() && causes.has_phy_ready_change() && causes.has_port_change()
     );
-
-    let errors = SataError::X | SataError::N;
-    assert_eq!(rt; errors, SataError(0x0401_0000));
-    assert!(rt; errors.has_exchanged() && errors.has_phy_ready_change());
 }
 
 #[test]
@@ -70,20 +81,23 @@ fn one_bit(rt: HostRuntime) {
     assert_eq!(rt; without_bit(0x11, 4), 1);
 }
 
-// Status bytes as disks show them, with BSY and DRQ: after COMRESET, with nothing to do, at work, ready to transfer, and after
-// an error.
+/// PxTFD as disks show it, with BSY, DRQ and ERR, status and error: after COMRESET, with nothing to do, at work, ready to transfer, and after
+/// an error.
+const TASK_FILES: &[(TaskFile, [bool; 3], u8, u8)] = &[
+    (TaskFile(0x7f), [false, true, true], 0x7f, 0),
+    (TaskFile(0x50), [false, false, false], 0x50, 0),
+    (TaskFile(0xd0), [true, false, false], 0xd0, 0),
+    (TaskFile(0x58), [false, true, false], 0x58, 0),
+    (TaskFile(0x4041), [false, false, true], 0x41, 0x40),
+];
+
 #[test]
 fn status_bytes(rt: HostRuntime) {
-    for (task_file, busy, data_request) in [
-        (TaskFile(0x7f), false, true),
-        (TaskFile(0x50), false, false),
-        (TaskFile(0xd0), true, false),
-        (TaskFile(0x58), false, true),
-        (TaskFile(0x4041), false, false),
-    ] {
+    for (shown, bits, status, error) in TASK_FILES {
+        let found = [shown.is_busy(), shown.has_data_request(), shown.has_error()];
         assert_eq!(rt;
-            (task_file.is_busy(), task_file.has_data_request()),
-            (busy, data_request)
+            (found, shown.status(), shown.error()),
+            (*bits, *status, *error)
         );
     }
 }

@@ -2,8 +2,9 @@
 use adapter::{Clear, DeviceStep, Direction, DiskNumber, DiskPage, Move, Operation};
 use arrayvec::ArrayVec;
 use ata_types::{ClientId, Outcome, Port, PortState, Refusal, Reply, RequestId, Slot};
-use script::{Answer, Line, ScriptFault, read_line};
+use script::{Answer, BadLine, Line, Misspelled, read_line};
 use std::alloc::AllocError;
+use std::snapshot::Snapshot;
 
 fn step_of(text: &[u8]) -> Option<DeviceStep> {
     match read_line(text) {
@@ -12,118 +13,148 @@ fn step_of(text: &[u8]) -> Option<DeviceStep> {
     }
 }
 
-// No server shows which values a lie has. The last three are no lines; a script has the first two beside its lines.
+/// Texts, and the steps that they are read as. No server shows which values a lie has. The last three are no lines; a script has the first
+/// two beside its lines.
+const STEPS: &[(&str, Option<DeviceStep>)] = &[
+    ("dev fetch 3 31", Some(DeviceStep::Fetch(Port(3), Slot(31)))),
+    ("dev move 3 31", Some(DeviceStep::Move(Port(3), Slot(31)))),
+    ("dev done 3 31", Some(DeviceStep::Done(Port(3), Slot(31)))),
+    (
+        "dev finish 3 31",
+        Some(DeviceStep::Finish(Port(3), Slot(31))),
+    ),
+    ("dev unplug 3", Some(DeviceStep::Unplug(Port(3)))),
+    (
+        "dev plug 3 1",
+        Some(DeviceStep::Plug(Port(3), DiskNumber(1))),
+    ),
+    ("dev hold 3", Some(DeviceStep::Hold(Port(3)))),
+    ("dev release 3", Some(DeviceStep::Release(Port(3)))),
+    ("dev truth 3", Some(DeviceStep::Truth(Port(3)))),
+    (
+        "dev lie 3 id 511 f0",
+        Some(DeviceStep::Lie(Port(3), DiskPage::Identity, 511, 0xf0)),
+    ),
+    ("", None),
+    ("# dev hold 3", None),
+    ("dev hold 3\n", None),
+];
+
 #[test]
 fn steps_are_read(rt: HostRuntime) {
-    let (port, slot) = (Port(3), Slot(31));
-    for (text, want) in [
-        (&b"dev fetch 3 31"[..], Some(DeviceStep::Fetch(port, slot))),
-        (b"dev move 3 31", Some(DeviceStep::Move(port, slot))),
-        (b"dev done 3 31", Some(DeviceStep::Done(port, slot))),
-        (b"dev finish 3 31", Some(DeviceStep::Finish(port, slot))),
-        (b"dev unplug 3", Some(DeviceStep::Unplug(port))),
-        (b"dev plug 3 1", Some(DeviceStep::Plug(port, DiskNumber(1)))),
-        (b"dev hold 3", Some(DeviceStep::Hold(port))),
-        (b"dev release 3", Some(DeviceStep::Release(port))),
-        (b"dev truth 3", Some(DeviceStep::Truth(port))),
-        (
-            b"dev lie 3 id 511 f0",
-            Some(DeviceStep::Lie(port, DiskPage::Identity, 511, 0xf0)),
-        ),
-        (b"", None),
-        (b"# dev hold 3", None),
-        (b"dev hold 3\n", None),
-    ] {
-        assert_eq!(rt; step_of(text), want);
+    for (text, want) in STEPS {
+        assert_eq!(rt; step_of(text.as_bytes()), *want);
     }
 }
 
-const fn reply(id: u64, outcome: Outcome) -> Answer<'static> {
-    Answer::Replied(Reply {
-        id: RequestId(id),
-        client: ClientId(1),
-        outcome,
-    })
-}
+/// The outcome of a request with this id, as it is printed.
+const OUTCOMES: &[(u64, Outcome, &str)] = &[
+    (
+        7,
+        Outcome::DeviceError {
+            status: 0x41,
+            error: 0x04,
+        },
+        "reply 7 DeviceError 41 04",
+    ),
+    (7, Outcome::Aborted, "reply 7 Aborted"),
+    (7, Outcome::Unplugged, "reply 7 Unplugged"),
+    (
+        u64::MAX,
+        Outcome::PortDead,
+        "reply 18446744073709551615 PortDead",
+    ),
+];
 
-const ERROR: Outcome = Outcome::DeviceError {
-    status: 0x41,
-    error: 0x04,
-};
+/// Refusals and states, as they are printed.
+const ANSWERS: &[(Answer, &str)] = &[
+    (
+        Answer::Refused(Refusal::PortNotReady(PortState::Dead)),
+        "refused 9 PortNotReady Dead",
+    ),
+    (
+        Answer::Refused(Refusal::TrimUnsupported),
+        "refused 11 TrimUnsupported",
+    ),
+    (Answer::Refused(Refusal::IdsSpent), "refused 13 IdsSpent"),
+    (Answer::State(PortState::Unfit(0)), "state Unfit 0"),
+    (Answer::State(PortState::Unfit(255)), "state Unfit 255"),
+    (Answer::State(PortState::Dead), "state Dead"),
+    (
+        Answer::Cleared(Clear {
+            port: Port(1),
+            slot: Slot(2),
+            first: 300,
+            count: 4,
+        }),
+        "clear 1 2 300 4",
+    ),
+];
 
-const CLEARED: Clear = Clear {
-    port: Port(1),
-    slot: Slot(2),
-    first: 300,
-    count: 4,
-};
+/// A move's operation, sector and address, and how it is printed.
+const MOVES: &[(Operation, u64, u32, &str)] = &[
+    (Operation::ReadQueued, 1, 1, "move 1 31 read 1 00000001"),
+    (
+        Operation::Write,
+        1,
+        0xffff_fe00,
+        "move 1 31 write 1 fffffe00",
+    ),
+    (
+        Operation::WriteQueued,
+        u64::MAX,
+        0x0abc_de00,
+        "move 1 31 write 18446744073709551615 0abcde00",
+    ),
+    (Operation::Flush, 0, 0, "move 1 31 flush 0 00000000"),
+    (Operation::Trim, 0, 512, "move 1 31 block 0 00000200"),
+    (Operation::ReadLog, 0, 512, "move 1 31 log 0 00000200"),
+    (Operation::Identify, 0, 0, "move 1 31 identify 0 00000000"),
+];
 
 #[test]
 fn untold_answers_are_printed(rt: HostRuntime) -> Result<(), AllocError> {
-    let untold = [
-        (
-            Answer::Refused(Refusal::PortNotReady(PortState::Dead)),
-            "refused 9 PortNotReady Dead",
-        ),
-        (
-            Answer::Refused(Refusal::TrimUnsupported),
-            "refused 11 TrimUnsupported",
-        ),
-        (Answer::Refused(Refusal::IdsSpent), "refused 13 IdsSpent"),
-        (Answer::State(PortState::Unfit(0)), "state Unfit 0"),
-        (Answer::State(PortState::Unfit(255)), "state Unfit 255"),
-        (Answer::State(PortState::Dead), "state Dead"),
-        (reply(7, ERROR), "reply 7 DeviceError 41 04"),
-        (reply(7, Outcome::Aborted), "reply 7 Aborted"),
-        (reply(7, Outcome::Unplugged), "reply 7 Unplugged"),
-        (
-            reply(u64::MAX, Outcome::PortDead),
-            "reply 18446744073709551615 PortDead",
-        ),
-        (Answer::Cleared(CLEARED), "clear 1 2 300 4"),
-    ];
-    for (answer, want) in &untold {
-        let text = String::format(rt.alloc(), answer)?;
-        assert_eq!(rt; text.as_str(), *want);
+    for (answer, want) in ANSWERS {
+        assert_eq!(rt; String::format(rt.alloc(), answer)?.as_str(), *want);
     }
-    for (operation, sector, address, want) in [
-        (Operation::ReadQueued, 1, 1, "move 1 31 read 1 00000001"),
-        (
-            Operation::Write,
-            1,
-            0xffff_fe00,
-            "move 1 31 write 1 fffffe00",
-        ),
-        (
-            Operation::WriteQueued,
-            u64::MAX,
-            0x0abc_de00,
-            "move 1 31 write 18446744073709551615 0abcde00",
-        ),
-        (Operation::Flush, 0, 0, "move 1 31 flush 0 00000000"),
-        (Operation::Trim, 0, 512, "move 1 31 block 0 00000200"),
-        (Operation::ReadLog, 0, 512, "move 1 31 log 0 00000200"),
-        (Operation::Identify, 0, 0, "move 1 31 identify 0 00000000"),
-    ] {
+    for (id, outcome, want) in OUTCOMES {
+        let reply = Reply {
+            id: RequestId(*id),
+            client: ClientId(1),
+            outcome: *outcome,
+        };
+        assert_eq!(rt;
+            String::format(rt.alloc(), &Answer::Replied(reply))?.as_str(),
+            *want
+        );
+    }
+    Ok(())
+}
+
+#[test]
+fn moves_are_printed(rt: HostRuntime) -> Result<(), AllocError> {
+    for (operation, sector, address, want) in MOVES {
         let moved = Move {
             port: Port(1),
             slot: Slot(31),
-            operation,
-            sector,
-            address,
+            operation: *operation,
+            sector: *sector,
+            address: *address,
             direction: Direction::ToMemory,
-            bytes: [0; 512],
+            bytes: Snapshot::of(&[0; 512]),
         };
-        let text = String::format(rt.alloc(), &Answer::Moved(&moved))?;
-        assert_eq!(rt; text.as_str(), want);
+        assert_eq!(rt;
+            String::format(rt.alloc(), &Answer::Moved(&moved))?.as_str(),
+            *want
+        );
     }
-    for (fault, want) in [
-        (ScriptFault::BadLine(2), "line 2: bad"),
-        (ScriptFault::NoMemory, "no memory"),
-    ] {
-        let text = String::format(rt.alloc(), &fault)?;
-        assert_eq!(rt; text.as_str(), want);
-    }
+    Ok(())
+}
+
+#[test]
+fn faults_are_printed(rt: HostRuntime) -> Result<(), AllocError> {
+    assert_eq!(rt; String::format(rt.alloc(), &BadLine(2))?.as_str(), "line 2: bad");
+    assert_eq!(rt; String::format(rt.alloc(), &Misspelled)?.as_str(), "bad");
     Ok(())
 }
 

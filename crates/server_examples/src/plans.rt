@@ -1,7 +1,6 @@
 // What a configuration asks of a server, and which values break its rules. Texts of configurations stand in the cases of the program.
 use ata_types::{ClientId, Frame, GrantRow, Port, Rights, Sector};
 use configuration::{ClientConfig, Config, GrantConfig, Kind, PortConfig};
-use dma_frames::FrameTable;
 use identify::Wanted;
 use plan::Plan;
 use std::alloc::Global;
@@ -47,8 +46,6 @@ fn grant(alloc: Global, number: u64, rights: &str) -> Result<GrantConfig, Fail> 
     })
 }
 
-const ALL: [bool; 4] = [true; 4];
-
 /// Client 1's grant of sectors of port 0, with the rights to read, write, trim and flush.
 const fn row(number: u8, first: u64, count: u64, rights: [bool; 4]) -> GrantRow {
     let [read, write, trim, flush] = rights;
@@ -75,71 +72,51 @@ const fn client(id: u64, first_frame: u64) -> ClientConfig {
     }
 }
 
-// Beside what the plan tells: the values that no script shows.
-#[test]
-fn the_example_is_planned(rt: HostRuntime) -> Result<(), Fail> {
-    let config = example(rt.alloc())?;
-    assert_eq!(rt; (config.slots, config.ncq, config.depth), (32, true, 32));
-    assert_eq!(rt; config.trim.as_str(), "full");
-    let plan = Plan::of(&config).ok().ok_or("refused")?;
-    assert_eq!(rt; plan.frames(), 256);
-    assert_eq!(rt; plan.owners(), &[(ClientId(1), Frame(40), 40)][..]);
-    let table = FrameTable::new(plan.owners());
-    assert_eq!(rt;
-        (table.owner(Frame(79)), table.owner(Frame(80))),
-        (Some(ClientId(1)), None)
-    );
-    assert_eq!(rt; plan.grants(), &[row(0, 100, 64, ALL)][..]);
-    Ok(())
-}
+const OWNERS: &[(ClientId, Frame, u16)] = &[
+    (ClientId(1), Frame(40), 40),
+    (ClientId(8), Frame(255), 1),
+];
 
-#[test]
-fn ports_ask_for_disks(rt: HostRuntime) -> Result<(), Fail> {
-    let mut config = example(rt.alloc())?;
-    config.port.push(PortConfig {
-        number: 3,
-        serial: None,
-    })?;
-    config.port.push(PortConfig {
-        number: 1,
-        serial: Some(String::from_str(rt.alloc(), "TWENTY CHARACTERS 20")?),
-    })?;
-    let plan = Plan::of(&config).ok().ok_or("refused")?;
-    assert_eq!(rt;
-        *plan.wanted(),
-        [
-            Wanted::Serial(*b"IMAGEDISK           "),
-            Wanted::Serial(*b"TWENTY CHARACTERS 20"),
-            Wanted::Nothing,
-            Wanted::Any,
-        ]
-    );
-    Ok(())
-}
+const WANTED: [Wanted; 4] = [
+    Wanted::Serial(*b"IMAGEDISK           "),
+    Wanted::Serial(*b"TWENTY CHARACTERS 20"),
+    Wanted::Nothing,
+    Wanted::Any,
+];
 
-#[test]
-fn letters_name_rights(rt: HostRuntime) -> Result<(), Fail> {
-    let mut config = example(rt.alloc())?;
+/// The example with two ports, a client and a grant for each right more.
+fn enlarged(alloc: Global) -> Result<Config, Fail> {
+    let mut config = example(alloc)?;
+    for (number, serial) in [(3, None), (1, Some("TWENTY CHARACTERS 20"))] {
+        let serial = match serial {
+            Some(text) => Some(String::from_str(alloc, text)?),
+            None => None,
+        };
+        config.port.push(PortConfig { number, serial })?;
+    }
     config.client.push(client(8, 255))?;
     for (number, letters) in [(1, "r"), (2, "w"), (3, "t"), (63, "f")] {
-        config.grant.push(grant(rt.alloc(), number, letters)?)?;
+        config.grant.push(grant(alloc, number, letters)?)?;
     }
+    Ok(config)
+}
+
+// Slots, queuing, depth and trims are what no script shows.
+#[test]
+fn a_configuration_is_planned(rt: HostRuntime) -> Result<(), Fail> {
+    let config = enlarged(rt.alloc())?;
+    let of_disk = (config.slots, config.ncq, config.depth);
+    assert_eq!(rt; (of_disk, config.trim.as_str()), ((32, true, 32), "full"));
     let plan = Plan::of(&config).ok().ok_or("refused")?;
-    assert_eq!(rt;
-        plan.owners().get(1..),
-        Some(&[(ClientId(8), Frame(255), 1)][..])
-    );
-    assert_eq!(rt;
-        plan.grants().get(1..),
-        Some(
-            &[
-                row(1, 7, 9, [true, false, false, false]),
-                row(2, 7, 9, [false, true, false, false]),
-                row(3, 7, 9, [false, false, true, false]),
-                row(63, 7, 9, [false, false, false, true]),
-            ][..]
-        )
-    );
+    let grants = [
+        row(0, 100, 64, [true; 4]),
+        row(1, 7, 9, [true, false, false, false]),
+        row(2, 7, 9, [false, true, false, false]),
+        row(3, 7, 9, [false, false, true, false]),
+        row(63, 7, 9, [false, false, false, true]),
+    ];
+    assert_eq!(rt; (plan.frames(), *plan.wanted()), (256, WANTED));
+    assert_eq!(rt; (plan.owners(), plan.grants()), (OWNERS, &grants[..]));
     Ok(())
 }
 
