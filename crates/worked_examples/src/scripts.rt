@@ -66,29 +66,21 @@ const OUTCOMES: &[(u64, Outcome, &str)] = &[
     ),
 ];
 
-/// Refusals and states, as they are printed.
-const ANSWERS: &[(Answer, &str)] = &[
+/// Refusals, as they are printed.
+const REFUSALS: &[(Refusal, &str)] = &[
     (
-        Answer::Refused(Refusal::PortNotReady(PortState::Dead)),
+        Refusal::PortNotReady(PortState::Dead),
         "refused 9 PortNotReady Dead",
     ),
-    (
-        Answer::Refused(Refusal::TrimUnsupported),
-        "refused 11 TrimUnsupported",
-    ),
-    (Answer::Refused(Refusal::IdsSpent), "refused 13 IdsSpent"),
-    (Answer::State(PortState::Unfit(0)), "state Unfit 0"),
-    (Answer::State(PortState::Unfit(255)), "state Unfit 255"),
-    (Answer::State(PortState::Dead), "state Dead"),
-    (
-        Answer::Cleared(Clear {
-            port: Port(1),
-            slot: Slot(2),
-            first: 300,
-            count: 4,
-        }),
-        "clear 1 2 300 4",
-    ),
+    (Refusal::TrimUnsupported, "refused 11 TrimUnsupported"),
+    (Refusal::IdsSpent, "refused 13 IdsSpent"),
+];
+
+/// States, as they are printed.
+const STATES: &[(PortState, &str)] = &[
+    (PortState::Unfit(0), "state Unfit 0"),
+    (PortState::Unfit(255), "state Unfit 255"),
+    (PortState::Dead, "state Dead"),
 ];
 
 /// A move's operation, sector and address, and how it is printed.
@@ -114,9 +106,28 @@ const MOVES: &[(Operation, u64, u32, &str)] = &[
 
 #[test]
 fn untold_answers_are_printed(rt: HostRuntime) -> Result<(), AllocError> {
-    for (answer, want) in ANSWERS {
-        assert_eq!(rt; String::format(rt.alloc(), answer)?.as_str(), *want);
+    for (refusal, want) in REFUSALS {
+        assert_eq!(rt;
+            String::format(rt.alloc(), &Answer::Refused(*refusal))?.as_str(),
+            *want
+        );
     }
+    for (state, want) in STATES {
+        assert_eq!(rt;
+            String::format(rt.alloc(), &Answer::State(*state))?.as_str(),
+            *want
+        );
+    }
+    let cleared = Clear {
+        port: Port(1),
+        slot: Slot(2),
+        first: 300,
+        count: 4,
+    };
+    assert_eq!(rt;
+        String::format(rt.alloc(), &Answer::Cleared(cleared))?.as_str(),
+        "clear 1 2 300 4"
+    );
     for (id, outcome, want) in OUTCOMES {
         let reply = Reply {
             id: RequestId(*id),
@@ -153,7 +164,10 @@ fn moves_are_printed(rt: HostRuntime) -> Result<(), AllocError> {
 
 #[test]
 fn faults_are_printed(rt: HostRuntime) -> Result<(), AllocError> {
-    assert_eq!(rt; String::format(rt.alloc(), &BadLine(2))?.as_str(), "line 2: bad");
+    assert_eq!(rt;
+        String::format(rt.alloc(), &BadLine(2))?.as_str(),
+        "line 2: bad"
+    );
     assert_eq!(rt; String::format(rt.alloc(), &Misspelled)?.as_str(), "bad");
     Ok(())
 }
