@@ -19,7 +19,7 @@ use Rattle.adapter.specs.Idle.{IsIdle, IsIdlePort, IsSane}
 use Rattle.adapter.specs.Memory.{changed}
 use Rattle.adapter.specs.Rules.{IsProgrammed, MayCommand, MayIssue}
 use Rattle.adapter.specs.Says.{Says}
-use Rattle.adapter_runs.specs.Runs.{Event, IsReached, IsSafe, MayAllCome, run, after_event}
+use Rattle.adapter_runs.specs.Runs.{Event, IsAsReset, IsReached, IsSafe, MayAllCome, run, after_event}
 use Rattle.adapter_runs.proofs.Scene.{memory, memory_bytes}
 use Rattle.adapter_runs.proofs.Sets.{Range, is_in, covers, spares, spares_all, covered, spared, avoided, both, true-false}
 
@@ -74,6 +74,8 @@ pub reached_more : {d : Device} → IsReached d → (events : List Event) → Ma
 reached_more {d} r events may = record {
   first = r.first;
   idle = r.idle;
+  off = r.off;
+  reset = r.reset;
   sane = r.sane;
   events = r.events ++ events;
   may = may_append r.events events r.first r.may (let P : Device → Type 0 = λ e. MayAllCome events e in subst P r.is may);
@@ -207,8 +209,13 @@ first_sane = record {
   told = λ _. at_each (λ p. IsTold p.disk) (sector_of, refl) (λ k. [], refl);
 }
 
+first_reset : (q : ℕ) → IsAsReset (first.port q)
+first_reset = at_each IsAsReset
+    (record { bases = refl; control = refl; link = refl; due = refl; fresh = refl; halt = refl; broken = refl; notes = refl })
+    (record { bases = refl; control = refl; link = refl; due = refl; fresh = refl; halt = refl; broken = refl; notes = refl })
+
 pub first_reached : IsReached first
-first_reached = record { first = first; idle = first_idle; sane = first_sane; events = []; may = tt; is = refl }
+first_reached = record { first = first; idle = first_idle; off = refl; reset = first_reset; sane = first_sane; events = []; may = tt; is = refl }
 
 -- ---- what is safe
 

@@ -1,15 +1,17 @@
 -- Runs of an adapter with its driver: accesses that keep to the rules, and steps of the device (this project's own).
-use Rattle.std.specs.Prelude.{ℕ, Bool, true, ◌≡◌, List, [], ◌∷◌, Some, length}
+use Rattle.std.specs.Prelude.{ℕ, Bool, true, false, ◌++◌, ◌≡◌, List, [], ◌∷◌, Some, length}
 use Rattle.adapter.specs.Access.{Access, Shows, noted, written}
 use Rattle.adapter.specs.Access.Access.{Reading, Writing, Loading, Storing}
 use Rattle.adapter.specs.Commands.{is_queued}
-use Rattle.adapter.specs.Device.{Taken, Device}
-use Rattle.adapter.specs.Device.Halt.{HaltedQueued}
+use Rattle.adapter.specs.Device.{Taken, PortState, Device}
+use Rattle.adapter.specs.Device.Halt.{HaltedQueued, NotHalted}
+use Rattle.adapter.specs.FirstRead.{no_notes, quiet_port}
 use Rattle.adapter.specs.Guarded.{IsGuarded, Passing}
 use Rattle.adapter.specs.Idle.{IsIdle, IsSane}
 use Rattle.adapter.specs.Memory.{patched, bytes_at}
 use Rattle.adapter.specs.Rules.{InUse, IsFree, MayRead, MayWrite}
-use Rattle.adapter.specs.Steps.{Step, Can, after}
+use Rattle.adapter.specs.Steps.{Step, Can, after, fault_entry}
+use Rattle.adapter.specs.declared.tape.Entry.{Entry}
 use Rattle.adapter.specs.Steps.Step.{Fetch as Fetching, FetchFault as SenselessFetching, Move as Moving, Clear as Clearing, Done as Ending, Fault as Failing, Fatal as FailingFatally, Fall as Falling, FrFall as FallingSilent, LinkUp as Linking, Unplug as Unplugging, Plug as Plugging, ResetEnds as EndingReset, Scribble as Scribbling}
 
 -- an access of the driver, or a step of the device
@@ -47,10 +49,24 @@ abbrev pub MayAllCome : List Event → Device → Type 0
 MayAllCome [] d = Unit {0}
 MayAllCome (event ∷ events) d = MayCome event d × MayAllCome events (after_event event d)
 
--- An idle adapter, handed over to its driver, has come to this state.
+-- A port as a reset of the adapter leaves it, with a disk in it or without: no link is due, nothing halts it, and nothing was programmed, set
+-- or read yet (AHCI 1.3.1, 10.4.3).
+pub record IsAsReset (p : PortState) : Type 0 where
+  pub bases : p.bases ≡ quiet_port.bases
+  pub control : p.sctl_det ≡ 0
+  pub link : p.ssts_det ≡ 0
+  pub due : p.link_due ≡ false
+  pub fresh : p.fresh ≡ false
+  pub halt : p.halt ≡ NotHalted
+  pub broken : p.broken ≡ false
+  pub notes : p.notes ≡ no_notes
+
+-- An idle adapter that is switched off, handed over to its driver as after a reset, has come to this state.
 pub record IsReached (d : Device) : Type 0 where
   pub first : Device
   pub idle : IsIdle first
+  pub off : first.ae ≡ false
+  pub reset : (port : ℕ) → IsAsReset (first.port port)
   pub sane : IsSane first
   pub events : List Event
   pub may : MayAllCome events first
@@ -98,7 +114,7 @@ pub record ComesSafely (kind : Kind) : Type 0 where
 
 -- ---- what runs come to
 
--- Two queued commands were taken, and the second may end before the first; the first is taken still then.
+-- Two queued commands are taken, in slots 0 and 1, and that in slot 1 may end; that in slot 0 is taken still then.
 pub record SecondEndsFirst : Type 0 where
   pub device : Device
   pub reached : IsReached device
@@ -110,14 +126,19 @@ pub record SecondEndsFirst : Type 0 where
   pub ends : Can (Ending 0 1 3 other) device
   pub stays : ((after (Ending 0 1 3 other) device).port 0).taken 0 ≡ Some one
 
--- A queued command has failed while another was taken.
+-- Two queued commands are taken, in slots 0 and 1, and the first of them has failed.
 pub record HasFailed : Type 0 where
   pub device : Device
   pub reached : IsReached device
   pub safe : IsSafe device
+  pub one : Taken
+  pub other : Taken
+  pub queued : (is_queued one.meaning.operation ≡ true) × (is_queued other.meaning.operation ≡ true)
+  pub failed : (device.port 0).taken 0 ≡ Some one
+  pub beside : (device.port 0).taken 1 ≡ Some other
   pub halted : (device.port 0).halt ≡ HaltedQueued
   pub told : (device.port 0).is 30 ≡ true
-  pub other : InUse (device.port 0) 1
+  pub entry : (before : List Entry) × (device.tape ≡ before ++ fault_entry 0 0 0x40 0 ∷ [])
 
 -- A reset of the adapter is pending, and two ports have commands in use.
 pub record IsBeingReset : Type 0 where

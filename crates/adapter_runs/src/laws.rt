@@ -8,8 +8,8 @@ ghost use Rattle.adapter_runs.specs.Runs.Kind.{FetchFault};
 
 use adapter::laws::{kept_bytes_stay, saying_is_one};
 
-/// Each step of the device can come, in a state that an idle adapter comes to by accesses that keep to the rules: and where its
-/// commands stand on bytes that no step changes, but for the one on bytes that mean no command.
+/// Each kind of step of the device can come, in a state that an idle adapter comes to by accesses, each of which the rules allow in the
+/// state in which it is made: and where its commands stand on bytes that no step changes, but for the one on bytes that mean no command.
 pub fn each_step_can_come()
     ensures safely { (kind : Kind) → kind ≢ FetchFault → ComesSafely kind }
     ensures senseless { Comes FetchFault }
@@ -23,7 +23,7 @@ pub fn safe_commands_make_sense()
     ensures { (d : Device) (port slot kept_bits : ℕ) (queued : Bool) → IsSafe d → Can (SenselessFetch port slot queued kept_bits) d → ⊥ }
 {}
 
-/// Queued commands may end in another order than that in which they were issued.
+/// A queued command may end while another, in a lower slot, is taken still.
 pub fn a_second_command_ends_first()
     ensures { SecondEndsFirst }
 {
