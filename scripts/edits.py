@@ -6,7 +6,8 @@ It stands on libraries that were proved (crates/*/out/rlib), as scripts/test.sh 
 a time, each in a function of its own, on a copy of their crate. An edit is refused where a function that it changes is
 told as not proved for a reason of its own: a goal that stays open, or an answer that is wrong, and not merely that it
 calls another function that isn't proved. A function's goals rest on the contracts of what it calls, and not on their
-bodies, so edits of callers and callees can share a try. What isn't refused so is tried alone.
+bodies, so edits of callers and callees can share a try. What isn't refused so is tried alone. An edit fails, too, where all that
+is told is that a proof names what it took away: a right body of another form would be told the same way.
 Each try has a function that no edit reaches, which must be proved; so a crate that can't be read, or libraries that
 don't fit, refuse nothing.
 
@@ -20,7 +21,6 @@ function whose meaning it turns by a line 'function: NAME'.
 The last line is 'N passed, M failed'.
 """
 import hashlib
-import json
 import os
 import re
 import shutil
@@ -286,21 +286,14 @@ class Crate:
         return f"{STORE}/{self.name}-{it.hexdigest()}"
 
     def is_known(self, edit):
-        """Whether an earlier run refused the edit over the same files. Tells what it told then."""
-        try:
-            said = json.loads(read(self.name_kept(edit)))
-        except (OSError, ValueError):
-            return False
-        for it in said:
-            say(it)
-        return True
+        """Whether an earlier run refused the edit over the same files."""
+        return os.path.exists(self.name_kept(edit))
 
-    def keep(self, edit, said):
+    def keep(self, edit):
         try:
             os.makedirs(STORE, exist_ok=True)
-            with tempfile.NamedTemporaryFile("w", dir=STORE, delete=False, encoding="utf-8") as it:
-                json.dump(said, it)
-            os.replace(it.name, self.name_kept(edit))
+            with open(self.name_kept(edit), "wb"):
+                pass
         except OSError as why:
             say(f"{self.name}/{edit.name}: not kept: {why}")
 
@@ -351,9 +344,9 @@ class Crate:
         return re.findall(rf"^(?:\./)?proofs/{place}/\S+ error: (.*)$", said, re.M)
 
     def is_refused(self, edit, said):
-        """Whether one of the edit's own functions isn't proved, for a reason of its own."""
+        """Whether one of the edit's own functions isn't proved, for a reason of its own, and not only since its proof names what is gone."""
         told = self.verdicts(said)
-        return any(self.is_own(name, told.get(name, ""), said) for name in edit.functions)
+        return not self.is_weak(edit, said) and any(self.is_own(name, told.get(name, ""), said) for name in edit.functions)
 
     def is_own(self, name, verdict, said):
         """Whether the verdict on a function says that it isn't proved, for a reason of its own."""
@@ -385,7 +378,7 @@ class Crate:
             return
         for it in tried:
             if self.is_refused(it, said):
-                self.refuse(it, said)
+                self.refuse(it)
 
     def try_alone(self, edit):
         control = self.control([edit])
@@ -398,20 +391,18 @@ class Crate:
         elif self.verdicts(said).get(control) != "proved":
             self.fail(edit.name, f"BAD EDIT: {control}, which it doesn't change, isn't proved beside it")
         elif self.is_refused(edit, said):
-            self.refuse(edit, said)
+            self.refuse(edit)
+        elif self.is_weak(edit, said):
+            self.fail(edit.name, "NOT REFUSED: all that is told is that its proof names what it took away: change a value, and keep the form")
         elif any("it calls" in self.verdicts(said).get(it, "") for it in edit.functions):
             self.fail(edit.name, "NOT REFUSED: its function is told only because it calls another one")
         else:
             self.fail(edit.name, "NOT REFUSED: its function is proved with it")
         return None
 
-    def refuse(self, edit, said):
+    def refuse(self, edit):
         self.refused.append(edit)
-        weak = f"{self.name}/{edit.name}: refused only because a proof names what it took away, which says little: change a value"
-        told = [weak] if self.is_weak(edit, said) else []
-        for it in told:
-            say(it)
-        self.keep(edit, told)
+        self.keep(edit)
 
     def try_all(self):
         begin = time.monotonic()
