@@ -1,5 +1,6 @@
 -- An adapter as a driver leaves it when it has issued its first read: 8 sectors from 100 on, into frame 40.
 use Rattle.std.specs.Prelude.{ℕ, ◌*◌, true, false, List, [], ◌∷◌, None, Some, replicate}
+use Rattle.ata_types.specs.declared.memory.TheConstants.{FRAME_BYTES}
 use Rattle.adapter.specs.Memory.{patched, changed}
 use Rattle.adapter.specs.Device.{Disk, Notes, PortState, Device}
 use Rattle.adapter.specs.Device.Halt.{NotHalted}
@@ -12,7 +13,7 @@ header_bytes = 5 ∷ 0 ∷ 1 ∷ 0 ∷ 0 ∷ 0 ∷ 0 ∷ 0 ∷ 0 ∷ 0x10 ∷ 0 
 abbrev pub fis_bytes : List ℕ
 fis_bytes = 0x27 ∷ 0x80 ∷ 0x25 ∷ 0 ∷ 0x64 ∷ 0 ∷ 0 ∷ 0x40 ∷ 0 ∷ 0 ∷ 0 ∷ 0 ∷ 8 ∷ 0 ∷ []
 
--- the PRD: 4096 bytes at 28000h, where frame 40 begins
+-- the PRD: a whole frame at 28000h, where frame 40 begins
 abbrev pub prd_bytes : List ℕ
 prd_bytes = 0 ∷ 0x80 ∷ 2 ∷ 0 ∷ 0 ∷ 0 ∷ 0 ∷ 0 ∷ 0 ∷ 0 ∷ 0 ∷ 0 ∷ 0xff ∷ 0x0f ∷ 0 ∷ 0 ∷ []
 
@@ -103,7 +104,7 @@ abbrev pub first_read : Device
 first_read =
     record {
       telling = true;
-      size = 4096 * 256;
+      size = FRAME_BYTES * 256;
       memory = first_memory;
       cap = 0x1f03;
       pi = 0x0f;

@@ -1,5 +1,6 @@
 -- Bytes that no step of the device changes, and on which every command in use stands.
 use Rattle.std.specs.Prelude.{ℕ, Bool, true, ◌≡◌, ◌+◌, ◌*◌, ◌<◌, ◌≤◌, length, List, Some}
+use Rattle.ata_types.specs.declared.memory.TheConstants.{HEADER_BYTES, RECEIVED_BYTES}
 use Rattle.adapter.specs.Commands.{Meaning}
 use Rattle.adapter.specs.Device.{Taken, PortState, Device}
 use Rattle.adapter.specs.Says.{Says}
@@ -22,17 +23,17 @@ pub record IsGuardedSlot (Tables Kept : ℕ → Type 0) (memory : ℕ → ℕ) (
   pub meaning : Meaning
   pub places : List ℕ
   pub says : Says memory list slot meaning places
-  pub head : Holds Tables (list + 32 * slot) (list + 32 * slot + 4)
-  pub rest : Holds Tables (list + 32 * slot + 8) (list + 32 * slot + 32)
+  pub head : Holds Tables (list + HEADER_BYTES * slot) (list + HEADER_BYTES * slot + 4)
+  pub rest : Holds Tables (list + HEADER_BYTES * slot + 8) (list + HEADER_BYTES * slot + HEADER_BYTES)
   pub table : Holds Tables says.table (says.table + 128 + 16 * length says.prds)
-  pub count : Spares Kept (list + 32 * slot + 4) (list + 32 * slot + 8)
+  pub count : Spares Kept (list + HEADER_BYTES * slot + 4) (list + HEADER_BYTES * slot + 8)
   pub places_avoid : Avoids Kept places
 
 -- Each slot in use is guarded, no piece of a taken command is kept, nor is a byte of the received FIS area.
 pub record IsGuardedPort (Tables Kept : ℕ → Type 0) (memory : ℕ → ℕ) (p : PortState) : Type 0 where
   pub slot : (slot : ℕ) → InUse p slot → IsGuardedSlot Tables Kept memory p.bases.clb slot
   pub taken : (slot : ℕ) (t : Taken) → p.taken slot ≡ Some t → Avoids Kept t.places
-  pub received : p.fre ≡ true → Spares Kept p.bases.fb (p.bases.fb + 256)
+  pub received : p.fre ≡ true → Spares Kept p.bases.fb (p.bases.fb + RECEIVED_BYTES)
 
 -- Two sets of bytes: tables, and what is kept, the tables among them.
 pub record IsGuarded (Tables Kept : ℕ → Type 0) (d : Device) : Type 0 where
@@ -45,7 +46,7 @@ pub record IsApart (Tables Kept : ℕ → Type 0) (at n : ℕ) (d : Device) : Ty
   pub kept : Holds Kept at (at + n)
   pub no_table : Spares Tables at (at + n)
   pub no_header : (port slot a : ℕ) → InUse (d.port port) slot → at ≤ a → a < at + n →
-      (d.port port).bases.clb + 32 * slot ≤ a → a < (d.port port).bases.clb + 32 * slot + 32 → ⊥
+      (d.port port).bases.clb + HEADER_BYTES * slot ≤ a → a < (d.port port).bases.clb + HEADER_BYTES * slot + HEADER_BYTES → ⊥
 
 -- the bytes that pass a test, as a set
 abbrev pub Passing : (ℕ → Bool) → ℕ → Type 0

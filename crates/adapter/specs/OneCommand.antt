@@ -1,5 +1,6 @@
 -- An adapter with one command in use.
 use Rattle.std.specs.Prelude.{ℕ, Bool, false, true, ◌≡◌, ◌≢◌, ◌+◌, ◌*◌, ◌<◌, ◌≤◌, ◌&&◌, ◌||◌, not, List, [], ◌∷◌, length, None, Some, nat_le, nat_lt}
+use Rattle.ata_types.specs.declared.memory.TheConstants.{HEADER_BYTES, RECEIVED_BYTES}
 use Rattle.adapter.specs.Commands.{Meaning}
 use Rattle.adapter.specs.Device.{Taken, PortState, Device}
 use Rattle.adapter.specs.Idle.{IsIdlePort}
@@ -29,7 +30,7 @@ is_read_alone s at = is_from s.header 4 at || is_from (s.header + 8) 24 at || is
 
 -- a byte that the device may write: of PRDBC, of a piece, or of the received FIS area
 abbrev pub is_written : Standing → ℕ → Bool
-is_written s at = is_from (s.header + 4) 4 at || is_of_pieces s.places at || is_from s.received 256 at
+is_written s at = is_from (s.header + 4) 4 at || is_of_pieces s.places at || is_from s.received RECEIVED_BYTES at
 
 -- every byte that the device doesn't write
 abbrev pub is_unwritten : Standing → ℕ → Bool
@@ -49,7 +50,7 @@ pub record SaysCommand (d : Device) (port slot : ℕ) : Type 0 where
 abbrev pub standing : (d : Device) (port slot : ℕ) → SaysCommand d port slot → Standing
 standing d port slot c =
     record {
-      header = (d.port port).bases.clb + 32 * slot;
+      header = (d.port port).bases.clb + HEADER_BYTES * slot;
       table = c.says.table;
       entries = length c.says.prds;
       places = c.places;

@@ -1,5 +1,6 @@
 -- What the driver of an adapter has to keep to (AHCI 1.3.1, 3.1, 3.3, 5.3 and 10).
 use Rattle.std.specs.Prelude.{ℕ, true, false, ◌≡◌, ◌≢◌, ◌+◌, ◌*◌, ◌/◌, ◌%◌, ◌<◌, ◌≤◌, ◌⊎◌, ◌||◌, List, length, None, Some, slice_index}
+use Rattle.ata_types.specs.declared.memory.TheConstants.{HEADER_BYTES, LIST_BYTES, RECEIVED_BYTES}
 use Rattle.hba_regs.specs.Bits.{bit}
 use Rattle.hba_regs.specs.declared.reg.Reg.{Reg}
 use Rattle.hba_regs.specs.declared.reg.Reg.TheVariants.{Ghc, Px}
@@ -77,9 +78,9 @@ pub record MayIssue (d : Device) (p : PortState) (v : ℕ) : Type 0 where
 abbrev pub MayWritePort : PortReg → ℕ → Device → PortState → Type 0
 MayWritePort Cmd v d p = MayCommand p v
 MayWritePort Sctl v d p = (p.st ≡ false) × ((v % 16 ≡ 0) ⊎ (v % 16 ≡ 1))
-MayWritePort Clb v d p = (p.cr ≡ false) × (p.st ≡ false) × (v % 1024 ≡ 0) × (v + 1024 ≤ d.size)
+MayWritePort Clb v d p = (p.cr ≡ false) × (p.st ≡ false) × (v % LIST_BYTES ≡ 0) × (v + LIST_BYTES ≤ d.size)
 MayWritePort Clbu v d p = (p.cr ≡ false) × (p.st ≡ false) × (v ≡ 0)
-MayWritePort Fb v d p = (p.fr ≡ false) × (p.fre ≡ false) × (v % 256 ≡ 0) × (v + 256 ≤ d.size)
+MayWritePort Fb v d p = (p.fr ≡ false) × (p.fre ≡ false) × (v % RECEIVED_BYTES ≡ 0) × (v + RECEIVED_BYTES ≤ d.size)
 MayWritePort Fbu v d p = (p.fr ≡ false) × (p.fre ≡ false) × (v ≡ 0)
 MayWritePort Ci v d p = MayIssue d p v
 MayWritePort Sact v d p = p.st ≡ true
@@ -121,9 +122,9 @@ InCommand d p slot at =
 -- one, or of the received FIS area.
 abbrev pub Uses : Device → PortState → ℕ → ℕ → Type 0
 Uses d p slot at =
-    (InUse p slot × (((p.bases.clb + 32 * slot ≤ at) × (at < p.bases.clb + 32 * slot + 32)) ⊎ InCommand d p slot at))
+    (InUse p slot × (((p.bases.clb + HEADER_BYTES * slot ≤ at) × (at < p.bases.clb + HEADER_BYTES * slot + HEADER_BYTES)) ⊎ InCommand d p slot at))
     ⊎ ((t : Taken) × (p.taken slot ≡ Some t) × InPlaces t.places at)
-    ⊎ ((p.fre ≡ true) × (p.bases.fb ≤ at) × (at < p.bases.fb + 256))
+    ⊎ ((p.fre ≡ true) × (p.bases.fb ≤ at) × (at < p.bases.fb + RECEIVED_BYTES))
 
 -- these bytes are inside the memory, and the device may use none of them
 pub record IsFree (at n : ℕ) (d : Device) : Type 0 where

@@ -1,5 +1,6 @@
 -- What the bytes at a slot's places mean, read as the device reads them.
 use Rattle.std.specs.Prelude.{ℕ, zero, suc, ◌≡◌, ◌+◌, ◌*◌, ◌/◌, ◌%◌, ◌≤◌, List, [], ◌∷◌, ◌++◌, length, All}
+use Rattle.ata_types.specs.declared.memory.TheConstants.{HEADER_BYTES}
 use Rattle.adapter.specs.Memory.{bytes_at}
 use Rattle.adapter.specs.Commands.{Meaning, IsMeaning, command_of, reads_memory, pieces_moved}
 use Rattle.adapter.specs.Spelling.{SpellsCommand, SpellsHeader, SpellsPrd}
@@ -29,7 +30,7 @@ IsWhole e = e.bytes % 512 ≡ 0
 pub record Says (memory : ℕ → ℕ) (list slot : ℕ) (m : Meaning) (places : List ℕ) : Type 0 where
   pub table : ℕ
   pub prds : List Prd
-  pub header : SpellsHeader (bytes_at memory (list + 32 * slot) 32) (reads_memory m.operation) (length prds) table
+  pub header : SpellsHeader (bytes_at memory (list + HEADER_BYTES * slot) HEADER_BYTES) (reads_memory m.operation) (length prds) table
   pub fis : SpellsCommand (bytes_at memory table 20) (command_of m.operation slot m.first m.count)
   pub meaning : IsMeaning m
   pub stand : HasPrds memory (table + 128) prds

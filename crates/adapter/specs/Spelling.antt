@@ -1,5 +1,6 @@
 -- How a command FIS, a command header and a PRD are spelled in bytes.
 use Rattle.std.specs.Prelude.{ℕ, Bool, ◌≡◌, ◌+◌, ◌*◌, ◌^◌, ◌<◌, ◌≤◌, ◌%◌, List, length, slice_index, if◌then◌else◌}
+use Rattle.ata_types.specs.declared.memory.TheConstants.{HEADER_BYTES, TABLE_ALIGNMENT}
 use Rattle.byteorder.specs.Endian.{little_from}
 use Rattle.adapter.specs.declared.command.Command.{Command}
 use Rattle.adapter.specs.declared.command.Prd.{Prd}
@@ -23,11 +24,11 @@ pub record SpellsCommand (bytes : List ℕ) (c : Command) : Type 0 where
 -- A command header (AHCI 1.3.1, 4.2.2): a FIS of five double words, W as said, all other bits zero, so many PRDs, and
 -- the address of the command table. PRDBC, bytes 4 to 7, may be any number.
 pub record SpellsHeader (bytes : List ℕ) (writes : Bool) (entries table : ℕ) : Type 0 where
-  pub size : length bytes ≡ 32
+  pub size : length bytes ≡ HEADER_BYTES
   pub first : little_from 0 4 bytes ≡ 5 + (if writes then 2 ^ 6 else 0) + 2 ^ 16 * entries
   pub points : little_from 8 4 bytes ≡ table
-  pub aligned : table % 128 ≡ 0
-  pub zeros : AreZero bytes 12 32
+  pub aligned : table % TABLE_ALIGNMENT ≡ 0
+  pub zeros : AreZero bytes 12 HEADER_BYTES
 
 -- An address and a number of bytes that a PRD may have (AHCI 1.3.1, 4.2.3.3): both even, at most 4 MiB.
 pub record IsAllowed (e : Prd) : Type 0 where

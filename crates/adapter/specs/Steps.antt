@@ -2,6 +2,7 @@
 -- The choices that the device makes stand in the step.
 use Rattle.std.specs.Prelude.{ℕ, Bool, true, false, ◌≡◌, ◌+◌, ◌*◌, ◌^◌, ◌<◌, ◌≤◌, ◌⊎◌, ◌&&◌, ◌||◌, List, [], ◌∷◌, ◌++◌, length, None, Some, IfSome, option_map, if◌then◌else◌, slice_index, bit_and, bit_or, take, drop, replicate, nat_le, nat_lt, nat_eq, All}
 use Rattle.std.specs.declared.snapshot.Snapshot.{Snapshot}
+use Rattle.ata_types.specs.declared.memory.TheConstants.{HEADER_BYTES, RECEIVED_BYTES}
 use Rattle.adapter.specs.Memory.{patched, bytes_at, changed}
 use Rattle.adapter.specs.Commands.{Meaning, is_queued, is_ranged, reads_memory, direction_of}
 use Rattle.adapter.specs.Device.{Disk, IsTold, IsDisk, IsSector, Taken, Halt, PortState, Device}
@@ -271,8 +272,8 @@ with_reset p =
 -- a place where the device may write what it wants: the received FIS area, or the number in PRDBC of a taken slot
 pub record MayScribble (p : PortState) (slot at : ℕ) (bytes : List ℕ) : Type 0 where
   pub fre : p.fre ≡ true
-  pub place : ((p.bases.fb ≤ at) × (at + length bytes ≤ p.bases.fb + 256))
-      ⊎ ((t : Taken) × (p.taken slot ≡ Some t) × (at ≡ p.bases.clb + 32 * slot + 4) × (length bytes ≡ 4))
+  pub place : ((p.bases.fb ≤ at) × (at + length bytes ≤ p.bases.fb + RECEIVED_BYTES))
+      ⊎ ((t : Taken) × (p.taken slot ≡ Some t) × (at ≡ p.bases.clb + HEADER_BYTES * slot + 4) × (length bytes ≡ 4))
   pub are_bytes : All (λ byte. byte < 256) bytes
 
 -- ---- Plug

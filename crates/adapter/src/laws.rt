@@ -1,5 +1,6 @@
 // Laws of the definitions, for the crates above: the clause is the theorem. Nothing calls these functions.
 ghost use Rattle.std.specs.Prelude.{◌≡◌, ◌+◌, ◌≤◌, ℕ, Bool, true, false, List};
+ghost use Rattle.ata_types.specs.declared.memory.TheConstants.{FRAME_BYTES, RECEIVED_BYTES};
 ghost use Rattle.hba_regs.specs.declared.reg.Reg.{Reg};
 ghost use Rattle.adapter.specs.declared.access.DeviceStep.{DeviceStep};
 ghost use Rattle.adapter.specs.Access.{Access, Does, IsDriven, Reads};
@@ -67,7 +68,7 @@ pub fn accesses_compose()
 /// Where no slot has a command, any bytes that are not of a received FIS area in use are guarded, and no table is needed.
 pub fn an_adapter_without_commands_is_guarded()
     ensures { (kept : ℕ → Bool) (d : Device) → HasNoCommand d
-        → ((port : ℕ) → (d.port port).fre ≡ true → Spares (Passing kept) (d.port port).bases.fb ((d.port port).bases.fb + 256))
+        → ((port : ℕ) → (d.port port).fre ≡ true → Spares (Passing kept) (d.port port).bases.fb ((d.port port).bases.fb + RECEIVED_BYTES))
         → IsGuarded (Passing (λ _. false)) (Passing kept) d }
 {}
 
@@ -102,6 +103,6 @@ pub fn a_first_read_exists()
     ensures sane { IsSane first_read }
     ensures command { HasOneCommand first_read 0 0 }
     ensures says { Says first_read.memory 0 0 (read_of 100 8) (cut 0x28000 8) }
-    ensures free { Stays (IsFree 0x29000 4096) first_read }
+    ensures free { Stays (IsFree 0x29000 FRAME_BYTES) first_read }
     ensures done { (new : Device) × IsRead first_read new 0 0 100 8 (cut 0x28000 8) sector_of }
 {}

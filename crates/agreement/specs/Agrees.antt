@@ -1,6 +1,7 @@
 -- An adapter's device, a block machine, and what the driver has put into the slots (this project's own).
 use Rattle.std.specs.Prelude.{ℕ, true, false, ◌≡◌, ◌⊎◌, ◌+◌, ◌*◌, ◌<◌, ◌≤◌, List, Some, Contains, slice_index}
 use Rattle.ata_types.specs.declared.Port.{Port}
+use Rattle.ata_types.specs.declared.memory.TheConstants.{DRIVER_FRAMES, FRAME_BYTES}
 use Rattle.ata_types.specs.declared.request.Frame.{Frame}
 use Rattle.ata_types.specs.declared.request.RequestId.{RequestId}
 use Rattle.adapter.specs.Device.{Disk, PortState, Device}
@@ -32,7 +33,7 @@ pub record SameSectors (m : Machine) (disk : Disk) (port : ℕ) : Type 0 where
 
 -- each client frame holds what the machine's does
 abbrev pub SameMemory : Machine → (ℕ → ℕ) → Type 0
-SameMemory m memory = (frame : Frame) (b : ℕ) → 40 ≤ frame.0 → b < 4096 → memory (4096 * frame.0 + b) ≡ m.memory frame b
+SameMemory m memory = (frame : Frame) (b : ℕ) → DRIVER_FRAMES ≤ frame.0 → b < FRAME_BYTES → memory (FRAME_BYTES * frame.0 + b) ≡ m.memory frame b
 
 -- no two slots serve one request
 abbrev pub AreApart : Uses → Type 0

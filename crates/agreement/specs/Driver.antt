@@ -1,5 +1,6 @@
 -- What the driver may store and write, what it knows, and what its calls add (this project's own).
 use Rattle.std.specs.Prelude.{ℕ, Bool, true, false, not, ◌≡◌, ◌≢◌, ◌⊎◌, ◌+◌, ◌*◌, ◌<◌, ◌≤◌, ◌++◌, List, [], ◌∷◌, length, None, Contains}
+use Rattle.ata_types.specs.declared.memory.TheConstants.{FRAME_BYTES, HEADER_BYTES, TABLE_BYTES}
 use Rattle.ata_types.specs.declared.request.RequestId.{RequestId}
 use Rattle.hba_regs.specs.Bits.{bit}
 use Rattle.hba_regs.specs.declared.reg.Reg.{Reg}
@@ -31,7 +32,8 @@ pub record InFreeTable (uses : Uses) (at n : ℕ) : Type 0 where
   pub below : port < 4
   pub slot_below : slot < 32
   pub free : uses port slot ≡ Free
-  pub here : ((list_of port + 32 * slot ≤ at) × (at + n ≤ list_of port + 32 * slot + 32)) ⊎ ((table_of port slot ≤ at) × (at + n ≤ table_of port slot + 1024))
+  pub here : ((list_of port + HEADER_BYTES * slot ≤ at) × (at + n ≤ list_of port + HEADER_BYTES * slot + HEADER_BYTES))
+      ⊎ ((table_of port slot ≤ at) × (at + n ≤ table_of port slot + TABLE_BYTES))
 
 -- bytes of the scratch frame of a port whose slot 0 is free
 pub record InFreeScratch (uses : Uses) (at n : ℕ) : Type 0 where
@@ -39,7 +41,7 @@ pub record InFreeScratch (uses : Uses) (at n : ℕ) : Type 0 where
   pub below : port < 4
   pub free : uses port 0 ≡ Free
   pub from : scratch_of port ≤ at
-  pub to : at + n ≤ scratch_of port + 4096
+  pub to : at + n ≤ scratch_of port + FRAME_BYTES
 
 -- what the driver may store for itself
 abbrev pub MayStore : Uses → ℕ → ℕ → Type 0

@@ -1,6 +1,7 @@
 -- What a driver learns of the device from its readings (this project's own).
 use Rattle.std.specs.Prelude.{ℕ, true, false, ◌≡◌, ◌≢◌, ◌⊎◌, ◌+◌, ◌*◌, ◌++◌, ◌<◌, ◌≤◌, List, ◌∷◌, None, All, Contains, length, drop}
 use Rattle.ata_types.specs.declared.Port.{Port}
+use Rattle.ata_types.specs.declared.memory.TheConstants.{FRAME_BYTES}
 use Rattle.ata_types.specs.declared.request.Frame.{Frame}
 use Rattle.ata_types.specs.declared.request.RequestId.{RequestId}
 use Rattle.hba_regs.specs.Bits.{bit}
@@ -82,7 +83,7 @@ pub record AreStepsOf {uses : Uses} {m : Machine} {old new : Device} (follows : 
 -- The device uses no byte of the frame: none is of a header, a table or a place of a command that is issued or taken, or of a
 -- received FIS area that is in use.
 abbrev pub IsStill : Frame → Device → Type 0
-IsStill frame d = (port slot at : ℕ) → 4096 * frame.0 ≤ at → at < 4096 * frame.0 + 4096 → rules.Uses d (d.port port) slot at → ⊥
+IsStill frame d = (port slot at : ℕ) → FRAME_BYTES * frame.0 ≤ at → at < FRAME_BYTES * frame.0 + FRAME_BYTES → rules.Uses d (d.port port) slot at → ⊥
 
 -- the commands of the request of this id are over, in each slot
 abbrev pub AreOver : Uses → Device → RequestId → Type 0

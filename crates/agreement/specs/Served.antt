@@ -37,7 +37,7 @@ queued_bytes slot first = 0x27 ∷ 0x80 ∷ 0x60 ∷ 8 ∷ first ∷ 0 ∷ 0 ∷
 abbrev pub second_header : List ℕ
 second_header = 5 ∷ 0 ∷ 1 ∷ 0 ∷ 0 ∷ 0 ∷ 0 ∷ 0 ∷ 0 ∷ 0x14 ∷ 0 ∷ 0 ∷ []
 
--- its PRD: 4096 bytes at 29000h, where frame 41 begins
+-- its PRD: a whole frame at 29000h, where frame 41 begins
 abbrev pub second_prd : List ℕ
 second_prd = 0 ∷ 0x90 ∷ 2 ∷ 0 ∷ 0 ∷ 0 ∷ 0 ∷ 0 ∷ 0 ∷ 0 ∷ 0 ∷ 0 ∷ 0xff ∷ 0x0f ∷ 0 ∷ 0 ∷ []
 

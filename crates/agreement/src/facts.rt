@@ -1,6 +1,7 @@
 // Laws of what a driver learns from the device, for the crates above: the clause is the theorem. Nothing calls these functions.
 ghost use Rattle.std.specs.Prelude.{ℕ, true, false, ◌≡◌, ◌≢◌, ◌≤◌, ◌+◌, ◌*◌, ◌/◌, ◌%◌, ◌++◌, List, length, drop, Some, None, Contains, All};
 ghost use Rattle.ata_types.specs.declared.Port.{Port};
+ghost use Rattle.ata_types.specs.declared.memory.TheConstants.{DRIVER_FRAMES, FRAME_BYTES};
 ghost use Rattle.ata_types.specs.declared.request.Frame.{Frame};
 ghost use Rattle.ata_types.specs.declared.request.RequestId.{RequestId};
 ghost use Rattle.hba_regs.specs.Bits.{bit};
@@ -177,12 +178,12 @@ pub fn frames_are_still()
     ensures lent { (uses : Uses) (m : Machine) (d : Device) (frame : Frame) (id : RequestId) → IsReached m → Agrees uses m d
         → m.lent frame ≡ Some id → AreOver uses d id → Stays (IsStill frame) d }
     ensures unlent { (uses : Uses) (m : Machine) (d : Device) (frame : Frame) → IsReached m → Agrees uses m d
-        → m.lent frame ≡ None → 40 ≤ frame.0 → Stays (IsStill frame) d }
+        → m.lent frame ≡ None → DRIVER_FRAMES ≤ frame.0 → Stays (IsStill frame) d }
     ensures over { (uses : Uses) (m : Machine) (d : Device) (port slot : ℕ) (id : RequestId) → Agrees uses m d
         → uses port slot ≡ Serves id → IsOver (d.port port) slot → AreOver uses d id }
     ensures idle { (d : Device) (frame : Frame) → IsIdle d → Stays (IsStill frame) d }
-    ensures free { (d : Device) (frame : Frame) (offset n : ℕ) → Stays (IsStill frame) d → 4096 * frame.0 + 4096 ≤ d.size
-        → offset + n ≤ 4096 → Stays (IsFree (4096 * frame.0 + offset) n) d }
+    ensures free { (d : Device) (frame : Frame) (offset n : ℕ) → Stays (IsStill frame) d
+        → FRAME_BYTES * frame.0 + FRAME_BYTES ≤ d.size → offset + n ≤ FRAME_BYTES → Stays (IsFree (FRAME_BYTES * frame.0 + offset) n) d }
 {}
 
 /// While no reset is pending, a healthy port on which nothing goes wrong stays healthy, whatever else the device does, over

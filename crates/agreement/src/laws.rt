@@ -2,6 +2,7 @@
 ghost use Rattle.std.specs.List.{list_any};
 ghost use Rattle.std.specs.Prelude.{◌≡◌, ◌+◌, ◌*◌, ◌/◌, ◌%◌, ◌<◌, ◌≤◌, ◌∷◌, ◌++◌, ℕ, Bool, true, false, [], List, length, map, Contains, ◌≢◌, ◌⊎◌, None, Some, All};
 ghost use Rattle.ata_types.specs.declared.Port.{Port};
+ghost use Rattle.ata_types.specs.declared.memory.TheConstants.{FRAME_BYTES, LIST_BYTES, RECEIVED_BYTES};
 ghost use Rattle.ata_types.specs.declared.request.ClientId.{ClientId};
 ghost use Rattle.ata_types.specs.declared.request.Frame.{Frame};
 ghost use Rattle.ata_types.specs.declared.request.Outcome.{Outcome};
@@ -106,7 +107,7 @@ pub fn own_issuing_is_followed()
 pub fn client_store_is_followed()
     ensures { (k : Known) (m : Machine) (client : ClientId) (frame : Frame) (offset : ℕ) (bytes : List ℕ) (new : Device)
         → IsReached m → Knows m k → May m (Store client frame offset bytes)
-        → Stores (4096 * frame.0 + offset) bytes k.device new
+        → Stores (FRAME_BYTES * frame.0 + offset) bytes k.device new
         → EndsWith k m (Store client frame offset bytes) (record k { device = new }) }
 {}
 
@@ -114,7 +115,7 @@ pub fn client_store_is_followed()
 pub fn client_load_is_followed()
     ensures { (k : Known) (m : Machine) (client : ClientId) (frame : Frame) (offset : ℕ) (bytes : List ℕ) (new : Device)
         → IsReached m → Knows m k → IsOpen m.owner m.lent client frame offset (length bytes)
-        → Loads (4096 * frame.0 + offset) bytes k.device new
+        → Loads (FRAME_BYTES * frame.0 + offset) bytes k.device new
         → EndsWith k m (Load client frame offset bytes) (record k { device = new }) }
 {}
 
@@ -444,8 +445,8 @@ pub fn pages_are_free()
 /// So may bytes of a client's frame that isn't lent, for its owner.
 pub fn client_bytes_are_free()
     ensures { (uses : Uses) (m : Machine) (d : Device) → IsReached m → Agrees uses m d → (client : ClientId)
-        (frame : Frame) (offset n : ℕ) → 4096 * frame.0 + 4096 ≤ d.size
-        → IsOpen m.owner m.lent client frame offset n → Stays (IsFree (4096 * frame.0 + offset) n) d }
+        (frame : Frame) (offset n : ℕ) → FRAME_BYTES * frame.0 + FRAME_BYTES ≤ d.size
+        → IsOpen m.owner m.lent client frame offset n → Stays (IsFree (FRAME_BYTES * frame.0 + offset) n) d }
 {}
 
 /// A write that may be made now, of any register but PxCI, may be made whatever the device does first; and, while no reset is pending,
@@ -459,11 +460,11 @@ pub fn writing_is_permitted()
 /// Where a port's engine stands its command list may be put into its place; and where it receives no FISes, the received FIS area may.
 pub fn placing_is_permitted()
     ensures list { (d : Device) (port : Port) → IsOn d → HasPort d port.0 → (d.port port.0).st ≡ false → (d.port port.0).cr ≡ false
-        → list_of port.0 + 1024 ≤ d.size → Stays (MayWrite (Px port Clb) (list_of port.0)) d }
+        → list_of port.0 + LIST_BYTES ≤ d.size → Stays (MayWrite (Px port Clb) (list_of port.0)) d }
     ensures list_upper { (d : Device) (port : Port) → IsOn d → HasPort d port.0 → (d.port port.0).st ≡ false
         → (d.port port.0).cr ≡ false → Stays (MayWrite (Px port Clbu) 0) d }
     ensures received { (d : Device) (port : Port) → IsOn d → HasPort d port.0 → (d.port port.0).fre ≡ false
-        → (d.port port.0).fr ≡ false → received_of port.0 + 256 ≤ d.size → Stays (MayWrite (Px port Fb) (received_of port.0)) d }
+        → (d.port port.0).fr ≡ false → received_of port.0 + RECEIVED_BYTES ≤ d.size → Stays (MayWrite (Px port Fb) (received_of port.0)) d }
     ensures received_upper { (d : Device) (port : Port) → IsOn d → HasPort d port.0 → (d.port port.0).fre ≡ false
         → (d.port port.0).fr ≡ false → Stays (MayWrite (Px port Fbu) 0) d }
 {}

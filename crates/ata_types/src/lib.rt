@@ -1,13 +1,19 @@
 //! The words that all layers share: sectors and ranges of them, who asks, what is asked and allowed, why it is refused,
-//! and how it ended.
+//! and how it ended; and the numbers of the memory map.
 #![tactic(auto)]
 
 mod grant;
+mod memory;
 mod range;
 mod refusal;
 mod request;
 
 pub use grant::{GrantRow, Rights};
+pub use memory::{
+    DRIVER_BYTES, DRIVER_FRAMES, FEWEST_FRAMES, FRAME_BYTES, HEADER_BYTES, LIST_BYTES, MOST_FRAMES,
+    PORT_BYTES, PORT_FRAMES, RECEIVED, RECEIVED_BYTES, SCRATCH, SCRATCH_FRAME, TABLE_ALIGNMENT,
+    TABLE_BYTES, TABLES,
+};
 pub use range::{Range, Sector};
 pub use refusal::{FrameFault, MemFault, Refusal, Rule};
 pub use request::{ClientId, Frame, Op, Outcome, Replies, Reply, Request, RequestId};

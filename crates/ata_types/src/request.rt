@@ -6,7 +6,7 @@ use arrayvec::ArrayVec;
 #[derive(Clone, Copy, Debug, Default, PartialEq, Eq, PartialOrd, Ord, Hash)]
 pub struct ClientId(pub u8);
 
-/// A frame of memory, by its number: frame f has the 4096 bytes from byte 4096 f on.
+/// A frame of memory, by its number: frame f has the `FRAME_BYTES` bytes from byte `FRAME_BYTES` f on.
 #[derive(Clone, Copy, Debug, Default, PartialEq, Eq, PartialOrd, Ord, Hash)]
 pub struct Frame(pub u16);
 

@@ -2,7 +2,7 @@
 use crate::counted::{Counted, Counts};
 use adapter::DeviceStep;
 use arrayvec::ArrayVec;
-use ata_types::{ClientId, Frame, Op, Port, Request, Sector, Slot};
+use ata_types::{ClientId, DRIVER_FRAMES, Frame, Op, Port, Request, Sector, Slot};
 use block_server::Server;
 use configuration::Config;
 use device_model::Model;
@@ -37,8 +37,8 @@ const SECTORS: u32 = 256;
 /// As many requests as a client may have unanswered.
 const MOST: u16 = 16;
 
-/// The first frame of the client.
-const FIRST: u16 = 40;
+/// The first frame of the client: the first that isn't the driver's.
+const FIRST: u16 = DRIVER_FRAMES;
 
 /// A server whose accesses are counted.
 type Served = Server<Counted<Model<MemStore>>>;

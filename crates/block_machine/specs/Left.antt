@@ -7,6 +7,7 @@ use Rattle.ata_types.specs.declared.request.Frame.{Frame}
 use Rattle.ata_types.specs.declared.request.RequestId.{RequestId}
 use Rattle.ata_types.specs.declared.request.Op.TheVariants.{Read}
 use Rattle.ata_types.specs.declared.grant.GrantRow.{GrantRow}
+use Rattle.ata_types.specs.declared.memory.TheConstants.{DRIVER_FRAMES, MOST_FRAMES}
 use Rattle.block_machine.specs.Rules.{DifferInName}
 use Rattle.block_machine.specs.Due.{is_writer}
 use Rattle.block_machine.specs.State.{Block, Disk, Memory, Accepted, Machine, block_of, sector_of, written_by}
@@ -32,7 +33,7 @@ pub record IsRow (row : GrantRow) : Type 0 where
   pub below : row.first.0 + row.count ≤ 2 ^ 48
 
 -- A machine to begin with: no request is there, no frame is lent, and no id was handed out. There are at most 64 rows, which
--- differ in name, and each is one that a configuration may give. The clients, 1 to 8, own frames from 40 on: the driver's are
+-- differ in name, and each is one that a configuration may give. The clients, 1 to 8, own frames behind the driver's, which are
 -- nobody's.
 pub record IsStart (m : Machine) : Type 0 where
   pub book : m.book ≡ []
@@ -43,7 +44,7 @@ pub record IsStart (m : Machine) : Type 0 where
   pub rows : AllPairs DifferInName m.rows
   pub configured : (row : GrantRow) → Contains m.rows row → IsRow row
   pub owned : (frame : Frame) (client : ClientId) → m.owner frame ≡ Some client
-      → (1 ≤ client.0) × (client.0 ≤ 8) × (40 ≤ frame.0) × (frame.0 < 1024)
+      → (1 ≤ client.0) × (client.0 ≤ 8) × (DRIVER_FRAMES ≤ frame.0) × (frame.0 < MOST_FRAMES)
 
 -- the step puts a disk in at this port
 abbrev pub plugs : Port → Step → Bool

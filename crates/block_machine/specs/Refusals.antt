@@ -9,6 +9,7 @@ use Rattle.ata_types.specs.declared.request.RequestId.{RequestId}
 use Rattle.ata_types.specs.declared.request.Request.{Request}
 use Rattle.ata_types.specs.declared.request.Op.TheVariants.{Trim, Flush}
 use Rattle.ata_types.specs.declared.grant.GrantRow.{GrantRow}
+use Rattle.ata_types.specs.declared.memory.TheConstants.{FRAME_BYTES}
 use Rattle.ata_types.specs.declared.refusal.Refusal.{Refusal}
 use Rattle.ata_types.specs.declared.refusal.Refusal.TheVariants as refused
 use Rattle.ata_types.specs.declared.refusal.MemFault.{MemFault}
@@ -75,7 +76,7 @@ IsFirstRefusal s r refusal = Applies s r refusal
 abbrev pub MemApplies : (Frame → Option ClientId) → (Frame → Option RequestId) → ClientId → Frame → ℕ → ℕ → MemFault → Type 0
 MemApplies owner lent client frame offset count FrameForeign = owner frame ≢ Some client
 MemApplies owner lent client frame offset count FrameLent = IsSome (lent frame)
-MemApplies owner lent client frame offset count OutsideFrame = 4096 < offset + count
+MemApplies owner lent client frame offset count OutsideFrame = FRAME_BYTES < offset + count
 
 -- the numbers of these causes say which is told first
 abbrev pub mem_fault_number : MemFault → ℕ

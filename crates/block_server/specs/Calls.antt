@@ -3,6 +3,7 @@ use Rattle.std.specs.Prelude.{ℕ, Bool, true, false, ◌≡◌, ◌+◌, ◌*�
 use Rattle.std.specs.declared.result.Result.{Result}
 use Rattle.ata_types.specs.declared.Port.{Port}
 use Rattle.ata_types.specs.declared.grant.GrantRow.{GrantRow}
+use Rattle.ata_types.specs.declared.memory.TheConstants.{FRAME_BYTES}
 use Rattle.ata_types.specs.declared.refusal.MemFault.{MemFault}
 use Rattle.ata_types.specs.declared.refusal.Refusal.{Refusal}
 use Rattle.ata_types.specs.declared.request.ClientId.{ClientId}
@@ -55,7 +56,7 @@ pub record Services {A : Type 0} (device : A → Device) (old new : ServerView A
 abbrev pub LoadsFrame : {A : Type 0} → (A → Device) → ServerView A → ServerView A → ClientId → Frame → ℕ → List ℕ → List ℕ → Result (Unit {0}) MemFault → Type 0
 LoadsFrame device old new client frame offset before bytes (Ok done) =
     IsOpen (owner_of old.table) (lent_to old.table) client frame offset (length before)
-    × Loads (4096 * frame.0 + offset) bytes (device old.adapter) (device new.adapter) × SameServer old new
+    × Loads (FRAME_BYTES * frame.0 + offset) bytes (device old.adapter) (device new.adapter) × SameServer old new
 LoadsFrame device old new client frame offset before bytes (Err fault) =
     IsFirstMemFault (owner_of old.table) (lent_to old.table) client frame offset (length before) fault
     × (new ≡ old) × (bytes ≡ before)
@@ -66,7 +67,7 @@ LoadsFrame device old new client frame offset before bytes (Err fault) =
 abbrev pub StoresFrame : {A : Type 0} → (A → Device) → ServerView A → ServerView A → ClientId → Frame → ℕ → List ℕ → Result (Unit {0}) MemFault → Type 0
 StoresFrame device old new client frame offset bytes (Ok done) =
     IsOpen (owner_of old.table) (lent_to old.table) client frame offset (length bytes)
-    × Stores (4096 * frame.0 + offset) bytes (device old.adapter) (device new.adapter) × SameServer old new
+    × Stores (FRAME_BYTES * frame.0 + offset) bytes (device old.adapter) (device new.adapter) × SameServer old new
 StoresFrame device old new client frame offset bytes (Err fault) =
     IsFirstMemFault (owner_of old.table) (lent_to old.table) client frame offset (length bytes) fault × (new ≡ old)
 

@@ -2,6 +2,7 @@
 use Rattle.std.specs.Prelude.{ℕ, false, ◌≡◌, ◌≤◌, ◌*◌, List, [], None, map, Some}
 use Rattle.std.specs.List.{Contains}
 use Rattle.ata_types.specs.declared.grant.GrantRow.{GrantRow}
+use Rattle.ata_types.specs.declared.memory.TheConstants.{FRAME_BYTES}
 use Rattle.ata_types.specs.declared.request.ClientId.{ClientId}
 use Rattle.ata_types.specs.declared.request.Frame.{Frame}
 use Rattle.adapter.specs.Device.{Device}
@@ -21,7 +22,7 @@ use Rattle.block_server.specs.declared.types.ServerError.TheVariants.{BadConfig,
 -- The adapter is idle; and where the configuration is sound, it has the frames.
 pub record IsReadyFor (config : Config) (d : Device) : Type 0 where
   pub idle : IsIdle d
-  pub room : IsSound config → 4096 * config.frames ≤ d.size
+  pub room : IsSound config → FRAME_BYTES * config.frames ≤ d.size
 
 -- a row without the rights to trim and to flush
 abbrev pub transfer_row : GrantRow → GrantRow

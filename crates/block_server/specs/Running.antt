@@ -1,5 +1,6 @@
 -- What a list of events does, one call after another.
 use Rattle.std.specs.Prelude.{ℕ, ◌≡◌, ◌+◌, ◌*◌, min, map, reverse, List, [], ◌∷◌, ◌++◌, length, Ok, Err}
+use Rattle.ata_types.specs.declared.memory.TheConstants.{FRAME_BYTES}
 use Rattle.ata_types.specs.declared.refusal.MemFault.{MemFault}
 use Rattle.ata_types.specs.declared.request.ClientId.{ClientId}
 use Rattle.ata_types.specs.declared.request.Frame.{Frame}
@@ -24,7 +25,7 @@ use Rattle.block_server.specs.declared.types.Said.TheVariants as said
 abbrev pub TellsBytes : {A : Type 0} → (A → Device) → ServerView A → ServerView A → ClientId → Frame → ℕ → ℕ → List ℕ → Type 0
 TellsBytes device old new client frame offset n bytes = (length bytes ≡ n)
     × IsOpen (owner_of old.table) (lent_to old.table) client frame offset n
-    × Loads (4096 * frame.0 + offset) bytes (device old.adapter) (device new.adapter)
+    × Loads (FRAME_BYTES * frame.0 + offset) bytes (device old.adapter) (device new.adapter)
     × SameServer old new
 
 -- the first cause against the access is told, and nothing changes

@@ -6,8 +6,8 @@ use crate::ServerError;
 use adapter::{Adapter, DeviceStep, Stepped};
 use arrayvec::ArrayVec;
 use ata_types::{
-    ClientId, Frame, GrantRow, MemFault, Op, Outcome, Port, PortState, Refusal, Replies, Reply,
-    Request, RequestId, Rights,
+    ClientId, FRAME_BYTES, Frame, GrantRow, MemFault, Op, Outcome, Port, PortState, Refusal,
+    Replies, Reply, Request, RequestId, Rights,
 };
 use configuration::Config;
 use dma_frames::FrameTable;
@@ -24,8 +24,6 @@ use transfers::{Look, is_done, issue, look_at};
 const CLIENT_PLACES: usize = 16;
 
 const MOST_GRANTS: usize = 64;
-
-const FRAME_BYTES: u32 = 4096;
 
 /// A server of reads and writes on up to four ports of an adapter. It can't be dropped: `close` ends it.
 pub struct Server<A: Adapter> {
@@ -315,7 +313,7 @@ impl<A: Adapter> Server<A> {
         offset: u32,
         length: usize,
     ) -> Result<u32, MemFault>
-        ensures ok { IfOk result (λ address. IsOpen (owner_of self.now.table) (lent_to self.now.table) client frame offset length × (address ≡ 4096 * frame.0 + offset)) }
+        ensures ok { IfOk result (λ address. IsOpen (owner_of self.now.table) (lent_to self.now.table) client frame offset length × (address ≡ FRAME_BYTES * frame.0 + offset)) }
         ensures err { IfErr result (IsFirstMemFault (owner_of self.now.table) (lent_to self.now.table) client frame offset length) }
     {
         if self.table.owner(frame) != Some(client) {

@@ -1,5 +1,6 @@
 -- What is stored for a slot's command (AHCI 1.3.1, 4.2.2 and 4.2.3), and what the stores may touch.
 use Rattle.std.specs.Prelude.{ℕ, ◌≡◌, ◌+◌, ◌*◌, ◌≤◌, ◌<◌, ◌⊎◌, List, length, slice_index_or, All}
+use Rattle.ata_types.specs.declared.memory.TheConstants.{HEADER_BYTES, TABLE_BYTES}
 use Rattle.byteorder.specs.Endian.{little_from}
 use Rattle.adapter.specs.Access.{Access}
 use Rattle.adapter.specs.Access.Access.{Storing}
@@ -30,13 +31,13 @@ pub record IsTableFor (slot : ℕ) (command : Command) (prds : List Prd) (m : Me
   pub in_order : places ≡ pieces prds
   pub as_many : length places ≡ pieces_moved m.operation m.count
 
--- The bytes are 32 in the place of the slot's header, of which PRDBC, 4 to 7, is zero: nothing was moved for the command yet.
+-- The bytes stand in the place of the slot's header, as many as it has; of them PRDBC, 4 to 7, is zero: nothing was moved for the command yet.
 abbrev pub IsHeader : ℕ → ℕ → ℕ → List ℕ → Type 0
-IsHeader port slot at bytes = (at ≡ list_of port + 32 * slot) × (length bytes ≡ 32) × (little_from 4 4 bytes ≡ 0)
+IsHeader port slot at bytes = (at ≡ list_of port + HEADER_BYTES * slot) × (length bytes ≡ HEADER_BYTES) × (little_from 4 4 bytes ≡ 0)
 
 -- the bytes are of the slot's table
 abbrev pub IsInTable : ℕ → ℕ → ℕ → List ℕ → Type 0
-IsInTable port slot at bytes = (table_of port slot ≤ at) × (at + length bytes ≤ table_of port slot + 1024)
+IsInTable port slot at bytes = (table_of port slot ≤ at) × (at + length bytes ≤ table_of port slot + TABLE_BYTES)
 
 -- it stores such a header, or such bytes
 abbrev pub IsTableStore : ℕ → ℕ → Access → Type 0

@@ -21,7 +21,10 @@ pub mod laws;
 
 use adapter::{Adapter, Command, Prd};
 use arrayvec::ArrayVec;
-use ata_types::{Frame, Port, Slot};
+use ata_types::{
+    DRIVER_BYTES, FRAME_BYTES, Frame, HEADER_BYTES, PORT_BYTES, Port, Slot, TABLE_ALIGNMENT,
+    TABLE_BYTES, TABLES,
+};
 use fis::encode_h2d;
 
 const FIS_DWORDS: u32 = 5;
@@ -35,18 +38,6 @@ const WRITE_DMA_EXT: u8 = 0x35;
 
 const WRITE_FPDMA_QUEUED: u8 = 0x61;
 
-const FRAME_BYTES: u32 = 4096;
-
-/// Bytes of the ten frames that the driver has for each port: its command list stands at their head, and the first command table
-/// in their second frame.
-const PORT_BYTES: u32 = 40960;
-
-const TABLES: u32 = 4096;
-
-const TABLE_BYTES: u32 = 1024;
-
-const HEADER_BYTES: u32 = 32;
-
 /// Writes the bytes into the buffer, from a place on.
 fn store_at(buffer: &mut [u8], at: usize, bytes: &[u8])
     requires { at + length bytes.now ≤ length buffer.old }
@@ -59,7 +50,7 @@ fn store_at(buffer: &mut [u8], at: usize, bytes: &[u8])
 
 /// The header of a command with so many PRDs in the table at this address. `writes` says that the device reads memory.
 pub fn header(writes: bool, entries: u16, table: u32) -> [u8; 32]
-    requires { table % 128 ≡ 0 }
+    requires { table % TABLE_ALIGNMENT ≡ 0 }
     ensures says { SpellsHeader result writes entries table }
     ensures none_moved { little_from 4 4 result ≡ 0 }
 {
@@ -85,12 +76,12 @@ fn prd_bytes(prd: &Prd) -> [u8; 16]
     ]
 }
 
-/// The PRDs that cover the first bytes of the frames, in order: one a frame, each but the last of 4096 bytes.
+/// The PRDs that cover the first bytes of the frames, in order: one a frame, each but the last of `FRAME_BYTES` bytes.
 pub fn prds(frames: &[Frame], bytes: u32) -> ArrayVec<Prd, 32>
     requires room { length frames.now ≤ 32 }
     requires even { bytes % 2 ≡ 0 }
-    requires within { bytes ≤ 4096 * length frames.now }
-    requires last { 4096 * length frames.now < bytes + 4096 }
+    requires within { bytes ≤ FRAME_BYTES * length frames.now }
+    requires last { FRAME_BYTES * length frames.now < bytes + FRAME_BYTES }
     ensures allowed { All IsAllowed result.items }
     ensures whole { bytes % 512 ≡ 0 → All IsWhole result.items }
     ensures places { bytes % 512 ≡ 0 → pieces result.items ≡ places_of frames.now (bytes / 512) }
@@ -147,7 +138,7 @@ pub fn write_table<A: Adapter>(
 )
     requires on { IsOn (A.device adapter.old) }
     requires agreed { AgreesWith (IsUnused port.0 slot.0) (A.device adapter.old) }
-    requires room { 163840 ≤ (A.device adapter.old).size }
+    requires room { DRIVER_BYTES ≤ (A.device adapter.old).size }
     requires port { port.0 < 4 }
     requires slot { slot.0 < 32 }
     requires lba { command.now.lba < 2 ^ 48 }
@@ -155,7 +146,7 @@ pub fn write_table<A: Adapter>(
     requires allowed { All IsAllowed prds.now }
     ensures on { IsOn (A.device adapter.new) }
     ensures followed { IsFollowed (IsTableStore port.0 slot.0) (IsUnused port.0 slot.0) (A.device adapter.old) (A.device adapter.new) }
-    ensures none_moved { little_from 4 4 (bytes_at (A.device adapter.new).memory (list_of port.0 + 32 * slot.0) 32) ≡ 0 }
+    ensures none_moved { little_from 4 4 (bytes_at (A.device adapter.new).memory (list_of port.0 + HEADER_BYTES * slot.0) HEADER_BYTES) ≡ 0 }
     ensures says { (m : Meaning) (places : List ℕ) → IsTableFor slot.0 command.now prds.now m places
         → Told (A.device adapter.new).memory (list_of port.0) port.0 slot.0 m places }
 {

@@ -1,5 +1,6 @@
 -- The ranges of the numbers and texts in the lists of a configuration (this project's own).
 use Rattle.std.specs.Prelude.{◌≡◌, ◌≢◌, ◌==◌, ◌∷◌, if◌then◌else◌, Bool, ◌+◌, ◌^◌, ◌≤◌, ◌++◌, ℕ, List, [], All, IfSome, codes, length, string_bytes}
+use Rattle.ata_types.specs.declared.memory.TheConstants.{DRIVER_FRAMES}
 use Rattle.configuration.specs.declared.PortConfig.{PortConfig}
 use Rattle.configuration.specs.declared.ClientConfig.{ClientConfig}
 use Rattle.configuration.specs.declared.GrantConfig.{GrantConfig}
@@ -14,11 +15,11 @@ pub record IsPort (p : PortConfig) : Type 0 where
   pub number : p.number ≤ 3
   pub serial : IfSome p.serial (λ s. IsSerial (string_bytes s))
 
--- The client's frames begin at 40 or above and end within the memory's.
+-- The client's frames begin behind the driver's and end within the memory's.
 pub record IsClient (memory_frames : ℕ) (c : ClientConfig) : Type 0 where
   pub least : 1 ≤ c.id
   pub most : c.id ≤ 8
-  pub first_frame : 40 ≤ c.first_frame
+  pub first_frame : DRIVER_FRAMES ≤ c.first_frame
   pub some : 1 ≤ c.frames
   pub within : c.first_frame + c.frames ≤ memory_frames
 

@@ -1,5 +1,6 @@
 -- The rules that the values of a configuration have to meet (this project's own).
 use Rattle.std.specs.Prelude.{◌≡◌, ◌≢◌, ◌⊎◌, ◌+◌, ◌<◌, ◌≤◌, ℕ, List, All, Any, AllPairs, codes, length, string_bytes}
+use Rattle.ata_types.specs.declared.memory.TheConstants.{FEWEST_FRAMES, MOST_FRAMES}
 use Rattle.configuration.specs.declared.Config.{Config}
 use Rattle.configuration.specs.declared.PortConfig.{PortConfig}
 use Rattle.configuration.specs.declared.ClientConfig.{ClientConfig}
@@ -9,7 +10,7 @@ use Rattle.configuration.specs.declared.Kind.TheVariants.{NotToml, WrongKeys, Wr
 use Rattle.configuration.specs.Ranges.{IsPort, IsClient, IsGrant}
 
 pub record HasNumbersInRange (c : Config) : Type 0 where
-  pub frames : (41 ≤ c.frames) × (c.frames ≤ 1024)
+  pub frames : (FEWEST_FRAMES ≤ c.frames) × (c.frames ≤ MOST_FRAMES)
   pub slots : (1 ≤ c.slots) × (c.slots ≤ 32)
   pub depth : (1 ≤ c.depth) × (c.depth ≤ 32)
   pub few_grants : length c.grant.items ≤ 64

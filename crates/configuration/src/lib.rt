@@ -30,7 +30,7 @@ pub struct PortConfig {
 pub struct ClientConfig {
     /// The client, 1 to 8.
     pub id: u64,
-    /// Its first frame, 40 or above.
+    /// Its first frame, which is behind the driver's: `DRIVER_FRAMES` of ata_types or above.
     pub first_frame: u64,
     /// How many frames it has: 1 or more, which end within the memory's.
     pub frames: u64,
@@ -56,7 +56,7 @@ pub struct GrantConfig {
 /// The configuration of a block server and of the model behind it.
 #[derive(Debug, Drop)]
 pub struct Config {
-    /// How many frames of 4096 bytes the memory has, 41 to 1024.
+    /// How many frames the memory has, `FEWEST_FRAMES` to `MOST_FRAMES` of ata_types.
     pub frames: u64,
     /// How many command slots the adapter has, 1 to 32.
     pub slots: u64,

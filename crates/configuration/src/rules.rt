@@ -5,13 +5,7 @@ ghost use Rattle.configuration.specs.Ranges.{IsClient, IsGrant, IsPort, IsRights
 ghost use Rattle.configuration.specs.Rules.{AreApart, DifferInId, DifferInName, DifferInNumber, HasClient, HasPort};
 
 use super::{ClientConfig, Config, GrantConfig, Kind, PortConfig};
-
-/// The frames of the driver are those below this one; from it on frames are clients'.
-const FIRST_CLIENT_FRAME: u64 = 40;
-
-const FEWEST_FRAMES: u64 = 41;
-
-const MOST_FRAMES: u64 = 1024;
+use ata_types::{DRIVER_FRAMES, FEWEST_FRAMES, MOST_FRAMES};
 
 /// The most command slots that a port can have, and the greatest queue depth that a disk can have.
 const MOST_SLOTS: u64 = 32;
@@ -76,7 +70,7 @@ impl ClientConfig {
         ensures { IsTrue result ↔ IsClient memory_frames self.now }
     {
         (1..=CLIENTS).contains(&self.id)
-            && FIRST_CLIENT_FRAME <= self.first_frame
+            && u64::from(DRIVER_FRAMES) <= self.first_frame
             && 1 <= self.frames
             && self.frames <= memory_frames
             && self.first_frame <= memory_frames - self.frames
@@ -227,7 +221,7 @@ impl Config {
     fn has_numbers_in_range(&self) -> bool
         ensures { IsTrue result ↔ HasNumbersInRange self.now }
     {
-        (FEWEST_FRAMES..=MOST_FRAMES).contains(&self.frames)
+        (u64::from(FEWEST_FRAMES)..=u64::from(MOST_FRAMES)).contains(&self.frames)
             && (1..=MOST_SLOTS).contains(&self.slots)
             && (1..=MOST_SLOTS).contains(&self.depth)
             && self.grant.len() <= MOST_GRANTS

@@ -1,5 +1,6 @@
 -- What a model with its disks stands for.
 use Rattle.std.specs.Prelude.{ℕ, Bool, true, false, ◌≡◌, ◌≢◌, ◌+◌, ◌-◌, ◌*◌, ◌^◌, ◌<◌, ◌&&◌, List, [], ◌∷◌, Option, if◌then◌else◌, count_ones, map}
+use Rattle.ata_types.specs.declared.memory.TheConstants.{FRAME_BYTES}
 use Rattle.adapter.specs.Device.{PortState, Device}
 use Rattle.adapter.specs.FirstRead.{no_notes}
 use Rattle.device_model.specs.Whole.{Outside, device_of, outside_of, first_disk}
@@ -41,7 +42,7 @@ pub record IsReset (p : PortState) : Type 0 where
 -- A new adapter has what its configuration says, its ports too, and a disk in port 0 alone. It is switched off, its memory is
 -- zero, and its ports are as after a reset.
 pub record IsNew (config : ModelConfig) (size : ℕ) (told : Option (ℕ → List ℕ)) (d : Device) : Type 0 where
-  pub memory : d.size ≡ 4096 * config.frames
+  pub memory : d.size ≡ FRAME_BYTES * config.frames
   pub cap : d.cap ≡ cap_of config.pi config.slots config.ncq
   pub pi : d.pi ≡ config.pi
   pub disk : (d.port 0).disk ≡ first_disk size told

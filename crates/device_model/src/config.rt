@@ -5,7 +5,7 @@ use std::alloc::AllocError;
 /// The adapter and the disks that are modelled.
 #[derive(Clone, Copy, Debug, PartialEq, Eq)]
 pub struct ModelConfig {
-    /// The memory, in frames of 4096 bytes: 41 to 1024.
+    /// The memory, in frames: `FEWEST_FRAMES` to `MOST_FRAMES` of ata_types.
     pub frames: u16,
     /// Which of ports 0 to 3 there are, by the bits of PI: 1 to 15.
     pub pi: u8,

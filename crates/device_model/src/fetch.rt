@@ -10,6 +10,7 @@ ghost use Rattle.device_model.specs.View.{Takes, operation_of, taken_of};
 
 use crate::port::{TakenCommand, Transfer};
 use adapter::Prd;
+use ata_types::{HEADER_BYTES, TABLE_ALIGNMENT};
 use byteorder::{ByteOrder, LittleEndian};
 
 /// What a command header says: how many PRDs there are, and where the command table is.
@@ -69,7 +70,10 @@ fn decode_header(bytes: &[u8], writes: bool) -> Option<Header>
 {
     let first = if writes { 0x45 } else { 0x05 };
     let table = LittleEndian::read_u32(&bytes[8..]);
-    if LittleEndian::read_u16(bytes) != first || table % 128 != 0 || !are_zero(bytes, 12, 32) {
+    if LittleEndian::read_u16(bytes) != first
+        || table % TABLE_ALIGNMENT != 0
+        || !are_zero(bytes, 12, 32)
+    {
         return None;
     }
     Some(Header {
@@ -170,8 +174,8 @@ fn decode_prd(bytes: &[u8]) -> Option<Prd>
 /// The header at an address, if there is one of a command that reads memory, or doesn't.
 fn header_at(memory: &[u8], at: usize, writes: bool) -> Option<Header>
     requires { at < 2 ^ 33 }
-    ensures found { IfSome result (λ h. SpellsHeader (bytes_at (bytes_of memory.now) at 32) writes h.entries h.table) }
-    ensures only { (h : Header) → SpellsHeader (bytes_at (bytes_of memory.now) at 32) writes h.entries h.table → result ≡ Some h }
+    ensures found { IfSome result (λ h. SpellsHeader (bytes_at (bytes_of memory.now) at HEADER_BYTES) writes h.entries h.table) }
+    ensures only { (h : Header) → SpellsHeader (bytes_at (bytes_of memory.now) at HEADER_BYTES) writes h.entries h.table → result ≡ Some h }
 {
     let mut bytes = [0; 32];
     copy_bytes(memory, at, &mut bytes);
@@ -256,7 +260,11 @@ pub fn read_as(memory: &[u8], list: u32, slot: u8, transfer: Transfer) -> Option
     ensures only { result ≡ None → (m : Meaning) (places : List ℕ) → m.operation ≡ operation_of transfer → Says (bytes_of memory.now) list slot m places → ⊥ }
 {
     let writes = transfer.reads_memory();
-    let Some(header) = header_at(memory, list as usize + 32 * usize::from(slot), writes) else {
+    let Some(header) = header_at(
+        memory,
+        list as usize + HEADER_BYTES as usize * usize::from(slot),
+        writes,
+    ) else {
         return None;
     };
     let table = header.table as usize;

@@ -27,7 +27,7 @@ use crate::hardware::{Hardware, PORTS};
 use crate::port::{PortModel, Transfer};
 use crate::steps::NextMove;
 use adapter::{Adapter, DeviceStep, DiskNumber, DiskPage, Entry, Stepped};
-use ata_types::{Port, Slot};
+use ata_types::{FEWEST_FRAMES, FRAME_BYTES, MOST_FRAMES, Port, Slot};
 use hba_regs::Reg;
 use sector_store::SectorStore;
 use sector_store::pages::{Abilities, identify_page};
@@ -75,7 +75,7 @@ impl<S: SectorStore> Model<S> {
     /// An adapter as after its reset, with the ports that are asked for, memory of zeros, and the disks 0 and 1 of port 0.
     /// Disk 0 is plugged in. It tells its disks' sectors where both stores do.
     pub fn new(alloc: Global, config: ModelConfig, disk0: S, disk1: S) -> Result<Model<S>, NoMemory>
-        requires frames { (41 ≤ config.frames) × (config.frames ≤ 1024) }
+        requires frames { (FEWEST_FRAMES ≤ config.frames) × (config.frames ≤ MOST_FRAMES) }
         requires ports { (1 ≤ config.pi) × (config.pi ≤ 15) }
         requires slots { (1 ≤ config.slots) × (config.slots ≤ 32) }
         requires depth { (1 ≤ config.depth) × (config.depth ≤ 32) }
@@ -90,7 +90,7 @@ impl<S: SectorStore> Model<S> {
         ensures says { IfOk result (λ m. m.says ≡ record { abilities = record { ncq = config.ncq; depth = config.depth; trim = config.trim }; lies = no_lies }) }
     {
         let hardware = Hardware {
-            memory: vec![in alloc; 0u8; 4096 * usize::from(config.frames)]?,
+            memory: vec![in alloc; 0u8; FRAME_BYTES as usize * usize::from(config.frames)]?,
             ports: [
                 PortModel::new(true),
                 PortModel::new(false),

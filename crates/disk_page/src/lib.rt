@@ -15,7 +15,7 @@ ghost use Rattle.disk_page.specs.Waiting.{IsWaiting};
 pub mod laws;
 
 use adapter::{Adapter, Command};
-use ata_types::{Frame, Port, Slot};
+use ata_types::{DRIVER_BYTES, FRAME_BYTES, Frame, PORT_FRAMES, Port, SCRATCH_FRAME, Slot};
 use command_table::{prds, write_table};
 use hba_regs::{PortReg, Reg, is_set};
 
@@ -32,13 +32,6 @@ const READ_LOG_EXT: u8 = 0x2f;
 const QUEUED_ERROR_LOG: u64 = 0x10;
 
 const PAGE_BYTES: u32 = 512;
-
-const FRAME_BYTES: u32 = 4096;
-
-/// The driver has ten frames for each port. The last one is its scratch frame.
-const PORT_FRAMES: u16 = 10;
-
-const SCRATCH: u16 = 9;
 
 /// A page that a disk can be asked for.
 #[derive(Clone, Copy, Debug, PartialEq, Eq)]
@@ -70,7 +63,7 @@ fn command(page: Page) -> Command
 fn ask<A: Adapter>(adapter: &mut A, port: Port, page: Page)
     requires on { IsOn (A.device adapter.old) }
     requires there { HasPort (A.device adapter.old) port.0 }
-    requires room { 163840 ≤ (A.device adapter.old).size }
+    requires room { DRIVER_BYTES ≤ (A.device adapter.old).size }
     requires agreed { AgreesWith (IsUnused port.0 0) (A.device adapter.old) }
     requires may { MayAsk port.0 (A.device adapter.old) }
     ensures followed { IsFollowedTo (IsAsking port) (IsUnused port.0 0) (λ uses. put uses port.0 0 (Own (operation_of page))) (A.device adapter.old) (A.device adapter.new) }
@@ -81,7 +74,7 @@ fn ask<A: Adapter>(adapter: &mut A, port: Port, page: Page)
     ensures later { length (A.device adapter.old).tape ≤ length (A.device adapter.new).tape }
     ensures det { ((A.device adapter.new).port port.0).sctl_det ≡ 0 }
 {
-    let scratch = Frame(PORT_FRAMES * u16::from(port.0) + SCRATCH);
+    let scratch = Frame(PORT_FRAMES * u16::from(port.0) + SCRATCH_FRAME);
     let prds = prds(&[scratch], PAGE_BYTES);
     write_table(adapter, port, Slot(0), &command(page), prds.as_slice());
     adapter.write(Reg::Px(port, PortReg::Ci), 1);
@@ -112,7 +105,7 @@ fn wait<A: Adapter>(adapter: &mut A, port: Port) -> bool
 pub fn read_page<A: Adapter>(adapter: &mut A, port: Port, page: Page) -> Option<[u8; 512]>
     requires on { IsOn (A.device adapter.old) }
     requires there { HasPort (A.device adapter.old) port.0 }
-    requires room { 163840 ≤ (A.device adapter.old).size }
+    requires room { DRIVER_BYTES ≤ (A.device adapter.old).size }
     requires agreed { AgreesWith (IsUnused port.0 0) (A.device adapter.old) }
     requires may { MayAsk port.0 (A.device adapter.old) }
     ensures on { IsOn (A.device adapter.new) }
@@ -126,7 +119,7 @@ pub fn read_page<A: Adapter>(adapter: &mut A, port: Port, page: Page) -> Option<
         return None;
     }
     let mut bytes = [0; 512];
-    let scratch = FRAME_BYTES * u32::from(PORT_FRAMES * u16::from(port.0) + SCRATCH);
+    let scratch = FRAME_BYTES * u32::from(PORT_FRAMES * u16::from(port.0) + SCRATCH_FRAME);
     adapter.load(scratch, &mut bytes);
     Some(bytes)
 }

@@ -1,5 +1,6 @@
 -- Who owns each frame, and which request each frame is lent to.
 use Rattle.std.specs.Prelude.{◌≡◌, ℕ, ◌+◌, ◌<◌, ◌≤◌, List, Option, None, slice_index_or, All, Contains}
+use Rattle.ata_types.specs.declared.memory.TheConstants.{MOST_FRAMES}
 use Rattle.ata_types.specs.declared.request.ClientId.{ClientId}
 use Rattle.ata_types.specs.declared.request.Frame.{Frame}
 use Rattle.ata_types.specs.declared.request.RequestId.{RequestId}
@@ -31,9 +32,9 @@ Run = ClientId × Frame × ℕ
 abbrev pub HasFrame : Run → Frame → Type 0
 HasFrame run f = (run.1.0 ≤ f.0) × (f.0 < run.1.0 + run.2)
 
--- The owner is one of 1 to 8, and each frame is one of the memory's 1024. A run of no frames may begin anywhere.
+-- The owner is one of 1 to 8, and each frame is one of the largest memory's. A run of no frames may begin anywhere.
 abbrev pub IsRun : Run → Type 0
-IsRun run = (1 ≤ run.0.0) × (run.0.0 ≤ 8) × ((f : Frame) → HasFrame run f → f.0 < 1024)
+IsRun run = (1 ≤ run.0.0) × (run.0.0 ≤ 8) × ((f : Frame) → HasFrame run f → f.0 < MOST_FRAMES)
 
 -- no frame is in both
 abbrev pub AreApart : Run → Run → Type 0

@@ -7,11 +7,11 @@ ghost use Rattle.dma_frames.specs.Places.{IsLeastPlace};
 ghost use Rattle.dma_frames.specs.Table.{Run, owner_of, lent_to, LendsOnly, HasFrame, IsRun, AreApart};
 
 use arrayvec::ArrayVec;
-use ata_types::{ClientId, Frame, FrameFault, RequestId};
+use ata_types::{ClientId, Frame, FrameFault, MOST_FRAMES, RequestId};
 use std::marker::Model;
 
-/// The number of frames of the memory.
-pub const FRAMES: usize = 1024;
+/// The number of frames of the largest memory.
+pub const FRAMES: usize = MOST_FRAMES as usize;
 
 /// Frames that are lent to one request, at most 32. A loan can't be dropped or copied: it ends in
 /// `FrameTable::give_back` alone.
@@ -58,17 +58,18 @@ pub struct FrameTable {
 impl Model for FrameTable {
     ghost use Rattle.std.specs.Prelude.{◌≡◌, length};
     ghost use Rattle.dma_frames.specs.Table.{Table};
+    ghost use Rattle.dma_frames.specs.declared.TheConstants.{FRAMES};
 
     ghost Value = { Table };
 
     ghost view = { λ t. record { owners = t.owners; lent = t.lent } };
 
-    ghost invariant = { λ t. (length t.owners ≡ 1024) × (length t.lent ≡ 1024) };
+    ghost invariant = { λ t. (length t.owners ≡ FRAMES) × (length t.lent ≡ FRAMES) };
 }
 
 impl FrameTable {
     /// A table of runs of frames, each by its owner (1 to 8), its first frame and its number of frames, all of them
-    /// below 1024. Frames of no run are owned by nobody. Nothing is lent.
+    /// below `FRAMES`. Frames of no run are owned by nobody. Nothing is lent.
     pub fn new(runs: &[(ClientId, Frame, u16)]) -> Self
         requires runs { All IsRun runs.now }
         requires apart { AllPairs AreApart runs.now }
@@ -207,7 +208,7 @@ fn first_twice(frames: &[Frame]) -> Option<usize>
 /// Notes the owner of the run's frames.
 fn mark(owners: &mut [Option<ClientId>], run: &(ClientId, Frame, u16))
     requires run { IsRun run.now }
-    requires memory { length owners.old ≡ 1024 }
+    requires memory { length owners.old ≡ FRAMES }
     ensures these { (f : Frame) → HasFrame run.now f → slice_index_or owners.new f.0 None ≡ Some run.now.0 }
     ensures others { (f : Frame) → (HasFrame run.now f → ⊥)
         → slice_index_or owners.new f.0 None ≡ slice_index_or owners.old f.0 None }

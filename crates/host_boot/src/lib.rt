@@ -15,7 +15,7 @@ ghost use Rattle.agreement.specs.Links.{SameAdapter};
 ghost use Rattle.host_boot.specs.Taken.{Boots, WroteControl, StandsBehind, GoesThrough, IsOfHost, IsSurvey, LeavesPorts, TakesOver};
 
 use adapter::Adapter;
-use ata_types::{Port, PortState};
+use ata_types::{DRIVER_BYTES, Port, PortState};
 use hba_regs::{Capabilities, GlobalControl, Reg, is_set};
 use identify::{DiskInfo, Wanted};
 use port_boot::boot;
@@ -79,7 +79,7 @@ fn boot_port<A: Adapter>(adapter: &mut A, port: Port, implemented: u32, wanted: 
     requires on { IsOn (A.device adapter.old) }
     requires port { port.0 < 4 }
     requires there { implemented ≡ (A.device adapter.old).pi }
-    requires room { 163840 ≤ (A.device adapter.old).size }
+    requires room { DRIVER_BYTES ≤ (A.device adapter.old).size }
     requires agreed { AgreesWith (λ uses. AllFree uses port.0) (A.device adapter.old) }
     requires idle { IsIdlePort ((A.device adapter.old).port port.0) }
     ensures on { IsOn (A.device adapter.new) }
@@ -116,7 +116,7 @@ fn enable_interrupts<A: Adapter>(adapter: &mut A)
 /// number, and lets it interrupt. Ports that aren't served are left idle.
 pub fn take_over<A: Adapter>(adapter: &mut A, wanted: &[Wanted; PORTS]) -> Host
     requires idle { IsIdle (A.device adapter.old) }
-    requires room { 163840 ≤ (A.device adapter.old).size }
+    requires room { DRIVER_BYTES ≤ (A.device adapter.old).size }
     ensures taken { TakesOver wanted.now result (A.device adapter.old) (A.device adapter.new) }
     ensures four { length result.ports ≡ 4 }
 {

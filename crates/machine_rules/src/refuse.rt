@@ -8,8 +8,8 @@ ghost use Rattle.machine_rules.specs.Plain.{for_frame, shown_at, situation_in, R
 
 use arrayvec::ArrayVec;
 use ata_types::{
-    ClientId, Frame, FrameFault, GrantRow, MemFault, Op, Port, PortState, Refusal, Request,
-    RequestId, Rule,
+    ClientId, FRAME_BYTES, Frame, FrameFault, GrantRow, MemFault, Op, Port, PortState, Refusal,
+    Request, RequestId, Rule,
 };
 
 /// What a port shows of itself.
@@ -336,7 +336,7 @@ impl Tables {
         match fault {
             MemFault::FrameForeign => self.owner(frame) != Some(client),
             MemFault::FrameLent => self.lent_to(frame).is_some(),
-            MemFault::OutsideFrame => 4096 < offset as u128 + count as u128,
+            MemFault::OutsideFrame => u128::from(FRAME_BYTES) < offset as u128 + count as u128,
         }
     }
 

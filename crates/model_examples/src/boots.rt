@@ -3,7 +3,7 @@ ghost use Rattle.std.specs.Prelude.{◌≡◌, ◌≤◌, IfOk};
 ghost use Rattle.adapter.specs.Idle.{IsIdle};
 
 use adapter::{Adapter, DeviceStep, Direction, DiskPage, Entry, Move, Operation, Stepped};
-use ata_types::{Port, PortState, Slot};
+use ata_types::{DRIVER_BYTES, Port, PortState, Slot};
 use device_model::{Model, ModelConfig, Trim};
 use hba_regs::Reg;
 use host_boot::{Found, PORTS, take_over};
@@ -246,7 +246,7 @@ fn tell<A: Stepped>(adapter: &mut A, step: &DeviceStep)
 /// Takes an adapter over: what port 0 is found to be, and what the register shows then, one of CAP, PI and VS.
 fn taken_over<A: Adapter>(adapter: &mut A, r: Reg) -> (Found, u32)
     requires idle { IsIdle (A.device adapter.old) }
-    requires room { 163840 ≤ (A.device adapter.old).size }
+    requires room { DRIVER_BYTES ≤ (A.device adapter.old).size }
 {
     let host = take_over(adapter, &IMAGE_DISK);
     let shown = match r {
@@ -261,7 +261,7 @@ fn taken_over<A: Adapter>(adapter: &mut A, r: Reg) -> (Found, u32)
 fn model(alloc: Global, pi: u8) -> Result<Model<MemStore>, Fail>
     requires { (1 ≤ pi) × (pi ≤ 15) }
     ensures idle { IfOk result (λ m. IsIdle (⟦<Model<MemStore> as Adapter>⟧.device m)) }
-    ensures room { IfOk result (λ m. 163840 ≤ (⟦<Model<MemStore> as Adapter>⟧.device m).size) }
+    ensures room { IfOk result (λ m. DRIVER_BYTES ≤ (⟦<Model<MemStore> as Adapter>⟧.device m).size) }
 {
     let config = ModelConfig {
         frames: 41,

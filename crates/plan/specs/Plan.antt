@@ -1,6 +1,7 @@
 -- Which plans a server can serve, and which one a configuration stands for (this project's own).
 use Rattle.std.specs.Prelude.{ℕ, ◌≡◌, ◌≢◌, ◌+◌, ◌^◌, ◌≤◌, List, Some, All, AllPairs, length, map, slice_get}
 use Rattle.ata_types.specs.declared.grant.GrantRow.{GrantRow}
+use Rattle.ata_types.specs.declared.memory.TheConstants.{DRIVER_FRAMES, FEWEST_FRAMES, MOST_FRAMES}
 use Rattle.ata_types.specs.declared.request.ClientId.{ClientId}
 use Rattle.block_machine.specs.Rules.{DifferInName}
 use Rattle.configuration.specs.declared.Config.{Config}
@@ -24,9 +25,9 @@ planned frames owners grants wanted =
 
 -- ---- what a server can serve
 
--- a memory that the server can use: the driver's 40 frames, and one more at least
+-- a memory that the server can use: the driver's frames, and one more at least
 abbrev pub IsMemory : ℕ → Type 0
-IsMemory frames = (41 ≤ frames) × (frames ≤ 1024)
+IsMemory frames = (FEWEST_FRAMES ≤ frames) × (frames ≤ MOST_FRAMES)
 
 -- the client is one of 1 to 8
 abbrev pub IsClient : ClientId → Type 0
@@ -34,7 +35,7 @@ IsClient client = (1 ≤ client.0) × (client.0 ≤ 8)
 
 -- the run has a frame, and all its frames are clients' frames of the memory
 abbrev pub HasClientFrames : ℕ → Run → Type 0
-HasClientFrames frames run = (40 ≤ run.1.0) × (1 ≤ run.2) × (run.1.0 + run.2 ≤ frames)
+HasClientFrames frames run = (DRIVER_FRAMES ≤ run.1.0) × (1 ≤ run.2) × (run.1.0 + run.2 ≤ frames)
 
 -- Runs of client frames, each of a client, and no frame in two of them.
 pub record AreRuns (frames : ℕ) (runs : List Run) : Type 0 where

@@ -7,7 +7,7 @@ ghost use Rattle.configuration.specs.Rules.{DifferInNumber};
 ghost use Rattle.plan.specs.Parts.{run_of, rights_of, row_of, filled, disk_of, AreWantedOf, IsWantedIn};
 
 use arrayvec::ArrayVec;
-use ata_types::{ClientId, Frame, GrantRow, Port, Rights, Sector};
+use ata_types::{ClientId, Frame, GrantRow, MOST_FRAMES, Port, Rights, Sector};
 use configuration::{ClientConfig, Config, GrantConfig, Kind, PortConfig};
 use identify::Wanted;
 use std::marker::Model;
@@ -98,7 +98,7 @@ impl Plan {
 /// The frames that each client owns.
 fn runs_of(clients: &[ClientConfig]) -> ArrayVec<(ClientId, Frame, u16), CLIENTS>
     requires few { length clients.now ≤ 8 }
-    requires clients { All (IsClient 1024) clients.now }
+    requires clients { All (IsClient MOST_FRAMES) clients.now }
     ensures { result.items ≡ map run_of clients.now }
 {
     let mut runs = ArrayVec::new();
@@ -109,7 +109,7 @@ fn runs_of(clients: &[ClientConfig]) -> ArrayVec<(ClientId, Frame, u16), CLIENTS
 }
 
 fn run_of(client: &ClientConfig) -> (ClientId, Frame, u16)
-    requires { IsClient 1024 client.now }
+    requires { IsClient MOST_FRAMES client.now }
     ensures { result ≡ run_of client.now }
 {
     (

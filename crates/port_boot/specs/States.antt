@@ -4,6 +4,7 @@ use Rattle.std.specs.Prelude.{ℕ, false, ◌≡◌, ◌≢◌, ◌≤◌, ◌<�
 use Rattle.ata_types.specs.declared.Port.{Port}
 use Rattle.ata_types.specs.declared.PortState.{PortState}
 use Rattle.ata_types.specs.declared.PortState.TheVariants.{Absent, Ready, Foreign, Unfit, Dead}
+use Rattle.ata_types.specs.declared.memory.TheConstants.{DRIVER_BYTES}
 use Rattle.hba_regs.specs.declared.reg.PortReg.{PortReg}
 use Rattle.hba_regs.specs.declared.reg.PortReg.TheVariants.{Ie}
 use Rattle.hba_regs.specs.declared.reg.Reg.TheVariants.{Px}
@@ -213,7 +214,7 @@ pub record EndsLate (port : Port) (old new : Device) : Type 0 where
 pub record IsBootable (port : Port) (d : Device) : Type 0 where
   pub on : IsOn d
   pub there : HasPort d port.0
-  pub room : 163840 ≤ d.size
+  pub room : DRIVER_BYTES ≤ d.size
   pub agreed : AgreesWith (λ uses. AllFree uses port.0) d
 
 -- The port was brought up: it runs, with no command in a slot; COMRESET was sent since, and a device seen. PxIS is clear, PxSERR tells no

@@ -15,17 +15,11 @@ ghost use Rattle.agreement.specs.Started.{IsUp, IsComingUp, IsStarted};
 ghost use Rattle.port_control.specs.Ports.{WritesCommand, IsPlacing, IsClearing, IsResetting, IsUsable, IsStopped, ReceivesFises, IsRunning, SawDevice, SawIdle, Shows, SameBeside, HasStopped, HasLink, ShowsIdle, ReadsWithout, ReadsUntil, ClearsErrors, FindsSignature, Looks, WasReset, HasClearErrors, FindsDevice, IsFound, ShowsSignature, SameButStart, programmed};
 
 use adapter::Adapter;
-use ata_types::Port;
+use ata_types::{DRIVER_BYTES, PORT_BYTES, Port, RECEIVED};
 use hba_regs::{ATA_SIGNATURE, PortCommand, PortReg, Reg, SataControl, SataStatus, TaskFile};
 
 /// Readings of a register in one wait.
 pub const READINGS: u32 = 64;
-
-/// Bytes of the ten frames that the driver has for each port.
-const PORT_BYTES: u32 = 40960;
-
-/// Where a port's received FIS area begins, from its first frame on.
-const RECEIVED: u32 = 1024;
 
 const ALL_ONES: u32 = 0xffff_ffff;
 
@@ -148,7 +142,7 @@ fn stop_receiving<A: Adapter>(adapter: &mut A, port: Port) -> bool
 fn place<A: Adapter>(adapter: &mut A, port: Port)
     requires usable { IsUsable AnyUse port (A.device adapter.old) }
     requires quiet { IsAfterReset ((A.device adapter.old).port port.0) }
-    requires room { 163840 ≤ (A.device adapter.old).size }
+    requires room { DRIVER_BYTES ≤ (A.device adapter.old).size }
     ensures followed { IsFollowed (IsControl IsPlacing port) AnyUse (A.device adapter.old) (A.device adapter.new) }
     ensures quiet { IsAfterReset ((A.device adapter.new).port port.0) }
     ensures bases { ((A.device adapter.new).port port.0).bases ≡ programmed port.0 }
@@ -174,8 +168,8 @@ fn start_receiving<A: Adapter>(adapter: &mut A, port: Port)
     adapter.write(Reg::Px(port, PortReg::Cmd), command.with_receive().0);
 }
 
-/// Has a stopped port receive FISes: clears FRE, waits until FR is 0, puts the command list at 40960 times the port's
-/// number and the received FIS area 1024 bytes after it, and sets FRE (AHCI 1.3.1, 10.1.2 and 10.3.2). The other bits
+/// Has a stopped port receive FISes: clears FRE, waits until FR is 0, puts the command list at `PORT_BYTES` times the
+/// port's number and the received FIS area `RECEIVED` bytes after it, and sets FRE (AHCI 1.3.1, 10.1.2 and 10.3.2). The other bits
 /// of PxCMD are written as they were read.
 ///
 /// `EngineStuck` where 64 readings find FR set: FRE is 0 then, and the addresses are as they were.
@@ -187,7 +181,7 @@ pub fn receive<A: Adapter>(
     requires there { HasPort (A.device adapter.old) stopped.port.0 }
     requires agreed { AgreesWith AnyUse (A.device adapter.old) }
     requires stopped { IsStopped ((A.device adapter.old).port stopped.port.0) }
-    requires room { 163840 ≤ (A.device adapter.old).size }
+    requires room { DRIVER_BYTES ≤ (A.device adapter.old).size }
     ensures followed { IsFollowed (IsControl IsPlacing stopped.port) AnyUse (A.device adapter.old)
         (A.device adapter.new) }
     ensures on { IsOn (A.device adapter.new) }

@@ -4,6 +4,7 @@ use Rattle.std.specs.List.{find, list_any}
 use Rattle.ata_types.specs.Grant.{Allows, Covers}
 use Rattle.ata_types.specs.declared.Port.{Port}
 use Rattle.ata_types.specs.declared.grant.GrantRow.{GrantRow}
+use Rattle.ata_types.specs.declared.memory.TheConstants.{DRIVER_FRAMES}
 use Rattle.ata_types.specs.declared.request.Frame.{Frame}
 use Rattle.ata_types.specs.declared.request.Op.TheVariants.{Flush}
 use Rattle.block_machine.specs.Rules.{IsCount, frames_for}
@@ -45,7 +46,7 @@ pub record IsAccepted (rows : List GrantRow) (table : Table) (e : Accepted) : Ty
   pub first : e.op ≢ Flush → e.first.0 < 2 ^ 48
   pub frames : length e.loan.frames ≡ frames_for e.op e.count
   pub row : IsCovered rows e
-  pub clients : All (λ frame. 40 ≤ frame.0) e.loan.frames
+  pub clients : All (λ frame. DRIVER_FRAMES ≤ frame.0) e.loan.frames
   pub own : All (λ frame. owner_of table frame ≡ Some e.client) e.loan.frames
   pub apart : AllPairs (λ a b. a ≢ b) e.loan.frames
   pub request : e.loan.request ≡ e.id

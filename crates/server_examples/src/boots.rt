@@ -184,12 +184,10 @@ fn check(rt: &(impl Abort + AllocGlobal), boot: &Boot) -> Result<(), Fail> {
     Ok(())
 }
 
-// GHC with AE; ST and FRE are clear already; the places; FRE; COMRESET; PxSERR and PxIS; ST, with FRE and FR as they were read; slot 0; PxIE;
-// GHC with AE and IE (AHCI 1.3.1, 3.1.2, 3.3 and 10.1.2). Port 2 has its frames from 14000h on, and no disk: a wait for a device is 64
-// readings. PI of the last adapter shows port 0 alone.
-#[test]
-fn ports_that_are_wanted_and_there_are_booted(rt: HostRuntime) -> Result<(), Fail> {
-    let ready_port = [
+/// What the boot writes where port 0 has the disk that is wanted: GHC with AE; ST and FRE, which are clear already; the places; FRE; COMRESET;
+/// PxSERR and PxIS; ST, with FRE and FR as they were read; slot 0; PxIE; and GHC with AE and IE (AHCI 1.3.1, 3.1.2, 3.3 and 10.1.2).
+fn writes_of_a_ready_port() -> [Access; 16] {
+    [
         ENABLE,
         px(0, PortReg::Cmd, 0),
         px(0, PortReg::Cmd, 0),
@@ -206,8 +204,12 @@ fn ports_that_are_wanted_and_there_are_booted(rt: HostRuntime) -> Result<(), Fai
         px(0, PortReg::Ci, 1),
         px(0, PortReg::Ie, 0x7840_004b),
         ALLOW_INTERRUPTS,
-    ];
-    let absent_port = [
+    ]
+}
+
+/// What the boot writes first where a disk is wanted in port 2, which has its frames from 14000h on.
+fn first_writes_of_port_2() -> [Access; 7] {
+    [
         ENABLE,
         px(2, PortReg::Cmd, 0),
         px(2, PortReg::Cmd, 0),
@@ -215,7 +217,26 @@ fn ports_that_are_wanted_and_there_are_booted(rt: HostRuntime) -> Result<(), Fai
         px(2, PortReg::Clbu, 0),
         px(2, PortReg::Fb, 0x14400),
         px(2, PortReg::Fbu, 0),
-    ];
+    ]
+}
+
+/// The boot of an adapter with these ports, of which port 0 alone has a disk, where one is wanted in it.
+const fn port_0_is_ready(pi: u8, wanted: [Wanted; PORTS], writes: &[Access]) -> Boot {
+    Boot {
+        pi,
+        wanted,
+        found: [ready(8), UNSERVED, UNSERVED, UNSERVED],
+        read: (Port(0), 1),
+        touched: [true, false, false, false],
+        writes,
+    }
+}
+
+// Port 2 has no disk: a wait for a device is 64 readings. PI of the last adapter shows port 0 alone.
+#[test]
+fn ports_that_are_wanted_and_there_are_booted(rt: HostRuntime) -> Result<(), Fail> {
+    let ready_port = writes_of_a_ready_port();
+    let wanted_of_one = [Wanted::Any, Wanted::Any, NONE, NONE];
     for boot in [
         Boot {
             pi: ALL_PORTS,
@@ -225,30 +246,16 @@ fn ports_that_are_wanted_and_there_are_booted(rt: HostRuntime) -> Result<(), Fai
             touched: [false; PORTS],
             writes: &[ENABLE, ALLOW_INTERRUPTS],
         },
-        Boot {
-            pi: ALL_PORTS,
-            wanted: IMAGE_DISK,
-            found: [ready(8), UNSERVED, UNSERVED, UNSERVED],
-            read: (Port(0), 1),
-            touched: [true, false, false, false],
-            writes: &ready_port,
-        },
+        port_0_is_ready(ALL_PORTS, IMAGE_DISK, &ready_port),
         Boot {
             pi: ALL_PORTS,
             wanted: [NONE, NONE, Wanted::Any, NONE],
             found: [UNSERVED, UNSERVED, ABSENT, UNSERVED],
             read: (Port(2), 64),
             touched: [false, false, true, false],
-            writes: &absent_port,
+            writes: &first_writes_of_port_2(),
         },
-        Boot {
-            pi: 1,
-            wanted: [Wanted::Any, Wanted::Any, NONE, NONE],
-            found: [ready(8), UNSERVED, UNSERVED, UNSERVED],
-            read: (Port(0), 1),
-            touched: [true, false, false, false],
-            writes: &ready_port,
-        },
+        port_0_is_ready(1, wanted_of_one, &ready_port),
     ] {
         check(&rt, &boot)?;
     }

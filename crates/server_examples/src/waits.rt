@@ -6,7 +6,7 @@ ghost use Rattle.adapter.specs.Idle.{IsIdle};
 use crate::boots::IMAGE_DISK;
 use crate::watched::{ALL_PORTS, Readings, Watched, model};
 use adapter::{Adapter, DeviceStep, DiskNumber};
-use ata_types::{Port, PortState};
+use ata_types::{DRIVER_BYTES, Port, PortState};
 use hba_regs::{PortReg, Reg};
 use host_boot::{Found, take_over};
 use port_control::{PortFault, receive, stop};
@@ -43,7 +43,7 @@ const UNDISTURBED: Times = Times {
 /// Takes an adapter over, stops port 0 if it is ready, and has it receive FISes anew. A port whose engine doesn't stop is dead.
 fn received_anew<A: Adapter>(adapter: &mut A) -> PortState
     requires idle { IsIdle (A.device adapter.old) }
-    requires room { 163840 ≤ (A.device adapter.old).size }
+    requires room { DRIVER_BYTES ≤ (A.device adapter.old).size }
 {
     let host = take_over(adapter, &IMAGE_DISK);
     let Found::Ready(_) = host.ports[0] else {
@@ -148,18 +148,10 @@ fn check(rt: &(impl Abort + AllocGlobal), wait: &Wait) -> Result<(), Fail> {
 /// addresses are written; and PxCMD is read and written again.
 const RECEIVING: u64 = 9;
 
-// The engine stops after the wait for the page. Where the disk is exchanged after COMRESET was sent, DET is 3, and no first FIS has come yet,
-// so BSY stays (AHCI 1.3.1, 3.3.8 and 10.4.2).
-#[test]
-fn each_wait_is_64_readings(rt: HostRuntime) -> Result<(), Fail> {
-    let (shown, readings, _) = drive(rt.alloc(), Driven::Boot, UNDISTURBED, PortReg::Ssts)?;
-    assert_eq!(rt; shown, PortState::Ready);
-    let link = readings.first;
-    let driven = Driven::BootAndReceive;
-    let (shown, _, accesses) = drive(rt.alloc(), driven, UNDISTURBED, PortReg::Cmd)?;
-    assert_eq!(rt; shown, PortState::Ready);
-    let stopped = (accesses as u64).saturating_sub(RECEIVING - 1);
-    for wait in [
+/// The waits of a boot, where `link` is the access that first reads the link. The engine stops after the wait for the page. Where the disk is
+/// exchanged after COMRESET was sent, DET is 3, and no first FIS has come yet, so BSY stays (AHCI 1.3.1, 3.3.8 and 10.4.2).
+fn waits_of_a_boot(link: u64) -> [Wait<'static>; 4] {
+    [
         Wait {
             what: "for a page",
             held: link.saturating_add(1),
@@ -187,18 +179,33 @@ fn each_wait_is_64_readings(rt: HostRuntime) -> Result<(), Fail> {
             late: PortState::Unfit(7),
             ..A_LINK
         },
-        Wait {
-            what: "for the received FISes",
-            driven: Driven::BootAndReceive,
-            held: stopped,
-            register: PortReg::Cmd,
-            never: PortState::Dead,
-            late: PortState::Dead,
-            in_time: PortState::Ready,
-            ..A_LINK
-        },
-    ] {
+    ]
+}
+
+/// The wait for the received FISes, of a port that was stopped before this access.
+fn wait_for_received_fises(stopped: u64) -> Wait<'static> {
+    Wait {
+        what: "for the received FISes",
+        driven: Driven::BootAndReceive,
+        held: stopped,
+        register: PortReg::Cmd,
+        never: PortState::Dead,
+        late: PortState::Dead,
+        in_time: PortState::Ready,
+        ..A_LINK
+    }
+}
+
+#[test]
+fn each_wait_is_64_readings(rt: HostRuntime) -> Result<(), Fail> {
+    let (shown, readings, _) = drive(rt.alloc(), Driven::Boot, UNDISTURBED, PortReg::Ssts)?;
+    assert_eq!(rt; shown, PortState::Ready);
+    for wait in waits_of_a_boot(readings.first) {
         check(&rt, &wait)?;
     }
-    Ok(())
+    let driven = Driven::BootAndReceive;
+    let (shown, _, accesses) = drive(rt.alloc(), driven, UNDISTURBED, PortReg::Cmd)?;
+    assert_eq!(rt; shown, PortState::Ready);
+    let stopped = (accesses as u64).saturating_sub(RECEIVING - 1);
+    check(&rt, &wait_for_received_fises(stopped))
 }

@@ -3,7 +3,7 @@ ghost use Rattle.std.specs.Prelude.{◌≡◌, ◌≤◌, IfOk};
 ghost use Rattle.adapter.specs.Idle.{IsIdle};
 
 use adapter::{Adapter, DeviceStep, DiskPage, Stepped};
-use ata_types::Port;
+use ata_types::{DRIVER_BYTES, Port};
 use device_model::{Model, ModelConfig, Trim};
 use hba_regs::Reg;
 use sector_store::MemStore;
@@ -26,7 +26,7 @@ const CONFIG: ModelConfig = ModelConfig {
 pub fn model(alloc: Global, pi: u8, sectors: u32) -> Result<Model<MemStore>, Fail>
     requires { (1 ≤ pi) × (pi ≤ 15) }
     ensures idle { IfOk result (λ m. IsIdle (⟦<Model<MemStore> as Adapter>⟧.device m)) }
-    ensures room { IfOk result (λ m. 163840 ≤ (⟦<Model<MemStore> as Adapter>⟧.device m).size) }
+    ensures room { IfOk result (λ m. DRIVER_BYTES ≤ (⟦<Model<MemStore> as Adapter>⟧.device m).size) }
 {
     Ok(Model::new(
         alloc,

@@ -3,6 +3,7 @@ use Rattle.std.specs.Prelude.{ℕ, Bool, true, false, ◌≡◌, ◌≢◌, ◌�
 use Rattle.ata_types.specs.declared.Port.{Port}
 use Rattle.ata_types.specs.declared.PortState.TheVariants.{Ready as ReadyState}
 use Rattle.ata_types.specs.declared.grant.GrantRow.{GrantRow}
+use Rattle.ata_types.specs.declared.memory.TheConstants.{FRAME_BYTES}
 use Rattle.ata_types.specs.declared.refusal.MemFault.{MemFault}
 use Rattle.ata_types.specs.declared.request.Reply.{Reply}
 use Rattle.adapter.specs.Access.{Loads, Stores}
@@ -139,8 +140,8 @@ abbrev pub CameBy : Machine → List Found → Ask DeviceStep → Said → Devic
 CameBy m found (Told step) (Stepped true) old new = Asked step old new
 CameBy m found Service (Served replies) old new = HaveTurns m.book 0 found replies old new
 CameBy m found (Submit r) (Submitted (Ok id)) old new = (row : GrantRow) × IsNamed m.rows r row × IsDrivenBy (IsIssuing row.port) old new
-CameBy m found (StoreAt client frame offset bytes) (Stored None) old new = Stores (4096 * frame.0 + offset) bytes old new
-CameBy m found (LoadAt client frame offset count) (Loaded (Ok bytes)) old new = Loads (4096 * frame.0 + offset) bytes old new
+CameBy m found (StoreAt client frame offset bytes) (Stored None) old new = Stores (FRAME_BYTES * frame.0 + offset) bytes old new
+CameBy m found (LoadAt client frame offset count) (Loaded (Ok bytes)) old new = Loads (FRAME_BYTES * frame.0 + offset) bytes old new
 CameBy m found ask said old new = new ≡ old
 
 -- ---- heeding

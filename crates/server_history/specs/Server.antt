@@ -3,6 +3,7 @@ use Rattle.std.specs.Prelude.{ℕ, Bool, true, false, ◌≡◌, ◌≢◌, ◌�
 use Rattle.ata_types.specs.declared.PortState.{PortState}
 use Rattle.ata_types.specs.declared.PortState.TheVariants.{Absent, Ready as ReadyState, Dead}
 use Rattle.ata_types.specs.declared.grant.GrantRow.{GrantRow}
+use Rattle.ata_types.specs.declared.memory.TheConstants.{DRIVER_BYTES, DRIVER_FRAMES, FRAME_BYTES, MOST_FRAMES}
 use Rattle.ata_types.specs.declared.request.ClientId.{ClientId}
 use Rattle.ata_types.specs.declared.request.Frame.{Frame}
 use Rattle.ata_types.specs.declared.request.RequestId.{RequestId}
@@ -138,7 +139,8 @@ pub record IsTransferRow (row : GrantRow) : Type 0 where
 
 -- frames that have an owner are clients' frames of the memory
 abbrev pub OwnsClientFrames : Table → ℕ → Type 0
-OwnsClientFrames table size = (frame : Frame) (client : ClientId) → owner_of table frame ≡ Some client → (40 ≤ frame.0) × (4096 * frame.0 + 4096 ≤ size)
+OwnsClientFrames table size = (frame : Frame) (client : ClientId) → owner_of table frame ≡ Some client
+    → (DRIVER_FRAMES ≤ frame.0) × (FRAME_BYTES * frame.0 + FRAME_BYTES ≤ size)
 
 -- What stands behind each port, as it was found; and a ready one runs, with its command list in its place.
 pub record IsPortOf (wanted : List Wanted) (found : List Found) (port : ℕ) (d : Device) : Type 0 where
@@ -149,7 +151,7 @@ pub record IsPortOf (wanted : List Wanted) (found : List Found) (port : ℕ) (d 
 -- requests are as they were accepted, in order, and of ready ports; and some machine that a history leads to stands for the server.
 pub record IsKept (s : Server) : Type 0 where
   pub on : IsOn s.device
-  pub room : 163840 ≤ s.device.size
+  pub room : DRIVER_BYTES ≤ s.device.size
   pub there : (port : ℕ) → is_served (found_of s.ports port) ≡ true → HasPort s.device port
   pub behind : (port : ℕ) → port < 4 → IsPortOf s.wanted s.ports port s.device
   pub rows : All IsTransferRow s.grants
@@ -170,8 +172,8 @@ pub record IsNewServer (host : Host) (s : Server) : Type 0 where
   pub names : AllPairs DifferInName s.grants
   pub few : length s.grants ≤ 64
   pub owners : OwnsClientFrames s.table s.device.size
-  pub clients : (frame : Frame) (client : ClientId) → owner_of s.table frame ≡ Some client → (1 ≤ client.0) × (client.0 ≤ 8) × (frame.0 < 1024)
-  pub room : 163840 ≤ s.device.size
+  pub clients : (frame : Frame) (client : ClientId) → owner_of s.table frame ≡ Some client → (1 ≤ client.0) × (client.0 ≤ 8) × (frame.0 < MOST_FRAMES)
+  pub room : DRIVER_BYTES ≤ s.device.size
   pub lent : (frame : Frame) → lent_to s.table frame ≡ None
   pub book : s.book ≡ []
   pub last : s.last ≡ 0

@@ -2,6 +2,7 @@
 ghost use Rattle.std.specs.Prelude.{ℕ, true, false, ◌≡◌, ◌≢◌, ◌⊎◌, ◌+◌, ◌*◌, List, ◌∷◌, Some, None, Ok, Err, length, Contains};
 ghost use Rattle.ata_types.specs.declared.Port.{Port};
 ghost use Rattle.ata_types.specs.declared.PortState.TheVariants.{Ready as ReadyState};
+ghost use Rattle.ata_types.specs.declared.memory.TheConstants.{FRAME_BYTES};
 ghost use Rattle.ata_types.specs.declared.refusal.MemFault.{MemFault};
 ghost use Rattle.ata_types.specs.declared.refusal.Refusal.{Refusal};
 ghost use Rattle.ata_types.specs.declared.request.ClientId.{ClientId};
@@ -126,18 +127,18 @@ pub fn refusals_add()
 pub fn open_bytes_are_free()
     ensures { (s : Server) (client : ClientId) (frame : Frame) (offset count : ℕ) → IsKept s
         → IsOpen (owner_of s.table) (lent_to s.table) client frame offset count
-        → Stays (IsFree (4096 * frame.0 + offset) count) s.device }
+        → Stays (IsFree (FRAME_BYTES * frame.0 + offset) count) s.device }
 {}
 
 /// Bytes of an open frame that a client stores or loads add an event.
 pub fn client_bytes_add()
     ensures store { (s : Server) (new : Device) (client : ClientId) (frame : Frame) (offset : ℕ) (bytes : List ℕ) → IsKept s
         → IsOpen (owner_of s.table) (lent_to s.table) client frame offset (length bytes)
-        → Stores (4096 * frame.0 + offset) bytes s.device new
+        → Stores (FRAME_BYTES * frame.0 + offset) bytes s.device new
         → IsKept (record s { device = new }) × Adds s (record s { device = new }) (StoreAt client frame offset bytes) (store_said (Ok tt)) }
     ensures load { (s : Server) (new : Device) (client : ClientId) (frame : Frame) (offset count : ℕ) (bytes : List ℕ) → IsKept s
         → length bytes ≡ count → IsOpen (owner_of s.table) (lent_to s.table) client frame offset count
-        → Loads (4096 * frame.0 + offset) bytes s.device new
+        → Loads (FRAME_BYTES * frame.0 + offset) bytes s.device new
         → IsKept (record s { device = new }) × Adds s (record s { device = new }) (LoadAt client frame offset count) (load_said (Ok tt) bytes) }
 {}
 

@@ -1,5 +1,6 @@
 -- An adapter on which a transfer may be issued (this project's own).
 use Rattle.std.specs.Prelude.{true, ◌≡◌, ◌<◌, ◌≤◌}
+use Rattle.ata_types.specs.declared.memory.TheConstants.{DRIVER_BYTES}
 use Rattle.adapter.specs.Rules.{IsOn, HasPort}
 use Rattle.block_machine.specs.Due.{is_plain}
 use Rattle.block_machine.specs.State.{Pending}
@@ -15,7 +16,7 @@ use Rattle.transfers.specs.Transfers.{IsTransfer, MayTransfer}
 pub record FirstMayBeIssued : Type 0 where
   pub on : IsOn prepared_read
   pub there : HasPort prepared_read 0
-  pub room : 163840 ≤ prepared_read.size
+  pub room : DRIVER_BYTES ≤ prepared_read.size
   pub may : MayTransfer 0 prepared_read
   pub agreed : IsAgreed (λ port slot. Free) prepared_read
   pub mode : Mode

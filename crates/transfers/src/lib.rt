@@ -15,7 +15,7 @@ ghost use Rattle.transfers.specs.Looks.{look_of, IsBitOf, IsLooking, LooksAt};
 ghost use Rattle.transfers.specs.Transfers.{IsTransfer, operation_of, meaning_of, MayTransfer, IssuesTransfer, IsFinding, FindsTransfer, ReadsDone};
 
 use adapter::{Adapter, Command};
-use ata_types::{Frame, Op, Port, Sector, Slot};
+use ata_types::{DRIVER_BYTES, DRIVER_FRAMES, Frame, Op, Port, Sector, Slot};
 use command_table::{prds, write_table};
 use hba_regs::{PortInterrupts, PortReg, Reg, SataStatus, is_set, with_bit};
 
@@ -85,7 +85,7 @@ pub fn issue<A: Adapter>(
 )
     requires on { IsOn (A.device adapter.old) }
     requires there { HasPort (A.device adapter.old) port.0 }
-    requires room { 163840 ≤ (A.device adapter.old).size }
+    requires room { DRIVER_BYTES ≤ (A.device adapter.old).size }
     requires agreed { AgreesWith (IsUnused port.0 0) (A.device adapter.old) }
     requires may { MayTransfer port.0 (A.device adapter.old) }
     requires transfers { IsTransfer op }
@@ -93,7 +93,7 @@ pub fn issue<A: Adapter>(
     requires few { count ≤ 256 }
     requires first { first.0 < 2 ^ 48 }
     requires frames { length frames.now ≡ (count + 7) / 8 }
-    requires clients { All (λ frame. 40 ≤ frame.0) frames.now }
+    requires clients { All (λ frame. DRIVER_FRAMES ≤ frame.0) frames.now }
     ensures on { IsOn (A.device adapter.new) }
     ensures issues { IssuesTransfer port (record { op = op; first = first.0; count = count; frames = frames.now }) (A.device adapter.old) (A.device adapter.new) }
     ensures told { Told (A.device adapter.new).memory (list_of port.0) port.0 0 (meaning_of (record { op = op; first = first.0; count = count; frames = frames.now })) (places_of frames.now count) }
