@@ -1,12 +1,9 @@
 -- What a port does by itself is steps, which compose.
-use Rattle.std.proofs.Common.{ℕ, Bool, zero, suc, true, false, ◌≡◌, ◌≢◌, ◌⊎◌, List, [], ◌∷◌, None, refl, sym, ◌∙◌, ap, subst, inl, inr, arith}
+use Rattle.std.proofs.Common.{ℕ, Bool, zero, suc, true, false, ◌≡◌, ◌≢◌, List, None, refl, sym, ◌∙◌, ap, subst, inl, inr, arith}
 use Rattle.std.proofs.lemmas.Bool.Decides.{eqb_tells}
 use Rattle.adapter.specs.Device.{PortState, Device}
 use Rattle.adapter.specs.Memory.{changed}
-use Rattle.adapter.specs.Asked.{Asked, DoesOne, DoesSome, GoesOn}
-use Rattle.adapter.specs.declared.access.DeviceStep.{DeviceStep}
-use Rattle.adapter.specs.declared.access.DeviceStep.TheVariants as asked
-use Rattle.device_model.specs.Queue.{DoesEach}
+use Rattle.adapter.specs.Asked.{DoesOne, DoesSome, GoesOn}
 use Rattle.adapter.specs.Steps.{MayLinkUp, Steps, with_done, with_fetch, with_link, with_move, with_port, with_reset}
 use Rattle.adapter.specs.Steps.Step.{Fall, FrFall, LinkUp}
 use Rattle.adapter.proofs.Changed.{fun_ext, changed_same, changed_other, changed_each}
@@ -154,34 +151,3 @@ pub gone_others : (port slot : ℕ) (did : Bool) (old new : Device) → (did ≡
     (q : ℕ) → q ≢ port → new.port q ≡ old.port q
 gone_others port slot true old new went stayed q ne = let g = went refl in some_others (suc g.0) port slot old new g.1 q ne
 gone_others port slot false old new went stayed q ne = ap (λ (d : Device). d.port q) (stayed refl)
-
--- ---- no step that is asked for ends a reset
-
-one_reset : (port slot : ℕ) (old new : Device) → DoesOne port slot old new → new.hr ≡ old.hr
-one_reset port slot old new (inl f) = ap (λ (d : Device). d.hr) f.effect
-one_reset port slot old new (inr (inl m)) = ap (λ (d : Device). d.hr) m.effect
-one_reset port slot old new (inr (inr e)) = ap (λ (d : Device). d.hr) e.effect
-
-some_reset : (n port slot : ℕ) (old new : Device) → DoesSome n port slot old new → new.hr ≡ old.hr
-some_reset zero port slot old new e = ap (λ (d : Device). d.hr) e
-some_reset (suc n) port slot old new s = one_reset port slot s.0 new s.2 ∙ some_reset n port slot old s.0 s.1
-
-asked_reset : (s : DeviceStep) (old new : Device) → Asked s old new → new.hr ≡ old.hr
-asked_reset (asked.Fetch p s) old new d = one_reset p.0 s.0 old new (inl d)
-asked_reset (asked.Move p s) old new d = one_reset p.0 s.0 old new (inr (inl d))
-asked_reset (asked.Done p s) old new d = one_reset p.0 s.0 old new (inr (inr d))
-asked_reset (asked.Finish p s) old new g = some_reset (suc g.0) p.0 s.0 old new g.1
-asked_reset (asked.Lie p page offset bits) old new e = ap (λ (d : Device). d.hr) e
-asked_reset (asked.Truth p) old new e = ap (λ (d : Device). d.hr) e
-asked_reset (asked.Hold p) old new e = ap (λ (d : Device). d.hr) e
-asked_reset (asked.Release p) old new e = ap (λ (d : Device). d.hr) e
-asked_reset (asked.Unplug p) old new d = ap (λ (d : Device). d.hr) d.effect
-asked_reset (asked.Plug p number) old new d = ap (λ (d : Device). d.hr) d.effect
-
-pub each_reset : (steps : List DeviceStep) (old new : Device) → DoesEach steps old new → new.hr ≡ old.hr
-each_reset [] old new e = ap (λ (d : Device). d.hr) e
-each_reset (s ∷ steps) old new d = each_reset steps d.0 new d.2 ∙ by d.1
-  where
-    by : Asked s old d.0 ⊎ (d.0 ≡ old) → d.0.hr ≡ old.hr
-    by (inl did) = asked_reset s old d.0 did
-    by (inr same) = ap (λ (x : Device). x.hr) same

@@ -12,3 +12,5 @@ pub mod Finishing
 pub mod Ready
 pub mod Queueing
 pub mod Telling
+pub mod Doing
+pub mod Told

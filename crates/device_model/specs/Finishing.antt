@@ -15,13 +15,9 @@ use Rattle.device_model.specs.declared.hardware.Hardware.{Hardware}
 abbrev pub HasRoom : Hardware → ℕ → Type 0
 HasRoom h n = vec_len h.tape + n ≤ vec_capacity h.tape
 
--- what was left out for want of memory, as these told, is told by those too
-abbrev pub StaysStarved : Hardware → Hardware → Type 0
-StaysStarved old new = old.starved ≡ true → new.starved ≡ true
-
--- the tape had no memory for so many more entries, and it is told that something was left out for that
-abbrev pub IsStarved : Hardware → Hardware → ℕ → Type 0
-IsStarved old new n = (HasRoom old n → ⊥) × (new.starved ≡ true)
+-- A step wasn't done: it isn't possible, and nothing is another; or it is, and the tape had no memory for its one entry, which is told.
+abbrev pub IsPassed : Hardware → Hardware → Type 0 → Type 0
+IsPassed old new possible = ((possible → ⊥) × (new ≡ old)) ⊎ (possible × (HasRoom old 1 → ⊥) × (new.starved ≡ true))
 
 -- each of these pieces is in a memory of this size
 abbrev pub AreInside : ℕ → List ℕ → Type 0

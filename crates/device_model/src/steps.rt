@@ -9,7 +9,7 @@ ghost use Rattle.adapter.specs.Steps.{Can, after, next_sector};
 ghost use Rattle.adapter.specs.Steps.Step.{Fetch as FetchStep, Move as MoveStep, Done as DoneStep, Unplug as UnplugStep, Plug as PlugStep};
 ghost use Rattle.adapter.specs.Asked.{DoesFetch, DoesDone};
 ghost use Rattle.device_model.specs.Fetched.{bytes_of};
-ghost use Rattle.device_model.specs.Finishing.{HasIdentify, HasRoom, IsInside, AreInside, IsCovered, IsReady, IsStarved, StaysStarved};
+ghost use Rattle.device_model.specs.Finishing.{HasIdentify, HasRoom, IsInside, AreInside, IsCovered, IsPassed, IsReady};
 ghost use Rattle.device_model.specs.Slots.{HoldsAt, IsNext, MayTakeAny};
 ghost use Rattle.device_model.specs.View.{Takes, operation_of, taken_of, blank};
 ghost use Rattle.device_model.specs.Whole.{Outside, device_of, outside_after, outside_plugged};
@@ -29,6 +29,18 @@ pub struct NextMove {
     pub transfer: Transfer,
     pub sector: u64,
     pub address: u32,
+}
+
+impl NextMove {
+    /// Whether it names no sector, or one of so many.
+    pub fn is_on(self, sectors: u64) -> bool
+        ensures { IsTrue result ↔ (is_ranged (operation_of self.transfer) ≡ true → self.sector < sectors) }
+    {
+        match self.transfer {
+            Transfer::Identify => true,
+            Transfer::Read | Transfer::Write => self.sector < sectors,
+        }
+    }
 }
 
 /// Adds an entry to the tape; `false` says that there was no memory, which is told from then on.
@@ -243,11 +255,8 @@ impl Hardware {
         requires slot { slot < 32 }
         ensures did { result ≡ true → (o : Outside) → DoesDone port slot (device_of self.old o) (device_of self.new o) }
         ensures refused { result ≡ false → (o : Outside) → device_of self.new o ≡ device_of self.old o }
-        ensures only { result ≡ false → (o : Outside) (flag : ℕ) (t : Taken) → Can (DoneStep port slot flag t) (device_of self.old o) →
-            IsStarved self.old self.new 1 }
-        ensures starved { StaysStarved self.old self.new }
+        ensures left { result ≡ false → (o : Outside) → IsPassed self.old self.new ((flag : ℕ) × (t : Taken) × Can (DoneStep port slot flag t) (device_of self.old o)) }
         ensures fed { result ≡ true → self.new.starved ≡ self.old.starved }
-        ensures ample { HasRoom self.old 1 → self.new.starved ≡ self.old.starved }
     {
         let Some(command) = working_on(&self.ports, usize::from(port), slot) else {
             return false;
@@ -302,13 +311,13 @@ impl Hardware {
     pub fn unplug(&mut self) -> bool
         ensures did { result ≡ true → (o : Outside) → Can (UnplugStep 0) (device_of self.old o) × (device_of self.new o ≡ after (UnplugStep 0) (device_of self.old o)) }
         ensures refused { result ≡ false → (o : Outside) → device_of self.new o ≡ device_of self.old o }
-        ensures only { result ≡ false → (o : Outside) → Can (UnplugStep 0) (device_of self.old o) → IsStarved self.old self.new 1 }
-        ensures starved { StaysStarved self.old self.new }
+        ensures left { result ≡ false → (o : Outside) → IsPassed self.old self.new (Can (UnplugStep 0) (device_of self.old o)) }
         ensures fed { result ≡ true → self.new.starved ≡ self.old.starved }
     {
-        if !self.ports[0].present
-            || !record(&mut self.tape, &mut self.starved, Entry::Unplug(Port(0)))
-        {
+        if !self.ports[0].present {
+            return false;
+        }
+        if !record(&mut self.tape, &mut self.starved, Entry::Unplug(Port(0))) {
             return false;
         }
         self.ports[0].unplug();
@@ -320,13 +329,13 @@ impl Hardware {
         ensures free { result ≡ true → (o : Outside) → ((device_of self.old o).port 0).present ≡ false }
         ensures did { result ≡ true → (o : Outside) (disk : Disk) → disk.name ≡ 0 → device_of self.new (outside_plugged o disk) ≡ after (PlugStep 0 disk) (device_of self.old o) }
         ensures refused { result ≡ false → (o : Outside) → device_of self.new o ≡ device_of self.old o }
-        ensures only { result ≡ false → (o : Outside) → ((device_of self.old o).port 0).present ≡ false → IsStarved self.old self.new 1 }
-        ensures starved { StaysStarved self.old self.new }
+        ensures left { result ≡ false → (o : Outside) → IsPassed self.old self.new (((device_of self.old o).port 0).present ≡ false) }
         ensures fed { result ≡ true → self.new.starved ≡ self.old.starved }
     {
-        if self.ports[0].present
-            || !record(&mut self.tape, &mut self.starved, Entry::Plug(Port(0), 0))
-        {
+        if self.ports[0].present {
+            return false;
+        }
+        if !record(&mut self.tape, &mut self.starved, Entry::Plug(Port(0), 0)) {
             return false;
         }
         self.ports[0].plug();

@@ -1,16 +1,16 @@
 use Rattle.adapter.proofs.Runs.{Steps-refl, Steps-trans}
 use Rattle.adapter.proofs.Absurd.{true-false}
 use Rattle.adapter.specs.Device.{Device}
-use Rattle.std.proofs.Common.{rules, false, ◌≡◌, ◌∙◌, refl, sym, subst, slice_index_or}
+use Rattle.std.proofs.Common.{rules, false, ◌≡◌, ◌∙◌, sym, subst, slice_index_or}
 use Rattle.device_model.specs.Finishing.{HasIdentify}
-use Rattle.device_model.proofs.Telling.{keeps_on, keeps_tape}
+use Rattle.device_model.proofs.Doing.{goes_so_on, goes_so_same}
 use Rattle.device_model.proofs.model.Model.identify.Goals as goal
 
 pub returns-then-self-offset0-clause-steps : goal.returns-then-self-offset0-clause-steps
 returns-then-self-offset0-clause-steps g c = Steps-refl _
 
-pub returns-then-self-offset0-clause-pages : goal.returns-then-self-offset0-clause-pages
-returns-then-self-offset0-clause-pages g c = keeps_tape g.S.SectorStore.size _ _ refl refl refl
+pub returns-then-self-offset0-clause-rest : goal.returns-then-self-offset0-clause-rest
+returns-then-self-offset0-clause-rest g c = goes_so_same g.S.SectorStore.size g.S.SectorStore.told g.S.SectorStore.is_sure c.args.self.now
 
 pub returns-clause-steps : goal.returns-clause-steps
 returns-clause-steps g c = Steps-trans c.identify_once.ensures.steps c.identify_once-2.ensures.steps
@@ -31,5 +31,6 @@ returns-clause-alone g c = λ none.
     let P : Device → Type 0 = λ d. (slot : _) → HasIdentify d slot → ⊥ in
     c.identify_once-2.ensures.alone (subst P (sym same) none) ∙ same
 
-pub returns-clause-pages : goal.returns-clause-pages
-returns-clause-pages g c = keeps_on g.S.SectorStore.size _ _ _ c.identify_once.ensures.pages c.identify_once-2.ensures.pages
+pub returns-clause-rest : goal.returns-clause-rest
+returns-clause-rest g c =
+    goes_so_on g.S.SectorStore.size g.S.SectorStore.told g.S.SectorStore.is_sure _ _ _ c.identify_once.ensures.rest c.identify_once-2.ensures.rest
