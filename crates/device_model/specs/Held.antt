@@ -6,6 +6,10 @@ use Rattle.adapter.specs.declared.access.DeviceStep.TheVariants.{Hold, Release}
 abbrev pub IsHeld : List Bool → ℕ → Type 0
 IsHeld held port = slice_index_or held port false ≡ true
 
+-- the model goes on by itself on this port
+abbrev pub IsLoose : List Bool → ℕ → Type 0
+IsLoose held port = slice_index_or held port false ≡ false
+
 abbrev pub all_held : List Bool
 all_held = replicate 4 true
 

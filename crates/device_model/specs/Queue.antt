@@ -1,13 +1,13 @@
 -- Steps that are queued before accesses.
-use Rattle.std.specs.Prelude.{ℕ, Bool, true, ◌≡◌, ◌≢◌, ◌+◌, ◌-◌, ◌^◌, min, List, [], ◌∷◌, Option, map, nat_le, nat_lt}
+use Rattle.std.specs.Prelude.{ℕ, Bool, true, ◌≡◌, ◌+◌, ◌-◌, ◌^◌, min, List, [], ◌∷◌, Option, map, nat_le, nat_lt}
 use Rattle.std.specs.List.{filter}
 use Rattle.adapter.specs.Device.{Device}
 use Rattle.adapter.specs.declared.access.DeviceStep.{DeviceStep}
-use Rattle.adapter.specs.Access.{noted}
+use Rattle.adapter.specs.Access.{Shows, noted}
 use Rattle.hba_regs.specs.declared.reg.Reg.{Reg}
 use Rattle.device_model.specs.Does.{Answers, Keeps}
-use Rattle.device_model.specs.Held.{IsHeld, all_held, none_held}
 use Rattle.device_model.specs.Paged.{GainsPages}
+use Rattle.device_model.specs.Settled.{DoesOwn, EndsReset}
 use Rattle.device_model.specs.Modelled.{device_at}
 use Rattle.device_model.specs.declared.model.Model.{Model}
 use Rattle.device_model.specs.declared.model.Queued.{Queued}
@@ -42,15 +42,20 @@ pub record DoesThen {S : Type 0} (size : S → ℕ) (told : S → Option (ℕ �
   pub rest : new ≡ record mid { hardware = new.hardware }
   pub starved : new.hardware.starved ≡ mid.hardware.starved
 
--- A reading begins so, too. Then the model goes on by itself: a pending reset ends unless all ports are held, and ends all holds; a held port stays as
--- it is.
-pub record Alone {S : Type 0} (size : S → ℕ) (told : S → Option (ℕ → List ℕ)) (is_sure : S → Bool) (r : Reg) (value : ℕ) (old new : Model S) : Type 0 where
+-- A reading begins so, too. Then a pending reset may end, and the model's own steps are done; and the value is what the register shows then. Of the rest
+-- of the model nothing is another, but which ports are held where a reset ended. Each page that the tape has gained is as disk 0 says of itself, and
+-- what was told of want of memory stays told.
+pub record DoesRead {S : Type 0} (size : S → ℕ) (told : S → Option (ℕ → List ℕ)) (is_sure : S → Bool) (r : Reg) (value : ℕ) (old new : Model S) : Type 0 where
   pub mid : Model S
   pub begins : Begins size told is_sure old mid
-  pub held : ((device_at size told mid).hr ≡ true → mid.held ≡ all_held) → new.held ≡ mid.held
-  pub freed : (device_at size told mid).hr ≡ true → mid.held ≢ all_held → new.held ≡ none_held
-  pub still : (port : ℕ) → IsHeld new.held port → (device_at size told new).port port ≡ (noted r value (device_at size told mid)).port port
+  pub reset : Device
+  pub ends : EndsReset mid.held new.held (device_at size told mid) reset
+  pub last : Device
+  pub own : DoesOwn new.held reset last
+  pub shows : Shows r value last
+  pub effect : device_at size told new ≡ noted r value last
   pub says : new.says ≡ mid.says
   pub pages : GainsPages size mid new
+  pub disk0 : new.disk0 ≡ mid.disk0
   pub keeps : Keeps size is_sure mid new
   pub told_on : mid.hardware.starved ≡ true → new.hardware.starved ≡ true

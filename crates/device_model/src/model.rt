@@ -1,24 +1,25 @@
 // The model as an adapter.
-ghost use Rattle.std.specs.Prelude.{◌≡◌, ◌≢◌, ◌↔◌, ◌<◌, ◌≤◌, ◌+◌, ◌-◌, ◌*◌, ◌^◌, ◌++◌, ◌∷◌, [], ℕ, Bool, List, true, false, is_some, ◌&&◌, min, max, map, length, slice_set, IsTrue, IfSome, IfOk, OnOk, OnErr};
+ghost use Rattle.std.specs.Prelude.{◌≡◌, ◌≢◌, ◌↔◌, ◌<◌, ◌≤◌, ◌+◌, ◌-◌, ◌*◌, ◌^◌, ◌++◌, ◌∷◌, [], ℕ, Bool, List, true, false, is_some, Some, ◌&&◌, min, max, map, length, slice_set, IsTrue, IfSome, IfOk, OnOk, OnErr};
 ghost use Rattle.std.specs.Vec.{vec_len, vec_capacity};
 ghost use Rattle.adapter.specs.Commands.{is_ranged};
-ghost use Rattle.adapter.specs.Device.{Disk, IsSector};
+ghost use Rattle.adapter.specs.Device.{Disk, IsSector, Taken};
 ghost use Rattle.adapter.specs.Idle.{IsIdle, IsSane};
 ghost use Rattle.adapter.specs.Access.{Reads, Writes, Loads, Stores, written};
 ghost use Rattle.adapter.specs.Memory.{bytes_at, patched};
 ghost use Rattle.adapter.specs.Rules.{MayRead, MayWrite, IsFree, Stays};
-ghost use Rattle.adapter.specs.Steps.{Steps, after, disk_after};
-ghost use Rattle.adapter.specs.Steps.Step.{Fetch, Move, Done, Unplug};
+ghost use Rattle.adapter.specs.Steps.{Steps, disk_after, next_place};
 ghost use Rattle.adapter.specs.Asked.{Asked};
 ghost use Rattle.device_model.specs.Fetched.{bytes_of};
-ghost use Rattle.device_model.specs.Finishing.{HasIdentify, HasRoom};
+ghost use Rattle.adapter.specs.declared.command.Operation.TheVariants.{Identify};
+ghost use Rattle.adapter.specs.OneCommand.{IsFreeSlot};
+ghost use Rattle.device_model.specs.Finishing.{HasIdentify, HasMove, HasRoom};
 ghost use Rattle.device_model.specs.Paged.{IsItsPage, IsTurned, no_lies};
 ghost use Rattle.device_model.specs.Does.{Answers, GoesOnSo};
 ghost use Rattle.device_model.specs.Tells.{disks_told};
-ghost use Rattle.device_model.specs.Queue.{Alone, Begins, DoesThen};
+ghost use Rattle.device_model.specs.Queue.{Begins, DoesRead, DoesThen};
 ghost use Rattle.device_model.specs.Modelled.{device_at, cap_of, is_sure_at, IsNew};
-ghost use Rattle.device_model.specs.Held.{IsHeld, none_held};
-ghost use Rattle.device_model.specs.Settled.{IsSettled};
+ghost use Rattle.device_model.specs.Held.{none_held};
+ghost use Rattle.device_model.specs.Settled.{DoesOwn, IsSettled, NoneIsLeft};
 ghost use Rattle.device_model.specs.View.{Takes, operation_of};
 ghost use Rattle.device_model.specs.Whole.{first_disk};
 
@@ -205,6 +206,9 @@ impl<S: SectorStore> Model<S> {
         requires { slot.0 < 32 }
         ensures answers { Answers S.size S.told S.is_sure (DeviceStep.Move port slot) result self.old self.new }
         ensures left { (n : ℕ) → HasRoom self.old.hardware (n + 1) → HasRoom self.new.hardware n }
+        ensures page { (t : Taken) → ((device_at S.size S.told self.old).port port.0).taken slot.0 ≡ Some t → t.meaning.operation ≡ Identify →
+            (self.new.disk0 ≡ self.old.disk0) × (result ≡ false → HasMove (device_at S.size S.told self.old) port.0 slot.0 t → next_place t < 2 ^ 32 →
+            HasRoom self.old.hardware 1 → ⊥) }
     {
         // No other port has a disk.
         if port.0 != 0 {
@@ -239,7 +243,10 @@ impl<S: SectorStore> Model<S> {
     /// that fails cuts it short.
     fn finish(&mut self, port: Port, slot: Slot) -> bool
         requires { slot.0 < 32 }
-        ensures { Answers S.size S.told S.is_sure (DeviceStep.Finish port slot) result self.old self.new }
+        ensures answers { Answers S.size S.told S.is_sure (DeviceStep.Finish port slot) result self.old self.new }
+        ensures identifies { port.0 ≡ 0 → HasIdentify (device_at S.size S.told self.old) slot.0 →
+            (result ≡ true → IsFreeSlot ((device_at S.size S.told self.new).port 0) slot.0) × (result ≡ false → self.new.hardware.starved ≡ true) }
+        ensures disk { port.0 ≡ 0 → HasIdentify (device_at S.size S.told self.old) slot.0 → self.new.disk0 ≡ self.old.disk0 }
     {
         if port.0 != 0 {
             return false;
@@ -262,37 +269,23 @@ impl<S: SectorStore> Model<S> {
         self.hardware.done(port.0, slot.0) || did
     }
 
-    /// Goes on with each IDENTIFY DEVICE of port 0, slot by slot, if it can be done to its end. Where there is none, nothing
-    /// changes.
-    fn identify_once(&mut self)
-        ensures steps { Steps (device_at S.size S.told self.old) (device_at S.size S.told self.new) }
-        ensures settled { (held : List Bool) → IsSettled held (device_at S.size S.told self.old) → IsSettled held (device_at S.size S.told self.new) }
-        ensures others { (port : ℕ) → port ≢ 0 → (device_at S.size S.told self.new).port port ≡ (device_at S.size S.told self.old).port port }
-        ensures alone { ((slot : ℕ) → HasIdentify (device_at S.size S.told self.old) slot → ⊥) → device_at S.size S.told self.new ≡ device_at S.size S.told self.old }
-        ensures rest { GoesOnSo S.size S.is_sure self.old self.new }
-    {
-        for slot in 0..32 {
-            if self.hardware.has_identify(slot) {
-                let _did = self.finish(Port(0), Slot(slot));
-            }
-        }
-    }
-
-    /// Does each IDENTIFY DEVICE of port 0 that can be done to its end: one that is taken already keeps the others waiting, so the slots
-    /// before it have their turn after it. Where there is none, or the port is held, nothing changes.
+    /// Does each IDENTIFY DEVICE of port 0 that can be done to its end, unless the port is held. The page that one sends may stand where another's
+    /// bytes are, so they are looked for anew after each. Where the tape has no memory, the others wait.
     fn identify(&mut self)
-        ensures waits { IsHeld self.old.held 0 → device_at S.size S.told self.new ≡ device_at S.size S.told self.old }
-        ensures steps { Steps (device_at S.size S.told self.old) (device_at S.size S.told self.new) }
+        ensures own { DoesOwn self.old.held (device_at S.size S.told self.old) (device_at S.size S.told self.new) }
         ensures settled { (held : List Bool) → IsSettled held (device_at S.size S.told self.old) → IsSettled held (device_at S.size S.told self.new) }
-        ensures others { (port : ℕ) → port ≢ 0 → (device_at S.size S.told self.new).port port ≡ (device_at S.size S.told self.old).port port }
-        ensures alone { ((slot : ℕ) → HasIdentify (device_at S.size S.told self.old) slot → ⊥) → device_at S.size S.told self.new ≡ device_at S.size S.told self.old }
+        ensures left { NoneIsLeft self.new.held self.new.hardware.starved (device_at S.size S.told self.new) }
         ensures rest { GoesOnSo S.size S.is_sure self.old self.new }
+        ensures disk { self.new.disk0 ≡ self.old.disk0 }
     {
-        if self.held[0] || !self.hardware.has_command() {
+        if self.held[0] {
             return;
         }
-        self.identify_once();
-        self.identify_once();
+        while let Some(slot) = self.hardware.next_identify() {
+            if !self.finish(Port(0), Slot(slot)) {
+                return;
+            }
+        }
     }
 
     /// Has the port's disk lie of a byte of its page, if the page has such a byte. No port but port 0 has a disk.
@@ -402,6 +395,7 @@ fn exchange<S: SectorStore>(
     ensures sector { result ≡ true → IsSector bytes.new }
     ensures gives { result ≡ true → next.transfer ≡ Transfer.Read → IfSome (S.told disk.old) (λ told. bytes.new ≡ told next.sector) }
     ensures takes { result ≡ true → next.transfer ≡ Transfer.Write → bytes.new ≡ bytes_at (bytes_of hardware.now.memory.items) next.address 512 }
+    ensures identifies { next.transfer ≡ Transfer.Identify → (result ≡ true) × (disk.new ≡ disk.old) }
     ensures page { result ≡ true → next.transfer ≡ Transfer.Identify → IsItsPage (S.size disk.old) says.now bytes.new }
     ensures disk { result ≡ true → first_disk (S.size disk.new) (S.told disk.new)
         ≡ disk_after (operation_of next.transfer) (first_disk (S.size disk.old) (S.told disk.old)) next.sector bytes.new }
@@ -443,7 +437,8 @@ impl<S: SectorStore> Adapter for Model<S> {
         requires { MayRead r (device_at S.size S.told self.old) }
         ensures reads { Reads r result (device_at S.size S.told self.old) (device_at S.size S.told self.new) }
         ensures settled { IsSettled self.new.held (device_at S.size S.told self.new) }
-        ensures alone { Alone S.size S.told S.is_sure r result self.old self.new }
+        ensures left { NoneIsLeft self.new.held self.new.hardware.starved (device_at S.size S.told self.new) }
+        ensures alone { DoesRead S.size S.told S.is_sure r result self.old self.new }
     {
         self.do_queued();
         self.hardware.settle(&mut self.held);

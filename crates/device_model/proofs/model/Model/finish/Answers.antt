@@ -11,9 +11,12 @@ use Rattle.device_model.specs.Whole.{Outside, device_of}
 use Rattle.adapter.proofs.Absurd.{true-false, some-none}
 use Rattle.adapter.proofs.Going.{goes_one, goes_next}
 use Rattle.device_model.proofs.Doing.{answered_true, cut_short, did_it, left_it, left_same, meanwhile_on}
+use Rattle.adapter.specs.OneCommand.{IsFreeSlot}
+use Rattle.device_model.proofs.Identifying.{has_ready, page_taken}
 use Rattle.device_model.proofs.Finishing.{fetched_goes, fetched_size, moved_goes, going_has_move, going_may_end, done_frees}
 use Rattle.device_model.proofs.Telling.{gains_none, gains_done}
 use Rattle.device_model.proofs.Told.{on_hardware}
+use Rattle.device_model.proofs.model.Model.finish.Given.{Over}
 use Rattle.device_model.proofs.model.Model.finish.Goals as goal
 
 pub loop-piece-init : goal.loop-piece-init
@@ -29,6 +32,7 @@ loop-piece-init g c =
       size = fetched_size c.args.port.0 c.args.slot.0 c.fetch-did.result _ new (λ e. c.fetch-did.ensures.did e o) (λ e. c.fetch-did.ensures.refused e o)
           ∙ ap (λ (d : Device). d.size) kept;
       disk = sym c.sectors-sectors.ensures;
+      disk_same = λ _ _. refl;
       meanwhile = record {
         held = refl;
         says = refl;
@@ -62,6 +66,11 @@ loop-piece-preserved g c =
       disk = step.keeps.sectors ∙ c.loop-piece.invariant.disk;
       meanwhile = meanwhile_on g.S.SectorStore.size g.S.SectorStore.told g.S.SectorStore.is_sure _ _ _ c.loop-piece.invariant.meanwhile
           (record { held = step.held; says = step.says; pages = step.pages; keeps = step.keeps; starved = step.starved });
+      disk_same = λ zero has.
+          let t : Taken = c.loop-piece.invariant.going.t in
+          let taken = c.loop-piece.invariant.going.works.taken in
+          let page = page_taken c.args.port.0 c.args.slot.0 c.loop-piece.did _ _ zero c.loop-piece.invariant.did c.loop-piece.invariant.refused has t taken in
+          (c.move_piece.ensures.page t taken page.0).0 ∙ c.loop-piece.invariant.disk_same zero has;
       room = c.move_piece.ensures.left _ (omega (arith, c.loop-piece.invariant.room, c.loop-piece-test.true));
       going =
           let P : ℕ → Type 0 = λ n. IsGoing (device_at g.S.SectorStore.size g.S.SectorStore.told c.loop-piece.self) c.args.port.0 c.args.slot.0 c.sectors-sectors.result n in
@@ -76,8 +85,8 @@ may_finish size d port slot sectors left zero small same ready =
     let P : ℕ → Type 0 = λ n. IsReady d port slot n left in (zero, small, left, subst P same ready)
 
 -- a move was left: no move that is possible is, where it is served
-pub returns-then-not-move_piece : goal.returns-then-not-move_piece
-returns-then-not-move_piece g c =
+pub returns-then-not-move_piece-clause-answers : goal.returns-then-not-move_piece-clause-answers
+returns-then-not-move_piece-clause-answers g c =
     let m = c.loop-piece.self in
     let first = c.args.self.now in
     let o : Outside = outside_at g.S.SectorStore.size g.S.SectorStore.told first in
@@ -102,8 +111,8 @@ returns-then-not-move_piece g c =
     (may_finish (g.S.SectorStore.size first.disk0) _ c.args.port.0 c.args.slot.0 c.sectors-sectors.result c.in-Some.left zero c.requires sectors (c.in-Some.ensures.ready o))
     is.did is.refused is.size is.meanwhile step room (c.requires, found.0, found.1)
 
-pub returns-then-done : goal.returns-then-done
-returns-then-done g c =
+pub returns-then-done-clause-answers : goal.returns-then-done-clause-answers
+returns-then-done-clause-answers g c =
     let m = c.loop-piece.self in
     let first = c.args.self.now in
     let o : Outside = outside_at g.S.SectorStore.size g.S.SectorStore.told m in
@@ -137,26 +146,28 @@ returns-then-done g c =
     )
 
 -- an end that is possible, and for which there is memory, isn't left
-pub returns-else-done : goal.returns-else-done
-returns-else-done g c =
+end_is_done : (g : Over) (c : goal.Else-done g) → ⊥
+end_is_done g c =
     let m = c.loop-piece.self in
     let o : Outside = outside_at g.S.SectorStore.size g.S.SectorStore.told m in
     let P : ℕ → Type 0 = λ n. IsGoing (device_at g.S.SectorStore.size g.S.SectorStore.told m) c.args.port.0 c.args.slot.0 c.sectors-sectors.result n in
     let none : c.in-Some.left - c.loop-piece._piece ≡ 0 = omega (arith, c.loop-piece-test.false) in
     let going = subst P none c.loop-piece.invariant.going in
-    absurd
-    (elim (c.done.ensures.left c.if-done.false o) [
+    elim (c.done.ensures.left c.if-done.false o) [
       | inl never ↦ never.0 (0, going.t, going_may_end c.args.port.0 c.args.slot.0 c.sectors-sectors.result _ going)
       | inr missed ↦ missed.1 (omega (arith, c.loop-piece.invariant.room))
-    ])
+    ]
+
+pub returns-else-done-clause-answers : goal.returns-else-done-clause-answers
+returns-else-done-clause-answers g c = absurd (end_is_done g c)
 
 -- there is no port with a disk, or no command that can be done
-pub returns-then-port-ne0 : goal.returns-then-port-ne0
-returns-then-port-ne0 g c =
+pub returns-then-port-ne0-clause-answers : goal.returns-then-port-ne0-clause-answers
+returns-then-port-ne0-clause-answers g c =
     left_same g.S.SectorStore.size g.S.SectorStore.told g.S.SectorStore.is_sure _ c.args.self.now (λ may. c.if-port-ne0.true may.0)
 
-pub returns-in_default : goal.returns-in_default
-returns-in_default g c =
+pub returns-in_default-clause-answers : goal.returns-in_default-clause-answers
+returns-in_default-clause-answers g c =
     let m = c.args.self.now in
     let o : Outside = outside_at g.S.SectorStore.size g.S.SectorStore.told m in
     left_same g.S.SectorStore.size g.S.SectorStore.told g.S.SectorStore.is_sure _ m
@@ -165,8 +176,8 @@ returns-in_default g c =
     some-none (c.moves_left.ensures.only o may.2 (subst P (sym c.sectors-sectors.ensures) may.3)) c.in_default.is)
 
 -- the tape has no memory for it
-pub returns-then-not-reserve : goal.returns-then-not-reserve
-returns-then-not-reserve g c =
+pub returns-then-not-reserve-clause-answers : goal.returns-then-not-reserve-clause-answers
+returns-then-not-reserve-clause-answers g c =
     let m = c.args.self.now in
     let o : Outside = outside_at g.S.SectorStore.size g.S.SectorStore.told m in
     let sectors : c.sectors-sectors.result ≡ g.S.SectorStore.size m.disk0 = c.sectors-sectors.ensures in
@@ -183,3 +194,69 @@ returns-then-not-reserve g c =
       told_on = λ _. refl;
       told_since = λ _. inr ((c.if-port-ne0.false, c.requires, c.in-Some.left, ready), (c.in-Some.left, ready, lacks));
     }
+
+-- ---- an IDENTIFY DEVICE, for which no store is asked
+
+-- a move that is left, and for which there is memory, isn't refused
+pub returns-then-not-move_piece-clause-identifies : goal.returns-then-not-move_piece-clause-identifies
+returns-then-not-move_piece-clause-identifies g c = λ zero has.
+    let m = c.loop-piece.self in
+    let is = c.loop-piece.invariant in
+    let d : Device = device_at g.S.SectorStore.size g.S.SectorStore.told m in
+    let size = g.S.SectorStore.size m.disk0 in
+    let left = c.in-Some.left - (c.loop-piece._piece + 1) in
+    let P : ℕ → Type 0 = λ n. IsGoing d c.args.port.0 c.args.slot.0 c.sectors-sectors.result n in
+    let Q : ℕ → Type 0 = λ n. IsGoing d c.args.port.0 c.args.slot.0 n (suc left) in
+    let R : ℕ → Type 0 = λ q. IsGoing d q c.args.slot.0 size (suc left) in
+    let T : ℕ → Type 0 = λ q. (t : Taken) × HasMove d q c.args.slot.0 t in
+    let next : c.in-Some.left - c.loop-piece._piece ≡ suc left = omega (arith, c.loop-piece-test.true) in
+    let going = subst Q (sym is.disk) (subst P next is.going) in
+    let here : IsGoing d 0 c.args.slot.0 size (suc left) = subst R zero going in
+    let found = subst T (sym zero) (here.t, going_has_move d 0 c.args.slot.0 left refl here) in
+    let t : Taken = found.0 in
+    let taken = found.1.works.taken in
+    let page = page_taken c.args.port.0 c.args.slot.0 c.loop-piece.did _ _ zero is.did is.refused has t taken in
+    let low = page.1 t.moved found.1.left in
+    absurd ((c.move_piece.ensures.page t taken page.0).1 c.if-not-move_piece.true found.1 (omega (arith, low)) (omega (arith, is.room)))
+
+pub returns-then-not-move_piece-clause-disk : goal.returns-then-not-move_piece-clause-disk
+returns-then-not-move_piece-clause-disk g c = λ zero has.
+    let is = c.loop-piece.invariant in
+    let t : Taken = is.going.t in
+    let taken = is.going.works.taken in
+    let page = page_taken c.args.port.0 c.args.slot.0 c.loop-piece.did _ _ zero is.did is.refused has t taken in
+    (c.move_piece.ensures.page t taken page.0).0 ∙ is.disk_same zero has
+
+pub returns-then-done-clause-identifies : goal.returns-then-done-clause-identifies
+returns-then-done-clause-identifies g c = λ zero has.
+    let m = c.loop-piece.self in
+    let o : Outside = outside_at g.S.SectorStore.size g.S.SectorStore.told m in
+    let P : ℕ → Type 0 = λ n. IsGoing (device_at g.S.SectorStore.size g.S.SectorStore.told m) c.args.port.0 c.args.slot.0 c.sectors-sectors.result n in
+    let Q : ℕ → Type 0 = λ q. IsFreeSlot ((device_of c.done.new.self o).port q) c.args.slot.0 in
+    let none : c.in-Some.left - c.loop-piece._piece ≡ 0 = omega (arith, c.loop-piece-test.false) in (
+      λ _. subst Q zero
+          (done_frees c.args.port.0 c.args.slot.0 c.sectors-sectors.result _ _ (subst P none c.loop-piece.invariant.going) (c.done.ensures.did c.if-done.true o)),
+      λ never. true-false c.if-done.true never,
+    )
+
+pub returns-then-done-clause-disk : goal.returns-then-done-clause-disk
+returns-then-done-clause-disk g c = c.loop-piece.invariant.disk_same
+
+pub returns-else-done-clause-identifies : goal.returns-else-done-clause-identifies
+returns-else-done-clause-identifies g c = λ _ _. absurd (end_is_done g c)
+
+pub returns-else-done-clause-disk : goal.returns-else-done-clause-disk
+returns-else-done-clause-disk g c = c.loop-piece.invariant.disk_same
+
+pub returns-then-port-ne0-clause-identifies : goal.returns-then-port-ne0-clause-identifies
+returns-then-port-ne0-clause-identifies g c = λ zero. absurd (c.if-port-ne0.true zero)
+
+pub returns-in_default-clause-identifies : goal.returns-in_default-clause-identifies
+returns-in_default-clause-identifies g c = λ zero has.
+    let m = c.args.self.now in
+    let o : Outside = outside_at g.S.SectorStore.size g.S.SectorStore.told m in
+    let P : ℕ → Type 0 = λ q. IsReady (device_of m.hardware o) q c.args.slot.0 c.sectors-sectors.result has.left in
+    some-none (c.moves_left.ensures.only o has.left (subst P (sym zero) (has_ready _ c.args.slot.0 c.sectors-sectors.result has))) c.in_default.is
+
+pub returns-then-not-reserve-clause-identifies : goal.returns-then-not-reserve-clause-identifies
+returns-then-not-reserve-clause-identifies g c = λ _ _. (λ never. absurd (let e : false ≡ true = never in cc), λ _. refl)

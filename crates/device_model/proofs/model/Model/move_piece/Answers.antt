@@ -1,9 +1,9 @@
 use Rattle.std.specs.Prelude.{map}
 use Rattle.std.proofs.Common.{refl, ◌++◌, ℕ, Bool, true, false, ◌&&◌, ◌≡◌, ◌∙◌, ◌+◌, ◌∷◌, [], List, length, sym, ap, subst, arith, inl, inr}
-use Rattle.adapter.proofs.Absurd.{true-false}
+use Rattle.adapter.proofs.Absurd.{some_one, true-false}
 use Rattle.adapter.specs.Asked.{DoesMove}
 use Rattle.adapter.specs.Device.{Device, Disk}
-use Rattle.adapter.specs.Steps.{Can, after, move_of}
+use Rattle.adapter.specs.Steps.{next_place, Can, after, move_of}
 use Rattle.adapter.specs.Steps.Step.{Move}
 use Rattle.adapter.specs.declared.tape.Entry.{Entry}
 use Rattle.adapter.specs.declared.tape.Entry.TheVariants as entry
@@ -15,6 +15,7 @@ use Rattle.device_model.specs.Whole.{Outside, device_of, first_disk, outside_of,
 use Rattle.device_model.specs.declared.port.TakenCommand.{TakenCommand}
 use Rattle.device_model.proofs.Doing.{left_same}
 use Rattle.device_model.proofs.Finishing.{move_fits, no_move, next_has_move, next_on_disk, outside_moved, sector_small}
+use Rattle.device_model.proofs.Identifying.{next_identifies}
 use Rattle.device_model.proofs.Stepping.{may_move}
 use Rattle.device_model.proofs.Telling.{gains_moved}
 use Rattle.device_model.proofs.model.Model.move_piece.Given.{Over}
@@ -45,7 +46,7 @@ returns-in_default-clause-answers g c =
           let sectors = g.met.S.SectorStore.fits m.disk0 in
           let size : length c.reserve-room.new.self.memory.items ≡ length m.hardware.memory.items = ap (λ (d : Device). d.size) (c.reserve-room.ensures.same o) in
           let found = move_fits c.reserve-room.new.self o _ c.args.port.0 c.args.slot.0 may.1 c.if-port-ne0.false (c.reserve-room.ensures.same o) may.2 in
-          c.next_move.ensures.none c.in_default.is (omega (arith, size, served.1)) found.r found.holds found.left found.inside
+          c.next_move.ensures.none c.in_default.is found.r found.holds found.left (let there = found.inside in omega (arith, size, served.1, there)) found.inside
           (sector_small found.r (g.S.SectorStore.size m.disk0) sectors found.on_disk));
       told_on = λ yes. starved ∙ yes;
       told_since = λ yes. inl (sym starved ∙ yes);
@@ -193,3 +194,49 @@ returns-then-not-exchange-clause-left g c = λ n room. let kept = c.reserve-room
 
 pub returns-clause-left : goal.returns-clause-left
 returns-clause-left g c = λ n room. c.move_bytes.ensures.left n (c.reserve-room.ensures.kept (n + 1) room)
+
+-- ---- a page, for which no store is asked
+
+pub returns-then-port-ne0-clause-page : goal.returns-then-port-ne0-clause-page
+returns-then-port-ne0-clause-page g c = λ t taken identifies.
+    let m = c.args.self.now in (
+      refl,
+      λ _ move _ _. no_move m.hardware (first_disk (g.S.SectorStore.size m.disk0) (g.S.SectorStore.told m.disk0)) (g.S.SectorStore.told m.disk1) _ c.args.port.0 c.args.slot.0 t
+          c.if-port-ne0.true move,
+    )
+
+pub returns-in_default-clause-page : goal.returns-in_default-clause-page
+returns-in_default-clause-page g c = λ t taken identifies.
+    let m = c.args.self.now in
+    let o : Outside = outside_at g.S.SectorStore.size g.S.SectorStore.told m in (
+      refl,
+      λ _ move low _.
+          let found = move_fits c.reserve-room.new.self o _ c.args.port.0 c.args.slot.0 t c.if-port-ne0.false (c.reserve-room.ensures.same o) move in
+          let sectors = g.met.S.SectorStore.fits m.disk0 in
+          let one : t ≡ taken_of found.r = some_one (sym move.works.taken ∙ (ap (λ (d : Device). (d.port c.args.port.0).taken c.args.slot.0) (sym (c.reserve-room.ensures.same o)) ∙ (found.holds.works (o.media c.args.port.0)).taken)) in
+          let place : next_place t ≡ next_place (taken_of found.r) = ap next_place one in
+          c.next_move.ensures.none c.in_default.is found.r found.holds found.left (omega (arith, place, low)) found.inside
+          (sector_small found.r (g.S.SectorStore.size m.disk0) sectors found.on_disk),
+    )
+
+pub returns-then-is_on-clause-page : goal.returns-then-is_on-clause-page
+returns-then-is_on-clause-page g c = λ t taken identifies.
+    (refl, λ _ _ _ room. true-false (c.reserve-room.ensures.enough room) c.if-not-room.true)
+
+pub returns-else-is_on-clause-page : goal.returns-else-is_on-clause-page
+returns-else-is_on-clause-page g c = λ t taken identifies.
+    (refl, λ _ _ _ room. true-false (c.reserve-room.ensures.enough room) c.if-not-room.true)
+
+pub returns-then-not-exchange-clause-page : goal.returns-then-not-exchange-clause-page
+returns-then-not-exchange-clause-page g c = λ t taken identifies.
+    let o : Outside = outside_at g.S.SectorStore.size g.S.SectorStore.told c.args.self.now in
+    let kind = next_identifies c.reserve-room.new.self o _ c.args.port.0 c.args.slot.0 c.in-Some.next c.in-Some.ensures.found.0 t (c.reserve-room.ensures.same o)
+    c.in-Some.ensures.found.1 taken identifies in
+    true-false (c.exchange.ensures.identifies kind).0 c.if-not-exchange.true
+
+pub returns-clause-page : goal.returns-clause-page
+returns-clause-page g c = λ t taken identifies.
+    let o : Outside = outside_at g.S.SectorStore.size g.S.SectorStore.told c.args.self.now in
+    let kind = next_identifies c.reserve-room.new.self o _ c.args.port.0 c.args.slot.0 c.in-Some.next c.in-Some.ensures.found.0 t (c.reserve-room.ensures.same o)
+    c.in-Some.ensures.found.1 taken identifies in
+    ((c.exchange.ensures.identifies kind).1, λ never. absurd (let e : true ≡ false = never in cc))
