@@ -15,7 +15,7 @@ use Rattle.adapter.proofs.Absurd.{some-none, some_one, true-false}
 use Rattle.adapter.proofs.Changed.{fun_ext, changed_same, changed_other}
 use Rattle.adapter.proofs.SaysLemmas.{says_meaning, says_places}
 use Rattle.device_model.specs.Finishing.{HasDisk, HasMove, IsCovered, IsGoing, IsReady}
-use Rattle.device_model.specs.Slots.{HoldsAt}
+use Rattle.device_model.specs.Slots.{HoldsAt, IsNext}
 use Rattle.device_model.specs.View.{Media, Takes, media_after, operation_of, taken_of, blank}
 use Rattle.device_model.specs.Whole.{Outside, device_of, no_media, outside_of, outside_after, outside_plugged}
 use Rattle.device_model.specs.declared.port.PortModel.{PortModel}
@@ -200,6 +200,38 @@ sector_small r size few small = by (is_ranged (operation_of r.transfer)) refl
     by : (b : Bool) → is_ranged (operation_of r.transfer) ≡ b → next_sector (taken_of r) < 2 ^ 64
     by true e = let at = small e in omega (arith, at, few)
     by false e = let none : next_sector (taken_of r) ≡ 0 = ap (λ b. if b then r.first + r.moved else 0) e in omega (arith, none)
+
+-- what the hardware finds to move next is possible on port 0, where it is on the disk
+pub next_has_move : (h : Hardware) (o : Outside) (d : Device) (port slot : ℕ) (next : NextMove) (r : TakenCommand) → port ≡ 0 → device_of h o ≡ d →
+    IsNext h port slot next r → (is_ranged (operation_of next.transfer) ≡ true → next.sector < (o.media 0).disk.size) → (t : Taken) × HasMove d port slot t
+next_has_move h o d port slot next r zero same is on =
+    let P : Device → Type 0 = λ x. (t : Taken) × HasMove x port slot t in
+    let Q : ℕ → Type 0 = λ q. is_ranged (operation_of next.transfer) ≡ true → next.sector < (o.media q).disk.size in
+    let sector : next.sector ≡ next_sector (taken_of r) = is.sector_is in
+    let place : next.address ≡ slice_index (pieces r.prds) r.moved = is.address_is in
+    let there = is.inside in
+    subst P same (
+      taken_of r,
+      record {
+        works = is.holds.works (o.media port);
+        left = is.left;
+        inside = omega (arith, place, there);
+        on_disk = λ ranged.
+            let at = subst Q (sym zero) on (ap (λ (k : Transfer). is_ranged (operation_of k)) is.transfer_is ∙ ranged) in omega (arith, sector, at);
+        has_disk = inl zero;
+      },
+    )
+
+-- and where it is possible, it is on the disk
+pub next_on_disk : (h : Hardware) (o : Outside) (d : Device) (port slot : ℕ) (next : NextMove) (r : TakenCommand) (t : Taken) → port ≡ 0 → device_of h o ≡ d →
+    IsNext h port slot next r → HasMove d port slot t → is_ranged (operation_of next.transfer) ≡ true → next.sector < (o.media 0).disk.size
+next_on_disk h o d port slot next r t zero same is move ranged =
+    let found = move_fits h o d port slot t zero same move in
+    let one : found.r ≡ r = some_one (sym found.holds.held ∙ is.holds.held) in
+    let sector : next.sector ≡ next_sector (taken_of found.r) = is.sector_is ∙ ap (λ (x : TakenCommand). next_sector (taken_of x)) (sym one) in
+    let kind : next.transfer ≡ found.r.transfer = is.transfer_is ∙ ap (λ (x : TakenCommand). x.transfer) (sym one) in
+    let at = found.on_disk (sym (ap (λ (k : Transfer). is_ranged (operation_of k)) kind) ∙ ranged) in
+    omega (arith, sector, at)
 
 -- where a move is possible, it has its place and its sector
 pub has_move : (d : Device) (port slot : ℕ) (t : Taken) (bytes : List ℕ) → Takes t.meaning.operation → HasDisk port t.meaning.operation → Can (Move port slot t bytes) d →

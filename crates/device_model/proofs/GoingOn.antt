@@ -1,19 +1,16 @@
 -- What a port does by itself is steps, which compose.
-use Rattle.std.proofs.Common.{ℕ, Bool, zero, suc, true, false, ◌≡◌, ◌≢◌, ◌⊎◌, List, [], ◌∷◌, None, refl, sym, ◌∙◌, ap, subst, inl, inr, arith}
+use Rattle.std.proofs.Common.{ℕ, Bool, zero, suc, true, false, ◌≡◌, List, None, refl, sym, ◌∙◌, ap, subst, inl, inr, arith}
 use Rattle.std.proofs.lemmas.Bool.Decides.{eqb_tells}
 use Rattle.adapter.specs.Device.{PortState, Device}
 use Rattle.adapter.specs.Memory.{changed}
-use Rattle.adapter.specs.Asked.{Asked, DoesOne, DoesSome, GoesOn}
-use Rattle.adapter.specs.declared.access.DeviceStep.{DeviceStep}
-use Rattle.adapter.specs.declared.access.DeviceStep.TheVariants as asked
-use Rattle.device_model.specs.Queue.{DoesEach}
-use Rattle.adapter.specs.Steps.{MayLinkUp, Steps, with_done, with_fetch, with_link, with_move, with_port, with_reset}
+use Rattle.adapter.specs.Asked.{DoesOne, DoesSome, GoesOn}
+use Rattle.adapter.specs.Steps.{MayLinkUp, with_done, with_fetch, with_link, with_move, with_port, with_reset}
 use Rattle.adapter.specs.Steps.Step.{Fall, FrFall, LinkUp}
 use Rattle.adapter.proofs.Changed.{fun_ext, changed_same, changed_other, changed_each}
-use Rattle.adapter.proofs.Runs.{Steps-refl, Steps-one, Steps-trans}
+use Rattle.device_model.proofs.Own.{own_none, own_on, own_one}
 use Rattle.device_model.specs.Bits.{bits_of}
 use Rattle.device_model.specs.Held.{IsHeld}
-use Rattle.device_model.specs.Settled.{GoesTo, IsSettled, IsSettledPort}
+use Rattle.device_model.specs.Settled.{DoesOwn, GoesTo, IsSettled, IsSettledPort}
 use Rattle.device_model.specs.View.{Media, port_of, blank}
 use Rattle.device_model.proofs.NewModel.{zero_bit}
 
@@ -35,33 +32,34 @@ with_twice d port a b =
     ]))
 
 pub goes_nowhere : (p : PortState) → GoesTo p p
-goes_nowhere p d port is = let P : Device → Type 0 = λ x. Steps d x in subst P (sym (with_same d port p is)) (Steps-refl d)
+goes_nowhere p held d port loose is = let P : Device → Type 0 = λ x. DoesOwn held d x in subst P (sym (with_same d port p is)) (own_none held d)
 
 pub goes_on : (a b c : PortState) → GoesTo a b → GoesTo b c → GoesTo a c
-goes_on a b c first then d port is =
-    let P : Device → Type 0 = λ x. Steps (with_port d port b) x in
-    Steps-trans (first d port is) (subst P (with_twice d port b c) (then (with_port d port b) port (changed_same d.port port b)))
+goes_on a b c first then held d port loose is =
+    let P : Device → Type 0 = λ x. DoesOwn held (with_port d port b) x in
+    own_on held d (with_port d port b) (with_port d port c) (first held d port loose is)
+    (subst P (with_twice d port b c) (then held (with_port d port b) port loose (changed_same d.port port b)))
 
 abbrev fallen : PortState → PortState
 fallen p = record p { cr = false; taken = λ _. None }
 
 pub goes_fallen : (old new : PortState) → old.st ≡ false → old.cr ≡ true → new ≡ fallen old → GoesTo old new
-goes_fallen old new st cr is d port here =
-    Steps-one (Fall port) d _ (ap (λ (p : PortState). p.st) here ∙ st, ap (λ (p : PortState). p.cr) here ∙ cr)
+goes_fallen old new st cr is held d port loose here =
+    own_one held (Fall port) d _ loose (ap (λ (p : PortState). p.st) here ∙ st, ap (λ (p : PortState). p.cr) here ∙ cr)
     (ap (λ (p : PortState). with_port d port p) (is ∙ ap fallen (sym here)))
 
 abbrev area_fallen : PortState → PortState
 area_fallen p = record p { fr = false }
 
 pub goes_area_fallen : (old new : PortState) → old.fre ≡ false → old.cr ≡ false → old.fr ≡ true → new ≡ area_fallen old → GoesTo old new
-goes_area_fallen old new fre cr fr is d port here =
-    Steps-one (FrFall port) d _
+goes_area_fallen old new fre cr fr is held d port loose here =
+    own_one held (FrFall port) d _ loose
     (ap (λ (p : PortState). p.fre) here ∙ fre, ap (λ (p : PortState). p.cr) here ∙ cr, ap (λ (p : PortState). p.fr) here ∙ fr)
     (ap (λ (p : PortState). with_port d port p) (is ∙ ap area_fallen (sym here)))
 
 pub goes_linked : (old new : PortState) → old.present ≡ true → old.sctl_det ≡ 0 → old.link_due ≡ true → new ≡ with_link old 0x101 true → GoesTo old new
-goes_linked old new present det due is d port here =
-    Steps-one (LinkUp port 0x101 true) d _
+goes_linked old new present det due is held d port loose here =
+    own_one held (LinkUp port 0x101 true) d _ (loose, refl, refl)
     (record {
       present = ap (λ (p : PortState). p.present) here ∙ present;
       det = ap (λ (p : PortState). p.sctl_det) here ∙ det;
@@ -138,50 +136,3 @@ pub gone_settled : (port slot : ℕ) (did : Bool) (old new : Device) → (did �
     (held : List Bool) → IsSettled held old → IsSettled held new
 gone_settled port slot true old new went stayed held settled = let g = went refl in some_settled (suc g.0) port slot old new g.1 held settled
 gone_settled port slot false old new went stayed held settled = let P : Device → Type 0 = λ d. IsSettled held d in subst P (sym (stayed refl)) settled
-
--- ---- and the other ports as they were
-
-one_others : (port slot : ℕ) (old new : Device) → DoesOne port slot old new → (q : ℕ) → q ≢ port → new.port q ≡ old.port q
-one_others port slot old new (inl f) q ne = ap (λ (d : Device). d.port q) f.effect ∙ changed_other old.port port _ q ne
-one_others port slot old new (inr (inl m)) q ne = ap (λ (d : Device). d.port q) m.effect ∙ changed_other old.port port _ q ne
-one_others port slot old new (inr (inr e)) q ne = ap (λ (d : Device). d.port q) e.effect ∙ changed_other old.port port _ q ne
-
-some_others : (n port slot : ℕ) (old new : Device) → DoesSome n port slot old new → (q : ℕ) → q ≢ port → new.port q ≡ old.port q
-some_others zero port slot old new e q ne = ap (λ (d : Device). d.port q) e
-some_others (suc n) port slot old new s q ne = one_others port slot s.0 new s.2 q ne ∙ some_others n port slot old s.0 s.1 q ne
-
-pub gone_others : (port slot : ℕ) (did : Bool) (old new : Device) → (did ≡ true → GoesOn port slot old new) → (did ≡ false → new ≡ old) →
-    (q : ℕ) → q ≢ port → new.port q ≡ old.port q
-gone_others port slot true old new went stayed q ne = let g = went refl in some_others (suc g.0) port slot old new g.1 q ne
-gone_others port slot false old new went stayed q ne = ap (λ (d : Device). d.port q) (stayed refl)
-
--- ---- no step that is asked for ends a reset
-
-one_reset : (port slot : ℕ) (old new : Device) → DoesOne port slot old new → new.hr ≡ old.hr
-one_reset port slot old new (inl f) = ap (λ (d : Device). d.hr) f.effect
-one_reset port slot old new (inr (inl m)) = ap (λ (d : Device). d.hr) m.effect
-one_reset port slot old new (inr (inr e)) = ap (λ (d : Device). d.hr) e.effect
-
-some_reset : (n port slot : ℕ) (old new : Device) → DoesSome n port slot old new → new.hr ≡ old.hr
-some_reset zero port slot old new e = ap (λ (d : Device). d.hr) e
-some_reset (suc n) port slot old new s = one_reset port slot s.0 new s.2 ∙ some_reset n port slot old s.0 s.1
-
-asked_reset : (s : DeviceStep) (old new : Device) → Asked s old new → new.hr ≡ old.hr
-asked_reset (asked.Fetch p s) old new d = one_reset p.0 s.0 old new (inl d)
-asked_reset (asked.Move p s) old new d = one_reset p.0 s.0 old new (inr (inl d))
-asked_reset (asked.Done p s) old new d = one_reset p.0 s.0 old new (inr (inr d))
-asked_reset (asked.Finish p s) old new g = some_reset (suc g.0) p.0 s.0 old new g.1
-asked_reset (asked.Lie p page offset bits) old new e = ap (λ (d : Device). d.hr) e
-asked_reset (asked.Truth p) old new e = ap (λ (d : Device). d.hr) e
-asked_reset (asked.Hold p) old new e = ap (λ (d : Device). d.hr) e
-asked_reset (asked.Release p) old new e = ap (λ (d : Device). d.hr) e
-asked_reset (asked.Unplug p) old new d = ap (λ (d : Device). d.hr) d.effect
-asked_reset (asked.Plug p number) old new d = ap (λ (d : Device). d.hr) d.effect
-
-pub each_reset : (steps : List DeviceStep) (old new : Device) → DoesEach steps old new → new.hr ≡ old.hr
-each_reset [] old new e = ap (λ (d : Device). d.hr) e
-each_reset (s ∷ steps) old new d = each_reset steps d.0 new d.2 ∙ by d.1
-  where
-    by : Asked s old d.0 ⊎ (d.0 ≡ old) → d.0.hr ≡ old.hr
-    by (inl did) = asked_reset s old d.0 did
-    by (inr same) = ap (λ (x : Device). x.hr) same

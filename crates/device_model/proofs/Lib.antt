@@ -1,6 +1,7 @@
 pub mod Transfers
 pub mod BitLemmas
 pub mod Bytes
+pub mod Own
 pub mod Ports
 pub mod EachPort
 pub mod GoingOn
@@ -12,3 +13,6 @@ pub mod Finishing
 pub mod Ready
 pub mod Queueing
 pub mod Telling
+pub mod Doing
+pub mod Told
+pub mod Identifying

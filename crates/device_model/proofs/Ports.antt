@@ -5,7 +5,7 @@ use Rattle.std.specs.Global.{Vec}
 use Rattle.std.proofs.lemmas.Bool.Decides.{eqb_tells}
 use Rattle.adapter.specs.Memory.{changed}
 use Rattle.adapter.specs.Device.{PortState, Device}
-use Rattle.adapter.specs.Steps.{MayLinkUp, with_port, recorded, Steps}
+use Rattle.adapter.specs.Steps.{MayLinkUp, with_port, recorded}
 use Rattle.adapter.specs.Access.{note, noted}
 use Rattle.adapter.specs.Rules.{MayRead, MayWrite}
 use Rattle.adapter.specs.declared.tape.Entry.{Entry}
@@ -13,8 +13,8 @@ use Rattle.adapter.proofs.Changed.{fun_ext, changed_same, changed_other, changed
 use Rattle.hba_regs.specs.declared.reg.Reg.{Reg}
 use Rattle.hba_regs.specs.declared.reg.Reg.TheVariants.{Cap, Ghc, Is, Pi, Vs, Cap2, Bohc, Px}
 use Rattle.device_model.specs.Fetched.{bytes_of}
-use Rattle.device_model.specs.Held.{IsHeld}
-use Rattle.device_model.specs.Settled.{GoesTo, IsSettled}
+use Rattle.device_model.specs.Held.{IsHeld, IsLoose}
+use Rattle.device_model.specs.Settled.{DoesOwn, GoesTo, IsSettled}
 use Rattle.device_model.specs.View.{Media, port_of, blank}
 use Rattle.device_model.specs.Whole.{Outside, device_of, HasPort}
 use Rattle.device_model.specs.declared.port.PortModel.{PortModel}
@@ -75,13 +75,13 @@ has_port_write Vs v d may = tt
 has_port_write Cap2 v d may = tt
 has_port_write Bohc v d may = tt
 
--- one port did what it does by itself
-pub port_settles : (h : Hardware) (o : Outside) (p : ℕ) (new : PortModel) → p < length h.ports →
+-- one port that isn't held did what it does by itself
+pub port_settles : (h : Hardware) (o : Outside) (p : ℕ) (new : PortModel) (held : List Bool) → p < length h.ports → IsLoose held p →
     GoesTo (port_of (slice_index_or h.ports p blank) (o.media p)) (port_of new (o.media p)) →
-    Steps (device_of h o) (device_of (record h { ports = slice_set h.ports p new }) o)
-port_settles h o p new small goes =
-    let P : Device → Type 0 = λ d. Steps (device_of h o) d in
-    subst P (sym (set_port h o p new _ small refl)) (goes (device_of h o) p refl)
+    DoesOwn held (device_of h o) (device_of (record h { ports = slice_set h.ports p new }) o)
+port_settles h o p new held small loose goes =
+    let P : Device → Type 0 = λ d. DoesOwn held (device_of h o) d in
+    subst P (sym (set_port h o p new _ small refl)) (goes held (device_of h o) p loose refl)
 
 -- one port is changed, and the tape has one more entry
 pub set_port_recorded : (h : Hardware) (o : Outside) (p : ℕ) (new : PortModel) (state : PortState) (tape : Vec Entry) (entry : Entry) →
@@ -129,22 +129,3 @@ noted_settled Pi v d held s = s
 noted_settled Vs v d held s = s
 noted_settled Cap2 v d held s = s
 noted_settled Bohc v d held s = s
-
--- and notes nothing at a port but what it showed
-pub noted_port : (r : Reg) (v : ℕ) (old new : Device) (port : ℕ) → new.port port ≡ old.port port → (noted r v new).port port ≡ (noted r v old).port port
-noted_port (Px q r) v old new port is =
-    elim (eqb_tells port q.0) [
-      | inl same ↦
-          let here : new.port q.0 ≡ old.port q.0 = subst (λ k. new.port k ≡ old.port k) same.1 is in
-          rw same.1
-          (changed_same new.port q.0 _
-          ∙ (ap (λ (p : PortState). record p { notes = note r v p }) here ∙ sym (changed_same old.port q.0 _)))
-      | inr differ ↦ changed_other new.port q.0 _ port differ.1 ∙ (is ∙ sym (changed_other old.port q.0 _ port differ.1))
-    ]
-noted_port Cap v old new port is = is
-noted_port Ghc v old new port is = is
-noted_port Is v old new port is = is
-noted_port Pi v old new port is = is
-noted_port Vs v old new port is = is
-noted_port Cap2 v old new port is = is
-noted_port Bohc v old new port is = is

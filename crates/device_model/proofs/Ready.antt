@@ -1,8 +1,8 @@
 -- Where a command may be done to its end: which moves are left of it, and that each has its place.
-use Rattle.std.proofs.Common.{ℕ, true, false, zero, suc, ◌≡◌, ◌<◌, ◌≤◌, ◌+◌, ◌-◌, ◌*◌, ◌/◌, ◌⊎◌, List, [], ◌∷◌, length, slice_index, slice_index_or, Option, None, Some, All, refl, sym, ◌∙◌, ap, subst, inl, inr, arith, length-append}
+use Rattle.std.proofs.Common.{ℕ, true, zero, suc, ◌≡◌, ◌<◌, ◌≤◌, ◌+◌, ◌-◌, ◌*◌, ◌/◌, ◌^◌, ◌⊎◌, List, [], ◌∷◌, length, slice_index, slice_index_or, Option, None, Some, All, refl, sym, ◌∙◌, ap, subst, inl, inr, arith, length-append}
 use Rattle.std.proofs.lemmas.Bool.{cases_lt}
 use Rattle.std.proofs.lemmas.List.{get_or_append_left, get_or-append_right}
-use Rattle.std.specs.Prelude.{IfSome, is_some}
+use Rattle.std.specs.Prelude.{IfSome}
 use Rattle.std.specs.Option.{SomeIff}
 use Rattle.std.specs.Vec.{vec_len}
 use Rattle.adapter.specs.Commands.{is_ranged}
@@ -183,19 +183,24 @@ module _ (h : Hardware) (p port slot sectors size : ℕ) (r : TakenCommand) (e :
       subst P (sym memory_size) (subst Q same ready.covered)
 
   -- where a command may be taken, one that is ready is the one that its slot's bytes say
-  pub ready_is_said : MayTakeAny (slice_index_or h.ports p blank) slot → r.moved ≡ 0 →
+  ready_is_one : MayTakeAny (slice_index_or h.ports p blank) slot → r.moved ≡ 0 →
       Says (bytes_of h.memory.items) (slice_index_or h.ports p blank).addresses.clb slot (taken_of r).meaning (taken_of r).places →
-      (o : Outside) (left : ℕ) → IsReady (device_of h o) port slot sectors left → IsCovered (taken_of r) size sectors left
-  ready_is_said may unmoved says o left ready =
+      (o : Outside) (left : ℕ) (ready : IsReady (device_of h o) port slot sectors left) → ready.t ≡ taken_of r
+  ready_is_one may unmoved says o left ready =
       let t : Taken = ready.t in
       let memory = bytes_of h.memory.items in
       let list = (slice_index_or h.ports p blank).addresses.clb in
       let there = ready_said h o p port slot sectors left e ready may in
       let meaning = says_meaning memory list slot t.meaning (taken_of r).meaning t.places (taken_of r).places there says in
       let places = says_places memory list slot t.meaning (taken_of r).meaning t.places (taken_of r).places there says in
-      covers_back left o ready
-      ((ready_fetch h o p port slot sectors left e ready may).1
-      ∙ ((λ i. begun (meaning i) (places i)) ∙ ap (λ n. record (begun (taken_of r).meaning (taken_of r).places) { moved = n }) (sym unmoved)))
+      (ready_fetch h o p port slot sectors left e ready may).1
+      ∙ ((λ i. begun (meaning i) (places i)) ∙ ap (λ n. record (begun (taken_of r).meaning (taken_of r).places) { moved = n }) (sym unmoved))
+
+  pub ready_is_said : MayTakeAny (slice_index_or h.ports p blank) slot → r.moved ≡ 0 →
+      Says (bytes_of h.memory.items) (slice_index_or h.ports p blank).addresses.clb slot (taken_of r).meaning (taken_of r).places →
+      (o : Outside) (left : ℕ) → IsReady (device_of h o) port slot sectors left → IsCovered (taken_of r) size sectors left
+  ready_is_said may unmoved says o left ready =
+      covers_back left o ready (ready_is_one may unmoved says o left ready)
 
   -- where it is taken, the one that its slot holds
   pub ready_is_held : HoldsAt (slice_index_or h.ports p blank) slot r → MayTakeNone (slice_index_or h.ports p blank) slot →
@@ -207,44 +212,66 @@ module _ (h : Hardware) (p port slot sectors size : ℕ) (r : TakenCommand) (e :
 
 -- ---- IDENTIFY DEVICE
 
-module _ (h : Hardware) (slot : ℕ) where
+module _ (h : Hardware) (slot size : ℕ) (sized : size ≡ vec_len h.memory) where
   abbrev port0 : PortModel
   port0 = slice_index_or h.ports 0 blank
 
+  -- a command that can be done to its end
+  abbrev pub Ends : TakenCommand → Type 0
+  Ends r = (left : ℕ) × IsCovered (taken_of r) size 0 left × AreInside (2 ^ 32) (pieces r.prds)
+
   -- one that may be taken
-  pub identify_said : (result : Option TakenCommand) → is_some result ≡ true →
-      IfSome result (λ t. (t.moved ≡ 0) × Says (bytes_of h.memory.items) port0.addresses.clb slot (taken_of t).meaning (taken_of t).places) →
-      IfSome result (λ t. t.transfer ≡ transfer.Identify) → MayTakeAny port0 slot → (o : Outside) → HasIdentify (device_of h o) slot
-  identify_said None some says kind may o = absurd (let e : false ≡ true = some in cc)
-  identify_said (Some t) some says kind may o =
-      let m = may (o.media 0) (operation_of t.transfer) (is_taken t.transfer) in
+  pub identify_said : (r : TakenCommand) → r.moved ≡ 0 → Says (bytes_of h.memory.items) port0.addresses.clb slot (taken_of r).meaning (taken_of r).places →
+      r.transfer ≡ transfer.Identify → MayTakeAny port0 slot → Ends r → (o : Outside) → HasIdentify (device_of h o) slot
+  identify_said r unmoved says kind may ends o =
+      let m = may (o.media 0) (operation_of r.transfer) (is_taken r.transfer) in
       record {
-        t = taken_of t;
+        left = ends.0;
+        ready = record {
+          t = taken_of r;
+          takes = is_taken r.transfer;
+          covered = covers h 0 0 slot 0 size r refl sized ends.0 ends.1;
+          begins = inr (
+            record { fetchable = m.fetchable; working = m.working; alone = m.alone; says = says },
+            ap (λ n. record (begun (taken_of r).meaning (taken_of r).places) { moved = n }) unmoved,
+          );
+        };
         identifies = ap operation_of kind;
-        begins = inr (record { fetchable = m.fetchable; working = m.working; alone = m.alone; says = says.1 });
+        low = ends.2;
       }
 
-  pub identify_unsaid : (result : Option TakenCommand) → is_some result ≡ false →
-      (result ≡ None → (m : Meaning) (places : List ℕ) → m.operation ≡ Identify → Says (bytes_of h.memory.items) port0.addresses.clb slot m places → ⊥) →
+  -- no other one may be
+  pub identify_unsaid : ((m : Meaning) (places : List ℕ) → m.operation ≡ Identify → Says (bytes_of h.memory.items) port0.addresses.clb slot m places → ⊥) →
       MayTakeAny port0 slot → (o : Outside) → HasIdentify (device_of h o) slot → ⊥
-  identify_unsaid (Some t) none only may o has = let e : true ≡ false = none in cc
-  identify_unsaid None none only may o has =
-      elim has.begins [
-        | inl works ↦
-            absurd (some-none works.taken (may (o.media 0) has.t.meaning.operation (inr (inr has.identifies))).fetchable.free)
-        | inr can ↦ only refl has.t.meaning has.t.places has.identifies can.says
-      ]
+  identify_unsaid none may o has =
+      none has.ready.t.meaning has.ready.t.places has.identifies (ready_said h o 0 0 slot 0 has.left refl has.ready may)
+
+  -- and where one may be taken, it is the one that is ready
+  pub identify_endless : (r : TakenCommand) → r.moved ≡ 0 → Says (bytes_of h.memory.items) port0.addresses.clb slot (taken_of r).meaning (taken_of r).places →
+      MayTakeAny port0 slot → ((left : ℕ) → IsCovered (taken_of r) size 0 left → AreInside (2 ^ 32) (pieces r.prds) → ⊥) → (o : Outside) →
+      HasIdentify (device_of h o) slot → ⊥
+  identify_endless r unmoved says may never o has =
+      let same = ready_is_one h 0 0 slot 0 size r refl sized may unmoved says o has.left has.ready in
+      never has.left (ready_is_said h 0 0 slot 0 size r refl sized may unmoved says o has.left has.ready)
+      (subst (λ (t : Taken). AreInside (2 ^ 32) t.places) same has.low)
 
   -- one that is taken
-  pub identify_held : (t : TakenCommand) → HoldsAt port0 slot t → t.transfer ≡ transfer.Identify → (o : Outside) → HasIdentify (device_of h o) slot
-  identify_held t held kind o = record { t = taken_of t; identifies = ap operation_of kind; begins = inl (held.works (o.media 0)) }
+  pub identify_held : (r : TakenCommand) → HoldsAt port0 slot r → r.transfer ≡ transfer.Identify → Ends r → (o : Outside) → HasIdentify (device_of h o) slot
+  identify_held r held kind ends o = record {
+    left = ends.0;
+    ready = record {
+      t = taken_of r;
+      takes = is_taken r.transfer;
+      covered = covers h 0 0 slot 0 size r refl sized ends.0 ends.1;
+      begins = inl (held.works (o.media 0));
+    };
+    identifies = ap operation_of kind;
+    low = ends.2;
+  }
 
-  pub identify_unheld : ((t : TakenCommand) → HoldsAt port0 slot t → t.transfer ≡ transfer.Identify → ⊥) → MayTakeNone port0 slot → (o : Outside) →
+  pub identify_unheld : ((r : TakenCommand) → HoldsAt port0 slot r → r.transfer ≡ transfer.Identify → Ends r → ⊥) → MayTakeNone port0 slot → (o : Outside) →
       HasIdentify (device_of h o) slot → ⊥
   identify_unheld none never o has =
-      elim has.begins [
-        | inl works ↦
-            let w = holds h o 0 slot has.t has.t.meaning.operation works in
-            none w.0 w.1 (is_identify w.0.transfer (sym (ap (λ (t : Taken). t.meaning.operation) w.2) ∙ has.identifies))
-        | inr can ↦ never (o.media 0) has.t.meaning.operation (inr (inr has.identifies)) (fetch_takes h o 0 0 slot has.t.meaning has.t.places refl can)
-      ]
+      let w = ready_held h o 0 0 slot 0 has.left refl has.ready never in
+      none w.0 w.1 (is_identify w.0.transfer (sym (ap (λ (t : Taken). t.meaning.operation) w.2) ∙ has.identifies))
+      (has.left, covers_back h 0 0 slot 0 size w.0 refl sized has.left o has.ready w.2, subst (λ (t : Taken). AreInside (2 ^ 32) t.places) w.2 has.low)

@@ -1,13 +1,12 @@
 -- Steps of the hardware, of a port by its index in the array.
-use Rattle.std.proofs.Common.{ℕ, Bool, true, false, ◌≡◌, ◌<◌, ◌≤◌, ◌+◌, List, [], ◌∷◌, ◌++◌, length, refl, sym, ◌∙◌, ap, subst, inl}
+use Rattle.std.proofs.Common.{ℕ, true, false, ◌≡◌, ◌<◌, ◌≤◌, ◌+◌, List, [], ◌∷◌, ◌++◌, length, refl, sym, ◌∙◌, ap, subst, inl}
 use Rattle.std.specs.Prelude.{slice_set, slice_index_or, IfSome, if◌then◌else◌}
 use Rattle.std.specs.Global.{Vec}
 use Rattle.adapter.specs.Commands.{Meaning, direction_of, is_ranged, reads_memory}
-use Rattle.adapter.specs.Device.{Disk, PortState, Device, IsSector}
-use Rattle.adapter.specs.Idle.{IsIdlePort, IsIdle}
+use Rattle.adapter.specs.Device.{Disk, IsSector}
 use Rattle.adapter.specs.Memory.{patched, bytes_at}
 use Rattle.adapter.specs.Says.{Says, pieces}
-use Rattle.adapter.specs.Steps.{after, MayFetch, MayMove, Brings, with_fetch, with_move, with_done, done_entry, move_of, noted_bytes, memory_after, next_place, next_sector}
+use Rattle.adapter.specs.Steps.{after, MayBeDone, MayFetch, MayMove, Brings, with_fetch, with_move, with_done, done_entry, move_of, noted_bytes, memory_after, next_place, next_sector}
 use Rattle.adapter.specs.Steps.Step.{Move, Unplug, Plug}
 use Rattle.adapter.specs.declared.command.Direction.{Direction}
 use Rattle.adapter.specs.declared.command.Operation.{Operation}
@@ -15,7 +14,6 @@ use Rattle.adapter.specs.declared.tape.Entry.{Entry}
 use Rattle.adapter.specs.declared.tape.Entry.TheVariants as entry
 use Rattle.adapter.specs.declared.tape.Move as tape_move
 use Rattle.adapter.specs.Asked.{DoesFetch, DoesDone}
-use Rattle.adapter.proofs.Changed.{changed_each}
 use Rattle.device_model.specs.Fetched.{bytes_of}
 use Rattle.device_model.specs.Slots.{MayTake, HoldsAt, IsNext}
 use Rattle.device_model.specs.View.{Media, media_after, operation_of, port_of, taken_of, blank}
@@ -85,21 +83,14 @@ plugged_in h o new tape disk name some is more =
     set_port_plugged h o 0 new media _ tape (entry.Plug (record { 0 = 0 }) disk.name) some (is media)
     (more ∙ ap (λ (e : Entry). h.tape.items ++ e ∷ []) named)
 
--- an idle adapter is idle without it
-pub unplugged_idle : (old new : Device) → new ≡ after (Unplug 0) old → IsIdle old → IsIdle new
-unplugged_idle old new is idle =
-    let P : Device → Type 0 = λ d. IsIdle d in
-    let here : PortState = record (old.port 0) { ssts_det = 0; present = false; fresh = false; serr_n = true } in
-    let was = idle.port 0 in
-    subst P (sym is) (record {
-      no_reset = idle.no_reset;
-      port = changed_each old.port 0 here (λ q p. IsIdlePort p)
-          (record { st = was.st; cr = was.cr; fre = was.fre; fr = was.fr; ci = was.ci; sact = was.sact; taken = was.taken }) idle.port;
-    })
-
-pub stays_idle : (did : Bool) (old new : Device) → (did ≡ true → new ≡ after (Unplug 0) old) → (did ≡ false → new ≡ old) → IsIdle old → IsIdle new
-stays_idle true old new is same idle = unplugged_idle old new (is refl) idle
-stays_idle false old new is same idle = let P : Device → Type 0 = λ d. IsIdle d in subst P (sym (same refl)) idle
+-- a command of which all was moved may end
+pub may_end : (h : Hardware) (o : Outside) (port slot : ℕ) (t : TakenCommand) → HoldsAt (slice_index_or h.ports port blank) slot t →
+    t.moved ≡ length (pieces t.prds) → MayBeDone (device_of h o) port slot 0 (taken_of t)
+may_end h o port slot t holds all = record {
+  works = holds.works (o.media port);
+  finished = record { moved = all; cleared = λ trim. absurd (no_trim t.transfer trim) };
+  shown = inl refl;
+}
 
 -- a command is at its end
 pub port_ends : (h : Hardware) (o : Outside) (p port slot : ℕ) (new : PortModel) (t : TakenCommand) (tape : Vec Entry) → p ≡ port → p < length h.ports →
@@ -112,11 +103,7 @@ port_ends h o p port slot new t tape e small holds all is more =
     (record {
       flag = 0;
       t = taken_of t;
-      can = record {
-        works = holds.works (o.media p);
-        finished = record { moved = all; cleared = λ trim. absurd (no_trim t.transfer trim) };
-        shown = inl refl;
-      };
+      can = may_end h o p slot t holds all;
       effect = set_port_recorded h o p new _ tape (done_entry p slot (operation_of t.transfer)) small is (rw e more);
     })
 

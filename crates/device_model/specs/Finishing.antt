@@ -1,5 +1,5 @@
 -- What has to hold that a command can be done to its end.
-use Rattle.std.specs.Prelude.{ℕ, true, ◌≡◌, ◌+◌, ◌*◌, ◌/◌, ◌<◌, ◌≤◌, ◌⊎◌, List, length, slice_index}
+use Rattle.std.specs.Prelude.{ℕ, true, ◌≡◌, ◌+◌, ◌*◌, ◌/◌, ◌^◌, ◌<◌, ◌≤◌, ◌⊎◌, List, length, slice_index}
 use Rattle.std.specs.Vec.{vec_len, vec_capacity}
 use Rattle.adapter.specs.Commands.{is_ranged}
 use Rattle.adapter.specs.Device.{Taken, Device}
@@ -15,13 +15,9 @@ use Rattle.device_model.specs.declared.hardware.Hardware.{Hardware}
 abbrev pub HasRoom : Hardware → ℕ → Type 0
 HasRoom h n = vec_len h.tape + n ≤ vec_capacity h.tape
 
--- what was left out for want of memory, as these told, is told by those too
-abbrev pub StaysStarved : Hardware → Hardware → Type 0
-StaysStarved old new = old.starved ≡ true → new.starved ≡ true
-
--- the tape had no memory for so many more entries, and it is told that something was left out for that
-abbrev pub IsStarved : Hardware → Hardware → ℕ → Type 0
-IsStarved old new n = (HasRoom old n → ⊥) × (new.starved ≡ true)
+-- A step wasn't done: it isn't possible, and nothing is another; or it is, and the tape had no memory for its one entry, which is told.
+abbrev pub IsPassed : Hardware → Hardware → Type 0 → Type 0
+IsPassed old new possible = ((possible → ⊥) × (new ≡ old)) ⊎ (possible × (HasRoom old 1 → ⊥) × (new.starved ≡ true))
 
 -- each of these pieces is in a memory of this size
 abbrev pub AreInside : ℕ → List ℕ → Type 0
@@ -65,8 +61,9 @@ pub record IsReady (d : Device) (port slot sectors left : ℕ) : Type 0 where
   pub covered : IsCovered t d.size sectors left
   pub begins : WorksOn (d.port port) slot t t.meaning.operation ⊎ (Can (Fetch port slot t.meaning t.places) d × (t ≡ begun t.meaning t.places))
 
--- port 0 works on an IDENTIFY DEVICE in this slot, or may take one there
+-- port 0 has an IDENTIFY DEVICE in this slot, taken or not, which can be done to its end; its pieces have addresses of 32 bits
 pub record HasIdentify (d : Device) (slot : ℕ) : Type 0 where
-  pub t : Taken
-  pub identifies : t.meaning.operation ≡ Identify
-  pub begins : WorksOn (d.port 0) slot t t.meaning.operation ⊎ Can (Fetch 0 slot t.meaning t.places) d
+  pub left : ℕ
+  pub ready : IsReady d 0 slot 0 left
+  pub identifies : ready.t.meaning.operation ≡ Identify
+  pub low : AreInside (2 ^ 32) ready.t.places

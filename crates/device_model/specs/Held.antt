@@ -1,11 +1,14 @@
 -- The ports on which the model does nothing by itself, of its ports 0 to 3 (this project's own).
-use Rattle.std.specs.Prelude.{ℕ, Bool, true, false, ◌≡◌, ◌⊎◌, List, [], ◌∷◌, replicate, slice_index_or, slice_set}
-use Rattle.ata_types.specs.declared.Port.{Port}
+use Rattle.std.specs.Prelude.{ℕ, Bool, true, false, ◌≡◌, List, replicate, slice_index_or, slice_set}
 use Rattle.adapter.specs.declared.access.DeviceStep.{DeviceStep}
 use Rattle.adapter.specs.declared.access.DeviceStep.TheVariants.{Hold, Release}
 
 abbrev pub IsHeld : List Bool → ℕ → Type 0
 IsHeld held port = slice_index_or held port false ≡ true
+
+-- the model goes on by itself on this port
+abbrev pub IsLoose : List Bool → ℕ → Type 0
+IsLoose held port = slice_index_or held port false ≡ false
 
 abbrev pub all_held : List Bool
 all_held = replicate 4 true
@@ -13,17 +16,8 @@ all_held = replicate 4 true
 abbrev pub none_held : List Bool
 none_held = replicate 4 false
 
--- the step holds this port, or releases it
-abbrev pub IsHolding : DeviceStep → Port → Type 0
-IsHolding step p = (step ≡ Hold p) ⊎ (step ≡ Release p)
-
 -- the ports that are held after a step; a port past the last is none of them
 abbrev pub held_after : DeviceStep → List Bool → List Bool
 held_after (Hold p) held = slice_set held p.0 true
 held_after (Release p) held = slice_set held p.0 false
 held_after step held = held
-
--- the same after these steps, one after another
-abbrev pub held_each : List DeviceStep → List Bool → List Bool
-held_each [] held = held
-held_each (step ∷ steps) held = held_each steps (held_after step held)

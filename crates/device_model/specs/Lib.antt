@@ -8,5 +8,6 @@ pub mod Settled
 pub mod Modelled
 pub mod Finishing
 pub mod Paged
+pub mod Does
 pub mod Queue
 pub mod Tells

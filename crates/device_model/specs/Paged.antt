@@ -1,7 +1,5 @@
 -- What the modelled disks say of themselves.
 use Rattle.std.specs.Prelude.{ℕ, ◌≡◌, ◌<◌, ◌++◌, List, [], ◌∷◌, All, length, bit_xor, replicate, slice_index, slice_set}
-use Rattle.adapter.specs.declared.access.DeviceStep.{DeviceStep}
-use Rattle.adapter.specs.declared.access.DeviceStep.TheVariants.{Lie, Truth}
 use Rattle.adapter.specs.declared.command.Operation.TheVariants.{Identify}
 use Rattle.adapter.specs.declared.tape.Entry.{Entry}
 use Rattle.adapter.specs.declared.tape.Entry.TheVariants as entry
@@ -9,7 +7,6 @@ use Rattle.adapter.specs.declared.tape.Move.{Move}
 use Rattle.sector_store.specs.Pages.{IsPage}
 use Rattle.device_model.specs.declared.model.Description.{Description}
 use Rattle.device_model.specs.declared.model.Model.{Model}
-use Rattle.device_model.specs.declared.model.Queued.{Queued}
 
 -- "IMAGEDISK", in ASCII
 abbrev pub serial_of_disk0 : List ℕ
@@ -34,24 +31,11 @@ pub record IsItsPage (size : ℕ) (says : Description) (bytes : List ℕ) : Type
 abbrev pub AreItsPages : ℕ → Description → List Entry → Type 0
 AreItsPages size says entries = All (λ e. (m : Move) → e ≡ entry.Move m → m.operation ≡ Identify → IsItsPage size says m.bytes.value) entries
 
--- A model's disk 0 tells of itself as it did: so many sectors, these abilities and these lies; and each page that the tape has gained
--- meanwhile tells so.
-pub record KeepsPages {S : Type 0} (size : S → ℕ) (old new : Model S) : Type 0 where
-  pub says : new.says ≡ old.says
-  pub sectors : size new.disk0 ≡ size old.disk0
+-- The tape has gained entries, of which each page of IDENTIFY DEVICE is that of disk 0, as it says of itself.
+pub record GainsPages {S : Type 0} (size : S → ℕ) (old new : Model S) : Type 0 where
   pub gained : List Entry
   pub tape : new.hardware.tape.items ≡ old.hardware.tape.items ++ gained
   pub pages : AreItsPages (size old.disk0) old.says gained
-
--- the step has nothing to do with lies
-abbrev pub IsHonest : DeviceStep → Type 0
-IsHonest (Lie port page offset bits) = ⊥
-IsHonest (Truth port) = ⊥
-IsHonest step = Unit {0}
-
--- no step that is queued has
-abbrev pub AreHonest : List Queued → Type 0
-AreHonest queue = All (λ q. IsHonest q.step) queue
 
 -- one more lie: these bits of this byte are turned, once more
 abbrev pub lying : List ℕ → ℕ → ℕ → List ℕ

@@ -1,9 +1,14 @@
 -- Steps that are queued before accesses.
-use Rattle.std.specs.Prelude.{ℕ, ◌≡◌, ◌⊎◌, ◌+◌, ◌-◌, ◌^◌, min, List, [], ◌∷◌, map, nat_le, nat_lt}
+use Rattle.std.specs.Prelude.{ℕ, Bool, true, ◌≡◌, ◌+◌, ◌-◌, ◌^◌, min, List, [], ◌∷◌, Option, map, nat_le, nat_lt}
 use Rattle.std.specs.List.{filter}
-use Rattle.adapter.specs.Asked.{Asked}
 use Rattle.adapter.specs.Device.{Device}
 use Rattle.adapter.specs.declared.access.DeviceStep.{DeviceStep}
+use Rattle.adapter.specs.Access.{Shows, noted}
+use Rattle.hba_regs.specs.declared.reg.Reg.{Reg}
+use Rattle.device_model.specs.Does.{Answers, Keeps}
+use Rattle.device_model.specs.Paged.{GainsPages}
+use Rattle.device_model.specs.Settled.{DoesOwn, EndsReset}
+use Rattle.device_model.specs.Modelled.{device_at}
 use Rattle.device_model.specs.declared.model.Model.{Model}
 use Rattle.device_model.specs.declared.model.Queued.{Queued}
 
@@ -15,16 +20,42 @@ due access queue = map (λ q. q.step) (filter (λ q. nat_le q.access access) que
 abbrev pub not_due : ℕ → List Queued → List Queued
 not_due access queue = filter (λ q. nat_lt access q.access) queue
 
--- these steps one after another, each done or, where it was refused, passed over
-abbrev pub DoesEach : List DeviceStep → Device → Device → Type 0
-DoesEach [] old new = new ≡ old
-DoesEach (s ∷ steps) old new = (mid : Device) × (Asked s old mid ⊎ (mid ≡ old)) × DoesEach steps mid new
+-- these steps one after another, each done where it is possible then, or left
+abbrev pub DoesEach : {S : Type 0} → (S → ℕ) → (S → Option (ℕ → List ℕ)) → (S → Bool) → List DeviceStep → Model S → Model S → Type 0
+DoesEach size told is_sure [] old new = new ≡ old
+DoesEach {S} size told is_sure (s ∷ steps) old new =
+    (answer : Bool) × (mid : Model S) × Answers size told is_sure s answer old mid × DoesEach size told is_sure steps mid new
 
--- One more access was made: the steps that were queued before it have left the queue, and the others wait on, as they were.
-pub record CountsAccess {S : Type 0} (old new : Model S) : Type 0 where
+-- What each access begins with: it is counted, the steps that were queued before it leave the queue, where the others wait on as they were, and
+-- each of those is done, in their order, or left.
+pub record Begins {S : Type 0} (size : S → ℕ) (told : S → Option (ℕ → List ℕ)) (is_sure : S → Bool) (old new : Model S) : Type 0 where
   pub counted : new.accesses ≡ min (old.accesses + 1) (2 ^ 64 - 1)
   pub waiting : new.queue.items ≡ not_due new.accesses old.queue.items
+  pub does : DoesEach size told is_sure (due new.accesses old.queue.items) (record old { accesses = new.accesses; queue = new.queue }) new
 
--- the steps that were queued before an access, and no other step of the device, lead to this state
-abbrev pub DoesDue : {S : Type 0} → Model S → Model S → Device → Device → Type 0
-DoesDue old new before after = DoesEach (due new.accesses old.queue.items) before after
+-- An access that changes the hardware alone: it begins so, and then changes the device so. The rest of the model stays, and what is told of
+-- want of memory.
+pub record DoesThen {S : Type 0} (size : S → ℕ) (told : S → Option (ℕ → List ℕ)) (is_sure : S → Bool) (effect : Device → Device) (old new : Model S) : Type 0 where
+  pub mid : Model S
+  pub begins : Begins size told is_sure old mid
+  pub effect_is : device_at size told new ≡ effect (device_at size told mid)
+  pub rest : new ≡ record mid { hardware = new.hardware }
+  pub starved : new.hardware.starved ≡ mid.hardware.starved
+
+-- A reading begins so, too. Then a pending reset may end, and the model's own steps are done; and the value is what the register shows then. Of the rest
+-- of the model nothing is another, but which ports are held where a reset ended. Each page that the tape has gained is as disk 0 says of itself, and
+-- what was told of want of memory stays told.
+pub record DoesRead {S : Type 0} (size : S → ℕ) (told : S → Option (ℕ → List ℕ)) (is_sure : S → Bool) (r : Reg) (value : ℕ) (old new : Model S) : Type 0 where
+  pub mid : Model S
+  pub begins : Begins size told is_sure old mid
+  pub reset : Device
+  pub ends : EndsReset mid.held new.held (device_at size told mid) reset
+  pub last : Device
+  pub own : DoesOwn new.held reset last
+  pub shows : Shows r value last
+  pub effect : device_at size told new ≡ noted r value last
+  pub says : new.says ≡ mid.says
+  pub pages : GainsPages size mid new
+  pub disk0 : new.disk0 ≡ mid.disk0
+  pub keeps : Keeps size is_sure mid new
+  pub told_on : mid.hardware.starved ≡ true → new.hardware.starved ≡ true

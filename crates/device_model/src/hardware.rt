@@ -1,11 +1,13 @@
 // The model without its disks.
-ghost use Rattle.std.specs.Prelude.{◌≡◌, ◌≢◌, ◌+◌, ◌<◌, ◌≤◌, ◌++◌, ℕ, true, false, if◌then◌else◌, All, length, take, drop, slice_index_or};
+ghost use Rattle.std.specs.Prelude.{Bool, List, ◌≡◌, ◌≢◌, ◌+◌, ◌<◌, ◌≤◌, ◌++◌, ℕ, true, false, if◌then◌else◌, All, length, take, drop, slice_index_or};
 ghost use Rattle.adapter.specs.Access.{Shows, noted, written, unacknowledged};
 ghost use Rattle.adapter.specs.Memory.{patched, bytes_at};
-ghost use Rattle.adapter.specs.Steps.{Steps, with_reset};
+ghost use Rattle.adapter.specs.Device.{Device};
+ghost use Rattle.adapter.specs.Steps.{after, with_reset};
+ghost use Rattle.adapter.specs.Steps.Step.{ResetEnds};
 ghost use Rattle.hba_regs.specs.Bits.{bit};
-ghost use Rattle.device_model.specs.Held.{IsHeld, all_held, none_held};
-ghost use Rattle.device_model.specs.Settled.{IsSettled, IsSettledPort};
+ghost use Rattle.device_model.specs.Held.{IsLoose, all_held};
+ghost use Rattle.device_model.specs.Settled.{DoesOwn, EndsReset, IsSettled, IsSettledPort};
 ghost use Rattle.device_model.specs.View.{Media, port_of, blank};
 ghost use Rattle.device_model.specs.Whole.{Outside, device_of, HasPort};
 
@@ -158,7 +160,7 @@ impl Hardware {
     /// A reset that is pending ends (AHCI 1.3.1, 10.4.3).
     fn end_reset(&mut self)
         requires { self.old.hr ≡ true }
-        ensures steps { (o : Outside) → Steps (device_of self.old o) (device_of self.new o) }
+        ensures resets { (o : Outside) → device_of self.new o ≡ after ResetEnds (device_of self.old o) }
         ensures ended { self.new.hr ≡ false }
         ensures number { length self.new.ports ≡ length self.old.ports }
         ensures tape { self.new.tape ≡ self.old.tape }
@@ -172,11 +174,8 @@ impl Hardware {
 
     /// A reset that is pending ends unless all ports are held, and ends all holds.
     fn end_reset_unless_held(&mut self, held: &mut [bool; PORTS])
-        ensures steps { (o : Outside) → Steps (device_of self.old o) (device_of self.new o) }
+        ensures resets { (o : Outside) → EndsReset held.old held.new (device_of self.old o) (device_of self.new o) }
         ensures left { self.new.hr ≡ true → held.new ≡ all_held }
-        ensures still { (port : ℕ) → IsHeld held.new port → self.new ≡ self.old }
-        ensures held { (self.old.hr ≡ true → held.old ≡ all_held) → held.new ≡ held.old }
-        ensures freed { self.old.hr ≡ true → held.old ≢ all_held → held.new ≡ none_held }
         ensures number { length self.new.ports ≡ length self.old.ports }
         ensures tape { self.new.tape ≡ self.old.tape }
         ensures starved { self.new.starved ≡ self.old.starved }
@@ -190,7 +189,7 @@ impl Hardware {
     /// What one port does by itself.
     fn settle_port(&mut self, port: usize)
         requires { port < 4 }
-        ensures steps { (o : Outside) → Steps (device_of self.old o) (device_of self.new o) }
+        ensures own { (o : Outside) (held : List Bool) → IsLoose held port → DoesOwn held (device_of self.old o) (device_of self.new o) }
         ensures settled { (o : Outside) → IsSettledPort ((device_of self.new o).port port) }
         ensures others { (o : Outside) (q : ℕ) → q ≢ port → (device_of self.new o).port q ≡ (device_of self.old o).port q }
         ensures number { length self.new.ports ≡ length self.old.ports }
@@ -202,14 +201,10 @@ impl Hardware {
     }
 
     /// What the adapter does by itself before a register is read: a pending reset ends unless all ports are held, and ends all holds;
-    /// then each port that isn't held does what it does by itself. Afterwards none of this is possible any more. A held port stays as
-    /// it is.
+    /// then each port that isn't held does what it does by itself. Afterwards none of this is possible any more.
     pub fn settle(&mut self, held: &mut [bool; PORTS])
-        ensures steps { (o : Outside) → Steps (device_of self.old o) (device_of self.new o) }
+        ensures own { (o : Outside) → (reset : Device) × EndsReset held.old held.new (device_of self.old o) reset × DoesOwn held.new reset (device_of self.new o) }
         ensures settled { (o : Outside) → IsSettled held.new (device_of self.new o) }
-        ensures still { (o : Outside) (port : ℕ) → IsHeld held.new port → (device_of self.new o).port port ≡ (device_of self.old o).port port }
-        ensures held { (self.old.hr ≡ true → held.old ≡ all_held) → held.new ≡ held.old }
-        ensures freed { self.old.hr ≡ true → held.old ≢ all_held → held.new ≡ none_held }
         ensures tape { self.new.tape ≡ self.old.tape }
         ensures starved { self.new.starved ≡ self.old.starved }
     {

@@ -9,7 +9,7 @@ ghost use Rattle.adapter.specs.Steps.{Can, after, next_sector};
 ghost use Rattle.adapter.specs.Steps.Step.{Fetch as FetchStep, Move as MoveStep, Done as DoneStep, Unplug as UnplugStep, Plug as PlugStep};
 ghost use Rattle.adapter.specs.Asked.{DoesFetch, DoesDone};
 ghost use Rattle.device_model.specs.Fetched.{bytes_of};
-ghost use Rattle.device_model.specs.Finishing.{HasIdentify, HasRoom, IsInside, AreInside, IsCovered, IsReady, IsStarved, StaysStarved};
+ghost use Rattle.device_model.specs.Finishing.{HasIdentify, HasRoom, IsInside, AreInside, IsCovered, IsPassed, IsReady};
 ghost use Rattle.device_model.specs.Slots.{HoldsAt, IsNext, MayTakeAny};
 ghost use Rattle.device_model.specs.View.{Takes, operation_of, taken_of, blank};
 ghost use Rattle.device_model.specs.Whole.{Outside, device_of, outside_after, outside_plugged};
@@ -29,6 +29,18 @@ pub struct NextMove {
     pub transfer: Transfer,
     pub sector: u64,
     pub address: u32,
+}
+
+impl NextMove {
+    /// Whether it names no sector, or one of so many.
+    pub fn is_on(self, sectors: u64) -> bool
+        ensures { IsTrue result ↔ (is_ranged (operation_of self.transfer) ≡ true → self.sector < sectors) }
+    {
+        match self.transfer {
+            Transfer::Identify => true,
+            Transfer::Read | Transfer::Write => self.sector < sectors,
+        }
+    }
 }
 
 /// Adds an entry to the tape; `false` says that there was no memory, which is told from then on.
@@ -95,6 +107,18 @@ fn left_of(command: &TakenCommand, size: usize, sectors: u64) -> Option<u32>
     pieces.checked_sub(command.moved)
 }
 
+/// Whether a command that names no sectors can be done to its end: whether each of its pieces has a place in a memory of this size, and
+/// an address of 32 bits.
+fn can_end(command: &TakenCommand, size: usize) -> bool
+    ensures ends { result ≡ true → (left : ℕ) × IsCovered (taken_of command.now) size 0 left × AreInside (2 ^ 32) (pieces command.now.prds) }
+    ensures only { result ≡ false → (left : ℕ) → IsCovered (taken_of command.now) size 0 left → AreInside (2 ^ 32) (pieces command.now.prds) → ⊥ }
+{
+    match left_of(command, size, 0) {
+        Some(_left) => are_inside(&command.prds, 1 << 32),
+        None => false,
+    }
+}
+
 /// The sector that a command moves next, 0 where it names none.
 fn sector_of(command: &TakenCommand) -> Option<u64>
     ensures found { IfSome result (λ s. s ≡ next_sector (taken_of command.now)) }
@@ -154,7 +178,7 @@ impl Hardware {
         true
     }
 
-    /// Whether the bytes of a slot of port 0 say an IDENTIFY DEVICE, which may be taken.
+    /// Whether the bytes of a slot of port 0 say an IDENTIFY DEVICE, which may be taken, and can be done to its end.
     #[inline(never)]
     fn says_identify(&self, slot: u8) -> bool
         requires slot { slot < 32 }
@@ -163,30 +187,45 @@ impl Hardware {
         ensures only { result ≡ false → (o : Outside) → HasIdentify (device_of self.now o) slot → ⊥ }
     {
         let list = self.ports[0].addresses.clb;
-        read_as(&self.memory, list, slot, Transfer::Identify).is_some()
+        match read_as(&self.memory, list, slot, Transfer::Identify) {
+            Some(command) => can_end(&command, self.memory.len()),
+            None => false,
+        }
     }
 
-    /// Whether a command of port 0 is issued or taken.
-    pub fn has_command(&self) -> bool
-        ensures { IsTrue result ↔ (((slice_index_or self.now.ports 0 blank).ci ≡ 0) × ((slice_index_or self.now.ports 0 blank).taken ≡ None) → ⊥) }
-    {
-        self.ports[0].ci != 0 || self.ports[0].taken.is_some()
-    }
-
-    /// Whether a slot of port 0 has an IDENTIFY DEVICE that may be taken, or is taken and worked on.
-    pub fn has_identify(&self, slot: u8) -> bool
+    /// Whether a slot of port 0 has an IDENTIFY DEVICE that may be taken, or is taken and worked on, and can be done to its end.
+    fn has_identify(&self, slot: u8) -> bool
         requires { slot < 32 }
         ensures has { result ≡ true → (o : Outside) → HasIdentify (device_of self.now o) slot }
         ensures only { result ≡ false → (o : Outside) → HasIdentify (device_of self.now o) slot → ⊥ }
     {
         if may_take(&self.ports, 0, slot) {
-            self.says_identify(slot)
-        } else {
-            match working_on(&self.ports, 0, slot) {
-                Some(command) => matches!(command.transfer, Transfer::Identify),
-                None => false,
+            return self.says_identify(slot);
+        }
+        let Some(command) = working_on(&self.ports, 0, slot) else {
+            return false;
+        };
+        match command.transfer {
+            Transfer::Identify => can_end(command, self.memory.len()),
+            Transfer::Read | Transfer::Write => false,
+        }
+    }
+
+    /// The first slot of port 0 with an IDENTIFY DEVICE that can be done to its end. There is none where no command is issued or taken.
+    pub fn next_identify(&self) -> Option<u8>
+        ensures small { IfSome result (λ slot. slot < 32) }
+        ensures found { IfSome result (λ slot. (o : Outside) → HasIdentify (device_of self.now o) slot) }
+        ensures none { result ≡ None → (o : Outside) (slot : ℕ) → slot < 32 → HasIdentify (device_of self.now o) slot → ⊥ }
+    {
+        if self.ports[0].ci == 0 && self.ports[0].taken.is_none() {
+            return None;
+        }
+        for slot in 0..32 {
+            if self.has_identify(slot) {
+                return Some(slot);
             }
         }
+        None
     }
 
     /// The next move of a slot's command, if one is left and its place is in the memory.
@@ -194,8 +233,9 @@ impl Hardware {
         requires port { port < 4 }
         requires slot { slot < 32 }
         ensures found { IfSome result (λ n. (t : TakenCommand) × IsNext self.now port slot n t) }
-        ensures none { result ≡ None → length self.now.memory.items ≤ 2 ^ 32 → (t : TakenCommand) → HoldsAt (slice_index_or self.now.ports port blank) slot t →
-            t.moved < length (pieces t.prds) → slice_index (pieces t.prds) t.moved + 512 ≤ length self.now.memory.items → next_sector (taken_of t) < 2 ^ 64 → ⊥ }
+        ensures none { result ≡ None → (t : TakenCommand) → HoldsAt (slice_index_or self.now.ports port blank) slot t → t.moved < length (pieces t.prds) →
+            slice_index (pieces t.prds) t.moved < 2 ^ 32 → slice_index (pieces t.prds) t.moved + 512 ≤ length self.now.memory.items →
+            next_sector (taken_of t) < 2 ^ 64 → ⊥ }
     {
         let command = working_on(&self.ports, usize::from(port), slot)?;
         let address = piece_at(&command.prds, command.moved)?;
@@ -243,11 +283,8 @@ impl Hardware {
         requires slot { slot < 32 }
         ensures did { result ≡ true → (o : Outside) → DoesDone port slot (device_of self.old o) (device_of self.new o) }
         ensures refused { result ≡ false → (o : Outside) → device_of self.new o ≡ device_of self.old o }
-        ensures only { result ≡ false → (o : Outside) (flag : ℕ) (t : Taken) → Can (DoneStep port slot flag t) (device_of self.old o) →
-            IsStarved self.old self.new 1 }
-        ensures starved { StaysStarved self.old self.new }
+        ensures left { result ≡ false → (o : Outside) → IsPassed self.old self.new ((flag : ℕ) × (t : Taken) × Can (DoneStep port slot flag t) (device_of self.old o)) }
         ensures fed { result ≡ true → self.new.starved ≡ self.old.starved }
-        ensures ample { HasRoom self.old 1 → self.new.starved ≡ self.old.starved }
     {
         let Some(command) = working_on(&self.ports, usize::from(port), slot) else {
             return false;
@@ -302,13 +339,13 @@ impl Hardware {
     pub fn unplug(&mut self) -> bool
         ensures did { result ≡ true → (o : Outside) → Can (UnplugStep 0) (device_of self.old o) × (device_of self.new o ≡ after (UnplugStep 0) (device_of self.old o)) }
         ensures refused { result ≡ false → (o : Outside) → device_of self.new o ≡ device_of self.old o }
-        ensures only { result ≡ false → (o : Outside) → Can (UnplugStep 0) (device_of self.old o) → IsStarved self.old self.new 1 }
-        ensures starved { StaysStarved self.old self.new }
+        ensures left { result ≡ false → (o : Outside) → IsPassed self.old self.new (Can (UnplugStep 0) (device_of self.old o)) }
         ensures fed { result ≡ true → self.new.starved ≡ self.old.starved }
     {
-        if !self.ports[0].present
-            || !record(&mut self.tape, &mut self.starved, Entry::Unplug(Port(0)))
-        {
+        if !self.ports[0].present {
+            return false;
+        }
+        if !record(&mut self.tape, &mut self.starved, Entry::Unplug(Port(0))) {
             return false;
         }
         self.ports[0].unplug();
@@ -320,13 +357,13 @@ impl Hardware {
         ensures free { result ≡ true → (o : Outside) → ((device_of self.old o).port 0).present ≡ false }
         ensures did { result ≡ true → (o : Outside) (disk : Disk) → disk.name ≡ 0 → device_of self.new (outside_plugged o disk) ≡ after (PlugStep 0 disk) (device_of self.old o) }
         ensures refused { result ≡ false → (o : Outside) → device_of self.new o ≡ device_of self.old o }
-        ensures only { result ≡ false → (o : Outside) → ((device_of self.old o).port 0).present ≡ false → IsStarved self.old self.new 1 }
-        ensures starved { StaysStarved self.old self.new }
+        ensures left { result ≡ false → (o : Outside) → IsPassed self.old self.new (((device_of self.old o).port 0).present ≡ false) }
         ensures fed { result ≡ true → self.new.starved ≡ self.old.starved }
     {
-        if self.ports[0].present
-            || !record(&mut self.tape, &mut self.starved, Entry::Plug(Port(0), 0))
-        {
+        if self.ports[0].present {
+            return false;
+        }
+        if !record(&mut self.tape, &mut self.starved, Entry::Plug(Port(0), 0)) {
             return false;
         }
         self.ports[0].plug();

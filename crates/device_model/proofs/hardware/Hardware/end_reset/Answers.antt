@@ -1,15 +1,12 @@
 use Rattle.std.proofs.Common.{false}
-use Rattle.adapter.specs.Steps.Step.{ResetEnds}
 use Rattle.adapter.proofs.Changed.{fun_ext}
-use Rattle.adapter.proofs.Runs.{Steps-one}
 use Rattle.device_model.specs.Whole.{device_of}
 use Rattle.device_model.proofs.hardware.Hardware.end_reset.Goals as goal
 
-pub returns-clause-steps : goal.returns-clause-steps
-returns-clause-steps c = λ o.
+pub returns-clause-resets : goal.returns-clause-resets
+returns-clause-resets c = λ o.
     let h = c.args.self.now in
-    Steps-one ResetEnds (device_of h o) _ c.requires
-    (λ i. record (device_of h o) { hr = false; ae = false; ie = false; port = fun_ext (λ k. c.reset_all.ensures.each (o.media k) k) i })
+    λ i. record (device_of h o) { hr = false; ae = false; ie = false; port = fun_ext (λ k. c.reset_all.ensures.each (o.media k) k) i }
 
 pub returns-clause-number : goal.returns-clause-number
 returns-clause-number c = c.reset_all.ensures.size

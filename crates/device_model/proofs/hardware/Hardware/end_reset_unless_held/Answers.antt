@@ -1,4 +1,4 @@
-use Rattle.std.proofs.Common.{Bool, true, false, ◌≡◌, ◌∙◌, refl, sym}
+use Rattle.std.proofs.Common.{Bool, true, false, ◌≡◌, ◌∙◌, refl, sym, inl, inr}
 use Rattle.std.specs.Prelude.{not}
 use Rattle.std.specs.Cmp.{booleans_Decides}
 use Rattle.std.proofs.lemmas.Slice.Eq.{slice_eq-Decides}
@@ -11,6 +11,20 @@ not_false : (b : Bool) → not b ≡ false → b ≡ true
 not_false true e = refl
 not_false false e = true-false refl e
 
+not_true : (b : Bool) → not b ≡ true → b ≡ false
+not_true true e = true-false e refl
+not_true false e = refl
+
+-- one is, and not all are held
+pub returns-then-ne-clause-resets : goal.returns-then-ne-clause-resets
+returns-then-ne-clause-resets c = λ o.
+    inr (
+      c.if-self.true,
+      λ all. true-false ((slice_eq-Decides booleans_Decides c.args.held.now all_held _ refl).1 all) (not_true _ (sym c.ne.ensures ∙ c.if-ne.true)),
+      refl,
+      c.end_reset.ensures.resets o,
+    )
+
 pub returns-else-self-clause-left : goal.returns-else-self-clause-left
 returns-else-self-clause-left c =
     elim c.else-self.branch [
@@ -19,5 +33,6 @@ returns-else-self-clause-left c =
       | else-self-via-else-self w ↦ λ on. true-false on w.if-self.false
     ]
 
-pub returns-else-self-clause-freed : goal.returns-else-self-clause-freed
-returns-else-self-clause-freed c = λ on some. absurd (some (returns-else-self-clause-left c on))
+-- none is pending, or all are held
+pub returns-else-self-clause-resets : goal.returns-else-self-clause-resets
+returns-else-self-clause-resets c = λ o. inl (λ on. returns-else-self-clause-left c on, refl, refl)

@@ -1,4 +1,5 @@
-use Rattle.std.proofs.Common.{rules, ◌<◌, length}
+use Rattle.std.proofs.Common.{rules, arith, ◌<◌, length, inl, inr, refl}
+use Rattle.adapter.proofs.Absurd.{true-false}
 use Rattle.device_model.proofs.Stepping.{plugged_in}
 use Rattle.device_model.proofs.hardware.Hardware.plug.Goals as goal
 
@@ -6,3 +7,10 @@ pub returns-clause-did : goal.returns-clause-did
 returns-clause-did c = λ _ o disk name.
     let some : 0 < length c.args.self.now.ports = search rules in
     plugged_in c.args.self.now o _ c.record.new.tape disk name some c.plug.ensures (c.record.ensures.added c.if-not-record.false)
+
+pub returns-then-self-offset0-clause-left : goal.returns-then-self-offset0-clause-left
+returns-then-self-offset0-clause-left c = λ _ o. inl (λ free. true-false c.if-self-offset0.true free, refl)
+
+pub returns-then-not-record-clause-left : goal.returns-then-not-record-clause-left
+returns-then-not-record-clause-left c = λ _ o.
+    inr (c.if-self-offset0.false, λ room. true-false (c.record.ensures.room (omega (arith, room))) c.if-not-record.true, c.record.ensures.starved c.if-not-record.true)

@@ -1,13 +1,17 @@
-use Rattle.std.proofs.Common.{sym, ◌∙◌}
-use Rattle.device_model.proofs.Ready.{identify_said, identify_unsaid}
+use Rattle.std.proofs.Common.{refl}
+use Rattle.device_model.proofs.Ready.{identify_said, identify_unsaid, identify_endless}
 use Rattle.device_model.proofs.hardware.Hardware.says_identify.Goals as goal
 
-pub returns-clause-has : goal.returns-clause-has
-returns-clause-has c = λ e.
-    identify_said c.args.self.now c.args.slot c.read_as.result (sym c.is_some.ensures ∙ e) (rw c.deref.ensures.value at c.read_as.ensures.found)
-    c.read_as.ensures.kind c.requires.may
+pub returns-in-Some-clause-has : goal.returns-in-Some-clause-has
+returns-in-Some-clause-has c = λ e.
+    let said = rw c.deref.ensures.value at c.in-Some.ensures.found in
+    identify_said c.args.self.now c.args.slot c.len.result c.len.ensures c.in-Some.command said.0 said.1 c.in-Some.ensures.kind c.requires.may (c.can_end.ensures.ends e)
 
-pub returns-clause-only : goal.returns-clause-only
-returns-clause-only c = λ e.
-    identify_unsaid c.args.self.now c.args.slot c.read_as.result (sym c.is_some.ensures ∙ e) (rw c.deref.ensures.value at c.read_as.ensures.only)
-    c.requires.may
+pub returns-in-Some-clause-only : goal.returns-in-Some-clause-only
+returns-in-Some-clause-only c = λ e.
+    let said = rw c.deref.ensures.value at c.in-Some.ensures.found in
+    identify_endless c.args.self.now c.args.slot c.len.result c.len.ensures c.in-Some.command said.0 said.1 c.requires.may (c.can_end.ensures.only e)
+
+pub returns-in-None-clause-only : goal.returns-in-None-clause-only
+returns-in-None-clause-only c = λ _.
+    identify_unsaid c.args.self.now c.args.slot _ refl (rw c.deref.ensures.value at c.in-None.ensures.only refl) c.requires.may

@@ -1,14 +1,13 @@
-use Rattle.std.proofs.Common.{rules, ℕ, Bool, true, false, ◌≡◌, ◌≢◌, ◌<◌, length, slice_index_or, ◌∙◌, ap, subst, sym, arith, refl, inl, inr}
+use Rattle.std.proofs.Common.{rules, ℕ, Bool, true, false, ◌≡◌, ◌<◌, length, slice_index_or, ◌∙◌, ap, subst, sym, arith, refl, inl, inr}
 use Rattle.std.proofs.lemmas.Bool.{cases_lt}
 use Rattle.std.proofs.lemmas.Bool.Decides.{eqb_tells}
 use Rattle.std.proofs.lemmas.List.{get_or_past}
 use Rattle.adapter.specs.Device.{PortState}
 use Rattle.adapter.proofs.Absurd.{true-false}
-use Rattle.adapter.proofs.Runs.{Steps-trans}
+use Rattle.device_model.proofs.Own.{own_none, own_on}
 use Rattle.device_model.specs.Settled.{IsSettledPort}
 use Rattle.device_model.specs.View.{port_of, blank}
 use Rattle.device_model.specs.Whole.{device_of}
-use Rattle.device_model.specs.declared.hardware.Hardware.{Hardware}
 use Rattle.device_model.specs.declared.port.PortModel.{PortModel}
 use Rattle.device_model.proofs.GoingOn.{blank_settled}
 use Rattle.device_model.proofs.hardware.Hardware.settle.Goals as goal
@@ -18,9 +17,8 @@ pub loop-port-init : goal.loop-port-init
 loop-port-init c =
     let r = c.end_reset_unless_held.ensures in
     let four : length c.args.self.now.ports ≡ 4 = search rules in record {
-      steps = r.steps;
+      own = λ o. own_none c.end_reset_unless_held.new.held (device_of c.end_reset_unless_held.new.self o);
       settled = λ o q small free. absurd (omega (arith, small));
-      still = λ o q is. ap (λ (h : Hardware). (device_of h o).port q) (r.still q is);
       number = r.number ∙ four;
       left = r.left;
       tape = r.tape;
@@ -35,7 +33,7 @@ loop-port-preserved c =
           let s = w.settle_port.ensures in
           rw w.self-is
           (record {
-            steps = λ o. Steps-trans (is.steps o) (s.steps o);
+            own = λ o. own_on c.end_reset_unless_held.new.held _ _ _ (is.own o) (s.own o c.end_reset_unless_held.new.held (search rules));
             settled = λ o q small free.
                 elim (eqb_tells q c.loop-port.port) [
                   | inl same ↦ let P : ℕ → Type 0 = λ k. IsSettledPort ((device_of w.settle_port.new.self o).port k) in subst P (sym same.1) (s.settled o)
@@ -44,9 +42,6 @@ loop-port-preserved c =
                       let ne = differ.1 in
                       subst P (sym (s.others o q ne)) (is.settled o q (let lt : q < c.loop-port.port = omega (arith, ne, small) in lt) free)
                 ];
-            still = λ o q held.
-                let other : q ≢ c.loop-port.port = λ same. true-false held (ap (λ k. slice_index_or c.end_reset_unless_held.new.held k false) same ∙ search rules) in
-                s.others o q other ∙ is.still o q held;
             number = s.number ∙ is.number;
             left = λ on. is.left (sym s.reset ∙ on);
             tape = s.tape ∙ is.tape;
@@ -55,13 +50,12 @@ loop-port-preserved c =
       | else-not-held-port w ↦
           rw w.self-is
           (record {
-            steps = is.steps;
+            own = is.own;
             settled = λ o q small free.
                 elim (eqb_tells q c.loop-port.port) [
                   | inl same ↦ absurd (true-false (search rules) (ap (λ k. slice_index_or c.end_reset_unless_held.new.held k false) (sym same.1) ∙ free))
                   | inr differ ↦ let ne = differ.1 in is.settled o q (let lt : q < c.loop-port.port = omega (arith, ne, small) in lt) free
                 ];
-            still = is.still;
             number = is.number;
             left = is.left;
             tape = is.tape;
@@ -69,17 +63,9 @@ loop-port-preserved c =
           })
     ]
 
-pub returns-clause-steps : goal.returns-clause-steps
-returns-clause-steps c = c.loop-port.invariant.steps
-
-pub returns-clause-still : goal.returns-clause-still
-returns-clause-still c = c.loop-port.invariant.still
-
-pub returns-clause-freed : goal.returns-clause-freed
-returns-clause-freed c = c.end_reset_unless_held.ensures.freed
-
-pub returns-clause-held : goal.returns-clause-held
-returns-clause-held c = c.end_reset_unless_held.ensures.held
+pub returns-clause-own : goal.returns-clause-own
+returns-clause-own c = λ o.
+    (device_of c.end_reset_unless_held.new.self o, c.end_reset_unless_held.ensures.resets o, c.loop-port.invariant.own o)
 
 -- each port that isn't held is settled, also those that aren't there
 pub returns-clause-settled : goal.returns-clause-settled

@@ -5,10 +5,10 @@ use Rattle.device_model.specs.declared.port.PortModel.{PortModel}
 use Rattle.device_model.proofs.Ports.{port_settles}
 use Rattle.device_model.proofs.hardware.Hardware.settle_port.Goals as goal
 
-pub returns-clause-steps : goal.returns-clause-steps
-returns-clause-steps c = λ o.
+pub returns-clause-own : goal.returns-clause-own
+returns-clause-own c = λ o held loose.
     let small : c.args.port < length c.args.self.now.ports = search rules in
-    port_settles c.args.self.now o c.args.port _ small (c.settle.ensures.does (o.media c.args.port))
+    port_settles c.args.self.now o c.args.port _ held small loose (c.settle.ensures.does (o.media c.args.port))
 
 pub returns-clause-settled : goal.returns-clause-settled
 returns-clause-settled c = λ o.

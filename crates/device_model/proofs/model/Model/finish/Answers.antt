@@ -1,16 +1,21 @@
-use Rattle.std.proofs.Common.{ℕ, suc, ◌≡◌, ◌≤◌, ◌+◌, ◌-◌, ◌^◌, ◌∙◌, true, false, inl, inr, refl, sym, ap, subst, arith}
+use Rattle.std.proofs.Common.{ℕ, suc, ◌≡◌, ◌<◌, ◌≤◌, ◌+◌, ◌-◌, ◌∙◌, true, false, inl, inr, refl, sym, ap, subst, arith}
 use Rattle.std.specs.Global.{Vec}
 use Rattle.std.specs.Vec.{vec_len, vec_capacity}
 use Rattle.adapter.specs.Device.{Device, Taken}
-use Rattle.adapter.specs.Asked.{DoesFetch, GoesOn}
+use Rattle.adapter.specs.Asked.{DoesFetch}
+use Rattle.adapter.specs.declared.access.DeviceStep.TheVariants as asked
 use Rattle.adapter.specs.declared.tape.Entry.{Entry}
-use Rattle.device_model.specs.Finishing.{HasMove, IsGoing, IsReady}
-use Rattle.device_model.specs.Modelled.{device_at, is_sure_at, outside_at}
+use Rattle.device_model.specs.Finishing.{HasMove, HasRoom, IsGoing, IsReady}
+use Rattle.device_model.specs.Modelled.{device_at, outside_at}
 use Rattle.device_model.specs.Whole.{Outside, device_of}
-use Rattle.adapter.proofs.Absurd.{true-false, some-none, some_one}
+use Rattle.adapter.proofs.Absurd.{true-false, some-none}
 use Rattle.adapter.proofs.Going.{goes_one, goes_next}
+use Rattle.device_model.proofs.Doing.{answered_true, cut_short, did_it, left_it, left_same, meanwhile_on}
+use Rattle.adapter.specs.OneCommand.{IsFreeSlot}
+use Rattle.device_model.proofs.Identifying.{has_ready, page_taken}
 use Rattle.device_model.proofs.Finishing.{fetched_goes, fetched_size, moved_goes, going_has_move, going_may_end, done_frees}
-use Rattle.device_model.proofs.Telling.{keeps_tape, keeps_on, keeps_done}
+use Rattle.device_model.proofs.Telling.{gains_none, gains_done}
+use Rattle.device_model.proofs.Told.{on_hardware}
 use Rattle.device_model.proofs.model.Model.finish.Given.{Over}
 use Rattle.device_model.proofs.model.Model.finish.Goals as goal
 
@@ -21,186 +26,237 @@ loop-piece-init g c =
     let new : Device = device_of c.fetch-did.new.self o in
     let kept = c.reserve.ensures.same o in
     record {
-      did = λ e. goes_one c.args.port c.args.slot _ new
-          (inl (subst (λ (d : Device). DoesFetch c.args.port c.args.slot d new) kept (c.fetch-did.ensures.did e o)));
+      did = λ e. goes_one c.args.port.0 c.args.slot.0 _ new
+          (inl (subst (λ (d : Device). DoesFetch c.args.port.0 c.args.slot.0 d new) kept (c.fetch-did.ensures.did e o)));
       refused = λ e. c.fetch-did.ensures.refused e o ∙ kept;
-      size = fetched_size c.args.port c.args.slot c.fetch-did.result _ new (λ e. c.fetch-did.ensures.did e o) (λ e. c.fetch-did.ensures.refused e o)
+      size = fetched_size c.args.port.0 c.args.slot.0 c.fetch-did.result _ new (λ e. c.fetch-did.ensures.did e o) (λ e. c.fetch-did.ensures.refused e o)
           ∙ ap (λ (d : Device). d.size) kept;
       disk = sym c.sectors-sectors.ensures;
-      held = refl;
-      queue = refl;
-      accesses = refl;
-      pages = keeps_tape g.S.SectorStore.size _ _ refl refl
-          (ap (λ (v : Vec Entry). v.items) c.fetch-did.ensures.tape ∙ ap (λ (d : Device). d.tape) kept);
-      sure = refl;
-      starved = c.fetch-did.ensures.starved ∙ c.reserve.ensures.starved;
+      disk_same = λ _ _. refl;
+      meanwhile = record {
+        held = refl;
+        says = refl;
+        pages = gains_none g.S.SectorStore.size _ _
+            (ap (λ (v : Vec Entry). v.items) c.fetch-did.ensures.tape ∙ ap (λ (d : Device). d.tape) kept);
+        keeps = on_hardware g.S.SectorStore.size g.S.SectorStore.told g.S.SectorStore.is_sure m c.fetch-did.new.self;
+        starved = c.fetch-did.ensures.starved ∙ c.reserve.ensures.starved;
+      };
       room =
           let P : Vec Entry → Type 0 = λ tape. vec_len tape + (c.in-Some.left + 1) ≤ vec_capacity tape in
           let enough = subst P (sym c.fetch-did.ensures.tape) (c.reserve.ensures.room c.if-not-reserve.false) in
           omega (arith, enough);
       going =
-          let P : Device → Type 0 = λ d. IsReady d c.args.port c.args.slot c.sectors-sectors.result c.in-Some.left in
-          let Q : ℕ → Type 0 = λ n. IsGoing new c.args.port c.args.slot c.sectors-sectors.result n in
+          let P : Device → Type 0 = λ d. IsReady d c.args.port.0 c.args.slot.0 c.sectors-sectors.result c.in-Some.left in
+          let Q : ℕ → Type 0 = λ n. IsGoing new c.args.port.0 c.args.slot.0 c.sectors-sectors.result n in
           let all : c.in-Some.left ≡ c.in-Some.left - 0 = omega arith in
           subst Q all
-          (fetched_goes c.args.port c.args.slot c.sectors-sectors.result c.in-Some.left c.fetch-did.result _ new (subst P (sym kept) (c.in-Some.ensures.ready o))
+          (fetched_goes c.args.port.0 c.args.slot.0 c.sectors-sectors.result c.in-Some.left c.fetch-did.result _ new (subst P (sym kept) (c.in-Some.ensures.ready o))
           (λ e. c.fetch-did.ensures.did e o) (λ e. c.fetch-did.ensures.refused e o) (λ e. c.fetch-did.ensures.only e o));
     }
 
 pub loop-piece-preserved : goal.loop-piece-preserved
-loop-piece-preserved g c = let moved = c.move_piece.ensures.did c.if-not-move_piece.false in record {
-  did = λ _. goes_next c.args.port c.args.slot _ _ _ c.loop-piece.did c.loop-piece.invariant.did c.loop-piece.invariant.refused
-      (inr (inl (c.move_piece.ensures.did c.if-not-move_piece.false)));
-  refused = λ no. absurd (let e : true ≡ false = no in cc);
-  size = ap (λ (d : Device). d.size) moved.effect ∙ c.loop-piece.invariant.size;
-  disk = c.move_piece.ensures.disk ∙ c.loop-piece.invariant.disk;
-  held = c.move_piece.ensures.held ∙ c.loop-piece.invariant.held;
-  queue = c.move_piece.ensures.queue ∙ c.loop-piece.invariant.queue;
-  accesses = c.move_piece.ensures.accesses ∙ c.loop-piece.invariant.accesses;
-  pages = keeps_on g.S.SectorStore.size _ _ _ c.loop-piece.invariant.pages c.move_piece.ensures.pages;
-  sure = c.move_piece.ensures.sure ∙ c.loop-piece.invariant.sure;
-  starved = c.move_piece.ensures.fed c.if-not-move_piece.false ∙ c.loop-piece.invariant.starved;
-  room = c.move_piece.ensures.left _ (omega (arith, c.loop-piece.invariant.room, c.loop-piece-test.true));
-  going =
-      let P : ℕ → Type 0 = λ n. IsGoing (device_at g.S.SectorStore.size g.S.SectorStore.told c.loop-piece.self) c.args.port c.args.slot c.sectors-sectors.result n in
-      let next : c.in-Some.left - c.loop-piece._piece ≡ suc (c.in-Some.left - (c.loop-piece._piece + 1)) = omega (arith, c.loop-piece-test.true) in
-      moved_goes c.args.port c.args.slot c.sectors-sectors.result (c.in-Some.left - (c.loop-piece._piece + 1)) _ _ (subst P next c.loop-piece.invariant.going) moved;
-}
+loop-piece-preserved g c =
+    let step = did_it g.S.SectorStore.size g.S.SectorStore.told g.S.SectorStore.is_sure (asked.Move c.args.port c.args.slot) _ _ c.move_piece.result
+    c.move_piece.ensures.answers c.if-not-move_piece.false in
+    let moved = step.asked in
+    record {
+      did = λ _. goes_next c.args.port.0 c.args.slot.0 _ _ _ c.loop-piece.did c.loop-piece.invariant.did c.loop-piece.invariant.refused (inr (inl moved));
+      refused = λ never. absurd (let e : true ≡ false = never in cc);
+      size = ap (λ (d : Device). d.size) moved.effect ∙ c.loop-piece.invariant.size;
+      disk = step.keeps.sectors ∙ c.loop-piece.invariant.disk;
+      meanwhile = meanwhile_on g.S.SectorStore.size g.S.SectorStore.told g.S.SectorStore.is_sure _ _ _ c.loop-piece.invariant.meanwhile
+          (record { held = step.held; says = step.says; pages = step.pages; keeps = step.keeps; starved = step.starved });
+      disk_same = λ zero has.
+          let t : Taken = c.loop-piece.invariant.going.t in
+          let taken = c.loop-piece.invariant.going.works.taken in
+          let page = page_taken c.args.port.0 c.args.slot.0 c.loop-piece.did _ _ zero c.loop-piece.invariant.did c.loop-piece.invariant.refused has t taken in
+          (c.move_piece.ensures.page t taken page.0).0 ∙ c.loop-piece.invariant.disk_same zero has;
+      room = c.move_piece.ensures.left _ (omega (arith, c.loop-piece.invariant.room, c.loop-piece-test.true));
+      going =
+          let P : ℕ → Type 0 = λ n. IsGoing (device_at g.S.SectorStore.size g.S.SectorStore.told c.loop-piece.self) c.args.port.0 c.args.slot.0 c.sectors-sectors.result n in
+          let next : c.in-Some.left - c.loop-piece._piece ≡ suc (c.in-Some.left - (c.loop-piece._piece + 1)) = omega (arith, c.loop-piece-test.true) in
+          moved_goes c.args.port.0 c.args.slot.0 c.sectors-sectors.result (c.in-Some.left - (c.loop-piece._piece + 1)) _ _ (subst P next c.loop-piece.invariant.going) moved;
+    }
 
-pub returns-then-not-move_piece-clause-did : goal.returns-then-not-move_piece-clause-did
-returns-then-not-move_piece-clause-did g c = λ e.
-    let old : Device = device_at g.S.SectorStore.size g.S.SectorStore.told c.args.self.now in
-    subst (λ (d : Device). GoesOn c.args.port c.args.slot old d) (sym (c.move_piece.ensures.refused c.if-not-move_piece.true)) (c.loop-piece.invariant.did e)
+-- what was found to be ready is possible
+may_finish : (size : ℕ) (d : Device) (port slot sectors left : ℕ) → port ≡ 0 → slot < 32 → sectors ≡ size → IsReady d port slot sectors left →
+    (port ≡ 0) × (slot < 32) × (n : ℕ) × IsReady d port slot size n
+may_finish size d port slot sectors left zero small same ready =
+    let P : ℕ → Type 0 = λ n. IsReady d port slot n left in (zero, small, left, subst P same ready)
 
-pub returns-then-not-move_piece-clause-refused : goal.returns-then-not-move_piece-clause-refused
-returns-then-not-move_piece-clause-refused g c = λ e. c.move_piece.ensures.refused c.if-not-move_piece.true ∙ c.loop-piece.invariant.refused e
-
--- a move that is left is possible, so it isn't refused
-move_is_done : (g : Over) (c : goal.Then-not-move_piece g) → is_sure_at g.S.SectorStore.is_sure c.args.self.now ≡ true →
-    (device_at g.S.SectorStore.size g.S.SectorStore.told c.args.self.now).size ≤ 2 ^ 32 → ⊥
-move_is_done g c sure small =
+-- a move was left: no move that is possible is, where it is served
+pub returns-then-not-move_piece-clause-answers : goal.returns-then-not-move_piece-clause-answers
+returns-then-not-move_piece-clause-answers g c =
     let m = c.loop-piece.self in
+    let first = c.args.self.now in
+    let o : Outside = outside_at g.S.SectorStore.size g.S.SectorStore.told first in
+    let is = c.loop-piece.invariant in
     let d : Device = device_at g.S.SectorStore.size g.S.SectorStore.told m in
     let size = g.S.SectorStore.size m.disk0 in
+    let step = left_it g.S.SectorStore.size g.S.SectorStore.told g.S.SectorStore.is_sure (asked.Move c.args.port c.args.slot) _ _ c.move_piece.result
+    c.move_piece.ensures.answers c.if-not-move_piece.true in
     let left = c.in-Some.left - (c.loop-piece._piece + 1) in
-    let P : ℕ → Type 0 = λ n. IsGoing d c.args.port c.args.slot c.sectors-sectors.result n in
-    let Q : ℕ → Type 0 = λ n. IsGoing d c.args.port c.args.slot n (suc left) in
-    let R : ℕ → Type 0 = λ q. IsGoing d q c.args.slot size (suc left) in
-    let S : ℕ → Type 0 = λ q. (t : Taken) × HasMove d q c.args.slot t in
+    let P : ℕ → Type 0 = λ n. IsGoing d c.args.port.0 c.args.slot.0 c.sectors-sectors.result n in
+    let Q : ℕ → Type 0 = λ n. IsGoing d c.args.port.0 c.args.slot.0 n (suc left) in
+    let R : ℕ → Type 0 = λ q. IsGoing d q c.args.slot.0 size (suc left) in
+    let T : ℕ → Type 0 = λ q. (t : Taken) × HasMove d q c.args.slot.0 t in
     let next : c.in-Some.left - c.loop-piece._piece ≡ suc left = omega (arith, c.loop-piece-test.true) in
-    let going = subst Q (sym c.loop-piece.invariant.disk) (subst P next c.loop-piece.invariant.going) in
-    let zero : c.args.port ≡ 0 = c.if-port-ne0.false in
-    let here : IsGoing d 0 c.args.slot size (suc left) = subst R zero going in
-    let found = subst S (sym zero) (here.t, going_has_move d 0 c.args.slot left refl here) in
-    (c.move_piece.ensures.only c.if-not-move_piece.true (c.loop-piece.invariant.sure ∙ sure) (omega (arith, c.loop-piece.invariant.size, small)) found.0 found.1).0
-    (omega (arith, c.loop-piece.invariant.room))
+    let going = subst Q (sym is.disk) (subst P next is.going) in
+    let zero : c.args.port.0 ≡ 0 = c.if-port-ne0.false in
+    let here : IsGoing d 0 c.args.slot.0 size (suc left) = subst R zero going in
+    let found = subst T (sym zero) (here.t, going_has_move d 0 c.args.slot.0 left refl here) in
+    let room : HasRoom m.hardware 1 = omega (arith, is.room) in
+    let sectors : c.sectors-sectors.result ≡ g.S.SectorStore.size first.disk0 = c.sectors-sectors.ensures in
+    cut_short g.S.SectorStore.size g.S.SectorStore.told g.S.SectorStore.is_sure c.args.port c.args.slot c.loop-piece.did first m _
+    (may_finish (g.S.SectorStore.size first.disk0) _ c.args.port.0 c.args.slot.0 c.sectors-sectors.result c.in-Some.left zero c.requires sectors (c.in-Some.ensures.ready o))
+    is.did is.refused is.size is.meanwhile step room (c.requires, found.0, found.1)
 
-pub returns-then-not-move_piece-clause-ends : goal.returns-then-not-move_piece-clause-ends
-returns-then-not-move_piece-clause-ends g c = λ _ sure small. absurd (move_is_done g c sure small)
-
-pub returns-then-not-move_piece-clause-only : goal.returns-then-not-move_piece-clause-only
-returns-then-not-move_piece-clause-only g c = λ _ sure small zero left ready. absurd (move_is_done g c sure small)
-
-pub returns-then-done-clause-ends : goal.returns-then-done-clause-ends
-returns-then-done-clause-ends g c = λ _ sure small.
+pub returns-then-done-clause-answers : goal.returns-then-done-clause-answers
+returns-then-done-clause-answers g c =
     let m = c.loop-piece.self in
+    let first = c.args.self.now in
     let o : Outside = outside_at g.S.SectorStore.size g.S.SectorStore.told m in
-    let P : ℕ → Type 0 = λ n. IsGoing (device_at g.S.SectorStore.size g.S.SectorStore.told m) c.args.port c.args.slot c.sectors-sectors.result n in
+    let start : Outside = outside_at g.S.SectorStore.size g.S.SectorStore.told first in
+    let is = c.loop-piece.invariant in
+    let P : ℕ → Type 0 = λ n. IsGoing (device_at g.S.SectorStore.size g.S.SectorStore.told m) c.args.port.0 c.args.slot.0 c.sectors-sectors.result n in
     let none : c.in-Some.left - c.loop-piece._piece ≡ 0 = omega (arith, c.loop-piece-test.false) in
-    done_frees c.args.port c.args.slot c.sectors-sectors.result _ _ (subst P none c.loop-piece.invariant.going) (c.done.ensures.did c.if-done.true o)
+    let done = c.done.ensures.did c.if-done.true o in
+    let sectors : c.sectors-sectors.result ≡ g.S.SectorStore.size first.disk0 = c.sectors-sectors.ensures in
+    let all = meanwhile_on g.S.SectorStore.size g.S.SectorStore.told g.S.SectorStore.is_sure first m (record m { hardware = c.done.new.self }) is.meanwhile
+    (record {
+      held = refl;
+      says = refl;
+      pages = gains_done g.S.SectorStore.size o c.args.port.0 c.args.slot.0 m _ done;
+      keeps = on_hardware g.S.SectorStore.size g.S.SectorStore.told g.S.SectorStore.is_sure m c.done.new.self;
+      starved = c.done.ensures.fed c.if-done.true;
+    }) in
+    answered_true g.S.SectorStore.size g.S.SectorStore.told g.S.SectorStore.is_sure (asked.Finish c.args.port c.args.slot) first _ c.done.result c.if-done.true (
+      may_finish (g.S.SectorStore.size first.disk0) _ c.args.port.0 c.args.slot.0 c.sectors-sectors.result c.in-Some.left c.if-port-ne0.false c.requires sectors
+          (c.in-Some.ensures.ready start),
+      record {
+        asked = goes_next c.args.port.0 c.args.slot.0 _ _ _ c.loop-piece.did is.did is.refused (inr (inr done));
+        ends = λ _. done_frees c.args.port.0 c.args.slot.0 c.sectors-sectors.result _ _ (subst P none is.going) done;
+        held = all.held;
+        says = all.says;
+        pages = all.pages;
+        disk0 = λ never. absurd never;
+        keeps = all.keeps;
+        starved = all.starved;
+      },
+    )
 
--- an end that is possible isn't refused
+-- an end that is possible, and for which there is memory, isn't left
 end_is_done : (g : Over) (c : goal.Else-done g) → ⊥
 end_is_done g c =
     let m = c.loop-piece.self in
     let o : Outside = outside_at g.S.SectorStore.size g.S.SectorStore.told m in
-    let P : ℕ → Type 0 = λ n. IsGoing (device_at g.S.SectorStore.size g.S.SectorStore.told m) c.args.port c.args.slot c.sectors-sectors.result n in
+    let P : ℕ → Type 0 = λ n. IsGoing (device_at g.S.SectorStore.size g.S.SectorStore.told m) c.args.port.0 c.args.slot.0 c.sectors-sectors.result n in
     let none : c.in-Some.left - c.loop-piece._piece ≡ 0 = omega (arith, c.loop-piece-test.false) in
     let going = subst P none c.loop-piece.invariant.going in
-    (c.done.ensures.only c.if-done.false o 0 going.t (going_may_end c.args.port c.args.slot c.sectors-sectors.result _ going)).0
-    (omega (arith, c.loop-piece.invariant.room))
+    elim (c.done.ensures.left c.if-done.false o) [
+      | inl never ↦ never.0 (0, going.t, going_may_end c.args.port.0 c.args.slot.0 c.sectors-sectors.result _ going)
+      | inr missed ↦ missed.1 (omega (arith, c.loop-piece.invariant.room))
+    ]
 
-pub returns-else-done-clause-ends : goal.returns-else-done-clause-ends
-returns-else-done-clause-ends g c = λ _ sure small. absurd (end_is_done g c)
+pub returns-else-done-clause-answers : goal.returns-else-done-clause-answers
+returns-else-done-clause-answers g c = absurd (end_is_done g c)
 
-pub returns-else-done-clause-only : goal.returns-else-done-clause-only
-returns-else-done-clause-only g c = λ _ sure small zero left ready. absurd (end_is_done g c)
+-- there is no port with a disk, or no command that can be done
+pub returns-then-port-ne0-clause-answers : goal.returns-then-port-ne0-clause-answers
+returns-then-port-ne0-clause-answers g c =
+    left_same g.S.SectorStore.size g.S.SectorStore.told g.S.SectorStore.is_sure _ c.args.self.now (λ may. c.if-port-ne0.true may.0)
 
--- the moves that are left are found, and if there is no room for them, that is told
-pub returns-in_default-clause-only : goal.returns-in_default-clause-only
-returns-in_default-clause-only g c = λ _ sure small zero left ready.
+pub returns-in_default-clause-answers : goal.returns-in_default-clause-answers
+returns-in_default-clause-answers g c =
     let m = c.args.self.now in
     let o : Outside = outside_at g.S.SectorStore.size g.S.SectorStore.told m in
-    let P : ℕ → Type 0 = λ n. IsReady (device_of m.hardware o) c.args.port c.args.slot n left in
-    absurd (some-none (c.moves_left.ensures.only o left (subst P (sym c.sectors-sectors.ensures) ready)) c.in_default.is)
+    left_same g.S.SectorStore.size g.S.SectorStore.told g.S.SectorStore.is_sure _ m
+    (λ may.
+    let P : ℕ → Type 0 = λ n. IsReady (device_of m.hardware o) c.args.port.0 c.args.slot.0 n may.2 in
+    some-none (c.moves_left.ensures.only o may.2 (subst P (sym c.sectors-sectors.ensures) may.3)) c.in_default.is)
 
-pub returns-then-not-reserve-clause-only : goal.returns-then-not-reserve-clause-only
-returns-then-not-reserve-clause-only g c = λ _ sure small zero left ready.
+-- the tape has no memory for it
+pub returns-then-not-reserve-clause-answers : goal.returns-then-not-reserve-clause-answers
+returns-then-not-reserve-clause-answers g c =
     let m = c.args.self.now in
     let o : Outside = outside_at g.S.SectorStore.size g.S.SectorStore.told m in
-    let P : ℕ → Type 0 = λ n. IsReady (device_of m.hardware o) c.args.port c.args.slot n left in
-    let same = some_one (c.in-Some.ensures.only o left (subst P (sym c.sectors-sectors.ensures) ready)) in
-    (λ room. true-false (c.reserve.ensures.enough (omega (arith, same, room))) c.if-not-reserve.true, refl)
+    let sectors : c.sectors-sectors.result ≡ g.S.SectorStore.size m.disk0 = c.sectors-sectors.ensures in
+    let P : ℕ → Type 0 = λ n. IsReady (device_of m.hardware o) c.args.port.0 c.args.slot.0 n c.in-Some.left in
+    let ready = subst P sectors (c.in-Some.ensures.ready o) in
+    let lacks : HasRoom m.hardware (c.in-Some.left + 1) → ⊥ = λ room. true-false (c.reserve.ensures.enough (omega (arith, room))) c.if-not-reserve.true in
+    record {
+      device = c.reserve.ensures.same o;
+      held = refl;
+      says = refl;
+      disk0 = λ never. absurd never;
+      keeps = record { disk1 = refl; sectors = refl; sure = refl; queue = refl; accesses = refl };
+      why = λ _ _. ((c.in-Some.left, ready, lacks), refl);
+      told_on = λ _. refl;
+      told_since = λ _. inr ((c.if-port-ne0.false, c.requires, c.in-Some.left, ready), (c.in-Some.left, ready, lacks));
+    }
 
-pub returns-then-not-reserve-clause-refused : goal.returns-then-not-reserve-clause-refused
-returns-then-not-reserve-clause-refused g c = λ _. c.reserve.ensures.same _
+-- ---- an IDENTIFY DEVICE, for which no store is asked
 
-pub returns-then-done-clause-did : goal.returns-then-done-clause-did
-returns-then-done-clause-did g c = λ _.
+-- a move that is left, and for which there is memory, isn't refused
+pub returns-then-not-move_piece-clause-identifies : goal.returns-then-not-move_piece-clause-identifies
+returns-then-not-move_piece-clause-identifies g c = λ zero has.
+    let m = c.loop-piece.self in
+    let is = c.loop-piece.invariant in
+    let d : Device = device_at g.S.SectorStore.size g.S.SectorStore.told m in
+    let size = g.S.SectorStore.size m.disk0 in
+    let left = c.in-Some.left - (c.loop-piece._piece + 1) in
+    let P : ℕ → Type 0 = λ n. IsGoing d c.args.port.0 c.args.slot.0 c.sectors-sectors.result n in
+    let Q : ℕ → Type 0 = λ n. IsGoing d c.args.port.0 c.args.slot.0 n (suc left) in
+    let R : ℕ → Type 0 = λ q. IsGoing d q c.args.slot.0 size (suc left) in
+    let T : ℕ → Type 0 = λ q. (t : Taken) × HasMove d q c.args.slot.0 t in
+    let next : c.in-Some.left - c.loop-piece._piece ≡ suc left = omega (arith, c.loop-piece-test.true) in
+    let going = subst Q (sym is.disk) (subst P next is.going) in
+    let here : IsGoing d 0 c.args.slot.0 size (suc left) = subst R zero going in
+    let found = subst T (sym zero) (here.t, going_has_move d 0 c.args.slot.0 left refl here) in
+    let t : Taken = found.0 in
+    let taken = found.1.works.taken in
+    let page = page_taken c.args.port.0 c.args.slot.0 c.loop-piece.did _ _ zero is.did is.refused has t taken in
+    let low = page.1 t.moved found.1.left in
+    absurd ((c.move_piece.ensures.page t taken page.0).1 c.if-not-move_piece.true found.1 (omega (arith, low)) (omega (arith, is.room)))
+
+pub returns-then-not-move_piece-clause-disk : goal.returns-then-not-move_piece-clause-disk
+returns-then-not-move_piece-clause-disk g c = λ zero has.
+    let is = c.loop-piece.invariant in
+    let t : Taken = is.going.t in
+    let taken = is.going.works.taken in
+    let page = page_taken c.args.port.0 c.args.slot.0 c.loop-piece.did _ _ zero is.did is.refused has t taken in
+    (c.move_piece.ensures.page t taken page.0).0 ∙ is.disk_same zero has
+
+pub returns-then-done-clause-identifies : goal.returns-then-done-clause-identifies
+returns-then-done-clause-identifies g c = λ zero has.
     let m = c.loop-piece.self in
     let o : Outside = outside_at g.S.SectorStore.size g.S.SectorStore.told m in
-    goes_next c.args.port c.args.slot _ _ _ c.loop-piece.did c.loop-piece.invariant.did c.loop-piece.invariant.refused
-    (inr (inr (c.done.ensures.did c.if-done.true o)))
+    let P : ℕ → Type 0 = λ n. IsGoing (device_at g.S.SectorStore.size g.S.SectorStore.told m) c.args.port.0 c.args.slot.0 c.sectors-sectors.result n in
+    let Q : ℕ → Type 0 = λ q. IsFreeSlot ((device_of c.done.new.self o).port q) c.args.slot.0 in
+    let none : c.in-Some.left - c.loop-piece._piece ≡ 0 = omega (arith, c.loop-piece-test.false) in (
+      λ _. subst Q zero
+          (done_frees c.args.port.0 c.args.slot.0 c.sectors-sectors.result _ _ (subst P none c.loop-piece.invariant.going) (c.done.ensures.did c.if-done.true o)),
+      λ never. true-false c.if-done.true never,
+    )
 
-pub returns-else-done-clause-did : goal.returns-else-done-clause-did
-returns-else-done-clause-did g c = λ e.
-    let m = c.loop-piece.self in
+pub returns-then-done-clause-disk : goal.returns-then-done-clause-disk
+returns-then-done-clause-disk g c = c.loop-piece.invariant.disk_same
+
+pub returns-else-done-clause-identifies : goal.returns-else-done-clause-identifies
+returns-else-done-clause-identifies g c = λ _ _. absurd (end_is_done g c)
+
+pub returns-else-done-clause-disk : goal.returns-else-done-clause-disk
+returns-else-done-clause-disk g c = c.loop-piece.invariant.disk_same
+
+pub returns-then-port-ne0-clause-identifies : goal.returns-then-port-ne0-clause-identifies
+returns-then-port-ne0-clause-identifies g c = λ zero. absurd (c.if-port-ne0.true zero)
+
+pub returns-in_default-clause-identifies : goal.returns-in_default-clause-identifies
+returns-in_default-clause-identifies g c = λ zero has.
+    let m = c.args.self.now in
     let o : Outside = outside_at g.S.SectorStore.size g.S.SectorStore.told m in
-    let old : Device = device_at g.S.SectorStore.size g.S.SectorStore.told c.args.self.now in
-    subst (λ (d : Device). GoesOn c.args.port c.args.slot old d) (sym (c.done.ensures.refused c.if-done.false o)) (c.loop-piece.invariant.did e)
+    let P : ℕ → Type 0 = λ q. IsReady (device_of m.hardware o) q c.args.slot.0 c.sectors-sectors.result has.left in
+    some-none (c.moves_left.ensures.only o has.left (subst P (sym zero) (has_ready _ c.args.slot.0 c.sectors-sectors.result has))) c.in_default.is
 
-pub returns-else-done-clause-refused : goal.returns-else-done-clause-refused
-returns-else-done-clause-refused g c = λ e.
-    let m = c.loop-piece.self in
-    let o : Outside = outside_at g.S.SectorStore.size g.S.SectorStore.told m in
-    c.done.ensures.refused c.if-done.false o ∙ c.loop-piece.invariant.refused e
-
-pub returns-then-not-reserve-clause-pages : goal.returns-then-not-reserve-clause-pages
-returns-then-not-reserve-clause-pages g c =
-    keeps_tape g.S.SectorStore.size _ _ refl refl (ap (λ (d : Device). d.tape) (c.reserve.ensures.same (outside_at g.S.SectorStore.size g.S.SectorStore.told c.args.self.now)))
-
-pub returns-then-not-move_piece-clause-pages : goal.returns-then-not-move_piece-clause-pages
-returns-then-not-move_piece-clause-pages g c = keeps_on g.S.SectorStore.size _ _ _ c.loop-piece.invariant.pages c.move_piece.ensures.pages
-
-pub returns-then-done-clause-pages : goal.returns-then-done-clause-pages
-returns-then-done-clause-pages g c =
-    let m = c.loop-piece.self in
-    let o : Outside = outside_at g.S.SectorStore.size g.S.SectorStore.told m in
-    keeps_on g.S.SectorStore.size _ _ _ c.loop-piece.invariant.pages
-    (keeps_done g.S.SectorStore.size o c.args.port c.args.slot c.done.result m _ refl refl (λ e. c.done.ensures.did e o) (λ e. c.done.ensures.refused e o))
-
-pub returns-else-done-clause-pages : goal.returns-else-done-clause-pages
-returns-else-done-clause-pages g c =
-    let m = c.loop-piece.self in
-    let o : Outside = outside_at g.S.SectorStore.size g.S.SectorStore.told m in
-    keeps_on g.S.SectorStore.size _ _ _ c.loop-piece.invariant.pages
-    (keeps_done g.S.SectorStore.size o c.args.port c.args.slot c.done.result m _ refl refl (λ e. c.done.ensures.did e o) (λ e. c.done.ensures.refused e o))
-
-pub returns-then-not-move_piece-clause-starved : goal.returns-then-not-move_piece-clause-starved
-returns-then-not-move_piece-clause-starved g c = λ told. c.move_piece.ensures.starved (c.loop-piece.invariant.starved ∙ told)
-
--- there was room for the move that failed
-pub returns-then-not-move_piece-clause-fed : goal.returns-then-not-move_piece-clause-fed
-returns-then-not-move_piece-clause-fed g c = λ _. c.move_piece.ensures.ample (omega (arith, c.loop-piece.invariant.room)) ∙ c.loop-piece.invariant.starved
-
-pub returns-then-done-clause-starved : goal.returns-then-done-clause-starved
-returns-then-done-clause-starved g c = λ told. c.done.ensures.starved (c.loop-piece.invariant.starved ∙ told)
-
-pub returns-then-done-clause-fed : goal.returns-then-done-clause-fed
-returns-then-done-clause-fed g c = λ _. c.done.ensures.fed c.if-done.true ∙ c.loop-piece.invariant.starved
-
-pub returns-else-done-clause-starved : goal.returns-else-done-clause-starved
-returns-else-done-clause-starved g c = λ told. c.done.ensures.starved (c.loop-piece.invariant.starved ∙ told)
-
-pub returns-else-done-clause-fed : goal.returns-else-done-clause-fed
-returns-else-done-clause-fed g c = λ _. c.done.ensures.ample (omega (arith, c.loop-piece.invariant.room)) ∙ c.loop-piece.invariant.starved
+pub returns-then-not-reserve-clause-identifies : goal.returns-then-not-reserve-clause-identifies
+returns-then-not-reserve-clause-identifies g c = λ _ _. (λ never. absurd (let e : false ≡ true = never in cc), λ _. refl)

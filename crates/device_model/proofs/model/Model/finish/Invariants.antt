@@ -1,24 +1,20 @@
 use Rattle.std.proofs.Common.{◌≡◌, ◌+◌, ◌-◌, true, false}
 use Rattle.adapter.specs.Asked.{GoesOn}
-use Rattle.device_model.specs.Finishing.{HasRoom, IsGoing}
-use Rattle.device_model.specs.Modelled.{device_at, is_sure_at}
-use Rattle.device_model.specs.Paged.{KeepsPages}
+use Rattle.device_model.specs.Finishing.{HasIdentify, HasRoom, IsGoing}
+use Rattle.device_model.specs.Modelled.{device_at}
+use Rattle.device_model.proofs.Doing.{Meanwhile}
 use Rattle.device_model.proofs.model.Model.finish.Given as goal
 
 abbrev pub invariant-loop-piece : goal.invariant-loop-piece
 invariant-loop-piece g l = record {
-  did : l.did ≡ true → GoesOn l.port l.slot
+  did : l.did ≡ true → GoesOn l.port.0 l.slot.0
       (device_at g.S.SectorStore.size g.S.SectorStore.told l.fn.self) (device_at g.S.SectorStore.size g.S.SectorStore.told l.self);
   refused : l.did ≡ false →
       device_at g.S.SectorStore.size g.S.SectorStore.told l.self ≡ device_at g.S.SectorStore.size g.S.SectorStore.told l.fn.self;
   size : (device_at g.S.SectorStore.size g.S.SectorStore.told l.self).size ≡ (device_at g.S.SectorStore.size g.S.SectorStore.told l.fn.self).size;
   disk : g.S.SectorStore.size l.self.disk0 ≡ l.sectors;
   room : HasRoom l.self.hardware (l.left - l._piece + 1);
-  going : IsGoing (device_at g.S.SectorStore.size g.S.SectorStore.told l.self) l.port l.slot l.sectors (l.left - l._piece);
-  held : l.self.held ≡ l.fn.self.held;
-  queue : l.self.queue ≡ l.fn.self.queue;
-  accesses : l.self.accesses ≡ l.fn.self.accesses;
-  pages : KeepsPages g.S.SectorStore.size l.fn.self l.self;
-  sure : is_sure_at g.S.SectorStore.is_sure l.self ≡ is_sure_at g.S.SectorStore.is_sure l.fn.self;
-  starved : l.self.hardware.starved ≡ l.fn.self.hardware.starved;
+  going : IsGoing (device_at g.S.SectorStore.size g.S.SectorStore.told l.self) l.port.0 l.slot.0 l.sectors (l.left - l._piece);
+  disk_same : l.port.0 ≡ 0 → HasIdentify (device_at g.S.SectorStore.size g.S.SectorStore.told l.fn.self) l.slot.0 → l.self.disk0 ≡ l.fn.self.disk0;
+  meanwhile : Meanwhile g.S.SectorStore.size g.S.SectorStore.is_sure l.fn.self l.self;
 }

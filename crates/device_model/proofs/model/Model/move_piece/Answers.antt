@@ -1,86 +1,193 @@
 use Rattle.std.specs.Prelude.{map}
-use Rattle.std.proofs.Common.{refl, ◌++◌, ℕ, Bool, true, false, ◌&&◌, ◌≡◌, ◌<◌, ◌∙◌, ◌+◌, ◌∷◌, [], List, length, sym, ap, subst, arith}
+use Rattle.std.proofs.Common.{refl, ◌++◌, ℕ, Bool, true, false, ◌&&◌, ◌≡◌, ◌∙◌, ◌+◌, ◌∷◌, [], List, length, sym, ap, subst, arith, inl, inr}
 use Rattle.adapter.proofs.Absurd.{some_one, true-false}
+use Rattle.adapter.specs.Asked.{DoesMove}
 use Rattle.adapter.specs.Device.{Device, Disk}
-use Rattle.adapter.specs.Commands.{is_ranged}
-use Rattle.adapter.specs.Steps.{Can, after, next_sector}
+use Rattle.adapter.specs.Steps.{next_place, Can, after, move_of}
 use Rattle.adapter.specs.Steps.Step.{Move}
-use Rattle.device_model.specs.Modelled.{outside_at}
-use Rattle.device_model.specs.Slots.{IsNext}
-use Rattle.device_model.specs.View.{operation_of, taken_of}
-use Rattle.device_model.specs.Whole.{Outside, device_of, first_disk, outside_of, outside_after}
-use Rattle.device_model.specs.declared.port.TakenCommand.{TakenCommand}
-use Rattle.device_model.specs.declared.port.Transfer.{Transfer}
-use Rattle.device_model.proofs.Stepping.{may_move}
-use Rattle.device_model.proofs.Finishing.{move_fits, no_move, outside_moved, sector_small}
-use Rattle.adapter.specs.Steps.{move_of}
 use Rattle.adapter.specs.declared.tape.Entry.{Entry}
 use Rattle.adapter.specs.declared.tape.Entry.TheVariants as entry
-use Rattle.device_model.proofs.Telling.{keeps_tape, keeps_moved}
+use Rattle.device_model.specs.Finishing.{HasRoom}
+use Rattle.device_model.specs.Modelled.{device_at, outside_at}
+use Rattle.device_model.specs.Slots.{IsNext}
+use Rattle.device_model.specs.View.{taken_of}
+use Rattle.device_model.specs.Whole.{Outside, device_of, first_disk, outside_of, outside_after}
+use Rattle.device_model.specs.declared.port.TakenCommand.{TakenCommand}
+use Rattle.device_model.proofs.Doing.{left_same}
+use Rattle.device_model.proofs.Finishing.{move_fits, no_move, next_has_move, next_on_disk, outside_moved, sector_small}
+use Rattle.device_model.proofs.Identifying.{next_identifies}
+use Rattle.device_model.proofs.Stepping.{may_move}
+use Rattle.device_model.proofs.Telling.{gains_moved}
+use Rattle.device_model.proofs.model.Model.move_piece.Given.{Over}
 use Rattle.device_model.proofs.model.Model.move_piece.Goals as goal
 
-pub returns-then-not-room-clause-refused : goal.returns-then-not-room-clause-refused
-returns-then-not-room-clause-refused g c = λ _. c.reserve-room.ensures.same _
-
 -- no other port has a disk
-pub returns-then-port-ne0-clause-only : goal.returns-then-port-ne0-clause-only
-returns-then-port-ne0-clause-only g c = λ _ sure small t move. absurd (
+pub returns-then-port-ne0-clause-answers : goal.returns-then-port-ne0-clause-answers
+returns-then-port-ne0-clause-answers g c =
+    let m = c.args.self.now in
+    left_same g.S.SectorStore.size g.S.SectorStore.told g.S.SectorStore.is_sure _ m
+    (λ may. no_move m.hardware (first_disk (g.S.SectorStore.size m.disk0) (g.S.SectorStore.told m.disk0)) (g.S.SectorStore.told m.disk1) _ c.args.port.0 c.args.slot.0 may.1
+    c.if-port-ne0.true may.2)
+
+-- there is no move that is possible
+pub returns-in_default-clause-answers : goal.returns-in_default-clause-answers
+returns-in_default-clause-answers g c =
     let m = c.args.self.now in
     let o : Outside = outside_at g.S.SectorStore.size g.S.SectorStore.told m in
-    no_move m.hardware (first_disk (g.S.SectorStore.size m.disk0) (g.S.SectorStore.told m.disk0)) (g.S.SectorStore.told m.disk1) _ c.args.port c.args.slot t
-    c.if-port-ne0.true move)
+    let starved = c.reserve-room.ensures.starved in
+    record {
+      device = c.reserve-room.ensures.same o;
+      held = refl;
+      says = refl;
+      disk0 = λ _. refl;
+      keeps = record { disk1 = refl; sectors = refl; sure = refl; queue = refl; accesses = refl };
+      why = λ served may.
+          absurd (
+          let sectors = g.met.S.SectorStore.fits m.disk0 in
+          let size : length c.reserve-room.new.self.memory.items ≡ length m.hardware.memory.items = ap (λ (d : Device). d.size) (c.reserve-room.ensures.same o) in
+          let found = move_fits c.reserve-room.new.self o _ c.args.port.0 c.args.slot.0 may.1 c.if-port-ne0.false (c.reserve-room.ensures.same o) may.2 in
+          c.next_move.ensures.none c.in_default.is found.r found.holds found.left (let there = found.inside in omega (arith, size, served.1, there)) found.inside
+          (sector_small found.r (g.S.SectorStore.size m.disk0) sectors found.on_disk));
+      told_on = λ yes. starved ∙ yes;
+      told_since = λ yes. inl (sym starved ∙ yes);
+    }
 
--- the tape had no room for it
-pub returns-then-not-room-clause-only : goal.returns-then-not-room-clause-only
-returns-then-not-room-clause-only g c = λ _ sure small t move. (λ room. true-false (c.reserve-room.ensures.enough room) c.if-not-room.true, refl)
-
-pub returns-in_default-clause-refused : goal.returns-in_default-clause-refused
-returns-in_default-clause-refused g c = λ _. c.reserve-room.ensures.same _
-
-pub returns-then-not-room-clause-left : goal.returns-then-not-room-clause-left
-returns-then-not-room-clause-left g c = λ n room. let kept = c.reserve-room.ensures.kept (n + 1) room in omega (arith, kept)
-
-pub returns-in_default-clause-left : goal.returns-in_default-clause-left
-returns-in_default-clause-left g c = λ n room. let kept = c.reserve-room.ensures.kept (n + 1) room in omega (arith, kept)
-
-pub returns-in_default-clause-only : goal.returns-in_default-clause-only
-returns-in_default-clause-only g c = λ _ sure small t move. absurd (
+-- the tape had no memory for it, and that is told
+pub returns-then-is_on-clause-answers : goal.returns-then-is_on-clause-answers
+returns-then-is_on-clause-answers g c =
     let m = c.args.self.now in
     let o : Outside = outside_at g.S.SectorStore.size g.S.SectorStore.told m in
-    let sectors = g.met.S.SectorStore.fits m.disk0 in
-    let size : length c.reserve-room.new.self.memory.items ≡ length m.hardware.memory.items = ap (λ (d : Device). d.size) (c.reserve-room.ensures.same o) in
-    let found = move_fits c.reserve-room.new.self o _ c.args.port c.args.slot t c.if-port-ne0.false (c.reserve-room.ensures.same o) move in
-    c.next_move.ensures.none c.in_default.is (omega (arith, size, small)) found.r found.holds found.left found.inside
-    (sector_small found.r (g.S.SectorStore.size m.disk0) sectors found.on_disk))
+    let on = c.is_on.ensures.0 c.if-is_on.true in
+    let size = c.sectors.ensures in
+    let fits = next_has_move c.reserve-room.new.self o _ c.args.port.0 c.args.slot.0 c.in-Some.next c.in-Some.ensures.found.0 c.if-port-ne0.false
+    (c.reserve-room.ensures.same o) c.in-Some.ensures.found.1 (λ ranged. let here = on ranged in omega (arith, here, size)) in
+    let lacks : HasRoom m.hardware 1 → ⊥ = λ room. true-false (c.reserve-room.ensures.enough room) c.if-not-room.true in
+    record {
+      device = c.reserve-room.ensures.same o;
+      held = refl;
+      says = refl;
+      disk0 = λ _. refl;
+      keeps = record { disk1 = refl; sectors = refl; sure = refl; queue = refl; accesses = refl };
+      why = λ _ _. (lacks, refl);
+      told_on = λ _. refl;
+      told_since = λ _. inr ((c.requires, fits.0, fits.1), lacks);
+    }
 
-pub returns-then-not-exchange-clause-refused : goal.returns-then-not-exchange-clause-refused
-returns-then-not-exchange-clause-refused g c = λ _.
+-- nor is it possible
+pub returns-else-is_on-clause-answers : goal.returns-else-is_on-clause-answers
+returns-else-is_on-clause-answers g c =
     let m = c.args.self.now in
     let o : Outside = outside_at g.S.SectorStore.size g.S.SectorStore.told m in
-    let was : List Disk = map (λ s. first_disk (g.S.SectorStore.size s.value) (g.S.SectorStore.told s.value)) m.plugged.items in
-    let kept = c.exchange.ensures.kept c.if-not-exchange.true in
-    (λ i. device_of c.reserve-room.new.self (outside_of (first_disk (c.exchange.ensures.size i) (kept i)) (g.S.SectorStore.told m.disk1) was))
-    ∙ c.reserve-room.ensures.same o
+    let size = c.sectors.ensures in
+    let starved = c.reserve-room.ensures.starved in
+    record {
+      device = c.reserve-room.ensures.same o;
+      held = refl;
+      says = refl;
+      disk0 = λ _. refl;
+      keeps = record { disk1 = refl; sectors = refl; sure = refl; queue = refl; accesses = refl };
+      why = λ _ may.
+          absurd
+          (true-false
+          (c.is_on.ensures.1
+          (λ ranged.
+          let here = next_on_disk c.reserve-room.new.self o _ c.args.port.0 c.args.slot.0 c.in-Some.next c.in-Some.ensures.found.0 may.1 c.if-port-ne0.false
+          (c.reserve-room.ensures.same o) c.in-Some.ensures.found.1 may.2 ranged in
+          omega (arith, here, size))) c.if-is_on.false);
+      told_on = λ yes. starved ∙ yes;
+      told_since = λ yes. inl (sym starved ∙ yes);
+    }
 
--- the first of two that both hold
+-- the store failed
 first_holds : (a b : Bool) → a && b ≡ true → a ≡ true
 first_holds true b both = refl
 first_holds false b both = both
 
-pub returns-then-not-exchange-clause-only : goal.returns-then-not-exchange-clause-only
-returns-then-not-exchange-clause-only g c = λ _ sure small t move. absurd (
+pub returns-then-not-exchange-clause-answers : goal.returns-then-not-exchange-clause-answers
+returns-then-not-exchange-clause-answers g c =
     let m = c.args.self.now in
     let o : Outside = outside_at g.S.SectorStore.size g.S.SectorStore.told m in
-    let found = move_fits c.reserve-room.new.self o _ c.args.port c.args.slot t c.if-port-ne0.false (c.reserve-room.ensures.same o) move in
-    let is = c.in-Some.ensures.found.1 in
-    let same : found.r ≡ c.in-Some.ensures.found.0 = some_one (sym found.holds.held ∙ is.holds.held) in
-    let sector : c.in-Some.next.sector ≡ next_sector (taken_of found.r) = is.sector_is ∙ ap (λ (r : TakenCommand). next_sector (taken_of r)) (sym same) in
-    let kind : c.in-Some.next.transfer ≡ found.r.transfer = is.transfer_is ∙ ap (λ (r : TakenCommand). r.transfer) (sym same) in
-    let there : is_ranged (operation_of c.in-Some.next.transfer) ≡ true → c.in-Some.next.sector < g.S.SectorStore.size m.disk0 =
-    λ (ranged : is_ranged (operation_of c.in-Some.next.transfer) ≡ true).
-    let at = found.on_disk (sym (ap (λ (k : Transfer). is_ranged (operation_of k)) kind) ∙ ranged) in
-    omega (arith, sector, at) in
-    true-false (c.exchange.ensures.sure (first_holds _ _ sure) there) c.if-not-exchange.true)
+    let was : List Disk = map (λ s. first_disk (g.S.SectorStore.size s.value) (g.S.SectorStore.told s.value)) m.plugged.items in
+    let kept = c.exchange.ensures.kept c.if-not-exchange.true in
+    let starved = c.reserve-room.ensures.starved in
+    record {
+      device = (λ i. device_of c.reserve-room.new.self (outside_of (first_disk (c.exchange.ensures.size i) (kept i)) (g.S.SectorStore.told m.disk1) was))
+          ∙ c.reserve-room.ensures.same o;
+      held = refl;
+      says = refl;
+      disk0 = λ none. absurd none;
+      keeps = record { disk1 = refl; sectors = c.exchange.ensures.size; sure = c.exchange.ensures.lasts; queue = refl; accesses = refl };
+      why = λ served may. absurd (true-false (c.exchange.ensures.sure (first_holds _ _ served.0) (next_on_disk c.reserve-room.new.self o _ c.args.port.0 c.args.slot.0 c.in-Some.next c.in-Some.ensures.found.0 may.1 c.if-port-ne0.false (c.reserve-room.ensures.same o) c.in-Some.ensures.found.1 may.2)) c.if-not-exchange.true);
+      told_on = λ yes. starved ∙ yes;
+      told_since = λ yes. inl (sym starved ∙ yes);
+    }
+
+moved : (g : Over) (c : goal.After-move_bytes g) →
+    DoesMove c.args.port.0 c.args.slot.0 (device_at g.S.SectorStore.size g.S.SectorStore.told c.args.self.now)
+    (device_at g.S.SectorStore.size g.S.SectorStore.told (record c.args.self.now { hardware = c.move_bytes.new.self; disk0 = c.exchange.new.disk }))
+moved g c =
+    let m = c.args.self.now in
+    let o : Outside = outside_at g.S.SectorStore.size g.S.SectorStore.told m in
+    let h = c.reserve-room.new.self in
+    let bytes = c.exchange.new.bytes in
+    let did = c.if-not-exchange.false in
+    let zero : c.args.port.0 ≡ 0 = c.if-port-ne0.false in
+    let moved = c.move_bytes.ensures.moved o in
+    let r : TakenCommand = moved.0 in
+    let is : IsNext h c.args.port.0 c.args.slot.0 c.in-Some.next r = moved.1 in
+    let disk : Disk = first_disk (g.S.SectorStore.size m.disk0) (g.S.SectorStore.told m.disk0) in
+    let new : Disk = first_disk (g.S.SectorStore.size c.exchange.new.disk) (g.S.SectorStore.told c.exchange.new.disk) in
+    let was : List Disk = map (λ s. first_disk (g.S.SectorStore.size s.value) (g.S.SectorStore.told s.value)) m.plugged.items in
+    let behind : outside_of new (g.S.SectorStore.told m.disk1) was ≡ outside_after o c.args.port.0 (taken_of r) bytes =
+    outside_moved disk new (g.S.SectorStore.told m.disk1) was c.in-Some.next r bytes is.transfer_is is.sector_is (c.exchange.ensures.disk did)
+    ∙ ap (λ q. outside_after o q (taken_of r) bytes) (sym zero) in
+    let P : ℕ → Type 0 = λ q. IsNext h q c.args.slot.0 c.in-Some.next r in
+    let Q : ℕ → Type 0 = λ q. Can (Move q c.args.slot.0 (taken_of r) bytes) (device_of h o) in
+    let R : Device → Type 0 = λ d. Can (Move c.args.port.0 c.args.slot.0 (taken_of r) bytes) d in
+    record {
+      t = taken_of r;
+      bytes = bytes;
+      can = subst R (c.reserve-room.ensures.same o)
+          (subst Q (sym zero)
+          (may_move h o 0 c.args.slot.0 c.in-Some.next r bytes (subst P zero is) (c.exchange.ensures.sector did) (c.exchange.ensures.inside did)
+          (c.exchange.ensures.gives did) (c.exchange.ensures.takes did)));
+      effect = ap (λ (x : Outside). device_of c.move_bytes.new.self x) behind
+          ∙ (moved.2 ∙ ap (λ (d : Device). after (Move c.args.port.0 c.args.slot.0 (taken_of r) bytes) d) (c.reserve-room.ensures.same o));
+    }
+
+pub returns-clause-answers : goal.returns-clause-answers
+returns-clause-answers g c =
+    let m = c.args.self.now in
+    let o : Outside = outside_at g.S.SectorStore.size g.S.SectorStore.told m in
+    let noted = c.move_bytes.ensures.moved o in
+    let entry : Entry = entry.Move (move_of c.args.port.0 c.args.slot.0 (taken_of noted.0) c.exchange.new.bytes) in
+    let fits = next_has_move c.reserve-room.new.self o _ c.args.port.0 c.args.slot.0 c.in-Some.next c.in-Some.ensures.found.0 c.if-port-ne0.false
+    (c.reserve-room.ensures.same o) c.in-Some.ensures.found.1 (c.exchange.ensures.inside c.if-not-exchange.false) in (
+      (c.requires, fits.0, fits.1),
+      record {
+        asked = moved g c;
+        ends = λ _. tt;
+        held = refl;
+        says = refl;
+        pages = gains_moved g.S.SectorStore.size m _ noted.0.transfer (move_of c.args.port.0 c.args.slot.0 (taken_of noted.0) c.exchange.new.bytes)
+            (ap (λ (d : Device). d.tape) noted.2 ∙ ap (λ (d : Device). d.tape ++ entry ∷ []) (c.reserve-room.ensures.same o)) refl
+            (λ identify. c.exchange.ensures.page c.if-not-exchange.false (noted.1.transfer_is ∙ identify));
+        disk0 = λ none. absurd none;
+        keeps = record { disk1 = refl; sectors = c.exchange.ensures.size; sure = c.exchange.ensures.lasts; queue = refl; accesses = refl };
+        starved = c.move_bytes.ensures.starved ∙ c.reserve-room.ensures.starved;
+      },
+    )
+
+-- ---- memory that is left
+
+pub returns-then-is_on-clause-left : goal.returns-then-is_on-clause-left
+returns-then-is_on-clause-left g c = λ n room. let kept = c.reserve-room.ensures.kept (n + 1) room in omega (arith, kept)
+
+pub returns-else-is_on-clause-left : goal.returns-else-is_on-clause-left
+returns-else-is_on-clause-left g c = λ n room. let kept = c.reserve-room.ensures.kept (n + 1) room in omega (arith, kept)
+
+pub returns-in_default-clause-left : goal.returns-in_default-clause-left
+returns-in_default-clause-left g c = λ n room. let kept = c.reserve-room.ensures.kept (n + 1) room in omega (arith, kept)
 
 pub returns-then-not-exchange-clause-left : goal.returns-then-not-exchange-clause-left
 returns-then-not-exchange-clause-left g c = λ n room. let kept = c.reserve-room.ensures.kept (n + 1) room in omega (arith, kept)
@@ -88,59 +195,48 @@ returns-then-not-exchange-clause-left g c = λ n room. let kept = c.reserve-room
 pub returns-clause-left : goal.returns-clause-left
 returns-clause-left g c = λ n room. c.move_bytes.ensures.left n (c.reserve-room.ensures.kept (n + 1) room)
 
-pub returns-clause-did : goal.returns-clause-did
-returns-clause-did g c = λ _.
+-- ---- a page, for which no store is asked
+
+pub returns-then-port-ne0-clause-page : goal.returns-then-port-ne0-clause-page
+returns-then-port-ne0-clause-page g c = λ t taken identifies.
+    let m = c.args.self.now in (
+      refl,
+      λ _ move _ _. no_move m.hardware (first_disk (g.S.SectorStore.size m.disk0) (g.S.SectorStore.told m.disk0)) (g.S.SectorStore.told m.disk1) _ c.args.port.0 c.args.slot.0 t
+          c.if-port-ne0.true move,
+    )
+
+pub returns-in_default-clause-page : goal.returns-in_default-clause-page
+returns-in_default-clause-page g c = λ t taken identifies.
     let m = c.args.self.now in
-    let o : Outside = outside_at g.S.SectorStore.size g.S.SectorStore.told m in
-    let h = c.reserve-room.new.self in
-    let bytes = c.exchange.new.bytes in
-    let did = c.if-not-exchange.false in
-    let zero : c.args.port ≡ 0 = c.if-port-ne0.false in
-    let moved = c.move_bytes.ensures.moved o in
-    let r : TakenCommand = moved.0 in
-    let is : IsNext h c.args.port c.args.slot c.in-Some.next r = moved.1 in
-    let disk : Disk = first_disk (g.S.SectorStore.size m.disk0) (g.S.SectorStore.told m.disk0) in
-    let new : Disk = first_disk (g.S.SectorStore.size c.exchange.new.disk) (g.S.SectorStore.told c.exchange.new.disk) in
-    let was : List Disk = map (λ s. first_disk (g.S.SectorStore.size s.value) (g.S.SectorStore.told s.value)) m.plugged.items in
-    let behind : outside_of new (g.S.SectorStore.told m.disk1) was ≡ outside_after o c.args.port (taken_of r) bytes =
-    outside_moved disk new (g.S.SectorStore.told m.disk1) was c.in-Some.next r bytes is.transfer_is is.sector_is (c.exchange.ensures.disk did)
-    ∙ ap (λ q. outside_after o q (taken_of r) bytes) (sym zero) in
-    let P : ℕ → Type 0 = λ q. IsNext h q c.args.slot c.in-Some.next r in
-    let Q : ℕ → Type 0 = λ q. Can (Move q c.args.slot (taken_of r) bytes) (device_of h o) in
-    let R : Device → Type 0 = λ d. Can (Move c.args.port c.args.slot (taken_of r) bytes) d in
-    record {
-      t = taken_of r;
-      bytes = bytes;
-      can = subst R (c.reserve-room.ensures.same o)
-          (subst Q (sym zero)
-          (may_move h o 0 c.args.slot c.in-Some.next r bytes (subst P zero is) (c.exchange.ensures.sector did) (c.exchange.ensures.inside did)
-          (c.exchange.ensures.gives did) (c.exchange.ensures.takes did)));
-      effect = ap (λ (x : Outside). device_of c.move_bytes.new.self x) behind
-          ∙ (moved.2 ∙ ap (λ (d : Device). after (Move c.args.port c.args.slot (taken_of r) bytes) d) (c.reserve-room.ensures.same o));
-    }
+    let o : Outside = outside_at g.S.SectorStore.size g.S.SectorStore.told m in (
+      refl,
+      λ _ move low _.
+          let found = move_fits c.reserve-room.new.self o _ c.args.port.0 c.args.slot.0 t c.if-port-ne0.false (c.reserve-room.ensures.same o) move in
+          let sectors = g.met.S.SectorStore.fits m.disk0 in
+          let one : t ≡ taken_of found.r = some_one (sym move.works.taken ∙ (ap (λ (d : Device). (d.port c.args.port.0).taken c.args.slot.0) (sym (c.reserve-room.ensures.same o)) ∙ (found.holds.works (o.media c.args.port.0)).taken)) in
+          let place : next_place t ≡ next_place (taken_of found.r) = ap next_place one in
+          c.next_move.ensures.none c.in_default.is found.r found.holds found.left (omega (arith, place, low)) found.inside
+          (sector_small found.r (g.S.SectorStore.size m.disk0) sectors found.on_disk),
+    )
 
-pub returns-then-not-room-clause-pages : goal.returns-then-not-room-clause-pages
-returns-then-not-room-clause-pages g c =
-    keeps_tape g.S.SectorStore.size _ _ refl refl (ap (λ (d : Device). d.tape) (c.reserve-room.ensures.same (outside_at g.S.SectorStore.size g.S.SectorStore.told c.args.self.now)))
+pub returns-then-is_on-clause-page : goal.returns-then-is_on-clause-page
+returns-then-is_on-clause-page g c = λ t taken identifies.
+    (refl, λ _ _ _ room. true-false (c.reserve-room.ensures.enough room) c.if-not-room.true)
 
-pub returns-in_default-clause-pages : goal.returns-in_default-clause-pages
-returns-in_default-clause-pages g c =
-    keeps_tape g.S.SectorStore.size _ _ refl refl (ap (λ (d : Device). d.tape) (c.reserve-room.ensures.same (outside_at g.S.SectorStore.size g.S.SectorStore.told c.args.self.now)))
+pub returns-else-is_on-clause-page : goal.returns-else-is_on-clause-page
+returns-else-is_on-clause-page g c = λ t taken identifies.
+    (refl, λ _ _ _ room. true-false (c.reserve-room.ensures.enough room) c.if-not-room.true)
 
-pub returns-then-not-exchange-clause-pages : goal.returns-then-not-exchange-clause-pages
-returns-then-not-exchange-clause-pages g c =
-    keeps_tape g.S.SectorStore.size _ _ refl c.exchange.ensures.size
-    (ap (λ (d : Device). d.tape) (c.reserve-room.ensures.same (outside_at g.S.SectorStore.size g.S.SectorStore.told c.args.self.now)))
-
-pub returns-clause-pages : goal.returns-clause-pages
-returns-clause-pages g c =
+pub returns-then-not-exchange-clause-page : goal.returns-then-not-exchange-clause-page
+returns-then-not-exchange-clause-page g c = λ t taken identifies.
     let o : Outside = outside_at g.S.SectorStore.size g.S.SectorStore.told c.args.self.now in
-    let moved = c.move_bytes.ensures.moved o in
-    let is = moved.1 in
-    let entry : Entry = entry.Move (move_of c.args.port c.args.slot (taken_of moved.0) c.exchange.new.bytes) in
-    keeps_moved g.S.SectorStore.size _ _ moved.0.transfer (move_of c.args.port c.args.slot (taken_of moved.0) c.exchange.new.bytes) refl c.exchange.ensures.size
-    (ap (λ (d : Device). d.tape) moved.2 ∙ ap (λ (d : Device). d.tape ++ entry ∷ []) (c.reserve-room.ensures.same o)) refl
-    (λ identify. c.exchange.ensures.page c.if-not-exchange.false (is.transfer_is ∙ identify))
+    let kind = next_identifies c.reserve-room.new.self o _ c.args.port.0 c.args.slot.0 c.in-Some.next c.in-Some.ensures.found.0 t (c.reserve-room.ensures.same o)
+    c.in-Some.ensures.found.1 taken identifies in
+    true-false (c.exchange.ensures.identifies kind).0 c.if-not-exchange.true
 
-pub returns-then-not-room-clause-ample : goal.returns-then-not-room-clause-ample
-returns-then-not-room-clause-ample g c = λ room. true-false (c.reserve-room.ensures.enough room) c.if-not-room.true
+pub returns-clause-page : goal.returns-clause-page
+returns-clause-page g c = λ t taken identifies.
+    let o : Outside = outside_at g.S.SectorStore.size g.S.SectorStore.told c.args.self.now in
+    let kind = next_identifies c.reserve-room.new.self o _ c.args.port.0 c.args.slot.0 c.in-Some.next c.in-Some.ensures.found.0 t (c.reserve-room.ensures.same o)
+    c.in-Some.ensures.found.1 taken identifies in
+    ((c.exchange.ensures.identifies kind).1, λ never. absurd (let e : true ≡ false = never in cc))

@@ -1,24 +1,18 @@
-use Rattle.device_model.proofs.Telling.{keeps_on, keeps_tape}
-use Rattle.device_model.specs.Whole.{Outside}
-use Rattle.device_model.specs.Modelled.{outside_at}
-use Rattle.adapter.specs.Device.{Device}
-use Rattle.std.proofs.Common.{refl, ap}
+use Rattle.std.proofs.Common.{refl}
+use Rattle.device_model.proofs.Queueing.{begins_steps}
 use Rattle.device_model.proofs.model.ModelAdapter.store.Goals as goal
 
 pub store-requires : goal.store-requires
-store-requires g c = (c.requires _ c.do_queued.ensures.steps).inside
+store-requires g c = (c.requires _ (begins_steps g.S.SectorStore.size g.S.SectorStore.told g.S.SectorStore.is_sure _ _ c.do_queued.ensures)).inside
 
 pub returns-clause-stores : goal.returns-clause-stores
-returns-clause-stores g c = record { mid = _; steps = c.do_queued.ensures.steps; effect = c.store.ensures.stored _ }
-
-pub returns-clause-pages : goal.returns-clause-pages
-returns-clause-pages g c = λ honest.
-    let o : Outside = outside_at g.S.SectorStore.size g.S.SectorStore.told c.do_queued.new.self in
-    keeps_on g.S.SectorStore.size _ _ _ (c.do_queued.ensures.pages honest)
-    (keeps_tape g.S.SectorStore.size c.do_queued.new.self _ refl refl (ap (λ (d : Device). d.tape) (c.store.ensures.stored o)))
-
-pub returns-clause-counts : goal.returns-clause-counts
-returns-clause-counts g c = record { counted = c.do_queued.ensures.counted; waiting = c.do_queued.ensures.left }
+returns-clause-stores g c = record { mid = _; steps = begins_steps g.S.SectorStore.size g.S.SectorStore.told g.S.SectorStore.is_sure _ _ c.do_queued.ensures; effect = c.store.ensures.stored _ }
 
 pub returns-clause-alone : goal.returns-clause-alone
-returns-clause-alone g c = (_, c.do_queued.ensures.did, c.store.ensures.stored _)
+returns-clause-alone g c = record {
+  mid = c.do_queued.new.self;
+  begins = c.do_queued.ensures;
+  effect_is = c.store.ensures.stored _;
+  rest = refl;
+  starved = c.store.ensures.starved;
+}

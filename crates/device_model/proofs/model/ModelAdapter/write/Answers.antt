@@ -1,25 +1,19 @@
+use Rattle.std.proofs.Common.{refl}
 use Rattle.device_model.proofs.Ports.{has_port_write}
-use Rattle.device_model.proofs.Telling.{keeps_on, keeps_tape, written_tape}
-use Rattle.device_model.specs.Whole.{Outside, device_of}
-use Rattle.device_model.specs.Modelled.{outside_at}
-use Rattle.adapter.specs.Device.{Device}
-use Rattle.std.proofs.Common.{refl, ap, ◌∙◌}
+use Rattle.device_model.proofs.Queueing.{begins_steps}
 use Rattle.device_model.proofs.model.ModelAdapter.write.Goals as goal
 
 pub write-requires : goal.write-requires
-write-requires g c = has_port_write c.args.r c.args.v _ (c.requires _ c.do_queued.ensures.steps)
+write-requires g c = has_port_write c.args.r c.args.v _ (c.requires _ (begins_steps g.S.SectorStore.size g.S.SectorStore.told g.S.SectorStore.is_sure _ _ c.do_queued.ensures))
 
 pub returns-clause-writes : goal.returns-clause-writes
-returns-clause-writes g c = record { mid = _; steps = c.do_queued.ensures.steps; effect = c.write.ensures.written _ }
-
-pub returns-clause-pages : goal.returns-clause-pages
-returns-clause-pages g c = λ honest.
-    let o : Outside = outside_at g.S.SectorStore.size g.S.SectorStore.told c.do_queued.new.self in
-    keeps_on g.S.SectorStore.size _ _ _ (c.do_queued.ensures.pages honest)
-    (keeps_tape g.S.SectorStore.size c.do_queued.new.self _ refl refl (ap (λ (d : Device). d.tape) (c.write.ensures.written o) ∙ written_tape c.args.r c.args.v (device_of c.do_queued.new.self.hardware o)))
-
-pub returns-clause-counts : goal.returns-clause-counts
-returns-clause-counts g c = record { counted = c.do_queued.ensures.counted; waiting = c.do_queued.ensures.left }
+returns-clause-writes g c = record { mid = _; steps = begins_steps g.S.SectorStore.size g.S.SectorStore.told g.S.SectorStore.is_sure _ _ c.do_queued.ensures; effect = c.write.ensures.written _ }
 
 pub returns-clause-alone : goal.returns-clause-alone
-returns-clause-alone g c = (_, c.do_queued.ensures.did, c.write.ensures.written _)
+returns-clause-alone g c = record {
+  mid = c.do_queued.new.self;
+  begins = c.do_queued.ensures;
+  effect_is = c.write.ensures.written _;
+  rest = refl;
+  starved = c.write.ensures.starved;
+}

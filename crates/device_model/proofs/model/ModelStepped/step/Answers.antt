@@ -1,5 +1,11 @@
-use Rattle.adapter.proofs.Going.{step_steps}
+use Rattle.device_model.proofs.Doing.{answers_steps, did_it, left_it}
 use Rattle.device_model.proofs.model.ModelStepped.step.Goals as goal
 
 pub returns-clause-steps : goal.returns-clause-steps
-returns-clause-steps g c = step_steps c.do_step.result c.args.s.now _ _ c.do_step.ensures.asked c.do_step.ensures.refused
+returns-clause-steps g c = answers_steps g.S.SectorStore.size g.S.SectorStore.told g.S.SectorStore.is_sure c.args.s.now _ _ c.do_step.result c.do_step.ensures
+
+pub returns-clause-refused : goal.returns-clause-refused
+returns-clause-refused g c = λ e. (left_it g.S.SectorStore.size g.S.SectorStore.told g.S.SectorStore.is_sure c.args.s.now _ _ c.do_step.result c.do_step.ensures e).device
+
+pub returns-clause-asked : goal.returns-clause-asked
+returns-clause-asked g c = λ e. (did_it g.S.SectorStore.size g.S.SectorStore.told g.S.SectorStore.is_sure c.args.s.now _ _ c.do_step.result c.do_step.ensures e).asked

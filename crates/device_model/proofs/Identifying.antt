@@ -1,0 +1,230 @@
+-- An IDENTIFY DEVICE that can be done to its end, as the model does it by itself.
+use Rattle.std.proofs.Common.{ℕ, Bool, zero, suc, true, false, ◌≡◌, ◌≢◌, ◌<◌, ◌+◌, ◌^◌, ◌⊎◌, ◌∙◌, List, Option, None, Some, refl, sym, ap, subst, inl, inr, arith}
+use Rattle.std.specs.Prelude.{if◌then◌else◌, is_some}
+use Rattle.std.proofs.lemmas.Bool.Decides.{eqb_tells}
+use Rattle.adapter.specs.Access.{note, noted}
+use Rattle.adapter.specs.Asked.{DoesOne, DoesSome, GoesOn}
+use Rattle.adapter.specs.Commands.{Meaning, is_queued, is_ranged}
+use Rattle.adapter.specs.Device.{Notes, PortState, Device, Taken}
+use Rattle.adapter.specs.Memory.{changed}
+use Rattle.adapter.specs.OneCommand.{IsFreeSlot}
+use Rattle.adapter.specs.Says.{Says}
+use Rattle.adapter.specs.Steps.{Can, IsFetchable, IsWorking, IsAlone, WorksOn, begun, with_done, with_fetch, with_move}
+use Rattle.adapter.specs.Steps.Step.{Fetch}
+use Rattle.adapter.specs.declared.command.Operation.{Operation}
+use Rattle.adapter.specs.declared.command.Operation.TheVariants.{Identify}
+use Rattle.adapter.proofs.Absurd.{some-none, some_one, true-false}
+use Rattle.adapter.proofs.Changed.{changed_other, changed_same}
+use Rattle.adapter.proofs.SaysLemmas.{says_meaning, says_places}
+use Rattle.hba_regs.specs.declared.reg.Reg.{Reg}
+use Rattle.hba_regs.specs.declared.reg.Reg.TheVariants.{Cap, Ghc, Is, Pi, Vs, Cap2, Bohc, Px}
+use Rattle.device_model.specs.Finishing.{AreInside, HasIdentify, IsReady}
+use Rattle.device_model.specs.Held.{none_held}
+use Rattle.device_model.specs.Slots.{IsNext}
+use Rattle.device_model.specs.View.{taken_of}
+use Rattle.device_model.specs.Whole.{Outside, device_of}
+use Rattle.device_model.specs.declared.hardware.Hardware.{Hardware}
+use Rattle.device_model.specs.declared.port.TakenCommand.{TakenCommand}
+use Rattle.device_model.specs.declared.port.Transfer.TheVariants as transfer
+use Rattle.device_model.specs.declared.steps.NextMove.{NextMove}
+use Rattle.device_model.proofs.Own.{IsOnly, own_gone}
+use Rattle.device_model.proofs.Transfers.{is_identify}
+
+-- an IDENTIFY DEVICE whose pieces have addresses of 32 bits
+abbrev pub IsPage : Operation → List ℕ → Type 0
+IsPage operation places = (operation ≡ Identify) × AreInside (2 ^ 32) places
+
+pub is_page : (o : Operation) (places : List ℕ) → IsPage o places → o ≡ Identify
+is_page o places page = page.0
+
+-- how many sectors the disk has is of no matter to it
+pub has_ready : (d : Device) (slot sectors : ℕ) (has : HasIdentify d slot) → IsReady d 0 slot sectors has.left
+has_ready d slot sectors has = record {
+  t = has.ready.t;
+  takes = has.ready.takes;
+  covered = record {
+    left_is = has.ready.covered.left_is;
+    on_disk = λ ranged. true-false ranged (ap is_ranged has.identifies);
+    inside = has.ready.covered.inside;
+  };
+  begins = has.ready.begins;
+}
+
+-- no other command is taken there, or may be
+pub has_only : (d : Device) (slot : ℕ) → HasIdentify d slot → IsOnly IsPage d 0 slot
+has_only d slot has = by has.ready.begins
+  where
+    t : Taken
+    t = has.ready.t
+
+    by : WorksOn (d.port 0) slot t t.meaning.operation ⊎ (Can (Fetch 0 slot t.meaning t.places) d × (t ≡ begun t.meaning t.places)) → IsOnly IsPage d 0 slot
+    by (inl works) = record {
+      taken = λ u is.
+          let same : t ≡ u = some_one (sym works.taken ∙ is) in
+          subst (λ (x : Taken). IsPage x.meaning.operation x.places) same (has.identifies, has.low);
+      fetched = λ m places can. some-none works.taken can.fetchable.free;
+    }
+    by (inr may) = record {
+      taken = λ u is. some-none is may.0.fetchable.free;
+      fetched = λ m places can.
+          let list = (d.port 0).bases.clb in
+          let meaning = says_meaning d.memory list slot t.meaning m t.places places may.0.says can.says in
+          let same = says_places d.memory list slot t.meaning m t.places places may.0.says can.says in
+          subst (λ (x : List ℕ). IsPage m.operation x) same (subst (λ (x : Meaning). IsPage x.operation t.places) meaning (has.identifies, has.low));
+    }
+
+-- nor afterwards
+pub page_taken : (port slot : ℕ) (did : Bool) (old new : Device) → port ≡ 0 → (did ≡ true → GoesOn port slot old new) → (did ≡ false → new ≡ old) →
+    HasIdentify old slot → (t : Taken) → (new.port port).taken slot ≡ Some t → IsPage t.meaning.operation t.places
+page_taken port slot did old new here went same has t is =
+    let P : ℕ → Type 0 = λ q. GoesOn q slot old new in
+    let Q : ℕ → Type 0 = λ q. (new.port q).taken slot ≡ Some t in
+    (own_gone IsPage is_page none_held 0 slot refl did old new (λ e. subst P here (went e)) same (has_only old slot has)).1.taken t (subst Q here is)
+
+-- the hardware's next move is of it
+pub next_identifies : (h : Hardware) (o : Outside) (d : Device) (port slot : ℕ) (next : NextMove) (r : TakenCommand) (t : Taken) → device_of h o ≡ d →
+    IsNext h port slot next r → (d.port port).taken slot ≡ Some t → t.meaning.operation ≡ Identify → next.transfer ≡ transfer.Identify
+next_identifies h o d port slot next r t same is taken identifies =
+    let here : ((device_of h o).port port).taken slot ≡ Some t = ap (λ (x : Device). (x.port port).taken slot) same ∙ taken in
+    let one : taken_of r ≡ t = some_one (sym (is.holds.works (o.media port)).taken ∙ here) in
+    is.transfer_is ∙ is_identify r.transfer (ap (λ (x : Taken). x.meaning.operation) one ∙ identifies)
+
+-- ---- each that is done leaves fewer
+
+-- how many numbers these are, up to one
+abbrev pub total : (ℕ → ℕ) → ℕ → ℕ
+total weight zero = 0
+total weight (suc n) = total weight n + weight n
+
+total_same : (v w : ℕ → ℕ) (n : ℕ) → ((k : ℕ) → k < n → v k ≡ w k) → total v n ≡ total w n
+total_same v w zero same = refl
+total_same v w (suc n) same =
+    let rest = total_same v w n (λ k small. same k (omega (arith, small))) in
+    let here = same n (omega arith) in
+    omega (arith, rest, here)
+
+total_less : (v w : ℕ → ℕ) (slot n : ℕ) → slot < n → ((k : ℕ) → k ≢ slot → v k ≡ w k) → v slot < w slot → total v n < total w n
+total_less v w slot zero small others less = absurd (omega (arith, small))
+total_less v w slot (suc n) small others less =
+    elim (eqb_tells slot n) [
+      | inl here ↦
+          let same : slot ≡ n = here.1 in
+          let rest = total_same v w n (λ k lt. others k (λ e. omega (arith, e, lt, same))) in
+          let last = subst (λ k. v k < w k) same less in
+          omega (arith, rest, last)
+      | inr there ↦
+          let ne : slot ≢ n = there.1 in
+          let rest = total_less v w slot n (omega (arith, small, ne)) others less in
+          let last = others n (λ e. ne (sym e)) in
+          omega (arith, rest, last)
+    ]
+
+-- whether a slot of port 0 is issued, and whether it is taken, as a number
+abbrev pub weight : Device → ℕ → ℕ
+weight d k = (if (d.port 0).ci k then 1 else 0) + (if is_some ((d.port 0).taken k) then 1 else 0)
+
+-- a step of one slot's command leaves the other slots
+weight_with : (old new : Device) (p : PortState) (slot k : ℕ) → new.port 0 ≡ p → p.ci k ≡ (old.port 0).ci k → p.taken k ≡ (old.port 0).taken k →
+    weight new k ≡ weight old k
+weight_with old new p slot k there ci taken =
+    ap (λ (x : PortState). (if x.ci k then 1 else 0) + (if is_some (x.taken k) then 1 else 0)) there
+    ∙ (λ i. (if ci i then 1 else 0) + (if is_some (taken i) then 1 else 0))
+
+cleared_other : (b : Bool) (f : ℕ → Bool) (slot k : ℕ) → k ≢ slot → (if b then changed f slot false else f) k ≡ f k
+cleared_other true f slot k ne = changed_other f slot false k ne
+cleared_other false f slot k ne = refl
+
+kept_other : (b : Bool) (f : ℕ → Bool) (slot k : ℕ) → k ≢ slot → (if b then f else changed f slot false) k ≡ f k
+kept_other true f slot k ne = refl
+kept_other false f slot k ne = changed_other f slot false k ne
+
+one_elsewhere : (slot : ℕ) (old new : Device) → DoesOne 0 slot old new → (k : ℕ) → k ≢ slot → weight new k ≡ weight old k
+one_elsewhere slot old new (inl f) k ne =
+    let p : PortState = with_fetch (old.port 0) slot f.meaning f.places in
+    weight_with old new p slot k (ap (λ (d : Device). d.port 0) f.effect ∙ changed_same old.port 0 p)
+    (cleared_other (is_queued f.meaning.operation) (old.port 0).ci slot k ne) (changed_other (old.port 0).taken slot _ k ne)
+one_elsewhere slot old new (inr (inl m)) k ne =
+    let p : PortState = with_move (old.port 0) slot m.t m.bytes in
+    weight_with old new p slot k (ap (λ (d : Device). d.port 0) m.effect ∙ changed_same old.port 0 p) refl (changed_other (old.port 0).taken slot _ k ne)
+one_elsewhere slot old new (inr (inr e)) k ne =
+    let p : PortState = with_done (old.port 0) slot e.flag e.t.meaning.operation in
+    weight_with old new p slot k (ap (λ (d : Device). d.port 0) e.effect ∙ changed_same old.port 0 p)
+    (kept_other (is_queued e.t.meaning.operation) (old.port 0).ci slot k ne) (changed_other (old.port 0).taken slot None k ne)
+
+some_elsewhere : (n slot : ℕ) (old new : Device) → DoesSome n 0 slot old new → (k : ℕ) → k ≢ slot → weight new k ≡ weight old k
+some_elsewhere zero slot old new e k ne = ap (λ (d : Device). weight d k) e
+some_elsewhere (suc n) slot old new s k ne = one_elsewhere slot s.0 new s.2 k ne ∙ some_elsewhere n slot old s.0 s.1 k ne
+
+-- one that was done is neither issued nor taken
+pub fewer_left : (slot : ℕ) (old new : Device) → slot < 32 → HasIdentify old slot → GoesOn 0 slot old new → IsFreeSlot (new.port 0) slot →
+    total (weight new) 32 < total (weight old) 32
+fewer_left slot old new small has went free =
+    total_less (weight new) (weight old) slot 32 small (some_elsewhere (suc went.0) slot old new went.1) (less has.ready.begins)
+  where
+    none : weight new slot ≡ 0
+    none = λ i. (if free.ci i then 1 else 0) + (if is_some (free.taken i) then 1 else 0)
+
+    less : WorksOn (old.port 0) slot has.ready.t has.ready.t.meaning.operation
+        ⊎ (Can (Fetch 0 slot has.ready.t.meaning has.ready.t.places) old × (has.ready.t ≡ begun has.ready.t.meaning has.ready.t.places)) →
+        weight new slot < weight old slot
+    less (inl works) =
+        let one : weight old slot ≡ (if (old.port 0).ci slot then 1 else 0) + 1 =
+        ap (λ (x : Option Taken). (if (old.port 0).ci slot then 1 else 0) + (if is_some x then 1 else 0)) works.taken in
+        omega (arith, none, one)
+    less (inr may) =
+        let one : weight old slot ≡ 1 + (if is_some ((old.port 0).taken slot) then 1 else 0) =
+        ap (λ (b : Bool). (if b then 1 else 0) + (if is_some ((old.port 0).taken slot) then 1 else 0)) may.0.fetchable.issued in
+        omega (arith, none, one)
+
+-- ---- a reading leaves none where none was left
+
+working_noted : (p : PortState) (n : Notes) (operation : Operation) → IsWorking (record p { notes = n }) operation → IsWorking p operation
+working_noted p n operation w = record { running = w.running; present = w.present; fresh = w.fresh; admitted = w.admitted; whole = w.whole }
+
+works_noted : (p : PortState) (n : Notes) (slot : ℕ) (t : Taken) (operation : Operation) → WorksOn (record p { notes = n }) slot t operation → WorksOn p slot t operation
+works_noted p n slot t operation w = record { taken = w.taken; working = working_noted p n operation w.working }
+
+has_noted : (d : Device) (f : ℕ → PortState) (n : Notes) (slot : ℕ) → f 0 ≡ record (d.port 0) { notes = n } → HasIdentify (record d { port = f }) slot → HasIdentify d slot
+has_noted d f n slot is has = record {
+  left = has.left;
+  ready = record { t = has.ready.t; takes = has.ready.takes; covered = has.ready.covered; begins = by has.ready.begins };
+  identifies = has.identifies;
+  low = has.low;
+}
+  where
+    t : Taken
+    t = has.ready.t
+
+    by : WorksOn (f 0) slot t t.meaning.operation ⊎ (Can (Fetch 0 slot t.meaning t.places) (record d { port = f }) × (t ≡ begun t.meaning t.places)) →
+        WorksOn (d.port 0) slot t t.meaning.operation ⊎ (Can (Fetch 0 slot t.meaning t.places) d × (t ≡ begun t.meaning t.places))
+    by (inl works) = inl (works_noted (d.port 0) n slot t t.meaning.operation (subst (λ (p : PortState). WorksOn p slot t t.meaning.operation) is works))
+    by (inr may) =
+        let fetchable = subst (λ (p : PortState). IsFetchable p slot) is may.0.fetchable in
+        let working = subst (λ (p : PortState). IsWorking p t.meaning.operation) is may.0.working in
+        inr (
+          record {
+            fetchable = record { st = fetchable.st; issued = fetchable.issued; free = fetchable.free };
+            working = working_noted (d.port 0) n t.meaning.operation working;
+            alone = subst (λ (p : PortState). IsAlone p t.meaning.operation) is may.0.alone;
+            says = subst (λ (p : PortState). Says d.memory p.bases.clb slot t.meaning t.places) is may.0.says;
+          },
+          may.1,
+        )
+
+pub noted_identify : (r : Reg) (v : ℕ) (d : Device) (slot : ℕ) → HasIdentify (noted r v d) slot → HasIdentify d slot
+noted_identify (Px q r) v d slot has =
+    let p : PortState = record (d.port q.0) { notes = note r v (d.port q.0) } in
+    elim (eqb_tells 0 q.0) [
+      | inl here ↦
+          let same : 0 ≡ q.0 = here.1 in
+          has_noted d (changed d.port q.0 p) (note r v (d.port q.0)) slot
+          (ap (λ k. changed d.port q.0 p k) same ∙ (changed_same d.port q.0 p ∙ ap (λ k. record (d.port k) { notes = note r v (d.port q.0) }) (sym same))) has
+      | inr there ↦ has_noted d (changed d.port q.0 p) (d.port 0).notes slot (changed_other d.port q.0 p 0 there.1) has
+    ]
+noted_identify Cap v d slot has = has
+noted_identify Ghc v d slot has = has
+noted_identify Is v d slot has = has
+noted_identify Pi v d slot has = has
+noted_identify Vs v d slot has = has
+noted_identify Cap2 v d slot has = has
+noted_identify Bohc v d slot has = has

@@ -1,0 +1,109 @@
+-- The model's own steps, one after another.
+use Rattle.std.proofs.Common.{ℕ, Bool, zero, suc, true, false, ◌≡◌, ◌+◌, ◌∙◌, List, [], ◌∷◌, ◌++◌, None, Some, All, refl, sym, ap, subst, inl, inr, arith}
+use Rattle.std.proofs.lemmas.List.Elements.{All-append, All-nil}
+use Rattle.std.specs.Prelude.{if◌then◌else◌}
+use Rattle.adapter.specs.Asked.{DoesOne, DoesSome, GoesOn}
+use Rattle.adapter.specs.Commands.{Meaning, is_queued}
+use Rattle.adapter.specs.Device.{PortState, Device, Taken}
+use Rattle.adapter.specs.Memory.{changed}
+use Rattle.adapter.specs.declared.command.Operation.{Operation}
+use Rattle.adapter.specs.declared.command.Operation.TheVariants.{Identify}
+use Rattle.adapter.proofs.Absurd.{some-none, some_one, true-false}
+use Rattle.adapter.proofs.Changed.{changed_same}
+use Rattle.adapter.specs.Steps.{Step, Can, Leads, Steps, after, begun, block_after, with_done, with_fetch, with_move}
+use Rattle.adapter.proofs.Runs.{Steps-one}
+use Rattle.adapter.specs.Steps.Step.{Fetch, Move, Done, ResetEnds}
+use Rattle.device_model.specs.Held.{IsLoose}
+use Rattle.device_model.specs.Settled.{DoesOwn, EndsReset, IsOwn}
+
+pub own_none : (held : List Bool) (d : Device) → DoesOwn held d d
+own_none held d = record { steps = []; own = All-nil (IsOwn held); lead = refl }
+
+all_one : {X : Type 0} (P : X → Type 0) (x : X) → P x → All P (x ∷ [])
+all_one P x here zero d small = here
+all_one P x here (suc k) d small = absurd (omega (arith, small))
+
+pub own_one : (held : List Bool) (step : Step) (old new : Device) → IsOwn held step → Can step old → new ≡ after step old → DoesOwn held old new
+own_one held step old new own can e = record { steps = step ∷ []; own = all_one (IsOwn held) step own; lead = (can, e) }
+
+leads_on : (first more : List Step) (old mid new : Device) → Leads first old mid → Leads more mid new → Leads (first ++ more) old new
+leads_on [] more old mid new e rest = let P : Device → Type 0 = λ d. Leads more d new in subst P e rest
+leads_on (step ∷ steps) more old mid new (can, lead) rest = (can, leads_on steps more (after step old) mid new lead rest)
+
+pub own_on : (held : List Bool) (old mid new : Device) → DoesOwn held old mid → DoesOwn held mid new → DoesOwn held old new
+own_on held old mid new a b = record {
+  steps = a.steps ++ b.steps;
+  own = All-append (IsOwn held) a.steps b.steps a.own b.own;
+  lead = leads_on a.steps b.steps old mid new a.lead b.lead;
+}
+
+pub own_steps : (held : List Bool) (old new : Device) → DoesOwn held old new → Steps old new
+own_steps held old new d = record { steps = d.steps; lead = d.lead }
+
+pub reset_steps : (was held : List Bool) (old new : Device) → EndsReset was held old new → Steps old new
+reset_steps was held old new (inl stays) = record { steps = []; lead = stays.2 }
+reset_steps was held old new (inr ends) = Steps-one ResetEnds old new ends.0 ends.3
+
+-- ---- the steps of one slot's command
+
+-- whatever command is taken in the slot, or may be, this holds of what it is and of its places
+pub record IsOnly (P : Operation → List ℕ → Type 0) (d : Device) (port slot : ℕ) : Type 0 where
+  pub taken : (t : Taken) → (d.port port).taken slot ≡ Some t → P t.meaning.operation t.places
+  pub fetched : (m : Meaning) (places : List ℕ) → Can (Fetch port slot m places) d → P m.operation places
+
+module _ (P : Operation → List ℕ → Type 0) (is_page : (o : Operation) (places : List ℕ) → P o places → o ≡ Identify) (held : List Bool) (port slot : ℕ)
+    (loose : IsLoose held port) where
+  -- a command stands in the slot afterwards
+  only_with : (new : Device) (p : PortState) (t : Taken) → new.port port ≡ p → p.taken slot ≡ Some t → P t.meaning.operation t.places → IsOnly P new port slot
+  only_with new p t there here holds =
+      let stands : (new.port port).taken slot ≡ Some t = ap (λ (x : PortState). x.taken slot) there ∙ here in
+      record {
+        taken = λ u is.
+            let same : t ≡ u = some_one (sym stands ∙ is) in
+            subst (λ (x : Taken). P x.meaning.operation x.places) same holds;
+        fetched = λ m places can. some-none stands can.fetchable.free;
+      }
+
+  own_by_one : (old new : Device) → DoesOne port slot old new → IsOnly P old port slot → DoesOwn held old new × IsOnly P new port slot
+  own_by_one old new (inl f) only =
+      let holds = only.fetched f.meaning f.places f.can in
+      let p : PortState = with_fetch (old.port port) slot f.meaning f.places in (
+        own_one held (Fetch port slot f.meaning f.places) old new (loose, is_page _ _ holds) f.can f.effect,
+        only_with new p (begun f.meaning f.places) (ap (λ (d : Device). d.port port) f.effect ∙ changed_same old.port port p)
+            (changed_same (old.port port).taken slot (Some (begun f.meaning f.places))) holds,
+      )
+  own_by_one old new (inr (inl m)) only =
+      let holds = only.taken m.t m.can.works.taken in
+      let p : PortState = with_move (old.port port) slot m.t m.bytes in
+      let u : Taken = record m.t { moved = m.t.moved + 1; block = block_after m.t.meaning.operation m.bytes m.t.block } in (
+        own_one held (Move port slot m.t m.bytes) old new (loose, is_page _ _ holds) m.can m.effect,
+        only_with new p u (ap (λ (d : Device). d.port port) m.effect ∙ changed_same old.port port p) (changed_same (old.port port).taken slot (Some u)) holds,
+      )
+  own_by_one old new (inr (inr e)) only =
+      let holds = only.taken e.t e.can.works.taken in
+      let identifies : e.t.meaning.operation ≡ Identify = is_page _ _ holds in
+      let p : PortState = with_done (old.port port) slot e.flag e.t.meaning.operation in
+      let there : new.port port ≡ p = ap (λ (d : Device). d.port port) e.effect ∙ changed_same old.port port p in
+      let none : (new.port port).taken slot ≡ None = ap (λ (x : PortState). x.taken slot) there ∙ changed_same (old.port port).taken slot None in
+      let clear : (new.port port).ci slot ≡ false =
+      ap (λ (x : PortState). x.ci slot) there
+      ∙ (ap (λ (b : Bool). (if b then (old.port port).ci else changed (old.port port).ci slot false) slot) (ap is_queued identifies)
+      ∙ changed_same (old.port port).ci slot false) in (
+        own_one held (Done port slot e.flag e.t) old new (loose, identifies) e.can e.effect,
+        record { taken = λ t is. some-none is none; fetched = λ m places can. true-false can.fetchable.issued clear },
+      )
+
+  pub own_by_some : (n : ℕ) (old new : Device) → DoesSome n port slot old new → IsOnly P old port slot → DoesOwn held old new × IsOnly P new port slot
+  own_by_some zero old new e only =
+      let Q : Device → Type 0 = λ d. DoesOwn held old d × IsOnly P d port slot in
+      subst Q (sym e) (own_none held old, only)
+  own_by_some (suc n) old new s only =
+      let first = own_by_some n old s.0 s.1 only in
+      let last = own_by_one s.0 new s.2 first.1 in
+      (own_on held old s.0 new first.0 last.0, last.1)
+
+  -- a command went on, or didn't
+  pub own_gone : (did : Bool) (old new : Device) → (did ≡ true → GoesOn port slot old new) → (did ≡ false → new ≡ old) → IsOnly P old port slot →
+      DoesOwn held old new × IsOnly P new port slot
+  own_gone true old new went same only = let g = went refl in own_by_some (suc g.0) old new g.1 only
+  own_gone false old new went same only = own_by_some zero old new (same refl) only

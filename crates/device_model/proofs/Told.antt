@@ -1,0 +1,146 @@
+-- Steps of the hardware, as a model answers them.
+use Rattle.std.proofs.Common.{ℕ, Bool, true, false, ◌≡◌, ◌<◌, ◌∙◌, List, Option, Some, refl, sym, ap, subst, inl, inr}
+use Rattle.std.specs.Global.{Vec}
+use Rattle.adapter.specs.Asked.{DoesFetch, DoesDone, DoesUnplug}
+use Rattle.adapter.specs.Commands.{Meaning}
+use Rattle.adapter.specs.Device.{Device, Taken}
+use Rattle.adapter.specs.Steps.{Can, after, begun, with_fetch}
+use Rattle.adapter.specs.Steps.Step.{Fetch, Done, Unplug}
+use Rattle.adapter.specs.declared.access.DeviceStep.{DeviceStep}
+use Rattle.adapter.specs.declared.access.DeviceStep.TheVariants as asked
+use Rattle.adapter.specs.declared.tape.Entry.{Entry}
+use Rattle.adapter.specs.declared.tape.Entry.TheVariants as entry
+use Rattle.adapter.proofs.Changed.{changed_same}
+use Rattle.ata_types.specs.declared.Port.{Port}
+use Rattle.ata_types.specs.declared.Slot.{Slot}
+use Rattle.device_model.specs.Does.{Answers, IsLeft, Keeps, LacksMemory, Possible}
+use Rattle.device_model.specs.Finishing.{HasRoom, IsPassed}
+use Rattle.device_model.specs.Modelled.{device_at, outside_at}
+use Rattle.device_model.specs.View.{Takes, blank}
+use Rattle.device_model.specs.Whole.{Outside, device_of}
+use Rattle.device_model.specs.declared.hardware.Hardware.{Hardware}
+use Rattle.device_model.specs.declared.model.Model.{Model}
+use Rattle.device_model.proofs.SlotLemmas.{taken_slot}
+use Rattle.device_model.proofs.Telling.{gains_none, gains_one, gains_done}
+use Rattle.device_model.proofs.Transfers.{is_taken}
+use Rattle.std.specs.Prelude.{slice_index_or}
+
+-- a command that the hardware has taken is one that the model takes
+pub fetched_takes : (old : Device) (h : Hardware) (o : Outside) (port slot : ℕ) → (f : DoesFetch port slot old (device_of h o)) → Takes f.meaning.operation
+fetched_takes old h o port slot f =
+    let t : Taken = begun f.meaning f.places in
+    let taken : ((device_of h o).port port).taken slot ≡ Some t =
+    ap (λ (d : Device). (d.port port).taken slot) f.effect
+    ∙ (ap (λ p. p.taken slot) (changed_same old.port port (with_fetch (old.port port) slot f.meaning f.places))
+    ∙ changed_same (old.port port).taken slot (Some t)) in
+    let w = taken_slot (slice_index_or h.ports port blank).taken slot t taken in
+    let P : Taken → Type 0 = λ x. Takes x.meaning.operation in
+    subst P (sym w.3) (is_taken w.0.transfer)
+
+module _ {S : Type 0} (size : S → ℕ) (told : S → Option (ℕ → List ℕ)) (is_sure : S → Bool) (m : Model S) (h : Hardware) where
+  abbrev new : Model S
+  new = record m { hardware = h }
+
+  abbrev behind : Outside
+  behind = outside_at size told m
+
+  pub on_hardware : Keeps size is_sure m new
+  on_hardware = record { disk1 = refl; sectors = refl; sure = refl; queue = refl; accesses = refl }
+
+  -- a step that notes one entry wasn't done
+  passed_left : (s : DeviceStep) (possible : Type 0) → (Possible s (device_at size told m) → possible) → (possible → Possible s (device_at size told m)) →
+      ((HasRoom m.hardware 1 → ⊥) → LacksMemory s (device_at size told m) m.hardware m.plugged) → device_of h behind ≡ device_of m.hardware behind →
+      IsPassed m.hardware h possible → IsLeft size told is_sure s m new
+  passed_left s possible forth back lacks same (inl never) = record {
+    device = same;
+    held = refl;
+    says = refl;
+    disk0 = λ _. refl;
+    keeps = on_hardware;
+    why = λ _ may. absurd (never.0 (forth may));
+    told_on = λ yes. ap (λ (x : Hardware). x.starved) never.1 ∙ yes;
+    told_since = λ yes. inl (sym (ap (λ (x : Hardware). x.starved) never.1) ∙ yes);
+  }
+  passed_left s possible forth back lacks same (inr missed) = record {
+    device = same;
+    held = refl;
+    says = refl;
+    disk0 = λ _. refl;
+    keeps = on_hardware;
+    why = λ _ may. (lacks missed.1, missed.2);
+    told_on = λ _. missed.2;
+    told_since = λ _. inr (back missed.0, lacks missed.1);
+  }
+
+  pub fetch_answers : (p : Port) (s : Slot) (did : Bool) → p.0 < 4 → s.0 < 32 →
+      (did ≡ true → DoesFetch p.0 s.0 (device_of m.hardware behind) (device_of h behind)) → (did ≡ false → device_of h behind ≡ device_of m.hardware behind) →
+      (did ≡ false → (g : Meaning) (places : List ℕ) → Takes g.operation → Can (Fetch p.0 s.0 g places) (device_of m.hardware behind) → ⊥) →
+      h.tape ≡ m.hardware.tape → h.starved ≡ m.hardware.starved → Answers size told is_sure (asked.Fetch p s) did m new
+  fetch_answers p s true port slot done same only tape starved =
+      let f = done refl in (
+        (port, slot, f.meaning, f.places, fetched_takes (device_of m.hardware behind) h behind p.0 s.0 f, f.can),
+        record {
+          asked = f;
+          ends = λ _. tt;
+          held = refl;
+          says = refl;
+          pages = gains_none size m new (ap (λ (v : Vec Entry). v.items) tape);
+          disk0 = λ _. refl;
+          keeps = on_hardware;
+          starved = starved;
+        },
+      )
+  fetch_answers p s false port slot done same only tape starved = record {
+    device = same refl;
+    held = refl;
+    says = refl;
+    disk0 = λ _. refl;
+    keeps = on_hardware;
+    why = λ _ may. absurd (only refl may.2 may.3 may.4 may.5);
+    told_on = λ yes. starved ∙ yes;
+    told_since = λ yes. inl (sym starved ∙ yes);
+  }
+
+  pub done_answers : (p : Port) (s : Slot) (did : Bool) → p.0 < 4 → s.0 < 32 →
+      (did ≡ true → DoesDone p.0 s.0 (device_of m.hardware behind) (device_of h behind)) → (did ≡ false → device_of h behind ≡ device_of m.hardware behind) →
+      (did ≡ false → IsPassed m.hardware h ((flag : ℕ) × (t : Taken) × Can (Done p.0 s.0 flag t) (device_of m.hardware behind))) →
+      (did ≡ true → h.starved ≡ m.hardware.starved) → Answers size told is_sure (asked.Done p s) did m new
+  done_answers p s true port slot done same passed starved =
+      let d = done refl in (
+        (port, slot, d.flag, d.t, d.can),
+        record {
+          asked = d;
+          ends = λ _. tt;
+          held = refl;
+          says = refl;
+          pages = gains_done size behind p.0 s.0 m new d;
+          disk0 = λ _. refl;
+          keeps = on_hardware;
+          starved = starved refl;
+        },
+      )
+  done_answers p s false port slot done same passed starved =
+      passed_left (asked.Done p s) ((flag : ℕ) × (t : Taken) × Can (Done p.0 s.0 flag t) (device_of m.hardware behind)) (λ may. (may.2, may.3, may.4))
+      (λ may. (port, slot, may.0, may.1, may.2)) (λ none. none) (same refl) (passed refl)
+
+  pub unplug_answers : (p : Port) (did : Bool) → p.0 ≡ 0 →
+      (did ≡ true → Can (Unplug 0) (device_of m.hardware behind) × (device_of h behind ≡ after (Unplug 0) (device_of m.hardware behind))) →
+      (did ≡ false → device_of h behind ≡ device_of m.hardware behind) → (did ≡ false → IsPassed m.hardware h (Can (Unplug 0) (device_of m.hardware behind))) →
+      (did ≡ true → h.starved ≡ m.hardware.starved) → Answers size told is_sure (asked.Unplug p) did m new
+  unplug_answers p true zero done same passed starved =
+      let d = done refl in
+      let P : ℕ → Type 0 = λ q. DoesUnplug q (device_of m.hardware behind) (device_of h behind) in (
+        (zero, d.0),
+        record {
+          asked = subst P (sym zero) (record { can = d.0; effect = d.1 });
+          ends = λ _. tt;
+          held = refl;
+          says = refl;
+          pages = gains_one size m new (entry.Unplug (record { 0 = 0 })) (ap (λ (x : Device). x.tape) d.1) (λ x e. absurd (cc e));
+          disk0 = λ _. refl;
+          keeps = on_hardware;
+          starved = starved refl;
+        },
+      )
+  unplug_answers p false zero done same passed starved =
+      passed_left (asked.Unplug p) (Can (Unplug 0) (device_of m.hardware behind)) (λ may. may.1) (λ may. (zero, may)) (λ none. none) (same refl) (passed refl)

@@ -1,0 +1,17 @@
+use Rattle.std.proofs.Common.{Bool, ◌≡◌, List}
+use Rattle.device_model.specs.Does.{GoesOnSo}
+use Rattle.device_model.specs.Modelled.{device_at}
+use Rattle.device_model.specs.Settled.{DoesOwn, IsSettled}
+use Rattle.device_model.proofs.Identifying.{total, weight}
+use Rattle.device_model.proofs.model.Model.identify.Given as goal
+
+abbrev pub invariant-loop-slot : goal.invariant-loop-slot
+invariant-loop-slot g l = record {
+  own : DoesOwn l.fn.self.held (device_at g.S.SectorStore.size g.S.SectorStore.told l.fn.self) (device_at g.S.SectorStore.size g.S.SectorStore.told l.self);
+  settled : (held : List Bool) → IsSettled held (device_at g.S.SectorStore.size g.S.SectorStore.told l.fn.self) → IsSettled held (device_at g.S.SectorStore.size g.S.SectorStore.told l.self);
+  rest : GoesOnSo g.S.SectorStore.size g.S.SectorStore.is_sure l.fn.self l.self;
+  disk : l.self.disk0 ≡ l.fn.self.disk0;
+}
+
+abbrev pub decreases-loop-slot : goal.decreases-loop-slot
+decreases-loop-slot g l = total (weight (device_at g.S.SectorStore.size g.S.SectorStore.told l.self)) 32
