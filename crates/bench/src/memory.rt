@@ -20,7 +20,7 @@ pub fn play_files(
     let image = MemStore::new(rt.alloc(), SECTORS).ok()?;
     let blank = MemStore::new(rt.alloc(), 0).ok()?;
     let mut out = BufWriter::new(rt.alloc(), io::writer(rt)).ok()?;
-    let ended = play(
+    let finished = play(
         rt.alloc(),
         config.as_slice(),
         script.as_slice(),
@@ -30,5 +30,5 @@ pub fn play_files(
         &mut out,
     );
     let written = out.flush();
-    (ended == Ended::Done && written.is_ok()).then_some(())
+    (finished.ended == Ended::Done && written.is_ok()).then_some(())
 }

@@ -1,5 +1,5 @@
 -- A server as it is made (this project's own).
-use Rattle.std.specs.Prelude.{ℕ, false, ◌≡◌, ◌≤◌, ◌*◌, List, [], None, map, Some}
+use Rattle.std.specs.Prelude.{false, ◌≡◌, ◌≤◌, ◌*◌, [], None, map, Some}
 use Rattle.std.specs.List.{Contains}
 use Rattle.ata_types.specs.declared.grant.GrantRow.{GrantRow}
 use Rattle.ata_types.specs.declared.memory.TheConstants.{FRAME_BYTES}

@@ -6,7 +6,7 @@ abbrev pub seen : {A : Type 0} → Inside A → ServerView A
 seen s = record {
   adapter = s.adapter;
   grants = s.grants;
-  table = s.table;
+  table = s.table.value;
   wanted = s.wanted;
   ports = s.ports;
   book = s.book.entries;

@@ -29,7 +29,8 @@ const MOST_GRANTS: usize = 64;
 pub struct Server<A: Adapter> {
     adapter: A,
     grants: Grants,
-    table: FrameTable,
+    /// On the heap, since it is large and a server is moved.
+    table: Box<FrameTable>,
     wanted: [Wanted; PORTS],
     ports: [Found; PORTS],
     book: Book,
@@ -106,10 +107,13 @@ impl<A: Adapter> Server<A> {
         let Ok(grants) = Grants::from_rows(alloc, transfer_rows(plan.grants()).as_slice()) else {
             return Err((ServerError::NoMemory, adapter));
         };
+        let Ok(table) = FrameTable::boxed(alloc, plan.owners()) else {
+            return Err((ServerError::NoMemory, adapter));
+        };
+        // A book can't be dropped, so it comes last of what can be refused.
         let Ok(book) = Book::new(alloc) else {
             return Err((ServerError::NoMemory, adapter));
         };
-        let table = FrameTable::new(plan.owners());
         let mut adapter = adapter;
         let wanted = *plan.wanted();
         let ports = take_over(&mut adapter, &wanted).ports;

@@ -6,7 +6,7 @@
 
 use command_line::{Args, ArgsFault};
 use fault::{Fault, outcome};
-use play::{Ended, play};
+use play::{Ended, Finished, play};
 use sector_store::{Disk, FileStore, MemStore};
 use std::fs::{self, File, Files};
 use std::io::{self, BufWriter, IsTerminal, Read, Write};
@@ -51,7 +51,41 @@ fn read(rt: &(impl AllocGlobal + Files<File = File>), path: &str) -> io::Result<
     Ok((bytes, file))
 }
 
-/// Does what the words ask. Where somebody watches, what a line answers is written at once, and else it is gathered.
+/// Plays a script over an image, and prints what it answers. Where somebody watches, what a line answers is written at once, and else it is
+/// gathered.
+fn print_played(
+    rt: &(impl AllocGlobal + Print),
+    config: &[u8],
+    script: &[u8],
+    image: FileStore,
+    trace: bool,
+    is_watched: bool,
+) -> Result<(), Fault> {
+    let blank = MemStore::new(rt.alloc(), BLANK_SECTORS)?;
+    let gathered = if is_watched { 0 } else { GATHERED };
+    let mut out = BufWriter::with_capacity(rt.alloc(), gathered, io::writer(rt)).map_err(
+        |error| unless_memory(&error, Fault::Unwritten),
+    )?;
+    let Finished { ended, model: _ } = play(
+        rt.alloc(),
+        config,
+        script,
+        Disk::File(image),
+        Disk::Memory(blank),
+        trace,
+        &mut out,
+    );
+    let flushed = match ended {
+        Ended::Unwritten => Ok(()),
+        _ => out.flush(),
+    };
+    // What couldn't be written isn't tried again.
+    let (_writer, _unwritten) = out.into_parts();
+    outcome(ended)?;
+    flushed.map_err(|_error| Fault::Unwritten)
+}
+
+/// Does what the words ask: the configuration and the script are read, and the image is opened, in this order, and the script is played.
 fn run(
     rt: &(impl Env + AllocGlobal + Files<File = File> + Print),
     is_watched: bool,
@@ -71,28 +105,14 @@ fn run(
         &error,
         Fault::Image,
     ))?;
-    let blank = MemStore::new(rt.alloc(), BLANK_SECTORS)?;
-    let gathered = if is_watched { 0 } else { GATHERED };
-    let mut out = BufWriter::with_capacity(rt.alloc(), gathered, io::writer(rt)).map_err(
-        |error| unless_memory(&error, Fault::Unwritten),
-    )?;
-    let ended = play(
-        rt.alloc(),
+    print_played(
+        rt,
         config.as_slice(),
         script.as_slice(),
-        Disk::File(image),
-        Disk::Memory(blank),
+        image,
         args.trace,
-        &mut out,
-    );
-    let flushed = match ended {
-        Ended::Unwritten => Ok(()),
-        _ => out.flush(),
-    };
-    // What couldn't be written isn't tried again.
-    let (_writer, _unwritten) = out.into_parts();
-    outcome(ended)?;
-    flushed.map_err(|_error| Fault::Unwritten)
+        is_watched,
+    )
 }
 
 fn main(rt: HostRuntime) -> ExitCode {

@@ -1,5 +1,5 @@
 -- Who owns each frame, and which request each frame is lent to.
-use Rattle.std.specs.Prelude.{◌≡◌, ℕ, ◌+◌, ◌<◌, ◌≤◌, List, Option, None, slice_index_or, All, Contains}
+use Rattle.std.specs.Prelude.{◌≡◌, ℕ, ◌+◌, ◌<◌, ◌≤◌, List, Option, None, Some, slice_index_or, All, Contains}
 use Rattle.ata_types.specs.declared.memory.TheConstants.{MOST_FRAMES}
 use Rattle.ata_types.specs.declared.request.ClientId.{ClientId}
 use Rattle.ata_types.specs.declared.request.Frame.{Frame}
@@ -39,3 +39,9 @@ IsRun run = (1 ≤ run.0.0) × (run.0.0 ≤ 8) × ((f : Frame) → HasFrame run 
 -- no frame is in both
 abbrev pub AreApart : Run → Run → Type 0
 AreApart a b = (f : Frame) → HasFrame a f → HasFrame b f → ⊥
+
+-- Each frame of a run is its owner's, a frame of no run is nobody's, and nothing is lent.
+pub record IsTableOf (runs : List Run) (t : Table) : Type 0 where
+  pub owned : (run : Run) (f : Frame) → Contains runs run → HasFrame run f → owner_of t f ≡ Some run.0
+  pub only : (f : Frame) (client : ClientId) → owner_of t f ≡ Some client → (run : Run) × Contains runs run × HasFrame run f × (run.0 ≡ client)
+  pub free : (f : Frame) → lent_to t f ≡ None

@@ -1,13 +1,14 @@
 //! The frames of memory: who owns each, and which request each is lent to (this project's own).
 #![tactic(auto)]
 
-ghost use Rattle.std.specs.Prelude.{◌≡◌, ℕ, ◌<◌, ◌≤◌, length, All, AllPairs, Contains, None, Some, IsTrue, ◌↔◌, OnOk, IfErr, slice_index_or};
+ghost use Rattle.std.specs.Prelude.{◌≡◌, ℕ, ◌<◌, ◌≤◌, length, All, AllPairs, Contains, None, Some, IsTrue, ◌↔◌, OnOk, IfOk, IfErr, slice_index_or};
 ghost use Rattle.block_machine.specs.Rules.{IsForeignAt, IsTwiceAt, IsLentAt, HasNoFault, IsFirstFault};
 ghost use Rattle.dma_frames.specs.Places.{IsLeastPlace};
-ghost use Rattle.dma_frames.specs.Table.{Run, owner_of, lent_to, LendsOnly, HasFrame, IsRun, AreApart};
+ghost use Rattle.dma_frames.specs.Table.{Run, owner_of, lent_to, LendsOnly, HasFrame, IsRun, IsTableOf, AreApart};
 
 use arrayvec::ArrayVec;
 use ata_types::{ClientId, Frame, FrameFault, MOST_FRAMES, RequestId};
+use std::alloc::{AllocError, Global};
 use std::marker::Model;
 
 /// The number of frames of the largest memory.
@@ -79,13 +80,46 @@ impl FrameTable {
             → (run : Run) × Contains runs.now run × HasFrame run f × (run.0 ≡ client) }
         ensures free { (f : Frame) → lent_to result f ≡ None }
     {
-        let mut owners = no_owners();
-        for run in runs {
-            mark(&mut owners, run);
-        }
+        let mut table = FrameTable::of_nobody();
+        table.mark_all(runs);
+        table
+    }
+
+    /// The table that `new` gives, on the heap. It is made there: its 18 KiB never stand on the stack.
+    pub fn boxed(
+        alloc: Global,
+        runs: &[(ClientId, Frame, u16)],
+    ) -> Result<Box<FrameTable>, AllocError>
+        requires runs { All IsRun runs.now }
+        requires apart { AllPairs AreApart runs.now }
+        ensures { IfOk result (λ table. IsTableOf runs.now table.value) }
+    {
+        let mut table = Box::new(alloc, FrameTable::of_nobody())?;
+        table.mark_all(runs);
+        Ok(table)
+    }
+
+    /// A table in which nobody owns a frame.
+    fn of_nobody() -> Self
+        ensures owners { (f : Frame) → owner_of result f ≡ None }
+        ensures free { (f : Frame) → lent_to result f ≡ None }
+    {
         FrameTable {
-            owners,
-            lent: none_lent(),
+            owners: [None; FRAMES],
+            lent: [None; FRAMES],
+        }
+    }
+
+    /// Notes the owners of the runs' frames, where nobody owned a frame.
+    fn mark_all(&mut self, runs: &[(ClientId, Frame, u16)])
+        requires runs { All IsRun runs.now }
+        requires apart { AllPairs AreApart runs.now }
+        requires nobody { (f : Frame) → owner_of self.old f ≡ None }
+        requires free { (f : Frame) → lent_to self.old f ≡ None }
+        ensures { IsTableOf runs.now self.new }
+    {
+        for run in runs {
+            mark(&mut self.owners, run);
         }
     }
 
@@ -179,18 +213,6 @@ impl FrameTable {
         }
         None
     }
-}
-
-fn no_owners() -> [Option<ClientId>; FRAMES]
-    ensures { (k : ℕ) → slice_index_or result k None ≡ None }
-{
-    [None; FRAMES]
-}
-
-fn none_lent() -> [Option<RequestId>; FRAMES]
-    ensures { (k : ℕ) → slice_index_or result k None ≡ None }
-{
-    [None; FRAMES]
 }
 
 /// The first place whose frame stands at an earlier place too.

@@ -62,8 +62,8 @@ abbrev pub played_of : {S : Type 0} (size : S → ℕ) (told : S → Option (ℕ
     → IsRun first.moment (histories.events_of past))
     → ((wanted : List Wanted) (first : Instant Device) (past : List (Happening Device DeviceStep)) → IsHistory (Begins wanted) (Ties wanted) first past
     → first.device.telling ≡ true → EveryReadHolds first.moment (histories.events_of past))
-    → Played size told config script image blank trace old new
-played_of size told config script image blank trace old new values read server last started ran runs holds =
+    → (model : Model S) → model ≡ last.adapter → Played size told config script image blank trace old new model
+played_of size told config script image blank trace old new values read server last started ran runs holds model left =
     let device = device_at size told in
     let begun = started.made.begun in
     let on = goes_on device is_starved trace server last ran.shown (events_of ran.played) ran.said ran.text ran.last ran.prints begun.0 [] begun.1 in
@@ -90,4 +90,5 @@ played_of size told config script image blank trace old new values read server l
             ap (λ (d : Device). d.telling) begun.1.stands.device_is ∙ started.made.taken.same.telling ∙ started.telling ∙ both_tell _ _ image_tells blank_tells in
             holds _ begun.0 on.more leads.history tells;
       };
+      left = left;
     }

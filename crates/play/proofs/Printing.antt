@@ -1,6 +1,6 @@
 -- What the lines so far have printed.
 use Rattle.std.proofs.Common.{ℕ, true, false, ◌≡◌, ◌≤◌, ◌-◌, drop, Bool, List, [], ◌∷◌, ◌++◌, ◌+◌, Option, Some, None, sym, ap, ◌∙◌, append-nil, append_assoc, subst, length, take, refl, arith}
-use Rattle.std.specs.Prelude.{IsErr, OnOk, Ok, Err}
+use Rattle.std.specs.Prelude.{IfErr, IsErr, OnOk, Ok, Err}
 use Rattle.std.specs.declared.result.Result.{Result}
 use Rattle.std.specs.Borrow.{Bor}
 use Rattle.std.specs.Io.KnownBytes.{Appends, Keeps}
@@ -139,41 +139,47 @@ module _ {A : Type 0} (device : A → Device) (starved : A → Bool) (trace : Bo
   -- a line that was played, and that was the last one; the lines after it ask what they ask
   pub ran_part : (now next : ServerView A) (shown : ℕ) (text : List ℕ) (line : Line) (t : Bor (List ℕ)) (left : Option (Bor (List ℕ)))
       (before mid after : Option (List ℕ)) → PlayedSoFar device starved trace first (lines_of script) now shown (Some t) before mid → IsFirstLine t.now text left → Asks text (Some line)
-      → AskFrom text (lines_after left) → PrintsPart device starved trace shown (event_of line) now next mid after
-      → starved now.adapter ≡ false → Ran device starved trace script first next before after
-  ran_part now next shown text line t left before mid after so_far is asks from p fed = record {
-    played = so_far.played ++ line ∷ [];
-    rest = from.rest;
-    asks = subst (λ (texts : List (List ℕ)). AskInTurn texts ((so_far.played ++ line ∷ []) ++ from.rest))
-        (sym (cut_on device starved trace first (lines_of script) so_far.texts text left (cut_more (lines_of script) so_far.texts t.now text left so_far.cut is)))
-        (ask_more (so_far.texts ++ text ∷ []) (lines_after left) (so_far.played ++ line ∷ []) from.rest
-        (asks_more device starved trace first (lines_of script) so_far.texts so_far.played text (Some line) so_far.asks asks) from.others);
-    shown = length (device next.adapter).tape;
-    said = so_far.said ++ p.one ∷ [];
-    text = so_far.text ++ so_far.last;
-    last = call_text trace shown (device next.adapter).tape p.one;
-    prints = prints_more device starved trace first (lines_of script) now next shown so_far.played line so_far.said so_far.text so_far.last p.one so_far.prints fed p.answered;
-    part = p.part;
-    printed = appends_more before mid after (so_far.text ++ so_far.last) _ so_far.printed
-        (subst (λ (whole : List ℕ). Appends mid after (take p.part whole)) p.text_is p.printed);
-    silent = p.silent;
-  }
+      → AskFrom text (lines_after left) → (p : PrintsPart device starved trace shown (event_of line) now next mid after)
+      → starved now.adapter ≡ false → (ran : Ran device starved trace script first next before after) × (ran.part ≡ p.part)
+  ran_part now next shown text line t left before mid after so_far is asks from p fed = (
+    record {
+      played = so_far.played ++ line ∷ [];
+      rest = from.rest;
+      asks = subst (λ (texts : List (List ℕ)). AskInTurn texts ((so_far.played ++ line ∷ []) ++ from.rest))
+          (sym (cut_on device starved trace first (lines_of script) so_far.texts text left (cut_more (lines_of script) so_far.texts t.now text left so_far.cut is)))
+          (ask_more (so_far.texts ++ text ∷ []) (lines_after left) (so_far.played ++ line ∷ []) from.rest
+          (asks_more device starved trace first (lines_of script) so_far.texts so_far.played text (Some line) so_far.asks asks) from.others);
+      shown = length (device next.adapter).tape;
+      said = so_far.said ++ p.one ∷ [];
+      text = so_far.text ++ so_far.last;
+      last = call_text trace shown (device next.adapter).tape p.one;
+      prints = prints_more device starved trace first (lines_of script) now next shown so_far.played line so_far.said so_far.text so_far.last p.one so_far.prints fed p.answered;
+      part = p.part;
+      printed = appends_more before mid after (so_far.text ++ so_far.last) _ so_far.printed
+          (subst (λ (whole : List ℕ). Appends mid after (take p.part whole)) p.text_is p.printed);
+      silent = p.silent;
+    },
+    refl,
+  )
 
   -- before the first one
-  pub ran_none : (before : Option (List ℕ)) (lines : List Line) → IsScript script lines → Ran device starved trace script first first before before
-  ran_none before lines asks = record {
-    played = [];
-    rest = lines;
-    asks = asks;
-    shown = 0;
-    said = [];
-    text = [];
-    last = [];
-    prints = none;
-    part = 0;
-    printed = appends_none before;
-    silent = λ is. refl;
-  }
+  pub ran_none : (before : Option (List ℕ)) (lines : List Line) → IsScript script lines → (ran : Ran device starved trace script first first before before) × (ran.part ≡ 0)
+  ran_none before lines asks = (
+    record {
+      played = [];
+      rest = lines;
+      asks = asks;
+      shown = 0;
+      said = [];
+      text = [];
+      last = [];
+      prints = none;
+      part = 0;
+      printed = appends_none before;
+      silent = λ is. refl;
+    },
+    refl,
+  )
 
   -- at the end
   pub ran_all : (now : ServerView A) (shown : ℕ) (before after : Option (List ℕ)) → PlayedSoFar device starved trace first (lines_of script) now shown None before after
@@ -222,3 +228,8 @@ written_more bytes written count =
 pub on_error : {T E : Type 0} (r : Result T E) (P : Type 0) → IsErr r → OnOk r P
 on_error (Ok x) P err = cc
 on_error (Err e) P err = tt
+
+-- what is known of an error holds of the same one
+pub if_error : {T E : Type 0} (r : Result T E) (e : E) (P : E → Type 0) → r ≡ Err e → P e → IfErr r P
+if_error (Ok x) e P is given = tt
+if_error (Err x) e P is given = let same : x ≡ e = cc in subst P (sym same) given

@@ -1,5 +1,5 @@
 -- A script that is played against a server over a modelled adapter (this project's own).
-use Rattle.std.specs.Prelude.{ℕ, Bool, true, false, ◌≡◌, ◌≤◌, ◌&&◌, ◌⊎◌, List, [], ◌∷◌, ◌++◌, Option, IsSome, codes, is_some, length, map, reverse, string_bytes, take}
+use Rattle.std.specs.Prelude.{ℕ, Bool, true, false, ◌≡◌, ◌≤◌, ◌&&◌, List, [], ◌∷◌, ◌++◌, Option, None, Some, IsSome, codes, is_some, length, map, reverse, string_bytes, take}
 use Rattle.std.specs.Io.KnownBytes.{Appends}
 use Rattle.adapter.specs.Device.{Device}
 use Rattle.adapter.specs.declared.access.DeviceStep.{DeviceStep}
@@ -135,15 +135,16 @@ pub record IsWhole {A : Type 0} {device : A → Device} {starved : A → Bool} {
 
 -- The configuration's text and the whole script were read. A new server was asked what the first lines ask, and of what they print all was printed
 -- but for a part of the last one's. At first nothing of the tape counts as shown: so with a trace, what moved while the server was made
--- stands before the first answer.
+-- stands before the first answer. What the last of these lines left the model as, the run gives back: so the disks are as it left them.
 pub record Played {S : Type 0} (size : S → ℕ) (told : S → Option (ℕ → List ℕ)) (config script : List ℕ) (image blank : S) (trace : Bool)
-    (old new : Option (List ℕ)) : Type 0 where
+    (old new : Option (List ℕ)) (model : Model S) : Type 0 where
   pub values : Config
   pub read : IsReadFrom config values
   pub server : ServerView (Model S)
   pub last : ServerView (Model S)
   pub ran : Ran (device_at size told) is_starved trace script server last old new
   pub answers : AreAnswers size told values image blank server last (events_of ran.played) ran.said
+  pub left : model ≡ last.adapter
 
 -- what a fault of a configuration's text ends a run as
 abbrev pub ended_by_config : ConfigFault → Ended
@@ -159,6 +160,12 @@ abbrev pub ended_by_stop : Stop → Ended
 ended_by_stop stop.NoMemory = NoMemory
 ended_by_stop stop.Unwritten = Unwritten
 
+-- Why a run stopped at its last line, by whether the adapter is starved and how much of that line's text was printed: memory was refused, to the
+-- adapter or for the text, and nothing was; or the output failed, and the adapter has all that it wanted.
+abbrev pub IsWhy : Bool → ℕ → Stop → Type 0
+IsWhy starved part stop.NoMemory = part ≡ 0
+IsWhy starved part stop.Unwritten = starved ≡ false
+
 -- Why nothing is played: the configuration has a fault, or it has none and the script has a bad line, or memory was refused.
 abbrev pub IsRefused : List ℕ → List ℕ → Ended → Type 0
 IsRefused config script (BadConfig kind) = IsToldOf config kind
@@ -167,11 +174,16 @@ IsRefused config script NoMemory = Unit {0}
 IsRefused config script Done = ⊥
 IsRefused config script Unwritten = ⊥
 
--- How it ended, with what the output was and is. It is done where all was played and printed; where the output failed, or memory was refused
--- after the beginning, the first lines were; and else nothing is printed.
-abbrev pub Ends : {S : Type 0} → (S → ℕ) → (S → Option (ℕ → List ℕ)) → List ℕ → List ℕ → S → S → Bool → Option (List ℕ) → Option (List ℕ) → Ended → Type 0
-Ends size told config script image blank trace old new Done =
-    (played : Played size told config script image blank trace old new) × IsWhole played.ran
-Ends size told config script image blank trace old new Unwritten = Played size told config script image blank trace old new
-Ends size told config script image blank trace old new NoMemory = (new ≡ old) ⊎ Played size told config script image blank trace old new
-Ends size told config script image blank trace old new ended = IsRefused config script ended × (new ≡ old)
+-- How it ended, with what the output was and is, and the model that it gives back. With one, lines were played: it is done where all of them were,
+-- and printed; else the first ones were, and why it stopped is told. Where the output failed, the model isn't starved; where memory was refused,
+-- nothing of the last line is printed, and the model says whether the memory was refused to it. Without a model nothing is printed.
+abbrev pub Ends : {S : Type 0} → (S → ℕ) → (S → Option (ℕ → List ℕ)) → List ℕ → List ℕ → S → S → Bool → Option (List ℕ) → Option (List ℕ) → Ended
+    → Option (Model S) → Type 0
+Ends size told config script image blank trace old new Done (Some model) =
+    (played : Played size told config script image blank trace old new model) × IsWhole played.ran
+Ends size told config script image blank trace old new Unwritten (Some model) =
+    Played size told config script image blank trace old new model × (is_starved model ≡ false)
+Ends size told config script image blank trace old new NoMemory (Some model) =
+    (played : Played size told config script image blank trace old new model) × (played.ran.part ≡ 0)
+Ends size told config script image blank trace old new ended (Some model) = ⊥
+Ends size told config script image blank trace old new ended None = IsRefused config script ended × (new ≡ old)

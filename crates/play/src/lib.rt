@@ -9,5 +9,5 @@ mod session;
 mod setting;
 
 pub use calls::event;
-pub use session::{Ended, play};
+pub use session::{Ended, Finished, play};
 pub use setting::new_model;

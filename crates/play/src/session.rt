@@ -1,5 +1,5 @@
 // A script, played from its first line to its last.
-ghost use Rattle.std.specs.Prelude.{◌≡◌, ◌≤◌, false, List, IfOk, IfErr, OnOk, length, vec_len};
+ghost use Rattle.std.specs.Prelude.{◌≡◌, ◌≤◌, false, List, None, IfOk, IfErr, OnOk, length, vec_len};
 ghost use Rattle.std.specs.Vec.{vec_capacity};
 ghost use Rattle.block_server.specs.Running.{Answered};
 ghost use Rattle.configuration.specs.Document.{IsReadFrom};
@@ -8,7 +8,7 @@ ghost use Rattle.script.specs.Script.{IsScript};
 ghost use Rattle.script.specs.declared.line.Line.{Line};
 ghost use Rattle.device_model.specs.Modelled.{device_at};
 ghost use Rattle.play.specs.Events.{event_of};
-ghost use Rattle.play.specs.Played.{Ends, IsRefused, IsStarted, IsWhole, PrintsPart, Ran, is_starved};
+ghost use Rattle.play.specs.Played.{Ends, IsRefused, IsStarted, IsWhole, IsWhy, PrintsPart, Ran, is_starved};
 
 use crate::event;
 use crate::printed::{print_call, write_out};
@@ -20,7 +20,7 @@ use device_model::{Model, NoMemory};
 use script::{BadLine, Line, check_script, first_line, read_asked};
 use sector_store::SectorStore;
 use server_history::laws::{histories_are_runs, reads_hold};
-use std::alloc::Global;
+use std::alloc::{AllocFailed, Global};
 use std::io;
 
 /// How a run ended.
@@ -32,10 +32,19 @@ pub enum Ended {
     Config(Kind),
     /// The first line of the script that is spelled as none has this number. Nothing is printed.
     Line(u64),
-    /// Memory was refused. What the lines before printed stays printed; of the line that wanted memory nothing is.
+    /// Memory was refused. Without a model, it was before the first line, and nothing is printed. With one, what the lines before printed
+    /// stays printed, and of the line that wanted memory nothing is; the model says whether it was refused to it, or for the line's text.
     NoMemory,
     /// The output failed. Of what the last line that was played prints, a part may be missing at its end; no line after it was played.
     Unwritten,
+}
+
+/// How a run ended, and what it left.
+#[derive(Drop)]
+pub struct Finished<S: SectorStore> {
+    pub ended: Ended,
+    /// The model, with its disks, as the last line that was played left it. There is none where no server was made.
+    pub model: Option<Model<S>>,
 }
 
 /// Why a run stops before its script's end.
@@ -101,22 +110,32 @@ fn read(alloc: Global, config: &[u8], script: &[u8]) -> Result<Config, Ended>
     Ok(values)
 }
 
-/// A new server of a new model, both as the configuration says.
+/// A new server of a new model, both as the configuration says. It is on the heap, since it is large. What is needed to make it leaves the
+/// stack again before a line is played.
+#[inline(never)]
 fn start<S: SectorStore>(
     alloc: Global,
     config: &Config,
     image: S,
     blank: S,
-) -> Result<Server<Model<S>>, NoMemory>
+) -> Result<Box<Server<Model<S>>>, NoMemory>
     requires { IsSound config.now }
-    ensures { IfOk result (IsStarted S.size S.told config.now image blank) }
+    ensures { IfOk result (λ server. IsStarted S.size S.told config.now image blank server.value) }
 {
     let model = new_model(alloc, config, image, blank)?;
     // The configuration is sound, so memory is all that can be wanting.
     let Ok(server) = Server::new(alloc, config, model) else {
         return Err(NoMemory);
     };
-    Ok(server)
+    match Box::new(alloc, server) {
+        Ok(server) => Ok(server),
+        Err(refused) => {
+            // A server can't be dropped.
+            let AllocFailed { value: server } = refused;
+            let _model = server.close();
+            Err(NoMemory)
+        }
+    }
 }
 
 /// Makes one call: what it says, for which there is room.
@@ -145,7 +164,7 @@ fn play_line<S: SectorStore, W: io::Write>(
     requires empty { vec_len room.old.said ≡ 0 }
     requires room { 1 ≤ vec_capacity room.old.said }
     ensures printed { (p : PrintsPart (device_at S.size S.told) is_starved trace shown (event_of line) server.old server.new (W.contents out.old) (W.contents out.new))
-        × OnOk result (length p.text ≤ p.part) }
+        × OnOk result (length p.text ≤ p.part) × IfErr result (IsWhy (is_starved server.new.adapter) p.part) }
     ensures fed { OnOk result (is_starved server.new.adapter ≡ false) }
     ensures shown { IfOk result (λ count. count ≡ length (device_at S.size S.told server.new.adapter).tape) }
     ensures empty { vec_len room.new.said ≡ 0 }
@@ -169,6 +188,7 @@ fn play_line<S: SectorStore, W: io::Write>(
 
 /// Asks a server what the lines of a script ask, one after another, and prints of each at once what the tape gained, with a trace, and what it
 /// said. Where memory is refused, to the model too, or the output fails, it stops at that line: no later one is played.
+#[inline(never)]
 fn perform<S: SectorStore, W: io::Write>(
     server: &mut Server<Model<S>>,
     script: &[u8],
@@ -180,7 +200,7 @@ fn perform<S: SectorStore, W: io::Write>(
     requires empty { vec_len room.old.said ≡ 0 }
     requires room { 1 ≤ vec_capacity room.old.said }
     ensures { (ran : Ran (device_at S.size S.told) is_starved trace script.now server.old server.new (W.contents out.old) (W.contents out.new))
-        × OnOk result (IsWhole ran) }
+        × OnOk result (IsWhole ran) × IfErr result (IsWhy (is_starved server.new.adapter) ran.part) }
 {
     if server.adapter().starved() {
         return Err(Stop::NoMemory);
@@ -200,6 +220,14 @@ fn perform<S: SectorStore, W: io::Write>(
     Ok(())
 }
 
+/// The end of a run that had no server.
+fn unbegun<S: SectorStore>(ended: Ended) -> Finished<S>
+    ensures ended { result.ended ≡ ended }
+    ensures model { result.model ≡ None }
+{
+    Finished { ended, model: None }
+}
+
 /// Plays a script against a new server over a modelled adapter, and prints at once what each line answers.
 ///
 /// The text of the configuration is read first, and then the whole script; the first fault that is found ends it. Then each line is read
@@ -207,7 +235,8 @@ fn perform<S: SectorStore, W: io::Write>(
 /// gained stand before a line's own answers; before the first line's also those since the model was made.
 ///
 /// Where the output fails, or memory is refused, the line that it happens at was the last one that was played, and those before it were
-/// printed. What the output has of that line then is a beginning of its text.
+/// printed. What the output has of that line then is a beginning of its text: nothing, where memory was refused. The model is given back as
+/// that line left it.
 pub fn play<S: SectorStore, W: io::Write>(
     alloc: Global,
     config: &[u8],
@@ -216,29 +245,35 @@ pub fn play<S: SectorStore, W: io::Write>(
     blank: S,
     trace: bool,
     out: &mut W,
-) -> Ended
-    ensures { Ends S.size S.told config.now script.now image blank trace (W.contents out.old) (W.contents out.new) result }
+) -> Finished<S>
+    ensures { Ends S.size S.told config.now script.now image blank trace (W.contents out.old) (W.contents out.new) result.ended result.model }
 {
     let values = match read(alloc, config, script) {
         Ok(values) => values,
-        Err(ended) => return ended,
+        Err(ended) => return unbegun(ended),
     };
     let Ok(said) = Vec::with_capacity(alloc, 1) else {
-        return Ended::NoMemory;
+        return unbegun(Ended::NoMemory);
     };
     let mut room = Room {
         said,
         text: Vec::new(alloc),
     };
     let Ok(mut server) = start(alloc, &values, image, blank) else {
-        return Ended::NoMemory;
+        return unbegun(Ended::NoMemory);
     };
     histories_are_runs();
     reads_hold();
     let performed = perform(&mut server, script, &mut room, trace, out);
-    let _model = server.close();
+    let model = Some(Box::into_inner(server).close());
     match performed {
-        Ok(()) => Ended::Done,
-        Err(stop) => Ended::from(stop),
+        Ok(()) => Finished {
+            ended: Ended::Done,
+            model,
+        },
+        Err(stop) => Finished {
+            ended: Ended::from(stop),
+            model,
+        },
     }
 }

@@ -23,12 +23,19 @@ pub struct FileStore {
 
 impl FileStore {
     /// Opens a file or a block device that is there for reading and writing, and locks it until the store is dropped: where another holds
-    /// its lock, the error is `WouldBlock`. The lock binds those who ask for it. Where the file system knows none, the file is opened
-    /// without. The end of a file that isn't a whole sector is left alone. Another error is the system's own.
+    /// its lock, the error is `WouldBlock`. The lock binds those who ask for it. Where the file system says that it knows none
+    /// (`Unsupported`), the file is opened without. The end of a file that isn't a whole sector is left alone. Another error, of the lock's
+    /// too, is the system's own.
     pub fn open(files: &impl Files<File = File>, path: &str) -> io::Result<FileStore> {
         let mut file = OpenOptions::new().read(true).write(true).open(files, path)?;
-        if let Err(TryLockError::WouldBlock) = file.try_lock() {
-            return Err(io::Error::from(io::ErrorKind::WouldBlock));
+        match file.try_lock() {
+            Err(TryLockError::WouldBlock) => {
+                return Err(io::Error::from(io::ErrorKind::WouldBlock));
+            }
+            Err(TryLockError::Error(error)) if error.kind() != io::ErrorKind::Unsupported => {
+                return Err(error);
+            }
+            Ok(()) | Err(TryLockError::Error(_)) => {}
         }
         // A block device's own length is told as 0; its end is where the sectors end.
         let bytes = file.seek(SeekFrom::End(0))?;

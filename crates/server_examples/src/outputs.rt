@@ -46,7 +46,8 @@ fn ended(alloc: Global, script: &[u8], room: usize) -> Result<Ended, AllocError>
         blank,
         false,
         &mut Narrow { room },
-    ))
+    )
+    .ended)
 }
 
 // Two lines have 12 bytes.

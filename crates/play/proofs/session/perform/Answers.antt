@@ -1,11 +1,12 @@
-use Rattle.std.proofs.Common.{refl, ap, ◌∙◌, sym, subst, Option, List, ℕ}
+use Rattle.std.proofs.Common.{refl, ap, ◌∙◌, sym, subst, Option, List, ℕ, Err}
+use Rattle.std.proofs.lemmas.Result.{err_from_is_err_and}
 use Rattle.std.specs.Borrow.{Bor}
 use Rattle.device_model.specs.Modelled.{device_at}
 use Rattle.device_model.specs.declared.model.Model.{Model}
 use Rattle.script.specs.Script.{Asks, lines_of, lines_after}
 use Rattle.script.specs.declared.line.Line.{Line}
-use Rattle.play.specs.Played.{is_starved}
-use Rattle.play.proofs.Printing.{PlayedSoFar, played_none, played_nothing, played_line, ran_none, ran_part, ran_all, cut_more, left_ask, none_bad, on_error}
+use Rattle.play.specs.Played.{IsWhy, is_starved}
+use Rattle.play.proofs.Printing.{PlayedSoFar, played_none, played_nothing, played_line, ran_none, ran_part, ran_all, cut_more, left_ask, none_bad, if_error, on_error}
 use Rattle.play.proofs.session.perform.Goals as goal
 
 pub loop-rest-init : goal.loop-rest-init
@@ -13,7 +14,8 @@ loop-rest-init g c = record { fed = ap (λ (m : Model g.row.S.Denot). is_starved
 
 pub returns-then-starved : goal.returns-then-starved
 returns-then-starved g c =
-    (ran_none (device_at g.S.SectorStore.size g.S.SectorStore.told) is_starved c.args.trace c.args.server.now c.args.script.now _ c.requires.good.0 c.requires.good.1, tt)
+    let ran = ran_none (device_at g.S.SectorStore.size g.S.SectorStore.told) is_starved c.args.trace c.args.server.now c.args.script.now _ c.requires.good.0 c.requires.good.1 in
+    (ran.0, tt, ran.1)
 
 -- a line that asks nothing
 pub loop-rest-preserved-in-Ok-None : goal.loop-rest-preserved-in-Ok-None
@@ -55,11 +57,16 @@ returns-in_err-shown-in-Ok-Some g c =
     let so_far = subst (λ (rest : Option (Bor (List ℕ))). PlayedSoFar device is_starved c.args.trace c.args.server.now all c.loop-rest.server c.loop-rest.shown rest before here) c.in-Some.is c.loop-rest.invariant.played in
     let cut = cut_more all so_far.texts c.in-Some.text.now c.first_line.result.0.now c.first_line.result.1 so_far.cut c.first_line.ensures.first in
     let from = left_ask all so_far.texts c.first_line.result.0.now (lines_after c.first_line.result.1) c.requires.good.0 cut c.requires.good.1 in
-    let asks = subst (λ (asked : Option Line). Asks c.first_line.result.0.now asked) c.in-Ok-Some.field-0-is c.in-Ok-Some.ensures.ok in (
-      ran_part device is_starved c.args.trace c.args.server.now c.args.script.now c.loop-rest.server c.play_line.new.server c.loop-rest.shown c.first_line.result.0.now
-          c.in-Ok-Some.asked c.in-Some.text c.first_line.result.1 before here after so_far c.first_line.ensures.first asks from
-          c.in_err-shown-in-Ok-Some.ensures.printed.0 c.loop-rest.invariant.fed,
+    let asks = subst (λ (asked : Option Line). Asks c.first_line.result.0.now asked) c.in-Ok-Some.field-0-is c.in-Ok-Some.ensures.ok in
+    let printed = c.in_err-shown-in-Ok-Some.ensures.printed in
+    let ran = ran_part device is_starved c.args.trace c.args.server.now c.args.script.now c.loop-rest.server c.play_line.new.server c.loop-rest.shown c.first_line.result.0.now
+    c.in-Ok-Some.asked c.in-Some.text c.first_line.result.1 before here after so_far c.first_line.ensures.first asks from
+    printed.0 c.loop-rest.invariant.fed in
+    let told = err_from_is_err_and c.from_residual.result c.from_residual.ensures.1 in (
+      ran.0,
       on_error c.from_residual.result _ c.from_residual.ensures.0,
+      if_error c.from_residual.result _ (IsWhy (is_starved c.play_line.new.server.adapter) ran.0.part) (told.1 ∙ ap Err told.2)
+          (subst (λ (part : ℕ). IsWhy (is_starved c.play_line.new.server.adapter) part c.in_err-shown-in-Ok-Some.field-0.0) (sym ran.1) printed.2),
     )
 
 pub returns : goal.returns
@@ -69,7 +76,7 @@ returns g c =
     let here = g.W.Write.contents c.loop-rest.out in
     let all = lines_of c.args.script.now in
     let so_far = subst (λ (rest : Option (Bor (List ℕ))). PlayedSoFar device is_starved c.args.trace c.args.server.now all c.loop-rest.server c.loop-rest.shown rest before here) c.in_default.is c.loop-rest.invariant.played in
-    ran_all device is_starved c.args.trace c.args.server.now c.args.script.now c.loop-rest.server c.loop-rest.shown before here so_far c.loop-rest.invariant.fed
+    let whole = ran_all device is_starved c.args.trace c.args.server.now c.args.script.now c.loop-rest.server c.loop-rest.shown before here so_far c.loop-rest.invariant.fed in (whole.0, whole.1, tt)
 
 -- the line was played and printed
 pub loop-rest-preserved-in_ok-shown-in-Ok-Some : goal.loop-rest-preserved-in_ok-shown-in-Ok-Some

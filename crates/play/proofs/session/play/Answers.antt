@@ -1,5 +1,7 @@
-use Rattle.std.proofs.Common.{ℕ, List, Bool, Option, sym, subst, inr}
-use Rattle.play.specs.Played.{Played, Ends, ended_by_stop}
+use Rattle.std.proofs.Common.{ℕ, ◌≡◌, List, Bool, Option, Some, sym, ap, ◌∙◌, subst}
+use Rattle.block_server.specs.View.{ServerView}
+use Rattle.device_model.specs.declared.model.Model.{Model}
+use Rattle.play.specs.Played.{Played, Ends, IsStarted, IsWhy, ended_by_stop, is_starved}
 use Rattle.play.specs.declared.session.Ended.{Ended}
 use Rattle.play.specs.declared.session.Stop.{Stop}
 use Rattle.play.specs.declared.session.Stop.TheVariants.{NoMemory, Unwritten}
@@ -8,22 +10,30 @@ use Rattle.play.proofs.session.play.Goals as goal
 
 -- a run that stopped in its midst was played so far
 stopped : {S : Type 0} (size : S → ℕ) (told : S → Option (ℕ → List ℕ)) (config script : List ℕ) (image blank : S) (trace : Bool) (old new : Option (List ℕ))
-    (stop : Stop) → Played size told config script image blank trace old new → Ends size told config script image blank trace old new (ended_by_stop stop)
-stopped size told config script image blank trace old new NoMemory played = inr played
-stopped size told config script image blank trace old new Unwritten played = played
+    (model : Model S) (stop : Stop) (played : Played size told config script image blank trace old new model) → IsWhy (is_starved model) played.ran.part stop
+    → Ends size told config script image blank trace old new (ended_by_stop stop) (Some model)
+stopped size told config script image blank trace old new model NoMemory played why = (played, why)
+stopped size told config script image blank trace old new model Unwritten played why = (played, why)
 
 pub returns-in-Ok-performed : goal.returns-in-Ok-performed
 returns-in-Ok-performed g c =
-    let ran = c.in-Ok-performed.ensures in (
+    let ran = c.in-Ok-performed.ensures in
+    let Started : ServerView (Model g.row.S.Denot) → Type 0 = λ server. IsStarted g.S.SectorStore.size g.S.SectorStore.told c.in-Ok.values c.args.image c.args.blank server in (
       played_of g.S.SectorStore.size g.S.SectorStore.told c.args.config.now c.args.script.now c.args.image c.args.blank c.args.trace _ _ c.in-Ok.values
-          c.in-Ok.ensures.read c.in-Ok-start.server c.perform-performed.new.server c.in-Ok-start.ensures ran.0 c.histories_are_runs.ensures c.reads_hold.ensures,
+          c.in-Ok.ensures.read c.deref_mut.result.now c.perform-performed.new.server (subst Started (sym c.deref_mut.ensures.value) c.in-Ok-start.ensures) ran.0
+          c.histories_are_runs.ensures c.reads_hold.ensures c.close.result (c.close.ensures ∙ ap (λ (s : ServerView (Model g.row.S.Denot)). s.adapter) c.into_inner.ensures),
       ran.1,
     )
 
 pub returns : goal.returns
 returns g c =
+    let ran = c.in-Err-performed.ensures in
+    let Started : ServerView (Model g.row.S.Denot) → Type 0 = λ server. IsStarted g.S.SectorStore.size g.S.SectorStore.told c.in-Ok.values c.args.image c.args.blank server in
+    let left : c.close.result ≡ c.perform-performed.new.server.adapter = c.close.ensures ∙ ap (λ (s : ServerView (Model g.row.S.Denot)). s.adapter) c.into_inner.ensures in
     subst (λ (ended : Ended). Ends g.S.SectorStore.size g.S.SectorStore.told c.args.config.now c.args.script.now c.args.image c.args.blank c.args.trace
-    (g.W.Write.contents c.args.out.now) (g.W.Write.contents c.perform-performed.new.out) ended) (sym c.from.ensures)
-    (stopped _ _ c.args.config.now c.args.script.now c.args.image c.args.blank c.args.trace _ _ c.in-Err-performed.stop
+    (g.W.Write.contents c.args.out.now) (g.W.Write.contents c.perform-performed.new.out) ended (Some c.close.result)) (sym c.from.ensures)
+    (stopped _ _ c.args.config.now c.args.script.now c.args.image c.args.blank c.args.trace _ _ c.close.result c.in-Err-performed.stop
     (played_of g.S.SectorStore.size g.S.SectorStore.told c.args.config.now c.args.script.now c.args.image c.args.blank c.args.trace _ _ c.in-Ok.values
-    c.in-Ok.ensures.read c.in-Ok-start.server c.perform-performed.new.server c.in-Ok-start.ensures c.in-Err-performed.ensures.0 c.histories_are_runs.ensures c.reads_hold.ensures))
+    c.in-Ok.ensures.read c.deref_mut.result.now c.perform-performed.new.server (subst Started (sym c.deref_mut.ensures.value) c.in-Ok-start.ensures) ran.0
+    c.histories_are_runs.ensures c.reads_hold.ensures c.close.result left)
+    (subst (λ (m : Model g.row.S.Denot). IsWhy (is_starved m) ran.0.part c.in-Err-performed.stop) (sym left) ran.2))

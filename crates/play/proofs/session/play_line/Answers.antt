@@ -16,6 +16,7 @@ returns-in_default-clause-printed g c =
       part_of device is_starved c.args.trace c.args.shown _ c.event.result c.ask-said.result c.args.server.now c.ask-said.new.server out out 0
           (call_text c.args.trace c.args.shown tape c.ask-said.result) tape c.event.ensures c.ask-said.ensures.answered refl refl (appends_none out) (λ is. refl),
       tt,
+      refl,
     )
 
 pub returns-in_default-write_out-clause-printed : goal.returns-in_default-write_out-clause-printed
@@ -29,6 +30,7 @@ returns-in_default-write_out-clause-printed g c =
       part_of device is_starved c.args.trace c.args.shown _ c.event.result c.ask-said.result c.args.server.now c.ask-said.new.server _ _ wrote.0
           c.as_slice.result.now c.tape-tape.result.now c.event.ensures c.ask-said.ensures.answered tape (c.as_slice.ensures.value ∙ c.in-Ok.ensures) wrote.1 (λ is. absurd (false≢true (sym fed ∙ is))),
       tt,
+      fed,
     )
 
 pub returns-clause-printed : goal.returns-clause-printed
@@ -42,6 +44,7 @@ returns-clause-printed g c =
       part_of device is_starved c.args.trace c.args.shown _ c.event.result c.ask-said.result c.args.server.now c.ask-said.new.server _ _ wrote.0
           c.as_slice.result.now c.tape-tape.result.now c.event.ensures c.ask-said.ensures.answered tape (c.as_slice.ensures.value ∙ c.in-Ok.ensures) wrote.1 (λ is. absurd (false≢true (sym fed ∙ is))),
       wrote.2,
+      tt,
     )
 
 pub returns-then-starved-clause-printed : goal.returns-then-starved-clause-printed
@@ -52,4 +55,5 @@ returns-then-starved-clause-printed g c =
       part_of device is_starved c.args.trace c.args.shown _ c.event.result c.ask-said.result c.args.server.now c.ask-said.new.server out out 0
           (call_text c.args.trace c.args.shown tape c.ask-said.result) tape c.event.ensures c.ask-said.ensures.answered refl refl (appends_none out) (λ is. refl),
       tt,
+      refl,
     )

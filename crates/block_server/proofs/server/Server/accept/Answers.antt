@@ -1,20 +1,17 @@
-use Rattle.std.proofs.Common.{ℕ, ◌≡◌, ◌+◌, ◌≤◌, true, false, List, length, Ok, refl, sym, ◌∙◌, ap, subst, arith}
+use Rattle.std.proofs.Common.{◌+◌, ◌≤◌, List, length, Ok, refl, sym, ◌∙◌, ap, subst, arith}
 use Rattle.std.specs.List.{All}
 use Rattle.std.proofs.lemmas.Bool.{false≢true}
 use Rattle.ata_types.specs.declared.request.Frame.{Frame}
-use Rattle.ata_types.specs.declared.request.Request.{Request}
-use Rattle.ata_types.specs.declared.request.RequestId.{RequestId}
 use Rattle.block_machine.specs.Events.{Submit, Submitted}
 use Rattle.block_machine.specs.Refusals.{IsAcceptable}
 use Rattle.block_machine.specs.Rules.{HasNoFault}
 use Rattle.dma_frames.specs.Table.{owner_of, lent_to}
-use Rattle.request_book.specs.Entries.{has_of}
 use Rattle.block_server.specs.Calls.{AcceptsRequest, IsFor}
 use Rattle.block_server.specs.Seen.{seen}
 use Rattle.block_server.specs.View.{ServerView, server_of}
 use Rattle.server_history.specs.Histories.{Adds}
 use Rattle.server_history.specs.Served.{Accepts}
-use Rattle.server_history.specs.Server.{Server, IsKept, situation_of}
+use Rattle.server_history.specs.Server.{situation_of}
 use Rattle.server_history.proofs.Accepting.{acceptance}
 use Rattle.transfers.specs.Transfers.{IssuesTransfer}
 use Rattle.block_server.proofs.Accepting as accepting
@@ -27,8 +24,8 @@ overflow_add-id g c = let h = accepting.next_fits (server_of g.A.Adapter.device 
 
 pub lend-loan-requires-clause-clear : goal.lend-loan-requires-clause-clear
 lend-loan-requires-clause-clear g c =
-    subst (λ (frames : List Frame). HasNoFault (owner_of c.self.inside.table) (lent_to c.self.inside.table) c.args.r.now.client frames) (sym c.as_slice.ensures.value)
-    (accepting.faultless (server_of g.A.Adapter.device (seen c.self.inside)) c.args.r.now (subst (λ (v : ServerView g.row.A.Denot). IsAcceptable (situation_of (server_of g.A.Adapter.device v)) c.args.r.now) (sym c.self.view_is) c.requires.acceptable))
+    rw c.deref_mut.ensures.value (subst (λ (frames : List Frame). HasNoFault (owner_of c.self.inside.table.value) (lent_to c.self.inside.table.value) c.args.r.now.client frames) (sym c.as_slice.ensures.value)
+    (accepting.faultless (server_of g.A.Adapter.device (seen c.self.inside)) c.args.r.now (subst (λ (v : ServerView g.row.A.Denot). IsAcceptable (situation_of (server_of g.A.Adapter.device v)) c.args.r.now) (sym c.self.view_is) c.requires.acceptable)))
 
 pub accept-requires : goal.accept-requires
 accept-requires g c =
@@ -77,7 +74,7 @@ sent : (g : Over) (c : After-issue g) → Accepts c.args.port c.args.r.now (reco
 sent g c =
     let Issued : List Frame → Type 0 = λ frames. IssuesTransfer c.args.port (record { op = c.args.r.now.op; first = c.args.r.now.first.0; count = c.args.r.now.count; frames = frames }) (g.A.Adapter.device c.self.inside.adapter) (g.A.Adapter.device c.issue.new.adapter) in
     accepting.accepts (server_of g.A.Adapter.device (seen c.self.inside)) c.args.r.now c.args.port (subst (λ (v : ServerView g.row.A.Denot). IsFor v.grants c.args.r.now c.args.port) (sym c.self.view_is) c.requires.port) (record { 0 = c.self.inside.last + 1 }) refl
-    c.lend-loan.result c.as_slice.result.now c.as_slice.ensures.value c.lend-loan.ensures.frames c.lend-loan.ensures.request c.lend-loan.new.self c.lend-loan.ensures.lent
+    c.lend-loan.result c.as_slice.result.now c.as_slice.ensures.value c.lend-loan.ensures.frames c.lend-loan.ensures.request c.lend-loan.new.self (rw c.deref_mut.ensures.value at c.lend-loan.ensures.lent)
     c.accept.new.self.entries c.accept.ensures.entries
     (g.A.Adapter.device c.issue.new.adapter) (λ has. absurd (false≢true (sym (sym c.has_of-waits.ensures ∙ c.if-not-waits.true) ∙ has))) (λ none. subst Issued c.as_slice-frames.ensures.value c.issue.ensures.issues)
 
@@ -86,7 +83,7 @@ waits : (g : Over) (c : Else-not-waits g) → Accepts c.args.port c.args.r.now (
     (record (server_of g.A.Adapter.device (seen c.self.inside)) { device = (g.A.Adapter.device c.self.inside.adapter); table = c.lend-loan.new.self; book = c.accept.new.self.entries; last = c.self.inside.last + 1 })
 waits g c =
     accepting.accepts (server_of g.A.Adapter.device (seen c.self.inside)) c.args.r.now c.args.port (subst (λ (v : ServerView g.row.A.Denot). IsFor v.grants c.args.r.now c.args.port) (sym c.self.view_is) c.requires.port) (record { 0 = c.self.inside.last + 1 }) refl
-    c.lend-loan.result c.as_slice.result.now c.as_slice.ensures.value c.lend-loan.ensures.frames c.lend-loan.ensures.request c.lend-loan.new.self c.lend-loan.ensures.lent
+    c.lend-loan.result c.as_slice.result.now c.as_slice.ensures.value c.lend-loan.ensures.frames c.lend-loan.ensures.request c.lend-loan.new.self (rw c.deref_mut.ensures.value at c.lend-loan.ensures.lent)
     c.accept.new.self.entries c.accept.ensures.entries
     (g.A.Adapter.device c.self.inside.adapter) (λ has. refl) (λ none. absurd (false≢true (sym none ∙ sym c.has_of-waits.ensures ∙ c.if-not-waits.false)))
 

@@ -18,7 +18,7 @@ use Rattle.block_server.proofs.server.Server.finish_first.Goals as goal
 pub give_back-requires : goal.give_back-requires
 give_back-requires g c =
     let s = server_of g.A.Adapter.device (seen c.self.inside) in
-    lent_own s.grants s.table c.end_first_of-loan.result (first_accepted s c.args.port c.end_first_of-loan.result c.self.invariant c.end_first_of-loan.ensures.first)
+    rw c.deref_mut.ensures.value (lent_own s.grants s.table c.end_first_of-loan.result (first_accepted s c.args.port c.end_first_of-loan.result c.self.invariant c.end_first_of-loan.ensures.first))
 
 pub issue-requires-clause-agreed : goal.issue-requires-clause-agreed
 issue-requires-clause-agreed g c =
@@ -74,7 +74,7 @@ invariant_of-self g c =
     let I : List Frame → Type 0 = λ frames. IssuesTransfer c.args.port (record { op = next.op; first = next.first.0; count = next.count; frames = frames }) (device c.self.inside.adapter) (device c.issue.new.adapter) in
     let new : Server = record s { device = device c.issue.new.adapter; table = c.give_back.new.self; book = c.end_first_of-loan.new.self.entries } in
     finished_kept s new c.args.port c.end_first_of-loan.result c.self.invariant (subst R (sym c.self.view_is) c.requires.ready) (subst O (sym c.self.view_is) c.requires.over)
-    (finishes_next s c.args.port c.end_first_of-loan.result c.end_first_of-loan.new.self.entries c.end_first_of-loan.ensures.first c.end_first_of-loan.ensures.entries c.give_back.new.self c.give_back.ensures
+    (finishes_next s c.args.port c.end_first_of-loan.result c.end_first_of-loan.new.self.entries c.end_first_of-loan.ensures.first c.end_first_of-loan.ensures.entries c.give_back.new.self (rw c.deref_mut.ensures.value at c.give_back.ensures)
     (device c.issue.new.adapter) next c.in-Some.ensures (subst I c.frames-frames.ensures.frames c.issue.ensures.issues))
 
 pub invariant_of-self-in_default : goal.invariant_of-self-in_default
@@ -85,7 +85,7 @@ invariant_of-self-in_default g c =
     let O : ServerView g.row.A.Denot → Type 0 = λ v. IsOver ((device v.adapter).port c.args.port.0) 0 in
     let new : Server = record s { table = c.give_back.new.self; book = c.end_first_of-loan.new.self.entries } in
     finished_kept s new c.args.port c.end_first_of-loan.result c.self.invariant (subst R (sym c.self.view_is) c.requires.ready) (subst O (sym c.self.view_is) c.requires.over)
-    (finishes_last s c.args.port c.end_first_of-loan.result c.end_first_of-loan.new.self.entries c.end_first_of-loan.ensures.first c.end_first_of-loan.ensures.entries c.give_back.new.self c.give_back.ensures
+    (finishes_last s c.args.port c.end_first_of-loan.result c.end_first_of-loan.new.self.entries c.end_first_of-loan.ensures.first c.end_first_of-loan.ensures.entries c.give_back.new.self (rw c.deref_mut.ensures.value at c.give_back.ensures)
     c.in_default.ensures)
 
 pub returns-in-Some-clause-finishes : goal.returns-in-Some-clause-finishes
@@ -99,6 +99,6 @@ returns-in-Some-clause-finishes g c =
       c.end_first_of-loan.result,
       refl,
       subst F c.self.view_is
-          (finishes_next s c.args.port c.end_first_of-loan.result c.end_first_of-loan.new.self.entries c.end_first_of-loan.ensures.first c.end_first_of-loan.ensures.entries c.give_back.new.self c.give_back.ensures
+          (finishes_next s c.args.port c.end_first_of-loan.result c.end_first_of-loan.new.self.entries c.end_first_of-loan.ensures.first c.end_first_of-loan.ensures.entries c.give_back.new.self (rw c.deref_mut.ensures.value at c.give_back.ensures)
           (device c.issue.new.adapter) next c.in-Some.ensures (subst I c.frames-frames.ensures.frames c.issue.ensures.issues)),
     )

@@ -1,13 +1,11 @@
-use Rattle.std.proofs.Common.{ℕ, ◌≡◌, ◌*◌, ◌≤◌, List, map, refl, sym, ◌∙◌, ap, subst, arith}
+use Rattle.std.proofs.Common.{◌≡◌, ◌*◌, ◌≤◌, List, map, refl, sym, ◌∙◌, ap, subst, arith}
 use Rattle.std.specs.List.{AllPairs}
 use Rattle.ata_types.specs.declared.grant.GrantRow.{GrantRow}
 use Rattle.block_machine.specs.Rules.{DifferInName}
 use Rattle.dma_frames.specs.Table.{AreApart}
 use Rattle.grants.specs.Rows.{SameRows}
 use Rattle.block_server.specs.Made.{transfer_row}
-use Rattle.block_server.specs.View.{server_of}
 use Rattle.server_history.proofs.Beginning.{new_server}
-use Rattle.server_history.specs.Histories.{HasBegun}
 use Rattle.server_history.specs.Server.{Server}
 use Rattle.block_server.proofs.Making.{named_apart, new_fits}
 use Rattle.block_server.proofs.server.Server.new.Goals as goal
@@ -17,25 +15,25 @@ from_rows-requires-clause-names g c =
     subst (AllPairs DifferInName) (sym (c.as_slice.ensures.value ∙ c.transfer_rows.ensures ∙ ap (map transfer_row) c.grants.ensures.grants))
     (named_apart c.in-Ok.plan.grants c.in-Ok.ensures.fits.names)
 
-pub new-table-requires-clause-apart : goal.new-table-requires-clause-apart
-new-table-requires-clause-apart g c = subst (AllPairs AreApart) (sym c.owners.ensures.owners) c.owners.ensures.fits.runs.apart
+pub boxed-requires-clause-apart : goal.boxed-requires-clause-apart
+boxed-requires-clause-apart g c = subst (AllPairs AreApart) (sym c.owners.ensures.owners) c.owners.ensures.fits.runs.apart
 
 pub invariant_of-result : goal.invariant_of-result
 invariant_of-result g c =
     let device = g.A.Adapter.device in
     let plan = c.in-Ok.plan in
-    let s : Server = record { device = device c.take_over.new.adapter; grants = c.in-Ok-from_rows.grants; table = c.new-table.result; wanted = c.wanted.result.now; ports = c.take_over.result.ports; book = c.in-Ok-new.book.entries; last = 0 } in
+    let s : Server = record { device = device c.take_over.new.adapter; grants = c.in-Ok-from_rows.grants; table = c.in-Ok-boxed.table.value; wanted = c.wanted.result.now; ports = c.take_over.result.ports; book = c.in-Ok-new.book.entries; last = 0 } in
     let rows_are : c.as_slice.result.now ≡ map transfer_row plan.grants = c.as_slice.ensures.value ∙ c.transfer_rows.ensures ∙ ap (map transfer_row) c.grants.ensures.grants in
     let room : 4096 * plan.frames ≤ s.device.size = let f = c.in-Ok.ensures.made.frames in let r = c.requires.ready.room c.in-Ok.ensures.sound in let z = c.take_over.ensures.taken.same.size in omega (arith, f, r, z) in
     (new_server s c.take_over.result (device c.args.adapter) c.requires.ready.idle (g.met.A.Adapter.tells c.args.adapter) c.take_over.ensures.taken
     (new_fits s c.take_over.result plan c.in-Ok.ensures.fits (subst (λ (rows : List GrantRow). SameRows rows c.in-Ok-from_rows.grants) rows_are c.in-Ok-from_rows.ensures.rows)
-    (rw c.owners.ensures.owners at c.new-table.ensures.only) room c.in-Ok-from_rows.ensures.names c.in-Ok-from_rows.ensures.few c.new-table.ensures.free refl c.take_over.ensures.four c.in-Ok-new.ensures.empty refl)).0
+    (rw c.owners.ensures.owners at c.in-Ok-boxed.ensures.only) room c.in-Ok-from_rows.ensures.names c.in-Ok-from_rows.ensures.few c.in-Ok-boxed.ensures.free refl c.take_over.ensures.four c.in-Ok-new.ensures.empty refl)).0
 
 pub returns-clause-made : goal.returns-clause-made
 returns-clause-made g c =
     let device = g.A.Adapter.device in
     let plan = c.in-Ok.plan in
-    let s : Server = record { device = device c.take_over.new.adapter; grants = c.in-Ok-from_rows.grants; table = c.new-table.result; wanted = c.wanted.result.now; ports = c.take_over.result.ports; book = c.in-Ok-new.book.entries; last = 0 } in
+    let s : Server = record { device = device c.take_over.new.adapter; grants = c.in-Ok-from_rows.grants; table = c.in-Ok-boxed.table.value; wanted = c.wanted.result.now; ports = c.take_over.result.ports; book = c.in-Ok-new.book.entries; last = 0 } in
     let rows_are : c.as_slice.result.now ≡ map transfer_row plan.grants = c.as_slice.ensures.value ∙ c.transfer_rows.ensures ∙ ap (map transfer_row) c.grants.ensures.grants in
     let rows = subst (λ (rows : List GrantRow). SameRows rows c.in-Ok-from_rows.grants) rows_are c.in-Ok-from_rows.ensures.rows in
     let room : 4096 * plan.frames ≤ s.device.size = let f = c.in-Ok.ensures.made.frames in let r = c.requires.ready.room c.in-Ok.ensures.sound in let z = c.take_over.ensures.taken.same.size in omega (arith, f, r, z) in
@@ -44,9 +42,9 @@ returns-clause-made g c =
       is_plan = c.in-Ok.ensures.fits;
       planned = c.in-Ok.ensures.made;
       rows = rows;
-      owned = rw c.owners.ensures.owners at c.new-table.ensures.owned;
-      only = rw c.owners.ensures.owners at c.new-table.ensures.only;
-      free = c.new-table.ensures.free;
+      owned = rw c.owners.ensures.owners at c.in-Ok-boxed.ensures.owned;
+      only = rw c.owners.ensures.owners at c.in-Ok-boxed.ensures.only;
+      free = c.in-Ok-boxed.ensures.free;
       wanted = c.wanted.ensures.wanted;
       host = c.take_over.result;
       ports = refl;
@@ -56,5 +54,5 @@ returns-clause-made g c =
       room = c.in-Ok-new.ensures.room;
       begun = (new_server s c.take_over.result (device c.args.adapter) c.requires.ready.idle (g.met.A.Adapter.tells c.args.adapter) c.take_over.ensures.taken
           (new_fits s c.take_over.result plan c.in-Ok.ensures.fits rows
-          (rw c.owners.ensures.owners at c.new-table.ensures.only) room c.in-Ok-from_rows.ensures.names c.in-Ok-from_rows.ensures.few c.new-table.ensures.free refl c.take_over.ensures.four c.in-Ok-new.ensures.empty refl)).1;
+          (rw c.owners.ensures.owners at c.in-Ok-boxed.ensures.only) room c.in-Ok-from_rows.ensures.names c.in-Ok-from_rows.ensures.few c.in-Ok-boxed.ensures.free refl c.take_over.ensures.four c.in-Ok-new.ensures.empty refl)).1;
     }
