@@ -1,7 +1,7 @@
 -- The model's own steps, one after another.
 use Rattle.std.proofs.Common.{ℕ, Bool, zero, suc, true, false, ◌≡◌, ◌+◌, ◌∙◌, List, [], ◌∷◌, ◌++◌, None, Some, All, refl, sym, ap, subst, inl, inr, arith}
 use Rattle.std.proofs.lemmas.List.Elements.{All-append, All-nil}
-use Rattle.std.specs.Prelude.{if◌then◌else◌}
+use Rattle.std.specs.Prelude.{if◌then◌else◌, slice_index_or}
 use Rattle.adapter.specs.Asked.{DoesOne, DoesSome, GoesOn}
 use Rattle.adapter.specs.Commands.{Meaning, is_queued}
 use Rattle.adapter.specs.Device.{PortState, Device, Taken}
@@ -9,11 +9,11 @@ use Rattle.adapter.specs.Memory.{changed}
 use Rattle.adapter.specs.declared.command.Operation.{Operation}
 use Rattle.adapter.specs.declared.command.Operation.TheVariants.{Identify}
 use Rattle.adapter.proofs.Absurd.{some-none, some_one, true-false}
-use Rattle.adapter.proofs.Changed.{changed_same}
+use Rattle.adapter.proofs.Changed.{changed_other, changed_same}
 use Rattle.adapter.specs.Steps.{Step, Can, Leads, Steps, after, begun, block_after, with_done, with_fetch, with_move}
 use Rattle.adapter.proofs.Runs.{Steps-one}
-use Rattle.adapter.specs.Steps.Step.{Fetch, Move, Done, ResetEnds}
-use Rattle.device_model.specs.Held.{IsLoose}
+use Rattle.adapter.specs.Steps.Step.{Fetch, FetchFault, Move, Clear, Done, Fault, Fatal, Fall, FrFall, LinkUp, Unplug, Plug, ResetEnds, Scribble}
+use Rattle.device_model.specs.Held.{IsHeld, IsLoose}
 use Rattle.device_model.specs.Settled.{DoesOwn, EndsReset, IsOwn}
 
 pub own_none : (held : List Bool) (d : Device) → DoesOwn held d d
@@ -107,3 +107,31 @@ module _ (P : Operation → List ℕ → Type 0) (is_page : (o : Operation) (pla
       DoesOwn held old new × IsOnly P new port slot
   own_gone true old new went same only = let g = went refl in own_by_some (suc g.0) old new g.1 only
   own_gone false old new went same only = own_by_some zero old new (same refl) only
+
+-- ---- a held port
+
+module _ (held : List Bool) (port : ℕ) (is : IsHeld held port) where
+  -- a port on which a step of its own is done isn't it
+  elsewhere : (q : ℕ) (p : PortState) (d : Device) → IsLoose held q → changed d.port q p port ≡ d.port port
+  elsewhere q p d loose = changed_other d.port q p port (λ same. true-false is (ap (λ k. slice_index_or held k false) same ∙ loose))
+
+  one_stays : (step : Step) (d : Device) → IsOwn held step → (after step d).port port ≡ d.port port
+  one_stays (Fall q) d own = elsewhere q _ d own
+  one_stays (FrFall q) d own = elsewhere q _ d own
+  one_stays (LinkUp q sig n) d own = elsewhere q _ d own.0
+  one_stays (Fetch q slot meaning places) d own = elsewhere q _ d own.0
+  one_stays (Move q slot t bytes) d own = elsewhere q _ d own.0
+  one_stays (Done q slot flag t) d own = elsewhere q _ d own.0
+  one_stays (FetchFault q slot queued kept_bits) d own = absurd own
+  one_stays (Clear q slot t first count) d own = absurd own
+  one_stays (Fault q slot error kept_bits t) d own = absurd own
+  one_stays (Fatal q place) d own = absurd own
+  one_stays (Unplug q) d own = absurd own
+  one_stays (Plug q disk) d own = absurd own
+  one_stays ResetEnds d own = absurd own
+  one_stays (Scribble q slot at bytes) d own = absurd own
+
+  pub held_stays : (steps : List Step) (old new : Device) → All (IsOwn held) steps → Leads steps old new → new.port port ≡ old.port port
+  held_stays [] old new own e = ap (λ (d : Device). d.port port) e
+  held_stays (step ∷ steps) old new own lead =
+      held_stays steps (after step old) new (λ k d small. own (suc k) d (omega (arith, small))) lead.1 ∙ one_stays step old (own 0 step (omega arith))

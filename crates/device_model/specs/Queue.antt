@@ -1,5 +1,5 @@
 -- Steps that are queued before accesses.
-use Rattle.std.specs.Prelude.{ℕ, Bool, true, ◌≡◌, ◌+◌, ◌-◌, ◌^◌, min, List, [], ◌∷◌, Option, map, nat_le, nat_lt}
+use Rattle.std.specs.Prelude.{ℕ, Bool, true, ◌≡◌, ◌+◌, ◌-◌, ◌^◌, ◌⊎◌, min, List, [], ◌∷◌, Option, map, nat_le, nat_lt}
 use Rattle.std.specs.List.{filter}
 use Rattle.adapter.specs.Device.{Device}
 use Rattle.adapter.specs.declared.access.DeviceStep.{DeviceStep}
@@ -7,7 +7,7 @@ use Rattle.adapter.specs.Access.{Shows, noted}
 use Rattle.hba_regs.specs.declared.reg.Reg.{Reg}
 use Rattle.device_model.specs.Does.{Answers, Keeps}
 use Rattle.device_model.specs.Paged.{GainsPages}
-use Rattle.device_model.specs.Settled.{DoesOwn, EndsReset}
+use Rattle.device_model.specs.Settled.{DoesOwn, EndsReset, LeavesOne}
 use Rattle.device_model.specs.Modelled.{device_at}
 use Rattle.device_model.specs.declared.model.Model.{Model}
 use Rattle.device_model.specs.declared.model.Queued.{Queued}
@@ -43,8 +43,8 @@ pub record DoesThen {S : Type 0} (size : S → ℕ) (told : S → Option (ℕ �
   pub starved : new.hardware.starved ≡ mid.hardware.starved
 
 -- A reading begins so, too. Then a pending reset may end, and the model's own steps are done; and the value is what the register shows then. Of the rest
--- of the model nothing is another, but which ports are held where a reset ended. Each page that the tape has gained is as disk 0 says of itself, and
--- what was told of want of memory stays told.
+-- of the model nothing is another, but which ports are held where a reset ended. Each page that the tape has gained is as disk 0 says of itself. Want of
+-- memory is told on where it was, and else only where an IDENTIFY DEVICE is left for it.
 pub record DoesRead {S : Type 0} (size : S → ℕ) (told : S → Option (ℕ → List ℕ)) (is_sure : S → Bool) (r : Reg) (value : ℕ) (old new : Model S) : Type 0 where
   pub mid : Model S
   pub begins : Begins size told is_sure old mid
@@ -59,3 +59,4 @@ pub record DoesRead {S : Type 0} (size : S → ℕ) (told : S → Option (ℕ �
   pub disk0 : new.disk0 ≡ mid.disk0
   pub keeps : Keeps size is_sure mid new
   pub told_on : mid.hardware.starved ≡ true → new.hardware.starved ≡ true
+  pub told_since : new.hardware.starved ≡ true → (mid.hardware.starved ≡ true) ⊎ LeavesOne new.hardware last

@@ -1,11 +1,12 @@
 -- What a model does by itself before a register is read (this project's own).
-use Rattle.std.specs.Prelude.{ℕ, Bool, true, false, ◌≡◌, ◌≢◌, ◌<◌, ◌⊎◌, List, All}
+use Rattle.std.specs.Prelude.{ℕ, Bool, true, false, ◌≡◌, ◌≢◌, ◌+◌, ◌<◌, ◌⊎◌, List, All}
 use Rattle.adapter.specs.Device.{PortState, Device}
 use Rattle.adapter.specs.Steps.{Step, Can, MayLinkUp, Leads, after, with_port}
 use Rattle.adapter.specs.Steps.Step.{Fetch, Move, Done, Fall, FrFall, LinkUp, ResetEnds}
 use Rattle.adapter.specs.declared.command.Operation.TheVariants.{Identify}
-use Rattle.device_model.specs.Finishing.{HasIdentify}
+use Rattle.device_model.specs.Finishing.{HasIdentify, HasRoom}
 use Rattle.device_model.specs.Held.{IsHeld, IsLoose, all_held, none_held}
+use Rattle.device_model.specs.declared.hardware.Hardware.{Hardware}
 
 -- A step that the model does by itself, while these ports are held. On the others CR and FR fall, the link comes up with the signature of an ATA disk,
 -- N and X, and IDENTIFY DEVICE is taken, moved and ended.
@@ -51,3 +52,7 @@ pub record IsSettled (held : List Bool) (d : Device) : Type 0 where
 -- left out for want of memory.
 abbrev pub NoneIsLeft : List Bool → Bool → Device → Type 0
 NoneIsLeft held starved d = (slot : ℕ) → slot < 32 → HasIdentify d slot → IsHeld held 0 ⊎ (starved ≡ true)
+
+-- one is left, for which the tape has no memory: each of its moves, and its end, would be noted there
+abbrev pub LeavesOne : Hardware → Device → Type 0
+LeavesOne h d = (slot : ℕ) × (slot < 32) × (has : HasIdentify d slot) × (HasRoom h (has.left + 1) → ⊥)

@@ -105,6 +105,7 @@ impl Hardware {
     pub fn note(&mut self, r: Reg, value: u32)
         requires { HasPort r }
         ensures notes { (o : Outside) → device_of self.new o ≡ noted r value (device_of self.old o) }
+        ensures tape { self.new.tape ≡ self.old.tape }
         ensures starved { self.new.starved ≡ self.old.starved }
     {
         if let Reg::Px(port, r) = r {

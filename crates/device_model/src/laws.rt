@@ -1,7 +1,17 @@
 // Laws of the definitions, for callers: the clause is the theorem. These functions do nothing.
-ghost use Rattle.std.specs.Prelude.{◌≡◌, true, is_some};
+ghost use Rattle.std.specs.Prelude.{◌≡◌, ◌<◌, true, is_some, ℕ, Bool, List};
+ghost use Rattle.ata_types.specs.declared.Port.{Port};
+ghost use Rattle.ata_types.specs.declared.Slot.{Slot};
+ghost use Rattle.adapter.specs.Device.{Device, Taken};
 ghost use Rattle.adapter.specs.Idle.{TellsDisks};
+ghost use Rattle.adapter.specs.Steps.{Can};
+ghost use Rattle.adapter.specs.Steps.Step.{Move};
+ghost use Rattle.adapter.specs.declared.access.DeviceStep.TheVariants as asked;
+ghost use Rattle.device_model.specs.Does.{Possible};
+ghost use Rattle.device_model.specs.Finishing.{HasDisk};
+ghost use Rattle.device_model.specs.Held.{IsHeld};
 ghost use Rattle.device_model.specs.Modelled.{device_at};
+ghost use Rattle.device_model.specs.Settled.{DoesOwn};
 
 use crate::Model;
 use sector_store::SectorStore;
@@ -11,4 +21,15 @@ use sector_store::SectorStore;
 pub fn disks_are_told<S: SectorStore>()
     ensures tells { (m : Model S) → TellsDisks (device_at S.size S.told m) }
     ensures telling { ((store : S) → is_some (S.told store) ≡ true) → (m : Model S) → (device_at S.size S.told m).telling ≡ true }
+{}
+
+/// A move that the device may make, on a port that has a disk, is possible for a model.
+pub fn moves_are_possible<S: SectorStore>()
+    ensures { (m : Model S) (p : Port) (slot : Slot) (t : Taken) (bytes : List ℕ) → slot.0 < 32 → HasDisk p.0 t.meaning.operation →
+        Can (Move p.0 slot.0 t bytes) (device_at S.size S.told m) → Possible (asked.Move p slot) (device_at S.size S.told m) }
+{}
+
+/// What a model does by itself leaves a held port as it is.
+pub fn held_ports_stay()
+    ensures { (held : List Bool) (old new : Device) (port : ℕ) → IsHeld held port → DoesOwn held old new → new.port port ≡ old.port port }
 {}

@@ -1,5 +1,5 @@
 // The model as an adapter.
-ghost use Rattle.std.specs.Prelude.{◌≡◌, ◌≢◌, ◌↔◌, ◌<◌, ◌≤◌, ◌+◌, ◌-◌, ◌*◌, ◌^◌, ◌++◌, ◌∷◌, [], ℕ, Bool, List, true, false, is_some, Some, ◌&&◌, min, max, map, length, slice_set, IsTrue, IfSome, IfOk, OnOk, OnErr};
+ghost use Rattle.std.specs.Prelude.{◌≡◌, ◌≢◌, ◌↔◌, ◌<◌, ◌≤◌, ◌+◌, ◌-◌, ◌*◌, ◌^◌, ◌⊎◌, ◌++◌, ◌∷◌, [], ℕ, Bool, List, true, false, is_some, Some, ◌&&◌, min, max, map, length, slice_set, IsTrue, IfSome, IfOk, OnOk, OnErr};
 ghost use Rattle.std.specs.Vec.{vec_len, vec_capacity};
 ghost use Rattle.adapter.specs.Commands.{is_ranged};
 ghost use Rattle.adapter.specs.Device.{Disk, IsSector, Taken};
@@ -19,7 +19,7 @@ ghost use Rattle.device_model.specs.Tells.{disks_told};
 ghost use Rattle.device_model.specs.Queue.{Begins, DoesRead, DoesThen};
 ghost use Rattle.device_model.specs.Modelled.{device_at, cap_of, is_sure_at, IsNew};
 ghost use Rattle.device_model.specs.Held.{none_held};
-ghost use Rattle.device_model.specs.Settled.{DoesOwn, IsSettled, NoneIsLeft};
+ghost use Rattle.device_model.specs.Settled.{DoesOwn, IsSettled, LeavesOne, NoneIsLeft};
 ghost use Rattle.device_model.specs.View.{Takes, operation_of};
 ghost use Rattle.device_model.specs.Whole.{first_disk};
 
@@ -244,8 +244,9 @@ impl<S: SectorStore> Model<S> {
     fn finish(&mut self, port: Port, slot: Slot) -> bool
         requires { slot.0 < 32 }
         ensures answers { Answers S.size S.told S.is_sure (DeviceStep.Finish port slot) result self.old self.new }
-        ensures identifies { port.0 ≡ 0 → HasIdentify (device_at S.size S.told self.old) slot.0 →
-            (result ≡ true → IsFreeSlot ((device_at S.size S.told self.new).port 0) slot.0) × (result ≡ false → self.new.hardware.starved ≡ true) }
+        ensures identifies { port.0 ≡ 0 → (has : HasIdentify (device_at S.size S.told self.old) slot.0) →
+            (result ≡ true → IsFreeSlot ((device_at S.size S.told self.new).port 0) slot.0)
+            × (result ≡ false → (self.new.hardware.starved ≡ true) × (HasRoom self.new.hardware (has.left + 1) → ⊥)) }
         ensures disk { port.0 ≡ 0 → HasIdentify (device_at S.size S.told self.old) slot.0 → self.new.disk0 ≡ self.old.disk0 }
     {
         if port.0 != 0 {
@@ -276,6 +277,7 @@ impl<S: SectorStore> Model<S> {
         ensures settled { (held : List Bool) → IsSettled held (device_at S.size S.told self.old) → IsSettled held (device_at S.size S.told self.new) }
         ensures left { NoneIsLeft self.new.held self.new.hardware.starved (device_at S.size S.told self.new) }
         ensures rest { GoesOnSo S.size S.is_sure self.old self.new }
+        ensures told { self.new.hardware.starved ≡ true → (self.old.hardware.starved ≡ true) ⊎ LeavesOne self.new.hardware (device_at S.size S.told self.new) }
         ensures disk { self.new.disk0 ≡ self.old.disk0 }
     {
         if self.held[0] {

@@ -376,6 +376,7 @@ impl Hardware {
         ensures room { result ≡ true → HasRoom self.new entries }
         ensures kept { (n : ℕ) → HasRoom self.old n → HasRoom self.new n }
         ensures enough { HasRoom self.old entries → result ≡ true }
+        ensures lacks { result ≡ false → HasRoom self.new entries → ⊥ }
         ensures starved { self.new.starved ≡ self.old.starved }
     {
         self.tape.reserve(entries).is_ok()

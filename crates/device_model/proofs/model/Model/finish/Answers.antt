@@ -8,7 +8,7 @@ use Rattle.adapter.specs.declared.tape.Entry.{Entry}
 use Rattle.device_model.specs.Finishing.{HasMove, HasRoom, IsGoing, IsReady}
 use Rattle.device_model.specs.Modelled.{device_at, outside_at}
 use Rattle.device_model.specs.Whole.{Outside, device_of}
-use Rattle.adapter.proofs.Absurd.{true-false, some-none}
+use Rattle.adapter.proofs.Absurd.{true-false, some-none, some_one}
 use Rattle.adapter.proofs.Going.{goes_one, goes_next}
 use Rattle.device_model.proofs.Doing.{answered_true, cut_short, did_it, left_it, left_same, meanwhile_on}
 use Rattle.adapter.specs.OneCommand.{IsFreeSlot}
@@ -259,4 +259,11 @@ returns-in_default-clause-identifies g c = λ zero has.
     some-none (c.moves_left.ensures.only o has.left (subst P (sym zero) (has_ready _ c.args.slot.0 c.sectors-sectors.result has))) c.in_default.is
 
 pub returns-then-not-reserve-clause-identifies : goal.returns-then-not-reserve-clause-identifies
-returns-then-not-reserve-clause-identifies g c = λ _ _. (λ never. absurd (let e : false ≡ true = never in cc), λ _. refl)
+returns-then-not-reserve-clause-identifies g c = λ zero has.
+    let m = c.args.self.now in
+    let o : Outside = outside_at g.S.SectorStore.size g.S.SectorStore.told m in
+    let P : ℕ → Type 0 = λ q. IsReady (device_of m.hardware o) q c.args.slot.0 c.sectors-sectors.result has.left in
+    let same = some_one (c.in-Some.ensures.only o has.left (subst P (sym zero) (has_ready _ c.args.slot.0 c.sectors-sectors.result has))) in (
+      λ never. absurd (let e : false ≡ true = never in cc),
+      λ _. (refl, λ room. c.reserve.ensures.lacks c.if-not-reserve.true (omega (arith, same, room))),
+    )

@@ -1,7 +1,8 @@
-use Rattle.std.proofs.Common.{rules, true, false, ◌≡◌, ◌∙◌, slice_index_or, inl, inr, refl}
+use Rattle.std.proofs.Common.{rules, true, false, ◌≡◌, ◌∙◌, slice_index_or, inl, inr, refl, sym, subst, ◌+◌}
 use Rattle.adapter.specs.Asked.{GoesOn}
 use Rattle.adapter.specs.Device.{Device}
 use Rattle.adapter.specs.declared.access.DeviceStep.TheVariants as asked
+use Rattle.device_model.specs.Finishing.{HasIdentify, HasRoom}
 use Rattle.device_model.specs.Modelled.{device_at, outside_at}
 use Rattle.device_model.proofs.Doing.{did_it, finish_goes_so, goes_so_on, goes_so_same, left_it}
 use Rattle.device_model.proofs.GoingOn.{gone_settled}
@@ -23,6 +24,7 @@ loop-slot-init g c = record {
   own = own_none c.args.self.now.held (device_at g.S.SectorStore.size g.S.SectorStore.told c.args.self.now);
   settled = λ _ s. s;
   rest = goes_so_same g.S.SectorStore.size g.S.SectorStore.told g.S.SectorStore.is_sure c.args.self.now;
+  starved = refl;
   disk = refl;
 }
 
@@ -45,6 +47,7 @@ loop-slot-preserved g c =
       settled = λ held s. gone_settled 0 c.in-Some.slot c.finish.result old new went same held (is.settled held s);
       rest = goes_so_on g.S.SectorStore.size g.S.SectorStore.told g.S.SectorStore.is_sure _ _ _ is.rest
           (finish_goes_so g.S.SectorStore.size g.S.SectorStore.told g.S.SectorStore.is_sure (record { 0 = 0 }) (record { 0 = c.in-Some.slot }) c.finish.result m c.finish.new.self c.finish.ensures.answers);
+      starved = (did_it g.S.SectorStore.size g.S.SectorStore.told g.S.SectorStore.is_sure step m c.finish.new.self c.finish.result c.finish.ensures.answers c.if-not-finish.false).starved ∙ is.starved;
       disk = c.finish.ensures.disk refl has ∙ is.disk;
     }
 
@@ -76,9 +79,14 @@ returns-then-not-finish g c =
       own = own_on c.args.self.now.held _ old new is.own
           (own_gone IsPage is_page c.args.self.now.held 0 c.in-Some.slot loose c.finish.result old new went same (has_only old c.in-Some.slot has)).0;
       settled = λ held s. gone_settled 0 c.in-Some.slot c.finish.result old new went same held (is.settled held s);
-      left = λ slot small there. inr ((c.finish.ensures.identifies refl has).1 c.if-not-finish.true);
+      left = λ slot small there. inr ((c.finish.ensures.identifies refl has).1 c.if-not-finish.true).0;
       rest = goes_so_on g.S.SectorStore.size g.S.SectorStore.told g.S.SectorStore.is_sure _ _ _ is.rest
           (finish_goes_so g.S.SectorStore.size g.S.SectorStore.told g.S.SectorStore.is_sure (record { 0 = 0 }) (record { 0 = c.in-Some.slot }) c.finish.result m c.finish.new.self c.finish.ensures.answers);
+      told = λ _.
+          let P : Device → Type 0 = λ d. (there : HasIdentify d c.in-Some.slot) × (HasRoom c.finish.new.self.hardware (there.left + 1) → ⊥) in
+          let lacks = ((c.finish.ensures.identifies refl has).1 c.if-not-finish.true).1 in
+          let one = subst P (sym (same c.if-not-finish.true)) (has, lacks) in
+          inr (c.in-Some.slot, c.in-Some.ensures.small, one.0, one.1);
       disk = c.finish.ensures.disk refl has ∙ is.disk;
     }
 
@@ -90,5 +98,6 @@ returns g c =
       settled = is.settled;
       left = λ slot small has. absurd (c.next_identify.ensures.none c.in_default.is (outside_at g.S.SectorStore.size g.S.SectorStore.told c.loop-slot.self) slot small has);
       rest = is.rest;
+      told = λ now. inl (sym is.starved ∙ now);
       disk = is.disk;
     }

@@ -10,6 +10,7 @@ invariant-loop-slot g l = record {
   own : DoesOwn l.fn.self.held (device_at g.S.SectorStore.size g.S.SectorStore.told l.fn.self) (device_at g.S.SectorStore.size g.S.SectorStore.told l.self);
   settled : (held : List Bool) → IsSettled held (device_at g.S.SectorStore.size g.S.SectorStore.told l.fn.self) → IsSettled held (device_at g.S.SectorStore.size g.S.SectorStore.told l.self);
   rest : GoesOnSo g.S.SectorStore.size g.S.SectorStore.is_sure l.fn.self l.self;
+  starved : l.self.hardware.starved ≡ l.fn.self.hardware.starved;
   disk : l.self.disk0 ≡ l.fn.self.disk0;
 }
 

@@ -1,6 +1,7 @@
 use Rattle.adapter.proofs.Runs.{Steps-trans}
-use Rattle.std.proofs.Common.{Bool, true, ◌≡◌, ◌⊎◌, List, subst, sym, refl, ap, ◌∙◌}
+use Rattle.std.proofs.Common.{Bool, true, ◌≡◌, ◌≤◌, ◌+◌, ◌⊎◌, List, subst, sym, refl, ap, ◌∙◌, inl, inr}
 use Rattle.std.specs.Global.{Vec}
+use Rattle.std.specs.Vec.{vec_len, vec_capacity}
 use Rattle.adapter.specs.Device.{Device}
 use Rattle.adapter.specs.declared.tape.Entry.{Entry}
 use Rattle.device_model.specs.Finishing.{HasIdentify}
@@ -86,5 +87,12 @@ returns-clause-alone g c =
         queue = own.keeps.queue;
         accesses = own.keeps.accesses;
       };
+      told_since = λ now.
+          elim (c.identify.ensures.told (sym c.note.ensures.starved ∙ now)) [
+            | inl before ↦ inl (sym c.settle.ensures.starved ∙ before)
+            | inr one ↦
+                let R : Vec Entry → Type 0 = λ tape. vec_len tape + (one.2.left + 1) ≤ vec_capacity tape in
+                inr (one.0, one.1, one.2, λ room. one.3 (subst R c.note.ensures.tape room))
+          ];
       told_on = λ yes. c.note.ensures.starved ∙ own.told_on (c.settle.ensures.starved ∙ yes);
     }
