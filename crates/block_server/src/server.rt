@@ -58,6 +58,7 @@ fn leaves_disk(r: &Request, sectors: u64) -> bool
 }
 
 /// The rows without the rights to trim and to flush: the server does neither yet.
+#[inline(never)]
 fn transfer_rows(rows: &[GrantRow]) -> ArrayVec<GrantRow, MOST_GRANTS>
     requires few { length rows.now ≤ 64 }
     ensures { result.items ≡ map transfer_row rows.now }
@@ -95,7 +96,8 @@ impl<A: Adapter> Server<A> {
     ///
     /// Where the configuration breaks a rule, or else where memory is refused, no access is made, and the adapter comes back as it
     /// was.
-    pub fn new(alloc: Global, config: &Config, adapter: A) -> Result<Self, (ServerError, A)>
+    #[inline(never)]
+    pub fn new(alloc: Global, config: &Config, mut adapter: A) -> Result<Self, (ServerError, A)>
         requires ready { IsReadyFor config.now (A.device adapter) }
         ensures made { IfOk result (IsNew A.device config.now adapter) }
         ensures refused { IfErr result (λ e. Refuses config.now e.0 × (e.1 ≡ adapter)) }
@@ -114,7 +116,6 @@ impl<A: Adapter> Server<A> {
         let Ok(book) = Book::new(alloc) else {
             return Err((ServerError::NoMemory, adapter));
         };
-        let mut adapter = adapter;
         let wanted = *plan.wanted();
         let ports = take_over(&mut adapter, &wanted).ports;
         Ok(Server {

@@ -6,7 +6,7 @@
 
 use command_line::{Args, ArgsFault};
 use fault::{Fault, outcome};
-use play::{Ended, Finished, play};
+use play::{Ended, play};
 use sector_store::{Disk, FileStore, MemStore};
 use std::fs::{self, File, Files};
 use std::io::{self, BufWriter, IsTerminal, Read, Write};
@@ -32,6 +32,7 @@ fn unless_memory(error: &io::Error, fault: Fault) -> Fault {
 }
 
 /// What the words of the command line ask.
+#[inline(never)]
 fn words(rt: &(impl Env + AllocGlobal)) -> Result<Args, Fault> {
     // Words that are no text aren't a command line either.
     let words = env::args(rt).map_err(|error| unless_memory(&error, Fault::CommandLine))?;
@@ -66,7 +67,7 @@ fn print_played(
     let mut out = BufWriter::with_capacity(rt.alloc(), gathered, io::writer(rt)).map_err(
         |error| unless_memory(&error, Fault::Unwritten),
     )?;
-    let Finished { ended, model: _ } = play(
+    let finished = play(
         rt.alloc(),
         config,
         script,
@@ -75,13 +76,13 @@ fn print_played(
         trace,
         &mut out,
     );
-    let flushed = match ended {
+    let flushed = match finished.ended {
         Ended::Unwritten => Ok(()),
         _ => out.flush(),
     };
     // What couldn't be written isn't tried again.
     let (_writer, _unwritten) = out.into_parts();
-    outcome(ended)?;
+    outcome(finished.ended)?;
     flushed.map_err(|_error| Fault::Unwritten)
 }
 

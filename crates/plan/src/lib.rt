@@ -48,6 +48,7 @@ impl Plan {
     /// The plan of a configuration: a run of frames for each client and a row for each grant, in their order, and of
     /// each port that it names the disk with the serial number that it asks for, or any disk. A configuration that
     /// breaks a rule has no plan: the least of its kinds of fault is told. No memory is taken.
+    #[inline(never)]
     pub fn of(config: &Config) -> Result<Plan, Kind>
         ensures sound { OnOk result (IsSound config.now) }
         ensures made { IfOk result (IsPlanOf config.now) }

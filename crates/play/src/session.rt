@@ -13,7 +13,7 @@ ghost use Rattle.play.specs.Played.{Ends, IsRefused, IsStarted, IsWhole, IsWhy, 
 use crate::event;
 use crate::printed::{print_call, write_out};
 use crate::setting::new_model;
-use adapter::Stepped;
+use adapter::{Adapter, Stepped};
 use block_server::{Event, Said, Server};
 use configuration::{Config, ConfigFault, Kind};
 use device_model::{Model, NoMemory};
@@ -110,8 +110,32 @@ fn read(alloc: Global, config: &[u8], script: &[u8]) -> Result<Config, Ended>
     Ok(values)
 }
 
-/// A new server of a new model, both as the configuration says. It is on the heap, since it is large. What is needed to make it leaves the
-/// stack again before a line is played.
+/// The server on the heap. Where memory for it is refused, it is closed.
+#[inline(never)]
+fn on_heap<A: Adapter + Drop>(alloc: Global, server: Server<A>) -> Result<Box<Server<A>>, NoMemory>
+    ensures { IfOk result (λ there. there.value ≡ server) }
+{
+    match Box::new(alloc, server) {
+        Ok(server) => Ok(server),
+        Err(refused) => {
+            // A server can't be dropped.
+            let AllocFailed { value: server } = refused;
+            let _adapter = server.close();
+            Err(NoMemory)
+        }
+    }
+}
+
+/// Ends a server on the heap. Its adapter comes back as it is.
+#[inline(never)]
+fn closed<A: Adapter>(server: Box<Server<A>>) -> A
+    ensures { result ≡ server.value.adapter }
+{
+    Box::into_inner(server).close()
+}
+
+/// A new server of a new model, both as the configuration says. It is on the heap, since it is large: so what is needed to make it has left
+/// the stack when a line is played.
 #[inline(never)]
 fn start<S: SectorStore>(
     alloc: Global,
@@ -127,15 +151,7 @@ fn start<S: SectorStore>(
     let Ok(server) = Server::new(alloc, config, model) else {
         return Err(NoMemory);
     };
-    match Box::new(alloc, server) {
-        Ok(server) => Ok(server),
-        Err(refused) => {
-            // A server can't be dropped.
-            let AllocFailed { value: server } = refused;
-            let _model = server.close();
-            Err(NoMemory)
-        }
-    }
+    on_heap(alloc, server)
 }
 
 /// Makes one call: what it says, for which there is room.
@@ -265,7 +281,7 @@ pub fn play<S: SectorStore, W: io::Write>(
     histories_are_runs();
     reads_hold();
     let performed = perform(&mut server, script, &mut room, trace, out);
-    let model = Some(Box::into_inner(server).close());
+    let model = Some(closed(server));
     match performed {
         Ok(()) => Finished {
             ended: Ended::Done,

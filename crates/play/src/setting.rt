@@ -27,6 +27,7 @@ fn trim_of(word: &str) -> Trim
 
 /// An idle adapter as the configuration says, with the image as the disk of port 0. The blank disk can't be plugged in for now. The adapter
 /// tells its disks' sectors where both stores tell theirs.
+#[inline(never)]
 pub fn new_model<S: SectorStore>(
     alloc: Global,
     config: &Config,

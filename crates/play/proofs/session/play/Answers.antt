@@ -1,4 +1,4 @@
-use Rattle.std.proofs.Common.{ℕ, ◌≡◌, List, Bool, Option, Some, sym, ap, ◌∙◌, subst}
+use Rattle.std.proofs.Common.{ℕ, ◌≡◌, List, Bool, Option, Some, sym, subst}
 use Rattle.block_server.specs.View.{ServerView}
 use Rattle.device_model.specs.declared.model.Model.{Model}
 use Rattle.play.specs.Played.{Played, Ends, IsStarted, IsWhy, ended_by_stop, is_starved}
@@ -21,7 +21,7 @@ returns-in-Ok-performed g c =
     let Started : ServerView (Model g.row.S.Denot) → Type 0 = λ server. IsStarted g.S.SectorStore.size g.S.SectorStore.told c.in-Ok.values c.args.image c.args.blank server in (
       played_of g.S.SectorStore.size g.S.SectorStore.told c.args.config.now c.args.script.now c.args.image c.args.blank c.args.trace _ _ c.in-Ok.values
           c.in-Ok.ensures.read c.deref_mut.result.now c.perform-performed.new.server (subst Started (sym c.deref_mut.ensures.value) c.in-Ok-start.ensures) ran.0
-          c.histories_are_runs.ensures c.reads_hold.ensures c.close.result (c.close.ensures ∙ ap (λ (s : ServerView (Model g.row.S.Denot)). s.adapter) c.into_inner.ensures),
+          c.histories_are_runs.ensures c.reads_hold.ensures c.closed.result c.closed.ensures,
       ran.1,
     )
 
@@ -29,11 +29,11 @@ pub returns : goal.returns
 returns g c =
     let ran = c.in-Err-performed.ensures in
     let Started : ServerView (Model g.row.S.Denot) → Type 0 = λ server. IsStarted g.S.SectorStore.size g.S.SectorStore.told c.in-Ok.values c.args.image c.args.blank server in
-    let left : c.close.result ≡ c.perform-performed.new.server.adapter = c.close.ensures ∙ ap (λ (s : ServerView (Model g.row.S.Denot)). s.adapter) c.into_inner.ensures in
+    let left : c.closed.result ≡ c.perform-performed.new.server.adapter = c.closed.ensures in
     subst (λ (ended : Ended). Ends g.S.SectorStore.size g.S.SectorStore.told c.args.config.now c.args.script.now c.args.image c.args.blank c.args.trace
-    (g.W.Write.contents c.args.out.now) (g.W.Write.contents c.perform-performed.new.out) ended (Some c.close.result)) (sym c.from.ensures)
-    (stopped _ _ c.args.config.now c.args.script.now c.args.image c.args.blank c.args.trace _ _ c.close.result c.in-Err-performed.stop
+    (g.W.Write.contents c.args.out.now) (g.W.Write.contents c.perform-performed.new.out) ended (Some c.closed.result)) (sym c.from.ensures)
+    (stopped _ _ c.args.config.now c.args.script.now c.args.image c.args.blank c.args.trace _ _ c.closed.result c.in-Err-performed.stop
     (played_of g.S.SectorStore.size g.S.SectorStore.told c.args.config.now c.args.script.now c.args.image c.args.blank c.args.trace _ _ c.in-Ok.values
     c.in-Ok.ensures.read c.deref_mut.result.now c.perform-performed.new.server (subst Started (sym c.deref_mut.ensures.value) c.in-Ok-start.ensures) ran.0
-    c.histories_are_runs.ensures c.reads_hold.ensures c.close.result left)
+    c.histories_are_runs.ensures c.reads_hold.ensures c.closed.result left)
     (subst (λ (m : Model g.row.S.Denot). IsWhy (is_starved m) ran.0.part c.in-Err-performed.stop) (sym left) ran.2))

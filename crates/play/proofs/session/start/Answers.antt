@@ -1,11 +1,18 @@
-use Rattle.std.proofs.Common.{sym, subst}
+use Rattle.std.proofs.Common.{◌≡◌, Ok, Err, sym, subst}
+use Rattle.std.specs.Prelude.{Box, IfOk}
+use Rattle.std.specs.declared.result.Result.{Result}
 use Rattle.block_server.specs.View.{ServerView}
 use Rattle.device_model.specs.declared.model.Model.{Model}
 use Rattle.play.specs.Played.{IsStarted}
 use Rattle.play.proofs.session.start.Goals as goal
 
-pub returns-in-Ok-new : goal.returns-in-Ok-new
-returns-in-Ok-new g c =
+-- what holds of a value holds of it in a box
+boxed : {T Z E : Type 0} (P : T → Type 0) (value : T) (r : Result (Box T Z) E) → IfOk r (λ there. there.value ≡ value) → P value → IfOk r (λ there. P there.value)
+boxed P value (Ok there) same given = subst P (sym same) given
+boxed P value (Err e) same given = tt
+
+pub returns : goal.returns
+returns g c =
     let Started : ServerView (Model g.row.S.Denot) → Type 0 = λ server. IsStarted g.S.SectorStore.size g.S.SectorStore.told c.args.config.now c.args.image c.args.blank server in
-    subst Started (sym c.in-Ok-new.ensures.ok)
+    boxed Started c.in-Ok.server c.on_heap.result c.on_heap.ensures
     (record { model = c.in_ok-model.model; modelled = c.in_ok-model.ensures.made; telling = c.in_ok-model.ensures.telling; made = c.in-Ok.ensures.made })
