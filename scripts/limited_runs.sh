@@ -49,7 +49,7 @@ compare '100,000 lines' "$({ printf 'state Ready\n%.0s' {1..100000}; echo 'statu
 
 # The stack is small.
 cp fresh.img disk.img
-compare 'a stack of 256 KiB' "$(cat first.output; echo 'status 0')" "$(ulimit -s 256; ends blockd.toml disk.img first.script)"
+compare 'a stack of 64 KiB' "$(cat first.output; echo 'status 0')" "$(ulimit -s 64; ends blockd.toml disk.img first.script)"
 
 # The output's device is full: the image is what the lines before left, and no later line is played.
 cp fresh.img disk.img
@@ -78,6 +78,28 @@ cat <&3 >/dev/null
 exec 3<&-
 wait $!
 compare 'and when that run has ended' "$(cat first.output; echo 'status 0')" "$(ends blockd.toml disk.img first.script)"
+
+# The system fails the lock, with an error that is put before it where a compiler is at hand: the image is used without a lock only where
+# the system says that it knows none.
+locks_fail_by() {
+    printf '#include <errno.h>\nint flock(int file, int how) { errno = %s; return -1; }\n' "$1" >lock.c
+    cc -shared -fPIC -o lock.so lock.c
+}
+if command -v cc >/dev/null; then
+    for error in ENOSYS EOPNOTSUPP; do
+        cp fresh.img disk.img
+        locks_fail_by "$error"
+        compare "no locks are known: $error" "$(cat first.output; echo 'status 0')" "$(export LD_PRELOAD=./lock.so; ends blockd.toml disk.img first.script)"
+    done
+    cp fresh.img disk.img
+    for error in ENOLCK EIO; do
+        locks_fail_by "$error"
+        compare "a lock that fails: $error" $'blockd: image\nstatus 1' "$(export LD_PRELOAD=./lock.so; ends blockd.toml disk.img first.script)"
+    done
+    compare 'and the image is as it was' "$(bytes_of fresh.img)" "$(bytes_of disk.img)"
+else
+    echo 'limited runs: locks that fail are left out, since there is no compiler' >&2
+fi
 
 # A block device is an image, where the system lets one be made.
 cp fresh.img disk.img
