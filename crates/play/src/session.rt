@@ -1,5 +1,5 @@
 // A script, played from its first line to its last.
-ghost use Rattle.std.specs.Prelude.{◌≡◌, ◌≤◌, false, List, None, IfOk, IfErr, OnOk, length, vec_len};
+ghost use Rattle.std.specs.Prelude.{◌≡◌, ◌≤◌, ◌∷◌, [], false, List, None, IfOk, IfErr, OnOk, length};
 ghost use Rattle.std.specs.Vec.{vec_capacity};
 ghost use Rattle.block_server.specs.Running.{Answered};
 ghost use Rattle.configuration.specs.Document.{IsReadFrom};
@@ -154,16 +154,14 @@ fn start<S: SectorStore>(
     on_heap(alloc, server)
 }
 
-/// Makes one call: what it says, for which there is room.
-fn ask<A: Stepped>(server: &mut Server<A>, event: Event, room: &mut Vec<Said>) -> Said
-    requires empty { vec_len room.old ≡ 0 }
+/// Makes one call: what it says, for which there is room, is all that the room has then. It stays there, since it is large.
+fn ask<A: Stepped>(server: &mut Server<A>, event: Event, room: &mut Vec<Said>)
     requires room { 1 ≤ vec_capacity room.old }
-    ensures answered { Answered A.device event result server.old server.new }
-    ensures empty { vec_len room.new ≡ 0 }
+    ensures answered { (said : Said) × (room.new.items ≡ said ∷ []) × Answered A.device event said server.old server.new }
     ensures room { 1 ≤ vec_capacity room.new }
 {
+    room.clear();
     server.run(&[event], room).unwrap();
-    room.pop().unwrap()
 }
 
 /// Plays a line: makes its call, and prints of it what the tape gained past so many entries, with a trace, and what it said. Gives how many
@@ -177,22 +175,20 @@ fn play_line<S: SectorStore, W: io::Write>(
     out: &mut W,
 ) -> Result<usize, Stop>
     requires fed { is_starved server.old.adapter ≡ false }
-    requires empty { vec_len room.old.said ≡ 0 }
     requires room { 1 ≤ vec_capacity room.old.said }
     ensures printed { (p : PrintsPart (device_at S.size S.told) is_starved trace shown (event_of line) server.old server.new (W.contents out.old) (W.contents out.new))
         × OnOk result (length p.text ≤ p.part) × IfErr result (IsWhy (is_starved server.new.adapter) p.part) }
     ensures fed { OnOk result (is_starved server.new.adapter ≡ false) }
     ensures shown { IfOk result (λ count. count ≡ length (device_at S.size S.told server.new.adapter).tape) }
-    ensures empty { vec_len room.new.said ≡ 0 }
     ensures room { 1 ≤ vec_capacity room.new.said }
 {
-    let said = ask(server, event(line), &mut room.said);
+    ask(server, event(line), &mut room.said);
     let model = server.adapter();
     if model.starved() {
         return Err(Stop::NoMemory);
     }
     let tape = model.tape();
-    let Ok(()) = print_call(&mut room.text, trace, tape, shown, &said) else {
+    let Ok(()) = print_call(&mut room.text, trace, tape, shown, &room.said[0]) else {
         // A text in memory wants nothing but memory.
         return Err(Stop::NoMemory);
     };
@@ -213,7 +209,6 @@ fn perform<S: SectorStore, W: io::Write>(
     out: &mut W,
 ) -> Result<(), Stop>
     requires good { (lines : List Line) × IsScript script.now lines }
-    requires empty { vec_len room.old.said ≡ 0 }
     requires room { 1 ≤ vec_capacity room.old.said }
     ensures { (ran : Ran (device_at S.size S.told) is_starved trace script.now server.old server.new (W.contents out.old) (W.contents out.new))
         × OnOk result (IsWhole ran) × IfErr result (IsWhy (is_starved server.new.adapter) ran.part) }
