@@ -38,16 +38,18 @@ impl io::Write for Narrow {
 fn ended(alloc: Global, script: &[u8], room: usize) -> Result<Ended, AllocError> {
     let image = MemStore::new(alloc, 8)?;
     let blank = MemStore::new(alloc, 0)?;
-    Ok(play(
-        alloc,
-        SETTINGS,
-        script,
-        image,
-        blank,
-        false,
-        &mut Narrow { room },
+    Ok(
+        play(
+            alloc,
+            SETTINGS,
+            script,
+            image,
+            blank,
+            false,
+            &mut Narrow { room },
+        )
+        .ended,
     )
-    .ended)
 }
 
 // Two lines have 12 bytes.
