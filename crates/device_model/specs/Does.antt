@@ -38,7 +38,7 @@ Possible (asked.Release p) d = p.0 < 4
 Possible (asked.Unplug p) d = (p.0 ≡ 0) × Can (Unplug 0) d
 Possible (asked.Plug p number) d = (p.0 ≡ 0) × (number.0 ≡ 0) × ((d.port 0).present ≡ false)
 
--- The tape has no memory for what the step notes there; for a Plug, there is none there or none to note which disk was put in. A Finish notes
+-- Without growing, the tape has no room for what the step notes there, or, for a Plug, the list of the disks that were put in has none. A Finish notes
 -- each of its moves, and the end. The other steps note nothing.
 abbrev pub LacksMemory : {S : Type 0} → DeviceStep → Device → Hardware → Vec (Snapshot S) → Type 0
 LacksMemory (asked.Move p s) d h plugged = HasRoom h 1 → ⊥
@@ -94,8 +94,9 @@ pub record Did {S : Type 0} (size : S → ℕ) (told : S → Option (ℕ → Lis
   pub keeps : Keeps size is_sure old new
   pub starved : new.hardware.starved ≡ old.hardware.starved
 
--- A step that is left: nothing is another, but that want of memory may be told now. A step that is possible, and served, is left for want of
--- memory alone, and that is told. It is told where it was, and else only where the step was possible and there was no memory.
+-- A step that is left: nothing is another, but a store that fails, and that want of memory may be told now. A step that is possible, and served, is
+-- left only where there was no room to note it without growing, and that is told as want of memory. It is told where it was, and else only where the
+-- step was possible and there was no such room.
 pub record IsLeft {S : Type 0} (size : S → ℕ) (told : S → Option (ℕ → List ℕ)) (is_sure : S → Bool) (s : DeviceStep) (old new : Model S) : Type 0 where
   pub device : device_at size told new ≡ device_at size told old
   pub held : new.held ≡ old.held

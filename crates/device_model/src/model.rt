@@ -135,8 +135,9 @@ impl<S: SectorStore> Model<S> {
         self.hardware.tape.as_slice()
     }
 
-    /// Whether a step of the device, one that was asked for, that was queued or that the model does by itself, was left out since there was no
-    /// memory to note it. From then on this is `true`, and what the model answers is no longer what an adapter with memory would.
+    /// Whether a step of the device, one that was asked for, that was queued or that the model does by itself, was left out since memory to note
+    /// it was refused. (The contracts say that there was no room without growing.) From then on this is `true`, and what the model answers is
+    /// no longer what an adapter with memory would.
     pub fn starved(&self) -> bool
         ensures { result ≡ self.now.hardware.starved }
     {

@@ -85,7 +85,7 @@ impl FrameTable {
         table
     }
 
-    /// The table that `new` gives, on the heap. It is made there: its 18 KiB never stand on the stack.
+    /// The table that `new` gives, on the heap. It is made there, so that its 18 KiB needn't stand on the stack.
     pub fn boxed(
         alloc: Global,
         runs: &[(ClientId, Frame, u16)],

@@ -160,8 +160,8 @@ abbrev pub ended_by_stop : Stop → Ended
 ended_by_stop stop.NoMemory = NoMemory
 ended_by_stop stop.Unwritten = Unwritten
 
--- Why a run stopped at its last line, by whether the adapter is starved and how much of that line's text was printed: memory was refused, to the
--- adapter or for the text, and nothing was; or the output failed, and the adapter has all that it wanted.
+-- What is so where a run stopped at its last line, of whether the adapter is starved and how much of that line's text was printed: where want of
+-- memory is told, nothing was; where an output that failed is told, the adapter isn't starved.
 abbrev pub IsWhy : Bool → ℕ → Stop → Type 0
 IsWhy starved part stop.NoMemory = part ≡ 0
 IsWhy starved part stop.Unwritten = starved ≡ false

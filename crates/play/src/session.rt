@@ -43,7 +43,7 @@ pub enum Ended {
 #[derive(Drop)]
 pub struct Finished<S: SectorStore> {
     pub ended: Ended,
-    /// The model, with its disks, as the last line that was played left it. There is none where no server was made.
+    /// The model, with its disks, as the last line that was played left it. There is none where the run had no server to ask.
     pub model: Option<Model<S>>,
 }
 
@@ -231,7 +231,7 @@ fn perform<S: SectorStore, W: io::Write>(
     Ok(())
 }
 
-/// The end of a run that had no server.
+/// The end of a run that had no server to ask.
 fn unbegun<S: SectorStore>(ended: Ended) -> Finished<S>
     ensures ended { result.ended ≡ ended }
     ensures model { result.model ≡ None }
