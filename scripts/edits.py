@@ -9,7 +9,8 @@ calls another function that isn't proved. A function's goals rest on the contrac
 bodies, so edits of callers and callees can share a try. What isn't refused so is tried alone. An edit fails, too, where all that
 is told is that a proof names what it took away: a right body of another form would be told the same way.
 Each try has a function that no edit reaches, which must be proved; so a crate that can't be read, or libraries that
-don't fit, refuse nothing.
+don't fit, refuse nothing. What the edited functions call isn't proved again: in the copy the proofs of all other functions are
+holes, which the prover takes for proofs. What isn't proved even so isn't proved at all.
 
 With --kept, an edit that was refused is not tried again on this machine while nothing changes that its try read: the crate's
 files, the libraries below it as they were built, the toolchain, the edit, and this script. The whole check tries all.
@@ -36,6 +37,8 @@ sys.dont_write_bytecode = True
 import toolchain
 
 PARTS = ("src", "specs", "proofs")
+# A proof that is taken as given: the prover then goes on as if the function's theorem were proved.
+HOLE = "use Rattle.{crate}.proofs.{place}.Statement.{{statement}}\n\npub {name}_spec : {{M : Type 1}} → statement M\n{name}_spec 𝓤 𝓛 𝓜 𝓡 w = ?\n"
 # As many edits stand in one try at the most: a text that can't be read spoils it for all.
 MOST = 40
 # Whether each try is told, with the time that it took: for finding what is dear.
@@ -320,8 +323,9 @@ class Crate:
                 shutil.copytree(f"{self.folder}/{part}", f"{at}/{part}")
         tried = [it for it in batch if it.apply(at)]
         names = {name for it in tried for name in it.functions}
+        self.leave_holes(at, {control, *names})
         only = [word for it in [control, *sorted(names)] for word in ("--only", it)]
-        words = [toolchain.rtlib.RATTLE, "check", *toolchain.words_of(self.crate)]
+        words = [toolchain.rtlib.RATTLE, "check", "--allow-holes", *toolchain.words_of(self.crate)]
         words += ["--incremental", f"{self.room}/kept", *only]
         with tempfile.TemporaryFile("w+", encoding="utf-8", errors="replace") as out:
             ran = subprocess.Popen(words, cwd=at, stdin=subprocess.DEVNULL, stdout=out, stderr=subprocess.STDOUT)
@@ -334,6 +338,24 @@ class Crate:
         if SHOWS_TRIES:
             say(f"{self.name}: {seconds:.0f} s for {', '.join(it.name for it in tried)}")
         return said, tried
+
+    def leave_holes(self, at, names):
+        """In a copy of the crate, makes a hole of the proof of each function but these."""
+        for it in self.functions:
+            # (the proof of a function that calls itself stands elsewhere)
+            if it.name in names or it.simple in it.words:
+                continue
+            place = f"{at}/proofs/{it.name.replace('::', '/')}"
+            os.makedirs(place, exist_ok=True)
+            for file in os.listdir(place):
+                if os.path.isfile(f"{place}/{file}"):
+                    os.remove(f"{place}/{file}")
+            with open(f"{place}/Proof.antt", "w", encoding="utf-8") as out:
+                out.write(HOLE.format(crate=self.name, place=it.name.replace("::", "."), name=it.simple))
+
+    def is_good(self, name, said):
+        """Whether a function is proved, given the holes of others."""
+        return self.verdicts(said).get(name, "").startswith(("no holes", "depends on a hole in "))
 
     def verdicts(self, said):
         return {name.partition("::")[2]: text for name, text in VERDICT.findall(said)}
@@ -368,7 +390,7 @@ class Crate:
         """Tries these edits at once, and notes which are refused. Where one spoils the try, the halves are tried apart."""
         control = self.control(batch)
         said, tried = self.run(batch, control)
-        why = why_unread(said) or (self.verdicts(said).get(control) != "proved" and f"{control}, which they don't change, isn't proved")
+        why = why_unread(said) or (not self.is_good(control, said) and f"{control}, which they don't change, isn't proved")
         if why:
             if SHOWS_TRIES:
                 say(f"{self.name}: that try told nothing: {why}")
@@ -388,7 +410,7 @@ class Crate:
         why = why_unread(said)
         if why:
             self.fail(edit.name, f"BAD EDIT: the prover can't read it: {why}")
-        elif self.verdicts(said).get(control) != "proved":
+        elif not self.is_good(control, said):
             self.fail(edit.name, f"BAD EDIT: {control}, which it doesn't change, isn't proved beside it")
         elif self.is_refused(edit, said):
             self.refuse(edit)
