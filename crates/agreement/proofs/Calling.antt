@@ -1,7 +1,9 @@
 -- The write of CI as a call.
-use Rattle.std.proofs.Common.{List, ℕ, false, ◌≡◌, [], ◌∷◌, refl, sym, ◌∙◌, ap, subst, append-nil, ◌≤◌, length, arith}
+use Rattle.std.specs.Prelude.{if◌then◌else◌}
+use Rattle.std.proofs.Common.{List, ℕ, Bool, true, false, ◌≡◌, ◌≢◌, [], ◌∷◌, refl, sym, ◌∙◌, ap, subst, append-nil, ◌≤◌, length, arith}
 use Rattle.ata_types.specs.declared.Port.{Port}
 use Rattle.ata_types.specs.declared.request.RequestId.{RequestId}
+use Rattle.hba_regs.specs.Bits.{bit}
 use Rattle.hba_regs.specs.declared.reg.Reg.TheVariants.{Px}
 use Rattle.hba_regs.specs.declared.reg.PortReg.TheVariants as px
 use Rattle.adapter.specs.Access.{Writes}
@@ -12,6 +14,7 @@ use Rattle.adapter.specs.Steps.{Steps}
 use Rattle.adapter.specs.declared.command.Operation.{Operation}
 use Rattle.adapter.specs.declared.tape.Entry.{Entry}
 use Rattle.adapter.proofs.KeptLemmas.{steps_keep}
+use Rattle.block_machine.specs.Due.{is_plain}
 use Rattle.block_machine.specs.declared.due.Mode.{Mode}
 use Rattle.block_machine.specs.State.{Pending, Machine}
 use Rattle.block_machine.specs.Steps.{Step, Accept, Issue, Touch, End, Age, Again, Answer, Release, Unplug, Replace, Store, Load, after_step}
@@ -22,21 +25,22 @@ use Rattle.agreement.specs.Tape.{PutsIn}
 use Rattle.block_machine.specs.Histories.{IsReached, AddsSteps}
 use Rattle.block_machine.proofs.HistoryLemmas.{reached_more}
 use Rattle.agreement.specs.Places.{scratch_of}
-use Rattle.agreement.specs.Slots.{Use, Free, Own, Serves, Uses, put}
+use Rattle.agreement.specs.Slots.{Use, Free, Own, Serves, Uses, put, Armed}
 use Rattle.agreement.specs.Agrees.{Agrees}
 use Rattle.agreement.specs.Driver.{Known, Knows, IsBacked, ByDevice, IsPrepared, IsOwnPrepared, EndsWith, serving, LeavesFree}
 use Rattle.agreement.specs.Follows.{Follows}
 use Rattle.agreement.proofs.Adding.{backed, backed_then}
 use Rattle.agreement.proofs.Following.{steps_follow}
 use Rattle.agreement.proofs.Keeping.{steps_leave}
-use Rattle.agreement.proofs.Putting.{issue_agrees, issue_have, own_agrees, put_have}
+use Rattle.agreement.proofs.Putting.{issue_agrees, issue_have, own_agrees, put_have, arming_agrees}
 use Rattle.agreement.proofs.Quiet.{same_plugged}
 use Rattle.agreement.proofs.Serving.{told_on, block_on, placed_on, known_on}
 use Rattle.agreement.proofs.Waiting.{due_stays, follows_have, tells_device}
 use Rattle.agreement.proofs.Writing.{write_effect}
 
-free_own : {o : Operation} {u : Use} → u ≡ Free → u ≡ Own o → ⊥
-free_own a b = let e : Free ≡ Own _ = sym a ∙ b in cc
+not_own : {A : Type 0} {o : Operation} (plain : Bool) → Own o ≡ (if plain then Free else Armed) → A
+not_own {A} {o} true e = absurd (let z : Own o ≡ Free = e in cc)
+not_own {A} {o} false e = absurd (let z : Own o ≡ Armed = e in cc)
 
 -- what was prepared stays so, whatever the device does
 pub prepared_stays : (uses : Uses) (m : Machine) (old mid : Device) (port slot : ℕ) (mode : Mode) (e : Pending) (v : ℕ) → IsReached m → Agrees uses m old → old.hr ≡ false →
@@ -60,8 +64,7 @@ prepared_stays uses m old mid port slot mode e v r a calm s f x =
       means = x.means;
       kind = x.kind;
       block = block_on e.request.asked.op old.memory mid.memory port e.request
-          (λ trim at t. l.scratch port at x.placed.port_below (λ o own. free_own (subst (λ (n : ℕ). uses port n ≡ Free) (x.means.head trim) x.free) own) t) x.block;
-      sact = l.sact port slot x.free ∙ x.sact;
+          (λ trim at t. l.scratch port at x.placed.port_below (λ o own. not_own (is_plain mode e.request.asked.op) (sym own ∙ (ap (λ (n : ℕ). uses port n) (sym (x.means.head trim)) ∙ x.free))) t) x.block;
       here = x.here;
       alone = x.alone;
     }
@@ -81,7 +84,6 @@ own_prepared_stays uses m old mid port o v r a calm s x =
       command = x.command;
       operation_is = x.operation_is;
       told = told_on old.memory mid.memory (old.port port).bases.clb (mid.port port).bases.clb port 0 x.command (scratch_of port ∷ []) x.placed.list list (λ at t. l.tables port 0 at x.placed.port_below x.placed.slot_below t) x.told;
-      unqueued = l.sact port 0 x.free ∙ x.unqueued;
       known = subst (λ (t : List Entry). (mid.port port).notes.st_set_at ≤ length t) (sym k.tape)
           (known_on old.tape k.gained (mid.port port).notes.st_set_at (let s : (mid.port port).notes.st_set_at ≡ (old.port port).notes.st_set_at = ap (λ (w : device.Notes). w.st_set_at) (k.notes port) in let h = x.known in omega (arith, s, h)));
       here = x.here;
@@ -174,3 +176,21 @@ own_adds k port o v new calm x call = record {
   where
     free_serves : {u : Use} {id : RequestId} → u ≡ Free → u ≡ Serves id → ⊥
     free_serves a b = let e : Free ≡ Serves _ = sym a ∙ b in cc
+
+-- a slot is armed: no step of the machine
+pub arming_adds : (k : Known) (port : Port) (slot v : ℕ) (new : Device) → k.device.hr ≡ false → k.uses port.0 slot ≡ Free → (k.device.port port.0).st ≡ true → bit v slot ≡ true → ((other : ℕ) → other ≢ slot → bit v other ≡ false) →
+    Writes (Px port px.Sact) v k.device new → AddsSteps Knows k (record k { uses = put k.uses port.0 slot Armed; device = new }) (ByDevice k.device new)
+arming_adds k port slot v new calm free st here alone call = record {
+  adds = λ m r knows.
+      let f : Follows k.uses m k.device call.mid = steps_follow k.uses m k.device call.mid r knows.agrees call.steps in
+      let started : (call.mid.port port.0).st ≡ true = (((steps_keep call.steps).on calm).controls port.0).st ∙ st in
+      let g : Follows (put k.uses port.0 slot Armed) m k.device new = write_effect k.uses (put k.uses port.0 slot Armed) m (Px port px.Sact) v k.device new call f (arming_agrees k.uses (left.after m f.steps) call.mid f.agrees port.0 slot v free started here alone) in (
+        g.steps,
+        g.may,
+        record {
+          agrees = g.agrees;
+          have = λ q. follows_have (put k.uses port.0 slot Armed) m k.device new g q (k.parked q) (put_have k.uses m port.0 slot Armed q (k.parked q) (λ id u. absurd (let z : Free ≡ Serves id = sym free ∙ u in cc)) (knows.have q));
+        },
+        record { backed = backed (put k.uses port.0 slot Armed) m k.device new g; only = tells_device m g.gained g.steps g.tells },
+      );
+}

@@ -23,7 +23,7 @@ use Rattle.block_machine.specs.Left.{AllTold}
 use Rattle.block_machine.specs.Events.{AllMay}
 use Rattle.block_machine.proofs.Keeps.{same_port}
 use Rattle.agreement.specs.Places.{scratch_of}
-use Rattle.agreement.specs.Slots.{Use, Free, Own, Serves, Uses, Means, MeansRange, ArePlaces, UpTo, Progress, ServesRequest, OwnWaits, OwnTaken, OwnOver, IsServed, op_of}
+use Rattle.agreement.specs.Slots.{Use, Free, Own, Serves, Uses, Means, MeansRange, ArePlaces, UpTo, Progress, ServesRequest, OwnWaits, OwnTaken, OwnOver, IsServed, op_of, Armed}
 use Rattle.agreement.specs.Agrees.{Agrees, port_at, SameSectors}
 use Rattle.agreement.specs.Tape.{PutsIn, touched_by, touches}
 use Rattle.agreement.specs.Follows.{Follows}
@@ -319,6 +319,7 @@ module _ (uses : Uses) (m : Machine) (d : Device) (a : Agrees uses m d) (port sl
     where
       by : (v : Use) → uses port slot ≡ v → IsServed m d.memory d.tape (d.port port) port slot v → Follows uses m d (after (Clear port slot t first count) d)
       by Free u h = some_none can.works.taken h.free
+      by Armed u h = some_none can.works.taken h.free
       by (Own o) u h = own h.stage
         where
           own : OwnWaits (d.port port) slot ⊎ (OwnTaken d.memory d.tape (d.port port) port slot h.command ⊎ OwnOver d.memory d.tape (d.port port) port slot h.command) → Follows uses m d (after (Clear port slot t first count) d)

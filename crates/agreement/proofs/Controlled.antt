@@ -2,7 +2,6 @@
 use Rattle.std.proofs.Common.{ℕ, ◌≡◌, ◌≢◌, ◌⊎◌, ◌++◌, false, List, [], inl, inr, refl, sym, ap, ◌∙◌, subst, append_assoc, append-nil}
 use Rattle.ata_types.specs.declared.Port.{Port}
 use Rattle.hba_regs.specs.declared.reg.PortReg.{PortReg}
-use Rattle.hba_regs.specs.declared.reg.PortReg.TheVariants.{Sact}
 use Rattle.hba_regs.specs.declared.reg.Reg.{Reg}
 use Rattle.hba_regs.specs.declared.reg.Reg.TheVariants.{Cap, Ghc, Is, Pi, Vs, Cap2, Bohc, Px}
 use Rattle.adapter.specs.Access.{Access, Does, Reads, Writes}
@@ -14,7 +13,6 @@ use Rattle.adapter.specs.declared.tape.Entry.{Entry}
 use Rattle.adapter.proofs.KeptLemmas.{steps_keep, KeepsPort-refl, KeepsPort-trans, KeepsControls-refl, KeepsControls-trans}
 use Rattle.block_machine.proofs.HistoryLemmas.{reached_more}
 use Rattle.block_machine.specs.Left.{after}
-use Rattle.agreement.specs.Agrees.{AreUnarmed, port_at}
 use Rattle.agreement.specs.Driven.{IsAgreed, IsControl, IsDrivenBy, IsFollowed, IsOf, LeavesPort, NoneWrites}
 use Rattle.agreement.specs.Facts.{IsRecorded}
 use Rattle.agreement.specs.Links.{SparesRegister, SameAdapter}
@@ -23,7 +21,6 @@ use Rattle.agreement.proofs.Crossing.{access_steps, beside_same}
 use Rattle.agreement.proofs.Driven.{along, driven_as, over}
 use Rattle.agreement.proofs.Lasting.{access_same, same_more, same_refl}
 use Rattle.agreement.proofs.Recording.{steps_recorded}
-use Rattle.agreement.proofs.Unarmed.{access_unarmed}
 
 -- ---- accesses that touch no register of another port
 
@@ -163,12 +160,6 @@ module _ (May : Access → Type 0) (old new : Device) (driven : IsDrivenBy May o
   on_over spares on =
       (over (λ a b. Unit {0}) (λ d. tt) (λ a b c x y. tt) May spares (λ access a b here may does. tt) driven.accesses old new on driven.only driven.all).1
 
-  pub unarmed_over : (uses : Uses) (q : ℕ) → NoneWrites May (Px (port_at q) Sact) → AreUnarmed uses (old.port q) q → AreUnarmed uses (new.port q) q
-  unarmed_over uses q spares =
-      along (λ a b. AreUnarmed uses (a.port q) q → AreUnarmed uses (b.port q) q) (λ d h. h) (λ a b c x y h. y (x h)) May
-      (λ access a b may does. access_unarmed uses q access a b (spares access may) does)
-      driven.accesses old new driven.only driven.all
-
 module _ (port : Port) (old new : Device) (driven : IsDrivenBy (IsOf port) old new) (q : ℕ) (other : q ≢ port.0) where
   pub other_left : IsOn old → LeavesPort (old.port q) (new.port q)
   other_left on =
@@ -199,18 +190,17 @@ module _ (Written : PortReg → Type 0) (port : Port) (old new : Device) (driven
 -- ---- a machine that agrees
 
 -- over accesses that write no PxSACT
-pub agreed_on : (May : Access → Type 0) (Fits : Uses → Type 0) (uses : Uses) (old new : Device) → ((port : Port) → NoneWrites May (Px port Sact)) → Fits uses →
+pub agreed_on : (May : Access → Type 0) (Fits : Uses → Type 0) (uses : Uses) (old new : Device) → Fits uses →
     IsFollowed May Fits old new → IsAgreed uses old → IsAgreed uses new
-agreed_on May Fits uses old new spares fits followed a =
+agreed_on May Fits uses old new fits followed a =
     let x = (followed.adds uses a.parked fits).adds a.machine a.reached a.knows in
     record {
       machine = after a.machine x.0;
       parked = a.parked;
       reached = reached_more a.machine x.0 a.reached x.1;
       knows = x.2;
-      unarmed = λ q. unarmed_over May old new followed.driven uses q (spares (port_at q)) (a.unarmed q);
     }
 
-pub agreeing_goes_on : (Written : PortReg → Type 0) (Fits : Uses → Type 0) (port : Port) (uses : Uses) (old new : Device) → (Written Sact → ⊥) → Fits uses →
+pub agreeing_goes_on : (Written : PortReg → Type 0) (Fits : Uses → Type 0) (port : Port) (uses : Uses) (old new : Device) → Fits uses →
     IsFollowed (IsControl Written port) Fits old new → IsAgreed uses old → IsAgreed uses new
-agreeing_goes_on Written Fits port uses old new spares = agreed_on (IsControl Written port) Fits uses old new (λ at. control_spares_at Written port at Sact spares)
+agreeing_goes_on Written Fits port uses old new = agreed_on (IsControl Written port) Fits uses old new

@@ -17,7 +17,7 @@ use Rattle.block_machine.proofs.Keeps.{same_id, same_port}
 use Rattle.block_machine.proofs.Limits.{book_in_order, finds_slot}
 use Rattle.block_machine.proofs.Members.{map_in, into_map, contains_none}
 use Rattle.block_machine.proofs.Order.{In, Ordered, in_from, from_in, ordered_from}
-use Rattle.agreement.specs.Slots.{Use, Free, Own, Serves, Uses, is_serving, serving_count, ServesRequest, ServesOwn, IsServed}
+use Rattle.agreement.specs.Slots.{Use, Free, Own, Serves, Uses, is_serving, serving_count, ServesRequest, ServesOwn, IsServed, Armed}
 use Rattle.agreement.specs.Agrees.{Agrees, HaveSlots}
 use Rattle.agreement.proofs.Quiet.{true_false}
 
@@ -38,6 +38,7 @@ count_more p q e (x ∷ xs) o (inr k) was now others =
 -- the slot serves the request of this number
 abbrev serves_it : Use → ℕ → Bool
 serves_it Free n = false
+serves_it Armed n = false
 serves_it (Own o) n = false
 serves_it (Serves id) n = id.0 == n
 
@@ -56,6 +57,7 @@ some_served uses port (suc n) slot id lt u = ⊎_elim
 
 serves_found : (u : Use) (i : ℕ) → serves_it u i ≡ true → (id : RequestId) × (u ≡ Serves id) × (id.0 ≡ i)
 serves_found Free i t = true_false t refl
+serves_found Armed i t = true_false t refl
 serves_found (Own o) i t = true_false t refl
 serves_found (Serves id) i t = (id, refl, eqb-true id.0 i t)
 
@@ -144,6 +146,7 @@ module _ (uses : Uses) (m : Machine) (d : Device) (reached : IsReached m) (a : A
 
       by : (u : Use) → uses port.0 n ≡ u → count_by (is_slotted n) book ≡ serving_count uses port.0 n → count_by (is_slotted (suc n)) book ≡ serving_count uses port.0 (suc n)
       by Free e before = unserved Free e (λ i. refl) refl before
+      by Armed e before = unserved Armed e (λ i. refl) refl before
       by (Own o) e before = unserved (Own o) e (λ i. refl) refl before
       by (Serves id) e before =
           let s = served_one n id e in
@@ -180,13 +183,14 @@ module _ (uses : Uses) (m : Machine) (d : Device) (reached : IsReached m) (a : A
 
 -- ---- a request that is due
 
-module _ (uses : Uses) (m : Machine) (d : Device) (reached : IsReached m) (a : Agrees uses m d) (mode : Mode) (e : Pending) (may : May m (Issue mode e)) (none : (o : Operation) → uses e.request.port.0 0 ≡ Own o → ⊥) where
+module _ (uses : Uses) (m : Machine) (d : Device) (reached : IsReached m) (a : Agrees uses m d) (mode : Mode) (e : Pending) (may : May m (Issue mode e)) (none : (o : Operation) → uses e.request.port.0 0 ≡ Own o → ⊥) (unarmed : (slot : ℕ) → uses e.request.port.0 slot ≡ Armed → ⊥) where
   -- a slot that serves nothing is free, since only slot 0 has a command of the driver's own
   idle_free : (slot : ℕ) → is_serving (uses e.request.port.0 slot) ≡ false → uses e.request.port.0 slot ≡ Free
   idle_free slot off = by (uses e.request.port.0 slot) refl
     where
       by : (u : Use) → uses e.request.port.0 slot ≡ u → u ≡ Free
       by Free f = refl
+      by Armed f = absurd (unarmed slot f)
       by (Serves id) f = true_false (ap is_serving f) off
       by (Own o) f =
           let h : ServesOwn d.memory d.tape (d.port e.request.port.0) e.request.port.0 slot o = subst (λ (v : Use). IsServed m d.memory d.tape (d.port e.request.port.0) e.request.port.0 slot v) f (a.slot e.request.port.0 slot) in

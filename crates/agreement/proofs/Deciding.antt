@@ -21,10 +21,11 @@ use Rattle.block_machine.proofs.Keeps.{same_id}
 use Rattle.block_machine.proofs.Members.{map_in, into_map, at_cases, without_in, contains_here, contains_there, contains_cases, contains_none, append_in}
 use Rattle.block_machine.proofs.Sound.{Sound}
 use Rattle.block_machine.proofs.Standing.{standing}
-use Rattle.agreement.specs.Slots.{Use, Free, Own, Serves, Uses, put, Progress, Stage, IsOver, IsServed}
+use Rattle.agreement.specs.Slots.{Use, Free, Own, Serves, Uses, put, Progress, Stage, IsOver, IsServed, Armed, IsArmed}
 use Rattle.agreement.specs.Agrees.{Agrees, port_at}
 use Rattle.agreement.specs.Driver.{Known, Knows, HasNoSlot, Forgets, ForgetsKept, parking, freeing}
 use Rattle.agreement.proofs.Acting.{sectors_on, changed_at}
+use Rattle.agreement.proofs.Unarmed.{over_unarmed}
 use Rattle.agreement.proofs.Putting.{SameWorld, put_agrees, put_cases, put_have, serves_same}
 use Rattle.agreement.proofs.Going.{into_other}
 use Rattle.agreement.proofs.Quiet.{true_false}
@@ -59,6 +60,7 @@ goes_on_same m m' e r = record { issues = e.issues; age = e.age; issued = e.issu
 served_goes : (m m' : Machine) (d : Device) (p : PortState) (port slot : ℕ) (u : Use) → ((id : RequestId) → u ≡ Serves id → (e : Pending) → e.request.id ≡ id → MayMove m e → GoesOn m m' e) →
     IsServed m d.memory d.tape p port slot u → IsServed m' d.memory d.tape p port slot u
 served_goes m m' d p port slot Free goes h = h
+served_goes m m' d p port slot Armed goes h = h
 served_goes m m' d p port slot (Own o) goes h = h
 served_goes m m' d p port slot (Serves id) goes h =
     let g = goes id refl h.pending h.id_is h.moves in
@@ -278,12 +280,12 @@ release_knows k m later r x none forgets = record {
 
 -- a slot whose command is over
 module _ (k : Known) (m : Machine) (x : Knows m k) (port slot : ℕ) (over : IsOver (k.device.port port) slot) where
-  free_agrees : Agrees (put k.uses port slot Free) m k.device
-  free_agrees = put_agrees k.uses m m k.device x.agrees k.device.port port slot Free (record {
+  free_agrees : (k.uses port slot ≡ Armed → ⊥) → Agrees (put k.uses port slot Free) m k.device
+  free_agrees unarmed = put_agrees k.uses m m k.device x.agrees k.device.port port slot Free (record {
     world = record { present = refl; ids = refl; sizes = refl; disks = refl; memory = refl };
     moves = λ q s id u ne e is r. r;
     others = λ q s ne. SameSlot-refl (k.device.port q) s;
-    here = over;
+    here = record { issued = over.issued; free = over.free; unarmed = over_unarmed k.uses m k.device port slot x.agrees unarmed over };
     apart = λ q s id f u. absurd (let z : Free ≡ Serves id = f in cc);
     fre = λ q. refl;
     received_at = λ q. refl;
@@ -293,7 +295,7 @@ module _ (k : Known) (m : Machine) (x : Knows m k) (port slot : ℕ) (over : IsO
 
   pub park_knows : (id : RequestId) → k.uses port slot ≡ Serves id → Knows m (parking k port slot id)
   park_knows id u = record {
-    agrees = free_agrees;
+    agrees = free_agrees (λ e. let z : Serves id ≡ Armed = sym u ∙ e in cc);
     have = λ q y may at_port. ⊎_elim
         (λ (p : Contains (k.parked q) y.request.id). inl (more q y.request.id p))
         (λ (w : (s : ℕ) × (k.uses q s ≡ Serves y.request.id)). ⊎_elim
@@ -311,6 +313,23 @@ module _ (k : Known) (m : Machine) (x : Knows m k) (port slot : ℕ) (over : IsO
 
   pub own_release_knows : (o : Operation) → k.uses port slot ≡ Own o → Knows m (freeing k port slot)
   own_release_knows o u = record {
-    agrees = free_agrees;
+    agrees = free_agrees (λ e. let z : Own o ≡ Armed = sym u ∙ e in cc);
     have = λ q. put_have k.uses m port slot Free q (k.parked q) (λ id v. absurd (let z : Own o ≡ Serves id = sym u ∙ v in cc)) (x.have q);
   }
+
+-- an armed slot of a port whose ST is 0, which has cleared the bit
+pub disarm_knows : (k : Known) (m : Machine) → Knows m k → (port slot : ℕ) → (k.device.port port).st ≡ false → k.uses port slot ≡ Armed → Knows m (freeing k port slot)
+disarm_knows k m x port slot st u = record {
+  agrees = put_agrees k.uses m m k.device x.agrees k.device.port port slot Free (record {
+    world = record { present = refl; ids = refl; sizes = refl; disks = refl; memory = refl };
+    moves = λ q s id u ne e is r. r;
+    others = λ q s ne. SameSlot-refl (k.device.port q) s;
+    here = (let h : IsArmed (k.device.port port) slot = subst (λ (w : Use). IsServed m k.device.memory k.device.tape (k.device.port port) port slot w) u (x.agrees.slot port slot) in record { issued = h.issued; free = h.free; unarmed = h.armed ∙ st });
+    apart = λ q s id f u. absurd (let z : Free ≡ Serves id = f in cc);
+    fre = λ q. refl;
+    received_at = λ q. refl;
+    present = λ q. refl;
+    disk = λ q. refl;
+  });
+  have = λ q. put_have k.uses m port slot Free q (k.parked q) (λ id v. absurd (let z : Armed ≡ Serves id = sym u ∙ v in cc)) (x.have q);
+}

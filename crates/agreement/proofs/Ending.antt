@@ -19,7 +19,7 @@ use Rattle.block_machine.specs.Steps.{AllTouched, after_step, mark_ended}
 use Rattle.block_machine.proofs.Keeps.{same_port}
 use Rattle.block_machine.proofs.Standing.{standing}
 use Rattle.agreement.specs.Places.{scratch_of}
-use Rattle.agreement.specs.Slots.{Use, Free, Own, Serves, Uses, Means, MeansRange, ArePlaces, UpTo, Progress, ServesRequest, Brought, OwnWaits, OwnTaken, OwnOver, ServesOwn, IsServed, op_of}
+use Rattle.agreement.specs.Slots.{Use, Free, Own, Serves, Uses, Means, MeansRange, ArePlaces, UpTo, Progress, ServesRequest, Brought, OwnWaits, OwnTaken, OwnOver, ServesOwn, IsServed, op_of, Armed}
 use Rattle.agreement.specs.Agrees.{Agrees, port_at}
 use Rattle.agreement.specs.Tape.{TellsDone}
 use Rattle.agreement.specs.Follows.{Follows}
@@ -226,6 +226,7 @@ module _ (uses : Uses) (m : Machine) (d : Device) (a : Agrees uses m d) (reached
     where
       by : (v : Use) → uses port slot ≡ v → IsServed m d.memory d.tape (d.port port) port slot v → Follows uses m d (after (Done port slot flag t) d)
       by Free u h = some_none can.works.taken h.free
+      by Armed u h = some_none can.works.taken h.free
       by (Own o) u h = own h.stage
         where
           own : OwnWaits (d.port port) slot ⊎ (OwnTaken d.memory d.tape (d.port port) port slot h.command ⊎ OwnOver d.memory d.tape (d.port port) port slot h.command) → Follows uses m d (after (Done port slot flag t) d)

@@ -20,7 +20,7 @@ use Rattle.adapter.proofs.KeptLemmas.{steps_keep}
 use Rattle.adapter.specs.declared.tape.Entry.{Entry}
 use Rattle.block_machine.specs.State.{Machine}
 use Rattle.agreement.specs.Agrees.{Agrees}
-use Rattle.agreement.specs.Slots.{Use, Free, Uses, IsServed}
+use Rattle.agreement.specs.Slots.{Use, Free, Uses, IsServed, IsFree}
 use Rattle.agreement.proofs.Stilling.{over_unused}
 use Rattle.agreement.specs.Facts.{IsFaulted, ShowsFault, HasFaults, IsRecorded}
 use Rattle.agreement.proofs.Awaiting.{leads_keep}
@@ -140,4 +140,5 @@ fault_is_read port v old new off st h faulted call =
 -- the slot of the fault is in use, so the driver has put something into it
 pub fault_has_a_use : (uses : Uses) (m : Machine) (d : Device) (port : ℕ) (entries : List Entry) → Agrees uses m d → (s : ShowsFault entries (d.port port) port) → uses port s.fault.slot.0 ≢ Free
 fault_has_a_use uses m d port entries a s u =
-    over_unused (d.port port) s.fault.slot.0 (subst (λ (w : Use). IsServed m d.memory d.tape (d.port port) port s.fault.slot.0 w) u (a.slot port s.fault.slot.0)) s.used
+    let h : IsFree (d.port port) s.fault.slot.0 = subst (λ (w : Use). IsServed m d.memory d.tape (d.port port) port s.fault.slot.0 w) u (a.slot port s.fault.slot.0) in
+    over_unused (d.port port) s.fault.slot.0 (record { issued = h.issued; free = h.free }) s.used

@@ -18,7 +18,7 @@ use Rattle.block_machine.specs.Steps.{MayMove}
 use Rattle.block_machine.proofs.Standing.{standing}
 use Rattle.agreement.specs.Places.{list_of, received_of, table_of, scratch_of, place_in}
 use Rattle.agreement.specs.Slots as slots
-use Rattle.agreement.specs.Slots.{Use, Free, Own, Serves, Told, IsPlaced, Means, ArePlaces, Stage, ServesRequest, ServesOwn, OwnWaits, OwnTaken, OwnOver, IsOver, IsServed}
+use Rattle.agreement.specs.Slots.{Use, Free, Own, Serves, Told, IsPlaced, Means, ArePlaces, Stage, ServesRequest, ServesOwn, OwnWaits, OwnTaken, OwnOver, IsOver, IsServed, Armed}
 use Rattle.agreement.specs.Agrees.{Agrees}
 use Rattle.agreement.specs.Driver.{MayStore}
 use Rattle.agreement.proofs.Bytes.{in_free, narrow, same_port}
@@ -146,7 +146,8 @@ module _ (uses : slots.Uses) (m : Machine) (d : Device) (reached : IsReached m) 
   of_use in_use x = by (uses port slot) refl (a.slot port slot)
     where
       by : (u : Use) → uses port slot ≡ u → IsServed m d.memory d.tape (d.port port) port slot u → IsUsed uses m d at
-      by Free u h = over_unused h in_use
+      by Free u h = over_unused (record { issued = h.issued; free = h.free }) in_use
+      by Armed u h = over_unused (record { issued = h.issued; free = h.free }) in_use
       by (Own o) u h = ⊎_elim
           (λ (y : ((d.port port).bases.clb + 32 * slot ≤ at) × (at < (d.port port).bases.clb + 32 * slot + 32)). of_header h.placed (own_used u) y.0 y.1)
           (λ (y : InCommand d (d.port port) slot at). ⊎_elim
@@ -166,6 +167,7 @@ module _ (uses : slots.Uses) (m : Machine) (d : Device) (reached : IsReached m) 
     where
       by : (u : Use) → uses port slot ≡ u → IsServed m d.memory d.tape (d.port port) port slot u → IsUsed uses m d at
       by Free u h = some_none is h.free
+      by Armed u h = some_none is h.free
       by (Own o) u h = own h.stage
         where
           own : OwnWaits (d.port port) slot ⊎ (OwnTaken d.memory d.tape (d.port port) port slot h.command ⊎ OwnOver d.memory d.tape (d.port port) port slot h.command) → IsUsed uses m d at

@@ -23,7 +23,7 @@ use Rattle.block_machine.specs.Left as left
 use Rattle.agreement.specs.Agrees.{Agrees, port_at}
 use Rattle.agreement.specs.Facts.{IsHalted, IsAfterReset}
 use Rattle.agreement.specs.Follows.{Follows}
-use Rattle.agreement.specs.Slots.{Use, Free, Own, Serves, Uses, Stage, OwnWaits, OwnTaken, OwnOver, IsOver, IsServed}
+use Rattle.agreement.specs.Slots.{Use, Free, Own, Serves, Uses, Stage, OwnWaits, OwnTaken, OwnOver, IsOver, IsServed, Armed}
 use Rattle.agreement.proofs.Crossing.{noted_on, written_on}
 use Rattle.agreement.proofs.Following.{steps_follow}
 use Rattle.agreement.proofs.Unarmed.{if_false}
@@ -150,7 +150,8 @@ reset_writes port r v old new may off x h =
 -- with ST and CR 0 no slot waits or is taken
 over_of : (m : Machine) (d : Device) (port slot : ℕ) (u : Use) → (d.port port).st ≡ false → (d.port port).cr ≡ false →
     IsServed m d.memory d.tape (d.port port) port slot u → IsOver (d.port port) slot
-over_of m d port slot Free st cr h = h
+over_of m d port slot Free st cr h = record { issued = h.issued; free = h.free }
+over_of m d port slot Armed st cr h = record { issued = h.issued; free = h.free }
 over_of m d port slot (Own o) st cr h = of h.stage
   where
     of : OwnWaits (d.port port) slot ⊎ (OwnTaken d.memory d.tape (d.port port) port slot h.command ⊎ OwnOver d.memory d.tape (d.port port) port slot h.command) → IsOver (d.port port) slot

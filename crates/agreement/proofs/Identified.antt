@@ -57,7 +57,6 @@ prepared = record {
   command = identify;
   operation_is = refl;
   told = told;
-  unqueued = refl;
   known = omega arith;
   here = refl;
   alone = bit_one_other;

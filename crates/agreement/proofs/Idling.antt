@@ -14,13 +14,12 @@ use Rattle.agreement.specs.Agrees.{IsDiskOf, SameMemory, SameSectors}
 use Rattle.agreement.specs.Driven.{IsAgreed}
 use Rattle.agreement.specs.Driver.{Knows, idle}
 use Rattle.agreement.proofs.Quiet.{true_false}
-use Rattle.agreement.proofs.Unarmed.{idle_unarmed}
 
 pub idle_knows : (m : Machine) (d : Device) → IsStart m → IsIdle d → ((port : ℕ) → IsDiskOf m (d.port port) port) → SameMemory m d.memory →
     (d.telling ≡ true → (port : ℕ) → SameSectors m (d.port port).disk port) → Knows m (idle d)
 idle_knows m d s i disk memory sectors = record {
   agrees = record {
-    slot = λ q k. record { issued = (i.port q).ci k; free = (i.port q).taken k };
+    slot = λ q k. record { issued = (i.port q).ci k; free = (i.port q).taken k; unarmed = (i.port q).sact k };
     apart = λ q k q' k' id u v. absurd (let z : Free ≡ Serves id = u in cc);
     received = λ q f. true_false f (i.port q).fre;
     disk = disk;
@@ -85,5 +84,4 @@ idle_agrees d is told = record {
   parked = λ port. [];
   reached = record { first = machine_of d [] (λ frame. None); past = []; starts = unowned_starts d; legal = tt; is = refl };
   knows = machine_knows d [] (λ frame. None) (unowned_starts d) is told;
-  unarmed = λ port. idle_unarmed (λ port slot. Free) d port is;
 }

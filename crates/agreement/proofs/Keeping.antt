@@ -20,7 +20,7 @@ use Rattle.block_machine.proofs.HistoryLemmas.{reached_more}
 use Rattle.block_machine.proofs.Standing.{standing}
 use Rattle.agreement.proofs.Serving.{told_on, block_on}
 use Rattle.agreement.specs.Places.{list_of, scratch_of, place_in}
-use Rattle.agreement.specs.Slots.{Told, HasBlock, Use, Free, Own, Serves, Uses, Means, ArePlaces, OwnWaits, OwnTaken, OwnOver, IsServed}
+use Rattle.agreement.specs.Slots.{Told, HasBlock, Use, Free, Own, Serves, Uses, Means, ArePlaces, OwnWaits, OwnTaken, OwnOver, IsServed, Armed}
 use Rattle.agreement.specs.Agrees.{Agrees}
 use Rattle.agreement.specs.Driver.{LeavesFree}
 use Rattle.agreement.specs.Follows.{Follows}
@@ -36,31 +36,25 @@ use Rattle.agreement.proofs.Reached.{client_frame}
 abbrev HasOwn : Uses → ℕ → Type 0
 HasOwn uses port = (o : Operation) × (uses port 0 ≡ Own o)
 
-abbrev SameSact : Uses → Device → Device → Type 0
-SameSact uses old new = (port slot : ℕ) → uses port slot ≡ Free → (new.port port).sact slot ≡ (old.port port).sact slot
-
-pub same_bytes : (uses : Uses) (old new : Device) → new.memory ≡ old.memory → SameSact uses old new → LeavesFree uses old new
-same_bytes uses old new same sact = record {
+pub same_bytes : (uses : Uses) (old new : Device) → new.memory ≡ old.memory → LeavesFree uses old new
+same_bytes uses old new same = record {
   tables = λ port slot a below small t. ap (λ (f : ℕ → ℕ). f a) same;
   scratch = λ port a below own s. ap (λ (f : ℕ → ℕ). f a) same;
-  sact = sact;
 }
 
 pub leaves_none : (uses : Uses) (d : Device) → LeavesFree uses d d
-leaves_none uses d = same_bytes uses d d refl (λ p s u. refl)
+leaves_none uses d = same_bytes uses d d refl
 
 pub leaves_more : (uses : Uses) (old mid new : Device) → LeavesFree uses old mid → LeavesFree uses mid new → LeavesFree uses old new
 leaves_more uses old mid new x y = record {
   tables = λ p s at b c t. y.tables p s at b c t ∙ x.tables p s at b c t;
   scratch = λ p at b o s. y.scratch p at b o s ∙ x.scratch p at b o s;
-  sact = λ p s u. y.sact p s u ∙ x.sact p s u;
 }
 
-patched_leaves : (uses : Uses) (old new : Device) (at : ℕ) (bytes : List ℕ) → MayChange (HasOwn uses) at (length bytes) → new.memory ≡ patched old.memory at bytes → SameSact uses old new → LeavesFree uses old new
-patched_leaves uses old new at bytes may same sact = record {
+patched_leaves : (uses : Uses) (old new : Device) (at : ℕ) (bytes : List ℕ) → MayChange (HasOwn uses) at (length bytes) → new.memory ≡ patched old.memory at bytes → LeavesFree uses old new
+patched_leaves uses old new at bytes may same = record {
   tables = λ port slot a below small t. ap (λ (f : ℕ → ℕ). f a) same ∙ patched_apart old.memory at bytes a (λ low high. table_spared (HasOwn uses) port slot at (length bytes) a below small may t low high);
   scratch = λ port a below own s. ap (λ (f : ℕ → ℕ). f a) same ∙ patched_apart old.memory at bytes a (λ low high. scratch_spared (HasOwn uses) port at (length bytes) a below (λ x. own x.0 x.1) may s low high);
-  sact = sact;
 }
 
 -- what no port is excepted from, none of these is
@@ -70,16 +64,13 @@ weaken uses at n (inr (inl x)) = inr (inl x)
 weaken uses at n (inr (inr (inl x))) = absurd x.excepted
 weaken uses at n (inr (inr (inr x))) = inr (inr (inr x))
 
--- one port changed, and its bits of SACT of free slots are the same
-pub one_port : (uses : Uses) (d : Device) (port : ℕ) (new : PortState) → ((slot : ℕ) → uses port slot ≡ Free → new.sact slot ≡ (d.port port).sact slot) → (q slot : ℕ) → uses q slot ≡ Free → (changed d.port port new q).sact slot ≡ (d.port q).sact slot
-one_port uses d port new same q slot = changed_at d.port port new (λ k p. uses k slot ≡ Free → p.sact slot ≡ (d.port k).sact slot) (same slot) (λ k _ _. refl) q
-
 module _ (uses : Uses) (m : Machine) (d : Device) (reached : IsReached m) (a : Agrees uses m d) where
   move_may : (port slot : ℕ) (t : Taken) (bytes : List ℕ) → MayMove d port slot t bytes → reads_memory t.meaning.operation ≡ false → MayChange (HasOwn uses) (next_place t) (length bytes)
   move_may port slot t bytes can plain = by (uses port slot) refl (a.slot port slot)
     where
       by : (u : Use) → uses port slot ≡ u → IsServed m d.memory d.tape (d.port port) port slot u → MayChange (HasOwn uses) (next_place t) (length bytes)
       by Free u h = some_none can.works.taken h.free
+      by Armed u h = some_none can.works.taken h.free
       by (Own o) u h = own h.stage
         where
           own : OwnWaits (d.port port) slot ⊎ (OwnTaken d.memory d.tape (d.port port) port slot h.command ⊎ OwnOver d.memory d.tape (d.port port) port slot h.command) → MayChange (HasOwn uses) (next_place t) (length bytes)
@@ -121,29 +112,24 @@ module _ (uses : Uses) (m : Machine) (d : Device) (reached : IsReached m) (a : A
   move_leaves port slot t bytes can = by (reads_memory t.meaning.operation) refl
     where
       by : (b : Bool) → reads_memory t.meaning.operation ≡ b → LeavesFree uses d (after (Move port slot t bytes) d)
-      by true e = same_bytes uses d (after (Move port slot t bytes) d) (ap (λ (b : Bool). if b then d.memory else patched d.memory (next_place t) bytes) e) (one_port uses d port _ (λ s f. refl))
+      by true e = same_bytes uses d (after (Move port slot t bytes) d) (ap (λ (b : Bool). if b then d.memory else patched d.memory (next_place t) bytes) e)
       by false e = patched_leaves uses d (after (Move port slot t bytes) d) (next_place t) bytes (move_may port slot t bytes can e)
-          (ap (λ (b : Bool). if b then d.memory else patched d.memory (next_place t) bytes) e) (one_port uses d port _ (λ s f. refl))
-
-  -- a slot that is taken isn't free
-  not_free : (port slot : ℕ) (t : Taken) → (d.port port).taken slot ≡ Some t → uses port slot ≡ Free → ⊥
-  not_free port slot t is u = some_none is (subst (λ (w : Use). IsServed m d.memory d.tape (d.port port) port slot w) u (a.slot port slot)).free
+          (ap (λ (b : Bool). if b then d.memory else patched d.memory (next_place t) bytes) e)
 
   step_leaves : (step : steps.Step) → d.hr ≡ false → Can step d → LeavesFree uses d (after step d)
   step_leaves (Move port slot t bytes) calm can = move_leaves port slot t bytes can
-  step_leaves (Scribble port slot at bytes) calm can = patched_leaves uses d (after (Scribble port slot at bytes) d) at bytes (weaken uses at (length bytes) (scribble_may uses m d a port slot at bytes can).0) refl (λ p s u. refl)
-  step_leaves (Done port slot flag t) calm can = same_bytes uses d (after (Done port slot flag t) d) refl (one_port uses d port (with_done (d.port port) slot flag t.meaning.operation)
-      (λ s f. sact_other (is_queued t.meaning.operation) (d.port port).sact slot s (λ e. not_free port slot t can.works.taken (subst (λ (k : ℕ). uses port k ≡ Free) e f))))
-  step_leaves (Fetch port slot c places) calm can = same_bytes uses d (after (Fetch port slot c places) d) refl (one_port uses d port _ (λ s f. refl))
-  step_leaves (FetchFault port slot queued kept_bits) calm can = same_bytes uses d (after (FetchFault port slot queued kept_bits) d) refl (one_port uses d port _ (λ s f. refl))
-  step_leaves (Clear port slot t first count) calm can = same_bytes uses d (after (Clear port slot t first count) d) refl (one_port uses d port _ (λ s f. refl))
-  step_leaves (Fault port slot error kept_bits t) calm can = same_bytes uses d (after (Fault port slot error kept_bits t) d) refl (one_port uses d port _ (λ s f. refl))
-  step_leaves (Fatal port place) calm can = same_bytes uses d (after (Fatal port place) d) refl (one_port uses d port _ (λ s f. refl))
-  step_leaves (Fall port) calm can = same_bytes uses d (after (Fall port) d) refl (one_port uses d port _ (λ s f. refl))
-  step_leaves (FrFall port) calm can = same_bytes uses d (after (FrFall port) d) refl (one_port uses d port _ (λ s f. refl))
-  step_leaves (LinkUp port sig n) calm can = same_bytes uses d (after (LinkUp port sig n) d) refl (one_port uses d port _ (λ s f. refl))
-  step_leaves (Unplug port) calm can = same_bytes uses d (after (Unplug port) d) refl (one_port uses d port _ (λ s f. refl))
-  step_leaves (Plug port disk) calm can = same_bytes uses d (after (Plug port disk) d) refl (one_port uses d port _ (λ s f. refl))
+  step_leaves (Scribble port slot at bytes) calm can = patched_leaves uses d (after (Scribble port slot at bytes) d) at bytes (weaken uses at (length bytes) (scribble_may uses m d a port slot at bytes can).0) refl
+  step_leaves (Done port slot flag t) calm can = same_bytes uses d (after (Done port slot flag t) d) refl
+  step_leaves (Fetch port slot c places) calm can = same_bytes uses d (after (Fetch port slot c places) d) refl
+  step_leaves (FetchFault port slot queued kept_bits) calm can = same_bytes uses d (after (FetchFault port slot queued kept_bits) d) refl
+  step_leaves (Clear port slot t first count) calm can = same_bytes uses d (after (Clear port slot t first count) d) refl
+  step_leaves (Fault port slot error kept_bits t) calm can = same_bytes uses d (after (Fault port slot error kept_bits t) d) refl
+  step_leaves (Fatal port place) calm can = same_bytes uses d (after (Fatal port place) d) refl
+  step_leaves (Fall port) calm can = same_bytes uses d (after (Fall port) d) refl
+  step_leaves (FrFall port) calm can = same_bytes uses d (after (FrFall port) d) refl
+  step_leaves (LinkUp port sig n) calm can = same_bytes uses d (after (LinkUp port sig n) d) refl
+  step_leaves (Unplug port) calm can = same_bytes uses d (after (Unplug port) d) refl
+  step_leaves (Plug port disk) calm can = same_bytes uses d (after (Plug port disk) d) refl
   step_leaves ResetEnds calm can = true_false can calm
 
 leads_leave : (uses : Uses) (m : Machine) (steps : List steps.Step) (old new : Device) → IsReached m → Agrees uses m old → old.hr ≡ false → Leads steps old new → LeavesFree uses old new

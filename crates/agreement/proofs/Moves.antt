@@ -17,7 +17,7 @@ use Rattle.adapter.proofs.MemoryLemmas.{patched_bytes}
 use Rattle.block_machine.specs.State.{Machine}
 use Rattle.block_machine.specs.Histories.{IsReached}
 use Rattle.agreement.specs.Places.{scratch_of}
-use Rattle.agreement.specs.Slots.{Use, Free, Own, Serves, Uses, ArePlaces, ServesRequest, Brought, OwnWaits, OwnTaken, OwnOver, ServesOwn, IsServed, op_of}
+use Rattle.agreement.specs.Slots.{Use, Free, Own, Serves, Uses, ArePlaces, ServesRequest, Brought, OwnWaits, OwnTaken, OwnOver, ServesOwn, IsServed, op_of, Armed}
 use Rattle.agreement.specs.Agrees.{Agrees}
 use Rattle.agreement.specs.Tape.{TellsMove}
 use Rattle.agreement.specs.Follows.{Follows}
@@ -200,6 +200,7 @@ move_follows uses m d a reached port slot t bytes can = by (uses port slot) refl
   where
     by : (v : Use) → uses port slot ≡ v → IsServed m d.memory d.tape (d.port port) port slot v → Follows uses m d (after (Move port slot t bytes) d)
     by Free u h = some_none can.works.taken h.free
+    by Armed u h = some_none can.works.taken h.free
     by (Own o) u h = own_follows uses m d a port slot o u h t bytes can h.stage
     by (Serves id) u h =
         client_move uses m d a reached port slot id u h bytes t.meaning.operation t.meaning.first t.meaning.count t.places t.moved t.block t.cleared can

@@ -25,7 +25,7 @@ use Rattle.block_machine.proofs.HistoryLemmas.{reached_more}
 use Rattle.agreement.specs.Agrees.{Agrees}
 use Rattle.agreement.specs.Follows.{Follows}
 use Rattle.agreement.specs.Places.{scratch_of}
-use Rattle.agreement.specs.Slots.{Use, Free, Own, Serves, Uses, IsMove, OwnWaits, OwnTaken, OwnOver, ServesOwn, IsOver, IsServed, op_of}
+use Rattle.agreement.specs.Slots.{Use, Free, Own, Serves, Uses, IsMove, OwnWaits, OwnTaken, OwnOver, ServesOwn, IsOver, IsServed, op_of, Armed}
 use Rattle.agreement.specs.Tape.{OneAtMost}
 use Rattle.agreement.proofs.Crossing.{access_steps}
 use Rattle.agreement.proofs.Ending.{own_clear}
@@ -49,6 +49,7 @@ module _ (uses : Uses) (m : Machine) (d : Device) (a : Agrees uses m d) (port : 
     where
       by : (u : Use) → uses p slot ≡ u → IsServed m d.memory d.tape (d.port p) p slot u → (uses port 0 ≡ Own o) × (p ≡ port) × (slot ≡ 0)
       by Free u h = some-none can.works.taken h.free
+      by Armed u h = some-none can.works.taken h.free
       by (Serves id) u h =
           let known : TakenAs d.memory (d.port p) p slot h.pending h.command h.places t = taken_as d.memory (d.port p) p slot h.pending h.command h.places t can.works.taken h.stage in
           none_op (sym own ∙ ap op_of (sym x.1) ∙ ap (λ (c : Meaning). op_of c.operation) known.meaning ∙ h.means.op)

@@ -15,6 +15,7 @@ use Rattle.adapter.specs.Says.{Says}
 use Rattle.adapter.specs.declared.command.Operation.{Operation}
 use Rattle.adapter.proofs.KeptLemmas.{steps_keep}
 use Rattle.adapter.proofs.SaysLemmas.{says_meaning}
+use Rattle.block_machine.specs.Due.{is_plain}
 use Rattle.block_machine.specs.declared.due.Mode.{Mode}
 use Rattle.block_machine.specs.Histories.{IsReached}
 use Rattle.block_machine.specs.Left as left
@@ -22,7 +23,7 @@ use Rattle.block_machine.specs.Refusals.{IsOpen}
 use Rattle.block_machine.specs.State.{Pending, Machine}
 use Rattle.block_machine.proofs.HistoryLemmas.{reached_more}
 use Rattle.agreement.specs.Places.{scratch_of}
-use Rattle.agreement.specs.Slots.{Use, Free, Uses, IsOver, IsServed, op_of}
+use Rattle.agreement.specs.Slots.{Uses, IsOver, op_of}
 use Rattle.agreement.specs.Agrees.{Agrees}
 use Rattle.agreement.specs.Driver.{MayStore, IsPrepared, IsOwnPrepared}
 use Rattle.agreement.specs.Follows.{Follows}
@@ -33,7 +34,7 @@ use Rattle.agreement.proofs.Stilling.{unlent_is_still, still_is_free}
 use Rattle.block_machine.proofs.Reading.{open_unlent}
 use Rattle.agreement.proofs.Following.{steps_follow}
 use Rattle.agreement.proofs.Freeing.{IsUsed, is_used, of_slot_in, stores_unused}
-use Rattle.agreement.proofs.Putting.{own_over}
+use Rattle.agreement.proofs.Putting.{own_over, readied_slot}
 use Rattle.agreement.proofs.Quiet.{true_false}
 use Rattle.agreement.proofs.Reached.{client_frame}
 use Rattle.agreement.proofs.Taking.{own_plain}
@@ -98,7 +99,7 @@ module _ (uses : Uses) (m : Machine) (old : Device) (reached : IsReached m) (a :
       let y : IsPrepared uses (left.after m f.steps) mid port.0 slot mode e v = prepared_stays uses m old mid port.0 slot mode e v reached a on.no_reset s f x in
       let k : Keeps old mid = steps_keep s in
       let c : KeepsOn old mid = k.on on.no_reset in
-      let over : IsOver (mid.port port.0) slot = over_of (left.after m f.steps) mid f.agrees port.0 slot y.free in (
+      let over : IsOver (mid.port port.0) slot = (readied_slot uses (left.after m f.steps) mid f.agrees port.0 slot (is_plain mode e.request.asked.op) y.free y.started).0 in (
         record { ae = c.ae ∙ on.ae; no_reset = c.no_reset },
         (there.0, ap (λ (n : ℕ). bit n port.0) k.pi ∙ there.1),
         record {
@@ -108,13 +109,10 @@ module _ (uses : Uses) (m : Machine) (old : Device) (reached : IsReached m) (a :
           says = λ j b. subst (λ (n : ℕ). (meaning : Meaning) × (places : List ℕ) × Says mid.memory (mid.port port.0).bases.clb n meaning places) (sym (only_bit v slot j y.alone b)) (y.command, y.places, y.told.says);
           queued = λ j meaning places b says q.
               let z : Says mid.memory (mid.port port.0).bases.clb slot meaning places = subst (λ (n : ℕ). Says mid.memory (mid.port port.0).bases.clb n meaning places) (only_bit v slot j y.alone b) says in
-              ap (λ (n : ℕ). (mid.port port.0).sact n) (only_bit v slot j y.alone b) ∙ y.sact
+              ap (λ (n : ℕ). (mid.port port.0).sact n) (only_bit v slot j y.alone b) ∙ ((readied_slot uses (left.after m f.steps) mid f.agrees port.0 slot (is_plain mode e.request.asked.op) y.free y.started).1 ∙ sym y.kind)
               ∙ ap (λ (w : Meaning). is_queued w.operation) (sym (says_meaning mid.memory (mid.port port.0).bases.clb slot meaning y.command places y.places z y.told.says)) ∙ q;
         },
       )
-    where
-      over_of : (w : Machine) (d : Device) → Agrees uses w d → (p k : ℕ) → uses p k ≡ Free → IsOver (d.port p) k
-      over_of w d b p k free = subst (λ (u : Use). IsServed w d.memory d.tape (d.port p) p k u) free (b.slot p k)
 
   pub own_is_permitted : (port : Port) (o : Operation) (v : ℕ) → IsOn old → HasPort old port.0 → IsOwnPrepared uses old port.0 o v → Stays (MayWrite (Px port px.Ci) v) old
   own_is_permitted port o v on there x mid s =

@@ -1,10 +1,12 @@
 -- A slot is put to another use.
-use Rattle.std.proofs.Common.{ℕ, ◌≡◌, ◌≢◌, ◌⊎◌, Bool, true, false, ◌||◌, map, List, refl, sym, ◌∙◌, ap, subst, inl, inr, ⊎_elim, nat_lt, ltb-true, arith, ◌<◌}
+use Rattle.std.proofs.Common.{ℕ, ◌≡◌, ◌≢◌, ◌⊎◌, Bool, true, false, ◌||◌, map, List, refl, sym, ◌∙◌, ap, subst, inl, inr, ⊎_elim, nat_lt, ltb-true, arith, ◌<◌, not}
 use Rattle.std.specs.List.{Contains}
+use Rattle.std.specs.Prelude.{if◌then◌else◌}
 use Rattle.std.proofs.lemmas.Bool.{cases_eq, cases_Bool, and_parts, not-true}
 use Rattle.ata_types.specs.declared.Port.{Port}
 use Rattle.ata_types.specs.declared.request.RequestId.{RequestId}
 use Rattle.hba_regs.specs.Bits.{bit}
+use Rattle.adapter.specs.Commands.{is_queued}
 use Rattle.adapter.specs.Device as device
 use Rattle.adapter.specs.Device.{PortState, Device}
 use Rattle.adapter.specs.Memory.{changed}
@@ -12,12 +14,13 @@ use Rattle.adapter.specs.Steps.{with_port}
 use Rattle.adapter.specs.declared.command.Operation.{Operation}
 use Rattle.adapter.proofs.Changed.{changed_same, changed_other}
 use Rattle.block_machine.specs.declared.due.Mode.{Mode}
+use Rattle.block_machine.specs.Due.{is_plain}
 use Rattle.block_machine.specs.State.{Accepted, Pending, Machine, Disk, Memory}
 use Rattle.block_machine.specs.Histories.{IsReached}
 use Rattle.block_machine.specs.Steps.{Issue, MayMove, after_step, at, issue}
 use Rattle.block_machine.proofs.Members.{map_in, into_map, at_cases}
 use Rattle.block_machine.proofs.Standing.{Standing, standing}
-use Rattle.agreement.specs.Slots.{Use, Free, Own, Serves, Uses, put, ServesRequest, IsOver, IsServed}
+use Rattle.agreement.specs.Slots.{Use, Free, Own, Serves, Uses, put, ServesRequest, IsOver, IsServed, Armed, IsFree, IsArmed}
 use Rattle.agreement.specs.Agrees.{Agrees, port_at, SameSectors, HaveSlots}
 use Rattle.agreement.specs.Driver.{IsPrepared, IsOwnPrepared}
 use Rattle.agreement.proofs.Serving.{SameSlot, SameSlot-refl, served_on, placed_on, GainsNone-refl}
@@ -140,6 +143,54 @@ module _ (d : Device) (port slot v : ℕ) (alone : (k : ℕ) → k ≢ slot → 
   pub at_ports : {A : Type 0} (f : PortState → A) → f (issued_port (d.port port) v) ≡ f (d.port port) → (q : ℕ) → f (changed d.port port (issued_port (d.port port) v) q) ≡ f (d.port q)
   at_ports f same q = changed_at d.port port (issued_port (d.port port) v) (λ n p. f p ≡ f (d.port n)) same (λ n _. refl) q
 
+-- a free slot has no bit of SACT, and an armed one has it while ST is 1; neither has a command
+pub readied_slot : (uses : Uses) (m : Machine) (d : Device) → Agrees uses m d → (port slot : ℕ) (plain : Bool) → uses port slot ≡ (if plain then Free else Armed) → (d.port port).st ≡ true →
+    IsOver (d.port port) slot × ((d.port port).sact slot ≡ not plain)
+readied_slot uses m d a port slot true u st =
+    let h : IsFree (d.port port) slot = subst (λ (w : Use). IsServed m d.memory d.tape (d.port port) port slot w) u (a.slot port slot) in
+    (record { issued = h.issued; free = h.free }, h.unarmed)
+readied_slot uses m d a port slot false u st =
+    let h : IsArmed (d.port port) slot = subst (λ (w : Use). IsServed m d.memory d.tape (d.port port) port slot w) u (a.slot port slot) in
+    (record { issued = h.issued; free = h.free }, h.armed ∙ st)
+
+not_serving : {A : Type 0} {id : RequestId} (plain : Bool) → Serves id ≡ (if plain then Free else Armed) → A
+not_serving {A} {id} true e = absurd (let z : Serves id ≡ Free = e in cc)
+not_serving {A} {id} false e = absurd (let z : Serves id ≡ Armed = e in cc)
+
+-- ---- a slot is armed
+
+-- the port with the bits of SACT set too
+abbrev pub armed_port : PortState → ℕ → PortState
+armed_port p v = record p { sact = λ k. p.sact k || bit v k }
+
+-- a free slot of a running port gets its bit
+module _ (uses : Uses) (m : Machine) (d : Device) (a : Agrees uses m d) (port slot v : ℕ) (free : uses port slot ≡ Free) (started : (d.port port).st ≡ true) (set : bit v slot ≡ true) (alone : (k : ℕ) → k ≢ slot → bit v k ≡ false) where
+  others_armed : (q k : ℕ) → (q ≡ port → k ≡ slot → ⊥) → SameSlot (d.port q) (changed d.port port (armed_port (d.port port) v) q) k
+  others_armed q k = changed_at d.port port (armed_port (d.port port) v) (λ n p. (n ≡ port → k ≡ slot → ⊥) → SameSlot (d.port n) p k)
+      (λ ne. record { sact = ap (λ (b : Bool). (d.port port).sact k || b) (alone k (λ e. ne refl e)) ∙ or_false ((d.port port).sact k); issued = refl; taken = refl; st = refl; cr = refl; since = refl; list = refl })
+      (λ n _ _. SameSlot-refl (d.port n) k) q
+
+  at_armed : {A : Type 0} (f : PortState → A) → f (armed_port (d.port port) v) ≡ f (d.port port) → (q : ℕ) → f (changed d.port port (armed_port (d.port port) v) q) ≡ f (d.port q)
+  at_armed f same q = changed_at d.port port (armed_port (d.port port) v) (λ n p. f p ≡ f (d.port n)) same (λ n _. refl) q
+
+  armed_here : IsServed m d.memory d.tape (armed_port (d.port port) v) port slot Armed
+  armed_here =
+      let h : IsFree (d.port port) slot = subst (λ (w : Use). IsServed m d.memory d.tape (d.port port) port slot w) free (a.slot port slot) in
+      record { issued = h.issued; free = h.free; armed = ap (λ (b : Bool). (d.port port).sact slot || b) set ∙ (or_true ((d.port port).sact slot) ∙ sym started) }
+
+  pub arming_agrees : Agrees (put uses port slot Armed) m (with_port d port (armed_port (d.port port) v))
+  arming_agrees = put_agrees uses m m d a (changed d.port port (armed_port (d.port port) v)) port slot Armed (record {
+    world = record { present = refl; ids = refl; sizes = refl; disks = refl; memory = refl };
+    moves = λ q k id u ne y is r. r;
+    others = others_armed;
+    here = subst (λ (p : PortState). IsServed m d.memory d.tape p port slot Armed) (sym (changed_same d.port port (armed_port (d.port port) v))) armed_here;
+    apart = λ q k id s u. absurd (let z : Armed ≡ Serves id = s in cc);
+    fre = at_armed (λ p. p.fre) refl;
+    received_at = at_armed (λ p. p.bases.fb) refl;
+    present = at_armed (λ p. p.present) refl;
+    disk = at_armed (λ p. p.disk) refl;
+  })
+
 -- no slot serves a request that waits
 pub waiting_unserved : (uses : Uses) (m : Machine) (d : Device) → IsReached m → Agrees uses m d → (e : Pending) → Contains m.book e → e.issued ≡ false → (p s : ℕ) → uses p s ≡ Serves e.request.id → ⊥
 waiting_unserved uses m d reached a e here waits p s u = by (subst (λ (w : Use). IsServed m d.memory d.tape (d.port p) p s w) u (a.slot p s))
@@ -167,7 +218,10 @@ module _ (uses : Uses) (m : Machine) (d : Device) (reached : IsReached m) (a : A
       (⊎_elim (λ p. p.1) (λ p. absurd (p.0 refl)) (at_cases e.request.id issue e)) (into_map (at e.request.id issue) m.book e x.may.0)
 
   was_over : IsOver (d.port port) slot
-  was_over = subst (λ (w : Use). IsServed m d.memory d.tape (d.port port) port slot w) x.free (a.slot port slot)
+  was_over = (readied_slot uses m d a port slot (is_plain mode e.request.asked.op) x.free x.started).0
+
+  prepared_sact : (d.port port).sact slot ≡ is_queued x.command.operation
+  prepared_sact = (readied_slot uses m d a port slot (is_plain mode e.request.asked.op) x.free x.started).1 ∙ sym x.kind
 
   served_here : ServesRequest (after_step m (Issue mode e)) d.memory (issued_port (d.port port) v) port slot e.request.id
   served_here = record {
@@ -184,7 +238,7 @@ module _ (uses : Uses) (m : Machine) (d : Device) (reached : IsReached m) (a : A
       started = x.started;
       issued = ap (λ (b : Bool). (d.port port).ci slot || b) x.here ∙ or_true ((d.port port).ci slot);
       free = was_over.free;
-      sact = x.sact;
+      sact = prepared_sact;
       block = x.block;
       untouched = λ i. sym (none_below i);
       unended = refl;
@@ -216,7 +270,7 @@ module _ (uses : Uses) (m : Machine) (d : Device) (reached : IsReached m) (a : A
   old_slot q parked had o r at_port = ⊎_elim
       (λ (p : Contains parked o.request.id). inl p)
       (λ (w : (s : ℕ) × (uses q s ≡ Serves o.request.id)).
-      inr (w.0, put_other uses port slot (Serves e.request.id) q w.0 (λ ep es. serves_not_free w.1 (ap (λ (k : ℕ). uses k w.0) ep ∙ ap (λ (k : ℕ). uses port k) es ∙ x.free)) ∙ w.1))
+      inr (w.0, put_other uses port slot (Serves e.request.id) q w.0 (λ ep es. not_serving (is_plain mode e.request.asked.op) (sym w.1 ∙ (ap (λ (k : ℕ). uses k w.0) ep ∙ ap (λ (k : ℕ). uses port k) es ∙ x.free))) ∙ w.1))
       (had o r at_port)
 
   pub issue_have : (q : ℕ) (parked : List RequestId) → HaveSlots uses m q parked → HaveSlots (put uses port slot (Serves e.request.id)) (after_step m (Issue mode e)) q parked
@@ -237,8 +291,11 @@ module _ (uses : Uses) (m : Machine) (d : Device) (reached : IsReached m) (a : A
 
 -- a command of the driver's own
 module _ (uses : Uses) (m : Machine) (d : Device) (a : Agrees uses m d) (port : ℕ) (o : Operation) (v : ℕ) (x : IsOwnPrepared uses d port o v) where
+  own_free : IsFree (d.port port) 0
+  own_free = subst (λ (w : Use). IsServed m d.memory d.tape (d.port port) port 0 w) x.free (a.slot port 0)
+
   pub own_over : IsOver (d.port port) 0
-  own_over = subst (λ (w : Use). IsServed m d.memory d.tape (d.port port) port 0 w) x.free (a.slot port 0)
+  own_over = record { issued = own_free.issued; free = own_free.free }
 
   own_here : IsServed m d.memory d.tape (issued_port (d.port port) v) port 0 (Own o)
   own_here = record {
@@ -248,7 +305,7 @@ module _ (uses : Uses) (m : Machine) (d : Device) (a : Agrees uses m d) (port : 
     command = x.command;
     operation_is = x.operation_is;
     told = x.told;
-    unqueued = x.unqueued;
+    unqueued = own_free.unarmed;
     known = x.known;
     stage = inl (record { started = x.started; issued = ap (λ (b : Bool). (d.port port).ci 0 || b) x.here ∙ or_true ((d.port port).ci 0); free = own_over.free });
   }

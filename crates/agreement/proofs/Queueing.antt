@@ -3,13 +3,14 @@ use Rattle.std.proofs.Common.{ℕ, ◌≡◌, ◌<◌, ◌+◌, ◌*◌, ◌%◌
 use Rattle.std.specs.List.{Contains}
 use Rattle.std.proofs.lemmas.Nat.Bits.{bit_at-pow_same}
 use Rattle.ata_types.specs.declared.request.Frame.{Frame}
+use Rattle.hba_regs.specs.Bits.{bit}
 use Rattle.hba_regs.specs.declared.reg.Reg.TheVariants.{Px}
 use Rattle.hba_regs.specs.declared.reg.PortReg.TheVariants.{Sact}
+use Rattle.adapter.specs.Access.{written}
 use Rattle.adapter.specs.Commands.{command_of}
 use Rattle.adapter.specs.Device.{Device}
 use Rattle.adapter.specs.FirstRead.{first_memory}
 use Rattle.adapter.specs.Memory.{patched, bytes_at, changed}
-use Rattle.adapter.specs.Rules.{MayWrite}
 use Rattle.adapter.specs.Says.{cut}
 use Rattle.adapter.specs.Steps.{Can, begun}
 use Rattle.adapter.specs.Steps.Step.{Fetch}
@@ -28,18 +29,18 @@ use Rattle.block_machine.proofs.Setting.{frame}
 use Rattle.agreement.specs.Agrees.{Agrees, port_at, HaveSlots}
 use Rattle.agreement.specs.Driver.{Knows, IsPrepared, idle}
 use Rattle.agreement.specs.Places.{table_of}
-use Rattle.agreement.specs.Served.{queued_read, two_memory, two_armed, one_issued, two_issued, one_taken, two_known, TwoAreKnown}
-use Rattle.agreement.specs.Slots.{Free, Serves, Uses, put, Told}
+use Rattle.agreement.specs.Served.{queued_read, two_memory, two_armed, armed_uses, one_issued, two_issued, one_taken, two_known, TwoAreKnown}
+use Rattle.agreement.specs.Slots.{Free, Serves, Uses, put, Told, Armed}
 use Rattle.agreement.specs.Witness.{first_id, ready_with}
 use Rattle.agreement.proofs.Asking.{accepted_of, read_into, read_is_new, read_no_trim, places_in}
 use Rattle.agreement.proofs.Deciding.{accept_knows}
 use Rattle.agreement.proofs.Following.{silent_agrees}
 use Rattle.agreement.proofs.Permitting.{issue_is_permitted}
-use Rattle.agreement.proofs.Putting.{issue_agrees, issue_have}
+use Rattle.agreement.proofs.Putting.{issue_agrees, issue_have, put_have, arming_agrees}
+use Rattle.agreement.proofs.Serving.{serves_free}
 use Rattle.agreement.proofs.Spelt.{IsSpelt, IsSpeltHeader, IsSpeltCommand, IsSpeltPrd, spelt_told, zeros_from}
 use Rattle.agreement.proofs.Taking.{fetch_follows}
 use Rattle.agreement.proofs.Witness.{start_with, starts_with, ready_knows, other_bit}
-use Rattle.agreement.proofs.Writing.{written_agrees}
 
 -- ---- what the bytes say
 
@@ -136,9 +137,9 @@ reached = reached_more issuing (Issue queued second_waits ∷ []) issuing_reache
 
 -- ---- a read is prepared in a slot, with its bit of PxSACT
 
-read_prepared : (uses : Uses) (m was : Machine) (d : Device) (slot first n : ℕ) → May m (Issue queued (newly_accepted (accepted_of was (read_into first n)))) → uses 0 slot ≡ Free → slot < 32 → (d.port 0).st ≡ true → (d.port 0).bases.clb ≡ 0 →
-    Told d.memory 0 0 slot (queued_read first) (cut (4096 * n) 8) → (d.port 0).sact slot ≡ true → IsPrepared uses m d 0 slot queued (newly_accepted (accepted_of was (read_into first n))) (2 ^ slot)
-read_prepared uses m was d slot first n may free small started list told armed = record {
+read_prepared : (uses : Uses) (m was : Machine) (d : Device) (slot first n : ℕ) → May m (Issue queued (newly_accepted (accepted_of was (read_into first n)))) → uses 0 slot ≡ Armed → slot < 32 → (d.port 0).st ≡ true → (d.port 0).bases.clb ≡ 0 →
+    Told d.memory 0 0 slot (queued_read first) (cut (4096 * n) 8) → IsPrepared uses m d 0 slot queued (newly_accepted (accepted_of was (read_into first n))) (2 ^ slot)
+read_prepared uses m was d slot first n may free small started list told = record {
   may = may;
   port_is = refl;
   free = free;
@@ -152,7 +153,6 @@ read_prepared uses m was d slot first n may free small started list told armed =
   means = record { op = refl; first = λ _. refl; places_are = (cut_length (4096 * n) 8, places_in n); head = λ e. absurd (read_no_trim e) };
   kind = refl;
   block = tt;
-  sact = armed;
   here = ap (λ (b : ℕ). b == 1) (bit_at-pow_same slot);
   alone = other_bit slot;
 }
@@ -162,36 +162,58 @@ read_prepared uses m was d slot first n may free small started list told armed =
 accepted_knows : Knows accepted (idle (ready_with two_memory))
 accepted_knows = accept_knows (idle (ready_with two_memory)) one_accepted second_request (accept_knows (idle (ready_with two_memory)) start first_request (ready_knows two_memory))
 
-may_arm : MayWrite (Px (port_at 0) Sact) 3 (ready_with two_memory)
-unfolding changed
-may_arm = (record { ae = refl; no_reset = refl }, (omega arith, refl), refl)
+abbrev one_armed : Device
+one_armed = written (Px (port_at 0) Sact) 1 (ready_with two_memory)
 
-armed_knows : Knows accepted (idle two_armed)
-armed_knows = record {
-  agrees = written_agrees (idle two_armed).uses accepted (ready_with two_memory) accepted_knows.agrees (Px (port_at 0) Sact) 3 may_arm (λ slot used. absurd (used refl));
-  have = accepted_knows.have;
-}
+bit_here : (slot : ℕ) → bit (2 ^ slot) slot ≡ true
+bit_here slot = ap (λ (b : ℕ). b == 1) (bit_at-pow_same slot)
+
+ready_runs : ((ready_with two_memory).port 0).st ≡ true
+unfolding changed
+ready_runs = refl
+
+one_runs : (one_armed.port 0).st ≡ true
+unfolding changed
+one_runs = refl
+
+still_free : put (λ _ _. Free) 0 0 Armed 0 1 ≡ Free
+unfolding changed
+still_free = refl
+
+one_armed_agrees : Agrees (put (λ _ _. Free) 0 0 Armed) accepted one_armed
+one_armed_agrees = arming_agrees (idle (ready_with two_memory)).uses accepted (ready_with two_memory) accepted_knows.agrees 0 0 1 refl ready_runs (bit_here 0) (other_bit 0)
+
+two_armed_agrees : Agrees armed_uses accepted two_armed
+two_armed_agrees = arming_agrees (put (λ _ _. Free) 0 0 Armed) accepted one_armed one_armed_agrees 0 1 2 still_free one_runs (bit_here 1) (other_bit 1)
+
+armed_have : (q : ℕ) → HaveSlots armed_uses accepted q []
+armed_have q =
+    put_have (put (λ _ _. Free) 0 0 Armed) accepted 0 1 Armed q [] (λ id u. absurd (serves_free (sym u ∙ still_free)))
+    (put_have (λ _ _. Free) accepted 0 0 Armed q [] (λ id u. absurd (serves_free (sym u))) (accepted_knows.have q))
 
 -- ---- both are issued
 
-first_prepared : IsPrepared (idle two_armed).uses accepted two_armed 0 0 queued first_waits 1
+abbrev one_uses : Uses
+one_uses = put armed_uses 0 0 (Serves first_id)
+
+first_prepared : IsPrepared armed_uses accepted two_armed 0 0 queued first_waits 1
 unfolding changed
-first_prepared = read_prepared (idle two_armed).uses accepted start two_armed 0 100 40 may_first refl (omega arith) refl refl first_told refl
+first_prepared = read_prepared armed_uses accepted start two_armed 0 100 40 may_first refl (omega arith) refl refl first_told
 
-one_agrees : Agrees (put (λ _ _. Free) 0 0 (Serves first_id)) issuing one_issued
-one_agrees = issue_agrees (idle two_armed).uses accepted two_armed accepted_reached armed_knows.agrees 0 0 queued first_waits 1 first_prepared
+one_agrees : Agrees one_uses issuing one_issued
+one_agrees = issue_agrees armed_uses accepted two_armed accepted_reached two_armed_agrees 0 0 queued first_waits 1 first_prepared
 
-one_have : (q : ℕ) → HaveSlots (put (λ _ _. Free) 0 0 (Serves first_id)) issuing q []
-one_have q = issue_have (idle two_armed).uses accepted two_armed accepted_reached armed_knows.agrees 0 0 queued first_waits 1 first_prepared q [] (armed_knows.have q)
+one_have : (q : ℕ) → HaveSlots one_uses issuing q []
+one_have q = issue_have armed_uses accepted two_armed accepted_reached two_armed_agrees 0 0 queued first_waits 1 first_prepared q [] (armed_have q)
 
-second_prepared : IsPrepared (put (λ _ _. Free) 0 0 (Serves first_id)) issuing one_issued 0 1 queued second_waits 2
+second_prepared : IsPrepared one_uses issuing one_issued 0 1 queued second_waits 2
 unfolding changed
-second_prepared = read_prepared (put (λ _ _. Free) 0 0 (Serves first_id)) issuing one_accepted one_issued 1 108 41 may_second refl (omega arith) refl refl second_told refl
+second_prepared = read_prepared one_uses issuing one_accepted one_issued 1 108 41 may_second refl (omega arith) refl refl second_told
 
 two_knows : Knows machine (two_known two_issued)
 two_knows = record {
-  agrees = issue_agrees (put (λ _ _. Free) 0 0 (Serves first_id)) issuing one_issued issuing_reached one_agrees 0 1 queued second_waits 2 second_prepared;
-  have = λ q. issue_have (put (λ _ _. Free) 0 0 (Serves first_id)) issuing one_issued issuing_reached one_agrees 0 1 queued second_waits 2 second_prepared q [] (one_have q);
+  agrees = issue_agrees one_uses issuing one_issued issuing_reached one_agrees 0 1 queued second_waits 2 second_prepared;
+  have = λ q. issue_have one_uses issuing one_issued issuing_reached one_agrees 0 1 queued second_waits 2 second_prepared q [] (one_have q);
 }
 
 -- ---- and the one is taken
@@ -232,9 +254,9 @@ two_are_known = record {
   );
   ids = (refl, refl);
   apart = frames_apart;
-  first_permitted = issue_is_permitted (idle two_armed).uses accepted two_armed accepted_reached armed_knows.agrees (port_at 0) 0 queued first_waits 1
+  first_permitted = issue_is_permitted armed_uses accepted two_armed accepted_reached two_armed_agrees (port_at 0) 0 queued first_waits 1
       (record { ae = refl; no_reset = refl }) (omega arith, refl) (omega arith) first_prepared;
-  second_permitted = issue_is_permitted (put (λ _ _. Free) 0 0 (Serves first_id)) issuing one_issued issuing_reached one_agrees (port_at 0) 1 queued second_waits 2
+  second_permitted = issue_is_permitted one_uses issuing one_issued issuing_reached one_agrees (port_at 0) 1 queued second_waits 2
       (record { ae = refl; no_reset = refl }) (omega arith, refl) (omega arith) second_prepared;
   issued = two_knows;
   takes = Steps-one (Fetch 0 0 (queued_read 100) (cut 0x28000 8)) two_issued one_taken can_fetch refl;

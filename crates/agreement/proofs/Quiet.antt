@@ -13,7 +13,7 @@ use Rattle.adapter.specs.declared.tape.Entry.{Entry}
 use Rattle.block_machine.specs.State.{Disk, Machine}
 use Rattle.block_machine.specs.Steps as machine
 use Rattle.block_machine.specs.Steps.{after_step}
-use Rattle.agreement.specs.Slots.{Use, Free, Own, Serves, Uses, Stage, IsMove, OwnWaits, OwnTaken, OwnOver, IsOver, IsPlaced, IsServed}
+use Rattle.agreement.specs.Slots.{Use, Free, Own, Serves, Uses, Stage, IsMove, OwnWaits, OwnTaken, OwnOver, IsOver, IsPlaced, IsServed, Armed}
 use Rattle.agreement.specs.Agrees.{Agrees, port_at, IsDiskOf, SameSectors, IsReceiving}
 use Rattle.agreement.specs.Tape.{PutsIn}
 use Rattle.agreement.specs.Follows.{Follows}
@@ -150,6 +150,7 @@ module _ (uses : Uses) (m : Machine) (d : Device) (a : Agrees uses m d) where
 
       use_placed : (u : Use) → IsServed m d.memory d.tape (d.port port) port slot u → (t : Taken) → (d.port port).taken slot ≡ Some t → IsPlaced (d.port port) port slot
       use_placed Free h t e = some_none e h.free
+      use_placed Armed h t e = some_none e h.free
       use_placed (Own o) h t e = h.placed
       use_placed (Serves id) h t e = h.placed
 
@@ -176,7 +177,8 @@ module _ (uses : Uses) (m : Machine) (d : Device) (a : Agrees uses m d) where
   placed_same port k new same h = placed_on (d.port port) new port k same h
 
   fall_slot : (port k : ℕ) (u : Use) → (d.port port).st ≡ false → IsServed m d.memory d.tape (d.port port) port k u → IsServed m d.memory d.tape (record (d.port port) { cr = false; taken = λ _. None }) port k u
-  fall_slot port k Free st h = record { issued = h.issued; free = refl }
+  fall_slot port k Free st h = record { issued = h.issued; free = refl; unarmed = h.unarmed }
+  fall_slot port k Armed st h = record { issued = h.issued; free = refl; armed = h.armed }
   fall_slot port k (Own o) st h = record {
     own = h.own;
     head = h.head;
@@ -229,7 +231,8 @@ module _ (uses : Uses) (m : Machine) (d : Device) (a : Agrees uses m d) where
   })
 
   reset_slot : (port k : ℕ) (u : Use) → IsServed m d.memory d.tape (d.port port) port k u → IsServed m d.memory d.tape (with_reset (d.port port)) port k u
-  reset_slot port k Free h = record { issued = refl; free = refl }
+  reset_slot port k Free h = record { issued = refl; free = refl; unarmed = refl }
+  reset_slot port k Armed h = record { issued = refl; free = refl; armed = refl }
   reset_slot port k (Own o) h = record {
     own = h.own;
     head = h.head;

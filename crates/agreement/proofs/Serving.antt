@@ -19,7 +19,7 @@ use Rattle.adapter.proofs.Changed.{changed_same, changed_other}
 use Rattle.block_machine.specs.State.{Accepted, Pending, Machine}
 use Rattle.block_machine.specs.Steps.{MayMove}
 use Rattle.agreement.specs.Places.{list_of, scratch_of, IsTable, IsScratch}
-use Rattle.agreement.specs.Slots.{Use, Free, Own, Serves, Uses, Told, IsPlaced, MeansRange, HasBlock, Waits, Progress, IsTaken, Stage, IsMove, Brought, OwnWaits, OwnTaken, OwnOver, IsOver, IsServed}
+use Rattle.agreement.specs.Slots.{Use, Free, Own, Serves, Uses, Told, IsPlaced, MeansRange, HasBlock, Waits, Progress, IsTaken, Stage, IsMove, Brought, OwnWaits, OwnTaken, OwnOver, IsOver, IsServed, Armed}
 use Rattle.agreement.specs.Agrees.{Agrees}
 
 -- a port as one slot sees it
@@ -190,7 +190,8 @@ pub served_on : (m m' : Machine) (memory new_memory : ℕ → ℕ) (tape later :
     ((o : Operation) → u ≡ Own o → slot ≡ 0 → GainsNone tape later port o) →
     ((id : RequestId) → u ≡ Serves id → (e : Pending) → e.request.id ≡ id → MayMove m e → MayMove m' e) →
     IsServed m memory tape p port slot u → IsServed m' new_memory later new port slot u
-served_on m m' memory new_memory tape later p new port slot Free same tables scratch gains moves h = over_on p new slot same h
+served_on m m' memory new_memory tape later p new port slot Free same tables scratch gains moves h = record { issued = same.issued ∙ h.issued; free = same.taken ∙ h.free; unarmed = same.sact ∙ h.unarmed }
+served_on m m' memory new_memory tape later p new port slot Armed same tables scratch gains moves h = record { issued = same.issued ∙ h.issued; free = same.taken ∙ h.free; armed = same.sact ∙ (h.armed ∙ sym same.st) }
 served_on m m' memory new_memory tape later p new port slot (Own o) same tables scratch gains moves h = record {
   own = h.own;
   head = h.head;

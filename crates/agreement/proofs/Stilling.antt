@@ -23,7 +23,7 @@ use Rattle.agreement.specs.Agrees.{Agrees}
 use Rattle.agreement.specs.Facts.{IsStill, AreOver}
 use Rattle.agreement.specs.Follows.{Follows}
 use Rattle.agreement.specs.Places.{scratch_of, place_in}
-use Rattle.agreement.specs.Slots.{Use, Free, Own, Serves, Uses, Told, IsPlaced, ArePlaces, ServesRequest, OwnWaits, OwnTaken, OwnOver, IsOver, IsServed}
+use Rattle.agreement.specs.Slots.{Use, Free, Own, Serves, Uses, Told, IsPlaced, ArePlaces, ServesRequest, OwnWaits, OwnTaken, OwnOver, IsOver, IsServed, Armed}
 use Rattle.agreement.specs.Spares.{SparesBook}
 use Rattle.agreement.proofs.Following.{steps_follow}
 use Rattle.block_machine.proofs.Lending.{lent_clients}
@@ -91,13 +91,15 @@ module _ (uses : Uses) (m : Machine) (d : Device) (a : Agrees uses m d) (reached
     -- what the slot's bytes say
     said : (u : Use) → uses port slot ≡ u → IsServed m d.memory d.tape (d.port port) port slot u → InUse (d.port port) slot →
         (((d.port port).bases.clb + 32 * slot ≤ at) × (at < (d.port port).bases.clb + 32 * slot + 32)) ⊎ InCommand d (d.port port) slot at → ⊥
-    said Free is h used x = over_unused (d.port port) slot h used
+    said Free is h used x = over_unused (d.port port) slot (record { issued = h.issued; free = h.free }) used
+    said Armed is h used x = over_unused (d.port port) slot (record { issued = h.issued; free = h.free }) used
     said (Own o) is h used x = scratch_low port at (scratch_of port ∷ []) h.placed.port_below refl past (told_low d (d.port port) port slot h.command (scratch_of port ∷ []) at h.placed h.told past x)
     said (Serves id) is h used x = place_over id is h used (told_low d (d.port port) port slot h.command h.places at h.placed h.told past x)
 
     -- what it has taken
     taken : (u : Use) → uses port slot ≡ u → IsServed m d.memory d.tape (d.port port) port slot u → (t : Taken) → (d.port port).taken slot ≡ Some t → InPlaces t.places at → ⊥
     taken Free is h t there x = some-none there h.free
+    taken Armed is h t there x = some-none there h.free
     taken (Own o) is h t there x = own h.stage
       where
         own : OwnWaits (d.port port) slot ⊎ (OwnTaken d.memory d.tape (d.port port) port slot h.command ⊎ OwnOver d.memory d.tape (d.port port) port slot h.command) → ⊥

@@ -14,7 +14,7 @@ use Rattle.adapter.proofs.Changed.{changed_same, changed_other}
 use Rattle.adapter.proofs.SaysLemmas.{says_meaning, says_places}
 use Rattle.block_machine.specs.State.{Pending, Machine}
 use Rattle.agreement.specs.Places.{scratch_of}
-use Rattle.agreement.specs.Slots.{Use, Free, Own, Serves, Uses, Progress, HasBlock, UpTo, Stage, OwnWaits, OwnTaken, OwnOver, IsServed, op_of}
+use Rattle.agreement.specs.Slots.{Use, Free, Own, Serves, Uses, Progress, HasBlock, UpTo, Stage, OwnWaits, OwnTaken, OwnOver, IsServed, op_of, Armed}
 use Rattle.agreement.specs.Agrees.{Agrees}
 use Rattle.agreement.specs.Follows.{Follows}
 use Rattle.agreement.proofs.Serving.{SameFixed-refl, NoPort, placed_on}
@@ -57,6 +57,7 @@ module _ (uses : Uses) (m : Machine) (d : Device) (a : Agrees uses m d) (port sl
   -- what waits there says a command
   waiting : (u : Use) → IsServed m d.memory d.tape (d.port port) port slot u → IsFetchable (d.port port) slot → (c : Meaning) × (places : List ℕ) × Says d.memory (d.port port).bases.clb slot c places
   waiting Free h w = true_false w.issued h.issued
+  waiting Armed h w = true_false w.issued h.issued
   waiting (Own o) h w = (h.command, scratch_of port ∷ [], h.told.says)
   waiting (Serves id) h w = (h.command, h.places, h.told.says)
 
@@ -68,6 +69,7 @@ module _ (uses : Uses) (m : Machine) (d : Device) (a : Agrees uses m d) (port sl
   module _ (c : Meaning) (places : List ℕ) (can : MayFetch d port slot c places) where
     fetch_slot : (u : Use) → IsServed m d.memory d.tape (d.port port) port slot u → IsServed m d.memory d.tape (with_fetch (d.port port) slot c places) port slot u
     fetch_slot Free h = true_false can.fetchable.issued h.issued
+    fetch_slot Armed h = true_false can.fetchable.issued h.issued
     fetch_slot (Own o) h = record {
       own = h.own;
       head = h.head;

@@ -103,7 +103,6 @@ prepared = record {
   means = record { op = refl; first = λ h. true-false h refl; places_are = refl; head = λ _. refl };
   kind = refl;
   block = ap trim_sectors block_is ∙ block_means;
-  sact = refl;
   here = refl;
   alone = bit_one_other;
 }

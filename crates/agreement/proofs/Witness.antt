@@ -29,7 +29,7 @@ use Rattle.block_machine.specs.Steps.{Accept, Issue, May, IsNew, MayMove, after_
 use Rattle.block_machine.proofs.HistoryLemmas.{reached_more}
 use Rattle.block_machine.proofs.Members.{contains_here, contains_none}
 use Rattle.block_machine.proofs.Setting.{empty, filled_starts}
-use Rattle.agreement.specs.Slots.{Free, Serves, Told, IsOver}
+use Rattle.agreement.specs.Slots.{Free, Serves, Told, IsFree}
 use Rattle.agreement.specs.Agrees.{Agrees, port_at, IsDiskOf, SameSectors, IsReceiving}
 use Rattle.agreement.specs.Driver.{Knows, IsPrepared, idle}
 use Rattle.agreement.specs.Witness.{first_uses, first_known, ready_port, ready_with, prepared_read, PreparedIsKnown, FirstIsKnown}
@@ -116,7 +116,7 @@ tells k b bl = get_or-replicate 512 b k 0 bl
 pub ready_knows : (memory : ℕ → ℕ) → Knows (start_with memory) (idle (ready_with memory))
 ready_knows memory = record {
   agrees = record {
-    slot = λ q k. changed_at (λ _. quiet_port) 0 ready_port (λ n p. IsOver p k) (record { issued = refl; free = refl }) (λ n ne. record { issued = refl; free = refl }) q;
+    slot = λ q k. changed_at (λ _. quiet_port) 0 ready_port (λ n p. IsFree p k) (record { issued = refl; free = refl; unarmed = refl }) (λ n ne. record { issued = refl; free = refl; unarmed = refl }) q;
     apart = λ q k q' k' id u v. absurd (let z : Free ≡ Serves id = u in cc);
     received = changed_at (λ _. quiet_port) 0 ready_port (λ n p. p.fre ≡ true → IsReceiving p n) (λ _. record { below = omega arith; area = refl }) (λ n ne f. true_false f refl);
     disk = changed_at (λ _. quiet_port) 0 ready_port (λ n p. IsDiskOf (start_with memory) p n) (record { present = refl; id = refl; size = refl })
@@ -167,7 +167,6 @@ prepared = record {
   means = record { op = refl; first = λ _. refl; places_are = (cut_length 0x28000 8, places_in 40); head = λ e. absurd (read_no_trim e) };
   kind = refl;
   block = tt;
-  sact = refl;
   here = refl;
   alone = bit_one_other;
 }

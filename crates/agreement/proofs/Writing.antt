@@ -20,7 +20,7 @@ use Rattle.block_machine.specs.State.{Machine}
 use Rattle.block_machine.specs.Left as left
 use Rattle.block_machine.specs.Histories.{IsReached}
 use Rattle.agreement.specs.Places.{list_of, received_of}
-use Rattle.agreement.specs.Slots.{Use, Free, Own, Serves, Uses, Stage, OwnWaits, OwnTaken, OwnOver, IsOver, IsServed}
+use Rattle.agreement.specs.Slots.{Use, Free, Own, Serves, Uses, Stage, OwnWaits, OwnTaken, OwnOver, IsServed, Armed, IsFree}
 use Rattle.agreement.specs.Agrees.{Agrees, IsDiskOf, SameSectors, IsReceiving}
 use Rattle.agreement.specs.Driver.{AllFree, IsCommand, LeavesUses}
 use Rattle.agreement.specs.Follows.{Follows}
@@ -71,7 +71,8 @@ module _ (uses : Uses) (m : Machine) (d : Device) (a : Agrees uses m d) (port : 
 
   listed_slot : (v k : ℕ) (u : Use) → (v ≡ list_of port) ⊎ (u ≡ Free) → IsServed m d.memory d.tape (d.port port) port k u →
       IsServed m d.memory d.tape (record (d.port port) { bases = record (d.port port).bases { clb = v; clb_set = true } }) port k u
-  listed_slot v k Free at h = record { issued = h.issued; free = h.free }
+  listed_slot v k Free at h = record { issued = h.issued; free = h.free; unarmed = h.unarmed }
+  listed_slot v k Armed at h = record { issued = h.issued; free = h.free; armed = h.armed }
   listed_slot v k (Own o) at h = slot_stays m d (d.port port) _ port k (Own o)
       (record { issued = refl; sact = refl; taken = refl; st = refl; cr = refl; since = refl; list = ⊎_elim (λ (e : v ≡ list_of port). e ∙ sym h.placed.list) (λ (f : Own o ≡ Free). absurd (own_free f)) at }) h
   listed_slot v k (Serves id) at h = slot_stays m d (d.port port) _ port k (Serves id)
@@ -82,18 +83,11 @@ module _ (uses : Uses) (m : Machine) (d : Device) (a : Agrees uses m d) (port : 
       (λ k. listed_slot v k (uses port k) (⊎_elim (λ (e : v ≡ list_of port). inl e) (λ (f : AllFree uses port). inr (f k)) at) (a.slot port k))
       (λ f. let r = a.received port f in record { below = r.below; area = r.area }) refl refl
 
-  -- ---- PxSACT, for free slots
+  -- ---- PxSACT, with no bit
 
-  armed_slot : (v k : ℕ) (u : Use) → ((u ≡ Free → ⊥) → bit v k ≡ false) → IsServed m d.memory d.tape (d.port port) port k u →
-      IsServed m d.memory d.tape (record (d.port port) { sact = λ s. (d.port port).sact s || bit v s }) port k u
-  armed_slot v k Free free h = record { issued = h.issued; free = h.free }
-  armed_slot v k (Own o) free h = slot_stays m d (d.port port) _ port k (Own o)
-      (record { issued = refl; sact = ap (λ (b : Bool). (d.port port).sact k || b) (free own_free) ∙ or_false ((d.port port).sact k); taken = refl; st = refl; cr = refl; since = refl; list = refl }) h
-  armed_slot v k (Serves id) free h = slot_stays m d (d.port port) _ port k (Serves id)
-      (record { issued = refl; sact = ap (λ (b : Bool). (d.port port).sact k || b) (free serves_free) ∙ or_false ((d.port port).sact k); taken = refl; st = refl; cr = refl; since = refl; list = refl }) h
-
-  armed : (v : ℕ) → ((k : ℕ) → (uses port k ≡ Free → ⊥) → bit v k ≡ false) → Agrees uses m (with_port d port (record (d.port port) { sact = λ s. (d.port port).sact s || bit v s }))
-  armed v free = port_agrees uses m d a port _ (λ k. armed_slot v k (uses port k) (free k) (a.slot port k)) (received_on _ refl refl) refl refl
+  armed : (v : ℕ) → ((k : ℕ) → bit v k ≡ false) → Agrees uses m (with_port d port (record (d.port port) { sact = λ s. (d.port port).sact s || bit v s }))
+  armed v none = alike _
+      (λ k. record { issued = refl; sact = ap (λ (b : Bool). (d.port port).sact k || b) (none k) ∙ or_false ((d.port port).sact k); taken = refl; st = refl; cr = refl; since = refl; list = refl }) refl refl refl refl
 
   -- ---- PxCMD
 
@@ -103,7 +97,16 @@ module _ (uses : Uses) (m : Machine) (d : Device) (a : Agrees uses m d) (port : 
 
   -- ST is cleared: what waited is given up, and what is taken goes on
   stopped_slot : (tape k : ℕ) (fre : Bool) (u : Use) → IsServed m d.memory d.tape (d.port port) port k u → IsServed m d.memory d.tape (with_fre fre (with_st false tape (d.port port))) port k u
-  stopped_slot tape k fre Free h = record { issued = fallen_bit (d.port port).st (d.port port).ci k (λ _. h.issued); free = h.free }
+  stopped_slot tape k fre Free h = record {
+    issued = fallen_bit (d.port port).st (d.port port).ci k (λ _. h.issued);
+    free = h.free;
+    unarmed = fallen_bit (d.port port).st (d.port port).sact k (λ _. h.unarmed);
+  }
+  stopped_slot tape k fre Armed h = record {
+    issued = fallen_bit (d.port port).st (d.port port).ci k (λ _. h.issued);
+    free = h.free;
+    armed = fallen_bit (d.port port).st (d.port port).sact k (λ s. h.armed ∙ s);
+  }
   stopped_slot tape k fre (Own o) h = record {
     own = h.own;
     head = h.head;
@@ -193,7 +196,7 @@ module _ (uses : Uses) (m : Machine) (d : Device) (a : Agrees uses m d) (port : 
           (λ k. slot_stays m d (d.port port) _ port k (uses port k) (record { issued = refl; sact = refl; taken = refl; st = refl; cr = refl; since = refl; list = refl }) (a.slot port k))
           (receives v tape true c.receive _ refl refl) refl refl)
 
-      over : (k : ℕ) → uses port k ≡ Free → IsOver (d.port port) k
+      over : (k : ℕ) → uses port k ≡ Free → IsFree (d.port port) k
       over k f = subst (λ (u : Use). IsServed m d.memory d.tape (d.port port) port k u) f (a.slot port k)
 
       started : PortState
@@ -207,7 +210,7 @@ module _ (uses : Uses) (m : Machine) (d : Device) (a : Agrees uses m d) (port : 
           (port_agrees uses m d a port
           (with_fre (bit v 4) (record (d.port port) { st = true; cr = true; broken = false; halt = restarted (d.port port).halt; notes = record (d.port port).notes { st_set_at = tape } }))
           (λ k. subst (λ (u : Use). IsServed m d.memory d.tape (with_fre (bit v 4) (record (d.port port) { st = true; cr = true; broken = false; halt = restarted (d.port port).halt; notes = record (d.port port).notes { st_set_at = tape } })) port k u) (sym (free k))
-          (let o = over k (free k) in record { issued = o.issued; free = o.free }))
+          (let o = over k (free k) in record { issued = o.issued; free = o.free; unarmed = o.unarmed }))
           (receives v tape true c.receive _ refl refl) refl refl)
 
       running : (s : Bool) → (d.port port).st ≡ s → Agrees uses m (with_port d port (with_fre (bit v 4) (with_st true tape (d.port port))))

@@ -57,7 +57,3 @@ pub record Agrees (uses : Uses) (m : Machine) (d : Device) : Type 0 where
 abbrev pub HaveSlots : Uses → Machine → ℕ → List RequestId → Type 0
 HaveSlots uses m port parked = (e : Pending) → MayMove m e → e.request.port.0 ≡ port
     → Contains parked e.request.id ⊎ ((slot : ℕ) × (uses port slot ≡ Serves e.request.id))
-
--- no free slot of the port has a bit of SACT
-abbrev pub AreUnarmed : Uses → PortState → ℕ → Type 0
-AreUnarmed uses p port = (slot : ℕ) → uses port slot ≡ Free → p.sact slot ≡ false

@@ -14,7 +14,6 @@ use Rattle.adapter.specs.declared.command.Operation.{Operation}
 use Rattle.adapter.specs.declared.tape.Entry.{Entry}
 use Rattle.block_machine.specs.Histories.{IsReached, AddsSteps}
 use Rattle.block_machine.specs.State.{Machine}
-use Rattle.agreement.specs.Agrees.{AreUnarmed}
 use Rattle.agreement.specs.Driver.{Known, Knows, ByDevice}
 use Rattle.agreement.specs.Links.{SparesRegister}
 use Rattle.agreement.specs.Slots.{Uses, Own, IsMove, IsOver, op_of}
@@ -23,14 +22,12 @@ use Rattle.agreement.specs.Slots.{Uses, Own, IsMove, IsOver, op_of}
 abbrev pub known : Uses → (ℕ → List RequestId) → Device → Known
 known uses parked d = record { uses = uses; parked = parked; device = d }
 
--- Some machine that a history leads to agrees with a driver that uses the slots so; and no free slot has a bit of
--- PxSACT.
+-- Some machine that a history leads to agrees with a driver that uses the slots so.
 pub record IsAgreed (uses : Uses) (d : Device) : Type 0 where
   pub machine : Machine
   pub parked : ℕ → List RequestId
   pub reached : IsReached machine
   pub knows : Knows machine (known uses parked d)
-  pub unarmed : (port : ℕ) → AreUnarmed uses (d.port port) port
 
 -- so it is with some use of the slots that fits
 abbrev pub AgreesWith : (Uses → Type 0) → Device → Type 0

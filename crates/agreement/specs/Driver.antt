@@ -1,5 +1,5 @@
 -- What the driver may store and write, what it knows, and what its calls add (this project's own).
-use Rattle.std.specs.Prelude.{ℕ, Bool, true, false, not, ◌≡◌, ◌≢◌, ◌⊎◌, ◌+◌, ◌*◌, ◌<◌, ◌≤◌, ◌++◌, List, [], ◌∷◌, length, None, Contains}
+use Rattle.std.specs.Prelude.{ℕ, if◌then◌else◌, Bool, true, false, not, ◌≡◌, ◌≢◌, ◌⊎◌, ◌+◌, ◌*◌, ◌<◌, ◌≤◌, ◌++◌, List, [], ◌∷◌, length, None, Contains}
 use Rattle.ata_types.specs.declared.memory.TheConstants.{FRAME_BYTES, HEADER_BYTES, TABLE_BYTES}
 use Rattle.ata_types.specs.declared.request.RequestId.{RequestId}
 use Rattle.hba_regs.specs.Bits.{bit}
@@ -19,8 +19,8 @@ use Rattle.block_machine.specs.Steps.{Step, Issue, May}
 use Rattle.block_machine.specs.Left.{after, AllTold}
 use Rattle.block_machine.specs.Events.{AllMay, AllDevices}
 use Rattle.agreement.specs.Places.{list_of, received_of, table_of, scratch_of, IsTable, IsScratch}
-use Rattle.agreement.specs.Slots.{Free, Own, Serves, Uses, put, Told, Means, HasBlock, IsPlaced, op_of}
-use Rattle.agreement.specs.Agrees.{Agrees, HaveSlots, AreUnarmed}
+use Rattle.agreement.specs.Slots.{Free, Armed, Own, Serves, Uses, put, Told, Means, HasBlock, IsPlaced, op_of}
+use Rattle.agreement.specs.Agrees.{Agrees, HaveSlots}
 use Rattle.agreement.specs.Tape.{TellsAmong, PutsIn}
 
 -- ---- stores
@@ -69,7 +69,7 @@ pub record IsWrittenBack (st fre : Bool) (was v : ℕ) : Type 0 where
 abbrev pub LeavesUses : Uses → Reg → ℕ → Device → Type 0
 LeavesUses uses (Px port Clb) v d = (v ≡ list_of port.0) ⊎ AllFree uses port.0
 LeavesUses uses (Px port Cmd) v d = IsCommand uses port.0 v (d.port port.0)
-LeavesUses uses (Px port Sact) v d = (slot : ℕ) → (uses port.0 slot ≡ Free → ⊥) → bit v slot ≡ false
+LeavesUses uses (Px port Sact) v d = (slot : ℕ) → bit v slot ≡ false
 LeavesUses uses (Px port Ci) v d = (slot : ℕ) → bit v slot ≡ false
 LeavesUses uses r v d = Unit {0}
 
@@ -109,19 +109,11 @@ pub record Goes (k : Known) (m : Machine) (steps : List Step) (later : Known) : 
   pub backed : IsBacked k.device later.device m steps
   pub knows : Knows (after m steps) later
 
--- What the device leaves of what is not in use: all headers, but for PRDBC, and all tables; the scratch frame where slot 0 has no
--- command of the driver's own; and the bits of SACT of free slots.
+-- What the device leaves of what is not in use: all headers, but for PRDBC, and all tables; and the scratch frame where slot 0 has
+-- no command of the driver's own.
 pub record LeavesFree (uses : Uses) (old new : Device) : Type 0 where
   pub tables : (port slot at : ℕ) → port < 4 → slot < 32 → IsTable port slot at → new.memory at ≡ old.memory at
   pub scratch : (port at : ℕ) → port < 4 → ((o : Operation) → uses port 0 ≡ Own o → ⊥) → IsScratch port at → new.memory at ≡ old.memory at
-  pub sact : (port slot : ℕ) → uses port slot ≡ Free → (new.port port).sact slot ≡ (old.port port).sact slot
-
--- What is asked of a write so that free slots keep their bits of SACT: a write of PxSACT has none of theirs; and one of PxCMD
--- leaves ST one, or ST is zero already, or they have no bits.
-abbrev pub KeepsFreeBits : Uses → Reg → ℕ → Device → Type 0
-KeepsFreeBits uses (Px port Sact) v d = (slot : ℕ) → uses port.0 slot ≡ Free → bit v slot ≡ false
-KeepsFreeBits uses (Px port Cmd) v d = (bit v 0 ≡ true) ⊎ (((d.port port.0).st ≡ false) ⊎ AreUnarmed uses (d.port port.0) port.0)
-KeepsFreeBits uses r v d = Unit {0}
 
 -- none of these n bytes is of the slot's header, but for PRDBC, or of its table
 abbrev pub MissesTable : ℕ → ℕ → ℕ → ℕ → Type 0
@@ -139,7 +131,7 @@ MissesScratch port at n = (place : ℕ) → IsScratch port place → at ≤ plac
 pub record IsPrepared (uses : Uses) (m : Machine) (d : Device) (port slot : ℕ) (mode : Mode) (e : Pending) (v : ℕ) : Type 0 where
   pub may : May m (Issue mode e)
   pub port_is : e.request.port.0 ≡ port
-  pub free : uses port slot ≡ Free
+  pub free : uses port slot ≡ (if is_plain mode e.request.asked.op then Free else Armed)
   pub usable : slot < mode.usable
   pub head : is_plain mode e.request.asked.op ≡ true → slot ≡ 0
   pub started : (d.port port).st ≡ true
@@ -150,7 +142,6 @@ pub record IsPrepared (uses : Uses) (m : Machine) (d : Device) (port slot : ℕ)
   pub means : Means port slot e.request command places
   pub kind : is_queued command.operation ≡ not (is_plain mode e.request.asked.op)
   pub block : HasBlock e.request.asked.op d.memory port e.request
-  pub sact : (d.port port).sact slot ≡ is_queued command.operation
   pub here : bit v slot ≡ true
   pub alone : (k : ℕ) → k ≢ slot → bit v k ≡ false
 
@@ -163,7 +154,6 @@ pub record IsOwnPrepared (uses : Uses) (d : Device) (port : ℕ) (o : Operation)
   pub command : Meaning
   pub operation_is : command.operation ≡ o
   pub told : Told d.memory (d.port port).bases.clb port 0 command (scratch_of port ∷ [])
-  pub unqueued : (d.port port).sact 0 ≡ false
   pub known : (d.port port).notes.st_set_at ≤ length d.tape
   pub here : bit v 0 ≡ true
   pub alone : (k : ℕ) → k ≢ 0 → bit v k ≡ false

@@ -19,7 +19,7 @@ use Rattle.block_machine.specs.State.{Pending, Machine}
 use Rattle.block_machine.specs.Steps.{MayMove}
 use Rattle.agreement.specs.Agrees.{port_at}
 use Rattle.agreement.specs.Driver.{Known, Knows}
-use Rattle.agreement.specs.Slots.{Free, Serves, put}
+use Rattle.agreement.specs.Slots.{Free, Serves, put, Armed, Uses}
 use Rattle.agreement.specs.Witness.{first_id, ready_with}
 
 -- request 2
@@ -46,10 +46,10 @@ second_prd = 0 ∷ 0x90 ∷ 2 ∷ 0 ∷ 0 ∷ 0 ∷ 0 ∷ 0 ∷ 0 ∷ 0 ∷ 0 �
 unfoldable pub two_memory : ℕ → ℕ
 two_memory = patched (patched (patched (patched first_memory 0x1000 (queued_bytes 0 100)) 32 second_header) 0x1400 (queued_bytes 1 108)) 0x1480 second_prd
 
--- Such a device: PxSACT was written with bits 0 and 1, then PxCI with bit 0, and then with bit 1; and slot 0's command
+-- Such a device: PxSACT was written with bit 0 and with bit 1, then PxCI with bit 0, and then with bit 1; and slot 0's command
 -- is taken.
 abbrev pub two_armed : Device
-two_armed = written (Px (port_at 0) Sact) 3 (ready_with two_memory)
+two_armed = written (Px (port_at 0) Sact) 2 (written (Px (port_at 0) Sact) 1 (ready_with two_memory))
 
 abbrev pub one_issued : Device
 one_issued = written (Px (port_at 0) Ci) 1 two_armed
@@ -60,9 +60,13 @@ two_issued = written (Px (port_at 0) Ci) 2 one_issued
 abbrev pub one_taken : Device
 one_taken = after (Fetch 0 0 (queued_read 100) (cut 0x28000 8)) two_issued
 
+-- slots 0 and 1 of port 0 are armed
+abbrev pub armed_uses : Uses
+armed_uses = put (put (λ port slot. Free) 0 0 Armed) 0 1 Armed
+
 -- slot 0 of port 0 serves request 1, and slot 1 request 2
 abbrev pub two_known : Device → Known
-two_known d = record { uses = put (put (λ port slot. Free) 0 0 (Serves first_id)) 0 1 (Serves second_id); parked = λ port. []; device = d }
+two_known d = record { uses = put (put armed_uses 0 0 (Serves first_id)) 0 1 (Serves second_id); parked = λ port. []; device = d }
 
 -- A machine is reached that has issued both requests, which have no frame in common. Each write of PxCI is permitted;
 -- the machine agrees with the driver when both commands are issued, and when the device has taken the one, which is

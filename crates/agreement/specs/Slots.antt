@@ -17,10 +17,11 @@ use Rattle.block_machine.specs.State.{Accepted, Pending, Machine}
 use Rattle.block_machine.specs.Steps.{MayMove, AllTouched}
 use Rattle.agreement.specs.Places.{list_of, table_of, scratch_of, place_in}
 
--- What the driver has put into a slot: nothing, a command of its own (IDENTIFY DEVICE or READ LOG EXT), or the request of
--- this id.
+-- What the driver has put into a slot: nothing, its bit of PxSACT alone, a command of its own (IDENTIFY DEVICE or READ LOG EXT), or
+-- the request of this id.
 pub data Use : Type 0 where
   Free : Use
+  Armed : Use
   Own : Operation → Use
   Serves : RequestId → Use
 
@@ -35,6 +36,7 @@ put uses port slot u = changed uses port (changed (uses port) slot u)
 -- the slot serves a request
 abbrev pub is_serving : Use → Bool
 is_serving Free = false
+is_serving Armed = false
 is_serving (Own o) = false
 is_serving (Serves id) = true
 
@@ -220,8 +222,21 @@ pub record ServesOwn (memory : ℕ → ℕ) (tape : List Entry) (p : PortState) 
   pub known : p.notes.st_set_at ≤ length tape
   pub stage : OwnWaits p slot ⊎ (OwnTaken memory tape p port slot command ⊎ OwnOver memory tape p port slot command)
 
+-- no command is issued or taken, and no bit of SACT is set
+pub record IsFree (p : PortState) (slot : ℕ) : Type 0 where
+  pub issued : p.ci slot ≡ false
+  pub free : p.taken slot ≡ None
+  pub unarmed : p.sact slot ≡ false
+
+-- No command is issued or taken, and the bit of SACT is set for the next one; clearing ST clears it.
+pub record IsArmed (p : PortState) (slot : ℕ) : Type 0 where
+  pub issued : p.ci slot ≡ false
+  pub free : p.taken slot ≡ None
+  pub armed : p.sact slot ≡ p.st
+
 -- the relation of one slot
 abbrev pub IsServed : Machine → (ℕ → ℕ) → List Entry → PortState → ℕ → ℕ → Use → Type 0
-IsServed m memory tape p port slot Free = IsOver p slot
+IsServed m memory tape p port slot Free = IsFree p slot
+IsServed m memory tape p port slot Armed = IsArmed p slot
 IsServed m memory tape p port slot (Own o) = ServesOwn memory tape p port slot o
 IsServed m memory tape p port slot (Serves id) = ServesRequest m memory p port slot id

@@ -30,15 +30,15 @@ ghost use Rattle.block_machine.specs.Refusals.{IsOpen};
 ghost use Rattle.block_machine.specs.State.{Accepted, Pending, Machine, unanswered};
 ghost use Rattle.block_machine.specs.Steps.{Step, Accept, Issue, Age, Again, Answer, Release, Store, Load, May, NoneKept, older, after_step, stays, MayMove};
 ghost use Rattle.block_machine.specs.declared.due.Mode.{Mode};
-ghost use Rattle.agreement.specs.Agrees.{Agrees, IsDiskOf, SameMemory, SameSectors, HaveSlots, AreUnarmed, AreApart};
-ghost use Rattle.agreement.specs.Driver.{MayStore, LeavesUses, LeavesFree, Known, Knows, IsBacked, ByDevice, Goes, IsPrepared, IsOwnPrepared, EndsWith, HasNoSlot, Forgets, ForgetsKept, serving, parking, freeing, idle, IsWrittenBack, KeepsFreeBits, MissesTable, MissesScratch};
+ghost use Rattle.agreement.specs.Agrees.{Agrees, IsDiskOf, SameMemory, SameSectors, HaveSlots, AreApart};
+ghost use Rattle.agreement.specs.Driver.{MayStore, LeavesUses, LeavesFree, Known, Knows, IsBacked, ByDevice, Goes, IsPrepared, IsOwnPrepared, EndsWith, HasNoSlot, Forgets, ForgetsKept, serving, parking, freeing, idle, IsWrittenBack, MissesTable, MissesScratch};
 ghost use Rattle.agreement.specs.Follows.{Follows};
 ghost use Rattle.agreement.specs.Links.{IsPlugging};
 ghost use Rattle.agreement.specs.Places.{list_of, scratch_of, received_of};
 ghost use Rattle.agreement.specs.Trimmed.{TrimIsKnown};
 ghost use Rattle.agreement.specs.Witness.{PreparedIsKnown, FirstIsKnown, KeptIsKnown, ParkedIsKnown, EndedIsKnown, OwnIsKnown};
 ghost use Rattle.agreement.specs.Served.{TwoAreKnown};
-ghost use Rattle.agreement.specs.Slots.{Use, Free, Own, Serves, Uses, put, serving_count, Told, HasBlock, IsOver, op_of, IsMove};
+ghost use Rattle.agreement.specs.Slots.{Use, Free, Armed, Own, Serves, Uses, put, serving_count, Told, HasBlock, IsOver, op_of, IsMove};
 ghost use Rattle.agreement.specs.Spares.{IsFurther, AllFurther, SparesBook, IsOfAnother};
 ghost use Rattle.agreement.specs.Tape.{OneAtMost, TellsAmong};
 
@@ -101,6 +101,19 @@ pub fn own_issuing_is_followed()
     ensures { (k : Known) (port : Port) (o : Operation) (v : ℕ) (new : Device) → k.device.hr ≡ false
         → IsOwnPrepared k.uses k.device port.0 o v → Writes (Px port Ci) v k.device new
         → AddsSteps Knows k (record k { uses = put k.uses port.0 0 (Own o); device = new }) (ByDevice k.device new) }
+{}
+
+/// The write of PxSACT arms a free slot of a running port, which is no step of the machine. Once ST is cleared, the slot is free again.
+/// A free slot has no bit of PxSACT.
+pub fn arming_is_followed()
+    ensures armed { (k : Known) (port : Port) (slot v : ℕ) (new : Device) → k.device.hr ≡ false → k.uses port.0 slot ≡ Free
+        → (k.device.port port.0).st ≡ true → bit v slot ≡ true → ((other : ℕ) → other ≢ slot → bit v other ≡ false)
+        → Writes (Px port Sact) v k.device new
+        → AddsSteps Knows k (record k { uses = put k.uses port.0 slot Armed; device = new }) (ByDevice k.device new) }
+    ensures disarmed { (k : Known) (m : Machine) → Knows m k → (port slot : ℕ) → (k.device.port port).st ≡ false
+        → k.uses port slot ≡ Armed → Knows m (freeing k port slot) }
+    ensures free { (uses : Uses) (m : Machine) (d : Device) → Agrees uses m d → (port slot : ℕ) → uses port slot ≡ Free
+        → (d.port port).sact slot ≡ false }
 {}
 
 /// A client's store into its frame is the machine's.
@@ -266,16 +279,15 @@ pub fn slots_are_counted()
 pub fn due_finds_free_slot()
     ensures plain { (uses : Uses) (m : Machine) (d : Device) → IsReached m → Agrees uses m d → (mode : Mode) (e : Pending)
         → May m (Issue mode e) → ((o : Operation) → uses e.request.port.0 0 ≡ Own o → ⊥)
-        → is_plain mode e.request.asked.op ≡ true → uses e.request.port.0 0 ≡ Free }
+        → ((slot : ℕ) → uses e.request.port.0 slot ≡ Armed → ⊥) → is_plain mode e.request.asked.op ≡ true → uses e.request.port.0 0 ≡ Free }
     ensures queued { (uses : Uses) (m : Machine) (d : Device) → IsReached m → Agrees uses m d → (mode : Mode) (e : Pending)
         → May m (Issue mode e) → ((o : Operation) → uses e.request.port.0 0 ≡ Own o → ⊥)
-        → is_plain mode e.request.asked.op ≡ false
+        → ((slot : ℕ) → uses e.request.port.0 slot ≡ Armed → ⊥) → is_plain mode e.request.asked.op ≡ false
         → (slot : ℕ) × (slot < mode.usable) × (uses e.request.port.0 slot ≡ Free) }
 {}
 
-/// While no reset is pending the device leaves alone what no slot uses; so it is over readings and loads. A store and a write of a
-/// register leave of it what they would at once, had the device done nothing first; and each write but some of PxSACT and PxCMD
-/// leaves it as it was.
+/// While no reset is pending the device leaves alone what no slot uses; so it is over readings, writes and loads. A store leaves of
+/// it what it would at once, had the device done nothing first.
 pub fn free_slots_are_left()
     ensures steps { (uses : Uses) (m : Machine) (old new : Device) → IsReached m → Agrees uses m old → old.hr ≡ false
         → Steps old new → LeavesFree uses old new }
@@ -287,8 +299,7 @@ pub fn free_slots_are_left()
         → (at : ℕ) (bytes : List ℕ) → Stores at bytes old new
         → LeavesFree uses (record old { memory = patched old.memory at bytes }) new }
     ensures writes { (uses : Uses) (m : Machine) (old new : Device) → IsReached m → Agrees uses m old → old.hr ≡ false
-        → (r : Reg) (v : ℕ) → Writes r v old new → LeavesFree uses (written r v old) new }
-    ensures spared { (uses : Uses) (r : Reg) (v : ℕ) (d : Device) → KeepsFreeBits uses r v d → LeavesFree uses d (written r v d) }
+        → (r : Reg) (v : ℕ) → Writes r v old new → LeavesFree uses old new }
 {}
 
 /// What is left over each of two stretches is left over both; and so it is over none. What is left while a slot is free, is left
@@ -409,25 +420,15 @@ pub fn prepared_stays()
         → IsPrepared uses m old port slot mode e v → IsPrepared uses (after m f.steps) new port slot mode e v }
 {}
 
-/// A free slot without a bit of PxSACT has none later, nor wherever what no slot uses is left; so it is over readings, and over
-/// writes, but for one of PxSACT with a bit of a free slot; and so it is where a slot is given up, and where one is put to use. So it
-/// is of each port of an idle adapter.
-pub fn unarmed_stays()
-    ensures device { (uses : Uses) (old new : Device) (port : ℕ) → Steps old new → AreUnarmed uses (old.port port) port
-        → AreUnarmed uses (new.port port) port }
-    ensures left { (uses : Uses) (old new : Device) (port : ℕ) → LeavesFree uses old new → AreUnarmed uses (old.port port) port
-        → AreUnarmed uses (new.port port) port }
-    ensures reads { (uses : Uses) (port : ℕ) (r : Reg) (v : ℕ) (old new : Device) → Reads r v old new
-        → AreUnarmed uses (old.port port) port → AreUnarmed uses (new.port port) port }
-    ensures writes { (uses : Uses) (port : Port) (r : Reg) (v : ℕ) (old new : Device)
-        → (r ≡ Px port Sact → (slot : ℕ) → uses port.0 slot ≡ Free → bit v slot ≡ false) → Writes r v old new
-        → AreUnarmed uses (old.port port.0) port.0 → AreUnarmed uses (new.port port.0) port.0 }
-    ensures given_up { (uses : Uses) (m : Machine) (d : Device) (port slot : ℕ) → Agrees uses m d → IsOver (d.port port) slot
-        → AreUnarmed uses (d.port port) port → AreUnarmed (put uses port slot Free) (d.port port) port }
-    ensures used { (uses : Uses) (p : PortState) (port slot : ℕ) (v : Use) → (v ≡ Free → ⊥) → AreUnarmed uses p port
-        → AreUnarmed (put uses port slot v) p port }
-    ensures idle { (uses : Uses) (d : Device) (port : ℕ) → IsIdle d → AreUnarmed uses (d.port port) port }
-    ensures runs { (uses : Uses) → AreUnarmed uses (first_read.port 0) 0 }
+/// A bit of PxSACT that is clear stays so whatever the device does, over readings, and over writes but for one of PxSACT that sets
+/// it.
+pub fn clear_bits_stay()
+    ensures device { (port slot : ℕ) (old new : Device) → Steps old new → (old.port port).sact slot ≡ false
+        → (new.port port).sact slot ≡ false }
+    ensures reads { (port slot : ℕ) (r : Reg) (v : ℕ) (old new : Device) → Reads r v old new
+        → (old.port port).sact slot ≡ false → (new.port port).sact slot ≡ false }
+    ensures writes { (port : Port) (slot : ℕ) (r : Reg) (v : ℕ) (old new : Device) → (r ≡ Px port Sact → bit v slot ≡ false)
+        → Writes r v old new → (old.port port.0).sact slot ≡ false → (new.port port.0).sact slot ≡ false }
 {}
 
 /// What the driver may store for itself may be loaded and stored, whatever the device does first.

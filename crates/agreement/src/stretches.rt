@@ -81,11 +81,11 @@ pub fn other_ports_are_left()
     ensures tape { (old new : Device) → IsDrivenBy AnyAccess old new → (gained : List Entry) × (new.tape ≡ old.tape ++ gained) }
 {}
 
-/// Over accesses that are followed and write no PxSACT, some machine goes on agreeing with the same uses. And with an idle
+/// Over accesses that are followed some machine goes on agreeing with the same uses. And with an idle
 /// device, whose disks tell their sectors if the adapter is one that tells, some machine agrees where no slot is used.
 pub fn agreeing_goes_on()
     ensures followed { (uses : Uses) (old new : Device)
-        → IsFollowed (λ access. (port : Port) → SparesRegister (Px port Sact) access) (IsUse uses) old new
+        → IsFollowed AnyAccess (IsUse uses) old new
         → IsAgreed uses old → IsAgreed uses new }
     ensures idle { (d : Device) → IsIdle d → TellsDisks d → IsAgreed (λ port slot. Free) d }
 {}

@@ -80,7 +80,7 @@ module _ (port slot : ℕ) (below : port < 4) (small : slot < 32) (at : ℕ) (by
     store_left = stores_leave uses a.machine old new a.reached a.knows.agrees on.no_reset at bytes call
 
     pub store_agrees : IsAgreed uses new
-    store_agrees = agreed_on (IsTableStore port slot) (IsUnused port slot) uses old new (λ q. table_spares port slot (Px q Sact)) free store_followed a
+    store_agrees = agreed_on (IsTableStore port slot) (IsUnused port slot) uses old new free store_followed a
 
 -- ---- the table, and then the header
 

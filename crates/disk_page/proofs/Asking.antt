@@ -30,7 +30,6 @@ use Rattle.block_machine.specs.Histories.{AddsSteps}
 use Rattle.block_machine.specs.State.{Machine}
 use Rattle.block_machine.proofs.HistoryLemmas.{reached_more}
 use Rattle.block_machine.proofs.Keeps.{same_port}
-use Rattle.agreement.specs.Agrees.{AreUnarmed}
 use Rattle.agreement.specs.Driven.{known, IsAgreed, IsDrivenBy, IsFollowed, IsFollowedTo, IsOf, AnyUse, NoneWrites}
 use Rattle.agreement.specs.Driver.{Knows, ByDevice, IsOwnPrepared}
 use Rattle.agreement.specs.Facts.{IsClear}
@@ -44,7 +43,6 @@ use Rattle.agreement.proofs.Lasting.{access_on, access_same}
 use Rattle.agreement.proofs.Pages.{page_is_issued, access_waits, page_is_awaited, awaited_is_loaded}
 use Rattle.agreement.proofs.Permitting.{own_is_permitted, page_is_free}
 use Rattle.agreement.proofs.Putting.{put_same, put_cases}
-use Rattle.agreement.proofs.Unarmed.{unarmed_writes}
 use Rattle.agreement.proofs.Witness.{bit_one_other}
 use Rattle.command_table.specs.Places.{places_of}
 use Rattle.command_table.specs.Written.{IsTableFor, IsTableStore, IsUnused}
@@ -118,10 +116,10 @@ reading_leaves port v old new on x =
 -- ---- a machine agrees on
 
 agreed_after : (uses next : Uses) (old new : Device) (a : IsAgreed uses old) → AddsSteps Knows (known uses a.parked old) (known next a.parked new) (ByDevice old new) →
-    ((q : ℕ) → AreUnarmed next (new.port q) q) → IsAgreed next new
-agreed_after uses next old new a adds unarmed =
+    IsAgreed next new
+agreed_after uses next old new a adds =
     let x = adds.adds a.machine a.reached a.knows in
-    record { machine = _; parked = a.parked; reached = reached_more a.machine x.0 a.reached x.1; knows = x.2; unarmed = unarmed }
+    record { machine = _; parked = a.parked; reached = reached_more a.machine x.0 a.reached x.1; knows = x.2 }
 
 -- a slot that is used for a command of the driver's own isn't free
 own_used : (uses : Uses) (port : ℕ) (o : Operation) → used uses port 0 (Own o) port 0 ≡ Free → ⊥
@@ -150,12 +148,6 @@ asking_is_of port (Storing at bytes) is = tt
 
 pub asking_spares_ghc : (port : Port) → NoneWrites (IsAsking port) Ghc
 asking_spares_ghc port access is = of_spares_ghc port access (asking_is_of port access is)
-
-asking_spares_active : (port q : Port) → NoneWrites (IsAsking port) (Px q Sact)
-asking_spares_active port q (Writing r v) is = λ (e : r ≡ Px q Sact). absurd (let z : Px port Ci ≡ Px q Sact = sym is.0 ∙ e in cc)
-asking_spares_active port q (Reading r v) is = tt
-asking_spares_active port q (Loading at bytes) is = tt
-asking_spares_active port q (Storing at bytes) is = tt
 
 -- ---- the command
 
@@ -187,7 +179,6 @@ may_after port old new l may =
     record {
       started = controls.st ∙ may.started;
       list = ap (λ (b : Bases). b.clb) keeps.bases ∙ may.list;
-      unqueued = keeps.sact 0 may.unqueued;
       det = controls.sctl_det ∙ may.det;
       known = let same = l.set_at in let later = l.later in let known = may.known in omega (arith, same, later, known);
     }
@@ -208,7 +199,6 @@ module _ (port : Port) (page : Page) (mid new : Device) (on : IsOn mid) (there :
         command = meaning_of page;
         operation_is = refl;
         told = subst T (sym may.list) told;
-        unqueued = may.unqueued;
         known = may.known;
         here = refl;
         alone = bit_one_other;
@@ -242,18 +232,9 @@ module _ (port : Port) (page : Page) (mid new : Device) (on : IsOn mid) (there :
     asked_waits uses free a = record {
       on = access_on (Writing (Px port Ci) 1) mid new on (λ v e. absurd cc) call;
       room = let same = (access_same (Writing (Px port Ci) 1) mid new call).size in omega (arith, same, room);
-      agreed = agreed_after uses (used uses port.0 0 (Own (operation_of page))) mid new a (asked_to.adds uses a.parked free) (λ q.
-          let here : AreUnarmed uses (new.port q) q = unarmed_writes uses (record { 0 = q }) (Px port Ci) 1 mid new (λ e. absurd cc) call (a.unarmed q) in
-          by_ports q here);
+      agreed = agreed_after uses (used uses port.0 0 (Own (operation_of page))) mid new a (asked_to.adds uses a.parked free);
       awaits = page_is_issued uses a.machine port (operation_of page) 1 mid new a.reached a.knows.agrees on.no_reset (prepared uses free) call;
     }
-      where
-        by_ports : (q : ℕ) → AreUnarmed uses (new.port q) q → AreUnarmed (used uses port.0 0 (Own (operation_of page))) (new.port q) q
-        by_ports q h slot e = ⊎_elim
-            (λ (x : (q ≡ port.0) × (slot ≡ 0)). absurd (own_used uses port.0 (operation_of page)
-            (ap (λ (n : ℕ). used uses port.0 0 (Own (operation_of page)) n 0) (sym x.0) ∙ ap (λ (k : ℕ). used uses port.0 0 (Own (operation_of page)) q k) (sym x.1) ∙ e)))
-            (λ (x : (q ≡ port.0 → slot ≡ 0 → ⊥) × (used uses port.0 0 (Own (operation_of page)) q slot ≡ uses q slot)). h slot (sym x.1 ∙ e))
-            (put_cases uses port.0 0 (Own (operation_of page)) q slot)
 
 -- ---- header and table are stored first
 
@@ -278,7 +259,7 @@ module _ (port : Port) (old mid : Device) (on : IsOn old) (stores : IsFollowed (
   stores_spare r (Writing q v) here = absurd here
 
   pub stores_agree : (uses : Uses) → IsUnused port.0 0 uses → IsAgreed uses old → IsAgreed uses mid
-  stores_agree uses free = agreed_on (IsTableStore port.0 0) (IsUnused port.0 0) uses old mid (λ q. stores_spare (Px q Sact)) free stores
+  stores_agree uses free = agreed_on (IsTableStore port.0 0) (IsUnused port.0 0) uses old mid free stores
 
   pub stores_there : HasPort old port.0 → HasPort mid port.0
   stores_there there = (there.0, ap (λ (pi : ℕ). bit pi port.0) stores_leave.all.pi ∙ there.1)
@@ -332,7 +313,7 @@ module _ (port : Port) (v : ℕ) (d e : Device) (on : IsOn d) (call : Reads (Px 
       record {
         on = reads_on;
         room = let same = (access_same (Reading (Px port Ci) v) d e call).size in let room = w.room in omega (arith, same, room);
-        agreed = agreed_on (IsAsking port) AnyUse uses d e (asking_spares_active port) tt reads_followed a;
+        agreed = agreed_on (IsAsking port) AnyUse uses d e tt reads_followed a;
         awaits = access_waits uses a.machine port o since (Reading (Px port Ci) v) d e a.reached a.knows.agrees (λ w f. absurd cc) reads_on.no_reset call w.awaits;
       }
 
@@ -454,7 +435,7 @@ module _ (port : Port) (o : Operation) (since : ℕ) (uses : Uses) (old : Device
         record { brought = y.0; same = y.1; clear = load_clear }
 
     pub load_agrees : IsAgreed uses new
-    load_agrees = agreed_on (IsAsking port) AnyUse uses old new (asking_spares_active port) tt load_followed w.agreed
+    load_agrees = agreed_on (IsAsking port) AnyUse uses old new tt load_followed w.agreed
 
 -- once the slot is given up, some machine agrees with the slots used as they were
 pub agrees_released : (uses : Uses) (port : ℕ) (o : Operation) (d : Device) → IsUnused port 0 uses → IsClear (d.port port) 0 → IsAgreed (used uses port 0 (Own o)) d → IsAgreed uses d
@@ -463,9 +444,4 @@ agrees_released uses port o d free clear a = record {
   parked = a.parked;
   reached = a.reached;
   knows = released uses a.parked port o a.machine d free clear.over a.knows;
-  unarmed = λ q slot is. ⊎_elim
-      (λ (here : (q ≡ port) × (slot ≡ 0)). let P : ℕ → ℕ → Type 0 = λ p k. (d.port p).sact k ≡ false in
-      subst (λ (p : ℕ). P p slot) (sym here.0) (subst (λ (k : ℕ). P port k) (sym here.1) clear.sact))
-      (λ (there : (q ≡ port → slot ≡ 0 → ⊥) × (used uses port 0 (Own o) q slot ≡ uses q slot)). a.unarmed q slot (there.1 ∙ is))
-      (put_cases uses port 0 (Own o) q slot);
 }

@@ -22,11 +22,10 @@ abbrev pub operation_of : Page → Operation
 operation_of Identity = Identify
 operation_of Errors = ReadLog
 
--- The port runs with its command list in its place and no COMRESET being sent, slot 0's bit of PxSACT is clear, and ST was set before now.
+-- The port runs with its command list in its place and no COMRESET being sent, and ST was set before now.
 pub record MayAsk (port : ℕ) (d : Device) : Type 0 where
   pub started : (d.port port).st ≡ true
   pub list : (d.port port).bases.clb ≡ list_of port
-  pub unqueued : (d.port port).sact 0 ≡ false
   pub det : (d.port port).sctl_det ≡ 0
   pub known : (d.port port).notes.st_set_at ≤ length d.tape
 

@@ -14,7 +14,7 @@ use Rattle.agreement.specs.Slots.{Own, put}
 use Rattle.agreement.proofs.Controlled.{agreeing_goes_on, control_wider, same_adapter, same_over, tape_gains}
 use Rattle.agreement.proofs.Driven.{followed_as, followed_then, followed_to_then}
 use Rattle.port_control.specs.Ports.{WritesCommand}
-use Rattle.port_control.proofs.Using.{command_spares, there_after}
+use Rattle.port_control.proofs.Using.{there_after}
 use Rattle.port_boot.specs.States.{IsBoot, IsBooting, IsBootTo, IsBootable, IsOfBoot}
 use Rattle.host_boot.specs.Taken.{WroteControl}
 use Rattle.host_boot.specs.declared.Found.TheVariants.{Unready}
@@ -35,7 +35,7 @@ module _ (port : Port) (old mid : Device) (stops : IsFollowed (IsControl WritesC
     on = on;
     there = still_there there;
     room = let same = (same_adapter WritesCommand port old mid stops.driven).size in omega (arith, same, room);
-    agreed = (a.0, a.1, agreeing_goes_on WritesCommand AnyUse port a.0 old mid command_spares tt stops a.2);
+    agreed = (a.0, a.1, agreeing_goes_on WritesCommand AnyUse port a.0 old mid tt stops a.2);
   }
 
   pub since_stop : (since : ℕ) → length mid.tape ≤ since → length old.tape ≤ since

@@ -6,7 +6,7 @@ use Rattle.std.proofs.lemmas.List.{length-set, length-append, get_or-set_same, g
 use Rattle.ata_types.specs.declared.Port.{Port}
 use Rattle.ata_types.specs.declared.PortState.{PortState}
 use Rattle.ata_types.specs.declared.PortState.TheVariants.{Absent, Ready as ReadyState, Foreign, Unfit, Dead}
-use Rattle.hba_regs.specs.declared.reg.PortReg.TheVariants.{Ci, Ie, Sact}
+use Rattle.hba_regs.specs.declared.reg.PortReg.TheVariants.{Ci, Ie}
 use Rattle.hba_regs.specs.declared.reg.Reg.TheVariants.{Bohc, Cap, Cap2, Ghc, Is, Pi, Px, Vs}
 use Rattle.hba_regs.specs.Bits.{bit}
 use Rattle.hba_regs.specs.declared.reg.PortReg.{PortReg}
@@ -20,21 +20,19 @@ use Rattle.adapter.specs.declared.command.Operation.TheVariants.{Identify}
 use Rattle.block_machine.specs.Histories.{AddsSteps}
 use Rattle.block_machine.specs.Left.{after}
 use Rattle.block_machine.proofs.HistoryLemmas.{reached_more}
-use Rattle.agreement.specs.Agrees.{AreUnarmed, port_at}
+use Rattle.agreement.specs.Agrees.{port_at}
 use Rattle.agreement.specs.Driven.{AnyUse, IsAgreed, IsDrivenBy, IsFollowed, IsFollowedTo, IsOf, IsUse, LeavesPort, NoneWrites, SendsNone, known}
 use Rattle.agreement.specs.Driver.{AllFree, ByDevice, Knows}
 use Rattle.agreement.specs.Links.{SameAdapter, SparesRegister}
 use Rattle.agreement.specs.Slots.{Free, Own, Uses, put, IsMove}
 use Rattle.agreement.proofs.Adding.{accesses_then}
-use Rattle.agreement.proofs.Controlled.{agreed_on, is_control, of_spares_others, other_left, same_over, tape_over, unarmed_over}
+use Rattle.agreement.proofs.Controlled.{agreed_on, is_control, of_spares_others, other_left, same_over, tape_over}
 use Rattle.agreement.proofs.Driven.{by_then, driven_as, followed_as, followed_to_as}
 use Rattle.agreement.proofs.Gaining.{gains_more}
 use Rattle.agreement.proofs.Lasting.{same_more, same_refl}
 use Rattle.agreement.proofs.Putting.{put_same, put_other}
-use Rattle.agreement.proofs.Unarmed.{putting_unarmed}
 use Rattle.identify.specs.declared.wanted.Wanted.{Wanted}
 use Rattle.identify.specs.declared.wanted.Wanted.TheVariants.{Nothing}
-use Rattle.port_control.proofs.Using.{placing_spares, resetting_spares}
 use Rattle.port_boot.specs.States.{IsBoot, IsBooting, IsBootTo, IsOfBoot}
 use Rattle.port_boot.proofs.Staying.{of_boot}
 use Rattle.host_boot.specs.Taken.{Boots, GoesOver, IsLeft, IsOfHost, IsOfTaking, LeavesPorts, StandsBehind, TakesOver, WroteControl, found_of, unused, wanted_of}
@@ -98,23 +96,6 @@ pub record IsUnderway (wanted : List Wanted) (ports : List Found) (n : ℕ) (sta
   pub stands : (port : ℕ) → port < n → StandsBehind (wanted_of wanted port) (found_of ports port) port d
   pub reset : (port : ℕ) → port < n → WroteControl (found_of ports port) port (length start.tape) d
   pub idle : (port : ℕ) → n ≤ port → IsIdlePort (d.port port)
-
--- a boot writes no PxSACT
-booting_spares : IsBooting Sact → ⊥
-booting_spares (inl is) = placing_spares is
-booting_spares (inr (inl is)) = resetting_spares is
-booting_spares (inr (inr e)) = absurd (let k : Sact ≡ Ie = e in cc)
-
-boot_spares : (port q : Port) → NoneWrites (IsOfBoot port) (Px q Sact)
-boot_spares port q access (inl is) =
-    elim (is_control IsBooting port access is) [
-      | inl (r, v, e) ↦ subst (SparesRegister (Px q Sact)) (sym e) tt
-      | inr (r, v, e, w) ↦ subst (SparesRegister (Px q Sact)) (sym e) (λ (z : Px port r ≡ Px q Sact). let same : r ≡ Sact = cc in booting_spares (subst IsBooting same w))
-    ]
-boot_spares port q (Writing r v) (inr is) = λ (e : r ≡ Px q Sact). absurd (let z : Px port Ci ≡ Px q Sact = sym is.0 ∙ e in cc)
-boot_spares port q (Reading r v) (inr is) = tt
-boot_spares port q (Loading at bytes) (inr is) = tt
-boot_spares port q (Storing at bytes) (inr is) = tt
 
 module _ (wanted : List Wanted) (ports : List Found) (port : Port) (below : port.0 < 4) (start old new : Device) (found : Found)
     (u : IsUnderway wanted ports port.0 start old) (on : IsOn new) (stands : StandsBehind (wanted_of wanted port.0) found port.0 new)
@@ -224,7 +205,7 @@ module _ (wanted : List Wanted) (ports : List Found) (port : Port) (below : port
         free = λ q slot more. u.free q slot (omega (arith, more));
         followed = then_on (IsOfTaking wanted) unused (λ uses. AllFree uses port.0) u.uses start old new unused_here u.followed
             (followed_as (IsOfBoot port) (IsOfTaking wanted) (λ uses. AllFree uses port.0) (λ uses. AllFree uses port.0) old new (taking f.driven quiet served) (λ uses free. free) f);
-        agreed = agreed_on (IsOfBoot port) (λ uses. AllFree uses port.0) u.uses old new (boot_spares port) unused_here f u.agreed;
+        agreed = agreed_on (IsOfBoot port) (λ uses. AllFree uses port.0) u.uses old new unused_here f u.agreed;
         stands = later_stands f.driven quiet;
         reset = later_reset f.driven quiet;
         idle = later_idle f.driven quiet;
@@ -273,15 +254,6 @@ module _ (wanted : List Wanted) (ports : List Found) (port : Port) (below : port
           parked = u.agreed.parked;
           reached = reached_more u.agreed.machine x.0 u.agreed.reached x.1;
           knows = x.2;
-          unarmed = λ q. elim (cases_eq q port.0) [
-            | inl e ↦
-                let P : ℕ → Type 0 = λ k. AreUnarmed (Asked u.uses) (new.port k) k in
-                subst P (sym e) (putting_unarmed u.uses (new.port port.0) port.0 0 (Own Identify) (λ e. absurd cc)
-                (unarmed_over (IsOfBoot port) old new f.driven u.uses port.0 (boot_spares port (port_at port.0)) (u.agreed.unarmed port.0)))
-            | inr other ↦ λ slot free.
-                unarmed_over (IsOfBoot port) old new f.driven u.uses q (boot_spares port (port_at q)) (u.agreed.unarmed q) slot
-                (sym (put_other u.uses port.0 0 (Own Identify) q slot (λ at head. other at)) ∙ free)
-          ];
         };
         stands = later_stands f.driven quiet;
         reset = later_reset f.driven quiet;
@@ -385,7 +357,7 @@ module _ (wanted : List Wanted) (start : Device) where
     left = λ port slot. inl refl;
     free = λ port slot more. refl;
     followed = goes_on (IsOfTaking wanted) unused start d (hosting wanted start d f);
-    agreed = agreed_on IsOfHost AnyUse unused start d (λ q. host_spares q Sact) tt f agreed;
+    agreed = agreed_on IsOfHost AnyUse unused start d tt f agreed;
     stands = λ port less. absurd (omega (arith, less));
     reset = λ port less. absurd (omega (arith, less));
     idle = λ port more. idle_on (start.port port) (d.port port) (leaves port) (idle.port port);
@@ -420,5 +392,5 @@ module _ (wanted : List Wanted) (start : Device) where
       uses = u.uses;
       left = λ port slot. let P : List Found → Type 0 = λ ps. IsLeft ps u.uses port slot in subst P (sym is) (u.left port slot);
       followed = then_on (IsOfTaking wanted) unused AnyUse u.uses start d new tt u.followed (hosting wanted d new f);
-      agreed = agreed_on IsOfHost AnyUse u.uses d new (λ q. host_spares q Sact) tt f u.agreed;
+      agreed = agreed_on IsOfHost AnyUse u.uses d new tt f u.agreed;
     }

@@ -4,7 +4,6 @@ use Rattle.std.proofs.lemmas.List.{length-append}
 use Rattle.ata_types.specs.declared.Port.{Port}
 use Rattle.ata_types.specs.declared.PortState.{PortState}
 use Rattle.hba_regs.specs.declared.reg.PortReg.{PortReg}
-use Rattle.hba_regs.specs.declared.reg.PortReg.TheVariants.{Sact}
 use Rattle.adapter.specs.Device.{Notes, Device}
 use Rattle.adapter.specs.declared.tape.Entry.{Entry}
 use Rattle.adapter.proofs.Absurd.{true-false}
@@ -21,7 +20,7 @@ use Rattle.port_control.specs.Ports.{WritesCommand, IsPlacing, IsResetting, IsRu
 use Rattle.port_control.specs.declared.PortFault.{PortFault}
 use Rattle.port_control.specs.declared.PortFault.TheVariants.{NoDevice}
 use Rattle.port_control.proofs.Settling.{comes_in_parts, plugs_in_parts}
-use Rattle.port_control.proofs.Using.{command_spares, placing_spares, resetting_spares, there_after, followed_wider}
+use Rattle.port_control.proofs.Using.{there_after, followed_wider}
 use Rattle.port_boot.specs.States.{IsBooting, IsBootable, IsBroughtUp, EndsEarly, TellsFault}
 
 -- ---- what the calls of `port_control` say, of one port
@@ -63,12 +62,12 @@ module _ (Written : PortReg → Type 0) (Fits : Uses → Type 0) (port : Port) (
       let n : length new.tape ≡ length old.tape + length g.0 = ap (λ (es : List Entry). length es) g.1 ∙ length-append old.tape g.0 in
       omega (arith, n)
 
-  pub bootable_after : (Written Sact → ⊥) → ((uses : Uses) → AllFree uses port.0 → Fits uses) → IsBootable port old → IsBootable port new
-  bootable_after spares fits b = record {
+  pub bootable_after : ((uses : Uses) → AllFree uses port.0 → Fits uses) → IsBootable port old → IsBootable port new
+  bootable_after fits b = record {
     on = stays_on Written port old new f.driven b.on;
     there = there_after (same_adapter Written port old new f.driven) b.there;
     room = let same = (same_adapter Written port old new f.driven).size in let room = b.room in omega (arith, same, room);
-    agreed = (b.agreed.0, b.agreed.1, agreeing_goes_on Written Fits port b.agreed.0 old new spares (fits b.agreed.0 b.agreed.1) f b.agreed.2);
+    agreed = (b.agreed.0, b.agreed.1, agreeing_goes_on Written Fits port b.agreed.0 old new (fits b.agreed.0 b.agreed.1) f b.agreed.2);
   }
 
   -- it is a part of the boot
@@ -87,12 +86,12 @@ pub starting : (r : PortReg) → WritesCommand r → IsBooting r
 starting r is = inl (inl is)
 
 pub placed_bootable : (port : Port) (old mid : Device) → IsBootable port old → IsFollowed (IsControl IsPlacing port) AnyUse old mid → IsBootable port mid
-placed_bootable port old mid b first = bootable_after IsPlacing AnyUse port old mid first placing_spares (λ uses free. tt) b
+placed_bootable port old mid b first = bootable_after IsPlacing AnyUse port old mid first (λ uses free. tt) b
 
 module _ (port : Port) (old mid reset : Device) (b : IsBootable port old) (first : IsFollowed (IsControl IsPlacing port) AnyUse old mid)
     (second : IsFollowed (IsControl IsResetting port) AnyUse mid reset) where
   pub reset_bootable : IsBootable port reset
-  reset_bootable = bootable_after IsResetting AnyUse port mid reset second resetting_spares (λ uses free. tt) (placed_bootable port old mid b first)
+  reset_bootable = bootable_after IsResetting AnyUse port mid reset second (λ uses free. tt) (placed_bootable port old mid b first)
 
   pub reset_boots : IsFollowed (IsControl IsBooting port) (λ uses. AllFree uses port.0) old reset
   reset_boots = followed_then (IsControl IsBooting port) (λ uses. AllFree uses port.0) old mid reset
@@ -151,7 +150,7 @@ module _ (port : Port) (old mid reset : Device) (b : IsBootable port old) (first
         let quiet = found.quiet (neither_second _ _ f.idle) in
         let changes = s.changes quiet.linked in
         record {
-          bootable = bootable_after WritesCommand (λ uses. AllFree uses port.0) port reset new third command_spares (λ uses free. free) reset_bootable;
+          bootable = bootable_after WritesCommand (λ uses. AllFree uses port.0) port reset new third (λ uses free. free) reset_bootable;
           runs = s.runs;
           det = s.same.0 ∙ f.resets.det;
           saw = (ap (λ (n : Notes). n.last_ssts % 16) s.same.1 ∙ f.saw.0, ap (λ (n : Notes). n.link_count) s.same.1 ∙ f.saw.1);

@@ -106,7 +106,6 @@ pub may_ask : (port : Port) (start old : Device) → IsBroughtUp port start old 
 may_ask port start old up = record {
   started = up.runs.st;
   list = ap (λ (b : device.Bases). b.clb) up.runs.bases;
-  unqueued = up.runs.sact 0;
   det = up.det;
   known = up.known;
 }

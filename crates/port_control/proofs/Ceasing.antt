@@ -19,7 +19,7 @@ use Rattle.agreement.proofs.Halting.{stop_is_found}
 use Rattle.agreement.proofs.Noting.{command_noted, notes_read, shown_after}
 use Rattle.agreement.proofs.Setting.{command_set}
 use Rattle.port_control.specs.Ports.{WritesCommand, IsUsable, IsStopped, ReceivesFises, SameBeside, HasStopped, programmed}
-use Rattle.port_control.proofs.Using.{command_spares, usable_after, usable_read, cleared_bits, beside_then, beside_read, beside_command, bases_command, stopped_on, stopped_read, stopped_command}
+use Rattle.port_control.proofs.Using.{usable_after, usable_read, cleared_bits, beside_then, beside_read, beside_command, bases_command, stopped_on, stopped_read, stopped_command}
 
 -- ---- counts of readings
 
@@ -88,7 +88,7 @@ module _ (port : Port) (was v : ℕ) (old mid : Device) (u : IsUsable AnyUse por
 
       pub stop_has : HasStopped (old.port port.0) (new.port port.0)
       stop_has =
-          let after : IsUsable AnyUse port new = usable_after WritesCommand AnyUse port old new command_spares u stop_followed in
+          let after : IsUsable AnyUse port new = usable_after WritesCommand AnyUse port old new u stop_followed in
           let set = command_set port v mid new write in
           let same = beside_then (old.port port.0) (mid.port port.0) (new.port port.0) (beside_read port was old mid u.on.no_reset read) (beside_command port v mid new here.on.no_reset zero write) in
           let bits = cleared_bits after.agreed.0 new port.0 after.agreed.2 (set.0 ∙ zero) in

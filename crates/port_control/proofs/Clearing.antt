@@ -17,7 +17,7 @@ use Rattle.agreement.proofs.Driven.{followed_then, followed_write}
 use Rattle.agreement.proofs.Noting.{access_notes}
 use Rattle.agreement.proofs.Resending.{errors_cleared, causes_cleared}
 use Rattle.port_control.specs.Ports.{IsClearing, IsUsable, ReceivesFises, SawDevice, ClearsErrors, HasClearErrors}
-use Rattle.port_control.proofs.Using.{clearing_spares, usable_after}
+use Rattle.port_control.proofs.Using.{usable_after}
 use Rattle.port_control.proofs.Settling.{comes_in_parts, plugs_in_parts, Settles, settles}
 
 pub ones : (place : ℕ) → place < 32 → bit 0xffffffff place ≡ true
@@ -42,7 +42,7 @@ module _ (port : Port) (old mid new : Device) (u : IsUsable AnyUse port old) (re
   first = followed_write (IsControl IsClearing port) AnyUse (Px port Serr) 0xffffffff old mid (refl, inl refl) (serr_may port 0xffffffff old u) (λ uses is. tt) serr
 
   pub clearing : IsUsable AnyUse port mid
-  clearing = usable_after IsClearing AnyUse port old mid clearing_spares u first
+  clearing = usable_after IsClearing AnyUse port old mid u first
 
   module _ (is : Writes (Px port Is) 0xffffffff mid new) where
     second : IsFollowed (IsControl IsClearing port) AnyUse mid new

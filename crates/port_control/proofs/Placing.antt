@@ -19,7 +19,7 @@ use Rattle.agreement.proofs.Controlled.{same_adapter}
 use Rattle.agreement.proofs.Driven.{followed_none, followed_then, followed_write}
 use Rattle.agreement.proofs.Halting.{reset_writes}
 use Rattle.port_control.specs.Ports.{IsPlacing, IsUsable, SameButCommand, SameBeside, programmed}
-use Rattle.port_control.proofs.Using.{placing_spares, usable_after, beside_none, beside_then}
+use Rattle.port_control.proofs.Using.{usable_after, beside_none, beside_then}
 
 -- some of the four were written, and the addresses are these
 pub record IsPlacedBy (port : Port) (start d : Device) (b : Bases) : Type 0 where
@@ -44,7 +44,7 @@ module _ (port : Port) (start d e : Device) (b : Bases) (w : IsPlacedBy port sta
       let notes = written_notes port r v d e control causes (λ is. absurd (command is)) call in
       record {
         followed = followed_then (IsControl IsPlacing port) AnyUse start d e w.followed one;
-        usable = usable_after IsPlacing AnyUse port d e placing_spares w.usable one;
+        usable = usable_after IsPlacing AnyUse port d e w.usable one;
         quiet = reset_writes port (Px port r) v d e may (λ (is : Px port r ≡ Px port Cmd). let same : r ≡ Cmd = cc in absurd (command same)) call w.quiet;
         room = rw (same_adapter IsPlacing port d e one.driven).size w.room;
         bases = ap (λ (p : PortState). p.bases) x.here ∙ (effect _ (x.mid.port port.0)).0 ∙ ap change ((x.keeps.port port.0).bases ∙ w.bases);

@@ -22,7 +22,7 @@ use Rattle.agreement.proofs.Driven.{followed_then, followed_write}
 use Rattle.agreement.proofs.Erring.{plugs_come}
 use Rattle.agreement.proofs.Setting.{control_set}
 use Rattle.port_control.specs.Ports.{IsClearing, IsResetting, IsUsable, ReceivesFises, HasLink, ShowsIdle, ReadsWithout, ReadsUntil, ClearsErrors, FindsLink, FindsSignature, FindsBusy, WasReset, HasClearErrors, FindsDevice, IsFound}
-use Rattle.port_control.proofs.Using.{resetting_spares, usable_after, followed_wider, receiving_write}
+use Rattle.port_control.proofs.Using.{usable_after, followed_wider, receiving_write}
 use Rattle.port_control.proofs.Settling.{comes_in_parts, plugs_in_parts, no_start, Settles, settles}
 
 pub grows_longer : (old new : Device) → Grows old new → length old.tape ≤ length new.tape
@@ -38,7 +38,7 @@ module _ (port : Port) (old sent : Device) (u : IsUsable AnyUse port old) (recei
   first = followed_write (IsControl IsResetting port) AnyUse (Px port Sctl) 1 old sent (refl, inl refl) (sctl_may port 1 old u receives (inr refl)) (λ uses is. tt) one
 
   sending : IsUsable AnyUse port sent
-  sending = usable_after IsResetting AnyUse port old sent resetting_spares u first
+  sending = usable_after IsResetting AnyUse port old sent u first
 
   receives_still : ReceivesFises port.0 (sent.port port.0)
   receives_still = receiving_write port Sctl 1 old sent u.on.no_reset (inl refl) one receives
@@ -124,7 +124,7 @@ found_on port old mid new early late coming awaited finds = record {
 -- the two together
 module _ (port : Port) (old mid new : Device) (u : IsUsable AnyUse port old) (sends : IsFollowed (IsControl IsResetting port) AnyUse old mid) (looks : IsFollowed (IsControl IsClearing port) AnyUse mid new) where
   pub looking : IsUsable AnyUse port mid
-  looking = usable_after IsResetting AnyUse port old mid resetting_spares u sends
+  looking = usable_after IsResetting AnyUse port old mid u sends
 
   pub looked : Settles port mid new
   looked = settles port mid new looking.on looks.driven

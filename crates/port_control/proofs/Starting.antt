@@ -15,8 +15,9 @@ use Rattle.agreement.specs.Driver.{AllFree, LeavesUses}
 use Rattle.agreement.specs.Errors.{ChangesByDisks}
 use Rattle.agreement.specs.Facts.{IsQuiet, IsRecorded}
 use Rattle.agreement.specs.Links.{PlugsNone}
-use Rattle.agreement.specs.Slots.{Use, Free, Uses, IsOver, IsServed}
+use Rattle.agreement.specs.Slots.{Use, Free, Uses, IsOver, IsServed, IsFree}
 use Rattle.agreement.specs.Started.{IsUp, IsStarted}
+use Rattle.agreement.proofs.Unarmed.{free_unarmed}
 use Rattle.agreement.proofs.Allowing.{starting_may}
 use Rattle.agreement.proofs.Booting.{start_is_made}
 use Rattle.agreement.proofs.Causing.{access_clear, command_written_notes}
@@ -30,7 +31,7 @@ use Rattle.agreement.proofs.Rewriting.{writes_recorded}
 use Rattle.agreement.proofs.Setting.{command_set, start_set}
 use Rattle.agreement.proofs.Starting.{reads_quiet, steps_quiet}
 use Rattle.port_control.specs.Ports.{WritesCommand, IsUsable, ReceivesFises, IsRunning, SawIdle, SameButStart}
-use Rattle.port_control.proofs.Using.{command_spares, usable_after, usable_read, receiving_read}
+use Rattle.port_control.proofs.Using.{usable_after, usable_read, receiving_read}
 use Rattle.port_control.proofs.Ceasing.{IsButAt, bit_four, reading}
 use Rattle.port_control.proofs.Resetting.{grows_longer}
 use Rattle.port_control.proofs.Settling.{change_more, plugs_in_parts}
@@ -102,7 +103,7 @@ module _ (port : Port) (was v : ℕ) (old mid : Device) (u : IsUsable (NoneUsed 
         (followed_write (IsControl WritesCommand port) (NoneUsed port) (Px port Cmd) v mid new (refl, refl) start_may start_leaves write)
 
     pub start_usable : IsUsable (NoneUsed port) port new
-    start_usable = usable_after WritesCommand (NoneUsed port) port old new command_spares u start_followed
+    start_usable = usable_after WritesCommand (NoneUsed port) port old new u start_followed
 
     started : ((new.port port.0).cr ≡ true) × ((new.port port.0).notes.st_set_at ≡ length new.tape)
     started = start_set port v mid new still.stopped.halted.st one write
@@ -114,7 +115,9 @@ module _ (port : Port) (was v : ℕ) (old mid : Device) (u : IsUsable (NoneUsed 
     start_runs =
         let a = start_usable.agreed in
         let over : (slot : ℕ) → IsOver (new.port port.0) slot =
-        λ slot. over_free (IsServed a.2.machine new.memory new.tape (new.port port.0) port.0 slot) (a.0 port.0 slot) (a.1 slot) (a.2.knows.agrees.slot port.0 slot) in
+        λ slot.
+        let h : IsFree (new.port port.0) slot = over_free (IsServed a.2.machine new.memory new.tape (new.port port.0) port.0 slot) (a.0 port.0 slot) (a.1 slot) (a.2.knows.agrees.slot port.0 slot) in
+        record { issued = h.issued; free = h.free } in
         let set = command_set port v mid new write in
         record {
           st = set.0 ∙ one;
@@ -122,7 +125,7 @@ module _ (port : Port) (was v : ℕ) (old mid : Device) (u : IsUsable (NoneUsed 
           fre = set.1 ∙ fre;
           bases = ap (λ (p : PortState). p.bases) w.here ∙ (command_bases v _ (w.mid.port port.0)).0 ∙ (w.keeps.port port.0).bases ∙ still.bases;
           ci = λ slot. (over slot).issued;
-          sact = λ slot. a.2.unarmed port.0 slot (a.1 slot);
+          sact = λ slot. free_unarmed a.0 a.2.machine new a.2.knows.agrees port.0 slot (a.1 slot);
           taken = λ slot. (over slot).free;
         }
 

@@ -13,46 +13,26 @@ use Rattle.adapter.proofs.Absurd.{true-false}
 use Rattle.adapter.proofs.Calls.{SeenAt, seen, PutAt, put}
 use Rattle.agreement.specs.Driven.{AnyUse, IsAgreed, IsControl, IsFollowed}
 use Rattle.agreement.specs.Links.{SameAdapter}
-use Rattle.agreement.specs.Slots.{Use, Free, Own, Serves, Uses, IsServed, Stage, OwnWaits, OwnTaken, OwnOver}
+use Rattle.agreement.specs.Slots.{Use, Free, Own, Serves, Uses, IsServed, Stage, OwnWaits, OwnTaken, OwnOver, Armed}
 use Rattle.agreement.proofs.Causing.{written_notes}
 use Rattle.agreement.proofs.Controlled.{control_wider, stays_on, same_adapter, agreeing_goes_on}
 use Rattle.agreement.proofs.Driven.{followed_as, followed_read}
 use Rattle.agreement.proofs.Halting.{halted_on, halted_writes}
 use Rattle.agreement.proofs.Noting.{notes_read}
-use Rattle.agreement.proofs.Unarmed.{unarmed_writes}
+use Rattle.agreement.proofs.Unarmed.{writes_clear}
 use Rattle.port_control.specs.Ports.{WritesCommand, IsPlacing, IsClearing, IsResetting, IsUsable, IsStopped, ReceivesFises, SameButCommand, SameBeside}
-
--- ---- no kind has PxSACT
-
-pub command_spares : WritesCommand Sact → ⊥
-command_spares e = absurd (let k : Sact ≡ Cmd = e in cc)
-
-pub placing_spares : IsPlacing Sact → ⊥
-placing_spares (inl e) = absurd (let k : Sact ≡ Cmd = e in cc)
-placing_spares (inr (inl e)) = absurd (let k : Sact ≡ Clb = e in cc)
-placing_spares (inr (inr (inl e))) = absurd (let k : Sact ≡ Clbu = e in cc)
-placing_spares (inr (inr (inr (inl e)))) = absurd (let k : Sact ≡ Fb = e in cc)
-placing_spares (inr (inr (inr (inr e)))) = absurd (let k : Sact ≡ Fbu = e in cc)
-
-pub clearing_spares : IsClearing Sact → ⊥
-clearing_spares (inl e) = absurd (let k : Sact ≡ Serr = e in cc)
-clearing_spares (inr e) = absurd (let k : Sact ≡ Is = e in cc)
-
-pub resetting_spares : IsResetting Sact → ⊥
-resetting_spares (inl e) = absurd (let k : Sact ≡ Sctl = e in cc)
-resetting_spares (inr c) = clearing_spares c
 
 -- ---- the port may be used on
 
 pub there_after : {old new : Device} {port : ℕ} → SameAdapter old new → HasPort old port → HasPort new port
 there_after {old} {new} {port} s h = (h.0, ap (λ (pi : ℕ). bit pi port) s.pi ∙ h.1)
 
-pub usable_after : (Written : PortReg → Type 0) (Fits : Uses → Type 0) (port : Port) (old new : Device) → (Written Sact → ⊥) → IsUsable Fits port old →
+pub usable_after : (Written : PortReg → Type 0) (Fits : Uses → Type 0) (port : Port) (old new : Device) → IsUsable Fits port old →
     IsFollowed (IsControl Written port) Fits old new → IsUsable Fits port new
-usable_after Written Fits port old new spares u f = record {
+usable_after Written Fits port old new u f = record {
   on = stays_on Written port old new f.driven u.on;
   there = there_after (same_adapter Written port old new f.driven) u.there;
-  agreed = (u.agreed.0, u.agreed.1, agreeing_goes_on Written Fits port u.agreed.0 old new spares u.agreed.1 f u.agreed.2);
+  agreed = (u.agreed.0, u.agreed.1, agreeing_goes_on Written Fits port u.agreed.0 old new u.agreed.1 f u.agreed.2);
 }
 
 -- where more registers may be written
@@ -64,7 +44,7 @@ followed_wider Written More Fits port old new wider f =
 -- over a reading, of any kind
 pub usable_read : (Fits : Uses → Type 0) (port : Port) (r : PortReg) (v : ℕ) (old new : Device) → IsUsable Fits port old → Reads (Px port r) v old new → IsUsable Fits port new
 usable_read Fits port r v old new u call =
-    usable_after WritesCommand Fits port old new command_spares u (followed_as (IsControl WritesCommand port) (IsControl WritesCommand port) AnyUse Fits old new (λ access may. may) (λ uses is. tt)
+    usable_after WritesCommand Fits port old new u (followed_as (IsControl WritesCommand port) (IsControl WritesCommand port) AnyUse Fits old new (λ access may. may) (λ uses is. tt)
     (followed_read (IsControl WritesCommand port) (Px port r) v old new refl call))
 
 -- ---- bits of CI and SACT, where ST is 0
@@ -77,7 +57,8 @@ module _ (uses : Uses) (d : Device) (port : ℕ) (a : IsAgreed uses d) (st : (d.
   masked b c is = is ∙ ap (λ (x : Bool). x && c) st
 
   cleared_by : (u : Use) → uses port slot ≡ u → IsServed a.machine d.memory d.tape (d.port port) port slot u → Cleared
-  cleared_by Free is h = (h.issued, a.unarmed port slot is)
+  cleared_by Free is h = (h.issued, h.unarmed)
+  cleared_by Armed is h = (h.issued, h.armed ∙ st)
   cleared_by (Own o) is h = (of h.stage, h.unqueued)
     where
       of : OwnWaits (d.port port) slot ⊎ (OwnTaken d.memory d.tape (d.port port) port slot h.command ⊎ OwnOver d.memory d.tape (d.port port) port slot h.command) → (d.port port).ci slot ≡ false
@@ -146,7 +127,7 @@ pub stopped_command : (port : Port) (v : ℕ) (old new : Device) → Stays (MayW
     IsStopped (old.port port.0) → IsStopped (new.port port.0)
 stopped_command port v old new may zero call h = record {
   halted = halted_writes port (Px port Cmd) v old new may (λ _. zero) call h.halted;
-  sact = λ slot. unarmed_writes (λ q s. Free) port (Px port Cmd) v old new (λ (e : Px port Cmd ≡ Px port Sact). absurd (cc)) call (λ s is. h.sact s) slot refl;
+  sact = λ slot. writes_clear port slot (Px port Cmd) v old new (λ (e : Px port Cmd ≡ Px port Sact). absurd (cc)) call (h.sact slot);
 }
 
 -- PxSCTL, PxSERR or PxIS is written

@@ -201,7 +201,6 @@ module _ (s : Server) (k : IsKept s) (r : Request) (acc : IsAcceptable (situatio
     waiting has = record {
       uses = is.uses;
       used = record { first = λ q. ⊎_elim (used_here q) (used_apart q) (cases_eq q port.0); others = is.used.others };
-      unarmed = is.unarmed;
       knows = knows;
       book = goes_last every s.book m.book e request is.book (entry_in s r acc row named port port_is id id_is m) earlier (inl has);
       kept = is.kept;
@@ -225,7 +224,6 @@ module _ (s : Server) (k : IsKept s) (r : Request) (acc : IsAcceptable (situatio
           free = free_without s m port found.0 found.1 is (none_first port s.book none);
           first = used_apart;
           others = is.used.others;
-          unarmed = is.unarmed;
           knows = knows;
           book = goes_last (without_port port every) s.book m.book e request
               (same_ports every (without_port port every) s.book m.book (λ x here. sym (apart_all port s.book none x here)) is.book)

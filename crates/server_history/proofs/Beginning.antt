@@ -215,7 +215,6 @@ module _ (s : Server) (host : Host) (d : Device) (is : IsIdle d) (told : TellsDi
   stands_for m begun spares knows = record {
     uses = taken.uses;
     used = uses_are;
-    unarmed = taken.agreed.unarmed;
     knows = knows;
     book = subst (λ (book : List Accepted). IsBook book m.book) (sym n.book) (subst (λ (es : List Pending). IsBook [] es) (sym begun.book) tt);
     kept = begun.kept;

@@ -17,7 +17,7 @@ use Rattle.adapter.specs.Steps.{Steps}
 use Rattle.adapter.specs.declared.access.DeviceStep.{DeviceStep}
 use Rattle.adapter.specs.declared.command.Operation.TheVariants.{Identify}
 use Rattle.adapter.proofs.Changed.{fun_ext}
-use Rattle.agreement.specs.Agrees.{AreUnarmed, port_at}
+use Rattle.agreement.specs.Agrees.{port_at}
 use Rattle.agreement.specs.Driven.{IsDrivenBy, SendsNone, known}
 use Rattle.agreement.specs.Driver.{EndsWith}
 use Rattle.agreement.specs.Links.{SameAdapter}
@@ -47,7 +47,7 @@ use Rattle.ata_types.specs.declared.PortState.TheVariants.{Dead}
 use Rattle.request_book.specs.Entries.{first_of}
 use Rattle.request_book.proofs.Counts.{as_many}
 use Rattle.transfers.specs.Services.{IsService}
-use Rattle.transfers.proofs.Serving.{services_on, services_unarmed}
+use Rattle.transfers.proofs.Serving.{services_on}
 use Rattle.server_history.specs.Histories.{Adds, Begins, CameBy, HeedsAt, Leads, Stands, Ties, load_said, no_evidence, store_said}
 use Rattle.server_history.specs.Server.{Server, IsKept, IsMachineOf, IsPortOf, none_parked, ports_of, situation_of}
 use Rattle.server_history.proofs.Devices.{devices_belong, devices_last, devices_lawful, devices_transfer}
@@ -83,9 +83,6 @@ module _ (s : Server) (k : IsKept s) (new : Device) (access : Access) (is : IsOf
   ports_on port below =
       port_on s.wanted s.ports port s.device new same k.on served (λ unready. bytes_leave access s.device new is k.on does port) (silent port) (k.behind port below)
 
-  unarmed : (m : Machine) (is : IsMachineOf s m) (port : ℕ) → AreUnarmed is.uses (new.port port) port
-  unarmed m is port = services_unarmed is.uses port s.device new served (is.unarmed port)
-
   -- a machine that spares the book
   kept_with : (steps : List Step) → AllMay k.machine steps → IsMachineOf (record s { device = new }) (after k.machine steps) → IsKept (record s { device = new })
   kept_with steps may stands = kept_on s new k (services_on s.device new k.on served) same ports_on steps may stands
@@ -96,7 +93,7 @@ pub device_kept : (s : Server) (new : Device) → IsKept s → Steps s.device ne
 device_kept s new k steps =
     let x = (device_adds (known k.stands.uses none_parked s.device) new steps).adds k.machine k.reached k.stands.knows in
     kept_with s k new (Loading 0 []) tt (none_loaded s.device new steps) x.0 x.1
-    (machine_on s new k.machine x.0 k.stands x.3.only x.2 (unarmed s k new (Loading 0 []) tt (none_loaded s.device new steps) k.machine k.stands))
+    (machine_on s new k.machine x.0 k.stands x.3.only x.2)
 
 pub device_adds_event : (s : Server) (new : Device) (step : DeviceStep) → IsKept s → Asked step s.device new → Steps s.device new
     → Adds s (record s { device = new }) (Told step) (Stepped true)
@@ -118,7 +115,7 @@ device_adds_event s new step k asked moves = record { adds = adds }
         (ports_on s k new (Loading 0 []) tt (none_loaded s.device new moves))
         (λ port well. uninterrupted port)
         x.3.backed
-        (machine_on s new old.moment.machine steps m x.3.only x.2 (unarmed s k new (Loading 0 []) tt (none_loaded s.device new moves) old.moment.machine m))
+        (machine_on s new old.moment.machine steps m x.3.only x.2)
 
 -- ---- calls that do nothing
 
@@ -198,7 +195,7 @@ load_ends : (s : Server) (new : Device) (client : ClientId) (frame : Frame) (off
 load_ends s new client frame offset bytes k opens loads m r is =
     let x : EndsWith (known is.uses none_parked s.device) m (Load client frame offset bytes) (known is.uses none_parked new) =
     client_loads (known is.uses none_parked s.device) m client frame offset bytes new r is.knows (as_told s m is (λ owner lent. IsOpen owner lent client frame offset (length bytes)) opens) loads in
-    (x, machine_with s new m (after m (Load client frame offset bytes ∷ x.steps)) is (steps_spare m x.steps x.only) x.knows (unarmed s k new (Loading (4096 * frame.0 + offset) bytes) tt loads m is))
+    (x, machine_with s new m (after m (Load client frame offset bytes ∷ x.steps)) is (steps_spare m x.steps x.only) x.knows)
 
 store_ends : (s : Server) (new : Device) (client : ClientId) (frame : Frame) (offset : ℕ) (bytes : List ℕ) → IsKept s → IsOpen (owner_of s.table) (lent_to s.table) client frame offset (length bytes)
     → Stores (4096 * frame.0 + offset) bytes s.device new → (m : Machine) → IsReached m → (is : IsMachineOf s m)
@@ -209,8 +206,7 @@ store_ends s new client frame offset bytes k opens stores m r is =
     let spares : SparesBook m (after m x.steps) = steps_spare m x.steps x.only in (
       x,
       machine_with s new m (after m (Store client frame offset bytes ∷ x.steps)) is
-          (record { rows = spares.rows; owner = spares.owner; lent = spares.lent; next = spares.next; book = spares.book; kept = spares.kept }) x.knows
-          (unarmed s k new (Storing (4096 * frame.0 + offset) bytes) tt stores m is),
+          (record { rows = spares.rows; owner = spares.owner; lent = spares.lent; next = spares.next; book = spares.book; kept = spares.kept }) x.knows,
     )
 
 module _ (s : Server) (new : Device) (client : ClientId) (frame : Frame) (offset : ℕ) (bytes : List ℕ) (k : IsKept s) (opens : IsOpen (owner_of s.table) (lent_to s.table) client frame offset (length bytes)) where

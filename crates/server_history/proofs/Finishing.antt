@@ -51,7 +51,7 @@ use Rattle.server_history.specs.Server.{Server, IsKept, IsMachineOf, IsPortOf, I
 use Rattle.server_history.proofs.Going.{kept_then}
 use Rattle.server_history.proofs.Issuing.{LacksIssue, IsIssue, every, issue_first, lacks_none, behind_issued, issued_serves}
 use Rattle.server_history.proofs.Ports.{not_own}
-use Rattle.server_history.proofs.Unused.{all_unarmed_freed, parked_first, ready_found, served_by, serves_first, stage_over}
+use Rattle.server_history.proofs.Unused.{parked_first, ready_found, served_by, serves_first, stage_over}
 use Rattle.transfers.specs.Transfers.{IssuesTransfer}
 use Rattle.transfers.proofs.Serving.{services_on, services_same}
 
@@ -172,7 +172,6 @@ module _ (s : Server) (port : Port) (first : Accepted) (k : IsKept s) (ready : s
       free = put_same is.uses port.0 0 Free;
       first = apart;
       others = λ q slot other. put_other is.uses port.0 0 Free q slot (λ a b. other b) ∙ is.used.others q slot other;
-      unarmed = all_unarmed_freed s m port is first.id serves over;
       knows = knows;
       book = first_answered every port s.book m.book first done.request.id is.book k.ordered.ordered leads x.id_is;
       kept = is.kept;

@@ -8,7 +8,6 @@ use Rattle.hba_regs.specs.Bits.{bit}
 use Rattle.adapter.specs.Device.{Device}
 use Rattle.adapter.specs.Rules.{IsOn}
 use Rattle.adapter.specs.declared.access.DeviceStep.{DeviceStep}
-use Rattle.agreement.specs.Agrees.{AreUnarmed}
 use Rattle.agreement.specs.Driven.{known}
 use Rattle.agreement.specs.Driver.{Knows, IsBacked}
 use Rattle.agreement.specs.Links.{SameAdapter}
@@ -59,12 +58,11 @@ none_on olds news further is = subst (λ (es : List Pending). AllFurther es news
 -- ---- the machine that stands for a server
 
 pub machine_with : (s : Server) (new : Device) (m later : Machine) → (is : IsMachineOf s m) → SparesBook m later
-    → Knows later (known is.uses none_parked new) → ((port : ℕ) → AreUnarmed is.uses (new.port port) port)
+    → Knows later (known is.uses none_parked new)
     → IsMachineOf (record s { device = new }) later
-machine_with s new m later is spares knows unarmed = record {
+machine_with s new m later is spares knows = record {
   uses = is.uses;
   used = record { first = is.used.first; others = is.used.others };
-  unarmed = unarmed;
   knows = knows;
   book = book_on s.book m.book later.book spares.book is.book;
   kept = none_on m.kept later.kept spares.kept is.kept;
@@ -76,9 +74,9 @@ machine_with s new m later is spares knows unarmed = record {
 
 -- it goes on over steps of the device
 pub machine_on : (s : Server) (new : Device) (m : Machine) (steps : List Step) → (is : IsMachineOf s m) → AllDevices steps
-    → Knows (after m steps) (known is.uses none_parked new) → ((port : ℕ) → AreUnarmed is.uses (new.port port) port)
+    → Knows (after m steps) (known is.uses none_parked new)
     → IsMachineOf (record s { device = new }) (after m steps)
-machine_on s new m steps is own knows unarmed = machine_with s new m (after m steps) is (steps_spare m steps own) knows unarmed
+machine_on s new m steps is own knows = machine_with s new m (after m steps) is (steps_spare m steps own) knows
 
 -- ---- what a server keeps
 

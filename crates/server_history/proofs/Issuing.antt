@@ -14,7 +14,7 @@ use Rattle.block_machine.specs.Left.{after}
 use Rattle.block_machine.specs.State.{Machine, Pending, unanswered}
 use Rattle.block_machine.specs.Steps.{Step, Issue, May}
 use Rattle.block_machine.proofs.Members.{contains_none, none_of}
-use Rattle.agreement.specs.Agrees.{AreUnarmed, port_at}
+use Rattle.agreement.specs.Agrees.{port_at}
 use Rattle.agreement.specs.Driven.{IsAgreed, known, IsDrivenBy}
 use Rattle.agreement.specs.Driver.{EndsWith, Knows, IsBacked, serving}
 use Rattle.agreement.specs.Slots.{Free, Serves, Use, Uses, put, Own}
@@ -55,7 +55,6 @@ pub record LacksIssue (s : Server) (port : Port) (m : Machine) : Type 0 where
   pub free : uses port.0 0 ≡ Free
   pub first : (q : ℕ) → q ≢ port.0 → IsUseOf (found_of s.ports q) (first_of (port_at q) s.book) (uses q 0)
   pub others : (q slot : ℕ) → slot ≢ 0 → uses q slot ≡ Free
-  pub unarmed : (q : ℕ) → AreUnarmed uses (s.device.port q) q
   pub knows : Knows m (known uses none_parked s.device)
   pub book : IsBookOn (without_port port every) s.book m.book
   pub kept : m.kept ≡ []
@@ -115,7 +114,6 @@ module _ (s : Server) (port : Port) (m : Machine) (info : DiskInfo) (found : fou
   lacks_none none = record {
     uses = l.uses;
     used = record { first = uses_at s port info l.uses None found (none_first port s.book none) l.free l.first; others = l.others };
-    unarmed = l.unarmed;
     knows = l.knows;
     book = same_ports (without_port port every) every s.book m.book (apart_all port s.book none) l.book;
     kept = l.kept;
@@ -165,7 +163,7 @@ module _ (s : Server) (port : Port) (m : Machine) (info : DiskInfo) (found : fou
         subst (λ (u : Use). IsUseOf (found_of s.ports q) (first_of (port_at q) s.book) u) (sym (put_other l.uses port.0 0 (Serves e.request.id) q 0 (λ same zero. other same))) (l.first q other)
 
     agreed : IsAgreed uses new
-    agreed = issuing_agrees port (issued_of next) l.uses s.device new (record { machine = m; parked = none_parked; reached = reached; knows = l.knows; unarmed = l.unarmed })
+    agreed = issuing_agrees port (issued_of next) l.uses s.device new (record { machine = m; parked = none_parked; reached = reached; knows = l.knows })
         plain_mode e issues l.free may (all_plain next.op) (omega arith) is
 
     book : IsBook s.book later.book
@@ -181,7 +179,6 @@ module _ (s : Server) (port : Port) (m : Machine) (info : DiskInfo) (found : fou
         first = uses_at s port info uses (Some next) found leads (put_same l.uses port.0 0 (Serves e.request.id) ∙ ap Serves due.2.id) others;
         others = λ q slot other. put_other l.uses port.0 0 (Serves e.request.id) q slot (λ a b. other b) ∙ l.others q slot other;
       };
-      unarmed = agreed.unarmed;
       knows = x.knows;
       book = book;
       kept = subst (λ (es : List Pending). AllFurther es (after m x.steps).kept) l.kept spares.kept;

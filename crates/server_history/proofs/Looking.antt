@@ -24,7 +24,7 @@ use Rattle.transfers.specs.Looks.{IsLooking}
 use Rattle.transfers.specs.Services.{IsService}
 use Rattle.transfers.specs.Transfers.{IsFinding, FindsTransfer}
 use Rattle.transfers.proofs.Apart.{finding_apart, looking_apart}
-use Rattle.transfers.proofs.Serving.{finding_ordinary, looking_service, services_on, services_same, services_unarmed}
+use Rattle.transfers.proofs.Serving.{finding_ordinary, looking_service, services_on, services_same}
 
 -- ---- what stands behind the ports
 
@@ -52,7 +52,7 @@ module _ (s : Server) (new : Device) (port : Port) (k : IsKept s) (ready : state
       (λ q other. followed.silent uses none_parked k.machine tt k.reached k.stands.knows (port_at q) Identify refl (none (port_at q))
       (not_own (found_of s.ports q) (first_of (port_at q) s.book) (uses q 0) other (k.stands.used.first q))))
       x.0 x.1
-      (machine_on s new k.machine x.0 k.stands x.3.only x.2 (λ q. services_unarmed uses q s.device new driven (k.stands.unarmed q)))
+      (machine_on s new k.machine x.0 k.stands x.3.only x.2)
 
   looking_spares : (q : Port) → NoneWrites (IsLooking port) (Px q Ci)
   looking_spares q (Writing r v) (inl e) = λ is. let x : Px port Is ≡ Px q Ci = sym e ∙ is in absurd cc

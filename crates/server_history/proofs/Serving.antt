@@ -15,7 +15,6 @@ use Rattle.agreement.specs.Driven.{AnyUse, IsDrivenBy, IsFollowed}
 use Rattle.agreement.specs.Driver.{IsBacked}
 use Rattle.agreement.specs.Facts.{RunsWell, Undisturbed}
 use Rattle.agreement.specs.Slots.{Free, IsOver, Own, ServesRequest, Stage, Uses, put}
-use Rattle.agreement.specs.Agrees.{AreUnarmed}
 use Rattle.agreement.proofs.Adding.{backed_then}
 use Rattle.agreement.proofs.Driven.{along, by_none, driven_as, followed_as, followed_then}
 use Rattle.agreement.proofs.Finished.{access_over}
@@ -47,7 +46,7 @@ use Rattle.transfers.specs.Transfers.{IsFinding, IsIssuing, ReadsDone}
 use Rattle.transfers.specs.declared.Look.{Look}
 use Rattle.transfers.specs.declared.Look.TheVariants.{Undisturbed as Calm}
 use Rattle.transfers.proofs.Seeing.{seen_well}
-use Rattle.transfers.proofs.Serving.{finding_ordinary, looking_service, services_unarmed}
+use Rattle.transfers.proofs.Serving.{finding_ordinary, looking_service, services_inactive}
 
 -- accesses of a look, and of finding a transfer done, serve ports
 looks_serve : (port : Port) (old new : Device) → IsFollowed (IsLooking port) AnyUse old new → IsFollowed IsService AnyUse old new
@@ -61,7 +60,7 @@ followed_steps : (s : Server) (new : Device) → IsFollowed IsService AnyUse s.d
     → (steps : List Step) × AllMay m steps × IsMachineOf (record s { device = new }) (after m steps) × IsBacked s.device new m steps × AllDevices steps
 followed_steps s new followed m reached is =
     let x = (followed.adds is.uses none_parked tt).adds m reached is.knows in
-    (x.0, x.1, machine_on s new m x.0 is x.3.only x.2 (λ q. services_unarmed is.uses q s.device new followed.driven (is.unarmed q)), x.3.backed, x.3.only)
+    (x.0, x.1, machine_on s new m x.0 is x.3.only x.2, x.3.backed, x.3.only)
 
 nobody_answered : (s : Server) (new : Device) (port : Port) → HasTurn port (has_of port s.book) None s.device new → IsFollowed IsService AnyUse s.device new
     → (RunsWell (s.device.port port.0) → Undisturbed port.0 s.device new → (s.device.port port.0).ci 0 ≡ false → (s.device.port port.0).sact 0 ≡ false → first_of port s.book ≢ None → ⊥)
@@ -103,19 +102,6 @@ still_over port old new driven =
     along (λ a b. IsOver (a.port port.0) 0 → IsOver (b.port port.0) 0) (λ d h. h) (λ a b c x y h. y (x h)) (IsLooking port)
     (λ access a b is does h. access_over port 0 access a b (λ v same. absurd (no_issue port access is v same)) does h) driven.accesses old new driven.only driven.all
 
--- slot 0 of the port alone counts as free
-abbrev all_but : ℕ → Uses
-all_but port = put (λ q slot. Own Identify) port 0 Free
-
-still_unarmed : (port : Port) (old new : Device) → IsDrivenBy IsService old new → (old.port port.0).sact 0 ≡ false → (new.port port.0).sact 0 ≡ false
-still_unarmed port old new driven sact = services_unarmed (all_but port.0) port.0 old new driven clear 0 (put_same (λ q slot. Own Identify) port.0 0 Free)
-  where
-    clear : AreUnarmed (all_but port.0) (old.port port.0) port.0
-    clear slot free = ⊎_elim
-        (λ here. subst (λ (n : ℕ). (old.port port.0).sact n ≡ false) (sym here.1) sact)
-        (λ there. let z : Own Identify ≡ Free = sym there.1 ∙ free in absurd cc)
-        (put_cases (λ q slot. Own Identify) port.0 0 Free port.0 slot)
-
 -- a command that runs has one of the two bits
 never_both : (started queued ci sact : Bool) → started ≡ true → ci ≡ started && not queued → sact ≡ started && queued → ci ≡ false → sact ≡ false → ⊥
 never_both false queued ci sact on a b c d = false≢true on
@@ -145,7 +131,7 @@ module _ (s : Server) (port : Port) (k : IsKept s) (ready : state_of (found_of s
   still_clear seen driven ci sact some = ⊎_elim
       (λ (first : (e : Accepted) × (first_of port s.book ≡ Some e)). (
         (still_over port s.device seen driven (clear_over first.0 first.1 ci sact)).issued,
-        still_unarmed port s.device seen (driven_as (IsLooking port) IsService s.device seen (looking_service port) driven) sact,
+        services_inactive port.0 0 s.device seen (driven_as (IsLooking port) IsService s.device seen (looking_service port) driven) sact,
       ))
       (λ (none : first_of port s.book ≡ None). absurd (some none))
       (first_or_none port s.book)

@@ -8,7 +8,6 @@ use Rattle.adapter.specs.Commands.{Meaning}
 use Rattle.adapter.specs.Device.{PortState}
 use Rattle.block_machine.specs.State.{Machine, Pending}
 use Rattle.block_machine.proofs.Members.{some_in}
-use Rattle.agreement.specs.Agrees.{AreUnarmed}
 use Rattle.agreement.specs.Driven.{AgreesWith, known}
 use Rattle.agreement.specs.Driver.{Knows, parking}
 use Rattle.agreement.specs.Slots.{Free, Serves, Use, Uses, put, IsDropped, IsEnded, IsOver, IsServed, ServesRequest, Stage}
@@ -94,26 +93,6 @@ pub served_by : (s : Server) (m : Machine) (port : Port) → (is : IsMachineOf s
 served_by s m port is id serves =
     subst (λ (u : Use). IsServed m s.device.memory s.device.tape (s.device.port port.0) port.0 0 u) serves (is.knows.agrees.slot port.0 0)
 
--- so its bit of PxSACT is clear
-over_clear : (s : Server) (m : Machine) (port : Port) → (is : IsMachineOf s m) → (id : RequestId) → is.uses port.0 0 ≡ Serves id → IsOver (s.device.port port.0) 0
-    → (s.device.port port.0).sact 0 ≡ false
-over_clear s m port is id serves over =
-    let x = served_by s m port is id serves in
-    ⊎_elim (λ (e : IsEnded (s.device.port port.0) 0 x.pending). e.sact) (λ (d : IsDropped (s.device.port port.0) 0 x.pending). d.sact)
-    (stage_over s.device.memory (s.device.port port.0) port.0 0 x.pending x.command x.places x.stage over)
-
-unarmed_freed : (uses : Uses) (port slot : ℕ) (p : PortState) (q : ℕ) → (q ≡ port → p.sact slot ≡ false) → AreUnarmed uses p q → AreUnarmed (put uses port slot Free) p q
-unarmed_freed uses port slot p q clear u k free = ⊎_elim
-    (λ (here : (q ≡ port) × (k ≡ slot)). subst (λ (n : ℕ). p.sact n ≡ false) (sym here.1) (clear here.0))
-    (λ (there : (q ≡ port → k ≡ slot → ⊥) × (put uses port slot Free q k ≡ uses q k)). u k (sym there.1 ∙ free))
-    (put_cases uses port slot Free q k)
-
-pub all_unarmed_freed : (s : Server) (m : Machine) (port : Port) → (is : IsMachineOf s m) → (id : RequestId) → is.uses port.0 0 ≡ Serves id → IsOver (s.device.port port.0) 0
-    → (q : ℕ) → AreUnarmed (put is.uses port.0 0 Free) (s.device.port q) q
-all_unarmed_freed s m port is id serves over q =
-    unarmed_freed is.uses port.0 0 (s.device.port q) q
-    (λ here. subst (λ (n : ℕ). (s.device.port n).sact 0 ≡ false) (sym here) (over_clear s m port is id serves over)) (is.unarmed q)
-
 pub parked_first : (s : Server) (m : Machine) (port : Port) → (is : IsMachineOf s m) → (id : RequestId) → is.uses port.0 0 ≡ Serves id → IsOver (s.device.port port.0) 0
     → Knows m (parking (known is.uses none_parked s.device) port.0 0 id)
 parked_first s m port is id serves over = park_knows (known is.uses none_parked s.device) m is.knows port.0 0 over id serves
@@ -125,7 +104,7 @@ agreed_none s port k ready none =
     let found = ready_found s port.0 k ready in (
       k.stands.uses,
       free_without s k.machine port found.1.0 found.1.1 k.stands none,
-      record { machine = k.machine; parked = none_parked; reached = k.reached; knows = k.stands.knows; unarmed = k.stands.unarmed },
+      record { machine = k.machine; parked = none_parked; reached = k.reached; knows = k.stands.knows },
     )
 
 pub agreed_without : (s : Server) (port : Port) → IsKept s → state_of (found_of s.ports port.0) ≡ ReadyState → has_of port s.book ≡ false → AgreesWith (IsUnused port.0 0) s.device
@@ -140,7 +119,6 @@ agreed_with s port k id serves over = (
     parked = (parking (known k.stands.uses none_parked s.device) port.0 0 id).parked;
     reached = k.reached;
     knows = parked_first s k.machine port k.stands id serves over;
-    unarmed = all_unarmed_freed s k.machine port k.stands id serves over;
   },
 )
 

@@ -10,7 +10,7 @@ use Rattle.ata_types.specs.declared.request.RequestId.{RequestId}
 use Rattle.adapter.specs.Device.{Device}
 use Rattle.adapter.specs.Rules.{IsOn, HasPort}
 use Rattle.adapter.specs.declared.command.Operation.TheVariants.{Identify}
-use Rattle.agreement.specs.Agrees.{port_at, AreUnarmed}
+use Rattle.agreement.specs.Agrees.{port_at}
 use Rattle.agreement.specs.Driven.{known}
 use Rattle.agreement.specs.Driver.{Knows}
 use Rattle.agreement.specs.Slots.{Free, Own, Serves, Use, Uses}
@@ -120,7 +120,6 @@ pub record AreUsesOf (s : Server) (uses : Uses) : Type 0 where
 pub record IsMachineOf (s : Server) (m : Machine) : Type 0 where
   pub uses : Uses
   pub used : AreUsesOf s uses
-  pub unarmed : (port : ℕ) → AreUnarmed uses (s.device.port port) port
   pub knows : Knows m (known uses none_parked s.device)
   pub book : IsBook s.book m.book
   pub kept : m.kept ≡ []

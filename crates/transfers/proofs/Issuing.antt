@@ -1,6 +1,6 @@
 -- A transfer's header and table are written, and then its bit of PxCI.
 use Rattle.std.proofs.Common.{ℕ, ◌≡◌, ◌+◌, ◌^◌, ◌<◌, ◌≤◌, ◌++◌, ◌||◌, Bool, true, false, not, List, ◌∷◌, length, None, Some, slice_index, inl, inr, refl, sym, ◌∙◌, ap, subst, ⊎_elim, arith, lit<}
-use Rattle.std.proofs.lemmas.Bool.{cases_eq}
+use Rattle.std.proofs.lemmas.Bool.{cases_eq, cond-true}
 use Rattle.std.proofs.lemmas.List.FromFn.{length-map-range_with_len, get_or-map-range_with_len}
 use Rattle.std.specs.List.{All}
 use Rattle.ata_types.specs.declared.Port.{Port}
@@ -35,7 +35,7 @@ use Rattle.agreement.specs.Driven.{known, IsAgreed, IsDrivenBy, IsFollowed, IsOf
 use Rattle.agreement.specs.Driver.{Known, Knows, ByDevice, EndsWith, IsPrepared, serving}
 use Rattle.agreement.specs.Follows.{Follows}
 use Rattle.agreement.specs.Places.{list_of, place_in}
-use Rattle.agreement.specs.Slots.{Use, Free, Uses, ArePlaces, Told, HasBlock, IsMove, IsOver, IsServed, op_of}
+use Rattle.agreement.specs.Slots.{Use, Free, Uses, ArePlaces, Told, HasBlock, IsMove, IsOver, IsServed, op_of, IsFree, Armed}
 use Rattle.agreement.proofs.Gaining.{gains_more}
 use Rattle.agreement.proofs.Paging.{access_sends_none}
 use Rattle.agreement.proofs.Adding.{backed_then}
@@ -162,16 +162,13 @@ module _ (port : Port) (r : Transfer) (old mid : Device) (transfers : IsTransfer
   mid_there = (there.0, ap (λ (pi : ℕ). bit pi port.0) (same_over (IsTableStore port.0 0) old mid stores.driven).pi ∙ there.1)
 
   mid_agreed : IsAgreed uses mid
-  mid_agreed = agreed_on (IsTableStore port.0 0) (IsUnused port.0 0) uses old mid (λ q. stores_spare (Px q Sact)) free stores agreed
+  mid_agreed = agreed_on (IsTableStore port.0 0) (IsUnused port.0 0) uses old mid free stores agreed
 
   started : (mid.port port.0).st ≡ true
   started = left.controls.st ∙ may.started
 
   list : (mid.port port.0).bases.clb ≡ list_of port.0
   list = ap (λ (b : Bases). b.clb) left.keeps.bases ∙ may.list
-
-  unqueued : (mid.port port.0).sact 0 ≡ false
-  unqueued = left.keeps.sact 0 (agreed.unarmed port.0 0 free)
 
   -- whatever the device does, the slot's bytes say the transfer
   told_later : (later : Device) → Steps mid later → Told later.memory (list_of port.0) port.0 0 (meaning_of r) (places_of r.frames r.count)
@@ -183,7 +180,8 @@ module _ (port : Port) (r : Transfer) (old mid : Device) (transfers : IsTransfer
   over_later : (later : Device) → Steps mid later → IsOver (later.port port.0) 0
   over_later later steps =
       let f : Follows uses mid_agreed.machine mid later = steps_follow uses mid_agreed.machine mid later mid_agreed.reached mid_agreed.knows.agrees steps in
-      subst (λ (u : Use). IsServed (after mid_agreed.machine f.steps) later.memory later.tape (later.port port.0) port.0 0 u) free (f.agrees.slot port.0 0)
+      let h : IsFree (later.port port.0) 0 = subst (λ (u : Use). IsServed (after mid_agreed.machine f.steps) later.memory later.tape (later.port port.0) port.0 0 u) free (f.agrees.slot port.0 0) in
+      record { issued = h.issued; free = h.free }
 
   -- bit 0 alone is written
   only_bit : (slot : ℕ) → bit 1 slot ≡ true → slot ≡ 0
@@ -219,7 +217,7 @@ module _ (port : Port) (r : Transfer) (old mid : Device) (transfers : IsTransfer
   prepared other m mode e unused due plain usable is = record {
     may = due;
     port_is = ap (λ (p : Port). p.0) is.port_is;
-    free = unused;
+    free = unused ∙ sym (cond-true (is_plain mode e.request.asked.op) Free Armed (ap (is_plain mode) is.operation ∙ plain));
     usable = usable;
     head = λ _. refl;
     started = started;
@@ -235,7 +233,6 @@ module _ (port : Port) (r : Transfer) (old mid : Device) (transfers : IsTransfer
     };
     kind = never_queued r.op ∙ sym (ap not (ap (is_plain mode) is.operation ∙ plain));
     block = no_block port r e is mid.memory transfers;
-    sact = unqueued ∙ sym (never_queued r.op);
     here = refl;
     alone = bit_one_other;
   }

@@ -1,5 +1,5 @@
 -- Accesses that serve ports, one after another, and what they leave.
-use Rattle.std.proofs.Common.{ℕ, ◌≡◌, ◌≢◌, ◌<◌, true, ◌∷◌, inl, inr, refl, sym, ◌∙◌, ap, subst, ⊎_elim}
+use Rattle.std.proofs.Common.{ℕ, ◌≡◌, ◌≢◌, ◌<◌, true, false, ◌∷◌, inl, inr, refl, sym, ◌∙◌, ap, subst, ⊎_elim}
 use Rattle.ata_types.specs.declared.Port.{Port}
 use Rattle.hba_regs.specs.declared.reg.Reg.{Reg}
 use Rattle.hba_regs.specs.declared.reg.Reg.TheVariants as reg
@@ -16,7 +16,7 @@ use Rattle.block_machine.specs.State.{Pending}
 use Rattle.block_machine.specs.Steps.{Issue, May}
 use Rattle.block_machine.specs.declared.due.Mode.{Mode}
 use Rattle.block_machine.proofs.HistoryLemmas.{reached_more}
-use Rattle.agreement.specs.Agrees.{AreUnarmed, port_at}
+use Rattle.agreement.specs.Agrees.{port_at}
 use Rattle.agreement.specs.Driven.{IsUse, IsAgreed, IsDrivenBy, IsFollowed}
 use Rattle.agreement.specs.Errors.{KeepsErrors}
 use Rattle.agreement.specs.Facts.{IsDisturbance, RunsWell, Undisturbed}
@@ -30,7 +30,7 @@ use Rattle.agreement.proofs.Lasting.{access_same, same_more, same_refl, store_le
 use Rattle.agreement.proofs.Linking.{access_controls}
 use Rattle.agreement.proofs.Putting.{put_same, put_cases}
 use Rattle.agreement.proofs.Running.{access_clear, access_started, started_well, shows_still, well_of}
-use Rattle.agreement.proofs.Unarmed.{unarmed_stays, unarmed_reads, unarmed_writes}
+use Rattle.agreement.proofs.Unarmed.{steps_clear, reads_clear, writes_clear}
 use Rattle.transfers.specs.Looks.{IsLooking}
 use Rattle.transfers.specs.Services.{IsService, IsOrdinary}
 use Rattle.transfers.specs.Transfers.{Transfer, MayTransfer, IsTransferOf, IsIssuing, IssuesTransfer, IsFinding}
@@ -118,20 +118,20 @@ services_controls port old new on a =
     (control.0, left.interrupts (spares_port (port_at port) Ie (λ e. cc) (λ e. cc) access is), control.1, (left.command (spares_port (port_at port) Cmd (λ e. cc) (λ e. cc) access is)).2))
     old new on a).0
 
--- free slots keep their bits of PxSACT clear
-service_unarmed : (uses : Uses) (port : ℕ) (access : Access) (old new : Device) → IsService access → Does access old new → AreUnarmed uses (old.port port) port → AreUnarmed uses (new.port port) port
-service_unarmed uses port (Reading r v) old new is does u = unarmed_reads uses port r v old new does u
-service_unarmed uses port (Writing r v) old new is does u =
-    unarmed_writes uses (port_at port) r v old new (λ e. absurd (spares_port (port_at port) Sact (λ e. cc) (λ e. cc) (Writing r v) is e)) does u
-service_unarmed uses port (Loading at bytes) old new is does u = unarmed_stays uses old new port does.steps u
-service_unarmed uses port (Storing at bytes) old new is does u =
+-- bits of PxSACT that are clear stay so
+service_inactive : (port slot : ℕ) (access : Access) (old new : Device) → IsService access → Does access old new → (old.port port).sact slot ≡ false → (new.port port).sact slot ≡ false
+service_inactive port slot (Reading r v) old new is does u = reads_clear port slot r v old new does u
+service_inactive port slot (Writing r v) old new is does u =
+    writes_clear (port_at port) slot r v old new (λ e. absurd (spares_port (port_at port) Sact (λ e. cc) (λ e. cc) (Writing r v) is e)) does u
+service_inactive port slot (Loading at bytes) old new is does u = steps_clear port slot old new does.steps u
+service_inactive port slot (Storing at bytes) old new is does u =
     let s = store_leaves at bytes old new does in
-    subst (λ (p : PortState). AreUnarmed uses p port) (sym (s.2 port)) (unarmed_stays uses old s.0 port s.1 u)
+    subst (λ (p : PortState). p.sact slot ≡ false) (sym (s.2 port)) (steps_clear port slot old s.0 s.1 u)
 
-pub services_unarmed : (uses : Uses) (port : ℕ) (old new : Device) → IsDrivenBy IsService old new → AreUnarmed uses (old.port port) port → AreUnarmed uses (new.port port) port
-services_unarmed uses port old new a =
-    along (λ x y. AreUnarmed uses (x.port port) port → AreUnarmed uses (y.port port) port) (λ d h. h) (λ x y z p q h. q (p h)) IsService
-    (λ access x y is does. service_unarmed uses port access x y is does) a.accesses old new a.only a.all
+pub services_inactive : (port slot : ℕ) (old new : Device) → IsDrivenBy IsService old new → (old.port port).sact slot ≡ false → (new.port port).sact slot ≡ false
+services_inactive port slot old new a =
+    along (λ x y. (x.port port).sact slot ≡ false → (y.port port).sact slot ≡ false) (λ d h. h) (λ x y z p q h. q (p h)) IsService
+    (λ access x y is does. service_inactive port slot access x y is does) a.accesses old new a.only a.all
 
 -- ---- a port that runs well
 
@@ -168,28 +168,17 @@ services_agree uses old new followed a =
       parked = a.parked;
       reached = reached_more a.machine x.0 a.reached x.1;
       knows = x.2;
-      unarmed = λ port. services_unarmed uses port old new followed.driven (a.unarmed port);
     }
-
--- where one more slot is used, the others are as they were
-put_unarmed : (uses : Uses) (p : PortState) (port slot : ℕ) (v : Use) (q : ℕ) → (v ≡ Free → ⊥) → AreUnarmed uses p q → AreUnarmed (put uses port slot v) p q
-put_unarmed uses p port slot v q used u k free = ⊎_elim
-    (λ (here : (q ≡ port) × (k ≡ slot)).
-    absurd (used (sym (put_same uses port slot v) ∙ ap (λ (n : ℕ). put uses port slot v port n) (sym here.1) ∙ ap (λ (n : ℕ). put uses port slot v n k) (sym here.0) ∙ free)))
-    (λ (there : (q ≡ port → k ≡ slot → ⊥) × (put uses port slot v q k ≡ uses q k)). u k (sym there.1 ∙ free))
-    (put_cases uses port slot v q k)
 
 pub issuing_agrees : (port : Port) (r : Transfer) (uses : Uses) (old new : Device) (a : IsAgreed uses old) (mode : Mode) (e : Pending) → IssuesTransfer port r old new → uses port.0 0 ≡ Free →
     May a.machine (Issue mode e) → is_plain mode r.op ≡ true → 0 < mode.usable → IsTransferOf port r e → IsAgreed (put uses port.0 0 (Serves e.request.id)) new
 issuing_agrees port r uses old new a mode e issues free due plain usable is =
     let x = issues.issues uses a.parked a.machine mode e a.reached a.knows free due plain usable is in
-    let driven : IsDrivenBy IsService old new = driven_as (IsIssuing port) IsService old new (λ access h. (issuing_ordinary port port access h).0) issues.driven in
     record {
       machine = after a.machine (Issue mode e ∷ x.steps);
       parked = a.parked;
       reached = reached_more a.machine (Issue mode e ∷ x.steps) a.reached x.may;
       knows = x.knows;
-      unarmed = λ q. put_unarmed uses (new.port q) port.0 0 (Serves e.request.id) q (λ z. cc) (services_unarmed uses q old new driven (a.unarmed q));
     }
 
 -- ---- what tells of trouble

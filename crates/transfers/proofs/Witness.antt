@@ -43,7 +43,6 @@ first_may_be_issued = record {
     parked = λ port. [];
     reached = prepared_is_known.reached;
     knows = prepared_is_known.knows;
-    unarmed = λ port slot free. changed_each (λ _. quiet_port) 0 ready_port (λ k p. p.sact slot ≡ false) refl (λ k. refl) port;
   };
   mode = prepared_is_known.mode;
   request = prepared_is_known.request;

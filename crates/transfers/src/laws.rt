@@ -9,7 +9,6 @@ ghost use Rattle.block_machine.specs.Due.{is_plain};
 ghost use Rattle.block_machine.specs.State.{Pending};
 ghost use Rattle.block_machine.specs.Steps.{Issue, May};
 ghost use Rattle.block_machine.specs.declared.due.Mode.{Mode};
-ghost use Rattle.agreement.specs.Agrees.{AreUnarmed};
 ghost use Rattle.agreement.specs.Driven.{IsUse, IsAgreed, IsDrivenBy, IsFollowed, LeavesPort};
 ghost use Rattle.agreement.specs.Errors.{KeepsErrors, NoneComes};
 ghost use Rattle.agreement.specs.Facts.{IsRecorded, RunsWell, ShowsNoTrouble, TellsNoTrouble, Undisturbed};
@@ -65,8 +64,8 @@ pub fn services_leave()
         → RunsWell (old.port port.0) → RunsWell (new.port port.0) }
     ensures recorded { (port : ℕ) (old new : Device) → IsDrivenBy IsService old new → IsRecorded old.tape (old.port port) port
         → IsRecorded new.tape (new.port port) port }
-    ensures unarmed { (uses : Uses) (port : ℕ) (old new : Device) → IsDrivenBy IsService old new
-        → AreUnarmed uses (old.port port) port → AreUnarmed uses (new.port port) port }
+    ensures inactive { (port slot : ℕ) (old new : Device) → IsDrivenBy IsService old new
+        → (old.port port).sact slot ≡ false → (new.port port).sact slot ≡ false }
     ensures agrees { (uses : Uses) (old new : Device) → IsFollowed IsService (IsUse uses) old new → IsAgreed uses old
         → IsAgreed uses new }
 {}

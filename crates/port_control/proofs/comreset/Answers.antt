@@ -1,11 +1,11 @@
 use Rattle.agreement.specs.Driven.{AnyUse}
 use Rattle.port_control.specs.Ports.{IsResetting, FindsSignature, Looks}
-use Rattle.port_control.proofs.Using.{resetting_spares, usable_after}
+use Rattle.port_control.proofs.Using.{usable_after}
 use Rattle.port_control.proofs.Resetting.{looked, reset_on, both_followed, both_on, both_coming, both_found}
 use Rattle.port_control.proofs.comreset.Goals as goal
 
 pub look-requires-clause-usable : goal.look-requires-clause-usable
-look-requires-clause-usable g c = usable_after IsResetting AnyUse c.args.receiving.port _ _ resetting_spares (record { on = c.requires.on; there = c.requires.there; agreed = c.requires.agreed }) c.send_comreset.ensures.followed
+look-requires-clause-usable g c = usable_after IsResetting AnyUse c.args.receiving.port _ _ (record { on = c.requires.on; there = c.requires.there; agreed = c.requires.agreed }) c.send_comreset.ensures.followed
 
 pub returns-in-Ok-clause-followed : goal.returns-in-Ok-clause-followed
 returns-in-Ok-clause-followed g c = both_followed c.args.receiving.port _ _ _ (record { on = c.requires.on; there = c.requires.there; agreed = c.requires.agreed }) c.send_comreset.ensures.followed c.look.ensures.followed

@@ -2,13 +2,13 @@ use Rattle.std.proofs.Common.{inl}
 use Rattle.agreement.specs.Driven.{AnyUse, IsControl}
 use Rattle.agreement.proofs.Controlled.{same_adapter}
 use Rattle.agreement.proofs.Driven.{followed_then}
-use Rattle.port_control.proofs.Using.{command_spares, placing_spares, followed_wider, usable_after}
+use Rattle.port_control.proofs.Using.{followed_wider, usable_after}
 use Rattle.port_control.specs.Ports.{WritesCommand, IsPlacing}
 use Rattle.port_control.proofs.receive.Goals as goal
 
 pub returns-then-not-stop_receiving-clause-on : goal.returns-then-not-stop_receiving-clause-on
 returns-then-not-stop_receiving-clause-on g c =
-    let first = usable_after WritesCommand AnyUse c.args.stopped.port _ _ command_spares (record { on = c.requires.on; there = c.requires.there; agreed = c.requires.agreed }) c.stop_receiving.ensures.followed in
+    let first = usable_after WritesCommand AnyUse c.args.stopped.port _ _ (record { on = c.requires.on; there = c.requires.there; agreed = c.requires.agreed }) c.stop_receiving.ensures.followed in
     first.on
 
 pub returns-then-not-stop_receiving-clause-followed : goal.returns-then-not-stop_receiving-clause-followed
@@ -16,7 +16,7 @@ returns-then-not-stop_receiving-clause-followed g c = followed_wider WritesComma
 
 pub place-requires-clause-usable : goal.place-requires-clause-usable
 place-requires-clause-usable g c =
-    let first = usable_after WritesCommand AnyUse c.args.stopped.port _ _ command_spares (record { on = c.requires.on; there = c.requires.there; agreed = c.requires.agreed }) c.stop_receiving.ensures.followed in
+    let first = usable_after WritesCommand AnyUse c.args.stopped.port _ _ (record { on = c.requires.on; there = c.requires.there; agreed = c.requires.agreed }) c.stop_receiving.ensures.followed in
     first
 
 pub place-requires-clause-room : goal.place-requires-clause-room
@@ -24,8 +24,8 @@ place-requires-clause-room g c = rw (same_adapter WritesCommand c.args.stopped.p
 
 pub start_receiving-requires-clause-usable : goal.start_receiving-requires-clause-usable
 start_receiving-requires-clause-usable g c =
-    let first = usable_after WritesCommand AnyUse c.args.stopped.port _ _ command_spares (record { on = c.requires.on; there = c.requires.there; agreed = c.requires.agreed }) c.stop_receiving.ensures.followed in
-    let second = usable_after IsPlacing AnyUse c.args.stopped.port _ _ placing_spares first c.place.ensures.followed in
+    let first = usable_after WritesCommand AnyUse c.args.stopped.port _ _ (record { on = c.requires.on; there = c.requires.there; agreed = c.requires.agreed }) c.stop_receiving.ensures.followed in
+    let second = usable_after IsPlacing AnyUse c.args.stopped.port _ _ first c.place.ensures.followed in
     second
 
 pub returns-clause-followed : goal.returns-clause-followed
@@ -35,6 +35,6 @@ returns-clause-followed g c =
 
 pub returns-clause-on : goal.returns-clause-on
 returns-clause-on g c =
-    let first = usable_after WritesCommand AnyUse c.args.stopped.port _ _ command_spares (record { on = c.requires.on; there = c.requires.there; agreed = c.requires.agreed }) c.stop_receiving.ensures.followed in
-    let second = usable_after IsPlacing AnyUse c.args.stopped.port _ _ placing_spares first c.place.ensures.followed in
-    (usable_after WritesCommand AnyUse c.args.stopped.port _ _ command_spares second c.start_receiving.ensures.followed).on
+    let first = usable_after WritesCommand AnyUse c.args.stopped.port _ _ (record { on = c.requires.on; there = c.requires.there; agreed = c.requires.agreed }) c.stop_receiving.ensures.followed in
+    let second = usable_after IsPlacing AnyUse c.args.stopped.port _ _ first c.place.ensures.followed in
+    (usable_after WritesCommand AnyUse c.args.stopped.port _ _ second c.start_receiving.ensures.followed).on

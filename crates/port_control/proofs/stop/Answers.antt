@@ -1,6 +1,6 @@
 use Rattle.std.proofs.Common.{sym, ◌∙◌, arith}
 use Rattle.agreement.specs.Driven.{AnyUse}
-use Rattle.port_control.proofs.Using.{command_spares, usable_after}
+use Rattle.port_control.proofs.Using.{usable_after}
 use Rattle.port_control.proofs.Ceasing.{stop_may, stop_followed, stop_has, falls, falling_on, has_still, fallen, falls_still}
 use Rattle.port_control.specs.Ports.{WritesCommand}
 use Rattle.port_control.proofs.stop.Goals as goal
@@ -11,7 +11,7 @@ write-requires g c = stop_may _ _ _ _ _ (record { on = c.requires.on; there = c.
 pub loop-reading-init : goal.loop-reading-init
 loop-reading-init g c = record {
   followed = stop_followed _ _ _ _ _ (record { on = c.requires.on; there = c.requires.there; agreed = c.requires.agreed }) c.read.ensures c.without_start.ensures.cleared c.without_start.ensures.others _ c.write.ensures;
-  usable = usable_after WritesCommand AnyUse c.args.port _ _ command_spares (record { on = c.requires.on; there = c.requires.there; agreed = c.requires.agreed }) (stop_followed _ _ _ _ _ (record { on = c.requires.on; there = c.requires.there; agreed = c.requires.agreed }) c.read.ensures c.without_start.ensures.cleared c.without_start.ensures.others _ c.write.ensures);
+  usable = usable_after WritesCommand AnyUse c.args.port _ _ (record { on = c.requires.on; there = c.requires.there; agreed = c.requires.agreed }) (stop_followed _ _ _ _ _ (record { on = c.requires.on; there = c.requires.there; agreed = c.requires.agreed }) c.read.ensures c.without_start.ensures.cleared c.without_start.ensures.others _ c.write.ensures);
   has = stop_has _ _ _ _ _ (record { on = c.requires.on; there = c.requires.there; agreed = c.requires.agreed }) c.read.ensures c.without_start.ensures.cleared c.without_start.ensures.others _ c.write.ensures;
   low = omega arith;
   high = λ h. absurd (omega (arith, h));

@@ -1,6 +1,6 @@
 use Rattle.std.proofs.Common.{sym, ◌∙◌, arith}
 use Rattle.agreement.specs.Driven.{AnyUse}
-use Rattle.port_control.proofs.Using.{command_spares, usable_after}
+use Rattle.port_control.proofs.Using.{usable_after}
 use Rattle.port_control.proofs.Ceasing.{empty_may, empty_begins, empties, emptied, empties_still}
 use Rattle.port_control.specs.Ports.{WritesCommand}
 use Rattle.port_control.proofs.stop_receiving.Goals as goal
@@ -12,7 +12,7 @@ pub loop-reading-init : goal.loop-reading-init
 loop-reading-init g c = let b = empty_begins _ _ _ _ _ c.requires.usable c.read.ensures c.requires.stopped c.without_receive.ensures.cleared c.without_receive.ensures.others _ c.write.ensures in
     record {
       followed = b.0;
-      usable = usable_after WritesCommand AnyUse c.args.port _ _ command_spares c.requires.usable b.0;
+      usable = usable_after WritesCommand AnyUse c.args.port _ _ c.requires.usable b.0;
       stopped = b.1;
       fre = b.2;
       bases = b.3;

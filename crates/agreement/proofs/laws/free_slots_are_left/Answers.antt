@@ -1,5 +1,5 @@
 use Rattle.agreement.proofs.Keeping.{steps_leave}
-use Rattle.agreement.proofs.Leaving.{reads_leave, loads_leave, stores_leave, writes_leave, write_spares}
+use Rattle.agreement.proofs.Leaving.{reads_leave, loads_leave, stores_leave, writes_leave}
 use Rattle.agreement.proofs.laws.free_slots_are_left.Goals as goal
 
 pub returns-clause-steps : goal.returns-clause-steps
@@ -16,6 +16,3 @@ returns-clause-stores c = stores_leave
 
 pub returns-clause-writes : goal.returns-clause-writes
 returns-clause-writes c = writes_leave
-
-pub returns-clause-spared : goal.returns-clause-spared
-returns-clause-spared c = write_spares

@@ -1,5 +1,5 @@
 use Rattle.transfers.proofs.Recording.{services_recorded}
-use Rattle.transfers.proofs.Serving.{services_on, services_same, services_port, services_controls, services_well, services_unarmed, services_agree}
+use Rattle.transfers.proofs.Serving.{services_on, services_same, services_port, services_controls, services_well, services_inactive, services_agree}
 use Rattle.transfers.proofs.laws.services_leave.Goals as goal
 
 pub returns-clause-on : goal.returns-clause-on
@@ -14,8 +14,8 @@ returns-clause-port c = services_port
 pub returns-clause-controls : goal.returns-clause-controls
 returns-clause-controls c = services_controls
 
-pub returns-clause-unarmed : goal.returns-clause-unarmed
-returns-clause-unarmed c = services_unarmed
+pub returns-clause-inactive : goal.returns-clause-inactive
+returns-clause-inactive c = services_inactive
 
 pub returns-clause-agrees : goal.returns-clause-agrees
 returns-clause-agrees c = services_agree
