@@ -2,9 +2,9 @@
 use Rattle.std.proofs.Common.{ℕ, ◌≡◌, ◌⊎◌, ◌<◌, ◌≤◌, ◌/◌, Bool, true, false, List, [], ◌∷◌, length, slice_index, Some, refl, sym, ◌∙◌, ap, subst, arith, inl, inr, if◌then◌else◌}
 use Rattle.ata_types.specs.declared.request.Op.{Op}
 use Rattle.ata_types.specs.declared.request.Op.TheVariants.{Read, Write, Trim, Flush}
-use Rattle.adapter.specs.Commands.{Meaning, is_queued, reads_memory}
-use Rattle.adapter.specs.Device.{Taken, PortState, Device}
-use Rattle.adapter.specs.Memory.{patched, changed}
+use Rattle.adapter.specs.Commands.{Meaning, reads_memory}
+use Rattle.adapter.specs.Device.{Taken, Device}
+use Rattle.adapter.specs.Memory.{patched}
 use Rattle.adapter.specs.Steps as steps
 use Rattle.adapter.specs.Steps.{Can, after, Leads, Steps, MayMove, next_place, with_done}
 use Rattle.adapter.specs.Steps.Step.{Fetch, FetchFault, Move, Clear, Done, Fault, Fatal, Fall, FrFall, LinkUp, Unplug, Plug, ResetEnds, Scribble}
@@ -24,9 +24,8 @@ use Rattle.agreement.specs.Slots.{Told, HasBlock, Use, Free, Own, Serves, Uses, 
 use Rattle.agreement.specs.Agrees.{Agrees}
 use Rattle.agreement.specs.Driver.{LeavesFree}
 use Rattle.agreement.specs.Follows.{Follows}
-use Rattle.agreement.proofs.Acting.{changed_at}
 use Rattle.agreement.proofs.Bytes.{MayChange, table_spared, scratch_spared}
-use Rattle.agreement.proofs.Ending.{is_trim, sact_other}
+use Rattle.agreement.proofs.Ending.{is_trim}
 use Rattle.agreement.proofs.Following.{step_follows}
 use Rattle.agreement.proofs.Moving.{TakenAs, taken_as, means_taken, some_same}
 use Rattle.agreement.proofs.Quiet.{some_none, true_false, scribble_may}

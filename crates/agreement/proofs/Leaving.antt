@@ -1,5 +1,5 @@
 -- What calls leave of what no slot uses.
-use Rattle.std.proofs.Common.{ℕ, ◌≡◌, ◌≢◌, ◌<◌, Bool, true, false, List, length, refl, sym, ◌∙◌, ap, subst, ⊎_elim}
+use Rattle.std.proofs.Common.{ℕ, ◌≡◌, ◌≢◌, ◌<◌, false, List, length, refl, sym, ◌∙◌, ap, subst, ⊎_elim}
 use Rattle.hba_regs.specs.declared.reg.Reg.{Reg}
 use Rattle.hba_regs.specs.declared.reg.Reg.TheVariants.{Cap, Ghc, Pi, Vs, Cap2, Bohc, Px}
 use Rattle.hba_regs.specs.declared.reg.Reg.TheVariants as adapter
@@ -17,7 +17,7 @@ use Rattle.agreement.specs.Agrees.{Agrees}
 use Rattle.agreement.specs.Driver.{LeavesFree, MissesTable, MissesScratch, MayStore}
 use Rattle.agreement.proofs.Bytes.{store_table, store_scratch}
 use Rattle.agreement.proofs.Keeping.{same_bytes, leaves_none, leaves_more, steps_leave}
-use Rattle.agreement.proofs.Putting.{put_same, put_cases}
+use Rattle.agreement.proofs.Putting.{put_cases}
 use Rattle.agreement.proofs.Serving.{told_on, block_on}
 
 -- a free slot is put to use

@@ -1,5 +1,5 @@
 -- An adapter's device, a block machine, and what the driver has put into the slots (this project's own).
-use Rattle.std.specs.Prelude.{ℕ, true, false, ◌≡◌, ◌⊎◌, ◌+◌, ◌*◌, ◌<◌, ◌≤◌, List, Some, Contains, slice_index}
+use Rattle.std.specs.Prelude.{ℕ, true, ◌≡◌, ◌⊎◌, ◌+◌, ◌*◌, ◌<◌, ◌≤◌, List, Some, Contains, slice_index}
 use Rattle.ata_types.specs.declared.Port.{Port}
 use Rattle.ata_types.specs.declared.memory.TheConstants.{DRIVER_FRAMES, FRAME_BYTES}
 use Rattle.ata_types.specs.declared.request.Frame.{Frame}
@@ -8,7 +8,7 @@ use Rattle.adapter.specs.Device.{Disk, PortState, Device}
 use Rattle.block_machine.specs.State.{Pending, Machine}
 use Rattle.block_machine.specs.Steps.{MayMove}
 use Rattle.agreement.specs.Places.{received_of}
-use Rattle.agreement.specs.Slots.{Free, Serves, Uses, IsServed}
+use Rattle.agreement.specs.Slots.{Serves, Uses, IsServed}
 
 -- the port of a number
 abbrev pub port_at : ℕ → Port

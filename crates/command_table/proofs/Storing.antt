@@ -3,8 +3,6 @@ use Rattle.std.proofs.Common.{ℕ, ◌≡◌, ◌⊎◌, ◌+◌, ◌*◌, ◌<�
 use Rattle.byteorder.specs.Endian.{little_from}
 use Rattle.ata_types.specs.declared.Port.{Port}
 use Rattle.hba_regs.specs.declared.reg.Reg.{Reg}
-use Rattle.hba_regs.specs.declared.reg.Reg.TheVariants.{Px}
-use Rattle.hba_regs.specs.declared.reg.PortReg.TheVariants.{Sact}
 use Rattle.adapter.specs.Access.{Access, Stores}
 use Rattle.adapter.specs.Access.Access.{Reading, Writing, Loading, Storing}
 use Rattle.adapter.specs.Commands.{Meaning, command_of, reads_memory}

@@ -6,7 +6,7 @@ use Rattle.std.proofs.lemmas.List.{length-set, length-append, get_or-set_same, g
 use Rattle.ata_types.specs.declared.Port.{Port}
 use Rattle.ata_types.specs.declared.PortState.{PortState}
 use Rattle.ata_types.specs.declared.PortState.TheVariants.{Absent, Ready as ReadyState, Foreign, Unfit, Dead}
-use Rattle.hba_regs.specs.declared.reg.PortReg.TheVariants.{Ci, Ie}
+use Rattle.hba_regs.specs.declared.reg.PortReg.TheVariants.{Ci}
 use Rattle.hba_regs.specs.declared.reg.Reg.TheVariants.{Bohc, Cap, Cap2, Ghc, Is, Pi, Px, Vs}
 use Rattle.hba_regs.specs.Bits.{bit}
 use Rattle.hba_regs.specs.declared.reg.PortReg.{PortReg}
@@ -23,17 +23,17 @@ use Rattle.block_machine.proofs.HistoryLemmas.{reached_more}
 use Rattle.agreement.specs.Agrees.{port_at}
 use Rattle.agreement.specs.Driven.{AnyUse, IsAgreed, IsDrivenBy, IsFollowed, IsFollowedTo, IsOf, IsUse, LeavesPort, NoneWrites, SendsNone, known}
 use Rattle.agreement.specs.Driver.{AllFree, ByDevice, Knows}
-use Rattle.agreement.specs.Links.{SameAdapter, SparesRegister}
+use Rattle.agreement.specs.Links.{SameAdapter}
 use Rattle.agreement.specs.Slots.{Free, Own, Uses, put, IsMove}
 use Rattle.agreement.proofs.Adding.{accesses_then}
-use Rattle.agreement.proofs.Controlled.{agreed_on, is_control, of_spares_others, other_left, same_over, tape_over}
+use Rattle.agreement.proofs.Controlled.{agreed_on, of_spares_others, other_left, same_over, tape_over}
 use Rattle.agreement.proofs.Driven.{by_then, driven_as, followed_as, followed_to_as}
 use Rattle.agreement.proofs.Gaining.{gains_more}
 use Rattle.agreement.proofs.Lasting.{same_more, same_refl}
 use Rattle.agreement.proofs.Putting.{put_same, put_other}
 use Rattle.identify.specs.declared.wanted.Wanted.{Wanted}
 use Rattle.identify.specs.declared.wanted.Wanted.TheVariants.{Nothing}
-use Rattle.port_boot.specs.States.{IsBoot, IsBooting, IsBootTo, IsOfBoot}
+use Rattle.port_boot.specs.States.{IsBoot, IsBootTo, IsOfBoot}
 use Rattle.port_boot.proofs.Staying.{of_boot}
 use Rattle.host_boot.specs.Taken.{Boots, GoesOver, IsLeft, IsOfHost, IsOfTaking, LeavesPorts, StandsBehind, TakesOver, WroteControl, found_of, unused, wanted_of}
 use Rattle.host_boot.specs.declared.Host.{Host}

@@ -3,7 +3,7 @@ use Rattle.std.proofs.Common.{ℕ, ◌≡◌, ◌⊎◌, ◌&&◌, Bool, false, 
 use Rattle.ata_types.specs.declared.Port.{Port}
 use Rattle.hba_regs.specs.Bits.{bit}
 use Rattle.hba_regs.specs.declared.reg.PortReg.{PortReg}
-use Rattle.hba_regs.specs.declared.reg.PortReg.TheVariants.{Clb, Clbu, Fb, Fbu, Is, Cmd, Sctl, Serr, Sact}
+use Rattle.hba_regs.specs.declared.reg.PortReg.TheVariants.{Is, Cmd, Sctl, Sact}
 use Rattle.hba_regs.specs.declared.reg.Reg.TheVariants.{Px}
 use Rattle.adapter.specs.Access.{Reads, Writes, port_written, with_st, with_fre}
 use Rattle.adapter.specs.Device.{Notes, PortState, Device}
@@ -20,7 +20,7 @@ use Rattle.agreement.proofs.Driven.{followed_as, followed_read}
 use Rattle.agreement.proofs.Halting.{halted_on, halted_writes}
 use Rattle.agreement.proofs.Noting.{notes_read}
 use Rattle.agreement.proofs.Unarmed.{writes_clear}
-use Rattle.port_control.specs.Ports.{WritesCommand, IsPlacing, IsClearing, IsResetting, IsUsable, IsStopped, ReceivesFises, SameButCommand, SameBeside}
+use Rattle.port_control.specs.Ports.{WritesCommand, IsResetting, IsUsable, IsStopped, ReceivesFises, SameButCommand, SameBeside}
 
 -- ---- the port may be used on
 

@@ -10,15 +10,13 @@ use Rattle.adapter.specs.Access.{Access}
 use Rattle.adapter.specs.Access.Access.{Writing}
 use Rattle.adapter.specs.Commands.{is_queued}
 use Rattle.adapter.specs.Device.{Device}
-use Rattle.adapter.specs.declared.command.Operation.TheVariants.{Identify}
 use Rattle.agreement.specs.Driven.{AnyUse, IsDrivenBy, IsFollowed}
 use Rattle.agreement.specs.Driver.{IsBacked}
 use Rattle.agreement.specs.Facts.{RunsWell, Undisturbed}
-use Rattle.agreement.specs.Slots.{Free, IsOver, Own, ServesRequest, Stage, Uses, put}
+use Rattle.agreement.specs.Slots.{IsOver, ServesRequest, Stage}
 use Rattle.agreement.proofs.Adding.{backed_then}
 use Rattle.agreement.proofs.Driven.{along, by_none, driven_as, followed_as, followed_then}
 use Rattle.agreement.proofs.Finished.{access_over}
-use Rattle.agreement.proofs.Putting.{put_cases, put_same}
 use Rattle.agreement.proofs.Waiting.{device_append}
 use Rattle.block_machine.specs.Events.{AllDevices, AllMay}
 use Rattle.block_machine.specs.Histories.{IsReached}

@@ -10,9 +10,9 @@ use Rattle.block_machine.specs.State.{Machine, Pending}
 use Rattle.block_machine.proofs.Members.{some_in}
 use Rattle.agreement.specs.Driven.{AgreesWith, known}
 use Rattle.agreement.specs.Driver.{Knows, parking}
-use Rattle.agreement.specs.Slots.{Free, Serves, Use, Uses, put, IsDropped, IsEnded, IsOver, IsServed, ServesRequest, Stage}
+use Rattle.agreement.specs.Slots.{Free, Serves, Use, put, IsDropped, IsEnded, IsOver, IsServed, ServesRequest, Stage}
 use Rattle.agreement.proofs.Deciding.{park_knows}
-use Rattle.agreement.proofs.Putting.{put_cases, put_same}
+use Rattle.agreement.proofs.Putting.{put_same}
 use Rattle.command_table.specs.Written.{IsUnused}
 use Rattle.host_boot.specs.Taken.{found_of, wanted_of}
 use Rattle.host_boot.specs.declared.Found.{Found}

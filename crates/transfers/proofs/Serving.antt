@@ -1,5 +1,5 @@
 -- Accesses that serve ports, one after another, and what they leave.
-use Rattle.std.proofs.Common.{ℕ, ◌≡◌, ◌≢◌, ◌<◌, true, false, ◌∷◌, inl, inr, refl, sym, ◌∙◌, ap, subst, ⊎_elim}
+use Rattle.std.proofs.Common.{ℕ, ◌≡◌, ◌≢◌, ◌<◌, true, false, ◌∷◌, inl, inr, refl, sym, ◌∙◌, ap, subst}
 use Rattle.ata_types.specs.declared.Port.{Port}
 use Rattle.hba_regs.specs.declared.reg.Reg.{Reg}
 use Rattle.hba_regs.specs.declared.reg.Reg.TheVariants as reg
@@ -21,14 +21,13 @@ use Rattle.agreement.specs.Driven.{IsUse, IsAgreed, IsDrivenBy, IsFollowed}
 use Rattle.agreement.specs.Errors.{KeepsErrors}
 use Rattle.agreement.specs.Facts.{IsDisturbance, RunsWell, Undisturbed}
 use Rattle.agreement.specs.Links.{SparesRegister, SameAdapter, LeavesControls}
-use Rattle.agreement.specs.Slots.{Use, Free, Serves, Uses, put}
+use Rattle.agreement.specs.Slots.{Free, Serves, Uses, put}
 use Rattle.agreement.proofs.Controlled.{Grows, grows_none, grows_more, access_grows}
-use Rattle.agreement.proofs.Driven.{along, driven_as, over}
+use Rattle.agreement.proofs.Driven.{along, over}
 use Rattle.agreement.proofs.Erring.{access_news, access_causes}
 use Rattle.agreement.proofs.Gaining.{gains_parts}
 use Rattle.agreement.proofs.Lasting.{access_same, same_more, same_refl, store_leaves}
 use Rattle.agreement.proofs.Linking.{access_controls}
-use Rattle.agreement.proofs.Putting.{put_same, put_cases}
 use Rattle.agreement.proofs.Running.{access_clear, access_started, started_well, shows_still, well_of}
 use Rattle.agreement.proofs.Unarmed.{steps_clear, reads_clear, writes_clear}
 use Rattle.transfers.specs.Looks.{IsLooking}

@@ -3,17 +3,16 @@ use Rattle.std.proofs.Common.{◌≡◌, Bool, true, false, not, [], Some, inl, 
 use Rattle.ata_types.specs.declared.request.Op.{Op}
 use Rattle.ata_types.specs.declared.request.Op.TheVariants.{Read}
 use Rattle.adapter.specs.Commands.{Meaning, is_queued}
-use Rattle.adapter.specs.FirstRead.{first_memory, quiet_port}
+use Rattle.adapter.specs.FirstRead.{first_memory}
 use Rattle.adapter.specs.Memory.{changed}
 use Rattle.adapter.specs.ReadDone.{read_of}
 use Rattle.adapter.specs.Says.{cut}
-use Rattle.adapter.proofs.Changed.{changed_each}
 use Rattle.adapter.proofs.FirstRead.{first_says}
 use Rattle.adapter.proofs.SaysLemmas.{says_meaning}
 use Rattle.block_machine.specs.Due.{is_plain}
 use Rattle.agreement.specs.Driver.{IsPrepared, idle}
 use Rattle.agreement.specs.Slots.{op_of}
-use Rattle.agreement.specs.Witness.{prepared_read, ready_port}
+use Rattle.agreement.specs.Witness.{prepared_read}
 use Rattle.agreement.proofs.Witness.{prepared_is_known}
 use Rattle.transfers.specs.Witness.{FirstMayBeIssued}
 

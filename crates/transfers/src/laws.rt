@@ -49,8 +49,8 @@ pub fn other_ports_are_left()
 {}
 
 /// What serving ports leaves: the adapter, which stays on; each port that may begin a transfer; DET of each port's PxSCTL, its PxIE,
-/// and when PxSCTL was written and ST set; each port that runs well, where nothing goes wrong on it; the record of each port's faults; and free
-/// slots without a bit of PxSACT. So a machine that agrees goes on to, where the stretch is followed.
+/// and when PxSCTL was written and ST set; each port that runs well, where nothing goes wrong on it; the record of each port's faults; and bits
+/// of PxSACT that are clear. So a machine that agrees goes on to, where the stretch is followed.
 pub fn services_leave()
     ensures on { (old new : Device) → IsOn old → IsDrivenBy IsService old new → IsOn new }
     ensures adapter { (old new : Device) → IsDrivenBy IsService old new → SameAdapter old new }
