@@ -342,10 +342,10 @@ class Crate:
     def leave_holes(self, at, names):
         """In a copy of the crate, makes a hole of the proof of each function but these."""
         for it in self.functions:
-            # (the proof of a function that calls itself stands elsewhere)
-            if it.name in names or it.simple in it.words:
-                continue
             place = f"{at}/proofs/{it.name.replace('::', '/')}"
+            # (the proof of a function that calls itself stands in a folder of another name)
+            if it.name in names or os.path.isdir(f"{os.path.dirname(place)}/+{it.simple}"):
+                continue
             os.makedirs(place, exist_ok=True)
             for file in os.listdir(place):
                 if os.path.isfile(f"{place}/{file}"):
