@@ -2,29 +2,40 @@
 use Rattle.std.proofs.Common.{ℕ, Bool, true, false, zero, suc, ◌≡◌, refl, sym, subst, inl, inr}
 use Rattle.adapter.specs.Device.{Device}
 use Rattle.adapter.specs.Steps.{Steps}
-use Rattle.adapter.specs.Steps.Step.{Fetch, Move, Done, Unplug, Plug}
+use Rattle.adapter.specs.Steps.Step.{Fetch, Move, Done, Unplug, Plug, Scribble}
+use Rattle.adapter.specs.declared.command.Operation.{Operation}
 use Rattle.adapter.specs.declared.access.DeviceStep.{DeviceStep}
 use Rattle.adapter.specs.declared.access.DeviceStep.TheVariants as asked
 use Rattle.adapter.proofs.Runs.{Steps-refl, Steps-one, Steps-trans}
-use Rattle.adapter.specs.Asked.{DoesOne, DoesSome, GoesOn, Asked}
+use Rattle.adapter.specs.Asked.{DoesOne, DoesSome, GoesOn, MayPost, Asked}
 
-pub goes_one : (port slot : ℕ) (old new : Device) → DoesOne port slot old new → GoesOn port slot old new
-goes_one port slot old new one = (0, (old, refl, one))
+module _ (Posts : (port flag : ℕ) → Operation → Device → Device → Type 0) where
+  pub goes_one : (port slot : ℕ) (old new : Device) → DoesOne Posts port slot old new → GoesOn Posts port slot old new
+  goes_one port slot old new one = (0, (old, refl, one))
 
--- a step that happened or not, after some or none
-pub goes_next : (port slot : ℕ) (old mid new : Device) (did : Bool) → (did ≡ true → GoesOn port slot old mid) → (did ≡ false → mid ≡ old) →
-    DoesOne port slot mid new → GoesOn port slot old new
-goes_next port slot old mid new true before same one = let b = before refl in (suc b.0, (mid, b.1, one))
-goes_next port slot old mid new false before same one =
-    let P : Device → Type 0 = λ d. DoesOne port slot d new in
-    goes_one port slot old new (subst P (same refl) one)
+  -- a step that happened or not, after some or none
+  pub goes_next : (port slot : ℕ) (old mid new : Device) (did : Bool) → (did ≡ true → GoesOn Posts port slot old mid) → (did ≡ false → mid ≡ old) →
+      DoesOne Posts port slot mid new → GoesOn Posts port slot old new
+  goes_next port slot old mid new true before same one = let b = before refl in (suc b.0, (mid, b.1, one))
+  goes_next port slot old mid new false before same one =
+      let P : Device → Type 0 = λ d. DoesOne Posts port slot d new in
+      goes_one port slot old new (subst P (same refl) one)
 
-one_steps : (port slot : ℕ) (old new : Device) → DoesOne port slot old new → Steps old new
+-- what is posted is a step of the device
+pub post_steps : (port flag : ℕ) (operation : Operation) (old new : Device) → MayPost port flag operation old new → Steps old new
+post_steps port flag operation old new (inl same) = let P : Device → Type 0 = λ d. Steps old d in subst P (sym same) (Steps-refl old)
+post_steps port flag operation old new (inr post) =
+    Steps-one (Scribble port 0 post.0 post.1) old new
+    (record { fre = post.2.receives; place = inl (post.2.from, post.2.to); are_bytes = post.2.are_bytes }) post.2.effect
+
+one_steps : (port slot : ℕ) (old new : Device) → DoesOne MayPost port slot old new → Steps old new
 one_steps port slot old new (inl f) = Steps-one (Fetch port slot f.meaning f.places) old new f.can f.effect
 one_steps port slot old new (inr (inl m)) = Steps-one (Move port slot m.t m.bytes) old new m.can m.effect
-one_steps port slot old new (inr (inr d)) = Steps-one (Done port slot d.flag d.t) old new d.can d.effect
+one_steps port slot old new (inr (inr e)) =
+    Steps-trans (Steps-one (Done port slot e.done.flag e.done.t) old e.mid e.done.can e.done.effect)
+    (post_steps port e.done.flag e.done.t.meaning.operation e.mid new e.posts)
 
-some_steps : (n port slot : ℕ) (old new : Device) → DoesSome n port slot old new → Steps old new
+some_steps : (n port slot : ℕ) (old new : Device) → DoesSome MayPost n port slot old new → Steps old new
 some_steps zero port slot old new e = let P : Device → Type 0 = λ d. Steps old d in subst P (sym e) (Steps-refl old)
 some_steps (suc n) port slot old new s = Steps-trans (some_steps n port slot old s.0 s.1) (one_steps port slot s.0 new s.2)
 

@@ -1,7 +1,7 @@
 -- A read that may be fetched can be done: one piece after another.
 use Rattle.std.proofs.Common.{ℕ, zero, suc, true, ◌≡◌, ◌+◌, ◌<◌, ◌≤◌, List, [], ◌∷◌, ◌++◌, length, slice_index, Option, None, Some, IfSome, Bool, false, refl, sym, ◌∙◌, ap, subst, arith, inl, inr, append_assoc, append-nil}
 use Rattle.std.proofs.lemmas.Bool.{cases_eq}
-use Rattle.adapter.specs.Asked.{DoesSome}
+use Rattle.adapter.specs.Asked.{DoesSome, Ends, PostsNone}
 use Rattle.adapter.specs.Memory.{patched, bytes_at, changed}
 use Rattle.adapter.specs.Device.{Disk, IsSector, Taken, Halt, PortState, Device}
 use Rattle.adapter.specs.OneCommand.{IsFreeSlot}
@@ -34,7 +34,7 @@ module _ (old : Device) (port slot first count : ℕ) (places : List ℕ) (told 
   -- so many pieces were moved
   record IsMoved (n : ℕ) (d : Device) : Type 0 where
     pub steps : Steps old d
-    pub goes : DoesSome (suc n) port slot old d
+    pub goes : DoesSome PostsNone (suc n) port slot old d
     pub is : (d.port port).is ≡ (old.port port).is
     pub works : WorksOn (d.port port) slot (command n) Read
     pub disk : (d.port port).disk ≡ (old.port port).disk
@@ -150,11 +150,13 @@ module _ (old : Device) (port slot first count : ℕ) (places : List ℕ) (told 
         finished = record { moved = sym many; cleared = λ trim. absurd (let f : Read ≡ Trim = trim in cc) };
         shown = inl refl;
       } in
+      let ended : Ends PostsNone port slot d end =
+      record { mid = end; done = record { flag = 0; t = command count; can = can; effect = refl }; posts = refl } in
       let P : PortState → Type 0 = λ p. IsFreeSlot p slot in (
         end,
         record {
           steps = Steps-trans m.steps (Steps-one (Done port slot 0 (command count)) d end can refl);
-          goes = (suc count, (d, m.goes, inr (inr (record { flag = 0; t = command count; can = can; effect = refl }))));
+          goes = (suc count, (d, m.goes, inr (inr ended)));
           shown = ap (λ (p : PortState). p.is) here ∙ ap (λ (f : ℕ → Bool). changed f 0 true) m.is;
           free = subst P (sym here)
               (record { ci = changed_same (d.port port).ci slot false; taken = changed_same (d.port port).taken slot None });

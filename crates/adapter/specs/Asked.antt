@@ -1,9 +1,12 @@
--- What was asked of the device, and done.
-use Rattle.std.specs.Prelude.{ℕ, zero, suc, ◌≡◌, ◌⊎◌, List}
+-- What was asked of the device, and done. A command that ends may end with a FIS in the received FIS area of its port.
+use Rattle.std.specs.Prelude.{ℕ, zero, suc, ◌≡◌, ◌+◌, ◌<◌, ◌≤◌, ◌⊎◌, true, List, length, All}
+use Rattle.ata_types.specs.declared.memory.TheConstants.{RECEIVED_BYTES}
 use Rattle.adapter.specs.Commands.{Meaning}
 use Rattle.adapter.specs.Device.{Disk, Taken, Device}
+use Rattle.adapter.specs.Memory.{patched}
 use Rattle.adapter.specs.Steps.{Can, after}
 use Rattle.adapter.specs.Steps.Step.{Fetch, Move, Done, Unplug, Plug}
+use Rattle.adapter.specs.declared.command.Operation.{Operation}
 use Rattle.adapter.specs.declared.access.DeviceStep.{DeviceStep}
 use Rattle.adapter.specs.declared.access.DeviceStep.TheVariants as asked
 
@@ -28,18 +31,40 @@ pub record DoesDone (port slot : ℕ) (old new : Device) : Type 0 where
   pub can : Can (Done port slot flag t) old
   pub effect : new ≡ after (Done port slot flag t) old
 
+-- These bytes were put into the port's received FIS area, at this address, while the port receives FISes (AHCI 1.3.1, 3.3.7 and 4.2.1).
+pub record IsPosted (port at : ℕ) (bytes : List ℕ) (old new : Device) : Type 0 where
+  pub receives : (old.port port).fre ≡ true
+  pub from : (old.port port).bases.fb ≤ at
+  pub to : at + length bytes ≤ (old.port port).bases.fb + RECEIVED_BYTES
+  pub are_bytes : All (λ byte. byte < 256) bytes
+  pub effect : new ≡ record old { memory = patched old.memory at bytes }
+
+-- What an adapter may post as a command of this operation ends, with this cause in PxIS: any bytes in the port's area, or nothing.
+abbrev pub MayPost : (port flag : ℕ) → Operation → Device → Device → Type 0
+MayPost port flag operation old new = (new ≡ old) ⊎ ((at : ℕ) × (bytes : List ℕ) × IsPosted port at bytes old new)
+
+-- nothing is posted
+abbrev pub PostsNone : (port flag : ℕ) → Operation → Device → Device → Type 0
+PostsNone port flag operation old new = new ≡ old
+
+-- the slot's command ended, and then this was posted
+pub record Ends (Posts : (port flag : ℕ) → Operation → Device → Device → Type 0) (port slot : ℕ) (old new : Device) : Type 0 where
+  pub mid : Device
+  pub done : DoesDone port slot old mid
+  pub posts : Posts port done.flag done.t.meaning.operation mid new
+
 -- a step of this slot's command
-abbrev pub DoesOne : ℕ → ℕ → Device → Device → Type 0
-DoesOne port slot old new = DoesFetch port slot old new ⊎ DoesMove port slot old new ⊎ DoesDone port slot old new
+abbrev pub DoesOne : ((port flag : ℕ) → Operation → Device → Device → Type 0) → ℕ → ℕ → Device → Device → Type 0
+DoesOne Posts port slot old new = DoesFetch port slot old new ⊎ DoesMove port slot old new ⊎ Ends Posts port slot old new
 
 -- so many steps of the slot's command, one after another, and nothing else
-abbrev pub DoesSome : ℕ → ℕ → ℕ → Device → Device → Type 0
-DoesSome zero port slot old new = new ≡ old
-DoesSome (suc n) port slot old new = (mid : Device) × DoesSome n port slot old mid × DoesOne port slot mid new
+abbrev pub DoesSome : ((port flag : ℕ) → Operation → Device → Device → Type 0) → ℕ → ℕ → ℕ → Device → Device → Type 0
+DoesSome Posts zero port slot old new = new ≡ old
+DoesSome Posts (suc n) port slot old new = (mid : Device) × DoesSome Posts n port slot old mid × DoesOne Posts port slot mid new
 
 -- the slot's command went on by one step or more
-abbrev pub GoesOn : ℕ → ℕ → Device → Device → Type 0
-GoesOn port slot old new = (n : ℕ) × DoesSome (suc n) port slot old new
+abbrev pub GoesOn : ((port flag : ℕ) → Operation → Device → Device → Type 0) → ℕ → ℕ → Device → Device → Type 0
+GoesOn Posts port slot old new = (n : ℕ) × DoesSome Posts (suc n) port slot old new
 
 -- the disk was taken out
 pub record DoesUnplug (port : ℕ) (old new : Device) : Type 0 where
@@ -53,16 +78,20 @@ pub record DoesPlug (port number : ℕ) (old new : Device) : Type 0 where
   pub can : Can (Plug port disk) old
   pub effect : new ≡ after (Plug port disk) old
 
--- What was asked of the device. What its disks will say of themselves, and on which ports it does nothing by itself, is no part of its
--- state.
+-- What was asked of the device, where this is posted as commands end. What its disks will say of themselves, and on which ports it does nothing
+-- by itself, is no part of its state.
+abbrev pub AskedOf : ((port flag : ℕ) → Operation → Device → Device → Type 0) → DeviceStep → Device → Device → Type 0
+AskedOf Posts (asked.Fetch p s) old new = DoesFetch p.0 s.0 old new
+AskedOf Posts (asked.Move p s) old new = DoesMove p.0 s.0 old new
+AskedOf Posts (asked.Done p s) old new = Ends Posts p.0 s.0 old new
+AskedOf Posts (asked.Finish p s) old new = GoesOn Posts p.0 s.0 old new
+AskedOf Posts (asked.Lie p page offset bits) old new = new ≡ old
+AskedOf Posts (asked.Truth p) old new = new ≡ old
+AskedOf Posts (asked.Hold p) old new = new ≡ old
+AskedOf Posts (asked.Release p) old new = new ≡ old
+AskedOf Posts (asked.Unplug p) old new = DoesUnplug p.0 old new
+AskedOf Posts (asked.Plug p number) old new = DoesPlug p.0 number.0 old new
+
+-- what was asked of the device, and any FIS as a command ended, or none
 abbrev pub Asked : DeviceStep → Device → Device → Type 0
-Asked (asked.Fetch p s) old new = DoesFetch p.0 s.0 old new
-Asked (asked.Move p s) old new = DoesMove p.0 s.0 old new
-Asked (asked.Done p s) old new = DoesDone p.0 s.0 old new
-Asked (asked.Finish p s) old new = GoesOn p.0 s.0 old new
-Asked (asked.Lie p page offset bits) old new = new ≡ old
-Asked (asked.Truth p) old new = new ≡ old
-Asked (asked.Hold p) old new = new ≡ old
-Asked (asked.Release p) old new = new ≡ old
-Asked (asked.Unplug p) old new = DoesUnplug p.0 old new
-Asked (asked.Plug p number) old new = DoesPlug p.0 number.0 old new
+Asked step old new = AskedOf MayPost step old new

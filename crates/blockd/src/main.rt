@@ -1,7 +1,7 @@
 //! `blockd --config FILE --image FILE --script FILE [--trace]`: a script, played against a block server over a modelled adapter.
 //!
-//! The disk of the adapter's port 0 is the image. What the lines of the script answer is printed; where it can't be played, a line on
-//! standard error says why.
+//! The disk of the adapter's port 0 is the image, and a blank disk in memory can be put in for it. What the lines of the script answer is
+//! printed; where it can't be played, a line on standard error says why.
 #![tactic(auto)]
 
 use command_line::{Args, ArgsFault};

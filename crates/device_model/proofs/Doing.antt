@@ -1,5 +1,5 @@
 -- What a model makes of a step that it is told.
-use Rattle.std.proofs.Common.{ℕ, Bool, true, false, ◌≡◌, ◌∙◌, ◌&&◌, List, Option, length, refl, sym, ap, subst, inl, inr, arith}
+use Rattle.std.proofs.Common.{ℕ, Bool, true, false, ◌≡◌, ◌∙◌, List, Option, length, refl, sym, ap, subst, inl, inr, arith}
 use Rattle.adapter.specs.Asked.{GoesOn}
 use Rattle.adapter.specs.declared.access.DeviceStep.TheVariants as asked
 use Rattle.ata_types.specs.declared.Port.{Port}
@@ -9,10 +9,13 @@ use Rattle.adapter.specs.declared.access.DeviceStep.{DeviceStep}
 use Rattle.adapter.proofs.Going.{asked_steps}
 use Rattle.adapter.proofs.Runs.{Steps-refl}
 use Rattle.adapter.specs.Steps.{Steps}
-use Rattle.device_model.specs.Does.{Answers, Did, GoesOnSo, IsLeft, IsServed, Keeps, Possible}
+use Rattle.device_model.specs.Does.{AnswersStep, Did, GoesOnSo, IsLeftOut, StoreServes, StepKeeps, Possible}
 use Rattle.device_model.specs.Finishing.{HasRoom}
-use Rattle.device_model.specs.Modelled.{device_at, is_sure_at}
+use Rattle.device_model.specs.Modelled.{device_at}
 use Rattle.device_model.specs.Paged.{GainsPages}
+use Rattle.device_model.proofs.TwoDisks.{in_kept}
+use Rattle.device_model.specs.Sent.{SendsEnd}
+use Rattle.device_model.proofs.Posting.{asked_may}
 use Rattle.device_model.proofs.Telling.{gains_none, gains_on}
 use Rattle.device_model.specs.declared.model.Model.{Model}
 use Rattle.device_model.specs.declared.model.Queued.{Queued}
@@ -22,8 +25,9 @@ use Rattle.std.specs.Global.{Vec}
 pub record Meanwhile {S : Type 0} (size : S → ℕ) (is_sure : S → Bool) (old new : Model S) : Type 0 where
   pub held : new.held ≡ old.held
   pub says : new.says ≡ old.says
+  pub which : new.which ≡ old.which
   pub pages : GainsPages size old new
-  pub keeps : Keeps size is_sure old new
+  pub keeps : StepKeeps size is_sure old new
   pub starved : new.hardware.starved ≡ old.hardware.starved
 
 -- where the one is as the other was, and never ceases to be, they are one
@@ -33,14 +37,14 @@ same_flag false true forth back = sym (back refl)
 same_flag false false forth back = refl
 
 module _ {S : Type 0} (size : S → ℕ) (told : S → Option (ℕ → List ℕ)) (is_sure : S → Bool) where
-  pub keeps_same : (m : Model S) → Keeps size is_sure m m
-  keeps_same m = record { disk1 = refl; sectors = refl; sure = refl; queue = refl; accesses = refl }
+  pub keeps_same : (m : Model S) → StepKeeps size is_sure m m
+  keeps_same m = record { sectors = λ _. refl; sure = λ _. refl; out = λ _ _. refl; queue = refl; accesses = refl }
 
-  pub keeps_on : (a b c : Model S) → Keeps size is_sure a b → Keeps size is_sure b c → Keeps size is_sure a c
-  keeps_on a b c first then = record {
-    disk1 = then.disk1 ∙ first.disk1;
-    sectors = then.sectors ∙ first.sectors;
-    sure = then.sure ∙ first.sure;
+  pub keeps_on : (a b c : Model S) → b.which ≡ a.which → StepKeeps size is_sure a b → StepKeeps size is_sure b c → StepKeeps size is_sure a c
+  keeps_on a b c same first then = record {
+    out = λ w ne. then.out w (λ is. ne (is ∙ same)) ∙ first.out w ne;
+    sectors = λ w. then.sectors w ∙ first.sectors w;
+    sure = λ w. then.sure w ∙ first.sure w;
     queue = then.queue ∙ first.queue;
     accesses = then.accesses ∙ first.accesses;
   }
@@ -49,18 +53,20 @@ module _ {S : Type 0} (size : S → ℕ) (told : S → Option (ℕ → List ℕ)
   meanwhile_on a b c first then = record {
     held = then.held ∙ first.held;
     says = then.says ∙ first.says;
-    pages = gains_on size a b c first.says first.keeps.sectors first.pages then.pages;
-    keeps = keeps_on a b c first.keeps then.keeps;
+    which = then.which ∙ first.which;
+    pages = gains_on size a b c first.says first.which (in_kept size a b first.which first.keeps.sectors) first.pages then.pages;
+    keeps = keeps_on a b c first.which first.keeps then.keeps;
     starved = then.starved ∙ first.starved;
   }
 
   -- a step that isn't possible is left, and nothing is another
-  pub left_same : (s : DeviceStep) (m : Model S) → (Possible s (device_at size told m) → ⊥) → IsLeft size told is_sure s m m
+  pub left_same : (s : DeviceStep) (m : Model S) → (Possible s (device_at size told m) → ⊥) → IsLeftOut size told is_sure s m m
   left_same s m never = record {
     device = refl;
     held = refl;
     says = refl;
-    disk0 = λ _. refl;
+    which = refl;
+    disks = λ _ _. refl;
     keeps = keeps_same m;
     why = λ _ possible. absurd (never possible);
     told_on = λ yes. yes;
@@ -68,33 +74,33 @@ module _ {S : Type 0} (size : S → ℕ) (told : S → Option (ℕ → List ℕ)
   }
 
   module _ (s : DeviceStep) (old new : Model S) where
-    pub did_it : (answer : Bool) → Answers size told is_sure s answer old new → answer ≡ true → Did size told is_sure s old new
+    pub did_it : (answer : Bool) → AnswersStep size told is_sure s answer old new → answer ≡ true → Did size told is_sure s old new
     did_it true a e = a.1
     did_it false a e = absurd (let no : false ≡ true = e in cc)
 
     pub answered_true : (answer : Bool) → answer ≡ true → Possible s (device_at size told old) × Did size told is_sure s old new →
-        Answers size told is_sure s answer old new
+        AnswersStep size told is_sure s answer old new
     answered_true true e did = did
     answered_true false e did = absurd (let no : false ≡ true = e in cc)
 
-    pub left_it : (answer : Bool) → Answers size told is_sure s answer old new → answer ≡ false → IsLeft size told is_sure s old new
+    pub left_it : (answer : Bool) → AnswersStep size told is_sure s answer old new → answer ≡ false → IsLeftOut size told is_sure s old new
     left_it true a e = absurd (let no : true ≡ false = e in cc)
     left_it false a e = a
 
-    pub did_or_left_keeps : (answer : Bool) → Answers size told is_sure s answer old new → Keeps size is_sure old new
+    pub did_or_left_keeps : (answer : Bool) → AnswersStep size told is_sure s answer old new → StepKeeps size is_sure old new
     did_or_left_keeps true a = a.1.keeps
     did_or_left_keeps false a = a.keeps
 
-    pub answers_steps : (answer : Bool) → Answers size told is_sure s answer old new → Steps (device_at size told old) (device_at size told new)
-    answers_steps true a = asked_steps s _ _ a.1.asked
+    pub answers_steps : (answer : Bool) → AnswersStep size told is_sure s answer old new → Steps (device_at size told old) (device_at size told new)
+    answers_steps true a = asked_steps s _ _ (asked_may s _ _ a.1.asked)
     answers_steps false a = let P : Device → Type 0 = λ d. Steps (device_at size told old) d in subst P (sym a.device) (Steps-refl (device_at size told old))
 
   -- the same, whatever is queued
-  keeps_queued : (old new : Model S) (q : Vec Queued) → Keeps size is_sure old new → Keeps size is_sure (record old { queue = q }) (record new { queue = q })
-  keeps_queued old new q k = record { disk1 = k.disk1; sectors = k.sectors; sure = k.sure; queue = refl; accesses = k.accesses }
+  keeps_queued : (old new : Model S) (q : Vec Queued) → StepKeeps size is_sure old new → StepKeeps size is_sure (record old { queue = q }) (record new { queue = q })
+  keeps_queued old new q k = record { out = k.out; sectors = k.sectors; sure = k.sure; queue = refl; accesses = k.accesses }
 
-  pub answers_queued : (s : DeviceStep) (answer : Bool) (old new : Model S) (q : Vec Queued) → Answers size told is_sure s answer old new →
-      Answers size told is_sure s answer (record old { queue = q }) (record new { queue = q })
+  pub answers_queued : (s : DeviceStep) (answer : Bool) (old new : Model S) (q : Vec Queued) → AnswersStep size told is_sure s answer old new →
+      AnswersStep size told is_sure s answer (record old { queue = q }) (record new { queue = q })
   answers_queued s true old new q a = (
     a.0,
     record {
@@ -102,8 +108,9 @@ module _ {S : Type 0} (size : S → ℕ) (told : S → Option (ℕ → List ℕ)
       ends = a.1.ends;
       held = a.1.held;
       says = a.1.says;
+      which = a.1.which;
       pages = record { gained = a.1.pages.gained; tape = a.1.pages.tape; pages = a.1.pages.pages };
-      disk0 = a.1.disk0;
+      disks = a.1.disks;
       keeps = keeps_queued old new q a.1.keeps;
       starved = a.1.starved;
     },
@@ -112,7 +119,8 @@ module _ {S : Type 0} (size : S → ℕ) (told : S → Option (ℕ → List ℕ)
     device = a.device;
     held = a.held;
     says = a.says;
-    disk0 = a.disk0;
+    which = a.which;
+    disks = a.disks;
     keeps = keeps_queued old new q a.keeps;
     why = a.why;
     told_on = a.told_on;
@@ -121,16 +129,16 @@ module _ {S : Type 0} (size : S → ℕ) (told : S → Option (ℕ → List ℕ)
 
   -- A Finish was cut short where a move was left: not for want of memory, for which there was room; so it wasn't served.
   pub cut_short : (p : Port) (slot : Slot) (did : Bool) (old mid new : Model S) → Possible (asked.Finish p slot) (device_at size told old) →
-      (did ≡ true → GoesOn p.0 slot.0 (device_at size told old) (device_at size told mid)) → (did ≡ false → device_at size told mid ≡ device_at size told old) →
+      (did ≡ true → GoesOn SendsEnd p.0 slot.0 (device_at size told old) (device_at size told mid)) → (did ≡ false → device_at size told mid ≡ device_at size told old) →
       (device_at size told mid).size ≡ (device_at size told old).size → Meanwhile size is_sure old mid →
-      IsLeft size told is_sure (asked.Move p slot) mid new → HasRoom mid.hardware 1 → Possible (asked.Move p slot) (device_at size told mid) →
-      Answers size told is_sure (asked.Finish p slot) did old new
+      IsLeftOut size told is_sure (asked.Move p slot) mid new → HasRoom mid.hardware 1 → Possible (asked.Move p slot) (device_at size told mid) →
+      AnswersStep size told is_sure (asked.Finish p slot) did old new
   cut_short p slot did old mid new may went stayed sizes meanwhile step room move = by did went stayed
     where
-      sure : is_sure_at is_sure mid ≡ is_sure_at is_sure old
-      sure = λ i. meanwhile.keeps.sure i && is_sure (meanwhile.keeps.disk1 i)
+      sure : is_sure mid.disk ≡ is_sure old.disk
+      sure = in_kept is_sure old mid meanwhile.which meanwhile.keeps.sure
 
-      unserved : IsServed (asked.Finish p slot) (is_sure_at is_sure old) (length old.hardware.memory.items) → ⊥
+      unserved : StoreServes (asked.Finish p slot) (is_sure old.disk) (length old.hardware.memory.items) → ⊥
       unserved served = let n = served.1 in (step.why (sure ∙ served.0, omega (arith, sizes, n)) move).0 room
 
       told_before : new.hardware.starved ≡ true → mid.hardware.starved ≡ true
@@ -140,22 +148,24 @@ module _ {S : Type 0} (size : S → ℕ) (told : S → Option (ℕ → List ℕ)
       all = meanwhile_on old mid new meanwhile (record {
         held = step.held;
         says = step.says;
+        which = step.which;
         pages = gains_none size mid new (ap (λ (d : Device). d.tape) step.device);
         keeps = step.keeps;
         starved = same_flag mid.hardware.starved new.hardware.starved step.told_on told_before;
       })
 
-      by : (b : Bool) → (b ≡ true → GoesOn p.0 slot.0 (device_at size told old) (device_at size told mid)) →
-          (b ≡ false → device_at size told mid ≡ device_at size told old) → Answers size told is_sure (asked.Finish p slot) b old new
+      by : (b : Bool) → (b ≡ true → GoesOn SendsEnd p.0 slot.0 (device_at size told old) (device_at size told mid)) →
+          (b ≡ false → device_at size told mid ≡ device_at size told old) → AnswersStep size told is_sure (asked.Finish p slot) b old new
       by true on same = (
         may,
         record {
-          asked = subst (λ (d : Device). GoesOn p.0 slot.0 (device_at size told old) d) (sym step.device) (on refl);
+          asked = subst (λ (d : Device). GoesOn SendsEnd p.0 slot.0 (device_at size told old) d) (sym step.device) (on refl);
           ends = λ served. absurd (unserved served);
           held = all.held;
           says = all.says;
+          which = all.which;
           pages = all.pages;
-          disk0 = λ never. absurd never;
+          disks = λ never. absurd never;
           keeps = all.keeps;
           starved = all.starved;
         },
@@ -164,7 +174,8 @@ module _ {S : Type 0} (size : S → ℕ) (told : S → Option (ℕ → List ℕ)
         device = step.device ∙ same refl;
         held = all.held;
         says = all.says;
-        disk0 = λ never. absurd never;
+        which = all.which;
+        disks = λ never. absurd never;
         keeps = all.keeps;
         why = λ served _. absurd (unserved served);
         told_on = λ yes. all.starved ∙ yes;
@@ -174,24 +185,26 @@ module _ {S : Type 0} (size : S → ℕ) (told : S → Option (ℕ → List ℕ)
   -- ---- what the model does by itself
 
   pub goes_so_same : (m : Model S) → GoesOnSo size is_sure m m
-  goes_so_same m = record { held = refl; says = refl; pages = gains_none size m m refl; keeps = keeps_same m; told_on = λ yes. yes }
+  goes_so_same m = record { held = refl; says = refl; which = refl; pages = gains_none size m m refl; keeps = keeps_same m; told_on = λ yes. yes }
 
   pub goes_so_on : (a b c : Model S) → GoesOnSo size is_sure a b → GoesOnSo size is_sure b c → GoesOnSo size is_sure a c
   goes_so_on a b c first then = record {
     held = then.held ∙ first.held;
     says = then.says ∙ first.says;
-    pages = gains_on size a b c first.says first.keeps.sectors first.pages then.pages;
-    keeps = keeps_on a b c first.keeps then.keeps;
+    which = then.which ∙ first.which;
+    pages = gains_on size a b c first.says first.which (in_kept size a b first.which first.keeps.sectors) first.pages then.pages;
+    keeps = keeps_on a b c first.which first.keeps then.keeps;
     told_on = λ yes. then.told_on (first.told_on yes);
   }
 
-  pub finish_goes_so : (p : Port) (slot : Slot) (answer : Bool) (old new : Model S) → Answers size told is_sure (asked.Finish p slot) answer old new →
+  pub finish_goes_so : (p : Port) (slot : Slot) (answer : Bool) (old new : Model S) → AnswersStep size told is_sure (asked.Finish p slot) answer old new →
       GoesOnSo size is_sure old new
   finish_goes_so p slot true old new a =
-      record { held = a.1.held; says = a.1.says; pages = a.1.pages; keeps = a.1.keeps; told_on = λ yes. a.1.starved ∙ yes }
+      record { held = a.1.held; says = a.1.says; which = a.1.which; pages = a.1.pages; keeps = a.1.keeps; told_on = λ yes. a.1.starved ∙ yes }
   finish_goes_so p slot false old new a = record {
     held = a.held;
     says = a.says;
+    which = a.which;
     pages = gains_none size old new (ap (λ (d : Device). d.tape) a.device);
     keeps = a.keeps;
     told_on = a.told_on;

@@ -2,7 +2,7 @@
 use Rattle.std.proofs.Common.{ℕ, Bool, true, false, suc, ◌≡◌, ◌≢◌, ◌<◌, ◌≤◌, ◌+◌, ◌^◌, ◌⊎◌, ◌&&◌, List, [], ◌∷◌, ◌++◌, length, slice_index, slice_index_or, Option, None, Some, refl, sym, ◌∙◌, ap, subst, inl, inr, arith}
 use Rattle.std.specs.Prelude.{is_some, if◌then◌else◌}
 use Rattle.std.proofs.lemmas.Bool.Decides.{eqb_tells}
-use Rattle.adapter.specs.Asked.{DoesFetch, DoesMove, DoesDone}
+use Rattle.adapter.specs.Asked.{DoesFetch, DoesMove, DoesDone, Ends}
 use Rattle.adapter.specs.Commands.{Meaning, is_queued, is_ranged}
 use Rattle.adapter.specs.Device.{Disk, Taken, Halt, PortState, Device}
 use Rattle.adapter.specs.Memory.{changed}
@@ -14,7 +14,8 @@ use Rattle.adapter.specs.declared.command.Operation.{Operation}
 use Rattle.adapter.proofs.Absurd.{some-none, some_one, true-false}
 use Rattle.adapter.proofs.Changed.{fun_ext, changed_same, changed_other}
 use Rattle.adapter.proofs.SaysLemmas.{says_meaning, says_places}
-use Rattle.device_model.specs.Finishing.{HasDisk, HasMove, IsCovered, IsGoing, IsReady}
+use Rattle.device_model.specs.Finishing.{HasDisk, HasMove, IsCovered, IsGoing, MayFinish}
+use Rattle.device_model.specs.Sent.{SendsEnd}
 use Rattle.device_model.specs.Slots.{HoldsAt, IsNext}
 use Rattle.device_model.specs.View.{Media, Takes, media_after, operation_of, taken_of, blank}
 use Rattle.device_model.specs.Whole.{Outside, device_of, no_media, outside_of, outside_after, outside_plugged}
@@ -24,6 +25,7 @@ use Rattle.device_model.specs.declared.port.TakenCommand.{TakenCommand}
 use Rattle.device_model.specs.declared.port.Transfer.{Transfer}
 use Rattle.device_model.specs.declared.port.Transfer.TheVariants as transfer
 use Rattle.device_model.specs.declared.steps.NextMove.{NextMove}
+use Rattle.device_model.proofs.Posting.{end_rest}
 use Rattle.device_model.proofs.SlotLemmas.{slot_taken, taken_slot}
 use Rattle.device_model.proofs.Transfers.{is_taken, no_trim, plain, still_tells, transfer_of}
 
@@ -63,7 +65,7 @@ module _ (port slot sectors : ℕ) where
       }
 
   -- it is taken, or was
-  pub fetched_goes : (left : ℕ) (did : Bool) (old new : Device) → IsReady old port slot sectors left → (did ≡ true → DoesFetch port slot old new) →
+  pub fetched_goes : (left : ℕ) (did : Bool) (old new : Device) → MayFinish old port slot sectors left → (did ≡ true → DoesFetch port slot old new) →
       (did ≡ false → new ≡ old) →
       (did ≡ false → (m : Meaning) (places : List ℕ) → Takes m.operation → Can (Fetch port slot m places) old → ⊥) → IsGoing new port slot sectors left
   fetched_goes left did old new ready fetched same only =
@@ -109,15 +111,18 @@ module _ (port slot sectors : ℕ) where
       }
 
   -- and it has ended
-  pub done_frees : (old new : Device) → IsGoing old port slot sectors 0 → DoesDone port slot old new → IsFreeSlot (new.port port) slot
-  done_frees old new going f =
+  pub done_frees : (old new : Device) → IsGoing old port slot sectors 0 → Ends SendsEnd port slot old new → IsFreeSlot (new.port port) slot
+  done_frees old new going e =
+      let f : DoesDone port slot old e.mid = e.done in
       let p : PortState = old.port port in
       let state : PortState = with_done p slot f.flag f.t.meaning.operation in
       let same : f.t ≡ going.t = some_one (sym f.can.works.taken ∙ going.works.taken) in
       let kind = transfer_of f.t.meaning.operation (subst (λ (x : Taken). Takes x.meaning.operation) (sym same) going.takes) in
       let issued : state.ci ≡ changed p.ci slot false =
       ap (λ b. if b then p.ci else changed p.ci slot false) (ap is_queued kind.1 ∙ plain kind.0) in
-      let there : new.port port ≡ state = ap (λ (d : Device). d.port port) f.effect ∙ changed_same old.port port state in
+      let there : new.port port ≡ state =
+      ap (λ (d : Device). d.port port) (end_rest port f.flag f.t.meaning.operation e.mid new e.posts)
+      ∙ (ap (λ (d : Device). d.port port) f.effect ∙ changed_same old.port port state) in
       let P : PortState → Type 0 = λ x. IsFreeSlot x slot in
       subst P (sym there)
       (record { ci = ap (λ (f : ℕ → Bool). f slot) issued ∙ changed_same p.ci slot false; taken = changed_same p.taken slot None })
@@ -305,14 +310,15 @@ pub fetched_size : (port slot : ℕ) (did : Bool) (old new : Device) → (did �
 fetched_size port slot true old new fetched same = ap (λ (d : Device). d.size) (fetched refl).effect
 fetched_size port slot false old new fetched same = ap (λ (d : Device). d.size) (same refl)
 
--- ---- what is behind port 0 after its disk was put in again
+-- ---- what is behind port 0 after a disk was put in, while the other one was put aside
 
-pub outside_put : (disk : Disk) (other : Option (ℕ → List ℕ)) (plugged : List Disk) →
-    outside_of disk other (plugged ++ disk ∷ []) ≡ outside_plugged (outside_of disk other plugged) disk
-outside_put disk other plugged = λ i. record { telling = is_some disk.sectors && is_some other; media = fun_ext behind i }
+pub outside_put : (disk last : Disk) (other was : Option (ℕ → List ℕ)) (plugged : List Disk) →
+    is_some disk.sectors && is_some other ≡ (is_some last.sectors && is_some was) →
+    outside_of disk other (plugged ++ disk ∷ []) ≡ outside_plugged (outside_of last was plugged) disk
+outside_put disk last other was plugged tells = λ i. record { telling = tells i; media = fun_ext behind i }
   where
     old : Outside
-    old = outside_of disk other plugged
+    old = outside_of last was plugged
 
     put : Media
     put = record { disk = disk; plugged = plugged ++ disk ∷ [] }

@@ -1,5 +1,5 @@
 -- What a port does by itself is steps, which compose.
-use Rattle.std.proofs.Common.{ℕ, Bool, zero, suc, true, false, ◌≡◌, List, None, refl, sym, ◌∙◌, ap, subst, inl, inr, arith}
+use Rattle.std.proofs.Common.{ℕ, Bool, zero, suc, true, false, ◌≡◌, ◌%◌, List, None, refl, sym, ◌∙◌, ap, subst, inl, inr}
 use Rattle.std.proofs.lemmas.Bool.Decides.{eqb_tells}
 use Rattle.adapter.specs.Device.{PortState, Device}
 use Rattle.adapter.specs.Memory.{changed}
@@ -9,9 +9,12 @@ use Rattle.adapter.specs.Steps.Step.{Fall, FrFall, LinkUp}
 use Rattle.adapter.proofs.Changed.{fun_ext, changed_same, changed_other, changed_each}
 use Rattle.device_model.proofs.Own.{own_none, own_on, own_one}
 use Rattle.device_model.specs.Bits.{bits_of}
-use Rattle.device_model.specs.Held.{IsHeld}
+use Rattle.device_model.specs.Held.{IsPortHeld, IsPortLoose}
+use Rattle.device_model.specs.Sent.{SendsEnd, SendsRegisters, signature_of}
+use Rattle.device_model.proofs.Posting.{end_rest}
 use Rattle.device_model.specs.Settled.{DoesOwn, GoesTo, IsSettled, IsSettledPort}
 use Rattle.device_model.specs.View.{Media, port_of, blank}
+use Rattle.device_model.specs.declared.port.PortModel.{PortModel}
 use Rattle.device_model.proofs.NewModel.{zero_bit}
 
 pub with_same : (d : Device) (port : ℕ) (p : PortState) → d.port port ≡ p → with_port d port p ≡ d
@@ -57,16 +60,29 @@ goes_area_fallen old new fre cr fr is held d port loose here =
     (ap (λ (p : PortState). p.fre) here ∙ fre, ap (λ (p : PortState). p.cr) here ∙ cr, ap (λ (p : PortState). p.fr) here ∙ fr)
     (ap (λ (p : PortState). with_port d port p) (is ∙ ap area_fallen (sym here)))
 
-pub goes_linked : (old new : PortState) → old.present ≡ true → old.sctl_det ≡ 0 → old.link_due ≡ true → new ≡ with_link old 0x101 true → GoesTo old new
-goes_linked old new present det due is held d port loose here =
-    own_one held (LinkUp port 0x101 true) d _ (loose, refl, refl)
-    (record {
-      present = ap (λ (p : PortState). p.present) here ∙ present;
-      det = ap (λ (p : PortState). p.sctl_det) here ∙ det;
-      due = ap (λ (p : PortState). p.link_due) here ∙ due;
-      fits = omega arith;
-    })
-    (ap (λ (p : PortState). with_port d port p) (is ∙ ap (λ (p : PortState). with_link p 0x101 true) (sym here)))
+-- the link of a port in this state comes up, and the disk's first FIS is sent
+pub own_linked : (held : List Bool) (d linked new : Device) (port : ℕ) (p : PortState) → IsPortLoose held port → d.port port ≡ p → MayLinkUp p 0x101 →
+    linked ≡ with_port d port (with_link p 0x101 true) → SendsRegisters port (signature_of (linked.port port)) linked new → DoesOwn held d new
+own_linked held d linked new port p loose here may is sends =
+    let P : Device → Type 0 = λ x. SendsRegisters port (signature_of (x.port port)) x new in
+    let same : linked ≡ with_port d port (with_link (d.port port) 0x101 true) = is ∙ ap (λ (x : PortState). with_port d port (with_link x 0x101 true)) (sym here) in
+    own_one held (LinkUp port 0x101 true) d new (loose, refl, refl) (subst (λ (x : PortState). MayLinkUp x 0x101) (sym here) may) (subst P same sends)
+
+-- a port is settled after its link may have come up, where CR and FR had fallen before
+pub linked_settled : (settled was linked : PortModel) (m : Media) → was ≡ settled → (settled.st ≡ false → settled.cr ≡ true → false ≡ true) →
+    (settled.fre ≡ false → settled.cr ≡ false → settled.fr ≡ true → false ≡ true) →
+    (linked.present ≡ true → linked.sctl_det % 16 ≡ 0 → linked.link_due ≡ true → false ≡ true) → (linked.st ≡ was.st) × (linked.cr ≡ was.cr) →
+    (linked.fre ≡ was.fre) × (linked.fr ≡ was.fr) → IsSettledPort (port_of linked m)
+linked_settled settled was linked m same fallen area due engine received =
+    let cr : linked.cr ≡ settled.cr = engine.1 ∙ ap (λ (x : PortModel). x.cr) same in
+    let st : linked.st ≡ settled.st = engine.0 ∙ ap (λ (x : PortModel). x.st) same in
+    let fre : linked.fre ≡ settled.fre = received.0 ∙ ap (λ (x : PortModel). x.fre) same in
+    let fr : linked.fr ≡ settled.fr = received.1 ∙ ap (λ (x : PortModel). x.fr) same in
+    record {
+      engine = λ off on. let e : false ≡ true = fallen (sym st ∙ off) (sym cr ∙ on) in cc;
+      area = λ off stopped on. let e : false ≡ true = area (sym fre ∙ off) (sym cr ∙ stopped) (sym fr ∙ on) in cc;
+      link = λ sig may. let e : false ≡ true = due may.present may.det may.due in cc;
+    }
 
 pub no_bits : bits_of 0 ≡ (λ _. false)
 no_bits = fun_ext zero_bit
@@ -96,11 +112,11 @@ settled_with old new port p hr is same held settled =
     subst (λ (f : ℕ → PortState). P k (f k)) (sym is) (changed_each old.port port p P here others k) in
     record {
       reset = λ on. settled.reset (sym hr ∙ on);
-      engines = ports (λ k x. (x.st ≡ false) × (x.cr ≡ true) → IsHeld held k) (λ may. settled.engines port (sym same.st ∙ may.0, sym same.cr ∙ may.1)) settled.engines;
-      areas = ports (λ k x. (x.fre ≡ false) × (x.cr ≡ false) × (x.fr ≡ true) → IsHeld held k)
+      engines = ports (λ k x. (x.st ≡ false) × (x.cr ≡ true) → IsPortHeld held k) (λ may. settled.engines port (sym same.st ∙ may.0, sym same.cr ∙ may.1)) settled.engines;
+      areas = ports (λ k x. (x.fre ≡ false) × (x.cr ≡ false) × (x.fr ≡ true) → IsPortHeld held k)
           (λ may. settled.areas port (sym same.fre ∙ may.0, sym same.cr ∙ may.1, sym same.fr ∙ may.2)) settled.areas;
       links = λ k sig n.
-          ports (λ q x. MayLinkUp x sig → IsHeld held q)
+          ports (λ q x. MayLinkUp x sig → IsPortHeld held q)
           (λ may. settled.links port sig n
           (record {
             present = sym same.present ∙ may.present;
@@ -116,7 +132,7 @@ abbrev same : (p new : PortState) → new.st ≡ p.st → new.cr ≡ p.cr → ne
     new.sctl_det ≡ p.sctl_det → new.link_due ≡ p.link_due → SameControls p new
 same p new st cr fre fr present det due = record { st = st; cr = cr; fre = fre; fr = fr; present = present; det = det; due = due }
 
-one_settled : (port slot : ℕ) (old new : Device) → DoesOne port slot old new → (held : List Bool) → IsSettled held old → IsSettled held new
+one_settled : (port slot : ℕ) (old new : Device) → DoesOne SendsEnd port slot old new → (held : List Bool) → IsSettled held old → IsSettled held new
 one_settled port slot old new (inl f) =
     settled_with old new port (with_fetch (old.port port) slot f.meaning f.places) (ap (λ (d : Device). d.hr) f.effect) (ap (λ (d : Device). d.port) f.effect)
     (same _ _ refl refl refl refl refl refl refl)
@@ -124,15 +140,17 @@ one_settled port slot old new (inr (inl m)) =
     settled_with old new port (with_move (old.port port) slot m.t m.bytes) (ap (λ (d : Device). d.hr) m.effect) (ap (λ (d : Device). d.port) m.effect)
     (same _ _ refl refl refl refl refl refl refl)
 one_settled port slot old new (inr (inr e)) =
-    settled_with old new port (with_done (old.port port) slot e.flag e.t.meaning.operation) (ap (λ (d : Device). d.hr) e.effect)
-    (ap (λ (d : Device). d.port) e.effect) (same _ _ refl refl refl refl refl refl refl)
+    let rest = end_rest port e.done.flag e.done.t.meaning.operation e.mid new e.posts in
+    settled_with old new port (with_done (old.port port) slot e.done.flag e.done.t.meaning.operation)
+    (ap (λ (d : Device). d.hr) rest ∙ ap (λ (d : Device). d.hr) e.done.effect)
+    (ap (λ (d : Device). d.port) rest ∙ ap (λ (d : Device). d.port) e.done.effect) (same _ _ refl refl refl refl refl refl refl)
 
-some_settled : (n port slot : ℕ) (old new : Device) → DoesSome n port slot old new → (held : List Bool) → IsSettled held old → IsSettled held new
+some_settled : (n port slot : ℕ) (old new : Device) → DoesSome SendsEnd n port slot old new → (held : List Bool) → IsSettled held old → IsSettled held new
 some_settled zero port slot old new e held settled = let P : Device → Type 0 = λ d. IsSettled held d in subst P (sym e) settled
 some_settled (suc n) port slot old new s held settled = one_settled port slot s.0 new s.2 held (some_settled n port slot old s.0 s.1 held settled)
 
 -- a command went on, or didn't
-pub gone_settled : (port slot : ℕ) (did : Bool) (old new : Device) → (did ≡ true → GoesOn port slot old new) → (did ≡ false → new ≡ old) →
+pub gone_settled : (port slot : ℕ) (did : Bool) (old new : Device) → (did ≡ true → GoesOn SendsEnd port slot old new) → (did ≡ false → new ≡ old) →
     (held : List Bool) → IsSettled held old → IsSettled held new
 gone_settled port slot true old new went stayed held settled = let g = went refl in some_settled (suc g.0) port slot old new g.1 held settled
 gone_settled port slot false old new went stayed held settled = let P : Device → Type 0 = λ d. IsSettled held d in subst P (sym (stayed refl)) settled

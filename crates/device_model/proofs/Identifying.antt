@@ -18,8 +18,9 @@ use Rattle.adapter.proofs.Changed.{changed_other, changed_same}
 use Rattle.adapter.proofs.SaysLemmas.{says_meaning, says_places}
 use Rattle.hba_regs.specs.declared.reg.Reg.{Reg}
 use Rattle.hba_regs.specs.declared.reg.Reg.TheVariants.{Cap, Ghc, Is, Pi, Vs, Cap2, Bohc, Px}
-use Rattle.device_model.specs.Finishing.{AreInside, HasIdentify, IsReady}
+use Rattle.device_model.specs.Finishing.{AreInside, HasIdentify, MayFinish}
 use Rattle.device_model.specs.Held.{none_held}
+use Rattle.device_model.specs.Sent.{SendsEnd}
 use Rattle.device_model.specs.Slots.{IsNext}
 use Rattle.device_model.specs.View.{taken_of}
 use Rattle.device_model.specs.Whole.{Outside, device_of}
@@ -28,6 +29,7 @@ use Rattle.device_model.specs.declared.port.TakenCommand.{TakenCommand}
 use Rattle.device_model.specs.declared.port.Transfer.TheVariants as transfer
 use Rattle.device_model.specs.declared.steps.NextMove.{NextMove}
 use Rattle.device_model.proofs.Own.{IsOnly, own_gone}
+use Rattle.device_model.proofs.Posting.{end_rest}
 use Rattle.device_model.proofs.Transfers.{is_identify}
 
 -- an IDENTIFY DEVICE whose pieces have addresses of 32 bits
@@ -38,7 +40,7 @@ pub is_page : (o : Operation) (places : List ℕ) → IsPage o places → o ≡ 
 is_page o places page = page.0
 
 -- how many sectors the disk has is of no matter to it
-pub has_ready : (d : Device) (slot sectors : ℕ) (has : HasIdentify d slot) → IsReady d 0 slot sectors has.left
+pub has_ready : (d : Device) (slot sectors : ℕ) (has : HasIdentify d slot) → MayFinish d 0 slot sectors has.left
 has_ready d slot sectors has = record {
   t = has.ready.t;
   takes = has.ready.takes;
@@ -74,10 +76,10 @@ has_only d slot has = by has.ready.begins
     }
 
 -- nor afterwards
-pub page_taken : (port slot : ℕ) (did : Bool) (old new : Device) → port ≡ 0 → (did ≡ true → GoesOn port slot old new) → (did ≡ false → new ≡ old) →
+pub page_taken : (port slot : ℕ) (did : Bool) (old new : Device) → port ≡ 0 → (did ≡ true → GoesOn SendsEnd port slot old new) → (did ≡ false → new ≡ old) →
     HasIdentify old slot → (t : Taken) → (new.port port).taken slot ≡ Some t → IsPage t.meaning.operation t.places
 page_taken port slot did old new here went same has t is =
-    let P : ℕ → Type 0 = λ q. GoesOn q slot old new in
+    let P : ℕ → Type 0 = λ q. GoesOn SendsEnd q slot old new in
     let Q : ℕ → Type 0 = λ q. (new.port q).taken slot ≡ Some t in
     (own_gone IsPage is_page none_held 0 slot refl did old new (λ e. subst P here (went e)) same (has_only old slot has)).1.taken t (subst Q here is)
 
@@ -138,7 +140,7 @@ kept_other : (b : Bool) (f : ℕ → Bool) (slot k : ℕ) → k ≢ slot → (if
 kept_other true f slot k ne = refl
 kept_other false f slot k ne = changed_other f slot false k ne
 
-one_elsewhere : (slot : ℕ) (old new : Device) → DoesOne 0 slot old new → (k : ℕ) → k ≢ slot → weight new k ≡ weight old k
+one_elsewhere : (slot : ℕ) (old new : Device) → DoesOne SendsEnd 0 slot old new → (k : ℕ) → k ≢ slot → weight new k ≡ weight old k
 one_elsewhere slot old new (inl f) k ne =
     let p : PortState = with_fetch (old.port 0) slot f.meaning f.places in
     weight_with old new p slot k (ap (λ (d : Device). d.port 0) f.effect ∙ changed_same old.port 0 p)
@@ -147,16 +149,18 @@ one_elsewhere slot old new (inr (inl m)) k ne =
     let p : PortState = with_move (old.port 0) slot m.t m.bytes in
     weight_with old new p slot k (ap (λ (d : Device). d.port 0) m.effect ∙ changed_same old.port 0 p) refl (changed_other (old.port 0).taken slot _ k ne)
 one_elsewhere slot old new (inr (inr e)) k ne =
-    let p : PortState = with_done (old.port 0) slot e.flag e.t.meaning.operation in
-    weight_with old new p slot k (ap (λ (d : Device). d.port 0) e.effect ∙ changed_same old.port 0 p)
-    (kept_other (is_queued e.t.meaning.operation) (old.port 0).ci slot k ne) (changed_other (old.port 0).taken slot None k ne)
+    let p : PortState = with_done (old.port 0) slot e.done.flag e.done.t.meaning.operation in
+    weight_with old new p slot k
+    (ap (λ (d : Device). d.port 0) (end_rest 0 e.done.flag e.done.t.meaning.operation e.mid new e.posts)
+    ∙ (ap (λ (d : Device). d.port 0) e.done.effect ∙ changed_same old.port 0 p))
+    (kept_other (is_queued e.done.t.meaning.operation) (old.port 0).ci slot k ne) (changed_other (old.port 0).taken slot None k ne)
 
-some_elsewhere : (n slot : ℕ) (old new : Device) → DoesSome n 0 slot old new → (k : ℕ) → k ≢ slot → weight new k ≡ weight old k
+some_elsewhere : (n slot : ℕ) (old new : Device) → DoesSome SendsEnd n 0 slot old new → (k : ℕ) → k ≢ slot → weight new k ≡ weight old k
 some_elsewhere zero slot old new e k ne = ap (λ (d : Device). weight d k) e
 some_elsewhere (suc n) slot old new s k ne = one_elsewhere slot s.0 new s.2 k ne ∙ some_elsewhere n slot old s.0 s.1 k ne
 
 -- one that was done is neither issued nor taken
-pub fewer_left : (slot : ℕ) (old new : Device) → slot < 32 → HasIdentify old slot → GoesOn 0 slot old new → IsFreeSlot (new.port 0) slot →
+pub fewer_left : (slot : ℕ) (old new : Device) → slot < 32 → HasIdentify old slot → GoesOn SendsEnd 0 slot old new → IsFreeSlot (new.port 0) slot →
     total (weight new) 32 < total (weight old) 32
 fewer_left slot old new small has went free =
     total_less (weight new) (weight old) slot 32 small (some_elsewhere (suc went.0) slot old new went.1) (less has.ready.begins)

@@ -1,6 +1,7 @@
 pub mod Transfers
 pub mod BitLemmas
 pub mod Bytes
+pub mod Posting
 pub mod Own
 pub mod Ports
 pub mod EachPort
@@ -13,6 +14,8 @@ pub mod Finishing
 pub mod Ready
 pub mod Queueing
 pub mod Telling
+pub mod TwoDisks
 pub mod Doing
 pub mod Told
 pub mod Identifying
+pub mod Waiting

@@ -10,11 +10,13 @@ use Rattle.adapter.specs.declared.command.Operation.{Operation}
 use Rattle.adapter.specs.declared.command.Operation.TheVariants.{Identify}
 use Rattle.adapter.proofs.Absurd.{some-none, some_one, true-false}
 use Rattle.adapter.proofs.Changed.{changed_other, changed_same}
-use Rattle.adapter.specs.Steps.{Step, Can, Leads, Steps, after, begun, block_after, with_done, with_fetch, with_move}
-use Rattle.adapter.proofs.Runs.{Steps-one}
+use Rattle.adapter.specs.Steps.{Step, Can, Steps, after, begun, block_after, with_done, with_fetch, with_move}
+use Rattle.adapter.proofs.Runs.{Steps-one, Steps-refl, Steps-trans}
 use Rattle.adapter.specs.Steps.Step.{Fetch, FetchFault, Move, Clear, Done, Fault, Fatal, Fall, FrFall, LinkUp, Unplug, Plug, ResetEnds, Scribble}
-use Rattle.device_model.specs.Held.{IsHeld, IsLoose}
-use Rattle.device_model.specs.Settled.{DoesOwn, EndsReset, IsOwn}
+use Rattle.device_model.specs.Held.{IsPortHeld, IsPortLoose}
+use Rattle.device_model.specs.Sent.{SendsAfter, SendsEnd}
+use Rattle.device_model.specs.Settled.{DoesOwn, EndsReset, IsOwn, LeadsSending}
+use Rattle.device_model.proofs.Posting.{after_rest, after_steps, end_rest}
 
 pub own_none : (held : List Bool) (d : Device) → DoesOwn held d d
 own_none held d = record { steps = []; own = All-nil (IsOwn held); lead = refl }
@@ -23,12 +25,12 @@ all_one : {X : Type 0} (P : X → Type 0) (x : X) → P x → All P (x ∷ [])
 all_one P x here zero d small = here
 all_one P x here (suc k) d small = absurd (omega (arith, small))
 
-pub own_one : (held : List Bool) (step : Step) (old new : Device) → IsOwn held step → Can step old → new ≡ after step old → DoesOwn held old new
-own_one held step old new own can e = record { steps = step ∷ []; own = all_one (IsOwn held) step own; lead = (can, e) }
+pub own_one : (held : List Bool) (step : Step) (old new : Device) → IsOwn held step → Can step old → SendsAfter step (after step old) new → DoesOwn held old new
+own_one held step old new own can sends = record { steps = step ∷ []; own = all_one (IsOwn held) step own; lead = (can, new, sends, refl) }
 
-leads_on : (first more : List Step) (old mid new : Device) → Leads first old mid → Leads more mid new → Leads (first ++ more) old new
-leads_on [] more old mid new e rest = let P : Device → Type 0 = λ d. Leads more d new in subst P e rest
-leads_on (step ∷ steps) more old mid new (can, lead) rest = (can, leads_on steps more (after step old) mid new lead rest)
+leads_on : (first more : List Step) (old mid new : Device) → LeadsSending first old mid → LeadsSending more mid new → LeadsSending (first ++ more) old new
+leads_on [] more old mid new e rest = let P : Device → Type 0 = λ d. LeadsSending more d new in subst P e rest
+leads_on (step ∷ steps) more old mid new (can, next, sends, lead) rest = (can, next, sends, leads_on steps more next mid new lead rest)
 
 pub own_on : (held : List Bool) (old mid new : Device) → DoesOwn held old mid → DoesOwn held mid new → DoesOwn held old new
 own_on held old mid new a b = record {
@@ -37,8 +39,13 @@ own_on held old mid new a b = record {
   lead = leads_on a.steps b.steps old mid new a.lead b.lead;
 }
 
+leads_steps : (steps : List Step) (old new : Device) → LeadsSending steps old new → Steps old new
+leads_steps [] old new e = let P : Device → Type 0 = λ d. Steps old d in subst P (sym e) (Steps-refl old)
+leads_steps (step ∷ steps) old new (can, next, sends, lead) =
+    Steps-trans (Steps-one step old (after step old) can refl) (Steps-trans (after_steps step (after step old) next sends) (leads_steps steps next new lead))
+
 pub own_steps : (held : List Bool) (old new : Device) → DoesOwn held old new → Steps old new
-own_steps held old new d = record { steps = d.steps; lead = d.lead }
+own_steps held old new d = leads_steps d.steps old new d.lead
 
 pub reset_steps : (was held : List Bool) (old new : Device) → EndsReset was held old new → Steps old new
 reset_steps was held old new (inl stays) = record { steps = []; lead = stays.2 }
@@ -52,7 +59,7 @@ pub record IsOnly (P : Operation → List ℕ → Type 0) (d : Device) (port slo
   pub fetched : (m : Meaning) (places : List ℕ) → Can (Fetch port slot m places) d → P m.operation places
 
 module _ (P : Operation → List ℕ → Type 0) (is_page : (o : Operation) (places : List ℕ) → P o places → o ≡ Identify) (held : List Bool) (port slot : ℕ)
-    (loose : IsLoose held port) where
+    (loose : IsPortLoose held port) where
   -- a command stands in the slot afterwards
   only_with : (new : Device) (p : PortState) (t : Taken) → new.port port ≡ p → p.taken slot ≡ Some t → P t.meaning.operation t.places → IsOnly P new port slot
   only_with new p t there here holds =
@@ -64,7 +71,7 @@ module _ (P : Operation → List ℕ → Type 0) (is_page : (o : Operation) (pla
         fetched = λ m places can. some-none stands can.fetchable.free;
       }
 
-  own_by_one : (old new : Device) → DoesOne port slot old new → IsOnly P old port slot → DoesOwn held old new × IsOnly P new port slot
+  own_by_one : (old new : Device) → DoesOne SendsEnd port slot old new → IsOnly P old port slot → DoesOwn held old new × IsOnly P new port slot
   own_by_one old new (inl f) only =
       let holds = only.fetched f.meaning f.places f.can in
       let p : PortState = with_fetch (old.port port) slot f.meaning f.places in (
@@ -80,20 +87,24 @@ module _ (P : Operation → List ℕ → Type 0) (is_page : (o : Operation) (pla
         only_with new p u (ap (λ (d : Device). d.port port) m.effect ∙ changed_same old.port port p) (changed_same (old.port port).taken slot (Some u)) holds,
       )
   own_by_one old new (inr (inr e)) only =
-      let holds = only.taken e.t e.can.works.taken in
-      let identifies : e.t.meaning.operation ≡ Identify = is_page _ _ holds in
-      let p : PortState = with_done (old.port port) slot e.flag e.t.meaning.operation in
-      let there : new.port port ≡ p = ap (λ (d : Device). d.port port) e.effect ∙ changed_same old.port port p in
+      let t : Taken = e.done.t in
+      let holds = only.taken t e.done.can.works.taken in
+      let identifies : t.meaning.operation ≡ Identify = is_page _ _ holds in
+      let p : PortState = with_done (old.port port) slot e.done.flag t.meaning.operation in
+      let Sends : Device → Type 0 = λ d. SendsEnd port e.done.flag t.meaning.operation d new in
+      let there : new.port port ≡ p =
+      ap (λ (d : Device). d.port port) (end_rest port e.done.flag t.meaning.operation e.mid new e.posts)
+      ∙ (ap (λ (d : Device). d.port port) e.done.effect ∙ changed_same old.port port p) in
       let none : (new.port port).taken slot ≡ None = ap (λ (x : PortState). x.taken slot) there ∙ changed_same (old.port port).taken slot None in
       let clear : (new.port port).ci slot ≡ false =
       ap (λ (x : PortState). x.ci slot) there
       ∙ (ap (λ (b : Bool). (if b then (old.port port).ci else changed (old.port port).ci slot false) slot) (ap is_queued identifies)
       ∙ changed_same (old.port port).ci slot false) in (
-        own_one held (Done port slot e.flag e.t) old new (loose, identifies) e.can e.effect,
+        own_one held (Done port slot e.done.flag t) old new (loose, identifies) e.done.can (subst Sends e.done.effect e.posts),
         record { taken = λ t is. some-none is none; fetched = λ m places can. true-false can.fetchable.issued clear },
       )
 
-  pub own_by_some : (n : ℕ) (old new : Device) → DoesSome n port slot old new → IsOnly P old port slot → DoesOwn held old new × IsOnly P new port slot
+  pub own_by_some : (n : ℕ) (old new : Device) → DoesSome SendsEnd n port slot old new → IsOnly P old port slot → DoesOwn held old new × IsOnly P new port slot
   own_by_some zero old new e only =
       let Q : Device → Type 0 = λ d. DoesOwn held old d × IsOnly P d port slot in
       subst Q (sym e) (own_none held old, only)
@@ -103,16 +114,16 @@ module _ (P : Operation → List ℕ → Type 0) (is_page : (o : Operation) (pla
       (own_on held old s.0 new first.0 last.0, last.1)
 
   -- a command went on, or didn't
-  pub own_gone : (did : Bool) (old new : Device) → (did ≡ true → GoesOn port slot old new) → (did ≡ false → new ≡ old) → IsOnly P old port slot →
+  pub own_gone : (did : Bool) (old new : Device) → (did ≡ true → GoesOn SendsEnd port slot old new) → (did ≡ false → new ≡ old) → IsOnly P old port slot →
       DoesOwn held old new × IsOnly P new port slot
   own_gone true old new went same only = let g = went refl in own_by_some (suc g.0) old new g.1 only
   own_gone false old new went same only = own_by_some zero old new (same refl) only
 
 -- ---- a held port
 
-module _ (held : List Bool) (port : ℕ) (is : IsHeld held port) where
+module _ (held : List Bool) (port : ℕ) (is : IsPortHeld held port) where
   -- a port on which a step of its own is done isn't it
-  elsewhere : (q : ℕ) (p : PortState) (d : Device) → IsLoose held q → changed d.port q p port ≡ d.port port
+  elsewhere : (q : ℕ) (p : PortState) (d : Device) → IsPortLoose held q → changed d.port q p port ≡ d.port port
   elsewhere q p d loose = changed_other d.port q p port (λ same. true-false is (ap (λ k. slice_index_or held k false) same ∙ loose))
 
   one_stays : (step : Step) (d : Device) → IsOwn held step → (after step d).port port ≡ d.port port
@@ -131,7 +142,8 @@ module _ (held : List Bool) (port : ℕ) (is : IsHeld held port) where
   one_stays ResetEnds d own = absurd own
   one_stays (Scribble q slot at bytes) d own = absurd own
 
-  pub held_stays : (steps : List Step) (old new : Device) → All (IsOwn held) steps → Leads steps old new → new.port port ≡ old.port port
+  pub held_stays : (steps : List Step) (old new : Device) → All (IsOwn held) steps → LeadsSending steps old new → new.port port ≡ old.port port
   held_stays [] old new own e = ap (λ (d : Device). d.port port) e
-  held_stays (step ∷ steps) old new own lead =
-      held_stays steps (after step old) new (λ k d small. own (suc k) d (omega (arith, small))) lead.1 ∙ one_stays step old (own 0 step (omega arith))
+  held_stays (step ∷ steps) old new own (can, next, sends, lead) =
+      held_stays steps next new (λ k d small. own (suc k) d (omega (arith, small))) lead
+      ∙ (ap (λ (d : Device). d.port port) (after_rest step (after step old) next sends) ∙ one_stays step old (own 0 step (omega arith)))

@@ -5,7 +5,7 @@ use Rattle.std.specs.Global.{Vec}
 use Rattle.std.proofs.lemmas.Bool.Decides.{eqb_tells}
 use Rattle.adapter.specs.Memory.{changed}
 use Rattle.adapter.specs.Device.{PortState, Device}
-use Rattle.adapter.specs.Steps.{MayLinkUp, with_port, recorded}
+use Rattle.adapter.specs.Steps.{MayLinkUp, with_link, with_port, recorded}
 use Rattle.adapter.specs.Access.{note, noted}
 use Rattle.adapter.specs.Rules.{MayRead, MayWrite}
 use Rattle.adapter.specs.declared.tape.Entry.{Entry}
@@ -13,12 +13,14 @@ use Rattle.adapter.proofs.Changed.{fun_ext, changed_same, changed_other, changed
 use Rattle.hba_regs.specs.declared.reg.Reg.{Reg}
 use Rattle.hba_regs.specs.declared.reg.Reg.TheVariants.{Cap, Ghc, Is, Pi, Vs, Cap2, Bohc, Px}
 use Rattle.device_model.specs.Fetched.{bytes_of}
-use Rattle.device_model.specs.Held.{IsHeld, IsLoose}
+use Rattle.device_model.specs.Held.{IsPortHeld, IsPortLoose}
+use Rattle.device_model.specs.Sent.{SendsRegisters, signature_of}
 use Rattle.device_model.specs.Settled.{DoesOwn, GoesTo, IsSettled}
 use Rattle.device_model.specs.View.{Media, port_of, blank}
-use Rattle.device_model.specs.Whole.{Outside, device_of, HasPort}
+use Rattle.device_model.specs.Whole.{Outside, device_of, HasRegister}
 use Rattle.device_model.specs.declared.port.PortModel.{PortModel}
 use Rattle.device_model.specs.declared.hardware.Hardware.{Hardware}
+use Rattle.device_model.proofs.GoingOn.{own_linked, with_same}
 
 abbrev ports_of : List PortModel → Outside → ℕ → PortState
 ports_of ports o = λ port. port_of (slice_index_or ports port blank) (o.media port)
@@ -55,7 +57,7 @@ set_port h o p new state small is =
     ap (λ (f : ℕ → PortState). record (device_of h o) { port = f }) (fun_ext (ports_set h.ports o o p new small (λ k _. refl)))
     ∙ ap (λ (s : PortState). with_port (device_of h o) p s) is
 
-pub has_port_read : (r : Reg) (d : Device) → MayRead r d → HasPort r
+pub has_port_read : (r : Reg) (d : Device) → MayRead r d → HasRegister r
 has_port_read (Px port r) d may = may.1.0
 has_port_read Cap d may = tt
 has_port_read Ghc d may = tt
@@ -65,7 +67,7 @@ has_port_read Vs d may = tt
 has_port_read Cap2 d may = tt
 has_port_read Bohc d may = tt
 
-pub has_port_write : (r : Reg) (v : ℕ) (d : Device) → MayWrite r v d → HasPort r
+pub has_port_write : (r : Reg) (v : ℕ) (d : Device) → MayWrite r v d → HasRegister r
 has_port_write (Px port r) v d may = may.1.0
 has_port_write Cap v d may = tt
 has_port_write Ghc v d may = tt
@@ -76,12 +78,29 @@ has_port_write Cap2 v d may = tt
 has_port_write Bohc v d may = tt
 
 -- one port that isn't held did what it does by itself
-pub port_settles : (h : Hardware) (o : Outside) (p : ℕ) (new : PortModel) (held : List Bool) → p < length h.ports → IsLoose held p →
+pub port_settles : (h : Hardware) (o : Outside) (p : ℕ) (new : PortModel) (held : List Bool) → p < length h.ports → IsPortLoose held p →
     GoesTo (port_of (slice_index_or h.ports p blank) (o.media p)) (port_of new (o.media p)) →
     DoesOwn held (device_of h o) (device_of (record h { ports = slice_set h.ports p new }) o)
 port_settles h o p new held small loose goes =
     let P : Device → Type 0 = λ d. DoesOwn held (device_of h o) d in
     subst P (sym (set_port h o p new _ small refl)) (goes held (device_of h o) p loose refl)
+
+-- its link came up, and the disk's first FIS was sent
+pub port_links : (h : Hardware) (o : Outside) (p : ℕ) (linked : PortModel) (held : List Bool) (new : Device) → p < length h.ports → IsPortLoose held p →
+    MayLinkUp (port_of (slice_index_or h.ports p blank) (o.media p)) 0x101 →
+    port_of linked (o.media p) ≡ with_link (port_of (slice_index_or h.ports p blank) (o.media p)) 0x101 true →
+    SendsRegisters p (signature_of ((device_of (record h { ports = slice_set h.ports p linked }) o).port p)) (device_of (record h { ports = slice_set h.ports p linked }) o) new →
+    DoesOwn held (device_of h o) new
+port_links h o p linked held new small loose may is sends =
+    own_linked held (device_of h o) (device_of (record h { ports = slice_set h.ports p linked }) o) new p (port_of (slice_index_or h.ports p blank) (o.media p)) loose refl may
+    (set_port h o p linked _ small is) sends
+
+-- one port is as it was
+pub port_same : (h : Hardware) (o : Outside) (p : ℕ) (new : PortModel) → p < length h.ports → new ≡ slice_index_or h.ports p blank →
+    device_of (record h { ports = slice_set h.ports p new }) o ≡ device_of h o
+port_same h o p new small is =
+    set_port h o p new (port_of (slice_index_or h.ports p blank) (o.media p)) small (ap (λ (x : PortModel). port_of x (o.media p)) is)
+    ∙ with_same (device_of h o) p (port_of (slice_index_or h.ports p blank) (o.media p)) refl
 
 -- one port is changed, and the tape has one more entry
 pub set_port_recorded : (h : Hardware) (o : Outside) (p : ℕ) (new : PortModel) (state : PortState) (tape : Vec Entry) (entry : Entry) →
@@ -116,10 +135,10 @@ noted_settled (Px q r) v d held s =
     let new : PortState = record (d.port q.0) { notes = note r v (d.port q.0) } in
     record {
       reset = s.reset;
-      engines = changed_each d.port q.0 new (λ k p. (p.st ≡ false) × (p.cr ≡ true) → IsHeld held k) (s.engines q.0) s.engines;
-      areas = changed_each d.port q.0 new (λ k p. (p.fre ≡ false) × (p.cr ≡ false) × (p.fr ≡ true) → IsHeld held k) (s.areas q.0) s.areas;
+      engines = changed_each d.port q.0 new (λ k p. (p.st ≡ false) × (p.cr ≡ true) → IsPortHeld held k) (s.engines q.0) s.engines;
+      areas = changed_each d.port q.0 new (λ k p. (p.fre ≡ false) × (p.cr ≡ false) × (p.fr ≡ true) → IsPortHeld held k) (s.areas q.0) s.areas;
       links = λ port sig n may.
-          changed_each d.port q.0 new (λ k p. MayLinkUp p sig → IsHeld held k)
+          changed_each d.port q.0 new (λ k p. MayLinkUp p sig → IsPortHeld held k)
           (λ m. s.links q.0 sig n (record { present = m.present; det = m.det; due = m.due; fits = m.fits })) (λ k m. s.links k sig n m) port may;
     }
 noted_settled Cap v d held s = s

@@ -8,9 +8,9 @@ use Rattle.std.proofs.lemmas.List.Edits.{remove-append_right}
 use Rattle.adapter.specs.Steps.{Steps}
 use Rattle.adapter.specs.declared.access.DeviceStep.{DeviceStep}
 use Rattle.adapter.proofs.Runs.{Steps-refl, Steps-trans}
-use Rattle.device_model.specs.Does.{Answers}
+use Rattle.device_model.specs.Does.{AnswersStep}
 use Rattle.device_model.specs.Modelled.{device_at}
-use Rattle.device_model.specs.Queue.{Begins, due, not_due, DoesEach}
+use Rattle.device_model.specs.Queue.{BeginsAccess, due, not_due, DoesEach}
 use Rattle.device_model.specs.declared.model.Model.{Model}
 use Rattle.device_model.specs.declared.model.Queued.{Queued}
 use Rattle.device_model.proofs.Doing.{answers_steps}
@@ -19,9 +19,9 @@ use Rattle.device_model.proofs.Doing.{answers_steps}
 
 module _ {S : Type 0} (size : S → ℕ) (told : S → Option (ℕ → List ℕ)) (is_sure : S → Bool) where
   pub each_more : (done : List DeviceStep) (s : DeviceStep) (answer : Bool) (old mid new : Model S) → DoesEach size told is_sure done old mid →
-      Answers size told is_sure s answer mid new → DoesEach size told is_sure (done ++ s ∷ []) old new
+      AnswersStep size told is_sure s answer mid new → DoesEach size told is_sure (done ++ s ∷ []) old new
   each_more [] s answer old mid new e one =
-      let P : Model S → Type 0 = λ m. Answers size told is_sure s answer m new in
+      let P : Model S → Type 0 = λ m. AnswersStep size told is_sure s answer m new in
       (answer, new, subst P e one, refl)
   each_more (x ∷ done) s answer old mid new d one = (d.0, d.1, d.2, each_more done s answer d.1 mid new d.3 one)
 
@@ -32,7 +32,7 @@ module _ {S : Type 0} (size : S → ℕ) (told : S → Option (ℕ → List ℕ)
   each_steps (s ∷ done) old new d =
       Steps-trans (answers_steps size told is_sure s old d.1 d.0 d.2) (each_steps done d.1 new d.3)
 
-  pub begins_steps : (old new : Model S) → Begins size told is_sure old new → Steps (device_at size told old) (device_at size told new)
+  pub begins_steps : (old new : Model S) → BeginsAccess size told is_sure old new → Steps (device_at size told old) (device_at size told new)
   begins_steps old new b = each_steps (due new.accesses old.queue.items) (record old { accesses = new.accesses; queue = new.queue }) new b.does
 
 -- these steps lead from the one model to the other, whatever is queued in both

@@ -16,7 +16,7 @@ use Rattle.adapter.specs.declared.command.Operation.TheVariants.{Identify}
 use Rattle.adapter.specs.declared.command.Prd.{Prd}
 use Rattle.adapter.proofs.Absurd.{some-none, some_one}
 use Rattle.adapter.proofs.SaysLemmas.{says_meaning, says_places, cut_length, cut_index}
-use Rattle.device_model.specs.Finishing.{HasIdentify, IsInside, AreInside, IsCovered, IsReady}
+use Rattle.device_model.specs.Finishing.{HasIdentify, IsInside, AreInside, IsCovered, MayFinish}
 use Rattle.device_model.specs.Fetched.{bytes_of}
 use Rattle.device_model.specs.Slots.{MayTake, MayTakeAny, HoldsAt}
 use Rattle.device_model.specs.View.{Media, Takes, operation_of, port_of, taken_of, blank}
@@ -108,7 +108,7 @@ left_is moved n left (Some x) is some = let same : x ≡ left = omega (arith, is
 abbrev pub MayTakeNone : PortModel → ℕ → Type 0
 MayTakeNone p slot = (m : Media) (operation : Operation) → Takes operation → MayTake (port_of p m) slot operation → ⊥
 
-module _ (h : Hardware) (o : Outside) (p port slot sectors left : ℕ) (e : p ≡ port) (ready : IsReady (device_of h o) port slot sectors left) where
+module _ (h : Hardware) (o : Outside) (p port slot sectors left : ℕ) (e : p ≡ port) (ready : MayFinish (device_of h o) port slot sectors left) where
   abbrev state : PortModel
   state = slice_index_or h.ports p blank
 
@@ -149,11 +149,11 @@ module _ (h : Hardware) (p port slot sectors size : ℕ) (r : TakenCommand) (e :
   pub ready_to_take : (result : Option ℕ) → IfSome result (λ left. IsCovered (taken_of r) size sectors left) → r.moved ≡ 0 →
       MayTakeAny (slice_index_or h.ports p blank) slot →
       Says (bytes_of h.memory.items) (slice_index_or h.ports p blank).addresses.clb slot (taken_of r).meaning (taken_of r).places →
-      IfSome result (λ left. (o : Outside) → IsReady (device_of h o) port slot sectors left)
+      IfSome result (λ left. (o : Outside) → MayFinish (device_of h o) port slot sectors left)
   ready_to_take None covered unmoved may says = tt
   ready_to_take (Some left) covered unmoved may says =
       λ (o : Outside).
-      let P : ℕ → Type 0 = λ q. IsReady (device_of h o) q slot sectors left in
+      let P : ℕ → Type 0 = λ q. MayFinish (device_of h o) q slot sectors left in
       let m = may (o.media p) (operation_of r.transfer) (is_taken r.transfer) in
       subst P e
       (record {
@@ -168,15 +168,15 @@ module _ (h : Hardware) (p port slot sectors size : ℕ) (r : TakenCommand) (e :
 
   -- and so is one that is taken
   pub ready_to_go : (result : Option ℕ) → IfSome result (λ left. IsCovered (taken_of r) size sectors left) → HoldsAt (slice_index_or h.ports p blank) slot r →
-      IfSome result (λ left. (o : Outside) → IsReady (device_of h o) port slot sectors left)
+      IfSome result (λ left. (o : Outside) → MayFinish (device_of h o) port slot sectors left)
   ready_to_go None covered holds = tt
   ready_to_go (Some left) covered holds =
       λ (o : Outside).
-      let P : ℕ → Type 0 = λ q. IsReady (device_of h o) q slot sectors left in
+      let P : ℕ → Type 0 = λ q. MayFinish (device_of h o) q slot sectors left in
       subst P e (record { t = taken_of r; takes = is_taken r.transfer; covered = covers left covered; begins = inl (holds.works (o.media p)) })
 
   -- a command that is ready, as far as these are its moves
-  covers_back : (left : ℕ) (o : Outside) (ready : IsReady (device_of h o) port slot sectors left) → ready.t ≡ taken_of r → IsCovered (taken_of r) size sectors left
+  covers_back : (left : ℕ) (o : Outside) (ready : MayFinish (device_of h o) port slot sectors left) → ready.t ≡ taken_of r → IsCovered (taken_of r) size sectors left
   covers_back left o ready same =
       let P : ℕ → Type 0 = λ n. IsCovered (taken_of r) n sectors left in
       let Q : Taken → Type 0 = λ t. IsCovered t (length h.memory.items) sectors left in
@@ -185,7 +185,7 @@ module _ (h : Hardware) (p port slot sectors size : ℕ) (r : TakenCommand) (e :
   -- where a command may be taken, one that is ready is the one that its slot's bytes say
   ready_is_one : MayTakeAny (slice_index_or h.ports p blank) slot → r.moved ≡ 0 →
       Says (bytes_of h.memory.items) (slice_index_or h.ports p blank).addresses.clb slot (taken_of r).meaning (taken_of r).places →
-      (o : Outside) (left : ℕ) (ready : IsReady (device_of h o) port slot sectors left) → ready.t ≡ taken_of r
+      (o : Outside) (left : ℕ) (ready : MayFinish (device_of h o) port slot sectors left) → ready.t ≡ taken_of r
   ready_is_one may unmoved says o left ready =
       let t : Taken = ready.t in
       let memory = bytes_of h.memory.items in
@@ -198,13 +198,13 @@ module _ (h : Hardware) (p port slot sectors size : ℕ) (r : TakenCommand) (e :
 
   pub ready_is_said : MayTakeAny (slice_index_or h.ports p blank) slot → r.moved ≡ 0 →
       Says (bytes_of h.memory.items) (slice_index_or h.ports p blank).addresses.clb slot (taken_of r).meaning (taken_of r).places →
-      (o : Outside) (left : ℕ) → IsReady (device_of h o) port slot sectors left → IsCovered (taken_of r) size sectors left
+      (o : Outside) (left : ℕ) → MayFinish (device_of h o) port slot sectors left → IsCovered (taken_of r) size sectors left
   ready_is_said may unmoved says o left ready =
       covers_back left o ready (ready_is_one may unmoved says o left ready)
 
   -- where it is taken, the one that its slot holds
   pub ready_is_held : HoldsAt (slice_index_or h.ports p blank) slot r → MayTakeNone (slice_index_or h.ports p blank) slot →
-      (o : Outside) (left : ℕ) → IsReady (device_of h o) port slot sectors left → IsCovered (taken_of r) size sectors left
+      (o : Outside) (left : ℕ) → MayFinish (device_of h o) port slot sectors left → IsCovered (taken_of r) size sectors left
   ready_is_held here never o left ready =
       let w = ready_held h o p port slot sectors left e ready never in
       let same : r ≡ w.0 = some_one (sym here.held ∙ w.1.held) in

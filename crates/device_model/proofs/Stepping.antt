@@ -1,9 +1,9 @@
 -- Steps of the hardware, of a port by its index in the array.
-use Rattle.std.proofs.Common.{ℕ, true, false, ◌≡◌, ◌<◌, ◌≤◌, ◌+◌, List, [], ◌∷◌, ◌++◌, length, refl, sym, ◌∙◌, ap, subst, inl}
+use Rattle.std.proofs.Common.{ℕ, true, false, ◌≡◌, ◌<◌, ◌≤◌, ◌+◌, List, [], ◌∷◌, ◌++◌, length, ◌⊎◌, refl, sym, ◌∙◌, ap, subst, inl, inr}
 use Rattle.std.specs.Prelude.{slice_set, slice_index_or, IfSome, if◌then◌else◌}
 use Rattle.std.specs.Global.{Vec}
 use Rattle.adapter.specs.Commands.{Meaning, direction_of, is_ranged, reads_memory}
-use Rattle.adapter.specs.Device.{Disk, IsSector}
+use Rattle.adapter.specs.Device.{Disk, Device, IsSector}
 use Rattle.adapter.specs.Memory.{patched, bytes_at}
 use Rattle.adapter.specs.Says.{Says, pieces}
 use Rattle.adapter.specs.Steps.{after, MayBeDone, MayFetch, MayMove, Brings, with_fetch, with_move, with_done, done_entry, move_of, noted_bytes, memory_after, next_place, next_sector}
@@ -13,10 +13,11 @@ use Rattle.adapter.specs.declared.command.Operation.{Operation}
 use Rattle.adapter.specs.declared.tape.Entry.{Entry}
 use Rattle.adapter.specs.declared.tape.Entry.TheVariants as entry
 use Rattle.adapter.specs.declared.tape.Move as tape_move
-use Rattle.adapter.specs.Asked.{DoesFetch, DoesDone}
+use Rattle.adapter.specs.Asked.{DoesFetch, Ends}
 use Rattle.device_model.specs.Fetched.{bytes_of}
+use Rattle.device_model.specs.Sent.{SendsEnd}
 use Rattle.device_model.specs.Slots.{MayTake, HoldsAt, IsNext}
-use Rattle.device_model.specs.View.{Media, media_after, operation_of, port_of, taken_of, blank}
+use Rattle.device_model.specs.View.{Media, cause_of, media_after, operation_of, port_of, taken_of, blank}
 use Rattle.device_model.specs.Whole.{Outside, device_of, outside_after, outside_plugged}
 use Rattle.device_model.specs.declared.port.TakenCommand.{TakenCommand}
 use Rattle.device_model.specs.declared.port.Transfer.{Transfer}
@@ -72,39 +73,49 @@ pub unplugged : (h : Hardware) (o : Outside) (new : PortModel) (tape : Vec Entry
     device_of (record h { ports = slice_set h.ports 0 new; tape = tape }) o ≡ after (Unplug 0) (device_of h o)
 unplugged h o new tape some is more = set_port_recorded h o 0 new _ tape (entry.Unplug (record { 0 = 0 })) some is more
 
--- disk 0 is put in
-pub plugged_in : (h : Hardware) (o : Outside) (new : PortModel) (tape : Vec Entry) (disk : Disk) → disk.name ≡ 0 → 0 < length h.ports →
+-- a disk is put in
+pub plugged_in : (h : Hardware) (o : Outside) (new : PortModel) (tape : Vec Entry) (disk : Disk) (number : ℕ) → disk.name ≡ number → 0 < length h.ports →
     ((m : Media) → port_of new m ≡ record (port_of (slice_index_or h.ports 0 blank) m) { ssts_det = 3; present = true; fresh = false; serr_n = true; serr_x = true }) →
-    tape.items ≡ h.tape.items ++ entry.Plug (record { 0 = 0 }) 0 ∷ [] →
+    tape.items ≡ h.tape.items ++ entry.Plug (record { 0 = 0 }) number ∷ [] →
     device_of (record h { ports = slice_set h.ports 0 new; tape = tape }) (outside_plugged o disk) ≡ after (Plug 0 disk) (device_of h o)
-plugged_in h o new tape disk name some is more =
+plugged_in h o new tape disk number name some is more =
     let media : Media = record { disk = disk; plugged = (o.media 0).plugged ++ disk ∷ [] } in
-    let named : entry.Plug (record { 0 = 0 }) 0 ≡ entry.Plug (record { 0 = 0 }) disk.name = ap (entry.Plug (record { 0 = 0 })) (sym name) in
+    let named : entry.Plug (record { 0 = 0 }) number ≡ entry.Plug (record { 0 = 0 }) disk.name = ap (entry.Plug (record { 0 = 0 })) (sym name) in
     set_port_plugged h o 0 new media _ tape (entry.Plug (record { 0 = 0 }) disk.name) some (is media)
     (more ∙ ap (λ (e : Entry). h.tape.items ++ e ∷ []) named)
 
+is_cause : (k : Transfer) → (cause_of k ≡ 0) ⊎ (cause_of k ≡ 1) ⊎ (cause_of k ≡ 3)
+is_cause transfer.Identify = inr (inl refl)
+is_cause transfer.Read = inl refl
+is_cause transfer.Write = inl refl
+
 -- a command of which all was moved may end
 pub may_end : (h : Hardware) (o : Outside) (port slot : ℕ) (t : TakenCommand) → HoldsAt (slice_index_or h.ports port blank) slot t →
-    t.moved ≡ length (pieces t.prds) → MayBeDone (device_of h o) port slot 0 (taken_of t)
+    t.moved ≡ length (pieces t.prds) → MayBeDone (device_of h o) port slot (cause_of t.transfer) (taken_of t)
 may_end h o port slot t holds all = record {
   works = holds.works (o.media port);
   finished = record { moved = all; cleared = λ trim. absurd (no_trim t.transfer trim) };
-  shown = inl refl;
+  shown = is_cause t.transfer;
 }
 
--- a command is at its end
-pub port_ends : (h : Hardware) (o : Outside) (p port slot : ℕ) (new : PortModel) (t : TakenCommand) (tape : Vec Entry) → p ≡ port → p < length h.ports →
-    HoldsAt (slice_index_or h.ports p blank) slot t → t.moved ≡ length (pieces t.prds) →
-    port_of new (o.media p) ≡ with_done (port_of (slice_index_or h.ports p blank) (o.media p)) slot 0 (operation_of t.transfer) →
+-- a command is at its end, and its FIS is sent
+pub port_ends : (h : Hardware) (o : Outside) (p port slot : ℕ) (new : PortModel) (t : TakenCommand) (tape : Vec Entry) (last : Device) → p ≡ port →
+    p < length h.ports → HoldsAt (slice_index_or h.ports p blank) slot t → t.moved ≡ length (pieces t.prds) →
+    port_of new (o.media p) ≡ with_done (port_of (slice_index_or h.ports p blank) (o.media p)) slot (cause_of t.transfer) (operation_of t.transfer) →
     tape.items ≡ h.tape.items ++ done_entry port slot (operation_of t.transfer) ∷ [] →
-    DoesDone port slot (device_of h o) (device_of (record h { ports = slice_set h.ports p new; tape = tape }) o)
-port_ends h o p port slot new t tape e small holds all is more =
-    subst (λ q. DoesDone q slot (device_of h o) (device_of (record h { ports = slice_set h.ports p new; tape = tape }) o)) e
+    SendsEnd p (cause_of t.transfer) (operation_of t.transfer) (device_of (record h { ports = slice_set h.ports p new; tape = tape }) o) last →
+    Ends SendsEnd port slot (device_of h o) last
+port_ends h o p port slot new t tape last e small holds all is more sends =
+    subst (λ q. Ends SendsEnd q slot (device_of h o) last) e
     (record {
-      flag = 0;
-      t = taken_of t;
-      can = may_end h o p slot t holds all;
-      effect = set_port_recorded h o p new _ tape (done_entry p slot (operation_of t.transfer)) small is (rw e more);
+      mid = device_of (record h { ports = slice_set h.ports p new; tape = tape }) o;
+      done = record {
+        flag = cause_of t.transfer;
+        t = taken_of t;
+        can = may_end h o p slot t holds all;
+        effect = set_port_recorded h o p new _ tape (done_entry p slot (operation_of t.transfer)) small is (rw e more);
+      };
+      posts = sends;
     })
 
 -- the next piece of a command is moved

@@ -2,7 +2,7 @@
 use Rattle.std.proofs.Common.{ℕ, zero, suc, ◌≡◌, [], ◌∷◌, ◌++◌, List, All, refl, sym, ◌∙◌, ap, subst, arith, append-nil, append_assoc}
 use Rattle.std.proofs.lemmas.List.Elements.{All-append, All-nil}
 use Rattle.adapter.specs.Access.{noted, written}
-use Rattle.adapter.specs.Asked.{DoesDone}
+use Rattle.adapter.specs.Asked.{Ends}
 use Rattle.adapter.specs.Device.{Device}
 use Rattle.adapter.specs.Steps.{done_entry}
 use Rattle.adapter.specs.declared.command.Operation.TheVariants.{Identify}
@@ -12,10 +12,12 @@ use Rattle.adapter.specs.declared.tape.Move.{Move}
 use Rattle.hba_regs.specs.declared.reg.Reg.{Reg}
 use Rattle.hba_regs.specs.declared.reg.Reg.TheVariants.{Cap, Ghc, Is, Pi, Vs, Cap2, Bohc, Px}
 use Rattle.device_model.specs.Paged.{AreItsPages, GainsPages, IsItsPage}
+use Rattle.device_model.specs.Sent.{SendsEnd}
 use Rattle.device_model.specs.View.{operation_of}
 use Rattle.device_model.specs.Whole.{Outside, device_of}
 use Rattle.device_model.specs.declared.model.Model.{Model}
 use Rattle.device_model.specs.declared.port.Transfer.{Transfer}
+use Rattle.device_model.proofs.Posting.{end_rest}
 use Rattle.device_model.proofs.Transfers.{is_identify}
 use Rattle.device_model.specs.declared.port.Transfer.TheVariants as transfer
 
@@ -49,41 +51,44 @@ module _ {S : Type 0} (size : S → ℕ) where
   gains_none old new same = record {
     gained = [];
     tape = same ∙ sym (append-nil old.hardware.tape.items);
-    pages = All-nil (λ x. (m : Move) → x ≡ entry.Move m → m.operation ≡ Identify → IsItsPage (size old.disk0) old.says m.bytes.value);
+    pages = All-nil (λ x. (m : Move) → x ≡ entry.Move m → m.operation ≡ Identify → IsItsPage old.which (size old.disk) old.says m.bytes.value);
   }
 
   -- one more entry, which is no page or the disk's
   pub gains_one : (old new : Model S) (e : Entry) → new.hardware.tape.items ≡ old.hardware.tape.items ++ e ∷ [] →
-      ((m : Move) → e ≡ entry.Move m → m.operation ≡ Identify → IsItsPage (size old.disk0) old.says m.bytes.value) → GainsPages size old new
+      ((m : Move) → e ≡ entry.Move m → m.operation ≡ Identify → IsItsPage old.which (size old.disk) old.says m.bytes.value) → GainsPages size old new
   gains_one old new e more here = record {
     gained = e ∷ [];
     tape = more;
-    pages = all_one (λ x. (m : Move) → x ≡ entry.Move m → m.operation ≡ Identify → IsItsPage (size old.disk0) old.says m.bytes.value) e here;
+    pages = all_one (λ x. (m : Move) → x ≡ entry.Move m → m.operation ≡ Identify → IsItsPage old.which (size old.disk) old.says m.bytes.value) e here;
   }
 
-  pub gains_on : (a b c : Model S) → b.says ≡ a.says → size b.disk0 ≡ size a.disk0 → GainsPages size a b → GainsPages size b c → GainsPages size a c
-  gains_on a b c says sectors first then =
-      let P : Entry → Type 0 = λ x. (m : Move) → x ≡ entry.Move m → m.operation ≡ Identify → IsItsPage (size a.disk0) a.says m.bytes.value in
+  pub gains_on : (a b c : Model S) → b.says ≡ a.says → b.which ≡ a.which → size b.disk ≡ size a.disk → GainsPages size a b → GainsPages size b c → GainsPages size a c
+  gains_on a b c says which sectors first then =
+      let P : Entry → Type 0 = λ x. (m : Move) → x ≡ entry.Move m → m.operation ≡ Identify → IsItsPage a.which (size a.disk) a.says m.bytes.value in
       record {
         gained = first.gained ++ then.gained;
         tape = then.tape ∙ (ap (λ (t : List Entry). t ++ then.gained) first.tape ∙ append_assoc a.hardware.tape.items first.gained then.gained);
         pages = All-append P first.gained then.gained first.pages
-            (subst (λ x. AreItsPages (size a.disk0) x then.gained) says (subst (λ n. AreItsPages n b.says then.gained) sectors then.pages));
+            (subst (λ x. AreItsPages a.which (size a.disk) x then.gained) says
+            (subst (λ n. AreItsPages a.which n b.says then.gained) sectors (subst (λ w. AreItsPages w (size b.disk) b.says then.gained) which then.pages)));
       }
 
   -- a move was noted
   pub gains_moved : (old new : Model S) (k : Transfer) (m : Move) →
       new.hardware.tape.items ≡ old.hardware.tape.items ++ entry.Move m ∷ [] → m.operation ≡ operation_of k →
-      (k ≡ transfer.Identify → IsItsPage (size old.disk0) old.says m.bytes.value) → GainsPages size old new
+      (k ≡ transfer.Identify → IsItsPage old.which (size old.disk) old.says m.bytes.value) → GainsPages size old new
   gains_moved old new k m more named page =
       gains_one old new (entry.Move m) more
       (λ x e identify.
       let same : m ≡ x = cc in
       let kind : k ≡ transfer.Identify = is_identify k (sym named ∙ (ap (λ (y : Move). y.operation) same ∙ identify)) in
-      subst (λ (y : Move). IsItsPage (size old.disk0) old.says y.bytes.value) same (page kind))
+      subst (λ (y : Move). IsItsPage old.which (size old.disk) old.says y.bytes.value) same (page kind))
 
   -- a command ended
-  pub gains_done : (o : Outside) (port slot : ℕ) (old new : Model S) → DoesDone port slot (device_of old.hardware o) (device_of new.hardware o) →
+  pub gains_done : (o : Outside) (port slot : ℕ) (old new : Model S) → Ends SendsEnd port slot (device_of old.hardware o) (device_of new.hardware o) →
       GainsPages size old new
-  gains_done o port slot old new d =
-      gains_one old new (done_entry port slot d.t.meaning.operation) (ap (λ (x : Device). x.tape) d.effect) (λ x e. absurd (cc e))
+  gains_done o port slot old new e =
+      let rest = end_rest port e.done.flag e.done.t.meaning.operation e.mid (device_of new.hardware o) e.posts in
+      gains_one old new (done_entry port slot e.done.t.meaning.operation) (ap (λ (x : Device). x.tape) rest ∙ ap (λ (x : Device). x.tape) e.done.effect)
+      (λ x is. absurd (cc is))

@@ -1,7 +1,7 @@
 -- Steps of the hardware, as a model answers them.
 use Rattle.std.proofs.Common.{ℕ, Bool, true, false, ◌≡◌, ◌<◌, ◌∙◌, List, Option, Some, refl, sym, ap, subst, inl, inr}
 use Rattle.std.specs.Global.{Vec}
-use Rattle.adapter.specs.Asked.{DoesFetch, DoesDone, DoesUnplug}
+use Rattle.adapter.specs.Asked.{DoesFetch, DoesUnplug, Ends}
 use Rattle.adapter.specs.Commands.{Meaning}
 use Rattle.adapter.specs.Device.{Device, Taken}
 use Rattle.adapter.specs.Steps.{Can, after, begun, with_fetch}
@@ -13,9 +13,10 @@ use Rattle.adapter.specs.declared.tape.Entry.TheVariants as entry
 use Rattle.adapter.proofs.Changed.{changed_same}
 use Rattle.ata_types.specs.declared.Port.{Port}
 use Rattle.ata_types.specs.declared.Slot.{Slot}
-use Rattle.device_model.specs.Does.{Answers, IsLeft, Keeps, LacksMemory, Possible}
+use Rattle.device_model.specs.Does.{AnswersStep, IsLeftOut, StepKeeps, LacksMemory, Possible}
 use Rattle.device_model.specs.Finishing.{HasRoom, IsPassed}
 use Rattle.device_model.specs.Modelled.{device_at, outside_at}
+use Rattle.device_model.specs.Sent.{SendsEnd}
 use Rattle.device_model.specs.View.{Takes, blank}
 use Rattle.device_model.specs.Whole.{Outside, device_of}
 use Rattle.device_model.specs.declared.hardware.Hardware.{Hardware}
@@ -44,18 +45,19 @@ module _ {S : Type 0} (size : S → ℕ) (told : S → Option (ℕ → List ℕ)
   abbrev behind : Outside
   behind = outside_at size told m
 
-  pub on_hardware : Keeps size is_sure m new
-  on_hardware = record { disk1 = refl; sectors = refl; sure = refl; queue = refl; accesses = refl }
+  pub on_hardware : StepKeeps size is_sure m new
+  on_hardware = record { sectors = λ _. refl; sure = λ _. refl; out = λ _ _. refl; queue = refl; accesses = refl }
 
   -- a step that notes one entry wasn't done
   passed_left : (s : DeviceStep) (possible : Type 0) → (Possible s (device_at size told m) → possible) → (possible → Possible s (device_at size told m)) →
       ((HasRoom m.hardware 1 → ⊥) → LacksMemory s (device_at size told m) m.hardware m.plugged) → device_of h behind ≡ device_of m.hardware behind →
-      IsPassed m.hardware h possible → IsLeft size told is_sure s m new
+      IsPassed m.hardware h possible → IsLeftOut size told is_sure s m new
   passed_left s possible forth back lacks same (inl never) = record {
     device = same;
     held = refl;
     says = refl;
-    disk0 = λ _. refl;
+    which = refl;
+    disks = λ _ _. refl;
     keeps = on_hardware;
     why = λ _ may. absurd (never.0 (forth may));
     told_on = λ yes. ap (λ (x : Hardware). x.starved) never.1 ∙ yes;
@@ -65,7 +67,8 @@ module _ {S : Type 0} (size : S → ℕ) (told : S → Option (ℕ → List ℕ)
     device = same;
     held = refl;
     says = refl;
-    disk0 = λ _. refl;
+    which = refl;
+    disks = λ _ _. refl;
     keeps = on_hardware;
     why = λ _ may. (lacks missed.1, missed.2);
     told_on = λ _. missed.2;
@@ -75,7 +78,7 @@ module _ {S : Type 0} (size : S → ℕ) (told : S → Option (ℕ → List ℕ)
   pub fetch_answers : (p : Port) (s : Slot) (did : Bool) → p.0 < 4 → s.0 < 32 →
       (did ≡ true → DoesFetch p.0 s.0 (device_of m.hardware behind) (device_of h behind)) → (did ≡ false → device_of h behind ≡ device_of m.hardware behind) →
       (did ≡ false → (g : Meaning) (places : List ℕ) → Takes g.operation → Can (Fetch p.0 s.0 g places) (device_of m.hardware behind) → ⊥) →
-      h.tape ≡ m.hardware.tape → h.starved ≡ m.hardware.starved → Answers size told is_sure (asked.Fetch p s) did m new
+      h.tape ≡ m.hardware.tape → h.starved ≡ m.hardware.starved → AnswersStep size told is_sure (asked.Fetch p s) did m new
   fetch_answers p s true port slot done same only tape starved =
       let f = done refl in (
         (port, slot, f.meaning, f.places, fetched_takes (device_of m.hardware behind) h behind p.0 s.0 f, f.can),
@@ -84,8 +87,9 @@ module _ {S : Type 0} (size : S → ℕ) (told : S → Option (ℕ → List ℕ)
           ends = λ _. tt;
           held = refl;
           says = refl;
+          which = refl;
           pages = gains_none size m new (ap (λ (v : Vec Entry). v.items) tape);
-          disk0 = λ _. refl;
+          disks = λ _ _. refl;
           keeps = on_hardware;
           starved = starved;
         },
@@ -94,7 +98,8 @@ module _ {S : Type 0} (size : S → ℕ) (told : S → Option (ℕ → List ℕ)
     device = same refl;
     held = refl;
     says = refl;
-    disk0 = λ _. refl;
+    which = refl;
+    disks = λ _ _. refl;
     keeps = on_hardware;
     why = λ _ may. absurd (only refl may.2 may.3 may.4 may.5);
     told_on = λ yes. starved ∙ yes;
@@ -102,19 +107,20 @@ module _ {S : Type 0} (size : S → ℕ) (told : S → Option (ℕ → List ℕ)
   }
 
   pub done_answers : (p : Port) (s : Slot) (did : Bool) → p.0 < 4 → s.0 < 32 →
-      (did ≡ true → DoesDone p.0 s.0 (device_of m.hardware behind) (device_of h behind)) → (did ≡ false → device_of h behind ≡ device_of m.hardware behind) →
+      (did ≡ true → Ends SendsEnd p.0 s.0 (device_of m.hardware behind) (device_of h behind)) → (did ≡ false → device_of h behind ≡ device_of m.hardware behind) →
       (did ≡ false → IsPassed m.hardware h ((flag : ℕ) × (t : Taken) × Can (Done p.0 s.0 flag t) (device_of m.hardware behind))) →
-      (did ≡ true → h.starved ≡ m.hardware.starved) → Answers size told is_sure (asked.Done p s) did m new
+      (did ≡ true → h.starved ≡ m.hardware.starved) → AnswersStep size told is_sure (asked.Done p s) did m new
   done_answers p s true port slot done same passed starved =
       let d = done refl in (
-        (port, slot, d.flag, d.t, d.can),
+        (port, slot, d.done.flag, d.done.t, d.done.can),
         record {
           asked = d;
           ends = λ _. tt;
           held = refl;
           says = refl;
+          which = refl;
           pages = gains_done size behind p.0 s.0 m new d;
-          disk0 = λ _. refl;
+          disks = λ _ _. refl;
           keeps = on_hardware;
           starved = starved refl;
         },
@@ -126,7 +132,7 @@ module _ {S : Type 0} (size : S → ℕ) (told : S → Option (ℕ → List ℕ)
   pub unplug_answers : (p : Port) (did : Bool) → p.0 ≡ 0 →
       (did ≡ true → Can (Unplug 0) (device_of m.hardware behind) × (device_of h behind ≡ after (Unplug 0) (device_of m.hardware behind))) →
       (did ≡ false → device_of h behind ≡ device_of m.hardware behind) → (did ≡ false → IsPassed m.hardware h (Can (Unplug 0) (device_of m.hardware behind))) →
-      (did ≡ true → h.starved ≡ m.hardware.starved) → Answers size told is_sure (asked.Unplug p) did m new
+      (did ≡ true → h.starved ≡ m.hardware.starved) → AnswersStep size told is_sure (asked.Unplug p) did m new
   unplug_answers p true zero done same passed starved =
       let d = done refl in
       let P : ℕ → Type 0 = λ q. DoesUnplug q (device_of m.hardware behind) (device_of h behind) in (
@@ -136,8 +142,9 @@ module _ {S : Type 0} (size : S → ℕ) (told : S → Option (ℕ → List ℕ)
           ends = λ _. tt;
           held = refl;
           says = refl;
+          which = refl;
           pages = gains_one size m new (entry.Unplug (record { 0 = 0 })) (ap (λ (x : Device). x.tape) d.1) (λ x e. absurd (cc e));
-          disk0 = λ _. refl;
+          disks = λ _ _. refl;
           keeps = on_hardware;
           starved = starved refl;
         },

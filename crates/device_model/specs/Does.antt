@@ -1,10 +1,9 @@
 -- What a model makes of a step that it is told: when the step is possible, what it changes where it is done, and what stays where it is left
 -- (this project's own).
-use Rattle.std.specs.Prelude.{ℕ, Bool, true, false, ◌≡◌, ◌+◌, ◌^◌, ◌<◌, ◌≤◌, ◌⊎◌, List, Option, length, if◌then◌else◌, nat_eq}
+use Rattle.std.specs.Prelude.{ℕ, Bool, true, false, ◌≡◌, ◌≢◌, ◌+◌, ◌^◌, ◌<◌, ◌≤◌, ◌⊎◌, List, Option, length, if◌then◌else◌, nat_eq}
 use Rattle.std.specs.Global.{Vec}
 use Rattle.std.specs.Vec.{vec_len, vec_capacity}
-use Rattle.std.specs.declared.snapshot.Snapshot.{Snapshot}
-use Rattle.adapter.specs.Asked.{Asked}
+use Rattle.adapter.specs.Asked.{AskedOf}
 use Rattle.adapter.specs.Commands.{Meaning}
 use Rattle.adapter.specs.Device.{Device, Taken}
 use Rattle.adapter.specs.OneCommand.{IsFreeSlot}
@@ -12,11 +11,16 @@ use Rattle.adapter.specs.Steps.{Can}
 use Rattle.adapter.specs.Steps.Step.{Fetch, Done, Unplug}
 use Rattle.adapter.specs.declared.access.DeviceStep.{DeviceStep}
 use Rattle.adapter.specs.declared.access.DeviceStep.TheVariants as asked
-use Rattle.device_model.specs.Finishing.{HasMove, HasRoom, IsReady}
+use Rattle.device_model.specs.Disks.{disk_number, store_of}
+use Rattle.device_model.specs.Finishing.{HasMove, HasRoom, MayFinish}
 use Rattle.device_model.specs.Held.{held_after}
-use Rattle.device_model.specs.Modelled.{device_at, is_sure_at}
+use Rattle.device_model.specs.Modelled.{device_at}
 use Rattle.device_model.specs.Paged.{GainsPages, lying, no_lies}
+use Rattle.device_model.specs.Sent.{SendsEnd}
 use Rattle.device_model.specs.View.{Takes}
+use Rattle.device_model.specs.declared.disks.Inserted.{Inserted}
+use Rattle.device_model.specs.declared.disks.Which.{Which}
+use Rattle.device_model.specs.declared.disks.Which.TheVariants.{Disk0, Disk1}
 use Rattle.device_model.specs.declared.hardware.Hardware.{Hardware}
 use Rattle.device_model.specs.declared.model.Description.{Description}
 use Rattle.device_model.specs.declared.model.Model.{Model}
@@ -24,44 +28,54 @@ use Rattle.device_model.specs.declared.model.Model.{Model}
 -- ---- when a step is possible
 
 -- The step may be done now, memory to note it aside. There are ports 0 to 3 with slots 0 to 31, of which port 0 alone has disks; a page has
--- 512 bytes; and disk 0 alone can be put in. A Finish is possible where each of its moves is.
+-- 512 bytes; and disks 0 and 1 can be put in, where no disk is. A Finish is possible where each of its moves is.
 abbrev pub Possible : DeviceStep → Device → Type 0
 Possible (asked.Fetch p s) d =
     (p.0 < 4) × (s.0 < 32) × (meaning : Meaning) × (places : List ℕ) × Takes meaning.operation × Can (Fetch p.0 s.0 meaning places) d
 Possible (asked.Move p s) d = (s.0 < 32) × (t : Taken) × HasMove d p.0 s.0 t
 Possible (asked.Done p s) d = (p.0 < 4) × (s.0 < 32) × (flag : ℕ) × (t : Taken) × Can (Done p.0 s.0 flag t) d
-Possible (asked.Finish p s) d = (p.0 ≡ 0) × (s.0 < 32) × (left : ℕ) × IsReady d p.0 s.0 (d.port 0).disk.size left
+Possible (asked.Finish p s) d = (p.0 ≡ 0) × (s.0 < 32) × (left : ℕ) × MayFinish d p.0 s.0 (d.port 0).disk.size left
 Possible (asked.Lie p page offset bits) d = offset < 512
 Possible (asked.Truth p) d = Unit {0}
 Possible (asked.Hold p) d = p.0 < 4
 Possible (asked.Release p) d = p.0 < 4
 Possible (asked.Unplug p) d = (p.0 ≡ 0) × Can (Unplug 0) d
-Possible (asked.Plug p number) d = (p.0 ≡ 0) × (number.0 ≡ 0) × ((d.port 0).present ≡ false)
+Possible (asked.Plug p number) d = (p.0 ≡ 0) × (number.0 < 2) × ((d.port 0).present ≡ false)
 
 -- Without growing, the tape has no room for what the step notes there, or, for a Plug, the list of the disks that were put in has none. A Finish notes
 -- each of its moves, and the end. The other steps note nothing.
-abbrev pub LacksMemory : {S : Type 0} → DeviceStep → Device → Hardware → Vec (Snapshot S) → Type 0
+abbrev pub LacksMemory : {S : Type 0} → DeviceStep → Device → Hardware → Vec (Inserted S) → Type 0
 LacksMemory (asked.Move p s) d h plugged = HasRoom h 1 → ⊥
 LacksMemory (asked.Done p s) d h plugged = HasRoom h 1 → ⊥
 LacksMemory (asked.Finish p s) d h plugged =
-    (left : ℕ) × IsReady d p.0 s.0 (d.port 0).disk.size left × (HasRoom h (left + 1) → ⊥)
+    (left : ℕ) × MayFinish d p.0 s.0 (d.port 0).disk.size left × (HasRoom h (left + 1) → ⊥)
 LacksMemory (asked.Unplug p) d h plugged = HasRoom h 1 → ⊥
 LacksMemory (asked.Plug p number) d h plugged = HasRoom h 1 → vec_len plugged < vec_capacity plugged → ⊥
 LacksMemory step d h plugged = ⊥
 
--- where the step moves sectors: no call on the stores fails, and each place of a memory of this size has an address of 32 bits
-abbrev pub IsServed : DeviceStep → Bool → ℕ → Type 0
-IsServed (asked.Move p s) sure size = (sure ≡ true) × (size ≤ 2 ^ 32)
-IsServed (asked.Finish p s) sure size = (sure ≡ true) × (size ≤ 2 ^ 32)
-IsServed step sure size = Unit {0}
+-- where the step moves sectors: no call on the store of the disk that is in fails, and each place of a memory of this size has an address of 32 bits
+abbrev pub StoreServes : DeviceStep → Bool → ℕ → Type 0
+StoreServes (asked.Move p s) sure size = (sure ≡ true) × (size ≤ 2 ^ 32)
+StoreServes (asked.Finish p s) sure size = (sure ≡ true) × (size ≤ 2 ^ 32)
+StoreServes step sure size = Unit {0}
 
 -- ---- what a step makes of a model
 
--- what disk 0 says of itself after a step: it lies once more, or not any more
+-- what the disks of port 0 say of themselves after a step: they lie once more, or not any more
 abbrev pub says_after : DeviceStep → Description → Description
 says_after (asked.Lie p page offset bits) says = if nat_eq p.0 0 then record says { lies = lying says.lies offset bits } else says
 says_after (asked.Truth p) says = if nat_eq p.0 0 then record says { lies = no_lies } else says
 says_after step says = says
+
+-- the disk that is in after a step, or was last: a disk that is put in
+abbrev pub which_after : DeviceStep → Which → Which
+which_after (asked.Plug p number) which = if nat_eq number.0 0 then Disk0 else Disk1
+which_after step which = which
+
+-- the step puts this disk in
+abbrev pub PutsIn : Which → DeviceStep → Type 0
+PutsIn which (asked.Plug p number) = number.0 ≡ disk_number which
+PutsIn which step = ⊥
 
 -- the step moves no sector
 abbrev pub MovesNone : DeviceStep → Type 0
@@ -69,11 +83,12 @@ MovesNone (asked.Move p s) = ⊥
 MovesNone (asked.Finish p s) = ⊥
 MovesNone step = Unit {0}
 
--- What no step changes: disk 1, how many sectors disk 0 has and whether its calls may fail, the queue, and the count of the accesses.
-pub record Keeps {S : Type 0} (size : S → ℕ) (is_sure : S → Bool) (old new : Model S) : Type 0 where
-  pub disk1 : new.disk1 ≡ old.disk1
-  pub sectors : size new.disk0 ≡ size old.disk0
-  pub sure : is_sure new.disk0 ≡ is_sure old.disk0
+-- What no step changes: the disk that isn't in, or wasn't last; of each disk how many sectors it has, and whether its calls may fail; the queue; and the
+-- count of the accesses.
+pub record StepKeeps {S : Type 0} (size : S → ℕ) (is_sure : S → Bool) (old new : Model S) : Type 0 where
+  pub out : (which : Which) → which ≢ old.which → store_of new which ≡ store_of old which
+  pub sectors : (which : Which) → size (store_of new which) ≡ size (store_of old which)
+  pub sure : (which : Which) → is_sure (store_of new which) ≡ is_sure (store_of old which)
   pub queue : new.queue ≡ old.queue
   pub accesses : new.accesses ≡ old.accesses
 
@@ -82,43 +97,48 @@ abbrev pub EndsIt : DeviceStep → Device → Type 0
 EndsIt (asked.Finish p s) d = IsFreeSlot (d.port p.0) s.0
 EndsIt step d = Unit {0}
 
--- A step that is done: the device did what it was asked. The ports are held that are held after it; disk 0 says of itself what it says after
--- it, and each page that the tape has gained is as it said before; and that nothing was left out for want of memory is told as it was.
+-- A step that is done: the device did what it was asked, and sent the FIS of a command that ended. The ports are held that are held after it; the disk
+-- is in, or was last, that is after it, and each disk has the sectors that it had, but where a sector is moved; the disks say of themselves what they
+-- say after it, and each page that the tape has gained is as the one that was in said before; and that nothing was left out for want of memory is told
+-- as it was.
 pub record Did {S : Type 0} (size : S → ℕ) (told : S → Option (ℕ → List ℕ)) (is_sure : S → Bool) (s : DeviceStep) (old new : Model S) : Type 0 where
-  pub asked : Asked s (device_at size told old) (device_at size told new)
-  pub ends : IsServed s (is_sure_at is_sure old) (length old.hardware.memory.items) → EndsIt s (device_at size told new)
+  pub asked : AskedOf SendsEnd s (device_at size told old) (device_at size told new)
+  pub ends : StoreServes s (is_sure old.disk) (length old.hardware.memory.items) → EndsIt s (device_at size told new)
   pub held : new.held ≡ held_after s old.held
   pub says : new.says ≡ says_after s old.says
+  pub which : new.which ≡ which_after s old.which
   pub pages : GainsPages size old new
-  pub disk0 : MovesNone s → new.disk0 ≡ old.disk0
-  pub keeps : Keeps size is_sure old new
+  pub disks : MovesNone s → (which : Which) → store_of new which ≡ store_of old which
+  pub keeps : StepKeeps size is_sure old new
   pub starved : new.hardware.starved ≡ old.hardware.starved
 
 -- A step that is left: nothing is another, but a store that fails, and that want of memory may be told now. A step that is possible, and served, is
 -- left only where there was no room to note it without growing, and that is told as want of memory. It is told where it was, and else only where the
 -- step was possible and there was no such room.
-pub record IsLeft {S : Type 0} (size : S → ℕ) (told : S → Option (ℕ → List ℕ)) (is_sure : S → Bool) (s : DeviceStep) (old new : Model S) : Type 0 where
+pub record IsLeftOut {S : Type 0} (size : S → ℕ) (told : S → Option (ℕ → List ℕ)) (is_sure : S → Bool) (s : DeviceStep) (old new : Model S) : Type 0 where
   pub device : device_at size told new ≡ device_at size told old
   pub held : new.held ≡ old.held
   pub says : new.says ≡ old.says
-  pub disk0 : MovesNone s → new.disk0 ≡ old.disk0
-  pub keeps : Keeps size is_sure old new
-  pub why : IsServed s (is_sure_at is_sure old) (length old.hardware.memory.items) → Possible s (device_at size told old) →
+  pub which : new.which ≡ old.which
+  pub disks : MovesNone s → (which : Which) → store_of new which ≡ store_of old which
+  pub keeps : StepKeeps size is_sure old new
+  pub why : StoreServes s (is_sure old.disk) (length old.hardware.memory.items) → Possible s (device_at size told old) →
       LacksMemory s (device_at size told old) old.hardware old.plugged × (new.hardware.starved ≡ true)
   pub told_on : old.hardware.starved ≡ true → new.hardware.starved ≡ true
   pub told_since : new.hardware.starved ≡ true → (old.hardware.starved ≡ true)
       ⊎ (Possible s (device_at size told old) × LacksMemory s (device_at size told old) old.hardware old.plugged)
 
 -- what a model makes of a step that it is told: it answers `true` where it was possible and is done, and `false` where it is left
-abbrev pub Answers : {S : Type 0} → (S → ℕ) → (S → Option (ℕ → List ℕ)) → (S → Bool) → DeviceStep → Bool → Model S → Model S → Type 0
-Answers size told is_sure s true old new = Possible s (device_at size told old) × Did size told is_sure s old new
-Answers size told is_sure s false old new = IsLeft size told is_sure s old new
+abbrev pub AnswersStep : {S : Type 0} → (S → ℕ) → (S → Option (ℕ → List ℕ)) → (S → Bool) → DeviceStep → Bool → Model S → Model S → Type 0
+AnswersStep size told is_sure s true old new = Possible s (device_at size told old) × Did size told is_sure s old new
+AnswersStep size told is_sure s false old new = IsLeftOut size told is_sure s old new
 
--- What the model does by itself leaves: which ports are held, what disk 0 says of itself, as each page tells that the tape has gained, and what no
--- step changes. What was told of want of memory stays told.
+-- What the model does by itself leaves: which ports are held, which disk is in, what the disks say of themselves, as each page tells that the tape
+-- has gained, and what no step changes. What was told of want of memory stays told.
 pub record GoesOnSo {S : Type 0} (size : S → ℕ) (is_sure : S → Bool) (old new : Model S) : Type 0 where
   pub held : new.held ≡ old.held
   pub says : new.says ≡ old.says
+  pub which : new.which ≡ old.which
   pub pages : GainsPages size old new
-  pub keeps : Keeps size is_sure old new
+  pub keeps : StepKeeps size is_sure old new
   pub told_on : old.hardware.starved ≡ true → new.hardware.starved ≡ true

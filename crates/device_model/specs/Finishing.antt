@@ -55,7 +55,7 @@ pub record IsGoing (d : Device) (port slot sectors left : ℕ) : Type 0 where
   pub works : WorksOn (d.port port) slot t t.meaning.operation
 
 -- the same, or the command isn't taken yet, and may be
-pub record IsReady (d : Device) (port slot sectors left : ℕ) : Type 0 where
+pub record MayFinish (d : Device) (port slot sectors left : ℕ) : Type 0 where
   pub t : Taken
   pub takes : Takes t.meaning.operation
   pub covered : IsCovered t d.size sectors left
@@ -64,6 +64,6 @@ pub record IsReady (d : Device) (port slot sectors left : ℕ) : Type 0 where
 -- port 0 has an IDENTIFY DEVICE in this slot, taken or not, which can be done to its end; its pieces have addresses of 32 bits
 pub record HasIdentify (d : Device) (slot : ℕ) : Type 0 where
   pub left : ℕ
-  pub ready : IsReady d 0 slot 0 left
+  pub ready : MayFinish d 0 slot 0 left
   pub identifies : ready.t.meaning.operation ≡ Identify
   pub low : AreInside (2 ^ 32) ready.t.places

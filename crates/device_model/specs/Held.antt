@@ -3,12 +3,12 @@ use Rattle.std.specs.Prelude.{ℕ, Bool, true, false, ◌≡◌, List, replicate
 use Rattle.adapter.specs.declared.access.DeviceStep.{DeviceStep}
 use Rattle.adapter.specs.declared.access.DeviceStep.TheVariants.{Hold, Release}
 
-abbrev pub IsHeld : List Bool → ℕ → Type 0
-IsHeld held port = slice_index_or held port false ≡ true
+abbrev pub IsPortHeld : List Bool → ℕ → Type 0
+IsPortHeld held port = slice_index_or held port false ≡ true
 
 -- the model goes on by itself on this port
-abbrev pub IsLoose : List Bool → ℕ → Type 0
-IsLoose held port = slice_index_or held port false ≡ false
+abbrev pub IsPortLoose : List Bool → ℕ → Type 0
+IsPortLoose held port = slice_index_or held port false ≡ false
 
 abbrev pub all_held : List Bool
 all_held = replicate 4 true

@@ -1,9 +1,11 @@
 pub mod Bits
+pub mod Disks
 pub mod View
 pub mod Whole
 pub mod Fetched
 pub mod Slots
 pub mod Held
+pub mod Sent
 pub mod Settled
 pub mod Modelled
 pub mod Finishing

@@ -5,10 +5,12 @@ use Rattle.adapter.specs.Device.{Device}
 use Rattle.adapter.specs.declared.access.DeviceStep.{DeviceStep}
 use Rattle.adapter.specs.Access.{Shows, noted}
 use Rattle.hba_regs.specs.declared.reg.Reg.{Reg}
-use Rattle.device_model.specs.Does.{Answers, Keeps}
+use Rattle.device_model.specs.Disks.{store_of}
+use Rattle.device_model.specs.Does.{AnswersStep, StepKeeps}
 use Rattle.device_model.specs.Paged.{GainsPages}
 use Rattle.device_model.specs.Settled.{DoesOwn, EndsReset, LeavesOne}
 use Rattle.device_model.specs.Modelled.{device_at}
+use Rattle.device_model.specs.declared.disks.Which.{Which}
 use Rattle.device_model.specs.declared.model.Model.{Model}
 use Rattle.device_model.specs.declared.model.Queued.{Queued}
 
@@ -24,11 +26,11 @@ not_due access queue = filter (λ q. nat_lt access q.access) queue
 abbrev pub DoesEach : {S : Type 0} → (S → ℕ) → (S → Option (ℕ → List ℕ)) → (S → Bool) → List DeviceStep → Model S → Model S → Type 0
 DoesEach size told is_sure [] old new = new ≡ old
 DoesEach {S} size told is_sure (s ∷ steps) old new =
-    (answer : Bool) × (mid : Model S) × Answers size told is_sure s answer old mid × DoesEach size told is_sure steps mid new
+    (answer : Bool) × (mid : Model S) × AnswersStep size told is_sure s answer old mid × DoesEach size told is_sure steps mid new
 
 -- What each access begins with: it is counted, the steps that were queued before it leave the queue, where the others wait on as they were, and
 -- each of those is done, in their order, or left.
-pub record Begins {S : Type 0} (size : S → ℕ) (told : S → Option (ℕ → List ℕ)) (is_sure : S → Bool) (old new : Model S) : Type 0 where
+pub record BeginsAccess {S : Type 0} (size : S → ℕ) (told : S → Option (ℕ → List ℕ)) (is_sure : S → Bool) (old new : Model S) : Type 0 where
   pub counted : new.accesses ≡ min (old.accesses + 1) (2 ^ 64 - 1)
   pub waiting : new.queue.items ≡ not_due new.accesses old.queue.items
   pub does : DoesEach size told is_sure (due new.accesses old.queue.items) (record old { accesses = new.accesses; queue = new.queue }) new
@@ -37,17 +39,17 @@ pub record Begins {S : Type 0} (size : S → ℕ) (told : S → Option (ℕ → 
 -- want of memory.
 pub record DoesThen {S : Type 0} (size : S → ℕ) (told : S → Option (ℕ → List ℕ)) (is_sure : S → Bool) (effect : Device → Device) (old new : Model S) : Type 0 where
   pub mid : Model S
-  pub begins : Begins size told is_sure old mid
+  pub begins : BeginsAccess size told is_sure old mid
   pub effect_is : device_at size told new ≡ effect (device_at size told mid)
   pub rest : new ≡ record mid { hardware = new.hardware }
   pub starved : new.hardware.starved ≡ mid.hardware.starved
 
 -- A reading begins so, too. Then a pending reset may end, and the model's own steps are done; and the value is what the register shows then. Of the rest
--- of the model nothing is another, but which ports are held where a reset ended. Each page that the tape has gained is as disk 0 says of itself. Want of
--- memory is told on where it was, and else only where an IDENTIFY DEVICE is left for it.
+-- of the model nothing is another, but which ports are held where a reset ended. Each page that the tape has gained is as the disk that is in says of
+-- itself. Want of memory is told on where it was, and else only where an IDENTIFY DEVICE is left for it.
 pub record DoesRead {S : Type 0} (size : S → ℕ) (told : S → Option (ℕ → List ℕ)) (is_sure : S → Bool) (r : Reg) (value : ℕ) (old new : Model S) : Type 0 where
   pub mid : Model S
-  pub begins : Begins size told is_sure old mid
+  pub begins : BeginsAccess size told is_sure old mid
   pub reset : Device
   pub ends : EndsReset mid.held new.held (device_at size told mid) reset
   pub last : Device
@@ -56,7 +58,8 @@ pub record DoesRead {S : Type 0} (size : S → ℕ) (told : S → Option (ℕ �
   pub effect : device_at size told new ≡ noted r value last
   pub says : new.says ≡ mid.says
   pub pages : GainsPages size mid new
-  pub disk0 : new.disk0 ≡ mid.disk0
-  pub keeps : Keeps size is_sure mid new
+  pub which : new.which ≡ mid.which
+  pub disks : (which : Which) → store_of new which ≡ store_of mid which
+  pub keeps : StepKeeps size is_sure mid new
   pub told_on : mid.hardware.starved ≡ true → new.hardware.starved ≡ true
   pub told_since : new.hardware.starved ≡ true → (mid.hardware.starved ≡ true) ⊎ LeavesOne new.hardware last

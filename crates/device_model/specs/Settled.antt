@@ -1,29 +1,35 @@
 -- What a model does by itself before a register is read (this project's own).
-use Rattle.std.specs.Prelude.{ℕ, Bool, true, false, ◌≡◌, ◌≢◌, ◌+◌, ◌<◌, ◌⊎◌, List, All}
+use Rattle.std.specs.Prelude.{ℕ, Bool, true, false, ◌≡◌, ◌≢◌, ◌+◌, ◌<◌, ◌⊎◌, List, [], ◌∷◌, All}
 use Rattle.adapter.specs.Device.{PortState, Device}
-use Rattle.adapter.specs.Steps.{Step, Can, MayLinkUp, Leads, after, with_port}
+use Rattle.adapter.specs.Steps.{Step, Can, MayLinkUp, after, with_port}
 use Rattle.adapter.specs.Steps.Step.{Fetch, Move, Done, Fall, FrFall, LinkUp, ResetEnds}
 use Rattle.adapter.specs.declared.command.Operation.TheVariants.{Identify}
 use Rattle.device_model.specs.Finishing.{HasIdentify, HasRoom}
-use Rattle.device_model.specs.Held.{IsHeld, IsLoose, all_held, none_held}
+use Rattle.device_model.specs.Held.{IsPortHeld, IsPortLoose, all_held, none_held}
+use Rattle.device_model.specs.Sent.{SendsAfter}
 use Rattle.device_model.specs.declared.hardware.Hardware.{Hardware}
 
 -- A step that the model does by itself, while these ports are held. On the others CR and FR fall, the link comes up with the signature of an ATA disk,
 -- N and X, and IDENTIFY DEVICE is taken, moved and ended.
 abbrev pub IsOwn : List Bool → Step → Type 0
-IsOwn held (Fall port) = IsLoose held port
-IsOwn held (FrFall port) = IsLoose held port
-IsOwn held (LinkUp port sig n) = IsLoose held port × (sig ≡ 0x101) × (n ≡ true)
-IsOwn held (Fetch port slot meaning places) = IsLoose held port × (meaning.operation ≡ Identify)
-IsOwn held (Move port slot t bytes) = IsLoose held port × (t.meaning.operation ≡ Identify)
-IsOwn held (Done port slot flag t) = IsLoose held port × (t.meaning.operation ≡ Identify)
+IsOwn held (Fall port) = IsPortLoose held port
+IsOwn held (FrFall port) = IsPortLoose held port
+IsOwn held (LinkUp port sig n) = IsPortLoose held port × (sig ≡ 0x101) × (n ≡ true)
+IsOwn held (Fetch port slot meaning places) = IsPortLoose held port × (meaning.operation ≡ Identify)
+IsOwn held (Move port slot t bytes) = IsPortLoose held port × (t.meaning.operation ≡ Identify)
+IsOwn held (Done port slot flag t) = IsPortLoose held port × (t.meaning.operation ≡ Identify)
 IsOwn held step = ⊥
 
--- such steps, and no others, lead from the one state to the other
+-- steps one after another, each with the FIS that is sent after it
+abbrev pub LeadsSending : List Step → Device → Device → Type 0
+LeadsSending [] old new = new ≡ old
+LeadsSending (step ∷ steps) old new = Can step old × (mid : Device) × SendsAfter step (after step old) mid × LeadsSending steps mid new
+
+-- such steps with their FISes, and no others, lead from the one state to the other
 pub record DoesOwn (held : List Bool) (old new : Device) : Type 0 where
   pub steps : List Step
   pub own : All (IsOwn held) steps
-  pub lead : Leads steps old new
+  pub lead : LeadsSending steps old new
 
 -- A pending reset ends, and ends all holds, unless all ports are held.
 abbrev pub EndsReset : List Bool → List Bool → Device → Device → Type 0
@@ -32,7 +38,7 @@ EndsReset was held old new =
 
 -- in each device, and on each port that isn't held, such steps lead from the one state of the port to the other, and change nothing else
 abbrev pub GoesTo : PortState → PortState → Type 0
-GoesTo old new = (held : List Bool) (d : Device) (port : ℕ) → IsLoose held port → d.port port ≡ old → DoesOwn held d (with_port d port new)
+GoesTo old new = (held : List Bool) (d : Device) (port : ℕ) → IsPortLoose held port → d.port port ≡ old → DoesOwn held d (with_port d port new)
 
 -- CR and FR have fallen where ST and FRE are zero, and no link is left that may come up
 pub record IsSettledPort (p : PortState) : Type 0 where
@@ -44,14 +50,14 @@ pub record IsSettledPort (p : PortState) : Type 0 where
 -- port.
 pub record IsSettled (held : List Bool) (d : Device) : Type 0 where
   pub reset : Can ResetEnds d → held ≡ all_held
-  pub engines : (port : ℕ) → Can (Fall port) d → IsHeld held port
-  pub areas : (port : ℕ) → Can (FrFall port) d → IsHeld held port
-  pub links : (port sig : ℕ) (n : Bool) → Can (LinkUp port sig n) d → IsHeld held port
+  pub engines : (port : ℕ) → Can (Fall port) d → IsPortHeld held port
+  pub areas : (port : ℕ) → Can (FrFall port) d → IsPortHeld held port
+  pub links : (port sig : ℕ) (n : Bool) → Can (LinkUp port sig n) d → IsPortHeld held port
 
 -- No IDENTIFY DEVICE of port 0 that can be done to its end is left, in any of the slots 0 to 31, unless the port is held, or it is told that something was
 -- left out for want of memory.
 abbrev pub NoneIsLeft : List Bool → Bool → Device → Type 0
-NoneIsLeft held starved d = (slot : ℕ) → slot < 32 → HasIdentify d slot → IsHeld held 0 ⊎ (starved ≡ true)
+NoneIsLeft held starved d = (slot : ℕ) → slot < 32 → HasIdentify d slot → IsPortHeld held 0 ⊎ (starved ≡ true)
 
 -- one is left, for which the tape has no memory: each of its moves, and its end, would be noted there
 abbrev pub LeavesOne : Hardware → Device → Type 0

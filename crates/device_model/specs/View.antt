@@ -55,6 +55,11 @@ operation_of transfer.Read = Read
 operation_of transfer.Write = Write
 operation_of transfer.Identify = Identify
 
+-- the cause in PxIS that its end sets: PSS where its data go by PIO, and else DHRS (AHCI 1.3.1, 3.3.5)
+abbrev pub cause_of : Transfer → ℕ
+cause_of transfer.Identify = 1
+cause_of _ = 0
+
 abbrev pub taken_of : TakenCommand → Taken
 taken_of t =
     record {

@@ -32,9 +32,9 @@ device_of h o =
     }
 
 -- a register of the adapter, or of a port that is there
-abbrev pub HasPort : Reg → Type 0
-HasPort (Px port r) = port.0 < 4
-HasPort _ = Unit {0}
+abbrev pub HasRegister : Reg → Type 0
+HasRegister (Px port r) = port.0 < 4
+HasRegister _ = Unit {0}
 
 -- no disk, ever
 abbrev pub no_media : Media
@@ -44,11 +44,8 @@ no_media = record { disk = record { name = 0; size = 0; sectors = Some (λ k. []
 abbrev pub outside_plugged : Outside → Disk → Outside
 outside_plugged o disk = record o { media = changed o.media 0 (record { disk = disk; plugged = (o.media 0).plugged ++ disk ∷ [] }) }
 
-abbrev pub first_disk : ℕ → Option (ℕ → List ℕ) → Disk
-first_disk size told = record { name = 0; size = size; sectors = told }
-
--- Disk 0 has been in port 0 from the start; disk 1 has never been in. No other port has a disk. The adapter tells where
--- both disks do.
+-- Port 0 has this disk, which is in or was last, and those that were put in, the first of them first. No other port has a disk. The adapter tells
+-- where this disk and the other one of port 0 do.
 abbrev pub outside_of : (disk : Disk) (other : Option (ℕ → List ℕ)) (plugged : List Disk) → Outside
 outside_of disk other plugged =
     record {

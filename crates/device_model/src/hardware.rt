@@ -6,10 +6,10 @@ ghost use Rattle.adapter.specs.Device.{Device};
 ghost use Rattle.adapter.specs.Steps.{after, with_reset};
 ghost use Rattle.adapter.specs.Steps.Step.{ResetEnds};
 ghost use Rattle.hba_regs.specs.Bits.{bit};
-ghost use Rattle.device_model.specs.Held.{IsLoose, all_held};
+ghost use Rattle.device_model.specs.Held.{IsPortLoose, all_held};
 ghost use Rattle.device_model.specs.Settled.{DoesOwn, EndsReset, IsSettled, IsSettledPort};
 ghost use Rattle.device_model.specs.View.{Media, port_of, blank};
-ghost use Rattle.device_model.specs.Whole.{Outside, device_of, HasPort};
+ghost use Rattle.device_model.specs.Whole.{Outside, device_of, HasRegister};
 
 use crate::bits::bit_if;
 use crate::port::PortModel;
@@ -88,7 +88,7 @@ fn reset_all(ports: &mut [PortModel; 4])
 impl Hardware {
     /// What a register shows.
     pub fn shown(&self, r: Reg) -> u32
-        requires { HasPort r }
+        requires { HasRegister r }
         ensures { (o : Outside) → Shows r result (device_of self.now o) }
     {
         match r {
@@ -103,7 +103,7 @@ impl Hardware {
 
     /// Notes what a register showed.
     pub fn note(&mut self, r: Reg, value: u32)
-        requires { HasPort r }
+        requires { HasRegister r }
         ensures notes { (o : Outside) → device_of self.new o ≡ noted r value (device_of self.old o) }
         ensures tape { self.new.tape ≡ self.old.tape }
         ensures starved { self.new.starved ≡ self.old.starved }
@@ -125,7 +125,7 @@ impl Hardware {
 
     /// Writes a register.
     pub fn write(&mut self, r: Reg, value: u32)
-        requires { HasPort r }
+        requires { HasRegister r }
         ensures written { (o : Outside) → device_of self.new o ≡ written r value (device_of self.old o) }
         ensures starved { self.new.starved ≡ self.old.starved }
     {
@@ -187,10 +187,10 @@ impl Hardware {
         }
     }
 
-    /// What one port does by itself.
+    /// What one port does by itself: CR and FR fall where they may, and the link comes up, with the disk's first FIS.
     fn settle_port(&mut self, port: usize)
         requires { port < 4 }
-        ensures own { (o : Outside) (held : List Bool) → IsLoose held port → DoesOwn held (device_of self.old o) (device_of self.new o) }
+        ensures own { (o : Outside) (held : List Bool) → IsPortLoose held port → DoesOwn held (device_of self.old o) (device_of self.new o) }
         ensures settled { (o : Outside) → IsSettledPort ((device_of self.new o).port port) }
         ensures others { (o : Outside) (q : ℕ) → q ≢ port → (device_of self.new o).port q ≡ (device_of self.old o).port q }
         ensures number { length self.new.ports ≡ length self.old.ports }
@@ -199,6 +199,9 @@ impl Hardware {
         ensures starved { self.new.starved ≡ self.old.starved }
     {
         self.ports[port].settle();
+        if self.ports[port].link() {
+            self.send_signature(port);
+        }
     }
 
     /// What the adapter does by itself before a register is read: a pending reset ends unless all ports are held, and ends all holds;

@@ -1,17 +1,21 @@
 // Laws of the definitions, for callers: the clause is the theorem. These functions do nothing.
-ghost use Rattle.std.specs.Prelude.{◌≡◌, ◌<◌, true, is_some, ℕ, Bool, List};
+ghost use Rattle.std.specs.Prelude.{◌≡◌, ◌≢◌, ◌<◌, true, is_some, ℕ, Bool, List, All};
 ghost use Rattle.ata_types.specs.declared.Port.{Port};
 ghost use Rattle.ata_types.specs.declared.Slot.{Slot};
 ghost use Rattle.adapter.specs.Device.{Device, Taken};
 ghost use Rattle.adapter.specs.Idle.{TellsDisks};
 ghost use Rattle.adapter.specs.Steps.{Can};
 ghost use Rattle.adapter.specs.Steps.Step.{Move};
+ghost use Rattle.adapter.specs.declared.access.DeviceStep.{DeviceStep};
 ghost use Rattle.adapter.specs.declared.access.DeviceStep.TheVariants as asked;
-ghost use Rattle.device_model.specs.Does.{Possible};
+ghost use Rattle.device_model.specs.Disks.{store_of};
+ghost use Rattle.device_model.specs.Does.{Possible, PutsIn};
 ghost use Rattle.device_model.specs.Finishing.{HasDisk};
-ghost use Rattle.device_model.specs.Held.{IsHeld};
+ghost use Rattle.device_model.specs.Held.{IsPortHeld};
 ghost use Rattle.device_model.specs.Modelled.{device_at};
+ghost use Rattle.device_model.specs.Queue.{DoesEach};
 ghost use Rattle.device_model.specs.Settled.{DoesOwn};
+ghost use Rattle.device_model.specs.declared.disks.Which.{Which};
 
 use crate::Model;
 use sector_store::SectorStore;
@@ -29,7 +33,14 @@ pub fn moves_are_possible<S: SectorStore>()
         Can (Move p.0 slot.0 t bytes) (device_at S.size S.told m) → Possible (asked.Move p slot) (device_at S.size S.told m) }
 {}
 
+/// Whatever steps are done or left, one after another, that don't put a disk in which isn't in: it stays out, with the sectors that it had. So it has
+/// these where it is put in.
+pub fn disks_that_are_out_stay<S: SectorStore>()
+    ensures { (steps : List DeviceStep) (old new : Model S) (which : Which) → which ≢ old.which → All (λ s. PutsIn which s → ⊥) steps →
+        DoesEach S.size S.told S.is_sure steps old new → (which ≢ new.which) × (store_of new which ≡ store_of old which) }
+{}
+
 /// What a model does by itself leaves a held port as it is.
 pub fn held_ports_stay()
-    ensures { (held : List Bool) (old new : Device) (port : ℕ) → IsHeld held port → DoesOwn held old new → new.port port ≡ old.port port }
+    ensures { (held : List Bool) (old new : Device) (port : ℕ) → IsPortHeld held port → DoesOwn held old new → new.port port ≡ old.port port }
 {}

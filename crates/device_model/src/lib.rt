@@ -1,16 +1,18 @@
-//! A modelled AHCI adapter: registers, memory, and one disk over a store of sectors. Its device does what it is told,
+//! A modelled AHCI adapter: registers, memory, and two disks for port 0, each over a store of sectors. Its device does what it is told,
 //! and by itself ends a reset, lets engines fall, brings the link up, and does IDENTIFY DEVICE, but not on a port that is
 //! held. For now it takes READ DMA EXT, WRITE DMA EXT and IDENTIFY DEVICE alone.
 #![tactic(auto)]
 
 mod bits;
 mod config;
+mod disks;
 mod fetch;
 mod hardware;
 pub mod laws;
 mod model;
 mod port;
 mod registers;
+mod sending;
 mod settling;
 mod slots;
 mod steps;

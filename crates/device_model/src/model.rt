@@ -1,9 +1,8 @@
 // The model as an adapter.
-ghost use Rattle.std.specs.Prelude.{◌≡◌, ◌≢◌, ◌↔◌, ◌<◌, ◌≤◌, ◌+◌, ◌-◌, ◌*◌, ◌^◌, ◌⊎◌, ◌++◌, ◌∷◌, [], ℕ, Bool, List, true, false, is_some, Some, ◌&&◌, min, max, map, length, slice_set, IsTrue, IfSome, IfOk, OnOk, OnErr};
+ghost use Rattle.std.specs.Prelude.{◌≡◌, ◌≢◌, ◌↔◌, ◌<◌, ◌≤◌, ◌+◌, ◌-◌, ◌*◌, ◌^◌, ◌⊎◌, ◌++◌, ◌∷◌, [], ℕ, Bool, List, true, false, is_some, Some, ◌&&◌, min, max, map, length, slice_index, slice_set, IsTrue, IfSome, IfOk, OnOk, OnErr};
 ghost use Rattle.std.specs.Vec.{vec_len, vec_capacity};
 ghost use Rattle.adapter.specs.Commands.{is_ranged};
 ghost use Rattle.adapter.specs.Device.{Disk, IsSector, Taken};
-ghost use Rattle.adapter.specs.Idle.{IsIdle, IsSane};
 ghost use Rattle.adapter.specs.Access.{Reads, Writes, Loads, Stores, written};
 ghost use Rattle.adapter.specs.Memory.{bytes_at, patched};
 ghost use Rattle.adapter.specs.Rules.{MayRead, MayWrite, IsFree, Stays};
@@ -12,18 +11,18 @@ ghost use Rattle.adapter.specs.Asked.{Asked};
 ghost use Rattle.device_model.specs.Fetched.{bytes_of};
 ghost use Rattle.adapter.specs.declared.command.Operation.TheVariants.{Identify};
 ghost use Rattle.adapter.specs.OneCommand.{IsFreeSlot};
+ghost use Rattle.device_model.specs.Disks.{disk_over, store_of};
 ghost use Rattle.device_model.specs.Finishing.{HasIdentify, HasMove, HasRoom};
-ghost use Rattle.device_model.specs.Paged.{IsItsPage, IsTurned, no_lies};
-ghost use Rattle.device_model.specs.Does.{Answers, GoesOnSo};
+ghost use Rattle.device_model.specs.Paged.{IsItsPage, IsTurned};
+ghost use Rattle.device_model.specs.Does.{AnswersStep, GoesOnSo};
 ghost use Rattle.device_model.specs.Tells.{disks_told};
-ghost use Rattle.device_model.specs.Queue.{Begins, DoesRead, DoesThen};
-ghost use Rattle.device_model.specs.Modelled.{device_at, cap_of, is_sure_at, IsNew};
-ghost use Rattle.device_model.specs.Held.{none_held};
+ghost use Rattle.device_model.specs.Queue.{BeginsAccess, DoesRead, DoesThen};
+ghost use Rattle.device_model.specs.Modelled.{device_at, cap_of, IsNewModel};
 ghost use Rattle.device_model.specs.Settled.{DoesOwn, IsSettled, LeavesOne, NoneIsLeft};
 ghost use Rattle.device_model.specs.View.{Takes, operation_of};
-ghost use Rattle.device_model.specs.Whole.{first_disk};
 
 use crate::config::{ModelConfig, NoMemory};
+use crate::disks::{Inserted, Which};
 use crate::hardware::{Hardware, PORTS};
 use crate::port::{PortModel, Transfer};
 use crate::steps::NextMove;
@@ -31,8 +30,9 @@ use adapter::{Adapter, DeviceStep, DiskNumber, DiskPage, Entry, Stepped};
 use ata_types::{FEWEST_FRAMES, FRAME_BYTES, MOST_FRAMES, Port, Slot};
 use hba_regs::Reg;
 use sector_store::SectorStore;
-use sector_store::pages::{Abilities, identify_page};
+use sector_store::pages::Abilities;
 use std::alloc::Global;
+use std::mem;
 use std::snapshot::Snapshot;
 
 const PAGE_BYTES: usize = 512;
@@ -44,26 +44,30 @@ struct Queued {
     step: DeviceStep,
 }
 
-/// What a disk says of itself by its page of IDENTIFY DEVICE, beside its size.
+/// What the disks of port 0 say of themselves by their pages of IDENTIFY DEVICE, beside their sizes and serial numbers.
 #[derive(Clone, Copy, Debug)]
 pub struct Description {
     pub abilities: Abilities,
-    /// The bits of the page that are turned.
+    /// The bits of a page that are turned.
     pub lies: [u8; PAGE_BYTES],
 }
 
-/// A modelled adapter. Port 0 has a disk over the first store; the others of ports 0 to 3 that there are have no device. Of
-/// all commands it takes READ DMA EXT, WRITE DMA EXT and IDENTIFY DEVICE alone: a step on another one answers `false`. Disk 0 can be
-/// taken out and put in again; disk 1 can't be put in for now.
+/// A modelled adapter. Port 0 has disk 0 at first, over the first store; it can be taken out, and put in again, or disk 1 in its place, over the
+/// second one. The others of ports 0 to 3 that there are have no device. Of all commands it takes READ DMA EXT, WRITE DMA EXT and IDENTIFY
+/// DEVICE alone: a step on another one answers `false`.
 #[derive(Drop)]
 pub struct Model<S> {
     hardware: Hardware,
-    disk0: S,
-    disk1: S,
-    /// What the page of port 0's disk says of it.
+    /// Which disk is in port 0, or was last.
+    which: Which,
+    /// The sectors of that disk.
+    disk: S,
+    /// The sectors of the other one.
+    other: S,
+    /// What the pages of both say of them.
     says: Description,
-    /// Disk 0 as it was each time when it was plugged in, for proofs alone.
-    plugged: Vec<Snapshot<S>>,
+    /// The disks that were put in, the first of them first, for proofs alone.
+    plugged: Vec<Inserted<S>>,
     /// On which of ports 0 to 3 it does nothing by itself.
     held: [bool; PORTS],
     /// In the order in which they were queued.
@@ -73,23 +77,14 @@ pub struct Model<S> {
 }
 
 impl<S: SectorStore> Model<S> {
-    /// An adapter as after its reset, with the ports that are asked for, memory of zeros, and the disks 0 and 1 of port 0.
-    /// Disk 0 is plugged in. It tells its disks' sectors where both stores do.
+    /// An adapter as after its reset, with the ports that are asked for, memory of zeros, and disks 0 and 1 for port 0, of which disk 0 is in. It
+    /// tells its disks' sectors where both stores do.
     pub fn new(alloc: Global, config: ModelConfig, disk0: S, disk1: S) -> Result<Model<S>, NoMemory>
         requires frames { (FEWEST_FRAMES ≤ config.frames) × (config.frames ≤ MOST_FRAMES) }
         requires ports { (1 ≤ config.pi) × (config.pi ≤ 15) }
         requires slots { (1 ≤ config.slots) × (config.slots ≤ 32) }
         requires depth { (1 ≤ config.depth) × (config.depth ≤ 32) }
-        ensures idle { IfOk result (λ m. IsIdle (device_at S.size S.told m)) }
-        ensures sane { IfOk result (λ m. IsSane (device_at S.size S.told m)) }
-        ensures telling { IfOk result (λ m. (device_at S.size S.told m).telling ≡ (is_some (S.told disk0) && is_some (S.told disk1))) }
-        ensures sure { IfOk result (λ m. is_sure_at S.is_sure m ≡ (S.is_sure disk0 && S.is_sure disk1)) }
-        ensures made { IfOk result (λ m. IsNew config (S.size disk0) (S.told disk0) (device_at S.size S.told m)) }
-        ensures held { IfOk result (λ m. m.held ≡ none_held) }
-        ensures queue { IfOk result (λ m. (m.queue.items ≡ []) × (m.accesses ≡ 0)) }
-        ensures disks { IfOk result (λ m. (m.disk0 ≡ disk0) × (m.disk1 ≡ disk1)) }
-        ensures sated { IfOk result (λ m. m.hardware.starved ≡ false) }
-        ensures says { IfOk result (λ m. m.says ≡ record { abilities = record { ncq = config.ncq; depth = config.depth; trim = config.trim }; lies = no_lies }) }
+        ensures { IfOk result (IsNewModel S.size S.told config disk0 disk1) }
     {
         let hardware = Hardware {
             memory: vec![in alloc; 0u8; FRAME_BYTES as usize * usize::from(config.frames)]?,
@@ -108,7 +103,7 @@ impl<S: SectorStore> Model<S> {
             starved: false,
         };
         let mut plugged = Vec::with_capacity(alloc, 1)?;
-        remember(&mut plugged, &disk0);
+        remember(&mut plugged, Which::Disk0, &disk0);
         Ok(Model {
             hardware,
             says: Description {
@@ -120,8 +115,9 @@ impl<S: SectorStore> Model<S> {
                 lies: [0; PAGE_BYTES],
             },
             plugged,
-            disk0,
-            disk1,
+            which: Which::Disk0,
+            disk: disk0,
+            other: disk1,
             held: [false; PORTS],
             queue: Vec::new(alloc),
             accesses: 0,
@@ -133,6 +129,13 @@ impl<S: SectorStore> Model<S> {
         ensures { result.now ≡ (device_at S.size S.told self.now).tape }
     {
         self.hardware.tape.as_slice()
+    }
+
+    /// What the memory holds, from address 0 on.
+    pub fn memory(&self) -> &[u8]
+        ensures { (at : ℕ) → slice_index result.now at ≡ (device_at S.size S.told self.now).memory at }
+    {
+        self.hardware.memory.as_slice()
     }
 
     /// Whether a step of the device, one that was asked for, that was queued or that the model does by itself, was left out since memory to note
@@ -159,7 +162,7 @@ impl<S: SectorStore> Model<S> {
 
     /// Takes the command that is issued in a slot, if it is one that the model takes.
     fn fetch(&mut self, port: Port, slot: Slot) -> bool
-        ensures { Answers S.size S.told S.is_sure (DeviceStep.Fetch port slot) result self.old self.new }
+        ensures { AnswersStep S.size S.told S.is_sure (DeviceStep.Fetch port slot) result self.old self.new }
     {
         if port.0 >= 4 || slot.0 >= 32 {
             return false;
@@ -169,7 +172,7 @@ impl<S: SectorStore> Model<S> {
 
     /// Ends a slot's command, all of which was moved.
     fn done(&mut self, port: Port, slot: Slot) -> bool
-        ensures { Answers S.size S.told S.is_sure (DeviceStep.Done port slot) result self.old self.new }
+        ensures { AnswersStep S.size S.told S.is_sure (DeviceStep.Done port slot) result self.old self.new }
     {
         if port.0 >= 4 || slot.0 >= 32 {
             return false;
@@ -179,36 +182,52 @@ impl<S: SectorStore> Model<S> {
 
     /// Takes the disk out of port 0, which alone has one.
     fn unplug(&mut self, port: Port) -> bool
-        ensures { Answers S.size S.told S.is_sure (DeviceStep.Unplug port) result self.old self.new }
+        ensures { AnswersStep S.size S.told S.is_sure (DeviceStep.Unplug port) result self.old self.new }
     {
         port.0 == 0 && self.hardware.unplug()
     }
 
-    /// Puts disk 0 into port 0 again.
-    fn plug(&mut self, port: Port, disk: DiskNumber) -> bool
-        ensures { Answers S.size S.told S.is_sure (DeviceStep.Plug port disk) result self.old self.new }
+    /// Has a disk stand as that of port 0. It has the sectors that it had.
+    fn turn_to(&mut self, which: Which)
+        ensures which { self.new.which ≡ which }
+        ensures disks { (w : Which) → store_of self.new w ≡ store_of self.old w }
+        ensures rest { self.new ≡ record self.old { which = self.new.which; disk = self.new.disk; other = self.new.other } }
     {
-        if port.0 != 0 || disk.0 != 0 || self.hardware.ports[0].present {
+        if self.which != which {
+            mem::swap(&mut self.disk, &mut self.other);
+            self.which = which;
+        }
+    }
+
+    /// Puts a disk into port 0, as it was when it was taken out.
+    fn plug(&mut self, port: Port, disk: DiskNumber) -> bool
+        ensures { AnswersStep S.size S.told S.is_sure (DeviceStep.Plug port disk) result self.old self.new }
+    {
+        let Some(which) = Which::of(disk) else {
+            return false;
+        };
+        if port.0 != 0 || self.hardware.ports[0].present {
             return false;
         }
         if self.plugged.reserve(1).is_err() {
             self.hardware.starved = true;
             return false;
         }
-        if !self.hardware.plug() {
+        if !self.hardware.plug(which.number()) {
             return false;
         }
-        remember(&mut self.plugged, &self.disk0);
+        self.turn_to(which);
+        remember(&mut self.plugged, which, &self.disk);
         true
     }
 
     /// Moves the next piece of a slot's command. The memory is taken to end at 4 GiB.
     fn move_piece(&mut self, port: Port, slot: Slot) -> bool
         requires { slot.0 < 32 }
-        ensures answers { Answers S.size S.told S.is_sure (DeviceStep.Move port slot) result self.old self.new }
+        ensures answers { AnswersStep S.size S.told S.is_sure (DeviceStep.Move port slot) result self.old self.new }
         ensures left { (n : ℕ) → HasRoom self.old.hardware (n + 1) → HasRoom self.new.hardware n }
         ensures page { (t : Taken) → ((device_at S.size S.told self.old).port port.0).taken slot.0 ≡ Some t → t.meaning.operation ≡ Identify →
-            (self.new.disk0 ≡ self.old.disk0) × (result ≡ false → HasMove (device_at S.size S.told self.old) port.0 slot.0 t → next_place t < 2 ^ 32 →
+            (self.new.disk ≡ self.old.disk) × (result ≡ false → HasMove (device_at S.size S.told self.old) port.0 slot.0 t → next_place t < 2 ^ 32 →
             HasRoom self.old.hardware 1 → ⊥) }
     {
         // No other port has a disk.
@@ -221,14 +240,15 @@ impl<S: SectorStore> Model<S> {
             return false;
         };
         if !room {
-            if next.is_on(self.disk0.sectors()) {
+            if next.is_on(self.disk.sectors()) {
                 self.hardware.starved = true;
             }
             return false;
         }
         let mut bytes = [0; 512];
         if !exchange(
-            &mut self.disk0,
+            &mut self.disk,
+            self.which,
             &self.hardware,
             &self.says,
             next,
@@ -244,16 +264,16 @@ impl<S: SectorStore> Model<S> {
     /// that fails cuts it short.
     fn finish(&mut self, port: Port, slot: Slot) -> bool
         requires { slot.0 < 32 }
-        ensures answers { Answers S.size S.told S.is_sure (DeviceStep.Finish port slot) result self.old self.new }
+        ensures answers { AnswersStep S.size S.told S.is_sure (DeviceStep.Finish port slot) result self.old self.new }
         ensures identifies { port.0 ≡ 0 → (has : HasIdentify (device_at S.size S.told self.old) slot.0) →
             (result ≡ true → IsFreeSlot ((device_at S.size S.told self.new).port 0) slot.0)
             × (result ≡ false → (self.new.hardware.starved ≡ true) × (HasRoom self.new.hardware (has.left + 1) → ⊥)) }
-        ensures disk { port.0 ≡ 0 → HasIdentify (device_at S.size S.told self.old) slot.0 → self.new.disk0 ≡ self.old.disk0 }
+        ensures disk { port.0 ≡ 0 → HasIdentify (device_at S.size S.told self.old) slot.0 → self.new.disk ≡ self.old.disk }
     {
         if port.0 != 0 {
             return false;
         }
-        let sectors = self.disk0.sectors();
+        let sectors = self.disk.sectors();
         let Some(left) = self.hardware.moves_left(port.0, slot.0, sectors) else {
             return false;
         };
@@ -279,7 +299,7 @@ impl<S: SectorStore> Model<S> {
         ensures left { NoneIsLeft self.new.held self.new.hardware.starved (device_at S.size S.told self.new) }
         ensures rest { GoesOnSo S.size S.is_sure self.old self.new }
         ensures told { self.new.hardware.starved ≡ true → (self.old.hardware.starved ≡ true) ⊎ LeavesOne self.new.hardware (device_at S.size S.told self.new) }
-        ensures disk { self.new.disk0 ≡ self.old.disk0 }
+        ensures disk { self.new.disk ≡ self.old.disk }
     {
         if self.held[0] {
             return;
@@ -291,9 +311,9 @@ impl<S: SectorStore> Model<S> {
         }
     }
 
-    /// Has the port's disk lie of a byte of its page, if the page has such a byte. No port but port 0 has a disk.
+    /// Has the port's disks lie of a byte of their pages, if a page has such a byte. No port but port 0 has disks.
     fn lie(&mut self, port: Port, page: DiskPage, offset: u16, bits: u8) -> bool
-        ensures { Answers S.size S.told S.is_sure (DeviceStep.Lie port page offset bits) result self.old self.new }
+        ensures { AnswersStep S.size S.told S.is_sure (DeviceStep.Lie port page offset bits) result self.old self.new }
     {
         let DiskPage::Identity = page;
         let offset = usize::from(offset);
@@ -306,9 +326,9 @@ impl<S: SectorStore> Model<S> {
         true
     }
 
-    /// Ends the lies of the port's disk.
+    /// Ends the lies of the port's disks.
     fn tell_truth(&mut self, port: Port) -> bool
-        ensures { Answers S.size S.told S.is_sure (DeviceStep.Truth port) result self.old self.new }
+        ensures { AnswersStep S.size S.told S.is_sure (DeviceStep.Truth port) result self.old self.new }
     {
         if port.0 == 0 {
             self.says.lies = [0; PAGE_BYTES];
@@ -318,8 +338,8 @@ impl<S: SectorStore> Model<S> {
 
     /// Holds a port, or releases it, if it is one of ports 0 to 3.
     fn hold(&mut self, port: Port, held: bool) -> bool
-        ensures holds { held ≡ true → Answers S.size S.told S.is_sure (DeviceStep.Hold port) result self.old self.new }
-        ensures releases { held ≡ false → Answers S.size S.told S.is_sure (DeviceStep.Release port) result self.old self.new }
+        ensures holds { held ≡ true → AnswersStep S.size S.told S.is_sure (DeviceStep.Hold port) result self.old self.new }
+        ensures releases { held ≡ false → AnswersStep S.size S.told S.is_sure (DeviceStep.Release port) result self.old self.new }
     {
         let place = usize::from(port.0);
         if place >= PORTS {
@@ -331,7 +351,7 @@ impl<S: SectorStore> Model<S> {
 
     /// Has the device do a step.
     fn do_step(&mut self, s: &DeviceStep) -> bool
-        ensures { Answers S.size S.told S.is_sure s.now result self.old self.new }
+        ensures { AnswersStep S.size S.told S.is_sure s.now result self.old self.new }
     {
         match *s {
             DeviceStep::Fetch(port, slot) => self.fetch(port, slot),
@@ -350,7 +370,7 @@ impl<S: SectorStore> Model<S> {
     /// Before an access, the steps that are queued before it, in their order; each leaves the queue, whether it was possible
     /// or not.
     fn do_queued(&mut self)
-        ensures { Begins S.size S.told S.is_sure self.old self.new }
+        ensures { BeginsAccess S.size S.told S.is_sure self.old self.new }
     {
         self.accesses = self.accesses.saturating_add(1);
         let mut place = 0;
@@ -367,11 +387,12 @@ impl<S: SectorStore> Model<S> {
 }
 
 /// Adds a disk, as it is, to those that were plugged in.
-fn remember<S>(plugged: &mut Vec<Snapshot<S>>, disk: &S)
+fn remember<S>(plugged: &mut Vec<Inserted<S>>, which: Which, disk: &S)
     requires { vec_len plugged.old < vec_capacity plugged.old }
-    ensures { (f : S → Disk) → map (λ s. f s.value) plugged.new.items ≡ map (λ s. f s.value) plugged.old.items ++ f disk.now ∷ [] }
+    ensures { (f : Which → S → Disk) → map (λ s. f s.which s.store.value) plugged.new.items ≡ map (λ s. f s.which s.store.value) plugged.old.items ++ f which disk.now ∷ [] }
 {
-    let _pushed = plugged.push(Snapshot::of(disk)).is_ok();
+    let store = Snapshot::of(disk);
+    let _pushed = plugged.push(Inserted { which, store }).is_ok();
 }
 
 /// Turns these bits of a page.
@@ -388,6 +409,7 @@ fn turn(page: &mut [u8; PAGE_BYTES], bits: &[u8; PAGE_BYTES])
 /// failed, and that it holds what it held.
 fn exchange<S: SectorStore>(
     disk: &mut S,
+    which: Which,
     hardware: &Hardware,
     says: &Description,
     next: NextMove,
@@ -399,9 +421,9 @@ fn exchange<S: SectorStore>(
     ensures gives { result ≡ true → next.transfer ≡ Transfer.Read → IfSome (S.told disk.old) (λ told. bytes.new ≡ told next.sector) }
     ensures takes { result ≡ true → next.transfer ≡ Transfer.Write → bytes.new ≡ bytes_at (bytes_of hardware.now.memory.items) next.address 512 }
     ensures identifies { next.transfer ≡ Transfer.Identify → (result ≡ true) × (disk.new ≡ disk.old) }
-    ensures page { result ≡ true → next.transfer ≡ Transfer.Identify → IsItsPage (S.size disk.old) says.now bytes.new }
-    ensures disk { result ≡ true → first_disk (S.size disk.new) (S.told disk.new)
-        ≡ disk_after (operation_of next.transfer) (first_disk (S.size disk.old) (S.told disk.old)) next.sector bytes.new }
+    ensures page { result ≡ true → next.transfer ≡ Transfer.Identify → IsItsPage which (S.size disk.old) says.now bytes.new }
+    ensures disk { result ≡ true → disk_over which (S.size disk.new) (S.told disk.new)
+        ≡ disk_after (operation_of next.transfer) (disk_over which (S.size disk.old) (S.told disk.old)) next.sector bytes.new }
     ensures kept { result ≡ false → S.told disk.new ≡ S.told disk.old }
     ensures size { S.size disk.new ≡ S.size disk.old }
     ensures lasts { S.is_sure disk.new ≡ S.is_sure disk.old }
@@ -414,7 +436,7 @@ fn exchange<S: SectorStore>(
             disk.write(next.sector, bytes)
         }
         Transfer::Identify => {
-            *bytes = identify_page(b"IMAGEDISK", disk.sectors(), says.abilities);
+            *bytes = which.page(disk.sectors(), says.abilities);
             turn(bytes, &says.lies);
             true
         }
@@ -463,7 +485,7 @@ impl<S: SectorStore> Adapter for Model<S> {
     fn load(&mut self, addr: u32, out: &mut [u8])
         requires { Stays (IsFree addr (length out.old)) (device_at S.size S.told self.old) }
         ensures loads { Loads addr out.new (device_at S.size S.told self.old) (device_at S.size S.told self.new) }
-        ensures alone { Begins S.size S.told S.is_sure self.old self.new }
+        ensures alone { BeginsAccess S.size S.told S.is_sure self.old self.new }
     {
         self.do_queued();
         self.hardware.load(addr as usize, out);
@@ -478,18 +500,18 @@ impl<S: SectorStore> Adapter for Model<S> {
         self.hardware.store(addr as usize, bytes);
     }
 
-    ghost tells = { λ m. disks_told _ (S.told m.disk1) _ };
+    ghost tells = { λ m. disks_told _ (S.told m.other) _ };
 }
 
 impl<S: SectorStore> Stepped for Model<S> {
     /// Beside what every such adapter says: it is done if it is possible, over stores that never fail, and there is memory to note it; and
-    /// nothing but what it asks is another. READ DMA EXT, WRITE DMA EXT and IDENTIFY DEVICE alone are taken, port 0 alone has a disk, and
-    /// disk 0 alone is put in.
+    /// nothing but what it asks is another. READ DMA EXT, WRITE DMA EXT and IDENTIFY DEVICE alone are taken, port 0 alone has disks, and
+    /// disks 0 and 1 alone are put in.
     fn step(&mut self, s: &DeviceStep) -> bool
         ensures steps { Steps (device_at S.size S.told self.old) (device_at S.size S.told self.new) }
         ensures refused { result ≡ false → device_at S.size S.told self.new ≡ device_at S.size S.told self.old }
         ensures asked { result ≡ true → Asked s.now (device_at S.size S.told self.old) (device_at S.size S.told self.new) }
-        ensures answers { Answers S.size S.told S.is_sure s.now result self.old self.new }
+        ensures answers { AnswersStep S.size S.told S.is_sure s.now result self.old self.new }
     {
         self.do_step(s)
     }

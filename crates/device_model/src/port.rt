@@ -3,7 +3,7 @@ ghost use Rattle.std.specs.Prelude.{◌≡◌, unwrap_or};
 ghost use Rattle.adapter.specs.Commands.{direction_of, pieces_moved, reads_memory};
 ghost use Rattle.adapter.specs.Idle.{IsIdlePort};
 ghost use Rattle.device_model.specs.Modelled.{IsReset};
-ghost use Rattle.device_model.specs.View.{Media, operation_of, port_of};
+ghost use Rattle.device_model.specs.View.{Media, cause_of, operation_of, port_of};
 
 use adapter::{Direction, Operation, Prd};
 
@@ -76,6 +76,16 @@ impl Transfer {
         match self {
             Transfer::Read | Transfer::Write => count,
             Transfer::Identify => 1,
+        }
+    }
+
+    /// The bit of PxIS that its end sets: PSS where its data go by PIO, and else DHRS (AHCI 1.3.1, 3.3.5).
+    pub fn cause(self) -> u32
+        ensures { result ≡ cause_of self }
+    {
+        match self {
+            Transfer::Identify => 1,
+            Transfer::Read | Transfer::Write => 0,
         }
     }
 

@@ -1,7 +1,7 @@
 // What a port does by itself before a register is read, and what the end of a reset makes of it.
 ghost use Rattle.std.specs.Prelude.{◌≡◌, ◌%◌, ◌↔◌, IsTrue, true, false};
-ghost use Rattle.adapter.specs.Steps.{with_link, with_reset};
-ghost use Rattle.device_model.specs.Settled.{GoesTo, IsSettledPort};
+ghost use Rattle.adapter.specs.Steps.{MayLinkUp, with_link, with_reset};
+ghost use Rattle.device_model.specs.Settled.{GoesTo};
 ghost use Rattle.device_model.specs.View.{Media, port_of};
 
 use crate::port::PortModel;
@@ -52,26 +52,29 @@ impl PortModel {
         self.link_due = false;
     }
 
-    /// The link comes up, if it may.
-    fn link(&mut self)
-        ensures does { (m : Media) → GoesTo (port_of self.old m) (port_of self.new m) }
+    /// The link comes up, if it may; `true` says that it did.
+    pub fn link(&mut self) -> bool
+        ensures up { result ≡ true → (m : Media) → MayLinkUp (port_of self.old m) 0x101 × (port_of self.new m ≡ with_link (port_of self.old m) 0x101 true) }
+        ensures same { result ≡ false → self.new ≡ self.old }
         ensures linked { (self.new.present ≡ true) → (self.new.sctl_det % 16 ≡ 0) → (self.new.link_due ≡ true) → false ≡ true }
         ensures engine { (self.new.st ≡ self.old.st) × (self.new.cr ≡ self.old.cr) }
         ensures area { (self.new.fre ≡ self.old.fre) × (self.new.fr ≡ self.old.fr) }
     {
-        if self.may_link() {
+        let may = self.may_link();
+        if may {
             self.link_up();
         }
+        may
     }
 
-    /// What the port does by itself: CR and FR fall where they may, and the link comes up.
+    /// CR and FR fall where they may.
     pub fn settle(&mut self)
         ensures does { (m : Media) → GoesTo (port_of self.old m) (port_of self.new m) }
-        ensures settled { (m : Media) → IsSettledPort (port_of self.new m) }
+        ensures fallen { self.new.st ≡ false → self.new.cr ≡ true → false ≡ true }
+        ensures area { self.new.fre ≡ false → self.new.cr ≡ false → self.new.fr ≡ true → false ≡ true }
     {
         self.fall();
         self.fr_fall();
-        self.link();
     }
 
     /// The adapter's reset has ended (AHCI 1.3.1, 10.4.3).

@@ -3,11 +3,10 @@ ghost use Rattle.std.specs.Prelude.{◌≡◌, ◌<◌, ◌^◌, ◌+◌, ℕ, N
 ghost use Rattle.adapter.specs.Memory.{changed};
 ghost use Rattle.adapter.specs.Steps.{with_fetch, with_move, with_done};
 ghost use Rattle.device_model.specs.Slots.{MayTake, MayTakeAny, HoldsAt};
-ghost use Rattle.device_model.specs.View.{Media, Takes, media_after, operation_of, port_of, slots_of, taken_of, blank};
-ghost use Rattle.device_model.specs.declared.port.Transfer.{Transfer};
+ghost use Rattle.device_model.specs.View.{Media, Takes, cause_of, media_after, operation_of, port_of, slots_of, taken_of, blank};
 
 use crate::bits::with_bit_as;
-use crate::port::{PortModel, TakenCommand};
+use crate::port::{PortModel, TakenCommand, Transfer};
 use adapter::Operation;
 use hba_regs::is_set;
 
@@ -50,13 +49,13 @@ impl PortModel {
     }
 
     /// The command of a slot ends without error.
-    pub fn end(&mut self, slot: u8)
+    pub fn end(&mut self, slot: u8, transfer: Transfer)
         requires slot { slot < 32 }
         requires there { IfSome self.old.taken (λ t. t.slot ≡ slot) }
-        ensures { (m : Media) (transfer : Transfer) → port_of self.new m ≡ with_done (port_of self.old m) slot 0 (operation_of transfer) }
+        ensures { (m : Media) → port_of self.new m ≡ with_done (port_of self.old m) slot (cause_of transfer) (operation_of transfer) }
     {
         self.ci = with_bit_as(self.ci, u32::from(slot), false);
-        self.is = with_bit_as(self.is, 0, true);
+        self.is = with_bit_as(self.is, transfer.cause(), true);
         self.tfd = Some(self.task_file() & 0xff7f);
         forget(&mut self.taken);
     }

@@ -7,9 +7,10 @@ ghost use Rattle.adapter.specs.Memory.{patched};
 ghost use Rattle.adapter.specs.Says.{pieces};
 ghost use Rattle.adapter.specs.Steps.{Can, after, next_sector};
 ghost use Rattle.adapter.specs.Steps.Step.{Fetch as FetchStep, Move as MoveStep, Done as DoneStep, Unplug as UnplugStep, Plug as PlugStep};
-ghost use Rattle.adapter.specs.Asked.{DoesFetch, DoesDone};
+ghost use Rattle.adapter.specs.Asked.{DoesFetch, Ends};
 ghost use Rattle.device_model.specs.Fetched.{bytes_of};
-ghost use Rattle.device_model.specs.Finishing.{HasIdentify, HasRoom, IsInside, AreInside, IsCovered, IsPassed, IsReady};
+ghost use Rattle.device_model.specs.Finishing.{HasIdentify, HasRoom, IsInside, AreInside, IsCovered, IsPassed, MayFinish};
+ghost use Rattle.device_model.specs.Sent.{SendsEnd};
 ghost use Rattle.device_model.specs.Slots.{HoldsAt, IsNext, MayTakeAny};
 ghost use Rattle.device_model.specs.View.{Takes, operation_of, taken_of, blank};
 ghost use Rattle.device_model.specs.Whole.{Outside, device_of, outside_after, outside_plugged};
@@ -277,11 +278,11 @@ impl Hardware {
         self.ports[usize::from(port)].advance();
     }
 
-    /// Ends a slot's command, all of which was moved; `false` says that there is none, or that the tape found no memory.
+    /// Ends a slot's command, all of which was moved, and sends its FIS; `false` says that there is none, or that the tape found no memory.
     pub fn done(&mut self, port: u8, slot: u8) -> bool
         requires port { port < 4 }
         requires slot { slot < 32 }
-        ensures did { result ≡ true → (o : Outside) → DoesDone port slot (device_of self.old o) (device_of self.new o) }
+        ensures did { result ≡ true → (o : Outside) → Ends SendsEnd port slot (device_of self.old o) (device_of self.new o) }
         ensures refused { result ≡ false → (o : Outside) → device_of self.new o ≡ device_of self.old o }
         ensures left { result ≡ false → (o : Outside) → IsPassed self.old self.new ((flag : ℕ) × (t : Taken) × Can (DoneStep port slot flag t) (device_of self.old o)) }
         ensures fed { result ≡ true → self.new.starved ≡ self.old.starved }
@@ -292,15 +293,18 @@ impl Hardware {
         if command.moved != count_pieces(&command.prds) {
             return false;
         }
+        let transfer = command.transfer;
         let entry = Entry::Done(Done {
             port: Port(port),
             slot: Slot(slot),
-            operation: command.transfer.operation(),
+            operation: transfer.operation(),
         });
         if !record(&mut self.tape, &mut self.starved, entry) {
             return false;
         }
-        self.ports[usize::from(port)].end(slot);
+        let place = usize::from(port);
+        self.ports[place].end(slot, transfer);
+        self.send_end(place, transfer);
         true
     }
 
@@ -310,8 +314,8 @@ impl Hardware {
         requires port { port < 4 }
         requires slot { slot < 32 }
         requires may { MayTakeAny (slice_index_or self.now.ports port blank) slot }
-        ensures ready { IfSome result (λ left. (o : Outside) → IsReady (device_of self.now o) port slot sectors left) }
-        ensures only { (o : Outside) (left : ℕ) → IsReady (device_of self.now o) port slot sectors left → result ≡ Some left }
+        ensures ready { IfSome result (λ left. (o : Outside) → MayFinish (device_of self.now o) port slot sectors left) }
+        ensures only { (o : Outside) (left : ℕ) → MayFinish (device_of self.now o) port slot sectors left → result ≡ Some left }
     {
         let list = self.ports[usize::from(port)].addresses.clb;
         let command = read_command(&self.memory, list, slot)?;
@@ -323,8 +327,8 @@ impl Hardware {
     pub fn moves_left(&self, port: u8, slot: u8, sectors: u64) -> Option<u32>
         requires port { port < 4 }
         requires slot { slot < 32 }
-        ensures ready { IfSome result (λ left. (o : Outside) → IsReady (device_of self.now o) port slot sectors left) }
-        ensures only { (o : Outside) (left : ℕ) → IsReady (device_of self.now o) port slot sectors left → result ≡ Some left }
+        ensures ready { IfSome result (λ left. (o : Outside) → MayFinish (device_of self.now o) port slot sectors left) }
+        ensures only { (o : Outside) (left : ℕ) → MayFinish (device_of self.now o) port slot sectors left → result ≡ Some left }
     {
         let place = usize::from(port);
         if may_take(&self.ports, place, slot) {
@@ -352,10 +356,10 @@ impl Hardware {
         true
     }
 
-    /// Disk 0 is put into port 0; `false` says that there was a disk, or that the tape found no memory.
-    pub fn plug(&mut self) -> bool
+    /// A disk is put into port 0; `false` says that there was a disk, or that the tape found no memory.
+    pub fn plug(&mut self, number: u32) -> bool
         ensures free { result ≡ true → (o : Outside) → ((device_of self.old o).port 0).present ≡ false }
-        ensures did { result ≡ true → (o : Outside) (disk : Disk) → disk.name ≡ 0 → device_of self.new (outside_plugged o disk) ≡ after (PlugStep 0 disk) (device_of self.old o) }
+        ensures did { result ≡ true → (o : Outside) (disk : Disk) → disk.name ≡ number → device_of self.new (outside_plugged o disk) ≡ after (PlugStep 0 disk) (device_of self.old o) }
         ensures refused { result ≡ false → (o : Outside) → device_of self.new o ≡ device_of self.old o }
         ensures left { result ≡ false → (o : Outside) → IsPassed self.old self.new (((device_of self.old o).port 0).present ≡ false) }
         ensures fed { result ≡ true → self.new.starved ≡ self.old.starved }
@@ -363,7 +367,11 @@ impl Hardware {
         if self.ports[0].present {
             return false;
         }
-        if !record(&mut self.tape, &mut self.starved, Entry::Plug(Port(0), 0)) {
+        if !record(
+            &mut self.tape,
+            &mut self.starved,
+            Entry::Plug(Port(0), number),
+        ) {
             return false;
         }
         self.ports[0].plug();

@@ -2,7 +2,9 @@
 ghost use Rattle.std.specs.Prelude.{◌≡◌, ◌≤◌, IfOk};
 ghost use Rattle.adapter.specs.Idle.{IsIdle};
 
-use adapter::{Adapter, DeviceStep, Direction, DiskPage, Entry, Move, Operation, Stepped};
+use adapter::{
+    Adapter, DeviceStep, Direction, DiskNumber, DiskPage, Entry, Move, Operation, Stepped,
+};
 use ata_types::{DRIVER_BYTES, Port, PortState, Slot};
 use device_model::{Model, ModelConfig, Trim};
 use hba_regs::Reg;
@@ -68,7 +70,7 @@ const PLAIN: Case = Case {
 
 const IDENTITY: DiskPage = DiskPage::Identity;
 
-const CASES: [Case; 11] = [
+const CASES: [Case; 12] = [
     PLAIN,
     // NP of CAP is the number of ports less one (AHCI 1.3.1, 3.1.1).
     Case {
@@ -130,6 +132,17 @@ const CASES: [Case; 11] = [
         page: None,
         ..PLAIN
     },
+    // "BLANKDISK" has letters that sum to 659, "IMAGEDISK" to 654: the page's last byte is 5 less.
+    Case {
+        what: "another disk is put in first",
+        queued: [
+            (1, DeviceStep::Unplug(Port(0))),
+            (1, DeviceStep::Plug(Port(0), DiskNumber(1))),
+        ],
+        found: Found::Unready(PortState::Foreign),
+        page: Some(&[(20, b'L'), (21, b'B'), (22, b'N'), (25, b'K'), (511, 65)]),
+        ..PLAIN
+    },
     Case {
         what: "the link of a held port doesn't come up",
         told: [DeviceStep::Hold(Port(0)), NOTHING, NOTHING],
@@ -188,9 +201,13 @@ fn is_page(moved: &Move) -> bool {
 /// Whether the tape tells of a page, the only one, and of the end of its command; or of no page.
 fn has_page(tape: &[Entry], page: bool) -> bool {
     match tape {
-        [Entry::Move(moved), Entry::Done(done)] => {
-            page && is_page(moved) && done.operation == Operation::Identify
-        }
+        [Entry::Move(moved), Entry::Done(done)]
+        | [
+            Entry::Unplug(_),
+            Entry::Plug(..),
+            Entry::Move(moved),
+            Entry::Done(done),
+        ] => { page && is_page(moved) && done.operation == Operation::Identify }
         [] | [Entry::Unplug(_)] => !page,
         _ => false,
     }
@@ -257,7 +274,7 @@ fn taken_over<A: Adapter>(adapter: &mut A, r: Reg) -> (Found, u32)
     (host.ports[0], shown)
 }
 
-/// A model with these ports, idle.
+/// A model with these ports, idle. Both disks of port 0 have as many sectors.
 fn model(alloc: Global, pi: u8) -> Result<Model<MemStore>, Fail>
     requires { (1 ≤ pi) × (pi ≤ 15) }
     ensures idle { IfOk result (λ m. IsIdle (⟦<Model<MemStore> as Adapter>⟧.device m)) }
@@ -272,7 +289,7 @@ fn model(alloc: Global, pi: u8) -> Result<Model<MemStore>, Fail>
         trim: Trim::Full,
     };
     let image = MemStore::new(alloc, SECTORS)?;
-    Ok(Model::new(alloc, config, image, MemStore::new(alloc, 0)?)?)
+    Ok(Model::new(alloc, config, image, MemStore::new(alloc, SECTORS)?)?)
 }
 
 /// Whether a model of this case is found as the case says.

@@ -42,9 +42,13 @@ const UNPLUG: DeviceStep = DeviceStep::Unplug(Port(0));
 
 const PLUG: DeviceStep = DeviceStep::Plug(Port(0), DiskNumber(0));
 
+const PLUG_OTHER: DeviceStep = DeviceStep::Plug(Port(0), DiskNumber(1));
+
 const UNPLUGGED: Change = Change::Unplugged(Port(0));
 
 const PLUGGED: Change = Change::Plugged(Port(0), 0);
+
+const OTHER_PLUGGED: Change = Change::Plugged(Port(0), 1);
 
 const CASES: [(&str, &[Act]); 8] = [
     (
@@ -61,16 +65,34 @@ const CASES: [(&str, &[Act]); 8] = [
         ],
     ),
     (
-        "disk 0 is taken out of port 0 and put in again",
+        "disks are taken out of port 0 and put in, disk 1 in place of disk 0, too",
         &[
             Act::Refuses(PLUG),
+            Act::Refuses(PLUG_OTHER),
             Act::Refuses(DeviceStep::Unplug(Port(1))),
             Act::Does(UNPLUG),
             Act::Refuses(UNPLUG),
-            Act::Refuses(DeviceStep::Plug(Port(0), DiskNumber(1))),
+            Act::Refuses(DeviceStep::Plug(Port(0), DiskNumber(2))),
             Act::Refuses(DeviceStep::Plug(Port(1), DiskNumber(0))),
             Act::Does(PLUG),
-            Act::Tape(&[UNPLUGGED, PLUGGED]),
+            Act::Does(UNPLUG),
+            Act::Does(PLUG_OTHER),
+            Act::Refuses(PLUG),
+            Act::Refuses(PLUG_OTHER),
+            Act::Does(UNPLUG),
+            Act::Does(PLUG_OTHER),
+            Act::Does(UNPLUG),
+            Act::Does(PLUG),
+            Act::Tape(&[
+                UNPLUGGED,
+                PLUGGED,
+                UNPLUGGED,
+                OTHER_PLUGGED,
+                UNPLUGGED,
+                OTHER_PLUGGED,
+                UNPLUGGED,
+                PLUGGED,
+            ]),
         ],
     ),
     (

@@ -87,7 +87,7 @@ played_of size told config script image blank trace old new values read server l
         run = runs _ begun.0 on.more leads.history;
         reads = λ image_tells blank_tells.
             let tells : begun.0.device.telling ≡ true =
-            ap (λ (d : Device). d.telling) begun.1.stands.device_is ∙ started.made.taken.same.telling ∙ started.telling ∙ both_tell _ _ image_tells blank_tells in
+            ap (λ (d : Device). d.telling) begun.1.stands.device_is ∙ started.made.taken.same.telling ∙ started.modelled.made.telling ∙ both_tell _ _ image_tells blank_tells in
             holds _ begun.0 on.more leads.history tells;
       };
       left = left;

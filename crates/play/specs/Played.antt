@@ -1,5 +1,5 @@
 -- A script that is played against a server over a modelled adapter (this project's own).
-use Rattle.std.specs.Prelude.{ℕ, Bool, true, false, ◌≡◌, ◌≤◌, ◌&&◌, List, [], ◌∷◌, ◌++◌, Option, None, Some, IsSome, codes, is_some, length, map, reverse, string_bytes, take}
+use Rattle.std.specs.Prelude.{ℕ, Bool, true, false, ◌≡◌, ◌≤◌, List, [], ◌∷◌, ◌++◌, Option, None, Some, IsSome, codes, length, map, reverse, string_bytes, take}
 use Rattle.std.specs.Io.KnownBytes.{Appends}
 use Rattle.adapter.specs.Device.{Device}
 use Rattle.adapter.specs.declared.access.DeviceStep.{DeviceStep}
@@ -15,8 +15,7 @@ use Rattle.configuration.specs.Document.{IsReadFrom, IsToldOf}
 use Rattle.configuration.specs.declared.Config.{Config}
 use Rattle.configuration.specs.declared.ConfigFault.{ConfigFault}
 use Rattle.configuration.specs.declared.ConfigFault.TheVariants as config
-use Rattle.device_model.specs.Modelled.{device_at}
-use Rattle.device_model.specs.Modelled as model
+use Rattle.device_model.specs.Modelled.{IsNewModel, device_at}
 use Rattle.device_model.specs.declared.config.ModelConfig.{ModelConfig}
 use Rattle.device_model.specs.declared.model.Model.{Model}
 use Rattle.script.specs.Script.{IsFirstBad, IsScript}
@@ -49,11 +48,11 @@ pub record IsSetBy (config : Config) (settings : ModelConfig) : Type 0 where
   pub depth : settings.depth ≡ config.depth
   pub trim : word_of settings.trim ≡ string_bytes config.trim
 
--- The model is new and as the configuration says, and the image is the disk of port 0.
-pub record IsModelOf {S : Type 0} (size : S → ℕ) (told : S → Option (ℕ → List ℕ)) (config : Config) (image : S) (m : Model S) : Type 0 where
+-- The model is new and as the configuration says: the image is disk 0, which is in port 0, and the blank disk is disk 1.
+pub record IsModelOf {S : Type 0} (size : S → ℕ) (told : S → Option (ℕ → List ℕ)) (config : Config) (image blank : S) (m : Model S) : Type 0 where
   pub settings : ModelConfig
   pub set : IsSetBy config settings
-  pub made : model.IsNew settings (size image) (told image) (device_at size told m)
+  pub made : IsNewModel size told settings image blank m
 
 -- a step of the device was left out, since there was no memory to note it
 abbrev pub is_starved : {S : Type 0} → Model S → Bool
@@ -64,18 +63,17 @@ is_starved m = m.hardware.starved
 -- a new server, of this configuration, and of such a model
 pub record IsStarted {S : Type 0} (size : S → ℕ) (told : S → Option (ℕ → List ℕ)) (config : Config) (image blank : S) (server : ServerView (Model S)) : Type 0 where
   pub model : Model S
-  pub modelled : IsModelOf size told config image model
-  pub telling : (device_at size told model).telling ≡ (is_some (told image) && is_some (told blank))
+  pub modelled : IsModelOf size told config image blank model
   pub made : IsNew (device_at size told) config model server
 
 -- What these calls answered, from this server to that one, is a run of the block machine. It begins where a new server stands, of this
--- configuration and of a model of the image; it has one event for each call, in their order (the newest first), with what was asked and
+-- configuration and of a model of image and blank disk; it has one event for each call, in their order (the newest first), with what was asked and
 -- said; and where image and blank disk tell their sectors, each read that was answered Ok has, at the end of the call that answered it,
 -- what was left.
 pub record AreAnswers {S : Type 0} (size : S → ℕ) (told : S → Option (ℕ → List ℕ)) (config : Config) (image blank : S)
     (server last : ServerView (Model S)) (events : List Event) (said : List Said) : Type 0 where
   pub model : Model S
-  pub modelled : IsModelOf size told config image model
+  pub modelled : IsModelOf size told config image blank model
   pub made : IsNew (device_at size told) config model server
   pub first : Instant Device
   pub begun : Leads first [] (server_of (device_at size told) server)

@@ -1,5 +1,5 @@
 // The model behind the server, as a configuration says.
-ghost use Rattle.std.specs.Prelude.{◌≡◌, ◌&&◌, IfOk, is_some, string_bytes};
+ghost use Rattle.std.specs.Prelude.{◌≡◌, IfOk, string_bytes};
 ghost use Rattle.block_server.specs.Made.{IsReadyFor};
 ghost use Rattle.configuration.specs.Rules.{IsSound, IsTrim};
 ghost use Rattle.device_model.specs.Modelled.{device_at};
@@ -25,8 +25,8 @@ fn trim_of(word: &str) -> Trim
     }
 }
 
-/// An idle adapter as the configuration says, with the image as the disk of port 0. The blank disk can't be plugged in for now. The adapter
-/// tells its disks' sectors where both stores tell theirs.
+/// A new modelled adapter as the configuration says. The image is disk 0 of port 0, which is in it, and the blank disk is disk 1, which can be put
+/// in for it.
 #[inline(never)]
 pub fn new_model<S: SectorStore>(
     alloc: Global,
@@ -36,8 +36,7 @@ pub fn new_model<S: SectorStore>(
 ) -> Result<Model<S>, NoMemory>
     requires { IsSound config.now }
     ensures ready { IfOk result (λ m. IsReadyFor config.now (device_at S.size S.told m)) }
-    ensures made { IfOk result (IsModelOf S.size S.told config.now image) }
-    ensures telling { IfOk result (λ m. (device_at S.size S.told m).telling ≡ (is_some (S.told image) && is_some (S.told blank))) }
+    ensures made { IfOk result (IsModelOf S.size S.told config.now image blank) }
 {
     let settings = ModelConfig {
         frames: config.frames as u16,

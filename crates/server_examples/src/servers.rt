@@ -4,7 +4,7 @@ ghost use Rattle.block_server.specs.Made.{IsReadyFor};
 ghost use Rattle.configuration.specs.Rules.{IsSound};
 
 use crate::watched::{Access, Watched};
-use adapter::Adapter;
+use adapter::{Adapter, DeviceStep};
 use arrayvec::ArrayVec;
 use ata_types::{ClientId, Frame, MemFault, Op, Port, PortState, Refusal, Request, Rule, Sector};
 use block_server::Server;
@@ -159,11 +159,11 @@ const WRITE: Slot = (
     NO_ENTRY,
 );
 
-// The boot's IDENTIFY DEVICE ended with a Register FIS, which DHRS of PxIS tells (AHCI 1.3.1, 3.3.5). A service writes back what it read
+// The boot's IDENTIFY DEVICE ended with a PIO Setup FIS, which PSS of PxIS tells (AHCI 1.3.1, 3.3.5). A service writes back what it read
 // there, and then the port's bit of IS alone (3.1.3), and reads PxSSTS; and then PxCI and PxSACT, where there is a request.
 const SERVICE: [Access; 6] = [
     Access::Read(Reg::Px(Port(0), PortReg::Is)),
-    Access::Write(Reg::Px(Port(0), PortReg::Is), 1),
+    Access::Write(Reg::Px(Port(0), PortReg::Is), 2),
     Access::Write(Reg::Is, 1),
     Access::Read(Reg::Px(Port(0), PortReg::Ssts)),
     Access::Read(Reg::Px(Port(0), PortReg::Ci)),
@@ -179,6 +179,47 @@ fn commands_stand_in_memory(rt: HostRuntime) -> Result<(), Fail> {
     check(&rt, Some(most), LONG_READ, &SERVICE)?;
     let three = request(Op::Write, 100, 3, 41, 1);
     check(&rt, Some(three), WRITE, &SERVICE)
+}
+
+// FISes of a disk (Serial ATA). The status is 7Fh without BSY and DRQ, which PxTFD shows here from the first FIS on, but for DRQ of a PIO
+// Setup FIS, whose ending status has it no more; it tells of 200h bytes. All but the signature asks for an interrupt.
+const SETUP: [u8; 20] = [
+    0x5f, 0x60, 0x7f, 0, 0, 0, 0, 0, 0, 0, 0, 0, 0, 0, 0, 0x77, 0, 2, 0, 0,
+];
+
+const SIGNATURE: [u8; 20] = [
+    0x34, 0, 0x77, 0, 1, 0, 0, 0, 0, 0, 0, 0, 1, 0, 0, 0, 0, 0, 0, 0,
+];
+
+const END: [u8; 20] = [
+    0x34, 0x40, 0x77, 0, 0, 0, 0, 0, 0, 0, 0, 0, 0, 0, 0, 0, 0, 0, 0, 0,
+];
+
+/// A received FIS area: a PIO Setup FIS stands at 20h, a Register FIS at 40h (AHCI 1.3.1, 4.2.1), and elsewhere there are zeros.
+fn received(registers: [u8; 20]) -> [u8; 256] {
+    let mut area = [0; 256];
+    area[0x20..0x34].copy_from_slice(&SETUP);
+    area[0x40..0x54].copy_from_slice(&registers);
+    area
+}
+
+#[test]
+fn fises_stand_in_memory(rt: HostRuntime) -> Result<(), Fail> {
+    let config = config(rt.alloc())?;
+    let model = model_of(rt.alloc(), &config, 356)?;
+    let Ok(server) = Server::new(rt.alloc(), &config, model) else {
+        return Err(Fail::from("no server"));
+    };
+    let mut server = server;
+    let booted = piece(server.adapter().memory(), 0x400);
+    let accepted = server.submit(&request(Op::Write, 100, 3, 41, 1)).is_ok();
+    let ended = server.device(&DeviceStep::Finish(Port(0), ata_types::Slot(0)));
+    let written = piece(server.adapter().memory(), 0x400);
+    let _model = server.close();
+    assert_eq!(rt; (accepted, ended), (true, true));
+    assert!(rt; booted == received(SIGNATURE));
+    assert!(rt; written == received(END));
+    Ok(())
 }
 
 #[test]

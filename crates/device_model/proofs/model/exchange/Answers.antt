@@ -1,7 +1,8 @@
 use Rattle.std.proofs.Common.{ℕ, true, ◌∙◌, ap}
 use Rattle.adapter.specs.Memory.{bytes_at}
 use Rattle.device_model.specs.Fetched.{bytes_of}
-use Rattle.device_model.specs.Whole.{Outside, no_media, first_disk}
+use Rattle.device_model.specs.Disks.{disk_over}
+use Rattle.device_model.specs.Whole.{Outside, no_media}
 use Rattle.device_model.proofs.Transfers.{replaced_is}
 use Rattle.device_model.proofs.model.exchange.Goals as goal
 
@@ -17,4 +18,4 @@ returns-in-Write-clause-takes g c = λ _ _.
 pub returns-in-Write-clause-disk : goal.returns-in-Write-clause-disk
 returns-in-Write-clause-disk g c = λ done.
     let told = c.write.ensures.puts done ∙ replaced_is (g.S.SectorStore.told c.args.disk.now) c.args.next.sector c.load.new.out in
-    rw c.in-Write.is (λ i. first_disk (c.write.ensures.size i) (told i))
+    rw c.in-Write.is (λ i. disk_over c.args.which (c.write.ensures.size i) (told i))

@@ -25,10 +25,16 @@ new-requires-clause-slots g c = (c.requires OutOfRange).numbers.slots
 pub new-requires-clause-depth : goal.new-requires-clause-depth
 new-requires-clause-depth g c = (c.requires OutOfRange).numbers.depth
 
+pub returns-clause-ready : goal.returns-clause-ready
+returns-clause-ready g c = IfOk-weaker c.new.result _ _ (λ m made. record {
+  idle = made.adapter.idle;
+  room = λ _. omega (arith, made.adapter.memory);
+}) c.new.ensures
+
 -- the settings are those that the model was made with
 pub returns-clause-made : goal.returns-clause-made
 returns-clause-made g c = IfOk-weaker c.new.result _ _ (λ m made. record {
   settings = record { frames = c.args.config.now.frames; pi = 15; slots = c.args.config.now.slots; ncq = c.args.config.now.ncq; depth = c.args.config.now.depth; trim = c.trim_of.result };
   set = record { frames = refl; ports = refl; slots = refl; queuing = refl; depth = refl; trim = c.trim_of.ensures ∙ c.as_str.ensures.value };
   made = made;
-}) c.new.ensures.made
+}) c.new.ensures

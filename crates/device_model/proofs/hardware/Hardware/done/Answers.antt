@@ -3,7 +3,8 @@ use Rattle.adapter.specs.Device.{Taken}
 use Rattle.adapter.proofs.Absurd.{some_one, true-false}
 use Rattle.adapter.specs.Says.{pieces}
 use Rattle.device_model.specs.Slots.{HoldsAt}
-use Rattle.device_model.specs.View.{blank, taken_of}
+use Rattle.device_model.specs.View.{blank, cause_of, taken_of}
+use Rattle.device_model.specs.declared.hardware.Hardware.{Hardware}
 use Rattle.device_model.specs.declared.port.TakenCommand.{TakenCommand}
 use Rattle.device_model.proofs.Finishing.{holds}
 use Rattle.device_model.proofs.Stepping.{may_end, port_ends}
@@ -11,11 +12,14 @@ use Rattle.device_model.proofs.hardware.Hardware.done.Goals as goal
 
 pub returns-clause-did : goal.returns-clause-did
 returns-clause-did c = λ _ o.
-    let small : c.from-2.result < length c.args.self.now.ports = search rules in
-    let same : c.from.result ≡ c.from-2.result = c.from.ensures ∙ sym c.from-2.ensures in
-    port_ends c.args.self.now o c.from-2.result c.args.port c.args.slot _ c.in-Some.command.now c.record.new.tape c.from-2.ensures small
-    (rw same at c.in-Some.ensures.found) (c.if-command-count_pieces.false ∙ c.count_pieces.ensures)
-    (c.end.ensures (o.media c.from-2.result) c.in-Some.command.now.transfer) (rw c.operation.ensures at c.record.ensures.added c.if-not-record.false)
+    let h : Hardware = c.args.self.now in
+    let p : ℕ = c.from-place.result in
+    let port : ℕ = c.args.port in
+    let small : p < length h.ports = search rules in
+    let same : c.from.result ≡ p = c.from.ensures ∙ sym c.from-place.ensures in
+    port_ends h o p port c.args.slot c.end.new.self c.in-Some.command.now c.record.new.tape _ c.from-place.ensures small (rw same at c.in-Some.ensures.found)
+    (c.if-command-count_pieces.false ∙ c.count_pieces.ensures) (c.end.ensures (o.media p)) (rw c.operation.ensures at c.record.ensures.added c.if-not-record.false)
+    (c.send_end.ensures.sent o)
 
 pub returns-in_default-clause-left : goal.returns-in_default-clause-left
 returns-in_default-clause-left c = λ _ o.
@@ -50,7 +54,7 @@ returns-then-not-record-clause-left c = λ _ o.
     let P : ℕ → Type 0 = λ q. HoldsAt (slice_index_or c.args.self.now.ports q blank) c.args.slot c.in-Some.command.now in
     let held = subst P c.from.ensures c.in-Some.ensures.found in
     inr (
-      (0, taken_of c.in-Some.command.now, may_end c.args.self.now o c.args.port c.args.slot c.in-Some.command.now held (c.if-command-count_pieces.false ∙ c.count_pieces.ensures)),
+      (cause_of c.in-Some.command.now.transfer, taken_of c.in-Some.command.now, may_end c.args.self.now o c.args.port c.args.slot c.in-Some.command.now held (c.if-command-count_pieces.false ∙ c.count_pieces.ensures)),
       λ room. true-false (c.record.ensures.room (omega (arith, room))) c.if-not-record.true,
       c.record.ensures.starved c.if-not-record.true,
     )

@@ -6,7 +6,7 @@ use Rattle.device_model.proofs.hardware.Hardware.plug.Goals as goal
 pub returns-clause-did : goal.returns-clause-did
 returns-clause-did c = λ _ o disk name.
     let some : 0 < length c.args.self.now.ports = search rules in
-    plugged_in c.args.self.now o _ c.record.new.tape disk name some c.plug.ensures (c.record.ensures.added c.if-not-record.false)
+    plugged_in c.args.self.now o _ c.record.new.tape disk c.args.number name some c.plug.ensures (c.record.ensures.added c.if-not-record.false)
 
 pub returns-then-self-offset0-clause-left : goal.returns-then-self-offset0-clause-left
 returns-then-self-offset0-clause-left c = λ _ o. inl (λ free. true-false c.if-self-offset0.true free, refl)

@@ -2,7 +2,7 @@ use Rattle.std.proofs.Common.{ℕ, suc, ◌≡◌, ◌<◌, ◌≤◌, ◌+◌, 
 use Rattle.std.specs.Global.{Vec}
 use Rattle.std.specs.List.{remove}
 use Rattle.adapter.specs.declared.access.DeviceStep.{DeviceStep}
-use Rattle.device_model.specs.Does.{Answers}
+use Rattle.device_model.specs.Does.{AnswersStep}
 use Rattle.device_model.specs.Queue.{DoesEach, due, not_due}
 use Rattle.device_model.specs.declared.model.Queued.{Queued}
 use Rattle.device_model.proofs.Doing.{answers_queued, did_or_left_keeps}
@@ -71,7 +71,7 @@ loop-queued-preserved g c =
           let new = w.do_step-done.new.self in
           let taken = record m { queue = w.remove.new.self } in
           let Did : List DeviceStep → Type 0 = DoneSo g.S.SectorStore.size g.S.SectorStore.told g.S.SectorStore.is_sure first new in
-          let R : Queued → Type 0 = λ q. Answers g.S.SectorStore.size g.S.SectorStore.told g.S.SectorStore.is_sure q.step w.do_step-done.result taken new in
+          let R : Queued → Type 0 = λ q. AnswersStep g.S.SectorStore.size g.S.SectorStore.told g.S.SectorStore.is_sure q.step w.do_step-done.result taken new in
           let one = subst R c.index.ensures w.do_step-done.ensures in
           let step : DeviceStep = (slice_index_or m.queue.items c.loop-queued.place x).step in
           let more : (done : List DeviceStep) → Was done → Did (done ++ step ∷ []) =

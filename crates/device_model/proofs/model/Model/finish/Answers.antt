@@ -5,11 +5,13 @@ use Rattle.adapter.specs.Device.{Device, Taken}
 use Rattle.adapter.specs.Asked.{DoesFetch}
 use Rattle.adapter.specs.declared.access.DeviceStep.TheVariants as asked
 use Rattle.adapter.specs.declared.tape.Entry.{Entry}
-use Rattle.device_model.specs.Finishing.{HasMove, HasRoom, IsGoing, IsReady}
+use Rattle.device_model.specs.Finishing.{HasMove, HasRoom, IsGoing, MayFinish}
 use Rattle.device_model.specs.Modelled.{device_at, outside_at}
+use Rattle.device_model.specs.Sent.{SendsEnd}
 use Rattle.device_model.specs.Whole.{Outside, device_of}
 use Rattle.adapter.proofs.Absurd.{true-false, some-none, some_one}
 use Rattle.adapter.proofs.Going.{goes_one, goes_next}
+use Rattle.device_model.proofs.TwoDisks.{in_kept}
 use Rattle.device_model.proofs.Doing.{answered_true, cut_short, did_it, left_it, left_same, meanwhile_on}
 use Rattle.adapter.specs.OneCommand.{IsFreeSlot}
 use Rattle.device_model.proofs.Identifying.{has_ready, page_taken}
@@ -26,7 +28,7 @@ loop-piece-init g c =
     let new : Device = device_of c.fetch-did.new.self o in
     let kept = c.reserve.ensures.same o in
     record {
-      did = λ e. goes_one c.args.port.0 c.args.slot.0 _ new
+      did = λ e. goes_one SendsEnd c.args.port.0 c.args.slot.0 _ new
           (inl (subst (λ (d : Device). DoesFetch c.args.port.0 c.args.slot.0 d new) kept (c.fetch-did.ensures.did e o)));
       refused = λ e. c.fetch-did.ensures.refused e o ∙ kept;
       size = fetched_size c.args.port.0 c.args.slot.0 c.fetch-did.result _ new (λ e. c.fetch-did.ensures.did e o) (λ e. c.fetch-did.ensures.refused e o)
@@ -36,6 +38,7 @@ loop-piece-init g c =
       meanwhile = record {
         held = refl;
         says = refl;
+        which = refl;
         pages = gains_none g.S.SectorStore.size _ _
             (ap (λ (v : Vec Entry). v.items) c.fetch-did.ensures.tape ∙ ap (λ (d : Device). d.tape) kept);
         keeps = on_hardware g.S.SectorStore.size g.S.SectorStore.told g.S.SectorStore.is_sure m c.fetch-did.new.self;
@@ -46,7 +49,7 @@ loop-piece-init g c =
           let enough = subst P (sym c.fetch-did.ensures.tape) (c.reserve.ensures.room c.if-not-reserve.false) in
           omega (arith, enough);
       going =
-          let P : Device → Type 0 = λ d. IsReady d c.args.port.0 c.args.slot.0 c.sectors-sectors.result c.in-Some.left in
+          let P : Device → Type 0 = λ d. MayFinish d c.args.port.0 c.args.slot.0 c.sectors-sectors.result c.in-Some.left in
           let Q : ℕ → Type 0 = λ n. IsGoing new c.args.port.0 c.args.slot.0 c.sectors-sectors.result n in
           let all : c.in-Some.left ≡ c.in-Some.left - 0 = omega arith in
           subst Q all
@@ -60,12 +63,12 @@ loop-piece-preserved g c =
     c.move_piece.ensures.answers c.if-not-move_piece.false in
     let moved = step.asked in
     record {
-      did = λ _. goes_next c.args.port.0 c.args.slot.0 _ _ _ c.loop-piece.did c.loop-piece.invariant.did c.loop-piece.invariant.refused (inr (inl moved));
+      did = λ _. goes_next SendsEnd c.args.port.0 c.args.slot.0 _ _ _ c.loop-piece.did c.loop-piece.invariant.did c.loop-piece.invariant.refused (inr (inl moved));
       refused = λ never. absurd (let e : true ≡ false = never in cc);
       size = ap (λ (d : Device). d.size) moved.effect ∙ c.loop-piece.invariant.size;
-      disk = step.keeps.sectors ∙ c.loop-piece.invariant.disk;
+      disk = in_kept g.S.SectorStore.size c.loop-piece.self c.move_piece.new.self step.which step.keeps.sectors ∙ c.loop-piece.invariant.disk;
       meanwhile = meanwhile_on g.S.SectorStore.size g.S.SectorStore.told g.S.SectorStore.is_sure _ _ _ c.loop-piece.invariant.meanwhile
-          (record { held = step.held; says = step.says; pages = step.pages; keeps = step.keeps; starved = step.starved });
+          (record { held = step.held; says = step.says; which = step.which; pages = step.pages; keeps = step.keeps; starved = step.starved });
       disk_same = λ zero has.
           let t : Taken = c.loop-piece.invariant.going.t in
           let taken = c.loop-piece.invariant.going.works.taken in
@@ -79,10 +82,10 @@ loop-piece-preserved g c =
     }
 
 -- what was found to be ready is possible
-may_finish : (size : ℕ) (d : Device) (port slot sectors left : ℕ) → port ≡ 0 → slot < 32 → sectors ≡ size → IsReady d port slot sectors left →
-    (port ≡ 0) × (slot < 32) × (n : ℕ) × IsReady d port slot size n
+may_finish : (size : ℕ) (d : Device) (port slot sectors left : ℕ) → port ≡ 0 → slot < 32 → sectors ≡ size → MayFinish d port slot sectors left →
+    (port ≡ 0) × (slot < 32) × (n : ℕ) × MayFinish d port slot size n
 may_finish size d port slot sectors left zero small same ready =
-    let P : ℕ → Type 0 = λ n. IsReady d port slot n left in (zero, small, left, subst P same ready)
+    let P : ℕ → Type 0 = λ n. MayFinish d port slot n left in (zero, small, left, subst P same ready)
 
 -- a move was left: no move that is possible is, where it is served
 pub returns-then-not-move_piece-clause-answers : goal.returns-then-not-move_piece-clause-answers
@@ -92,7 +95,7 @@ returns-then-not-move_piece-clause-answers g c =
     let o : Outside = outside_at g.S.SectorStore.size g.S.SectorStore.told first in
     let is = c.loop-piece.invariant in
     let d : Device = device_at g.S.SectorStore.size g.S.SectorStore.told m in
-    let size = g.S.SectorStore.size m.disk0 in
+    let size = g.S.SectorStore.size m.disk in
     let step = left_it g.S.SectorStore.size g.S.SectorStore.told g.S.SectorStore.is_sure (asked.Move c.args.port c.args.slot) _ _ c.move_piece.result
     c.move_piece.ensures.answers c.if-not-move_piece.true in
     let left = c.in-Some.left - (c.loop-piece._piece + 1) in
@@ -106,9 +109,9 @@ returns-then-not-move_piece-clause-answers g c =
     let here : IsGoing d 0 c.args.slot.0 size (suc left) = subst R zero going in
     let found = subst T (sym zero) (here.t, going_has_move d 0 c.args.slot.0 left refl here) in
     let room : HasRoom m.hardware 1 = omega (arith, is.room) in
-    let sectors : c.sectors-sectors.result ≡ g.S.SectorStore.size first.disk0 = c.sectors-sectors.ensures in
+    let sectors : c.sectors-sectors.result ≡ g.S.SectorStore.size first.disk = c.sectors-sectors.ensures in
     cut_short g.S.SectorStore.size g.S.SectorStore.told g.S.SectorStore.is_sure c.args.port c.args.slot c.loop-piece.did first m _
-    (may_finish (g.S.SectorStore.size first.disk0) _ c.args.port.0 c.args.slot.0 c.sectors-sectors.result c.in-Some.left zero c.requires sectors (c.in-Some.ensures.ready o))
+    (may_finish (g.S.SectorStore.size first.disk) _ c.args.port.0 c.args.slot.0 c.sectors-sectors.result c.in-Some.left zero c.requires sectors (c.in-Some.ensures.ready o))
     is.did is.refused is.size is.meanwhile step room (c.requires, found.0, found.1)
 
 pub returns-then-done-clause-answers : goal.returns-then-done-clause-answers
@@ -121,25 +124,27 @@ returns-then-done-clause-answers g c =
     let P : ℕ → Type 0 = λ n. IsGoing (device_at g.S.SectorStore.size g.S.SectorStore.told m) c.args.port.0 c.args.slot.0 c.sectors-sectors.result n in
     let none : c.in-Some.left - c.loop-piece._piece ≡ 0 = omega (arith, c.loop-piece-test.false) in
     let done = c.done.ensures.did c.if-done.true o in
-    let sectors : c.sectors-sectors.result ≡ g.S.SectorStore.size first.disk0 = c.sectors-sectors.ensures in
+    let sectors : c.sectors-sectors.result ≡ g.S.SectorStore.size first.disk = c.sectors-sectors.ensures in
     let all = meanwhile_on g.S.SectorStore.size g.S.SectorStore.told g.S.SectorStore.is_sure first m (record m { hardware = c.done.new.self }) is.meanwhile
     (record {
       held = refl;
       says = refl;
+      which = refl;
       pages = gains_done g.S.SectorStore.size o c.args.port.0 c.args.slot.0 m _ done;
       keeps = on_hardware g.S.SectorStore.size g.S.SectorStore.told g.S.SectorStore.is_sure m c.done.new.self;
       starved = c.done.ensures.fed c.if-done.true;
     }) in
     answered_true g.S.SectorStore.size g.S.SectorStore.told g.S.SectorStore.is_sure (asked.Finish c.args.port c.args.slot) first _ c.done.result c.if-done.true (
-      may_finish (g.S.SectorStore.size first.disk0) _ c.args.port.0 c.args.slot.0 c.sectors-sectors.result c.in-Some.left c.if-port-ne0.false c.requires sectors
+      may_finish (g.S.SectorStore.size first.disk) _ c.args.port.0 c.args.slot.0 c.sectors-sectors.result c.in-Some.left c.if-port-ne0.false c.requires sectors
           (c.in-Some.ensures.ready start),
       record {
-        asked = goes_next c.args.port.0 c.args.slot.0 _ _ _ c.loop-piece.did is.did is.refused (inr (inr done));
+        asked = goes_next SendsEnd c.args.port.0 c.args.slot.0 _ _ _ c.loop-piece.did is.did is.refused (inr (inr done));
         ends = λ _. done_frees c.args.port.0 c.args.slot.0 c.sectors-sectors.result _ _ (subst P none is.going) done;
         held = all.held;
         says = all.says;
+        which = all.which;
         pages = all.pages;
-        disk0 = λ never. absurd never;
+        disks = λ never. absurd never;
         keeps = all.keeps;
         starved = all.starved;
       },
@@ -172,7 +177,7 @@ returns-in_default-clause-answers g c =
     let o : Outside = outside_at g.S.SectorStore.size g.S.SectorStore.told m in
     left_same g.S.SectorStore.size g.S.SectorStore.told g.S.SectorStore.is_sure _ m
     (λ may.
-    let P : ℕ → Type 0 = λ n. IsReady (device_of m.hardware o) c.args.port.0 c.args.slot.0 n may.2 in
+    let P : ℕ → Type 0 = λ n. MayFinish (device_of m.hardware o) c.args.port.0 c.args.slot.0 n may.2 in
     some-none (c.moves_left.ensures.only o may.2 (subst P (sym c.sectors-sectors.ensures) may.3)) c.in_default.is)
 
 -- the tape has no memory for it
@@ -180,16 +185,17 @@ pub returns-then-not-reserve-clause-answers : goal.returns-then-not-reserve-clau
 returns-then-not-reserve-clause-answers g c =
     let m = c.args.self.now in
     let o : Outside = outside_at g.S.SectorStore.size g.S.SectorStore.told m in
-    let sectors : c.sectors-sectors.result ≡ g.S.SectorStore.size m.disk0 = c.sectors-sectors.ensures in
-    let P : ℕ → Type 0 = λ n. IsReady (device_of m.hardware o) c.args.port.0 c.args.slot.0 n c.in-Some.left in
+    let sectors : c.sectors-sectors.result ≡ g.S.SectorStore.size m.disk = c.sectors-sectors.ensures in
+    let P : ℕ → Type 0 = λ n. MayFinish (device_of m.hardware o) c.args.port.0 c.args.slot.0 n c.in-Some.left in
     let ready = subst P sectors (c.in-Some.ensures.ready o) in
     let lacks : HasRoom m.hardware (c.in-Some.left + 1) → ⊥ = λ room. true-false (c.reserve.ensures.enough (omega (arith, room))) c.if-not-reserve.true in
     record {
       device = c.reserve.ensures.same o;
       held = refl;
       says = refl;
-      disk0 = λ never. absurd never;
-      keeps = record { disk1 = refl; sectors = refl; sure = refl; queue = refl; accesses = refl };
+      which = refl;
+      disks = λ never. absurd never;
+      keeps = record { sectors = λ _. refl; sure = λ _. refl; out = λ _ _. refl; queue = refl; accesses = refl };
       why = λ _ _. ((c.in-Some.left, ready, lacks), refl);
       told_on = λ _. refl;
       told_since = λ _. inr ((c.if-port-ne0.false, c.requires, c.in-Some.left, ready), (c.in-Some.left, ready, lacks));
@@ -203,7 +209,7 @@ returns-then-not-move_piece-clause-identifies g c = λ zero has.
     let m = c.loop-piece.self in
     let is = c.loop-piece.invariant in
     let d : Device = device_at g.S.SectorStore.size g.S.SectorStore.told m in
-    let size = g.S.SectorStore.size m.disk0 in
+    let size = g.S.SectorStore.size m.disk in
     let left = c.in-Some.left - (c.loop-piece._piece + 1) in
     let P : ℕ → Type 0 = λ n. IsGoing d c.args.port.0 c.args.slot.0 c.sectors-sectors.result n in
     let Q : ℕ → Type 0 = λ n. IsGoing d c.args.port.0 c.args.slot.0 n (suc left) in
@@ -255,14 +261,14 @@ pub returns-in_default-clause-identifies : goal.returns-in_default-clause-identi
 returns-in_default-clause-identifies g c = λ zero has.
     let m = c.args.self.now in
     let o : Outside = outside_at g.S.SectorStore.size g.S.SectorStore.told m in
-    let P : ℕ → Type 0 = λ q. IsReady (device_of m.hardware o) q c.args.slot.0 c.sectors-sectors.result has.left in
+    let P : ℕ → Type 0 = λ q. MayFinish (device_of m.hardware o) q c.args.slot.0 c.sectors-sectors.result has.left in
     some-none (c.moves_left.ensures.only o has.left (subst P (sym zero) (has_ready _ c.args.slot.0 c.sectors-sectors.result has))) c.in_default.is
 
 pub returns-then-not-reserve-clause-identifies : goal.returns-then-not-reserve-clause-identifies
 returns-then-not-reserve-clause-identifies g c = λ zero has.
     let m = c.args.self.now in
     let o : Outside = outside_at g.S.SectorStore.size g.S.SectorStore.told m in
-    let P : ℕ → Type 0 = λ q. IsReady (device_of m.hardware o) q c.args.slot.0 c.sectors-sectors.result has.left in
+    let P : ℕ → Type 0 = λ q. MayFinish (device_of m.hardware o) q c.args.slot.0 c.sectors-sectors.result has.left in
     let same = some_one (c.in-Some.ensures.only o has.left (subst P (sym zero) (has_ready _ c.args.slot.0 c.sectors-sectors.result has))) in (
       λ never. absurd (let e : false ≡ true = never in cc),
       λ _. (refl, λ room. c.reserve.ensures.lacks c.if-not-reserve.true (omega (arith, same, room))),

@@ -2,19 +2,20 @@ use Rattle.std.proofs.Common.{◌≡◌, ◌+◌, ◌-◌, true, false}
 use Rattle.adapter.specs.Asked.{GoesOn}
 use Rattle.device_model.specs.Finishing.{HasIdentify, HasRoom, IsGoing}
 use Rattle.device_model.specs.Modelled.{device_at}
+use Rattle.device_model.specs.Sent.{SendsEnd}
 use Rattle.device_model.proofs.Doing.{Meanwhile}
 use Rattle.device_model.proofs.model.Model.finish.Given as goal
 
 abbrev pub invariant-loop-piece : goal.invariant-loop-piece
 invariant-loop-piece g l = record {
-  did : l.did ≡ true → GoesOn l.port.0 l.slot.0
+  did : l.did ≡ true → GoesOn SendsEnd l.port.0 l.slot.0
       (device_at g.S.SectorStore.size g.S.SectorStore.told l.fn.self) (device_at g.S.SectorStore.size g.S.SectorStore.told l.self);
   refused : l.did ≡ false →
       device_at g.S.SectorStore.size g.S.SectorStore.told l.self ≡ device_at g.S.SectorStore.size g.S.SectorStore.told l.fn.self;
   size : (device_at g.S.SectorStore.size g.S.SectorStore.told l.self).size ≡ (device_at g.S.SectorStore.size g.S.SectorStore.told l.fn.self).size;
-  disk : g.S.SectorStore.size l.self.disk0 ≡ l.sectors;
+  disk : g.S.SectorStore.size l.self.disk ≡ l.sectors;
   room : HasRoom l.self.hardware (l.left - l._piece + 1);
   going : IsGoing (device_at g.S.SectorStore.size g.S.SectorStore.told l.self) l.port.0 l.slot.0 l.sectors (l.left - l._piece);
-  disk_same : l.port.0 ≡ 0 → HasIdentify (device_at g.S.SectorStore.size g.S.SectorStore.told l.fn.self) l.slot.0 → l.self.disk0 ≡ l.fn.self.disk0;
+  disk_same : l.port.0 ≡ 0 → HasIdentify (device_at g.S.SectorStore.size g.S.SectorStore.told l.fn.self) l.slot.0 → l.self.disk ≡ l.fn.self.disk;
   meanwhile : Meanwhile g.S.SectorStore.size g.S.SectorStore.is_sure l.fn.self l.self;
 }

@@ -4,6 +4,7 @@ use Rattle.adapter.specs.Device.{Device}
 use Rattle.adapter.specs.declared.access.DeviceStep.TheVariants as asked
 use Rattle.device_model.specs.Finishing.{HasIdentify, HasRoom}
 use Rattle.device_model.specs.Modelled.{device_at, outside_at}
+use Rattle.device_model.specs.Sent.{SendsEnd}
 use Rattle.device_model.proofs.Doing.{did_it, finish_goes_so, goes_so_on, goes_so_same, left_it}
 use Rattle.device_model.proofs.GoingOn.{gone_settled}
 use Rattle.device_model.proofs.Identifying.{IsPage, fewer_left, has_only, is_page}
@@ -34,7 +35,7 @@ loop-slot-preserved g c =
     let old : Device = device_at g.S.SectorStore.size g.S.SectorStore.told m in
     let new : Device = device_at g.S.SectorStore.size g.S.SectorStore.told c.finish.new.self in
     let step = asked.Finish (record { 0 = 0 }) (record { 0 = c.in-Some.slot }) in
-    let went : c.finish.result ≡ true → GoesOn 0 c.in-Some.slot old new =
+    let went : c.finish.result ≡ true → GoesOn SendsEnd 0 c.in-Some.slot old new =
     λ (e : c.finish.result ≡ true). (did_it g.S.SectorStore.size g.S.SectorStore.told g.S.SectorStore.is_sure step m c.finish.new.self c.finish.result c.finish.ensures.answers e).asked in
     let same : c.finish.result ≡ false → new ≡ old =
     λ (e : c.finish.result ≡ false). (left_it g.S.SectorStore.size g.S.SectorStore.told g.S.SectorStore.is_sure step m c.finish.new.self c.finish.result c.finish.ensures.answers e).device in
@@ -68,7 +69,7 @@ returns-then-not-finish g c =
     let old : Device = device_at g.S.SectorStore.size g.S.SectorStore.told m in
     let new : Device = device_at g.S.SectorStore.size g.S.SectorStore.told c.finish.new.self in
     let step = asked.Finish (record { 0 = 0 }) (record { 0 = c.in-Some.slot }) in
-    let went : c.finish.result ≡ true → GoesOn 0 c.in-Some.slot old new =
+    let went : c.finish.result ≡ true → GoesOn SendsEnd 0 c.in-Some.slot old new =
     λ (e : c.finish.result ≡ true). (did_it g.S.SectorStore.size g.S.SectorStore.told g.S.SectorStore.is_sure step m c.finish.new.self c.finish.result c.finish.ensures.answers e).asked in
     let same : c.finish.result ≡ false → new ≡ old =
     λ (e : c.finish.result ≡ false). (left_it g.S.SectorStore.size g.S.SectorStore.told g.S.SectorStore.is_sure step m c.finish.new.self c.finish.result c.finish.ensures.answers e).device in

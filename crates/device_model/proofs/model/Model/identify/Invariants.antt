@@ -11,7 +11,7 @@ invariant-loop-slot g l = record {
   settled : (held : List Bool) → IsSettled held (device_at g.S.SectorStore.size g.S.SectorStore.told l.fn.self) → IsSettled held (device_at g.S.SectorStore.size g.S.SectorStore.told l.self);
   rest : GoesOnSo g.S.SectorStore.size g.S.SectorStore.is_sure l.fn.self l.self;
   starved : l.self.hardware.starved ≡ l.fn.self.hardware.starved;
-  disk : l.self.disk0 ≡ l.fn.self.disk0;
+  disk : l.self.disk ≡ l.fn.self.disk;
 }
 
 abbrev pub decreases-loop-slot : goal.decreases-loop-slot

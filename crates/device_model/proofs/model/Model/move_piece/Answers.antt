@@ -1,5 +1,5 @@
 use Rattle.std.specs.Prelude.{map}
-use Rattle.std.proofs.Common.{refl, ◌++◌, ℕ, Bool, true, false, ◌&&◌, ◌≡◌, ◌∙◌, ◌+◌, ◌∷◌, [], List, length, sym, ap, subst, arith, inl, inr}
+use Rattle.std.proofs.Common.{refl, ◌++◌, ℕ, true, false, ◌≡◌, ◌∙◌, ◌+◌, ◌∷◌, [], List, length, sym, ap, subst, arith, inl, inr}
 use Rattle.adapter.proofs.Absurd.{some_one, true-false}
 use Rattle.adapter.specs.Asked.{DoesMove}
 use Rattle.adapter.specs.Device.{Device, Disk}
@@ -11,8 +11,10 @@ use Rattle.device_model.specs.Finishing.{HasRoom}
 use Rattle.device_model.specs.Modelled.{device_at, outside_at}
 use Rattle.device_model.specs.Slots.{IsNext}
 use Rattle.device_model.specs.View.{taken_of}
-use Rattle.device_model.specs.Whole.{Outside, device_of, first_disk, outside_of, outside_after}
+use Rattle.device_model.specs.Disks.{disk_over}
+use Rattle.device_model.specs.Whole.{Outside, device_of, outside_of, outside_after}
 use Rattle.device_model.specs.declared.port.TakenCommand.{TakenCommand}
+use Rattle.device_model.proofs.TwoDisks.{keeps_with}
 use Rattle.device_model.proofs.Doing.{left_same}
 use Rattle.device_model.proofs.Finishing.{move_fits, no_move, next_has_move, next_on_disk, outside_moved, sector_small}
 use Rattle.device_model.proofs.Identifying.{next_identifies}
@@ -26,7 +28,7 @@ pub returns-then-port-ne0-clause-answers : goal.returns-then-port-ne0-clause-ans
 returns-then-port-ne0-clause-answers g c =
     let m = c.args.self.now in
     left_same g.S.SectorStore.size g.S.SectorStore.told g.S.SectorStore.is_sure _ m
-    (λ may. no_move m.hardware (first_disk (g.S.SectorStore.size m.disk0) (g.S.SectorStore.told m.disk0)) (g.S.SectorStore.told m.disk1) _ c.args.port.0 c.args.slot.0 may.1
+    (λ may. no_move m.hardware (disk_over m.which (g.S.SectorStore.size m.disk) (g.S.SectorStore.told m.disk)) (g.S.SectorStore.told m.other) _ c.args.port.0 c.args.slot.0 may.1
     c.if-port-ne0.true may.2)
 
 -- there is no move that is possible
@@ -39,15 +41,16 @@ returns-in_default-clause-answers g c =
       device = c.reserve-room.ensures.same o;
       held = refl;
       says = refl;
-      disk0 = λ _. refl;
-      keeps = record { disk1 = refl; sectors = refl; sure = refl; queue = refl; accesses = refl };
+      which = refl;
+      disks = λ _ _. refl;
+      keeps = record { sectors = λ _. refl; sure = λ _. refl; out = λ _ _. refl; queue = refl; accesses = refl };
       why = λ served may.
           absurd (
-          let sectors = g.met.S.SectorStore.fits m.disk0 in
+          let sectors = g.met.S.SectorStore.fits m.disk in
           let size : length c.reserve-room.new.self.memory.items ≡ length m.hardware.memory.items = ap (λ (d : Device). d.size) (c.reserve-room.ensures.same o) in
           let found = move_fits c.reserve-room.new.self o _ c.args.port.0 c.args.slot.0 may.1 c.if-port-ne0.false (c.reserve-room.ensures.same o) may.2 in
           c.next_move.ensures.none c.in_default.is found.r found.holds found.left (let there = found.inside in omega (arith, size, served.1, there)) found.inside
-          (sector_small found.r (g.S.SectorStore.size m.disk0) sectors found.on_disk));
+          (sector_small found.r (g.S.SectorStore.size m.disk) sectors found.on_disk));
       told_on = λ yes. starved ∙ yes;
       told_since = λ yes. inl (sym starved ∙ yes);
     }
@@ -66,8 +69,9 @@ returns-then-is_on-clause-answers g c =
       device = c.reserve-room.ensures.same o;
       held = refl;
       says = refl;
-      disk0 = λ _. refl;
-      keeps = record { disk1 = refl; sectors = refl; sure = refl; queue = refl; accesses = refl };
+      which = refl;
+      disks = λ _ _. refl;
+      keeps = record { sectors = λ _. refl; sure = λ _. refl; out = λ _ _. refl; queue = refl; accesses = refl };
       why = λ _ _. (lacks, refl);
       told_on = λ _. refl;
       told_since = λ _. inr ((c.requires, fits.0, fits.1), lacks);
@@ -84,8 +88,9 @@ returns-else-is_on-clause-answers g c =
       device = c.reserve-room.ensures.same o;
       held = refl;
       says = refl;
-      disk0 = λ _. refl;
-      keeps = record { disk1 = refl; sectors = refl; sure = refl; queue = refl; accesses = refl };
+      which = refl;
+      disks = λ _ _. refl;
+      keeps = record { sectors = λ _. refl; sure = λ _. refl; out = λ _ _. refl; queue = refl; accesses = refl };
       why = λ _ may.
           absurd
           (true-false
@@ -99,32 +104,29 @@ returns-else-is_on-clause-answers g c =
     }
 
 -- the store failed
-first_holds : (a b : Bool) → a && b ≡ true → a ≡ true
-first_holds true b both = refl
-first_holds false b both = both
-
 pub returns-then-not-exchange-clause-answers : goal.returns-then-not-exchange-clause-answers
 returns-then-not-exchange-clause-answers g c =
     let m = c.args.self.now in
     let o : Outside = outside_at g.S.SectorStore.size g.S.SectorStore.told m in
-    let was : List Disk = map (λ s. first_disk (g.S.SectorStore.size s.value) (g.S.SectorStore.told s.value)) m.plugged.items in
+    let was : List Disk = map (λ s. disk_over s.which (g.S.SectorStore.size s.store.value) (g.S.SectorStore.told s.store.value)) m.plugged.items in
     let kept = c.exchange.ensures.kept c.if-not-exchange.true in
     let starved = c.reserve-room.ensures.starved in
     record {
-      device = (λ i. device_of c.reserve-room.new.self (outside_of (first_disk (c.exchange.ensures.size i) (kept i)) (g.S.SectorStore.told m.disk1) was))
+      device = (λ i. device_of c.reserve-room.new.self (outside_of (disk_over m.which (c.exchange.ensures.size i) (kept i)) (g.S.SectorStore.told m.other) was))
           ∙ c.reserve-room.ensures.same o;
       held = refl;
       says = refl;
-      disk0 = λ none. absurd none;
-      keeps = record { disk1 = refl; sectors = c.exchange.ensures.size; sure = c.exchange.ensures.lasts; queue = refl; accesses = refl };
-      why = λ served may. absurd (true-false (c.exchange.ensures.sure (first_holds _ _ served.0) (next_on_disk c.reserve-room.new.self o _ c.args.port.0 c.args.slot.0 c.in-Some.next c.in-Some.ensures.found.0 may.1 c.if-port-ne0.false (c.reserve-room.ensures.same o) c.in-Some.ensures.found.1 may.2)) c.if-not-exchange.true);
+      which = refl;
+      disks = λ none. absurd none;
+      keeps = keeps_with g.S.SectorStore.size g.S.SectorStore.is_sure m _ _ c.exchange.ensures.size c.exchange.ensures.lasts;
+      why = λ served may. absurd (true-false (c.exchange.ensures.sure served.0 (next_on_disk c.reserve-room.new.self o _ c.args.port.0 c.args.slot.0 c.in-Some.next c.in-Some.ensures.found.0 may.1 c.if-port-ne0.false (c.reserve-room.ensures.same o) c.in-Some.ensures.found.1 may.2)) c.if-not-exchange.true);
       told_on = λ yes. starved ∙ yes;
       told_since = λ yes. inl (sym starved ∙ yes);
     }
 
 moved : (g : Over) (c : goal.After-move_bytes g) →
     DoesMove c.args.port.0 c.args.slot.0 (device_at g.S.SectorStore.size g.S.SectorStore.told c.args.self.now)
-    (device_at g.S.SectorStore.size g.S.SectorStore.told (record c.args.self.now { hardware = c.move_bytes.new.self; disk0 = c.exchange.new.disk }))
+    (device_at g.S.SectorStore.size g.S.SectorStore.told (record c.args.self.now { hardware = c.move_bytes.new.self; disk = c.exchange.new.disk }))
 moved g c =
     let m = c.args.self.now in
     let o : Outside = outside_at g.S.SectorStore.size g.S.SectorStore.told m in
@@ -135,11 +137,11 @@ moved g c =
     let moved = c.move_bytes.ensures.moved o in
     let r : TakenCommand = moved.0 in
     let is : IsNext h c.args.port.0 c.args.slot.0 c.in-Some.next r = moved.1 in
-    let disk : Disk = first_disk (g.S.SectorStore.size m.disk0) (g.S.SectorStore.told m.disk0) in
-    let new : Disk = first_disk (g.S.SectorStore.size c.exchange.new.disk) (g.S.SectorStore.told c.exchange.new.disk) in
-    let was : List Disk = map (λ s. first_disk (g.S.SectorStore.size s.value) (g.S.SectorStore.told s.value)) m.plugged.items in
-    let behind : outside_of new (g.S.SectorStore.told m.disk1) was ≡ outside_after o c.args.port.0 (taken_of r) bytes =
-    outside_moved disk new (g.S.SectorStore.told m.disk1) was c.in-Some.next r bytes is.transfer_is is.sector_is (c.exchange.ensures.disk did)
+    let disk : Disk = disk_over m.which (g.S.SectorStore.size m.disk) (g.S.SectorStore.told m.disk) in
+    let new : Disk = disk_over m.which (g.S.SectorStore.size c.exchange.new.disk) (g.S.SectorStore.told c.exchange.new.disk) in
+    let was : List Disk = map (λ s. disk_over s.which (g.S.SectorStore.size s.store.value) (g.S.SectorStore.told s.store.value)) m.plugged.items in
+    let behind : outside_of new (g.S.SectorStore.told m.other) was ≡ outside_after o c.args.port.0 (taken_of r) bytes =
+    outside_moved disk new (g.S.SectorStore.told m.other) was c.in-Some.next r bytes is.transfer_is is.sector_is (c.exchange.ensures.disk did)
     ∙ ap (λ q. outside_after o q (taken_of r) bytes) (sym zero) in
     let P : ℕ → Type 0 = λ q. IsNext h q c.args.slot.0 c.in-Some.next r in
     let Q : ℕ → Type 0 = λ q. Can (Move q c.args.slot.0 (taken_of r) bytes) (device_of h o) in
@@ -169,11 +171,12 @@ returns-clause-answers g c =
         ends = λ _. tt;
         held = refl;
         says = refl;
+        which = refl;
         pages = gains_moved g.S.SectorStore.size m _ noted.0.transfer (move_of c.args.port.0 c.args.slot.0 (taken_of noted.0) c.exchange.new.bytes)
             (ap (λ (d : Device). d.tape) noted.2 ∙ ap (λ (d : Device). d.tape ++ entry ∷ []) (c.reserve-room.ensures.same o)) refl
             (λ identify. c.exchange.ensures.page c.if-not-exchange.false (noted.1.transfer_is ∙ identify));
-        disk0 = λ none. absurd none;
-        keeps = record { disk1 = refl; sectors = c.exchange.ensures.size; sure = c.exchange.ensures.lasts; queue = refl; accesses = refl };
+        disks = λ none. absurd none;
+        keeps = keeps_with g.S.SectorStore.size g.S.SectorStore.is_sure m _ _ c.exchange.ensures.size c.exchange.ensures.lasts;
         starved = c.move_bytes.ensures.starved ∙ c.reserve-room.ensures.starved;
       },
     )
@@ -201,7 +204,7 @@ pub returns-then-port-ne0-clause-page : goal.returns-then-port-ne0-clause-page
 returns-then-port-ne0-clause-page g c = λ t taken identifies.
     let m = c.args.self.now in (
       refl,
-      λ _ move _ _. no_move m.hardware (first_disk (g.S.SectorStore.size m.disk0) (g.S.SectorStore.told m.disk0)) (g.S.SectorStore.told m.disk1) _ c.args.port.0 c.args.slot.0 t
+      λ _ move _ _. no_move m.hardware (disk_over m.which (g.S.SectorStore.size m.disk) (g.S.SectorStore.told m.disk)) (g.S.SectorStore.told m.other) _ c.args.port.0 c.args.slot.0 t
           c.if-port-ne0.true move,
     )
 
@@ -212,11 +215,11 @@ returns-in_default-clause-page g c = λ t taken identifies.
       refl,
       λ _ move low _.
           let found = move_fits c.reserve-room.new.self o _ c.args.port.0 c.args.slot.0 t c.if-port-ne0.false (c.reserve-room.ensures.same o) move in
-          let sectors = g.met.S.SectorStore.fits m.disk0 in
+          let sectors = g.met.S.SectorStore.fits m.disk in
           let one : t ≡ taken_of found.r = some_one (sym move.works.taken ∙ (ap (λ (d : Device). (d.port c.args.port.0).taken c.args.slot.0) (sym (c.reserve-room.ensures.same o)) ∙ (found.holds.works (o.media c.args.port.0)).taken)) in
           let place : next_place t ≡ next_place (taken_of found.r) = ap next_place one in
           c.next_move.ensures.none c.in_default.is found.r found.holds found.left (omega (arith, place, low)) found.inside
-          (sector_small found.r (g.S.SectorStore.size m.disk0) sectors found.on_disk),
+          (sector_small found.r (g.S.SectorStore.size m.disk) sectors found.on_disk),
     )
 
 pub returns-then-is_on-clause-page : goal.returns-then-is_on-clause-page

@@ -1,11 +1,17 @@
-use Rattle.std.proofs.Common.{ℕ, ◌≡◌, [], ◌∷◌, ◌++◌, List, ◌∙◌, ap, refl, sym, subst, inl, inr}
-use Rattle.std.specs.Prelude.{map}
+use Rattle.std.proofs.Common.{ℕ, ◌≡◌, ◌&&◌, [], ◌∷◌, ◌++◌, List, ◌∙◌, ap, arith, refl, sym, subst, inl, inr}
+use Rattle.std.specs.Prelude.{is_some, map}
 use Rattle.adapter.specs.Asked.{DoesPlug}
 use Rattle.adapter.specs.Device.{Device, Disk}
+use Rattle.adapter.specs.declared.access.DeviceStep.TheVariants as asked
 use Rattle.adapter.specs.declared.tape.Entry.TheVariants as entry
+use Rattle.device_model.specs.Disks.{disk_over, disk_number}
+use Rattle.device_model.specs.Does.{Did}
 use Rattle.device_model.specs.Modelled.{device_at, outside_at}
 use Rattle.device_model.specs.Tells.{disks_told}
-use Rattle.device_model.specs.Whole.{Outside, device_of, first_disk, outside_of}
+use Rattle.device_model.specs.Whole.{Outside, device_of, outside_of}
+use Rattle.device_model.specs.declared.disks.Inserted.{Inserted}
+use Rattle.device_model.specs.declared.model.Model.{Model}
+use Rattle.device_model.proofs.TwoDisks.{both_turned, in_kept, number_small, of_number, one_number}
 use Rattle.device_model.proofs.Finishing.{outside_put}
 use Rattle.device_model.proofs.NewModel.{disks_are}
 use Rattle.device_model.proofs.Telling.{gains_one}
@@ -17,71 +23,105 @@ pub returns-then-not-plug : goal.returns-then-not-plug
 returns-then-not-plug g c =
     let m = c.args.self.now in
     let o : Outside = outside_at g.S.SectorStore.size g.S.SectorStore.told m in
-    let disk : Disk = first_disk (g.S.SectorStore.size m.disk0) (g.S.SectorStore.told m.disk0) in
+    let disk : Disk = disk_over m.which (g.S.SectorStore.size m.disk) (g.S.SectorStore.told m.disk) in
     let same = c.plug.ensures.refused c.if-not-plug.true o in
     let free = c.if-self-offset0.false in
+    let small = number_small c.in-Some.which in
     elim (c.plug.ensures.left c.if-not-plug.true o) [
       | inl never ↦ absurd (never.0 free)
       | inr missed ↦ record {
         device = ap
             (λ l. device_of c.plug.new.self
-            (outside_of disk (g.S.SectorStore.told m.disk1) (map (λ s. first_disk (g.S.SectorStore.size s.value) (g.S.SectorStore.told s.value)) l)))
+            (outside_of disk (g.S.SectorStore.told m.other) (map (λ s. disk_over s.which (g.S.SectorStore.size s.store.value) (g.S.SectorStore.told s.store.value)) l)))
             c.reserve.ensures.items
             ∙ same;
         held = refl;
         says = refl;
-        disk0 = λ _. refl;
-        keeps = record { disk1 = refl; sectors = refl; sure = refl; queue = refl; accesses = refl };
+        which = refl;
+        disks = λ _ _. refl;
+        keeps = record { out = λ _ _. refl; sectors = λ _. refl; sure = λ _. refl; queue = refl; accesses = refl };
         why = λ _ _. (λ room _. missed.1 room, missed.2);
         told_on = λ _. missed.2;
-        told_since = λ _. inr ((c.if-port-ne0.false, c.if-disk-ne0.false, free), λ room _. missed.1 room);
+        told_since = λ _. inr ((c.if-port-ne0.false, omega (arith, small, c.in-Some.ensures.found), free), λ room _. missed.1 room);
       }
     ]
 
-does : (g : Over) (c : goal.After-remember g) → DoesPlug 0 0 (device_at g.S.SectorStore.size g.S.SectorStore.told c.args.self.now)
-    (device_at g.S.SectorStore.size g.S.SectorStore.told (record c.args.self.now { hardware = c.plug.new.self; plugged = c.remember.new.plugged }))
+-- the model afterwards
+abbrev after : (g : Over) (c : goal.After-remember g) → Model g.row.S.Denot
+after g c =
+    record c.args.self.now {
+      hardware = c.plug.new.self;
+      which = c.turn_to.new.self.which;
+      disk = c.turn_to.new.self.disk;
+      other = c.turn_to.new.self.other;
+      plugged = c.remember.new.plugged;
+    }
+
+does : (g : Over) (c : goal.After-remember g) → DoesPlug 0 c.args.disk.0 (device_at g.S.SectorStore.size g.S.SectorStore.told c.args.self.now)
+    (device_at g.S.SectorStore.size g.S.SectorStore.told (after g c))
 does g c =
     let m = c.args.self.now in
+    let t = c.turn_to.new.self in
+    let each = c.turn_to.ensures.disks in
     let o : Outside = outside_at g.S.SectorStore.size g.S.SectorStore.told m in
-    let disk : Disk = first_disk (g.S.SectorStore.size m.disk0) (g.S.SectorStore.told m.disk0) in
-    let other = g.S.SectorStore.told m.disk1 in
-    let was : List Disk = map (λ s. first_disk (g.S.SectorStore.size s.value) (g.S.SectorStore.told s.value)) m.plugged.items in
-    let is : List Disk = map (λ s. first_disk (g.S.SectorStore.size s.value) (g.S.SectorStore.told s.value)) c.remember.new.plugged.items in
-    let kept : map (λ s. first_disk (g.S.SectorStore.size s.value) (g.S.SectorStore.told s.value)) c.reserve.new.self.items ≡ was =
-    ap (λ l. map (λ s. first_disk (g.S.SectorStore.size s.value) (g.S.SectorStore.told s.value)) l) c.reserve.ensures.items in
+    let last : Disk = disk_over m.which (g.S.SectorStore.size m.disk) (g.S.SectorStore.told m.disk) in
+    let disk : Disk = disk_over t.which (g.S.SectorStore.size t.disk) (g.S.SectorStore.told t.disk) in
+    let disk_as : Inserted g.row.S.Denot → Disk = λ s. disk_over s.which (g.S.SectorStore.size s.store.value) (g.S.SectorStore.told s.store.value) in
+    let was : List Disk = map disk_as m.plugged.items in
+    let is : List Disk = map disk_as c.remember.new.plugged.items in
+    let kept : map disk_as t.plugged.items ≡ was =
+    ap (λ (x : Model g.row.S.Denot). map disk_as x.plugged.items) c.turn_to.ensures.rest ∙ ap (map disk_as) c.reserve.ensures.items in
+    let named : disk_over c.in-Some.which (g.S.SectorStore.size t.disk) (g.S.SectorStore.told t.disk) ≡ disk =
+    ap (λ w. disk_over w (g.S.SectorStore.size t.disk) (g.S.SectorStore.told t.disk)) (sym c.turn_to.ensures.which) in
     let more : is ≡ was ++ disk ∷ [] =
-    c.remember.ensures (λ x. first_disk (g.S.SectorStore.size x) (g.S.SectorStore.told x)) ∙ ap (λ (l : List Disk). l ++ disk ∷ []) kept in
+    c.remember.ensures (λ w x. disk_over w (g.S.SectorStore.size x) (g.S.SectorStore.told x))
+    ∙ (ap (λ (l : List Disk). l ++ disk_over c.in-Some.which (g.S.SectorStore.size t.disk) (g.S.SectorStore.told t.disk) ∷ []) kept ∙ ap (λ (d : Disk). was ++ d ∷ []) named) in
+    let tells : is_some (g.S.SectorStore.told t.disk) && is_some (g.S.SectorStore.told t.other) ≡ (is_some (g.S.SectorStore.told m.disk) && is_some (g.S.SectorStore.told m.other)) =
+    both_turned (λ s. is_some (g.S.SectorStore.told s)) m t each in
+    let number : disk_number t.which ≡ disk_number c.in-Some.which = ap disk_number c.turn_to.ensures.which in
     let yes = c.if-not-plug.false in
     record {
       disk = disk;
-      name = refl;
+      name = number ∙ c.in-Some.ensures.found;
       can = (
         c.plug.ensures.free yes o,
-        disks_are disk other was (g.met.S.SectorStore.tells_sectors m.disk0) 0,
-        λ telling. disks_told disk other was telling 0,
-        λ _. refl,
+        disks_are disk (g.S.SectorStore.told t.other) was (g.met.S.SectorStore.tells_sectors t.disk) 0,
+        λ telling. disks_told disk (g.S.SectorStore.told t.other) was (tells ∙ telling) 0,
+        λ same. in_kept g.S.SectorStore.size m t (one_number t.which m.which same) (λ w. ap g.S.SectorStore.size (each w)),
       );
-      effect = ap (λ (l : List Disk). device_of c.plug.new.self (outside_of disk other l)) more
-          ∙ (ap (λ (x : Outside). device_of c.plug.new.self x) (outside_put disk other was) ∙ c.plug.ensures.did yes o disk refl);
+      effect = ap (λ (l : List Disk). device_of c.plug.new.self (outside_of disk (g.S.SectorStore.told t.other) l)) more
+          ∙ (ap (λ (x : Outside). device_of c.plug.new.self x) (outside_put disk last (g.S.SectorStore.told t.other) (g.S.SectorStore.told m.other) was tells)
+          ∙ c.plug.ensures.did yes o disk (number ∙ sym c.number.ensures));
     }
 
 pub returns : goal.returns
 returns g c =
     let m = c.args.self.now in
+    let t = c.turn_to.new.self in
+    let each = c.turn_to.ensures.disks in
     let o : Outside = outside_at g.S.SectorStore.size g.S.SectorStore.told m in
-    let disk : Disk = first_disk (g.S.SectorStore.size m.disk0) (g.S.SectorStore.told m.disk0) in
-    let new = record m { hardware = c.plug.new.self; plugged = c.remember.new.plugged } in
-    let P : ℕ → ℕ → Type 0 = λ p d. DoesPlug p d (device_at g.S.SectorStore.size g.S.SectorStore.told m) (device_at g.S.SectorStore.size g.S.SectorStore.told new) in (
-      (c.if-port-ne0.false, c.if-disk-ne0.false, c.if-self-offset0.false),
-      record {
-        asked = subst (λ (p : ℕ). P p c.args.disk.0) (sym c.if-port-ne0.false) (subst (λ (d : ℕ). P 0 d) (sym c.if-disk-ne0.false) (does g c));
-        ends = λ _. tt;
-        held = refl;
-        says = refl;
-        pages = gains_one g.S.SectorStore.size m _ (entry.Plug (record { 0 = 0 }) 0)
-            (ap (λ (d : Device). d.tape) (c.plug.ensures.did c.if-not-plug.false o disk refl)) (λ x e. absurd (cc e));
-        disk0 = λ _. refl;
-        keeps = record { disk1 = refl; sectors = refl; sure = refl; queue = refl; accesses = refl };
-        starved = c.plug.ensures.fed c.if-not-plug.false;
-      },
+    let plug = asked.Plug c.args.port c.args.disk in
+    let P : ℕ → Type 0 = λ p. DoesPlug p c.args.disk.0 (device_at g.S.SectorStore.size g.S.SectorStore.told m) (device_at g.S.SectorStore.size g.S.SectorStore.told (after g c)) in
+    let Q : Model g.row.S.Denot → Type 0 = λ x. Did g.S.SectorStore.size g.S.SectorStore.told g.S.SectorStore.is_sure plug m (record x { plugged = c.remember.new.plugged }) in
+    let small = number_small c.in-Some.which in
+    let put = c.plug.ensures.did c.if-not-plug.false o (disk_over t.which (g.S.SectorStore.size t.disk) (g.S.SectorStore.told t.disk)) (ap disk_number c.turn_to.ensures.which ∙ sym c.number.ensures) in (
+      (c.if-port-ne0.false, omega (arith, small, c.in-Some.ensures.found), c.if-self-offset0.false),
+      subst Q (sym c.turn_to.ensures.rest)
+          (record {
+            asked = subst P (sym c.if-port-ne0.false) (does g c);
+            ends = λ _. tt;
+            held = refl;
+            says = refl;
+            which = c.turn_to.ensures.which ∙ of_number c.in-Some.which c.args.disk.0 c.in-Some.ensures.found;
+            pages = gains_one g.S.SectorStore.size m _ (entry.Plug (record { 0 = 0 }) (disk_number t.which)) (ap (λ (d : Device). d.tape) put) (λ x e. absurd (cc e));
+            disks = λ _. each;
+            keeps = record {
+              out = λ w _. each w;
+              sectors = λ w. ap g.S.SectorStore.size (each w);
+              sure = λ w. ap g.S.SectorStore.is_sure (each w);
+              queue = refl;
+              accesses = refl;
+            };
+            starved = c.plug.ensures.fed c.if-not-plug.false;
+          }),
     )

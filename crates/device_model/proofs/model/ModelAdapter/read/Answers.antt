@@ -5,10 +5,11 @@ use Rattle.std.specs.Vec.{vec_len, vec_capacity}
 use Rattle.adapter.specs.Device.{Device}
 use Rattle.adapter.specs.declared.tape.Entry.{Entry}
 use Rattle.device_model.specs.Finishing.{HasIdentify}
-use Rattle.device_model.specs.Held.{IsHeld}
+use Rattle.device_model.specs.Held.{IsPortHeld}
 use Rattle.device_model.specs.Settled.{DoesOwn, EndsReset, IsSettled}
 use Rattle.device_model.specs.Modelled.{device_at, outside_at}
 use Rattle.device_model.specs.Whole.{Outside, device_of}
+use Rattle.device_model.proofs.TwoDisks.{both_kept, in_kept}
 use Rattle.device_model.proofs.Identifying.{noted_identify}
 use Rattle.device_model.proofs.Own.{own_on, own_steps, reset_steps}
 use Rattle.device_model.proofs.Ports.{has_port_read, noted_settled}
@@ -49,7 +50,7 @@ pub returns-clause-left : goal.returns-clause-left
 returns-clause-left g c = λ slot small has.
     let last : Outside = outside_at g.S.SectorStore.size g.S.SectorStore.told c.identify.new.self in
     let P : Device → Type 0 = λ d. HasIdentify d slot in
-    let Q : Bool → Type 0 = λ starved. IsHeld c.identify.new.self.held 0 ⊎ (starved ≡ true) in
+    let Q : Bool → Type 0 = λ starved. IsPortHeld c.identify.new.self.held 0 ⊎ (starved ≡ true) in
     subst Q (sym c.note.ensures.starved)
     (c.identify.ensures.left slot small
     (noted_identify c.args.r c.shown-value.result (device_of c.identify.new.self.hardware last) slot (subst P (c.note.ensures.notes last) has)))
@@ -74,14 +75,15 @@ returns-clause-alone g c =
       shows = c.shown-value.ensures last;
       effect = c.note.ensures.notes last;
       says = own.says;
-      pages = gains_on g.S.SectorStore.size mid after _ refl refl
+      which = own.which;
+      pages = gains_on g.S.SectorStore.size mid after _ refl refl refl
           (gains_none g.S.SectorStore.size mid after (ap (λ (v : Vec Entry). v.items) c.settle.ensures.tape))
-          (gains_on g.S.SectorStore.size after c.identify.new.self _ own.says own.keeps.sectors own.pages
+          (gains_on g.S.SectorStore.size after c.identify.new.self _ own.says own.which (in_kept g.S.SectorStore.size after c.identify.new.self own.which own.keeps.sectors) own.pages
           (gains_none g.S.SectorStore.size c.identify.new.self _
           (ap (λ (d : Device). d.tape) (c.note.ensures.notes last) ∙ noted_tape c.args.r c.shown-value.result (device_of c.identify.new.self.hardware last))));
-      disk0 = c.identify.ensures.disk;
+      disks = both_kept after c.identify.new.self own.which c.identify.ensures.disk own.keeps.out;
       keeps = record {
-        disk1 = own.keeps.disk1;
+        out = own.keeps.out;
         sectors = own.keeps.sectors;
         sure = own.keeps.sure;
         queue = own.keeps.queue;

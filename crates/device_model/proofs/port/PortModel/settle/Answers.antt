@@ -2,4 +2,4 @@ use Rattle.device_model.proofs.GoingOn.{goes_on}
 use Rattle.device_model.proofs.port.PortModel.settle.Goals as goal
 
 pub returns-clause-does : goal.returns-clause-does
-returns-clause-does c = λ m. goes_on _ _ _ (c.fall.ensures.does m) (goes_on _ _ _ (c.fr_fall.ensures.does m) (c.link.ensures.does m))
+returns-clause-does c = λ m. goes_on _ _ _ (c.fall.ensures.does m) (c.fr_fall.ensures.does m)

@@ -1,0 +1,29 @@
+use Rattle.std.proofs.Common.{rules, ℕ, ◌≡◌, ◌<◌, ◌≤◌, ◌+◌, ◌∙◌, length, slice_index_or, sym, subst, arith}
+use Rattle.std.proofs.lemmas.Grind.{get_or_default_zero}
+use Rattle.std.specs.Vec.{with_items}
+use Rattle.std.proofs.lemmas.List.{with_items_is}
+use Rattle.adapter.proofs.Absurd.{true-false}
+use Rattle.device_model.specs.View.{blank}
+use Rattle.device_model.specs.Whole.{device_of}
+use Rattle.device_model.proofs.Bytes.{memory_put}
+use Rattle.device_model.proofs.Posting.{received_there}
+use Rattle.device_model.proofs.hardware.Hardware.send.Goals as goal
+
+pub returns-then-area-len-clause-sent : goal.returns-then-area-len-clause-sent
+returns-then-area-len-clause-sent c = λ o.
+    let h = c.args.self.now in
+    let fb : ℕ = (slice_index_or h.ports c.args.port blank).addresses.fb in
+    let size : length c.put.new.memory ≡ h.memory.len = c.put.auto.memory ∙ c.deref_mut.ensures.len in
+    let inside : fb + 256 ≤ length h.memory.items = search rules in
+    let fits : (fb + c.args.place) + length c.args.fis.now ≤ length h.memory.items = search rules in
+    record {
+      posted = λ _. record {
+        receives = c.if-self-port.true;
+        from = omega arith;
+        to = search rules;
+        are_bytes = λ k d small. let P : ℕ → Type 0 = λ n. n < 256 in subst P (sym (get_or_default_zero c.args.fis.now k d small)) (c.fits-fis k);
+        effect = memory_put (device_of h o) h.memory.items c.args.fis.now (with_items h.memory c.put.new.memory).items (fb + c.args.place) fits
+            (with_items_is h.memory c.put.new.memory size ∙ rw c.deref_mut.ensures.value at c.put.ensures);
+      };
+      lost = λ no. true-false (received_there ((device_of h o).port c.args.port) (length h.memory.items) c.if-self-port.true inside) no;
+    }

@@ -1,0 +1,121 @@
+// The FISes that the model sends, in the received FIS area of a port (Serial ATA; AHCI 1.3.1, 4.2.1).
+ghost use Rattle.std.specs.Prelude.{◌≡◌, ◌+◌, ◌<◌, ◌≤◌, ◌/◌, ◌%◌, true, false};
+ghost use Rattle.ata_types.specs.declared.memory.TheConstants.{RECEIVED_BYTES};
+ghost use Rattle.device_model.specs.Sent.{IsSent, SendsEnd, SendsRegisters, end_of, page_setup, signature_of};
+ghost use Rattle.device_model.specs.View.{Media, cause_of, operation_of, port_of};
+ghost use Rattle.device_model.specs.Whole.{Outside, device_of};
+
+use crate::hardware::{Hardware, put};
+use crate::port::{PortModel, Transfer};
+use ata_types::RECEIVED_BYTES;
+use fis::{DeviceToHost, PioSetup, encode_d2h, encode_pio_setup};
+
+/// Where a PIO Setup FIS stands in the received FIS area (AHCI 1.3.1, 4.2.1).
+const SETUP: usize = 0x20;
+
+/// Where a Register FIS stands there.
+const REGISTERS: usize = 0x40;
+
+/// DRQ, a bit of the status.
+const DATA_REQUEST: u8 = 0x08;
+
+impl PortModel {
+    /// The status, and the error, that PxTFD shows.
+    fn status_and_error(&self) -> (u8, u8)
+        ensures { (m : Media) → (result.0 ≡ (port_of self.now m).tfd % 256) × (result.1 ≡ (port_of self.now m).tfd / 256) }
+    {
+        let task_file = self.task_file();
+        ((task_file % 256) as u8, (task_file / 256) as u8)
+    }
+
+    /// What a PIO Setup FIS tells of a page of 512 bytes that has come.
+    fn page_setup(&self) -> PioSetup
+        ensures { (m : Media) → result ≡ page_setup (port_of self.now m) }
+    {
+        let (status, error) = self.status_and_error();
+        PioSetup {
+            interrupt: true,
+            to_host: true,
+            status: status | DATA_REQUEST,
+            error,
+            lba: 0,
+            device: 0,
+            count: 0,
+            ending_status: status,
+            transfer_count: 512,
+        }
+    }
+
+    /// What a Register FIS tells of a command that has ended.
+    fn end_registers(&self) -> DeviceToHost
+        ensures { (m : Media) → result ≡ end_of (port_of self.now m) }
+    {
+        let (status, error) = self.status_and_error();
+        DeviceToHost {
+            interrupt: true,
+            status,
+            error,
+            lba: 0,
+            device: 0,
+            count: 0,
+        }
+    }
+
+    /// What the first FIS of an ATA disk tells: its signature.
+    fn signature(&self) -> DeviceToHost
+        ensures { (m : Media) → result ≡ signature_of (port_of self.now m) }
+    {
+        let (status, error) = self.status_and_error();
+        DeviceToHost {
+            interrupt: false,
+            status,
+            error,
+            lba: 1,
+            device: 0,
+            count: 1,
+        }
+    }
+}
+
+impl Hardware {
+    /// Puts a FIS into the received FIS area of a port, at a place there, if the port receives FISes and its area is in the memory.
+    fn send(&mut self, port: usize, place: usize, fis: &[u8; 20])
+        requires port { port < 4 }
+        requires place { place + 20 ≤ RECEIVED_BYTES }
+        ensures sent { (o : Outside) → IsSent port place fis.now (device_of self.old o) (device_of self.new o) }
+        ensures rest { self.new ≡ record self.old { memory = self.new.memory } }
+    {
+        let area = self.ports[port].addresses.fb as usize;
+        if self.ports[port].fre && area + RECEIVED_BYTES as usize <= self.memory.len() {
+            put(&mut self.memory, area + place, fis);
+        }
+    }
+
+    /// Sends the FIS of a command that has ended: of IDENTIFY DEVICE, whose page goes by PIO, a PIO Setup FIS, and of the others a Register FIS.
+    pub fn send_end(&mut self, port: usize, transfer: Transfer)
+        requires { port < 4 }
+        ensures sent { (o : Outside) → SendsEnd port (cause_of transfer) (operation_of transfer) (device_of self.old o) (device_of self.new o) }
+        ensures rest { self.new ≡ record self.old { memory = self.new.memory } }
+    {
+        match transfer {
+            Transfer::Identify => {
+                let fis = encode_pio_setup(&self.ports[port].page_setup());
+                self.send(port, SETUP, &fis);
+            }
+            Transfer::Read | Transfer::Write => {
+                let fis = encode_d2h(&self.ports[port].end_registers());
+                self.send(port, REGISTERS, &fis);
+            }
+        }
+    }
+
+    /// Sends the first FIS of a disk, whose link has come up.
+    pub fn send_signature(&mut self, port: usize)
+        requires { port < 4 }
+        ensures sent { (o : Outside) → SendsRegisters port (signature_of ((device_of self.old o).port port)) (device_of self.old o) (device_of self.new o) }
+        ensures rest { self.new ≡ record self.old { memory = self.new.memory } }
+    {
+        let fis = encode_d2h(&self.ports[port].signature());
+        self.send(port, REGISTERS, &fis);
+    }
+}
