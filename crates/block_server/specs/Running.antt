@@ -4,12 +4,13 @@ use Rattle.ata_types.specs.declared.memory.TheConstants.{FRAME_BYTES}
 use Rattle.ata_types.specs.declared.refusal.MemFault.{MemFault}
 use Rattle.ata_types.specs.declared.request.ClientId.{ClientId}
 use Rattle.ata_types.specs.declared.request.Frame.{Frame}
+use Rattle.ata_types.specs.declared.request.Reply.{Reply}
 use Rattle.adapter.specs.Access.{Loads}
 use Rattle.adapter.specs.Device.{Device}
 use Rattle.block_machine.specs.Refusals.{IsOpen, IsFirstMemFault}
 use Rattle.dma_frames.specs.Table.{owner_of, lent_to}
 use Rattle.block_server.specs.Calls.{SameServer, Submits, Services, StoresFrame, StepsDevice}
-use Rattle.block_machine.specs.Events.{Ask, Submit as AskSubmit, StoreAt, LoadAt, Service as AskService, State as AskState, Device as Told, Submitted, Loaded, Served, Shown, Stepped}
+use Rattle.block_machine.specs.Events.{Ask, Submit as AskSubmit, StoreAt, LoadAt, Service as AskService, State as AskState, Device as AskDevice, Submitted, Loaded, Served, Shown, Stepped}
 use Rattle.block_machine.specs.Events as machine
 use Rattle.block_machine.specs.Histories.{Happening, Instant}
 use Rattle.adapter.specs.declared.access.DeviceStep.{DeviceStep}
@@ -20,6 +21,8 @@ use Rattle.block_server.specs.declared.types.Event.{Event}
 use Rattle.block_server.specs.declared.types.Event.TheVariants.{Submit, ClientStore, ClientLoad, Service, State, Device as Step}
 use Rattle.block_server.specs.declared.types.Said.{Said}
 use Rattle.block_server.specs.declared.types.Said.TheVariants as said
+use Rattle.block_server.specs.declared.types.Told.{Told}
+use Rattle.block_server.specs.declared.types.Told.TheVariants as told
 
 -- so many bytes of an open frame are told, and of the server nothing but the adapter is another
 abbrev pub TellsBytes : {A : Type 0} → (A → Device) → ServerView A → ServerView A → ClientId → Frame → ℕ → ℕ → List ℕ → Type 0
@@ -31,6 +34,15 @@ TellsBytes device old new client frame offset n bytes = (length bytes ≡ n)
 -- the first cause against the access is told, and nothing changes
 abbrev pub RefusesBytes : {A : Type 0} → ServerView A → ServerView A → ClientId → Frame → ℕ → ℕ → MemFault → Type 0
 RefusesBytes old new client frame offset n fault = IsFirstMemFault (owner_of old.table) (lent_to old.table) client frame offset n fault × (new ≡ old)
+
+-- what a call said, where what a service answered stands in a list aside
+abbrev pub with_replies : Told → List Reply → Said
+with_replies (told.Submitted result) replies = said.Submitted result
+with_replies (told.Stored result) replies = said.Stored result
+with_replies (told.Loaded result) replies = said.Loaded result
+with_replies told.Served replies = said.Served (record { items = replies })
+with_replies (told.State state) replies = said.State state
+with_replies (told.Stepped done) replies = said.Stepped done
 
 -- the event is the call that says this; a load is of at most 64 bytes
 abbrev pub Answers : {A : Type 0} → (A → Device) → Event → Said → ServerView A → ServerView A → Type 0
@@ -52,7 +64,7 @@ ask_of (ClientStore client frame offset bytes) = StoreAt client frame offset byt
 ask_of (ClientLoad client frame offset count) = LoadAt client frame offset (min count 64)
 ask_of Service = AskService
 ask_of (State port) = AskState port
-ask_of (Step step) = Told step
+ask_of (Step step) = AskDevice step
 
 -- what it said
 abbrev pub said_of : Said → machine.Said

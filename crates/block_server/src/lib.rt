@@ -6,4 +6,4 @@ mod server;
 mod types;
 
 pub use server::Server;
-pub use types::{Event, RunStopped, Said, ServerError};
+pub use types::{Event, RunStopped, Said, ServerError, Told};

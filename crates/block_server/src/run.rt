@@ -1,11 +1,12 @@
 // Calls from a list.
 ghost use Rattle.std.specs.Prelude.{◌≡◌, ◌<◌, ◌≤◌, ◌+◌, OnOk, IfOk, IfErr, IsOk, length, take, min, vec_len};
 ghost use Rattle.std.specs.Vec.{vec_capacity};
+ghost use Rattle.block_server.specs.Running.{with_replies};
 
-use crate::{Event, RunStopped, Said, Server};
+use crate::{Event, RunStopped, Said, Server, Told};
 use adapter::{Adapter, Stepped};
 use arrayvec::ArrayVec;
-use ata_types::{ClientId, Frame, MemFault};
+use ata_types::{ClientId, Frame, MemFault, Replies};
 
 /// Bytes that one load of a list tells at most.
 const FEW: usize = 64;
@@ -16,7 +17,8 @@ impl<A: Adapter> Server<A> {
     ghost use Rattle.block_server.specs.View.{server_of};
     ghost use Rattle.server_history.specs.Histories.{Adds};
 
-    /// At most 64 bytes of a frame.
+    /// At most 64 bytes of a frame. A function of its own, since its caller's frame would have room for them else.
+    #[inline(never)]
     fn load_few(
         &mut self,
         client: ClientId,
@@ -37,30 +39,47 @@ impl<A: Adapter> Server<A> {
     }
 }
 
+/// What a call said, with what a service answered.
+fn said_with(told: Told, replies: Replies) -> Said
+    ensures { result ≡ with_replies told replies.items }
+{
+    match told {
+        Told::Submitted(result) => Said::Submitted(result),
+        Told::Stored(result) => Said::Stored(result),
+        Told::Loaded(result) => Said::Loaded(result),
+        Told::Served => Said::Served(replies),
+        Told::State(state) => Said::State(state),
+        Told::Stepped(done) => Said::Stepped(done),
+    }
+}
+
 impl<A: Stepped> Server<A> {
     ghost use Rattle.block_server.specs.Running.{Answered, RanInto};
 
-    /// Makes the call.
-    fn answer(&mut self, event: &Event) -> Said
-        ensures { Answered A.device event.now result self.old self.new }
+    /// Makes the call. What a service answered is all that `replies` has then; another call leaves it.
+    pub fn answer(&mut self, event: &Event, replies: &mut Replies) -> Told
+        ensures { Answered A.device event.now (with_replies result replies.new.items) self.old self.new }
     {
         match event {
-            Event::Submit(request) => Said::Submitted(self.submit(request)),
+            Event::Submit(request) => Told::Submitted(self.submit(request)),
             Event::ClientStore {
                 client,
                 frame,
                 offset,
                 bytes,
-            } => Said::Stored(self.client_store(*client, *frame, *offset, bytes.as_slice())),
+            } => Told::Stored(self.client_store(*client, *frame, *offset, bytes.as_slice())),
             Event::ClientLoad {
                 client,
                 frame,
                 offset,
                 length,
-            } => Said::Loaded(self.load_few(*client, *frame, *offset, *length)),
-            Event::Service => Said::Served(self.service()),
-            Event::State(port) => Said::State(self.state(*port)),
-            Event::Device(step) => Said::Stepped(self.device(step)),
+            } => Told::Loaded(self.load_few(*client, *frame, *offset, *length)),
+            Event::Service => {
+                self.service_into(replies);
+                Told::Served
+            }
+            Event::State(port) => Told::State(self.state(*port)),
+            Event::Device(step) => Told::Stepped(self.device(step)),
         }
     }
 
@@ -76,8 +95,9 @@ impl<A: Stepped> Server<A> {
             if out.reserve(1).is_err() {
                 return Err(RunStopped { at });
             }
-            let said = self.answer(event);
-            out.push_reserved(said);
+            let mut replies = Replies::new();
+            let told = self.answer(event, &mut replies);
+            out.push_reserved(said_with(told, replies));
         }
         Ok(())
     }

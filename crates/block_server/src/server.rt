@@ -297,6 +297,16 @@ impl<A: Adapter> Server<A> {
         ensures adds { Adds (server_of A.device self.old) (server_of A.device self.new) Service (Served result.items) }
     {
         let mut replies = Replies::new();
+        self.service_into(&mut replies);
+        replies
+    }
+
+    /// The same, where the replies stand in a list that the caller keeps, in place of what it had.
+    pub fn service_into(&mut self, replies: &mut Replies)
+        ensures services { Services A.device self.old self.new replies.new.items }
+        ensures adds { Adds (server_of A.device self.old) (server_of A.device self.new) Service (Served replies.new.items) }
+    {
+        replies.clear();
         let ports = self.ports;
         for number in 0..PORTS {
             let Found::Ready(_) = ports[number] else {
@@ -306,7 +316,6 @@ impl<A: Adapter> Server<A> {
                 replies.push(reply);
             }
         }
-        replies
     }
 
     /// Where in memory so many bytes of a client's own frame begin, from an offset in bytes on. The first that applies of

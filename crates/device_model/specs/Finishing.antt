@@ -1,6 +1,7 @@
 -- What has to hold that a command can be done to its end.
-use Rattle.std.specs.Prelude.{ℕ, true, ◌≡◌, ◌+◌, ◌*◌, ◌/◌, ◌^◌, ◌<◌, ◌≤◌, ◌⊎◌, List, length, slice_index}
+use Rattle.std.specs.Prelude.{ℕ, Bool, true, false, ◌≡◌, ◌+◌, ◌*◌, ◌/◌, ◌^◌, ◌<◌, ◌≤◌, ◌⊎◌, List, length, slice_index}
 use Rattle.std.specs.Vec.{vec_len, vec_capacity}
+use Rattle.adapter.specs.Asked.{DoesFetch}
 use Rattle.adapter.specs.Commands.{is_ranged}
 use Rattle.adapter.specs.Device.{Taken, Device}
 use Rattle.adapter.specs.Steps.{Can, WorksOn, begun, next_place, next_sector}
@@ -9,6 +10,7 @@ use Rattle.adapter.specs.declared.command.Operation.{Operation}
 use Rattle.adapter.specs.declared.command.Operation.TheVariants.{Identify}
 use Rattle.adapter.specs.declared.command.Prd.{Prd}
 use Rattle.device_model.specs.View.{Takes}
+use Rattle.device_model.specs.Whole.{Outside, device_of}
 use Rattle.device_model.specs.declared.hardware.Hardware.{Hardware}
 
 -- the tape has memory for so many more entries
@@ -67,3 +69,30 @@ pub record HasIdentify (d : Device) (slot : ℕ) : Type 0 where
   pub ready : MayFinish d 0 slot 0 left
   pub identifies : ready.t.meaning.operation ≡ Identify
   pub low : AreInside (2 ^ 32) ready.t.places
+
+-- ---- a command that is to be done to its end
+
+-- It is begun: so many moves are left of it, each possible, and there is room for them and the end; it is taken now, or was.
+pub record IsBegun (port slot sectors left : ℕ) (was_taken : Bool) (old new : Hardware) : Type 0 where
+  pub ready : (o : Outside) → MayFinish (device_of old o) port slot sectors left
+  pub going : (o : Outside) → IsGoing (device_of new o) port slot sectors left
+  pub room : HasRoom new (left + 1)
+  pub did : was_taken ≡ true → (o : Outside) → DoesFetch port slot (device_of old o) (device_of new o)
+  pub same : was_taken ≡ false → (o : Outside) → device_of new o ≡ device_of old o
+  pub tape : new.tape.items ≡ old.tape.items
+  pub starved : new.starved ≡ old.starved
+
+-- so many moves are left of it, each possible, but there is no room for them and the end, and that is told
+pub record LacksRoom (port slot sectors : ℕ) (old new : Hardware) : Type 0 where
+  pub left : ℕ
+  pub ready : (o : Outside) → MayFinish (device_of old o) port slot sectors left
+  pub only : (o : Outside) (n : ℕ) → MayFinish (device_of old o) port slot sectors n → n ≡ left
+  pub lacked : HasRoom old (left + 1) → ⊥
+  pub lacks : HasRoom new (left + 1) → ⊥
+  pub same : (o : Outside) → device_of new o ≡ device_of old o
+  pub told : new.starved ≡ true
+
+-- It isn't begun: there is none that can be done to its end, and nothing is another, or there is no room.
+abbrev pub IsUnbegun : (port slot sectors : ℕ) → Hardware → Hardware → Type 0
+IsUnbegun port slot sectors old new =
+    (((o : Outside) (left : ℕ) → MayFinish (device_of old o) port slot sectors left → ⊥) × (new ≡ old)) ⊎ LacksRoom port slot sectors old new

@@ -32,8 +32,8 @@ const NO_PRD: Prd = Prd {
     bytes: 0,
 };
 
-/// Copies bytes of memory.
-fn copy_bytes(memory: &[u8], at: usize, out: &mut [u8])
+/// Copies bytes of memory, of which some are past its end.
+fn copy_end(memory: &[u8], at: usize, out: &mut [u8])
     requires { at + length out.old < 2 ^ 64 }
     ensures { out.new ≡ bytes_at (bytes_of memory.now) at (length out.old) }
 {
@@ -44,6 +44,17 @@ fn copy_bytes(memory: &[u8], at: usize, out: &mut [u8])
         } else {
             0
         };
+    }
+}
+
+/// Copies bytes of memory.
+fn copy_bytes(memory: &[u8], at: usize, out: &mut [u8])
+    requires { at + length out.old < 2 ^ 64 }
+    ensures { out.new ≡ bytes_at (bytes_of memory.now) at (length out.old) }
+{
+    match memory.get(at..at + out.len()) {
+        Some(part) => out.copy_from_slice(part),
+        None => copy_end(memory, at, out),
     }
 }
 

@@ -25,7 +25,7 @@ use crate::config::{ModelConfig, NoMemory};
 use crate::disks::{Inserted, Which};
 use crate::hardware::{Hardware, PORTS};
 use crate::port::{PortModel, Transfer};
-use crate::steps::NextMove;
+use crate::steps::{Begun, NextMove};
 use adapter::{Adapter, DeviceStep, DiskNumber, DiskPage, Entry, Stepped};
 use ata_types::{FEWEST_FRAMES, FRAME_BYTES, MOST_FRAMES, Port, Slot};
 use hba_regs::Reg;
@@ -274,14 +274,10 @@ impl<S: SectorStore> Model<S> {
             return false;
         }
         let sectors = self.disk.sectors();
-        let Some(left) = self.hardware.moves_left(port.0, slot.0, sectors) else {
+        let Some(Begun { left, was_taken }) = self.hardware.begin(port.0, slot.0, sectors) else {
             return false;
         };
-        if !self.hardware.reserve(left as usize + 1) {
-            self.hardware.starved = true;
-            return false;
-        }
-        let mut did = self.hardware.fetch(port.0, slot.0);
+        let mut did = was_taken;
         for _piece in 0..left {
             if !self.move_piece(port, slot) {
                 return did;

@@ -9,7 +9,7 @@ ghost use Rattle.adapter.specs.Steps.{Can, after, next_sector};
 ghost use Rattle.adapter.specs.Steps.Step.{Fetch as FetchStep, Move as MoveStep, Done as DoneStep, Unplug as UnplugStep, Plug as PlugStep};
 ghost use Rattle.adapter.specs.Asked.{DoesFetch, Ends};
 ghost use Rattle.device_model.specs.Fetched.{bytes_of};
-ghost use Rattle.device_model.specs.Finishing.{HasIdentify, HasRoom, IsInside, AreInside, IsCovered, IsPassed, MayFinish};
+ghost use Rattle.device_model.specs.Finishing.{HasIdentify, HasRoom, IsInside, AreInside, IsBegun, IsCovered, IsPassed, IsUnbegun};
 ghost use Rattle.device_model.specs.Sent.{SendsEnd};
 ghost use Rattle.device_model.specs.Slots.{HoldsAt, IsNext, MayTakeAny};
 ghost use Rattle.device_model.specs.View.{Takes, operation_of, taken_of, blank};
@@ -30,6 +30,15 @@ pub struct NextMove {
     pub transfer: Transfer,
     pub sector: u64,
     pub address: u32,
+}
+
+/// A command that is to be done to its end.
+#[derive(Clone, Copy, Debug)]
+pub struct Begun {
+    /// How many moves are left.
+    pub left: u32,
+    /// Whether it was taken just now.
+    pub was_taken: bool,
 }
 
 impl NextMove {
@@ -308,35 +317,54 @@ impl Hardware {
         true
     }
 
-    /// How many moves the command has that the bytes of a slot say, which may be taken, if each is possible on a disk of so many sectors.
+    /// Takes the command that the bytes of a slot say, which may be taken, where each of its moves is possible on a disk of so many sectors and the
+    /// tape finds memory for them and the end. Want of memory is told.
     #[inline(never)]
-    fn moves_said(&self, port: u8, slot: u8, sectors: u64) -> Option<u32>
+    fn begin_said(&mut self, port: u8, slot: u8, sectors: u64) -> Option<Begun>
         requires port { port < 4 }
         requires slot { slot < 32 }
-        requires may { MayTakeAny (slice_index_or self.now.ports port blank) slot }
-        ensures ready { IfSome result (λ left. (o : Outside) → MayFinish (device_of self.now o) port slot sectors left) }
-        ensures only { (o : Outside) (left : ℕ) → MayFinish (device_of self.now o) port slot sectors left → result ≡ Some left }
+        requires may { MayTakeAny (slice_index_or self.old.ports port blank) slot }
+        requires free { (slice_index_or self.old.ports port blank).taken ≡ None }
+        ensures begun { IfSome result (λ b. IsBegun port slot sectors b.left b.was_taken self.old self.new) }
+        ensures left { result ≡ None → IsUnbegun port slot sectors self.old self.new }
     {
-        let list = self.ports[usize::from(port)].addresses.clb;
+        let place = usize::from(port);
+        let list = self.ports[place].addresses.clb;
         let command = read_command(&self.memory, list, slot)?;
-        left_of(&command, self.memory.len(), sectors)
+        let left = left_of(&command, self.memory.len(), sectors)?;
+        if self.tape.reserve(left as usize + 1).is_err() {
+            self.starved = true;
+            return None;
+        }
+        self.ports[place].take(command);
+        Some(Begun {
+            left,
+            was_taken: true,
+        })
     }
 
-    /// How many moves are left until a slot's command can end, if it may be taken or is taken, and each move is possible on
-    /// a disk of so many sectors.
-    pub fn moves_left(&self, port: u8, slot: u8, sectors: u64) -> Option<u32>
+    /// Begins to do a slot's command to its end, where each move that it has left is possible on a disk of so many sectors: the tape finds memory for them
+    /// and the end, and the command is taken, unless it is already. Want of memory is told.
+    pub fn begin(&mut self, port: u8, slot: u8, sectors: u64) -> Option<Begun>
         requires port { port < 4 }
         requires slot { slot < 32 }
-        ensures ready { IfSome result (λ left. (o : Outside) → MayFinish (device_of self.now o) port slot sectors left) }
-        ensures only { (o : Outside) (left : ℕ) → MayFinish (device_of self.now o) port slot sectors left → result ≡ Some left }
+        ensures begun { IfSome result (λ b. IsBegun port slot sectors b.left b.was_taken self.old self.new) }
+        ensures left { result ≡ None → IsUnbegun port slot sectors self.old self.new }
     {
         let place = usize::from(port);
         if may_take(&self.ports, place, slot) {
-            self.moves_said(port, slot, sectors)
-        } else {
-            let command = working_on(&self.ports, place, slot)?;
-            left_of(command, self.memory.len(), sectors)
+            return self.begin_said(port, slot, sectors);
         }
+        let command = working_on(&self.ports, place, slot)?;
+        let left = left_of(command, self.memory.len(), sectors)?;
+        if self.tape.reserve(left as usize + 1).is_err() {
+            self.starved = true;
+            return None;
+        }
+        Some(Begun {
+            left,
+            was_taken: false,
+        })
     }
 
     /// The disk is taken out of port 0; `false` says that there was none, or that the tape found no memory.

@@ -1,6 +1,5 @@
 // A script, played from its first line to its last.
 ghost use Rattle.std.specs.Prelude.{◌≡◌, ◌≤◌, ◌∷◌, [], false, List, None, IfOk, IfErr, OnOk, length};
-ghost use Rattle.std.specs.Vec.{vec_capacity};
 ghost use Rattle.block_server.specs.Running.{Answered};
 ghost use Rattle.configuration.specs.Document.{IsReadFrom};
 ghost use Rattle.configuration.specs.Rules.{IsSound};
@@ -14,7 +13,8 @@ use crate::event;
 use crate::printed::{print_call, write_out};
 use crate::setting::new_model;
 use adapter::{Adapter, Stepped};
-use block_server::{Event, Said, Server};
+use ata_types::Replies;
+use block_server::Server;
 use configuration::{Config, ConfigFault, Kind};
 use device_model::{Model, NoMemory};
 use script::{BadLine, Line, check_script, first_line, read_asked};
@@ -67,11 +67,11 @@ impl From<Stop> for Ended {
     }
 }
 
-/// Memory that a run keeps from line to line.
+/// What a run keeps from line to line.
 #[derive(Drop)]
 struct Room {
-    /// Room for what one call says.
-    said: Vec<Said>,
+    /// What a service answered.
+    replies: Replies,
     /// What is printed of one line.
     text: Vec<u8>,
 }
@@ -154,16 +154,6 @@ fn start<S: SectorStore>(
     on_heap(alloc, server)
 }
 
-/// Makes one call: what it says, for which there is room, is all that the room has then. It stays there, since it is large.
-fn ask<A: Stepped>(server: &mut Server<A>, event: Event, room: &mut Vec<Said>)
-    requires room { 1 ≤ vec_capacity room.old }
-    ensures answered { (said : Said) × (room.new.items ≡ said ∷ []) × Answered A.device event said server.old server.new }
-    ensures room { 1 ≤ vec_capacity room.new }
-{
-    room.clear();
-    server.run(&[event], room).unwrap();
-}
-
 /// Plays a line: makes its call, and prints of it what the tape gained past so many entries, with a trace, and what it said. Gives how many
 /// entries the tape has then. Where it fails, a beginning of that text is printed, which may be nothing.
 fn play_line<S: SectorStore, W: io::Write>(
@@ -175,20 +165,25 @@ fn play_line<S: SectorStore, W: io::Write>(
     out: &mut W,
 ) -> Result<usize, Stop>
     requires fed { is_starved server.old.adapter ≡ false }
-    requires room { 1 ≤ vec_capacity room.old.said }
     ensures printed { (p : PrintsPart (device_at S.size S.told) is_starved trace shown (event_of line) server.old server.new (W.contents out.old) (W.contents out.new))
         × OnOk result (length p.text ≤ p.part) × IfErr result (IsWhy (is_starved server.new.adapter) p.part) }
     ensures fed { OnOk result (is_starved server.new.adapter ≡ false) }
     ensures shown { IfOk result (λ count. count ≡ length (device_at S.size S.told server.new.adapter).tape) }
-    ensures room { 1 ≤ vec_capacity room.new.said }
 {
-    ask(server, event(line), &mut room.said);
+    let told = server.answer(&event(line), &mut room.replies);
     let model = server.adapter();
     if model.starved() {
         return Err(Stop::NoMemory);
     }
     let tape = model.tape();
-    let Ok(()) = print_call(&mut room.text, trace, tape, shown, &room.said[0]) else {
+    let Ok(()) = print_call(
+        &mut room.text,
+        trace,
+        tape,
+        shown,
+        &told,
+        room.replies.as_slice(),
+    ) else {
         // A text in memory wants nothing but memory.
         return Err(Stop::NoMemory);
     };
@@ -202,26 +197,29 @@ fn play_line<S: SectorStore, W: io::Write>(
 /// said. Where memory is refused, to the model too, or the output fails, it stops at that line: no later one is played.
 #[inline(never)]
 fn perform<S: SectorStore, W: io::Write>(
+    alloc: Global,
     server: &mut Server<Model<S>>,
     script: &[u8],
-    room: &mut Room,
     trace: bool,
     out: &mut W,
 ) -> Result<(), Stop>
     requires good { (lines : List Line) × IsScript script.now lines }
-    requires room { 1 ≤ vec_capacity room.old.said }
     ensures { (ran : Ran (device_at S.size S.told) is_starved trace script.now server.old server.new (W.contents out.old) (W.contents out.new))
         × OnOk result (IsWhole ran) × IfErr result (IsWhy (is_starved server.new.adapter) ran.part) }
 {
     if server.adapter().starved() {
         return Err(Stop::NoMemory);
     }
+    let mut room = Room {
+        replies: Replies::new(),
+        text: Vec::new(alloc),
+    };
     let mut shown = 0;
     let mut rest = Some(script);
     while let Some(text) = rest {
         let (line, after) = first_line(text);
         match read_asked(line) {
-            Ok(Some(asked)) => shown = play_line(server, asked, room, trace, shown, out)?,
+            Ok(Some(asked)) => shown = play_line(server, asked, &mut room, trace, shown, out)?,
             Ok(None) => {}
             // No line is: the script was looked at.
             Err(_misspelled) => {}
@@ -263,19 +261,12 @@ pub fn play<S: SectorStore, W: io::Write>(
         Ok(values) => values,
         Err(ended) => return unbegun(ended),
     };
-    let Ok(said) = Vec::with_capacity(alloc, 1) else {
-        return unbegun(Ended::NoMemory);
-    };
-    let mut room = Room {
-        said,
-        text: Vec::new(alloc),
-    };
     let Ok(mut server) = start(alloc, &values, image, blank) else {
         return unbegun(Ended::NoMemory);
     };
     histories_are_runs();
     reads_hold();
-    let performed = perform(&mut server, script, &mut room, trace, out);
+    let performed = perform(alloc, &mut server, script, trace, out);
     let model = Some(closed(server));
     match performed {
         Ok(()) => Finished {

@@ -4,3 +4,4 @@ pub mod LineLemmas
 pub mod ScriptLemmas
 pub mod StepLemmas
 pub mod WordLemmas
+mod NumberLemmas

@@ -1,5 +1,5 @@
 // The fields of a line: words that spell values, each value in one way.
-ghost use Rattle.std.specs.Prelude.{◌≡◌, ◌<◌, ◌≤◌, ℕ, ◌∷◌, [], Some, None, IfSome, length, map};
+ghost use Rattle.std.specs.Prelude.{◌≡◌, ◌<◌, ◌≤◌, ◌+◌, ℕ, ◌∷◌, [], Some, None, IfSome, length, map};
 ghost use Rattle.std.specs.List.{All};
 ghost use Rattle.std.specs.Fmt.{decimal};
 ghost use Rattle.arrayvec.specs.ArrayVec.{ArrayVec as Items};
@@ -9,17 +9,35 @@ ghost use Rattle.script.specs.Fields.{frames_word};
 use adapter::DiskNumber;
 use arrayvec::ArrayVec;
 use ata_types::{ClientId, Frame, Port, Slot};
-use itoa::Buffer;
+
+/// The digit that a byte is.
+fn digit(byte: u8) -> Option<u64>
+    ensures found { IfSome result (λ d. (d < 10) × (byte ≡ 48 + d)) }
+    ensures only { (d : ℕ) → d < 10 → byte ≡ 48 + d → result ≡ Some d }
+{
+    match byte {
+        b'0'..=b'9' => Some(u64::from(byte - b'0')),
+        _ => None,
+    }
+}
 
 /// A number up to the last one allowed, in decimal digits without needless zeros.
 pub(crate) fn number(word: &str, last: u64) -> Option<u64>
     ensures spelled { IfSome result (λ n. (n ≤ last) × (decimal n ≡ word.now)) }
     ensures only { (n : ℕ) → n ≤ last → decimal n ≡ word.now → result ≡ Some n }
 {
-    match word.parse::<u64>() {
-        Ok(number) if number <= last && Buffer::new().format(number) == word => Some(number),
-        _ => None,
+    let (first, rest) = word.as_bytes().split_first()?;
+    let mut number = digit(*first)?;
+    for byte in rest {
+        if number == 0 {
+            return None;
+        }
+        number = number.checked_mul(10)?.checked_add(digit(*byte)?)?;
     }
+    if number > last {
+        return None;
+    }
+    Some(number)
 }
 
 /// A client's number: 0 to 255.

@@ -95,10 +95,10 @@ fn step(words: &[&str]) -> Option<DeviceStep>
     ensures only { (s : DeviceStep) → IsStep s → step_words s ≡ map (λ w. w.now) words.now → result ≡ Some s }
 {
     Some(match words {
+        ["finish", port, slot] => DeviceStep::Finish(fields::port(port)?, fields::slot(slot)?),
         ["fetch", port, slot] => DeviceStep::Fetch(fields::port(port)?, fields::slot(slot)?),
         ["move", port, slot] => DeviceStep::Move(fields::port(port)?, fields::slot(slot)?),
         ["done", port, slot] => DeviceStep::Done(fields::port(port)?, fields::slot(slot)?),
-        ["finish", port, slot] => DeviceStep::Finish(fields::port(port)?, fields::slot(slot)?),
         ["unplug", port] => DeviceStep::Unplug(fields::port(port)?),
         ["plug", port, disk] => DeviceStep::Plug(fields::port(port)?, fields::disk(disk)?),
         ["hold", port] => DeviceStep::Hold(fields::port(port)?),
@@ -154,6 +154,11 @@ fn asked(words: &[&str]) -> Option<Line>
 {
     let (first, rest) = words.split_first()?;
     match *first {
+        "dev" => Some(Line::Device(step(rest)?)),
+        "service" => match rest {
+            [] => Some(Line::Service),
+            _ => None,
+        },
         "read" => Some(Line::Submit(request(Op::Read, rest)?)),
         "write" => Some(Line::Submit(request(Op::Write, rest)?)),
         "store" => match rest {
@@ -164,15 +169,10 @@ fn asked(words: &[&str]) -> Option<Line>
             [client, frame, offset, count] => load(client, frame, offset, count),
             _ => None,
         },
-        "service" => match rest {
-            [] => Some(Line::Service),
-            _ => None,
-        },
         "state" => match rest {
             [port] => Some(Line::State(fields::port(port)?)),
             _ => None,
         },
-        "dev" => Some(Line::Device(step(rest)?)),
         _ => None,
     }
 }

@@ -10,7 +10,7 @@ use Rattle.play.proofs.Printing.{PlayedSoFar, played_none, played_nothing, playe
 use Rattle.play.proofs.session.perform.Goals as goal
 
 pub loop-rest-init : goal.loop-rest-init
-loop-rest-init g c = record { fed = ap (λ (m : Model g.row.S.Denot). is_starved m) (sym c.adapter.ensures) ∙ sym c.starved.ensures ∙ c.if-starved.false; room = c.requires.room; played = played_none _ _ _ _ _ _ _ refl }
+loop-rest-init g c = record { fed = ap (λ (m : Model g.row.S.Denot). is_starved m) (sym c.adapter.ensures) ∙ sym c.starved.ensures ∙ c.if-starved.false; played = played_none _ _ _ _ _ _ _ refl }
 
 pub returns-then-starved : goal.returns-then-starved
 returns-then-starved g c =
@@ -28,7 +28,6 @@ loop-rest-preserved-in-Ok-None g c =
     let asks = subst (λ (asked : Option Line). Asks c.first_line.result.0.now asked) c.in-Ok-None.field-0-is c.in-Ok-None.ensures.ok in
     record {
       fed = c.loop-rest.invariant.fed;
-      room = c.loop-rest.invariant.room;
       played = played_nothing device is_starved c.args.trace c.args.server.now all c.loop-rest.server c.loop-rest.shown c.in-Some.text.now c.first_line.result.0.now c.in-Some.text
           c.first_line.result.1 before here so_far c.first_line.ensures.first asks;
     }
@@ -90,7 +89,6 @@ loop-rest-preserved-in_ok-shown-in-Ok-Some g c =
     let printed = c.in_ok-shown-in-Ok-Some.ensures.printed in
     record {
       fed = c.in_ok-shown-in-Ok-Some.ensures.fed;
-      room = c.play_line.ensures.room;
       played = subst (λ (shown : ℕ). PlayedSoFar device is_starved c.args.trace c.args.server.now all c.play_line.new.server shown c.first_line.result.1 before after) (sym c.in_ok-shown-in-Ok-Some.ensures.shown)
           (played_line device is_starved c.args.trace c.args.server.now all c.loop-rest.server c.play_line.new.server c.loop-rest.shown c.first_line.result.0.now
           c.in-Ok-Some.asked c.in-Some.text c.first_line.result.1 before here after so_far c.first_line.ensures.first asks printed.0 printed.1 c.loop-rest.invariant.fed);

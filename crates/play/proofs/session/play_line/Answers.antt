@@ -1,5 +1,6 @@
-use Rattle.std.proofs.Common.{◌≡◌, ◌∙◌, List, refl, ap, sym, false, get_or}
-use Rattle.block_server.specs.declared.types.Said.{Said}
+use Rattle.std.proofs.Common.{◌≡◌, ◌∙◌, List, refl, ap, sym, false}
+use Rattle.ata_types.specs.declared.request.Reply.{Reply}
+use Rattle.block_server.specs.Running.{with_replies}
 use Rattle.device_model.specs.Modelled.{device_at}
 use Rattle.device_model.specs.declared.model.Model.{Model}
 use Rattle.std.proofs.lemmas.Bool.{false≢true}
@@ -12,10 +13,11 @@ use Rattle.play.proofs.session.play_line.Goals as goal
 pub returns-in_default-clause-printed : goal.returns-in_default-clause-printed
 returns-in_default-clause-printed g c =
     let device = device_at g.S.SectorStore.size g.S.SectorStore.told in
+    let said = with_replies c.answer-told.result c.answer-told.new.replies.items in
     let out = g.W.Write.contents c.args.out.now in
-    let tape = (device c.ask.new.server.adapter).tape in (
-      part_of device is_starved c.args.trace c.args.shown _ c.event.result c.ask.ensures.answered.0 c.args.server.now c.ask.new.server out out 0
-          (call_text c.args.trace c.args.shown tape c.ask.ensures.answered.0) tape c.event.ensures c.ask.ensures.answered.2 refl refl (appends_none out) (λ is. refl),
+    let tape = (device c.answer-told.new.self.adapter).tape in (
+      part_of device is_starved c.args.trace c.args.shown _ c.event.result said c.args.server.now c.answer-told.new.self out out 0
+          (call_text c.args.trace c.args.shown tape said) tape c.event.ensures c.answer-told.ensures refl refl (appends_none out) (λ is. refl),
       tt,
       refl,
     )
@@ -23,15 +25,16 @@ returns-in_default-clause-printed g c =
 pub returns-in_default-write_out-clause-printed : goal.returns-in_default-write_out-clause-printed
 returns-in_default-write_out-clause-printed g c =
     let device = device_at g.S.SectorStore.size g.S.SectorStore.told in
-    let tape : c.tape-tape.result.now ≡ (device c.ask.new.server.adapter).tape =
+    let said = with_replies c.answer-told.result c.answer-told.new.replies.items in
+    let tape : c.tape-tape.result.now ≡ (device c.answer-told.new.self.adapter).tape =
     c.tape-tape.ensures ∙ ap (λ (m : Model g.row.S.Denot). (device m).tape) c.adapter-model.ensures in
-    let fed : is_starved c.ask.new.server.adapter ≡ false =
+    let fed : is_starved c.answer-told.new.self.adapter ≡ false =
     ap (λ (m : Model g.row.S.Denot). is_starved m) (sym c.adapter-model.ensures) ∙ sym c.starved.ensures ∙ c.if-starved.false in
-    let one : c.index.result.now ≡ c.ask.ensures.answered.0 =
-    c.index.ensures ∙ ap (λ (xs : List Said). get_or xs 0 c.index.result.now) c.ask.ensures.answered.1 in
+    let one : with_replies c.answer-told.result c.as_slice.result.now ≡ said =
+    ap (λ (replies : List Reply). with_replies c.answer-told.result replies) c.as_slice.ensures.value in
     let wrote = c.in_default-write_out.ensures in (
-      part_of device is_starved c.args.trace c.args.shown _ c.event.result c.ask.ensures.answered.0 c.args.server.now c.ask.new.server _ _ wrote.0
-          c.as_slice.result.now c.tape-tape.result.now c.event.ensures c.ask.ensures.answered.2 tape (c.as_slice.ensures.value ∙ c.in-Ok.ensures ∙ ap (call_text c.args.trace c.args.shown c.tape-tape.result.now) one) wrote.1 (λ is. absurd (false≢true (sym fed ∙ is))),
+      part_of device is_starved c.args.trace c.args.shown _ c.event.result said c.args.server.now c.answer-told.new.self _ _ wrote.0
+          c.as_slice-2.result.now c.tape-tape.result.now c.event.ensures c.answer-told.ensures tape (c.as_slice-2.ensures.value ∙ c.in-Ok.ensures ∙ ap (call_text c.args.trace c.args.shown c.tape-tape.result.now) one) wrote.1 (λ is. absurd (false≢true (sym fed ∙ is))),
       tt,
       fed,
     )
@@ -39,15 +42,16 @@ returns-in_default-write_out-clause-printed g c =
 pub returns-clause-printed : goal.returns-clause-printed
 returns-clause-printed g c =
     let device = device_at g.S.SectorStore.size g.S.SectorStore.told in
-    let tape : c.tape-tape.result.now ≡ (device c.ask.new.server.adapter).tape =
+    let said = with_replies c.answer-told.result c.answer-told.new.replies.items in
+    let tape : c.tape-tape.result.now ≡ (device c.answer-told.new.self.adapter).tape =
     c.tape-tape.ensures ∙ ap (λ (m : Model g.row.S.Denot). (device m).tape) c.adapter-model.ensures in
-    let fed : is_starved c.ask.new.server.adapter ≡ false =
+    let fed : is_starved c.answer-told.new.self.adapter ≡ false =
     ap (λ (m : Model g.row.S.Denot). is_starved m) (sym c.adapter-model.ensures) ∙ sym c.starved.ensures ∙ c.if-starved.false in
-    let one : c.index.result.now ≡ c.ask.ensures.answered.0 =
-    c.index.ensures ∙ ap (λ (xs : List Said). get_or xs 0 c.index.result.now) c.ask.ensures.answered.1 in
+    let one : with_replies c.answer-told.result c.as_slice.result.now ≡ said =
+    ap (λ (replies : List Reply). with_replies c.answer-told.result replies) c.as_slice.ensures.value in
     let wrote = c.in-Ok-write_out.ensures in (
-      part_of device is_starved c.args.trace c.args.shown _ c.event.result c.ask.ensures.answered.0 c.args.server.now c.ask.new.server _ _ wrote.0
-          c.as_slice.result.now c.tape-tape.result.now c.event.ensures c.ask.ensures.answered.2 tape (c.as_slice.ensures.value ∙ c.in-Ok.ensures ∙ ap (call_text c.args.trace c.args.shown c.tape-tape.result.now) one) wrote.1 (λ is. absurd (false≢true (sym fed ∙ is))),
+      part_of device is_starved c.args.trace c.args.shown _ c.event.result said c.args.server.now c.answer-told.new.self _ _ wrote.0
+          c.as_slice-2.result.now c.tape-tape.result.now c.event.ensures c.answer-told.ensures tape (c.as_slice-2.ensures.value ∙ c.in-Ok.ensures ∙ ap (call_text c.args.trace c.args.shown c.tape-tape.result.now) one) wrote.1 (λ is. absurd (false≢true (sym fed ∙ is))),
       wrote.2,
       tt,
     )
@@ -55,10 +59,11 @@ returns-clause-printed g c =
 pub returns-then-starved-clause-printed : goal.returns-then-starved-clause-printed
 returns-then-starved-clause-printed g c =
     let device = device_at g.S.SectorStore.size g.S.SectorStore.told in
+    let said = with_replies c.answer-told.result c.answer-told.new.replies.items in
     let out = g.W.Write.contents c.args.out.now in
-    let tape = (device c.ask.new.server.adapter).tape in (
-      part_of device is_starved c.args.trace c.args.shown _ c.event.result c.ask.ensures.answered.0 c.args.server.now c.ask.new.server out out 0
-          (call_text c.args.trace c.args.shown tape c.ask.ensures.answered.0) tape c.event.ensures c.ask.ensures.answered.2 refl refl (appends_none out) (λ is. refl),
+    let tape = (device c.answer-told.new.self.adapter).tape in (
+      part_of device is_starved c.args.trace c.args.shown _ c.event.result said c.args.server.now c.answer-told.new.self out out 0
+          (call_text c.args.trace c.args.shown tape said) tape c.event.ensures c.answer-told.ensures refl refl (appends_none out) (λ is. refl),
       tt,
       refl,
     )

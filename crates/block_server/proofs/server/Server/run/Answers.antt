@@ -1,6 +1,6 @@
 use Rattle.std.proofs.Common.{◌<◌, ◌++◌, ◌∷◌, List, sym, ◌∙◌, ap, subst, [], append_assoc, length, take, arith}
 use Rattle.std.proofs.lemmas.List.{append-nil, take_more}
-use Rattle.block_server.specs.Running.{AddsAll, Ran}
+use Rattle.block_server.specs.Running.{AddsAll, Answered, Ran}
 use Rattle.block_server.specs.declared.types.Event.{Event}
 use Rattle.block_server.specs.declared.types.Said.{Said}
 use Rattle.block_server.proofs.Running.{ran_none, ran_more, adds_none, adds_more}
@@ -18,15 +18,18 @@ loop-at-preserved g c =
     let so_far = c.loop-at.invariant.ran in
     let below : c.loop-at.at < length c.args.events.now = omega arith in
     let event = c.index-events-at.result in
-    let P : List Event → Type 0 = λ calls. Ran g.A.Adapter.device c.args.self.now c.answer-said.new.self calls (so_far.said ++ c.answer-said.result ∷ []) in
-    let Q : List Event → Type 0 = λ calls. AddsAll g.A.Adapter.device c.args.self.now c.answer-said.new.self calls (so_far.said ++ c.answer-said.result ∷ []) in
+    let one = c.said_with.result in
+    let answered : Answered g.A.Adapter.device event one c.loop-at.self c.answer-told.new.self =
+    subst (λ (said : Said). Answered g.A.Adapter.device event said c.loop-at.self c.answer-told.new.self) (sym c.said_with.ensures) c.answer-told.ensures in
+    let P : List Event → Type 0 = λ calls. Ran g.A.Adapter.device c.args.self.now c.answer-told.new.self calls (so_far.said ++ one ∷ []) in
+    let Q : List Event → Type 0 = λ calls. AddsAll g.A.Adapter.device c.args.self.now c.answer-told.new.self calls (so_far.said ++ one ∷ []) in
     let calls = ap (λ (e : Event). take c.loop-at.at c.args.events.now ++ e ∷ []) c.index-events-at.is ∙ sym (take_more c.args.events.now c.loop-at.at event below) in
     record {
       ran = record {
-        said = so_far.said ++ c.answer-said.result ∷ [];
-        told = c.push_reserved.ensures.items ∙ ap (λ (l : List Said). l ++ c.answer-said.result ∷ []) (c.reserve.ensures.items ∙ so_far.told) ∙ append_assoc c.args.out.now.items so_far.said (c.answer-said.result ∷ []);
-        adds = subst Q calls (adds_more g.A.Adapter.device c.args.self.now c.loop-at.self c.answer-said.new.self (take c.loop-at.at c.args.events.now) so_far.said event c.answer-said.result so_far.adds c.answer-said.ensures);
-        ran = subst P calls (ran_more g.A.Adapter.device c.args.self.now c.loop-at.self c.answer-said.new.self (take c.loop-at.at c.args.events.now) so_far.said event c.answer-said.result so_far.ran c.answer-said.ensures);
+        said = so_far.said ++ one ∷ [];
+        told = c.push_reserved.ensures.items ∙ ap (λ (l : List Said). l ++ one ∷ []) (c.reserve.ensures.items ∙ so_far.told) ∙ append_assoc c.args.out.now.items so_far.said (one ∷ []);
+        adds = subst Q calls (adds_more g.A.Adapter.device c.args.self.now c.loop-at.self c.answer-told.new.self (take c.loop-at.at c.args.events.now) so_far.said event one so_far.adds answered);
+        ran = subst P calls (ran_more g.A.Adapter.device c.args.self.now c.loop-at.self c.answer-told.new.self (take c.loop-at.at c.args.events.now) so_far.said event one so_far.ran answered);
       };
       length = let n = c.push_reserved.ensures.len in let r = c.reserve.ensures.len in let i = c.loop-at.invariant.length in omega (arith, n, r, i);
       room = omega (arith, c.loop-at.invariant.room, c.reserve.ensures.capacity, c.push_reserved.ensures.capacity);

@@ -1,21 +1,20 @@
-use Rattle.std.proofs.Common.{ℕ, suc, ◌≡◌, ◌<◌, ◌≤◌, ◌+◌, ◌-◌, ◌∙◌, true, false, inl, inr, refl, sym, ap, subst, arith}
-use Rattle.std.specs.Global.{Vec}
-use Rattle.std.specs.Vec.{vec_len, vec_capacity}
+use Rattle.std.proofs.Common.{ℕ, suc, ◌≡◌, ◌<◌, ◌+◌, ◌-◌, ◌∙◌, true, false, inl, inr, refl, sym, ap, subst, arith}
 use Rattle.adapter.specs.Device.{Device, Taken}
-use Rattle.adapter.specs.Asked.{DoesFetch}
 use Rattle.adapter.specs.declared.access.DeviceStep.TheVariants as asked
 use Rattle.adapter.specs.declared.tape.Entry.{Entry}
 use Rattle.device_model.specs.Finishing.{HasMove, HasRoom, IsGoing, MayFinish}
+use Rattle.device_model.specs.Does.{IsLeftOut}
 use Rattle.device_model.specs.Modelled.{device_at, outside_at}
 use Rattle.device_model.specs.Sent.{SendsEnd}
 use Rattle.device_model.specs.Whole.{Outside, device_of}
-use Rattle.adapter.proofs.Absurd.{true-false, some-none, some_one}
+use Rattle.device_model.specs.declared.hardware.Hardware.{Hardware}
+use Rattle.adapter.proofs.Absurd.{true-false}
 use Rattle.adapter.proofs.Going.{goes_one, goes_next}
 use Rattle.device_model.proofs.TwoDisks.{in_kept}
 use Rattle.device_model.proofs.Doing.{answered_true, cut_short, did_it, left_it, left_same, meanwhile_on}
 use Rattle.adapter.specs.OneCommand.{IsFreeSlot}
 use Rattle.device_model.proofs.Identifying.{has_ready, page_taken}
-use Rattle.device_model.proofs.Finishing.{fetched_goes, fetched_size, moved_goes, going_has_move, going_may_end, done_frees}
+use Rattle.device_model.proofs.Finishing.{fetched_size, moved_goes, going_has_move, going_may_end, done_frees}
 use Rattle.device_model.proofs.Telling.{gains_none, gains_done}
 use Rattle.device_model.proofs.Told.{on_hardware}
 use Rattle.device_model.proofs.model.Model.finish.Given.{Over}
@@ -25,36 +24,28 @@ pub loop-piece-init : goal.loop-piece-init
 loop-piece-init g c =
     let m = c.args.self.now in
     let o : Outside = outside_at g.S.SectorStore.size g.S.SectorStore.told m in
-    let new : Device = device_of c.fetch-did.new.self o in
-    let kept = c.reserve.ensures.same o in
+    let old : Device = device_of m.hardware o in
+    let new : Device = device_of c.begin.new.self o in
+    let is = c.in-Some.ensures.begun in
     record {
-      did = λ e. goes_one SendsEnd c.args.port.0 c.args.slot.0 _ new
-          (inl (subst (λ (d : Device). DoesFetch c.args.port.0 c.args.slot.0 d new) kept (c.fetch-did.ensures.did e o)));
-      refused = λ e. c.fetch-did.ensures.refused e o ∙ kept;
-      size = fetched_size c.args.port.0 c.args.slot.0 c.fetch-did.result _ new (λ e. c.fetch-did.ensures.did e o) (λ e. c.fetch-did.ensures.refused e o)
-          ∙ ap (λ (d : Device). d.size) kept;
+      did = λ e. goes_one SendsEnd c.args.port.0 c.args.slot.0 old new (inl (is.did e o));
+      refused = λ e. is.same e o;
+      size = fetched_size c.args.port.0 c.args.slot.0 c.in-Some.field-0.was_taken old new (λ e. is.did e o) (λ e. is.same e o);
       disk = sym c.sectors-sectors.ensures;
       disk_same = λ _ _. refl;
       meanwhile = record {
         held = refl;
         says = refl;
         which = refl;
-        pages = gains_none g.S.SectorStore.size _ _
-            (ap (λ (v : Vec Entry). v.items) c.fetch-did.ensures.tape ∙ ap (λ (d : Device). d.tape) kept);
-        keeps = on_hardware g.S.SectorStore.size g.S.SectorStore.told g.S.SectorStore.is_sure m c.fetch-did.new.self;
-        starved = c.fetch-did.ensures.starved ∙ c.reserve.ensures.starved;
+        pages = gains_none g.S.SectorStore.size _ _ is.tape;
+        keeps = on_hardware g.S.SectorStore.size g.S.SectorStore.told g.S.SectorStore.is_sure m c.begin.new.self;
+        starved = is.starved;
       };
-      room =
-          let P : Vec Entry → Type 0 = λ tape. vec_len tape + (c.in-Some.left + 1) ≤ vec_capacity tape in
-          let enough = subst P (sym c.fetch-did.ensures.tape) (c.reserve.ensures.room c.if-not-reserve.false) in
-          omega (arith, enough);
+      room = let enough = is.room in omega (arith, enough);
       going =
-          let P : Device → Type 0 = λ d. MayFinish d c.args.port.0 c.args.slot.0 c.sectors-sectors.result c.in-Some.left in
           let Q : ℕ → Type 0 = λ n. IsGoing new c.args.port.0 c.args.slot.0 c.sectors-sectors.result n in
-          let all : c.in-Some.left ≡ c.in-Some.left - 0 = omega arith in
-          subst Q all
-          (fetched_goes c.args.port.0 c.args.slot.0 c.sectors-sectors.result c.in-Some.left c.fetch-did.result _ new (subst P (sym kept) (c.in-Some.ensures.ready o))
-          (λ e. c.fetch-did.ensures.did e o) (λ e. c.fetch-did.ensures.refused e o) (λ e. c.fetch-did.ensures.only e o));
+          let all : c.in-Some.field-0.left ≡ c.in-Some.field-0.left - 0 = omega arith in
+          subst Q all (is.going o);
     }
 
 pub loop-piece-preserved : goal.loop-piece-preserved
@@ -77,8 +68,8 @@ loop-piece-preserved g c =
       room = c.move_piece.ensures.left _ (omega (arith, c.loop-piece.invariant.room, c.loop-piece-test.true));
       going =
           let P : ℕ → Type 0 = λ n. IsGoing (device_at g.S.SectorStore.size g.S.SectorStore.told c.loop-piece.self) c.args.port.0 c.args.slot.0 c.sectors-sectors.result n in
-          let next : c.in-Some.left - c.loop-piece._piece ≡ suc (c.in-Some.left - (c.loop-piece._piece + 1)) = omega (arith, c.loop-piece-test.true) in
-          moved_goes c.args.port.0 c.args.slot.0 c.sectors-sectors.result (c.in-Some.left - (c.loop-piece._piece + 1)) _ _ (subst P next c.loop-piece.invariant.going) moved;
+          let next : c.in-Some.field-0.left - c.loop-piece._piece ≡ suc (c.in-Some.field-0.left - (c.loop-piece._piece + 1)) = omega (arith, c.loop-piece-test.true) in
+          moved_goes c.args.port.0 c.args.slot.0 c.sectors-sectors.result (c.in-Some.field-0.left - (c.loop-piece._piece + 1)) _ _ (subst P next c.loop-piece.invariant.going) moved;
     }
 
 -- what was found to be ready is possible
@@ -98,12 +89,12 @@ returns-then-not-move_piece-clause-answers g c =
     let size = g.S.SectorStore.size m.disk in
     let step = left_it g.S.SectorStore.size g.S.SectorStore.told g.S.SectorStore.is_sure (asked.Move c.args.port c.args.slot) _ _ c.move_piece.result
     c.move_piece.ensures.answers c.if-not-move_piece.true in
-    let left = c.in-Some.left - (c.loop-piece._piece + 1) in
+    let left = c.in-Some.field-0.left - (c.loop-piece._piece + 1) in
     let P : ℕ → Type 0 = λ n. IsGoing d c.args.port.0 c.args.slot.0 c.sectors-sectors.result n in
     let Q : ℕ → Type 0 = λ n. IsGoing d c.args.port.0 c.args.slot.0 n (suc left) in
     let R : ℕ → Type 0 = λ q. IsGoing d q c.args.slot.0 size (suc left) in
     let T : ℕ → Type 0 = λ q. (t : Taken) × HasMove d q c.args.slot.0 t in
-    let next : c.in-Some.left - c.loop-piece._piece ≡ suc left = omega (arith, c.loop-piece-test.true) in
+    let next : c.in-Some.field-0.left - c.loop-piece._piece ≡ suc left = omega (arith, c.loop-piece-test.true) in
     let going = subst Q (sym is.disk) (subst P next is.going) in
     let zero : c.args.port.0 ≡ 0 = c.if-port-ne0.false in
     let here : IsGoing d 0 c.args.slot.0 size (suc left) = subst R zero going in
@@ -111,7 +102,7 @@ returns-then-not-move_piece-clause-answers g c =
     let room : HasRoom m.hardware 1 = omega (arith, is.room) in
     let sectors : c.sectors-sectors.result ≡ g.S.SectorStore.size first.disk = c.sectors-sectors.ensures in
     cut_short g.S.SectorStore.size g.S.SectorStore.told g.S.SectorStore.is_sure c.args.port c.args.slot c.loop-piece.did first m _
-    (may_finish (g.S.SectorStore.size first.disk) _ c.args.port.0 c.args.slot.0 c.sectors-sectors.result c.in-Some.left zero c.requires sectors (c.in-Some.ensures.ready o))
+    (may_finish (g.S.SectorStore.size first.disk) _ c.args.port.0 c.args.slot.0 c.sectors-sectors.result c.in-Some.field-0.left zero c.requires sectors (c.in-Some.ensures.begun.ready o))
     is.did is.refused is.size is.meanwhile step room (c.requires, found.0, found.1)
 
 pub returns-then-done-clause-answers : goal.returns-then-done-clause-answers
@@ -122,7 +113,7 @@ returns-then-done-clause-answers g c =
     let start : Outside = outside_at g.S.SectorStore.size g.S.SectorStore.told first in
     let is = c.loop-piece.invariant in
     let P : ℕ → Type 0 = λ n. IsGoing (device_at g.S.SectorStore.size g.S.SectorStore.told m) c.args.port.0 c.args.slot.0 c.sectors-sectors.result n in
-    let none : c.in-Some.left - c.loop-piece._piece ≡ 0 = omega (arith, c.loop-piece-test.false) in
+    let none : c.in-Some.field-0.left - c.loop-piece._piece ≡ 0 = omega (arith, c.loop-piece-test.false) in
     let done = c.done.ensures.did c.if-done.true o in
     let sectors : c.sectors-sectors.result ≡ g.S.SectorStore.size first.disk = c.sectors-sectors.ensures in
     let all = meanwhile_on g.S.SectorStore.size g.S.SectorStore.told g.S.SectorStore.is_sure first m (record m { hardware = c.done.new.self }) is.meanwhile
@@ -135,8 +126,8 @@ returns-then-done-clause-answers g c =
       starved = c.done.ensures.fed c.if-done.true;
     }) in
     answered_true g.S.SectorStore.size g.S.SectorStore.told g.S.SectorStore.is_sure (asked.Finish c.args.port c.args.slot) first _ c.done.result c.if-done.true (
-      may_finish (g.S.SectorStore.size first.disk) _ c.args.port.0 c.args.slot.0 c.sectors-sectors.result c.in-Some.left c.if-port-ne0.false c.requires sectors
-          (c.in-Some.ensures.ready start),
+      may_finish (g.S.SectorStore.size first.disk) _ c.args.port.0 c.args.slot.0 c.sectors-sectors.result c.in-Some.field-0.left c.if-port-ne0.false c.requires sectors
+          (c.in-Some.ensures.begun.ready start),
       record {
         asked = goes_next SendsEnd c.args.port.0 c.args.slot.0 _ _ _ c.loop-piece.did is.did is.refused (inr (inr done));
         ends = λ _. done_frees c.args.port.0 c.args.slot.0 c.sectors-sectors.result _ _ (subst P none is.going) done;
@@ -156,7 +147,7 @@ end_is_done g c =
     let m = c.loop-piece.self in
     let o : Outside = outside_at g.S.SectorStore.size g.S.SectorStore.told m in
     let P : ℕ → Type 0 = λ n. IsGoing (device_at g.S.SectorStore.size g.S.SectorStore.told m) c.args.port.0 c.args.slot.0 c.sectors-sectors.result n in
-    let none : c.in-Some.left - c.loop-piece._piece ≡ 0 = omega (arith, c.loop-piece-test.false) in
+    let none : c.in-Some.field-0.left - c.loop-piece._piece ≡ 0 = omega (arith, c.loop-piece-test.false) in
     let going = subst P none c.loop-piece.invariant.going in
     elim (c.done.ensures.left c.if-done.false o) [
       | inl never ↦ never.0 (0, going.t, going_may_end c.args.port.0 c.args.slot.0 c.sectors-sectors.result _ going)
@@ -175,31 +166,31 @@ pub returns-in_default-clause-answers : goal.returns-in_default-clause-answers
 returns-in_default-clause-answers g c =
     let m = c.args.self.now in
     let o : Outside = outside_at g.S.SectorStore.size g.S.SectorStore.told m in
-    left_same g.S.SectorStore.size g.S.SectorStore.told g.S.SectorStore.is_sure _ m
-    (λ may.
-    let P : ℕ → Type 0 = λ n. MayFinish (device_of m.hardware o) c.args.port.0 c.args.slot.0 n may.2 in
-    some-none (c.moves_left.ensures.only o may.2 (subst P (sym c.sectors-sectors.ensures) may.3)) c.in_default.is)
-
--- the tape has no memory for it
-pub returns-then-not-reserve-clause-answers : goal.returns-then-not-reserve-clause-answers
-returns-then-not-reserve-clause-answers g c =
-    let m = c.args.self.now in
-    let o : Outside = outside_at g.S.SectorStore.size g.S.SectorStore.told m in
     let sectors : c.sectors-sectors.result ≡ g.S.SectorStore.size m.disk = c.sectors-sectors.ensures in
-    let P : ℕ → Type 0 = λ n. MayFinish (device_of m.hardware o) c.args.port.0 c.args.slot.0 n c.in-Some.left in
-    let ready = subst P sectors (c.in-Some.ensures.ready o) in
-    let lacks : HasRoom m.hardware (c.in-Some.left + 1) → ⊥ = λ room. true-false (c.reserve.ensures.enough (omega (arith, room))) c.if-not-reserve.true in
-    record {
-      device = c.reserve.ensures.same o;
-      held = refl;
-      says = refl;
-      which = refl;
-      disks = λ never. absurd never;
-      keeps = record { sectors = λ _. refl; sure = λ _. refl; out = λ _ _. refl; queue = refl; accesses = refl };
-      why = λ _ _. ((c.in-Some.left, ready, lacks), refl);
-      told_on = λ _. refl;
-      told_since = λ _. inr ((c.if-port-ne0.false, c.requires, c.in-Some.left, ready), (c.in-Some.left, ready, lacks));
-    }
+    elim (c.in_default.ensures.left refl) [
+      | inl never ↦
+          let Left : Hardware → Type 0 = λ h.
+          IsLeftOut g.S.SectorStore.size g.S.SectorStore.told g.S.SectorStore.is_sure (asked.Finish c.args.port c.args.slot) m (record m { hardware = h }) in
+          subst Left (sym never.1)
+          (left_same g.S.SectorStore.size g.S.SectorStore.told g.S.SectorStore.is_sure _ m
+          (λ may.
+          let P : ℕ → Type 0 = λ n. MayFinish (device_of m.hardware o) c.args.port.0 c.args.slot.0 n may.2 in
+          never.0 o may.2 (subst P (sym sectors) may.3)))
+      | inr lacks ↦
+          let P : ℕ → Type 0 = λ n. MayFinish (device_of m.hardware o) c.args.port.0 c.args.slot.0 n lacks.left in
+          let ready = subst P sectors (lacks.ready o) in
+          record {
+            device = lacks.same o;
+            held = refl;
+            says = refl;
+            which = refl;
+            disks = λ never. absurd never;
+            keeps = record { sectors = λ _. refl; sure = λ _. refl; out = λ _ _. refl; queue = refl; accesses = refl };
+            why = λ _ _. ((lacks.left, ready, lacks.lacked), lacks.told);
+            told_on = λ _. lacks.told;
+            told_since = λ _. inr ((c.if-port-ne0.false, c.requires, lacks.left, ready), (lacks.left, ready, lacks.lacked));
+          }
+    ]
 
 -- ---- an IDENTIFY DEVICE, for which no store is asked
 
@@ -210,12 +201,12 @@ returns-then-not-move_piece-clause-identifies g c = λ zero has.
     let is = c.loop-piece.invariant in
     let d : Device = device_at g.S.SectorStore.size g.S.SectorStore.told m in
     let size = g.S.SectorStore.size m.disk in
-    let left = c.in-Some.left - (c.loop-piece._piece + 1) in
+    let left = c.in-Some.field-0.left - (c.loop-piece._piece + 1) in
     let P : ℕ → Type 0 = λ n. IsGoing d c.args.port.0 c.args.slot.0 c.sectors-sectors.result n in
     let Q : ℕ → Type 0 = λ n. IsGoing d c.args.port.0 c.args.slot.0 n (suc left) in
     let R : ℕ → Type 0 = λ q. IsGoing d q c.args.slot.0 size (suc left) in
     let T : ℕ → Type 0 = λ q. (t : Taken) × HasMove d q c.args.slot.0 t in
-    let next : c.in-Some.left - c.loop-piece._piece ≡ suc left = omega (arith, c.loop-piece-test.true) in
+    let next : c.in-Some.field-0.left - c.loop-piece._piece ≡ suc left = omega (arith, c.loop-piece-test.true) in
     let going = subst Q (sym is.disk) (subst P next is.going) in
     let here : IsGoing d 0 c.args.slot.0 size (suc left) = subst R zero going in
     let found = subst T (sym zero) (here.t, going_has_move d 0 c.args.slot.0 left refl here) in
@@ -239,7 +230,7 @@ returns-then-done-clause-identifies g c = λ zero has.
     let o : Outside = outside_at g.S.SectorStore.size g.S.SectorStore.told m in
     let P : ℕ → Type 0 = λ n. IsGoing (device_at g.S.SectorStore.size g.S.SectorStore.told m) c.args.port.0 c.args.slot.0 c.sectors-sectors.result n in
     let Q : ℕ → Type 0 = λ q. IsFreeSlot ((device_of c.done.new.self o).port q) c.args.slot.0 in
-    let none : c.in-Some.left - c.loop-piece._piece ≡ 0 = omega (arith, c.loop-piece-test.false) in (
+    let none : c.in-Some.field-0.left - c.loop-piece._piece ≡ 0 = omega (arith, c.loop-piece-test.false) in (
       λ _. subst Q zero
           (done_frees c.args.port.0 c.args.slot.0 c.sectors-sectors.result _ _ (subst P none c.loop-piece.invariant.going) (c.done.ensures.did c.if-done.true o)),
       λ never. true-false c.if-done.true never,
@@ -262,14 +253,12 @@ returns-in_default-clause-identifies g c = λ zero has.
     let m = c.args.self.now in
     let o : Outside = outside_at g.S.SectorStore.size g.S.SectorStore.told m in
     let P : ℕ → Type 0 = λ q. MayFinish (device_of m.hardware o) q c.args.slot.0 c.sectors-sectors.result has.left in
-    some-none (c.moves_left.ensures.only o has.left (subst P (sym zero) (has_ready _ c.args.slot.0 c.sectors-sectors.result has))) c.in_default.is
-
-pub returns-then-not-reserve-clause-identifies : goal.returns-then-not-reserve-clause-identifies
-returns-then-not-reserve-clause-identifies g c = λ zero has.
-    let m = c.args.self.now in
-    let o : Outside = outside_at g.S.SectorStore.size g.S.SectorStore.told m in
-    let P : ℕ → Type 0 = λ q. MayFinish (device_of m.hardware o) q c.args.slot.0 c.sectors-sectors.result has.left in
-    let same = some_one (c.in-Some.ensures.only o has.left (subst P (sym zero) (has_ready _ c.args.slot.0 c.sectors-sectors.result has))) in (
-      λ never. absurd (let e : false ≡ true = never in cc),
-      λ _. (refl, λ room. c.reserve.ensures.lacks c.if-not-reserve.true (omega (arith, same, room))),
-    )
+    let ready = subst P (sym zero) (has_ready _ c.args.slot.0 c.sectors-sectors.result has) in
+    elim (c.in_default.ensures.left refl) [
+      | inl never ↦ absurd (never.0 o has.left ready)
+      | inr lacks ↦
+          let same : has.left ≡ lacks.left = lacks.only o has.left ready in (
+            λ never. absurd (let e : false ≡ true = never in cc),
+            λ _. (lacks.told, λ room. lacks.lacks (omega (arith, same, room))),
+          )
+    ]

@@ -3,7 +3,7 @@ use Rattle.ata_types.specs.declared.request.Reply.{Reply}
 use Rattle.server_history.specs.Served.{ServePorts}
 use Rattle.server_history.specs.Server.{Server}
 use Rattle.block_server.specs.View.{server_of}
-use Rattle.block_server.proofs.server.Server.service.Given as goal
+use Rattle.block_server.proofs.server.Server.service_into.Given as goal
 
 abbrev pub invariant-loop-number : goal.invariant-loop-number
 invariant-loop-number g l = record {

@@ -1,5 +1,5 @@
 use Rattle.std.proofs.Common.{◌≡◌, ◌+◌, ℕ, ◌<◌, slice_index, length}
-use Rattle.device_model.proofs.fetch.copy_bytes.Given as goal
+use Rattle.device_model.proofs.fetch.copy_end.Given as goal
 
 abbrev pub invariant-loop-i : goal.invariant-loop-i
 invariant-loop-i l = record {

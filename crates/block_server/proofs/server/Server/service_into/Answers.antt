@@ -6,8 +6,8 @@ use Rattle.server_history.specs.Served.{ServePorts, ServesPort}
 use Rattle.server_history.specs.Server.{Server, IsKept}
 use Rattle.server_history.proofs.Services.{services_add}
 use Rattle.block_server.proofs.Turns.{all_served, one_served}
-use Rattle.block_server.proofs.server.Server.service.Goals as goal
-use Rattle.block_server.proofs.server.Server.service.Goals.{in-Some, in_default-serve_port}
+use Rattle.block_server.proofs.server.Server.service_into.Goals as goal
+use Rattle.block_server.proofs.server.Server.service_into.Goals.{in-Some, in_default-serve_port}
 
 pub loop-number-preserved : goal.loop-number-preserved
 loop-number-preserved g c =
