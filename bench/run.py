@@ -128,7 +128,7 @@ def main():
         print(f"| all | {whole:,.0f} |")
         print(f"| the model: register accesses and steps | {model:,.0f} |")
         print(f"| reading and printing three lines | {lines:,.0f} |")
-        print(f"| the server | {whole - model - lines:,.0f} |")
+        print(f"| the server, and what the line that asks for a read is longer | {whole - model - lines:,.0f} |")
 
 
 if __name__ == "__main__":

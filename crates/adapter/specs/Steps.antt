@@ -278,7 +278,7 @@ pub record MayScribble (p : PortState) (slot at : ℕ) (bytes : List ℕ) : Type
 
 -- ---- Plug
 
--- a disk of the same name has as many sectors as it had: the name says which disk it is
+-- a disk with the name of the one that was in last has as many sectors as that had: the name says which disk it is
 abbrev pub IsKnownBy : Disk → Disk → Type 0
 IsKnownBy last disk = disk.name ≡ last.name → disk.size ≡ last.size
 

@@ -20,12 +20,12 @@ use Rattle.agreement.proofs.Keeping.{same_bytes, leaves_none, leaves_more, steps
 use Rattle.agreement.proofs.Putting.{put_cases}
 use Rattle.agreement.proofs.Serving.{told_on, block_on}
 
--- a free slot is put to use
-module _ (uses : Uses) (port slot : ℕ) (u : Use) (old new : Device) (free : uses port slot ≡ Free) (used : u ≢ Free) (l : LeavesFree uses old new) where
+-- a slot without a command of the driver's own is put to another use
+module _ (uses : Uses) (port slot : ℕ) (u : Use) (old new : Device) (none : (o : Operation) → uses port slot ≡ Own o → ⊥) (l : LeavesFree uses old new) where
   not_own : (q : ℕ) (o : Operation) → ((p : Operation) → put uses port slot u q 0 ≡ Own p → ⊥) → uses q 0 ≡ Own o → ⊥
   not_own q o own e = ⊎_elim
       (λ (x : (q ≡ port) × (0 ≡ slot)).
-      let z : Own o ≡ Free = sym e ∙ (ap (λ (k : ℕ). uses k 0) x.0 ∙ (ap (λ (k : ℕ). uses port k) x.1 ∙ free)) in cc)
+      none o (ap (λ (k : ℕ). uses port k) (sym x.1) ∙ (ap (λ (k : ℕ). uses k 0) (sym x.0) ∙ e)))
       (λ (x : (q ≡ port → 0 ≡ slot → ⊥) × (put uses port slot u q 0 ≡ uses q 0)). own o (x.1 ∙ e))
       (put_cases uses port slot u q 0)
 

@@ -244,6 +244,9 @@ frames_apart f a b = ⊎_elim
 
 pub two_are_known : TwoAreKnown
 two_are_known = record {
+  before = accepted;
+  reached_before = accepted_reached;
+  armed = record { agrees = two_armed_agrees; have = armed_have };
   machine = machine;
   reached = reached;
   first = issue first_waits;

@@ -64,8 +64,8 @@ pub record IsWrittenBack (st fre : Bool) (was v : ℕ) : Type 0 where
   pub receive : bit v 4 ≡ fre
   pub others : (place : ℕ) → place < 32 → place ≢ 0 → place ≢ 4 → bit v place ≡ bit was place
 
--- What is asked of a write so that each slot goes on as it was used: PxCLB has the list's place, or no slot is used; PxSACT has
--- bits of free slots alone, and PxCI none.
+-- What is asked of a write so that each slot goes on as it was used: PxCLB has the list's place, or no slot is used; PxSACT and PxCI have no
+-- bit.
 abbrev pub LeavesUses : Uses → Reg → ℕ → Device → Type 0
 LeavesUses uses (Px port Clb) v d = (v ≡ list_of port.0) ⊎ AllFree uses port.0
 LeavesUses uses (Px port Cmd) v d = IsCommand uses port.0 v (d.port port.0)
@@ -125,9 +125,9 @@ MissesScratch port at n = (place : ℕ) → IsScratch port place → at ≤ plac
 
 -- ---- issuing
 
--- The request is due; its slot is free, and usable in this mode, and a plain request's is slot 0; the slot's bytes say its command,
--- which is queued exactly if the request is; a queued one has its bit of SACT and a plain one hasn't; and the value has the slot's
--- bit alone.
+-- The request is due; its slot is armed if the request is queued, and else free; the slot is usable in this mode, and a plain
+-- request's is slot 0; the slot's bytes say its command, which is queued exactly if the request is; and the value has the slot's bit
+-- alone.
 pub record IsPrepared (uses : Uses) (m : Machine) (d : Device) (port slot : ℕ) (mode : Mode) (e : Pending) (v : ℕ) : Type 0 where
   pub may : May m (Issue mode e)
   pub port_is : e.request.port.0 ≡ port

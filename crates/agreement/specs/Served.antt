@@ -68,10 +68,13 @@ armed_uses = put (put (λ port slot. Free) 0 0 Armed) 0 1 Armed
 abbrev pub two_known : Device → Known
 two_known d = record { uses = put (put armed_uses 0 0 (Serves first_id)) 0 1 (Serves second_id); parked = λ port. []; device = d }
 
--- A machine is reached that has issued both requests, which have no frame in common. Each write of PxCI is permitted;
--- the machine agrees with the driver when both commands are issued, and when the device has taken the one, which is
--- queued, while the other waits.
+-- A machine is reached that agrees with the driver where both slots are armed; and one that has issued both requests, which have
+-- no frame in common. Each write of PxCI is permitted; this machine agrees with the driver when both commands are issued, and when the
+-- device has taken the one, which is queued, while the other waits.
 pub record TwoAreKnown : Type 0 where
+  pub before : Machine
+  pub reached_before : IsReached before
+  pub armed : Knows before (record { uses = armed_uses; parked = λ port. []; device = two_armed })
   pub machine : Machine
   pub reached : IsReached machine
   pub first : Pending

@@ -302,13 +302,13 @@ pub fn free_slots_are_left()
         → (r : Reg) (v : ℕ) → Writes r v old new → LeavesFree uses old new }
 {}
 
-/// What is left over each of two stretches is left over both; and so it is over none. What is left while a slot is free, is left
-/// where it is put to use.
+/// What is left over each of two stretches is left over both; and so it is over none. What is left while a slot has no command of the
+/// driver's own, is left where it is put to another use.
 pub fn leaving_composes()
     ensures none { (uses : Uses) (d : Device) → LeavesFree uses d d }
     ensures more { (uses : Uses) (old mid new : Device) → LeavesFree uses old mid → LeavesFree uses mid new
         → LeavesFree uses old new }
-    ensures used { (uses : Uses) (port slot : ℕ) (u : Use) (old new : Device) → uses port slot ≡ Free → u ≢ Free
+    ensures used { (uses : Uses) (port slot : ℕ) (u : Use) (old new : Device) → ((o : Operation) → uses port slot ≡ Own o → ⊥)
         → LeavesFree uses old new → LeavesFree (put uses port slot u) old new }
 {}
 

@@ -27,8 +27,9 @@ use Rattle.device_model.specs.declared.model.Model.{Model}
 
 -- ---- when a step is possible
 
--- The step may be done now, memory to note it aside. There are ports 0 to 3 with slots 0 to 31, of which port 0 alone has disks; a page has
--- 512 bytes; and disks 0 and 1 can be put in, where no disk is. A Finish is possible where each of its moves is.
+-- The step may be done now, memory to note it aside. There are ports 0 to 3 with slots 0 to 31, of which port 0 alone has disks; what is said of a
+-- page of any other port says nothing, and is done; a page has 512 bytes; and disks 0 and 1 can be put in, where no disk is. A Finish is possible
+-- where each of its moves is.
 abbrev pub Possible : DeviceStep → Device → Type 0
 Possible (asked.Fetch p s) d =
     (p.0 < 4) × (s.0 < 32) × (meaning : Meaning) × (places : List ℕ) × Takes meaning.operation × Can (Fetch p.0 s.0 meaning places) d

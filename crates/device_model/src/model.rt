@@ -133,7 +133,8 @@ impl<S: SectorStore> Model<S> {
 
     /// What the memory holds, from address 0 on.
     pub fn memory(&self) -> &[u8]
-        ensures { (at : ℕ) → slice_index result.now at ≡ (device_at S.size S.told self.now).memory at }
+        ensures bytes { (at : ℕ) → slice_index result.now at ≡ (device_at S.size S.told self.now).memory at }
+        ensures whole { length result.now ≡ (device_at S.size S.told self.now).size }
     {
         self.hardware.memory.as_slice()
     }
