@@ -1,8 +1,6 @@
 use Rattle.std.proofs.Common.{ℕ, ◌≡◌, arith, sym, ap, ◌∙◌, subst}
 use Rattle.ata_types.specs.declared.Port.{Port}
 use Rattle.hba_regs.specs.Bits.{bit}
-use Rattle.hba_regs.specs.declared.reg.PortReg.{PortReg}
-use Rattle.hba_regs.specs.declared.reg.PortReg.TheVariants.{Cmd, Sact}
 use Rattle.adapter.specs.Rules.{HasPort}
 use Rattle.agreement.specs.Driven.{AnyUse, IsControl}
 use Rattle.agreement.proofs.Controlled.{agreeing_goes_on, same_over}
@@ -21,7 +19,7 @@ receive-requires-clause-there g c =
 pub receive-requires-clause-agreed : goal.receive-requires-clause-agreed
 receive-requires-clause-agreed g c =
     let taken = c.take_over-host.ensures.taken in
-    (taken.uses, tt, agreeing_goes_on WritesCommand AnyUse (record { 0 = 0 }) taken.uses _ _ (λ e. let z : Sact ≡ Cmd = e in absurd cc) tt c.stop.ensures.followed taken.agreed)
+    (taken.uses, tt, agreeing_goes_on WritesCommand AnyUse (record { 0 = 0 }) taken.uses _ _ tt c.stop.ensures.followed taken.agreed)
 
 pub receive-requires-clause-room : goal.receive-requires-clause-room
 receive-requires-clause-room g c =
