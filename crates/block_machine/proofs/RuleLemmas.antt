@@ -9,7 +9,21 @@ use Rattle.ata_types.specs.declared.refusal.FrameFault.{FrameFault}
 use Rattle.ata_types.specs.declared.refusal.FrameFault.TheVariants.{FrameForeign, FrameTwice, FrameLent}
 use Rattle.ata_types.specs.declared.refusal.Rule.{Rule}
 use Rattle.ata_types.specs.declared.refusal.Rule.TheVariants.{NoGrant, NoRight, BadCount, OutsideGrant, FrameCount, Frames}
-use Rattle.block_machine.specs.Rules.{Names, DifferInName, number, place, fault_number, fault_place}
+use Rattle.ata_types.specs.declared.refusal.Refusal.TheVariants as refused
+use Rattle.block_machine.specs.Rules.{Names, DifferInName, rank}
+
+-- number and place of a rule's rank, and of a fault's
+abbrev pub number : Rule → ℕ
+number rule = (rank (refused.Rule rule)).0
+
+abbrev pub place : Rule → ℕ
+place rule = (rank (refused.Rule rule)).1
+
+abbrev pub fault_number : FrameFault → ℕ
+fault_number fault = number (Frames fault)
+
+abbrev pub fault_place : FrameFault → ℕ
+fault_place fault = place (Frames fault)
 
 -- a member of a list stands at its place, whatever the default
 at_place : (rows : List GrantRow) (a d : GrantRow) (there : Contains rows a) → get_or rows there.0 d ≡ a

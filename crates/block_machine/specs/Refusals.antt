@@ -14,7 +14,7 @@ use Rattle.ata_types.specs.declared.refusal.Refusal.{Refusal}
 use Rattle.ata_types.specs.declared.refusal.Refusal.TheVariants as refused
 use Rattle.ata_types.specs.declared.refusal.MemFault.{MemFault}
 use Rattle.ata_types.specs.declared.refusal.MemFault.TheVariants.{FrameForeign, FrameLent, OutsideFrame}
-use Rattle.block_machine.specs.Rules.{IsNamed, Breaks, number, place, Precedes}
+use Rattle.block_machine.specs.Rules.{IsNamed, Breaks, IsFirst, rank}
 
 -- What a request meets.
 pub record Situation : Type 0 where
@@ -41,36 +41,13 @@ Applies s r refused.TrimUnsupported = (r.op ≡ Trim) × ((row : GrantRow) × Is
 Applies s r refused.ClientFull = 16 ≤ s.unanswered r.client
 Applies s r refused.IdsSpent = 2 ^ 64 ≤ s.next
 
--- the numbers of the causes say which is told first
-abbrev pub refusal_number : Refusal → ℕ
-refusal_number (refused.Rule rule) = number rule
-refusal_number (refused.PortNotReady state) = 9
-refusal_number refused.OutsideDisk = 10
-refusal_number refused.TrimUnsupported = 11
-refusal_number refused.ClientFull = 12
-refusal_number refused.IdsSpent = 13
-
--- the place of the frame that is at fault; the other causes have none
-abbrev pub refusal_place : Refusal → ℕ
-refusal_place (refused.Rule rule) = place rule
-refusal_place (refused.PortNotReady state) = 0
-refusal_place refused.OutsideDisk = 0
-refusal_place refused.TrimUnsupported = 0
-refusal_place refused.ClientFull = 0
-refusal_place refused.IdsSpent = 0
-
--- the cause is told before the other
-abbrev pub IsRefusalBefore : Refusal → Refusal → Type 0
-IsRefusalBefore a b = Precedes (refusal_number a) (refusal_place a) (refusal_number b) (refusal_place b)
-
 -- no cause applies
 abbrev pub IsAcceptable : Situation → Request → Type 0
 IsAcceptable s r = (refusal : Refusal) → Applies s r refusal → ⊥
 
 -- the cause applies, and none before it
 abbrev pub IsFirstRefusal : Situation → Request → Refusal → Type 0
-IsFirstRefusal s r refusal = Applies s r refusal
-    × ((other : Refusal) → IsRefusalBefore other refusal → Applies s r other → ⊥)
+IsFirstRefusal s r refusal = IsFirst rank (Applies s r) refusal
 
 -- the cause applies to a client's access to so many bytes of a frame from this offset on
 abbrev pub MemApplies : (Frame → Option ClientId) → (Frame → Option RequestId) → ClientId → Frame → ℕ → ℕ → MemFault → Type 0
@@ -78,11 +55,11 @@ MemApplies owner lent client frame offset count FrameForeign = owner frame ≢ S
 MemApplies owner lent client frame offset count FrameLent = IsSome (lent frame)
 MemApplies owner lent client frame offset count OutsideFrame = FRAME_BYTES < offset + count
 
--- the numbers of these causes say which is told first
-abbrev pub mem_fault_number : MemFault → ℕ
-mem_fault_number FrameForeign = 1
-mem_fault_number FrameLent = 2
-mem_fault_number OutsideFrame = 3
+-- in which order these are told
+abbrev pub mem_rank : MemFault → ℕ × ℕ
+mem_rank FrameForeign = (1, 0)
+mem_rank FrameLent = (2, 0)
+mem_rank OutsideFrame = (3, 0)
 
 -- no cause applies to the access
 abbrev pub IsOpen : (Frame → Option ClientId) → (Frame → Option RequestId) → ClientId → Frame → ℕ → ℕ → Type 0
@@ -90,5 +67,4 @@ IsOpen owner lent client frame offset count = (fault : MemFault) → MemApplies 
 
 -- the cause applies to the access, and none before it
 abbrev pub IsFirstMemFault : (Frame → Option ClientId) → (Frame → Option RequestId) → ClientId → Frame → ℕ → ℕ → MemFault → Type 0
-IsFirstMemFault owner lent client frame offset count fault = MemApplies owner lent client frame offset count fault
-    × ((other : MemFault) → mem_fault_number other < mem_fault_number fault → MemApplies owner lent client frame offset count other → ⊥)
+IsFirstMemFault owner lent client frame offset count fault = IsFirst mem_rank (MemApplies owner lent client frame offset count) fault

@@ -12,6 +12,8 @@ use Rattle.ata_types.specs.declared.refusal.FrameFault.{FrameFault}
 use Rattle.ata_types.specs.declared.refusal.FrameFault.TheVariants.{FrameForeign, FrameTwice, FrameLent}
 use Rattle.ata_types.specs.declared.refusal.Rule.{Rule}
 use Rattle.ata_types.specs.declared.refusal.Rule.TheVariants.{NoGrant, NoRight, BadCount, OutsideGrant, FrameCount, Frames}
+use Rattle.ata_types.specs.declared.refusal.Refusal.{Refusal}
+use Rattle.ata_types.specs.declared.refusal.Refusal.TheVariants as refused
 use Rattle.ata_types.specs.Grant.{Allows, Covers}
 
 -- the row is the one of this client under this number
@@ -67,47 +69,29 @@ Breaks rows owner lent r OutsideGrant = (r.op ≢ Flush) × ((row : GrantRow) ×
 Breaks rows owner lent r FrameCount = length r.frames.items ≢ frames_for r.op r.count
 Breaks rows owner lent r (Frames fault) = HasFault owner lent r.client r.frames.items fault
 
--- the numbers of the rules say which is told first
-abbrev pub fault_number : FrameFault → ℕ
-fault_number (FrameForeign i) = 6
-fault_number (FrameTwice i) = 7
-fault_number (FrameLent i) = 8
+-- In which order causes are told: by number, and where it is about a frame, by the frame's place.
+abbrev pub rank : Refusal → ℕ × ℕ
+rank (refused.Rule NoGrant) = (1, 0)
+rank (refused.Rule NoRight) = (2, 0)
+rank (refused.Rule BadCount) = (3, 0)
+rank (refused.Rule OutsideGrant) = (4, 0)
+rank (refused.Rule FrameCount) = (5, 0)
+rank (refused.Rule (Frames (FrameForeign i))) = (6, i)
+rank (refused.Rule (Frames (FrameTwice i))) = (7, i)
+rank (refused.Rule (Frames (FrameLent i))) = (8, i)
+rank (refused.PortNotReady state) = (9, 0)
+rank refused.OutsideDisk = (10, 0)
+rank refused.TrimUnsupported = (11, 0)
+rank refused.ClientFull = (12, 0)
+rank refused.IdsSpent = (13, 0)
 
--- and so for the rules
-abbrev pub number : Rule → ℕ
-number NoGrant = 1
-number NoRight = 2
-number BadCount = 3
-number OutsideGrant = 4
-number FrameCount = 5
-number (Frames fault) = fault_number fault
+-- the one rank is before the other
+abbrev pub IsBefore : ℕ × ℕ → ℕ × ℕ → Type 0
+IsBefore a b = (a.0 < b.0) ⊎ ((a.0 ≡ b.0) × (a.1 < b.1))
 
--- the place of the frame that is at fault; the other rules have none
-abbrev pub fault_place : FrameFault → ℕ
-fault_place (FrameForeign i) = i
-fault_place (FrameTwice i) = i
-fault_place (FrameLent i) = i
-
--- and so for the rules
-abbrev pub place : Rule → ℕ
-place NoGrant = 0
-place NoRight = 0
-place BadCount = 0
-place OutsideGrant = 0
-place FrameCount = 0
-place (Frames fault) = fault_place fault
-
--- number and place come before another number and place
-abbrev pub Precedes : ℕ → ℕ → ℕ → ℕ → Type 0
-Precedes n i other_n other_i = (n < other_n) ⊎ ((n ≡ other_n) × (i < other_i))
-
--- the fault is told before the other
-abbrev pub IsFaultBefore : FrameFault → FrameFault → Type 0
-IsFaultBefore a b = Precedes (fault_number a) (fault_place a) (fault_number b) (fault_place b)
-
--- the rule is told before the other
-abbrev pub IsBefore : Rule → Rule → Type 0
-IsBefore a b = Precedes (number a) (place a) (number b) (place b)
+-- the cause applies, and none of a rank before its own does
+abbrev pub IsFirst : {C : Type 0} → (C → ℕ × ℕ) → (C → Type 0) → C → Type 0
+IsFirst {C} rank_of Applies cause = Applies cause × ((other : C) → IsBefore (rank_of other) (rank_of cause) → Applies other → ⊥)
 
 -- the frames have no fault
 abbrev pub HasNoFault : (Frame → Option ClientId) → (Frame → Option RequestId) → ClientId → List Frame → Type 0
@@ -115,8 +99,7 @@ HasNoFault owner lent client frames = (fault : FrameFault) → HasFault owner le
 
 -- the fault is one of these frames, and none before it is
 abbrev pub IsFirstFault : (Frame → Option ClientId) → (Frame → Option RequestId) → ClientId → List Frame → FrameFault → Type 0
-IsFirstFault owner lent client frames fault = HasFault owner lent client frames fault
-    × ((other : FrameFault) → IsFaultBefore other fault → HasFault owner lent client frames other → ⊥)
+IsFirstFault owner lent client frames fault = IsFirst (λ fault. rank (refused.Rule (Frames fault))) (HasFault owner lent client frames) fault
 
 -- the request breaks no rule
 abbrev pub BreaksNone : List GrantRow → (Frame → Option ClientId) → (Frame → Option RequestId) → Request → Type 0
@@ -124,5 +107,4 @@ BreaksNone rows owner lent r = (rule : Rule) → Breaks rows owner lent r rule �
 
 -- the request breaks the rule, and none before it
 abbrev pub IsFirstBroken : List GrantRow → (Frame → Option ClientId) → (Frame → Option RequestId) → Request → Rule → Type 0
-IsFirstBroken rows owner lent r rule = Breaks rows owner lent r rule
-    × ((other : Rule) → IsBefore other rule → Breaks rows owner lent r other → ⊥)
+IsFirstBroken rows owner lent r rule = IsFirst (λ rule. rank (refused.Rule rule)) (Breaks rows owner lent r) rule

@@ -13,8 +13,9 @@ use Rattle.ata_types.specs.declared.refusal.FrameFault.{FrameFault}
 use Rattle.ata_types.specs.declared.refusal.FrameFault.TheVariants.{FrameForeign, FrameTwice, FrameLent}
 use Rattle.ata_types.specs.declared.refusal.Rule.{Rule}
 use Rattle.ata_types.specs.declared.refusal.Rule.TheVariants.{NoGrant, NoRight, BadCount, OutsideGrant, FrameCount, Frames}
-use Rattle.block_machine.specs.Rules.{IsNamed, IsCount, frames_for, Breaks, number, place, fault_number, IsBefore, HasNoFault, IsFirstFault, BreaksNone, IsFirstBroken}
-use Rattle.block_machine.proofs.RuleLemmas.{same_rule}
+use Rattle.ata_types.specs.declared.refusal.Refusal.TheVariants as refused
+use Rattle.block_machine.specs.Rules.{IsNamed, IsCount, frames_for, Breaks, IsBefore, rank, HasNoFault, IsFirstFault, BreaksNone, IsFirstBroken}
+use Rattle.block_machine.proofs.RuleLemmas.{same_rule, number, place, fault_number}
 
 -- the faults of frames come after the other rules
 late : (fault : FrameFault) → 5 < fault_number fault
@@ -51,7 +52,7 @@ module _ (rows : List GrantRow) (owner : Frame → Option ClientId) (lent : Fram
   first_broken : (rule : Rule) → number rule < 6 → KeptBelow (number rule) → Breaks rows owner lent r rule → IsFirstBroken rows owner lent r rule
   first_broken rule early kept broken = (broken, none_before)
     where
-      none_before : (other : Rule) → IsBefore other rule → Breaks rows owner lent r other → ⊥
+      none_before : (other : Rule) → IsBefore (rank (refused.Rule other)) (rank (refused.Rule rule)) → Breaks rows owner lent r other → ⊥
       none_before other before = elim before [
         | inl lower ↦ kept other lower
         | inr same ↦ absurd (omega (arith, same.1, early_place rule early))
@@ -60,7 +61,7 @@ module _ (rows : List GrantRow) (owner : Frame → Option ClientId) (lent : Fram
   first_fault : (fault : FrameFault) → KeptBelow 6 → IsFirstFault owner lent r.client r.frames.items fault → IsFirstBroken rows owner lent r (Frames fault)
   first_fault fault kept first = (first.0, none_before)
     where
-      none_before : (other : Rule) → IsBefore other (Frames fault) → Breaks rows owner lent r other → ⊥
+      none_before : (other : Rule) → IsBefore (rank (refused.Rule other)) (rank (refused.Rule (Frames fault))) → Breaks rows owner lent r other → ⊥
       none_before (Frames other) before = first.1 other before
       none_before NoGrant before = kept NoGrant (omega arith)
       none_before NoRight before = kept NoRight (omega arith)

@@ -11,9 +11,9 @@ use Rattle.ata_types.specs.declared.refusal.Rule.{Rule}
 use Rattle.ata_types.specs.declared.refusal.Rule.TheVariants.{NoGrant, NoRight, BadCount, OutsideGrant, FrameCount, Frames}
 use Rattle.ata_types.specs.declared.refusal.Refusal.{Refusal}
 use Rattle.ata_types.specs.declared.refusal.Refusal.TheVariants as refused
-use Rattle.block_machine.specs.Rules.{DifferInName, Precedes, IsFirstBroken, number, place}
-use Rattle.block_machine.specs.Refusals.{Situation, Applies, IsFirstRefusal, refusal_number, refusal_place}
-use Rattle.block_machine.proofs.RuleLemmas.{one_row, late, same_rule}
+use Rattle.block_machine.specs.Rules.{DifferInName, IsBefore, IsFirstBroken, rank}
+use Rattle.block_machine.specs.Refusals.{Situation, Applies, IsFirstRefusal}
+use Rattle.block_machine.proofs.RuleLemmas.{one_row, late, same_rule, number}
 
 pub early : (rule : Rule) → number rule < 9
 early NoGrant = omega arith
@@ -24,7 +24,7 @@ early FrameCount = omega arith
 early (Frames fault) = (late fault).1
 
 same_refusal : (s : Situation) (r : Request) → AllPairs DifferInName s.rows → (a b : Refusal) → Applies s r a → Applies s r b
-    → refusal_number a ≡ refusal_number b → refusal_place a ≡ refusal_place b → a ≡ b
+    → (rank a).0 ≡ (rank b).0 → (rank a).1 ≡ (rank b).1 → a ≡ b
 same_refusal s r differ (refused.Rule a) (refused.Rule b) x y n p = ap refused.Rule (same_rule a b n p)
 same_refusal s r differ (refused.PortNotReady a) (refused.PortNotReady b) x y n p =
     ap refused.PortNotReady (sym x.1.2 ∙ ap (λ (row : GrantRow). s.state row.port)
@@ -37,10 +37,10 @@ same_refusal s r differ (refused.Rule a) _ x y n p = absurd (omega (arith, early
 same_refusal s r differ _ (refused.Rule b) x y n p = absurd (omega (arith, early b))
 same_refusal s r differ _ _ x y n p = absurd (omega arith)
 
--- neither of two pairs of numbers precedes the other: they are equal
-same_rank : (n i m j : ℕ) → (Precedes n i m j → ⊥) → (Precedes m j n i → ⊥) → (n ≡ m) × (i ≡ j)
-same_rank n i m j below above = elim (cases_order n m) [
-  | inl e ↦ elim (cases_order i j) [
+-- neither of two ranks is before the other: they are equal
+same_rank : (a b : ℕ × ℕ) → (IsBefore a b → ⊥) → (IsBefore b a → ⊥) → (a.0 ≡ b.0) × (a.1 ≡ b.1)
+same_rank a b below above = elim (cases_order a.0 b.0) [
+  | inl e ↦ elim (cases_order a.1 b.1) [
     | inl f ↦ (e, f)
     | inr o ↦ absurd (elim o [ inl lt ↦ below (inr (e, lt)) | inr gt ↦ above (inr (sym e, gt)) ])
   ]
@@ -51,12 +51,12 @@ same_rank n i m j below above = elim (cases_order n m) [
 pub first_broken_is_one : (rows : List GrantRow) (owner : Frame → Option ClientId) (lent : Frame → Option RequestId) (r : Request) (one other : Rule)
     → IsFirstBroken rows owner lent r one → IsFirstBroken rows owner lent r other → one ≡ other
 first_broken_is_one rows owner lent r one other a b =
-    let n = same_rank (number one) (place one) (number other) (place other) (λ p. b.1 one p a.0) (λ p. a.1 other p b.0) in
+    let n = same_rank (rank (refused.Rule one)) (rank (refused.Rule other)) (λ p. b.1 one p a.0) (λ p. a.1 other p b.0) in
     same_rule one other n.0 n.1
 
 -- the first refusal is one
 pub first_refusal_is_one : (s : Situation) (r : Request) (one other : Refusal) → AllPairs DifferInName s.rows
     → IsFirstRefusal s r one → IsFirstRefusal s r other → one ≡ other
 first_refusal_is_one s r one other differ a b =
-    let n = same_rank (refusal_number one) (refusal_place one) (refusal_number other) (refusal_place other) (λ p. b.1 one p a.0) (λ p. a.1 other p b.0) in
+    let n = same_rank (rank one) (rank other) (λ p. b.1 one p a.0) (λ p. a.1 other p b.0) in
     same_refusal s r differ one other a.0 b.0 n.0 n.1

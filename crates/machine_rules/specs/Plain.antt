@@ -11,8 +11,8 @@ use Rattle.ata_types.specs.declared.refusal.Rule.TheVariants.{NoRight, OutsideGr
 use Rattle.ata_types.specs.Grant.{Allows, Covers}
 use Rattle.machine_rules.specs.declared.refuse.PortShown.{PortShown}
 use Rattle.machine_rules.specs.declared.refuse.Tables.{Tables}
-use Rattle.block_machine.specs.Rules.{IsNamed}
-use Rattle.block_machine.specs.Refusals.{Situation, Applies, refusal_number, refusal_place}
+use Rattle.block_machine.specs.Rules.{IsNamed, rank}
+use Rattle.block_machine.specs.Refusals.{Situation, Applies}
 
 -- what a table has for a frame; past its end nothing
 abbrev pub for_frame : {X : Type 0} → List (Option X) → Frame → Option X
@@ -51,6 +51,6 @@ SomeRowHas s r refusal = (row : GrantRow) × IsNamed s.rows r row × RowHas s r 
 -- of the causes with this number, the first that applies, or that none does
 pub record IsFirstNumbered (s : Situation) (r : Request) (number : ℕ) (found : Option Refusal) : Type 0 where
   pub applies : IfSome found (Applies s r)
-  pub numbered : IfSome found (λ cause. refusal_number cause ≡ number)
-  pub first : IfSome found (λ cause. (other : Refusal) → refusal_number other ≡ number → refusal_place other < refusal_place cause → Applies s r other → ⊥)
-  pub none : IfNone found ((other : Refusal) → refusal_number other ≡ number → Applies s r other → ⊥)
+  pub numbered : IfSome found (λ cause. (rank cause).0 ≡ number)
+  pub first : IfSome found (λ cause. (other : Refusal) → (rank other).0 ≡ number → (rank other).1 < (rank cause).1 → Applies s r other → ⊥)
+  pub none : IfNone found ((other : Refusal) → (rank other).0 ≡ number → Applies s r other → ⊥)

@@ -2,8 +2,8 @@
 // first that applies.
 ghost use Rattle.std.specs.Prelude.{false, ◌≡◌, ◌⊎◌, ◌<◌, ◌≤◌, ◌↔◌, IsTrue, IfSome, IfNone, slice_get, count_by, ◌==◌};
 ghost use Rattle.ata_types.specs.Grant.{Allows, Covers};
-ghost use Rattle.block_machine.specs.Rules.{IsNamed, Names, IsCount, frames_for, Breaks, HasFault, fault_number, fault_place, BreaksNone, IsFirstBroken};
-ghost use Rattle.block_machine.specs.Refusals.{Applies, IsAcceptable, IsFirstRefusal, MemApplies, IsOpen, IsFirstMemFault, refusal_number};
+ghost use Rattle.block_machine.specs.Rules.{IsNamed, Names, IsCount, frames_for, Breaks, HasFault, BreaksNone, IsFirstBroken, rank};
+ghost use Rattle.block_machine.specs.Refusals.{Applies, IsAcceptable, IsFirstRefusal, MemApplies, IsOpen, IsFirstMemFault};
 ghost use Rattle.machine_rules.specs.Plain.{for_frame, shown_at, situation_in, RowHas, SomeRowHas, IsFirstNumbered};
 
 use arrayvec::ArrayVec;
@@ -76,8 +76,7 @@ fn frame_count(op: Op, count: u32) -> usize
 fn fault_at(number: u8, place: usize) -> FrameFault
     requires low { 6 ≤ number }
     requires high { number ≤ 8 }
-    ensures number { fault_number result ≡ number }
-    ensures place { fault_place result ≡ place }
+    ensures { rank (Refusal.Rule (Rule.Frames result)) ≡ (number, place) }
 {
     match number {
         6 => FrameFault::FrameForeign(place),
@@ -89,7 +88,7 @@ fn fault_at(number: u8, place: usize) -> FrameFault
 /// The rule, if the cause is one.
 fn rule_of(cause: Refusal) -> Option<Rule>
     ensures some { IfSome result (λ rule. cause ≡ Refusal.Rule rule) }
-    ensures none { IfNone result (8 < refusal_number cause) }
+    ensures none { IfNone result (8 < (rank cause).0) }
 {
     match cause {
         Refusal::Rule(rule) => Some(rule),
@@ -232,9 +231,9 @@ impl Tables {
 
     /// The cause, if it applies.
     fn if_applies(&self, request: &Request, cause: Refusal) -> Option<Refusal>
-        requires { (refusal_number cause < 6) ⊎ (9 < refusal_number cause) }
+        requires { ((rank cause).0 < 6) ⊎ (9 < (rank cause).0) }
         ensures { IsFirstNumbered (situation_in self.now) request.now
-            (refusal_number cause) result }
+            (rank cause).0 result }
     {
         if self.applies(request, cause) {
             Some(cause)

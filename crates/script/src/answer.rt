@@ -3,7 +3,7 @@ ghost use Rattle.std.specs.Prelude.{◌≡◌, ◌++◌, Some, OnOk};
 ghost use Rattle.std.specs.Io.KnownBytes.{Appends};
 ghost use Rattle.std.specs.List.{flat_map, join_with_byte};
 ghost use Rattle.hex.specs.Hex.{encode_lower};
-ghost use Rattle.block_machine.specs.Refusals.{refusal_number};
+ghost use Rattle.block_machine.specs.Rules.{rank};
 ghost use Rattle.script.specs.Answer.{answer_line, answer_text, fault_words, kind_word, mem_fault_word, outcome_words, refusal_words, rule_words, state_words};
 
 use adapter::{Clear, Move, Operation};
@@ -152,7 +152,7 @@ impl fmt::Display for Named {
 
 /// The number of a refusal, 1 to 13: of those that apply, the one with the least is told.
 pub fn number(refusal: Refusal) -> u8
-    ensures { result ≡ refusal_number refusal }
+    ensures { result ≡ (rank refusal).0 }
 {
     match refusal {
         Refusal::Rule(Rule::NoGrant) => 1,
