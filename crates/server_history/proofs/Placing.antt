@@ -13,20 +13,22 @@ use Rattle.adapter.specs.declared.access.DeviceStep.{DeviceStep}
 use Rattle.adapter.specs.declared.tape.Entry.{Entry}
 use Rattle.adapter.specs.declared.tape.Entry.TheVariants as entry
 use Rattle.adapter.specs.declared.tape.Move as tape_move
+use Rattle.adapter.specs.declared.tape.Clear as tape_clear
 use Rattle.agreement.specs.Driven.{known}
 use Rattle.agreement.specs.Driver.{Knows}
 use Rattle.agreement.specs.Facts.{RunsWell, Undisturbed}
 use Rattle.agreement.specs.Slots.{Free, Serves, ServesRequest, IsServed, Use, Uses, op_of}
 use Rattle.agreement.specs.Places.{scratch_of}
-use Rattle.agreement.specs.Tape.{IsTouch, TellsAmong, TellsEntry, TellsMove}
+use Rattle.agreement.specs.Tape.{IsTouch, IsClear, TellsAmong, TellsEntry, TellsMove}
 use Rattle.block_machine.specs.Events.{IsRun, steps_of}
 use Rattle.block_machine.specs.Histories.{Instant, Happening, IsHistory, events_of, now}
-use Rattle.block_machine.specs.Left.{after}
+use Rattle.block_machine.specs.Left.{after, IsLegal}
 use Rattle.block_machine.specs.Ports.{Ports}
 use Rattle.block_machine.specs.State.{Machine, Pending}
 use Rattle.block_machine.specs.Steps.{Step, Touch}
-use Rattle.block_machine.proofs.Accepts.{touch_is_confined}
-use Rattle.block_machine.proofs.EventLemmas.{after-append, run_starts, step_of_run}
+use Rattle.block_machine.proofs.Accepts.{living_accepted, touch_is_confined}
+use Rattle.block_machine.proofs.EventLemmas.{after-append, run_legal, run_starts, step_of_run}
+use Rattle.block_machine.proofs.Trace.{runs_lives}
 use Rattle.block_machine.proofs.Members.{contains_cases, contains_none}
 use Rattle.host_boot.specs.Taken.{TakesOver, found_of}
 use Rattle.host_boot.specs.declared.Found.{Found}
@@ -34,7 +36,7 @@ use Rattle.host_boot.specs.declared.Host.{Host}
 use Rattle.host_boot.proofs.Beginning.{taken_runs}
 use Rattle.identify.specs.declared.wanted.Wanted.{Wanted}
 use Rattle.server_history.specs.Histories.{AreShown, Begins, GoesWell, Ties}
-use Rattle.server_history.specs.Moves.{IsConfinedMove, KeepsMoves, KeepsTo}
+use Rattle.server_history.specs.Moves.{IsConfinedClear, IsConfinedMove, KeepsMoves, KeepsTo}
 use Rattle.server_history.specs.Server.{Server, IsKept, none_parked, state_of}
 use Rattle.server_history.proofs.Coming.{left_well}
 use Rattle.server_history.proofs.Telling.{history_runs, machine_is}
@@ -97,6 +99,40 @@ goes m (e ∷ entries) steps (own, first, rest, alone, tells, more, is) move her
     (λ (there : Contains entries (entry.Move move)). goes_later (op_of move.operation) m move rest (first ++ own) (goes (after m (first ++ own)) entries rest more move there))
     (contains_cases e entries (entry.Move move) here))
 
+-- the clear is among the steps, from this machine on
+record IsCleared (m : Machine) (steps : List Step) (clear : tape_clear.Clear) : Type 0 where
+  later : List Step
+  touches : List Step
+  before : List Step
+  here : steps ≡ later ++ (touches ++ before)
+  clears : IsClear (after m before) clear touches
+
+cleared_first : (m : Machine) (clear : tape_clear.Clear) (own first rest : List Step) → IsClear (after m own) clear first → IsCleared m (rest ++ (first ++ own)) clear
+cleared_first m clear own first rest c = record { later = rest; touches = first; before = own; here = refl; clears = c }
+
+cleared_later : (m : Machine) (clear : tape_clear.Clear) (rest early : List Step) → IsCleared (after m early) rest clear → IsCleared m (rest ++ early) clear
+cleared_later m clear rest early c = record {
+  later = c.later;
+  touches = c.touches;
+  before = c.before ++ early;
+  here = ap (λ (steps : List Step). steps ++ early) c.here ∙ append_assoc c.later (c.touches ++ c.before) early
+      ∙ ap (λ (steps : List Step). c.later ++ steps) (append_assoc c.touches c.before early);
+  clears = subst (λ (n : Machine). IsClear n clear c.touches) (sym (after-append m c.before early)) c.clears;
+}
+
+cleared : (m : Machine) (entries : List Entry) (steps : List Step) → TellsAmong m entries steps → (clear : tape_clear.Clear) → Contains entries (entry.Clear clear) → IsCleared m steps clear
+cleared m [] steps tells clear here = absurd (contains_none (entry.Clear clear) here)
+cleared m (e ∷ entries) steps (own, first, rest, alone, tells, more, is) clear here =
+    subst (λ (all : List Step). IsCleared m all clear) (sym is) (⊎_elim
+    (λ (same : entry.Clear clear ≡ e).
+    cleared_first m clear own first rest (subst (λ (x : Entry). TellsEntry (after m own) x first) (sym same) tells))
+    (λ (there : Contains entries (entry.Clear clear)). cleared_later m clear rest (first ++ own) (cleared (after m (first ++ own)) entries rest more clear there))
+    (contains_cases e entries (entry.Clear clear) here))
+
+legal_before : (start : Machine) (late early : List Step) → IsLegal start (late ++ early) → IsLegal start early
+legal_before start [] early legal = legal
+legal_before start (step ∷ late) early legal = legal_before start late early legal.0
+
 -- ---- in a history
 
 module _ (wanted : List Wanted) (first : Instant Device) (past : List (Happening Device DeviceStep)) (h : Happening Device DeviceStep) (history : IsHistory (Begins wanted) (Ties wanted) first (h ∷ past)) where
@@ -138,11 +174,30 @@ module _ (wanted : List Wanted) (first : Instant Device) (past : List (Happening
   keeps (Some Trim) move a = a
   keeps (Some Flush) move a = a
 
+  confined_clear : (clear : tape_clear.Clear) → IsCleared m h.event.steps clear → IsConfinedClear start early h.event.steps clear
+  confined_clear clear c = record {
+    later = c.later;
+    touches = c.touches;
+    before = c.before;
+    here = c.here;
+    clears = then;
+    accepted = living_accepted start (c.before ++ early) (run_starts first.moment (events_of (h ∷ past)) run)
+        (legal_before start (c.later ++ c.touches) (c.before ++ early) (subst (IsLegal start) split (run_legal first.moment (events_of (h ∷ past)) run)))
+        then.pending (runs_lives (after start (c.before ++ early)) then.pending then.moves);
+  }
+    where
+      then : IsClear (after start (c.before ++ early)) clear c.touches
+      then = subst (λ (n : Machine). IsClear n clear c.touches) (ap (λ (n : Machine). after n c.before) (machine_is wanted first past) ∙ sym (after-append start c.before early)) c.clears
+
+      split : h.event.steps ++ early ≡ (c.later ++ c.touches) ++ (c.before ++ early)
+      split = ap (λ (steps : List Step). steps ++ early) (c.here ∙ sym (append_assoc c.later c.touches c.before)) ∙ append_assoc (c.later ++ c.touches) c.before early
+
   pub keeps_moves : KeepsMoves start early h.event.steps (now first past).device h.device
   keeps_moves = record {
     gained = history.2.backed.gained;
     tape = history.2.backed.tape;
     moves = λ move here. keeps (op_of move.operation) move (goes m history.2.backed.gained h.event.steps history.2.backed.tells move here);
+    clears = λ clear here. confined_clear clear (cleared m history.2.backed.gained h.event.steps history.2.backed.tells clear here);
   }
 
 -- ---- at an instant of it

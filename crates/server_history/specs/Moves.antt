@@ -6,10 +6,11 @@ use Rattle.adapter.specs.Device.{Device}
 use Rattle.adapter.specs.declared.tape.Entry.{Entry}
 use Rattle.adapter.specs.declared.tape.Entry.TheVariants as entry
 use Rattle.adapter.specs.declared.tape.Move as tape_move
+use Rattle.adapter.specs.declared.tape.Clear as tape_clear
 use Rattle.agreement.specs.Places.{scratch_of}
 use Rattle.agreement.specs.Slots.{op_of}
-use Rattle.agreement.specs.Tape.{IsTouch}
-use Rattle.block_machine.specs.Confined.{IsConfined}
+use Rattle.agreement.specs.Tape.{IsTouch, IsClear}
+use Rattle.block_machine.specs.Confined.{IsConfined, WasAccepted}
 use Rattle.block_machine.specs.Left.{after}
 use Rattle.block_machine.specs.State.{Machine}
 use Rattle.block_machine.specs.Steps.{Step}
@@ -32,8 +33,19 @@ KeepsTo (Some Read) start earlier steps move = IsConfinedMove start earlier step
 KeepsTo (Some Write) start earlier steps move = IsConfinedMove start earlier steps Write move
 KeepsTo other start earlier steps move = move.address ≡ scratch_of move.port.0
 
--- The moves that the tape has gained in a call of these steps, after these earlier ones, keep to their places.
+-- Among a call's steps, which followed these earlier ones, the clear is of touches in a row. At that moment it clears sectors of a trim of its
+-- port that is issued or kept, within the trim's own range; and the trim was accepted, when it broke no rule.
+pub record IsConfinedClear (start : Machine) (earlier steps : List Step) (clear : tape_clear.Clear) : Type 0 where
+  pub later : List Step
+  pub touches : List Step
+  pub before : List Step
+  pub here : steps ≡ later ++ (touches ++ before)
+  pub clears : IsClear (after start (before ++ earlier)) clear touches
+  pub accepted : WasAccepted start (before ++ earlier) clears.pending.request
+
+-- The moves and clears that the tape has gained in a call of these steps, after these earlier ones, keep to their places.
 pub record KeepsMoves (start : Machine) (earlier steps : List Step) (old new : Device) : Type 0 where
   pub gained : List Entry
   pub tape : new.tape ≡ old.tape ++ gained
   pub moves : (move : tape_move.Move) → Contains gained (entry.Move move) → KeepsTo (op_of move.operation) start earlier steps move
+  pub clears : (clear : tape_clear.Clear) → Contains gained (entry.Clear clear) → IsConfinedClear start earlier steps clear

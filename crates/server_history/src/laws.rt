@@ -57,7 +57,7 @@ pub fn reads_hold()
 
 /// Each move of a client's data, of any call of a history, is of a sector of its own request's, at its place in a frame that is lent to that
 /// request then, in the direction of its operation; the request was accepted, when it broke no rule, and is issued or kept. Each other
-/// move stays in its port's scratch frame.
+/// move stays in its port's scratch frame. And sectors are cleared by a trim alone that was accepted so, and is issued or kept: its own.
 pub fn moves_keep_to_their_places()
     ensures { (wanted : List Wanted) (first : Instant Device) (past : List (Happening Device DeviceStep)) (h : Happening Device DeviceStep)
         → IsHistory (Begins wanted) (Ties wanted) first (h ∷ past)
