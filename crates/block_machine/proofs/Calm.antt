@@ -62,7 +62,6 @@ calmly old new steps p present same ok ended = record {
   told = λ gone. absurd (contains_none p gone);
   interrupts = λ trouble. ⊎_elim (λ failed. absurd (contains_none p failed)) (λ gone. absurd (contains_none p gone)) trouble;
   anew = λ trouble. ⊎_elim (λ failed. absurd (contains_none p failed)) (λ stopped. absurd (contains_none p stopped)) trouble;
-  changes = inl same;
   fatal = λ h. absurd (contains_none p h);
   disk = λ _. inl present;
   single = let zero = counts_none is_refused p (λ step t. fault_refused step (its_fault p step t)) steps ok in omega (arith, zero);

@@ -82,7 +82,7 @@ book_in_order start h s legal = from_ordered (map unanswered (after start h).boo
 
 -- Issues.
 
-older_issues : (ready : Port → Bool) (e : Pending) → (older ready e).issues ≡ e.issues
+pub older_issues : (ready : Port → Bool) (e : Pending) → (older ready e).issues ≡ e.issues
 older_issues ready e = elim (e.issued && ready e.request.port) as (λ b. (cond b (record e { age = suc e.age }) e).issues ≡ e.issues) [ true ↦ refl | false ↦ refl ]
 
 -- a request that is issued was issued one to four times; one that waits may still be issued

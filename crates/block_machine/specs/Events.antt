@@ -182,7 +182,8 @@ pub record WasIssued (m : Machine) (id : RequestId) : Type 0 where
 -- one on a port that was lost. Of an Ok
 -- each sector was touched since the last issue, and it was ended. A fault is told of a request that is issued. An abort comes
 -- after four issues, and leaves the port ready. An issued request's frames are given back only where it ended or its port stopped:
--- else they may still be written. And PortDead leaves the port dead: it was so when the call began, or its engine or adapter is stuck.
+-- else they may still be written. And PortDead leaves the port dead. (So it was when the call began, or it got stuck in the call: that
+-- follows from what the calls make of ports, by law `dead_ports_were_stuck`.)
 abbrev pub IsLawful : Moment → Evidence → Ports → Pending → Outcome → Type 0
 IsLawful old evidence ports e outcome.Ok = WasIssued old.machine e.request.id × (e.issued ≡ true) × AllTouched e × (e.ended ≡ true)
 IsLawful old evidence ports e (outcome.DeviceError status error) = WasIssued old.machine e.request.id × (e.issued ≡ true)
@@ -190,8 +191,7 @@ IsLawful old evidence ports e (outcome.DeviceError status error) = WasIssued old
 IsLawful old evidence ports e outcome.Aborted = WasIssued old.machine e.request.id × (e.issues ≡ 4) × (ports.state e.request.port ≡ Ready)
     × Contains evidence.stopped e.request.port × SameDisk old.ports ports e.request.port
 IsLawful old evidence ports e outcome.Unplugged = Contains evidence.lost e.request.port × Contains evidence.stopped e.request.port
-IsLawful old evidence ports e outcome.PortDead = (ports.state e.request.port ≡ Dead)
-    × ((old.ports.state e.request.port ≡ Dead) ⊎ Contains evidence.stuck e.request.port)
+IsLawful old evidence ports e outcome.PortDead = ports.state e.request.port ≡ Dead
 
 -- Each answer of the call is lawful, with these ports at its end. And a request waits again only where its port stopped: else its
 -- command may still move.
@@ -448,28 +448,31 @@ pub record IsLeftAlone (old : Ports) (evidence : Evidence) (steps : List Step) (
 
 -- What a service owes a port that was ready when it began. What had ended is answered Ok. Where the port's link had told of a
 -- change, all its requests are answered, and those that aren't Ok are all told Unplugged, or all PortDead. Where that is so, or it
--- failed, the port is stopped, or gets stuck; and so where it isn't what it was. Where it failed or was stopped, no request keeps
--- its issue. One fault is told at most, and none where an error was fatal, which is a failure, too. It shows a disk after the call
--- only where one was in. And where nothing disturbs it, the port is left alone.
+-- failed, the port is stopped, or gets stuck. Where it failed or was stopped, no request keeps its issue. One fault is told at most,
+-- and none where an error was fatal, which is a failure, too. It shows a disk after the call only where one was in. And where nothing
+-- disturbs it, the port is left alone. (That it is what it was unless it was interrupted, `IsServiced` has of each port.)
 pub record ServesReady (old : Moment) (evidence : Evidence) (steps : List Step) (new : Moment) (port : Port) : Type 0 where
   pub ended : AnswersEnded old.machine steps port
   pub emptied : Contains evidence.gone port → (e : Pending) → Contains new.machine.book e → e.request.port ≢ port
   pub told : Contains evidence.gone port → AreTold outcome.Unplugged steps port ⊎ AreTold outcome.PortDead steps port
   pub interrupts : Contains evidence.failed port ⊎ Contains evidence.gone port → IsInterrupted evidence port
-  pub changes : SamePort old.ports new.ports port ⊎ IsInterrupted evidence port
   pub anew : Contains evidence.failed port ⊎ Contains evidence.stopped port → NoneKeepsIssue steps new.machine port
   pub single : count_by (tells_fault port) steps ≤ 1
   pub fatal : Contains evidence.fatal port → Contains evidence.failed port × (count_by (tells_fault port) steps ≡ 0)
   pub disk : HadDisk old steps new port
   pub calm : IsDisturbed evidence steps port ⊎ IsLeftAlone old.ports evidence steps new.ports port
 
--- A call heeds what it finds: a service does so with each port that was ready when it began. A tick and a reset are bound by what
--- they answer; and no other call stops a port, or gets one stuck.
+-- A call heeds what it finds of a port: a service serves one that was ready when it began. A tick and a reset are bound by what they
+-- answer; and no other call stops a port, or gets one stuck.
+abbrev pub HeedsAt : {D : Type 0} → Port → Ask D → Moment → Evidence → List Step → Moment → Type 0
+HeedsAt port Service old evidence steps new = old.ports.state port ≡ Ready → ServesReady old evidence steps new port
+HeedsAt port Tick old evidence steps new = Unit {0}
+HeedsAt port Reset old evidence steps new = Unit {0}
+HeedsAt port ask old evidence steps new = IsInterrupted evidence port → ⊥
+
+-- a call heeds what it finds of each port
 abbrev pub Heeds : {D : Type 0} → Ask D → Moment → Evidence → List Step → Moment → Type 0
-Heeds Service old evidence steps new = (port : Port) → old.ports.state port ≡ Ready → ServesReady old evidence steps new port
-Heeds Tick old evidence steps new = Unit {0}
-Heeds Reset old evidence steps new = Unit {0}
-Heeds _ old evidence steps new = (port : Port) → IsInterrupted evidence port → ⊥
+Heeds ask old evidence steps new = (port : Port) → HeedsAt port ask old evidence steps new
 
 -- each call of the run heeds what it finds
 abbrev pub AllHeed : {D : Type 0} → Moment → List (Event D) → Type 0

@@ -77,14 +77,11 @@ abbrev pub IsInterrupted : Evidence → Port → Type 0
 IsInterrupted evidence port = Contains evidence.stopped port ⊎ Contains evidence.stuck port
 
 -- What a call that looks at the port, or boots it, may make of it: a port is served as it was; it is dead after the call exactly
--- where it got stuck in it; one that was ready and isn't lost is dead, or still ready with its disk (which is what `lost` means);
--- and one that isn't ready remembers the disk that it was last ready with.
+-- where it got stuck in it; and one that isn't ready remembers the disk that it was last ready with.
 pub record MayBecome (old : Ports) (evidence : Evidence) (new : Ports) (port : Port) : Type 0 where
   pub served : new.served port ≡ old.served port
   pub stuck : new.state port ≡ Dead → Contains evidence.stuck port
   pub dies : Contains evidence.stuck port → new.state port ≡ Dead
-  pub disk : old.state port ≡ Ready
-      → Contains evidence.lost port ⊎ ((new.state port ≡ Dead) ⊎ ((new.state port ≡ Ready) × SameDisk old new port))
   pub keeps : new.state port ≢ Ready → SameDisk old new port
 
 -- What a service may make of it: a dead port stays what it is, since a reset alone ends that;

@@ -83,7 +83,7 @@ happens3 = record {
   may = ((tt, contains_here one (two ∷ []) one refl), contains_here two [] two refl);
   belong = ((tt, inr tt), inr tt);
   last = ((tt, λ id h i. false≢true i), λ id h i. false≢true i);
-  lawful = ((tt, (refl, inr (contains_here port [] port refl))), (refl, inr (contains_here port [] port refl)));
+  lawful = ((tt, refl), refl);
   fit = ports_fit Dead refl;
   disks = λ e o h i same. (refl, refl);
   answered = record {
@@ -93,7 +93,7 @@ happens3 = record {
     unplugs = none_unplugged service.steps (moment_of first run3).machine refl;
     issues = λ p ready. dead_not_ready p ready;
     emptied = λ p ne e h. absurd (contains_none e h);
-    becomes = λ p. (λ dead. none_dead p dead, λ _. (record { served = refl; stuck = dead_here p; dies = λ h. dies p h; disk = λ ready. inr (inl (ap (ports_in Dead).state (ready_port p ready))); keeps = λ _. (refl, refl) }, changed_here Ready Dead seen (inl (contains_here port [] port refl)) p));
+    becomes = λ p. (λ dead. none_dead p dead, λ _. (record { served = refl; stuck = dead_here p; dies = λ h. dies p h; keeps = λ _. (refl, refl) }, changed_here Ready Dead seen (inl (contains_here port [] port refl)) p));
     disk = λ p. inr (λ shows. shows_none Dead (λ s. s) p shows);
   };
 }
@@ -111,7 +111,6 @@ notices p ready = record {
   told = λ gone. absurd (contains_none p gone);
   interrupts = λ _. inl (contains_here port [] p (ready_port p ready));
   anew = λ _ e h. absurd (contains_none e h);
-  changes = inr (inl (contains_here port [] p (ready_port p ready)));
   single = let zero = no_faults service.steps refl p in omega (arith, zero);
   disk = λ shows. shows_none Dead (λ s. s) p shows;
   fatal = λ _. (contains_here port [] p (ready_port p ready), no_faults service.steps refl p);

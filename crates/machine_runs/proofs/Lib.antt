@@ -5,6 +5,7 @@ mod NoneDue
 mod Touching
 mod Once
 mod Staying
+mod Issuing
 mod Unwritten
 mod Lasting
 mod Scene

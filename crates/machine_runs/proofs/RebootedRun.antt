@@ -33,7 +33,7 @@ abbrev abort : Event (Unit {0})
 abort = record { ask = Reset; said = WasReset (Some (reply_of (tried 4, outcome.Aborted) ∷ [])); evidence = halted; steps = Issue mode waits ∷ Answer (tried 4) outcome.Aborted ∷ Release ∷ []; ports = ports }
 
 becomes : (p : Port) → MayBecome ports halted ports p
-becomes p = record { served = refl; stuck = λ dead. none_dead p dead; dies = λ h. absurd (contains_none p h); disk = λ ready. inr (inr (ready, (refl, refl))); keeps = λ _. (refl, refl) }
+becomes p = record { served = refl; stuck = λ dead. none_dead p dead; dies = λ h. absurd (contains_none p h); keeps = λ _. (refl, refl) }
 
 -- the moment before a reset
 abbrev before : Machine → ℕ → Moment
@@ -102,7 +102,7 @@ goes_again_in_resets = record {
   three = retry 3;
   four = abort;
   runs = (((((((empty_starts, ports_fit Ready refl), happens1), happens2), again (moment_of first run2).machine 1 (λ p. refl) (omega arith)), again (moment_of first (retry 1 ∷ run2)).machine 2 (λ p. refl) (omega arith)), again (moment_of first (retry 2 ∷ retry 1 ∷ run2)).machine 3 (λ p. refl) (omega arith)), happens6);
-  heeds = ((((((tt, spares_ports), spares_ports), tt), tt), tt), tt);
+  heeds = ((((((tt, spares_ports), spares_ports), λ _. tt), λ _. tt), λ _. tt), λ _. tt);
   resets = (refl, refl, refl, refl);
   issued = tried 1;
   waits = waits;

@@ -264,7 +264,7 @@ happens6 = record {
   may = (tt, contains_here again [] again refl);
   belong = (tt, inr tt);
   last = (tt, λ id h i. false≢true i);
-  lawful = (tt, (refl, inl refl));
+  lawful = (tt, refl);
   fit = ports_fit Dead refl;
   disks = λ e o h i same. (refl, refl);
   answered = record {
@@ -274,7 +274,7 @@ happens6 = record {
     unplugs = none_unplugged service.steps (moment_of first run6).machine refl;
     issues = λ p ready. dead_not_ready p ready;
     emptied = λ p ne e h. absurd (contains_none e h);
-    becomes = λ p. (λ _. (refl, refl, refl, refl, refl, refl), λ alive. (record { served = refl; stuck = λ dead. absurd (alive dead); dies = λ h. absurd (contains_none p h); disk = λ ready. dead_not_ready p ready; keeps = λ _. (refl, refl) }, inl (refl, refl, refl, refl, refl, refl)));
+    becomes = λ p. (λ _. (refl, refl, refl, refl, refl, refl), λ alive. (record { served = refl; stuck = λ dead. absurd (alive dead); dies = λ h. absurd (contains_none p h); keeps = λ _. (refl, refl) }, inl (refl, refl, refl, refl, refl, refl)));
     disk = λ p. inl (refl, refl, refl, refl, refl, refl);
   };
 }
@@ -295,7 +295,7 @@ happens7 = record {
     issues = λ p _. none_there p;
     reboots = λ p. record {
       emptied = λ ne e h. absurd (contains_none e h);
-      becomes = record { served = refl; stuck = λ e. none_dead p e; dies = λ h. absurd (contains_none p h); disk = λ ready. dead_not_ready p ready; keeps = λ _. (refl, refl) };
+      becomes = record { served = refl; stuck = λ e. none_dead p e; dies = λ h. absurd (contains_none p h); keeps = λ _. (refl, refl) };
       anew = λ e h. absurd (contains_none e h);
       stopped = stopped_here p;
       disk = λ _. inl refl;
@@ -314,7 +314,7 @@ ends_with_a_reset = record {
   service = service;
   reset = reset;
   runs = ((((((((empty_starts, ports_fit Ready refl), happens1), happens2), happens3), happens4), happens5), happens6), happens7);
-  heeds = (((((((tt, spares_ports), tt), tt), tt), tt), λ p ready. dead_not_ready p ready), tt);
+  heeds = (((((((tt, spares_ports), λ _. tt), λ _. tt), λ _. tt), λ _. tt), λ p ready. dead_not_ready p ready), λ _. tt);
   ticks = (refl, refl, refl);
   aged = aged 2;
   old = refl;

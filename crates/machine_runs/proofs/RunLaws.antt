@@ -17,7 +17,7 @@ use Rattle.block_machine.specs.Ports.{Ports, Evidence, SamePorts, AreFit, IsServ
 use Rattle.block_machine.specs.State.{Accepted, Pending, Machine}
 use Rattle.block_machine.specs.Steps.{Step, Issue, Age, Touch, End, Again, Answer, Release, IsNew, touch, mark_ended}
 use Rattle.block_machine.specs.Left.{after}
-use Rattle.block_machine.specs.Events.{Moment, Ask, AllMay, Belong, IsEmptied, IsRebooted, Submit, StoreAt, LoadAt, Service, Tick, Reset, State, Device, Said, Submitted, Stored, Loaded, Served, WasReset, Shown, Stepped, Event, IsAnswered, Happens, AllLawful, AgesOnce, RestartsHung, ReleasesOnce, IssuesLast, IsRun, IsStillStuck, StaysStuck, accepts_of, is_age, is_release, issues_it, handles, moment_of, situation_of}
+use Rattle.block_machine.specs.Events.{Moment, Ask, AllMay, Belong, IsEmptied, IsRebooted, Submit, StoreAt, LoadAt, Service, Tick, Reset, State, Device, Said, Submitted, Stored, Loaded, Served, WasReset, Shown, Stepped, Event, IsAnswered, Happens, AllLawful, AgesOnce, RestartsHung, ReleasesOnce, IssuesLast, IsRun, IsStillStuck, StaysStuck, accepts_of, is_age, is_release, issues_it, handles, moment_of, situation_of, moment_after}
 use Rattle.block_machine.proofs.Members.{contains_none, contains_cases, map_in}
 use Rattle.block_machine.proofs.Keeps.{at_keeps}
 use Rattle.block_machine.specs.Confined.{IsGranted}
@@ -303,7 +303,7 @@ kept_from old evidence ports m (Answer p outcome.PortDead ∷ before) l e h = go
         → (Contains (after m before).kept e → ((o : Pending) × Contains m.kept o × (o.request ≡ e.request) × (count_by is_release before ≡ 0)) ⊎ (ports.state e.request.port ≡ Dead))
         → ((o : Pending) × Contains m.kept o × (o.request ≡ e.request) × (count_by is_release (Answer p outcome.PortDead ∷ before) ≡ 0)) ⊎ (ports.state e.request.port ≡ Dead)
     go true h rest = ⊎_elim
-        (λ same. inr (subst (λ (x : Pending). ports.state x.request.port ≡ Dead) (sym same) l.1.0))
+        (λ same. inr (subst (λ (x : Pending). ports.state x.request.port ≡ Dead) (sym same) l.1))
         (λ i. moved_kept ports m (Answer p outcome.PortDead) before e e refl refl (rest i))
         (contains_cases p (after m before).kept e h)
     go false h rest = moved_kept ports m (Answer p outcome.PortDead) before e e refl refl (rest h)
@@ -334,3 +334,24 @@ kept_where_dead first (event ∷ past) e r h = ⊎_elim
     (kind event.ask event.said (moment_of first past) event.evidence event.steps (moment_of first (event ∷ past)) (Unit {0}) r.1.answered))
     (λ dead. dead)
     (kept_from (moment_of first past) event.evidence event.ports (moment_of first past).machine event.steps r.1.lawful e h)
+
+-- A port that is dead after a call was dead when it began, or got stuck in it.
+
+dead_or : (s : PortState) → (s ≡ Dead) ⊎ (s ≢ Dead)
+dead_or Dead = inl refl
+dead_or _ = inr (λ e. false≢true (ap is_dead e))
+
+was_dead : {D : Type 0} (ask : Ask D) (said : Said) (old : Moment) (evidence : Evidence) (steps : List Step) (new : Moment) (port : Port) → AreFit new.ports → new.ports.state port ≡ Dead
+    → Kind ask said old evidence steps new (Unit {0}) → (old.ports.state port ≡ Dead) ⊎ Contains evidence.stuck port
+was_dead ask said old evidence steps new port fit dead (Leaves t r same keep) = inl (sym (same port).1 ∙ dead)
+was_dead ask said old evidence steps new port fit dead (Serves t r ports) = ⊎_elim (λ was. inl was) (λ alive. inr (((ports port).1.1 alive).0.stuck dead)) (dead_or (old.ports.state port))
+was_dead ask said old evidence steps new port fit dead (Ticks r ages hung empty keep) = ⊎_elim (λ same. inl (sym same.1.1 ∙ dead)) (λ h. inr (h.1.stuck dead)) (hung.ports port)
+was_dead ask said old evidence steps new port fit dead (Resets t releases ports) = inr ((ports port).becomes.stuck dead)
+was_dead ask said old evidence steps new port fit dead (Sticks t ports keep) =
+    inr (((ports port).1 (sym (ports port).0 ∙ placed_served new.ports port (Unit {0}) fit (inr (dead, tt)))).1)
+
+pub dead_ports_were_stuck : {D : Type 0} (old : Moment) (event : Event D) (port : Port) → Happens old event → event.ports.state port ≡ Dead
+    → (old.ports.state port ≡ Dead) ⊎ Contains event.evidence.stuck port
+dead_ports_were_stuck old event port h dead =
+    was_dead event.ask event.said old event.evidence event.steps (moment_after old event) port h.fit dead
+    (kind event.ask event.said old event.evidence event.steps (moment_after old event) (Unit {0}) h.answered)

@@ -264,7 +264,7 @@ pub serviced : (p : Port) → IsServiced ports none ports p
 serviced p = (
   λ dead. none_dead p dead,
   λ _. (
-    record { served = refl; stuck = λ e. none_dead p e; dies = λ h. absurd (contains_none p h); disk = λ ready. inr (inr (ready, (refl, refl))); keeps = λ _. (refl, refl) },
+    record { served = refl; stuck = λ e. none_dead p e; dies = λ h. absurd (contains_none p h); keeps = λ _. (refl, refl) },
     inl (refl, refl, refl, refl, refl, refl),
   ),
 )
@@ -295,7 +295,6 @@ stay_ready evidence none p = record {
   served = refl;
   stuck = λ dead. none_dead p dead;
   dies = λ h. absurd (contains_none p (subst (λ (stuck : List Port). Contains stuck p) none h));
-  disk = λ ready. inr (inr (ready, (refl, refl)));
   keeps = λ _. (refl, refl);
 }
 

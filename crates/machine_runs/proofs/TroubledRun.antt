@@ -201,7 +201,7 @@ stays : (p : Port) → IsServiced (ports_in Ready Absent) failure (ports_in Read
 stays p = (
   λ dead. not_dead Ready Absent refl refl p dead,
   λ _. (
-    record { served = refl; stuck = λ dead. not_dead Ready Absent refl refl p dead; dies = λ h. absurd (contains_none p h); disk = λ ready. inr (inr (ready, (refl, refl))); keeps = λ _. (refl, refl) },
+    record { served = refl; stuck = λ dead. not_dead Ready Absent refl refl p dead; dies = λ h. absurd (contains_none p h); keeps = λ _. (refl, refl) },
     inl (refl, refl, refl, refl, refl, refl),
   ),
 )
@@ -364,7 +364,6 @@ serves_ready p ready = record {
   told = λ gone. inl (λ e o h here. told_one e o (ap (λ (x : Port). x.0) (here ∙ only_one gone)) (none_of tells_other serving (Answer e o) refl h));
   interrupts = λ _. inl (stopped p ready);
   anew = λ _ e h _ _. left_anew 2 serving refl e h;
-  changes = inr (inl (stopped p ready));
   fatal = λ h. absurd (contains_none p h);
   single = one_fault (Answer losing outcome.Unplugged ∷ Issue mode (requeued (tried 1)) ∷ Again (tried 1) ∷ []) (Answer failing (outcome.DeviceError 65 64)) (Answer (done finished) outcome.Ok ∷ []) refl refl p;
   calm = inl (⊎_elim (λ same. inr (inl (contains_here (on 1) [] p same))) (λ still. inl (contains_here (on 0) [] p (zero_ready p still))) (still_ready p ready));
@@ -424,7 +423,6 @@ happens7 = record {
           served = refl;
           stuck = λ dead. not_dead Ready Absent refl refl p dead;
           dies = λ h. absurd (contains_none p h);
-          disk = λ ready. ⊎_elim (λ same. inl (contains_here (on 1) [] p same)) (λ still. inr (inr (still, (refl, refl)))) (still_ready p ready);
           keeps = λ _. (refl, refl);
         },
         changed_there service.evidence (second (on 0) (on 1)) p,
@@ -452,7 +450,6 @@ fails old new steps p ready present none faults anew = record {
   told = λ gone. absurd (contains_none p gone);
   interrupts = λ _. inl (contains_here (on 0) [] p (zero_ready p ready));
   anew = λ _. anew;
-  changes = inr (inl (contains_here (on 0) [] p (zero_ready p ready)));
   fatal = λ h. absurd (contains_none p h);
   single = let zero = no_faults steps faults p in omega (arith, zero);
   calm = inl (inl (contains_here (on 0) [] p (zero_ready p ready)));

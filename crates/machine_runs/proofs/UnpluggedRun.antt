@@ -117,7 +117,6 @@ restarted = record {
     served = refl;
     stuck = λ dead. absent_not_dead p dead;
     dies = λ h. absurd (contains_none p h);
-    disk = λ ready. inl (contains_here port [] p (ready_port p ready));
     keeps = λ _. (refl, refl);
   });
   again = λ e h. absurd (false≢true (sym (none_of is_again tick.steps (Again e) refl h)));
@@ -176,7 +175,7 @@ is_taken_out_before_a_tick = record {
   going = going;
   tick = tick;
   runs = (((((((empty_starts, ports_fit Ready refl), happens1), happens2), ticked (moment_of first run2).machine 0 (omega arith)), ticked (moment_of first run3).machine 1 (omega arith)), happens5), happens6);
-  heeds = ((((((tt, spares_ports), spares_ports), tt), tt), spares_ports), tt);
+  heeds = ((((((tt, spares_ports), spares_ports), λ _. tt), λ _. tt), spares_ports), λ _. tt);
   issued = aged 2;
   waits = waits;
   book = refl;

@@ -269,7 +269,7 @@ happens10 = record {
     unplugs = none_unplugged [] (moment_of first run10).machine refl;
     issues = λ p _. none_there p;
     emptied = λ p ne e h. absurd (contains_none e h);
-    becomes = λ p. (λ dead. none_dead p dead, λ _. (record { served = refl; stuck = λ dead. absent_not_dead p dead; dies = λ h. absurd (contains_none p h); disk = λ ready. inl (contains_here port [] p (ready_port p ready)); keeps = λ _. (refl, refl) }, changed_here Ready Absent gone (inl (contains_here port [] port refl)) p));
+    becomes = λ p. (λ dead. none_dead p dead, λ _. (record { served = refl; stuck = λ dead. absent_not_dead p dead; dies = λ h. absurd (contains_none p h); keeps = λ _. (refl, refl) }, changed_here Ready Absent gone (inl (contains_here port [] port refl)) p));
     disk = λ p. inr (λ shows. shows_none Absent (λ s. s) p shows);
   };
 }
@@ -311,7 +311,7 @@ happens12 disk = record {
     unplugs = none_unplugged [] (moment_of first (run12 disk)).machine refl;
     issues = λ p _. none_there p;
     emptied = λ p ne e h. absurd (contains_none e h);
-    becomes = λ p. (λ dead. absent_not_dead p dead, λ _. (record { served = refl; stuck = λ dead. none_dead p dead; dies = λ h. absurd (contains_none p h); disk = λ ready. absent_not_ready p ready; keeps = λ _. (refl, refl) }, changed_here Absent Ready booting (inl (contains_here port [] port refl)) p));
+    becomes = λ p. (λ dead. absent_not_dead p dead, λ _. (record { served = refl; stuck = λ dead. none_dead p dead; dies = λ h. absurd (contains_none p h); keeps = λ _. (refl, refl) }, changed_here Absent Ready booting (inl (contains_here port [] port refl)) p));
     disk = λ p. inr (λ shows. inl (present p (shows_ready p shows)));
   };
 }
@@ -363,7 +363,6 @@ notices p ready = record {
   told = λ _. inl (λ e o h. absurd (contains_none (Answer e o) h));
   interrupts = λ _. inl (contains_here port [] p (ready_port p ready));
   anew = λ _ e h. absurd (contains_none e h);
-  changes = inr (inl (contains_here port [] p (ready_port p ready)));
   disk = λ shows. shows_none Absent (λ s. s) p shows;
   fatal = λ h. absurd (contains_none p h);
   single = omega arith;

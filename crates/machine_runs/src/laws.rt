@@ -8,7 +8,7 @@ ghost use Rattle.ata_types.specs.declared.request.Frame.{Frame};
 ghost use Rattle.ata_types.specs.declared.request.RequestId.{RequestId};
 ghost use Rattle.ata_types.specs.declared.request.Op.TheVariants.{Flush};
 ghost use Rattle.ata_types.specs.declared.request.Outcome.{Outcome};
-ghost use Rattle.ata_types.specs.declared.request.Outcome.TheVariants.{Ok};
+ghost use Rattle.ata_types.specs.declared.request.Outcome.TheVariants.{Ok, Aborted};
 ghost use Rattle.ata_types.specs.declared.request.Reply.{Reply};
 ghost use Rattle.ata_types.specs.declared.grant.GrantRow.{GrantRow};
 ghost use Rattle.block_machine.specs.State.{Block, Accepted, Pending, Machine, sector_of};
@@ -16,7 +16,7 @@ ghost use Rattle.block_machine.specs.Steps.{Step, Answer, after_step, IsLiving};
 ghost use Rattle.block_machine.specs.Left.{IsStart, IsLegal, HasTouched, HasTouchedSince, HasEndedSince, IsLeft, after, bytes_when_plugged, disk_read};
 ghost use Rattle.block_machine.specs.Confined.{GrantsNoWrites, WasAccepted, MayChangeByte, MayChangeSector};
 ghost use Rattle.machine_runs.specs.Durable.{IsVolatile, EveryPlugFinds};
-ghost use Rattle.block_machine.specs.Events.{Moment, Event, AllIssued, Happens, IsRun, IsStillStuck, accepts_it, answers_it, issues_it, gives_id, replies_of, all_replies, WasGiven, moment_of, steps_of};
+ghost use Rattle.block_machine.specs.Events.{Moment, Event, AllIssued, Happens, IsLawful, IsRun, IsStillStuck, accepts_it, answers_it, issues_it, gives_id, replies_of, all_replies, WasGiven, moment_of, steps_of};
 ghost use Rattle.machine_runs.specs.Worked.{FindsTheFlushed, WaitsItsTurn, EndsWithAReset, MeetsTrouble, EndsAtATick, IsTakenOutBeforeATick, GoesAgainInResets, DiesInAService, GoesWrong};
 
 /// Where no grant lets its client write or trim, what is left on a sector for a read is what the disk that it found
@@ -105,6 +105,29 @@ pub fn replied_was_given<D>()
     ensures { (first : Moment) (past : List (Event D)) (event : Event D) (reply : Reply)
         → IsRun first (event ∷ past) → Contains (replies_of event.said) reply
         → WasGiven reply.id reply.client past }
+{}
+
+/// What has to stand behind an answer stands behind each that a call of a run gives.
+pub fn answers_are_lawful<D>()
+    ensures { (first : Moment) (past : List (Event D)) (event : Event D) (e : Pending) (outcome : Outcome)
+        → IsRun first (event ∷ past) → Contains event.steps (Answer e outcome)
+        → IsLawful (moment_of first past) event.evidence event.ports e outcome }
+{}
+
+/// A port that is dead after a call was dead when it began, or its engine or the adapter got stuck in it. So this stands behind each
+/// request that is answered PortDead.
+pub fn dead_ports_were_stuck<D>()
+    ensures { (old : Moment) (event : Event D) (port : Port) → Happens old event → event.ports.state port ≡ Dead
+        → (old.ports.state port ≡ Dead) ⊎ Contains event.evidence.stuck port }
+{}
+
+/// Over every run a request is issued four times at most, and one that is answered Aborted was issued four times.
+pub fn issued_four_times<D>()
+    ensures most { (first : Moment) (run : List (Event D)) (id : RequestId) → IsRun first run
+        → count_by (issues_it id) (steps_of run) ≤ 4 }
+    ensures aborted { (first : Moment) (run : List (Event D)) (late early : List Step) (e : Pending)
+        → IsRun first run → steps_of run ≡ late ++ Answer e Aborted ∷ early
+        → count_by (issues_it e.request.id) (steps_of run) ≡ 4 }
 {}
 
 /// Where a run answers a request Ok, the device ended it, and since then it wasn't issued again.

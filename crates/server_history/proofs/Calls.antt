@@ -29,7 +29,7 @@ use Rattle.agreement.proofs.Lasting.{access_same}
 use Rattle.agreement.proofs.Paging.{access_sends_none}
 use Rattle.agreement.proofs.Permitting.{clients_are_free}
 use Rattle.agreement.proofs.Sparing.{steps_spare}
-use Rattle.block_machine.specs.Events.{Ask, Submit, StoreAt, LoadAt, Service, State, AllMay, AllDevices, Device as Told, Said, Submitted, Stored, Loaded, Shown, Stepped, IsAnswered}
+use Rattle.block_machine.specs.Events.{Ask, Submit, StoreAt, LoadAt, Service, State, AllMay, AllDevices, Device as Told, Said, Submitted, Stored, Loaded, Shown, Stepped, IsAnswered, HeedsAt}
 use Rattle.block_machine.specs.Histories.{Instant, Happening, IsReached, now}
 use Rattle.block_machine.specs.Left.{after}
 use Rattle.block_machine.specs.Ports.{Ports}
@@ -48,7 +48,7 @@ use Rattle.request_book.specs.Entries.{first_of}
 use Rattle.request_book.proofs.Counts.{as_many}
 use Rattle.transfers.specs.Services.{IsService}
 use Rattle.transfers.proofs.Serving.{services_on}
-use Rattle.server_history.specs.Histories.{Adds, Begins, CameBy, HeedsAt, Leads, Stands, Ties, load_said, no_evidence, store_said}
+use Rattle.server_history.specs.Histories.{Adds, Begins, CameBy, Leads, Stands, Ties, load_said, no_evidence, store_said}
 use Rattle.server_history.specs.Server.{Server, IsKept, IsMachineOf, IsPortOf, none_parked, ports_of, situation_of}
 use Rattle.server_history.proofs.Devices.{devices_belong, devices_last, devices_lawful, devices_transfer}
 use Rattle.server_history.proofs.Coming.{none_loaded}

@@ -13,7 +13,7 @@ use Rattle.agreement.specs.Driver.{Knows, IsBacked}
 use Rattle.agreement.specs.Links.{SameAdapter}
 use Rattle.agreement.specs.Spares.{AllFurther, IsFurther, SparesBook}
 use Rattle.agreement.proofs.Sparing.{steps_spare}
-use Rattle.block_machine.specs.Events.{Ask, Said, AllMay, AllDevices, Belong, IssuesLast, AllLawful, IsAnswered}
+use Rattle.block_machine.specs.Events.{Ask, Said, AllMay, AllDevices, Belong, IssuesLast, AllLawful, IsAnswered, HeedsAt}
 use Rattle.block_machine.specs.Histories.{Instant, Happening, IsHistory, IsReached, now}
 use Rattle.block_machine.specs.Left.{after}
 use Rattle.block_machine.specs.Ports.{Ports, AreFit, IsInterrupted, SamePorts, SameDisk}
@@ -26,7 +26,7 @@ use Rattle.host_boot.specs.Taken.{found_of}
 use Rattle.request_book.specs.Entries.{IsAccepted, IsInOrder}
 use Rattle.request_book.specs.Machine.{IsBook, IsEntry}
 use Rattle.request_book.specs.declared.book.Accepted.{Accepted}
-use Rattle.server_history.specs.Histories.{Begins, CameBy, HeedsAt, GoesWell, Leads, SparesPort, Stands, Ties, no_evidence}
+use Rattle.server_history.specs.Histories.{Begins, CameBy, GoesWell, Leads, SparesPort, Stands, Ties, no_evidence}
 use Rattle.server_history.specs.Server.{Server, IsKept, IsMachineOf, IsPortOf, none_parked, ports_of, state_of}
 
 -- ---- the book

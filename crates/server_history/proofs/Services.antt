@@ -80,7 +80,7 @@ serviced_same : (old new : Ports) → old ≡ new → (port : Port) → IsServic
 serviced_same old new is port = subst (λ (ports : Ports). IsServiced old no_evidence ports port) is (
   λ dead. (refl, refl, refl, refl, refl, refl),
   λ lives. (
-    record { served = refl; stuck = λ dead. absurd (lives dead); dies = λ h. absurd (contains_none port h); disk = λ ready. inr (inr (ready, (refl, refl))); keeps = λ _. (refl, refl) },
+    record { served = refl; stuck = λ dead. absurd (lives dead); dies = λ h. absurd (contains_none port h); keeps = λ _. (refl, refl) },
     inl (refl, refl, refl, refl, refl, refl),
   ),
 )

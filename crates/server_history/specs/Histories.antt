@@ -1,7 +1,6 @@
 -- Histories of a server of several ports: what ties its device to the block machine, call by call (this project's own).
 use Rattle.std.specs.Prelude.{ℕ, Bool, true, false, ◌≡◌, ◌≢◌, ◌⊎◌, ◌+◌, ◌*◌, ◌<◌, ◌++◌, List, [], ◌∷◌, Option, Some, None, Result, Ok, Err, Contains}
 use Rattle.ata_types.specs.declared.Port.{Port}
-use Rattle.ata_types.specs.declared.PortState.TheVariants.{Ready as ReadyState}
 use Rattle.ata_types.specs.declared.grant.GrantRow.{GrantRow}
 use Rattle.ata_types.specs.declared.memory.TheConstants.{FRAME_BYTES}
 use Rattle.ata_types.specs.declared.refusal.MemFault.{MemFault}
@@ -16,13 +15,12 @@ use Rattle.agreement.specs.Driven.{known, IsDrivenBy}
 use Rattle.agreement.specs.Driver.{Knows, IsBacked}
 use Rattle.agreement.specs.Facts.{RunsWell, Undisturbed}
 use Rattle.agreement.specs.Slots.{Free, Uses}
-use Rattle.block_machine.specs.Events.{Ask, Submit, StoreAt, LoadAt, Service, Tick, Reset, Device as Told, Said, Submitted, Stored, Loaded, Served, Stepped, Moment, ServesReady, moment_after}
+use Rattle.block_machine.specs.Events.{Ask, Submit, StoreAt, LoadAt, Service, Device as Told, Said, Submitted, Stored, Loaded, Served, Stepped, HeedsAt, moment_after}
 use Rattle.block_machine.specs.Histories.{Instant, Happening}
 use Rattle.block_machine.specs.Histories as histories
-use Rattle.block_machine.specs.Ports.{Ports, Evidence, IsInterrupted}
+use Rattle.block_machine.specs.Ports.{Ports, Evidence}
 use Rattle.block_machine.specs.Rules.{IsNamed}
 use Rattle.block_machine.specs.State.{Pending, Machine}
-use Rattle.block_machine.specs.Steps.{Step}
 use Rattle.host_boot.specs.declared.Found.{Found}
 use Rattle.host_boot.specs.declared.Found.TheVariants.{Ready}
 use Rattle.identify.specs.declared.wanted.Wanted.{Wanted}
@@ -150,14 +148,6 @@ CameBy m found ask said old new = new ≡ old
 pub record GoesWell (port : ℕ) (old new : Device) : Type 0 where
   pub well : RunsWell (old.port port)
   pub undisturbed : Undisturbed port old new
-
--- What a call owes a port: a service serves it, where it was ready; a tick and a reset are bound by what they answer; and another call
--- doesn't stop it.
-abbrev pub HeedsAt : Port → Ask DeviceStep → Moment → Evidence → List Step → Moment → Type 0
-HeedsAt port Service old evidence steps new = old.ports.state port ≡ ReadyState → ServesReady old evidence steps new port
-HeedsAt port Tick old evidence steps new = Unit {0}
-HeedsAt port Reset old evidence steps new = Unit {0}
-HeedsAt port ask old evidence steps new = IsInterrupted evidence port → ⊥
 
 -- ---- the whole
 
