@@ -32,7 +32,7 @@ ComesBack start past (Replace port id size disk) =
     id ≡ (after start past).disk_ids port → (k : ℕ) → k < size → HeldSince start port k (disk k) past
 ComesBack start past _ = Unit {0}
 
--- The disks of the history have volatile caches: each disk that comes back does so.
+-- The disks of the history have volatile caches, and keep what was flushed: each disk that comes back does so.
 abbrev pub IsVolatile : Machine → List Step → Type 0
 IsVolatile start [] = Unit {0}
 IsVolatile start (step ∷ past) = IsVolatile start past × ComesBack start past step

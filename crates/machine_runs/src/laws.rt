@@ -47,9 +47,10 @@ pub fn left_stays()
         → IsLeft start history read sector block → IsLeft start (step ∷ history) read sector block }
 {}
 
-/// Over every run of calls on disks with volatile caches: where a write was answered Ok before a flush of its port was
-/// accepted, the flush was answered Ok, and no disk was taken out between, the same disk has the write's bytes or later
-/// ones each time that it comes back.
+/// Over every run of calls on disks with volatile caches that keep what was flushed: where a write was answered Ok before a
+/// flush of its port was accepted, the flush was answered Ok, and no disk was taken out between, the same disk has the write's
+/// bytes or later ones each time that it comes back. That the disks are such is a premise: a machine's disk of the same name may
+/// come back with any bytes.
 pub fn every_plug_finds<D>()
     ensures { (first : Moment) (run : List (Event D)) → IsRun first run
         → IsVolatile first.machine (steps_of run)
