@@ -19,4 +19,9 @@ pub mod Setting
 pub mod HistoryLemmas
 pub mod Standing
 pub mod Started
+pub mod Ranks
+pub mod Dues
+pub mod DueTests
+pub mod Turns
+pub mod Stepping
 pub mod Calm

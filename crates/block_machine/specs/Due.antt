@@ -1,6 +1,6 @@
 -- Which unanswered requests are due to be issued: a condition on each request of the book (this project's own).
 -- A port serves reads and writes queued (native command queuing, up to `usable` at a time) or plain, one at a time.
-use Rattle.std.specs.Prelude.{◌≡◌, ℕ, ◌-◌, ◌<◌, Bool, true, false, not, ◌&&◌, ◌||◌, ◌==◌, nat_lt, if◌then◌else◌, List, map, count_by, Contains, AllPairs}
+use Rattle.std.specs.Prelude.{◌≡◌, ℕ, ◌-◌, ◌<◌, Bool, true, false, not, ◌&&◌, ◌||◌, ◌==◌, nat_lt, if◌then◌else◌, List, [], ◌∷◌, map, filter, count_by, Contains, AllPairs}
 use Rattle.std.specs.List.{list_any}
 use Rattle.ata_types.specs.declared.Port.{Port}
 use Rattle.ata_types.specs.declared.range.Range.{Range}
@@ -101,3 +101,29 @@ mark_issued id r = if r.id.0 == id.0 then record r { issued = true } else r
 -- the book with the request of this id issued
 abbrev pub with_issued : RequestId → List Unanswered → List Unanswered
 with_issued id book = map (mark_issued id) book
+
+-- the request waiting again, if it has this id
+abbrev pub mark_waiting : RequestId → Unanswered → Unanswered
+mark_waiting id r = if r.id.0 == id.0 then record r { issued = false } else r
+
+-- the book with the request of this id waiting again
+abbrev pub with_waiting : RequestId → List Unanswered → List Unanswered
+with_waiting id book = map (mark_waiting id) book
+
+-- the book without the request of this id
+abbrev pub with_none : RequestId → List Unanswered → List Unanswered
+with_none id book = filter (λ r. not (r.id.0 == id.0)) book
+
+-- the requests of the port
+abbrev pub of_port : Port → List Unanswered → List Unanswered
+of_port port book = filter (λ r. r.port.0 == port.0) book
+
+-- the requests of the port that are due, in order of acceptance
+abbrev pub due_of : Mode → Port → List Unanswered → List Unanswered
+due_of mode port book = filter (λ r. r.port.0 == port.0 && is_due mode book r) book
+
+-- each of these is due on the port once those before it were issued; and once all were, none is
+abbrev pub AreDueInTurn : Mode → Port → List RequestId → List Unanswered → Type 0
+AreDueInTurn mode port [] book = NoneDue mode book port
+AreDueInTurn mode port (id ∷ ids) book =
+    ((r : Unanswered) × (r.id ≡ id) × (r.port ≡ port) × IsDue mode book r) × AreDueInTurn mode port ids (with_issued id book)

@@ -1,14 +1,16 @@
 //! Laws about the definitions in specs/. The clause of each function is the law; the functions do nothing, and nothing
 //! calls them. `D` are the steps that a device can be told to do: a law on runs holds for any device.
 
-ghost use Rattle.std.specs.Prelude.{◌≡◌, ◌<◌, ℕ, true, false, List, ◌∷◌, ◌++◌, Some, length, map, Contains};
+ghost use Rattle.std.specs.Prelude.{◌≡◌, ◌≢◌, ◌↔◌, ◌<◌, ℕ, Bool, IsTrue, true, false, List, ◌∷◌, ◌++◌, Some, length, map, Contains};
+ghost use Rattle.ata_types.specs.declared.Port.{Port};
 ghost use Rattle.ata_types.specs.declared.request.Frame.{Frame};
+ghost use Rattle.ata_types.specs.declared.request.Outcome.{Outcome};
 ghost use Rattle.ata_types.specs.declared.request.Op.TheVariants.{Read};
 ghost use Rattle.block_machine.specs.declared.due.Mode.{Mode};
 ghost use Rattle.block_machine.specs.declared.due.Unanswered.{Unanswered};
-ghost use Rattle.block_machine.specs.Due.{IsDue, IsInOrder, is_plain, issued_count};
+ghost use Rattle.block_machine.specs.Due.{IsDue, IsInOrder, is_plain, issued_count, is_due, ahead, due_ahead, free_slots, with_issued, with_waiting, with_none, of_port, due_of, AreDueInTurn};
 ghost use Rattle.block_machine.specs.State.{Block, Accepted, Pending, Machine, frame_at, unanswered};
-ghost use Rattle.block_machine.specs.Steps.{Step, Touch, Issue, May, IsNew, IsLiving, AllTouched};
+ghost use Rattle.block_machine.specs.Steps.{Step, Touch, End, Issue, Again, Answer, Age, after_step, May, IsNew, IsLiving, AllTouched};
 ghost use Rattle.block_machine.specs.Left.{IsStart, IsLegal, AllTold, HoldsLeft, after};
 ghost use Rattle.block_machine.specs.Confined.{IsGranted, IsConfined, IsHeld, HasFrame, WasAccepted, WithinLimits};
 ghost use Rattle.block_machine.specs.Events.{Moment, Event, IsRun, EveryReadHolds, moment_of, steps_of};
@@ -130,4 +132,88 @@ pub fn due_finds_slot()
     ensures { (mode : Mode) (book : List Unanswered) (r : Unanswered) → IsDue mode book r
         → (is_plain mode r.op ≡ true → issued_count book r.port ≡ 0)
         × (is_plain mode r.op ≡ false → issued_count book r.port < mode.usable) }
+{}
+
+/// Once a due request is issued, another request of its port is due exactly where it was due before.
+pub fn issues_one_by_one()
+    ensures { (mode : Mode) (book : List Unanswered) (r other : Unanswered) → IsInOrder book
+        → IsDue mode book r
+        → Contains book other → other.id ≢ r.id → other.port ≡ r.port
+        → IsDue mode book other ↔ IsDue mode (with_issued r.id book) other }
+{}
+
+/// A request that is issued isn't due.
+pub fn issued_is_not_due()
+    ensures { (mode : Mode) (book : List Unanswered) (r : Unanswered) → r.issued ≡ true
+        → ¬ IsDue mode book r }
+{}
+
+/// A slot is left for a request whether the earlier ones of its port are counted as clear to go or as due.
+pub fn slots_by_due()
+    ensures { (mode : Mode) (book : List Unanswered) (r : Unanswered) → IsInOrder book
+        → Contains book r
+        → (ahead mode book r < free_slots mode book r.port) ↔
+        (due_ahead mode book r < free_slots mode book r.port) }
+{}
+
+/// A request of the book is due where the test says so.
+pub fn due_is_tested()
+    ensures { (mode : Mode) (book : List Unanswered) (r : Unanswered) → Contains book r
+        → IsTrue (is_due mode book r) ↔ IsDue mode book r }
+{}
+
+/// A request of the port is due exactly where it is one of the port's due requests; and these are of the port.
+pub fn due_is_exact()
+    ensures exact { (mode : Mode) (port : Port) (book : List Unanswered) (r : Unanswered) → r.port ≡ port
+        → Contains (due_of mode port book) r ↔ IsDue mode book r }
+    ensures own { (mode : Mode) (port : Port) (book : List Unanswered) (r : Unanswered)
+        → Contains (due_of mode port book) r → r.port ≡ port }
+{}
+
+/// Once a due request is issued, the others of its port that were due are the due ones.
+pub fn due_after_issue()
+    ensures { (mode : Mode) (port : Port) (book : List Unanswered) (r : Unanswered) → IsInOrder book
+        → IsDue mode book r → r.port ≡ port
+        → due_of mode port (with_issued r.id book) ≡ with_none r.id (due_of mode port book) }
+{}
+
+/// The due requests of a port may be issued one after the other, each of them due when its turn comes; then none is due.
+pub fn due_in_turn()
+    ensures { (mode : Mode) (port : Port) (book : List Unanswered) → IsInOrder book
+        → AreDueInTurn mode port (map (λ r. r.id) (due_of mode port book)) book }
+{}
+
+/// Which requests of a port are due depends on the port's own requests.
+pub fn own_requests_count()
+    ensures list { (mode : Mode) (port : Port) (book other : List Unanswered)
+        → of_port port book ≡ of_port port other → due_of mode port book ≡ due_of mode port other }
+    ensures one { (mode : Mode) (port : Port) (book other : List Unanswered) (r : Unanswered)
+        → of_port port book ≡ of_port port other → r.port ≡ port
+        → IsDue mode book r ↔ IsDue mode other r }
+{}
+
+/// A request that is issued, waits again or is answered on one port leaves the requests of another as they are.
+pub fn other_ports_stay()
+    ensures issued { (port : Port) (book : List Unanswered) (r : Unanswered) → IsInOrder book → Contains book r
+        → r.port ≢ port → of_port port (with_issued r.id book) ≡ of_port port book }
+    ensures waiting { (port : Port) (book : List Unanswered) (r : Unanswered) → IsInOrder book → Contains book r
+        → r.port ≢ port → of_port port (with_waiting r.id book) ≡ of_port port book }
+    ensures answered { (port : Port) (book : List Unanswered) (r : Unanswered) → IsInOrder book → Contains book r
+        → r.port ≢ port → of_port port (with_none r.id book) ≡ of_port port book }
+{}
+
+/// What the machine's steps on requests leave of what says which are due.
+pub fn steps_change_what_is_due()
+    ensures issue { (m : Machine) (mode : Mode) (e : Pending)
+        → map unanswered (after_step m (Issue mode e)).book ≡ with_issued e.request.id (map unanswered m.book) }
+    ensures again { (m : Machine) (e : Pending)
+        → map unanswered (after_step m (Again e)).book ≡ with_waiting e.request.id (map unanswered m.book) }
+    ensures answer { (m : Machine) (e : Pending) (outcome : Outcome)
+        → map unanswered (after_step m (Answer e outcome)).book ≡ with_none e.request.id (map unanswered m.book) }
+    ensures age { (m : Machine) (ports : Port → Bool)
+        → map unanswered (after_step m (Age ports)).book ≡ map unanswered m.book }
+    ensures touch { (m : Machine) (e : Pending) (i : ℕ) (block : Block)
+        → map unanswered (after_step m (Touch e i block)).book ≡ map unanswered m.book }
+    ensures end { (m : Machine) (e : Pending)
+        → map unanswered (after_step m (End e)).book ≡ map unanswered m.book }
 {}

@@ -1,6 +1,3 @@
 mod Firsts
 mod PlainRules
-mod Ranks
-mod Dues
-mod PlainDue
 mod PlainLeft

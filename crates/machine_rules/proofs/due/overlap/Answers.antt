@@ -1,5 +1,5 @@
 use Rattle.block_machine.specs.Due as due
-use Rattle.machine_rules.proofs.PlainDue.{same_test, overlap_is_overlaps}
+use Rattle.block_machine.proofs.DueTests.{same_test, overlap_is_overlaps}
 use Rattle.machine_rules.proofs.due.overlap.Goals as goal
 
 pub returns : goal.returns

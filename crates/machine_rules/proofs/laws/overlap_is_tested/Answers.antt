@@ -1,4 +1,4 @@
-use Rattle.machine_rules.proofs.PlainDue.{overlap_is_overlaps}
+use Rattle.block_machine.proofs.DueTests.{overlap_is_overlaps}
 use Rattle.machine_rules.proofs.laws.overlap_is_tested.Goals as goal
 
 pub returns : goal.returns

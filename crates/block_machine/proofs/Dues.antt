@@ -10,9 +10,9 @@ use Rattle.block_machine.specs.Due.{IsDue, IsInOrder, conflict, holds_back, is_p
 use Rattle.block_machine.proofs.Members.{into_map, some_in}
 use Rattle.block_machine.proofs.Order.{In, Ordered, in_from, from_in, ordered_from}
 use Rattle.block_machine.proofs.Counting.{count_cons, count_map, count_least, unheld}
-use Rattle.machine_rules.proofs.Ranks.{holds_if}
+use Rattle.block_machine.proofs.Ranks.{holds_if}
 
-in_order_one : (es : List Unanswered) → Ordered es → (a b : Unanswered) → In a es → In b es → a.id.0 ≡ b.id.0 → a ≡ b
+pub in_order_one : (es : List Unanswered) → Ordered es → (a b : Unanswered) → In a es → In b es → a.id.0 ≡ b.id.0 → a ≡ b
 in_order_one [] o a b h k eq = absurd h
 in_order_one (x ∷ xs) o a b (inl p) (inl q) eq = p ∙ sym q
 in_order_one (x ∷ xs) o a b (inl p) (inr k) eq = let lt = o.0 b k in let e : a.id.0 ≡ x.id.0 = ap (λ (y : Unanswered). y.id.0) p in absurd (omega (arith, lt, e, eq))

@@ -1,4 +1,4 @@
--- The plain program's tests as facts.
+-- The tests of the definitions as facts.
 use Rattle.std.proofs.Common.{◌≡◌, ◌↔◌, Bool, true, false, ◌||◌, List, max, refl, sym, ◌∙◌, arith, lt-ltb, ltb-true, ⊎_elim}
 use Rattle.std.proofs.lemmas.Bool.{and_parts, and_from, or_cases, or_left, or_right, false≢true}
 use Rattle.std.specs.Bool.{IsTrue}
