@@ -78,3 +78,15 @@ pub mod Controlled
 pub mod Causing
 pub mod Unmoving
 pub mod Sustaining
+mod Linked
+mod Plainly
+mod EndingHalt
+mod FailingOpenly
+mod GivingUp
+mod Outstanding
+mod Readied
+mod Vacated
+mod Looked
+mod Recovered
+mod Needing
+mod Logged

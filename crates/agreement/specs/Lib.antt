@@ -16,3 +16,9 @@ pub mod Trimmed
 pub mod Awaits
 pub mod Booted
 pub mod Driven
+pub mod Recovering
+pub mod GivingUp
+pub mod Readying
+pub mod Vacant
+pub mod Recovered
+pub mod Logged
