@@ -73,6 +73,7 @@ pub mod Pages
 mod Booted
 pub mod Restarting
 pub mod Failing
+pub mod Parts
 pub mod Driven
 pub mod Controlled
 pub mod Causing

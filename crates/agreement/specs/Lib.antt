@@ -15,6 +15,7 @@ pub mod Served
 pub mod Trimmed
 pub mod Awaits
 pub mod Booted
+pub mod Acts
 pub mod Driven
 pub mod Recovering
 pub mod GivingUp
