@@ -1,5 +1,5 @@
 -- Stretches of accesses: one after another, and what they leave.
-use Rattle.std.proofs.Common.{ℕ, ◌≡◌, ◌≢◌, ◌++◌, true, false, List, [], ◌∷◌, None, Some, length, refl, sym, ◌∙◌, ap, subst}
+use Rattle.std.proofs.Common.{ℕ, ◌≡◌, ◌≢◌, ◌++◌, true, false, List, [], ◌∷◌, None, Some, length, refl, sym, ◌∙◌, ap, subst, append-nil}
 use Rattle.std.proofs.lemmas.List.Elements.{All-append, All-cons, All-nil, All-head, All-tail}
 use Rattle.std.specs.List.{All}
 use Rattle.ata_types.specs.declared.Port.{Port}
@@ -20,7 +20,7 @@ use Rattle.block_machine.specs.Events.{AllDevices}
 use Rattle.block_machine.specs.Histories.{IsReached, AddsSteps}
 use Rattle.block_machine.specs.Left.{after}
 use Rattle.block_machine.specs.State.{Machine}
-use Rattle.agreement.specs.Acts.{Act, InSlots, at, accesses_of, steps_of}
+use Rattle.agreement.specs.Acts.{Act, InSlots, IsDone, at, accesses_of, steps_of}
 use Rattle.agreement.specs.Driver.{Knows, ByDevice, LeavesUses, MayStore, IsOwnPrepared}
 use Rattle.agreement.specs.Driven.{known, AnyUse, IsDrivenBy, IsFollowed, IsFollowedTo, NoneWrites, SendsNone}
 use Rattle.agreement.specs.Links.{SparesRegister}
@@ -28,7 +28,7 @@ use Rattle.agreement.specs.Slots.{Use, Own, Uses, put, op_of}
 use Rattle.agreement.proofs.Parts.{accesses_append, steps_append, all_acts, done_more, done_goes, done_silent, done_uses}
 use Rattle.agreement.proofs.Adding.{read_adds, load_adds, store_adds, write_adds}
 use Rattle.agreement.proofs.Calling.{own_adds}
-use Rattle.agreement.proofs.Composing.{goes_access, going_reaches}
+use Rattle.agreement.proofs.Composing.{goes_access, goes_still, going_reaches}
 use Rattle.agreement.proofs.Lasting.{access_on}
 use Rattle.agreement.proofs.Waiting.{device_append}
 
@@ -155,6 +155,32 @@ module _ (May More : Access → Type 0) (Fits Less : Uses → Type 0) where
   pub followed_as : (old new : Device) → ((access : Access) → May access → More access) → ((uses : Uses) → Less uses → Fits uses) →
       IsFollowed May Fits old new → IsFollowed More Less old new
   followed_as old new kind fits a = followed_to_as (λ uses. uses) old new kind fits a
+
+-- the driver knows then of the same device that its slots are used so
+module _ (May : Access → Type 0) (Fits : Uses → Type 0) (next later : Uses → Uses) (old new : Device) where
+  pub followed_known : ((uses : Uses) (parked : ℕ → List RequestId) (m : Machine) → Fits uses → Knows m (known (next uses) parked new) → Knows m (known (later uses) parked new)) →
+      ((uses : Uses) (port : Port) → NoneWrites May (Px port Ci) → NoneWrites May (Px port Sact) → later uses port.0 ≡ uses port.0) → IsFollowedTo May Fits next old new → IsFollowedTo May Fits later old new
+  followed_known knows stays a = record {
+    driven = a.driven;
+    comes = λ s m reached x fits.
+        let c = a.comes s m reached x fits in
+        let mid : Machine = after m (steps_of c.acts) in
+        let goes = done_goes c.acts (at s old) (at (then next s) new) m x c.done in
+        let is : Knows mid (at (then later s) new) = knows s.uses s.parked mid fits goes.knows in
+        let act : Act = record { access = None; steps = []; later = at (then later s) new } in
+        let last : IsDone (at (then next s) new) mid act = record { leads = refl; goes = goes_still (at (then next s) new) (at (then later s) new) mid refl is } in
+        record {
+          acts = c.acts ++ act ∷ [];
+          done = done_more c.acts (act ∷ []) (at s old) (at (then next s) new) (at (then later s) new) m c.done (last, refl);
+          accesses_are = accesses_append c.acts (act ∷ []) ∙ (append-nil (accesses_of c.acts) ∙ c.accesses_are);
+          tells = record {
+            only = subst AllDevices (sym (steps_append c.acts (act ∷ []))) c.tells.only;
+            kept = λ port issues arms.
+                let Q = λ (x : Act). x.later.uses port.0 ≡ s.uses port.0 in
+                All-append Q c.acts (act ∷ []) (c.tells.kept port issues arms) (All-cons Q act [] (stays s.uses port issues arms) (All-nil Q));
+          };
+        };
+  }
 
 -- ---- what it gives
 

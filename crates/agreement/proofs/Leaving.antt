@@ -16,7 +16,7 @@ use Rattle.agreement.specs.Slots.{Told, HasBlock, Use, Free, Own, Uses, put}
 use Rattle.agreement.specs.Agrees.{Agrees}
 use Rattle.agreement.specs.Driver.{LeavesFree, MissesTable, MissesScratch, MayStore}
 use Rattle.agreement.proofs.Bytes.{store_table, store_scratch}
-use Rattle.agreement.proofs.Keeping.{same_bytes, leaves_none, leaves_more, steps_leave}
+use Rattle.agreement.proofs.Keeping.{same_bytes, leaves_more, steps_leave}
 use Rattle.agreement.proofs.Putting.{put_cases}
 use Rattle.agreement.proofs.Serving.{told_on, block_on}
 

@@ -1,13 +1,13 @@
 -- What readings of PxIS and PxSSTS tell of what was before.
-use Rattle.std.proofs.Common.{ℕ, ◌≡◌, ◌≢◌, ◌⊎◌, ◌≤◌, ◌%◌, true, false, refl, sym, ◌∙◌, subst, arith, inl, inr, ⊎_elim}
+use Rattle.std.proofs.Common.{ℕ, ◌≡◌, ◌≢◌, ◌⊎◌, ◌≤◌, ◌%◌, true, false, refl, ◌∙◌, inl, inr, ⊎_elim}
 use Rattle.std.proofs.lemmas.Bool.{cases_eq, cases_Bool}
 use Rattle.ata_types.specs.declared.Port.{Port}
 use Rattle.hba_regs.specs.Bits.{bit}
 use Rattle.hba_regs.specs.declared.reg.Reg.TheVariants.{Px}
 use Rattle.hba_regs.specs.declared.reg.PortReg.TheVariants.{Is, Ssts}
-use Rattle.adapter.specs.Access.{Reads, PortShows}
+use Rattle.adapter.specs.Access.{Reads}
 use Rattle.adapter.specs.Access.Access.{Reading}
-use Rattle.adapter.specs.Device.{PortState, Device}
+use Rattle.adapter.specs.Device.{Device}
 use Rattle.adapter.specs.Kept.{KeepsControls}
 use Rattle.adapter.proofs.Absurd.{true-false}
 use Rattle.adapter.proofs.Calls.{SeenAt, seen}

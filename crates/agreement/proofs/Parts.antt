@@ -1,21 +1,19 @@
 -- Acts of the driver, one after another, and what they give.
-use Rattle.std.proofs.Common.{ℕ, ◌≡◌, ◌⊎◌, ◌++◌, List, [], ◌∷◌, Option, None, Some, get_or, refl, sym, ◌∙◌, ap, subst, append_assoc, append-nil}
+use Rattle.std.proofs.Common.{ℕ, ◌≡◌, ◌++◌, List, [], ◌∷◌, Option, None, Some, get_or, refl, sym, ◌∙◌, ap, subst, append_assoc, append-nil}
 use Rattle.std.specs.Prelude.{All}
-use Rattle.std.proofs.lemmas.List.Elements.{All-nil, All-cons, All-head, All-tail, All-append}
+use Rattle.std.proofs.lemmas.List.Elements.{All-nil, All-cons, All-head, All-tail}
 use Rattle.ata_types.specs.declared.Port.{Port}
 use Rattle.hba_regs.specs.declared.reg.Reg.TheVariants.{Px}
 use Rattle.hba_regs.specs.declared.reg.PortReg.TheVariants.{Sact}
-use Rattle.adapter.specs.Access.{Access, Does, DoesAll}
+use Rattle.adapter.specs.Access.{Access, DoesAll}
 use Rattle.adapter.specs.Device.{Device}
 use Rattle.adapter.specs.declared.command.Operation.{Operation}
-use Rattle.block_machine.specs.Events.{AllDevices}
 use Rattle.block_machine.specs.Histories.{IsReached}
 use Rattle.block_machine.specs.Left as left
 use Rattle.block_machine.specs.State.{Machine}
 use Rattle.block_machine.specs.Steps.{Step}
 use Rattle.block_machine.proofs.EventLemmas.{after-append}
-use Rattle.block_machine.proofs.HistoryLemmas.{reached_more}
-use Rattle.agreement.specs.Acts.{Act, Leads, IsDone, AreDone, with_access, accesses_of, steps_of, Comes}
+use Rattle.agreement.specs.Acts.{Act, Leads, IsDone, AreDone, with_access, accesses_of, steps_of}
 use Rattle.agreement.specs.Driven.{SendsNone}
 use Rattle.agreement.specs.Driver.{Known, Knows, Goes}
 use Rattle.agreement.specs.Links.{SparesRegister}

@@ -1,9 +1,8 @@
 -- A slot that is made ready stays so, and its bit of PxCI may be written.
-use Rattle.std.proofs.Common.{ℕ, if◌then◌else◌, ◌≡◌, ◌≢◌, ◌<◌, ◌≤◌, ◌/◌, ◌%◌, Bool, true, false, not, ◌||◌, List, length, None, refl, sym, ◌∙◌, ap, subst, ⊎_elim}
+use Rattle.std.proofs.Common.{ℕ, if◌then◌else◌, ◌≡◌, ◌≢◌, ◌<◌, ◌≤◌, ◌/◌, ◌%◌, Bool, true, false, not, List, length, None, refl, sym, ◌∙◌, ap, subst, ⊎_elim}
 use Rattle.std.proofs.lemmas.Bool.{cases_eq, cond-true, cond-false}
 use Rattle.ata_types.specs.declared.Port.{Port}
 use Rattle.hba_regs.specs.Bits.{bit}
-use Rattle.hba_regs.specs.declared.reg.Reg.{Reg}
 use Rattle.hba_regs.specs.declared.reg.Reg.TheVariants.{Px}
 use Rattle.hba_regs.specs.declared.reg.PortReg.{PortReg}
 use Rattle.hba_regs.specs.declared.reg.PortReg.TheVariants.{Cmd, Clb, Sact, Ci}
@@ -16,7 +15,6 @@ use Rattle.adapter.specs.Rules.{IsOn, HasPort, MayWrite, Stays}
 use Rattle.adapter.specs.Says.{Says}
 use Rattle.adapter.specs.Steps.{Steps}
 use Rattle.adapter.proofs.Absurd.{true-false}
-use Rattle.adapter.proofs.Changed.{changed_same}
 use Rattle.adapter.proofs.KeptLemmas.{steps_keep}
 use Rattle.adapter.proofs.MemoryLemmas.{patched_apart}
 use Rattle.adapter.proofs.SaysLemmas.{says_meaning}

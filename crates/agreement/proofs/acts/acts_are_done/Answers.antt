@@ -1,4 +1,3 @@
-use Rattle.std.proofs.Common.{Some, None, [], ◌∷◌}
 use Rattle.agreement.proofs.Composing.{goes_access, goes_ending, goes_own, goes_still}
 use Rattle.agreement.proofs.acts.acts_are_done.Goals as goal
 
