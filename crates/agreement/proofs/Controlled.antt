@@ -18,7 +18,7 @@ use Rattle.agreement.specs.Facts.{IsRecorded}
 use Rattle.agreement.specs.Links.{SparesRegister, SameAdapter}
 use Rattle.agreement.specs.Slots.{Uses}
 use Rattle.agreement.proofs.Crossing.{access_steps, beside_same}
-use Rattle.agreement.proofs.Driven.{along, driven_as, over}
+use Rattle.agreement.proofs.Driven.{followed_adds, along, driven_as, over}
 use Rattle.agreement.proofs.Lasting.{access_same, same_more, same_refl}
 use Rattle.agreement.proofs.Recording.{steps_recorded}
 
@@ -193,7 +193,7 @@ module _ (Written : PortReg → Type 0) (port : Port) (old new : Device) (driven
 pub agreed_on : (May : Access → Type 0) (Fits : Uses → Type 0) (uses : Uses) (old new : Device) → Fits uses →
     IsFollowed May Fits old new → IsAgreed uses old → IsAgreed uses new
 agreed_on May Fits uses old new fits followed a =
-    let x = (followed.adds uses a.parked fits).adds a.machine a.reached a.knows in
+    let x = (followed_adds followed uses a.parked fits).adds a.machine a.reached a.knows in
     record {
       machine = after a.machine x.0;
       parked = a.parked;

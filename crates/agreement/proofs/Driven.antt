@@ -1,5 +1,5 @@
 -- Stretches of accesses: one after another, and what they leave.
-use Rattle.std.proofs.Common.{ℕ, ◌≡◌, ◌++◌, true, false, List, [], ◌∷◌, length, refl, sym, subst}
+use Rattle.std.proofs.Common.{ℕ, ◌≡◌, ◌≢◌, ◌++◌, true, false, List, [], ◌∷◌, None, Some, length, refl, sym, ◌∙◌, ap, subst, append-nil}
 use Rattle.std.proofs.lemmas.List.Elements.{All-append, All-cons, All-nil, All-head, All-tail}
 use Rattle.std.specs.List.{All}
 use Rattle.ata_types.specs.declared.Port.{Port}
@@ -7,26 +7,30 @@ use Rattle.ata_types.specs.declared.request.RequestId.{RequestId}
 use Rattle.hba_regs.specs.Bits.{bit}
 use Rattle.hba_regs.specs.declared.reg.Reg.{Reg}
 use Rattle.hba_regs.specs.declared.reg.Reg.TheVariants.{Ghc, Px}
-use Rattle.hba_regs.specs.declared.reg.PortReg.TheVariants.{Ci}
+use Rattle.hba_regs.specs.declared.reg.PortReg.TheVariants.{Sact, Ci}
 use Rattle.adapter.specs.Access.{Access, Does, DoesAll, Reads, Writes, Loads, Stores}
 use Rattle.adapter.specs.Access.Access.{Reading, Writing, Loading, Storing}
 use Rattle.adapter.specs.Device.{Device}
 use Rattle.adapter.specs.Rules.{IsOn, MayWrite, Stays}
 use Rattle.adapter.specs.declared.command.Operation.{Operation}
 use Rattle.adapter.proofs.Calls.{does_append}
-use Rattle.adapter.proofs.Runs.{Steps-refl}
-use Rattle.block_machine.specs.Histories.{AddsSteps}
+use Rattle.adapter.proofs.Changed.{changed_other}
+use Rattle.block_machine.proofs.Keeps.{same_port}
+use Rattle.block_machine.specs.Events.{AllDevices}
+use Rattle.block_machine.specs.Histories.{IsReached, AddsSteps}
 use Rattle.block_machine.specs.Left.{after}
-use Rattle.block_machine.proofs.HistoryLemmas.{reached_more}
+use Rattle.block_machine.specs.State.{Machine}
+use Rattle.agreement.specs.Acts.{Act, InSlots, IsDone, at, accesses_of, steps_of}
 use Rattle.agreement.specs.Driver.{Knows, ByDevice, LeavesUses, MayStore, IsOwnPrepared}
-use Rattle.agreement.specs.Driven.{known, AnyUse, IsDrivenBy, IsFollowed, IsFollowedTo, NoneWrites}
+use Rattle.agreement.specs.Driven.{known, AnyUse, IsDrivenBy, IsFollowed, IsFollowedTo, NoneWrites, SendsNone}
 use Rattle.agreement.specs.Links.{SparesRegister}
-use Rattle.agreement.specs.Slots.{Own, Uses, put, IsMove}
-use Rattle.agreement.proofs.Adding.{accesses_then, device_adds, read_adds, load_adds, store_adds, write_adds}
+use Rattle.agreement.specs.Slots.{Use, Own, Uses, put, op_of}
+use Rattle.agreement.proofs.Parts.{accesses_append, steps_append, all_acts, done_more, done_goes, done_silent, done_uses}
+use Rattle.agreement.proofs.Adding.{read_adds, load_adds, store_adds, write_adds}
 use Rattle.agreement.proofs.Calling.{own_adds}
-use Rattle.agreement.proofs.Gaining.{gains_nothing, gains_more}
+use Rattle.agreement.proofs.Composing.{goes_access, goes_still, going_reaches}
 use Rattle.agreement.proofs.Lasting.{access_on}
-use Rattle.agreement.proofs.Paging.{access_sends_none}
+use Rattle.agreement.proofs.Waiting.{device_append}
 
 -- ---- accesses of one kind
 
@@ -79,98 +83,175 @@ none_writes May More r kind none access may = none access (kind access may)
 
 -- ---- one stretch that is followed after another
 
+-- what was put into the slots after a stretch
+abbrev then : (Uses → Uses) → InSlots → InSlots
+then next s = record s { uses = next s.uses }
+
+module _ (May : Access → Type 0) (Fits Less : Uses → Type 0) (first second : Uses → Uses) (on : (uses : Uses) → Fits uses → Less (first uses)) where
+  pub followed_both : (old mid new : Device) → IsFollowedTo May Fits first old mid → IsFollowedTo May Less second mid new → IsFollowedTo May Fits (λ uses. second (first uses)) old new
+  unfolding by_then
+  followed_both old mid new a b = record {
+    driven = by_then a.driven b.driven;
+    comes = λ s m reached x fits.
+        let c = a.comes s m reached x fits in
+        let g = done_goes c.acts (at s old) (at (then first s) mid) m x c.done in
+        let e = b.comes (then first s) (after m (steps_of c.acts)) (going_reaches (at s old) (at (then first s) mid) m (steps_of c.acts) reached g) g.knows (on s.uses fits) in
+        record {
+          acts = c.acts ++ e.acts;
+          done = done_more c.acts e.acts (at s old) (at (then first s) mid) (at (then second (then first s)) new) m c.done e.done;
+          accesses_are = accesses_append c.acts e.acts ∙ (ap (λ (early : List Access). early ++ accesses_of e.acts) c.accesses_are ∙ ap (λ (late : List Access). a.driven.accesses ++ late) e.accesses_are);
+          tells = record {
+            only = subst AllDevices (sym (steps_append c.acts e.acts)) (device_append (steps_of e.acts) (steps_of c.acts) e.tells.only c.tells.only);
+            kept = λ port issues arms.
+                let early = c.tells.kept port issues arms in
+                let mids : first s.uses port.0 ≡ s.uses port.0 = done_uses port.0 (s.uses port.0) c.acts (at s old) (at (then first s) mid) m refl early c.done in
+                All-append (λ (act : Act). act.later.uses port.0 ≡ s.uses port.0) c.acts e.acts early
+                (all_acts (λ act. act.later.uses port.0 ≡ first s.uses port.0) (λ act. act.later.uses port.0 ≡ s.uses port.0) e.acts (λ act y. y ∙ mids) (e.tells.kept port issues arms));
+          };
+        };
+  }
+
 module _ (May : Access → Type 0) (Fits : Uses → Type 0) where
   pub followed_none : (d : Device) → IsFollowed May Fits d d
+  unfolding by_none
   followed_none d = record {
     driven = by_none May d;
-    adds = λ uses parked is. device_adds (known uses parked d) d (Steps-refl d);
-    silent = λ uses parked m is r k port o own none not. gains_nothing (IsMove port.0 o) d;
+    comes = λ s m reached x fits. record {
+      acts = [];
+      done = refl;
+      accesses_are = refl;
+      tells = record { only = tt; kept = λ port issues arms. All-nil (λ (act : Act). act.later.uses port.0 ≡ s.uses port.0) };
+    };
   }
 
   pub followed_then : (old mid new : Device) → IsFollowed May Fits old mid → IsFollowed May Fits mid new → IsFollowed May Fits old new
-  followed_then old mid new a b = record {
-    driven = by_then a.driven b.driven;
-    adds = λ uses parked is. accesses_then (known uses parked old) (known uses parked mid) (known uses parked new) (a.adds uses parked is) (b.adds uses parked is);
-    silent = λ uses parked m is r k port o own none not.
-        let x = (a.adds uses parked is).adds m r k in
-        gains_more (IsMove port.0 o) old mid new (a.silent uses parked m is r k port o own none not)
-        (b.silent uses parked (after m x.0) is (reached_more m x.0 r x.1) x.2 port o own none not);
-  }
+  followed_then old mid new a b = followed_both May Fits Fits (λ uses. uses) (λ uses. uses) (λ uses fits. fits) old mid new a b
 
   -- and then one that puts slots to use
   pub followed_to_then : (next : Uses → Uses) (old mid new : Device) → IsFollowed May Fits old mid → IsFollowedTo May Fits next mid new → IsFollowedTo May Fits next old new
-  followed_to_then next old mid new a b = record {
-    driven = by_then a.driven b.driven;
-    adds = λ uses parked is. accesses_then (known uses parked old) (known uses parked mid) (known (next uses) parked new) (a.adds uses parked is) (b.adds uses parked is);
-    silent = λ uses parked m is r k port o own none not later.
-        let x = (a.adds uses parked is).adds m r k in
-        gains_more (IsMove port.0 o) old mid new (a.silent uses parked m is r k port o own none not)
-        (b.silent uses parked (after m x.0) is (reached_more m x.0 r x.1) x.2 port o own none not later);
-  }
+  followed_to_then next old mid new a b = followed_both May Fits Fits (λ uses. uses) next (λ uses fits. fits) old mid new a b
 
   -- slots that were put to use go on so
   pub followed_to_more : (next : Uses → Uses) (old mid new : Device) → IsFollowedTo May Fits next old mid → IsFollowed May AnyUse mid new → IsFollowedTo May Fits next old new
-  followed_to_more next old mid new a b = record {
-    driven = by_then a.driven b.driven;
-    adds = λ uses parked is.
-        accesses_then (known uses parked old) (known (next uses) parked mid) (known (next uses) parked new) (a.adds uses parked is) (b.adds (next uses) parked tt);
-    silent = λ uses parked m is r k port o own none not later.
-        let x = (a.adds uses parked is).adds m r k in
-        gains_more (IsMove port.0 o) old mid new (a.silent uses parked m is r k port o own none not later)
-        (b.silent (next uses) parked (after m x.0) tt (reached_more m x.0 r x.1) x.2 port o own none later);
-  }
+  followed_to_more next old mid new a b = followed_both May Fits AnyUse next (λ uses. uses) (λ uses fits. tt) old mid new a b
 
 -- of another kind, and with uses that fit less
 module _ (May More : Access → Type 0) (Fits Less : Uses → Type 0) where
-  pub followed_as : (old new : Device) → ((access : Access) → May access → More access) → ((uses : Uses) → Less uses → Fits uses) →
-      IsFollowed May Fits old new → IsFollowed More Less old new
-  followed_as old new kind fits a = record {
-    driven = driven_as May More old new kind a.driven;
-    adds = λ uses parked is. a.adds uses parked (fits uses is);
-    silent = λ uses parked m is r k port o own none. a.silent uses parked m (fits uses is) r k port o own (none_writes May More (Px port Ci) kind none);
-  }
-
   pub followed_to_as : (next : Uses → Uses) (old new : Device) → ((access : Access) → May access → More access) → ((uses : Uses) → Less uses → Fits uses) →
       IsFollowedTo May Fits next old new → IsFollowedTo More Less next old new
+  unfolding driven_as
   followed_to_as next old new kind fits a = record {
     driven = driven_as May More old new kind a.driven;
-    adds = λ uses parked is. a.adds uses parked (fits uses is);
-    silent = λ uses parked m is r k port o own none. a.silent uses parked m (fits uses is) r k port o own (none_writes May More (Px port Ci) kind none);
+    comes = λ s m reached x less.
+        let c = a.comes s m reached x (fits s.uses less) in
+        record {
+          acts = c.acts;
+          done = c.done;
+          accesses_are = c.accesses_are;
+          tells = record { only = c.tells.only; kept = λ port issues arms. c.tells.kept port (none_writes May More (Px port Ci) kind issues) (none_writes May More (Px port Sact) kind arms) };
+        };
   }
+
+  pub followed_as : (old new : Device) → ((access : Access) → May access → More access) → ((uses : Uses) → Less uses → Fits uses) →
+      IsFollowed May Fits old new → IsFollowed More Less old new
+  followed_as old new kind fits a = followed_to_as (λ uses. uses) old new kind fits a
+
+-- the driver knows then of the same device that its slots are used so
+module _ (May : Access → Type 0) (Fits : Uses → Type 0) (next later : Uses → Uses) (old new : Device) where
+  pub followed_known : ((uses : Uses) (parked : ℕ → List RequestId) (m : Machine) → Fits uses → Knows m (known (next uses) parked new) → Knows m (known (later uses) parked new)) →
+      ((uses : Uses) (port : Port) → NoneWrites May (Px port Ci) → NoneWrites May (Px port Sact) → later uses port.0 ≡ uses port.0) → IsFollowedTo May Fits next old new → IsFollowedTo May Fits later old new
+  followed_known knows stays a = record {
+    driven = a.driven;
+    comes = λ s m reached x fits.
+        let c = a.comes s m reached x fits in
+        let mid : Machine = after m (steps_of c.acts) in
+        let goes = done_goes c.acts (at s old) (at (then next s) new) m x c.done in
+        let is : Knows mid (at (then later s) new) = knows s.uses s.parked mid fits goes.knows in
+        let act : Act = record { access = None; steps = []; later = at (then later s) new } in
+        let last : IsDone (at (then next s) new) mid act = record { leads = refl; goes = goes_still (at (then next s) new) (at (then later s) new) mid refl is } in
+        record {
+          acts = c.acts ++ act ∷ [];
+          done = done_more c.acts (act ∷ []) (at s old) (at (then next s) new) (at (then later s) new) m c.done (last, refl);
+          accesses_are = accesses_append c.acts (act ∷ []) ∙ (append-nil (accesses_of c.acts) ∙ c.accesses_are);
+          tells = record {
+            only = subst AllDevices (sym (steps_append c.acts (act ∷ []))) c.tells.only;
+            kept = λ port issues arms.
+                let Q = λ (x : Act). x.later.uses port.0 ≡ s.uses port.0 in
+                All-append Q c.acts (act ∷ []) (c.tells.kept port issues arms) (All-cons Q act [] (stays s.uses port issues arms) (All-nil Q));
+          };
+        };
+  }
+
+-- ---- what it gives
+
+-- steps of the machine, all of them the device's
+pub followed_adds : {May : Access → Type 0} {Fits : Uses → Type 0} {next : Uses → Uses} {old new : Device} → IsFollowedTo May Fits next old new →
+    (uses : Uses) (parked : ℕ → List RequestId) → Fits uses → AddsSteps Knows (known uses parked old) (known (next uses) parked new) (ByDevice old new)
+followed_adds {May} {Fits} {next} {old} {new} a uses parked fits = record {
+  adds = λ m reached x.
+      let c = a.comes (record { uses = uses; parked = parked }) m reached x fits in
+      let g = done_goes c.acts (known uses parked old) (known (next uses) parked new) m x c.done in
+      (steps_of c.acts, g.may, g.knows, record { backed = g.backed; only = c.tells.only });
+}
+
+-- no page of a port that issues nothing and whose slot 0 has no such command
+pub followed_silent : {May : Access → Type 0} {Fits : Uses → Type 0} {next : Uses → Uses} {old new : Device} → IsFollowedTo May Fits next old new →
+    (uses : Uses) (parked : ℕ → List RequestId) (m : Machine) → Fits uses → IsReached m → Knows m (known uses parked old) → (port : Port) (o : Operation) → op_of o ≡ None →
+    NoneWrites May (Px port Ci) → NoneWrites May (Px port Sact) → (uses port.0 0 ≡ Own o → ⊥) → SendsNone port.0 o old new
+followed_silent {May} {Fits} {next} {old} {new} a uses parked m fits reached x port o own issues arms none =
+    let c = a.comes (record { uses = uses; parked = parked }) m reached x fits in
+    done_silent port.0 o own c.acts (known uses parked old) (known (next uses) parked new) m reached x none
+    (all_acts (λ act. act.later.uses port.0 ≡ uses port.0) (λ act. act.later.uses port.0 0 ≡ Own o → ⊥) c.acts
+    (λ act e is. none (ap (λ (f : ℕ → Use). f 0) (sym e) ∙ is)) (c.tells.kept port issues arms)) c.done
 
 -- ---- one access
 
-module _ (May : Access → Type 0) (Fits : Uses → Type 0) (access : Access) (old new : Device) (kind : May access) (does : Does access old new) where
-  followed_one : ((uses : Uses) (parked : ℕ → List RequestId) → Fits uses → AddsSteps Knows (known uses parked old) (known uses parked new) (ByDevice old new)) →
-      IsFollowed May Fits old new
-  followed_one adds = record {
+module _ (May : Access → Type 0) (Fits : Uses → Type 0) (next : Uses → Uses) (access : Access) (old new : Device) (kind : May access) (does : Does access old new) where
+  pub followed_by : ((uses : Uses) (parked : ℕ → List RequestId) → Fits uses → AddsSteps Knows (known uses parked old) (known (next uses) parked new) (ByDevice old new)) →
+      ((uses : Uses) (port : Port) → NoneWrites May (Px port Ci) → NoneWrites May (Px port Sact) → next uses port.0 ≡ uses port.0) → IsFollowedTo May Fits next old new
+  unfolding by_one
+  followed_by adds stays = record {
     driven = by_one May access old new kind does;
-    adds = adds;
-    silent = λ uses parked m is r k port o own none. access_sends_none uses m access old new port.0 o r k.agrees does own;
+    comes = λ s m reached x fits.
+        let later = known (next s.uses) s.parked new in
+        let y = goes_access (at s old) later m (adds s.uses s.parked fits) reached x in
+        let act : Act = record { access = Some access; steps = y.0; later = later } in
+        record {
+          acts = act ∷ [];
+          done = (record { leads = does; goes = y.2 }, refl);
+          accesses_are = refl;
+          tells = record {
+            only = y.1;
+            kept = λ port issues arms.
+                let Q = λ (a : Act). a.later.uses port.0 ≡ s.uses port.0 in All-cons Q act [] (stays s.uses port issues arms) (All-nil Q);
+          };
+        };
   }
 
 pub followed_read : (May : Access → Type 0) (r : Reg) (v : ℕ) (old new : Device) → May (Reading r v) → Reads r v old new → IsFollowed May AnyUse old new
-followed_read May r v old new kind call = followed_one May AnyUse (Reading r v) old new kind call (λ uses parked is. read_adds (known uses parked old) r v new call)
+followed_read May r v old new kind call =
+    followed_by May AnyUse (λ uses. uses) (Reading r v) old new kind call (λ uses parked is. read_adds (known uses parked old) r v new call) (λ uses q issues arms. refl)
 
 pub followed_load : (May : Access → Type 0) (at : ℕ) (bytes : List ℕ) (old new : Device) → May (Loading at bytes) → Loads at bytes old new → IsFollowed May AnyUse old new
 followed_load May at bytes old new kind call =
-    followed_one May AnyUse (Loading at bytes) old new kind call (λ uses parked is. load_adds (known uses parked old) at bytes new call)
+    followed_by May AnyUse (λ uses. uses) (Loading at bytes) old new kind call (λ uses parked is. load_adds (known uses parked old) at bytes new call) (λ uses q issues arms. refl)
 
 pub followed_store : (May : Access → Type 0) (Fits : Uses → Type 0) (at : ℕ) (bytes : List ℕ) (old new : Device) → May (Storing at bytes) →
     ((uses : Uses) → Fits uses → MayStore uses at (length bytes)) → Stores at bytes old new → IsFollowed May Fits old new
 followed_store May Fits at bytes old new kind may call =
-    followed_one May Fits (Storing at bytes) old new kind call (λ uses parked is. store_adds (known uses parked old) at bytes new (may uses is) call)
+    followed_by May Fits (λ uses. uses) (Storing at bytes) old new kind call (λ uses parked is. store_adds (known uses parked old) at bytes new (may uses is) call) (λ uses q issues arms. refl)
 
 pub followed_write : (May : Access → Type 0) (Fits : Uses → Type 0) (r : Reg) (v : ℕ) (old new : Device) → May (Writing r v) → Stays (MayWrite r v) old →
     ((uses : Uses) → Fits uses → LeavesUses uses r v old) → Writes r v old new → IsFollowed May Fits old new
 followed_write May Fits r v old new kind may leaves call =
-    followed_one May Fits (Writing r v) old new kind call (λ uses parked is. write_adds (known uses parked old) r v new may (leaves uses is) call)
+    followed_by May Fits (λ uses. uses) (Writing r v) old new kind call (λ uses parked is. write_adds (known uses parked old) r v new may (leaves uses is) call) (λ uses q issues arms. refl)
 
 -- a command of the driver's own is issued
 pub followed_asking : (May : Access → Type 0) (Fits : Uses → Type 0) (port : Port) (o : Operation) (v : ℕ) (old new : Device) → May (Writing (Px port Ci) v) → old.hr ≡ false →
     ((uses : Uses) → Fits uses → IsOwnPrepared uses old port.0 o v) → Writes (Px port Ci) v old new → IsFollowedTo May Fits (λ uses. put uses port.0 0 (Own o)) old new
-followed_asking May Fits port o v old new kind off prepared call = record {
-  driven = by_one May (Writing (Px port Ci) v) old new kind call;
-  adds = λ uses parked is. own_adds (known uses parked old) port o v new off (prepared uses is) call;
-  silent = λ uses parked m is r k q p own none not later. access_sends_none uses m (Writing (Px port Ci) v) old new q.0 p r k.agrees call own not;
-}
+followed_asking May Fits port o v old new kind off prepared call =
+    followed_by May Fits (λ uses. put uses port.0 0 (Own o)) (Writing (Px port Ci) v) old new kind call
+    (λ uses parked is. own_adds (known uses parked old) port o v new off (prepared uses is) call) (λ uses q issues arms. changed_other uses port.0 _ q.0 (elsewhere q issues))
+  where
+    elsewhere : (q : Port) → NoneWrites May (Px q Ci) → q.0 ≢ port.0
+    elsewhere q issues e = issues (Writing (Px port Ci) v) kind (ap (λ (at : Port). Px at Ci) (sym (same_port q port e)))

@@ -16,7 +16,7 @@ use Rattle.agreement.specs.Slots.{Told, HasBlock, Use, Free, Own, Uses, put}
 use Rattle.agreement.specs.Agrees.{Agrees}
 use Rattle.agreement.specs.Driver.{LeavesFree, MissesTable, MissesScratch, MayStore}
 use Rattle.agreement.proofs.Bytes.{store_table, store_scratch}
-use Rattle.agreement.proofs.Keeping.{same_bytes, leaves_none, leaves_more, steps_leave}
+use Rattle.agreement.proofs.Keeping.{same_bytes, leaves_more, steps_leave}
 use Rattle.agreement.proofs.Putting.{put_cases}
 use Rattle.agreement.proofs.Serving.{told_on, block_on}
 
@@ -37,22 +37,26 @@ module _ (uses : Uses) (port slot : ℕ) (u : Use) (old new : Device) (none : (o
 
 -- ---- readings, loads and stores
 
+-- neither a reading nor a write of a register changes memory
+pub noted_memory : (r : Reg) (v : ℕ) (d : Device) → (noted r v d).memory ≡ d.memory
+noted_memory (Px p r) v d = refl
+noted_memory Cap v d = refl
+noted_memory Ghc v d = refl
+noted_memory adapter.Is v d = refl
+noted_memory Pi v d = refl
+noted_memory Vs v d = refl
+noted_memory Cap2 v d = refl
+noted_memory Bohc v d = refl
+
 noted_leaves : (uses : Uses) (r : Reg) (v : ℕ) (d : Device) → LeavesFree uses d (noted r v d)
-noted_leaves uses (Px p r) v d = same_bytes uses d (noted (Px p r) v d) refl
-noted_leaves uses Cap v d = leaves_none uses d
-noted_leaves uses Ghc v d = leaves_none uses d
-noted_leaves uses adapter.Is v d = leaves_none uses d
-noted_leaves uses Pi v d = leaves_none uses d
-noted_leaves uses Vs v d = leaves_none uses d
-noted_leaves uses Cap2 v d = leaves_none uses d
-noted_leaves uses Bohc v d = leaves_none uses d
+noted_leaves uses r v d = same_bytes uses d (noted r v d) (noted_memory r v d)
 
 -- bytes that are the same, are the same where both were patched
 patched_alike : (memory later : ℕ → ℕ) (at : ℕ) (bytes : List ℕ) (place : ℕ) → later place ≡ memory place → patched later at bytes place ≡ patched memory at bytes place
 unfolding patched
 patched_alike memory later at bytes place same = rw same refl
 
-written_memory : (r : Reg) (v : ℕ) (d : Device) → (written r v d).memory ≡ d.memory
+pub written_memory : (r : Reg) (v : ℕ) (d : Device) → (written r v d).memory ≡ d.memory
 written_memory (Px p r) v d = refl
 written_memory adapter.Is v d = refl
 written_memory Cap v d = refl

@@ -73,8 +73,21 @@ pub mod Pages
 mod Booted
 pub mod Restarting
 pub mod Failing
+pub mod Parts
 pub mod Driven
 pub mod Controlled
 pub mod Causing
 pub mod Unmoving
 pub mod Sustaining
+mod Linked
+mod Plainly
+mod EndingHalt
+mod FailingOpenly
+mod GivingUp
+mod Outstanding
+mod Readied
+mod Vacated
+mod Looked
+mod Recovered
+mod Needing
+mod Logged

@@ -218,7 +218,7 @@ four P a b c e place low up =
     (cases_eq place 29)) (cases_eq place 28)) (cases_eq place 27)
 
 -- each of them is a cause, and is shown as it is
-shown_place : (v : ℕ) (p : PortState) → PortShows Is v p → (place : ℕ) → 27 ≤ place → place ≤ 30 → bit v place ≡ p.is place
+pub shown_place : (v : ℕ) (p : PortState) → PortShows Is v p → (place : ℕ) → 27 ≤ place → place ≤ 30 → bit v place ≡ p.is place
 shown_place v p shows = four (λ place. bit v place ≡ p.is place) (shows 27 refl) (shows 28 refl) (shows 29 refl) (shows 30 refl)
 
 module _ (port : Port) (v : ℕ) (old new : Device) (off : old.hr ≡ false) (call : Reads (Px port Is) v old new) where

@@ -1,9 +1,9 @@
 -- Stretches of a driver's accesses, and what they are to the block machine (this project's own).
-use Rattle.std.specs.Prelude.{ℕ, ◌≡◌, ◌++◌, List, All, None}
+use Rattle.std.specs.Prelude.{ℕ, ◌≡◌, ◌++◌, List, All}
 use Rattle.ata_types.specs.declared.Port.{Port}
 use Rattle.ata_types.specs.declared.request.RequestId.{RequestId}
 use Rattle.hba_regs.specs.declared.reg.PortReg.{PortReg}
-use Rattle.hba_regs.specs.declared.reg.PortReg.TheVariants.{Ci}
+use Rattle.hba_regs.specs.declared.reg.PortReg.TheVariants.{Sact, Ci}
 use Rattle.hba_regs.specs.declared.reg.Reg.{Reg}
 use Rattle.hba_regs.specs.declared.reg.Reg.TheVariants.{Px}
 use Rattle.adapter.specs.Access.{Access, DoesAll}
@@ -12,11 +12,13 @@ use Rattle.adapter.specs.Device.{PortState, Device}
 use Rattle.adapter.specs.Kept.{KeepsPort, KeepsControls}
 use Rattle.adapter.specs.declared.command.Operation.{Operation}
 use Rattle.adapter.specs.declared.tape.Entry.{Entry}
-use Rattle.block_machine.specs.Histories.{IsReached, AddsSteps}
+use Rattle.block_machine.specs.Events.{AllDevices}
+use Rattle.block_machine.specs.Histories.{IsReached}
 use Rattle.block_machine.specs.State.{Machine}
-use Rattle.agreement.specs.Driver.{Known, Knows, ByDevice}
+use Rattle.agreement.specs.Acts.{Act, ComesWith, steps_of}
+use Rattle.agreement.specs.Driver.{Known, Knows}
 use Rattle.agreement.specs.Links.{SparesRegister}
-use Rattle.agreement.specs.Slots.{Uses, Own, IsMove, IsOver, op_of}
+use Rattle.agreement.specs.Slots.{Uses, IsMove, IsOver}
 
 -- what the driver knows: the use of each slot, the requests that it took from their slots, and the device
 abbrev pub known : Uses → (ℕ → List RequestId) → Device → Known
@@ -75,26 +77,21 @@ NoneWrites May r = (access : Access) → May access → SparesRegister r access
 abbrev pub SendsNone : ℕ → Operation → Device → Device → Type 0
 SendsNone port o old new = (gained : List Entry) × (new.tape ≡ old.tape ++ gained) × All (λ e. IsMove port o e → ⊥) gained
 
--- Accesses of this kind led from the old device to the new. And from each machine that agrees with what the driver knows, where
--- the uses of slots fit, steps of the device alone lead to one that agrees with the same and with the new device. Meanwhile a
--- port's disk sent no page (a move by a command that does no client's operation) where no access of the kind writes PxCI of the port, and
--- its slot 0 has no such command.
-pub record IsFollowed (May : Access → Type 0) (Fits : Uses → Type 0) (old new : Device) : Type 0 where
-  pub driven : IsDrivenBy May old new
-  pub adds : (uses : Uses) (parked : ℕ → List RequestId) → Fits uses
-      → AddsSteps Knows (known uses parked old) (known uses parked new) (ByDevice old new)
-  pub silent : (uses : Uses) (parked : ℕ → List RequestId) (m : Machine) → Fits uses → IsReached m → Knows m (known uses parked old)
-      → (port : Port) (o : Operation) → op_of o ≡ None → NoneWrites May (Px port Ci)
-      → (uses port.0 0 ≡ Own o → ⊥) → SendsNone port.0 o old new
+-- Acts in which the device alone makes steps. Where no access of the kind writes PxCI or PxSACT of a port, its slots are used after each
+-- act as before the first.
+pub record AreDevices (May : Access → Type 0) (uses : Uses) (acts : List Act) : Type 0 where
+  pub only : AllDevices (steps_of acts)
+  pub kept : (port : Port) → NoneWrites May (Px port Ci) → NoneWrites May (Px port Sact) → All (λ act. act.later.uses port.0 ≡ uses port.0) acts
 
--- The same, where the driver puts the slots to other uses meanwhile: slot 0 has no such command then either.
+-- Accesses of this kind led from the old device to the new. And where the uses of slots fit, acts with these accesses lead to such uses of
+-- the slots, with what is parked as it was; and the device alone makes steps meanwhile.
 pub record IsFollowedTo (May : Access → Type 0) (Fits : Uses → Type 0) (next : Uses → Uses) (old new : Device) : Type 0 where
   pub driven : IsDrivenBy May old new
-  pub adds : (uses : Uses) (parked : ℕ → List RequestId) → Fits uses
-      → AddsSteps Knows (known uses parked old) (known (next uses) parked new) (ByDevice old new)
-  pub silent : (uses : Uses) (parked : ℕ → List RequestId) (m : Machine) → Fits uses → IsReached m → Knows m (known uses parked old)
-      → (port : Port) (o : Operation) → op_of o ≡ None → NoneWrites May (Px port Ci)
-      → (uses port.0 0 ≡ Own o → ⊥) → (next uses port.0 0 ≡ Own o → ⊥) → SendsNone port.0 o old new
+  pub comes : ComesWith driven.accesses (λ s m. Fits s.uses) (λ s. record s { uses = next s.uses }) (λ s m. AreDevices May s.uses) old new
+
+-- the same, where each slot goes on as it is used
+abbrev pub IsFollowed : (Access → Type 0) → (Uses → Type 0) → Device → Device → Type 0
+IsFollowed May Fits old new = IsFollowedTo May Fits (λ uses. uses) old new
 
 -- ---- what they leave
 

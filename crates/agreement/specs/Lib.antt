@@ -15,4 +15,11 @@ pub mod Served
 pub mod Trimmed
 pub mod Awaits
 pub mod Booted
+pub mod Acts
 pub mod Driven
+pub mod Recovering
+pub mod GivingUp
+pub mod Readying
+pub mod Vacant
+pub mod Recovered
+pub mod Logged

@@ -68,12 +68,9 @@ pub fn other_ports_are_left()
         → LeavesPort (old.port q) (new.port q) }
     ensures recorded { (port : Port) (q : ℕ) (old new : Device) → q ≢ port.0 → IsDrivenBy (IsOf port) old new
         → IsRecorded old.tape (old.port q) q → IsRecorded new.tape (new.port q) q }
-    ensures silent { (port q : Port) (uses : Uses) (o : Operation) (old new : Device) → q.0 ≢ port.0
-        → IsFollowed (IsOf port) (IsUse uses) old new → IsAgreed uses old → op_of o ≡ None
-        → (uses q.0 0 ≡ Own o → ⊥) → SendsNone q.0 o old new }
-    ensures silent_to { (port q : Port) (uses : Uses) (next : Uses → Uses) (o : Operation) (old new : Device) → q.0 ≢ port.0
+    ensures silent { (port q : Port) (uses : Uses) (next : Uses → Uses) (o : Operation) (old new : Device) → q.0 ≢ port.0
         → IsFollowedTo (IsOf port) (IsUse uses) next old new → IsAgreed uses old → op_of o ≡ None
-        → (uses q.0 0 ≡ Own o → ⊥) → (next uses q.0 0 ≡ Own o → ⊥) → SendsNone q.0 o old new }
+        → (uses q.0 0 ≡ Own o → ⊥) → SendsNone q.0 o old new }
     ensures none { (p : PortState) → LeavesPort p p }
     ensures more { (old mid new : PortState) → LeavesPort old mid → LeavesPort mid new → LeavesPort old new }
     ensures on { (port : Port) (old new : Device) → IsOn old → IsDrivenBy (IsOf port) old new → IsOn new }

@@ -29,7 +29,6 @@ use Rattle.adapter.specs.declared.tape.Entry.{Entry}
 use Rattle.block_machine.specs.Histories.{AddsSteps}
 use Rattle.block_machine.specs.State.{Machine}
 use Rattle.block_machine.proofs.HistoryLemmas.{reached_more}
-use Rattle.block_machine.proofs.Keeps.{same_port}
 use Rattle.agreement.specs.Driven.{known, IsAgreed, IsDrivenBy, IsFollowed, IsFollowedTo, IsOf, AnyUse, NoneWrites}
 use Rattle.agreement.specs.Driver.{Knows, ByDevice, IsOwnPrepared}
 use Rattle.agreement.specs.Facts.{IsClear}
@@ -37,7 +36,7 @@ use Rattle.agreement.specs.Places.{list_of, scratch_of}
 use Rattle.agreement.specs.Slots.{Free, Own, Uses, put as used, Told, IsOver, op_of, Brought}
 use Rattle.agreement.proofs.Controlled.{agreed_on, of_spares_ghc}
 use Rattle.agreement.proofs.Deciding.{own_release_knows}
-use Rattle.agreement.proofs.Driven.{along, followed_none, followed_as, followed_asking, followed_load, followed_then, followed_read}
+use Rattle.agreement.proofs.Driven.{along, followed_none, followed_as, followed_asking, followed_load, followed_then, followed_read, followed_adds, followed_known}
 use Rattle.agreement.proofs.Finished.{access_clear}
 use Rattle.agreement.proofs.Lasting.{access_on, access_same}
 use Rattle.agreement.proofs.Pages.{page_is_issued, access_waits, page_is_awaited, awaited_is_loaded}
@@ -232,7 +231,7 @@ module _ (port : Port) (page : Page) (mid new : Device) (on : IsOn mid) (there :
     asked_waits uses free a = record {
       on = access_on (Writing (Px port Ci) 1) mid new on (λ v e. absurd cc) call;
       room = let same = (access_same (Writing (Px port Ci) 1) mid new call).size in omega (arith, same, room);
-      agreed = agreed_after uses (used uses port.0 0 (Own (operation_of page))) mid new a (asked_to.adds uses a.parked free);
+      agreed = agreed_after uses (used uses port.0 0 (Own (operation_of page))) mid new a (followed_adds asked_to uses a.parked free);
       awaits = page_is_issued uses a.machine port (operation_of page) 1 mid new a.reached a.knows.agrees on.no_reset (prepared uses free) call;
     }
 
@@ -389,18 +388,8 @@ released uses parked port o m d free over knows =
 -- a page that came meanwhile was issued on the port
 pub followed_back : (May : Access → Type 0) (port : Port) (o : Operation) (v : ℕ) (old new : Device) → May (Writing (Px port Ci) v) → IsOver (new.port port.0) 0 →
     IsFollowedTo May (IsUnused port.0 0) (λ uses. used uses port.0 0 (Own o)) old new → IsFollowed May (IsUnused port.0 0) old new
-followed_back May port o v old new issues over a = record {
-  driven = a.driven;
-  adds = λ uses parked free. record {
-    adds = λ m reached knows.
-        let x = (a.adds uses parked free).adds m reached knows in
-        (x.0, x.1, released uses parked port.0 o _ new free over x.2, x.3);
-  };
-  silent = λ uses parked m free reached knows q p own none not. a.silent uses parked m free reached knows q p own none not (λ later. ⊎_elim
-      (λ (here : (q.0 ≡ port.0) × (0 ≡ 0)). none (Writing (Px port Ci) v) issues (ap (λ (at : Port). Px at Ci) (sym (same_port q port here.0))))
-      (λ (there : (q.0 ≡ port.0 → 0 ≡ 0 → ⊥) × (used uses port.0 0 (Own o) q.0 0 ≡ uses q.0 0)). not (sym there.1 ∙ later))
-      (put_cases uses port.0 0 (Own o) q.0 0));
-}
+followed_back May port o v old new issues over a = followed_known May (IsUnused port.0 0) (λ uses. used uses port.0 0 (Own o)) (λ uses. uses) old new
+    (λ uses parked m free knows. released uses parked port.0 o m new free over knows) (λ uses q none arms. refl) a
 
 -- a page that came since a time came since an earlier one
 sooner : (memory : ℕ → ℕ) (tape : List Entry) (port : ℕ) (o : Operation) (since early : ℕ) → early ≤ since → (b : Brought memory tape port o since) → (bytes : List ℕ) → bytes ≡ b.move.bytes.value →

@@ -6,7 +6,7 @@ use Rattle.std.proofs.lemmas.List.{length-set, length-append, get_or-set_same, g
 use Rattle.ata_types.specs.declared.Port.{Port}
 use Rattle.ata_types.specs.declared.PortState.{PortState}
 use Rattle.ata_types.specs.declared.PortState.TheVariants.{Absent, Ready as ReadyState, Foreign, Unfit, Dead}
-use Rattle.hba_regs.specs.declared.reg.PortReg.TheVariants.{Ci}
+use Rattle.hba_regs.specs.declared.reg.PortReg.TheVariants.{Ci, Sact}
 use Rattle.hba_regs.specs.declared.reg.Reg.TheVariants.{Bohc, Cap, Cap2, Ghc, Is, Pi, Px, Vs}
 use Rattle.hba_regs.specs.Bits.{bit}
 use Rattle.hba_regs.specs.declared.reg.PortReg.{PortReg}
@@ -17,18 +17,15 @@ use Rattle.adapter.specs.Idle.{IsIdle, IsIdlePort}
 use Rattle.adapter.specs.Rules.{IsOn}
 use Rattle.adapter.specs.declared.command.Operation.{Operation}
 use Rattle.adapter.specs.declared.command.Operation.TheVariants.{Identify}
-use Rattle.block_machine.specs.Histories.{AddsSteps}
 use Rattle.block_machine.specs.Left.{after}
 use Rattle.block_machine.proofs.HistoryLemmas.{reached_more}
 use Rattle.agreement.specs.Agrees.{port_at}
-use Rattle.agreement.specs.Driven.{AnyUse, IsAgreed, IsDrivenBy, IsFollowed, IsFollowedTo, IsOf, IsUse, LeavesPort, NoneWrites, SendsNone, known}
-use Rattle.agreement.specs.Driver.{AllFree, ByDevice, Knows}
+use Rattle.agreement.specs.Driven.{AnyUse, IsAgreed, IsDrivenBy, IsFollowed, IsFollowedTo, IsOf, IsUse, LeavesPort, NoneWrites, SendsNone, AreDevices}
+use Rattle.agreement.specs.Driver.{AllFree}
 use Rattle.agreement.specs.Links.{SameAdapter}
-use Rattle.agreement.specs.Slots.{Free, Own, Uses, put, IsMove}
-use Rattle.agreement.proofs.Adding.{accesses_then}
+use Rattle.agreement.specs.Slots.{Free, Own, Uses, put}
 use Rattle.agreement.proofs.Controlled.{agreed_on, of_spares_others, other_left, same_over, tape_over}
-use Rattle.agreement.proofs.Driven.{by_then, driven_as, followed_as, followed_to_as}
-use Rattle.agreement.proofs.Gaining.{gains_more}
+use Rattle.agreement.proofs.Driven.{driven_as, followed_as, followed_to_as, followed_adds, followed_silent, followed_both}
 use Rattle.agreement.proofs.Lasting.{same_more, same_refl}
 use Rattle.agreement.proofs.Putting.{put_same, put_other}
 use Rattle.identify.specs.declared.wanted.Wanted.{Wanted}
@@ -40,6 +37,7 @@ use Rattle.host_boot.specs.declared.Host.{Host}
 use Rattle.host_boot.specs.declared.Found.{Found}
 use Rattle.host_boot.specs.declared.Found.TheVariants.{Unserved, Ready, Unready}
 use Rattle.host_boot.proofs.Leaving.{idle_on, is_served, stands_on, reset_on}
+use Rattle.agreement.specs.Acts.{Comes, at}
 
 -- ---- stretches that put slots to a fixed use
 
@@ -52,34 +50,18 @@ module _ (May : Access → Type 0) (first : Uses) where
   pub goes_on : (old new : Device) → IsFollowed May AnyUse old new → GoesTo May first first old new
   goes_on old new a = record {
     driven = a.driven;
-    adds = λ uses parked is. subst (λ (u : Uses). AddsSteps Knows (known uses parked old) (known u parked new) (ByDevice old new)) is (a.adds uses parked tt);
-    silent = λ uses parked m is r k port o own none not later. a.silent uses parked m tt r k port o own none not;
+    comes = λ s m reached x is.
+        subst (λ (u : Uses). Comes a.driven.accesses (at s old) m (at (record s { uses = u }) new) (AreDevices May s.uses)) is (a.comes s m reached x tt);
   }
 
   -- nothing more is
   pub then_on : (Fits : Uses → Type 0) (uses : Uses) (old mid new : Device) → Fits uses → GoesTo May first uses old mid → IsFollowed May Fits mid new → GoesTo May first uses old new
-  then_on Fits uses old mid new fits a b = record {
-    driven = by_then a.driven b.driven;
-    adds = λ were parked is. accesses_then (known were parked old) (known uses parked mid) (known uses parked new) (a.adds were parked is) (b.adds uses parked fits);
-    silent = λ were parked m is r k port o own none not later.
-        let x = (a.adds were parked is).adds m r k in
-        gains_more (IsMove port.0 o) old mid new (a.silent were parked m is r k port o own none not later)
-        (b.silent uses parked (after m x.0) fits (reached_more m x.0 r x.1) x.2 port o own none later);
-  }
+  then_on Fits uses old mid new fits a b = followed_both May (IsUse first) Fits (λ _. uses) (λ u. u) (λ were is. fits) old mid new a b
 
-  -- more is, and what was stays so
-  pub then_to : (Fits : Uses → Type 0) (next : Uses → Uses) (uses : Uses) (old mid new : Device) → Fits uses →
-      ((port : ℕ) (o : Operation) → uses port 0 ≡ Own o → next uses port 0 ≡ Own o) → GoesTo May first uses old mid → IsFollowedTo May Fits next mid new →
+  -- more is
+  pub then_to : (Fits : Uses → Type 0) (next : Uses → Uses) (uses : Uses) (old mid new : Device) → Fits uses → GoesTo May first uses old mid → IsFollowedTo May Fits next mid new →
       GoesTo May first (next uses) old new
-  then_to Fits next uses old mid new fits stays a b = record {
-    driven = by_then a.driven b.driven;
-    adds = λ were parked is. accesses_then (known were parked old) (known uses parked mid) (known (next uses) parked new) (a.adds were parked is) (b.adds uses parked fits);
-    silent = λ were parked m is r k port o own none not later.
-        let x = (a.adds were parked is).adds m r k in
-        let before : uses port.0 0 ≡ Own o → ⊥ = λ (e : uses port.0 0 ≡ Own o). later (stays port.0 o e) in
-        gains_more (IsMove port.0 o) old mid new (a.silent were parked m is r k port o own none not before)
-        (b.silent uses parked (after m x.0) fits (reached_more m x.0 r x.1) x.2 port o own none before later);
-  }
+  then_to Fits next uses old mid new fits a b = followed_both May (IsUse first) Fits (λ _. uses) next (λ were is. fits) old mid new a b
 
 -- ---- on the way
 
@@ -192,7 +174,8 @@ module _ (wanted : List Wanted) (ports : List Found) (port : Port) (below : port
   booted served f =
       let quiet : (q : Port) → q.0 ≢ port.0 → (u.uses q.0 0 ≡ Own Identify → ⊥) → SendsNone q.0 Identify old new =
       λ (q : Port) (other : q.0 ≢ port.0) (not : u.uses q.0 0 ≡ Own Identify → ⊥).
-      f.silent u.uses u.agreed.parked u.agreed.machine unused_here u.agreed.reached u.agreed.knows q Identify refl (λ access may. of_spares_others port q Ci other access (of_boot port access may)) not in
+      followed_silent f u.uses u.agreed.parked u.agreed.machine unused_here u.agreed.reached u.agreed.knows q Identify refl (λ access may. of_spares_others port q Ci other access (of_boot port access may))
+      (λ access may. of_spares_others port q Sact other access (of_boot port access may)) not in
       record {
         on = on;
         same = later_same f.driven quiet;
@@ -221,12 +204,12 @@ module _ (wanted : List Wanted) (ports : List Found) (port : Port) (below : port
       let served : found ≢ Unserved = λ (e : found ≡ Unserved). absurd (let k : Unready Dead ≡ Unserved = sym dead ∙ e in cc) in
       let quiet : (q : Port) → q.0 ≢ port.0 → (u.uses q.0 0 ≡ Own Identify → ⊥) → SendsNone q.0 Identify old new =
       λ (q : Port) (other : q.0 ≢ port.0) (not : u.uses q.0 0 ≡ Own Identify → ⊥).
-      f.silent u.uses u.agreed.parked u.agreed.machine unused_here u.agreed.reached u.agreed.knows q Identify refl (λ access may. of_spares_others port q Ci other access (of_boot port access may)) not
-      (λ (e : Asked u.uses q.0 0 ≡ Own Identify). not (sym (put_other u.uses port.0 0 (Own Identify) q.0 0 (λ at head. other at)) ∙ e)) in
+      followed_silent f u.uses u.agreed.parked u.agreed.machine unused_here u.agreed.reached u.agreed.knows q Identify refl (λ access may. of_spares_others port q Ci other access (of_boot port access may))
+      (λ access may. of_spares_others port q Sact other access (of_boot port access may)) not in
       let stays : (q : ℕ) (o : Operation) → u.uses q 0 ≡ Own o → Asked u.uses q 0 ≡ Own o =
       λ (q : ℕ) (o : Operation) (e : u.uses q 0 ≡ Own o).
       put_other u.uses port.0 0 (Own Identify) q 0 (λ at head. absurd (let k : Own o ≡ Free = sym e ∙ u.free q 0 (omega (arith, at)) in cc)) ∙ e in
-      let x = (f.adds u.uses u.agreed.parked unused_here).adds u.agreed.machine u.agreed.reached u.agreed.knows in
+      let x = (followed_adds f u.uses u.agreed.parked unused_here).adds u.agreed.machine u.agreed.reached u.agreed.knows in
       record {
         on = on;
         same = later_same f.driven quiet;
@@ -247,7 +230,7 @@ module _ (wanted : List Wanted) (ports : List Found) (port : Port) (below : port
           ]
         ];
         free = λ q slot more. put_other u.uses port.0 0 (Own Identify) q slot (λ at head. absurd (omega (arith, at, more))) ∙ u.free q slot (omega (arith, more));
-        followed = then_to (IsOfTaking wanted) unused (λ uses. AllFree uses port.0) Asked u.uses start old new unused_here stays u.followed
+        followed = then_to (IsOfTaking wanted) unused (λ uses. AllFree uses port.0) Asked u.uses start old new unused_here u.followed
             (followed_to_as (IsOfBoot port) (IsOfTaking wanted) (λ uses. AllFree uses port.0) (λ uses. AllFree uses port.0) Asked old new (taking f.driven quiet served) (λ uses free. free) f);
         agreed = record {
           machine = after u.agreed.machine x.0;
@@ -369,7 +352,7 @@ module _ (wanted : List Wanted) (start : Device) where
     Silent port = SendsNone port Identify d new
 
     silent : (port : ℕ) → found_of ports port ≢ Unready Dead → Silent port
-    silent port alive = f.silent u.uses u.agreed.parked u.agreed.machine tt u.agreed.reached u.agreed.knows (port_at port) Identify refl (host_spares (port_at port) Ci)
+    silent port alive = followed_silent f u.uses u.agreed.parked u.agreed.machine tt u.agreed.reached u.agreed.knows (port_at port) Identify refl (host_spares (port_at port) Ci) (host_spares (port_at port) Sact)
         (λ own. elim (u.left port 0) [
           | inl free ↦ absurd (let e : Own Identify ≡ Free = sym own ∙ free in cc)
           | inr (head, is, dead) ↦ alive dead

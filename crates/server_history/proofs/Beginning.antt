@@ -44,6 +44,7 @@ use Rattle.transfers.specs.Transfers.{MayTransfer}
 use Rattle.server_history.specs.Histories.{HasBegun}
 use Rattle.server_history.specs.Server.{Server, AreUsesOf, IsKept, IsMachineOf, IsNewServer, IsPortOf, IsTransferRow, IsUseOf, is_served, none_parked, ports_of, state_of}
 use Rattle.host_boot.proofs.Leaving.{boots_begin}
+use Rattle.agreement.proofs.Driven.{followed_adds}
 
 -- ---- the machine of an idle device
 
@@ -258,7 +259,7 @@ module _ (s : Server) (host : Host) (d : Device) (is : IsIdle d) (told : TellsDi
 
   pub new_server : IsKept s × HasBegun s
   new_server =
-      let x = (taken.followed.adds (λ port slot. Free) none_parked refl).adds first_machine reached_first (machine_knows d s.grants (owner_of s.table) start is told) in
+      let x = (followed_adds taken.followed (λ port slot. Free) none_parked refl).adds first_machine reached_first (machine_knows d s.grants (owner_of s.table) start is told) in
       let later : Machine = after first_machine x.0 in
       let spares : SparesBook first_machine later = steps_spare first_machine x.0 x.3.only in
       let begun : IsStart later = start_on first_machine later start spares in

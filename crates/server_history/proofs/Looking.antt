@@ -3,7 +3,8 @@ use Rattle.std.proofs.Common.{ℕ, ◌≡◌, ◌≢◌, ◌<◌, true, inl, inr
 use Rattle.ata_types.specs.declared.Port.{Port}
 use Rattle.ata_types.specs.declared.PortState.TheVariants.{Dead, Ready as ReadyState}
 use Rattle.hba_regs.specs.declared.reg.Reg.TheVariants.{Px}
-use Rattle.hba_regs.specs.declared.reg.PortReg.TheVariants.{Is, Ci}
+use Rattle.hba_regs.specs.declared.reg.PortReg.{PortReg}
+use Rattle.hba_regs.specs.declared.reg.PortReg.TheVariants.{Is, Sact, Ci}
 use Rattle.adapter.specs.Access.{Access}
 use Rattle.adapter.specs.Access.Access.{Reading, Writing, Loading, Storing}
 use Rattle.adapter.specs.Device.{Device}
@@ -11,7 +12,7 @@ use Rattle.adapter.specs.declared.command.Operation.TheVariants.{Identify}
 use Rattle.agreement.specs.Agrees.{port_at}
 use Rattle.agreement.specs.Driven.{AnyUse, IsDrivenBy, IsFollowed, LeavesPort, NoneWrites, SendsNone}
 use Rattle.agreement.specs.Slots.{IsOver, Uses}
-use Rattle.agreement.proofs.Driven.{driven_as}
+use Rattle.agreement.proofs.Driven.{driven_as, followed_adds, followed_silent}
 use Rattle.host_boot.specs.Taken.{found_of}
 use Rattle.host_boot.specs.declared.Found.TheVariants.{Unready}
 use Rattle.request_book.specs.Entries.{first_of, has_of}
@@ -41,39 +42,39 @@ behind_served s new port k ready driven left silent q low =
 
 module _ (s : Server) (new : Device) (port : Port) (k : IsKept s) (ready : state_of (found_of s.ports port.0) ≡ ReadyState) where
   -- followed accesses that serve the port, and write no PxCI
-  kept_over : (May : Access → Type 0) → ((access : Access) → May access → IsService access) → ((q : Port) → NoneWrites May (Px q Ci))
+  kept_over : (May : Access → Type 0) → ((access : Access) → May access → IsService access) → ((q : Port) → NoneWrites May (Px q Ci) × NoneWrites May (Px q Sact))
       → ((q : ℕ) → q < 4 → q ≢ port.0 → LeavesPort (s.device.port q) (new.port q)) → IsFollowed May AnyUse s.device new → IsKept (record s { device = new })
   kept_over May service none left followed =
       let uses : Uses = k.stands.uses in
       let driven : IsDrivenBy IsService s.device new = driven_as May IsService s.device new service followed.driven in
-      let x = (followed.adds uses none_parked tt).adds k.machine k.reached k.stands.knows in
+      let x = (followed_adds followed uses none_parked tt).adds k.machine k.reached k.stands.knows in
       kept_on s new k (services_on s.device new k.on driven) (services_same s.device new driven)
       (behind_served s new port k ready driven left
-      (λ q other. followed.silent uses none_parked k.machine tt k.reached k.stands.knows (port_at q) Identify refl (none (port_at q))
+      (λ q other. followed_silent followed uses none_parked k.machine tt k.reached k.stands.knows (port_at q) Identify refl (none (port_at q)).0 (none (port_at q)).1
       (not_own (found_of s.ports q) (first_of (port_at q) s.book) (uses q 0) other (k.stands.used.first q))))
       x.0 x.1
       (machine_on s new k.machine x.0 k.stands x.3.only x.2)
 
-  looking_spares : (q : Port) → NoneWrites (IsLooking port) (Px q Ci)
-  looking_spares q (Writing r v) (inl e) = λ is. let x : Px port Is ≡ Px q Ci = sym e ∙ is in absurd cc
-  looking_spares q (Writing r v) (inr e) = λ is. let x : _ ≡ Px q Ci = sym e.0 ∙ is in absurd cc
-  looking_spares q (Reading r v) here = tt
-  looking_spares q (Loading at bytes) here = tt
-  looking_spares q (Storing at bytes) here = tt
+  looking_spares : (q : Port) (r : PortReg) → (Is ≡ r → ⊥) → NoneWrites (IsLooking port) (Px q r)
+  looking_spares q r other (Writing reg v) (inl e) = λ is. other (let x : Px port Is ≡ Px q r = sym e ∙ is in cc)
+  looking_spares q r other (Writing reg v) (inr e) = λ is. let x : _ ≡ Px q r = sym e.0 ∙ is in absurd cc
+  looking_spares q r other (Reading reg v) here = tt
+  looking_spares q r other (Loading at bytes) here = tt
+  looking_spares q r other (Storing at bytes) here = tt
 
-  finding_spares : (q : Port) → NoneWrites (IsFinding port) (Px q Ci)
-  finding_spares q (Writing r v) here = absurd here
-  finding_spares q (Reading r v) here = tt
-  finding_spares q (Loading at bytes) here = tt
-  finding_spares q (Storing at bytes) here = tt
+  finding_spares : (q : Port) (r : PortReg) → NoneWrites (IsFinding port) (Px q r)
+  finding_spares q r (Writing reg v) here = absurd here
+  finding_spares q r (Reading reg v) here = tt
+  finding_spares q r (Loading at bytes) here = tt
+  finding_spares q r (Storing at bytes) here = tt
 
   pub looking_kept : IsFollowed (IsLooking port) AnyUse s.device new → IsKept (record s { device = new })
   looking_kept followed =
-      kept_over (IsLooking port) (looking_service port) looking_spares (λ q low other. looking_apart port q other (omega (arith, low)) s.device new k.on followed.driven) followed
+      kept_over (IsLooking port) (looking_service port) (λ q. (looking_spares q Ci (λ e. absurd cc), looking_spares q Sact (λ e. absurd cc))) (λ q low other. looking_apart port q other (omega (arith, low)) s.device new k.on followed.driven) followed
 
   pub finding_kept : IsFollowed (IsFinding port) AnyUse s.device new → IsKept (record s { device = new })
   finding_kept followed =
-      kept_over (IsFinding port) (λ access here. (finding_ordinary port port access here).0) finding_spares (λ q low other. finding_apart port q other s.device new k.on followed.driven) followed
+      kept_over (IsFinding port) (λ access here. (finding_ordinary port port access here).0) (λ q. (finding_spares q Ci, finding_spares q Sact)) (λ q low other. finding_apart port q other s.device new k.on followed.driven) followed
 
   -- a transfer that was found done is over
   pub found_over : has_of port s.book ≡ true → FindsTransfer port true s.device new → IsOver (new.port port.0) 0

@@ -15,7 +15,7 @@ use Rattle.agreement.specs.Driver.{IsBacked}
 use Rattle.agreement.specs.Facts.{RunsWell, Undisturbed}
 use Rattle.agreement.specs.Slots.{IsOver, ServesRequest, Stage}
 use Rattle.agreement.proofs.Adding.{backed_then}
-use Rattle.agreement.proofs.Driven.{along, by_none, driven_as, followed_as, followed_then}
+use Rattle.agreement.proofs.Driven.{along, by_none, driven_as, followed_as, followed_then, followed_adds}
 use Rattle.agreement.proofs.Finished.{access_over}
 use Rattle.agreement.proofs.Waiting.{device_append}
 use Rattle.block_machine.specs.Events.{AllDevices, AllMay}
@@ -57,7 +57,7 @@ finds_serve port old new followed = followed_as (IsFinding port) IsService AnyUs
 followed_steps : (s : Server) (new : Device) → IsFollowed IsService AnyUse s.device new → (m : Machine) → IsReached m → IsMachineOf s m
     → (steps : List Step) × AllMay m steps × IsMachineOf (record s { device = new }) (after m steps) × IsBacked s.device new m steps × AllDevices steps
 followed_steps s new followed m reached is =
-    let x = (followed.adds is.uses none_parked tt).adds m reached is.knows in
+    let x = (followed_adds followed is.uses none_parked tt).adds m reached is.knows in
     (x.0, x.1, machine_on s new m x.0 is x.3.only x.2, x.3.backed, x.3.only)
 
 nobody_answered : (s : Server) (new : Device) (port : Port) → HasTurn port (has_of port s.book) None s.device new → IsFollowed IsService AnyUse s.device new

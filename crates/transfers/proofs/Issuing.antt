@@ -10,7 +10,7 @@ use Rattle.ata_types.specs.declared.request.Op.TheVariants.{Read, Write, Trim, F
 use Rattle.hba_regs.specs.Bits.{bit}
 use Rattle.hba_regs.specs.declared.reg.Reg.{Reg}
 use Rattle.hba_regs.specs.declared.reg.Reg.TheVariants.{Px}
-use Rattle.hba_regs.specs.declared.reg.PortReg.TheVariants.{Ci}
+use Rattle.hba_regs.specs.declared.reg.PortReg.TheVariants.{Ci, Sact}
 use Rattle.adapter.specs.Access.{Access, Writes}
 use Rattle.adapter.specs.Access.Access.{Reading, Writing, Loading, Storing}
 use Rattle.adapter.specs.Commands.{Meaning, command_of, is_queued, is_ranged, pieces_moved}
@@ -41,7 +41,7 @@ use Rattle.agreement.proofs.Paging.{access_sends_none}
 use Rattle.agreement.proofs.Adding.{backed_then}
 use Rattle.agreement.proofs.Calling.{issue_follows}
 use Rattle.agreement.proofs.Controlled.{agreed_on, other_left, same_over}
-use Rattle.agreement.proofs.Driven.{by_one, by_then, driven_as}
+use Rattle.agreement.proofs.Driven.{by_one, by_then, driven_as, followed_adds, followed_silent}
 use Rattle.agreement.proofs.Following.{steps_follow}
 use Rattle.agreement.proofs.Keeping.{steps_leave, told_is_left}
 use Rattle.agreement.proofs.Waiting.{device_append, steps_may}
@@ -280,14 +280,14 @@ module _ (port : Port) (r : Transfer) (old mid : Device) (transfers : IsTransfer
     transfer_issued = record {
       driven = driven;
       issues = λ other parked m mode e reached knows unused due plain usable is.
-          let x = (stores.adds other parked unused).adds m reached knows in
+          let x = (followed_adds stores other parked unused).adds m reached knows in
           let later : Machine = after m x.0 in
           let still : May later (Issue mode e) = steps_may m x.0 reached x.3.only x.1 mode e due in
           ends_then (known other parked old) (serving (known other parked old) port.0 0 e.request.id new) mid m (Issue mode e) x.0 x.1 x.3
           (issue_follows (known other parked mid) later port 0 mode e 1 new (reached_more m x.0 reached x.1) x.2 mid_on.no_reset
           (prepared other later mode e unused still plain usable is) call);
       silent = λ other parked m reached knows unused q o own not.
-          let x = (stores.adds other parked unused).adds m reached knows in
-          gains_more (IsMove q.0 o) old mid new (stores.silent other parked m unused reached knows q o own (stores_spare (Px q Ci)) not)
+          let x = (followed_adds stores other parked unused).adds m reached knows in
+          gains_more (IsMove q.0 o) old mid new (followed_silent stores other parked m unused reached knows q o own (stores_spare (Px q Ci)) (stores_spare (Px q Sact)) not)
           (access_sends_none other (after m x.0) (Writing (Px port Ci) 1) mid new q.0 o (reached_more m x.0 reached x.1) x.2.agrees call own not);
     }

@@ -23,7 +23,7 @@ use Rattle.agreement.specs.Facts.{IsDisturbance, RunsWell, Undisturbed}
 use Rattle.agreement.specs.Links.{SparesRegister, SameAdapter, LeavesControls}
 use Rattle.agreement.specs.Slots.{Free, Serves, Uses, put}
 use Rattle.agreement.proofs.Controlled.{Grows, grows_none, grows_more, access_grows}
-use Rattle.agreement.proofs.Driven.{along, over}
+use Rattle.agreement.proofs.Driven.{along, over, followed_adds}
 use Rattle.agreement.proofs.Erring.{access_news, access_causes}
 use Rattle.agreement.proofs.Gaining.{gains_parts}
 use Rattle.agreement.proofs.Lasting.{access_same, same_more, same_refl, store_leaves}
@@ -161,7 +161,7 @@ services_well port old new on a =
 
 pub services_agree : (uses : Uses) (old new : Device) → IsFollowed IsService (IsUse uses) old new → IsAgreed uses old → IsAgreed uses new
 services_agree uses old new followed a =
-    let x = (followed.adds uses a.parked refl).adds a.machine a.reached a.knows in
+    let x = (followed_adds followed uses a.parked refl).adds a.machine a.reached a.knows in
     record {
       machine = after a.machine x.0;
       parked = a.parked;

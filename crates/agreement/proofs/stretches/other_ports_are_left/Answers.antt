@@ -1,7 +1,8 @@
 use Rattle.std.proofs.Common.{refl}
-use Rattle.hba_regs.specs.declared.reg.PortReg.TheVariants.{Ci}
+use Rattle.hba_regs.specs.declared.reg.PortReg.TheVariants.{Sact, Ci}
 use Rattle.agreement.specs.Driven.{AnyAccess, IsOf}
 use Rattle.agreement.proofs.Controlled.{leaves_none, leaves_more, other_left, other_recorded, of_spares_ghc, of_spares_others, on_over, same_over, tape_over}
+use Rattle.agreement.proofs.Driven.{followed_silent}
 use Rattle.agreement.proofs.stretches.other_ports_are_left.Goals as goal
 
 pub returns-clause-left : goal.returns-clause-left
@@ -26,9 +27,5 @@ pub returns-clause-tape : goal.returns-clause-tape
 returns-clause-tape c = tape_over AnyAccess
 
 pub returns-clause-silent : goal.returns-clause-silent
-returns-clause-silent c = λ port q uses o old new other followed a own none.
-    followed.silent uses a.parked a.machine refl a.reached a.knows q o own (of_spares_others port q Ci other) none
-
-pub returns-clause-silent_to : goal.returns-clause-silent_to
-returns-clause-silent_to c = λ port q uses next o old new other followed a own none later.
-    followed.silent uses a.parked a.machine refl a.reached a.knows q o own (of_spares_others port q Ci other) none later
+returns-clause-silent c = λ port q uses next o old new other followed a own none.
+    followed_silent followed uses a.parked a.machine refl a.reached a.knows q o own (of_spares_others port q Ci other) (of_spares_others port q Sact other) none

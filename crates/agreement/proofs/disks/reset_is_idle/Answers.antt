@@ -1,0 +1,5 @@
+use Rattle.agreement.proofs.Vacated.{reset_read_idle}
+use Rattle.agreement.proofs.disks.reset_is_idle.Goals as goal
+
+pub returns : goal.returns
+returns c = reset_read_idle

@@ -1,0 +1,5 @@
+use Rattle.agreement.proofs.Recovered.{recovery_is_found}
+use Rattle.agreement.proofs.limits.a_fault_is_recovered.Goals as goal
+
+pub returns : goal.returns
+returns c = recovery_is_found

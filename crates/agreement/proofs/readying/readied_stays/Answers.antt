@@ -1,0 +1,14 @@
+use Rattle.agreement.proofs.Readied.{steps_stored, access_stored, arming_readies, plain_readied}
+use Rattle.agreement.proofs.readying.readied_stays.Goals as goal
+
+pub returns-clause-steps : goal.returns-clause-steps
+returns-clause-steps c = steps_stored
+
+pub returns-clause-access : goal.returns-clause-access
+returns-clause-access c = access_stored
+
+pub returns-clause-arms : goal.returns-clause-arms
+returns-clause-arms c = arming_readies
+
+pub returns-clause-plain : goal.returns-clause-plain
+returns-clause-plain c = plain_readied

@@ -1,0 +1,47 @@
+-- A port that fails and runs well again, access by access (this project's own).
+use Rattle.std.specs.Prelude.{◌≡◌}
+use Rattle.hba_regs.specs.declared.reg.Reg.TheVariants.{Px}
+use Rattle.hba_regs.specs.declared.reg.PortReg.TheVariants.{Is, Cmd, Tfd, Ssts, Serr}
+use Rattle.adapter.specs.Access.{Reads, Writes}
+use Rattle.adapter.specs.Device.{Device}
+use Rattle.adapter.specs.Device.Halt.{HaltedPlain}
+use Rattle.adapter.specs.FirstRead.{first_read}
+use Rattle.adapter.specs.Rules.{MayWrite, Stays}
+use Rattle.adapter.specs.Steps.{Steps}
+use Rattle.agreement.specs.Agrees.{port_at}
+use Rattle.agreement.specs.Facts.{IsHalted, RunsWell}
+use Rattle.agreement.specs.Recovering.{IsLinked, WorksPlainly}
+
+-- The first read may fail. Then such accesses may give these values: PxCMD is written with ST 0, and CR may fall; PxSERR and PxIS are
+-- cleared, PxTFD and PxSSTS are read, and ST is set and PxIS read with no cause. Each write is permitted when it is made. The port
+-- worked on plain commands alone, with its link up; and it runs well then.
+pub record RecoveryIsFound : Type 0 where
+  pub plain : WorksPlainly (first_read.port 0)
+  pub linked : IsLinked (first_read.port 0)
+  pub failed : Device
+  pub fails : Steps first_read failed
+  pub halted : (failed.port 0).halt ≡ HaltedPlain
+  pub may_stop : Stays (MayWrite (Px (port_at 0) Cmd) 0x10) failed
+  pub stopping : Device
+  pub stops : Writes (Px (port_at 0) Cmd) 0x10 failed stopping
+  pub stopped : Device
+  pub falls : Steps stopping stopped
+  pub stands : IsHalted (stopped.port 0)
+  pub may_clear : Stays (MayWrite (Px (port_at 0) Serr) 0xffffffff) stopped
+  pub cleared : Device
+  pub clears : Writes (Px (port_at 0) Serr) 0xffffffff stopped cleared
+  pub may_quiet : Stays (MayWrite (Px (port_at 0) Is) 0xffffffff) cleared
+  pub quieted : Device
+  pub quiets : Writes (Px (port_at 0) Is) 0xffffffff cleared quieted
+  pub idle : Device
+  pub waits : Reads (Px (port_at 0) Tfd) 0x4041 quieted idle
+  pub ready : Device
+  pub sees : Reads (Px (port_at 0) Ssts) 3 idle ready
+  pub may_start : Stays (MayWrite (Px (port_at 0) Cmd) 0x11) ready
+  pub started : Device
+  pub starts : Writes (Px (port_at 0) Cmd) 0x11 ready started
+  pub found : Device
+  pub tells : Reads (Px (port_at 0) Is) 0 started found
+  pub still_plain : WorksPlainly (ready.port 0)
+  pub still_linked : IsLinked (ready.port 0)
+  pub well : RunsWell (found.port 0)

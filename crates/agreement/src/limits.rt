@@ -1,0 +1,38 @@
+// What the laws of plain work are about, and what they can't do without: the clause is the theorem. Nothing calls these functions.
+ghost use Rattle.std.specs.Prelude.{ℕ, true, false, ◌≡◌, Some};
+ghost use Rattle.adapter.specs.Commands.{is_queued};
+ghost use Rattle.adapter.specs.Device.{Taken, Device};
+ghost use Rattle.adapter.specs.Device.Halt.{NotHalted};
+ghost use Rattle.adapter.specs.Steps.{Steps, restarted};
+ghost use Rattle.block_machine.specs.Histories.{IsReached};
+ghost use Rattle.block_machine.specs.State.{Machine};
+ghost use Rattle.agreement.specs.Agrees.{Agrees};
+ghost use Rattle.agreement.specs.Slots.{Uses};
+ghost use Rattle.agreement.specs.Recovering.{WorksPlainly};
+ghost use Rattle.agreement.specs.Logged.{LogIsEnded};
+ghost use Rattle.agreement.specs.Recovered.{RecoveryIsFound};
+
+/// There is a port that fails and is stopped, cleared and started again without COMRESET: it runs well.
+pub fn a_fault_is_recovered()
+    ensures { RecoveryIsFound }
+{}
+
+/// There is a port that was started again after a queued fault, with READ LOG EXT prepared: it is issued and comes to its end, and the
+/// port runs well.
+pub fn a_log_ends_a_halt()
+    ensures { LogIsEnded }
+{}
+
+/// None of the parts of plain work can be left out. Without the bits of PxSACT a queued command that waits is taken; without the taken
+/// commands one that was taken before ST was cleared may fail; and without a machine that agrees, the device may take a queued command
+/// from a slot whose bit of PxSACT is clear.
+pub fn plain_work_needs_all()
+    ensures unarmed { ((uses : Uses) (m : Machine) (port : ℕ) (old new : Device) → IsReached m → Agrees uses m old → Steps old new
+        → restarted (old.port port).halt ≡ NotHalted
+        → ((slot : ℕ) (t : Taken) → (old.port port).taken slot ≡ Some t → is_queued t.meaning.operation ≡ false)
+        → (slot : ℕ) (t : Taken) → (new.port port).taken slot ≡ Some t → is_queued t.meaning.operation ≡ false) → ⊥ }
+    ensures plain { ((uses : Uses) (m : Machine) (port : ℕ) (old new : Device) → IsReached m → Agrees uses m old → Steps old new
+        → restarted (old.port port).halt ≡ NotHalted → ((slot : ℕ) → (old.port port).sact slot ≡ false)
+        → restarted (new.port port).halt ≡ NotHalted) → ⊥ }
+    ensures agreed { ((port : ℕ) (old new : Device) → Steps old new → WorksPlainly (old.port port) → WorksPlainly (new.port port)) → ⊥ }
+{}
