@@ -9,7 +9,8 @@ use Rattle.adapter.specs.declared.access.DeviceStep.{DeviceStep}
 use Rattle.adapter.proofs.Going.{asked_steps}
 use Rattle.adapter.proofs.Runs.{Steps-refl}
 use Rattle.adapter.specs.Steps.{Steps}
-use Rattle.device_model.specs.Does.{AnswersStep, Did, GoesOnSo, IsLeftOut, StoreServes, StepKeeps, Possible}
+use Rattle.device_model.specs.Does.{AnswersStep, Did, GoesOnSo, IsLeftOut, MovesSector, StoreServes, StepKeeps, Possible}
+use Rattle.device_model.specs.Disks.{store_of}
 use Rattle.device_model.specs.Finishing.{HasRoom}
 use Rattle.device_model.specs.Modelled.{device_at}
 use Rattle.device_model.specs.Paged.{GainsPages}
@@ -17,6 +18,7 @@ use Rattle.device_model.proofs.TwoDisks.{in_kept}
 use Rattle.device_model.specs.Sent.{SendsEnd}
 use Rattle.device_model.proofs.Posting.{asked_may}
 use Rattle.device_model.proofs.Telling.{gains_none, gains_on}
+use Rattle.device_model.specs.declared.disks.Which.{Which}
 use Rattle.device_model.specs.declared.model.Model.{Model}
 use Rattle.device_model.specs.declared.model.Queued.{Queued}
 use Rattle.std.specs.Global.{Vec}
@@ -69,8 +71,8 @@ module _ {S : Type 0} (size : S → ℕ) (told : S → Option (ℕ → List ℕ)
     disks = λ _ _. refl;
     keeps = keeps_same m;
     why = λ _ possible. absurd (never possible);
-    told_on = λ yes. yes;
-    told_since = λ yes. inl yes;
+    starved_on = λ yes. yes;
+    starved_since = λ yes. inl yes;
   }
 
   module _ (s : DeviceStep) (old new : Model S) where
@@ -123,26 +125,32 @@ module _ {S : Type 0} (size : S → ℕ) (told : S → Option (ℕ → List ℕ)
     disks = a.disks;
     keeps = keeps_queued old new q a.keeps;
     why = a.why;
-    told_on = a.told_on;
-    told_since = a.told_since;
+    starved_on = a.starved_on;
+    starved_since = a.starved_since;
   }
 
-  -- A Finish was cut short where a move was left: not for want of memory, for which there was room; so it wasn't served.
+  -- A Finish was cut short where a move was left: not for want of memory, for which there was room; so it wasn't served. Where it moves no sector,
+  -- each disk is as it was.
   pub cut_short : (p : Port) (slot : Slot) (did : Bool) (old mid new : Model S) → Possible (asked.Finish p slot) (device_at size told old) →
       (did ≡ true → GoesOn SendsEnd p.0 slot.0 (device_at size told old) (device_at size told mid)) → (did ≡ false → device_at size told mid ≡ device_at size told old) →
       (device_at size told mid).size ≡ (device_at size told old).size → Meanwhile size is_sure old mid →
+      (MovesSector (asked.Move p slot) (device_at size told mid) → MovesSector (asked.Finish p slot) (device_at size told old)) →
+      ((MovesSector (asked.Finish p slot) (device_at size told old) → ⊥) → (which : Which) → store_of mid which ≡ store_of old which) →
       IsLeftOut size told is_sure (asked.Move p slot) mid new → HasRoom mid.hardware 1 → Possible (asked.Move p slot) (device_at size told mid) →
       AnswersStep size told is_sure (asked.Finish p slot) did old new
-  cut_short p slot did old mid new may went stayed sizes meanwhile step room move = by did went stayed
+  cut_short p slot did old mid new may went stayed sizes meanwhile moved same step room move = by did went stayed
     where
       sure : is_sure mid.disk ≡ is_sure old.disk
       sure = in_kept is_sure old mid meanwhile.which meanwhile.keeps.sure
 
-      unserved : StoreServes (asked.Finish p slot) (is_sure old.disk) (length old.hardware.memory.items) → ⊥
-      unserved served = let n = served.1 in (step.why (sure ∙ served.0, omega (arith, sizes, n)) move).0 room
+      unserved : StoreServes (asked.Finish p slot) (is_sure old.disk) (device_at size told old) → ⊥
+      unserved served = let n = served.1 in (step.why ((λ moves. sure ∙ served.0 (moved moves)), omega (arith, sizes, n)) move).0 room
+
+      disks : (MovesSector (asked.Finish p slot) (device_at size told old) → ⊥) → (which : Which) → store_of new which ≡ store_of old which
+      disks none which = step.disks (λ moves. none (moved moves)) which ∙ same none which
 
       told_before : new.hardware.starved ≡ true → mid.hardware.starved ≡ true
-      told_before now = elim (step.told_since now) [ inl before ↦ before | inr lacks ↦ absurd (lacks.1 room) ]
+      told_before now = elim (step.starved_since now) [ inl before ↦ before | inr lacks ↦ absurd (lacks.1 room) ]
 
       all : Meanwhile size is_sure old new
       all = meanwhile_on old mid new meanwhile (record {
@@ -151,7 +159,7 @@ module _ {S : Type 0} (size : S → ℕ) (told : S → Option (ℕ → List ℕ)
         which = step.which;
         pages = gains_none size mid new (ap (λ (d : Device). d.tape) step.device);
         keeps = step.keeps;
-        starved = same_flag mid.hardware.starved new.hardware.starved step.told_on told_before;
+        starved = same_flag mid.hardware.starved new.hardware.starved step.starved_on told_before;
       })
 
       by : (b : Bool) → (b ≡ true → GoesOn SendsEnd p.0 slot.0 (device_at size told old) (device_at size told mid)) →
@@ -165,7 +173,7 @@ module _ {S : Type 0} (size : S → ℕ) (told : S → Option (ℕ → List ℕ)
           says = all.says;
           which = all.which;
           pages = all.pages;
-          disks = λ never. absurd never;
+          disks = disks;
           keeps = all.keeps;
           starved = all.starved;
         },
@@ -175,17 +183,17 @@ module _ {S : Type 0} (size : S → ℕ) (told : S → Option (ℕ → List ℕ)
         held = all.held;
         says = all.says;
         which = all.which;
-        disks = λ never. absurd never;
+        disks = disks;
         keeps = all.keeps;
         why = λ served _. absurd (unserved served);
-        told_on = λ yes. all.starved ∙ yes;
-        told_since = λ yes. inl (sym all.starved ∙ yes);
+        starved_on = λ yes. all.starved ∙ yes;
+        starved_since = λ yes. inl (sym all.starved ∙ yes);
       }
 
   -- ---- what the model does by itself
 
   pub goes_so_same : (m : Model S) → GoesOnSo size is_sure m m
-  goes_so_same m = record { held = refl; says = refl; which = refl; pages = gains_none size m m refl; keeps = keeps_same m; told_on = λ yes. yes }
+  goes_so_same m = record { held = refl; says = refl; which = refl; pages = gains_none size m m refl; keeps = keeps_same m; starved_on = λ yes. yes }
 
   pub goes_so_on : (a b c : Model S) → GoesOnSo size is_sure a b → GoesOnSo size is_sure b c → GoesOnSo size is_sure a c
   goes_so_on a b c first then = record {
@@ -194,18 +202,18 @@ module _ {S : Type 0} (size : S → ℕ) (told : S → Option (ℕ → List ℕ)
     which = then.which ∙ first.which;
     pages = gains_on size a b c first.says first.which (in_kept size a b first.which first.keeps.sectors) first.pages then.pages;
     keeps = keeps_on a b c first.which first.keeps then.keeps;
-    told_on = λ yes. then.told_on (first.told_on yes);
+    starved_on = λ yes. then.starved_on (first.starved_on yes);
   }
 
   pub finish_goes_so : (p : Port) (slot : Slot) (answer : Bool) (old new : Model S) → AnswersStep size told is_sure (asked.Finish p slot) answer old new →
       GoesOnSo size is_sure old new
   finish_goes_so p slot true old new a =
-      record { held = a.1.held; says = a.1.says; which = a.1.which; pages = a.1.pages; keeps = a.1.keeps; told_on = λ yes. a.1.starved ∙ yes }
+      record { held = a.1.held; says = a.1.says; which = a.1.which; pages = a.1.pages; keeps = a.1.keeps; starved_on = λ yes. a.1.starved ∙ yes }
   finish_goes_so p slot false old new a = record {
     held = a.held;
     says = a.says;
     which = a.which;
     pages = gains_none size old new (ap (λ (d : Device). d.tape) a.device);
     keeps = a.keeps;
-    told_on = a.told_on;
+    starved_on = a.starved_on;
   }

@@ -1,5 +1,5 @@
 -- An IDENTIFY DEVICE that can be done to its end, as the model does it by itself.
-use Rattle.std.proofs.Common.{ℕ, Bool, zero, suc, true, false, ◌≡◌, ◌≢◌, ◌<◌, ◌+◌, ◌^◌, ◌⊎◌, ◌∙◌, List, Option, None, Some, refl, sym, ap, subst, inl, inr, arith}
+use Rattle.std.proofs.Common.{ℕ, Bool, zero, suc, true, false, ◌≡◌, ◌≢◌, ◌<◌, ◌≤◌, ◌+◌, ◌-◌, ◌^◌, ◌⊎◌, ◌∙◌, List, Option, None, Some, refl, sym, ap, subst, inl, inr, arith}
 use Rattle.std.specs.Prelude.{if◌then◌else◌, is_some}
 use Rattle.std.proofs.lemmas.Bool.Decides.{eqb_tells}
 use Rattle.adapter.specs.Access.{note, noted}
@@ -18,19 +18,27 @@ use Rattle.adapter.proofs.Changed.{changed_other, changed_same}
 use Rattle.adapter.proofs.SaysLemmas.{says_meaning, says_places}
 use Rattle.hba_regs.specs.declared.reg.Reg.{Reg}
 use Rattle.hba_regs.specs.declared.reg.Reg.TheVariants.{Cap, Ghc, Is, Pi, Vs, Cap2, Bohc, Px}
+use Rattle.ata_types.specs.declared.Port.{Port}
+use Rattle.ata_types.specs.declared.Slot.{Slot}
+use Rattle.adapter.specs.declared.access.DeviceStep.TheVariants as asked
+use Rattle.device_model.specs.Does.{AnswersStep, MovesSector}
 use Rattle.device_model.specs.Finishing.{AreInside, HasIdentify, MayFinish}
 use Rattle.device_model.specs.Held.{none_held}
+use Rattle.device_model.specs.Modelled.{device_at}
 use Rattle.device_model.specs.Sent.{SendsEnd}
 use Rattle.device_model.specs.Slots.{IsNext}
-use Rattle.device_model.specs.View.{taken_of}
+use Rattle.device_model.specs.View.{operation_of, taken_of}
 use Rattle.device_model.specs.Whole.{Outside, device_of}
 use Rattle.device_model.specs.declared.hardware.Hardware.{Hardware}
+use Rattle.device_model.specs.declared.model.Model.{Model}
 use Rattle.device_model.specs.declared.port.TakenCommand.{TakenCommand}
+use Rattle.device_model.specs.declared.port.Transfer.{Transfer}
 use Rattle.device_model.specs.declared.port.Transfer.TheVariants as transfer
 use Rattle.device_model.specs.declared.steps.NextMove.{NextMove}
 use Rattle.device_model.proofs.Own.{IsOnly, own_gone}
 use Rattle.device_model.proofs.Posting.{end_rest}
-use Rattle.device_model.proofs.Transfers.{is_identify}
+use Rattle.device_model.proofs.Transfers.{is_identify, is_taken, unranged}
+use Rattle.device_model.proofs.TwoDisks.{in_kept}
 
 -- an IDENTIFY DEVICE whose pieces have addresses of 32 bits
 abbrev pub IsPage : Operation → List ℕ → Type 0
@@ -52,36 +60,109 @@ has_ready d slot sectors has = record {
   begins = has.ready.begins;
 }
 
--- no other command is taken there, or may be
-pub has_only : (d : Device) (slot : ℕ) → HasIdentify d slot → IsOnly IsPage d 0 slot
-has_only d slot has = by has.ready.begins
+-- whatever may be done to its end in a slot, no other command is taken there, or may be
+pub only_of : (P : Operation → List ℕ → Type 0) (d : Device) (port slot sectors left : ℕ) (may : MayFinish d port slot sectors left) →
+    P may.t.meaning.operation may.t.places → IsOnly P d port slot
+only_of P d port slot sectors left may holds = by may.begins
   where
     t : Taken
-    t = has.ready.t
+    t = may.t
 
-    by : WorksOn (d.port 0) slot t t.meaning.operation ⊎ (Can (Fetch 0 slot t.meaning t.places) d × (t ≡ begun t.meaning t.places)) → IsOnly IsPage d 0 slot
+    by : WorksOn (d.port port) slot t t.meaning.operation ⊎ (Can (Fetch port slot t.meaning t.places) d × (t ≡ begun t.meaning t.places)) → IsOnly P d port slot
     by (inl works) = record {
       taken = λ u is.
           let same : t ≡ u = some_one (sym works.taken ∙ is) in
-          subst (λ (x : Taken). IsPage x.meaning.operation x.places) same (has.identifies, has.low);
+          subst (λ (x : Taken). P x.meaning.operation x.places) same holds;
       fetched = λ m places can. some-none works.taken can.fetchable.free;
     }
-    by (inr may) = record {
-      taken = λ u is. some-none is may.0.fetchable.free;
+    by (inr begins) = record {
+      taken = λ u is. some-none is begins.0.fetchable.free;
       fetched = λ m places can.
-          let list = (d.port 0).bases.clb in
-          let meaning = says_meaning d.memory list slot t.meaning m t.places places may.0.says can.says in
-          let same = says_places d.memory list slot t.meaning m t.places places may.0.says can.says in
-          subst (λ (x : List ℕ). IsPage m.operation x) same (subst (λ (x : Meaning). IsPage x.operation t.places) meaning (has.identifies, has.low));
+          let list = (d.port port).bases.clb in
+          let meaning = says_meaning d.memory list slot t.meaning m t.places places begins.0.says can.says in
+          let same = says_places d.memory list slot t.meaning m t.places places begins.0.says can.says in
+          subst (λ (x : List ℕ). P m.operation x) same (subst (λ (x : Meaning). P x.operation t.places) meaning holds);
     }
 
+pub has_only : (d : Device) (slot : ℕ) → HasIdentify d slot → IsOnly IsPage d 0 slot
+has_only d slot has = only_of IsPage d 0 slot 0 has.left has.ready (has.identifies, has.low)
+
 -- nor afterwards
+only_taken : (P : Operation → List ℕ → Type 0) → ((o : Operation) (places : List ℕ) → P o places → o ≡ Identify) → (port slot : ℕ) (did : Bool)
+    (old new : Device) → port ≡ 0 → (did ≡ true → GoesOn SendsEnd port slot old new) → (did ≡ false → new ≡ old) → IsOnly P old 0 slot →
+    (t : Taken) → (new.port port).taken slot ≡ Some t → P t.meaning.operation t.places
+only_taken P is_page port slot did old new here went same only t is =
+    let Q : ℕ → Type 0 = λ q. GoesOn SendsEnd q slot old new in
+    let R : ℕ → Type 0 = λ q. (new.port q).taken slot ≡ Some t in
+    (own_gone P is_page none_held 0 slot refl did old new (λ e. subst Q here (went e)) same only).1.taken t (subst R here is)
+
 pub page_taken : (port slot : ℕ) (did : Bool) (old new : Device) → port ≡ 0 → (did ≡ true → GoesOn SendsEnd port slot old new) → (did ≡ false → new ≡ old) →
     HasIdentify old slot → (t : Taken) → (new.port port).taken slot ≡ Some t → IsPage t.meaning.operation t.places
-page_taken port slot did old new here went same has t is =
-    let P : ℕ → Type 0 = λ q. GoesOn SendsEnd q slot old new in
-    let Q : ℕ → Type 0 = λ q. (new.port q).taken slot ≡ Some t in
-    (own_gone IsPage is_page none_held 0 slot refl did old new (λ e. subst P here (went e)) same (has_only old slot has)).1.taken t (subst Q here is)
+page_taken port slot did old new here went same has = only_taken IsPage is_page port slot did old new here went same (has_only old slot has)
+
+-- ---- which steps move a sector
+
+abbrev IsIdentify : Operation → List ℕ → Type 0
+IsIdentify operation places = operation ≡ Identify
+
+-- a Finish of it moves none
+pub page_moves_none : (d : Device) (slot sectors left : ℕ) → HasIdentify d slot → (may : MayFinish d 0 slot sectors left) →
+    is_ranged may.t.meaning.operation ≡ true → ⊥
+page_moves_none d slot sectors left has may ranged = by may.begins
+  where
+    t : Taken
+    t = may.t
+
+    by : WorksOn (d.port 0) slot t t.meaning.operation ⊎ (Can (Fetch 0 slot t.meaning t.places) d × (t ≡ begun t.meaning t.places)) → ⊥
+    by (inl works) = true-false ranged (ap is_ranged ((has_only d slot has).taken t works.taken).0)
+    by (inr begins) = true-false ranged (ap is_ranged ((has_only d slot has).fetched t.meaning t.places begins.0).0)
+
+pub finish_keeps : {S : Type 0} (size : S → ℕ) (told : S → Option (ℕ → List ℕ)) (is_sure : S → Bool) (old new : Model S) (slot : ℕ) (answer : Bool) →
+    AnswersStep size told is_sure (asked.Finish (record { 0 = 0 }) (record { 0 = slot })) answer old new → HasIdentify (device_at size told old) slot →
+    new.disk ≡ old.disk
+finish_keeps size told is_sure old new slot true a has =
+    in_kept (λ s. s) old new a.1.which (a.1.disks (λ moves. page_moves_none (device_at size told old) slot _ _ has moves.1 moves.2))
+finish_keeps size told is_sure old new slot false a has =
+    in_kept (λ s. s) old new a.which (a.disks (λ moves. page_moves_none (device_at size told old) slot _ _ has moves.1 moves.2))
+
+-- a Move of what a Finish has begun moves one only where the Finish does
+pub finish_moves : (p : Port) (s : Slot) (did : Bool) (old new : Device) (sectors left : ℕ) → p.0 ≡ 0 → sectors ≡ (old.port 0).disk.size → 1 ≤ left →
+    (did ≡ true → GoesOn SendsEnd p.0 s.0 old new) → (did ≡ false → new ≡ old) → MayFinish old p.0 s.0 sectors left →
+    MovesSector (asked.Move p s) new → MovesSector (asked.Finish p s) old
+finish_moves p s did old new sectors left here same some went stayed ready moves = by (is_ranged may.t.meaning.operation) refl
+  where
+    may : MayFinish old p.0 s.0 (old.port 0).disk.size (left - 1 + 1)
+    may =
+        let more : left ≡ left - 1 + 1 = omega (arith, some) in
+        let P : ℕ → Type 0 = λ n. MayFinish old p.0 s.0 n left in
+        let Q : ℕ → Type 0 = λ n. MayFinish old p.0 s.0 (old.port 0).disk.size n in
+        subst Q more (subst P same ready)
+
+    by : (b : Bool) → is_ranged may.t.meaning.operation ≡ b → MovesSector (asked.Finish p s) old
+    by true e = (left - 1, may, e)
+    by false e =
+        let P : ℕ → Type 0 = λ q. IsOnly IsIdentify old q s.0 in
+        let only = subst P here (only_of IsIdentify old p.0 s.0 (old.port 0).disk.size (left - 1 + 1) may (unranged may.t.meaning.operation may.takes e)) in
+        let page = only_taken IsIdentify (λ o places is. is) p.0 s.0 did old new here went stayed only moves.0 moves.1 in
+        true-false moves.2 (ap is_ranged page)
+
+-- what the hardware moves next is a sector only where a Move moves one
+pub next_moves : (h : Hardware) (o : Outside) (d : Device) (p : Port) (s : Slot) (next : NextMove) (r : TakenCommand) → device_of h o ≡ d →
+    IsNext h p.0 s.0 next r → is_ranged (operation_of next.transfer) ≡ true → MovesSector (asked.Move p s) d
+next_moves h o d p s next r same is ranged = (
+  taken_of r,
+  ap (λ (x : Device). (x.port p.0).taken s.0) (sym same) ∙ (is.holds.works (o.media p.0)).taken,
+  ap (λ (k : Transfer). is_ranged (operation_of k)) (sym is.transfer_is) ∙ ranged,
+)
+
+-- and else a page
+pub next_page : (h : Hardware) (o : Outside) (d : Device) (p : Port) (s : Slot) (next : NextMove) (r : TakenCommand) → device_of h o ≡ d →
+    IsNext h p.0 s.0 next r → (MovesSector (asked.Move p s) d → ⊥) → next.transfer ≡ transfer.Identify
+next_page h o d p s next r same is none = by (is_ranged (operation_of next.transfer)) refl
+  where
+    by : (b : Bool) → is_ranged (operation_of next.transfer) ≡ b → next.transfer ≡ transfer.Identify
+    by true e = absurd (none (next_moves h o d p s next r same is e))
+    by false e = is_identify next.transfer (unranged (operation_of next.transfer) (is_taken next.transfer) e)
 
 -- the hardware's next move is of it
 pub next_identifies : (h : Hardware) (o : Outside) (d : Device) (port slot : ℕ) (next : NextMove) (r : TakenCommand) (t : Taken) → device_of h o ≡ d →

@@ -60,8 +60,8 @@ module _ {S : Type 0} (size : S → ℕ) (told : S → Option (ℕ → List ℕ)
     disks = λ _ _. refl;
     keeps = on_hardware;
     why = λ _ may. absurd (never.0 (forth may));
-    told_on = λ yes. ap (λ (x : Hardware). x.starved) never.1 ∙ yes;
-    told_since = λ yes. inl (sym (ap (λ (x : Hardware). x.starved) never.1) ∙ yes);
+    starved_on = λ yes. ap (λ (x : Hardware). x.starved) never.1 ∙ yes;
+    starved_since = λ yes. inl (sym (ap (λ (x : Hardware). x.starved) never.1) ∙ yes);
   }
   passed_left s possible forth back lacks same (inr missed) = record {
     device = same;
@@ -71,8 +71,8 @@ module _ {S : Type 0} (size : S → ℕ) (told : S → Option (ℕ → List ℕ)
     disks = λ _ _. refl;
     keeps = on_hardware;
     why = λ _ may. (lacks missed.1, missed.2);
-    told_on = λ _. missed.2;
-    told_since = λ _. inr (back missed.0, lacks missed.1);
+    starved_on = λ _. missed.2;
+    starved_since = λ _. inr (back missed.0, lacks missed.1);
   }
 
   pub fetch_answers : (p : Port) (s : Slot) (did : Bool) → p.0 < 4 → s.0 < 32 →
@@ -102,8 +102,8 @@ module _ {S : Type 0} (size : S → ℕ) (told : S → Option (ℕ → List ℕ)
     disks = λ _ _. refl;
     keeps = on_hardware;
     why = λ _ may. absurd (only refl may.2 may.3 may.4 may.5);
-    told_on = λ yes. starved ∙ yes;
-    told_since = λ yes. inl (sym starved ∙ yes);
+    starved_on = λ yes. starved ∙ yes;
+    starved_since = λ yes. inl (sym starved ∙ yes);
   }
 
   pub done_answers : (p : Port) (s : Slot) (did : Bool) → p.0 < 4 → s.0 < 32 →

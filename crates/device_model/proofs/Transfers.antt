@@ -2,7 +2,7 @@
 use Rattle.std.proofs.Common.{ℕ, false, ◌≡◌, ◌&&◌, List, Option, None, Some, refl, ◌∙◌, ap, inl, inr}
 use Rattle.std.specs.Prelude.{is_some, option_map}
 use Rattle.sector_store.specs.Stores.{replaced}
-use Rattle.adapter.specs.Commands.{is_queued}
+use Rattle.adapter.specs.Commands.{is_queued, is_ranged}
 use Rattle.adapter.specs.Device.{Disk, Taken, PortState}
 use Rattle.adapter.specs.Memory.{changed}
 use Rattle.adapter.specs.Steps.{IsAlone, block_after, disk_after}
@@ -73,3 +73,9 @@ pub is_identify : (k : Transfer) → operation_of k ≡ Identify → k ≡ trans
 is_identify transfer.Read e = cc
 is_identify transfer.Write e = cc
 is_identify transfer.Identify e = refl
+
+-- the one command that names no sectors
+pub unranged : (o : Operation) → Takes o → is_ranged o ≡ false → o ≡ Identify
+unranged o (inl read) e = true-false (ap is_ranged read) e
+unranged o (inr (inl write)) e = true-false (ap is_ranged write) e
+unranged o (inr (inr identify)) e = identify

@@ -1,10 +1,10 @@
 -- What a model makes of a step that it is told: when the step is possible, what it changes where it is done, and what stays where it is left
 -- (this project's own).
-use Rattle.std.specs.Prelude.{ℕ, Bool, true, false, ◌≡◌, ◌≢◌, ◌+◌, ◌^◌, ◌<◌, ◌≤◌, ◌⊎◌, List, Option, length, if◌then◌else◌, nat_eq}
+use Rattle.std.specs.Prelude.{ℕ, Bool, true, false, ◌≡◌, ◌≢◌, ◌+◌, ◌^◌, ◌<◌, ◌≤◌, ◌⊎◌, List, Option, Some, if◌then◌else◌, nat_eq}
 use Rattle.std.specs.Global.{Vec}
 use Rattle.std.specs.Vec.{vec_len, vec_capacity}
 use Rattle.adapter.specs.Asked.{AskedOf}
-use Rattle.adapter.specs.Commands.{Meaning}
+use Rattle.adapter.specs.Commands.{Meaning, is_ranged}
 use Rattle.adapter.specs.Device.{Device, Taken}
 use Rattle.adapter.specs.OneCommand.{IsFreeSlot}
 use Rattle.adapter.specs.Steps.{Can}
@@ -54,11 +54,19 @@ LacksMemory (asked.Unplug p) d h plugged = HasRoom h 1 → ⊥
 LacksMemory (asked.Plug p number) d h plugged = HasRoom h 1 → vec_len plugged < vec_capacity plugged → ⊥
 LacksMemory step d h plugged = ⊥
 
--- where the step moves sectors: no call on the store of the disk that is in fails, and each place of a memory of this size has an address of 32 bits
-abbrev pub StoreServes : DeviceStep → Bool → ℕ → Type 0
-StoreServes (asked.Move p s) sure size = (sure ≡ true) × (size ≤ 2 ^ 32)
-StoreServes (asked.Finish p s) sure size = (sure ≡ true) × (size ≤ 2 ^ 32)
-StoreServes step sure size = Unit {0}
+-- the step moves a sector of the disk: a Move whose slot's command names sectors, or a Finish of such a command that has one left
+abbrev pub MovesSector : DeviceStep → Device → Type 0
+MovesSector (asked.Move p s) d = (t : Taken) × ((d.port p.0).taken s.0 ≡ Some t) × (is_ranged t.meaning.operation ≡ true)
+MovesSector (asked.Finish p s) d =
+    (left : ℕ) × (may : MayFinish d p.0 s.0 (d.port 0).disk.size (left + 1)) × (is_ranged may.t.meaning.operation ≡ true)
+MovesSector step d = ⊥
+
+-- What the step moves is served: where that is a sector, no call on the store of the disk that is in fails; and each place of the memory has an
+-- address of 32 bits.
+abbrev pub StoreServes : DeviceStep → Bool → Device → Type 0
+StoreServes (asked.Move p s) sure d = (MovesSector (asked.Move p s) d → sure ≡ true) × (d.size ≤ 2 ^ 32)
+StoreServes (asked.Finish p s) sure d = (MovesSector (asked.Finish p s) d → sure ≡ true) × (d.size ≤ 2 ^ 32)
+StoreServes step sure d = Unit {0}
 
 -- ---- what a step makes of a model
 
@@ -77,12 +85,6 @@ which_after step which = which
 abbrev pub PutsIn : Which → DeviceStep → Type 0
 PutsIn which (asked.Plug p number) = number.0 ≡ disk_number which
 PutsIn which step = ⊥
-
--- the step moves no sector
-abbrev pub MovesNone : DeviceStep → Type 0
-MovesNone (asked.Move p s) = ⊥
-MovesNone (asked.Finish p s) = ⊥
-MovesNone step = Unit {0}
 
 -- What no step changes: the disk that isn't in, or wasn't last; of each disk how many sectors it has, and whether its calls may fail; the queue; and the
 -- count of the accesses.
@@ -104,12 +106,12 @@ EndsIt step d = Unit {0}
 -- as it was.
 pub record Did {S : Type 0} (size : S → ℕ) (told : S → Option (ℕ → List ℕ)) (is_sure : S → Bool) (s : DeviceStep) (old new : Model S) : Type 0 where
   pub asked : AskedOf SendsEnd s (device_at size told old) (device_at size told new)
-  pub ends : StoreServes s (is_sure old.disk) (length old.hardware.memory.items) → EndsIt s (device_at size told new)
+  pub ends : StoreServes s (is_sure old.disk) (device_at size told old) → EndsIt s (device_at size told new)
   pub held : new.held ≡ held_after s old.held
   pub says : new.says ≡ says_after s old.says
   pub which : new.which ≡ which_after s old.which
   pub pages : GainsPages size old new
-  pub disks : MovesNone s → (which : Which) → store_of new which ≡ store_of old which
+  pub disks : (MovesSector s (device_at size told old) → ⊥) → (which : Which) → store_of new which ≡ store_of old which
   pub keeps : StepKeeps size is_sure old new
   pub starved : new.hardware.starved ≡ old.hardware.starved
 
@@ -121,12 +123,12 @@ pub record IsLeftOut {S : Type 0} (size : S → ℕ) (told : S → Option (ℕ �
   pub held : new.held ≡ old.held
   pub says : new.says ≡ old.says
   pub which : new.which ≡ old.which
-  pub disks : MovesNone s → (which : Which) → store_of new which ≡ store_of old which
+  pub disks : (MovesSector s (device_at size told old) → ⊥) → (which : Which) → store_of new which ≡ store_of old which
   pub keeps : StepKeeps size is_sure old new
-  pub why : StoreServes s (is_sure old.disk) (length old.hardware.memory.items) → Possible s (device_at size told old) →
+  pub why : StoreServes s (is_sure old.disk) (device_at size told old) → Possible s (device_at size told old) →
       LacksMemory s (device_at size told old) old.hardware old.plugged × (new.hardware.starved ≡ true)
-  pub told_on : old.hardware.starved ≡ true → new.hardware.starved ≡ true
-  pub told_since : new.hardware.starved ≡ true → (old.hardware.starved ≡ true)
+  pub starved_on : old.hardware.starved ≡ true → new.hardware.starved ≡ true
+  pub starved_since : new.hardware.starved ≡ true → (old.hardware.starved ≡ true)
       ⊎ (Possible s (device_at size told old) × LacksMemory s (device_at size told old) old.hardware old.plugged)
 
 -- what a model makes of a step that it is told: it answers `true` where it was possible and is done, and `false` where it is left
@@ -142,4 +144,4 @@ pub record GoesOnSo {S : Type 0} (size : S → ℕ) (is_sure : S → Bool) (old 
   pub which : new.which ≡ old.which
   pub pages : GainsPages size old new
   pub keeps : StepKeeps size is_sure old new
-  pub told_on : old.hardware.starved ≡ true → new.hardware.starved ≡ true
+  pub starved_on : old.hardware.starved ≡ true → new.hardware.starved ≡ true

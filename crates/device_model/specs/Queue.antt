@@ -61,5 +61,5 @@ pub record DoesRead {S : Type 0} (size : S → ℕ) (told : S → Option (ℕ �
   pub which : new.which ≡ mid.which
   pub disks : (which : Which) → store_of new which ≡ store_of mid which
   pub keeps : StepKeeps size is_sure mid new
-  pub told_on : mid.hardware.starved ≡ true → new.hardware.starved ≡ true
-  pub told_since : new.hardware.starved ≡ true → (mid.hardware.starved ≡ true) ⊎ LeavesOne new.hardware last
+  pub starved_on : mid.hardware.starved ≡ true → new.hardware.starved ≡ true
+  pub starved_since : new.hardware.starved ≡ true → (mid.hardware.starved ≡ true) ⊎ LeavesOne new.hardware last

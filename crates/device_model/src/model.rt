@@ -228,8 +228,7 @@ impl<S: SectorStore> Model<S> {
         ensures answers { AnswersStep S.size S.told S.is_sure (DeviceStep.Move port slot) result self.old self.new }
         ensures left { (n : ℕ) → HasRoom self.old.hardware (n + 1) → HasRoom self.new.hardware n }
         ensures page { (t : Taken) → ((device_at S.size S.told self.old).port port.0).taken slot.0 ≡ Some t → t.meaning.operation ≡ Identify →
-            (self.new.disk ≡ self.old.disk) × (result ≡ false → HasMove (device_at S.size S.told self.old) port.0 slot.0 t → next_place t < 2 ^ 32 →
-            HasRoom self.old.hardware 1 → ⊥) }
+            result ≡ false → HasMove (device_at S.size S.told self.old) port.0 slot.0 t → next_place t < 2 ^ 32 → HasRoom self.old.hardware 1 → ⊥ }
     {
         // No other port has a disk.
         if port.0 != 0 {
@@ -269,7 +268,6 @@ impl<S: SectorStore> Model<S> {
         ensures identifies { port.0 ≡ 0 → (has : HasIdentify (device_at S.size S.told self.old) slot.0) →
             (result ≡ true → IsFreeSlot ((device_at S.size S.told self.new).port 0) slot.0)
             × (result ≡ false → (self.new.hardware.starved ≡ true) × (HasRoom self.new.hardware (has.left + 1) → ⊥)) }
-        ensures disk { port.0 ≡ 0 → HasIdentify (device_at S.size S.told self.old) slot.0 → self.new.disk ≡ self.old.disk }
     {
         if port.0 != 0 {
             return false;
@@ -417,14 +415,14 @@ fn exchange<S: SectorStore>(
     ensures sector { result ≡ true → IsSector bytes.new }
     ensures gives { result ≡ true → next.transfer ≡ Transfer.Read → IfSome (S.told disk.old) (λ told. bytes.new ≡ told next.sector) }
     ensures takes { result ≡ true → next.transfer ≡ Transfer.Write → bytes.new ≡ bytes_at (bytes_of hardware.now.memory.items) next.address 512 }
-    ensures identifies { next.transfer ≡ Transfer.Identify → (result ≡ true) × (disk.new ≡ disk.old) }
+    ensures same { next.transfer ≡ Transfer.Identify → disk.new ≡ disk.old }
     ensures page { result ≡ true → next.transfer ≡ Transfer.Identify → IsItsPage which (S.size disk.old) says.now bytes.new }
     ensures disk { result ≡ true → disk_over which (S.size disk.new) (S.told disk.new)
         ≡ disk_after (operation_of next.transfer) (disk_over which (S.size disk.old) (S.told disk.old)) next.sector bytes.new }
     ensures kept { result ≡ false → S.told disk.new ≡ S.told disk.old }
     ensures size { S.size disk.new ≡ S.size disk.old }
     ensures lasts { S.is_sure disk.new ≡ S.is_sure disk.old }
-    ensures sure { S.is_sure disk.old ≡ true → (is_ranged (operation_of next.transfer) ≡ true → next.sector < S.size disk.old) → result ≡ true }
+    ensures sure { (is_ranged (operation_of next.transfer) ≡ true → (S.is_sure disk.old ≡ true) × (next.sector < S.size disk.old)) → result ≡ true }
 {
     match next.transfer {
         Transfer::Read => disk.read(next.sector, bytes),

@@ -13,7 +13,7 @@ use Rattle.adapter.proofs.Going.{goes_one, goes_next}
 use Rattle.device_model.proofs.TwoDisks.{in_kept}
 use Rattle.device_model.proofs.Doing.{answered_true, cut_short, did_it, left_it, left_same, meanwhile_on}
 use Rattle.adapter.specs.OneCommand.{IsFreeSlot}
-use Rattle.device_model.proofs.Identifying.{has_ready, page_taken}
+use Rattle.device_model.proofs.Identifying.{finish_moves, has_ready, page_taken}
 use Rattle.device_model.proofs.Finishing.{fetched_size, moved_goes, going_has_move, going_may_end, done_frees}
 use Rattle.device_model.proofs.Telling.{gains_none, gains_done}
 use Rattle.device_model.proofs.Told.{on_hardware}
@@ -32,7 +32,7 @@ loop-piece-init g c =
       refused = λ e. is.same e o;
       size = fetched_size c.args.port.0 c.args.slot.0 c.in-Some.field-0.was_taken old new (λ e. is.did e o) (λ e. is.same e o);
       disk = sym c.sectors-sectors.ensures;
-      disk_same = λ _ _. refl;
+      disks = λ _ _. refl;
       meanwhile = record {
         held = refl;
         says = refl;
@@ -60,11 +60,11 @@ loop-piece-preserved g c =
       disk = in_kept g.S.SectorStore.size c.loop-piece.self c.move_piece.new.self step.which step.keeps.sectors ∙ c.loop-piece.invariant.disk;
       meanwhile = meanwhile_on g.S.SectorStore.size g.S.SectorStore.told g.S.SectorStore.is_sure _ _ _ c.loop-piece.invariant.meanwhile
           (record { held = step.held; says = step.says; which = step.which; pages = step.pages; keeps = step.keeps; starved = step.starved });
-      disk_same = λ zero has.
-          let t : Taken = c.loop-piece.invariant.going.t in
-          let taken = c.loop-piece.invariant.going.works.taken in
-          let page = page_taken c.args.port.0 c.args.slot.0 c.loop-piece.did _ _ zero c.loop-piece.invariant.did c.loop-piece.invariant.refused has t taken in
-          (c.move_piece.ensures.page t taken page.0).0 ∙ c.loop-piece.invariant.disk_same zero has;
+      disks = λ none which.
+          let o : Outside = outside_at g.S.SectorStore.size g.S.SectorStore.told c.args.self.now in
+          let moves = finish_moves c.args.port c.args.slot c.loop-piece.did _ _ c.sectors-sectors.result c.in-Some.field-0.left c.if-port-ne0.false
+          c.sectors-sectors.ensures (omega (arith, c.loop-piece-test.true)) c.loop-piece.invariant.did c.loop-piece.invariant.refused (c.in-Some.ensures.begun.ready o) in
+          step.disks (λ sector. none (moves sector)) which ∙ c.loop-piece.invariant.disks none which;
       room = c.move_piece.ensures.left _ (omega (arith, c.loop-piece.invariant.room, c.loop-piece-test.true));
       going =
           let P : ℕ → Type 0 = λ n. IsGoing (device_at g.S.SectorStore.size g.S.SectorStore.told c.loop-piece.self) c.args.port.0 c.args.slot.0 c.sectors-sectors.result n in
@@ -103,7 +103,10 @@ returns-then-not-move_piece-clause-answers g c =
     let sectors : c.sectors-sectors.result ≡ g.S.SectorStore.size first.disk = c.sectors-sectors.ensures in
     cut_short g.S.SectorStore.size g.S.SectorStore.told g.S.SectorStore.is_sure c.args.port c.args.slot c.loop-piece.did first m _
     (may_finish (g.S.SectorStore.size first.disk) _ c.args.port.0 c.args.slot.0 c.sectors-sectors.result c.in-Some.field-0.left zero c.requires sectors (c.in-Some.ensures.begun.ready o))
-    is.did is.refused is.size is.meanwhile step room (c.requires, found.0, found.1)
+    is.did is.refused is.size is.meanwhile
+    (finish_moves c.args.port c.args.slot c.loop-piece.did _ _ c.sectors-sectors.result c.in-Some.field-0.left zero sectors
+    (omega (arith, c.loop-piece-test.true)) is.did is.refused (c.in-Some.ensures.begun.ready o))
+    is.disks step room (c.requires, found.0, found.1)
 
 pub returns-then-done-clause-answers : goal.returns-then-done-clause-answers
 returns-then-done-clause-answers g c =
@@ -135,7 +138,7 @@ returns-then-done-clause-answers g c =
         says = all.says;
         which = all.which;
         pages = all.pages;
-        disks = λ never. absurd never;
+        disks = is.disks;
         keeps = all.keeps;
         starved = all.starved;
       },
@@ -184,11 +187,11 @@ returns-in_default-clause-answers g c =
             held = refl;
             says = refl;
             which = refl;
-            disks = λ never. absurd never;
+            disks = λ _ _. refl;
             keeps = record { sectors = λ _. refl; sure = λ _. refl; out = λ _ _. refl; queue = refl; accesses = refl };
             why = λ _ _. ((lacks.left, ready, lacks.lacked), lacks.told);
-            told_on = λ _. lacks.told;
-            told_since = λ _. inr ((c.if-port-ne0.false, c.requires, lacks.left, ready), (lacks.left, ready, lacks.lacked));
+            starved_on = λ _. lacks.told;
+            starved_since = λ _. inr ((c.if-port-ne0.false, c.requires, lacks.left, ready), (lacks.left, ready, lacks.lacked));
           }
     ]
 
@@ -214,15 +217,7 @@ returns-then-not-move_piece-clause-identifies g c = λ zero has.
     let taken = found.1.works.taken in
     let page = page_taken c.args.port.0 c.args.slot.0 c.loop-piece.did _ _ zero is.did is.refused has t taken in
     let low = page.1 t.moved found.1.left in
-    absurd ((c.move_piece.ensures.page t taken page.0).1 c.if-not-move_piece.true found.1 (omega (arith, low)) (omega (arith, is.room)))
-
-pub returns-then-not-move_piece-clause-disk : goal.returns-then-not-move_piece-clause-disk
-returns-then-not-move_piece-clause-disk g c = λ zero has.
-    let is = c.loop-piece.invariant in
-    let t : Taken = is.going.t in
-    let taken = is.going.works.taken in
-    let page = page_taken c.args.port.0 c.args.slot.0 c.loop-piece.did _ _ zero is.did is.refused has t taken in
-    (c.move_piece.ensures.page t taken page.0).0 ∙ is.disk_same zero has
+    absurd (c.move_piece.ensures.page t taken page.0 c.if-not-move_piece.true found.1 (omega (arith, low)) (omega (arith, is.room)))
 
 pub returns-then-done-clause-identifies : goal.returns-then-done-clause-identifies
 returns-then-done-clause-identifies g c = λ zero has.
@@ -236,14 +231,8 @@ returns-then-done-clause-identifies g c = λ zero has.
       λ never. true-false c.if-done.true never,
     )
 
-pub returns-then-done-clause-disk : goal.returns-then-done-clause-disk
-returns-then-done-clause-disk g c = c.loop-piece.invariant.disk_same
-
 pub returns-else-done-clause-identifies : goal.returns-else-done-clause-identifies
 returns-else-done-clause-identifies g c = λ _ _. absurd (end_is_done g c)
-
-pub returns-else-done-clause-disk : goal.returns-else-done-clause-disk
-returns-else-done-clause-disk g c = c.loop-piece.invariant.disk_same
 
 pub returns-then-port-ne0-clause-identifies : goal.returns-then-port-ne0-clause-identifies
 returns-then-port-ne0-clause-identifies g c = λ zero. absurd (c.if-port-ne0.true zero)

@@ -1,8 +1,12 @@
 use Rattle.std.proofs.Common.{◌≡◌, ◌+◌, ◌-◌, true, false}
 use Rattle.adapter.specs.Asked.{GoesOn}
-use Rattle.device_model.specs.Finishing.{HasIdentify, HasRoom, IsGoing}
+use Rattle.adapter.specs.declared.access.DeviceStep.TheVariants as asked
+use Rattle.device_model.specs.Disks.{store_of}
+use Rattle.device_model.specs.Does.{MovesSector}
+use Rattle.device_model.specs.Finishing.{HasRoom, IsGoing}
 use Rattle.device_model.specs.Modelled.{device_at}
 use Rattle.device_model.specs.Sent.{SendsEnd}
+use Rattle.device_model.specs.declared.disks.Which.{Which}
 use Rattle.device_model.proofs.Doing.{Meanwhile}
 use Rattle.device_model.proofs.model.Model.finish.Given as goal
 
@@ -16,6 +20,7 @@ invariant-loop-piece g l = record {
   disk : g.S.SectorStore.size l.self.disk ≡ l.sectors;
   room : HasRoom l.self.hardware (l.left - l._piece + 1);
   going : IsGoing (device_at g.S.SectorStore.size g.S.SectorStore.told l.self) l.port.0 l.slot.0 l.sectors (l.left - l._piece);
-  disk_same : l.port.0 ≡ 0 → HasIdentify (device_at g.S.SectorStore.size g.S.SectorStore.told l.fn.self) l.slot.0 → l.self.disk ≡ l.fn.self.disk;
+  disks : (MovesSector (asked.Finish l.port l.slot) (device_at g.S.SectorStore.size g.S.SectorStore.told l.fn.self) → ⊥) → (which : Which) →
+      store_of l.self which ≡ store_of l.fn.self which;
   meanwhile : Meanwhile g.S.SectorStore.size g.S.SectorStore.is_sure l.fn.self l.self;
 }

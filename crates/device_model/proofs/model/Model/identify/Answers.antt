@@ -7,7 +7,7 @@ use Rattle.device_model.specs.Modelled.{device_at, outside_at}
 use Rattle.device_model.specs.Sent.{SendsEnd}
 use Rattle.device_model.proofs.Doing.{did_it, finish_goes_so, goes_so_on, goes_so_same, left_it}
 use Rattle.device_model.proofs.GoingOn.{gone_settled}
-use Rattle.device_model.proofs.Identifying.{IsPage, fewer_left, has_only, is_page}
+use Rattle.device_model.proofs.Identifying.{IsPage, fewer_left, finish_keeps, has_only, is_page}
 use Rattle.device_model.proofs.Own.{own_gone, own_none, own_on}
 use Rattle.device_model.proofs.model.Model.identify.Goals as goal
 
@@ -49,7 +49,7 @@ loop-slot-preserved g c =
       rest = goes_so_on g.S.SectorStore.size g.S.SectorStore.told g.S.SectorStore.is_sure _ _ _ is.rest
           (finish_goes_so g.S.SectorStore.size g.S.SectorStore.told g.S.SectorStore.is_sure (record { 0 = 0 }) (record { 0 = c.in-Some.slot }) c.finish.result m c.finish.new.self c.finish.ensures.answers);
       starved = (did_it g.S.SectorStore.size g.S.SectorStore.told g.S.SectorStore.is_sure step m c.finish.new.self c.finish.result c.finish.ensures.answers c.if-not-finish.false).starved ∙ is.starved;
-      disk = c.finish.ensures.disk refl has ∙ is.disk;
+      disk = finish_keeps g.S.SectorStore.size g.S.SectorStore.told g.S.SectorStore.is_sure m c.finish.new.self c.in-Some.slot c.finish.result c.finish.ensures.answers has ∙ is.disk;
     }
 
 pub loop-slot-smaller : goal.loop-slot-smaller
@@ -88,7 +88,7 @@ returns-then-not-finish g c =
           let lacks = ((c.finish.ensures.identifies refl has).1 c.if-not-finish.true).1 in
           let one = subst P (sym (same c.if-not-finish.true)) (has, lacks) in
           inr (c.in-Some.slot, c.in-Some.ensures.small, one.0, one.1);
-      disk = c.finish.ensures.disk refl has ∙ is.disk;
+      disk = finish_keeps g.S.SectorStore.size g.S.SectorStore.told g.S.SectorStore.is_sure m c.finish.new.self c.in-Some.slot c.finish.result c.finish.ensures.answers has ∙ is.disk;
     }
 
 pub returns : goal.returns

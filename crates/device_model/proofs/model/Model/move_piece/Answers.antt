@@ -1,7 +1,8 @@
 use Rattle.std.specs.Prelude.{map}
-use Rattle.std.proofs.Common.{refl, ◌++◌, ℕ, true, false, ◌≡◌, ◌∙◌, ◌+◌, ◌∷◌, [], List, length, sym, ap, subst, arith, inl, inr}
+use Rattle.std.proofs.Common.{refl, ◌++◌, ℕ, true, false, ◌≡◌, ◌≤◌, ◌∙◌, ◌+◌, ◌^◌, ◌∷◌, [], List, length, sym, ap, subst, arith, inl, inr}
 use Rattle.adapter.proofs.Absurd.{some_one, true-false}
 use Rattle.adapter.specs.Asked.{DoesMove}
+use Rattle.adapter.specs.Commands.{is_ranged}
 use Rattle.adapter.specs.Device.{Device, Disk}
 use Rattle.adapter.specs.Steps.{next_place, Can, after, move_of}
 use Rattle.adapter.specs.Steps.Step.{Move}
@@ -10,14 +11,15 @@ use Rattle.adapter.specs.declared.tape.Entry.TheVariants as entry
 use Rattle.device_model.specs.Finishing.{HasRoom}
 use Rattle.device_model.specs.Modelled.{device_at, outside_at}
 use Rattle.device_model.specs.Slots.{IsNext}
-use Rattle.device_model.specs.View.{taken_of}
+use Rattle.device_model.specs.View.{operation_of, taken_of}
+use Rattle.device_model.specs.declared.port.Transfer.{Transfer}
 use Rattle.device_model.specs.Disks.{disk_over}
 use Rattle.device_model.specs.Whole.{Outside, device_of, outside_of, outside_after}
 use Rattle.device_model.specs.declared.port.TakenCommand.{TakenCommand}
-use Rattle.device_model.proofs.TwoDisks.{keeps_with}
+use Rattle.device_model.proofs.TwoDisks.{both_kept, keeps_with}
 use Rattle.device_model.proofs.Doing.{left_same}
 use Rattle.device_model.proofs.Finishing.{move_fits, no_move, next_has_move, next_on_disk, outside_moved, sector_small}
-use Rattle.device_model.proofs.Identifying.{next_identifies}
+use Rattle.device_model.proofs.Identifying.{next_identifies, next_moves, next_page}
 use Rattle.device_model.proofs.Stepping.{may_move}
 use Rattle.device_model.proofs.Telling.{gains_moved}
 use Rattle.device_model.proofs.model.Model.move_piece.Given.{Over}
@@ -47,12 +49,13 @@ returns-in_default-clause-answers g c =
       why = λ served may.
           absurd (
           let sectors = g.met.S.SectorStore.fits m.disk in
+          let few : length m.hardware.memory.items ≤ 2 ^ 32 = served.1 in
           let size : length c.reserve-room.new.self.memory.items ≡ length m.hardware.memory.items = ap (λ (d : Device). d.size) (c.reserve-room.ensures.same o) in
           let found = move_fits c.reserve-room.new.self o _ c.args.port.0 c.args.slot.0 may.1 c.if-port-ne0.false (c.reserve-room.ensures.same o) may.2 in
-          c.next_move.ensures.none c.in_default.is found.r found.holds found.left (let there = found.inside in omega (arith, size, served.1, there)) found.inside
+          c.next_move.ensures.none c.in_default.is found.r found.holds found.left (let there = found.inside in omega (arith, size, few, there)) found.inside
           (sector_small found.r (g.S.SectorStore.size m.disk) sectors found.on_disk));
-      told_on = λ yes. starved ∙ yes;
-      told_since = λ yes. inl (sym starved ∙ yes);
+      starved_on = λ yes. starved ∙ yes;
+      starved_since = λ yes. inl (sym starved ∙ yes);
     }
 
 -- the tape had no memory for it, and that is told
@@ -73,8 +76,8 @@ returns-then-is_on-clause-answers g c =
       disks = λ _ _. refl;
       keeps = record { sectors = λ _. refl; sure = λ _. refl; out = λ _ _. refl; queue = refl; accesses = refl };
       why = λ _ _. (lacks, refl);
-      told_on = λ _. refl;
-      told_since = λ _. inr ((c.requires, fits.0, fits.1), lacks);
+      starved_on = λ _. refl;
+      starved_since = λ _. inr ((c.requires, fits.0, fits.1), lacks);
     }
 
 -- nor is it possible
@@ -99,8 +102,8 @@ returns-else-is_on-clause-answers g c =
           let here = next_on_disk c.reserve-room.new.self o _ c.args.port.0 c.args.slot.0 c.in-Some.next c.in-Some.ensures.found.0 may.1 c.if-port-ne0.false
           (c.reserve-room.ensures.same o) c.in-Some.ensures.found.1 may.2 ranged in
           omega (arith, here, size))) c.if-is_on.false);
-      told_on = λ yes. starved ∙ yes;
-      told_since = λ yes. inl (sym starved ∙ yes);
+      starved_on = λ yes. starved ∙ yes;
+      starved_since = λ yes. inl (sym starved ∙ yes);
     }
 
 -- the store failed
@@ -111,17 +114,23 @@ returns-then-not-exchange-clause-answers g c =
     let was : List Disk = map (λ s. disk_over s.which (g.S.SectorStore.size s.store.value) (g.S.SectorStore.told s.store.value)) m.plugged.items in
     let kept = c.exchange.ensures.kept c.if-not-exchange.true in
     let starved = c.reserve-room.ensures.starved in
+    let moves = next_moves c.reserve-room.new.self o _ c.args.port c.args.slot c.in-Some.next c.in-Some.ensures.found.0 (c.reserve-room.ensures.same o)
+    c.in-Some.ensures.found.1 in
     record {
       device = (λ i. device_of c.reserve-room.new.self (outside_of (disk_over m.which (c.exchange.ensures.size i) (kept i)) (g.S.SectorStore.told m.other) was))
           ∙ c.reserve-room.ensures.same o;
       held = refl;
       says = refl;
       which = refl;
-      disks = λ none. absurd none;
+      disks = λ none _.
+          true-false (c.exchange.ensures.sure (λ ranged. absurd (none (moves ranged)))) c.if-not-exchange.true;
       keeps = keeps_with g.S.SectorStore.size g.S.SectorStore.is_sure m _ _ c.exchange.ensures.size c.exchange.ensures.lasts;
-      why = λ served may. absurd (true-false (c.exchange.ensures.sure served.0 (next_on_disk c.reserve-room.new.self o _ c.args.port.0 c.args.slot.0 c.in-Some.next c.in-Some.ensures.found.0 may.1 c.if-port-ne0.false (c.reserve-room.ensures.same o) c.in-Some.ensures.found.1 may.2)) c.if-not-exchange.true);
-      told_on = λ yes. starved ∙ yes;
-      told_since = λ yes. inl (sym starved ∙ yes);
+      why = λ served may.
+          let on = next_on_disk c.reserve-room.new.self o _ c.args.port.0 c.args.slot.0 c.in-Some.next c.in-Some.ensures.found.0 may.1 c.if-port-ne0.false
+          (c.reserve-room.ensures.same o) c.in-Some.ensures.found.1 may.2 in
+          true-false (c.exchange.ensures.sure (λ ranged. (served.0 (moves ranged), on ranged))) c.if-not-exchange.true;
+      starved_on = λ yes. starved ∙ yes;
+      starved_since = λ yes. inl (sym starved ∙ yes);
     }
 
 moved : (g : Over) (c : goal.After-move_bytes g) →
@@ -163,6 +172,7 @@ returns-clause-answers g c =
     let o : Outside = outside_at g.S.SectorStore.size g.S.SectorStore.told m in
     let noted = c.move_bytes.ensures.moved o in
     let entry : Entry = entry.Move (move_of c.args.port.0 c.args.slot.0 (taken_of noted.0) c.exchange.new.bytes) in
+    let keeps = keeps_with g.S.SectorStore.size g.S.SectorStore.is_sure m c.move_bytes.new.self _ c.exchange.ensures.size c.exchange.ensures.lasts in
     let fits = next_has_move c.reserve-room.new.self o _ c.args.port.0 c.args.slot.0 c.in-Some.next c.in-Some.ensures.found.0 c.if-port-ne0.false
     (c.reserve-room.ensures.same o) c.in-Some.ensures.found.1 (c.exchange.ensures.inside c.if-not-exchange.false) in (
       (c.requires, fits.0, fits.1),
@@ -175,8 +185,12 @@ returns-clause-answers g c =
         pages = gains_moved g.S.SectorStore.size m _ noted.0.transfer (move_of c.args.port.0 c.args.slot.0 (taken_of noted.0) c.exchange.new.bytes)
             (ap (λ (d : Device). d.tape) noted.2 ∙ ap (λ (d : Device). d.tape ++ entry ∷ []) (c.reserve-room.ensures.same o)) refl
             (λ identify. c.exchange.ensures.page c.if-not-exchange.false (noted.1.transfer_is ∙ identify));
-        disks = λ none. absurd none;
-        keeps = keeps_with g.S.SectorStore.size g.S.SectorStore.is_sure m _ _ c.exchange.ensures.size c.exchange.ensures.lasts;
+        disks = λ none.
+            both_kept m (record m { hardware = c.move_bytes.new.self; disk = c.exchange.new.disk }) refl
+            (c.exchange.ensures.same
+            (next_page c.reserve-room.new.self o _ c.args.port c.args.slot c.in-Some.next c.in-Some.ensures.found.0 (c.reserve-room.ensures.same o)
+            c.in-Some.ensures.found.1 none)) keeps.out;
+        keeps = keeps;
         starved = c.move_bytes.ensures.starved ∙ c.reserve-room.ensures.starved;
       },
     )
@@ -201,45 +215,34 @@ returns-clause-left g c = λ n room. c.move_bytes.ensures.left n (c.reserve-room
 -- ---- a page, for which no store is asked
 
 pub returns-then-port-ne0-clause-page : goal.returns-then-port-ne0-clause-page
-returns-then-port-ne0-clause-page g c = λ t taken identifies.
-    let m = c.args.self.now in (
-      refl,
-      λ _ move _ _. no_move m.hardware (disk_over m.which (g.S.SectorStore.size m.disk) (g.S.SectorStore.told m.disk)) (g.S.SectorStore.told m.other) _ c.args.port.0 c.args.slot.0 t
-          c.if-port-ne0.true move,
-    )
+returns-then-port-ne0-clause-page g c = λ t taken identifies _ move _ _.
+    let m = c.args.self.now in
+    no_move m.hardware (disk_over m.which (g.S.SectorStore.size m.disk) (g.S.SectorStore.told m.disk)) (g.S.SectorStore.told m.other) _ c.args.port.0 c.args.slot.0 t
+    c.if-port-ne0.true move
 
 pub returns-in_default-clause-page : goal.returns-in_default-clause-page
-returns-in_default-clause-page g c = λ t taken identifies.
+returns-in_default-clause-page g c = λ t taken identifies _ move low _.
     let m = c.args.self.now in
-    let o : Outside = outside_at g.S.SectorStore.size g.S.SectorStore.told m in (
-      refl,
-      λ _ move low _.
-          let found = move_fits c.reserve-room.new.self o _ c.args.port.0 c.args.slot.0 t c.if-port-ne0.false (c.reserve-room.ensures.same o) move in
-          let sectors = g.met.S.SectorStore.fits m.disk in
-          let one : t ≡ taken_of found.r = some_one (sym move.works.taken ∙ (ap (λ (d : Device). (d.port c.args.port.0).taken c.args.slot.0) (sym (c.reserve-room.ensures.same o)) ∙ (found.holds.works (o.media c.args.port.0)).taken)) in
-          let place : next_place t ≡ next_place (taken_of found.r) = ap next_place one in
-          c.next_move.ensures.none c.in_default.is found.r found.holds found.left (omega (arith, place, low)) found.inside
-          (sector_small found.r (g.S.SectorStore.size m.disk) sectors found.on_disk),
-    )
+    let o : Outside = outside_at g.S.SectorStore.size g.S.SectorStore.told m in
+    let found = move_fits c.reserve-room.new.self o _ c.args.port.0 c.args.slot.0 t c.if-port-ne0.false (c.reserve-room.ensures.same o) move in
+    let sectors = g.met.S.SectorStore.fits m.disk in
+    let one : t ≡ taken_of found.r = some_one (sym move.works.taken ∙ (ap (λ (d : Device). (d.port c.args.port.0).taken c.args.slot.0) (sym (c.reserve-room.ensures.same o)) ∙ (found.holds.works (o.media c.args.port.0)).taken)) in
+    let place : next_place t ≡ next_place (taken_of found.r) = ap next_place one in
+    c.next_move.ensures.none c.in_default.is found.r found.holds found.left (omega (arith, place, low)) found.inside
+    (sector_small found.r (g.S.SectorStore.size m.disk) sectors found.on_disk)
 
 pub returns-then-is_on-clause-page : goal.returns-then-is_on-clause-page
-returns-then-is_on-clause-page g c = λ t taken identifies.
-    (refl, λ _ _ _ room. true-false (c.reserve-room.ensures.enough room) c.if-not-room.true)
+returns-then-is_on-clause-page g c = λ t taken identifies _ _ _ room. true-false (c.reserve-room.ensures.enough room) c.if-not-room.true
 
 pub returns-else-is_on-clause-page : goal.returns-else-is_on-clause-page
-returns-else-is_on-clause-page g c = λ t taken identifies.
-    (refl, λ _ _ _ room. true-false (c.reserve-room.ensures.enough room) c.if-not-room.true)
+returns-else-is_on-clause-page g c = λ t taken identifies _ _ _ room. true-false (c.reserve-room.ensures.enough room) c.if-not-room.true
 
 pub returns-then-not-exchange-clause-page : goal.returns-then-not-exchange-clause-page
 returns-then-not-exchange-clause-page g c = λ t taken identifies.
     let o : Outside = outside_at g.S.SectorStore.size g.S.SectorStore.told c.args.self.now in
     let kind = next_identifies c.reserve-room.new.self o _ c.args.port.0 c.args.slot.0 c.in-Some.next c.in-Some.ensures.found.0 t (c.reserve-room.ensures.same o)
     c.in-Some.ensures.found.1 taken identifies in
-    true-false (c.exchange.ensures.identifies kind).0 c.if-not-exchange.true
+    λ _ _ _ _. true-false (c.exchange.ensures.sure (λ ranged. true-false ranged (ap (λ (k : Transfer). is_ranged (operation_of k)) kind))) c.if-not-exchange.true
 
 pub returns-clause-page : goal.returns-clause-page
-returns-clause-page g c = λ t taken identifies.
-    let o : Outside = outside_at g.S.SectorStore.size g.S.SectorStore.told c.args.self.now in
-    let kind = next_identifies c.reserve-room.new.self o _ c.args.port.0 c.args.slot.0 c.in-Some.next c.in-Some.ensures.found.0 t (c.reserve-room.ensures.same o)
-    c.in-Some.ensures.found.1 taken identifies in
-    ((c.exchange.ensures.identifies kind).1, λ never. absurd (let e : true ≡ false = never in cc))
+returns-clause-page g c = λ t taken identifies never. absurd (let e : true ≡ false = never in cc)

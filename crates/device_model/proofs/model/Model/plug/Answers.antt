@@ -41,8 +41,8 @@ returns-then-not-plug g c =
         disks = λ _ _. refl;
         keeps = record { out = λ _ _. refl; sectors = λ _. refl; sure = λ _. refl; queue = refl; accesses = refl };
         why = λ _ _. (λ room _. missed.1 room, missed.2);
-        told_on = λ _. missed.2;
-        told_since = λ _. inr ((c.if-port-ne0.false, omega (arith, small, c.in-Some.ensures.found), free), λ room _. missed.1 room);
+        starved_on = λ _. missed.2;
+        starved_since = λ _. inr ((c.if-port-ne0.false, omega (arith, small, c.in-Some.ensures.found), free), λ room _. missed.1 room);
       }
     ]
 

@@ -89,12 +89,12 @@ returns-clause-alone g c =
         queue = own.keeps.queue;
         accesses = own.keeps.accesses;
       };
-      told_since = λ now.
+      starved_since = λ now.
           elim (c.identify.ensures.told (sym c.note.ensures.starved ∙ now)) [
             | inl before ↦ inl (sym c.settle.ensures.starved ∙ before)
             | inr one ↦
                 let R : Vec Entry → Type 0 = λ tape. vec_len tape + (one.2.left + 1) ≤ vec_capacity tape in
                 inr (one.0, one.1, one.2, λ room. one.3 (subst R c.note.ensures.tape room))
           ];
-      told_on = λ yes. c.note.ensures.starved ∙ own.told_on (c.settle.ensures.starved ∙ yes);
+      starved_on = λ yes. c.note.ensures.starved ∙ own.starved_on (c.settle.ensures.starved ∙ yes);
     }
