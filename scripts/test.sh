@@ -41,4 +41,5 @@ part "edits" scripts/edits.py
 part "examples" scripts/examples.sh
 part "compile-fail" scripts/compile-fail.sh
 part "names" scripts/names.py
+scripts/borrowed.py >&2
 echo "$passed passed, $failed failed"
