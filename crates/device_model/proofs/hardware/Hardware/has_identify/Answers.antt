@@ -1,4 +1,4 @@
-use Rattle.std.proofs.Common.{Bool, Option, true, false, ◌≡◌, ◌∙◌, refl, sym, ap, subst, inl, inr}
+use Rattle.std.proofs.Common.{Bool, Option, ◌≡◌, ◌∙◌, refl, sym, ap, subst, inl, inr}
 use Rattle.adapter.proofs.Absurd.{some_one}
 use Rattle.device_model.specs.Finishing.{Identifies}
 use Rattle.device_model.specs.Whole.{device_of}
