@@ -1,9 +1,9 @@
 -- An IDENTIFY DEVICE that can be done to its end, as the model does it by itself.
 use Rattle.std.proofs.Common.{ℕ, Bool, zero, suc, true, false, ◌≡◌, ◌≢◌, ◌<◌, ◌≤◌, ◌+◌, ◌-◌, ◌^◌, ◌⊎◌, ◌∙◌, List, Option, None, Some, refl, sym, ap, subst, inl, inr, arith}
-use Rattle.std.specs.Prelude.{if◌then◌else◌, is_some}
+use Rattle.std.specs.Prelude.{◌&&◌, not, if◌then◌else◌, is_some}
 use Rattle.std.proofs.lemmas.Bool.Decides.{eqb_tells}
 use Rattle.adapter.specs.Access.{note, noted}
-use Rattle.adapter.specs.Asked.{DoesOne, DoesSome, GoesOn}
+use Rattle.adapter.specs.Asked.{DoesFetch, DoesOne, DoesSome, GoesOn}
 use Rattle.adapter.specs.Commands.{Meaning, is_queued, is_ranged}
 use Rattle.adapter.specs.Device.{Notes, PortState, Device, Taken}
 use Rattle.adapter.specs.Memory.{changed}
@@ -22,12 +22,12 @@ use Rattle.ata_types.specs.declared.Port.{Port}
 use Rattle.ata_types.specs.declared.Slot.{Slot}
 use Rattle.adapter.specs.declared.access.DeviceStep.TheVariants as asked
 use Rattle.device_model.specs.Does.{AnswersStep, MovesSector}
-use Rattle.device_model.specs.Finishing.{AreInside, HasIdentify, MayFinish}
+use Rattle.device_model.specs.Finishing.{AreInside, HasIdentify, Identifies, IsCovered, MayFinish, MayIdentify}
 use Rattle.device_model.specs.Held.{none_held}
 use Rattle.device_model.specs.Modelled.{device_at}
 use Rattle.device_model.specs.Sent.{SendsEnd}
 use Rattle.device_model.specs.Slots.{IsNext}
-use Rattle.device_model.specs.View.{operation_of, taken_of}
+use Rattle.device_model.specs.View.{Takes, operation_of, taken_of}
 use Rattle.device_model.specs.Whole.{Outside, device_of}
 use Rattle.device_model.specs.declared.hardware.Hardware.{Hardware}
 use Rattle.device_model.specs.declared.model.Model.{Model}
@@ -35,9 +35,11 @@ use Rattle.device_model.specs.declared.port.TakenCommand.{TakenCommand}
 use Rattle.device_model.specs.declared.port.Transfer.{Transfer}
 use Rattle.device_model.specs.declared.port.Transfer.TheVariants as transfer
 use Rattle.device_model.specs.declared.steps.NextMove.{NextMove}
+use Rattle.adapter.proofs.Going.{goes_one}
+use Rattle.device_model.proofs.Finishing.{fetched_goes}
 use Rattle.device_model.proofs.Own.{IsOnly, own_gone}
 use Rattle.device_model.proofs.Posting.{end_rest}
-use Rattle.device_model.proofs.Transfers.{is_identify, is_taken, unranged}
+use Rattle.device_model.proofs.Transfers.{alone_none, is_identify, is_taken, unranged}
 use Rattle.device_model.proofs.TwoDisks.{in_kept}
 
 -- an IDENTIFY DEVICE whose pieces have addresses of 32 bits
@@ -102,7 +104,7 @@ page_taken port slot did old new here went same has = only_taken IsPage is_page 
 
 -- ---- which steps move a sector
 
-abbrev IsIdentify : Operation → List ℕ → Type 0
+abbrev pub IsIdentify : Operation → List ℕ → Type 0
 IsIdentify operation places = operation ≡ Identify
 
 -- a Finish of it moves none
@@ -171,6 +173,124 @@ next_identifies h o d port slot next r t same is taken identifies =
     let here : ((device_of h o).port port).taken slot ≡ Some t = ap (λ (x : Device). (x.port port).taken slot) same ∙ taken in
     let one : taken_of r ≡ t = some_one (sym (is.holds.works (o.media port)).taken ∙ here) in
     is.transfer_is ∙ is_identify r.transfer (ap (λ (x : Taken). x.meaning.operation) one ∙ identifies)
+
+-- ---- one that is taken, and no more
+
+plain_right : (a b : Bool) → b ≡ false → (a && b) ≡ false
+plain_right true b e = e
+plain_right false b e = refl
+
+-- no other command is in its slot
+may_only : (d : Device) (slot : ℕ) → MayIdentify d slot → IsOnly IsIdentify d 0 slot
+may_only d slot may = record {
+  taken = λ u is. some-none is may.can.fetchable.free;
+  fetched = λ m places can.
+      let meaning = says_meaning d.memory (d.port 0).bases.clb slot may.meaning m may.places places may.can.says can.says in
+      ap (λ (x : Meaning). x.operation) (sym meaning) ∙ may.identifies;
+}
+
+pub found_only : (d : Device) (slot : ℕ) → MayIdentify d slot ⊎ HasIdentify d slot → IsOnly IsIdentify d 0 slot
+found_only d slot (inl may) = may_only d slot may
+found_only d slot (inr has) = only_of IsIdentify d 0 slot 0 has.left has.ready has.identifies
+
+-- what a look at a slot has found
+pub found_ends : (d : Device) (slot : ℕ) (ends : Bool) → not ends ≡ false → Identifies d slot (Some ends) → HasIdentify d slot
+found_ends d slot true e found = found
+found_ends d slot false e found = absurd (let no : true ≡ false = e in cc)
+
+pub found_stuck : (d : Device) (slot : ℕ) (ends : Bool) → not ends ≡ true → Identifies d slot (Some ends) → MayIdentify d slot × (HasIdentify d slot → ⊥)
+found_stuck d slot true e found = absurd (let no : false ≡ true = e in cc)
+found_stuck d slot false e found = found
+
+-- where a command is taken, no IDENTIFY DEVICE may be
+pub taken_bars : (d : Device) (slot k : ℕ) (t : Taken) → (d.port 0).taken slot ≡ Some t → MayIdentify d k → ⊥
+taken_bars d slot k t is may = some-none is (alone_none (d.port 0) may.meaning.operation (inr (inr may.identifies)) may.can.alone slot)
+
+fetched_is : (slot : ℕ) (old new : Device) (f : DoesFetch 0 slot old new) → (new.port 0).taken ≡ changed (old.port 0).taken slot (Some (begun f.meaning f.places))
+fetched_is slot old new f =
+    ap (λ (d : Device). (d.port 0).taken) f.effect ∙ ap (λ (p : PortState). p.taken) (changed_same old.port 0 (with_fetch (old.port 0) slot f.meaning f.places))
+
+fetched_taken : (slot : ℕ) (old new : Device) (f : DoesFetch 0 slot old new) → (new.port 0).taken slot ≡ Some (begun f.meaning f.places)
+fetched_taken slot old new f =
+    ap (λ (g : ℕ → Option Taken). g slot) (fetched_is slot old new f) ∙ changed_same (old.port 0).taken slot (Some (begun f.meaning f.places))
+
+-- once it was taken, or was already, no other may be
+pub fetched_bars : (slot k : ℕ) (did : Bool) (old new : Device) → (did ≡ true → DoesFetch 0 slot old new) →
+    (did ≡ false → (m : Meaning) (places : List ℕ) → Takes m.operation → Can (Fetch 0 slot m places) old → ⊥) → (did ≡ false → new ≡ old) →
+    MayIdentify old slot ⊎ HasIdentify old slot → MayIdentify new k → ⊥
+fetched_bars slot k true old new went never same there = let f = went refl in taken_bars new slot k (begun f.meaning f.places) (fetched_taken slot old new f)
+fetched_bars slot k false old new went never same (inl may) = absurd (never refl may.meaning may.places (inr (inr may.identifies)) may.can)
+fetched_bars slot k false old new went never same (inr has) = by has.ready.begins
+  where
+    t : Taken
+    t = has.ready.t
+
+    by : WorksOn (old.port 0) slot t t.meaning.operation ⊎ (Can (Fetch 0 slot t.meaning t.places) old × (t ≡ begun t.meaning t.places)) → MayIdentify new k → ⊥
+    by (inl works) = taken_bars new slot k t (ap (λ (d : Device). (d.port 0).taken slot) (same refl) ∙ works.taken)
+    by (inr may) = absurd (never refl t.meaning t.places has.ready.takes may.0)
+
+-- and what can be done to its end then, could before
+taken_has : (slot k : ℕ) (old new : Device) → DoesFetch 0 slot old new → HasIdentify new k → HasIdentify old slot
+taken_has slot k old new f has = by has.ready.begins
+  where
+    t : Taken
+    t = has.ready.t
+
+    size : new.size ≡ old.size
+    size = ap (λ (d : Device). d.size) f.effect
+
+    by : WorksOn (new.port 0) k t t.meaning.operation ⊎ (Can (Fetch 0 k t.meaning t.places) new × (t ≡ begun t.meaning t.places)) → HasIdentify old slot
+    by (inr may) =
+        absurd (taken_bars new slot k (begun f.meaning f.places) (fetched_taken slot old new f)
+        (record { meaning = t.meaning; places = t.places; identifies = has.identifies; can = may.0 }))
+    by (inl works) =
+        elim (eqb_tells k slot) [
+          | inl here ↦
+              let P : ℕ → Type 0 = λ q. (new.port 0).taken q ≡ Some t in
+              let one : t ≡ begun f.meaning f.places = some_one (sym (subst P here.1 works.taken) ∙ fetched_taken slot old new f) in
+              let Q : ℕ → Type 0 = λ n. IsCovered t n 0 has.left in
+              let R : Taken → Type 0 = λ x. IsCovered x old.size 0 has.left in
+              record {
+                left = has.left;
+                ready = record {
+                  t = begun f.meaning f.places;
+                  takes = subst (λ (x : Taken). Takes x.meaning.operation) one has.ready.takes;
+                  covered = subst R one (subst Q size has.ready.covered);
+                  begins = inr (f.can, refl);
+                };
+                identifies = ap (λ (x : Taken). x.meaning.operation) (sym one) ∙ has.identifies;
+                low = subst (λ (x : Taken). AreInside (2 ^ 32) x.places) one has.low;
+              }
+          | inr there ↦
+              let was : (old.port 0).taken k ≡ Some t =
+              sym (changed_other (old.port 0).taken slot (Some (begun f.meaning f.places)) k there.1)
+              ∙ (ap (λ (g : ℕ → Option Taken). g k) (sym (fetched_is slot old new f)) ∙ works.taken) in
+              let no : (is_queued f.meaning.operation && is_queued t.meaning.operation) ≡ false =
+              plain_right (is_queued f.meaning.operation) (is_queued t.meaning.operation) (ap is_queued has.identifies) in
+              true-false (f.can.alone k t was) no
+        ]
+
+pub fetched_has : (slot k : ℕ) (did : Bool) (old new : Device) → (did ≡ true → DoesFetch 0 slot old new) →
+    (did ≡ false → (m : Meaning) (places : List ℕ) → Takes m.operation → Can (Fetch 0 slot m places) old → ⊥) →
+    MayIdentify old slot → HasIdentify new k → HasIdentify old slot
+fetched_has slot k true old new went never may has = taken_has slot k old new (went refl) has
+fetched_has slot k false old new went never may has = absurd (never refl may.meaning may.places (inr (inr may.identifies)) may.can)
+
+-- one that can be done to its end still can be once it is taken
+pub fetched_left : (slot : ℕ) (did : Bool) (old new : Device) (has : HasIdentify old slot) → (did ≡ true → DoesFetch 0 slot old new) →
+    (did ≡ false → new ≡ old) → (did ≡ false → (m : Meaning) (places : List ℕ) → Takes m.operation → Can (Fetch 0 slot m places) old → ⊥) →
+    (now : HasIdentify new slot) × (now.left ≡ has.left)
+fetched_left slot did old new has went same never =
+    let going = fetched_goes 0 slot 0 has.left did old new has.ready went same never in
+    let page = page_taken 0 slot did old new refl (λ e. goes_one SendsEnd 0 slot old new (inl (went e))) same has going.t going.works.taken in (
+      record {
+        left = has.left;
+        ready = record { t = going.t; takes = going.takes; covered = going.covered; begins = inl going.works };
+        identifies = page.0;
+        low = page.1;
+      },
+      refl,
+    )
 
 -- ---- each that is done leaves fewer
 
@@ -295,6 +415,40 @@ has_noted d f n slot is has = record {
           },
           may.1,
         )
+
+may_noted : (d : Device) (f : ℕ → PortState) (n : Notes) (slot : ℕ) → f 0 ≡ record (d.port 0) { notes = n } → MayIdentify (record d { port = f }) slot → MayIdentify d slot
+may_noted d f n slot is may =
+    let fetchable = subst (λ (p : PortState). IsFetchable p slot) is may.can.fetchable in
+    let working = subst (λ (p : PortState). IsWorking p may.meaning.operation) is may.can.working in
+    record {
+      meaning = may.meaning;
+      places = may.places;
+      identifies = may.identifies;
+      can = record {
+        fetchable = record { st = fetchable.st; issued = fetchable.issued; free = fetchable.free };
+        working = working_noted (d.port 0) n may.meaning.operation working;
+        alone = subst (λ (p : PortState). IsAlone p may.meaning.operation) is may.can.alone;
+        says = subst (λ (p : PortState). Says d.memory p.bases.clb slot may.meaning may.places) is may.can.says;
+      };
+    }
+
+pub noted_may : (r : Reg) (v : ℕ) (d : Device) (slot : ℕ) → MayIdentify (noted r v d) slot → MayIdentify d slot
+noted_may (Px q r) v d slot may =
+    let p : PortState = record (d.port q.0) { notes = note r v (d.port q.0) } in
+    elim (eqb_tells 0 q.0) [
+      | inl here ↦
+          let same : 0 ≡ q.0 = here.1 in
+          may_noted d (changed d.port q.0 p) (note r v (d.port q.0)) slot
+          (ap (λ k. changed d.port q.0 p k) same ∙ (changed_same d.port q.0 p ∙ ap (λ k. record (d.port k) { notes = note r v (d.port q.0) }) (sym same))) may
+      | inr there ↦ may_noted d (changed d.port q.0 p) (d.port 0).notes slot (changed_other d.port q.0 p 0 there.1) may
+    ]
+noted_may Cap v d slot may = may
+noted_may Ghc v d slot may = may
+noted_may Is v d slot may = may
+noted_may Pi v d slot may = may
+noted_may Vs v d slot may = may
+noted_may Cap2 v d slot may = may
+noted_may Bohc v d slot may = may
 
 pub noted_identify : (r : Reg) (v : ℕ) (d : Device) (slot : ℕ) → HasIdentify (noted r v d) slot → HasIdentify d slot
 noted_identify (Px q r) v d slot has =

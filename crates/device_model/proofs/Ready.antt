@@ -1,5 +1,5 @@
 -- Where a command may be done to its end: which moves are left of it, and that each has its place.
-use Rattle.std.proofs.Common.{ℕ, true, zero, suc, ◌≡◌, ◌<◌, ◌≤◌, ◌+◌, ◌-◌, ◌*◌, ◌/◌, ◌^◌, ◌⊎◌, List, [], ◌∷◌, length, slice_index, slice_index_or, Option, None, Some, All, refl, sym, ◌∙◌, ap, subst, inl, inr, arith, length-append}
+use Rattle.std.proofs.Common.{ℕ, Bool, true, false, zero, suc, ◌≡◌, ◌<◌, ◌≤◌, ◌+◌, ◌-◌, ◌*◌, ◌/◌, ◌^◌, ◌⊎◌, List, [], ◌∷◌, length, slice_index, slice_index_or, Option, None, Some, All, refl, sym, ◌∙◌, ap, subst, inl, inr, arith, length-append}
 use Rattle.std.proofs.lemmas.Bool.{cases_lt}
 use Rattle.std.proofs.lemmas.List.{get_or_append_left, get_or-append_right}
 use Rattle.std.specs.Prelude.{IfSome}
@@ -7,7 +7,7 @@ use Rattle.std.specs.Option.{SomeIff}
 use Rattle.std.specs.Vec.{vec_len}
 use Rattle.adapter.specs.Commands.{is_ranged}
 use Rattle.adapter.specs.Commands.{Meaning}
-use Rattle.adapter.specs.Device.{Taken}
+use Rattle.adapter.specs.Device.{Device, Taken}
 use Rattle.adapter.specs.Says.{Says, pieces, cut}
 use Rattle.adapter.specs.Steps.{Can, WorksOn, begun}
 use Rattle.adapter.specs.Steps.Step.{Fetch}
@@ -16,7 +16,7 @@ use Rattle.adapter.specs.declared.command.Operation.TheVariants.{Identify}
 use Rattle.adapter.specs.declared.command.Prd.{Prd}
 use Rattle.adapter.proofs.Absurd.{some-none, some_one}
 use Rattle.adapter.proofs.SaysLemmas.{says_meaning, says_places, cut_length, cut_index}
-use Rattle.device_model.specs.Finishing.{HasIdentify, IsInside, AreInside, IsCovered, MayFinish}
+use Rattle.device_model.specs.Finishing.{HasIdentify, Identifies, IsInside, AreInside, IsCovered, MayFinish, MayIdentify}
 use Rattle.device_model.specs.Fetched.{bytes_of}
 use Rattle.device_model.specs.Slots.{MayTake, MayTakeAny, HoldsAt}
 use Rattle.device_model.specs.View.{Media, Takes, operation_of, port_of, taken_of, blank}
@@ -275,3 +275,35 @@ module _ (h : Hardware) (slot size : ℕ) (sized : size ≡ vec_len h.memory) wh
       let w = ready_held h o 0 0 slot 0 has.left refl has.ready never in
       none w.0 w.1 (is_identify w.0.transfer (sym (ap (λ (t : Taken). t.meaning.operation) w.2) ∙ has.identifies))
       (has.left, covers_back h 0 0 slot 0 size w.0 refl sized has.left o has.ready w.2, subst (λ (t : Taken). AreInside (2 ^ 32) t.places) w.2 has.low)
+
+-- what a look at a slot finds, by whether it can be done to its end
+pub finds : (d : Device) (slot : ℕ) (ends : Bool) → (ends ≡ true → HasIdentify d slot) → (ends ≡ false → MayIdentify d slot × (HasIdentify d slot → ⊥)) →
+    Identifies d slot (Some ends)
+finds d slot true has may = has refl
+finds d slot false has may = may refl
+
+module _ (h : Hardware) (slot : ℕ) where
+  abbrev first : PortModel
+  first = slice_index_or h.ports 0 blank
+
+  -- one that its slot's bytes say may be taken
+  pub may_identify : (r : TakenCommand) → Says (bytes_of h.memory.items) first.addresses.clb slot (taken_of r).meaning (taken_of r).places →
+      r.transfer ≡ transfer.Identify → MayTakeAny first slot → (o : Outside) → MayIdentify (device_of h o) slot
+  may_identify r says kind may o =
+      let m = may (o.media 0) (operation_of r.transfer) (is_taken r.transfer) in
+      record {
+        meaning = (taken_of r).meaning;
+        places = (taken_of r).places;
+        identifies = ap operation_of kind;
+        can = record { fetchable = m.fetchable; working = m.working; alone = m.alone; says = says };
+      }
+
+  -- none is said
+  pub identify_unmeant : ((m : Meaning) (places : List ℕ) → m.operation ≡ Identify → Says (bytes_of h.memory.items) first.addresses.clb slot m places → ⊥) →
+      (o : Outside) → MayIdentify (device_of h o) slot → ⊥
+  identify_unmeant none o may = none may.meaning may.places may.identifies (fetch_says h o 0 0 slot may.meaning may.places refl may.can)
+
+  -- none may be taken
+  pub identify_barred : MayTakeNone first slot → (o : Outside) → MayIdentify (device_of h o) slot → ⊥
+  identify_barred never o may =
+      never (o.media 0) may.meaning.operation (inr (inr may.identifies)) (fetch_takes h o 0 0 slot may.meaning may.places refl may.can)

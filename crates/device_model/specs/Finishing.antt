@@ -1,8 +1,8 @@
 -- What has to hold that a command can be done to its end.
-use Rattle.std.specs.Prelude.{ℕ, Bool, true, false, ◌≡◌, ◌+◌, ◌*◌, ◌/◌, ◌^◌, ◌<◌, ◌≤◌, ◌⊎◌, List, length, slice_index}
+use Rattle.std.specs.Prelude.{ℕ, Bool, true, false, ◌≡◌, ◌+◌, ◌*◌, ◌/◌, ◌^◌, ◌<◌, ◌≤◌, ◌⊎◌, List, Option, None, Some, length, slice_index}
 use Rattle.std.specs.Vec.{vec_len, vec_capacity}
 use Rattle.adapter.specs.Asked.{DoesFetch}
-use Rattle.adapter.specs.Commands.{is_ranged}
+use Rattle.adapter.specs.Commands.{Meaning, is_ranged}
 use Rattle.adapter.specs.Device.{Taken, Device}
 use Rattle.adapter.specs.Steps.{Can, WorksOn, begun, next_place, next_sector}
 use Rattle.adapter.specs.Steps.Step.{Fetch}
@@ -69,6 +69,20 @@ pub record HasIdentify (d : Device) (slot : ℕ) : Type 0 where
   pub ready : MayFinish d 0 slot 0 left
   pub identifies : ready.t.meaning.operation ≡ Identify
   pub low : AreInside (2 ^ 32) ready.t.places
+
+-- an IDENTIFY DEVICE that is issued in this slot of port 0 may be taken, wherever its page is to go
+pub record MayIdentify (d : Device) (slot : ℕ) : Type 0 where
+  pub meaning : Meaning
+  pub places : List ℕ
+  pub identifies : meaning.operation ≡ Identify
+  pub can : Can (Fetch 0 slot meaning places) d
+
+-- What a look at a slot of port 0 finds: an IDENTIFY DEVICE that can be done to its end; or one that may be taken, but can't be done to its end; or
+-- neither.
+abbrev pub Identifies : Device → ℕ → Option Bool → Type 0
+Identifies d slot (Some true) = HasIdentify d slot
+Identifies d slot (Some false) = MayIdentify d slot × (HasIdentify d slot → ⊥)
+Identifies d slot None = (MayIdentify d slot → ⊥) × (HasIdentify d slot → ⊥)
 
 -- ---- a command that is to be done to its end
 

@@ -4,7 +4,7 @@ use Rattle.adapter.specs.Device.{PortState, Device}
 use Rattle.adapter.specs.Steps.{Step, Can, MayLinkUp, after, with_port}
 use Rattle.adapter.specs.Steps.Step.{Fetch, Move, Done, Fall, FrFall, LinkUp, ResetEnds}
 use Rattle.adapter.specs.declared.command.Operation.TheVariants.{Identify}
-use Rattle.device_model.specs.Finishing.{HasIdentify, HasRoom}
+use Rattle.device_model.specs.Finishing.{HasIdentify, HasRoom, MayIdentify}
 use Rattle.device_model.specs.Held.{IsPortHeld, IsPortLoose, all_held, none_held}
 use Rattle.device_model.specs.Sent.{SendsAfter}
 use Rattle.device_model.specs.declared.hardware.Hardware.{Hardware}
@@ -54,10 +54,11 @@ pub record IsSettled (held : List Bool) (d : Device) : Type 0 where
   pub areas : (port : ℕ) → Can (FrFall port) d → IsPortHeld held port
   pub links : (port sig : ℕ) (n : Bool) → Can (LinkUp port sig n) d → IsPortHeld held port
 
--- No IDENTIFY DEVICE of port 0 that can be done to its end is left, in any of the slots 0 to 31, unless the port is held, or it is told that something was
--- left out for want of memory.
-abbrev pub NoneIsLeft : List Bool → Bool → Device → Type 0
-NoneIsLeft held starved d = (slot : ℕ) → slot < 32 → HasIdentify d slot → IsPortHeld held 0 ⊎ (starved ≡ true)
+-- In none of the slots 0 to 31 of port 0 an IDENTIFY DEVICE is left that may be taken, unless the port is held; nor one that can be done to its end,
+-- unless the port is held, or it is told that something was left out for want of memory. To take one needs no memory.
+pub record NoneIsLeft (held : List Bool) (starved : Bool) (d : Device) : Type 0 where
+  pub taken : (slot : ℕ) → slot < 32 → MayIdentify d slot → IsPortHeld held 0
+  pub done : (slot : ℕ) → slot < 32 → HasIdentify d slot → IsPortHeld held 0 ⊎ (starved ≡ true)
 
 -- one is left, for which the tape has no memory: each of its moves, and its end, would be noted there
 abbrev pub LeavesOne : Hardware → Device → Type 0

@@ -12,7 +12,8 @@ ghost use Rattle.device_model.specs.Fetched.{bytes_of};
 ghost use Rattle.adapter.specs.declared.command.Operation.TheVariants.{Identify};
 ghost use Rattle.adapter.specs.OneCommand.{IsFreeSlot};
 ghost use Rattle.device_model.specs.Disks.{disk_over, store_of};
-ghost use Rattle.device_model.specs.Finishing.{HasIdentify, HasMove, HasRoom};
+ghost use Rattle.device_model.specs.Finishing.{HasIdentify, HasMove, HasRoom, MayIdentify};
+ghost use Rattle.device_model.specs.Held.{IsPortLoose};
 ghost use Rattle.device_model.specs.Paged.{IsItsPage, IsTurned};
 ghost use Rattle.device_model.specs.Does.{AnswersStep, GoesOnSo};
 ghost use Rattle.device_model.specs.Tells.{disks_told};
@@ -286,8 +287,28 @@ impl<S: SectorStore> Model<S> {
         self.hardware.done(port.0, slot.0) || did
     }
 
-    /// Does each IDENTIFY DEVICE of port 0 that can be done to its end, unless the port is held. The page that one sends may stand where another's
-    /// bytes are, so they are looked for anew after each. Where the tape has no memory, the others wait.
+    /// Takes the IDENTIFY DEVICE of a slot of port 0, unless it is taken. No other one may be taken then.
+    fn take_identify(&mut self, slot: u8)
+        requires small { slot < 32 }
+        requires there { MayIdentify (device_at S.size S.told self.old) slot ⊎ HasIdentify (device_at S.size S.told self.old) slot }
+        ensures own { (held : List Bool) → IsPortLoose held 0 → DoesOwn held (device_at S.size S.told self.old) (device_at S.size S.told self.new) }
+        ensures settled { (held : List Bool) → IsSettled held (device_at S.size S.told self.old) → IsSettled held (device_at S.size S.told self.new) }
+        ensures none { (other : ℕ) → MayIdentify (device_at S.size S.told self.new) other → ⊥ }
+        ensures stuck { MayIdentify (device_at S.size S.told self.old) slot → (other : ℕ) → HasIdentify (device_at S.size S.told self.new) other →
+            HasIdentify (device_at S.size S.told self.old) slot }
+        ensures left { (has : HasIdentify (device_at S.size S.told self.old) slot) →
+            (now : HasIdentify (device_at S.size S.told self.new) slot) × (now.left ≡ has.left) }
+        ensures rest { GoesOnSo S.size S.is_sure self.old self.new }
+        ensures room { (n : ℕ) → HasRoom self.new.hardware n → HasRoom self.old.hardware n }
+        ensures starved { self.new.hardware.starved ≡ self.old.hardware.starved }
+        ensures disk { self.new.disk ≡ self.old.disk }
+    {
+        let _taken = self.hardware.fetch(0, slot);
+    }
+
+    /// Does each IDENTIFY DEVICE of port 0 that can be done to its end, the lowest slot's first, unless the port is held. The page that one sends may
+    /// stand where another's bytes are, so they are looked for anew after each. One that can't be done to its end, or for which the tape has no memory,
+    /// is taken, and no more; the others wait for it.
     fn identify(&mut self)
         ensures own { DoesOwn self.old.held (device_at S.size S.told self.old) (device_at S.size S.told self.new) }
         ensures settled { (held : List Bool) → IsSettled held (device_at S.size S.told self.old) → IsSettled held (device_at S.size S.told self.new) }
@@ -299,8 +320,13 @@ impl<S: SectorStore> Model<S> {
         if self.held[0] {
             return;
         }
-        while let Some(slot) = self.hardware.next_identify() {
-            if !self.finish(Port(0), Slot(slot)) {
+        while let Some(found) = self.hardware.next_identify() {
+            if !found.ends {
+                self.take_identify(found.slot);
+                return;
+            }
+            if !self.finish(Port(0), Slot(found.slot)) {
+                self.take_identify(found.slot);
                 return;
             }
         }
@@ -452,7 +478,7 @@ impl<S: SectorStore> Adapter for Model<S> {
 
     /// Before the value is read, a pending reset ends unless all four ports are held, and ends all holds; and on each port that isn't
     /// held, CR and FR fall if they may, and the link comes up if it may. Then each IDENTIFY DEVICE of port 0 is done that can be done to
-    /// its end, unless that port is held. A held port does nothing by itself.
+    /// its end, and one that can't is taken, unless that port is held. A held port does nothing by itself.
     fn read(&mut self, r: Reg) -> u32
         requires { MayRead r (device_at S.size S.told self.old) }
         ensures reads { Reads r result (device_at S.size S.told self.old) (device_at S.size S.told self.new) }

@@ -9,7 +9,7 @@ ghost use Rattle.adapter.specs.Steps.{Can, after, next_sector};
 ghost use Rattle.adapter.specs.Steps.Step.{Fetch as FetchStep, Move as MoveStep, Done as DoneStep, Unplug as UnplugStep, Plug as PlugStep};
 ghost use Rattle.adapter.specs.Asked.{DoesFetch, Ends};
 ghost use Rattle.device_model.specs.Fetched.{bytes_of};
-ghost use Rattle.device_model.specs.Finishing.{HasIdentify, HasRoom, IsInside, AreInside, IsBegun, IsCovered, IsPassed, IsUnbegun};
+ghost use Rattle.device_model.specs.Finishing.{HasRoom, Identifies, IsInside, AreInside, IsBegun, IsCovered, IsPassed, IsUnbegun};
 ghost use Rattle.device_model.specs.Sent.{SendsEnd};
 ghost use Rattle.device_model.specs.Slots.{HoldsAt, IsNext, MayTakeAny};
 ghost use Rattle.device_model.specs.View.{Takes, operation_of, taken_of, blank};
@@ -39,6 +39,14 @@ pub struct Begun {
     pub left: u32,
     /// Whether it was taken just now.
     pub was_taken: bool,
+}
+
+/// An IDENTIFY DEVICE of port 0 that the model goes on with by itself.
+#[derive(Clone, Copy, Debug)]
+pub struct FoundIdentify {
+    pub slot: u8,
+    /// Whether it can be done to its end. Else it may be taken, and no more.
+    pub ends: bool,
 }
 
 impl NextMove {
@@ -188,51 +196,52 @@ impl Hardware {
         true
     }
 
-    /// Whether the bytes of a slot of port 0 say an IDENTIFY DEVICE, which may be taken, and can be done to its end.
+    /// Whether the IDENTIFY DEVICE that the bytes of a slot of port 0 say, which may be taken, can be done to its end; `None` where they say none.
     #[inline(never)]
-    fn says_identify(&self, slot: u8) -> bool
+    fn says_identify(&self, slot: u8) -> Option<bool>
         requires slot { slot < 32 }
         requires may { MayTakeAny (slice_index_or self.now.ports 0 blank) slot }
-        ensures has { result ≡ true → (o : Outside) → HasIdentify (device_of self.now o) slot }
-        ensures only { result ≡ false → (o : Outside) → HasIdentify (device_of self.now o) slot → ⊥ }
+        ensures { (o : Outside) → Identifies (device_of self.now o) slot result }
     {
         let list = self.ports[0].addresses.clb;
-        match read_as(&self.memory, list, slot, Transfer::Identify) {
-            Some(command) => can_end(&command, self.memory.len()),
-            None => false,
-        }
+        let command = read_as(&self.memory, list, slot, Transfer::Identify)?;
+        Some(can_end(&command, self.memory.len()))
     }
 
-    /// Whether a slot of port 0 has an IDENTIFY DEVICE that may be taken, or is taken and worked on, and can be done to its end.
-    fn has_identify(&self, slot: u8) -> bool
+    /// Whether the IDENTIFY DEVICE of a slot of port 0 can be done to its end; `None` where the slot has none that may be taken, and none that is taken
+    /// and worked on and can be done to its end.
+    fn has_identify(&self, slot: u8) -> Option<bool>
         requires { slot < 32 }
-        ensures has { result ≡ true → (o : Outside) → HasIdentify (device_of self.now o) slot }
-        ensures only { result ≡ false → (o : Outside) → HasIdentify (device_of self.now o) slot → ⊥ }
+        ensures { (o : Outside) → Identifies (device_of self.now o) slot result }
     {
         if may_take(&self.ports, 0, slot) {
             return self.says_identify(slot);
         }
-        let Some(command) = working_on(&self.ports, 0, slot) else {
-            return false;
-        };
+        let command = working_on(&self.ports, 0, slot)?;
         match command.transfer {
-            Transfer::Identify => can_end(command, self.memory.len()),
-            Transfer::Read | Transfer::Write => false,
+            Transfer::Identify => {
+                if can_end(command, self.memory.len()) {
+                    Some(true)
+                } else {
+                    None
+                }
+            }
+            Transfer::Read | Transfer::Write => None,
         }
     }
 
-    /// The first slot of port 0 with an IDENTIFY DEVICE that can be done to its end. There is none where no command is issued or taken.
-    pub fn next_identify(&self) -> Option<u8>
-        ensures small { IfSome result (λ slot. slot < 32) }
-        ensures found { IfSome result (λ slot. (o : Outside) → HasIdentify (device_of self.now o) slot) }
-        ensures none { result ≡ None → (o : Outside) (slot : ℕ) → slot < 32 → HasIdentify (device_of self.now o) slot → ⊥ }
+    /// The first slot of port 0 with an IDENTIFY DEVICE that may be taken, or can be done to its end. There is none where no command is issued or taken.
+    pub fn next_identify(&self) -> Option<FoundIdentify>
+        ensures small { IfSome result (λ found. found.slot < 32) }
+        ensures found { IfSome result (λ found. (o : Outside) → Identifies (device_of self.now o) found.slot (Some found.ends)) }
+        ensures none { result ≡ None → (o : Outside) (slot : ℕ) → slot < 32 → Identifies (device_of self.now o) slot None }
     {
         if self.ports[0].ci == 0 && self.ports[0].taken.is_none() {
             return None;
         }
         for slot in 0..32 {
-            if self.has_identify(slot) {
-                return Some(slot);
+            if let Some(ends) = self.has_identify(slot) {
+                return Some(FoundIdentify { slot, ends });
             }
         }
         None

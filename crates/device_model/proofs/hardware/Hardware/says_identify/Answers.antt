@@ -1,17 +1,22 @@
-use Rattle.std.proofs.Common.{refl}
-use Rattle.device_model.proofs.Ready.{identify_said, identify_unsaid, identify_endless}
+use Rattle.std.proofs.Common.{Bool, Option, refl, subst, sym}
+use Rattle.device_model.proofs.Ready.{finds, identify_said, identify_unmeant, identify_unsaid, identify_endless, may_identify}
+use Rattle.device_model.specs.Finishing.{Identifies}
+use Rattle.device_model.specs.Whole.{device_of}
 use Rattle.device_model.proofs.hardware.Hardware.says_identify.Goals as goal
 
-pub returns-in-Some-clause-has : goal.returns-in-Some-clause-has
-returns-in-Some-clause-has c = λ e.
-    let said = rw c.deref.ensures.value at c.in-Some.ensures.found in
-    identify_said c.args.self.now c.args.slot c.len.result c.len.ensures c.in-Some.command said.0 said.1 c.in-Some.ensures.kind c.requires.may (c.can_end.ensures.ends e)
+pub returns : goal.returns
+returns c = λ o.
+    let said = rw c.deref.ensures.value at c.in_ok-command.ensures.found in
+    let kind = c.in_ok-command.ensures.kind in
+    finds (device_of c.args.self.now o) c.args.slot c.can_end.result
+    (λ e. identify_said c.args.self.now c.args.slot c.len.result c.len.ensures c.in_ok-command.command said.0 said.1 kind c.requires.may (c.can_end.ensures.ends e) o)
+    (λ e. (
+      may_identify c.args.self.now c.args.slot c.in_ok-command.command said.1 kind c.requires.may o,
+      identify_endless c.args.self.now c.args.slot c.len.result c.len.ensures c.in_ok-command.command said.0 said.1 c.requires.may (c.can_end.ensures.only e) o,
+    ))
 
-pub returns-in-Some-clause-only : goal.returns-in-Some-clause-only
-returns-in-Some-clause-only c = λ e.
-    let said = rw c.deref.ensures.value at c.in-Some.ensures.found in
-    identify_endless c.args.self.now c.args.slot c.len.result c.len.ensures c.in-Some.command said.0 said.1 c.requires.may (c.can_end.ensures.only e)
-
-pub returns-in-None-clause-only : goal.returns-in-None-clause-only
-returns-in-None-clause-only c = λ _.
-    identify_unsaid c.args.self.now c.args.slot _ refl (rw c.deref.ensures.value at c.in-None.ensures.only refl) c.requires.may
+pub returns-in_err-command : goal.returns-in_err-command
+returns-in_err-command c = λ o.
+    let none = rw c.deref.ensures.value at c.read_as.ensures.only c.in_err-command.was in
+    let P : Option Bool → Type 0 = λ r. Identifies (device_of c.args.self.now o) c.args.slot r in
+    subst P (sym c.from_residual.ensures) (identify_unmeant c.args.self.now c.args.slot none o, identify_unsaid c.args.self.now c.args.slot _ refl none c.requires.may o)

@@ -1,7 +1,6 @@
 use Rattle.std.proofs.Common.{ℕ, suc, ◌≡◌, ◌<◌, ◌+◌, ◌-◌, ◌∙◌, true, false, inl, inr, refl, sym, ap, subst, arith}
 use Rattle.adapter.specs.Device.{Device, Taken}
 use Rattle.adapter.specs.declared.access.DeviceStep.TheVariants as asked
-use Rattle.adapter.specs.declared.tape.Entry.{Entry}
 use Rattle.device_model.specs.Finishing.{HasMove, HasRoom, IsGoing, MayFinish}
 use Rattle.device_model.specs.Does.{IsLeftOut}
 use Rattle.device_model.specs.Modelled.{device_at, outside_at}

@@ -5,8 +5,8 @@ use Rattle.device_model.specs.Settled.{DoesOwn, IsSettled}
 use Rattle.device_model.proofs.Identifying.{total, weight}
 use Rattle.device_model.proofs.model.Model.identify.Given as goal
 
-abbrev pub invariant-loop-slot : goal.invariant-loop-slot
-invariant-loop-slot g l = record {
+abbrev pub invariant-loop-found : goal.invariant-loop-found
+invariant-loop-found g l = record {
   own : DoesOwn l.fn.self.held (device_at g.S.SectorStore.size g.S.SectorStore.told l.fn.self) (device_at g.S.SectorStore.size g.S.SectorStore.told l.self);
   settled : (held : List Bool) → IsSettled held (device_at g.S.SectorStore.size g.S.SectorStore.told l.fn.self) → IsSettled held (device_at g.S.SectorStore.size g.S.SectorStore.told l.self);
   rest : GoesOnSo g.S.SectorStore.size g.S.SectorStore.is_sure l.fn.self l.self;
@@ -14,5 +14,5 @@ invariant-loop-slot g l = record {
   disk : l.self.disk ≡ l.fn.self.disk;
 }
 
-abbrev pub decreases-loop-slot : goal.decreases-loop-slot
-decreases-loop-slot g l = total (weight (device_at g.S.SectorStore.size g.S.SectorStore.told l.self)) 32
+abbrev pub decreases-loop-found : goal.decreases-loop-found
+decreases-loop-found g l = total (weight (device_at g.S.SectorStore.size g.S.SectorStore.told l.self)) 32

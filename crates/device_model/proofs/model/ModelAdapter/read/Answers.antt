@@ -4,13 +4,13 @@ use Rattle.std.specs.Global.{Vec}
 use Rattle.std.specs.Vec.{vec_len, vec_capacity}
 use Rattle.adapter.specs.Device.{Device}
 use Rattle.adapter.specs.declared.tape.Entry.{Entry}
-use Rattle.device_model.specs.Finishing.{HasIdentify}
+use Rattle.device_model.specs.Finishing.{HasIdentify, MayIdentify}
 use Rattle.device_model.specs.Held.{IsPortHeld}
 use Rattle.device_model.specs.Settled.{DoesOwn, EndsReset, IsSettled}
 use Rattle.device_model.specs.Modelled.{device_at, outside_at}
 use Rattle.device_model.specs.Whole.{Outside, device_of}
 use Rattle.device_model.proofs.TwoDisks.{both_kept, in_kept}
-use Rattle.device_model.proofs.Identifying.{noted_identify}
+use Rattle.device_model.proofs.Identifying.{noted_identify, noted_may}
 use Rattle.device_model.proofs.Own.{own_on, own_steps, reset_steps}
 use Rattle.device_model.proofs.Ports.{has_port_read, noted_settled}
 use Rattle.device_model.proofs.Queueing.{begins_steps}
@@ -47,13 +47,20 @@ returns-clause-settled g c =
     (subst Q (sym c.identify.ensures.rest.held) (c.identify.ensures.settled _ (c.settle.ensures.settled o))))
 
 pub returns-clause-left : goal.returns-clause-left
-returns-clause-left g c = λ slot small has.
+returns-clause-left g c =
     let last : Outside = outside_at g.S.SectorStore.size g.S.SectorStore.told c.identify.new.self in
-    let P : Device → Type 0 = λ d. HasIdentify d slot in
     let Q : Bool → Type 0 = λ starved. IsPortHeld c.identify.new.self.held 0 ⊎ (starved ≡ true) in
-    subst Q (sym c.note.ensures.starved)
-    (c.identify.ensures.left slot small
-    (noted_identify c.args.r c.shown-value.result (device_of c.identify.new.self.hardware last) slot (subst P (c.note.ensures.notes last) has)))
+    record {
+      taken = λ slot small may.
+          let P : Device → Type 0 = λ d. MayIdentify d slot in
+          c.identify.ensures.left.taken slot small
+          (noted_may c.args.r c.shown-value.result (device_of c.identify.new.self.hardware last) slot (subst P (c.note.ensures.notes last) may));
+      done = λ slot small has.
+          let P : Device → Type 0 = λ d. HasIdentify d slot in
+          subst Q (sym c.note.ensures.starved)
+          (c.identify.ensures.left.done slot small
+          (noted_identify c.args.r c.shown-value.result (device_of c.identify.new.self.hardware last) slot (subst P (c.note.ensures.notes last) has)));
+    }
 
 pub returns-clause-alone : goal.returns-clause-alone
 returns-clause-alone g c =

@@ -1,0 +1,53 @@
+use Rattle.std.proofs.Common.{ℕ, List, true, false, ◌≡◌, ◌≤◌, ◌+◌, ◌∙◌, ap, inl, refl, subst}
+use Rattle.std.specs.Global.{Vec}
+use Rattle.std.specs.Vec.{vec_len, vec_capacity}
+use Rattle.adapter.specs.Asked.{DoesFetch, GoesOn}
+use Rattle.adapter.specs.Commands.{Meaning}
+use Rattle.adapter.specs.Device.{Device}
+use Rattle.adapter.specs.Steps.{Can}
+use Rattle.adapter.specs.Steps.Step.{Fetch}
+use Rattle.adapter.specs.declared.tape.Entry.{Entry}
+use Rattle.adapter.proofs.Going.{goes_one}
+use Rattle.device_model.specs.Modelled.{device_at, outside_at}
+use Rattle.device_model.specs.Sent.{SendsEnd}
+use Rattle.device_model.specs.View.{Takes}
+use Rattle.device_model.proofs.GoingOn.{gone_settled}
+use Rattle.device_model.proofs.Identifying.{IsIdentify, fetched_bars, fetched_has, fetched_left, found_only}
+use Rattle.device_model.proofs.Own.{own_gone}
+use Rattle.device_model.proofs.Telling.{gains_none}
+use Rattle.device_model.proofs.model.Model.take_identify.Goals as goal
+
+pub returns : goal.returns
+returns g c =
+    let was = c.args.self.now in
+    let is = record was { hardware = c.fetch-taken.new.self } in
+    let o = outside_at g.S.SectorStore.size g.S.SectorStore.told was in
+    let slot : ℕ = c.args.slot in
+    let old : Device = device_at g.S.SectorStore.size g.S.SectorStore.told was in
+    let new : Device = device_at g.S.SectorStore.size g.S.SectorStore.told is in
+    let did = c.fetch-taken.result in
+    let fetched : did ≡ true → DoesFetch 0 slot old new = λ (e : did ≡ true). c.fetch-taken.ensures.did e o in
+    let same : did ≡ false → new ≡ old = λ (e : did ≡ false). c.fetch-taken.ensures.refused e o in
+    let never : did ≡ false → (m : Meaning) (places : List ℕ) → Takes m.operation → Can (Fetch 0 slot m places) old → ⊥ =
+    λ (e : did ≡ false). c.fetch-taken.ensures.only e o in
+    let went : did ≡ true → GoesOn SendsEnd 0 slot old new = λ (e : did ≡ true). goes_one SendsEnd 0 slot old new (inl (fetched e)) in
+    record {
+      own = λ held loose. (own_gone IsIdentify (λ o places is. is) held 0 slot loose did old new went same (found_only old slot c.requires.there)).0;
+      settled = gone_settled 0 slot did old new went same;
+      none = λ k. fetched_bars slot k did old new fetched never same c.requires.there;
+      stuck = λ may k has. fetched_has slot k did old new fetched never may has;
+      left = λ has. fetched_left slot did old new has fetched same never;
+      rest = record {
+        held = refl;
+        says = refl;
+        which = refl;
+        pages = gains_none g.S.SectorStore.size was is (ap (λ (v : Vec Entry). v.items) c.fetch-taken.ensures.tape);
+        keeps = record { out = λ _ _. refl; sectors = λ _. refl; sure = λ _. refl; queue = refl; accesses = refl };
+        starved_on = λ yes. c.fetch-taken.ensures.starved ∙ yes;
+      };
+      room = λ n room.
+          let R : Vec Entry → Type 0 = λ tape. vec_len tape + n ≤ vec_capacity tape in
+          subst R c.fetch-taken.ensures.tape room;
+      starved = c.fetch-taken.ensures.starved;
+      disk = refl;
+    }
