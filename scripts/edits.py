@@ -40,7 +40,7 @@ PARTS = ("src", "specs", "proofs")
 # A proof that is taken as given: the prover then goes on as if the function's theorem were proved.
 HOLE = "use Rattle.{crate}.proofs.{place}.Statement.{{statement}}\n\npub {name}_spec : {{M : Type 1}} → statement M\n{name}_spec 𝓤 𝓛 𝓜 𝓡 w = ?\n"
 # As many edits stand in one try at the most: a text that can't be read spoils it for all.
-MOST = 40
+MOST = 60
 # Whether each try is told, with the time that it took: for finding what is dear.
 SHOWS_TRIES = "--tries" in sys.argv
 # Whether what an earlier run found is taken over.
