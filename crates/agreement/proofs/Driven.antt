@@ -1,5 +1,5 @@
 -- Stretches of accesses: one after another, and what they leave.
-use Rattle.std.proofs.Common.{ℕ, ◌≡◌, ◌≢◌, ◌++◌, true, false, List, [], ◌∷◌, None, Some, length, refl, sym, ◌∙◌, ap, subst, append-nil}
+use Rattle.std.proofs.Common.{ℕ, ◌≡◌, ◌≢◌, ◌++◌, true, false, List, [], ◌∷◌, None, Some, length, refl, sym, ◌∙◌, ap, subst, inl, append-nil}
 use Rattle.std.proofs.lemmas.List.Elements.{All-append, All-cons, All-nil, All-head, All-tail}
 use Rattle.std.specs.List.{All}
 use Rattle.ata_types.specs.declared.Port.{Port}
@@ -168,7 +168,7 @@ module _ (May : Access → Type 0) (Fits : Uses → Type 0) (next later : Uses �
         let goes = done_goes c.acts (at s old) (at (then next s) new) m x c.done in
         let is : Knows mid (at (then later s) new) = knows s.uses s.parked mid fits goes.knows in
         let act : Act = record { access = None; steps = []; later = at (then later s) new } in
-        let last : IsDone (at (then next s) new) mid act = record { leads = refl; goes = goes_still (at (then next s) new) (at (then later s) new) mid refl is } in
+        let last : IsDone (at (then next s) new) mid act = record { leads = refl; one = inl refl; goes = goes_still (at (then next s) new) (at (then later s) new) mid refl is } in
         record {
           acts = c.acts ++ act ∷ [];
           done = done_more c.acts (act ∷ []) (at s old) (at (then next s) new) (at (then later s) new) m c.done (last, refl);
@@ -218,7 +218,7 @@ module _ (May : Access → Type 0) (Fits : Uses → Type 0) (next : Uses → Use
         let act : Act = record { access = Some access; steps = y.0; later = later } in
         record {
           acts = act ∷ [];
-          done = (record { leads = does; goes = y.2 }, refl);
+          done = (record { leads = does; one = inl y.1; goes = y.2 }, refl);
           accesses_are = refl;
           tells = record {
             only = y.1;

@@ -1,8 +1,9 @@
 -- A part of a call, act by act: the one form in which a part of a call is told (this project's own).
-use Rattle.std.specs.Prelude.{ℕ, ◌≡◌, ◌++◌, List, [], ◌∷◌, Option, None, Some}
+use Rattle.std.specs.Prelude.{ℕ, ◌≡◌, ◌⊎◌, ◌++◌, List, [], ◌∷◌, Option, None, Some}
 use Rattle.ata_types.specs.declared.request.RequestId.{RequestId}
 use Rattle.adapter.specs.Access.{Access, Does, DoesAll}
 use Rattle.adapter.specs.Device.{Device}
+use Rattle.block_machine.specs.Events.{AllDevices, IsDevices}
 use Rattle.block_machine.specs.Histories.{IsReached}
 use Rattle.block_machine.specs.Left.{after}
 use Rattle.block_machine.specs.State.{Machine}
@@ -24,9 +25,15 @@ abbrev pub Leads : Option Access → Device → Device → Type 0
 Leads None old new = new ≡ old
 Leads (Some access) old new = Does access old new
 
+-- Over an access these are the device's steps, and after them one of the driver's own at most; without one, that alone.
+abbrev pub IsOneAct : Option Access → List Step → Type 0
+IsOneAct None steps = (steps ≡ []) ⊎ ((step : Step) × (IsDevices step → ⊥) × (steps ≡ step ∷ []))
+IsOneAct (Some access) steps = AllDevices steps ⊎ ((step : Step) × (before : List Step) × (steps ≡ step ∷ before) × AllDevices before)
+
 -- The act is done, from a machine that agrees with what the driver knew: its steps lead to one that agrees with what it knows then.
 pub record IsDone (k : Known) (m : Machine) (act : Act) : Type 0 where
   pub leads : Leads act.access k.device act.later.device
+  pub one : IsOneAct act.access act.steps
   pub goes : Goes k m act.steps act.later
 
 -- one act after another, from the one machine to the next

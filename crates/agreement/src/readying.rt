@@ -34,7 +34,8 @@ pub fn readied_stays()
         → ((at : ℕ) (bytes : List ℕ) → access ≡ Storing at bytes → MissesTable port.0 slot at (length bytes)) → Does access old new
         → IsStored old port.0 slot c places → IsStored new port.0 slot c places }
     ensures arms { (uses : Uses) (m : Machine) (port : Port) (slot : ℕ) (c : Meaning) (places : List ℕ) (v : ℕ) (old new : Device)
-        → IsReached m → Agrees uses m old → old.hr ≡ false → is_queued c.operation ≡ true → Writes (Px port Sact) v old new
+        → IsReached m → Agrees uses m old → old.hr ≡ false → is_queued c.operation ≡ true → uses port.0 slot ≡ Free
+        → bit v slot ≡ true → Writes (Px port Sact) v old new
         → IsStored old port.0 slot c places → IsReadied (put uses port.0 slot Armed) new port.0 slot c places }
     ensures plain { (uses : Uses) (d : Device) (port slot : ℕ) (c : Meaning) (places : List ℕ) → is_queued c.operation ≡ false
         → uses port slot ≡ Free → IsStored d port slot c places → IsReadied uses d port slot c places }

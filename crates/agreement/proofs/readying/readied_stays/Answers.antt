@@ -8,7 +8,7 @@ pub returns-clause-access : goal.returns-clause-access
 returns-clause-access c = access_stored
 
 pub returns-clause-arms : goal.returns-clause-arms
-returns-clause-arms c = arming_readies
+returns-clause-arms c = λ uses m port slot c places v old new reached agrees off queued free set. arming_readies uses m port slot c places v old new reached agrees off queued
 
 pub returns-clause-plain : goal.returns-clause-plain
 returns-clause-plain c = plain_readied
