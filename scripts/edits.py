@@ -9,8 +9,8 @@ calls another function that isn't proved. A function's goals rest on the contrac
 bodies, so edits of callers and callees can share a try. What isn't refused so is tried alone. An edit fails, too, where all that
 is told is that a proof names what it took away: a right body of another form would be told the same way.
 Each try has a function that no edit reaches, which must be proved; so a crate that can't be read, or libraries that
-don't fit, refuse nothing. What the edited functions call isn't proved again: in the copy the proofs of all other functions are
-holes, which the prover takes for proofs. What isn't proved even so isn't proved at all.
+don't fit, refuse nothing. What the edited functions call isn't proved again, and no lemma is: in the copy the proofs of all other
+functions and of the lemmas are holes, which the prover takes for proofs. What isn't proved even so isn't proved at all.
 
 With --kept, an edit that was refused is not tried again on this machine while nothing changes that its try read: the crate's
 files, the libraries below it as they were built, the toolchain, the edit, and this script. The whole check tries all.
@@ -39,6 +39,13 @@ import toolchain
 PARTS = ("src", "specs", "proofs")
 # A proof that is taken as given: the prover then goes on as if the function's theorem were proved.
 HOLE = "use Rattle.{crate}.proofs.{place}.Statement.{{statement}}\n\npub {name}_spec : {{M : Type 1}} → statement M\n{name}_spec 𝓤 𝓛 𝓜 𝓡 w = ?\n"
+# A definition without a mark but `pub`, whose body no other one can see unless it says so by `unfolding` or `unfold`.
+SIGNATURE = re.compile(r"(?:pub )?(\S+)(?: \{[^}]*\})? :(?:\s|$)")
+# What begins another declaration, or is none.
+OTHER = re.compile(r"(?:use|pub|mod|abbrev|unfoldable|pattern|axiom|data|record|mutual|ruleset|infix|infixl|infixr)\b|--")
+UNFOLDS = re.compile(r"^.*\bunfold(?:ing)?\b.*$", re.M)
+# The files of a function's own proof.
+OWN = ("Answers.antt", "Invariants.antt", "Proof.antt")
 # As many edits stand in one try at the most: a text that can't be read spoils it for all.
 MOST = 60
 # Whether each try is told, with the time that it took: for finding what is dear.
@@ -91,6 +98,13 @@ def end_of(lines, at, indent):
         if is_there and (line.strip().startswith("}") or line.rstrip().endswith("{}")):
             return place
     return len(lines) - 1
+
+
+def body_at(lines, first, last):
+    """The line whose end begins a function's body, if the body has lines of its own. Its clauses stand deeper than its head."""
+    deep = len(lines[first]) - len(lines[first].lstrip())
+    begin = next((at for at in range(first, last) if lines[at].endswith("{") and len(lines[at]) - len(lines[at].lstrip()) == deep), None)
+    return begin if begin is not None and begin + 1 < last else None
 
 
 def body_of(lines, first, last, indent):
@@ -177,6 +191,41 @@ def link(functions):
                     if callee is not it and callee.name not in it.reaches:
                         it.reaches.add(callee.name)
                         left.append(callee)
+
+
+# ---- lemmas ----
+
+
+def blocks_of(text):
+    """The declarations of a file of antt, each with what stands before the next one."""
+    found = [[]]
+    for line in text.split("\n"):
+        if SIGNATURE.match(line) or OTHER.match(line):
+            found.append([])
+        found[-1].append(line)
+    return found
+
+
+def without_body(block, opened):
+    """A declaration as it is, or, of a definition whose body nothing else sees, its signature and a hole."""
+    head = SIGNATURE.match(block[0]) if block else None
+    body = next((at for at, line in enumerate(block) if at and line[:1] not in ("", " ")), None)
+    if head is None or body is None or head[1] in opened or block[body].split()[0] not in ("unfolding", head[1]):
+        return block
+    return [*block[:body], f"{head[1]} = ?", ""]
+
+
+def leave_out_bodies(folder):
+    """In a copy of a crate, makes holes of the lemmas. Definitions that one of the crate's proofs opens stay."""
+    files = [f"{at}/{name}" for at, _, names in os.walk(folder) for name in names if name.endswith(".antt")]
+    texts = {it: read(it) for it in files}
+    opened = {word for text in texts.values() for line in UNFOLDS.findall(text) for word in re.findall(r"[^\s(){},.;]+", line)}
+    for path, text in texts.items():
+        if os.path.basename(path) in OWN:
+            continue
+        left = "\n".join(line for block in blocks_of(text) for line in without_body(block, opened))
+        with open(path, "w", encoding="utf-8") as out:
+            out.write(left)
 
 
 # ---- edits ----
@@ -323,6 +372,8 @@ class Crate:
                 shutil.copytree(f"{self.folder}/{part}", f"{at}/{part}")
         tried = [it for it in batch if it.apply(at)]
         names = {name for it in tried for name in it.functions}
+        self.leave_out_code(at, {control, *names})
+        leave_out_bodies(f"{at}/proofs")
         self.leave_holes(at, {control, *names})
         only = [word for it in [control, *sorted(names)] for word in ("--only", it)]
         words = [toolchain.rtlib.RATTLE, "check", "--allow-holes", *toolchain.words_of(self.crate)]
@@ -339,12 +390,26 @@ class Crate:
             say(f"{self.name}: {seconds:.0f} s for {', '.join(it.name for it in tried)}")
         return said, tried
 
+    def leave_out_code(self, at, names):
+        """In a copy of the crate, takes away the bodies of all functions but these, so that what they call isn't read."""
+        for path in {it.file for it in self.functions}:
+            lines = read(f"{at}/{path}").split("\n")
+            for it in sorted((it for it in self.functions if it.file == path and it.name not in names), key=lambda it: -it.first):
+                begin = body_at(lines, it.first, it.last)
+                if begin is not None and not re.search(r"\bconst\b", lines[it.first]) and not self.calls_itself(at, it):
+                    lines[begin + 1 : it.last] = ["unreachable!()"]
+            with open(f"{at}/{path}", "w", encoding="utf-8") as out:
+                out.write("\n".join(lines))
+
+    def calls_itself(self, at, it):
+        """Whether a function calls itself: its proof stands in a folder of another name then."""
+        return os.path.isdir(f"{at}/proofs/{'/'.join([*it.name.split('::')[:-1], f'+{it.simple}'])}")
+
     def leave_holes(self, at, names):
         """In a copy of the crate, makes a hole of the proof of each function but these."""
         for it in self.functions:
             place = f"{at}/proofs/{it.name.replace('::', '/')}"
-            # (the proof of a function that calls itself stands in a folder of another name)
-            if it.name in names or os.path.isdir(f"{os.path.dirname(place)}/+{it.simple}"):
+            if it.name in names or self.calls_itself(at, it):
                 continue
             os.makedirs(place, exist_ok=True)
             for file in os.listdir(place):
