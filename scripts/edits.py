@@ -41,8 +41,6 @@ PARTS = ("src", "specs", "proofs")
 HOLE = "use Rattle.{crate}.proofs.{place}.Statement.{{statement}}\n\npub {name}_spec : {{M : Type 1}} → statement M\n{name}_spec 𝓤 𝓛 𝓜 𝓡 w = ?\n"
 # A definition without a mark but `pub`, whose body no other one can see unless it says so by `unfolding` or `unfold`.
 SIGNATURE = re.compile(r"(?:pub )?(\S+)(?: \{[^}]*\})? :(?:\s|$)")
-# What begins another declaration, or is none.
-OTHER = re.compile(r"(?:use|pub|mod|abbrev|unfoldable|pattern|axiom|data|record|mutual|ruleset|infix|infixl|infixr)\b|--")
 UNFOLDS = re.compile(r"^.*\bunfold(?:ing)?\b.*$", re.M)
 # The files of a function's own proof.
 OWN = ("Answers.antt", "Invariants.antt", "Proof.antt")
@@ -196,23 +194,33 @@ def link(functions):
 # ---- lemmas ----
 
 
-def blocks_of(text):
-    """The declarations of a file of antt, each with what stands before the next one."""
-    found = [[]]
-    for line in text.split("\n"):
-        if SIGNATURE.match(line) or OTHER.match(line):
-            found.append([])
-        found[-1].append(line)
+def depth_of(line):
+    """How far a line is indented. What is blank, or begins with a bracket's end, belongs to what stands above it."""
+    return len(line) - len(line.lstrip()) if line.strip() and line.lstrip()[0] not in ")]}" else sys.maxsize
+
+
+def end_of_item(lines, at, depth):
+    """The line after what begins at a line: all that stands deeper belongs to it."""
+    return next((it for it in range(at + 1, len(lines)) if depth_of(lines[it]) <= depth), len(lines))
+
+
+def without_bodies(lines, opened):
+    """The declarations of a file of antt, or of a module in it: those whose bodies nothing else sees with holes in place of these."""
+    found, at = [], 0
+    while at < len(lines):
+        depth, end = depth_of(lines[at]), end_of_item(lines, at, depth_of(lines[at]))
+        head, after = SIGNATURE.match(lines[at].strip()), end
+        while head and head[1] not in opened and after < len(lines) and lines[after].split()[0] in ("unfolding", head[1]):
+            after = end_of_item(lines, after, depth)
+        if after > end:
+            found += [*lines[at:end], f"{' ' * depth}{head[1]} = ?", ""]
+        elif lines[at].strip().startswith("module "):
+            begin = next((it for it in range(at, end) if lines[it].endswith("where")), end - 1) + 1
+            found += [*lines[at:begin], *without_bodies(lines[begin:end], opened)]
+        else:
+            found += lines[at:end]
+        at = after
     return found
-
-
-def without_body(block, opened):
-    """A declaration as it is, or, of a definition whose body nothing else sees, its signature and a hole."""
-    head = SIGNATURE.match(block[0]) if block else None
-    body = next((at for at, line in enumerate(block) if at and line[:1] not in ("", " ")), None)
-    if head is None or body is None or head[1] in opened or block[body].split()[0] not in ("unfolding", head[1]):
-        return block
-    return [*block[:body], f"{head[1]} = ?", ""]
 
 
 def leave_out_bodies(folder):
@@ -223,9 +231,8 @@ def leave_out_bodies(folder):
     for path, text in texts.items():
         if os.path.basename(path) in OWN:
             continue
-        left = "\n".join(line for block in blocks_of(text) for line in without_body(block, opened))
         with open(path, "w", encoding="utf-8") as out:
-            out.write(left)
+            out.write("\n".join(without_bodies(text.split("\n"), opened)))
 
 
 # ---- edits ----
