@@ -1,4 +1,4 @@
--- A part of a call, act by act: the one form in which a part of a call is told (this project's own).
+-- A part of a call, told act by act (this project's own).
 use Rattle.std.specs.Prelude.{ℕ, ◌≡◌, ◌⊎◌, ◌++◌, List, [], ◌∷◌, Option, None, Some}
 use Rattle.ata_types.specs.declared.request.RequestId.{RequestId}
 use Rattle.adapter.specs.Access.{Access, Does, DoesAll}

@@ -26,7 +26,7 @@ log_bytes = 0x27 ∷ 0x80 ∷ 0x2f ∷ 0 ∷ 0x10 ∷ 0 ∷ 0 ∷ 0 ∷ 0 ∷ 0 
 unfoldable pub log_memory : ℕ → ℕ
 log_memory = patched (patched first_memory 0x1000 log_bytes) 0x1080 page_bytes
 
--- A port that was started again after a queued fault: it takes READ LOG EXT alone.
+-- A port in the state of one that was started again after a queued fault: it takes READ LOG EXT alone.
 abbrev pub log_port : PortState
 log_port = record ready_port { halt = LogOnly }
 

@@ -17,7 +17,7 @@ pub fn a_fault_is_recovered()
     ensures { RecoveryIsFound }
 {}
 
-/// There is a port that was started again after a queued fault, with READ LOG EXT prepared: it is issued and comes to its end, and the
+/// There is a port that takes READ LOG EXT alone, as after a queued fault, with that command prepared: it is issued and comes to its end, and the
 /// port runs well.
 pub fn a_log_ends_a_halt()
     ensures { LogIsEnded }

@@ -85,7 +85,7 @@ pub fn halt_is_ended()
 /// ST is set on a quiet port with no slot in use and no bit of PxSACT: from then on, while slot 0 alone is used, by a plain command, a
 /// fault shows only while that isn't over. So it stays, whatever the device does, where slot 0 is put to use, and over each access that
 /// clears no ST, writes neither PxSACT nor PxSCTL and leaves no reset pending. So once PxCI is read with bit 0 clear, TFES is clear:
-/// no fault came since ST was set. And then the port runs well, where no other bit tells of trouble.
+/// a command that a fault has halted isn't over. And then the port runs well, where no other bit tells of trouble.
 pub fn faults_show_before_the_end()
     ensures starts { (uses : Uses) (port : Port) (v : ℕ) (old new : Device) → old.hr ≡ false → bit v 0 ≡ true
         → ((slot : ℕ) → uses port.0 slot ≡ Free) → (old.port port.0).sact 0 ≡ false → IsQuiet (old.port port.0)

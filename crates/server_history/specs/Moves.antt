@@ -33,7 +33,7 @@ KeepsTo (Some Read) start earlier steps move = IsConfinedMove start earlier step
 KeepsTo (Some Write) start earlier steps move = IsConfinedMove start earlier steps Write move
 KeepsTo other start earlier steps move = move.address ≡ scratch_of move.port.0
 
--- Among a call's steps, which followed these earlier ones, the clear is of touches in a row. At that moment it clears sectors of a trim of its
+-- Among a call's steps, which followed these earlier ones, the clear is of touches in a row. Before the first of them, its sectors are of a trim of its
 -- port that is issued or kept, within the trim's own range; and the trim was accepted, when it broke no rule.
 pub record IsConfinedClear (start : Machine) (earlier steps : List Step) (clear : tape_clear.Clear) : Type 0 where
   pub later : List Step
