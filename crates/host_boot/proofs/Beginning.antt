@@ -5,7 +5,7 @@ use Rattle.adapter.specs.Device.{Device}
 use Rattle.adapter.specs.Idle.{IsIdle}
 use Rattle.adapter.specs.Rules.{HasPort}
 use Rattle.agreement.specs.Agrees.{port_at}
-use Rattle.agreement.specs.Facts.{RunsWell, Undisturbed}
+use Rattle.agreement.specs.Facts.{IsRecorded, RunsWell, Undisturbed}
 use Rattle.agreement.specs.Places.{list_of}
 use Rattle.identify.specs.declared.DiskInfo.{DiskInfo}
 use Rattle.identify.specs.declared.wanted.Wanted.{Wanted}
@@ -14,7 +14,7 @@ use Rattle.host_boot.specs.declared.Found.{Found}
 use Rattle.host_boot.specs.declared.Found.TheVariants.{Unserved, Ready}
 use Rattle.host_boot.specs.declared.Host.{Host}
 use Rattle.host_boot.proofs.Leaving.{is_served}
-use Rattle.host_boot.proofs.Running.{taken_well}
+use Rattle.host_boot.proofs.Running.{taken_recorded, taken_well}
 
 module _ (wanted : Wanted) (port : ℕ) (d : Device) where
   still_has : (found : Found) → port < 4 → found ≢ Unserved → StandsBehind wanted found port d → HasPort d port
@@ -34,3 +34,6 @@ module _ (wanted : List Wanted) (host : Host) (port : ℕ) (old new : Device) (t
 
   pub taken_runs : (info : DiskInfo) → IsIdle old → found_of host.ports port ≡ Ready info → Undisturbed port old new → RunsWell (new.port port)
   taken_runs info idle is = taken_well (port_at port) info host.ports old new idle is taken.way
+
+  pub taken_faults : (info : DiskInfo) → IsIdle old → found_of host.ports port ≡ Ready info → IsRecorded new.tape (new.port port) port
+  taken_faults info idle is = taken_recorded (port_at port) info host.ports old new idle is taken.way

@@ -13,7 +13,7 @@ use Rattle.adapter.specs.Idle.{IsIdle}
 use Rattle.adapter.specs.Rules.{IsOn}
 use Rattle.agreement.specs.Agrees.{port_at}
 use Rattle.agreement.specs.Driven.{IsDrivenBy, IsOf, NoneWrites}
-use Rattle.agreement.specs.Facts.{RunsWell, Undisturbed}
+use Rattle.agreement.specs.Facts.{IsRecorded, RunsWell, Undisturbed}
 use Rattle.agreement.proofs.Controlled.{Grows, access_grows, driven_of, grows_more, of_spares_ghc, of_spares_others, on_over, tape_over}
 use Rattle.agreement.proofs.Driven.{by_none, by_then, driven_as}
 use Rattle.agreement.proofs.Erring.{plugs_come}
@@ -113,6 +113,22 @@ go_well port info first (found ∷ rest) (suc k) old new at is on (mid, way, mor
     let parts = calm_in_parts port.0 old mid new (tape_over (IsOf (port_at first)) old mid early) (tape_over (IsOfFrom (first + 1)) mid new late) calm in
     go_well port info (first + 1) rest k mid new (omega (arith, at)) is (on_over (IsOf (port_at first)) old mid early (of_spares_ghc (port_at first)) on) more parts.1
 
+-- so it is with the record of its faults
+go_recorded : (port : Port) (info : DiskInfo) (first : ℕ) (ports : List Found) (k : ℕ) (old new : Device) → port.0 ≡ first + k → slice_index_or ports k Unserved ≡ Ready info → IsOn old → GoThrough first ports old new →
+    IsRecorded new.tape (new.port port.0) port.0
+go_recorded port info first [] k old new at is on way = absurd (let e : Unserved ≡ Ready info = is in cc)
+go_recorded port info first (found ∷ rest) zero old new at is on (mid, way, more) =
+    let same : port_at first ≡ port = ap port_at (sym (at ∙ (omega arith))) in
+    let its : GoesThrough port (Ready info) old mid = subst (λ (p : Port). GoesThrough p (Ready info) old mid) same (subst (λ (f : Found). GoesThrough (port_at first) f old mid) is way) in
+    let early = through_driven (port_at first) found old mid way in
+    let late = go_driven (first + 1) (first + 1) rest mid new (omega arith) more in
+    (others_last port mid new (on_over (IsOf (port_at first)) old mid early (of_spares_ghc (port_at first)) on)
+    (driven_as (IsOfFrom (first + 1)) (IsOfOther port.0) mid new (λ access (q, above, its). (q, λ (e : port.0 ≡ q.0). absurd (omega (arith, at, above, e)), its)) late)).runs.recorded
+    its.4.recorded
+go_recorded port info first (found ∷ rest) (suc k) old new at is on (mid, way, more) =
+    let early = through_driven (port_at first) found old mid way in
+    go_recorded port info (first + 1) rest k mid new (omega (arith, at)) is (on_over (IsOf (port_at first)) old mid early (of_spares_ghc (port_at first)) on) more
+
 -- ---- the whole taking over
 
 survey_spares_ghc : NoneWrites IsSurvey Ghc
@@ -133,3 +149,12 @@ taken_well port info ports old new idle is way calm =
     let parts = calm_in_parts port.0 old way.booted new (grows_more old way.surveyed way.booted before boots) last.grows calm in
     let within = calm_in_parts port.0 old way.surveyed way.booted before boots parts.0 in
     well_on port.0 way.booted new last.runs parts.1 (go_well port info 0 ports port.0 way.surveyed way.booted (omega arith) is surveyed way.boots within.1)
+
+pub taken_recorded : (port : Port) (info : DiskInfo) (ports : List Found) (old new : Device) → IsIdle old → found_of ports port.0 ≡ Ready info → GoesOver ports old new → IsRecorded new.tape (new.port port.0) port.0
+taken_recorded port info ports old new idle is way =
+    let on : IsOn way.switched = switches_on 0x80000000 old way.switched idle.no_reset refl refl way.switches in
+    let surveyed : IsOn way.surveyed = on_over IsSurvey way.switched way.surveyed way.surveys survey_spares_ghc on in
+    let driven = go_driven 0 0 ports way.surveyed way.booted (omega arith) way.boots in
+    let booted : IsOn way.booted = on_over (IsOfFrom 0) way.surveyed way.booted driven (from_spares_ghc 0) surveyed in
+    (lasts_access port (Writing Ghc 0x80000002) way.booted new booted (λ (e : Ghc ≡ Px port Sctl). absurd cc) way.enables (λ (e : Ghc ≡ Px port Cmd). absurd cc)).runs.recorded
+    (go_recorded port info 0 ports port.0 way.surveyed way.booted (omega arith) is surveyed way.boots)

@@ -8,7 +8,7 @@ ghost use Rattle.adapter.specs.Rules.{IsOn, HasPort};
 ghost use Rattle.adapter.specs.Steps.{Steps};
 ghost use Rattle.adapter.specs.declared.command.Operation.TheVariants.{Identify};
 ghost use Rattle.agreement.specs.Driven.{IsDrivenBy, IsOf, SendsNone};
-ghost use Rattle.agreement.specs.Facts.{RunsWell, Undisturbed};
+ghost use Rattle.agreement.specs.Facts.{IsRecorded, RunsWell, Undisturbed};
 ghost use Rattle.agreement.specs.Links.{SameAdapter};
 ghost use Rattle.agreement.specs.Places.{list_of};
 ghost use Rattle.identify.specs.declared.DiskInfo.{DiskInfo};
@@ -35,7 +35,8 @@ pub fn the_device_leaves_ports()
 {}
 
 /// A server may begin with what was taken over. The adapter has each port that is served. A port that was found ready has its command
-/// list in its place, with ST set; and where nothing went wrong on it in the whole taking over, it runs well.
+/// list in its place, with ST set; where nothing went wrong on it in the whole taking over, it runs well; and whatever went wrong, its
+/// faults since ST was set are on record.
 pub fn what_was_taken_over_may_be_served()
     ensures there { (wanted : List Wanted) (host : Host) (port : ℕ) (old new : Device) → TakesOver wanted host old new → port < 4
         → found_of host.ports port ≢ Unserved → HasPort new port }
@@ -45,6 +46,8 @@ pub fn what_was_taken_over_may_be_served()
     ensures well { (wanted : List Wanted) (host : Host) (port : ℕ) (info : DiskInfo) (old new : Device) → IsIdle old
         → TakesOver wanted host old new → found_of host.ports port ≡ Ready info → Undisturbed port old new
         → RunsWell (new.port port) }
+    ensures recorded { (wanted : List Wanted) (host : Host) (port : ℕ) (info : DiskInfo) (old new : Device) → IsIdle old
+        → TakesOver wanted host old new → found_of host.ports port ≡ Ready info → IsRecorded new.tape (new.port port) port }
 {}
 
 /// A port that runs well does so still after accesses of another port, where nothing goes wrong on it meanwhile.

@@ -4,7 +4,7 @@ use Rattle.std.specs.List.{All, Contains, list_any}
 use Rattle.std.specs.Option.{option_or}
 use Rattle.std.specs.Prelude.{slice_index_or}
 use Rattle.std.proofs.lemmas.Bool.{cases_Bool, cases_eq, cond-true, cond-false, false≢true, ne_eqb, or_cases}
-use Rattle.std.proofs.lemmas.List.Elements.{All-contains, All-push, All-weaker}
+use Rattle.std.proofs.lemmas.List.Elements.{All-contains, All-nil, All-push, All-weaker}
 use Rattle.std.proofs.lemmas.List.Folds.{find-append}
 use Rattle.ata_types.specs.declared.Port.{Port}
 use Rattle.ata_types.specs.declared.PortState.TheVariants.{Ready as ReadyState}
@@ -46,12 +46,16 @@ use Rattle.request_book.proofs.Giving.{still_accepted}
 use Rattle.request_book.proofs.Order.{longer_in_order}
 use Rattle.request_book.proofs.Standing.{is_of_own}
 use Rattle.request_book.proofs.Stepping.{goes_last, has_first, same_ports}
-use Rattle.server_history.specs.Histories.{Adds, Leads, no_evidence}
+use Rattle.driver_history.specs.Histories.{IsIssuing as IsIssuingAccess}
+use Rattle.driver_history.specs.Trace.{LeavesEngine}
+use Rattle.server_history.specs.Histories.{Adds, Leads}
 use Rattle.server_history.specs.Served.{Accepts, accepted_as, issued_of}
 use Rattle.server_history.specs.Server.{Server, IsKept, IsMachineOf, IsPortOf, IsUseOf, none_parked, plain_mode, ports_of, situation_of, state_of}
 use Rattle.server_history.proofs.Calls.{reached, situation_is}
 use Rattle.server_history.proofs.Devices.{not_handled}
-use Rattle.server_history.proofs.Going.{kept_then, lead_by, ports_same, uninterrupted}
+use Rattle.server_history.proofs.Going.{kept_then, lead_by, ports_same}
+use Rattle.server_history.proofs.Coming.{issuing_is, issuing_leaves}
+use Rattle.server_history.proofs.Told.{no_evidence, uninterrupted}
 use Rattle.server_history.proofs.Granting.{has_room, is_accepted, is_new, lent_elsewhere, on_ready, request_in, entry_in}
 use Rattle.server_history.proofs.Issuing.{LacksIssue, IsIssue, apart_all, every, issue_first, behind_issued, issued_serves}
 use Rattle.server_history.proofs.Ports.{not_own}
@@ -163,6 +167,9 @@ module _ (s : Server) (k : IsKept s) (r : Request) (acc : IsAcceptable (situatio
 
   ready : state_of (found_of s.ports port.0) ≡ ReadyState
   ready = on_ready s r acc row named port port_is
+
+  port_low : port.0 < 4
+  port_low = (ready_found s port.0 k ready).0
 
   all_ready : All (λ x. state_of (found_of s.ports x.port.0) ≡ ReadyState) (s.book ++ e ∷ [])
   all_ready = All-push (λ (x : Accepted). state_of (found_of s.ports x.port.0) ≡ ReadyState) s.book e k.ready ready
@@ -300,13 +307,13 @@ module _ (s : Server) (k : IsKept s) (r : Request) (acc : IsAcceptable (situatio
     waiting_event : has_of port s.book ≡ true → Event s.device
     waiting_event has =
         let stands = waiting m was is has in
-        lead_by first past s (more s.device) (Submit r) (Submitted (Ok id)) (Accept asked ∷ []) refl refl leads
+        lead_by first past s (more s.device) (Submit r) (Submitted (Ok id)) (Accept asked ∷ []) refl refl leads (kept_waiting has)
         (tt, fresh m was is) (tt, inr refl) (tt, λ other h i. false≢true h) tt
         (allowed, (asked, refl, refl), same_ports_are, all_issued (more s.device) (next m was is) stands)
-        (row, its_row, by_none (IsIssuing row.port) s.device)
-        k.on
-        k.behind
-        (λ other well. uninterrupted other)
+        []
+        (refl, (row, its_row, All-nil (IsIssuingAccess row.port)))
+        (λ other. All-nil (LeavesEngine other))
+        (λ other healthy. record { finds = tt; faults = tt; tries = tt; boots = tt; heeds = uninterrupted s.device old.moment.ports other })
         (own_backed s.device m (Accept asked) (λ no. no))
         stands
 
@@ -317,16 +324,16 @@ module _ (s : Server) (k : IsKept s) (r : Request) (acc : IsAcceptable (situatio
         let early : List Step = Accept asked ∷ [] in
         let split : after m (late ++ early) ≡ after (next m was is) late = after-append m late early in
         let stands : IsMachineOf (more new) (after m (late ++ early)) = subst (IsMachineOf (more new)) (sym split) x.stands in
-        lead_by first past s (more new) (Submit r) (Submitted (Ok id)) (late ++ early) refl refl leads
+        lead_by first past s (more new) (Submit r) (Submitted (Ok id)) (late ++ early) refl refl leads (kept_sent none new issues)
         (may-append m late early (tt, fresh m was is) x.may)
         (belong_on {D = DeviceStep} (Submit r) (ports_of s.ports) x.steps early x.only (tt, inr refl), inr (ap (λ (p : Port). state_of (found_of s.ports p.0)) x.port_is ∙ ready, refl))
         (last_on x.steps early x.only (tt, λ other h i. false≢true h), λ other h i. none_issued other x.steps early x.only (λ j. false≢true j) i)
         (lawful_on old.moment no_evidence (ports_of s.ports) x.steps early x.only tt)
         (allowed, (asked, accepts_on x.steps early x.only, refl), same_ports_are, all_issued (more new) (after m (late ++ early)) stands)
-        (row, its_row, subst (λ (p : Port). IsDrivenBy (IsIssuing p) s.device new) (sym port_is) issues.driven)
-        (services_on s.device new k.on (issued_serves port (issued_of e) s.device new issues))
-        (behind_sent none new issues)
-        (λ other well. uninterrupted other)
+        issues.driven.accesses
+        (issues.driven.all, (row, its_row, All-weaker (IsIssuing port) (IsIssuingAccess row.port) (λ access here. subst (λ (p : Port). IsIssuingAccess p access) (sym port_is) (issuing_is port port_low access here)) issues.driven.accesses issues.driven.only))
+        (λ other. All-weaker (IsIssuing port) (LeavesEngine other) (issuing_leaves port other) issues.driven.accesses issues.driven.only)
+        (λ other healthy. record { finds = tt; faults = tt; tries = tt; boots = tt; heeds = uninterrupted s.device old.moment.ports other })
         (backed_then s.device s.device new m early late (own_backed s.device m (Accept asked) (λ no. no)) x.backed)
         stands
 

@@ -5,6 +5,7 @@ use Rattle.std.proofs.lemmas.Bool.{false≢true, cases_lt}
 use Rattle.std.proofs.lemmas.List.Elements.{All-contains, All-nil}
 use Rattle.ata_types.specs.declared.PortState.{PortState}
 use Rattle.ata_types.specs.declared.PortState.TheVariants.{Absent, Ready as ReadyState, Foreign, Unfit, Dead}
+use Rattle.ata_types.specs.declared.Port.{Port}
 use Rattle.ata_types.specs.declared.grant.GrantRow.{GrantRow}
 use Rattle.ata_types.specs.declared.request.ClientId.{ClientId}
 use Rattle.ata_types.specs.declared.request.Frame.{Frame}
@@ -40,7 +41,12 @@ use Rattle.port_boot.specs.States.{EndsAs, IsUnfit}
 use Rattle.request_book.specs.Entries.{IsAccepted, IsInOrder, first_of}
 use Rattle.request_book.specs.Machine.{IsBook}
 use Rattle.request_book.specs.declared.book.Accepted.{Accepted}
-use Rattle.transfers.specs.Transfers.{MayTransfer}
+use Rattle.driver_history.specs.Holds.{Runs}
+use Rattle.agreement.specs.Facts.{IsRecorded, RunsWell, Undisturbed}
+use Rattle.host_boot.proofs.Beginning.{taken_faults, taken_runs}
+use Rattle.server_history.proofs.Unused.{ready_found}
+use Rattle.identify.specs.declared.DiskInfo.{DiskInfo}
+use Rattle.server_history.proofs.Standing.{holds_with, slots}
 use Rattle.server_history.specs.Histories.{HasBegun}
 use Rattle.server_history.specs.Server.{Server, AreUsesOf, IsKept, IsMachineOf, IsNewServer, IsPortOf, IsTransferRow, IsUseOf, is_served, none_parked, ports_of, state_of}
 use Rattle.host_boot.proofs.Leaving.{boots_begin}
@@ -123,11 +129,22 @@ none_past [] port long = refl
 none_past (f ∷ rest) zero long = absurd (omega (arith, long))
 none_past (f ∷ rest) (suc n) long = none_past rest n (omega (arith, long))
 
--- what a ready port's boot leaves lets it transfer
-ready_runs : (wanted : Wanted) (found : Found) (port : ℕ) (d : Device) → StandsBehind wanted found port d → state_of found ≡ ReadyState → MayTransfer port d
-ready_runs wanted Unserved port d s is = absurd (let z : Absent ≡ ReadyState = is in cc)
-ready_runs wanted (Ready info) port d s is = record { started = s.1.runs.st; list = ap (λ b. b.clb) s.1.runs.bases }
-ready_runs wanted (Unready state) port d s is = absurd (subst (λ (x : PortState). EndsAs (serial_of wanted) x port d) is s.1)
+-- what a ready port's boot leaves runs, with nothing queued
+ready_runs : (wanted : Wanted) (found : Found) (port : ℕ) (d : Device) → StandsBehind wanted found port d → ((info : DiskInfo) → found ≡ Ready info → IsRecorded d.tape (d.port port) port) → state_of found ≡ ReadyState
+    → Runs port d × ((slot : ℕ) → (d.port port).sact slot ≡ false)
+ready_runs wanted Unserved port d s recorded is = absurd (let z : Absent ≡ ReadyState = is in cc)
+ready_runs wanted (Ready info) port d s recorded is = (
+  record {
+    st = s.1.runs.st;
+    cr = s.1.runs.cr;
+    fre = s.1.runs.fre;
+    bases = s.1.runs.bases;
+    saw = s.1.saw.1;
+    recorded = recorded info refl s.1.runs.st;
+  },
+  s.1.runs.sact,
+)
+ready_runs wanted (Unready state) port d s recorded is = absurd (subst (λ (x : PortState). EndsAs (serial_of wanted) x port d) is s.1)
 
 -- a port that is served is there
 served_there : (wanted : Wanted) (found : Found) (port : ℕ) (d : Device) → StandsBehind wanted found port d → is_served found ≡ true → bit d.pi port ≡ true
@@ -199,10 +216,15 @@ module _ (s : Server) (host : Host) (d : Device) (is : IsIdle d) (told : TellsDi
       (λ (high : 4 ≤ port). absurd (false≢true (sym (ap is_served (found_is port ∙ none_past host.ports port (let l = n.four in omega (arith, l, high)))) ∙ served)))
       (cases_lt port 4)
 
+  running : (port : ℕ) → port < 4 → state_of (found_of s.ports port) ≡ ReadyState → Runs port s.device × ((slot : ℕ) → (s.device.port port).sact slot ≡ false)
+  running port below =
+      ready_runs (wanted_of s.wanted port) (found_of s.ports port) port s.device (behind port below) (λ info found. taken_faults s.wanted host port d s.device taken info is (sym (found_is port) ∙ found))
+
   ports_on : (port : ℕ) → port < 4 → IsPortOf s.wanted s.ports port s.device
   ports_on port below = record {
     behind = boots_begin (wanted_of s.wanted port) (found_of s.ports port) port s.device (behind port below);
-    runs = ready_runs (wanted_of s.wanted port) (found_of s.ports port) port s.device (behind port below);
+    runs = λ ready. (running port below ready).0;
+    unqueued = λ ready. (running port below ready).1;
   }
 
   uses_are : AreUsesOf s taken.uses
@@ -263,13 +285,22 @@ module _ (s : Server) (host : Host) (d : Device) (is : IsIdle d) (told : TellsDi
       let later : Machine = after first_machine x.0 in
       let spares : SparesBook first_machine later = steps_spare first_machine x.0 x.3.only in
       let begun : IsStart later = start_on first_machine later start spares in
-      let stands : IsMachineOf s later = stands_for later begun spares x.2 in (
-        kept_by later (reached_more first_machine x.0 reached_first x.1) stands,
+      let stands : IsMachineOf s later = stands_for later begun spares x.2 in
+      let reached : IsReached later = reached_more first_machine x.0 reached_first x.1 in
+      let kept : IsKept s = kept_by later reached stands in (
+        kept,
         (
           record { device = s.device; moment = record { machine = later; ports = ports_of s.ports } },
           record {
-            history = ((begun, ports_fit), record { on = taken.on; ports = record { found = s.ports; ports_are = refl; behind = ports_on }; uses = taken.uses; plain = uses_are.others; knows = x.2 });
+            history = ((begun, ports_fit), (slots s kept later reached stands, holds_with s kept later reached stands));
             stands = record { device_is = refl; ports_are = refl; machine = stands };
           },
         ),
       )
+-- ---- a new server
+
+pub new_well : (s : Server) (host : Host) (idle : Device) (port : Port) → IsKept s → IsIdle idle → TakesOver s.wanted host idle s.device → s.ports ≡ host.ports
+    → state_of (found_of s.ports port.0) ≡ ReadyState → Undisturbed port.0 idle s.device → RunsWell (s.device.port port.0)
+new_well s host idle port k rest taken same ready calm =
+    let found = (ready_found s port.0 k ready).1 in
+    taken_runs s.wanted host port.0 idle s.device taken found.0 rest (ap (λ (ports : List Found). found_of ports port.0) (sym same) ∙ found.1) calm

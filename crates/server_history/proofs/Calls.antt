@@ -1,6 +1,7 @@
 -- Calls that leave the book: the device's steps, refusals, and clients' bytes.
 use Rattle.std.proofs.Common.{ℕ, ◌≡◌, ◌+◌, ◌*◌, ◌<◌, true, false, List, [], ◌∷◌, Ok, Err, ◌≢◌, Option, Some, length, refl, sym, ap, subst, inr}
 use Rattle.std.proofs.lemmas.Bool.{false≢true}
+use Rattle.std.proofs.lemmas.List.Elements.{All-cons, All-nil}
 use Rattle.ata_types.specs.declared.Port.{Port}
 use Rattle.ata_types.specs.declared.refusal.MemFault.{MemFault}
 use Rattle.ata_types.specs.declared.refusal.Refusal.{Refusal}
@@ -29,10 +30,10 @@ use Rattle.agreement.proofs.Lasting.{access_same}
 use Rattle.agreement.proofs.Paging.{access_sends_none}
 use Rattle.agreement.proofs.Permitting.{clients_are_free}
 use Rattle.agreement.proofs.Sparing.{steps_spare}
-use Rattle.block_machine.specs.Events.{Ask, Submit, StoreAt, LoadAt, Service, State, AllMay, AllDevices, Device as Told, Said, Submitted, Stored, Loaded, Shown, Stepped, IsAnswered, HeedsAt}
+use Rattle.block_machine.specs.Events.{Ask, Submit, StoreAt, LoadAt, Service, State, AllMay, AllDevices, Device as Told, Said, Submitted, Stored, Loaded, Shown, Stepped, IsAnswered}
 use Rattle.block_machine.specs.Histories.{Instant, Happening, IsReached, now}
 use Rattle.block_machine.specs.Left.{after}
-use Rattle.block_machine.specs.Ports.{Ports}
+use Rattle.block_machine.specs.Ports.{Evidence, Ports}
 use Rattle.block_machine.specs.Refusals.{Situation, IsFirstMemFault, IsFirstRefusal, IsOpen}
 use Rattle.block_machine.specs.State.{Machine}
 use Rattle.block_machine.specs.Steps.{Step, Load, Store}
@@ -48,11 +49,14 @@ use Rattle.request_book.specs.Entries.{first_of}
 use Rattle.request_book.proofs.Counts.{as_many}
 use Rattle.transfers.specs.Services.{IsService}
 use Rattle.transfers.proofs.Serving.{services_on}
-use Rattle.server_history.specs.Histories.{Adds, Begins, CameBy, Leads, Stands, Ties, load_said, no_evidence, store_said}
+use Rattle.driver_history.specs.Histories.{Begins, CameBy, Ties, TiesPort}
+use Rattle.driver_history.specs.Trace.{LeavesEngine}
+use Rattle.server_history.specs.Histories.{Adds, Leads, Stands, load_said, store_said}
 use Rattle.server_history.specs.Server.{Server, IsKept, IsMachineOf, IsPortOf, none_parked, ports_of, situation_of}
 use Rattle.server_history.proofs.Devices.{devices_belong, devices_last, devices_lawful, devices_transfer}
 use Rattle.server_history.proofs.Coming.{none_loaded}
-use Rattle.server_history.proofs.Going.{kept_on, lead_by, machine_on, machine_with, ports_same, uninterrupted}
+use Rattle.server_history.proofs.Going.{happening, kept_on, lead_by, machine_on, machine_with, ports_same, with_device}
+use Rattle.server_history.proofs.Told.{no_evidence, told_by, uninterrupted}
 use Rattle.server_history.proofs.Ports.{IsOfBytes, bytes_leave, bytes_serve, not_own, port_on}
 
 -- ---- what a history leads to
@@ -107,54 +111,54 @@ device_adds_event s new step k asked moves = record { adds = adds }
         let m = at.machine in
         let x = (device_adds (known m.uses none_parked s.device) new moves).adds old.moment.machine (reached first past s leads) m.knows in
         let steps : List Step = x.0 in
-        lead_by first past s (record s { device = new }) (Told step) (Stepped true) steps refl refl leads x.1 (devices_belong (Told step) (ports_of s.ports) steps x.3.only) (devices_last steps x.3.only)
+        lead_by first past s (record s { device = new }) (Told step) (Stepped true) steps refl refl leads (device_kept s new k moves) x.1 (devices_belong (Told step) (ports_of s.ports) steps x.3.only) (devices_last steps x.3.only)
         (devices_lawful old.moment no_evidence (ports_of s.ports) steps x.3.only)
         (x.3.only, ports_same old.moment.ports (ports_of s.ports) at.ports_are)
-        asked
-        (services_on s.device new k.on (served s k new (Loading 0 []) tt (none_loaded s.device new moves)))
-        (ports_on s k new (Loading 0 []) tt (none_loaded s.device new moves))
-        (λ port well. uninterrupted port)
+        []
+        (refl, asked)
+        (λ port. All-nil (LeavesEngine port))
+        (λ port healthy. record { finds = tt; faults = tt; tries = tt; boots = tt; heeds = uninterrupted s.device old.moment.ports port })
         x.3.backed
         (machine_on s new old.moment.machine steps m x.3.only x.2)
 
 -- ---- calls that do nothing
 
-nothing_adds : (s : Server) (ask : Ask DeviceStep) (said : Said) → IsKept s → ((m : Machine) → CameBy m s.ports ask said s.device s.device)
-    → ((old : Instant Device) → Stands old s → IsAnswered ask said old.moment no_evidence [] (record { machine = old.moment.machine; ports = ports_of s.ports }))
-    → ((port : Port) (old : Instant Device) → HeedsAt port ask old.moment no_evidence [] (record { machine = old.moment.machine; ports = ports_of s.ports }))
+nothing_adds : (s : Server) (ask : Ask DeviceStep) (said : Said) → IsKept s → ((m : Machine) → CameBy m ask said [] s.device s.device)
+    → ((old : Instant Device) → Stands old s → (evidence : Evidence) → IsAnswered ask said old.moment evidence [] (record { machine = old.moment.machine; ports = ports_of s.ports }))
+    → ((old : Instant Device) (port : Port) → TiesPort old (happening old s.device ask said [] (ports_of s.ports)) [] port)
     → Adds s s ask said
-nothing_adds s ask said k came answered heeds = record { adds = adds }
+nothing_adds s ask said k came answered parts = record { adds = adds }
   where
     adds : (first : Instant Device) (past : List (Happening Device DeviceStep)) → Leads first past s
         → (h : Happening Device DeviceStep) × (h.event.ask ≡ ask) × (h.event.said ≡ said) × Leads first (h ∷ past) s
     adds first past leads =
         let old : Instant Device = now first past in
-        lead_by first past s s ask said [] refl refl leads tt tt tt tt (answered old leads.stands) (came old.moment.machine) k.on k.behind
-        (λ port well. heeds port old) (nothing_backed s.device old.moment.machine) leads.stands.machine
+        lead_by first past s s ask said [] refl refl leads k tt tt tt tt (answered old leads.stands (told_by s.device old.moment.ports)) [] (came old.moment.machine)
+        (λ port. All-nil (LeavesEngine port)) (λ port healthy. parts (with_device s.device old) port) (nothing_backed s.device old.moment.machine) leads.stands.machine
 
 pub undone_adds : (s : Server) (step : DeviceStep) → IsKept s → Adds s s (Told step) (Stepped false)
 undone_adds s step k =
-    nothing_adds s (Told step) (Stepped false) k (λ m. refl)
-    (λ old at. (refl, ports_same old.moment.ports (ports_of s.ports) at.ports_are)) (λ port old. uninterrupted port)
+    nothing_adds s (Told step) (Stepped false) k (λ m. (refl, refl))
+    (λ old at evidence. (refl, ports_same old.moment.ports (ports_of s.ports) at.ports_are)) (λ old port. record { finds = tt; faults = tt; tries = tt; boots = tt; heeds = uninterrupted old.device old.moment.ports port })
 
 pub state_adds : (s : Server) (port : Port) → IsKept s → Adds s s (State port) (Shown ((ports_of s.ports).state port))
 state_adds s port k =
-    nothing_adds s (State port) (Shown ((ports_of s.ports).state port)) k (λ m. refl)
-    (λ old at. (ap (λ (ports : Ports). ports.state port) (sym at.ports_are), refl, ports_same old.moment.ports (ports_of s.ports) at.ports_are)) (λ other old. uninterrupted other)
+    nothing_adds s (State port) (Shown ((ports_of s.ports).state port)) k (λ m. (refl, refl))
+    (λ old at evidence. (ap (λ (ports : Ports). ports.state port) (sym at.ports_are), refl, ports_same old.moment.ports (ports_of s.ports) at.ports_are)) (λ old port. record { finds = tt; faults = tt; tries = tt; boots = tt; heeds = uninterrupted old.device old.moment.ports port })
 
 pub store_refused : (s : Server) (client : ClientId) (frame : Frame) (offset : ℕ) (bytes : List ℕ) (fault : MemFault) → IsKept s
     → IsFirstMemFault (owner_of s.table) (lent_to s.table) client frame offset (length bytes) fault → Adds s s (StoreAt client frame offset bytes) (store_said (Err fault))
 store_refused s client frame offset bytes fault k is =
-    nothing_adds s (StoreAt client frame offset bytes) (store_said (Err fault)) k (λ m. refl)
-    (λ old at. (as_told s old.moment.machine at.machine (λ owner lent. IsFirstMemFault owner lent client frame offset (length bytes) fault) is, refl, ports_same old.moment.ports (ports_of s.ports) at.ports_are))
-    (λ port old. uninterrupted port)
+    nothing_adds s (StoreAt client frame offset bytes) (store_said (Err fault)) k (λ m. (refl, refl))
+    (λ old at evidence. (as_told s old.moment.machine at.machine (λ owner lent. IsFirstMemFault owner lent client frame offset (length bytes) fault) is, refl, ports_same old.moment.ports (ports_of s.ports) at.ports_are))
+    (λ old port. record { finds = tt; faults = tt; tries = tt; boots = tt; heeds = uninterrupted old.device old.moment.ports port })
 
 pub load_refused : (s : Server) (client : ClientId) (frame : Frame) (offset count : ℕ) (bytes : List ℕ) (fault : MemFault) → IsKept s
     → IsFirstMemFault (owner_of s.table) (lent_to s.table) client frame offset count fault → Adds s s (LoadAt client frame offset count) (load_said (Err fault) bytes)
 load_refused s client frame offset count bytes fault k is =
-    nothing_adds s (LoadAt client frame offset count) (load_said (Err fault) bytes) k (λ m. refl)
-    (λ old at. (as_told s old.moment.machine at.machine (λ owner lent. IsFirstMemFault owner lent client frame offset count fault) is, refl, ports_same old.moment.ports (ports_of s.ports) at.ports_are))
-    (λ port old. uninterrupted port)
+    nothing_adds s (LoadAt client frame offset count) (load_said (Err fault) bytes) k (λ m. (refl, refl))
+    (λ old at evidence. (as_told s old.moment.machine at.machine (λ owner lent. IsFirstMemFault owner lent client frame offset count fault) is, refl, ports_same old.moment.ports (ports_of s.ports) at.ports_are))
+    (λ old port. record { finds = tt; faults = tt; tries = tt; boots = tt; heeds = uninterrupted old.device old.moment.ports port })
 
 -- ---- what a request meets
 
@@ -172,9 +176,9 @@ situation_is s old at = λ i. record {
 
 pub submit_refused : (s : Server) (r : Request) (refusal : Refusal) → IsKept s → IsFirstRefusal (situation_of s) r refusal → Adds s s (Submit r) (Submitted (Err refusal))
 submit_refused s r refusal k is =
-    nothing_adds s (Submit r) (Submitted (Err refusal)) k (λ m. refl)
-    (λ old at. (subst (λ (x : Situation). IsFirstRefusal x r refusal) (sym (situation_is s old at)) is, refl, ports_same old.moment.ports (ports_of s.ports) at.ports_are))
-    (λ port old. uninterrupted port)
+    nothing_adds s (Submit r) (Submitted (Err refusal)) k (λ m. (refl, refl))
+    (λ old at evidence. (subst (λ (x : Situation). IsFirstRefusal x r refusal) (sym (situation_is s old at)) is, refl, ports_same old.moment.ports (ports_of s.ports) at.ports_are))
+    (λ old port. record { finds = tt; faults = tt; tries = tt; boots = tt; heeds = uninterrupted old.device old.moment.ports port })
 
 -- ---- clients' bytes
 
@@ -229,14 +233,14 @@ module _ (s : Server) (new : Device) (client : ClientId) (frame : Frame) (offset
           let old : Instant Device = now first past in
           let at : Stands old s = leads.stands in
           let x = load_ends s new client frame offset bytes k opens loads old.moment.machine (reached first past s leads) at.machine in
-          lead_by first past s (record s { device = new }) (LoadAt client frame offset (length bytes)) (load_said (Ok tt) bytes) (Load client frame offset bytes ∷ x.0.steps) refl refl leads x.0.may (devices_belong {D = DeviceStep} (LoadAt client frame offset (length bytes)) (ports_of s.ports) x.0.steps x.0.only, inr (refl, refl, refl, refl))
+          lead_by first past s (record s { device = new }) (LoadAt client frame offset (length bytes)) (load_said (Ok tt) bytes) (Load client frame offset bytes ∷ x.0.steps) refl refl leads (load_kept loads) x.0.may (devices_belong {D = DeviceStep} (LoadAt client frame offset (length bytes)) (ports_of s.ports) x.0.steps x.0.only, inr (refl, refl, refl, refl))
           (devices_last x.0.steps x.0.only, λ id h i. false≢true h)
           (devices_lawful old.moment no_evidence (ports_of s.ports) x.0.steps x.0.only)
           (as_told s old.moment.machine at.machine (λ owner lent. IsOpen owner lent client frame offset (length bytes)) opens, ap (λ (rest : List (List ℕ)). bytes ∷ rest) (devices_transfer x.0.steps x.0.only), ports_same old.moment.ports (ports_of s.ports) at.ports_are)
-          loads
-          (services_on s.device new k.on (served s k new (Loading (4096 * frame.0 + offset) bytes) tt loads))
-          (ports_on s k new (Loading (4096 * frame.0 + offset) bytes) tt loads)
-          (λ port well. uninterrupted port)
+          (Loading (4096 * frame.0 + offset) bytes ∷ [])
+          ((new, loads, refl), refl)
+          (λ port. All-cons (LeavesEngine port) (Loading (4096 * frame.0 + offset) bytes) [] (tt, tt) (All-nil (LeavesEngine port)))
+          (λ port healthy. record { finds = tt; faults = tt; tries = tt; boots = tt; heeds = uninterrupted s.device old.moment.ports port })
           x.0.backed x.1
 
   pub store_adds : Stores (4096 * frame.0 + offset) bytes s.device new → Adds s (record s { device = new }) (StoreAt client frame offset bytes) (store_said (Ok tt))
@@ -248,14 +252,14 @@ module _ (s : Server) (new : Device) (client : ClientId) (frame : Frame) (offset
           let old : Instant Device = now first past in
           let at : Stands old s = leads.stands in
           let x = store_ends s new client frame offset bytes k opens stores old.moment.machine (reached first past s leads) at.machine in
-          lead_by first past s (record s { device = new }) (StoreAt client frame offset bytes) (store_said (Ok tt)) (Store client frame offset bytes ∷ x.0.steps) refl refl leads x.0.may (devices_belong {D = DeviceStep} (StoreAt client frame offset bytes) (ports_of s.ports) x.0.steps x.0.only, inr (refl, refl, refl, refl))
+          lead_by first past s (record s { device = new }) (StoreAt client frame offset bytes) (store_said (Ok tt)) (Store client frame offset bytes ∷ x.0.steps) refl refl leads (store_kept stores) x.0.may (devices_belong {D = DeviceStep} (StoreAt client frame offset bytes) (ports_of s.ports) x.0.steps x.0.only, inr (refl, refl, refl, refl))
           (devices_last x.0.steps x.0.only, λ id h i. false≢true h)
           (devices_lawful old.moment no_evidence (ports_of s.ports) x.0.steps x.0.only)
           (as_told s old.moment.machine at.machine (λ owner lent. IsOpen owner lent client frame offset (length bytes)) opens, ap (λ (rest : List (List ℕ)). bytes ∷ rest) (devices_transfer x.0.steps x.0.only), ports_same old.moment.ports (ports_of s.ports) at.ports_are)
-          stores
-          (services_on s.device new k.on (served s k new (Storing (4096 * frame.0 + offset) bytes) tt stores))
-          (ports_on s k new (Storing (4096 * frame.0 + offset) bytes) tt stores)
-          (λ port well. uninterrupted port)
+          (Storing (4096 * frame.0 + offset) bytes ∷ [])
+          ((new, stores, refl), refl)
+          (λ port. All-cons (LeavesEngine port) (Storing (4096 * frame.0 + offset) bytes) [] (tt, tt) (All-nil (LeavesEngine port)))
+          (λ port healthy. record { finds = tt; faults = tt; tries = tt; boots = tt; heeds = uninterrupted s.device old.moment.ports port })
           x.0.backed x.1
 
 -- of so many bytes

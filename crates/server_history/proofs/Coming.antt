@@ -1,35 +1,34 @@
--- What calls do is what a service may do: of registers they write IS, and PxIS or PxCI of ports, if any.
-use Rattle.std.proofs.Common.{ℕ, ◌≡◌, ◌≢◌, ◌⊎◌, ◌+◌, ◌*◌, Bool, true, false, List, [], ◌∷◌, Option, None, Ok, refl, sym, subst, inl, inr, ⊎_elim}
+-- What the accesses of calls are: those of a port's turn in a service one by one, and of what kind they are.
+use Rattle.std.proofs.Common.{ℕ, ◌≡◌, ◌≢◌, ◌⊎◌, ◌+◌, ◌*◌, ◌≤◌, ◌<◌, ◌++◌, Bool, true, false, List, [], ◌∷◌, Option, length, refl, sym, ◌∙◌, ap, subst, inl, inr, arith, ⊎_elim}
+use Rattle.std.specs.List.{All}
 use Rattle.std.proofs.lemmas.Bool.{cases_Bool}
+use Rattle.std.proofs.lemmas.List.Elements.{All-append, All-cons, All-nil}
 use Rattle.ata_types.specs.declared.Port.{Port}
 use Rattle.ata_types.specs.declared.request.Reply.{Reply}
-use Rattle.adapter.specs.Access.{Does}
-use Rattle.adapter.specs.Access.Access.{Loading, Storing}
+use Rattle.hba_regs.specs.declared.reg.Reg.TheVariants as reg
+use Rattle.hba_regs.specs.declared.reg.Reg.TheVariants.{Px}
+use Rattle.hba_regs.specs.declared.reg.PortReg.TheVariants.{Is, Cmd, Ssts, Sctl, Sact, Ci}
+use Rattle.adapter.specs.Access.{Access, Does, DoesAll}
+use Rattle.adapter.specs.Access.Access.{Reading, Writing, Loading, Storing}
 use Rattle.adapter.specs.Device.{Device}
 use Rattle.adapter.specs.Memory as memory
 use Rattle.adapter.specs.Rules.{IsOn}
 use Rattle.adapter.specs.Steps.{Steps}
-use Rattle.adapter.specs.declared.access.DeviceStep.{DeviceStep}
-use Rattle.adapter.proofs.Going.{asked_steps}
-use Rattle.agreement.specs.Agrees.{port_at}
+use Rattle.adapter.proofs.Calls.{does_append}
 use Rattle.agreement.specs.Driven.{IsDrivenBy}
-use Rattle.agreement.specs.Facts.{RunsWell}
-use Rattle.agreement.proofs.Driven.{by_none, by_one, by_then, driven_as}
-use Rattle.block_machine.specs.Events.{Ask, Submit, StoreAt, LoadAt, Service, Device as Told, Said, Submitted, Stored, Loaded, Served, Stepped}
-use Rattle.block_machine.specs.Histories.{Instant, Happening}
-use Rattle.block_machine.specs.State.{Pending, Machine}
-use Rattle.host_boot.specs.declared.Found.{Found}
-use Rattle.host_boot.specs.declared.Found.TheVariants.{Unserved, Ready, Unready}
-use Rattle.identify.specs.declared.wanted.Wanted.{Wanted}
-use Rattle.server_history.specs.Histories.{CameBy, Checks, GoesWell, HasTurn, HaveTurns, Ties}
+use Rattle.agreement.specs.Facts.{RunsWell, Undisturbed}
+use Rattle.agreement.proofs.Driven.{by_none}
+use Rattle.command_table.specs.Written.{IsTableStore}
+use Rattle.driver_history.specs.Histories.{IsIssuing as IsIssuingAccess}
+use Rattle.driver_history.specs.Trace.{IsDriversOwn, IsServing, LeavesCommand, LeavesEngine, ReadsMasks}
+use Rattle.server_history.specs.Served.{Checks, HasTurn}
 use Rattle.transfers.specs.Looks.{IsLooking, LooksAt}
 use Rattle.transfers.specs.Services.{IsService}
-use Rattle.transfers.specs.Transfers.{IsFinding, IsIssuing}
+use Rattle.transfers.specs.Transfers.{IsIssuing, ReadsDone}
 use Rattle.transfers.specs.declared.Look.{Look}
 use Rattle.transfers.specs.declared.Look.TheVariants.{Lost, Broken, Failed, Undisturbed as Calm}
-use Rattle.transfers.proofs.Finding.{reading_driven}
-use Rattle.transfers.proofs.Seeing.{look_driven}
-use Rattle.transfers.proofs.Serving.{finding_ordinary, issuing_ordinary, looking_service, services_well}
+use Rattle.transfers.proofs.Seeing.{seen_well}
+use Rattle.transfers.proofs.Serving.{issuing_ordinary, spares_ghc, spares_port}
 
 -- ---- the device's steps
 
@@ -38,63 +37,128 @@ pub none_loaded : (old new : Device) → Steps old new → Does (Loading 0 []) o
 unfolding memory.bytes_at
 none_loaded old new steps = record { steps = steps; shows = refl }
 
+-- ---- kinds of accesses
+
+-- it serves ports, and what it loads or stores is the driver's own
+abbrev pub IsTurn : Access → Type 0
+IsTurn access = IsService access × IsDriversOwn access
+
+-- header and table of slot 0 lie in the driver's frames
+table_own : (port at : ℕ) (bytes : List ℕ) → port < 4 → IsTableStore port 0 (Storing at bytes) → at + length bytes ≤ 163840
+table_own port at bytes low (inl h) = omega (arith, low, h.0, h.1)
+table_own port at bytes low (inr h) = omega (arith, low, h.0, h.1)
+
+pub issuing_is : (port : Port) → port.0 < 4 → (access : Access) → IsIssuing port access → IsIssuingAccess port access
+issuing_is port low (Writing r v) here = inr here.0
+issuing_is port low (Storing at bytes) here = table_own port.0 at bytes low here
+issuing_is port low (Reading r v) here = absurd here
+issuing_is port low (Loading at bytes) here = absurd here
+
+issuing_turns : (port : Port) → port.0 < 4 → (access : Access) → IsIssuing port access → IsTurn access
+issuing_turns port low (Writing r v) here = ((issuing_ordinary port port (Writing r v) here).0, tt)
+issuing_turns port low (Storing at bytes) here = ((issuing_ordinary port port (Storing at bytes) here).0, table_own port.0 at bytes low here)
+issuing_turns port low (Reading r v) here = absurd here
+issuing_turns port low (Loading at bytes) here = absurd here
+
+-- what serves ports writes neither PxCMD nor PxSCTL, nor GHC
+service_leaves : (port : Port) (access : Access) → IsService access → LeavesEngine port access
+service_leaves port access here = (spares_port port Cmd (λ e. cc) (λ e. cc) access here, spares_port port Sctl (λ e. cc) (λ e. cc) access here)
+
+pub issuing_leaves : (port other : Port) (access : Access) → IsIssuing port access → LeavesEngine other access
+issuing_leaves port other access here = service_leaves other access (issuing_ordinary port other access here).0
+
+pub turn_leaves : (port : Port) (access : Access) → IsTurn access → LeavesEngine port access
+turn_leaves port access here = service_leaves port access here.0
+
+pub turn_serving : (access : Access) → IsTurn access → IsServing access
+turn_serving access here = (here.1, spares_ghc access here.0)
+
 -- ---- a port's turn
 
-reads_serve : (port : Port) (old new : Device) → IsDrivenBy (IsFinding port) old new → IsDrivenBy IsService old new
-reads_serve port old new driven = driven_as (IsFinding port) IsService old new (λ access is. (finding_ordinary port port access is).0) driven
+module _ (port : Port) where
+  -- a look, access by access
+  abbrev look_list : (causes own status : ℕ) → List Access
+  look_list causes own status =
+      Reading (Px port Is) causes ∷ Writing (Px port Is) causes ∷ Writing reg.Is own ∷ Reading (Px port Ssts) status ∷ []
 
-issues_serve : (port : Port) (old new : Device) → IsDrivenBy (IsIssuing port) old new → IsDrivenBy IsService old new
-issues_serve port old new driven = driven_as (IsIssuing port) IsService old new (λ access is. (issuing_ordinary port port access is).0) driven
+  look_turns : (causes own status : ℕ) → All IsTurn (look_list causes own status)
+  look_turns causes own status =
+      All-cons IsTurn (Reading (Px port Is) causes) (Writing (Px port Is) causes ∷ Writing reg.Is own ∷ Reading (Px port Ssts) status ∷ []) (tt, tt)
+      (All-cons IsTurn (Writing (Px port Is) causes) (Writing reg.Is own ∷ Reading (Px port Ssts) status ∷ []) (inr (port, inl refl), tt)
+      (All-cons IsTurn (Writing reg.Is own) (Reading (Px port Ssts) status ∷ []) (inl refl, tt)
+      (All-cons IsTurn (Reading (Px port Ssts) status) [] (tt, tt) (All-nil IsTurn))))
 
-looks_serve : (port : Port) (look : Look) (old new : Device) → LooksAt port look old new → IsDrivenBy IsService old new
-looks_serve port look old new looks = driven_as (IsLooking port) IsService old new (looking_service port) (look_driven port look old new looks)
+  look_does : (look : Look) (old new : Device) → (l : LooksAt port look old new) → DoesAll (look_list l.causes l.own l.status) old new
+  look_does look old new l = (l.seen, l.reads, (l.cleared, l.clears, (l.acknowledged, l.acknowledges, (new, l.shows, refl))))
 
-checks_serve : (port : Port) (reply : Option Reply) (old new : Device) → Checks port reply old new → IsDrivenBy IsService old new
-checks_serve port reply old new c = by_then (reads_serve port old c.read (reading_driven port c.done old c.read c.reads)) (⊎_elim
-    (λ (done : c.done ≡ true). issues_serve port c.read new (c.over done).1)
-    (λ (running : c.done ≡ false). subst (IsDrivenBy IsService c.read) (sym (c.running running).1) (by_none IsService c.read))
-    (cases_Bool c.done))
+  -- The accesses of a turn. Where the port goes well, the look tells nothing; and where the port's first request was checked, they read the
+  -- masks.
+  pub record TurnList (busy : Bool) (reply : Option Reply) (old new : Device) (t : HasTurn port busy reply old new) : Type 0 where
+    pub driven : IsDrivenBy IsTurn old new
+    pub calm : IsOn old → RunsWell (old.port port.0) → Undisturbed port.0 old new → t.look ≡ Calm
+    pub masks : t.look ≡ Calm → busy ≡ true → (c : Checks port reply t.seen new) × ReadsMasks port c.reads.issued c.reads.active driven.accesses
 
-calm_or_not : (look : Look) → (look ≡ Calm) ⊎ (look ≢ Calm)
-calm_or_not Calm = inl refl
-calm_or_not Lost = inr (λ e. let z : Lost ≡ Calm = e in absurd cc)
-calm_or_not Broken = inr (λ e. let z : Broken ≡ Calm = e in absurd cc)
-calm_or_not Failed = inr (λ e. let z : Failed ≡ Calm = e in absurd cc)
+  module _ (low : port.0 < 4) (busy : Bool) (reply : Option Reply) (old new : Device) (t : HasTurn port busy reply old new) where
+    looked : (t.look ≢ Calm) ⊎ (busy ≡ false) → TurnList busy reply old new t
+    looked why = record {
+      driven = subst (IsDrivenBy IsTurn old) (sym (t.only why).1) (record {
+        accesses = look_list t.looks.causes t.looks.own t.looks.status;
+        all = look_does t.look old t.seen t.looks;
+        only = look_turns t.looks.causes t.looks.own t.looks.status;
+      });
+      calm = λ on well undisturbed. (seen_well port t.look old t.seen t.looks on well (subst (Undisturbed port.0 old) (t.only why).1 undisturbed)).0;
+      masks = λ calm has. absurd (⊎_elim (λ told. told calm) (λ none. let z : true ≡ false = sym has ∙ none in cc) why);
+    }
 
-pub turn_serves : (port : Port) (busy : Bool) (reply : Option Reply) (old new : Device) → HasTurn port busy reply old new → IsDrivenBy IsService old new
-turn_serves port busy reply old new t = by_then (looks_serve port t.look old t.seen t.looks) (⊎_elim
-    (λ (calm : t.look ≡ Calm). ⊎_elim
-    (λ (has : busy ≡ true). checks_serve port reply t.seen new (t.checks calm has))
-    (λ (none : busy ≡ false). ended (inr none))
-    (cases_Bool busy))
-    (λ (told : t.look ≢ Calm). ended (inl told))
-    (calm_or_not t.look))
-  where
-    ended : (t.look ≢ Calm) ⊎ (busy ≡ false) → IsDrivenBy IsService t.seen new
-    ended why = subst (IsDrivenBy IsService t.seen) (sym (t.only why).1) (by_none IsService t.seen)
+    -- the accesses that come after the masks
+    rest : (c : Checks port reply t.seen new) → IsDrivenBy IsTurn c.read new
+    rest c = ⊎_elim
+        (λ (done : c.done ≡ true).
+        let d = (c.over done).1 in
+        record { accesses = d.accesses; all = d.all; only = λ i e small. issuing_turns port low _ (d.only i e small) })
+        (λ (running : c.done ≡ false). subst (IsDrivenBy IsTurn c.read) (sym (c.running running).1) (by_none IsTurn c.read))
+        (cases_Bool c.done)
 
-turns_serve : (book : List Pending) (port : ℕ) (found : List Found) (replies : List Reply) (old new : Device) → HaveTurns book port found replies old new → IsDrivenBy IsService old new
-turns_serve book port [] replies old new t = subst (IsDrivenBy IsService old) (sym t.1) (by_none IsService old)
-turns_serve book port (Ready info ∷ found) replies old new (mid, busy, reply, later, is, none, issued, turn, more) =
-    by_then (turn_serves (port_at port) busy reply old mid turn) (turns_serve book (port + 1) found later mid new more)
-turns_serve book port (Unserved ∷ found) replies old new t = turns_serve book (port + 1) found replies old new t
-turns_serve book port (Unready state ∷ found) replies old new t = turns_serve book (port + 1) found replies old new t
+    checked : t.look ≡ Calm → busy ≡ true → TurnList busy reply old new t
+    checked calm has =
+        let c : Checks port reply t.seen new = t.checks calm has in
+        let more : IsDrivenBy IsTurn c.read new = rest c in
+        let early : List Access = look_list t.looks.causes t.looks.own t.looks.status in
+        let late : List Access = Reading (Px port Ci) c.reads.issued ∷ Reading (Px port Sact) c.reads.active ∷ more.accesses in
+        record {
+          driven = record {
+            accesses = early ++ late;
+            all = does_append early late old t.seen new (look_does t.look old t.seen t.looks) (c.reads.seen, c.reads.shows_issued, (c.read, c.reads.shows_active, more.all));
+            only = All-append IsTurn early late (look_turns t.looks.causes t.looks.own t.looks.status)
+                (All-cons IsTurn (Reading (Px port Ci) c.reads.issued) (Reading (Px port Sact) c.reads.active ∷ more.accesses) (tt, tt)
+                (All-cons IsTurn (Reading (Px port Sact) c.reads.active) more.accesses (tt, tt) more.only));
+          };
+          calm = λ _ _ _. calm;
+          masks = λ _ _. (
+            c,
+            record {
+              before = early;
+              later = more.accesses;
+              here = refl;
+              running = leaves;
+            },
+          );
+        }
+      where
+        leaves : All (LeavesCommand port) (look_list t.looks.causes t.looks.own t.looks.status)
+        leaves i e small = (turn_leaves port _ (look_turns t.looks.causes t.looks.own t.looks.status i e small)).0
 
--- ---- each call
+    calm_or_not : (look : Look) → (look ≡ Calm) ⊎ (look ≢ Calm)
+    calm_or_not Calm = inl refl
+    calm_or_not Lost = inr (λ e. let z : Lost ≡ Calm = e in absurd cc)
+    calm_or_not Broken = inr (λ e. let z : Broken ≡ Calm = e in absurd cc)
+    calm_or_not Failed = inr (λ e. let z : Failed ≡ Calm = e in absurd cc)
 
-same_serves : (old new : Device) → new ≡ old → IsDrivenBy IsService old new
-same_serves old new same = subst (IsDrivenBy IsService old) (sym same) (by_none IsService old)
-
-pub came_serves : (m : Machine) (found : List Found) (ask : Ask DeviceStep) (said : Said) (old new : Device) → CameBy m found ask said old new → IsDrivenBy IsService old new
-came_serves m found (Told step) (Stepped true) old new c = by_one IsService (Loading 0 []) old new tt (none_loaded old new (asked_steps step old new c))
-came_serves m found Service (Served replies) old new c = turns_serve m.book 0 found replies old new c
-came_serves m found (Submit r) (Submitted (Ok id)) old new c = issues_serve c.0.port old new c.2
-came_serves m found (StoreAt client frame offset bytes) (Stored None) old new c = by_one IsService (Storing (4096 * frame.0 + offset) bytes) old new tt c
-came_serves m found (LoadAt client frame offset count) (Loaded (Ok bytes)) old new c = by_one IsService (Loading (4096 * frame.0 + offset) bytes) old new tt c
-came_serves m found ask said old new c = same_serves old new c
-
--- a port that runs well does so after a call in which nothing went wrong on it
-pub left_well : (wanted : List Wanted) (old : Instant Device) (h : Happening Device DeviceStep) (port : Port) → IsOn old.device → Ties wanted old h → GoesWell port.0 old.device h.device
-    → RunsWell (h.device.port port.0)
-left_well wanted old h port on t well =
-    services_well port old.device h.device on (came_serves old.moment.machine t.ports.found h.event.ask h.event.said old.device h.device t.came) well.undisturbed well.well
+    pub turn_list : TurnList busy reply old new t
+    turn_list = ⊎_elim
+        (λ (calm : t.look ≡ Calm). ⊎_elim
+        (λ (has : busy ≡ true). checked calm has)
+        (λ (none : busy ≡ false). looked (inr none))
+        (cases_Bool busy))
+        (λ (told : t.look ≢ Calm). looked (inl told))
+        (calm_or_not t.look)

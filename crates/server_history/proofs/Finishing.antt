@@ -108,7 +108,7 @@ module _ (s : Server) (port : Port) (first : Accepted) (k : IsKept s) (ready : s
   found = (ready_found s port.0 k ready).1
 
   started : (s.device.port port.0).st ≡ true
-  started = ((k.behind port.0 (ready_found s port.0 k ready).0).runs ready).started
+  started = ((k.behind port.0 (ready_found s port.0 k ready).0).runs ready).st
 
   was_accepted : IsAccepted s.grants s.table first
   was_accepted = All-contains (IsAccepted s.grants s.table) s.book first k.accepted (first_is port s.book first leads).0

@@ -5,6 +5,7 @@ use Rattle.ata_types.specs.declared.Port.{Port}
 use Rattle.ata_types.specs.declared.PortState.TheVariants.{Ready as ReadyState}
 use Rattle.ata_types.specs.declared.request.ClientId.{ClientId}
 use Rattle.hba_regs.specs.Bits.{bit}
+use Rattle.adapter.specs.Access.{Access}
 use Rattle.adapter.specs.Device.{Device}
 use Rattle.adapter.specs.Rules.{IsOn}
 use Rattle.adapter.specs.declared.access.DeviceStep.{DeviceStep}
@@ -13,21 +14,26 @@ use Rattle.agreement.specs.Driver.{Knows, IsBacked}
 use Rattle.agreement.specs.Links.{SameAdapter}
 use Rattle.agreement.specs.Spares.{AllFurther, IsFurther, SparesBook}
 use Rattle.agreement.proofs.Sparing.{steps_spare}
-use Rattle.block_machine.specs.Events.{Ask, Said, AllMay, AllDevices, Belong, IssuesLast, AllLawful, IsAnswered, HeedsAt}
+use Rattle.block_machine.specs.Events.{Ask, Said, AllMay, AllDevices, Belong, IssuesLast, AllLawful, IsAnswered}
 use Rattle.block_machine.specs.Histories.{Instant, Happening, IsHistory, IsReached, now}
 use Rattle.block_machine.specs.Left.{after}
-use Rattle.block_machine.specs.Ports.{Ports, AreFit, IsInterrupted, SamePorts, SameDisk}
+use Rattle.block_machine.specs.Ports.{Ports, AreFit, SamePorts, SameDisk}
 use Rattle.block_machine.specs.State.{Machine, Pending}
 use Rattle.block_machine.specs.Steps.{Step}
-use Rattle.block_machine.proofs.HistoryLemmas.{reached_more}
-use Rattle.block_machine.proofs.Members.{contains_none}
+use Rattle.block_machine.proofs.HistoryLemmas.{history_reaches, reached_more}
 use Rattle.dma_frames.specs.Table.{Table}
 use Rattle.host_boot.specs.Taken.{found_of}
 use Rattle.request_book.specs.Entries.{IsAccepted, IsInOrder}
 use Rattle.request_book.specs.Machine.{IsBook, IsEntry}
 use Rattle.request_book.specs.declared.book.Accepted.{Accepted}
-use Rattle.server_history.specs.Histories.{Begins, CameBy, GoesWell, Leads, SparesPort, Stands, Ties, no_evidence}
+use Rattle.driver_history.specs.Guard.{StaysHealthy}
+use Rattle.driver_history.specs.Histories.{Begins, CameBy, Ties, TiesPort}
+use Rattle.driver_history.specs.Trace.{LeavesEngine}
+use Rattle.driver_history.proofs.Instants.{history_fit, ready_low}
+use Rattle.server_history.specs.Histories.{Leads, Stands}
 use Rattle.server_history.specs.Server.{Server, IsKept, IsMachineOf, IsPortOf, none_parked, ports_of, state_of}
+use Rattle.server_history.proofs.Standing.{holds_with, slots}
+use Rattle.server_history.proofs.Told.{evidenced, lawful_told, no_evidence, told_by}
 
 -- ---- the book
 
@@ -111,12 +117,6 @@ kept_on s new k on same behind steps may is =
 
 -- ---- events
 
--- the ports of a history are fit
-pub history_fit : {D E : Type 0} (Begins : Instant D → Type 0) (Agrees : Instant D → Happening D E → Type 0) (first : Instant D) (past : List (Happening D E))
-    → IsHistory Begins Agrees first past → AreFit (now first past).moment.ports
-history_fit Begins Agrees first [] h = h.0.1
-history_fit Begins Agrees first (x ∷ past) h = h.1.fit
-
 -- ports that are the same
 pub ports_same : (old new : Ports) → old ≡ new → SamePorts old new
 ports_same old new is = subst (SamePorts old) is (λ port. (refl, refl, refl, refl, refl, refl))
@@ -124,29 +124,30 @@ ports_same old new is = subst (SamePorts old) is (λ port. (refl, refl, refl, re
 pub disks_same : (old new : Ports) → old ≡ new → (port : Port) → SameDisk old new port
 disks_same old new is port = subst (λ (ports : Ports). SameDisk old ports port) is (refl, refl)
 
--- evidence that names nothing names no port
-pub spares_port : (port : Port) → SparesPort no_evidence port
-spares_port port = record { gone = contains_none port; failed = contains_none port; fatal = contains_none port }
+-- what a call does, with the evidence of one in which no port is stopped
+abbrev pub happening : Instant Device → Device → Ask DeviceStep → Said → List Step → Ports → Happening Device DeviceStep
+happening old new ask said steps ports =
+    record { event = record { ask = ask; said = said; evidence = told_by old.device old.moment.ports; steps = steps; ports = ports }; device = new }
 
--- nothing interrupts a port in it
-pub uninterrupted : (port : Port) → IsInterrupted no_evidence port → ⊥
-uninterrupted port i = ⊎_elim (contains_none port) (contains_none port) i
+-- the instant, with this device
+abbrev pub with_device : Device → Instant Device → Instant Device
+with_device d i = record { device = d; moment = i.moment }
 
 -- a call, with what its event needs
 pub lead_by : (first : Instant Device) (past : List (Happening Device DeviceStep)) (s new : Server) (ask : Ask DeviceStep) (said : Said) (steps : List Step)
-    → new.wanted ≡ s.wanted → new.ports ≡ s.ports → Leads first past s
+    → new.wanted ≡ s.wanted → new.ports ≡ s.ports → Leads first past s → IsKept new
     → AllMay (now first past).moment.machine steps → Belong ask (ports_of new.ports) steps → IssuesLast steps
     → AllLawful (now first past).moment no_evidence (ports_of new.ports) steps
-    → IsAnswered ask said (now first past).moment no_evidence steps (record { machine = after (now first past).moment.machine steps; ports = ports_of new.ports })
-    → CameBy (now first past).moment.machine new.ports ask said s.device new.device
-    → IsOn new.device
-    → ((port : ℕ) → port < 4 → IsPortOf new.wanted new.ports port new.device)
-    → ((port : Port) → GoesWell port.0 s.device new.device → HeedsAt port ask (now first past).moment no_evidence steps (record { machine = after (now first past).moment.machine steps; ports = ports_of new.ports }))
+    → IsAnswered ask said (now first past).moment (told_by s.device (now first past).moment.ports) steps (record { machine = after (now first past).moment.machine steps; ports = ports_of new.ports })
+    → (accesses : List Access) → CameBy (now first past).moment.machine ask said accesses s.device new.device
+    → ((port : Port) → All (LeavesEngine port) accesses)
+    → ((port : Port) → StaysHealthy port.0 s.device new.device
+    → TiesPort (with_device s.device (now first past)) (happening (with_device s.device (now first past)) new.device ask said steps (ports_of new.ports)) accesses port)
     → IsBacked s.device new.device (now first past).moment.machine steps
     → IsMachineOf new (after (now first past).moment.machine steps)
     → (h : Happening Device DeviceStep) × (h.event.ask ≡ ask) × (h.event.said ≡ said) × Leads first (h ∷ past) new
-lead_by first past s new ask said steps wanted_is ports_is leads may belong last lawful answered came on behind heeds backed stands = (
-  record { event = record { ask = ask; said = said; evidence = no_evidence; steps = steps; ports = ports_of new.ports }; device = new.device },
+lead_by first past s new ask said steps wanted_is ports_is leads kept may belong last lawful answered accesses came leaves parts backed stands = (
+  h,
   refl,
   refl,
   record {
@@ -156,23 +157,12 @@ lead_by first past s new ask said steps wanted_is ports_is leads may belong last
         may = may;
         belong = belong;
         last = last;
-        lawful = lawful;
-        fit = subst AreFit ports (history_fit (Begins s.wanted) (Ties s.wanted) first past leads.history);
-        disks = λ e o h i same. disks_same old.moment.ports (ports_of new.ports) ports e.request.port;
+        lawful = lawful_told s.device old.moment.ports old.moment (ports_of new.ports) steps lawful;
+        fit = subst AreFit ports fit;
+        disks = λ e o here i same. disks_same old.moment.ports (ports_of new.ports) ports e.request.port;
         answered = answered;
       },
-      record {
-        on = on;
-        same = sym ports;
-        ports = record { found = new.ports; ports_are = refl; behind = behind };
-        came = subst (λ (d : Device). CameBy old.moment.machine new.ports ask said d new.device) (sym at.device_is) came;
-        backed = subst (λ (d : Device). IsBacked d new.device old.moment.machine steps) (sym at.device_is) backed;
-        evidence = record { faults = refl; lost = refl; stopped = refl; stuck = refl };
-        heeds = λ port well. (spares_port port, heeds port (subst (λ (d : Device). GoesWell port.0 d new.device) at.device_is well));
-        uses = stands.uses;
-        plain = stands.used.others;
-        knows = stands.knows;
-      },
+      subst (λ (d : Device). Ties new.wanted (with_device d old) h) (sym at.device_is) ties,
     );
     stands = record { device_is = refl; ports_are = refl; machine = stands };
   },
@@ -186,3 +176,25 @@ lead_by first past s new ask said steps wanted_is ports_is leads may belong last
 
     ports : old.moment.ports ≡ ports_of new.ports
     ports = at.ports_are ∙ ap ports_of (sym ports_is)
+
+    fit : AreFit old.moment.ports
+    fit = history_fit (Begins s.wanted) (Ties s.wanted) first past leads.history
+
+    h : Happening Device DeviceStep
+    h = happening (with_device s.device old) new.device ask said steps (ports_of new.ports)
+
+    later : Machine
+    later = after old.moment.machine steps
+
+    reached : IsReached later
+    reached = reached_more old.moment.machine steps (history_reaches (Begins s.wanted) (Ties s.wanted) first past leads.history) may
+
+    ties : Ties new.wanted (with_device s.device old) h
+    ties = record {
+      accesses = accesses;
+      came = came;
+      backed = backed;
+      evidenced = evidenced ask said accesses (with_device s.device old) (ports_of new.ports) new.device (λ port ready. (ready_low old port fit ready).1) leaves;
+      port = parts;
+      holds = (slots new kept later reached stands, holds_with new kept later reached stands);
+    }

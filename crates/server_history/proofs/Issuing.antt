@@ -35,6 +35,7 @@ use Rattle.request_book.proofs.Stepping.{first_issued, same_ports}
 use Rattle.server_history.specs.Served.{issued_of}
 use Rattle.server_history.specs.Server.{Server, IsMachineOf, IsUseOf, none_parked, plain_mode, IsKept, IsPortOf, state_of}
 use Rattle.server_history.proofs.Going.{further_stands, zip_further}
+use Rattle.server_history.proofs.Standing.{all_plain}
 use Rattle.server_history.proofs.Unused.{none_first}
 use Rattle.transfers.specs.Transfers.{IssuesTransfer, IsTransferOf, Transfer, IsIssuing}
 use Rattle.transfers.proofs.Serving.{issuing_agrees, issuing_ordinary}
@@ -101,12 +102,6 @@ uses_at s port info uses first found leads its others q = ⊎_elim
     subst P (sym same) (subst F (sym found) (subst O (sym leads) its)))
     (λ (other : q ≢ port.0). others q other)
     (cases_eq q port.0)
-
-all_plain : (op : Op) → is_plain plain_mode op ≡ true
-all_plain Read = refl
-all_plain Write = refl
-all_plain Trim = refl
-all_plain Flush = refl
 
 module _ (s : Server) (port : Port) (m : Machine) (info : DiskInfo) (found : found_of s.ports port.0 ≡ Ready info) (l : LacksIssue s port m) where
   -- where the port has no request, nothing lacks

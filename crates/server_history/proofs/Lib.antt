@@ -1,11 +1,12 @@
+pub mod Told
+pub mod Running
+pub mod Standing
 pub mod Behind
 pub mod Going
 pub mod Ports
 pub mod Devices
 pub mod Coming
-pub mod Placing
 pub mod Calls
-pub mod Telling
 pub mod Beginning
 pub mod Turns
 pub mod Unused

@@ -19,9 +19,10 @@ use Rattle.host_boot.specs.declared.Found.TheVariants.{Unserved, Ready, Unready}
 use Rattle.identify.specs.declared.wanted.Wanted.{Wanted}
 use Rattle.request_book.specs.declared.book.Accepted.{Accepted}
 use Rattle.transfers.specs.Services.{IsService}
-use Rattle.transfers.proofs.Serving.{services_controls, services_port}
+use Rattle.transfers.proofs.Serving.{services_controls, services_inactive}
 use Rattle.server_history.specs.Server.{IsPortOf, IsUseOf, state_of}
 use Rattle.server_history.proofs.Behind.{left_on, ready_on}
+use Rattle.server_history.proofs.Running.{runs_on}
 
 -- ---- loads and stores
 
@@ -67,7 +68,11 @@ pub port_on : (wanted : List Wanted) (found : List Found) (port : ℕ) (old new 
     → (state_of (found_of found port) ≢ ReadyState → LeavesPort (old.port port) (new.port port))
     → (found_of found port ≢ Unready Dead → SendsNone port Identify old new) → IsPortOf wanted found port old → IsPortOf wanted found port new
 port_on wanted found port old new same on by left silent is =
-    record { behind = behind (found_of found port) left silent is.behind; runs = λ ready. services_port (port_at port) old new on by (is.runs ready) }
+    record {
+      behind = behind (found_of found port) left silent is.behind;
+      runs = λ ready. runs_on (port_at port) old new on by (is.runs ready);
+      unqueued = λ ready slot. services_inactive port slot old new by (is.unqueued ready slot);
+    }
   where
     behind : (f : Found) → (state_of f ≢ ReadyState → LeavesPort (old.port port) (new.port port)) → (f ≢ Unready Dead → SendsNone port Identify old new)
         → StillStandsBehind (wanted_of wanted port) f port old → StillStandsBehind (wanted_of wanted port) f port new

@@ -1,32 +1,41 @@
 -- Ready ports that are served one after another add an event.
-use Rattle.std.proofs.Common.{ℕ, suc, ◌≡◌, ◌≢◌, ◌≤◌, ◌<◌, ◌+◌, ◌-◌, true, false, List, [], ◌∷◌, ◌++◌, map, Option, Some, None, refl, sym, ap, ◌∙◌, subst, inl, inr, ⊎_elim, arith, append_assoc, append-nil, eq-eqb}
+use Rattle.std.proofs.Common.{ℕ, suc, ◌≡◌, ◌≢◌, ◌≤◌, ◌<◌, ◌+◌, ◌-◌, ◌&&◌, not, Bool, true, false, List, [], ◌∷◌, ◌++◌, map, Option, Some, None, refl, sym, ap, ◌∙◌, subst, inl, inr, ⊎_elim, arith, append_assoc, append-nil, eq-eqb}
 use Rattle.std.specs.List.{All, AllPairs, Contains, list_any}
 use Rattle.std.specs.List.Sorted.{IsPermutation}
-use Rattle.std.proofs.lemmas.Bool.{cases_Bool, false≢true, cases_lt, or_from}
+use Rattle.std.specs.Prelude.{◌↔◌}
+use Rattle.std.proofs.lemmas.Bool.{and_from, and_parts, cases_Bool, cases_eq, false≢true, cases_lt, or_from}
 use Rattle.std.proofs.lemmas.List.{map-append}
-use Rattle.std.proofs.lemmas.List.Elements.{All-contains, All-nil, All-push, Contains-append_right}
+use Rattle.std.proofs.lemmas.List.Elements.{All-contains, All-nil, All-append, All-push, Contains-append_cases, Contains-append_right}
 use Rattle.std.proofs.lemmas.List.Quantifiers.{all_pairs_push}
 use Rattle.std.proofs.lemmas.List.Sorted.{IsPermutation-push_more, IsPermutation-refl}
 use Rattle.ata_types.specs.declared.Port.{Port}
 use Rattle.ata_types.specs.declared.PortState.{PortState}
-use Rattle.ata_types.specs.declared.PortState.TheVariants.{Absent, Dead, Ready as ReadyState}
+use Rattle.ata_types.specs.declared.PortState.TheVariants.{Absent, Dead, Foreign, Ready as ReadyState, Unfit}
 use Rattle.ata_types.specs.declared.request.Outcome.{Outcome}
 use Rattle.ata_types.specs.declared.request.Outcome.TheVariants.{Ok, Unplugged}
 use Rattle.ata_types.specs.declared.request.Reply.{Reply}
 use Rattle.ata_types.specs.declared.request.RequestId.{RequestId}
+use Rattle.hba_regs.specs.Bits.{bit}
+use Rattle.hba_regs.specs.declared.reg.Reg.TheVariants.{Px}
+use Rattle.hba_regs.specs.declared.reg.PortReg.TheVariants.{Sact, Ci}
+use Rattle.adapter.specs.Access.{Access, Reads}
+use Rattle.adapter.specs.Access.Access.{Reading}
 use Rattle.adapter.specs.Device.{Device}
+use Rattle.adapter.proofs.Calls.{does_append}
 use Rattle.adapter.specs.declared.access.DeviceStep.{DeviceStep}
 use Rattle.agreement.specs.Agrees.{port_at}
 use Rattle.agreement.specs.Driven.{IsDrivenBy}
 use Rattle.agreement.specs.Driver.{IsBacked}
 use Rattle.agreement.specs.Facts.{RunsWell, Undisturbed}
-use Rattle.agreement.specs.Slots.{Serves}
+use Rattle.agreement.specs.Slots.{IsFree, IsOver, IsServed, Serves, ServesRequest, Stage, Use}
 use Rattle.agreement.proofs.Adding.{backed_then, nothing_backed}
 use Rattle.agreement.proofs.Controlled.{tape_over}
-use Rattle.agreement.proofs.Driven.{by_none, by_then}
+use Rattle.agreement.proofs.Driven.{by_none, driven_as}
+use Rattle.agreement.proofs.Finished.{steps_over}
+use Rattle.agreement.proofs.Unarmed.{reads_clear, steps_clear}
 use Rattle.agreement.proofs.Finding.{ended_is_clear}
 use Rattle.agreement.proofs.Sparing.{found_later, steps_spare}
-use Rattle.block_machine.specs.Events.{Moment, Service, Served, AllMay, AnswersEnded, AnswersService, IsToldBefore, ServesReady, answers_of, reply_of}
+use Rattle.block_machine.specs.Events.{Moment, Service, Served, AllDevices, AllMay, AnswersEnded, IsDevices, AnswersService, IsToldBefore, ServesReady, answers_of, reply_of}
 use Rattle.block_machine.specs.Histories.{Instant, Happening, IsReached, now}
 use Rattle.block_machine.specs.Left.{after}
 use Rattle.block_machine.specs.Ports.{Ports, IsServiced}
@@ -35,7 +44,7 @@ use Rattle.block_machine.specs.Steps.{Step, Issue, Answer, May}
 use Rattle.block_machine.proofs.Calm.{calmly, is_refused}
 use Rattle.block_machine.proofs.EventLemmas.{after-append}
 use Rattle.block_machine.proofs.HistoryLemmas.{history_reaches, reached_more}
-use Rattle.block_machine.proofs.Members.{contains_here, contains_none, contains_there, some_in}
+use Rattle.block_machine.proofs.Members.{contains_cases, contains_here, contains_none, contains_there}
 use Rattle.block_machine.proofs.Standing.{standing}
 use Rattle.block_machine.proofs.Started.{ended_issued}
 use Rattle.host_boot.specs.Taken.{found_of}
@@ -49,15 +58,24 @@ use Rattle.request_book.proofs.Due.{none_due}
 use Rattle.request_book.proofs.Ending.{other_first}
 use Rattle.request_book.proofs.Standing.{at_left, at_right, first_is}
 use Rattle.request_book.proofs.Stepping.{Stands as StandsIn, has_first, same_some}
-use Rattle.server_history.specs.Histories.{Adds, Begins, GoesWell, HasNone, HaveTurns, IsOfIssued, Leads, Ties, no_evidence, reply_list}
-use Rattle.server_history.specs.Served.{AnswersBy, AnswersFirst, IssuesOnly, SameSettings, ServePorts, ServesPort, done_reply}
+use Rattle.driver_history.specs.Guard.{StaysHealthy}
+use Rattle.driver_history.specs.Histories.{Begins, FindsDone, HasBadDisk, IsAnsweredOk, IsIssuedOn, Ties, TiesPort}
+use Rattle.driver_history.specs.Trace.{LeavesCommand, ReadsMasks}
+use Rattle.server_history.specs.Histories.{Adds, Leads}
+use Rattle.server_history.specs.Served.{AnswersBy, Checks, IssuesOnly, SameSettings, ServePorts, ServesPort, done_reply, reply_list}
 use Rattle.server_history.specs.Server.{Server, IsKept, IsMachineOf, IsUseOf, plain_mode, ports_of, state_of}
-use Rattle.server_history.proofs.Coming.{turn_serves}
-use Rattle.server_history.proofs.Going.{lead_by, ports_same}
+use Rattle.server_history.proofs.Coming.{IsTurn, TurnList, turn_leaves, turn_list, turn_serving}
+use Rattle.server_history.proofs.Going.{happening, lead_by, ports_same, with_device}
+use Rattle.server_history.proofs.Serving.{first_has, still_over}
+use Rattle.server_history.proofs.Standing.{not_running}
+use Rattle.server_history.proofs.Told.{grounded_told, no_evidence, serves_told, told_by}
 use Rattle.server_history.proofs.Unused.{none_first, ready_found}
 use Rattle.server_history.proofs.Turns.{AreTurns, IsSame, answer_on, devices_answer, devices_on, issue_on, no_turns, turns_more}
 use Rattle.transfers.specs.Services.{IsService}
-use Rattle.transfers.proofs.Serving.{calm_parts, services_well}
+use Rattle.transfers.specs.Looks.{IsLooking}
+use Rattle.transfers.specs.declared.Look.TheVariants.{Undisturbed as Calm}
+use Rattle.transfers.proofs.Seeing.{look_driven}
+use Rattle.transfers.proofs.Serving.{calm_parts, looking_service, services_inactive, services_well}
 
 -- ---- steps
 
@@ -75,15 +93,49 @@ none_refused (Answer e o ∷ before) ok =
     (none_refused before (λ x y h. ok x y (contains_there (Answer e o) before (Answer x y) h)))
 none_refused (step ∷ before) ok = none_refused before (λ x y h. ok x y (contains_there step before (Answer x y) h))
 
--- ports that stay what they are are as a service may leave them
-serviced_same : (old new : Ports) → old ≡ new → (port : Port) → IsServiced old no_evidence new port
-serviced_same old new is port = subst (λ (ports : Ports). IsServiced old no_evidence ports port) is (
+-- ports that stay what they are are as a service may leave them, where the evidence names none that is stuck
+serviced_same : (d : Device) (was old new : Ports) → old ≡ new → (port : Port) → IsServiced old (told_by d was) new port
+serviced_same d was old new is port = subst (λ (ports : Ports). IsServiced old (told_by d was) ports port) is (
   λ dead. (refl, refl, refl, refl, refl, refl),
   λ lives. (
     record { served = refl; stuck = λ dead. absurd (lives dead); dies = λ h. absurd (contains_none port h); keeps = λ _. (refl, refl) },
     inl (refl, refl, refl, refl, refl, refl),
   ),
 )
+
+-- ---- answers
+
+-- the device answers nobody
+no_answer : (steps : List Step) → AllDevices steps → (e : Pending) (o : Outcome) → Contains steps (Answer e o) → ⊥
+no_answer [] only e o here = contains_none (Answer e o) here
+no_answer (step ∷ steps) only e o here = ⊎_elim
+    (λ (is : Answer e o ≡ step). subst IsDevices (sym is) only.1)
+    (λ (there : Contains steps (Answer e o)). no_answer steps only.0 e o there)
+    (contains_cases step steps (Answer e o) here)
+
+no_answer_issuing : (port : Port) (steps : List Step) → IssuesOnly port steps → (e : Pending) (o : Outcome) → Contains steps (Answer e o) → ⊥
+no_answer_issuing port steps (inl only) e o here = no_answer steps only e o here
+no_answer_issuing port steps (inr (last, next, first, is, last_only, first_only, own)) e o here = ⊎_elim
+    (λ late. no_answer last last_only e o late)
+    (λ more. ⊎_elim
+    (λ (same : Answer e o ≡ Issue plain_mode next). absurd (let z : Answer e o ≡ Issue plain_mode next = same in cc))
+    (λ early. no_answer first first_only e o early)
+    (contains_cases (Issue plain_mode next) first (Answer e o) more))
+    (Contains-append_cases last (Issue plain_mode next ∷ first) (Answer e o) (subst (λ (all : List Step). Contains all (Answer e o)) is here))
+
+-- ---- bits that are read
+
+not_true : (b : Bool) → not b ≡ true → b ≡ false
+not_true false is = refl
+not_true true is = absurd (false≢true is)
+
+-- PxCI shows the bit of a slot clear whose command is over
+issued_clear : (port : Port) (slot v : ℕ) (old new : Device) → slot < 32 → Reads (Px port Ci) v old new → IsOver (old.port port.0) slot → bit v slot ≡ false
+issued_clear port slot v old new small r over = r.shows slot small ∙ (steps_over port.0 slot old r.mid r.steps over).issued
+
+-- and PxSACT one that is clear
+active_clear : (port : Port) (slot v : ℕ) (old new : Device) → slot < 32 → Reads (Px port Sact) v old new → (old.port port.0).sact slot ≡ false → bit v slot ≡ false
+active_clear port slot v old new small r clear = r.shows slot small ∙ steps_clear port.0 slot old r.mid r.steps clear
 
 -- ---- settings
 
@@ -93,11 +145,14 @@ same_more a b c first then = then ∙ ap (λ (x : Server). record x { device = c
 -- ---- what was done so far
 
 module _ (s : Server) (kept : IsKept s) (old : Moment) (reached : IsReached old.machine) (at : IsMachineOf s old.machine) where
+  abbrev began : Instant Device
+  began = record { device = s.device; moment = old }
+
   -- Ports below this number had their turns, which led to this server with these replies.
   record Progress (n : ℕ) (c : Server) (replies : List Reply) : Type 0 where
     holds : IsKept c
     same : SameSettings s c
-    driven : IsDrivenBy IsService s.device c.device
+    driven : IsDrivenBy IsTurn s.device c.device
     steps : List Step
     turns : AreTurns old (ports_of s.ports) n n steps
     stands : IsMachineOf c (after old.machine steps)
@@ -107,13 +162,15 @@ module _ (s : Server) (kept : IsKept s) (old : Moment) (reached : IsReached old.
     ordered : AllPairs IsToldBefore answers
     low : All (λ a. a.0.request.port.0 < n) answers
     told : replies ≡ map reply_of answers
-    heeded : (port : Port) → port.0 < n → state_of (found_of s.ports port.0) ≡ ReadyState → GoesWell port.0 s.device c.device → AnswersEnded old.machine steps port
+    heeded : (port : Port) → port.0 < n → state_of (found_of s.ports port.0) ≡ ReadyState → StaysHealthy port.0 s.device c.device → AnswersEnded old.machine steps port
+    finds : (port : Port) → port.0 < n → state_of (found_of s.ports port.0) ≡ ReadyState → StaysHealthy port.0 s.device c.device → (e : Pending) → IsIssuedOn port old.machine e
+        → FindsDone port driven.accesses began steps
 
   begun : Progress 0 s []
   begun = record {
     holds = kept;
     same = refl;
-    driven = by_none IsService s.device;
+    driven = by_none IsTurn s.device;
     steps = [];
     turns = no_turns old (ports_of s.ports);
     stands = at;
@@ -124,6 +181,29 @@ module _ (s : Server) (kept : IsKept s) (old : Moment) (reached : IsReached old.
     low = All-nil (λ a. a.0.request.port.0 < 0);
     told = refl;
     heeded = λ port lt. absurd (omega (arith, lt));
+    finds = λ port lt. absurd (omega (arith, lt));
+  }
+
+  -- what was found done on a port was so still, where later steps answer nobody of it
+  finds_more : (n : ℕ) (c : Server) (replies : List Reply) (p : Progress n c replies) (q : Port) (more : List Access) (late : List Step)
+      → ((e : Pending) (o : Outcome) → Contains late (Answer e o) → e.request.port ≡ q → ⊥) → FindsDone q p.driven.accesses began p.steps → FindsDone q (p.driven.accesses ++ more) began (late ++ p.steps)
+  finds_more n c replies p q more late none f = record {
+    ci = f.ci;
+    sact = f.sact;
+    reads = record {
+      before = f.reads.before;
+      later = f.reads.later ++ more;
+      here = ap (λ (accesses : List Access). accesses ++ more) f.reads.here ∙ append_assoc f.reads.before (Reading (Px q Ci) f.ci ∷ Reading (Px q Sact) f.sact ∷ f.reads.later) more;
+      running = f.reads.running;
+    };
+    exact = λ e slot its says.
+        let x = f.exact e slot its says in (
+          (λ ok. x.0 (ok.0, ok.1, ⊎_elim
+              (λ there. absurd (none ok.0 Ok there (ap (λ r. r.port) ok.1 ∙ its.port_is)))
+              (λ there. there)
+              (Contains-append_cases late p.steps (Answer ok.0 Ok) ok.2))),
+          (λ clear. let ok = x.1 clear in (ok.0, ok.1, Contains-append_right late p.steps (Answer ok.0 Ok) ok.2)),
+        );
   }
 
   -- a port that isn't ready has no turn
@@ -145,6 +225,10 @@ module _ (s : Server) (kept : IsKept s) (old : Moment) (reached : IsReached old.
         (λ (less : port.0 < n). p.heeded port less ready well)
         (λ (most : n ≤ port.0). absurd (other (ap (λ (q : ℕ). state_of (found_of s.ports q)) (omega (arith, lt, most)) ∙ ready)))
         (cases_lt port.0 n);
+    finds = λ port lt ready well. ⊎_elim
+        (λ (less : port.0 < n). p.finds port less ready well)
+        (λ (most : n ≤ port.0). absurd (other (ap (λ (q : ℕ). state_of (found_of s.ports q)) (omega (arith, lt, most)) ∙ ready)))
+        (cases_lt port.0 n);
   }
 
   -- ---- a turn
@@ -162,47 +246,75 @@ module _ (s : Server) (kept : IsKept s) (old : Moment) (reached : IsReached old.
     ports_is : c.ports ≡ s.ports
     ports_is = ap (λ (x : Server). x.ports) p.same
 
-    -- a request of the port that had ended is its first, and its command's bits are clear
-    record Ended (e : Pending) : Type 0 where
+    low : n < 4
+    low = (ready_found s n kept ready).0
+
+    -- a request that was issued on the port is its first
+    record IsLeading (e : Pending) : Type 0 where
       now_is : Pending
       here : Contains m.book now_is
       same_as : IsSame e now_is
       entry : Accepted
       stands_for : IsEntry entry now_is.request
       first_is_entry : first_of (port_at n) c.book ≡ Some entry
-      ci : (c.device.port n).ci 0 ≡ false
-      sact : (c.device.port n).sact 0 ≡ false
 
-    had_ended : (e : Pending) → Contains old.machine.book e → e.request.port ≡ port_at n → e.ended ≡ true → Ended e
-    had_ended e there own ended =
-        let w = p.turns.further e there (let q = ap (λ (x : Port). x.0) own in omega (arith, q)) in
+    leading : (e : Pending) → IsIssuedOn (port_at n) old.machine e → IsLeading e
+    leading e its =
+        let w = p.turns.further e its.here (let q = ap (λ (x : Port). x.0) its.port_is in omega (arith, q)) in
         let x : Pending = w.0 in
-        let done : x.ended ≡ true = w.2.ended ended in
-        let issued : x.issued ≡ true = ended_issued m x m_reached w.1 done in
+        let issued : x.issued ≡ true = w.2.issued ∙ its.issued in
         let a = at_right (StandsIn (λ _. true) c.book) c.book m.book p.stands.book x w.1 in
-        let of_port : a.0.port ≡ port_at n = sym a.2.0.port ∙ ap (λ r. r.port) w.2.request ∙ own in
+        let of_port : a.0.port ≡ port_at n = sym a.2.0.port ∙ ap (λ r. r.port) w.2.request ∙ its.port_is in
         let leads : first_of (port_at n) c.book ≡ Some a.0 = ap (λ (q : Port). first_of q c.book) (sym of_port) ∙ (a.2.1.0 issued).1 in
-        let slot : p.stands.uses n 0 ≡ Serves x.request.id =
-        subst (λ (f : Found). IsUseOf f (Some a.0) (p.stands.uses n 0)) (ap (λ (found : List Found). found_of found n) ports_is ∙ found_is)
-        (subst (λ (o : Option Accepted). IsUseOf (found_of c.ports n) o (p.stands.uses n 0)) leads (p.stands.used.first n)) ∙ ap Serves (sym a.2.0.id) in
-        let clear = ended_is_clear p.stands.uses m c.device (port_at n) 0 x m_reached p.stands.knows.agrees (inl (w.1, issued)) done slot in
-        record { now_is = x; here = w.1; same_as = w.2; entry = a.0; stands_for = a.2.0; first_is_entry = leads; ci = clear.0.over.issued; sact = clear.0.sact }
+        record { now_is = x; here = w.1; same_as = w.2; entry = a.0; stands_for = a.2.0; first_is_entry = leads }
+
+    -- one that had ended was issued
+    ended_on : (e : Pending) → Contains old.machine.book e → e.request.port ≡ port_at n → e.ended ≡ true → IsIssuedOn (port_at n) old.machine e
+    ended_on e there own ended = record { here = there; port_is = own; issued = ended_issued old.machine e reached there ended }
+
+    -- and its command's bits are clear
+    ended_clear : (e : Pending) → IsLeading e → e.ended ≡ true → ((c.device.port n).ci 0 ≡ false) × ((c.device.port n).sact 0 ≡ false)
+    ended_clear e h ended =
+        let done : h.now_is.ended ≡ true = h.same_as.ended ended in
+        let slot : p.stands.uses n 0 ≡ Serves h.now_is.request.id =
+        subst (λ (f : Found). IsUseOf f (Some h.entry) (p.stands.uses n 0)) (ap (λ (found : List Found). found_of found n) ports_is ∙ found_is)
+        (subst (λ (o : Option Accepted). IsUseOf (found_of c.ports n) o (p.stands.uses n 0)) h.first_is_entry (p.stands.used.first n)) ∙ ap Serves (sym h.stands_for.id) in
+        let clear = ended_is_clear p.stands.uses m c.device (port_at n) 0 h.now_is m_reached p.stands.knows.agrees (inl (h.here, ended_issued m h.now_is m_reached h.here done)) done slot in
+        (clear.0.over.issued, clear.0.sact)
+
+    -- who is answered in the turn is of the port
+    turn_answers : (reply : Option Reply) (late : List Step) → AnswersBy (port_at n) reply c late → (e : Pending) (o : Outcome) → Contains late (Answer e o) → e.request.port ≡ port_at n
+    turn_answers None late only e o here = absurd (no_answer late only e o here)
+    turn_answers (Some reply) late b e o here = ⊎_elim
+        (λ later. absurd (no_answer_issuing (port_at n) b.2 b.11 e o later))
+        (λ rest. ⊎_elim
+        (λ (is : Answer e o ≡ Answer b.1 Ok). let same : e ≡ b.1 = cc in ap (λ (x : Pending). x.request.port) same ∙ b.5.port ∙ (first_is (port_at n) c.book b.0 b.4).1)
+        (λ early. absurd (no_answer b.3 b.10 e o early))
+        (contains_cases (Answer b.1 Ok) b.3 (Answer e o) rest))
+        (Contains-append_cases b.2 (Answer b.1 Ok ∷ b.3) (Answer e o) (subst (λ (steps : List Step). Contains steps (Answer e o)) b.9 here))
 
     module _ (reply : Option Reply) (serves : ServesPort (port_at n) reply c mid) where
+      turn_is : TurnList (port_at n) (has_of (port_at n) c.book) reply c.device mid.device serves.turn
+      turn_is = turn_list (port_at n) low (has_of (port_at n) c.book) reply c.device mid.device serves.turn
+
       through : IsDrivenBy IsService c.device mid.device
-      through = turn_serves (port_at n) (has_of (port_at n) c.book) reply c.device mid.device serves.turn
+      through = driven_as IsTurn IsService c.device mid.device (λ access is. is.0) turn_is.driven
+
+      so_far : IsDrivenBy IsService s.device c.device
+      so_far = driven_as IsTurn IsService s.device c.device (λ access is. is.0) p.driven
 
       -- what goes well in both went well so far, and since
-      well_parts : (q : Port) → GoesWell q.0 s.device mid.device → GoesWell q.0 s.device c.device × (RunsWell (c.device.port q.0) × Undisturbed q.0 c.device mid.device)
+      well_parts : (q : Port) → StaysHealthy q.0 s.device mid.device → StaysHealthy q.0 s.device c.device × (RunsWell (c.device.port q.0) × Undisturbed q.0 c.device mid.device)
       well_parts q well =
-          let parts = calm_parts q.0 s.device c.device mid.device (tape_over IsService s.device c.device p.driven) (tape_over IsService c.device mid.device through) well.undisturbed in
-          (record { well = well.well; undisturbed = parts.0 }, (services_well q s.device c.device kept.on p.driven parts.0 well.well, parts.1))
+          let parts = calm_parts q.0 s.device c.device mid.device (tape_over IsService s.device c.device so_far) (tape_over IsService c.device mid.device through) well.undisturbed in
+          (record { well = well.well; undisturbed = parts.0 }, (services_well q s.device c.device kept.on so_far parts.0 well.well, parts.1))
 
       -- where the port goes well, a request that had ended is answered
-      never_none : GoesWell n s.device mid.device → (e : Pending) → Ended e → reply ≢ None
-      never_none well e h =
+      never_none : StaysHealthy n s.device mid.device → (e : Pending) → IsLeading e → e.ended ≡ true → reply ≢ None
+      never_none well e h ended =
           let w = (well_parts (port_at n) well).1 in
-          serves.answered w.0 w.1 h.ci h.sact (λ none. let z : Some h.entry ≡ None = sym h.first_is_entry ∙ none in absurd cc)
+          let clear = ended_clear e h ended in
+          serves.answered w.0 w.1 clear.0 clear.1 (λ none. let z : Some h.entry ≡ None = sym h.first_is_entry ∙ none in absurd cc)
 
       abbrev x : (late : List Step) × AllMay m late × IsMachineOf mid (after m late) × IsBacked c.device mid.device m late × AnswersBy (port_at n) reply c late
       x = serves.adds m m_reached p.stands
@@ -213,12 +325,17 @@ module _ (s : Server) (kept : IsKept s) (old : Moment) (reached : IsReached old.
       -- the port had its turn, and these requests were answered
       had_turn : AreTurns old (ports_of s.ports) (n + 1) (n + 1) all → (answers : List (Pending × Outcome)) → IsPermutation answers (answers_of all) → AllPairs IsToldBefore answers
           → All (λ a. a.0.request.port.0 < n + 1) answers → before ++ reply_list reply ≡ map reply_of answers
-          → (GoesWell n s.device mid.device → (e : Pending) → Contains old.machine.book e → e.request.port ≡ port_at n → e.ended ≡ true → (done : Pending) × (done.request ≡ e.request) × Contains all (Answer done Ok))
+          → (StaysHealthy n s.device mid.device → (e : Pending) → Contains old.machine.book e → e.request.port ≡ port_at n → e.ended ≡ true → (done : Pending) × (done.request ≡ e.request) × Contains all (Answer done Ok))
+          → (StaysHealthy n s.device mid.device → (e : Pending) → IsIssuedOn (port_at n) old.machine e → FindsDone (port_at n) (p.driven.accesses ++ turn_is.driven.accesses) began all)
           → Progress (n + 1) mid (before ++ reply_list reply)
-      had_turn turns answers permuted ordered low told heeds = record {
+      had_turn turns answers permuted ordered low told heeds here_finds = record {
         holds = next;
         same = same_more s c mid p.same serves.same;
-        driven = by_then p.driven through;
+        driven = record {
+          accesses = p.driven.accesses ++ turn_is.driven.accesses;
+          all = does_append p.driven.accesses turn_is.driven.accesses s.device c.device mid.device p.driven.all turn_is.driven.all;
+          only = All-append IsTurn p.driven.accesses turn_is.driven.accesses p.driven.only turn_is.driven.only;
+        };
         steps = all;
         turns = turns;
         stands = subst (IsMachineOf mid) (sym (after-append old.machine x.0 p.steps)) x.2;
@@ -234,8 +351,119 @@ module _ (s : Server) (kept : IsKept s) (old : Moment) (reached : IsReached old.
             (y.0, y.1, Contains-append_right x.0 p.steps (Answer y.0 Ok) y.2))
             (λ (most : n ≤ q.0).
             let q_is : q.0 ≡ n = omega (arith, lt, most) in
-            heeds (subst (λ (k : ℕ). GoesWell k s.device mid.device) q_is well) e there (own ∙ ap port_at q_is) ended)
+            heeds (subst (λ (k : ℕ). StaysHealthy k s.device mid.device) q_is well) e there (own ∙ ap port_at q_is) ended)
             (cases_lt q.0 n);
+        finds = λ q lt is_ready well e its. ⊎_elim
+            (λ (less : q.0 < n).
+            finds_more n c before p q turn_is.driven.accesses x.0 (λ done o there. let own = turn_answers reply x.0 x.4 done o there in let k = ap (λ (r : Port). r.0) own in λ same. omega (arith, less, k, ap (λ (r : Port). r.0) same))
+            (p.finds q less is_ready (well_parts q well).0 e its))
+            (λ (most : n ≤ q.0).
+            let q_is : port_at n ≡ q = ap port_at (omega (arith, lt, most)) in
+            subst (λ (r : Port). FindsDone r (p.driven.accesses ++ turn_is.driven.accesses) began all) q_is
+            (here_finds (subst (λ (r : Port). StaysHealthy r.0 s.device mid.device) (sym q_is) well) e (subst (λ (r : Port). IsIssuedOn r old.machine e) (sym q_is) its)))
+            (cases_lt q.0 n);
+      }
+
+    -- ---- what is found done in it
+
+    module _ (reply : Option Reply) (serves : ServesPort (port_at n) reply c mid)
+        (answers : reply ≢ None → (e : Pending) → IsLeading e → IsAnsweredOk e (all reply serves))
+        (answers_none : reply ≡ None → (done : Pending) → Contains (all reply serves) (Answer done Ok) → done.request.port.0 < n)
+        (healthy : StaysHealthy n s.device mid.device) (e : Pending) (its : IsIssuedOn (port_at n) old.machine e) where
+      w : RunsWell (c.device.port n) × Undisturbed n c.device mid.device
+      w = (well_parts reply serves (port_at n) healthy).1
+
+      calm : serves.turn.look ≡ Calm
+      calm = (turn_is reply serves).calm p.holds.on w.0 w.1
+
+      has : has_of (port_at n) c.book ≡ true
+      has = let h = leading e its in first_has (port_at n) c.book h.entry h.first_is_entry
+
+      checks : (k : Checks (port_at n) reply serves.turn.seen mid.device) × ReadsMasks (port_at n) k.reads.issued k.reads.active (turn_is reply serves).driven.accesses
+      checks = (turn_is reply serves).masks calm has
+
+      abbrev k : Checks (port_at n) reply serves.turn.seen mid.device
+      k = checks.0
+
+      abbrev AreClear : ℕ → Type 0
+      AreClear slot = (bit k.reads.issued slot ≡ false) × (bit k.reads.active slot ≡ false)
+
+      -- slot 0's bits tell whether the first was answered
+      module _ (other : Pending) (own : IsIssuedOn (port_at n) old.machine other) where
+        when_done : k.done ≡ true → IsAnsweredOk other (all reply serves) × AreClear 0
+        when_done done =
+            let both = and_parts (not (bit k.reads.issued 0)) (not (bit k.reads.active 0)) (sym k.reads.tells ∙ done) in
+            (answers (k.over done).0 other (leading other own), (not_true (bit k.reads.issued 0) both.0, not_true (bit k.reads.active 0) both.1))
+
+        when_not : k.done ≡ false → (IsAnsweredOk other (all reply serves) → ⊥) × (AreClear 0 → ⊥)
+        when_not running = (
+          (λ ok.
+          let small = answers_none (k.running running).0 ok.0 ok.2 in
+          let at = ap (λ (r : Port). r.0) (ap (λ r. r.port) ok.1 ∙ own.port_is) in
+          omega (arith, small, at)),
+          (λ clear. false≢true (sym running ∙ k.reads.tells ∙ and_from (not (bit k.reads.issued 0)) (not (bit k.reads.active 0)) (ap not clear.0) (ap not clear.1))),
+        )
+
+        at_head : IsAnsweredOk other (all reply serves) ↔ AreClear 0
+        at_head = ⊎_elim
+            (λ (done : k.done ≡ true). ((λ _. (when_done done).1), (λ _. (when_done done).0)))
+            (λ (running : k.done ≡ false). ((λ ok. absurd ((when_not running).0 ok)), (λ clear. absurd ((when_not running).1 clear))))
+            (cases_Bool k.done)
+
+        -- bytes of another slot may say its command still: then it has ended, and that slot isn't used
+        module _ (slot : ℕ) (apart : slot ≢ 0) (says : ServesRequest old.machine s.device.memory (s.device.port n) n slot other.request.id) where
+          has_ended : other.ended ≡ true
+          has_ended = ap (λ (x : Pending). x.ended) (sym same) ∙ by says.stage
+            where
+              free : IsFree (s.device.port n) slot
+              free = subst (λ (u : Use). IsServed old.machine s.device.memory s.device.tape (s.device.port n) n slot u) (at.used.others n slot apart) (at.knows.agrees.slot n slot)
+
+              same : says.pending ≡ other
+              same = ⊎_elim
+                  (λ booked. (standing old.machine reached).sound.one says.pending other booked.0 own.here (ap (λ (i : RequestId). i.0) says.id_is))
+                  (λ kept_there. absurd (contains_none says.pending (subst (λ (es : List Pending). Contains es says.pending) at.kept kept_there)))
+                  says.moves
+
+              by : Stage s.device.memory (s.device.port n) n slot says.pending says.command says.places → says.pending.ended ≡ true
+              by (inl waits) = absurd (false≢true (sym free.issued ∙ waits.issued))
+              by (inr (inl taken)) = let z : None ≡ Some taken.command = sym free.free ∙ taken.taken in absurd cc
+              by (inr (inr (inl ended))) = ended.ended
+              by (inr (inr (inr dropped))) = absurd (false≢true (sym dropped.stopped ∙ ((kept.behind n low).runs ready).st))
+
+          clear_there : AreClear slot
+          clear_there = (
+            issued_clear (port_at n) slot k.reads.issued serves.turn.seen k.reads.seen says.placed.slot_below k.reads.shows_issued
+                (still_over (port_at n) slot c.device serves.turn.seen looks (record { issued = free.issued; free = free.free })),
+            active_clear (port_at n) slot k.reads.active k.reads.seen k.read says.placed.slot_below k.reads.shows_active
+                (reads_clear n slot (Px (port_at n) Ci) k.reads.issued serves.turn.seen k.reads.seen k.reads.shows_issued
+                (services_inactive n slot c.device serves.turn.seen (driven_as (IsLooking (port_at n)) IsService c.device serves.turn.seen (looking_service (port_at n)) looks) free.unarmed)),
+          )
+            where
+              free : IsFree (c.device.port n) slot
+              free = subst (λ (u : Use). IsServed m c.device.memory c.device.tape (c.device.port n) n slot u) (p.stands.used.others n slot apart) (p.stands.knows.agrees.slot n slot)
+
+              looks : IsDrivenBy (IsLooking (port_at n)) c.device serves.turn.seen
+              looks = look_driven (port_at n) serves.turn.look c.device serves.turn.seen serves.turn.looks
+
+          apart_too : IsAnsweredOk other (all reply serves) ↔ AreClear slot
+          apart_too = ((λ _. clear_there), (λ _. answers (never_none reply serves healthy other (leading other own) has_ended) other (leading other own)))
+
+      finding : FindsDone (port_at n) (p.driven.accesses ++ (turn_is reply serves).driven.accesses) began (all reply serves)
+      finding = record {
+        ci = k.reads.issued;
+        sact = k.reads.active;
+        reads = record {
+          before = p.driven.accesses ++ checks.1.before;
+          later = checks.1.later;
+          here = ap (λ (late : List Access). p.driven.accesses ++ late) checks.1.here
+              ∙ sym (append_assoc p.driven.accesses checks.1.before (Reading (Px (port_at n) Ci) k.reads.issued ∷ Reading (Px (port_at n) Sact) k.reads.active ∷ checks.1.later));
+          running = All-append (LeavesCommand (port_at n)) p.driven.accesses checks.1.before
+              (λ i d small. (turn_leaves (port_at n) _ (p.driven.only i d small)).0) checks.1.running;
+        };
+        exact = λ other slot own says. ⊎_elim
+            (λ (zero_is : slot ≡ 0). subst (λ (i : ℕ). IsAnsweredOk other (all reply serves) ↔ AreClear i) (sym zero_is) (at_head other own))
+            (λ (apart : slot ≢ 0). apart_too other own slot apart says)
+            (cases_eq slot 0);
       }
 
     -- nobody is answered
@@ -250,7 +478,10 @@ module _ (s : Server) (kept : IsKept s) (old : Moment) (reached : IsReached old.
         p.ordered
         (λ i d small. let lt = p.low i d small in omega (arith, lt))
         (append-nil before ∙ p.told)
-        (λ well e there own ended. absurd (never_none None serves well e (had_ended e there own ended) refl))
+        (λ well e there own ended. absurd (never_none None serves well e (leading e (ended_on e there own ended)) ended refl))
+        (λ well e its. finding None serves (λ some. absurd (some refl))
+        (λ _ done there. ⊎_elim (λ late. absurd (no_answer y.0 y.4 done Ok late)) (λ early. (p.turns.told done Ok early).2) (Contains-append_cases y.0 p.steps (Answer done Ok) there))
+        well e its)
 
     -- what comes after the answer
     later_on : (base later : List Step) → AreTurns old (ports_of s.ports) n (suc n) base → AllMay (after old.machine base) later → IssuesOnly (port_at n) later
@@ -313,13 +544,21 @@ module _ (s : Server) (kept : IsKept s) (old : Moment) (reached : IsReached old.
       its_answers = ap answers_of whole ∙ then_on.1 ∙ ap (λ (answers : List (Pending × Outcome)). (its_done, Ok) ∷ answers) (devices_answer its_early p.steps b.10)
 
       -- a request that had ended is the one that is answered
-      is_done : (e : Pending) → Ended e → its_done.request ≡ e.request
+      is_done : (e : Pending) → IsLeading e → its_done.request ≡ e.request
       is_done e h =
           let l = found_later m.book (after m its_early).book h.now_is (steps_spare m its_early b.10).book h.here in
           let same : h.entry ≡ its_first = same_some (sym h.first_is_entry ∙ b.4) in
           let one = (standing (after m its_early) (reached_more m its_early m_reached both.0.0)).sound.one l.0 its_done l.1 both.0.1
           (ap (λ (i : RequestId). i.0) (ap (λ r. r.id) l.2.request ∙ h.stands_for.id ∙ ap (λ (a : Accepted). a.id) same ∙ sym b.5.id)) in
           ap (λ (y : Pending). y.request) (sym one) ∙ l.2.request ∙ h.same_as.request
+
+      is_answered : (e : Pending) → IsLeading e → IsAnsweredOk e (late ++ p.steps)
+      is_answered e h = (
+        its_done,
+        is_done e h,
+        subst (λ (steps : List Step). Contains steps (Answer its_done Ok)) (sym whole)
+            (Contains-append_right its_later base (Answer its_done Ok) (contains_here (Answer its_done Ok) (its_early ++ p.steps) (Answer its_done Ok) refl)),
+      )
 
       told : reply ≡ done_reply its_first → before ++ reply ∷ [] ≡ map reply_of (p.answers ++ (its_done, Ok) ∷ [])
       told says =
@@ -346,12 +585,8 @@ module _ (s : Server) (kept : IsKept s) (old : Moment) (reached : IsReached old.
         (its_order reply y.0 y.1 b)
         (its_low reply y.0 y.1 b)
         (told reply y.0 y.1 b (serves.answers.2 ∙ ap done_reply (same_some (sym serves.answers.1 ∙ b.4))))
-        (λ well e there own ended. (
-          done,
-          is_done reply y.0 y.1 b e (had_ended e there own ended),
-          subst (λ (steps : List Step). Contains steps (Answer done Ok)) (sym (whole reply y.0 y.1 b))
-              (Contains-append_right b.2 (Answer done Ok ∷ (b.3 ++ p.steps)) (Answer done Ok) (contains_here (Answer done Ok) (b.3 ++ p.steps) (Answer done Ok) refl)),
-        ))
+        (λ well e there own ended. is_answered reply y.0 y.1 b e (leading e (ended_on e there own ended)))
+        (λ well e its. finding (Some reply) serves (λ _ other h. is_answered reply y.0 y.1 b other h) (λ none. let z : Some reply ≡ None = none in absurd cc) well e its)
 
     turn : (reply : Option Reply) → ServesPort (port_at n) reply c mid → Progress (n + 1) mid (before ++ reply_list reply)
     turn None serves = turn_none serves
@@ -395,77 +630,6 @@ module _ (s : Server) (kept : IsKept s) (old : Moment) (reached : IsReached old.
       go found (n + 1) (on (Unready state) found n here) c new before replies (skipped n c before (unready state n (head_is (Unready state) found n here)) p) serves
 
 -- ---- the event
-
--- a port without a request in the server's book has none in the machine's
-none_there : (book : List Accepted) (m : Machine) → IsBook book m.book → (port : Port) → has_of port book ≡ false → HasNone m.book port
-none_there book m is port none e here own =
-    let a = at_right (StandsIn (λ _. true) book) book m.book is e here in
-    absurd (false≢true (sym none ∙ some_in (is_of port) book a.0 a.1 (eq-eqb a.0.port.0 port.0 (ap (λ (q : Port). q.0) (sym a.2.0.port ∙ own)))))
-
--- a book without a port's first has the other ports' requests
-rest_none : (port other : Port) (book : List Accepted) → other.0 ≢ port.0 → has_of other (rest_of port book) ≡ false → has_of other book ≡ false
-rest_none port other book apart none = ⊎_elim
-    (λ (has : has_of other book ≡ true).
-    let f = has_first other book has in
-    let z : Some f.0 ≡ None = sym f.1 ∙ sym (other_first port other book apart) ∙ none_first other (rest_of port book) none in absurd cc)
-    (λ (is : has_of other book ≡ false). is)
-    (cases_Bool (has_of other book))
-
--- what the book says of ports from one on: where one has no request in it, it had none; and its first was issued on it
-record Had (pending : List Pending) (n : ℕ) (book : List Accepted) : Type 0 where
-  none : (q : ℕ) → n ≤ q → has_of (port_at q) book ≡ false → HasNone pending (port_at q)
-  first : (q : ℕ) (e : Accepted) (reply : Reply) → n ≤ q → first_of (port_at q) book ≡ Some e → reply.id ≡ e.id → IsOfIssued pending (port_at q) (Some reply)
-
--- a port's first request is issued in the machine's book
-first_there : (book : List Accepted) (m : Machine) → IsBook book m.book → (port : Port) (e : Accepted) (reply : Reply) → first_of port book ≡ Some e → reply.id ≡ e.id → IsOfIssued m.book port (Some reply)
-first_there book m is port e reply first same =
-    let here = first_is port book e first in
-    let q = at_left (StandsIn (λ _. true) book) book m.book is e here.0 in
-    let leads = ap (λ (p : Port). first_of p book) here.1 ∙ first in
-    (q.0, q.1, q.2.0.port ∙ here.1, q.2.1.1 (refl, leads), q.2.0.id ∙ sym same)
-
--- and of those from the next on
-had_past : (pending : List Pending) (n : ℕ) (book : List Accepted) → Had pending n book → Had pending (n + 1) book
-had_past pending n book had = record {
-  none = λ q most. had.none q (omega (arith, most));
-  first = λ q e reply most. had.first q e reply (omega (arith, most));
-}
-
-had_on : (pending : List Pending) (n : ℕ) (reply : Option Reply) (old mid : Server) → Had pending n old.book → AnswersFirst (port_at n) reply old mid → Had pending (n + 1) mid.book
-had_on pending n None old mid had answers = record {
-  none = λ q most none. had.none q (omega (arith, most)) (subst (λ (book : List Accepted). has_of (port_at q) book ≡ false) answers.0 none);
-  first = λ q e reply most first. had.first q e reply (omega (arith, most)) (subst (λ (book : List Accepted). first_of (port_at q) book ≡ Some e) answers.0 first);
-}
-had_on pending n (Some reply) old mid had answers = record {
-  none = λ q most none.
-      had.none q (omega (arith, most)) (rest_none (port_at n) (port_at q) old.book (λ same. absurd (omega (arith, most, same))) (subst (λ (book : List Accepted). has_of (port_at q) book ≡ false) answers.3 none));
-  first = λ q e reply most first.
-      had.first q e reply (omega (arith, most))
-      (sym (other_first (port_at n) (port_at q) old.book (λ same. absurd (omega (arith, most, same)))) ∙ subst (λ (book : List Accepted). first_of (port_at q) book ≡ Some e) answers.3 first);
-}
-
--- who is answered in a turn had been issued
-answered_issued : (pending : List Pending) (n : ℕ) (reply : Option Reply) (old mid : Server) → Had pending n old.book → AnswersFirst (port_at n) reply old mid → IsOfIssued pending (port_at n) reply
-answered_issued pending n None old mid had answers = tt
-answered_issued pending n (Some reply) old mid had answers = had.first n answers.0 reply (omega arith) answers.1 (ap (λ (r : Reply). r.id) answers.2)
-
--- so each ready port had its turn
-had_turns : (pending : List Pending) (found : List Found) (n : ℕ) (old new : Server) (replies : List Reply) → Had pending n old.book → ServePorts n found replies old new
-    → HaveTurns pending n found replies old.device new.device
-had_turns pending [] n old new replies had serves = (serves.0, ap (λ (x : Server). x.device) serves.1)
-had_turns pending (Ready info ∷ found) n old new replies had (mid, reply, later, is, next, serves, more) = (
-  mid.device,
-  has_of (port_at n) old.book,
-  reply,
-  later,
-  is,
-  had.none n (omega arith),
-  answered_issued pending n reply old mid had serves.answers,
-  serves.turn,
-  had_turns pending found (n + 1) mid new later (had_on pending n reply old mid had serves.answers) more,
-)
-had_turns pending (Unserved ∷ found) n old new replies had serves = had_turns pending found (n + 1) old new replies (had_past pending n old.book had) serves
-had_turns pending (Unready state ∷ found) n old new replies had serves = had_turns pending found (n + 1) old new replies (had_past pending n old.book had) serves
 
 module _ (s new : Server) (replies : List Reply) (kept : IsKept s) (serves : ServePorts 0 s.ports replies s new) (first : Instant Device) (past : List (Happening Device DeviceStep)) (leads : Leads first past s) where
   abbrev old : Moment
@@ -511,38 +675,67 @@ module _ (s new : Server) (replies : List Reply) (kept : IsKept s) (serves : Ser
       other (ap (λ (q : Port). state_of (found_of s.ports q.0)) (sym own ∙ a.2.0.port)
       ∙ All-contains (λ (x : Accepted). state_of (found_of s.ports x.port.0) ≡ ReadyState) new.book a.0 holds.ready a.1)
 
-  all_answered : AnswersService old no_evidence p.steps replies end
+  all_answered : AnswersService old (told_by s.device old.ports) p.steps replies end
   all_answered = record {
     tells = record { answers = p.answers; same = p.permuted; ordered = p.ordered; told = p.told };
     dead = λ e o h dead. let z : Dead ≡ ReadyState = sym dead ∙ is_ready e.request.port ∙ (p.turns.told e o h).1 in absurd cc;
-    grounded = p.turns.grounded;
+    grounded = grounded_told s.device old.ports p.steps p.turns.grounded;
     unplugs = record {
       emptied = λ e other h here own. not_unplugged Unplugged refl (p.turns.told e Unplugged h).0;
       alike = λ e other h here own. not_unplugged Unplugged refl (p.turns.told e Unplugged h).0;
     };
     issues = λ port is. none_due plain_mode (λ _. true) port new.book (after old.machine p.steps).book refl stands.book refl;
     emptied = emptied;
-    becomes = serviced_same old.ports (ports_of s.ports) same;
+    becomes = serviced_same s.device old.ports old.ports (ports_of s.ports) same;
     disk = λ port. inl (ports_same old.ports (ports_of s.ports) same port);
   }
 
+  -- a ready port had its turn
+  counted : (port : Port) → old.ports.state port ≡ ReadyState → port.0 < ends.count
+  counted port ready = ⊎_elim (λ less. less) (λ most. absurd (ends.past port.0 most (sym (is_ready port) ∙ ready))) (cases_lt port.0 ends.count)
+
   -- a ready port that goes well is served
-  heeds : (port : Port) → GoesWell port.0 s.device new.device → old.ports.state port ≡ ReadyState → ServesReady old no_evidence p.steps end port
+  heeds : (port : Port) → StaysHealthy port.0 s.device new.device → old.ports.state port ≡ ReadyState → ServesReady old no_evidence p.steps end port
   heeds port well ready =
       let found_ready : state_of (found_of s.ports port.0) ≡ ReadyState = sym (is_ready port) ∙ ready in
       calmly old end p.steps port
       ((at.knows.agrees.disk port.0).present ∙ well.well.present)
       (ports_same old.ports (ports_of s.ports) same port)
       (none_refused p.steps (λ e o h. (p.turns.told e o h).0))
-      (p.heeded port (⊎_elim (λ less. less) (λ most. absurd (ends.past port.0 most found_ready)) (cases_lt port.0 ends.count)) found_ready well)
+      (p.heeded port (counted port ready) found_ready well)
+
+  -- a port that isn't ready is stopped, or idle: it doesn't run well
+  port_part : (port : Port) → StaysHealthy port.0 s.device new.device
+      → TiesPort (with_device s.device (now first past)) (happening (with_device s.device (now first past)) new.device Service (Served replies) p.steps (ports_of s.ports)) p.driven.accesses port
+  port_part port well = record {
+    finds = λ ready e its. p.finds port (counted port ready) (sym (is_ready port) ∙ ready) well e its;
+    faults = λ alone. absurd (false≢true (sym (well.well.quiet.quiet 30 (omega arith) (omega arith)) ∙ alone.shows.fault));
+    tries = λ served coming. record {
+      shown = λ absent det. absurd (idle (ap (λ (ports : Ports). ports.served port) (sym same) ∙ served) (λ ready. let z : Absent ≡ ReadyState = sym absent ∙ is_ready port ∙ ready in cc));
+      absent = λ absent det fresh. absurd (idle (ap (λ (ports : Ports). ports.served port) (sym same) ∙ served) (λ ready. let z : Absent ≡ ReadyState = sym absent ∙ is_ready port ∙ ready in cc));
+      missing = λ bad. absurd (idle (ap (λ (ports : Ports). ports.served port) (sym same) ∙ served) (λ ready. not_bad bad (is_ready port ∙ ready)));
+      changed = λ bad. absurd (idle (ap (λ (ports : Ports). ports.served port) (sym same) ∙ served) (λ ready. not_bad bad (is_ready port ∙ ready)));
+    };
+    boots = ((λ ready fatal. let low_is = fatal.from in let high_is = fatal.to in absurd (false≢true (sym (well.well.quiet.quiet fatal.place low_is (omega (arith, high_is))) ∙ fatal.set))), inl (ports_same old.ports (ports_of s.ports) same port));
+    heeds = λ ready. serves_told s.device old.ports old end p.steps port well.well (heeds port well ready);
+  }
+    where
+      idle : (ports_of s.ports).served port ≡ true → state_of (found_of s.ports port.0) ≢ ReadyState → ⊥
+      idle served other = not_running s kept port served other well.well
+
+      not_bad : HasBadDisk old.ports port → old.ports.state port ≡ ReadyState → ⊥
+      not_bad (inl foreign) ready = let z : Foreign ≡ ReadyState = sym foreign ∙ ready in cc
+      not_bad (inr (cause, unfit)) ready = let z : Unfit cause ≡ ReadyState = sym unfit ∙ ready in cc
 
   pub service_event : (h : Happening Device DeviceStep) × (h.event.ask ≡ Service) × (h.event.said ≡ Served replies) × Leads first (h ∷ past) new
   service_event = subst (λ (x : Server). (h : Happening Device DeviceStep) × (h.event.ask ≡ Service) × (h.event.said ≡ Served replies) × Leads first (h ∷ past) x) (sym p.same)
-      (lead_by first past s later Service (Served replies) p.steps refl refl leads
-      p.turns.may p.turns.belong p.turns.last p.turns.lawful all_answered (had_turns old.machine.book s.ports 0 s new replies (record {
-        none = λ q most. none_there s.book old.machine at.book (port_at q);
-        first = λ q e reply most. first_there s.book old.machine at.book (port_at q) e reply;
-      }) serves) holds.on holds.behind heeds p.backed stands)
+      (lead_by first past s later Service (Served replies) p.steps refl refl leads holds
+      p.turns.may p.turns.belong p.turns.last p.turns.lawful all_answered
+      p.driven.accesses
+      (p.driven.all, λ i d small. turn_serving _ (p.driven.only i d small))
+      (λ port i d small. turn_leaves port _ (p.driven.only i d small))
+      port_part
+      p.backed stands)
 
 pub services_add : (s new : Server) (replies : List Reply) → IsKept s → ServePorts 0 s.ports replies s new → Adds s new Service (Served replies)
 services_add s new replies kept serves = record { adds = λ first past leads. service_event s new replies kept serves first past leads }

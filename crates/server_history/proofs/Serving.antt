@@ -31,8 +31,7 @@ use Rattle.identify.specs.declared.DiskInfo.{DiskInfo}
 use Rattle.request_book.specs.Entries.{first_of, has_of}
 use Rattle.request_book.specs.declared.book.Accepted.{Accepted}
 use Rattle.request_book.proofs.Stepping.{has_first}
-use Rattle.server_history.specs.Histories.{HasTurn}
-use Rattle.server_history.specs.Served.{AnswersBy, FinishesFirst, ServesPort, done_reply}
+use Rattle.server_history.specs.Served.{AnswersBy, FinishesFirst, HasTurn, ServesPort, done_reply}
 use Rattle.server_history.specs.Server.{Server, IsKept, IsMachineOf, none_parked, state_of}
 use Rattle.server_history.proofs.Finishing.{finishing}
 use Rattle.server_history.proofs.Going.{machine_on}
@@ -79,7 +78,7 @@ last_issues s new port first found f = ⊎_elim
     (cases_Bool (has_of port new.book))
 
 -- a port with a first request has one
-first_has : (port : Port) (book : List Accepted) (first : Accepted) → first_of port book ≡ Some first → has_of port book ≡ true
+pub first_has : (port : Port) (book : List Accepted) (first : Accepted) → first_of port book ≡ Some first → has_of port book ≡ true
 first_has port book first is = ⊎_elim
     (λ (has : has_of port book ≡ true). has)
     (λ (none : has_of port book ≡ false). let z : Some first ≡ None = sym is ∙ none_first port book none in absurd cc)
@@ -95,10 +94,10 @@ no_issue port access is v same = by (subst (IsLooking port) same is)
     by (inl e) = let z : Px port Ci ≡ Px port Is = e in absurd cc
     by (inr e) = absurd (let z = e.0 in cc)
 
-still_over : (port : Port) (old new : Device) → IsDrivenBy (IsLooking port) old new → IsOver (old.port port.0) 0 → IsOver (new.port port.0) 0
-still_over port old new driven =
-    along (λ a b. IsOver (a.port port.0) 0 → IsOver (b.port port.0) 0) (λ d h. h) (λ a b c x y h. y (x h)) (IsLooking port)
-    (λ access a b is does h. access_over port 0 access a b (λ v same. absurd (no_issue port access is v same)) does h) driven.accesses old new driven.only driven.all
+pub still_over : (port : Port) (slot : ℕ) (old new : Device) → IsDrivenBy (IsLooking port) old new → IsOver (old.port port.0) slot → IsOver (new.port port.0) slot
+still_over port slot old new driven =
+    along (λ a b. IsOver (a.port port.0) slot → IsOver (b.port port.0) slot) (λ d h. h) (λ a b c x y h. y (x h)) (IsLooking port)
+    (λ access a b is does h. access_over port slot access a b (λ v same. absurd (no_issue port access is v same)) does h) driven.accesses old new driven.only driven.all
 
 -- a command that runs has one of the two bits
 never_both : (started queued ci sact : Bool) → started ≡ true → ci ≡ started && not queued → sact ≡ started && queued → ci ≡ false → sact ≡ false → ⊥
@@ -119,7 +118,7 @@ module _ (s : Server) (port : Port) (k : IsKept s) (ready : state_of (found_of s
 
       by : Stage s.device.memory (s.device.port port.0) port.0 0 x.pending x.command x.places → IsOver (s.device.port port.0) 0
       by (inl w) = absurd (false≢true (sym ci ∙ w.issued))
-      by (inr (inl t)) = absurd (never_both (s.device.port port.0).st (is_queued x.command.operation) _ _ ((k.behind port.0 found.0).runs ready).started t.issued t.sact ci sact)
+      by (inr (inl t)) = absurd (never_both (s.device.port port.0).st (is_queued x.command.operation) _ _ ((k.behind port.0 found.0).runs ready).st t.issued t.sact ci sact)
       by (inr (inr (inl e))) = record { issued = e.issued; free = e.free }
       by (inr (inr (inr d))) = record { issued = d.issued; free = d.free }
 
@@ -128,7 +127,7 @@ module _ (s : Server) (port : Port) (k : IsKept s) (ready : state_of (found_of s
       → ((seen.port port.0).ci 0 ≡ false) × ((seen.port port.0).sact 0 ≡ false)
   still_clear seen driven ci sact some = ⊎_elim
       (λ (first : (e : Accepted) × (first_of port s.book ≡ Some e)). (
-        (still_over port s.device seen driven (clear_over first.0 first.1 ci sact)).issued,
+        (still_over port 0 s.device seen driven (clear_over first.0 first.1 ci sact)).issued,
         services_inactive port.0 0 s.device seen (driven_as (IsLooking port) IsService s.device seen (looking_service port) driven) sact,
       ))
       (λ (none : first_of port s.book ≡ None). absurd (some none))

@@ -21,8 +21,8 @@ use Rattle.block_machine.proofs.EventLemmas.{after-append}
 use Rattle.block_machine.proofs.HistoryLemmas.{reached_more}
 use Rattle.block_machine.proofs.Members.{at_cases, contains_cases, contains_none, into_map, map_in, without_in}
 use Rattle.block_machine.proofs.Standing.{standing}
-use Rattle.server_history.specs.Histories.{no_evidence}
 use Rattle.server_history.proofs.Devices.{not_handled}
+use Rattle.server_history.proofs.Told.{no_evidence}
 
 -- the same request, issued as it was; and where it had ended, it has
 pub record IsSame (old new : Pending) : Type 0 where
@@ -30,15 +30,15 @@ pub record IsSame (old new : Pending) : Type 0 where
   pub issued : new.issued ≡ old.issued
   pub ended : old.ended ≡ true → new.ended ≡ true
 
--- Steps of a service in which ports had their turns: requests were issued on ports below the first number alone, and those on ports from the
--- second on are what they were when the call began.
+-- Steps of a service in which ports had their turns: requests were issued on ports below the first number alone; and those on ports from the
+-- second on are what they were when the call began, and none of them is answered.
 pub record AreTurns (old : Moment) (ports : Ports) (below from : ℕ) (steps : List Step) : Type 0 where
   pub may : AllMay old.machine steps
   pub belong : Belong {D = DeviceStep} Service ports steps
   pub last : IssuesLast steps
   pub lawful : AllLawful old no_evidence ports steps
   pub grounded : AllGrounded no_evidence steps
-  pub told : (e : Pending) (o : Outcome) → Contains steps (Answer e o) → (o ≡ Ok) × (ports.state e.request.port ≡ Ready)
+  pub told : (e : Pending) (o : Outcome) → Contains steps (Answer e o) → (o ≡ Ok) × (ports.state e.request.port ≡ Ready) × (e.request.port.0 < from)
   pub issued : (id : RequestId) → IsIssuedIn id steps
       → (e : Pending) × Contains (after old.machine steps).book e × (e.request.id.0 ≡ id.0) × (e.request.port.0 < below)
   pub further : (e : Pending) → Contains old.machine.book e → from ≤ e.request.port.0
@@ -91,7 +91,7 @@ module _ (old : Moment) (ports : Ports) where
     last = x.last;
     lawful = x.lawful;
     grounded = x.grounded;
-    told = x.told;
+    told = λ e o h. let w = x.told e o h in let small = w.2 in (w.0, w.1, omega (arith, then, small));
     issued = λ id i. let w = x.issued id i in let small = w.3 in (w.0, w.1, w.2, omega (arith, first, small));
     further = λ e h far. x.further e h (omega (arith, then, far));
     origin = λ e h far. x.origin e h (omega (arith, then, far));
@@ -165,8 +165,11 @@ module _ (old : Moment) (ports : Ports) where
       );
       grounded = x.grounded;
       told = λ y o h. ⊎_elim
-          (λ (q : Answer y o ≡ Answer e Ok). let a : y ≡ e = cc in let b : o ≡ Ok = cc in (b, subst (λ (z : Pending). ports.state z.request.port ≡ Ready) (sym a) ready))
-          (λ (i : Contains base (Answer y o)). x.told y o i)
+          (λ (q : Answer y o ≡ Answer e Ok).
+          let a : y ≡ e = cc in
+          let b : o ≡ Ok = cc in
+          (b, subst (λ (z : Pending). ports.state z.request.port ≡ Ready) (sym a) ready, subst (λ (z : Pending). z.request.port.0 < suc n) (sym a) (omega (arith, its))))
+          (λ (i : Contains base (Answer y o)). let w = x.told y o i in let small = w.2 in (w.0, w.1, omega (arith, small)))
           (contains_cases (Answer e Ok) base (Answer y o) h);
       issued = λ id i.
           let w = x.issued id i in

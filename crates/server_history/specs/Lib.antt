@@ -1,4 +1,3 @@
 pub mod Server
 pub mod Histories
 pub mod Served
-pub mod Moves

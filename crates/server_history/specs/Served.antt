@@ -1,12 +1,14 @@
 -- How a port is served, as the block machine has it (this project's own).
-use Rattle.std.specs.Prelude.{ℕ, true, false, ◌≡◌, ◌≢◌, ◌⊎◌, ◌+◌, ◌++◌, List, [], ◌∷◌, Option, Some, None}
+use Rattle.std.specs.Prelude.{ℕ, Bool, true, false, ◌≡◌, ◌≢◌, ◌⊎◌, ◌+◌, ◌++◌, List, [], ◌∷◌, Option, Some, None}
 use Rattle.ata_types.specs.declared.Port.{Port}
 use Rattle.ata_types.specs.declared.request.Outcome.TheVariants as outcome
 use Rattle.ata_types.specs.declared.grant.GrantRow.{GrantRow}
 use Rattle.ata_types.specs.declared.request.Reply.{Reply}
 use Rattle.ata_types.specs.declared.request.Request.{Request}
 use Rattle.ata_types.specs.declared.request.RequestId.{RequestId}
+use Rattle.adapter.specs.Device.{Device}
 use Rattle.agreement.specs.Agrees.{port_at}
+use Rattle.agreement.specs.Driven.{IsDrivenBy}
 use Rattle.agreement.specs.Driver.{IsBacked}
 use Rattle.agreement.specs.Facts.{RunsWell, Undisturbed}
 use Rattle.block_machine.specs.Events.{AllMay, AllDevices}
@@ -21,9 +23,36 @@ use Rattle.host_boot.specs.declared.Found.TheVariants.{Ready}
 use Rattle.request_book.specs.Entries.{first_of, has_of, rest_of}
 use Rattle.request_book.specs.Machine.{IsEntry}
 use Rattle.request_book.specs.declared.book.Accepted.{Accepted}
-use Rattle.server_history.specs.Histories.{HasTurn, reply_list}
 use Rattle.server_history.specs.Server.{Server, IsKept, IsMachineOf, plain_mode}
-use Rattle.transfers.specs.Transfers.{Transfer, IssuesTransfer}
+use Rattle.transfers.specs.Looks.{LooksAt}
+use Rattle.transfers.specs.Transfers.{Transfer, IsIssuing, IssuesTransfer, ReadsDone}
+use Rattle.transfers.specs.declared.Look.{Look}
+use Rattle.transfers.specs.declared.Look.TheVariants.{Undisturbed as Calm}
+
+-- ---- a port's turn
+
+-- as a list
+abbrev pub reply_list : Option Reply → List Reply
+reply_list None = []
+reply_list (Some reply) = reply ∷ []
+
+-- PxCI and PxSACT were read. Where slot 0's bit was set in one of them, nobody was answered, and that was all. Where it was clear in both,
+-- a request was answered; of accesses, only those followed that issue a request of the port's, if any.
+pub record Checks (port : Port) (reply : Option Reply) (old new : Device) : Type 0 where
+  pub done : Bool
+  pub read : Device
+  pub reads : ReadsDone port done old read
+  pub running : done ≡ false → (reply ≡ None) × (new ≡ read)
+  pub over : done ≡ true → (reply ≢ None) × IsDrivenBy (IsIssuing port) read new
+
+-- A port's turn in a service. The port was looked at. Where that told of something, or the port had no request, that was all, and nobody
+-- was answered; else its first request was checked.
+pub record HasTurn (port : Port) (busy : Bool) (reply : Option Reply) (old new : Device) : Type 0 where
+  pub look : Look
+  pub seen : Device
+  pub looks : LooksAt port look old seen
+  pub only : (look ≢ Calm) ⊎ (busy ≡ false) → (reply ≡ None) × (new ≡ seen)
+  pub checks : look ≡ Calm → busy ≡ true → Checks port reply seen new
 
 -- the reply that says that a request was done
 abbrev pub done_reply : Accepted → Reply

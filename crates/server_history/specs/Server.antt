@@ -30,7 +30,7 @@ use Rattle.identify.specs.declared.wanted.Wanted.{Wanted}
 use Rattle.request_book.specs.Entries.{first_of, unanswered_of, IsAccepted, IsInOrder}
 use Rattle.request_book.specs.Machine.{IsBook}
 use Rattle.request_book.specs.declared.book.Accepted.{Accepted}
-use Rattle.transfers.specs.Transfers.{MayTransfer}
+use Rattle.driver_history.specs.Holds.{Runs}
 
 -- The device behind the adapter; the grants; by frame its owner and the request that it is lent to; by port the disk that is wanted, and
 -- what it was found to be; the unanswered requests in order of acceptance; and the id that was handed out last, or 0.
@@ -141,10 +141,11 @@ abbrev pub OwnsClientFrames : Table → ℕ → Type 0
 OwnsClientFrames table size = (frame : Frame) (client : ClientId) → owner_of table frame ≡ Some client
     → (DRIVER_FRAMES ≤ frame.0) × (FRAME_BYTES * frame.0 + FRAME_BYTES ≤ size)
 
--- What stands behind each port, as it was found; and a ready one runs, with its command list in its place.
+-- What stands behind each port, as it was found; and a ready one runs, with no bit of PxSACT.
 pub record IsPortOf (wanted : List Wanted) (found : List Found) (port : ℕ) (d : Device) : Type 0 where
   pub behind : StillStandsBehind (wanted_of wanted port) (found_of found port) port d
-  pub runs : state_of (found_of found port) ≡ ReadyState → MayTransfer port d
+  pub runs : state_of (found_of found port) ≡ ReadyState → Runs port d
+  pub unqueued : state_of (found_of found port) ≡ ReadyState → (slot : ℕ) → (d.port port).sact slot ≡ false
 
 -- The adapter is on and has the memory of the driver and of the clients, and each port that is served; grants are for reads and writes;
 -- requests are as they were accepted, in order, and of ready ports; and some machine that a history leads to stands for the server.

@@ -19,76 +19,22 @@ ghost use Rattle.adapter.specs.Steps.{Steps};
 ghost use Rattle.adapter.specs.declared.access.DeviceStep.{DeviceStep};
 ghost use Rattle.agreement.specs.Driven.{AgreesWith, AnyUse, IsFollowed};
 ghost use Rattle.agreement.specs.Facts.{RunsWell, Undisturbed};
-ghost use Rattle.agreement.specs.Slots.{IsOver, ServesRequest};
-ghost use Rattle.block_machine.specs.Events.{steps_of, Submit, StoreAt, LoadAt, Service, State, Device as Told, Submitted, Served, Shown, Stepped, IsRun, EveryReadHolds};
-ghost use Rattle.block_machine.specs.Histories.{Instant, Happening, IsHistory, events_of, now};
+ghost use Rattle.agreement.specs.Slots.{IsOver};
+ghost use Rattle.block_machine.specs.Events.{Submit, StoreAt, LoadAt, Service, State, Device as Told, Submitted, Served, Shown, Stepped};
 ghost use Rattle.block_machine.specs.Refusals.{IsAcceptable, IsFirstRefusal, IsOpen, IsFirstMemFault};
-ghost use Rattle.block_machine.specs.State.{Pending};
 ghost use Rattle.command_table.specs.Written.{IsUnused};
 ghost use Rattle.dma_frames.specs.Table.{owner_of, lent_to};
 ghost use Rattle.host_boot.specs.Taken.{found_of, TakesOver};
 ghost use Rattle.host_boot.specs.declared.Host.{Host};
-ghost use Rattle.identify.specs.declared.wanted.Wanted.{Wanted};
 ghost use Rattle.request_book.specs.Entries.{has_of};
 ghost use Rattle.request_book.specs.declared.book.Accepted.{Accepted};
-ghost use Rattle.server_history.specs.Histories.{Adds, AreShown, Begins, GoesWell, HasBegun, Ties, load_said, store_said};
-ghost use Rattle.server_history.specs.Moves.{KeepsMoves};
+ghost use Rattle.server_history.specs.Histories.{Adds, HasBegun, load_said, store_said};
 ghost use Rattle.server_history.specs.Served.{Accepts, FinishesFirst, ServePorts, ServesPort, done_reply};
 ghost use Rattle.server_history.specs.Server.{Server, IsKept, IsNewServer, ports_of, situation_of, state_of};
 ghost use Rattle.transfers.specs.Looks.{IsLooking, LooksAt};
 ghost use Rattle.transfers.specs.Transfers.{IsFinding, FindsTransfer, ReadsDone};
 ghost use Rattle.transfers.specs.declared.Look.{Look};
 ghost use Rattle.transfers.specs.declared.Look.TheVariants.{Undisturbed as Calm};
-
-/// The calls of a history of the server are a run of the block machine. So its laws on runs hold of them: each request that is
-/// issued was accepted and broke no rule, each touch is of an accepted request's own sector at a frame that is lent to it, and
-/// others.
-pub fn histories_are_runs()
-    ensures { (wanted : List Wanted) (first : Instant Device) (past : List (Happening Device DeviceStep))
-        → IsHistory (Begins wanted) (Ties wanted) first past → IsRun first.moment (events_of past) }
-{}
-
-/// Where the adapter's disks tell their sectors, each read of a history that was answered Ok has, at the end of the call that
-/// answered it, what was left.
-pub fn reads_hold()
-    ensures { (wanted : List Wanted) (first : Instant Device) (past : List (Happening Device DeviceStep))
-        → IsHistory (Begins wanted) (Ties wanted) first past → first.device.telling ≡ true → EveryReadHolds first.moment (events_of past) }
-{}
-
-/// Each move of a client's data, of any call of a history, is of a sector of its own request's, at its place in a frame that is lent to that
-/// request then, in the direction of its operation; the request was accepted, when it broke no rule, and is issued or kept. Each other
-/// move stays in its port's scratch frame. And sectors are cleared by a trim alone that was accepted so, and is issued or kept: its own.
-pub fn moves_keep_to_their_places()
-    ensures { (wanted : List Wanted) (first : Instant Device) (past : List (Happening Device DeviceStep)) (h : Happening Device DeviceStep)
-        → IsHistory (Begins wanted) (Ties wanted) first (h ∷ past)
-        → KeepsMoves first.moment.machine (steps_of (events_of past)) h.event.steps (now first past).device h.device }
-{}
-
-/// At each instant of a history, a request that is issued on a ready port has slot 0 of that port, on which ST is one: the header and the
-/// table there say its command; and its bit of PxCI is set, or the device has taken the command, or the request has ended and the bits are
-/// clear. (Only where ST is zero may a command have been given up.)
-pub fn issued_requests_have_their_slots()
-    ensures { (wanted : List Wanted) (first : Instant Device) (past : List (Happening Device DeviceStep)) (e : Pending)
-        → IsHistory (Begins wanted) (Ties wanted) first past → (now first past).moment.ports.state e.request.port ≡ ReadyState
-        → Contains (now first past).moment.machine.book e → e.issued ≡ true
-        → ServesRequest (now first past).moment.machine (now first past).device.memory ((now first past).device.port e.request.port.0)
-        e.request.port.0 0 e.request.id
-        × (((now first past).device.port e.request.port.0).st ≡ true) }
-{}
-
-/// At each instant of a history, the ports are to clients what they were when it began, and what stands behind that is so still.
-pub fn ports_are_what_they_were_found()
-    ensures { (wanted : List Wanted) (first : Instant Device) (past : List (Happening Device DeviceStep))
-        → IsHistory (Begins wanted) (Ties wanted) first past
-        → ((now first past).moment.ports ≡ first.moment.ports) × AreShown wanted (now first past).moment.ports (now first past).device }
-{}
-
-/// A port that runs well when a call of a history begins, and on which nothing goes wrong meanwhile, runs well when it ends.
-pub fn calls_leave_ports_well()
-    ensures { (wanted : List Wanted) (first : Instant Device) (past : List (Happening Device DeviceStep)) (h : Happening Device DeviceStep)
-        (port : Port) → IsHistory (Begins wanted) (Ties wanted) first (h ∷ past) → GoesWell port.0 (now first past).device h.device
-        → RunsWell (h.device.port port.0) }
-{}
 
 /// A ready port of a new server runs well, if nothing went wrong on it since the adapter was idle.
 pub fn new_ready_ports_run_well()

@@ -1,4 +1,4 @@
-use Rattle.host_boot.proofs.Beginning.{taken_there, taken_ready, taken_runs}
+use Rattle.host_boot.proofs.Beginning.{taken_there, taken_faults, taken_ready, taken_runs}
 use Rattle.host_boot.proofs.laws.what_was_taken_over_may_be_served.Goals as goal
 
 pub returns-clause-there : goal.returns-clause-there
@@ -9,3 +9,6 @@ returns-clause-ready c = λ wanted host port info old new taken. taken_ready wan
 
 pub returns-clause-well : goal.returns-clause-well
 returns-clause-well c = λ wanted host port info old new idle taken. taken_runs wanted host port old new taken info idle
+
+pub returns-clause-recorded : goal.returns-clause-recorded
+returns-clause-recorded c = λ wanted host port info old new idle taken. taken_faults wanted host port old new taken info idle

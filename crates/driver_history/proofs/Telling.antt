@@ -10,7 +10,7 @@ use Rattle.block_machine.specs.State.{Machine}
 use Rattle.block_machine.proofs.EventLemmas.{moment_is}
 use Rattle.block_machine.proofs.HistoryLemmas.{history_is_run, history_reads, now_is}
 use Rattle.identify.specs.declared.wanted.Wanted.{Wanted}
-use Rattle.server_history.specs.Histories.{Begins, Ties}
+use Rattle.driver_history.specs.Histories.{Begins, Ties}
 
 module _ (wanted : List Wanted) where
   pub history_runs : (first : Instant Device) (past : List (Happening Device DeviceStep)) → IsHistory (Begins wanted) (Ties wanted) first past → IsRun first.moment (events_of past)

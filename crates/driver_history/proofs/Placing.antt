@@ -1,4 +1,4 @@
--- Where moves go, and what slots issued requests have, in a history.
+-- Where the moves of a history go.
 use Rattle.std.proofs.Common.{ℕ, ◌≡◌, ◌≢◌, true, List, [], ◌∷◌, ◌++◌, Option, Some, None, slice_index, refl, sym, ap, ◌∙◌, subst, inl, ⊎_elim, append_assoc}
 use Rattle.std.proofs.lemmas.Bool.{cases_eq}
 use Rattle.std.specs.List.{Contains}
@@ -35,12 +35,9 @@ use Rattle.host_boot.specs.declared.Found.{Found}
 use Rattle.host_boot.specs.declared.Host.{Host}
 use Rattle.host_boot.proofs.Beginning.{taken_runs}
 use Rattle.identify.specs.declared.wanted.Wanted.{Wanted}
-use Rattle.server_history.specs.Histories.{AreShown, Begins, GoesWell, Ties}
-use Rattle.server_history.specs.Moves.{IsConfinedClear, IsConfinedMove, KeepsMoves, KeepsTo}
-use Rattle.server_history.specs.Server.{Server, IsKept, none_parked, state_of}
-use Rattle.server_history.proofs.Coming.{left_well}
-use Rattle.server_history.proofs.Telling.{history_runs, machine_is}
-use Rattle.server_history.proofs.Unused.{ready_found}
+use Rattle.driver_history.specs.Histories.{Begins, Ties}
+use Rattle.driver_history.specs.Moves.{IsConfinedClear, IsConfinedMove, KeepsMoves, KeepsTo}
+use Rattle.driver_history.proofs.Telling.{history_runs, machine_is}
 
 -- ---- among a call's steps
 
@@ -199,68 +196,3 @@ module _ (wanted : List Wanted) (first : Instant Device) (past : List (Happening
     moves = λ move here. keeps (op_of move.operation) move (goes m history.2.backed.gained h.event.steps history.2.backed.tells move here);
     clears = λ clear here. confined_clear clear (cleared m history.2.backed.gained h.event.steps history.2.backed.tells clear here);
   }
-
--- ---- at an instant of it
-
--- what holds of ports and slots
-record IsAt (wanted : List Wanted) (here : Instant Device) : Type 0 where
-  ports : AreShown wanted here.moment.ports here.device
-  uses : Uses
-  plain : (port slot : ℕ) → slot ≢ 0 → uses port slot ≡ Free
-  knows : Knows here.moment.machine (known uses none_parked here.device)
-
-module _ (wanted : List Wanted) where
-  at : (first : Instant Device) (past : List (Happening Device DeviceStep)) → IsHistory (Begins wanted) (Ties wanted) first past → IsAt wanted (now first past)
-  at first [] h = record { ports = h.1.ports; uses = h.1.uses; plain = h.1.plain; knows = h.1.knows }
-  at first (x ∷ past) h = record { ports = h.2.ports; uses = h.2.uses; plain = h.2.plain; knows = h.2.knows }
-
-  same_still : (first : Instant Device) (past : List (Happening Device DeviceStep)) → IsHistory (Begins wanted) (Ties wanted) first past → (now first past).moment.ports ≡ first.moment.ports
-  same_still first [] h = refl
-  same_still first (x ∷ past) h = h.2.same ∙ same_still first past h.0
-
-  pub shown_still : (first : Instant Device) (past : List (Happening Device DeviceStep)) → IsHistory (Begins wanted) (Ties wanted) first past
-      → ((now first past).moment.ports ≡ first.moment.ports) × AreShown wanted (now first past).moment.ports (now first past).device
-  shown_still first past h = (same_still first past h, (at first past h).ports)
-
-  is_on : (first : Instant Device) (past : List (Happening Device DeviceStep)) → IsHistory (Begins wanted) (Ties wanted) first past → IsOn (now first past).device
-  is_on first [] h = h.1.on
-  is_on first (x ∷ past) h = h.2.on
-
-  pub stays_well : (first : Instant Device) (past : List (Happening Device DeviceStep)) (h : Happening Device DeviceStep) (port : Port) → IsHistory (Begins wanted) (Ties wanted) first (h ∷ past)
-      → GoesWell port.0 (now first past).device h.device → RunsWell (h.device.port port.0)
-  stays_well first past h port history well = left_well wanted (now first past) h port (is_on first past history.0) history.2 well
-
-  pub has_slot : (first : Instant Device) (past : List (Happening Device DeviceStep)) (e : Pending) → IsHistory (Begins wanted) (Ties wanted) first past
-      → (now first past).moment.ports.state e.request.port ≡ ReadyState → Contains (now first past).moment.machine.book e → e.issued ≡ true
-      → ServesRequest (now first past).moment.machine (now first past).device.memory ((now first past).device.port e.request.port.0) e.request.port.0 0 e.request.id
-      × (((now first past).device.port e.request.port.0).st ≡ true)
-  has_slot first past e h ready here issued = (serves, ((a.ports.behind port serves.placed.port_below).runs found_ready).started)
-    where
-      a : IsAt wanted (now first past)
-      a = at first past h
-
-      port : ℕ
-      port = e.request.port.0
-
-      slot : (slot : ℕ) × (a.uses port slot ≡ Serves e.request.id)
-      slot = ⊎_elim (λ parked. absurd (contains_none e.request.id parked)) (λ s. s) (a.knows.have port e (inl (here, issued)) refl)
-
-      head : a.uses port 0 ≡ Serves e.request.id
-      head = ⊎_elim
-          (λ (same : slot.0 ≡ 0). subst (λ (n : ℕ). a.uses port n ≡ Serves e.request.id) same slot.1)
-          (λ (other : slot.0 ≢ 0). let z : Free ≡ Serves e.request.id = sym (a.plain port slot.0 other) ∙ slot.1 in absurd cc)
-          (cases_eq slot.0 0)
-
-      serves : ServesRequest (now first past).moment.machine (now first past).device.memory ((now first past).device.port port) port 0 e.request.id
-      serves = subst (λ (u : Use). IsServed (now first past).moment.machine (now first past).device.memory (now first past).device.tape ((now first past).device.port port) port 0 u) head (a.knows.agrees.slot port 0)
-
-      found_ready : state_of (found_of a.ports.found port) ≡ ReadyState
-      found_ready = ap (λ (ports : Ports). ports.state e.request.port) (sym a.ports.ports_are) ∙ ready
-
--- ---- a new server
-
-pub new_well : (s : Server) (host : Host) (idle : Device) (port : Port) → IsKept s → IsIdle idle → TakesOver s.wanted host idle s.device → s.ports ≡ host.ports
-    → state_of (found_of s.ports port.0) ≡ ReadyState → Undisturbed port.0 idle s.device → RunsWell (s.device.port port.0)
-new_well s host idle port k rest taken same ready calm =
-    let found = (ready_found s port.0 k ready).1 in
-    taken_runs s.wanted host port.0 idle s.device taken found.0 rest (ap (λ (ports : List Found). found_of ports port.0) (sym same) ∙ found.1) calm

@@ -1,0 +1,86 @@
+-- What holds at each instant of a history.
+use Rattle.std.proofs.Common.{ℕ, ◌≡◌, ◌≢◌, ◌<◌, ◌≤◌, Bool, true, false, List, [], ◌∷◌, refl, sym, ap, ◌∙◌, subst, inl, inr, ⊎_elim}
+use Rattle.std.proofs.lemmas.Bool.{cases_Bool, cases_lt, false≢true}
+use Rattle.std.specs.List.{Contains}
+use Rattle.ata_types.specs.declared.Port.{Port}
+use Rattle.ata_types.specs.declared.PortState.{PortState}
+use Rattle.ata_types.specs.declared.PortState.TheVariants.{Absent, Ready}
+use Rattle.ata_types.specs.declared.request.RequestId.{RequestId}
+use Rattle.adapter.specs.Device.{Device}
+use Rattle.adapter.specs.declared.access.DeviceStep.{DeviceStep}
+use Rattle.agreement.specs.Acts.{InSlots}
+use Rattle.agreement.specs.Slots.{Free, Serves, ServesRequest, IsServed, Use}
+use Rattle.block_machine.specs.Histories.{Instant, Happening, now}
+use Rattle.block_machine.specs.Histories as histories
+use Rattle.block_machine.specs.Ports.{AreFit}
+use Rattle.block_machine.specs.State.{Pending}
+use Rattle.block_machine.proofs.Members.{contains_none}
+use Rattle.host_boot.specs.Taken.{wanted_of}
+use Rattle.identify.specs.declared.wanted.Wanted.{Wanted}
+use Rattle.driver_history.specs.Histories.{IsHistory}
+use Rattle.driver_history.specs.Holds.{HoldsAt, HoldsOf, HoldsWith, IsReadyAt}
+
+-- the ports of a history are fit
+pub history_fit : {D E : Type 0} (Begins : Instant D → Type 0) (Agrees : Instant D → Happening D E → Type 0) (first : Instant D) (past : List (Happening D E))
+    → histories.IsHistory Begins Agrees first past → AreFit (now first past).moment.ports
+history_fit Begins Agrees first [] h = h.0.1
+history_fit Begins Agrees first (x ∷ past) h = h.1.fit
+
+-- a port that is ready is served, and one of the four
+pub ready_low : (i : Instant Device) (port : Port) → AreFit i.moment.ports → i.moment.ports.state port ≡ Ready → (i.moment.ports.served port ≡ true) × (port.0 < 4)
+ready_low i port fit ready = ⊎_elim
+    (λ (served : i.moment.ports.served port ≡ true). (served, fit.few port served))
+    (λ (other : i.moment.ports.served port ≡ false). let z : Absent ≡ Ready = sym (fit.absent port other) ∙ ready in absurd cc)
+    (cases_Bool (i.moment.ports.served port))
+
+pub ready_at : (wanted : List Wanted) (i : Instant Device) (port : Port) → AreFit i.moment.ports → (s : InSlots) → HoldsWith wanted s i → i.moment.ports.state port ≡ Ready
+    → IsReadyAt (wanted_of wanted port.0) s i port
+ready_at wanted i port fit s holds ready =
+    let low = ready_low i port fit ready in
+    subst (λ (state : PortState). HoldsOf (wanted_of wanted port.0) s i port true state) ready
+    (subst (λ (b : Bool). HoldsOf (wanted_of wanted port.0) s i port b (i.moment.ports.state port)) low.0 (holds.port port low.1))
+
+module _ (wanted : List Wanted) where
+  pub holds_at : (first : Instant Device) (past : List (Happening Device DeviceStep)) → IsHistory wanted first past → HoldsAt wanted (now first past)
+  holds_at first [] h = h.1
+  holds_at first (x ∷ past) h = h.2.holds
+
+  pub fit_at : (first : Instant Device) (past : List (Happening Device DeviceStep)) → IsHistory wanted first past → AreFit (now first past).moment.ports
+  fit_at first [] h = h.0.1
+  fit_at first (x ∷ past) h = h.1.fit
+
+  module _ (first : Instant Device) (past : List (Happening Device DeviceStep)) (e : Pending) (h : IsHistory wanted first past) (is_ready : (now first past).moment.ports.state e.request.port ≡ Ready)
+      (here : Contains (now first past).moment.machine.book e) (issued : e.issued ≡ true) where
+    abbrev i : Instant Device
+    i = now first past
+
+    abbrev s : InSlots
+    s = (holds_at first past h).0
+
+    holds : HoldsWith wanted s i
+    holds = (holds_at first past h).1
+
+    ready : IsReadyAt (wanted_of wanted e.request.port.0) s i e.request.port
+    ready = ready_at wanted i e.request.port (fit_at first past h) s holds is_ready
+
+    slot : (slot : ℕ) × (s.uses e.request.port.0 slot ≡ Serves e.request.id)
+    slot = ⊎_elim
+        (λ parked. absurd (contains_none e.request.id (subst (λ (ids : List RequestId). Contains ids e.request.id) ready.slots.unparked parked)))
+        (λ has. has)
+        (holds.knows.have e.request.port.0 e (inl (here, issued)) refl)
+
+    usable : slot.0 < (i.moment.ports.mode e.request.port).usable
+    usable = ⊎_elim
+        (λ low. low)
+        (λ high. let z : Free ≡ Serves e.request.id = sym (ready.slots.low slot.0 high) ∙ slot.1 in absurd cc)
+        (cases_lt slot.0 (i.moment.ports.mode e.request.port).usable)
+
+    pub has_slot : (slot : ℕ) × (slot < (i.moment.ports.mode e.request.port).usable)
+        × ServesRequest i.moment.machine i.device.memory (i.device.port e.request.port.0) e.request.port.0 slot e.request.id
+        × ((i.device.port e.request.port.0).st ≡ true)
+    has_slot = (
+      slot.0,
+      usable,
+      subst (λ (u : Use). IsServed i.moment.machine i.device.memory i.device.tape (i.device.port e.request.port.0) e.request.port.0 slot.0 u) slot.1 (holds.knows.agrees.slot e.request.port.0 slot.0),
+      ready.runs.st,
+    )

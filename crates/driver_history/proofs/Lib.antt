@@ -1,0 +1,3 @@
+pub mod Telling
+pub mod Placing
+pub mod Instants

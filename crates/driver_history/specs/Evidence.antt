@@ -1,0 +1,181 @@
+-- What stands behind the evidence that a call names: the device when it began, its accesses, and the device at its end (this project's own;
+-- PxIS and PxSERR: AHCI 1.3.1, 3.3.5 and 3.3.12; log 10h: ACS-3, A.14).
+use Rattle.std.specs.Prelude.{ℕ, true, false, ◌≡◌, ◌≢◌, ◌⊎◌, ◌%◌, ◌≤◌, ◌++◌, List, ◌∷◌, length, sum, drop, slice_index, All, Contains, Some, None}
+use Rattle.ata_types.specs.declared.Port.{Port}
+use Rattle.ata_types.specs.declared.PortState.TheVariants.{Ready, Dead}
+use Rattle.hba_regs.specs.Bits.{bit}
+use Rattle.adapter.specs.Access.{Access}
+use Rattle.adapter.specs.Commands.{is_queued}
+use Rattle.adapter.specs.Device.{PortState, Device}
+use Rattle.adapter.specs.declared.access.DeviceStep.{DeviceStep}
+use Rattle.adapter.specs.declared.command.Operation.TheVariants.{ReadLog}
+use Rattle.adapter.specs.declared.tape.Entry.{Entry}
+use Rattle.adapter.specs.declared.tape.Entry.TheVariants as entry
+use Rattle.adapter.specs.declared.tape.Fault as tape_fault
+use Rattle.adapter.specs.declared.tape.Move as tape_move
+use Rattle.agreement.specs.Errors.{IsFatalOf, NoneComes}
+use Rattle.agreement.specs.Facts.{IsFaultOf}
+use Rattle.agreement.specs.Links.{IsPlugging}
+use Rattle.agreement.specs.Slots.{ServesRequest, IsMove}
+use Rattle.block_machine.specs.Events.{Ask, Reset, Said, WasReset}
+use Rattle.block_machine.specs.Histories.{Instant}
+use Rattle.block_machine.specs.Ports.{Ports, SameDisk, Fault, Evidence, IsInterrupted}
+use Rattle.block_machine.specs.State.{Pending}
+use Rattle.driver_history.specs.Trace.{LeavesEngine, Stops, Sticks, IsBeforeStop}
+
+-- the tape gained an entry of this kind
+pub record Gains (Is : Entry → Type 0) (old new : Device) : Type 0 where
+  pub gained : List Entry
+  pub tape : new.tape ≡ old.tape ++ gained
+  pub entry : Entry
+  pub here : Contains gained entry
+  pub is : Is entry
+
+-- ---- what a port shows
+
+-- N or X of PxSERR is set: the link has told of a change
+abbrev pub ShowsChange : PortState → Type 0
+ShowsChange p = (p.serr_n ≡ true) ⊎ (p.serr_x ≡ true)
+
+-- IFS, HBDS or HBFS is set: an error that a COMRESET alone ends
+pub record ShowsFatal (p : PortState) : Type 0 where
+  pub place : ℕ
+  pub from : 27 ≤ place
+  pub to : place ≤ 29
+  pub set : p.is place ≡ true
+
+-- one of these is set, or TFES
+abbrev pub ShowsFailure : PortState → Type 0
+ShowsFailure p = ShowsFatal p ⊎ (p.is 30 ≡ true)
+
+-- ---- the log of queued commands' errors
+
+-- The page of log 10h has a right checksum and names a queued command (NQ is clear): its tag, with status and error. No other byte is
+-- looked at.
+pub record TellsError (page : List ℕ) (tag status error : ℕ) : Type 0 where
+  pub size : length page ≡ 512
+  pub checksum : sum page % 256 ≡ 0
+  pub queued : bit (slice_index page 0) 7 ≡ false
+  pub tag_is : tag ≡ slice_index page 0 % 32
+  pub status_is : status ≡ slice_index page 2
+  pub error_is : error ≡ slice_index page 3
+
+-- The last page of the log that the port's disk sent, after the tape was so long.
+pub record BringsLog (port : Port) (old new : Device) (page : List ℕ) : Type 0 where
+  pub gained : List Entry
+  pub tape : new.tape ≡ old.tape ++ gained
+  pub before : List Entry
+  pub move : tape_move.Move
+  pub later : List Entry
+  pub here : gained ≡ before ++ entry.Move move ∷ later
+  pub is_move : IsMove port.0 ReadLog (entry.Move move)
+  pub last : All (λ e. IsMove port.0 ReadLog e → ⊥) later
+  pub bytes : page ≡ move.bytes.value
+
+-- ---- a fault that is told of a request
+
+-- A fault of the port stands on the tape since ST was last set before the call, by a moment at which PxCMD hadn't been written in it.
+pub record HasFailed (port : Port) (accesses : List Access) (old new : Device) (fault : tape_fault.Fault) : Type 0 where
+  pub at : Device
+  pub running : IsBeforeStop port accesses old at new
+  pub here : Contains (drop (old.port port.0).notes.st_set_at at.tape) (entry.Fault fault)
+  pub port_is : fault.port.0 ≡ port.0
+
+-- A plain request is the one of its port that is issued, and status and error are those of such a fault of its slot.
+pub record FailsPlain (old : Instant Device) (new : Device) (accesses : List Access) (e : Pending) (slot : ℕ) (told : Fault) : Type 0 where
+  pub alone : (other : Pending) → Contains old.moment.machine.book other → other.request.port ≡ e.request.port → other.issued ≡ true
+      → other.request.id ≡ e.request.id
+  pub fault : tape_fault.Fault
+  pub failed : HasFailed e.request.port accesses old.device new fault
+  pub slot_is : fault.slot.0 ≡ slot
+  pub status_is : fault.status ≡ told.status
+  pub error_is : fault.error ≡ told.error
+
+-- Of a queued one the log's page names the slot, with status and error.
+pub record FailsQueued (old : Instant Device) (new : Device) (accesses : List Access) (e : Pending) (slot : ℕ) (told : Fault) : Type 0 where
+  pub fault : tape_fault.Fault
+  pub failed : HasFailed e.request.port accesses old.device new fault
+  pub page : List ℕ
+  pub brings : BringsLog e.request.port old.device new page
+  pub tells : TellsError page slot told.status told.error
+
+-- The fault is of a request that was issued when the call began, in the slot that served it then.
+pub record IsFaultTold (old : Instant Device) (new : Device) (accesses : List Access) (told : Fault) : Type 0 where
+  pub pending : Pending
+  pub here : Contains old.moment.machine.book pending
+  pub issued : pending.issued ≡ true
+  pub id_is : pending.request.id ≡ told.id
+  pub slot : ℕ
+  pub serves : ServesRequest old.moment.machine old.device.memory (old.device.port pending.request.port.0) pending.request.port.0 slot told.id
+  pub plain : is_queued serves.command.operation ≡ false → FailsPlain old new accesses pending slot told
+  pub queued : is_queued serves.command.operation ≡ true → FailsQueued old new accesses pending slot told
+
+-- ---- ports
+
+-- The port had told of a change, or showed no device, when the call began; a disk of it went or came in the call; or it ends the call neither
+-- dead nor ready with serial and size as when it was last ready.
+abbrev pub IsLost : Port → Instant Device → Ports → Device → Type 0
+IsLost port old ports new =
+    ShowsChange (old.device.port port.0)
+    ⊎ (((old.device.port port.0).ssts_det ≢ 3)
+    ⊎ (Gains (IsPlugging port.0) old.device new
+    ⊎ ((ports.state port ≢ Dead) × (ports.state port ≡ Ready → SameDisk old.moment.ports ports port → ⊥))))
+
+-- It showed a change when the call began; or no device, and no disk came in the call.
+abbrev pub ShowsLoss : Port → Device → Device → Type 0
+ShowsLoss port old new = ShowsChange (old.port port.0) ⊎ (((old.port port.0).ssts_det ≢ 3) × NoneComes port.0 old new)
+
+-- It was ready, and showed that when the call began, or a disk went or came in it.
+abbrev pub IsGone : Port → Instant Device → Device → Type 0
+IsGone port old new = (old.moment.ports.state port ≡ Ready)
+    × (ShowsChange (old.device.port port.0)
+    ⊎ (((old.device.port port.0).ssts_det ≢ 3)
+    ⊎ Gains (IsPlugging port.0) old.device new))
+
+-- It was ready, and showed an error when the call began, or had one in it.
+abbrev pub HasErrors : Port → Instant Device → Device → Type 0
+HasErrors port old new = (old.moment.ports.state port ≡ Ready)
+    × (ShowsFailure (old.device.port port.0)
+    ⊎ (Gains (IsFaultOf port.0) old.device new ⊎ Gains (IsFatalOf port.0) old.device new))
+
+-- It was ready, and showed a fatal error then, or had one in the call.
+abbrev pub HasFatalErrors : Port → Instant Device → Device → Type 0
+HasFatalErrors port old new = (old.moment.ports.state port ≡ Ready)
+    × (ShowsFatal (old.device.port port.0) ⊎ Gains (IsFatalOf port.0) old.device new)
+
+-- ---- resets
+
+-- the call is a reset that ended
+abbrev pub EndsReset : Ask DeviceStep → Said → Type 0
+EndsReset Reset (WasReset (Some replies)) = Unit {0}
+EndsReset ask said = ⊥
+
+-- the call is a reset that the adapter didn't end
+abbrev pub IsStuckReset : Ask DeviceStep → Said → Type 0
+IsStuckReset Reset (WasReset None) = Unit {0}
+IsStuckReset ask said = ⊥
+
+-- ---- the whole
+
+-- What stands behind one port's items. `lost` and `stuck`: what is named is so. `gone`, `failed` and `fatal`: it is named where it showed that
+-- when the call began, and only where it showed it then or had it in the call (what comes after the driver's look is nobody's to heed in that
+-- call). `stopped`: it is named only where it was stopped; and where PxCMD or PxSCTL was written at all, it is stopped or stuck.
+pub record IsEvidencedOf (ask : Ask DeviceStep) (said : Said) (accesses : List Access) (old : Instant Device) (ports : Ports) (new : Device)
+    (evidence : Evidence) (port : Port) : Type 0 where
+  pub lost : Contains evidence.lost port → IsLost port old ports new
+  pub gone_all : old.moment.ports.state port ≡ Ready → ShowsLoss port old.device new → Contains evidence.gone port
+  pub gone_only : Contains evidence.gone port → IsGone port old new
+  pub failed_all : old.moment.ports.state port ≡ Ready → ShowsFailure (old.device.port port.0) → Contains evidence.failed port
+  pub failed_only : Contains evidence.failed port → HasErrors port old new
+  pub fatal_all : old.moment.ports.state port ≡ Ready → ShowsFatal (old.device.port port.0) → Contains evidence.fatal port
+  pub fatal_only : Contains evidence.fatal port → HasFatalErrors port old new
+  pub stopped_all : All (LeavesEngine port) accesses ⊎ IsInterrupted evidence port
+  pub stopped_only : Contains evidence.stopped port → Stops port accesses ⊎ (EndsReset ask said × (old.moment.ports.served port ≡ true))
+  pub stuck_only : Contains evidence.stuck port
+      → (Sticks port accesses × ((new.port port.0).notes.engine_count ≡ 64)) ⊎ (IsStuckReset ask said × (old.moment.ports.served port ≡ true))
+
+-- Each fault that is named was told by the device, and so it is with each port.
+pub record IsEvidenced (ask : Ask DeviceStep) (said : Said) (accesses : List Access) (old : Instant Device) (ports : Ports) (new : Device)
+    (evidence : Evidence) : Type 0 where
+  pub faults : (told : Fault) → Contains evidence.faults told → IsFaultTold old new accesses told
+  pub port : (port : Port) → IsEvidencedOf ask said accesses old ports new evidence port

@@ -1,0 +1,190 @@
+-- Histories of a driver: what ties the device to the block machine, call by call (this project's own).
+use Rattle.std.specs.Prelude.{ℕ, true, false, ◌≡◌, ◌≢◌, ◌⊎◌, ◌↔◌, ◌+◌, ◌*◌, ◌≤◌, List, [], ◌∷◌, length, All, Contains, Some, None, Ok}
+use Rattle.ata_types.specs.declared.Port.{Port}
+use Rattle.ata_types.specs.declared.PortState.TheVariants.{Absent, Ready, Foreign, Unfit, Dead}
+use Rattle.ata_types.specs.declared.grant.GrantRow.{GrantRow}
+use Rattle.ata_types.specs.declared.memory.TheConstants.{DRIVER_BYTES, FRAME_BYTES}
+use Rattle.ata_types.specs.declared.request.Outcome.TheVariants as outcome
+use Rattle.hba_regs.specs.Bits.{bit}
+use Rattle.hba_regs.specs.declared.reg.Reg.TheVariants.{Px}
+use Rattle.hba_regs.specs.declared.reg.PortReg.TheVariants.{Sact, Ci}
+use Rattle.adapter.specs.Access.{Access, DoesAll}
+use Rattle.adapter.specs.Access.Access.{Writing, Loading, Storing}
+use Rattle.adapter.specs.Asked.{Asked}
+use Rattle.adapter.specs.Commands.{is_queued}
+use Rattle.adapter.specs.Device.{PortState, Device}
+use Rattle.adapter.specs.declared.access.DeviceStep.{DeviceStep}
+use Rattle.agreement.specs.Driver.{IsBacked}
+use Rattle.agreement.specs.Errors.{NoneComes, NoneFatal}
+use Rattle.agreement.specs.Links.{IsPlugging, PlugsNone}
+use Rattle.agreement.specs.Slots.{ServesRequest}
+use Rattle.block_machine.specs.Events.{Ask, Submit, StoreAt, LoadAt, Service, Tick, Reset, Device as Told, Said, Submitted, Stored, Loaded, Served, WasReset, Stepped, HeedsAt, IsHung, moment_after}
+use Rattle.block_machine.specs.Histories.{Instant, Happening}
+use Rattle.block_machine.specs.Histories as histories
+use Rattle.block_machine.specs.Ports.{Ports, SamePort, Evidence}
+use Rattle.block_machine.specs.Rules.{IsNamed}
+use Rattle.block_machine.specs.State.{Pending, Machine}
+use Rattle.block_machine.specs.Steps.{Step, Answer}
+use Rattle.identify.specs.declared.wanted.Wanted.{Wanted}
+use Rattle.driver_history.specs.Evidence.{Gains, ShowsChange, ShowsFatal, IsEvidenced}
+use Rattle.driver_history.specs.Guard.{StaysHealthy}
+use Rattle.driver_history.specs.Holds.{HoldsAt}
+use Rattle.driver_history.specs.Trace.{ReadsMasks, IsServing, IsDriversOwn, BeginsReset, EndsWithReset}
+
+-- ---- how a call came from the one device to the other
+
+-- A request is issued: its header, table and block are stored, and its bits of PxSACT and PxCI are written.
+abbrev pub IsIssuing : Port → Access → Type 0
+IsIssuing port (Writing r v) = (r ≡ Px port Sact) ⊎ (r ≡ Px port Ci)
+IsIssuing port (Storing at bytes) = at + length bytes ≤ DRIVER_BYTES
+IsIssuing port access = ⊥
+
+-- What was done in a call. A device step is the device's own, with no access. A client's bytes are stored, or loaded, by one access. For a
+-- request that is accepted requests of its port are issued, if any. A service, a tick and a reset make accesses; what the driver stores and
+-- loads in them lies in its own frames, and a reset alone writes GHC. Each other call makes none, a refused one among them.
+abbrev pub CameBy : Machine → Ask DeviceStep → Said → List Access → Device → Device → Type 0
+CameBy m (Told step) (Stepped true) accesses old new = (accesses ≡ []) × Asked step old new
+CameBy m (Submit r) (Submitted (Ok id)) accesses old new =
+    DoesAll accesses old new × ((row : GrantRow) × IsNamed m.rows r row × All (IsIssuing row.port) accesses)
+CameBy m (StoreAt client frame offset bytes) (Stored None) accesses old new =
+    DoesAll accesses old new × (accesses ≡ Storing (FRAME_BYTES * frame.0 + offset) bytes ∷ [])
+CameBy m (LoadAt client frame offset count) (Loaded (Ok bytes)) accesses old new =
+    DoesAll accesses old new × (accesses ≡ Loading (FRAME_BYTES * frame.0 + offset) bytes ∷ [])
+CameBy m Service (Served replies) accesses old new = DoesAll accesses old new × All IsServing accesses
+CameBy m Tick (Served replies) accesses old new = DoesAll accesses old new × All IsServing accesses
+CameBy m Reset (WasReset (Some replies)) accesses old new = DoesAll accesses old new × All IsDriversOwn accesses × BeginsReset accesses
+CameBy m Reset (WasReset None) accesses old new = DoesAll accesses old new × BeginsReset accesses × EndsWithReset accesses
+CameBy m ask said accesses old new = (accesses ≡ []) × (new ≡ old)
+
+-- ---- what is found done
+
+-- the request is answered Ok
+abbrev pub IsAnsweredOk : Pending → List Step → Type 0
+IsAnsweredOk e steps = (done : Pending) × (done.request ≡ e.request) × Contains steps (Answer done outcome.Ok)
+
+-- an unanswered request of the port is issued
+pub record IsIssuedOn (port : Port) (m : Machine) (e : Pending) : Type 0 where
+  pub here : Contains m.book e
+  pub port_is : e.request.port ≡ port
+  pub issued : e.issued ≡ true
+
+-- The masks were read once the call began; and of the port's requests that were issued then, exactly those are answered Ok whose bits were clear
+-- in both.
+pub record FindsDone (port : Port) (accesses : List Access) (old : Instant Device) (steps : List Step) : Type 0 where
+  pub ci : ℕ
+  pub sact : ℕ
+  pub reads : ReadsMasks port ci sact accesses
+  pub exact : (e : Pending) (slot : ℕ) → IsIssuedOn port old.moment.machine e
+      → ServesRequest old.moment.machine old.device.memory (old.device.port port.0) port.0 slot e.request.id
+      → IsAnsweredOk e steps ↔ ((bit ci slot ≡ false) × (bit sact slot ≡ false))
+
+-- A service finds what is done on each port that was ready and has something issued; a tick does on each that is hung.
+abbrev pub Finds : Ask DeviceStep → List Access → Instant Device → List Step → Port → Type 0
+Finds Service accesses old steps port =
+    old.moment.ports.state port ≡ Ready → (e : Pending) → IsIssuedOn port old.moment.machine e → FindsDone port accesses old steps
+Finds Tick accesses old steps port = IsHung old.moment port → FindsDone port accesses old steps
+Finds ask accesses old steps port = Unit {0}
+
+-- ---- a plain request's fault
+
+-- The port shows TFES, and no other trouble: no change of its link, no fatal error, and a device.
+pub record ShowsFaultAlone (p : PortState) : Type 0 where
+  pub fault : p.is 30 ≡ true
+  pub fatal : ShowsFatal p → ⊥
+  pub change : ShowsChange p → ⊥
+  pub device : p.ssts_det ≡ 3
+
+-- so it was when the call began, and no fatal error came in it, nor a disk, nor went one
+pub record HasFaultAlone (port : Port) (old : Instant Device) (new : Device) : Type 0 where
+  pub ready : old.moment.ports.state port ≡ Ready
+  pub shows : ShowsFaultAlone (old.device.port port.0)
+  pub fatal : NoneFatal port.0 old.device new
+  pub plugged : PlugsNone port.0 old.device new
+
+-- the request is answered with a fault
+abbrev pub IsAnsweredFaulty : Pending → List Step → Type 0
+IsAnsweredFaulty e steps = (done : Pending) × (status : ℕ) × (error : ℕ)
+    × (done.request ≡ e.request) × Contains steps (Answer done (outcome.DeviceError status error))
+
+-- Then a plain request that is outstanding is answered with its fault, unless the port ends dead: it isn't tried again.
+abbrev pub TellsPlainFaults : Ask DeviceStep → Instant Device → Ports → Device → List Step → Port → Type 0
+TellsPlainFaults Service old ports new steps port = HasFaultAlone port old new
+    → (e : Pending) (slot : ℕ) → IsIssuedOn port old.moment.machine e → e.ended ≡ false
+    → (s : ServesRequest old.moment.machine old.device.memory (old.device.port port.0) port.0 slot e.request.id)
+    → is_queued s.command.operation ≡ false → IsAnsweredFaulty e steps ⊎ (ports.state port ≡ Dead)
+TellsPlainFaults ask old ports new steps port = Unit {0}
+
+-- ---- disks that are there are tried
+
+-- PxSCTL of the port was written in this very call: so what its readings count, and its disk's last page, are of this boot
+abbrev pub WasBooted : Port → Device → Device → Type 0
+WasBooted port old new = length old.tape ≤ (new.port port.0).notes.sctl_written_at
+
+-- its first FIS has come, or no device shows
+abbrev pub IsFreshOrGone : PortState → Type 0
+IsFreshOrGone p = (p.fresh ≡ true) ⊎ (p.ssts_det ≢ 3)
+
+-- a service finds the port unfit or foreign
+abbrev pub HasBadDisk : Ports → Port → Type 0
+HasBadDisk ports port = (ports.state port ≡ Foreign) ⊎ ((cause : ℕ) × (ports.state port ≡ Unfit cause))
+
+-- A service in which no disk of a served port comes boots what is there: an absent port that shows a device, unless that goes before it is
+-- looked at; and an unfit or foreign one without a device, or with X set. After that the disk's first FIS has come, or there is no disk.
+pub record TriesDisk (old : Instant Device) (ports : Ports) (new : Device) (port : Port) : Type 0 where
+  pub shown : old.moment.ports.state port ≡ Absent → (old.device.port port.0).ssts_det ≡ 3
+      → (ports.state port ≡ Dead) ⊎ (WasBooted port old.device new ⊎ Gains (IsPlugging port.0) old.device new)
+  pub absent : old.moment.ports.state port ≡ Absent → (old.device.port port.0).ssts_det ≡ 3 → (old.device.port port.0).fresh ≡ false
+      → (ports.state port ≡ Dead) ⊎ IsFreshOrGone (new.port port.0)
+  pub missing : HasBadDisk old.moment.ports port → (old.device.port port.0).ssts_det ≢ 3
+      → (ports.state port ≡ Absent) ⊎ (ports.state port ≡ Dead)
+  pub changed : HasBadDisk old.moment.ports port → (old.device.port port.0).serr_x ≡ true
+      → (ports.state port ≡ Absent) ⊎ ((ports.state port ≡ Dead)
+      ⊎ (((new.port port.0).serr_x ≡ false) × IsFreshOrGone (new.port port.0)))
+
+abbrev pub Tries : Ask DeviceStep → Instant Device → Ports → Device → Port → Type 0
+Tries Service old ports new port = old.moment.ports.served port ≡ true → NoneComes port.0 old.device new → TriesDisk old ports new port
+Tries ask old ports new port = Unit {0}
+
+-- ---- boots are made anew
+
+-- A reset that ends boots each served port, unless that gets stuck; so does a tick with each that is hung; and a service with each that met a
+-- fatal error, and with each that it shows anew, but as absent or dead.
+abbrev pub Boots : Ask DeviceStep → Said → Instant Device → Ports → Device → Port → Type 0
+Boots Reset (WasReset (Some replies)) old ports new port =
+    old.moment.ports.served port ≡ true → (ports.state port ≡ Dead) ⊎ WasBooted port old.device new
+Boots Tick said old ports new port = IsHung old.moment port → (ports.state port ≡ Dead) ⊎ WasBooted port old.device new
+Boots Service said old ports new port =
+    (old.moment.ports.state port ≡ Ready → ShowsFatal (old.device.port port.0)
+    → (ports.state port ≡ Dead) ⊎ ((ports.state port ≡ Absent) ⊎ WasBooted port old.device new))
+    × (SamePort old.moment.ports ports port
+    ⊎ ((ports.state port ≡ Dead) ⊎ ((ports.state port ≡ Absent) ⊎ WasBooted port old.device new)))
+Boots ask said old ports new port = Unit {0}
+
+-- ---- one port's part in a call, and the whole
+
+-- What a call has done of a port, as far as it needs the device: what was found done, a plain request's fault, a disk that is there, and boots;
+-- and the call heeds what it finds of it.
+pub record TiesPort (old : Instant Device) (h : Happening Device DeviceStep) (accesses : List Access) (port : Port) : Type 0 where
+  pub finds : Finds h.event.ask accesses old h.event.steps port
+  pub faults : TellsPlainFaults h.event.ask old h.event.ports h.device h.event.steps port
+  pub tries : Tries h.event.ask old h.event.ports h.device port
+  pub boots : Boots h.event.ask h.event.said old h.event.ports h.device port
+  pub heeds : HeedsAt port h.event.ask old.moment h.event.evidence h.event.steps (moment_after old.moment h.event)
+
+-- The device's part in a call. Its accesses led there, and the tape backs the machine's steps. What stands behind the evidence is so. Of each
+-- port that stays healthy the call has done its part. And after it there holds what holds at each instant.
+pub record Ties (wanted : List Wanted) (old : Instant Device) (h : Happening Device DeviceStep) : Type 0 where
+  pub accesses : List Access
+  pub came : CameBy old.moment.machine h.event.ask h.event.said accesses old.device h.device
+  pub backed : IsBacked old.device h.device old.moment.machine h.event.steps
+  pub evidenced : IsEvidenced h.event.ask h.event.said accesses old h.event.ports h.device h.event.evidence
+  pub port : (port : Port) → StaysHealthy port.0 old.device h.device → TiesPort old h accesses port
+  pub holds : HoldsAt wanted (record { device = h.device; moment = moment_after old.moment h.event })
+
+-- What a new server leaves is no more than what holds at each instant: its book is empty, since the machine is a start.
+abbrev pub Begins : List Wanted → Instant Device → Type 0
+Begins wanted first = HoldsAt wanted first
+
+-- calls one after another, from what a new server left
+abbrev pub IsHistory : List Wanted → Instant Device → List (Happening Device DeviceStep) → Type 0
+IsHistory wanted first past = histories.IsHistory (Begins wanted) (Ties wanted) first past

@@ -1,0 +1,59 @@
+// Laws of the definitions, for callers: the clause is the theorem. These functions do nothing.
+ghost use Rattle.std.specs.Prelude.{ℕ, true, ◌≡◌, ◌<◌, List, ◌∷◌, Contains};
+ghost use Rattle.ata_types.specs.declared.PortState.TheVariants.{Ready};
+ghost use Rattle.adapter.specs.Device.{Device};
+ghost use Rattle.adapter.specs.declared.access.DeviceStep.{DeviceStep};
+ghost use Rattle.agreement.specs.Slots.{ServesRequest};
+ghost use Rattle.block_machine.specs.Events.{steps_of, IsRun, EveryReadHolds};
+ghost use Rattle.block_machine.specs.Histories.{Instant, Happening, events_of, now};
+ghost use Rattle.block_machine.specs.Ports.{AreFit};
+ghost use Rattle.block_machine.specs.State.{Pending};
+ghost use Rattle.identify.specs.declared.wanted.Wanted.{Wanted};
+ghost use Rattle.driver_history.specs.Histories.{IsHistory};
+ghost use Rattle.driver_history.specs.Holds.{HoldsAt};
+ghost use Rattle.driver_history.specs.Moves.{KeepsMoves};
+
+/// The calls of a history are a run of the block machine. So its laws on runs hold of them: each request that is
+/// issued was accepted and broke no rule, each touch is of an accepted request's own sector at a frame that is lent to it, and
+/// others.
+pub fn histories_are_runs()
+    ensures { (wanted : List Wanted) (first : Instant Device) (past : List (Happening Device DeviceStep)) → IsHistory wanted first past
+        → IsRun first.moment (events_of past) }
+{}
+
+/// Where the adapter's disks tell their sectors, each read of a history that was answered Ok has, at the end of the call that
+/// answered it, what was left.
+pub fn reads_hold()
+    ensures { (wanted : List Wanted) (first : Instant Device) (past : List (Happening Device DeviceStep)) → IsHistory wanted first past
+        → first.device.telling ≡ true → EveryReadHolds first.moment (events_of past) }
+{}
+
+/// Each move of a client's data, of any call of a history, is of a sector of its own request's, at its place in a frame that is lent to that
+/// request then, in the direction of its operation; the request was accepted, when it broke no rule, and is issued or kept. Each other
+/// move stays in its port's scratch frame. And sectors are cleared by a trim alone that was accepted so, and is issued or kept: its own.
+pub fn moves_keep_to_their_places()
+    ensures { (wanted : List Wanted) (first : Instant Device) (past : List (Happening Device DeviceStep)) (h : Happening Device DeviceStep)
+        → IsHistory wanted first (h ∷ past)
+        → KeepsMoves first.moment.machine (steps_of (events_of past)) h.event.steps (now first past).device h.device }
+{}
+
+/// At each instant of a history there holds what holds between two calls; and the ports are fit: at most four are served.
+pub fn each_instant_holds()
+    ensures holds { (wanted : List Wanted) (first : Instant Device) (past : List (Happening Device DeviceStep)) → IsHistory wanted first past
+        → HoldsAt wanted (now first past) }
+    ensures fit { (wanted : List Wanted) (first : Instant Device) (past : List (Happening Device DeviceStep)) → IsHistory wanted first past
+        → AreFit (now first past).moment.ports }
+{}
+
+/// At each instant of a history, a request that is issued on a ready port has a usable slot of that port, on which ST is one: the header and
+/// the table there say its command; and its bit of PxCI is set, or the device has taken the command, or the request has ended and the bits
+/// are clear. (Only where ST is zero may a command have been given up.)
+pub fn issued_requests_have_their_slots()
+    ensures { (wanted : List Wanted) (first : Instant Device) (past : List (Happening Device DeviceStep)) (e : Pending)
+        → IsHistory wanted first past → (now first past).moment.ports.state e.request.port ≡ Ready
+        → Contains (now first past).moment.machine.book e → e.issued ≡ true
+        → (slot : ℕ) × (slot < ((now first past).moment.ports.mode e.request.port).usable)
+        × ServesRequest (now first past).moment.machine (now first past).device.memory ((now first past).device.port e.request.port.0)
+        e.request.port.0 slot e.request.id
+        × (((now first past).device.port e.request.port.0).st ≡ true) }
+{}

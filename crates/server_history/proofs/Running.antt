@@ -1,0 +1,93 @@
+-- A ready port runs on while ports are served.
+use Rattle.std.proofs.Common.{ℕ, ◌≡◌, ◌≢◌, ◌+◌, ◌%◌, Bool, true, false, cond, nat_eq, refl, sym, ap, ◌∙◌, subst, ⊎_elim}
+use Rattle.std.specs.Prelude.{min, if◌then◌else◌}
+use Rattle.std.proofs.lemmas.Bool.{cases_eq}
+use Rattle.ata_types.specs.declared.Port.{Port}
+use Rattle.hba_regs.specs.declared.reg.Reg.{Reg}
+use Rattle.hba_regs.specs.declared.reg.Reg.TheVariants as reg
+use Rattle.hba_regs.specs.declared.reg.Reg.TheVariants.{Px}
+use Rattle.hba_regs.specs.declared.reg.PortReg.{PortReg}
+use Rattle.hba_regs.specs.declared.reg.PortReg.TheVariants.{Clb, Clbu, Fb, Fbu, Is, Cmd, Ssts, Sctl, Ci}
+use Rattle.adapter.specs.Access.{Access, Does, Reads, note}
+use Rattle.adapter.specs.Access.Access.{Reading, Writing, Loading, Storing}
+use Rattle.adapter.specs.Device.{Notes, PortState, Device}
+use Rattle.adapter.specs.Rules.{IsOn}
+use Rattle.block_machine.proofs.Keeps.{same_port}
+use Rattle.agreement.specs.Driven.{IsDrivenBy}
+use Rattle.agreement.specs.Links.{LeavesControls, SparesRegister}
+use Rattle.agreement.proofs.Linking.{access_controls}
+use Rattle.agreement.proofs.Noting.{access_notes, notes_read}
+use Rattle.agreement.specs.Noted.{SparesReading}
+use Rattle.port_control.specs.Ports.{programmed}
+use Rattle.transfers.specs.Services.{IsService}
+use Rattle.transfers.proofs.Recording.{services_recorded}
+use Rattle.transfers.proofs.Serving.{services_keep, spares_port}
+use Rattle.driver_history.specs.Holds.{Runs}
+
+-- the engine runs, and its areas and its device were found
+record Holds (port : ℕ) (d : Device) : Type 0 where
+  st : (d.port port).st ≡ true
+  cr : (d.port port).cr ≡ true
+  fre : (d.port port).fre ≡ true
+  bases : (d.port port).bases ≡ programmed port
+  saw : (d.port port).notes.link_count ≡ 64
+
+-- a count of 64 stays, whatever PxSSTS shows
+counts_on : (v : ℕ) (p : PortState) → p.notes.link_count ≡ 64 → (note Ssts v p).link_count ≡ 64
+counts_on v p is = by (nat_eq p.sctl_det 0) (nat_eq (v % 16) 3) p.notes.link_count is
+  where
+    by : (free seen : Bool) (n : ℕ) → n ≡ 64 → (if free then (if seen then 64 else min 64 (n + 1)) else n) ≡ 64
+    by false seen n e = e
+    by true true n e = refl
+    by true false n e = ap (λ (k : ℕ). min 64 (k + 1)) e
+
+link_still : (port : Port) (access : Access) (old new : Device) → IsOn old → IsService access → Does access old new → (old.port port.0).notes.link_count ≡ 64 → (new.port port.0).notes.link_count ≡ 64
+link_still port access old new on is does saw = by access is does
+  where
+    spared : (a : Access) → IsService a → Does a old new → SparesReading (Px port Ssts) a → (new.port port.0).notes.link_count ≡ 64
+    spared a its did other = ((access_notes port a old new did).link other).1 (spares_port port Sctl (λ e. cc) (λ e. cc) a its) ∙ saw
+
+    read : (r : Reg) (v : ℕ) → IsService (Reading r v) → Does (Reading r v) old new → (new.port port.0).notes.link_count ≡ 64
+    read (Px p Ssts) v its did = ⊎_elim
+        (λ (e : p.0 ≡ port.0).
+        let same : Reads (Px port Ssts) v old new = subst (λ (q : Port). Reads (Px q Ssts) v old new) (same_port p port e) did in
+        ap (λ (n : Notes). n.link_count) (notes_read port Ssts v old new on.no_reset same) ∙ counts_on v (old.port port.0) saw)
+        (λ (ne : p.0 ≢ port.0). spared (Reading (Px p Ssts) v) its did (λ q. ne (let same : p ≡ port = (let z : Px p Ssts ≡ Px port Ssts = q in cc) in ap (λ (x : Port). x.0) same)))
+        (cases_eq p.0 port.0)
+    read r v its did = spared (Reading r v) its did (λ q. absurd cc)
+
+    by : (a : Access) → IsService a → Does a old new → (new.port port.0).notes.link_count ≡ 64
+    by (Writing r v) its did = spared (Writing r v) its did tt
+    by (Loading at bytes) its did = spared (Loading at bytes) its did tt
+    by (Storing at bytes) its did = spared (Storing at bytes) its did tt
+    by (Reading r v) its did = read r v its did
+
+each : (port : Port) (access : Access) (old new : Device) → IsOn old → IsService access → Does access old new → Holds port.0 old → Holds port.0 new
+each port access old new on is does h =
+    let left : LeavesControls access port (old.port port.0) (new.port port.0) = access_controls port access old new on.no_reset does in
+    let command = left.command (spares_port port Cmd (λ e. cc) (λ e. cc) access is) in
+    let list = left.list (spares_port port Clb (λ e. cc) (λ e. cc) access is) in
+    let list_upper = left.list_upper (spares_port port Clbu (λ e. cc) (λ e. cc) access is) in
+    let received = left.received (spares_port port Fb (λ e. cc) (λ e. cc) access is) in
+    let received_upper = left.received_upper (spares_port port Fbu (λ e. cc) (λ e. cc) access is) in
+    record {
+      st = command.0 ∙ h.st;
+      cr = command.3 h.st h.cr;
+      fre = command.1 ∙ h.fre;
+      bases = (λ i. record { clb = list.0 i; fb = received.0 i; clb_set = list.1 i; clbu_set = list_upper i; fb_set = received.1 i; fbu_set = received_upper i }) ∙ h.bases;
+      saw = link_still port access old new on is does h.saw;
+    }
+
+pub runs_on : (port : Port) (old new : Device) → IsOn old → IsDrivenBy IsService old new → Runs port.0 old → Runs port.0 new
+runs_on port old new on driven r = record {
+  st = h.st;
+  cr = h.cr;
+  fre = h.fre;
+  bases = h.bases;
+  saw = h.saw;
+  recorded = services_recorded port.0 old new driven (λ _. r.recorded) h.st;
+}
+  where
+    h : Holds port.0 new
+    h = (services_keep (λ x y. Holds port.0 x → Holds port.0 y) (λ d x. x) (λ x y z p q k. q (p k)) (λ access x y ready is does. each port access x y ready is does) old new on driven).0
+      (record { st = r.st; cr = r.cr; fre = r.fre; bases = r.bases; saw = r.saw })

@@ -1,5 +1,0 @@
-use Rattle.server_history.proofs.Telling.{history_runs}
-use Rattle.server_history.proofs.laws.histories_are_runs.Goals as goal
-
-pub returns : goal.returns
-returns c = history_runs
