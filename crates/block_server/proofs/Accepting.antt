@@ -72,7 +72,7 @@ module _ (s : Server) (r : Request) (acc : IsAcceptable (situation_of s) r) wher
       there = let f = ready_found s port.0 k ready in k.there port.0 (ap is_served f.1.1)
 
       pub may : MayTransfer port.0 s.device
-      may = let f = ready_found s port.0 k ready in (k.behind port.0 f.0).runs ready
+      may = let f = ready_found s port.0 k ready in let r = (k.behind port.0 f.0).runs ready in record { started = r.st; list = ap (λ b. b.clb) r.bases }
 
       pub agreed : has_of port s.book ≡ false → AgreesWith (IsUnused port.0 0) s.device
       agreed none = agreed_without s port k ready none

@@ -39,7 +39,7 @@ module _ (s : Server) (seen : Device) (port : Port) (k : IsKept s) (ready : stat
     -- the port runs, so a transfer that was found done is over
     pub done_over : has_of port s.book ≡ true → ((seen.port port.0).st ≡ true → FindsTransfer port true seen found) → IsOver (found.port port.0) 0
     done_over has tells =
-        found_over (record s { device = seen }) found port after_look ready has (tells ((after_look.behind port.0 (ready_found s port.0 k ready).0).runs ready).started)
+        found_over (record s { device = seen }) found port after_look ready has (tells ((after_look.behind port.0 (ready_found s port.0 k ready).0).runs ready).st)
 
     -- it was answered
     module _ (reads : ReadsDone port true seen found) (over : IsOver (found.port port.0) 0) (new : Server) (reply : Reply)

@@ -7,8 +7,7 @@ use Rattle.host_boot.specs.Taken.{found_of}
 use Rattle.host_boot.specs.declared.Found.{Found}
 use Rattle.host_boot.specs.declared.Found.TheVariants.{Ready, Unserved}
 use Rattle.identify.specs.declared.DiskInfo.{DiskInfo}
-use Rattle.server_history.specs.Histories.{reply_list}
-use Rattle.server_history.specs.Served.{ServePorts, ServesPort}
+use Rattle.server_history.specs.Served.{ServePorts, ServesPort, reply_list}
 use Rattle.server_history.specs.Server.{Server, IsKept}
 
 -- a ready port is served, and then those after it

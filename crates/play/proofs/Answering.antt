@@ -17,7 +17,8 @@ use Rattle.block_server.specs.Running.{ask_of, said_of}
 use Rattle.block_server.specs.View.{ServerView, server_of}
 use Rattle.block_server.specs.declared.types.Event.{Event}
 use Rattle.block_server.specs.declared.types.Said.{Said}
-use Rattle.server_history.specs.Histories.{Leads, Begins, Ties}
+use Rattle.driver_history.specs.Histories.{Begins, Ties}
+use Rattle.server_history.specs.Histories.{Leads}
 use Rattle.play.specs.Events.{events_of}
 use Rattle.play.specs.Played.{Prints, none, call, IsStarted, Played, Ran, is_starved}
 

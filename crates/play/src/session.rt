@@ -19,7 +19,7 @@ use configuration::{Config, ConfigFault, Kind};
 use device_model::{Model, NoMemory};
 use script::{BadLine, Line, check_script, first_line, read_asked};
 use sector_store::SectorStore;
-use server_history::laws::{histories_are_runs, reads_hold};
+use driver_history::laws::{histories_are_runs, reads_hold};
 use std::alloc::{AllocFailed, Global};
 use std::io;
 
