@@ -1,15 +1,14 @@
 -- One more event.
-use Rattle.std.proofs.Common.{◌≡◌, List, [], ◌∷◌, ◌++◌, map, reverse, refl, sym, ap, ◌∙◌, subst}
-use mathlib.Core.List.{map-append, reverse-append}
+use Rattle.std.proofs.Common.{◌≡◌, List, [], ◌∷◌, ◌++◌, refl, sym, ap, subst}
 use Rattle.ata_types.specs.declared.Port.{Port}
 use Rattle.ata_types.specs.declared.PortState.{PortState}
 use Rattle.adapter.specs.Device.{Device}
 use Rattle.adapter.specs.declared.access.DeviceStep.{DeviceStep}
-use Rattle.block_machine.specs.Events.{Ask, State, Shown}
-use Rattle.block_machine.specs.Events as machine_events
-use Rattle.block_server.specs.Running.{AddsAll, Answered, Ran, ask_of, said_of}
+use Rattle.block_machine.specs.Events.{State, Shown}
+use Rattle.block_server.specs.Running.{AddEach, Answered, Answers, Ran, ask_of, said_of}
 use Rattle.block_server.specs.View.{ServerView, server_of}
-use Rattle.server_history.specs.Histories.{Adds}
+use Rattle.block_machine.specs.Histories.{Happening, Instant}
+use Rattle.server_history.specs.Histories.{Adds, Leads}
 use Rattle.server_history.specs.Server.{IsKept, ports_of}
 use Rattle.server_history.proofs.Calls.{state_adds}
 use Rattle.block_server.specs.declared.types.Event.{Event}
@@ -29,24 +28,28 @@ module _ {A : Type 0} (device : A → Device) where
   ran_more old mid new (e ∷ events) (s ∷ said) event one ran answers =
       (ran.0, ran.1, ran_more ran.0 mid new events said event one ran.2 answers)
 
-  pub adds_none : (s : ServerView A) → AddsAll device s s [] []
-  adds_none s = record { adds = λ first past leads. ([], leads, refl, refl) }
+  pub run_adds : (old new : ServerView A) (events : List Event) (said : List Said) (first : Instant Device) (past : List (Happening Device DeviceStep)) →
+      Ran device old new events said → Leads first past (server_of device old) →
+      (later : List (Happening Device DeviceStep)) × AddEach device first past old events said later new × Leads first later (server_of device new)
+  run_adds old new [] [] first past ran leads = (past, (refl, ran), subst (λ (s : ServerView A). Leads first past (server_of device s)) (sym ran) leads)
+  run_adds old new [] (one ∷ more) first past ran leads = absurd ran
+  run_adds old new (event ∷ events) [] first past ran leads = absurd ran
+  run_adds old new (event ∷ events) (one ∷ more) first past (mid, answered, rest) leads =
+      let y = answered.adds.adds first past leads in
+      let x = run_adds mid new events more first (y.0 ∷ past) rest y.3 in
+      (x.0, (mid, y.0, answered.answers, y.1, y.2, y.3, x.1), x.2)
 
-  pub adds_more : (old mid new : ServerView A) (events : List Event) (said : List Said) (event : Event) (one : Said) →
-      AddsAll device old mid events said → Answered device event one mid new → AddsAll device old new (events ++ event ∷ []) (said ++ one ∷ [])
-  adds_more old mid new events said event one all answered = record {
-    adds = λ first past leads.
-        let x = all.adds first past leads in
-        let y = answered.adds.adds first (x.0 ++ past) x.1 in (
-          y.0 ∷ x.0,
-          y.3,
-          ap (λ (a : Ask DeviceStep). a ∷ map (λ h. h.event.ask) x.0) y.1 ∙ ap (λ (l : List (Ask DeviceStep)). ask_of event ∷ l) x.2 ∙ sym (last_first ask_of events event),
-          ap (λ (a : machine_events.Said). a ∷ map (λ h. h.event.said) x.0) y.2 ∙ ap (λ (l : List machine_events.Said). said_of one ∷ l) x.3 ∙ sym (last_first said_of said one),
-        );
-  }
-    where
-      last_first : {X Y : Type 0} (f : X → Y) (xs : List X) (x : X) → reverse (map f (xs ++ x ∷ [])) ≡ f x ∷ reverse (map f xs)
-      last_first f xs x = ap reverse (map-append f xs (x ∷ [])) ∙ reverse-append (map f xs) (f x ∷ [])
+  pub add_more : (old mid new : ServerView A) (events : List Event) (said : List Said) (first : Instant Device) (past later : List (Happening Device DeviceStep))
+      (event : Event) (one : Said) (h : Happening Device DeviceStep) → AddEach device first past old events said later mid → Answers device event one mid new →
+      h.event.ask ≡ ask_of event → h.event.said ≡ said_of one → Leads first (h ∷ later) (server_of device new) →
+      AddEach device first past old (events ++ event ∷ []) (said ++ one ∷ []) (h ∷ later) new
+  add_more old mid new [] [] first past later event one h adds answers asked told leads =
+      let P : List (Happening Device DeviceStep) → Type 0 = λ l. Leads first (h ∷ l) (server_of device new) in
+      (new, h, subst (λ (s : ServerView A). Answers device event one s new) adds.1 answers, asked, told, subst P adds.0 leads, (ap (λ (l : List (Happening Device DeviceStep)). h ∷ l) adds.0, refl))
+  add_more old mid new [] (one' ∷ said) first past later event one h adds answers asked told leads = absurd adds
+  add_more old mid new (event' ∷ events) [] first past later event one h adds answers asked told leads = absurd adds
+  add_more old mid new (event' ∷ events) (one' ∷ said) first past later event one h (between, x, its, ask_is, said_is, here, rest) answers asked told leads =
+      (between, x, its, ask_is, said_is, here, add_more between mid new events said first (x ∷ past) later event one h rest answers asked told leads)
 
   -- a look at a port's state
   pub shown_adds : (s : ServerView A) (port : Port) (state : PortState) → IsKept (server_of device s) → state ≡ (ports_of s.ports).state port → Adds (server_of device s) (server_of device s) (State port) (Shown state)

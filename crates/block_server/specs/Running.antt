@@ -76,13 +76,6 @@ said_of (said.Served replies) = Served replies.items
 said_of (said.State state) = Shown state
 said_of (said.Stepped done) = Stepped done
 
--- To each history that leads to the old server these calls add their events, one each, in their order (the newest first), and the
--- longer history leads to the new server.
-pub record AddsAll {A : Type 0} (device : A → Device) (old new : ServerView A) (events : List Event) (told : List Said) : Type 0 where
-  pub adds : (first : Instant Device) (past : List (Happening Device DeviceStep)) → Leads first past (server_of device old)
-      → (more : List (Happening Device DeviceStep)) × Leads first (more ++ past) (server_of device new)
-      × (map (λ h. h.event.ask) more ≡ reverse (map ask_of events)) × (map (λ h. h.event.said) more ≡ reverse (map said_of told))
-
 -- ---- a list
 
 -- so the call was made, and adds its event to each history of the server
@@ -96,9 +89,18 @@ Ran device old new [] [] = new ≡ old
 Ran {A} device old new (event ∷ events) (one ∷ more) = (mid : ServerView A) × Answered device event one old mid × Ran device mid new events more
 Ran device old new _ _ = ⊥
 
--- What was said stands at the end of the list, and the calls add their events to each history of the server.
+-- Calls that said this, one after another: each adds an event to the history, the newest first, which leads to the server after it.
+abbrev pub AddEach : {A : Type 0} → (A → Device) → Instant Device → List (Happening Device DeviceStep) → ServerView A → List Event → List Said
+    → List (Happening Device DeviceStep) → ServerView A → Type 0
+AddEach device first past old [] [] later new = (later ≡ past) × (new ≡ old)
+AddEach {A} device first past old (event ∷ events) (one ∷ more) later new =
+    (mid : ServerView A) × (h : Happening Device DeviceStep) × Answers device event one old mid × (h.event.ask ≡ ask_of event)
+    × (h.event.said ≡ said_of one) × Leads first (h ∷ past) (server_of device mid)
+    × AddEach device first (h ∷ past) mid events more later new
+AddEach device first past old _ _ later new = ⊥
+
+-- What was said stands at the end of the list.
 pub record RanInto {A : Type 0} (device : A → Device) (old new : ServerView A) (events : List Event) (before after : List Said) : Type 0 where
   pub said : List Said
   pub told : after ≡ before ++ said
   pub ran : Ran device old new events said
-  pub adds : AddsAll device old new events said

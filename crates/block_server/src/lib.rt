@@ -1,6 +1,7 @@
 //! The server: it holds clients' grants and frames, and drives the disks for them.
 #![tactic(auto)]
 
+pub mod laws;
 mod run;
 mod server;
 mod types;

@@ -1,6 +1,6 @@
 // The server.
 ghost use Rattle.block_server.specs.Made.{transfer_row};
-ghost use Rattle.std.specs.Prelude.{◌≡◌, ◌≢◌, ◌<◌, ◌≤◌, ◌+◌, ◌↔◌, ◌*◌, IsTrue, IfOk, IfErr, MatchOption, None, Ok, Some, length, map, option_map, true};
+ghost use Rattle.std.specs.Prelude.{◌≡◌, ◌≢◌, ◌<◌, ◌≤◌, ◌+◌, ◌↔◌, ◌*◌, IsTrue, IfOk, IfErr, OnOk, MatchOption, None, Ok, Some, length, map, option_map, true};
 
 use crate::ServerError;
 use adapter::{Adapter, DeviceStep, Stepped};
@@ -81,6 +81,7 @@ impl<A: Adapter> Server<A> {
     ghost use Rattle.block_server.specs.Calls.{AcceptsRequest, IsFor, Submits, Services, StoresFrame, LoadsFrame};
     ghost use Rattle.block_server.specs.Made.{IsReadyFor, IsNew, Refuses};
     ghost use Rattle.block_server.specs.View.{server_of};
+    ghost use Rattle.configuration.specs.Rules.{IsSound};
     ghost use Rattle.dma_frames.specs.Table.{owner_of, lent_to};
     ghost use Rattle.host_boot.specs.Taken.{found_of};
     ghost use Rattle.request_book.specs.Entries.{first_of, has_of};
@@ -100,6 +101,7 @@ impl<A: Adapter> Server<A> {
     pub fn new(alloc: Global, config: &Config, mut adapter: A) -> Result<Self, (ServerError, A)>
         requires ready { IsReadyFor config.now (A.device adapter) }
         ensures made { IfOk result (IsNew A.device config.now adapter) }
+        ensures sound { OnOk result (IsSound config.now) }
         ensures refused { IfErr result (λ e. Refuses config.now e.0 × (e.1 ≡ adapter)) }
     {
         let plan = match Plan::of(config) {

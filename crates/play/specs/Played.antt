@@ -7,7 +7,7 @@ use Rattle.block_machine.specs.Events.{IsRun, EveryReadHolds}
 use Rattle.block_machine.specs.Histories.{Instant, Happening}
 use Rattle.block_machine.specs.Histories as histories
 use Rattle.block_server.specs.Made.{IsNew}
-use Rattle.block_server.specs.Running.{Answered, ask_of, said_of}
+use Rattle.block_server.specs.Running.{AddEach, Answered}
 use Rattle.block_server.specs.View.{ServerView, server_of}
 use Rattle.block_server.specs.declared.types.Event.{Event}
 use Rattle.block_server.specs.declared.types.Said.{Said}
@@ -67,8 +67,8 @@ pub record IsStarted {S : Type 0} (size : S → ℕ) (told : S → Option (ℕ �
   pub made : IsNew (device_at size told) config model server
 
 -- What these calls answered, from this server to that one, is a run of the block machine. It begins where a new server stands, of this
--- configuration and of a model of image and blank disk; it has one event for each call, in their order (the newest first), with what was asked and
--- said; and where image and blank disk tell their sectors, each read that was answered Ok has, at the end of the call that answered it,
+-- configuration and of a model of image and blank disk; each call adds an event to it, with what was asked and said, and it leads to the server
+-- after each; and where image and blank disk tell their sectors, each read that was answered Ok has, at the end of the call that answered it,
 -- what was left.
 pub record AreAnswers {S : Type 0} (size : S → ℕ) (told : S → Option (ℕ → List ℕ)) (config : Config) (image blank : S)
     (server last : ServerView (Model S)) (events : List Event) (said : List Said) : Type 0 where
@@ -78,9 +78,8 @@ pub record AreAnswers {S : Type 0} (size : S → ℕ) (told : S → Option (ℕ 
   pub first : Instant Device
   pub begun : Leads first [] (server_of (device_at size told) server)
   pub past : List (Happening Device DeviceStep)
+  pub adds : AddEach (device_at size told) first [] server events said past last
   pub leads : Leads first past (server_of (device_at size told) last)
-  pub asked : map (λ h. h.event.ask) past ≡ reverse (map ask_of events)
-  pub answered : map (λ h. h.event.said) past ≡ reverse (map said_of said)
   pub run : IsRun first.moment (histories.events_of past)
   pub reads : IsSome (told image) → IsSome (told blank) → EveryReadHolds first.moment (histories.events_of past)
 

@@ -15,11 +15,12 @@ use crate::setting::new_model;
 use adapter::{Adapter, Stepped};
 use ata_types::Replies;
 use block_server::Server;
+use block_server::laws::runs_are_histories;
 use configuration::{Config, ConfigFault, Kind};
 use device_model::{Model, NoMemory};
+use driver_history::laws::{histories_are_runs, reads_hold};
 use script::{BadLine, Line, check_script, first_line, read_asked};
 use sector_store::SectorStore;
-use driver_history::laws::{histories_are_runs, reads_hold};
 use std::alloc::{AllocFailed, Global};
 use std::io;
 
@@ -266,6 +267,7 @@ pub fn play<S: SectorStore, W: io::Write>(
     };
     histories_are_runs();
     reads_hold();
+    runs_are_histories::<Model<S>>();
     let performed = perform(alloc, &mut server, script, trace, out);
     let model = Some(closed(server));
     match performed {

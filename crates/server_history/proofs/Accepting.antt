@@ -337,21 +337,21 @@ module _ (s : Server) (k : IsKept s) (r : Request) (acc : IsAcceptable (situatio
         (backed_then s.device s.device new m early late (own_backed s.device m (Accept asked) (λ no. no)) x.backed)
         stands
 
-  waiting_adds : has_of port s.book ≡ true → IsKept (more s.device) × Adds s (more s.device) (Submit r) (Submitted (Ok id))
-  waiting_adds has = (kept_waiting has, record { adds = λ first past leads. waiting_event first past leads has })
+  waiting_adds : has_of port s.book ≡ true → Adds s (more s.device) (Submit r) (Submitted (Ok id))
+  waiting_adds has = record { kept = kept_waiting has; adds = λ first past leads. waiting_event first past leads has }
 
-  sent_adds : has_of port s.book ≡ false → (new : Device) → IssuesTransfer port (issued_of e) s.device new → IsKept (more new) × Adds s (more new) (Submit r) (Submitted (Ok id))
-  sent_adds none new issues = (kept_sent none new issues, record { adds = λ first past leads. sent_event first past leads none new issues })
+  sent_adds : has_of port s.book ≡ false → (new : Device) → IssuesTransfer port (issued_of e) s.device new → Adds s (more new) (Submit r) (Submitted (Ok id))
+  sent_adds none new issues = record { kept = kept_sent none new issues; adds = λ first past leads. sent_event first past leads none new issues }
 
   -- by whether the port has another
   adds_more : (new : Device) → (has_of port s.book ≡ true → new ≡ s.device) → (has_of port s.book ≡ false → IssuesTransfer port (issued_of e) s.device new)
-      → IsKept (more new) × Adds s (more new) (Submit r) (Submitted (Ok id))
+      → Adds s (more new) (Submit r) (Submitted (Ok id))
   adds_more new waits sends = ⊎_elim
-      (λ (has : has_of port s.book ≡ true). subst (λ (d : Device). IsKept (more d) × Adds s (more d) (Submit r) (Submitted (Ok id))) (sym (waits has)) (waiting_adds has))
+      (λ (has : has_of port s.book ≡ true). subst (λ (d : Device). Adds s (more d) (Submit r) (Submitted (Ok id))) (sym (waits has)) (waiting_adds has))
       (λ (none : has_of port s.book ≡ false). sent_adds none new (sends none))
       (cases_Bool (has_of port s.book))
 
-pub acceptance : (s new : Server) (port : Port) (r : Request) (id : RequestId) → IsKept s → IsAcceptable (situation_of s) r → Accepts port r id s new → IsKept new × Adds s new (Submit r) (Submitted (Ok id))
+pub acceptance : (s new : Server) (port : Port) (r : Request) (id : RequestId) → IsKept s → IsAcceptable (situation_of s) r → Accepts port r id s new → Adds s new (Submit r) (Submitted (Ok id))
 acceptance s new port r id k acc a =
-    subst (λ (n : Server). IsKept n × Adds s n (Submit r) (Submitted (Ok id))) (sym a.server)
+    subst (λ (n : Server). Adds s n (Submit r) (Submitted (Ok id))) (sym a.server)
     (adds_more s k r acc a.row a.named port a.port_is id a.id_is new.table a.lent new.device a.waits a.issued)

@@ -297,6 +297,7 @@ module _ (s : Server) (host : Host) (d : Device) (is : IsIdle d) (told : TellsDi
           },
         ),
       )
+
 -- ---- a new server
 
 pub new_well : (s : Server) (host : Host) (idle : Device) (port : Port) → IsKept s → IsIdle idle → TakesOver s.wanted host idle s.device → s.ports ≡ host.ports

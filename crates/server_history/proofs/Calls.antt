@@ -101,7 +101,7 @@ device_kept s new k steps =
 
 pub device_adds_event : (s : Server) (new : Device) (step : DeviceStep) → IsKept s → Asked step s.device new → Steps s.device new
     → Adds s (record s { device = new }) (Told step) (Stepped true)
-device_adds_event s new step k asked moves = record { adds = adds }
+device_adds_event s new step k asked moves = record { kept = device_kept s new k moves; adds = adds }
   where
     adds : (first : Instant Device) (past : List (Happening Device DeviceStep)) → Leads first past s
         → (h : Happening Device DeviceStep) × (h.event.ask ≡ Told step) × (h.event.said ≡ Stepped true) × Leads first (h ∷ past) (record s { device = new })
@@ -127,7 +127,7 @@ nothing_adds : (s : Server) (ask : Ask DeviceStep) (said : Said) → IsKept s �
     → ((old : Instant Device) → Stands old s → (evidence : Evidence) → IsAnswered ask said old.moment evidence [] (record { machine = old.moment.machine; ports = ports_of s.ports }))
     → ((old : Instant Device) (port : Port) → TiesPort old (happening old s.device ask said [] (ports_of s.ports)) [] port)
     → Adds s s ask said
-nothing_adds s ask said k came answered parts = record { adds = adds }
+nothing_adds s ask said k came answered parts = record { kept = k; adds = adds }
   where
     adds : (first : Instant Device) (past : List (Happening Device DeviceStep)) → Leads first past s
         → (h : Happening Device DeviceStep) × (h.event.ask ≡ ask) × (h.event.said ≡ said) × Leads first (h ∷ past) s
@@ -225,7 +225,7 @@ module _ (s : Server) (new : Device) (client : ClientId) (frame : Frame) (offset
       kept_with s k new (Storing (4096 * frame.0 + offset) bytes) tt stores (Store client frame offset bytes ∷ x.0.steps) x.0.may x.1
 
   pub load_adds : Loads (4096 * frame.0 + offset) bytes s.device new → Adds s (record s { device = new }) (LoadAt client frame offset (length bytes)) (load_said (Ok tt) bytes)
-  load_adds loads = record { adds = adds }
+  load_adds loads = record { kept = load_kept loads; adds = adds }
     where
       adds : (first : Instant Device) (past : List (Happening Device DeviceStep)) → Leads first past s
           → (h : Happening Device DeviceStep) × (h.event.ask ≡ LoadAt client frame offset (length bytes)) × (h.event.said ≡ load_said (Ok tt) bytes) × Leads first (h ∷ past) (record s { device = new })
@@ -244,7 +244,7 @@ module _ (s : Server) (new : Device) (client : ClientId) (frame : Frame) (offset
           x.0.backed x.1
 
   pub store_adds : Stores (4096 * frame.0 + offset) bytes s.device new → Adds s (record s { device = new }) (StoreAt client frame offset bytes) (store_said (Ok tt))
-  store_adds stores = record { adds = adds }
+  store_adds stores = record { kept = store_kept stores; adds = adds }
     where
       adds : (first : Instant Device) (past : List (Happening Device DeviceStep)) → Leads first past s
           → (h : Happening Device DeviceStep) × (h.event.ask ≡ StoreAt client frame offset bytes) × (h.event.said ≡ store_said (Ok tt)) × Leads first (h ∷ past) (record s { device = new })
@@ -263,11 +263,9 @@ module _ (s : Server) (new : Device) (client : ClientId) (frame : Frame) (offset
           x.0.backed x.1
 
 -- of so many bytes
-pub load_both : (s : Server) (new : Device) (client : ClientId) (frame : Frame) (offset count : ℕ) (bytes : List ℕ) → IsKept s → length bytes ≡ count
+pub load_of : (s : Server) (new : Device) (client : ClientId) (frame : Frame) (offset count : ℕ) (bytes : List ℕ) → IsKept s → length bytes ≡ count
     → IsOpen (owner_of s.table) (lent_to s.table) client frame offset count → Loads (4096 * frame.0 + offset) bytes s.device new
-    → IsKept (record s { device = new }) × Adds s (record s { device = new }) (LoadAt client frame offset count) (load_said (Ok tt) bytes)
-load_both s new client frame offset count bytes k long opens loads =
-    let here : IsOpen (owner_of s.table) (lent_to s.table) client frame offset (length bytes) = subst (λ (n : ℕ). IsOpen (owner_of s.table) (lent_to s.table) client frame offset n) (sym long) opens in (
-      load_kept s new client frame offset bytes k here loads,
-      subst (λ (n : ℕ). Adds s (record s { device = new }) (LoadAt client frame offset n) (load_said (Ok tt) bytes)) long (load_adds s new client frame offset bytes k here loads),
-    )
+    → Adds s (record s { device = new }) (LoadAt client frame offset count) (load_said (Ok tt) bytes)
+load_of s new client frame offset count bytes k long opens loads =
+    let here : IsOpen (owner_of s.table) (lent_to s.table) client frame offset (length bytes) = subst (λ (n : ℕ). IsOpen (owner_of s.table) (lent_to s.table) client frame offset n) (sym long) opens in
+    subst (λ (n : ℕ). Adds s (record s { device = new }) (LoadAt client frame offset n) (load_said (Ok tt) bytes)) long (load_adds s new client frame offset bytes k here loads)

@@ -90,4 +90,4 @@ runs_on port old new on driven r = record {
   where
     h : Holds port.0 new
     h = (services_keep (λ x y. Holds port.0 x → Holds port.0 y) (λ d x. x) (λ x y z p q k. q (p k)) (λ access x y ready is does. each port access x y ready is does) old new on driven).0
-      (record { st = r.st; cr = r.cr; fre = r.fre; bases = r.bases; saw = r.saw })
+        (record { st = r.st; cr = r.cr; fre = r.fre; bases = r.bases; saw = r.saw })

@@ -198,10 +198,14 @@ module _ (s : Server) (kept : IsKept s) (old : Moment) (reached : IsReached old.
     };
     exact = λ e slot its says.
         let x = f.exact e slot its says in (
-          (λ ok. x.0 (ok.0, ok.1, ⊎_elim
-              (λ there. absurd (none ok.0 Ok there (ap (λ r. r.port) ok.1 ∙ its.port_is)))
-              (λ there. there)
-              (Contains-append_cases late p.steps (Answer ok.0 Ok) ok.2))),
+          (λ ok. x.0 (
+            ok.0,
+            ok.1,
+            ⊎_elim
+                (λ there. absurd (none ok.0 Ok there (ap (λ r. r.port) ok.1 ∙ its.port_is)))
+                (λ there. there)
+                (Contains-append_cases late p.steps (Answer ok.0 Ok) ok.2),
+          )),
           (λ clear. let ok = x.1 clear in (ok.0, ok.1, Contains-append_right late p.steps (Answer ok.0 Ok) ok.2)),
         );
   }
@@ -398,9 +402,9 @@ module _ (s : Server) (kept : IsKept s) (old : Moment) (reached : IsReached old.
         when_not : k.done ≡ false → (IsAnsweredOk other (all reply serves) → ⊥) × (AreClear 0 → ⊥)
         when_not running = (
           (λ ok.
-          let small = answers_none (k.running running).0 ok.0 ok.2 in
-          let at = ap (λ (r : Port). r.0) (ap (λ r. r.port) ok.1 ∙ own.port_is) in
-          omega (arith, small, at)),
+              let small = answers_none (k.running running).0 ok.0 ok.2 in
+              let at = ap (λ (r : Port). r.0) (ap (λ r. r.port) ok.1 ∙ own.port_is) in
+              omega (arith, small, at)),
           (λ clear. false≢true (sym running ∙ k.reads.tells ∙ and_from (not (bit k.reads.issued 0)) (not (bit k.reads.active 0)) (ap not clear.0) (ap not clear.1))),
         )
 
@@ -737,5 +741,12 @@ module _ (s new : Server) (replies : List Reply) (kept : IsKept s) (serves : Ser
       port_part
       p.backed stands)
 
+-- a server that served ports keeps what it keeps
+served_kept : (found : List Found) (n : ℕ) (s new : Server) (replies : List Reply) → IsKept s → ServePorts n found replies s new → IsKept new
+served_kept [] n s new replies kept serves = subst IsKept (sym serves.1) kept
+served_kept (Ready info ∷ found) n s new replies kept (mid, reply, later, is, next, serves, more) = served_kept found (n + 1) mid new later next more
+served_kept (Unserved ∷ found) n s new replies kept serves = served_kept found (n + 1) s new replies kept serves
+served_kept (Unready state ∷ found) n s new replies kept serves = served_kept found (n + 1) s new replies kept serves
+
 pub services_add : (s new : Server) (replies : List Reply) → IsKept s → ServePorts 0 s.ports replies s new → Adds s new Service (Served replies)
-services_add s new replies kept serves = record { adds = λ first past leads. service_event s new replies kept serves first past leads }
+services_add s new replies kept serves = record { kept = served_kept s.ports 0 s new replies kept serves; adds = λ first past leads. service_event s new replies kept serves first past leads }

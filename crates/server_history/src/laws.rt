@@ -52,7 +52,7 @@ pub fn a_new_server_has_begun()
 /// A device that does what it is told adds an event, and so does one that can't.
 pub fn device_steps_add()
     ensures done { (s : Server) (new : Device) (step : DeviceStep) → IsKept s → Asked step s.device new → Steps s.device new
-        → IsKept (record s { device = new }) × Adds s (record s { device = new }) (Told step) (Stepped true) }
+        → Adds s (record s { device = new }) (Told step) (Stepped true) }
     ensures refused { (s : Server) (step : DeviceStep) → IsKept s → Adds s s (Told step) (Stepped false) }
 {}
 
@@ -81,11 +81,11 @@ pub fn client_bytes_add()
     ensures store { (s : Server) (new : Device) (client : ClientId) (frame : Frame) (offset : ℕ) (bytes : List ℕ) → IsKept s
         → IsOpen (owner_of s.table) (lent_to s.table) client frame offset (length bytes)
         → Stores (FRAME_BYTES * frame.0 + offset) bytes s.device new
-        → IsKept (record s { device = new }) × Adds s (record s { device = new }) (StoreAt client frame offset bytes) (store_said (Ok tt)) }
+        → Adds s (record s { device = new }) (StoreAt client frame offset bytes) (store_said (Ok tt)) }
     ensures load { (s : Server) (new : Device) (client : ClientId) (frame : Frame) (offset count : ℕ) (bytes : List ℕ) → IsKept s
         → length bytes ≡ count → IsOpen (owner_of s.table) (lent_to s.table) client frame offset count
         → Loads (FRAME_BYTES * frame.0 + offset) bytes s.device new
-        → IsKept (record s { device = new }) × Adds s (record s { device = new }) (LoadAt client frame offset count) (load_said (Ok tt) bytes) }
+        → Adds s (record s { device = new }) (LoadAt client frame offset count) (load_said (Ok tt) bytes) }
 {}
 
 /// On a ready port that has no request, or whose first request's command is over, the next may be issued: some machine agrees with a driver
@@ -134,10 +134,10 @@ pub fn a_port_is_served()
         → FinishesFirst port first (record s { device = found }) new → ServesPort port (Some (done_reply first)) s new }
 {}
 
-/// A request that is accepted adds an event; the server keeps what it keeps.
+/// A request that is accepted adds an event.
 pub fn acceptances_add()
     ensures { (s new : Server) (port : Port) (r : Request) (id : RequestId) → IsKept s → IsAcceptable (situation_of s) r
-        → Accepts port r id s new → IsKept new × Adds s new (Submit r) (Submitted (Ok id)) }
+        → Accepts port r id s new → Adds s new (Submit r) (Submitted (Ok id)) }
 {}
 
 /// Ready ports that are served one after another add an event.

@@ -89,16 +89,16 @@ waits g c =
 
 pub invariant_of-self : goal.invariant_of-self
 invariant_of-self g c =
-    (acceptance (server_of g.A.Adapter.device (seen c.self.inside)) (record (server_of g.A.Adapter.device (seen c.self.inside)) { device = (g.A.Adapter.device c.issue.new.adapter); table = c.lend-loan.new.self; book = c.accept.new.self.entries; last = c.self.inside.last + 1 }) c.args.port c.args.r.now (record { 0 = c.self.inside.last + 1 }) c.self.invariant (subst (λ (v : ServerView g.row.A.Denot). IsAcceptable (situation_of (server_of g.A.Adapter.device v)) c.args.r.now) (sym c.self.view_is) c.requires.acceptable) (sent g c)).0
+    (acceptance (server_of g.A.Adapter.device (seen c.self.inside)) (record (server_of g.A.Adapter.device (seen c.self.inside)) { device = (g.A.Adapter.device c.issue.new.adapter); table = c.lend-loan.new.self; book = c.accept.new.self.entries; last = c.self.inside.last + 1 }) c.args.port c.args.r.now (record { 0 = c.self.inside.last + 1 }) c.self.invariant (subst (λ (v : ServerView g.row.A.Denot). IsAcceptable (situation_of (server_of g.A.Adapter.device v)) c.args.r.now) (sym c.self.view_is) c.requires.acceptable) (sent g c)).kept
 
 pub invariant_of-self-else-not-waits : goal.invariant_of-self-else-not-waits
 invariant_of-self-else-not-waits g c =
-    (acceptance (server_of g.A.Adapter.device (seen c.self.inside)) (record (server_of g.A.Adapter.device (seen c.self.inside)) { device = (g.A.Adapter.device c.self.inside.adapter); table = c.lend-loan.new.self; book = c.accept.new.self.entries; last = c.self.inside.last + 1 }) c.args.port c.args.r.now (record { 0 = c.self.inside.last + 1 }) c.self.invariant (subst (λ (v : ServerView g.row.A.Denot). IsAcceptable (situation_of (server_of g.A.Adapter.device v)) c.args.r.now) (sym c.self.view_is) c.requires.acceptable) (waits g c)).0
+    (acceptance (server_of g.A.Adapter.device (seen c.self.inside)) (record (server_of g.A.Adapter.device (seen c.self.inside)) { device = (g.A.Adapter.device c.self.inside.adapter); table = c.lend-loan.new.self; book = c.accept.new.self.entries; last = c.self.inside.last + 1 }) c.args.port c.args.r.now (record { 0 = c.self.inside.last + 1 }) c.self.invariant (subst (λ (v : ServerView g.row.A.Denot). IsAcceptable (situation_of (server_of g.A.Adapter.device v)) c.args.r.now) (sym c.self.view_is) c.requires.acceptable) (waits g c)).kept
 
 pub returns-then-not-waits-clause-adds : goal.returns-then-not-waits-clause-adds
 returns-then-not-waits-clause-adds g c =
     let Here : ServerView g.row.A.Denot → Type 0 = λ v. Adds (server_of g.A.Adapter.device v) (record (server_of g.A.Adapter.device (seen c.self.inside)) { device = (g.A.Adapter.device c.issue.new.adapter); table = c.lend-loan.new.self; book = c.accept.new.self.entries; last = c.self.inside.last + 1 }) (Submit c.args.r.now) (Submitted (Ok (record { 0 = c.self.inside.last + 1 }))) in
-    subst Here c.self.view_is (acceptance (server_of g.A.Adapter.device (seen c.self.inside)) (record (server_of g.A.Adapter.device (seen c.self.inside)) { device = (g.A.Adapter.device c.issue.new.adapter); table = c.lend-loan.new.self; book = c.accept.new.self.entries; last = c.self.inside.last + 1 }) c.args.port c.args.r.now (record { 0 = c.self.inside.last + 1 }) c.self.invariant (subst (λ (v : ServerView g.row.A.Denot). IsAcceptable (situation_of (server_of g.A.Adapter.device v)) c.args.r.now) (sym c.self.view_is) c.requires.acceptable) (sent g c)).1
+    subst Here c.self.view_is (acceptance (server_of g.A.Adapter.device (seen c.self.inside)) (record (server_of g.A.Adapter.device (seen c.self.inside)) { device = (g.A.Adapter.device c.issue.new.adapter); table = c.lend-loan.new.self; book = c.accept.new.self.entries; last = c.self.inside.last + 1 }) c.args.port c.args.r.now (record { 0 = c.self.inside.last + 1 }) c.self.invariant (subst (λ (v : ServerView g.row.A.Denot). IsAcceptable (situation_of (server_of g.A.Adapter.device v)) c.args.r.now) (sym c.self.view_is) c.requires.acceptable) (sent g c))
 
 pub returns-else-not-waits-clause-accepts : goal.returns-else-not-waits-clause-accepts
 returns-else-not-waits-clause-accepts g c =
@@ -116,4 +116,4 @@ returns-else-not-waits-clause-accepts g c =
 pub returns-else-not-waits-clause-adds : goal.returns-else-not-waits-clause-adds
 returns-else-not-waits-clause-adds g c =
     let Here : ServerView g.row.A.Denot → Type 0 = λ v. Adds (server_of g.A.Adapter.device v) (record (server_of g.A.Adapter.device (seen c.self.inside)) { device = (g.A.Adapter.device c.self.inside.adapter); table = c.lend-loan.new.self; book = c.accept.new.self.entries; last = c.self.inside.last + 1 }) (Submit c.args.r.now) (Submitted (Ok (record { 0 = c.self.inside.last + 1 }))) in
-    subst Here c.self.view_is (acceptance (server_of g.A.Adapter.device (seen c.self.inside)) (record (server_of g.A.Adapter.device (seen c.self.inside)) { device = (g.A.Adapter.device c.self.inside.adapter); table = c.lend-loan.new.self; book = c.accept.new.self.entries; last = c.self.inside.last + 1 }) c.args.port c.args.r.now (record { 0 = c.self.inside.last + 1 }) c.self.invariant (subst (λ (v : ServerView g.row.A.Denot). IsAcceptable (situation_of (server_of g.A.Adapter.device v)) c.args.r.now) (sym c.self.view_is) c.requires.acceptable) (waits g c)).1
+    subst Here c.self.view_is (acceptance (server_of g.A.Adapter.device (seen c.self.inside)) (record (server_of g.A.Adapter.device (seen c.self.inside)) { device = (g.A.Adapter.device c.self.inside.adapter); table = c.lend-loan.new.self; book = c.accept.new.self.entries; last = c.self.inside.last + 1 }) c.args.port c.args.r.now (record { 0 = c.self.inside.last + 1 }) c.self.invariant (subst (λ (v : ServerView g.row.A.Denot). IsAcceptable (situation_of (server_of g.A.Adapter.device v)) c.args.r.now) (sym c.self.view_is) c.requires.acceptable) (waits g c))

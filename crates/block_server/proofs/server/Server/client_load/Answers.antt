@@ -8,7 +8,7 @@ use Rattle.dma_frames.specs.Table.{owner_of, lent_to}
 use Rattle.block_server.specs.Seen.{seen}
 use Rattle.block_server.specs.View.{ServerView, server_of}
 use Rattle.server_history.specs.Histories.{Adds, load_said}
-use Rattle.server_history.proofs.Calls.{device_kept, load_both, load_refused, open_free}
+use Rattle.server_history.proofs.Calls.{device_kept, load_of, load_refused, open_free}
 use Rattle.block_server.proofs.server.Server.client_load.Goals as goal
 
 pub returns-in_err-address-clause-adds : goal.returns-in_err-address-clause-adds
@@ -39,6 +39,6 @@ returns-clause-adds g c =
     let s = seen c.self.inside in
     let P : ServerView g.row.A.Denot → Type 0 = λ v. Adds (server_of device v) (server_of device (record s { adapter = c.load.new.self })) (LoadAt c.args.client c.args.frame c.args.offset (length c.args.out.now)) (load_said (Ok tt) c.load.new.out) in
     let Q : ServerView g.row.A.Denot → Type 0 = λ v. IsOpen (owner_of v.table) (lent_to v.table) c.args.client c.args.frame c.args.offset (length c.args.out.now) in
-    subst P c.self.view_is (load_both (server_of device s) (device c.load.new.self) c.args.client c.args.frame c.args.offset (length c.args.out.now) c.load.new.out c.self.invariant c.load.auto.out
+    subst P c.self.view_is (load_of (server_of device s) (device c.load.new.self) c.args.client c.args.frame c.args.offset (length c.args.out.now) c.load.new.out c.self.invariant c.load.auto.out
     (subst Q (sym c.self.view_is) c.in_ok-address.ensures.ok.0)
-    (subst (λ (at : ℕ). Loads at c.load.new.out (device s.adapter) (device c.load.new.self)) c.in_ok-address.ensures.ok.1 c.load.ensures)).1
+    (subst (λ (at : ℕ). Loads at c.load.new.out (device s.adapter) (device c.load.new.self)) c.in_ok-address.ensures.ok.1 c.load.ensures))

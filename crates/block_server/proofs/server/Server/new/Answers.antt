@@ -37,6 +37,9 @@ returns-clause-made g c =
     let rows_are : c.as_slice.result.now ≡ map transfer_row plan.grants = c.as_slice.ensures.value ∙ c.transfer_rows.ensures ∙ ap (map transfer_row) c.grants.ensures.grants in
     let rows = subst (λ (rows : List GrantRow). SameRows rows c.in-Ok-from_rows.grants) rows_are c.in-Ok-from_rows.ensures.rows in
     let room : 4096 * plan.frames ≤ s.device.size = let f = c.in-Ok.ensures.made.frames in let r = c.requires.ready.room c.in-Ok.ensures.sound in let z = c.take_over.ensures.taken.same.size in omega (arith, f, r, z) in
+    let begun = new_server s c.take_over.result (device c.args.adapter) c.requires.ready.idle (g.met.A.Adapter.tells c.args.adapter) c.take_over.ensures.taken
+    (new_fits s c.take_over.result plan c.in-Ok.ensures.fits rows
+    (rw c.owners.ensures.owners at c.in-Ok-boxed.ensures.only) room c.in-Ok-from_rows.ensures.names c.in-Ok-from_rows.ensures.few c.in-Ok-boxed.ensures.free refl c.take_over.ensures.four c.in-Ok-new.ensures.empty refl) in
     record {
       plan = plan;
       is_plan = c.in-Ok.ensures.fits;
@@ -52,7 +55,6 @@ returns-clause-made g c =
       book = c.in-Ok-new.ensures.empty;
       last = refl;
       room = c.in-Ok-new.ensures.room;
-      begun = (new_server s c.take_over.result (device c.args.adapter) c.requires.ready.idle (g.met.A.Adapter.tells c.args.adapter) c.take_over.ensures.taken
-          (new_fits s c.take_over.result plan c.in-Ok.ensures.fits rows
-          (rw c.owners.ensures.owners at c.in-Ok-boxed.ensures.only) room c.in-Ok-from_rows.ensures.names c.in-Ok-from_rows.ensures.few c.in-Ok-boxed.ensures.free refl c.take_over.ensures.four c.in-Ok-new.ensures.empty refl)).1;
+      kept = begun.0;
+      begun = begun.1;
     }

@@ -1,14 +1,14 @@
 use Rattle.std.proofs.Common.{◌<◌, ◌++◌, ◌∷◌, List, sym, ◌∙◌, ap, subst, [], append_assoc, length, take, arith}
 use Rattle.std.proofs.lemmas.List.{append-nil, take_more}
-use Rattle.block_server.specs.Running.{AddsAll, Answered, Ran}
+use Rattle.block_server.specs.Running.{Answered, Ran}
 use Rattle.block_server.specs.declared.types.Event.{Event}
 use Rattle.block_server.specs.declared.types.Said.{Said}
-use Rattle.block_server.proofs.Running.{ran_none, ran_more, adds_none, adds_more}
+use Rattle.block_server.proofs.Running.{ran_none, ran_more}
 use Rattle.block_server.proofs.server.Server.run.Goals as goal
 
 pub loop-at-init : goal.loop-at-init
 loop-at-init g c = record {
-  ran = record { said = []; told = sym (append-nil c.args.out.now.items); ran = ran_none g.A.Adapter.device c.args.self.now; adds = adds_none g.A.Adapter.device c.args.self.now };
+  ran = record { said = []; told = sym (append-nil c.args.out.now.items); ran = ran_none g.A.Adapter.device c.args.self.now };
   length = omega arith;
   room = omega arith;
 }
@@ -22,13 +22,11 @@ loop-at-preserved g c =
     let answered : Answered g.A.Adapter.device event one c.loop-at.self c.answer-told.new.self =
     subst (λ (said : Said). Answered g.A.Adapter.device event said c.loop-at.self c.answer-told.new.self) (sym c.said_with.ensures) c.answer-told.ensures in
     let P : List Event → Type 0 = λ calls. Ran g.A.Adapter.device c.args.self.now c.answer-told.new.self calls (so_far.said ++ one ∷ []) in
-    let Q : List Event → Type 0 = λ calls. AddsAll g.A.Adapter.device c.args.self.now c.answer-told.new.self calls (so_far.said ++ one ∷ []) in
     let calls = ap (λ (e : Event). take c.loop-at.at c.args.events.now ++ e ∷ []) c.index-events-at.is ∙ sym (take_more c.args.events.now c.loop-at.at event below) in
     record {
       ran = record {
         said = so_far.said ++ one ∷ [];
         told = c.push_reserved.ensures.items ∙ ap (λ (l : List Said). l ++ one ∷ []) (c.reserve.ensures.items ∙ so_far.told) ∙ append_assoc c.args.out.now.items so_far.said (one ∷ []);
-        adds = subst Q calls (adds_more g.A.Adapter.device c.args.self.now c.loop-at.self c.answer-told.new.self (take c.loop-at.at c.args.events.now) so_far.said event one so_far.adds answered);
         ran = subst P calls (ran_more g.A.Adapter.device c.args.self.now c.loop-at.self c.answer-told.new.self (take c.loop-at.at c.args.events.now) so_far.said event one so_far.ran answered);
       };
       length = let n = c.push_reserved.ensures.len in let r = c.reserve.ensures.len in let i = c.loop-at.invariant.length in omega (arith, n, r, i);

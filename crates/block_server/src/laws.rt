@@ -1,0 +1,26 @@
+// Laws of the definitions, for callers: the clause is the theorem. These functions do nothing.
+ghost use Rattle.std.specs.Prelude.{◌≡◌, ◌++◌, List, [], ◌∷◌};
+ghost use Rattle.adapter.specs.Device.{Device};
+ghost use Rattle.adapter.specs.declared.access.DeviceStep.{DeviceStep};
+ghost use Rattle.block_machine.specs.Histories.{Happening, Instant};
+ghost use Rattle.server_history.specs.Histories.{Leads};
+ghost use Rattle.block_server.specs.Running.{AddEach, Answers, Ran, ask_of, said_of};
+ghost use Rattle.block_server.specs.View.{ServerView, server_of};
+ghost use Rattle.block_server.specs.declared.types.Event.{Event};
+ghost use Rattle.block_server.specs.declared.types.Said.{Said};
+
+use adapter::Stepped;
+
+/// Calls from a list add an event each to every history that leads to the server before them, and what is so longer leads to the server after
+/// each. One more call goes on so.
+pub fn runs_are_histories<A: Stepped>()
+    ensures adds { (old new : ServerView A) (events : List Event) (said : List Said) (first : Instant Device)
+        (past : List (Happening Device DeviceStep)) → Ran A.device old new events said → Leads first past (server_of A.device old)
+        → (later : List (Happening Device DeviceStep)) × AddEach A.device first past old events said later new
+        × Leads first later (server_of A.device new) }
+    ensures more { (old mid new : ServerView A) (events : List Event) (said : List Said) (first : Instant Device)
+        (past later : List (Happening Device DeviceStep)) (event : Event) (one : Said) (h : Happening Device DeviceStep)
+        → AddEach A.device first past old events said later mid → Answers A.device event one mid new → h.event.ask ≡ ask_of event
+        → h.event.said ≡ said_of one → Leads first (h ∷ later) (server_of A.device new)
+        → AddEach A.device first past old (events ++ event ∷ []) (said ++ one ∷ []) (h ∷ later) new }
+{}
