@@ -1,6 +1,6 @@
 -- What a model makes of a step that it is told: when the step is possible, what it changes where it is done, and what stays where it is left
 -- (this project's own).
-use Rattle.std.specs.Prelude.{ℕ, Bool, true, false, ◌≡◌, ◌≢◌, ◌+◌, ◌^◌, ◌<◌, ◌≤◌, ◌⊎◌, List, Option, Some, if◌then◌else◌, nat_eq}
+use Rattle.std.specs.Prelude.{ℕ, Bool, true, false, ◌≡◌, ◌≢◌, ◌+◌, ◌^◌, ◌<◌, ◌≤◌, ◌⊎◌, List, Option, if◌then◌else◌, nat_eq}
 use Rattle.std.specs.Global.{Vec}
 use Rattle.std.specs.Vec.{vec_len, vec_capacity}
 use Rattle.adapter.specs.Asked.{AskedOf}
@@ -54,11 +54,12 @@ LacksMemory (asked.Unplug p) d h plugged = HasRoom h 1 → ⊥
 LacksMemory (asked.Plug p number) d h plugged = HasRoom h 1 → vec_len plugged < vec_capacity plugged → ⊥
 LacksMemory step d h plugged = ⊥
 
--- the step moves a sector of the disk: a Move whose slot's command names sectors, or a Finish of such a command that has one left
+-- The step is possible and moves a sector of the disk that is in: a Move, or a Finish that has a move left, of a command that names sectors. No other
+-- step asks a store for anything.
 abbrev pub MovesSector : DeviceStep → Device → Type 0
-MovesSector (asked.Move p s) d = (t : Taken) × ((d.port p.0).taken s.0 ≡ Some t) × (is_ranged t.meaning.operation ≡ true)
+MovesSector (asked.Move p s) d = (s.0 < 32) × (t : Taken) × HasMove d p.0 s.0 t × (is_ranged t.meaning.operation ≡ true)
 MovesSector (asked.Finish p s) d =
-    (left : ℕ) × (may : MayFinish d p.0 s.0 (d.port 0).disk.size (left + 1)) × (is_ranged may.t.meaning.operation ≡ true)
+    (p.0 ≡ 0) × (s.0 < 32) × (left : ℕ) × (may : MayFinish d p.0 s.0 (d.port 0).disk.size (left + 1)) × (is_ranged may.t.meaning.operation ≡ true)
 MovesSector step d = ⊥
 
 -- What the step moves is served: where that is a sector, no call on the store of the disk that is in fails; and each place of the memory has an

@@ -240,10 +240,11 @@ impl<S: SectorStore> Model<S> {
         let Some(next) = self.hardware.next_move(port.0, slot.0) else {
             return false;
         };
+        if !next.is_on(self.disk.sectors()) {
+            return false;
+        }
         if !room {
-            if next.is_on(self.disk.sectors()) {
-                self.hardware.starved = true;
-            }
+            self.hardware.starved = true;
             return false;
         }
         let mut bytes = [0; 512];
