@@ -119,12 +119,12 @@ page_moves_none d slot sectors left has may ranged = by may.begins
     by (inl works) = true-false ranged (ap is_ranged ((has_only d slot has).taken t works.taken).0)
     by (inr begins) = true-false ranged (ap is_ranged ((has_only d slot has).fetched t.meaning t.places begins.0).0)
 
-pub finish_keeps : {S : Type 0} (size : S → ℕ) (told : S → Option (ℕ → List ℕ)) (is_sure : S → Bool) (old new : Model S) (slot : ℕ) (answer : Bool) →
-    AnswersStep size told is_sure (asked.Finish (record { 0 = 0 }) (record { 0 = slot })) answer old new → HasIdentify (device_at size told old) slot →
+pub finish_keeps : {S : Type 0} (size : S → ℕ) (told : S → Option (ℕ → List ℕ)) (failures : S → Option ℕ) (old new : Model S) (slot : ℕ) (answer : Bool) →
+    AnswersStep size told failures (asked.Finish (record { 0 = 0 }) (record { 0 = slot })) answer old new → HasIdentify (device_at size told old) slot →
     new.disk ≡ old.disk
-finish_keeps size told is_sure old new slot true a has =
+finish_keeps size told failures old new slot true a has =
     in_kept (λ s. s) old new a.1.which (a.1.disks (λ moves. page_moves_none (device_at size told old) slot _ _ has moves.3 moves.4))
-finish_keeps size told is_sure old new slot false a has =
+finish_keeps size told failures old new slot false a has =
     in_kept (λ s. s) old new a.which (a.disks (λ moves. page_moves_none (device_at size told old) slot _ _ has moves.3 moves.4))
 
 -- a Move of what a Finish has begun moves one only where the Finish does

@@ -57,7 +57,7 @@ is_it Disk0 Disk1 = inr (λ e. absurd (let no : Disk0 ≡ Disk1 = e in cc))
 is_it Disk1 Disk0 = inr (λ e. absurd (let no : Disk1 ≡ Disk0 = e in cc))
 is_it Disk1 Disk1 = inl refl
 
-module _ {S : Type 0} (size : S → ℕ) (told : S → Option (ℕ → List ℕ)) (is_sure : S → Bool) where
+module _ {S : Type 0} (size : S → ℕ) (told : S → Option (ℕ → List ℕ)) (failures : S → Option ℕ) where
   -- where it is the disk that is in or was last, port 0 has none
   abbrev pub IsOut : Which → Model S → Type 0
   IsOut w m = w ≡ m.which → ((device_at size told m).port 0).present ≡ false
@@ -100,13 +100,13 @@ module _ {S : Type 0} (size : S → ℕ) (told : S → Option (ℕ → List ℕ)
   none_moves (asked.Unplug p) m empty moves = moves
   none_moves (asked.Plug p number) m empty moves = moves
 
-  one_stays : (s : DeviceStep) (answer : Bool) (old new : Model S) (w : Which) → w ≢ old.which → (PutsIn w s → ⊥) → AnswersStep size told is_sure s answer old new →
+  one_stays : (s : DeviceStep) (answer : Bool) (old new : Model S) (w : Which) → w ≢ old.which → (PutsIn w s → ⊥) → AnswersStep size told failures s answer old new →
       (w ≢ new.which) × (store_of new w ≡ store_of old w)
   one_stays s true old new w out never a = (λ e. still_out s _ w old.which out never a.0 (e ∙ a.1.which), a.1.keeps.out w out)
   one_stays s false old new w out never a = (λ e. out (e ∙ a.which), a.keeps.out w out)
 
   pub out_stays : (steps : List DeviceStep) (old new : Model S) (w : Which) → w ≢ old.which → All (λ s. PutsIn w s → ⊥) steps →
-      DoesEach size told is_sure steps old new → (w ≢ new.which) × (store_of new w ≡ store_of old w)
+      DoesEach size told failures steps old new → (w ≢ new.which) × (store_of new w ≡ store_of old w)
   out_stays [] old new w out none same = (λ e. out (e ∙ ap (λ (m : Model S). m.which) same), ap (λ (m : Model S). store_of m w) same)
   out_stays (s ∷ steps) old new w out none does =
       let P : DeviceStep → Type 0 = λ x. PutsIn w x → ⊥ in
@@ -115,7 +115,7 @@ module _ {S : Type 0} (size : S → ℕ) (told : S → Option (ℕ → List ℕ)
       (last.0, last.1 ∙ first.1)
 
   last_stays : (s : DeviceStep) (answer : Bool) (old new : Model S) (w : Which) → w ≡ old.which → ((device_at size told old).port 0).present ≡ false →
-      (PutsIn w s → ⊥) → AnswersStep size told is_sure s answer old new → IsOut w new × (store_of new w ≡ store_of old w)
+      (PutsIn w s → ⊥) → AnswersStep size told failures s answer old new → IsOut w new × (store_of new w ≡ store_of old w)
   last_stays s true old new w is empty never a = (
     λ same. still_empty s _ _ w old.which is empty never a.0 a.1.asked (same ∙ a.1.which),
     a.1.disks (none_moves s old empty) w,
@@ -125,7 +125,7 @@ module _ {S : Type 0} (size : S → ℕ) (told : S → Option (ℕ → List ℕ)
     a.disks (none_moves s old empty) w,
   )
 
-  one_waits : (s : DeviceStep) (answer : Bool) (old new : Model S) (w : Which) → IsOut w old → (PutsIn w s → ⊥) → AnswersStep size told is_sure s answer old new →
+  one_waits : (s : DeviceStep) (answer : Bool) (old new : Model S) (w : Which) → IsOut w old → (PutsIn w s → ⊥) → AnswersStep size told failures s answer old new →
       IsOut w new × (store_of new w ≡ store_of old w)
   one_waits s answer old new w out never a =
       elim (is_it w old.which) [
@@ -134,7 +134,7 @@ module _ {S : Type 0} (size : S → ℕ) (told : S → Option (ℕ → List ℕ)
       ]
 
   pub last_waits : (steps : List DeviceStep) (old new : Model S) (w : Which) → IsOut w old → All (λ s. PutsIn w s → ⊥) steps →
-      DoesEach size told is_sure steps old new → IsOut w new × (store_of new w ≡ store_of old w)
+      DoesEach size told failures steps old new → IsOut w new × (store_of new w ≡ store_of old w)
   last_waits [] old new w out none same =
       let P : Model S → Type 0 = λ m. IsOut w m in (subst P (sym same) out, ap (λ (m : Model S). store_of m w) same)
   last_waits (s ∷ steps) old new w out none does =

@@ -37,9 +37,9 @@ pub fn moves_are_possible<S: SectorStore>()
 /// these where it is put in. That holds of the disk that wasn't in last, and of the one that was, where none is in.
 pub fn disks_that_are_out_stay<S: SectorStore>()
     ensures other { (steps : List DeviceStep) (old new : Model S) (which : Which) → which ≢ old.which → All (λ s. PutsIn which s → ⊥) steps →
-        DoesEach S.size S.told S.is_sure steps old new → (which ≢ new.which) × (store_of new which ≡ store_of old which) }
+        DoesEach S.size S.told S.failures steps old new → (which ≢ new.which) × (store_of new which ≡ store_of old which) }
     ensures last_in { (steps : List DeviceStep) (old new : Model S) (which : Which) → which ≡ old.which →
-        ((device_at S.size S.told old).port 0).present ≡ false → All (λ s. PutsIn which s → ⊥) steps → DoesEach S.size S.told S.is_sure steps old new →
+        ((device_at S.size S.told old).port 0).present ≡ false → All (λ s. PutsIn which s → ⊥) steps → DoesEach S.size S.told S.failures steps old new →
         (which ≡ new.which → ((device_at S.size S.told new).port 0).present ≡ false) × (store_of new which ≡ store_of old which) }
 {}
 

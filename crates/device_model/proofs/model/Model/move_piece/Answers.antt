@@ -29,7 +29,7 @@ use Rattle.device_model.proofs.model.Model.move_piece.Goals as goal
 pub returns-then-port-ne0-clause-answers : goal.returns-then-port-ne0-clause-answers
 returns-then-port-ne0-clause-answers g c =
     let m = c.args.self.now in
-    left_same g.S.SectorStore.size g.S.SectorStore.told g.S.SectorStore.is_sure _ m
+    left_same g.S.SectorStore.size g.S.SectorStore.told g.S.SectorStore.failures _ m
     (λ may. no_move m.hardware (disk_over m.which (g.S.SectorStore.size m.disk) (g.S.SectorStore.told m.disk)) (g.S.SectorStore.told m.other) _ c.args.port.0 c.args.slot.0 may.1
     c.if-port-ne0.true may.2)
 
@@ -125,10 +125,12 @@ returns-then-not-exchange-clause-answers g c =
       says = refl;
       which = refl;
       disks = λ none _.
-          true-false (c.exchange.ensures.sure (λ ranged. absurd (none (moves ranged)))) c.if-not-exchange.true;
-      keeps = keeps_with g.S.SectorStore.size g.S.SectorStore.is_sure m _ _ c.exchange.ensures.size c.exchange.ensures.lasts;
+          absurd (none (moves (c.exchange.ensures.ranged c.if-not-exchange.true)));
+      keeps = keeps_with g.S.SectorStore.size g.S.SectorStore.failures m _ _ c.exchange.ensures.size c.exchange.ensures.lasts;
       why = λ served _.
-          true-false (c.exchange.ensures.sure (λ ranged. (served.0 (moves ranged), let here = on ranged in omega (arith, here, size)))) c.if-not-exchange.true;
+          let ranged = c.exchange.ensures.ranged c.if-not-exchange.true in
+          let here = on ranged in
+          absurd (c.exchange.ensures.fails c.if-not-exchange.true (omega (arith, here, size)) (served.0 (moves ranged)));
       starved_on = λ yes. starved ∙ yes;
       starved_since = λ yes. inl (sym starved ∙ yes);
     }
@@ -172,7 +174,7 @@ returns-clause-answers g c =
     let o : Outside = outside_at g.S.SectorStore.size g.S.SectorStore.told m in
     let noted = c.move_bytes.ensures.moved o in
     let entry : Entry = entry.Move (move_of c.args.port.0 c.args.slot.0 (taken_of noted.0) c.exchange.new.bytes) in
-    let keeps = keeps_with g.S.SectorStore.size g.S.SectorStore.is_sure m c.move_bytes.new.self _ c.exchange.ensures.size c.exchange.ensures.lasts in
+    let keeps = keeps_with g.S.SectorStore.size g.S.SectorStore.failures m c.move_bytes.new.self _ c.exchange.ensures.size c.exchange.ensures.lasts in
     let on = c.exchange.ensures.inside c.if-not-exchange.false in
     let fits = next_has_move c.reserve-room.new.self o _ c.args.port.0 c.args.slot.0 c.in-Some.next c.in-Some.ensures.found.0 c.if-port-ne0.false
     (c.reserve-room.ensures.same o) c.in-Some.ensures.found.1 on in (
@@ -247,7 +249,7 @@ returns-then-not-exchange-clause-page g c = λ t taken identifies.
     let o : Outside = outside_at g.S.SectorStore.size g.S.SectorStore.told c.args.self.now in
     let kind = next_identifies c.reserve-room.new.self o _ c.args.port.0 c.args.slot.0 c.in-Some.next c.in-Some.ensures.found.0 t (c.reserve-room.ensures.same o)
     c.in-Some.ensures.found.1 taken identifies in
-    λ _ _ _ _. true-false (c.exchange.ensures.sure (λ ranged. true-false ranged (ap (λ (k : Transfer). is_ranged (operation_of k)) kind))) c.if-not-exchange.true
+    λ _ _ _ _. true-false (c.exchange.ensures.ranged c.if-not-exchange.true) (ap (λ (k : Transfer). is_ranged (operation_of k)) kind)
 
 pub returns-clause-page : goal.returns-clause-page
 returns-clause-page g c = λ t taken identifies never. absurd (let e : true ≡ false = never in cc)
