@@ -136,15 +136,15 @@ module _ {S : Type 0} (size : S → ℕ) (told : S → Option (ℕ → List ℕ)
       (device_at size told mid).size ≡ (device_at size told old).size → Meanwhile size failures old mid →
       (MovesSector (asked.Move p slot) (device_at size told mid) → MovesSector (asked.Finish p slot) (device_at size told old)) →
       ((MovesSector (asked.Finish p slot) (device_at size told old) → ⊥) → (which : Which) → store_of mid which ≡ store_of old which) →
-      failures mid.disk ≡ failures old.disk → IsLeftOut size told failures (asked.Move p slot) mid new → HasRoom mid.hardware 1 → Possible (asked.Move p slot) (device_at size told mid) →
+      (did ≡ false → (which : Which) → store_of mid which ≡ store_of old which) → failures mid.disk ≡ failures old.disk → IsLeftOut size told failures (asked.Move p slot) mid new → HasRoom mid.hardware 1 → Possible (asked.Move p slot) (device_at size told mid) →
       AnswersStep size told failures (asked.Finish p slot) did old new
-  cut_short p slot did old mid new may went stayed sizes meanwhile moved same fine step room move = by did went stayed
+  cut_short p slot did old mid new may went stayed sizes meanwhile moved same untouched fine step room move = by did went stayed untouched
     where
       unserved : StoreServes (asked.Finish p slot) (failures old.disk) (failures new.disk) (device_at size told old) → ⊥
       unserved served = let n = served.1 in (step.why ((λ moves. served.0 (moved moves) ∙ sym fine), omega (arith, sizes, n)) move).0 room
 
       disks : (MovesSector (asked.Finish p slot) (device_at size told old) → ⊥) → (which : Which) → store_of new which ≡ store_of old which
-      disks none which = step.disks (λ moves. none (moved moves)) which ∙ same none which
+      disks none which = step.disks (λ moves. absurd (none (moved moves))) which ∙ same none which
 
       told_before : new.hardware.starved ≡ true → mid.hardware.starved ≡ true
       told_before now = elim (step.starved_since now) [ inl before ↦ before | inr lacks ↦ absurd (lacks.1 room) ]
@@ -160,8 +160,9 @@ module _ {S : Type 0} (size : S → ℕ) (told : S → Option (ℕ → List ℕ)
       })
 
       by : (b : Bool) → (b ≡ true → GoesOn SendsEnd p.0 slot.0 (device_at size told old) (device_at size told mid)) →
-          (b ≡ false → device_at size told mid ≡ device_at size told old) → AnswersStep size told failures (asked.Finish p slot) b old new
-      by true on same = (
+          (b ≡ false → device_at size told mid ≡ device_at size told old) → (b ≡ false → (which : Which) → store_of mid which ≡ store_of old which) →
+          AnswersStep size told failures (asked.Finish p slot) b old new
+      by true on same first = (
         may,
         record {
           asked = subst (λ (d : Device). GoesOn SendsEnd p.0 slot.0 (device_at size told old) d) (sym step.device) (on refl);
@@ -175,12 +176,12 @@ module _ {S : Type 0} (size : S → ℕ) (told : S → Option (ℕ → List ℕ)
           starved = all.starved;
         },
       )
-      by false on same = record {
+      by false on same first = record {
         device = step.device ∙ same refl;
         held = all.held;
         says = all.says;
         which = all.which;
-        disks = disks;
+        disks = λ served which. step.disks (λ moves. served (moved moves) ∙ sym fine) which ∙ first refl which;
         keeps = all.keeps;
         why = λ served _. absurd (unserved served);
         starved_on = λ yes. all.starved ∙ yes;

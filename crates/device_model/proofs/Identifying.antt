@@ -125,7 +125,7 @@ pub finish_keeps : {S : Type 0} (size : S → ℕ) (told : S → Option (ℕ →
 finish_keeps size told failures old new slot true a has =
     in_kept (λ s. s) old new a.1.which (a.1.disks (λ moves. page_moves_none (device_at size told old) slot _ _ has moves.3 moves.4))
 finish_keeps size told failures old new slot false a has =
-    in_kept (λ s. s) old new a.which (a.disks (λ moves. page_moves_none (device_at size told old) slot _ _ has moves.3 moves.4))
+    in_kept (λ s. s) old new a.which (a.disks (λ moves. absurd (page_moves_none (device_at size told old) slot _ _ has moves.3 moves.4)))
 
 -- a Move of what a Finish has begun moves one only where the Finish does
 pub finish_moves : (p : Port) (s : Slot) (did : Bool) (old new : Device) (sectors left : ℕ) → p.0 ≡ 0 → sectors ≡ (old.port 0).disk.size → 1 ≤ left →

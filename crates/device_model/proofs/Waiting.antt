@@ -122,7 +122,7 @@ module _ {S : Type 0} (size : S → ℕ) (told : S → Option (ℕ → List ℕ)
   )
   last_stays s false old new w is empty never a = (
     λ _. ap (λ (d : Device). (d.port 0).present) a.device ∙ empty,
-    a.disks (none_moves s old empty) w,
+    a.disks (λ moves. absurd (none_moves s old empty moves)) w,
   )
 
   one_waits : (s : DeviceStep) (answer : Bool) (old new : Model S) (w : Which) → IsOut w old → (PutsIn w s → ⊥) → AnswersStep size told failures s answer old new →

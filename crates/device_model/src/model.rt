@@ -429,7 +429,7 @@ fn turn(page: &mut [u8; PAGE_BYTES], bits: &[u8; PAGE_BYTES])
 }
 
 /// Has a disk give the sector of a read or its page, or take a write's sector from memory; `false` says that the store
-/// failed, and that it holds what it held.
+/// failed, and that it tells what it told.
 fn exchange<S: SectorStore>(
     disk: &mut S,
     which: Which,
@@ -529,7 +529,7 @@ impl<S: SectorStore> Adapter for Model<S> {
 }
 
 impl<S: SectorStore> Stepped for Model<S> {
-    /// Beside what every such adapter says: it is done if it is possible, over stores that never fail, and there is memory to note it; and
+    /// Beside what every such adapter says: it is done if it is possible, no call on a store fails, and there is memory to note it; and
     /// nothing but what it asks is another. READ DMA EXT, WRITE DMA EXT and IDENTIFY DEVICE alone are taken, port 0 alone has disks, and
     /// disks 0 and 1 alone are put in.
     fn step(&mut self, s: &DeviceStep) -> bool

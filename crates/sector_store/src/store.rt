@@ -13,8 +13,8 @@ pub trait SectorStore: Drop {
     /// The bytes of each sector, where the store tells them, as memory does and a file doesn't.
     ghost told: { Self → Option (ℕ → List ℕ) };
 
-    /// A number that stays as it is but where a call on a sector that is there fails, and is another then; or `None`, where no such call fails, as
-    /// in memory.
+    /// What it tells of failed calls: a number, which is another after each call that fails on a sector that is there, and stays over
+    /// all other calls; or `None`, where no such call fails, as in memory.
     ghost failures: { Self → Option ℕ };
 
     /// How many sectors there are.

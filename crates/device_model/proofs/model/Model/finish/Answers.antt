@@ -32,6 +32,7 @@ loop-piece-init g c =
       size = fetched_size c.args.port.0 c.args.slot.0 c.in-Some.field-0.was_taken old new (λ e. is.did e o) (λ e. is.same e o);
       disk = sym c.sectors-sectors.ensures;
       disks = λ _ _. refl;
+      untouched = λ _ _. refl;
       fine = refl;
       meanwhile = record {
         held = refl;
@@ -65,6 +66,7 @@ loop-piece-preserved g c =
           let moves = finish_moves c.args.port c.args.slot c.loop-piece.did _ _ c.sectors-sectors.result c.in-Some.field-0.left c.if-port-ne0.false
           c.sectors-sectors.ensures (omega (arith, c.loop-piece-test.true)) c.loop-piece.invariant.did c.loop-piece.invariant.refused (c.in-Some.ensures.begun.ready o) in
           step.disks (λ sector. none (moves sector)) which ∙ c.loop-piece.invariant.disks none which;
+      untouched = λ never. absurd (let e : true ≡ false = never in cc);
       fine = c.move_piece.ensures.fine c.if-not-move_piece.false ∙ c.loop-piece.invariant.fine;
       room = c.move_piece.ensures.left _ (omega (arith, c.loop-piece.invariant.room, c.loop-piece-test.true));
       going =
@@ -107,7 +109,7 @@ returns-then-not-move_piece-clause-answers g c =
     is.did is.refused is.size is.meanwhile
     (finish_moves c.args.port c.args.slot c.loop-piece.did _ _ c.sectors-sectors.result c.in-Some.field-0.left zero sectors
     (omega (arith, c.loop-piece-test.true)) is.did is.refused (c.in-Some.ensures.begun.ready o))
-    is.disks is.fine step room (c.requires, found.0, found.1)
+    is.disks is.untouched is.fine step room (c.requires, found.0, found.1)
 
 pub returns-then-done-clause-answers : goal.returns-then-done-clause-answers
 returns-then-done-clause-answers g c =

@@ -118,19 +118,18 @@ returns-then-not-exchange-clause-answers g c =
     let size = c.sectors.ensures in
     let moves = next_moves c.reserve-room.new.self o _ c.args.port c.args.slot c.in-Some.next c.in-Some.ensures.found.0 c.if-port-ne0.false c.requires
     (c.reserve-room.ensures.same o) c.in-Some.ensures.found.1 (λ ranged. let here = on ranged in omega (arith, here, size)) in
+    let ranged = c.exchange.ensures.ranged c.if-not-exchange.true in
+    let here = on ranged in
+    let failed = c.exchange.ensures.fails c.if-not-exchange.true (omega (arith, here, size)) in
     record {
       device = (λ i. device_of c.reserve-room.new.self (outside_of (disk_over m.which (c.exchange.ensures.size i) (kept i)) (g.S.SectorStore.told m.other) was))
           ∙ c.reserve-room.ensures.same o;
       held = refl;
       says = refl;
       which = refl;
-      disks = λ none _.
-          absurd (none (moves (c.exchange.ensures.ranged c.if-not-exchange.true)));
+      disks = λ fine _. absurd (failed (fine (moves ranged)));
       keeps = keeps_with g.S.SectorStore.size g.S.SectorStore.failures m _ _ c.exchange.ensures.size c.exchange.ensures.lasts;
-      why = λ served _.
-          let ranged = c.exchange.ensures.ranged c.if-not-exchange.true in
-          let here = on ranged in
-          absurd (c.exchange.ensures.fails c.if-not-exchange.true (omega (arith, here, size)) (served.0 (moves ranged)));
+      why = λ served _. absurd (failed (served.0 (moves ranged)));
       starved_on = λ yes. starved ∙ yes;
       starved_since = λ yes. inl (sym starved ∙ yes);
     }
