@@ -24,12 +24,12 @@ use Rattle.device_model.specs.declared.model.Queued.{Queued}
 use Rattle.std.specs.Global.{Vec}
 
 -- what stays while a command goes on
-pub record Meanwhile {S : Type 0} (size : S → ℕ) (is_sure : S → Bool) (old new : Model S) : Type 0 where
+pub record Meanwhile {S : Type 0} (size : S → ℕ) (failures : S → Option ℕ) (old new : Model S) : Type 0 where
   pub held : new.held ≡ old.held
   pub says : new.says ≡ old.says
   pub which : new.which ≡ old.which
   pub pages : GainsPages size old new
-  pub keeps : StepKeeps size is_sure old new
+  pub keeps : StepKeeps size failures old new
   pub starved : new.hardware.starved ≡ old.hardware.starved
 
 -- where the one is as the other was, and never ceases to be, they are one
@@ -38,11 +38,11 @@ same_flag true b forth back = forth refl
 same_flag false true forth back = sym (back refl)
 same_flag false false forth back = refl
 
-module _ {S : Type 0} (size : S → ℕ) (told : S → Option (ℕ → List ℕ)) (is_sure : S → Bool) where
-  pub keeps_same : (m : Model S) → StepKeeps size is_sure m m
+module _ {S : Type 0} (size : S → ℕ) (told : S → Option (ℕ → List ℕ)) (failures : S → Option ℕ) where
+  pub keeps_same : (m : Model S) → StepKeeps size failures m m
   keeps_same m = record { sectors = λ _. refl; sure = λ _. refl; out = λ _ _. refl; queue = refl; accesses = refl }
 
-  pub keeps_on : (a b c : Model S) → b.which ≡ a.which → StepKeeps size is_sure a b → StepKeeps size is_sure b c → StepKeeps size is_sure a c
+  pub keeps_on : (a b c : Model S) → b.which ≡ a.which → StepKeeps size failures a b → StepKeeps size failures b c → StepKeeps size failures a c
   keeps_on a b c same first then = record {
     out = λ w ne. then.out w (λ is. ne (is ∙ same)) ∙ first.out w ne;
     sectors = λ w. then.sectors w ∙ first.sectors w;
@@ -51,7 +51,7 @@ module _ {S : Type 0} (size : S → ℕ) (told : S → Option (ℕ → List ℕ)
     accesses = then.accesses ∙ first.accesses;
   }
 
-  pub meanwhile_on : (a b c : Model S) → Meanwhile size is_sure a b → Meanwhile size is_sure b c → Meanwhile size is_sure a c
+  pub meanwhile_on : (a b c : Model S) → Meanwhile size failures a b → Meanwhile size failures b c → Meanwhile size failures a c
   meanwhile_on a b c first then = record {
     held = then.held ∙ first.held;
     says = then.says ∙ first.says;
@@ -62,7 +62,7 @@ module _ {S : Type 0} (size : S → ℕ) (told : S → Option (ℕ → List ℕ)
   }
 
   -- a step that isn't possible is left, and nothing is another
-  pub left_same : (s : DeviceStep) (m : Model S) → (Possible s (device_at size told m) → ⊥) → IsLeftOut size told is_sure s m m
+  pub left_same : (s : DeviceStep) (m : Model S) → (Possible s (device_at size told m) → ⊥) → IsLeftOut size told failures s m m
   left_same s m never = record {
     device = refl;
     held = refl;
@@ -76,33 +76,33 @@ module _ {S : Type 0} (size : S → ℕ) (told : S → Option (ℕ → List ℕ)
   }
 
   module _ (s : DeviceStep) (old new : Model S) where
-    pub did_it : (answer : Bool) → AnswersStep size told is_sure s answer old new → answer ≡ true → Did size told is_sure s old new
+    pub did_it : (answer : Bool) → AnswersStep size told failures s answer old new → answer ≡ true → Did size told failures s old new
     did_it true a e = a.1
     did_it false a e = absurd (let no : false ≡ true = e in cc)
 
-    pub answered_true : (answer : Bool) → answer ≡ true → Possible s (device_at size told old) × Did size told is_sure s old new →
-        AnswersStep size told is_sure s answer old new
+    pub answered_true : (answer : Bool) → answer ≡ true → Possible s (device_at size told old) × Did size told failures s old new →
+        AnswersStep size told failures s answer old new
     answered_true true e did = did
     answered_true false e did = absurd (let no : false ≡ true = e in cc)
 
-    pub left_it : (answer : Bool) → AnswersStep size told is_sure s answer old new → answer ≡ false → IsLeftOut size told is_sure s old new
+    pub left_it : (answer : Bool) → AnswersStep size told failures s answer old new → answer ≡ false → IsLeftOut size told failures s old new
     left_it true a e = absurd (let no : true ≡ false = e in cc)
     left_it false a e = a
 
-    pub did_or_left_keeps : (answer : Bool) → AnswersStep size told is_sure s answer old new → StepKeeps size is_sure old new
+    pub did_or_left_keeps : (answer : Bool) → AnswersStep size told failures s answer old new → StepKeeps size failures old new
     did_or_left_keeps true a = a.1.keeps
     did_or_left_keeps false a = a.keeps
 
-    pub answers_steps : (answer : Bool) → AnswersStep size told is_sure s answer old new → Steps (device_at size told old) (device_at size told new)
+    pub answers_steps : (answer : Bool) → AnswersStep size told failures s answer old new → Steps (device_at size told old) (device_at size told new)
     answers_steps true a = asked_steps s _ _ (asked_may s _ _ a.1.asked)
     answers_steps false a = let P : Device → Type 0 = λ d. Steps (device_at size told old) d in subst P (sym a.device) (Steps-refl (device_at size told old))
 
   -- the same, whatever is queued
-  keeps_queued : (old new : Model S) (q : Vec Queued) → StepKeeps size is_sure old new → StepKeeps size is_sure (record old { queue = q }) (record new { queue = q })
+  keeps_queued : (old new : Model S) (q : Vec Queued) → StepKeeps size failures old new → StepKeeps size failures (record old { queue = q }) (record new { queue = q })
   keeps_queued old new q k = record { out = k.out; sectors = k.sectors; sure = k.sure; queue = refl; accesses = k.accesses }
 
-  pub answers_queued : (s : DeviceStep) (answer : Bool) (old new : Model S) (q : Vec Queued) → AnswersStep size told is_sure s answer old new →
-      AnswersStep size told is_sure s answer (record old { queue = q }) (record new { queue = q })
+  pub answers_queued : (s : DeviceStep) (answer : Bool) (old new : Model S) (q : Vec Queued) → AnswersStep size told failures s answer old new →
+      AnswersStep size told failures s answer (record old { queue = q }) (record new { queue = q })
   answers_queued s true old new q a = (
     a.0,
     record {
@@ -133,26 +133,23 @@ module _ {S : Type 0} (size : S → ℕ) (told : S → Option (ℕ → List ℕ)
   -- each disk is as it was.
   pub cut_short : (p : Port) (slot : Slot) (did : Bool) (old mid new : Model S) → Possible (asked.Finish p slot) (device_at size told old) →
       (did ≡ true → GoesOn SendsEnd p.0 slot.0 (device_at size told old) (device_at size told mid)) → (did ≡ false → device_at size told mid ≡ device_at size told old) →
-      (device_at size told mid).size ≡ (device_at size told old).size → Meanwhile size is_sure old mid →
+      (device_at size told mid).size ≡ (device_at size told old).size → Meanwhile size failures old mid →
       (MovesSector (asked.Move p slot) (device_at size told mid) → MovesSector (asked.Finish p slot) (device_at size told old)) →
       ((MovesSector (asked.Finish p slot) (device_at size told old) → ⊥) → (which : Which) → store_of mid which ≡ store_of old which) →
-      IsLeftOut size told is_sure (asked.Move p slot) mid new → HasRoom mid.hardware 1 → Possible (asked.Move p slot) (device_at size told mid) →
-      AnswersStep size told is_sure (asked.Finish p slot) did old new
-  cut_short p slot did old mid new may went stayed sizes meanwhile moved same step room move = by did went stayed
+      (did ≡ false → (which : Which) → store_of mid which ≡ store_of old which) → failures mid.disk ≡ failures old.disk → IsLeftOut size told failures (asked.Move p slot) mid new → HasRoom mid.hardware 1 → Possible (asked.Move p slot) (device_at size told mid) →
+      AnswersStep size told failures (asked.Finish p slot) did old new
+  cut_short p slot did old mid new may went stayed sizes meanwhile moved same untouched fine step room move = by did went stayed untouched
     where
-      sure : is_sure mid.disk ≡ is_sure old.disk
-      sure = in_kept is_sure old mid meanwhile.which meanwhile.keeps.sure
-
-      unserved : StoreServes (asked.Finish p slot) (is_sure old.disk) (device_at size told old) → ⊥
-      unserved served = let n = served.1 in (step.why ((λ moves. sure ∙ served.0 (moved moves)), omega (arith, sizes, n)) move).0 room
+      unserved : StoreServes (asked.Finish p slot) (failures old.disk) (failures new.disk) (device_at size told old) → ⊥
+      unserved served = let n = served.1 in (step.why ((λ moves. served.0 (moved moves) ∙ sym fine), omega (arith, sizes, n)) move).0 room
 
       disks : (MovesSector (asked.Finish p slot) (device_at size told old) → ⊥) → (which : Which) → store_of new which ≡ store_of old which
-      disks none which = step.disks (λ moves. none (moved moves)) which ∙ same none which
+      disks none which = step.disks (λ moves. absurd (none (moved moves))) which ∙ same none which
 
       told_before : new.hardware.starved ≡ true → mid.hardware.starved ≡ true
       told_before now = elim (step.starved_since now) [ inl before ↦ before | inr lacks ↦ absurd (lacks.1 room) ]
 
-      all : Meanwhile size is_sure old new
+      all : Meanwhile size failures old new
       all = meanwhile_on old mid new meanwhile (record {
         held = step.held;
         says = step.says;
@@ -163,8 +160,9 @@ module _ {S : Type 0} (size : S → ℕ) (told : S → Option (ℕ → List ℕ)
       })
 
       by : (b : Bool) → (b ≡ true → GoesOn SendsEnd p.0 slot.0 (device_at size told old) (device_at size told mid)) →
-          (b ≡ false → device_at size told mid ≡ device_at size told old) → AnswersStep size told is_sure (asked.Finish p slot) b old new
-      by true on same = (
+          (b ≡ false → device_at size told mid ≡ device_at size told old) → (b ≡ false → (which : Which) → store_of mid which ≡ store_of old which) →
+          AnswersStep size told failures (asked.Finish p slot) b old new
+      by true on same first = (
         may,
         record {
           asked = subst (λ (d : Device). GoesOn SendsEnd p.0 slot.0 (device_at size told old) d) (sym step.device) (on refl);
@@ -178,12 +176,12 @@ module _ {S : Type 0} (size : S → ℕ) (told : S → Option (ℕ → List ℕ)
           starved = all.starved;
         },
       )
-      by false on same = record {
+      by false on same first = record {
         device = step.device ∙ same refl;
         held = all.held;
         says = all.says;
         which = all.which;
-        disks = disks;
+        disks = λ served which. step.disks (λ moves. served (moved moves) ∙ sym fine) which ∙ first refl which;
         keeps = all.keeps;
         why = λ served _. absurd (unserved served);
         starved_on = λ yes. all.starved ∙ yes;
@@ -192,10 +190,10 @@ module _ {S : Type 0} (size : S → ℕ) (told : S → Option (ℕ → List ℕ)
 
   -- ---- what the model does by itself
 
-  pub goes_so_same : (m : Model S) → GoesOnSo size is_sure m m
+  pub goes_so_same : (m : Model S) → GoesOnSo size failures m m
   goes_so_same m = record { held = refl; says = refl; which = refl; pages = gains_none size m m refl; keeps = keeps_same m; starved_on = λ yes. yes }
 
-  pub goes_so_on : (a b c : Model S) → GoesOnSo size is_sure a b → GoesOnSo size is_sure b c → GoesOnSo size is_sure a c
+  pub goes_so_on : (a b c : Model S) → GoesOnSo size failures a b → GoesOnSo size failures b c → GoesOnSo size failures a c
   goes_so_on a b c first then = record {
     held = then.held ∙ first.held;
     says = then.says ∙ first.says;
@@ -205,8 +203,8 @@ module _ {S : Type 0} (size : S → ℕ) (told : S → Option (ℕ → List ℕ)
     starved_on = λ yes. then.starved_on (first.starved_on yes);
   }
 
-  pub finish_goes_so : (p : Port) (slot : Slot) (answer : Bool) (old new : Model S) → AnswersStep size told is_sure (asked.Finish p slot) answer old new →
-      GoesOnSo size is_sure old new
+  pub finish_goes_so : (p : Port) (slot : Slot) (answer : Bool) (old new : Model S) → AnswersStep size told failures (asked.Finish p slot) answer old new →
+      GoesOnSo size failures old new
   finish_goes_so p slot true old new a =
       record { held = a.1.held; says = a.1.says; which = a.1.which; pages = a.1.pages; keeps = a.1.keeps; starved_on = λ yes. a.1.starved ∙ yes }
   finish_goes_so p slot false old new a = record {

@@ -208,24 +208,21 @@ sector_small r size few small = by (is_ranged (operation_of r.transfer)) refl
 
 -- what the hardware finds to move next is possible on port 0, where it is on the disk
 pub next_has_move : (h : Hardware) (o : Outside) (d : Device) (port slot : ℕ) (next : NextMove) (r : TakenCommand) → port ≡ 0 → device_of h o ≡ d →
-    IsNext h port slot next r → (is_ranged (operation_of next.transfer) ≡ true → next.sector < (o.media 0).disk.size) → (t : Taken) × HasMove d port slot t
+    IsNext h port slot next r → (is_ranged (operation_of next.transfer) ≡ true → next.sector < (o.media 0).disk.size) → HasMove d port slot (taken_of r)
 next_has_move h o d port slot next r zero same is on =
-    let P : Device → Type 0 = λ x. (t : Taken) × HasMove x port slot t in
+    let P : Device → Type 0 = λ x. HasMove x port slot (taken_of r) in
     let Q : ℕ → Type 0 = λ q. is_ranged (operation_of next.transfer) ≡ true → next.sector < (o.media q).disk.size in
     let sector : next.sector ≡ next_sector (taken_of r) = is.sector_is in
     let place : next.address ≡ slice_index (pieces r.prds) r.moved = is.address_is in
     let there = is.inside in
-    subst P same (
-      taken_of r,
-      record {
-        works = is.holds.works (o.media port);
-        left = is.left;
-        inside = omega (arith, place, there);
-        on_disk = λ ranged.
-            let at = subst Q (sym zero) on (ap (λ (k : Transfer). is_ranged (operation_of k)) is.transfer_is ∙ ranged) in omega (arith, sector, at);
-        has_disk = inl zero;
-      },
-    )
+    subst P same (record {
+      works = is.holds.works (o.media port);
+      left = is.left;
+      inside = omega (arith, place, there);
+      on_disk = λ ranged.
+          let at = subst Q (sym zero) on (ap (λ (k : Transfer). is_ranged (operation_of k)) is.transfer_is ∙ ranged) in omega (arith, sector, at);
+      has_disk = inl zero;
+    })
 
 -- and where it is possible, it is on the disk
 pub next_on_disk : (h : Hardware) (o : Outside) (d : Device) (port slot : ℕ) (next : NextMove) (r : TakenCommand) (t : Taken) → port ≡ 0 → device_of h o ≡ d →

@@ -36,7 +36,7 @@ use Rattle.device_model.specs.declared.port.Transfer.{Transfer}
 use Rattle.device_model.specs.declared.port.Transfer.TheVariants as transfer
 use Rattle.device_model.specs.declared.steps.NextMove.{NextMove}
 use Rattle.adapter.proofs.Going.{goes_one}
-use Rattle.device_model.proofs.Finishing.{fetched_goes}
+use Rattle.device_model.proofs.Finishing.{fetched_goes, next_has_move}
 use Rattle.device_model.proofs.Own.{IsOnly, own_gone}
 use Rattle.device_model.proofs.Posting.{end_rest}
 use Rattle.device_model.proofs.Transfers.{alone_none, is_identify, is_taken, unranged}
@@ -119,13 +119,13 @@ page_moves_none d slot sectors left has may ranged = by may.begins
     by (inl works) = true-false ranged (ap is_ranged ((has_only d slot has).taken t works.taken).0)
     by (inr begins) = true-false ranged (ap is_ranged ((has_only d slot has).fetched t.meaning t.places begins.0).0)
 
-pub finish_keeps : {S : Type 0} (size : S → ℕ) (told : S → Option (ℕ → List ℕ)) (is_sure : S → Bool) (old new : Model S) (slot : ℕ) (answer : Bool) →
-    AnswersStep size told is_sure (asked.Finish (record { 0 = 0 }) (record { 0 = slot })) answer old new → HasIdentify (device_at size told old) slot →
+pub finish_keeps : {S : Type 0} (size : S → ℕ) (told : S → Option (ℕ → List ℕ)) (failures : S → Option ℕ) (old new : Model S) (slot : ℕ) (answer : Bool) →
+    AnswersStep size told failures (asked.Finish (record { 0 = 0 }) (record { 0 = slot })) answer old new → HasIdentify (device_at size told old) slot →
     new.disk ≡ old.disk
-finish_keeps size told is_sure old new slot true a has =
-    in_kept (λ s. s) old new a.1.which (a.1.disks (λ moves. page_moves_none (device_at size told old) slot _ _ has moves.1 moves.2))
-finish_keeps size told is_sure old new slot false a has =
-    in_kept (λ s. s) old new a.which (a.disks (λ moves. page_moves_none (device_at size told old) slot _ _ has moves.1 moves.2))
+finish_keeps size told failures old new slot true a has =
+    in_kept (λ s. s) old new a.1.which (a.1.disks (λ moves. page_moves_none (device_at size told old) slot _ _ has moves.3 moves.4))
+finish_keeps size told failures old new slot false a has =
+    in_kept (λ s. s) old new a.which (a.disks (λ moves. absurd (page_moves_none (device_at size told old) slot _ _ has moves.3 moves.4)))
 
 -- a Move of what a Finish has begun moves one only where the Finish does
 pub finish_moves : (p : Port) (s : Slot) (did : Bool) (old new : Device) (sectors left : ℕ) → p.0 ≡ 0 → sectors ≡ (old.port 0).disk.size → 1 ≤ left →
@@ -141,29 +141,32 @@ finish_moves p s did old new sectors left here same some went stayed ready moves
         subst Q more (subst P same ready)
 
     by : (b : Bool) → is_ranged may.t.meaning.operation ≡ b → MovesSector (asked.Finish p s) old
-    by true e = (left - 1, may, e)
+    by true e = (here, moves.0, left - 1, may, e)
     by false e =
         let P : ℕ → Type 0 = λ q. IsOnly IsIdentify old q s.0 in
         let only = subst P here (only_of IsIdentify old p.0 s.0 (old.port 0).disk.size (left - 1 + 1) may (unranged may.t.meaning.operation may.takes e)) in
-        let page = only_taken IsIdentify (λ o places is. is) p.0 s.0 did old new here went stayed only moves.0 moves.1 in
-        true-false moves.2 (ap is_ranged page)
+        let page = only_taken IsIdentify (λ o places is. is) p.0 s.0 did old new here went stayed only moves.1 moves.2.works.taken in
+        true-false moves.3 (ap is_ranged page)
 
--- what the hardware moves next is a sector only where a Move moves one
-pub next_moves : (h : Hardware) (o : Outside) (d : Device) (p : Port) (s : Slot) (next : NextMove) (r : TakenCommand) → device_of h o ≡ d →
-    IsNext h p.0 s.0 next r → is_ranged (operation_of next.transfer) ≡ true → MovesSector (asked.Move p s) d
-next_moves h o d p s next r same is ranged = (
+-- what the hardware moves next, where it is on the disk, is a sector only where a Move moves one
+pub next_moves : (h : Hardware) (o : Outside) (d : Device) (p : Port) (s : Slot) (next : NextMove) (r : TakenCommand) → p.0 ≡ 0 → s.0 < 32 →
+    device_of h o ≡ d → IsNext h p.0 s.0 next r → (is_ranged (operation_of next.transfer) ≡ true → next.sector < (o.media 0).disk.size) →
+    is_ranged (operation_of next.transfer) ≡ true → MovesSector (asked.Move p s) d
+next_moves h o d p s next r here small same is on ranged = (
+  small,
   taken_of r,
-  ap (λ (x : Device). (x.port p.0).taken s.0) (sym same) ∙ (is.holds.works (o.media p.0)).taken,
+  next_has_move h o d p.0 s.0 next r here same is on,
   ap (λ (k : Transfer). is_ranged (operation_of k)) (sym is.transfer_is) ∙ ranged,
 )
 
 -- and else a page
-pub next_page : (h : Hardware) (o : Outside) (d : Device) (p : Port) (s : Slot) (next : NextMove) (r : TakenCommand) → device_of h o ≡ d →
-    IsNext h p.0 s.0 next r → (MovesSector (asked.Move p s) d → ⊥) → next.transfer ≡ transfer.Identify
-next_page h o d p s next r same is none = by (is_ranged (operation_of next.transfer)) refl
+pub next_page : (h : Hardware) (o : Outside) (d : Device) (p : Port) (s : Slot) (next : NextMove) (r : TakenCommand) → p.0 ≡ 0 → s.0 < 32 →
+    device_of h o ≡ d → IsNext h p.0 s.0 next r → (is_ranged (operation_of next.transfer) ≡ true → next.sector < (o.media 0).disk.size) →
+    (MovesSector (asked.Move p s) d → ⊥) → next.transfer ≡ transfer.Identify
+next_page h o d p s next r here small same is on none = by (is_ranged (operation_of next.transfer)) refl
   where
     by : (b : Bool) → is_ranged (operation_of next.transfer) ≡ b → next.transfer ≡ transfer.Identify
-    by true e = absurd (none (next_moves h o d p s next r same is e))
+    by true e = absurd (none (next_moves h o d p s next r here small same is on e))
     by false e = is_identify next.transfer (unranged (operation_of next.transfer) (is_taken next.transfer) e)
 
 -- the hardware's next move is of it

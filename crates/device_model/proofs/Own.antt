@@ -1,5 +1,6 @@
 -- The model's own steps, one after another.
 use Rattle.std.proofs.Common.{ℕ, Bool, zero, suc, true, false, ◌≡◌, ◌+◌, ◌∙◌, List, [], ◌∷◌, ◌++◌, None, Some, All, refl, sym, ap, subst, inl, inr, arith}
+use Rattle.std.proofs.lemmas.Bool.Decides.{eqb_tells}
 use Rattle.std.proofs.lemmas.List.Elements.{All-append, All-nil}
 use Rattle.std.specs.Prelude.{if◌then◌else◌, slice_index_or}
 use Rattle.adapter.specs.Asked.{DoesOne, DoesSome, GoesOn}
@@ -52,6 +53,29 @@ reset_steps was held old new (inl stays) = record { steps = []; lead = stays.2 }
 reset_steps was held old new (inr ends) = Steps-one ResetEnds old new ends.0 ends.3
 
 -- ---- the steps of one slot's command
+
+-- they neither put a disk into port 0 nor take one out
+present_with : (f : ℕ → PortState) (port : ℕ) (p : PortState) → p.present ≡ (f port).present → (changed f port p 0).present ≡ (f 0).present
+present_with f port p same =
+    elim (eqb_tells 0 port) [
+      | inl here ↦
+          let P : ℕ → Type 0 = λ q. (changed f port p q).present ≡ (f q).present in
+          subst P (sym here.1) (ap (λ (x : PortState). x.present) (changed_same f port p) ∙ same)
+      | inr there ↦ ap (λ (x : PortState). x.present) (changed_other f port p 0 there.1)
+    ]
+
+pub one_keeps_present : (port slot : ℕ) (old new : Device) → DoesOne SendsEnd port slot old new → (new.port 0).present ≡ (old.port 0).present
+one_keeps_present port slot old new (inl f) =
+    ap (λ (d : Device). (d.port 0).present) f.effect ∙ present_with old.port port (with_fetch (old.port port) slot f.meaning f.places) refl
+one_keeps_present port slot old new (inr (inl m)) =
+    ap (λ (d : Device). (d.port 0).present) m.effect ∙ present_with old.port port (with_move (old.port port) slot m.t m.bytes) refl
+one_keeps_present port slot old new (inr (inr e)) =
+    ap (λ (d : Device). (d.port 0).present) (end_rest port e.done.flag e.done.t.meaning.operation e.mid new e.posts)
+    ∙ (ap (λ (d : Device). (d.port 0).present) e.done.effect ∙ present_with old.port port (with_done (old.port port) slot e.done.flag e.done.t.meaning.operation) refl)
+
+pub some_keep_present : (n port slot : ℕ) (old new : Device) → DoesSome SendsEnd n port slot old new → (new.port 0).present ≡ (old.port 0).present
+some_keep_present zero port slot old new same = ap (λ (d : Device). (d.port 0).present) same
+some_keep_present (suc n) port slot old new s = one_keeps_present port slot s.0 new s.2 ∙ some_keep_present n port slot old s.0 s.1
 
 -- whatever command is taken in the slot, or may be, this holds of what it is and of its places
 pub record IsOnly (P : Operation → List ℕ → Type 0) (d : Device) (port slot : ℕ) : Type 0 where

@@ -17,28 +17,28 @@ use Rattle.device_model.proofs.Doing.{answers_steps}
 
 -- ---- steps, one more at the end
 
-module _ {S : Type 0} (size : S → ℕ) (told : S → Option (ℕ → List ℕ)) (is_sure : S → Bool) where
-  pub each_more : (done : List DeviceStep) (s : DeviceStep) (answer : Bool) (old mid new : Model S) → DoesEach size told is_sure done old mid →
-      AnswersStep size told is_sure s answer mid new → DoesEach size told is_sure (done ++ s ∷ []) old new
+module _ {S : Type 0} (size : S → ℕ) (told : S → Option (ℕ → List ℕ)) (failures : S → Option ℕ) where
+  pub each_more : (done : List DeviceStep) (s : DeviceStep) (answer : Bool) (old mid new : Model S) → DoesEach size told failures done old mid →
+      AnswersStep size told failures s answer mid new → DoesEach size told failures (done ++ s ∷ []) old new
   each_more [] s answer old mid new e one =
-      let P : Model S → Type 0 = λ m. AnswersStep size told is_sure s answer m new in
+      let P : Model S → Type 0 = λ m. AnswersStep size told failures s answer m new in
       (answer, new, subst P e one, refl)
   each_more (x ∷ done) s answer old mid new d one = (d.0, d.1, d.2, each_more done s answer d.1 mid new d.3 one)
 
-  pub each_steps : (done : List DeviceStep) (old new : Model S) → DoesEach size told is_sure done old new → Steps (device_at size told old) (device_at size told new)
+  pub each_steps : (done : List DeviceStep) (old new : Model S) → DoesEach size told failures done old new → Steps (device_at size told old) (device_at size told new)
   each_steps [] old new e =
       let P : Model S → Type 0 = λ m. Steps (device_at size told old) (device_at size told m) in
       subst P (sym e) (Steps-refl (device_at size told old))
   each_steps (s ∷ done) old new d =
-      Steps-trans (answers_steps size told is_sure s old d.1 d.0 d.2) (each_steps done d.1 new d.3)
+      Steps-trans (answers_steps size told failures s old d.1 d.0 d.2) (each_steps done d.1 new d.3)
 
-  pub begins_steps : (old new : Model S) → BeginsAccess size told is_sure old new → Steps (device_at size told old) (device_at size told new)
+  pub begins_steps : (old new : Model S) → BeginsAccess size told failures old new → Steps (device_at size told old) (device_at size told new)
   begins_steps old new b = each_steps (due new.accesses old.queue.items) (record old { accesses = new.accesses; queue = new.queue }) new b.does
 
 -- these steps lead from the one model to the other, whatever is queued in both
-abbrev pub DoneSo : {S : Type 0} → (S → ℕ) → (S → Option (ℕ → List ℕ)) → (S → Bool) → Model S → Model S → List DeviceStep → Type 0
-DoneSo size told is_sure old new done =
-    (q : Vec Queued) → DoesEach size told is_sure done (record old { queue = q }) (record new { queue = q })
+abbrev pub DoneSo : {S : Type 0} → (S → ℕ) → (S → Option (ℕ → List ℕ)) → (S → Option ℕ) → Model S → Model S → List DeviceStep → Type 0
+DoneSo size told failures old new done =
+    (q : Vec Queued) → DoesEach size told failures done (record old { queue = q }) (record new { queue = q })
 
 -- ---- the queue
 

@@ -38,20 +38,20 @@ fetched_takes old h o port slot f =
     let P : Taken → Type 0 = λ x. Takes x.meaning.operation in
     subst P (sym w.3) (is_taken w.0.transfer)
 
-module _ {S : Type 0} (size : S → ℕ) (told : S → Option (ℕ → List ℕ)) (is_sure : S → Bool) (m : Model S) (h : Hardware) where
+module _ {S : Type 0} (size : S → ℕ) (told : S → Option (ℕ → List ℕ)) (failures : S → Option ℕ) (m : Model S) (h : Hardware) where
   abbrev new : Model S
   new = record m { hardware = h }
 
   abbrev behind : Outside
   behind = outside_at size told m
 
-  pub on_hardware : StepKeeps size is_sure m new
+  pub on_hardware : StepKeeps size failures m new
   on_hardware = record { sectors = λ _. refl; sure = λ _. refl; out = λ _ _. refl; queue = refl; accesses = refl }
 
   -- a step that notes one entry wasn't done
   passed_left : (s : DeviceStep) (possible : Type 0) → (Possible s (device_at size told m) → possible) → (possible → Possible s (device_at size told m)) →
       ((HasRoom m.hardware 1 → ⊥) → LacksMemory s (device_at size told m) m.hardware m.plugged) → device_of h behind ≡ device_of m.hardware behind →
-      IsPassed m.hardware h possible → IsLeftOut size told is_sure s m new
+      IsPassed m.hardware h possible → IsLeftOut size told failures s m new
   passed_left s possible forth back lacks same (inl never) = record {
     device = same;
     held = refl;
@@ -78,7 +78,7 @@ module _ {S : Type 0} (size : S → ℕ) (told : S → Option (ℕ → List ℕ)
   pub fetch_answers : (p : Port) (s : Slot) (did : Bool) → p.0 < 4 → s.0 < 32 →
       (did ≡ true → DoesFetch p.0 s.0 (device_of m.hardware behind) (device_of h behind)) → (did ≡ false → device_of h behind ≡ device_of m.hardware behind) →
       (did ≡ false → (g : Meaning) (places : List ℕ) → Takes g.operation → Can (Fetch p.0 s.0 g places) (device_of m.hardware behind) → ⊥) →
-      h.tape ≡ m.hardware.tape → h.starved ≡ m.hardware.starved → AnswersStep size told is_sure (asked.Fetch p s) did m new
+      h.tape ≡ m.hardware.tape → h.starved ≡ m.hardware.starved → AnswersStep size told failures (asked.Fetch p s) did m new
   fetch_answers p s true port slot done same only tape starved =
       let f = done refl in (
         (port, slot, f.meaning, f.places, fetched_takes (device_of m.hardware behind) h behind p.0 s.0 f, f.can),
@@ -109,7 +109,7 @@ module _ {S : Type 0} (size : S → ℕ) (told : S → Option (ℕ → List ℕ)
   pub done_answers : (p : Port) (s : Slot) (did : Bool) → p.0 < 4 → s.0 < 32 →
       (did ≡ true → Ends SendsEnd p.0 s.0 (device_of m.hardware behind) (device_of h behind)) → (did ≡ false → device_of h behind ≡ device_of m.hardware behind) →
       (did ≡ false → IsPassed m.hardware h ((flag : ℕ) × (t : Taken) × Can (Done p.0 s.0 flag t) (device_of m.hardware behind))) →
-      (did ≡ true → h.starved ≡ m.hardware.starved) → AnswersStep size told is_sure (asked.Done p s) did m new
+      (did ≡ true → h.starved ≡ m.hardware.starved) → AnswersStep size told failures (asked.Done p s) did m new
   done_answers p s true port slot done same passed starved =
       let d = done refl in (
         (port, slot, d.done.flag, d.done.t, d.done.can),
@@ -132,7 +132,7 @@ module _ {S : Type 0} (size : S → ℕ) (told : S → Option (ℕ → List ℕ)
   pub unplug_answers : (p : Port) (did : Bool) → p.0 ≡ 0 →
       (did ≡ true → Can (Unplug 0) (device_of m.hardware behind) × (device_of h behind ≡ after (Unplug 0) (device_of m.hardware behind))) →
       (did ≡ false → device_of h behind ≡ device_of m.hardware behind) → (did ≡ false → IsPassed m.hardware h (Can (Unplug 0) (device_of m.hardware behind))) →
-      (did ≡ true → h.starved ≡ m.hardware.starved) → AnswersStep size told is_sure (asked.Unplug p) did m new
+      (did ≡ true → h.starved ≡ m.hardware.starved) → AnswersStep size told failures (asked.Unplug p) did m new
   unplug_answers p true zero done same passed starved =
       let d = done refl in
       let P : ℕ → Type 0 = λ q. DoesUnplug q (device_of m.hardware behind) (device_of h behind) in (

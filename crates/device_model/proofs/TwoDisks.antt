@@ -1,6 +1,6 @@
 -- The two disks of port 0, as a model has them.
 use Rattle.std.proofs.Common.{ℕ, Bool, true, false, ◌≡◌, ◌≢◌, ◌<◌, ◌∙◌, ◌&&◌, refl, sym, ap, subst, arith}
-use Rattle.std.specs.Prelude.{if◌then◌else◌, nat_eq}
+use Rattle.std.specs.Prelude.{Option, if◌then◌else◌, is_some, nat_eq}
 use Rattle.device_model.specs.Disks.{is_same, disk_number, store_of}
 use Rattle.device_model.specs.Does.{StepKeeps}
 use Rattle.device_model.specs.declared.disks.Which.{Which}
@@ -76,12 +76,12 @@ module _ {S : Type 0} where
       by Disk1 Disk1 e = subst (λ x. store_of new x ≡ store_of old x) e inside
 
   -- another store stands for the disk that is in
-  pub keeps_with : (size : S → ℕ) (is_sure : S → Bool) (m : Model S) (h : Hardware) (disk : S) → size disk ≡ size m.disk → is_sure disk ≡ is_sure m.disk →
-      StepKeeps size is_sure m (record m { hardware = h; disk = disk })
-  keeps_with size is_sure m h disk sectors lasts = record {
+  pub keeps_with : (size : S → ℕ) (failures : S → Option ℕ) (m : Model S) (h : Hardware) (disk : S) → size disk ≡ size m.disk → is_some (failures disk) ≡ is_some (failures m.disk) →
+      StepKeeps size failures m (record m { hardware = h; disk = disk })
+  keeps_with size failures m h disk sectors lasts = record {
     out = λ w ne. kept_out (is_same w m.which) disk m.disk m.other (not_same w m.which ne);
     sectors = λ w. kept_in size (is_same w m.which) disk m.disk m.other sectors;
-    sure = λ w. kept_in is_sure (is_same w m.which) disk m.disk m.other lasts;
+    sure = λ w. kept_in (λ s. is_some (failures s)) (is_same w m.which) disk m.disk m.other lasts;
     queue = refl;
     accesses = refl;
   }

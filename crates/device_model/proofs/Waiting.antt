@@ -1,16 +1,24 @@
 -- A disk that is out waits, as it is, until it is put in.
-use Rattle.std.proofs.Common.{ℕ, zero, suc, Bool, true, false, ◌≡◌, ◌≢◌, ◌<◌, ◌∙◌, List, [], ◌∷◌, All, Option, sym, ap, arith}
+use Rattle.std.proofs.Common.{ℕ, zero, suc, Bool, true, false, ◌≡◌, ◌≢◌, ◌<◌, ◌⊎◌, ◌∙◌, List, [], ◌∷◌, All, Option, refl, sym, ap, subst, inl, inr, arith}
+use Rattle.std.proofs.lemmas.Bool.Decides.{eqb_tells}
 use Rattle.std.proofs.lemmas.List.Elements.{All-head, All-tail}
 use Rattle.std.specs.Prelude.{if◌then◌else◌, nat_eq}
-use Rattle.adapter.specs.Device.{Device}
+use Rattle.adapter.specs.Asked.{AskedOf}
+use Rattle.adapter.specs.Device.{Device, Taken}
+use Rattle.adapter.specs.Steps.{Can, WorksOn, begun}
+use Rattle.adapter.specs.Steps.Step.{Fetch}
 use Rattle.adapter.specs.declared.access.DeviceStep.{DeviceStep}
 use Rattle.adapter.specs.declared.access.DeviceStep.TheVariants as asked
-use Rattle.device_model.specs.Disks.{disk_number, store_of}
-use Rattle.device_model.specs.Does.{AnswersStep, Possible, PutsIn, which_after}
+use Rattle.device_model.specs.Disks.{disk_number, disk_over, store_of}
+use Rattle.device_model.specs.Does.{AnswersStep, MovesSector, Possible, PutsIn, which_after}
+use Rattle.device_model.specs.Modelled.{device_at}
 use Rattle.device_model.specs.Queue.{DoesEach}
+use Rattle.device_model.specs.Sent.{SendsEnd}
 use Rattle.device_model.specs.declared.disks.Which.{Which}
 use Rattle.device_model.specs.declared.disks.Which.TheVariants.{Disk0, Disk1}
 use Rattle.device_model.specs.declared.model.Model.{Model}
+use Rattle.device_model.proofs.Finishing.{no_move}
+use Rattle.device_model.proofs.Own.{one_keeps_present, some_keep_present}
 
 named_by : (w : Which) (number : ℕ) → number < 2 → w ≡ (if nat_eq number 0 then Disk0 else Disk1) → number ≡ disk_number w
 named_by w zero small e = sym (ap disk_number e)
@@ -29,17 +37,108 @@ still_out (asked.Hold p) d w v out never may = out
 still_out (asked.Release p) d w v out never may = out
 still_out (asked.Unplug p) d w v out never may = out
 
-module _ {S : Type 0} (size : S → ℕ) (told : S → Option (ℕ → List ℕ)) (is_sure : S → Bool) where
-  one_stays : (s : DeviceStep) (answer : Bool) (old new : Model S) (w : Which) → w ≢ old.which → (PutsIn w s → ⊥) → AnswersStep size told is_sure s answer old new →
+-- where port 0 has no disk, nothing that is asked puts one in, but a Plug
+still_empty : (s : DeviceStep) (old new : Device) (w v : Which) → w ≡ v → (old.port 0).present ≡ false → (PutsIn w s → ⊥) → Possible s old →
+    AskedOf SendsEnd s old new → w ≡ which_after s v → (new.port 0).present ≡ false
+still_empty (asked.Fetch p s) old new w v is empty never may did same = one_keeps_present p.0 s.0 old new (inl did) ∙ empty
+still_empty (asked.Move p s) old new w v is empty never may did same = one_keeps_present p.0 s.0 old new (inr (inl did)) ∙ empty
+still_empty (asked.Done p s) old new w v is empty never may did same = one_keeps_present p.0 s.0 old new (inr (inr did)) ∙ empty
+still_empty (asked.Finish p s) old new w v is empty never may did same = some_keep_present (suc did.0) p.0 s.0 old new did.1 ∙ empty
+still_empty (asked.Lie p page offset bits) old new w v is empty never may did same = ap (λ (d : Device). (d.port 0).present) did ∙ empty
+still_empty (asked.Truth p) old new w v is empty never may did same = ap (λ (d : Device). (d.port 0).present) did ∙ empty
+still_empty (asked.Hold p) old new w v is empty never may did same = ap (λ (d : Device). (d.port 0).present) did ∙ empty
+still_empty (asked.Release p) old new w v is empty never may did same = ap (λ (d : Device). (d.port 0).present) did ∙ empty
+still_empty (asked.Unplug p) old new w v is empty never may did same = absurd (let no : true ≡ false = sym may.1 ∙ empty in cc)
+still_empty (asked.Plug p number) old new w v is empty never may did same = absurd (never (named_by w number.0 may.1 same))
+
+is_it : (w v : Which) → (w ≡ v) ⊎ (w ≢ v)
+is_it Disk0 Disk0 = inl refl
+is_it Disk0 Disk1 = inr (λ e. absurd (let no : Disk0 ≡ Disk1 = e in cc))
+is_it Disk1 Disk0 = inr (λ e. absurd (let no : Disk1 ≡ Disk0 = e in cc))
+is_it Disk1 Disk1 = inl refl
+
+module _ {S : Type 0} (size : S → ℕ) (told : S → Option (ℕ → List ℕ)) (failures : S → Option ℕ) where
+  -- where it is the disk that is in or was last, port 0 has none
+  abbrev pub IsOut : Which → Model S → Type 0
+  IsOut w m = w ≡ m.which → ((device_at size told m).port 0).present ≡ false
+
+  -- where port 0 has no disk, no sector is moved
+  none_moves : (s : DeviceStep) (m : Model S) → ((device_at size told m).port 0).present ≡ false → MovesSector s (device_at size told m) → ⊥
+  none_moves (asked.Move p s) m empty moves =
+      let d : Device = device_at size told m in
+      elim (eqb_tells p.0 0) [
+        | inl here ↦
+            let P : ℕ → Type 0 = λ q. (d.port q).present ≡ true in
+            let present = subst P here.1 moves.2.works.working.present in
+            let no : true ≡ false = sym present ∙ empty in
+            cc
+        | inr there ↦ no_move m.hardware (disk_over m.which (size m.disk) (told m.disk)) (told m.other) _ p.0 s.0 moves.1 there.1 moves.2
+      ]
+  none_moves (asked.Finish p s) m empty moves = by moves.3.begins
+    where
+      d : Device
+      d = device_at size told m
+
+      t : Taken
+      t = moves.3.t
+
+      there : (d.port p.0).present ≡ true → ⊥
+      there present =
+          let P : ℕ → Type 0 = λ q. (d.port q).present ≡ true in
+          let no : true ≡ false = sym (subst P moves.0 present) ∙ empty in
+          cc
+
+      by : WorksOn (d.port p.0) s.0 t t.meaning.operation ⊎ (Can (Fetch p.0 s.0 t.meaning t.places) d × (t ≡ begun t.meaning t.places)) → ⊥
+      by (inl works) = there works.working.present
+      by (inr begins) = there begins.0.working.present
+  none_moves (asked.Fetch p s) m empty moves = moves
+  none_moves (asked.Done p s) m empty moves = moves
+  none_moves (asked.Lie p page offset bits) m empty moves = moves
+  none_moves (asked.Truth p) m empty moves = moves
+  none_moves (asked.Hold p) m empty moves = moves
+  none_moves (asked.Release p) m empty moves = moves
+  none_moves (asked.Unplug p) m empty moves = moves
+  none_moves (asked.Plug p number) m empty moves = moves
+
+  one_stays : (s : DeviceStep) (answer : Bool) (old new : Model S) (w : Which) → w ≢ old.which → (PutsIn w s → ⊥) → AnswersStep size told failures s answer old new →
       (w ≢ new.which) × (store_of new w ≡ store_of old w)
   one_stays s true old new w out never a = (λ e. still_out s _ w old.which out never a.0 (e ∙ a.1.which), a.1.keeps.out w out)
   one_stays s false old new w out never a = (λ e. out (e ∙ a.which), a.keeps.out w out)
 
   pub out_stays : (steps : List DeviceStep) (old new : Model S) (w : Which) → w ≢ old.which → All (λ s. PutsIn w s → ⊥) steps →
-      DoesEach size told is_sure steps old new → (w ≢ new.which) × (store_of new w ≡ store_of old w)
+      DoesEach size told failures steps old new → (w ≢ new.which) × (store_of new w ≡ store_of old w)
   out_stays [] old new w out none same = (λ e. out (e ∙ ap (λ (m : Model S). m.which) same), ap (λ (m : Model S). store_of m w) same)
   out_stays (s ∷ steps) old new w out none does =
       let P : DeviceStep → Type 0 = λ x. PutsIn w x → ⊥ in
       let first = one_stays s does.0 old does.1 w out (All-head P s steps none) does.2 in
       let last = out_stays steps does.1 new w first.0 (All-tail P s steps none) does.3 in
       (last.0, last.1 ∙ first.1)
+
+  last_stays : (s : DeviceStep) (answer : Bool) (old new : Model S) (w : Which) → w ≡ old.which → ((device_at size told old).port 0).present ≡ false →
+      (PutsIn w s → ⊥) → AnswersStep size told failures s answer old new → IsOut w new × (store_of new w ≡ store_of old w)
+  last_stays s true old new w is empty never a = (
+    λ same. still_empty s _ _ w old.which is empty never a.0 a.1.asked (same ∙ a.1.which),
+    a.1.disks (none_moves s old empty) w,
+  )
+  last_stays s false old new w is empty never a = (
+    λ _. ap (λ (d : Device). (d.port 0).present) a.device ∙ empty,
+    a.disks (λ moves. absurd (none_moves s old empty moves)) w,
+  )
+
+  one_waits : (s : DeviceStep) (answer : Bool) (old new : Model S) (w : Which) → IsOut w old → (PutsIn w s → ⊥) → AnswersStep size told failures s answer old new →
+      IsOut w new × (store_of new w ≡ store_of old w)
+  one_waits s answer old new w out never a =
+      elim (is_it w old.which) [
+        | inl is ↦ last_stays s answer old new w is (out is) never a
+        | inr ne ↦ let other = one_stays s answer old new w ne never a in ((λ e. absurd (other.0 e)), other.1)
+      ]
+
+  pub last_waits : (steps : List DeviceStep) (old new : Model S) (w : Which) → IsOut w old → All (λ s. PutsIn w s → ⊥) steps →
+      DoesEach size told failures steps old new → IsOut w new × (store_of new w ≡ store_of old w)
+  last_waits [] old new w out none same =
+      let P : Model S → Type 0 = λ m. IsOut w m in (subst P (sym same) out, ap (λ (m : Model S). store_of m w) same)
+  last_waits (s ∷ steps) old new w out none does =
+      let P : DeviceStep → Type 0 = λ x. PutsIn w x → ⊥ in
+      let first = one_waits s does.0 old does.1 w out (All-head P s steps none) does.2 in
+      let rest = last_waits steps does.1 new w first.0 (All-tail P s steps none) does.3 in
+      (rest.0, rest.1 ∙ first.1)

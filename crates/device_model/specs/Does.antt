@@ -1,6 +1,6 @@
 -- What a model makes of a step that it is told: when the step is possible, what it changes where it is done, and what stays where it is left
 -- (this project's own).
-use Rattle.std.specs.Prelude.{ℕ, Bool, true, false, ◌≡◌, ◌≢◌, ◌+◌, ◌^◌, ◌<◌, ◌≤◌, ◌⊎◌, List, Option, Some, if◌then◌else◌, nat_eq}
+use Rattle.std.specs.Prelude.{ℕ, Bool, true, false, ◌≡◌, ◌≢◌, ◌+◌, ◌^◌, ◌<◌, ◌≤◌, ◌⊎◌, List, Option, if◌then◌else◌, is_some, nat_eq}
 use Rattle.std.specs.Global.{Vec}
 use Rattle.std.specs.Vec.{vec_len, vec_capacity}
 use Rattle.adapter.specs.Asked.{AskedOf}
@@ -54,19 +54,20 @@ LacksMemory (asked.Unplug p) d h plugged = HasRoom h 1 → ⊥
 LacksMemory (asked.Plug p number) d h plugged = HasRoom h 1 → vec_len plugged < vec_capacity plugged → ⊥
 LacksMemory step d h plugged = ⊥
 
--- the step moves a sector of the disk: a Move whose slot's command names sectors, or a Finish of such a command that has one left
+-- The step is possible and moves a sector of the disk that is in: a Move, or a Finish that has a move left, of a command that names sectors. No other
+-- step asks a store for anything.
 abbrev pub MovesSector : DeviceStep → Device → Type 0
-MovesSector (asked.Move p s) d = (t : Taken) × ((d.port p.0).taken s.0 ≡ Some t) × (is_ranged t.meaning.operation ≡ true)
+MovesSector (asked.Move p s) d = (s.0 < 32) × (t : Taken) × HasMove d p.0 s.0 t × (is_ranged t.meaning.operation ≡ true)
 MovesSector (asked.Finish p s) d =
-    (left : ℕ) × (may : MayFinish d p.0 s.0 (d.port 0).disk.size (left + 1)) × (is_ranged may.t.meaning.operation ≡ true)
+    (p.0 ≡ 0) × (s.0 < 32) × (left : ℕ) × (may : MayFinish d p.0 s.0 (d.port 0).disk.size (left + 1)) × (is_ranged may.t.meaning.operation ≡ true)
 MovesSector step d = ⊥
 
--- What the step moves is served: where that is a sector, no call on the store of the disk that is in fails; and each place of the memory has an
--- address of 32 bits.
-abbrev pub StoreServes : DeviceStep → Bool → Device → Type 0
-StoreServes (asked.Move p s) sure d = (MovesSector (asked.Move p s) d → sure ≡ true) × (d.size ≤ 2 ^ 32)
-StoreServes (asked.Finish p s) sure d = (MovesSector (asked.Finish p s) d → sure ≡ true) × (d.size ≤ 2 ^ 32)
-StoreServes step sure d = Unit {0}
+-- What the step moves is served: where that is a sector, the store of the disk that is in tells of no call that has failed meanwhile; and each place of
+-- the memory has an address of 32 bits.
+abbrev pub StoreServes : DeviceStep → (was now : Option ℕ) → Device → Type 0
+StoreServes (asked.Move p s) was now d = (MovesSector (asked.Move p s) d → now ≡ was) × (d.size ≤ 2 ^ 32)
+StoreServes (asked.Finish p s) was now d = (MovesSector (asked.Finish p s) d → now ≡ was) × (d.size ≤ 2 ^ 32)
+StoreServes step was now d = Unit {0}
 
 -- ---- what a step makes of a model
 
@@ -88,10 +89,10 @@ PutsIn which step = ⊥
 
 -- What no step changes: the disk that isn't in, or wasn't last; of each disk how many sectors it has, and whether its calls may fail; the queue; and the
 -- count of the accesses.
-pub record StepKeeps {S : Type 0} (size : S → ℕ) (is_sure : S → Bool) (old new : Model S) : Type 0 where
+pub record StepKeeps {S : Type 0} (size : S → ℕ) (failures : S → Option ℕ) (old new : Model S) : Type 0 where
   pub out : (which : Which) → which ≢ old.which → store_of new which ≡ store_of old which
   pub sectors : (which : Which) → size (store_of new which) ≡ size (store_of old which)
-  pub sure : (which : Which) → is_sure (store_of new which) ≡ is_sure (store_of old which)
+  pub sure : (which : Which) → is_some (failures (store_of new which)) ≡ is_some (failures (store_of old which))
   pub queue : new.queue ≡ old.queue
   pub accesses : new.accesses ≡ old.accesses
 
@@ -104,44 +105,44 @@ EndsIt step d = Unit {0}
 -- is in, or was last, that is after it, and each disk has the sectors that it had, but where a sector is moved; the disks say of themselves what they
 -- say after it, and each page that the tape has gained is as the one that was in said before; and that nothing was left out for want of memory is told
 -- as it was.
-pub record Did {S : Type 0} (size : S → ℕ) (told : S → Option (ℕ → List ℕ)) (is_sure : S → Bool) (s : DeviceStep) (old new : Model S) : Type 0 where
+pub record Did {S : Type 0} (size : S → ℕ) (told : S → Option (ℕ → List ℕ)) (failures : S → Option ℕ) (s : DeviceStep) (old new : Model S) : Type 0 where
   pub asked : AskedOf SendsEnd s (device_at size told old) (device_at size told new)
-  pub ends : StoreServes s (is_sure old.disk) (device_at size told old) → EndsIt s (device_at size told new)
+  pub ends : StoreServes s (failures old.disk) (failures new.disk) (device_at size told old) → EndsIt s (device_at size told new)
   pub held : new.held ≡ held_after s old.held
   pub says : new.says ≡ says_after s old.says
   pub which : new.which ≡ which_after s old.which
   pub pages : GainsPages size old new
   pub disks : (MovesSector s (device_at size told old) → ⊥) → (which : Which) → store_of new which ≡ store_of old which
-  pub keeps : StepKeeps size is_sure old new
+  pub keeps : StepKeeps size failures old new
   pub starved : new.hardware.starved ≡ old.hardware.starved
 
--- A step that is left: nothing is another, but a store that fails, and that want of memory may be told now. A step that is possible, and served, is
--- left only where there was no room to note it without growing, and that is told as want of memory. It is told where it was, and else only where the
--- step was possible and there was no such room.
-pub record IsLeftOut {S : Type 0} (size : S → ℕ) (told : S → Option (ℕ → List ℕ)) (is_sure : S → Bool) (s : DeviceStep) (old new : Model S) : Type 0 where
+-- A step that is left: nothing is another, but the store of the disk that is in, where the step moves a sector and a call on it has failed, and that
+-- want of memory may be told now. A step that is possible, and served, is left only where there was no room to note it without growing, and that is told as want of memory. It is
+-- told where it was, and else only where the step was possible and there was no such room.
+pub record IsLeftOut {S : Type 0} (size : S → ℕ) (told : S → Option (ℕ → List ℕ)) (failures : S → Option ℕ) (s : DeviceStep) (old new : Model S) : Type 0 where
   pub device : device_at size told new ≡ device_at size told old
   pub held : new.held ≡ old.held
   pub says : new.says ≡ old.says
   pub which : new.which ≡ old.which
-  pub disks : (MovesSector s (device_at size told old) → ⊥) → (which : Which) → store_of new which ≡ store_of old which
-  pub keeps : StepKeeps size is_sure old new
-  pub why : StoreServes s (is_sure old.disk) (device_at size told old) → Possible s (device_at size told old) →
+  pub disks : (MovesSector s (device_at size told old) → failures new.disk ≡ failures old.disk) → (which : Which) → store_of new which ≡ store_of old which
+  pub keeps : StepKeeps size failures old new
+  pub why : StoreServes s (failures old.disk) (failures new.disk) (device_at size told old) → Possible s (device_at size told old) →
       LacksMemory s (device_at size told old) old.hardware old.plugged × (new.hardware.starved ≡ true)
   pub starved_on : old.hardware.starved ≡ true → new.hardware.starved ≡ true
   pub starved_since : new.hardware.starved ≡ true → (old.hardware.starved ≡ true)
       ⊎ (Possible s (device_at size told old) × LacksMemory s (device_at size told old) old.hardware old.plugged)
 
 -- what a model makes of a step that it is told: it answers `true` where it was possible and is done, and `false` where it is left
-abbrev pub AnswersStep : {S : Type 0} → (S → ℕ) → (S → Option (ℕ → List ℕ)) → (S → Bool) → DeviceStep → Bool → Model S → Model S → Type 0
-AnswersStep size told is_sure s true old new = Possible s (device_at size told old) × Did size told is_sure s old new
-AnswersStep size told is_sure s false old new = IsLeftOut size told is_sure s old new
+abbrev pub AnswersStep : {S : Type 0} → (S → ℕ) → (S → Option (ℕ → List ℕ)) → (S → Option ℕ) → DeviceStep → Bool → Model S → Model S → Type 0
+AnswersStep size told failures s true old new = Possible s (device_at size told old) × Did size told failures s old new
+AnswersStep size told failures s false old new = IsLeftOut size told failures s old new
 
 -- What the model does by itself leaves: which ports are held, which disk is in, what the disks say of themselves, as each page tells that the tape
 -- has gained, and what no step changes. What was told of want of memory stays told.
-pub record GoesOnSo {S : Type 0} (size : S → ℕ) (is_sure : S → Bool) (old new : Model S) : Type 0 where
+pub record GoesOnSo {S : Type 0} (size : S → ℕ) (failures : S → Option ℕ) (old new : Model S) : Type 0 where
   pub held : new.held ≡ old.held
   pub says : new.says ≡ old.says
   pub which : new.which ≡ old.which
   pub pages : GainsPages size old new
-  pub keeps : StepKeeps size is_sure old new
+  pub keeps : StepKeeps size failures old new
   pub starved_on : old.hardware.starved ≡ true → new.hardware.starved ≡ true

@@ -1,5 +1,5 @@
 // Laws of the definitions, for callers: the clause is the theorem. These functions do nothing.
-ghost use Rattle.std.specs.Prelude.{◌≡◌, ◌≢◌, ◌<◌, true, is_some, ℕ, Bool, List, All};
+ghost use Rattle.std.specs.Prelude.{◌≡◌, ◌≢◌, ◌<◌, true, false, is_some, ℕ, Bool, List, All};
 ghost use Rattle.ata_types.specs.declared.Port.{Port};
 ghost use Rattle.ata_types.specs.declared.Slot.{Slot};
 ghost use Rattle.adapter.specs.Device.{Device, Taken};
@@ -34,10 +34,13 @@ pub fn moves_are_possible<S: SectorStore>()
 {}
 
 /// Whatever steps are done or left, one after another, that don't put a disk in which isn't in: it stays out, with the sectors that it had. So it has
-/// these where it is put in.
+/// these where it is put in. That holds of the disk that wasn't in last, and of the one that was, where none is in.
 pub fn disks_that_are_out_stay<S: SectorStore>()
-    ensures { (steps : List DeviceStep) (old new : Model S) (which : Which) → which ≢ old.which → All (λ s. PutsIn which s → ⊥) steps →
-        DoesEach S.size S.told S.is_sure steps old new → (which ≢ new.which) × (store_of new which ≡ store_of old which) }
+    ensures other { (steps : List DeviceStep) (old new : Model S) (which : Which) → which ≢ old.which → All (λ s. PutsIn which s → ⊥) steps →
+        DoesEach S.size S.told S.failures steps old new → (which ≢ new.which) × (store_of new which ≡ store_of old which) }
+    ensures last_in { (steps : List DeviceStep) (old new : Model S) (which : Which) → which ≡ old.which →
+        ((device_at S.size S.told old).port 0).present ≡ false → All (λ s. PutsIn which s → ⊥) steps → DoesEach S.size S.told S.failures steps old new →
+        (which ≡ new.which → ((device_at S.size S.told new).port 0).present ≡ false) × (store_of new which ≡ store_of old which) }
 {}
 
 /// What a model does by itself leaves a held port as it is.

@@ -164,7 +164,7 @@ impl<S: SectorStore> Model<S> {
 
     /// Takes the command that is issued in a slot, if it is one that the model takes.
     fn fetch(&mut self, port: Port, slot: Slot) -> bool
-        ensures { AnswersStep S.size S.told S.is_sure (DeviceStep.Fetch port slot) result self.old self.new }
+        ensures { AnswersStep S.size S.told S.failures (DeviceStep.Fetch port slot) result self.old self.new }
     {
         if port.0 >= 4 || slot.0 >= 32 {
             return false;
@@ -174,7 +174,7 @@ impl<S: SectorStore> Model<S> {
 
     /// Ends a slot's command, all of which was moved.
     fn done(&mut self, port: Port, slot: Slot) -> bool
-        ensures { AnswersStep S.size S.told S.is_sure (DeviceStep.Done port slot) result self.old self.new }
+        ensures { AnswersStep S.size S.told S.failures (DeviceStep.Done port slot) result self.old self.new }
     {
         if port.0 >= 4 || slot.0 >= 32 {
             return false;
@@ -184,7 +184,7 @@ impl<S: SectorStore> Model<S> {
 
     /// Takes the disk out of port 0, which alone has one.
     fn unplug(&mut self, port: Port) -> bool
-        ensures { AnswersStep S.size S.told S.is_sure (DeviceStep.Unplug port) result self.old self.new }
+        ensures { AnswersStep S.size S.told S.failures (DeviceStep.Unplug port) result self.old self.new }
     {
         port.0 == 0 && self.hardware.unplug()
     }
@@ -203,7 +203,7 @@ impl<S: SectorStore> Model<S> {
 
     /// Puts a disk into port 0, as it was when it was taken out.
     fn plug(&mut self, port: Port, disk: DiskNumber) -> bool
-        ensures { AnswersStep S.size S.told S.is_sure (DeviceStep.Plug port disk) result self.old self.new }
+        ensures { AnswersStep S.size S.told S.failures (DeviceStep.Plug port disk) result self.old self.new }
     {
         let Some(which) = Which::of(disk) else {
             return false;
@@ -226,10 +226,11 @@ impl<S: SectorStore> Model<S> {
     /// Moves the next piece of a slot's command. The memory is taken to end at 4 GiB.
     fn move_piece(&mut self, port: Port, slot: Slot) -> bool
         requires { slot.0 < 32 }
-        ensures answers { AnswersStep S.size S.told S.is_sure (DeviceStep.Move port slot) result self.old self.new }
+        ensures answers { AnswersStep S.size S.told S.failures (DeviceStep.Move port slot) result self.old self.new }
         ensures left { (n : ℕ) → HasRoom self.old.hardware (n + 1) → HasRoom self.new.hardware n }
         ensures page { (t : Taken) → ((device_at S.size S.told self.old).port port.0).taken slot.0 ≡ Some t → t.meaning.operation ≡ Identify →
             result ≡ false → HasMove (device_at S.size S.told self.old) port.0 slot.0 t → next_place t < 2 ^ 32 → HasRoom self.old.hardware 1 → ⊥ }
+        ensures fine { result ≡ true → S.failures self.new.disk ≡ S.failures self.old.disk }
     {
         // No other port has a disk.
         if port.0 != 0 {
@@ -240,10 +241,11 @@ impl<S: SectorStore> Model<S> {
         let Some(next) = self.hardware.next_move(port.0, slot.0) else {
             return false;
         };
+        if !next.is_on(self.disk.sectors()) {
+            return false;
+        }
         if !room {
-            if next.is_on(self.disk.sectors()) {
-                self.hardware.starved = true;
-            }
+            self.hardware.starved = true;
             return false;
         }
         let mut bytes = [0; 512];
@@ -265,7 +267,7 @@ impl<S: SectorStore> Model<S> {
     /// that fails cuts it short.
     fn finish(&mut self, port: Port, slot: Slot) -> bool
         requires { slot.0 < 32 }
-        ensures answers { AnswersStep S.size S.told S.is_sure (DeviceStep.Finish port slot) result self.old self.new }
+        ensures answers { AnswersStep S.size S.told S.failures (DeviceStep.Finish port slot) result self.old self.new }
         ensures identifies { port.0 ≡ 0 → (has : HasIdentify (device_at S.size S.told self.old) slot.0) →
             (result ≡ true → IsFreeSlot ((device_at S.size S.told self.new).port 0) slot.0)
             × (result ≡ false → (self.new.hardware.starved ≡ true) × (HasRoom self.new.hardware (has.left + 1) → ⊥)) }
@@ -298,7 +300,7 @@ impl<S: SectorStore> Model<S> {
             HasIdentify (device_at S.size S.told self.old) slot }
         ensures left { (has : HasIdentify (device_at S.size S.told self.old) slot) →
             (now : HasIdentify (device_at S.size S.told self.new) slot) × (now.left ≡ has.left) }
-        ensures rest { GoesOnSo S.size S.is_sure self.old self.new }
+        ensures rest { GoesOnSo S.size S.failures self.old self.new }
         ensures room { (n : ℕ) → HasRoom self.new.hardware n → HasRoom self.old.hardware n }
         ensures starved { self.new.hardware.starved ≡ self.old.hardware.starved }
         ensures disk { self.new.disk ≡ self.old.disk }
@@ -313,7 +315,7 @@ impl<S: SectorStore> Model<S> {
         ensures own { DoesOwn self.old.held (device_at S.size S.told self.old) (device_at S.size S.told self.new) }
         ensures settled { (held : List Bool) → IsSettled held (device_at S.size S.told self.old) → IsSettled held (device_at S.size S.told self.new) }
         ensures left { NoneIsLeft self.new.held self.new.hardware.starved (device_at S.size S.told self.new) }
-        ensures rest { GoesOnSo S.size S.is_sure self.old self.new }
+        ensures rest { GoesOnSo S.size S.failures self.old self.new }
         ensures told { self.new.hardware.starved ≡ true → (self.old.hardware.starved ≡ true) ⊎ LeavesOne self.new.hardware (device_at S.size S.told self.new) }
         ensures disk { self.new.disk ≡ self.old.disk }
     {
@@ -334,7 +336,7 @@ impl<S: SectorStore> Model<S> {
 
     /// Has the port's disks lie of a byte of their pages, if a page has such a byte. No port but port 0 has disks.
     fn lie(&mut self, port: Port, page: DiskPage, offset: u16, bits: u8) -> bool
-        ensures { AnswersStep S.size S.told S.is_sure (DeviceStep.Lie port page offset bits) result self.old self.new }
+        ensures { AnswersStep S.size S.told S.failures (DeviceStep.Lie port page offset bits) result self.old self.new }
     {
         let DiskPage::Identity = page;
         let offset = usize::from(offset);
@@ -349,7 +351,7 @@ impl<S: SectorStore> Model<S> {
 
     /// Ends the lies of the port's disks.
     fn tell_truth(&mut self, port: Port) -> bool
-        ensures { AnswersStep S.size S.told S.is_sure (DeviceStep.Truth port) result self.old self.new }
+        ensures { AnswersStep S.size S.told S.failures (DeviceStep.Truth port) result self.old self.new }
     {
         if port.0 == 0 {
             self.says.lies = [0; PAGE_BYTES];
@@ -359,8 +361,8 @@ impl<S: SectorStore> Model<S> {
 
     /// Holds a port, or releases it, if it is one of ports 0 to 3.
     fn hold(&mut self, port: Port, held: bool) -> bool
-        ensures holds { held ≡ true → AnswersStep S.size S.told S.is_sure (DeviceStep.Hold port) result self.old self.new }
-        ensures releases { held ≡ false → AnswersStep S.size S.told S.is_sure (DeviceStep.Release port) result self.old self.new }
+        ensures holds { held ≡ true → AnswersStep S.size S.told S.failures (DeviceStep.Hold port) result self.old self.new }
+        ensures releases { held ≡ false → AnswersStep S.size S.told S.failures (DeviceStep.Release port) result self.old self.new }
     {
         let place = usize::from(port.0);
         if place >= PORTS {
@@ -372,7 +374,7 @@ impl<S: SectorStore> Model<S> {
 
     /// Has the device do a step.
     fn do_step(&mut self, s: &DeviceStep) -> bool
-        ensures { AnswersStep S.size S.told S.is_sure s.now result self.old self.new }
+        ensures { AnswersStep S.size S.told S.failures s.now result self.old self.new }
     {
         match *s {
             DeviceStep::Fetch(port, slot) => self.fetch(port, slot),
@@ -391,7 +393,7 @@ impl<S: SectorStore> Model<S> {
     /// Before an access, the steps that are queued before it, in their order; each leaves the queue, whether it was possible
     /// or not.
     fn do_queued(&mut self)
-        ensures { BeginsAccess S.size S.told S.is_sure self.old self.new }
+        ensures { BeginsAccess S.size S.told S.failures self.old self.new }
     {
         self.accesses = self.accesses.saturating_add(1);
         let mut place = 0;
@@ -427,7 +429,7 @@ fn turn(page: &mut [u8; PAGE_BYTES], bits: &[u8; PAGE_BYTES])
 }
 
 /// Has a disk give the sector of a read or its page, or take a write's sector from memory; `false` says that the store
-/// failed, and that it holds what it held.
+/// failed, and that it tells what it told.
 fn exchange<S: SectorStore>(
     disk: &mut S,
     which: Which,
@@ -447,8 +449,10 @@ fn exchange<S: SectorStore>(
         ≡ disk_after (operation_of next.transfer) (disk_over which (S.size disk.old) (S.told disk.old)) next.sector bytes.new }
     ensures kept { result ≡ false → S.told disk.new ≡ S.told disk.old }
     ensures size { S.size disk.new ≡ S.size disk.old }
-    ensures lasts { S.is_sure disk.new ≡ S.is_sure disk.old }
-    ensures sure { (is_ranged (operation_of next.transfer) ≡ true → (S.is_sure disk.old ≡ true) × (next.sector < S.size disk.old)) → result ≡ true }
+    ensures lasts { is_some (S.failures disk.new) ≡ is_some (S.failures disk.old) }
+    ensures fine { result ≡ true → S.failures disk.new ≡ S.failures disk.old }
+    ensures ranged { result ≡ false → is_ranged (operation_of next.transfer) ≡ true }
+    ensures fails { result ≡ false → next.sector < S.size disk.old → S.failures disk.new ≢ S.failures disk.old }
 {
     match next.transfer {
         Transfer::Read => disk.read(next.sector, bytes),
@@ -484,7 +488,7 @@ impl<S: SectorStore> Adapter for Model<S> {
         ensures reads { Reads r result (device_at S.size S.told self.old) (device_at S.size S.told self.new) }
         ensures settled { IsSettled self.new.held (device_at S.size S.told self.new) }
         ensures left { NoneIsLeft self.new.held self.new.hardware.starved (device_at S.size S.told self.new) }
-        ensures alone { DoesRead S.size S.told S.is_sure r result self.old self.new }
+        ensures alone { DoesRead S.size S.told S.failures r result self.old self.new }
     {
         self.do_queued();
         self.hardware.settle(&mut self.held);
@@ -497,7 +501,7 @@ impl<S: SectorStore> Adapter for Model<S> {
     fn write(&mut self, r: Reg, v: u32)
         requires { Stays (MayWrite r v) (device_at S.size S.told self.old) }
         ensures writes { Writes r v (device_at S.size S.told self.old) (device_at S.size S.told self.new) }
-        ensures alone { DoesThen S.size S.told S.is_sure (written r v) self.old self.new }
+        ensures alone { DoesThen S.size S.told S.failures (written r v) self.old self.new }
     {
         self.do_queued();
         self.hardware.write(r, v);
@@ -506,7 +510,7 @@ impl<S: SectorStore> Adapter for Model<S> {
     fn load(&mut self, addr: u32, out: &mut [u8])
         requires { Stays (IsFree addr (length out.old)) (device_at S.size S.told self.old) }
         ensures loads { Loads addr out.new (device_at S.size S.told self.old) (device_at S.size S.told self.new) }
-        ensures alone { BeginsAccess S.size S.told S.is_sure self.old self.new }
+        ensures alone { BeginsAccess S.size S.told S.failures self.old self.new }
     {
         self.do_queued();
         self.hardware.load(addr as usize, out);
@@ -515,7 +519,7 @@ impl<S: SectorStore> Adapter for Model<S> {
     fn store(&mut self, addr: u32, bytes: &[u8])
         requires { Stays (IsFree addr (length bytes.now)) (device_at S.size S.told self.old) }
         ensures stores { Stores addr bytes.now (device_at S.size S.told self.old) (device_at S.size S.told self.new) }
-        ensures alone { DoesThen S.size S.told S.is_sure (λ d. record d { memory = patched d.memory addr bytes.now }) self.old self.new }
+        ensures alone { DoesThen S.size S.told S.failures (λ d. record d { memory = patched d.memory addr bytes.now }) self.old self.new }
     {
         self.do_queued();
         self.hardware.store(addr as usize, bytes);
@@ -525,14 +529,14 @@ impl<S: SectorStore> Adapter for Model<S> {
 }
 
 impl<S: SectorStore> Stepped for Model<S> {
-    /// Beside what every such adapter says: it is done if it is possible, over stores that never fail, and there is memory to note it; and
+    /// Beside what every such adapter says: it is done if it is possible, no call on a store fails, and there is memory to note it; and
     /// nothing but what it asks is another. READ DMA EXT, WRITE DMA EXT and IDENTIFY DEVICE alone are taken, port 0 alone has disks, and
     /// disks 0 and 1 alone are put in.
     fn step(&mut self, s: &DeviceStep) -> bool
         ensures steps { Steps (device_at S.size S.told self.old) (device_at S.size S.told self.new) }
         ensures refused { result ≡ false → device_at S.size S.told self.new ≡ device_at S.size S.told self.old }
         ensures asked { result ≡ true → Asked s.now (device_at S.size S.told self.old) (device_at S.size S.told self.new) }
-        ensures answers { AnswersStep S.size S.told S.is_sure s.now result self.old self.new }
+        ensures answers { AnswersStep S.size S.told S.failures s.now result self.old self.new }
     {
         self.do_step(s)
     }

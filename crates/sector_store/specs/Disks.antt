@@ -1,11 +1,7 @@
 -- What a disk is that is a file or stands in memory (this project's own).
-use Rattle.std.specs.Prelude.{ℕ, Bool, true, false, List, [], Option, Some, None, length, slice_index_or}
+use Rattle.std.specs.Prelude.{ℕ, List, [], Option, Some, None, length, slice_index_or}
 use Rattle.sector_store.specs.declared.disks.Disk.{Disk}
 use Rattle.sector_store.specs.declared.disks.Disk.TheVariants.{File, Memory}
-
-abbrev pub is_in_memory : Disk → Bool
-is_in_memory (File file) = false
-is_in_memory (Memory memory) = true
 
 -- how many sectors there are
 abbrev pub size_of : Disk → ℕ
@@ -16,3 +12,8 @@ size_of (Memory memory) = length memory.sectors.items
 abbrev pub told_of : Disk → Option (ℕ → List ℕ)
 told_of (File file) = None
 told_of (Memory memory) = Some (λ sector. slice_index_or memory.sectors.items sector [])
+
+-- how many calls failed on sectors that are there; in memory none does
+abbrev pub failures_of : Disk → Option ℕ
+failures_of (File file) = Some file.failed
+failures_of (Memory memory) = None

@@ -1,7 +1,7 @@
 // A disk over a file or in memory.
 ghost use Rattle.std.specs.Prelude.{◌≡◌};
 ghost use Rattle.sector_store.specs.declared.disks.Disk.TheVariants.{File, Memory};
-ghost use Rattle.sector_store.specs.Disks.{is_in_memory, size_of, told_of};
+ghost use Rattle.sector_store.specs.Disks.{failures_of, size_of, told_of};
 
 use crate::{FileStore, MemStore, SectorStore};
 
@@ -17,7 +17,7 @@ impl SectorStore for Disk {
 
     ghost told = { told_of };
 
-    ghost is_sure = { is_in_memory };
+    ghost failures = { failures_of };
 
     ghost tells_sectors = { elim [ File file ↦ tt | Memory memory ↦ memory.are_sectors ] };
 

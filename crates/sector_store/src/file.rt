@@ -1,5 +1,5 @@
 // A disk over an open file.
-ghost use Rattle.std.specs.Prelude.{◌≡◌, ◌<◌, ◌≤◌, ◌*◌, ◌/◌, ◌^◌, Some, None, false};
+ghost use Rattle.std.specs.Prelude.{◌≡◌, ◌≢◌, ◌<◌, ◌≤◌, ◌*◌, ◌/◌, ◌^◌, Some, None, true, false};
 ghost use Rattle.sector_store.specs.Stores.{IsSector};
 
 use crate::SectorStore;
@@ -17,6 +17,8 @@ const SECTOR_BYTES: u64 = 512;
 pub struct FileStore {
     file: File,
     sectors: u64,
+    /// How many calls failed on sectors that are there, modulo 2^64, for contracts alone.
+    failed: u64,
     ghost few: { sectors < 2 ^ 64 },
     ghost within_offsets: { sectors * 512 < 2 ^ 64 },
 }
@@ -49,6 +51,7 @@ impl FileStore {
         FileStore {
             file,
             sectors: bytes / SECTOR_BYTES,
+            failed: 0,
         }
     }
 
@@ -61,6 +64,17 @@ impl FileStore {
             Some(SECTOR_BYTES * sector)
         } else {
             None
+        }
+    }
+
+    /// Counts a call on a sector that is there, if it failed.
+    fn count(&mut self, done: bool)
+        ensures same { done ≡ true → self.new.failed ≡ self.old.failed }
+        ensures another { done ≡ false → self.new.failed ≢ self.old.failed }
+        ensures sectors { self.new.sectors ≡ self.old.sectors }
+    {
+        if !done {
+            self.failed = self.failed.wrapping_add(1);
         }
     }
 }
@@ -77,7 +91,7 @@ impl SectorStore for FileStore {
 
     ghost told = { λ _. None };
 
-    ghost is_sure = { λ _. false };
+    ghost failures = { λ s. Some s.failed };
 
     ghost tells_sectors = { λ _. tt };
 
@@ -92,16 +106,21 @@ impl SectorStore for FileStore {
             return false;
         };
         let mut bytes = [0; 512];
-        if self.file.read_exact_at(&mut bytes, place).is_err() {
-            return false;
+        let done = self.file.read_exact_at(&mut bytes, place).is_ok();
+        self.count(done);
+        if done {
+            copy(&bytes, out);
         }
-        copy(&bytes, out);
-        true
+        done
     }
 
     fn write(&mut self, sector: u64, bytes: &[u8; 512]) -> bool {
         match self.place_of(sector) {
-            Some(place) => self.file.write_all_at(bytes, place).is_ok(),
+            Some(place) => {
+                let done = self.file.write_all_at(bytes, place).is_ok();
+                self.count(done);
+                done
+            }
             None => false,
         }
     }

@@ -1,5 +1,5 @@
 // Stores of sectors of 512 bytes.
-ghost use Rattle.std.specs.Prelude.{◌≡◌, ◌<◌, ◌^◌, ℕ, Bool, List, Option, Some, IfSome, IfOk, option_map, replicate, true, false, length, slice_index_or, []};
+ghost use Rattle.std.specs.Prelude.{◌≡◌, ◌≢◌, ◌<◌, ◌≤◌, ◌⊎◌, ◌^◌, ℕ, List, Option, None, Some, IfSome, IfOk, is_some, option_map, replicate, true, false, length, slice_index_or, []};
 ghost use Rattle.sector_store.specs.Stores.{AreSectors, HoldSectors, IsSector, replaced};
 
 use std::alloc::{AllocError, Global};
@@ -13,8 +13,9 @@ pub trait SectorStore: Drop {
     /// The bytes of each sector, where the store tells them, as memory does and a file doesn't.
     ghost told: { Self → Option (ℕ → List ℕ) };
 
-    /// Whether no call on a sector that is there fails, as in memory.
-    ghost is_sure: { Self → Bool };
+    /// What it tells of failed calls: a number, which is another after each call that fails on a sector that is there, and stays over
+    /// all other calls; or `None`, where no such call fails, as in memory.
+    ghost failures: { Self → Option ℕ };
 
     /// How many sectors there are.
     fn sectors(&self) -> u64
@@ -26,8 +27,10 @@ pub trait SectorStore: Drop {
         ensures gives { result ≡ true → IfSome (told self.old) (λ told. out.new ≡ told sector) }
         ensures bytes { result ≡ true → IsSector out.new }
         ensures kept { result ≡ false → out.new ≡ out.old }
-        ensures sure { is_sure self.old ≡ true → sector < size self.old → result ≡ true }
-        ensures lasts { is_sure self.new ≡ is_sure self.old }
+        ensures sure { failures self.old ≡ None → sector < size self.old → result ≡ true }
+        ensures serves { (result ≡ true) ⊎ (size self.old ≤ sector) → failures self.new ≡ failures self.old }
+        ensures fails { result ≡ false → sector < size self.old → failures self.new ≢ failures self.old }
+        ensures lasts { is_some (failures self.new) ≡ is_some (failures self.old) }
         ensures told { told self.new ≡ told self.old }
         ensures size { size self.new ≡ size self.old };
 
@@ -36,8 +39,10 @@ pub trait SectorStore: Drop {
         ensures inside { result ≡ true → sector < size self.old }
         ensures puts { result ≡ true → told self.new ≡ option_map (λ told. replaced told sector bytes.now) (told self.old) }
         ensures kept { result ≡ false → told self.new ≡ told self.old }
-        ensures sure { is_sure self.old ≡ true → sector < size self.old → result ≡ true }
-        ensures lasts { is_sure self.new ≡ is_sure self.old }
+        ensures sure { failures self.old ≡ None → sector < size self.old → result ≡ true }
+        ensures serves { (result ≡ true) ⊎ (size self.old ≤ sector) → failures self.new ≡ failures self.old }
+        ensures fails { result ≡ false → sector < size self.old → failures self.new ≢ failures self.old }
+        ensures lasts { is_some (failures self.new) ≡ is_some (failures self.old) }
         ensures size { size self.new ≡ size self.old };
 
     /// What it tells are sectors.
@@ -73,7 +78,7 @@ impl SectorStore for MemStore {
 
     ghost told = { λ s. Some (λ k. slice_index_or s.sectors.items k []) };
 
-    ghost is_sure = { λ _. true };
+    ghost failures = { λ _. None };
 
     ghost tells_sectors = { λ s. s.are_sectors };
 

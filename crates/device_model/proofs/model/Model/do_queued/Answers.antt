@@ -15,11 +15,11 @@ loop-queued-init g c =
     let m = record c.args.self.now { accesses = c.saturating_add-self.result } in
     let items = c.args.self.now.queue.items in
     let ok = c.args.self.now.queue.ok.0 in
-    let P : ℕ → Type 0 = λ n. IsAt c.saturating_add-self.result items items 0 n (DoneSo g.S.SectorStore.size g.S.SectorStore.told g.S.SectorStore.is_sure m m) in
+    let P : ℕ → Type 0 = λ n. IsAt c.saturating_add-self.result items items 0 n (DoneSo g.S.SectorStore.size g.S.SectorStore.told g.S.SectorStore.failures m m) in
     let all : length items ≡ c.len-queued-end.result - 0 = omega (arith, ok, c.len-queued-end.ensures) in
     record {
       same = refl;
-      at = subst P all (at_start c.saturating_add-self.result items (DoneSo g.S.SectorStore.size g.S.SectorStore.told g.S.SectorStore.is_sure m m) (λ q. refl));
+      at = subst P all (at_start c.saturating_add-self.result items (DoneSo g.S.SectorStore.size g.S.SectorStore.told g.S.SectorStore.failures m m) (λ q. refl));
     }
 
 -- there is one at the place while some are left to look at
@@ -52,7 +52,7 @@ loop-queued-preserved g c =
     let first = record c.args.self.now { accesses = access } in
     let left : ℕ = c.len-queued-end.result - (c.loop-queued._queued + 1) in
     let next : c.len-queued-end.result - c.loop-queued._queued ≡ suc left = omega (arith, c.loop-queued-test.true) in
-    let Was : List DeviceStep → Type 0 = DoneSo g.S.SectorStore.size g.S.SectorStore.told g.S.SectorStore.is_sure first m in
+    let Was : List DeviceStep → Type 0 = DoneSo g.S.SectorStore.size g.S.SectorStore.told g.S.SectorStore.failures first m in
     let P : ℕ → Type 0 = λ n. IsAt access c.args.self.now.queue.items m.queue.items c.loop-queued.place n Was in
     let at = subst P next c.loop-queued.invariant.at in
     let x : Queued = c.index.result.now in
@@ -70,16 +70,16 @@ loop-queued-preserved g c =
           subst Q c.index.ensures (omega (arith, same, w.if-queued-self.false)) in
           let new = w.do_step-done.new.self in
           let taken = record m { queue = w.remove.new.self } in
-          let Did : List DeviceStep → Type 0 = DoneSo g.S.SectorStore.size g.S.SectorStore.told g.S.SectorStore.is_sure first new in
-          let R : Queued → Type 0 = λ q. AnswersStep g.S.SectorStore.size g.S.SectorStore.told g.S.SectorStore.is_sure q.step w.do_step-done.result taken new in
+          let Did : List DeviceStep → Type 0 = DoneSo g.S.SectorStore.size g.S.SectorStore.told g.S.SectorStore.failures first new in
+          let R : Queued → Type 0 = λ q. AnswersStep g.S.SectorStore.size g.S.SectorStore.told g.S.SectorStore.failures q.step w.do_step-done.result taken new in
           let one = subst R c.index.ensures w.do_step-done.ensures in
           let step : DeviceStep = (slice_index_or m.queue.items c.loop-queued.place x).step in
           let more : (done : List DeviceStep) → Was done → Did (done ++ step ∷ []) =
           λ (done : List DeviceStep) (did : Was done) (q : Vec Queued).
-          each_more g.S.SectorStore.size g.S.SectorStore.told g.S.SectorStore.is_sure done step w.do_step-done.result (record first { queue = q }) (record m { queue = q })
+          each_more g.S.SectorStore.size g.S.SectorStore.told g.S.SectorStore.failures done step w.do_step-done.result (record first { queue = q }) (record m { queue = q })
           (record new { queue = q }) (did q)
-          (answers_queued g.S.SectorStore.size g.S.SectorStore.told g.S.SectorStore.is_sure step w.do_step-done.result taken new q one) in
-          let keeps = did_or_left_keeps g.S.SectorStore.size g.S.SectorStore.told g.S.SectorStore.is_sure step taken new w.do_step-done.result one in
+          (answers_queued g.S.SectorStore.size g.S.SectorStore.told g.S.SectorStore.failures step w.do_step-done.result taken new q one) in
+          let keeps = did_or_left_keeps g.S.SectorStore.size g.S.SectorStore.told g.S.SectorStore.failures step taken new w.do_step-done.result one in
           let items : new.queue.items ≡ remove m.queue.items c.loop-queued.place =
           ap (λ (v : Vec Queued). v.items) keeps.queue ∙ w.remove.ensures.items in
           let T : List Queued → Type 0 = λ now. IsAt access c.args.self.now.queue.items now c.loop-queued.place left Did in
@@ -96,12 +96,12 @@ returns g c =
     let items = c.args.self.now.queue.items in
     let first = record c.args.self.now { accesses = access } in
     let none : c.len-queued-end.result - c.loop-queued._queued ≡ 0 = omega (arith, c.loop-queued-test.false) in
-    let Did : List DeviceStep → Type 0 = DoneSo g.S.SectorStore.size g.S.SectorStore.told g.S.SectorStore.is_sure first m in
+    let Did : List DeviceStep → Type 0 = DoneSo g.S.SectorStore.size g.S.SectorStore.told g.S.SectorStore.failures first m in
     let P : ℕ → Type 0 = λ n. IsAt access items m.queue.items c.loop-queued.place n Did in
     let at = subst P none c.loop-queued.invariant.at in
     let same = c.loop-queued.invariant.same in
     let Q : ℕ → Type 0 = λ n.
-    DoesEach g.S.SectorStore.size g.S.SectorStore.told g.S.SectorStore.is_sure (due n items) (record c.args.self.now { accesses = n; queue = m.queue }) m in
+    DoesEach g.S.SectorStore.size g.S.SectorStore.told g.S.SectorStore.failures (due n items) (record c.args.self.now { accesses = n; queue = m.queue }) m in
     record {
       counted = same ∙ c.saturating_add-self.ensures;
       waiting = at_end_left access items m.queue.items c.loop-queued.place Did at ∙ ap (λ n. not_due n items) (sym same);

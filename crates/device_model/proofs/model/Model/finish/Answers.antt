@@ -32,12 +32,14 @@ loop-piece-init g c =
       size = fetched_size c.args.port.0 c.args.slot.0 c.in-Some.field-0.was_taken old new (λ e. is.did e o) (λ e. is.same e o);
       disk = sym c.sectors-sectors.ensures;
       disks = λ _ _. refl;
+      untouched = λ _ _. refl;
+      fine = refl;
       meanwhile = record {
         held = refl;
         says = refl;
         which = refl;
         pages = gains_none g.S.SectorStore.size _ _ is.tape;
-        keeps = on_hardware g.S.SectorStore.size g.S.SectorStore.told g.S.SectorStore.is_sure m c.begin.new.self;
+        keeps = on_hardware g.S.SectorStore.size g.S.SectorStore.told g.S.SectorStore.failures m c.begin.new.self;
         starved = is.starved;
       };
       room = let enough = is.room in omega (arith, enough);
@@ -49,7 +51,7 @@ loop-piece-init g c =
 
 pub loop-piece-preserved : goal.loop-piece-preserved
 loop-piece-preserved g c =
-    let step = did_it g.S.SectorStore.size g.S.SectorStore.told g.S.SectorStore.is_sure (asked.Move c.args.port c.args.slot) _ _ c.move_piece.result
+    let step = did_it g.S.SectorStore.size g.S.SectorStore.told g.S.SectorStore.failures (asked.Move c.args.port c.args.slot) _ _ c.move_piece.result
     c.move_piece.ensures.answers c.if-not-move_piece.false in
     let moved = step.asked in
     record {
@@ -57,13 +59,15 @@ loop-piece-preserved g c =
       refused = λ never. absurd (let e : true ≡ false = never in cc);
       size = ap (λ (d : Device). d.size) moved.effect ∙ c.loop-piece.invariant.size;
       disk = in_kept g.S.SectorStore.size c.loop-piece.self c.move_piece.new.self step.which step.keeps.sectors ∙ c.loop-piece.invariant.disk;
-      meanwhile = meanwhile_on g.S.SectorStore.size g.S.SectorStore.told g.S.SectorStore.is_sure _ _ _ c.loop-piece.invariant.meanwhile
+      meanwhile = meanwhile_on g.S.SectorStore.size g.S.SectorStore.told g.S.SectorStore.failures _ _ _ c.loop-piece.invariant.meanwhile
           (record { held = step.held; says = step.says; which = step.which; pages = step.pages; keeps = step.keeps; starved = step.starved });
       disks = λ none which.
           let o : Outside = outside_at g.S.SectorStore.size g.S.SectorStore.told c.args.self.now in
           let moves = finish_moves c.args.port c.args.slot c.loop-piece.did _ _ c.sectors-sectors.result c.in-Some.field-0.left c.if-port-ne0.false
           c.sectors-sectors.ensures (omega (arith, c.loop-piece-test.true)) c.loop-piece.invariant.did c.loop-piece.invariant.refused (c.in-Some.ensures.begun.ready o) in
           step.disks (λ sector. none (moves sector)) which ∙ c.loop-piece.invariant.disks none which;
+      untouched = λ never. absurd (let e : true ≡ false = never in cc);
+      fine = c.move_piece.ensures.fine c.if-not-move_piece.false ∙ c.loop-piece.invariant.fine;
       room = c.move_piece.ensures.left _ (omega (arith, c.loop-piece.invariant.room, c.loop-piece-test.true));
       going =
           let P : ℕ → Type 0 = λ n. IsGoing (device_at g.S.SectorStore.size g.S.SectorStore.told c.loop-piece.self) c.args.port.0 c.args.slot.0 c.sectors-sectors.result n in
@@ -86,7 +90,7 @@ returns-then-not-move_piece-clause-answers g c =
     let is = c.loop-piece.invariant in
     let d : Device = device_at g.S.SectorStore.size g.S.SectorStore.told m in
     let size = g.S.SectorStore.size m.disk in
-    let step = left_it g.S.SectorStore.size g.S.SectorStore.told g.S.SectorStore.is_sure (asked.Move c.args.port c.args.slot) _ _ c.move_piece.result
+    let step = left_it g.S.SectorStore.size g.S.SectorStore.told g.S.SectorStore.failures (asked.Move c.args.port c.args.slot) _ _ c.move_piece.result
     c.move_piece.ensures.answers c.if-not-move_piece.true in
     let left = c.in-Some.field-0.left - (c.loop-piece._piece + 1) in
     let P : ℕ → Type 0 = λ n. IsGoing d c.args.port.0 c.args.slot.0 c.sectors-sectors.result n in
@@ -100,12 +104,12 @@ returns-then-not-move_piece-clause-answers g c =
     let found = subst T (sym zero) (here.t, going_has_move d 0 c.args.slot.0 left refl here) in
     let room : HasRoom m.hardware 1 = omega (arith, is.room) in
     let sectors : c.sectors-sectors.result ≡ g.S.SectorStore.size first.disk = c.sectors-sectors.ensures in
-    cut_short g.S.SectorStore.size g.S.SectorStore.told g.S.SectorStore.is_sure c.args.port c.args.slot c.loop-piece.did first m _
+    cut_short g.S.SectorStore.size g.S.SectorStore.told g.S.SectorStore.failures c.args.port c.args.slot c.loop-piece.did first m _
     (may_finish (g.S.SectorStore.size first.disk) _ c.args.port.0 c.args.slot.0 c.sectors-sectors.result c.in-Some.field-0.left zero c.requires sectors (c.in-Some.ensures.begun.ready o))
     is.did is.refused is.size is.meanwhile
     (finish_moves c.args.port c.args.slot c.loop-piece.did _ _ c.sectors-sectors.result c.in-Some.field-0.left zero sectors
     (omega (arith, c.loop-piece-test.true)) is.did is.refused (c.in-Some.ensures.begun.ready o))
-    is.disks step room (c.requires, found.0, found.1)
+    is.disks is.untouched is.fine step room (c.requires, found.0, found.1)
 
 pub returns-then-done-clause-answers : goal.returns-then-done-clause-answers
 returns-then-done-clause-answers g c =
@@ -118,16 +122,16 @@ returns-then-done-clause-answers g c =
     let none : c.in-Some.field-0.left - c.loop-piece._piece ≡ 0 = omega (arith, c.loop-piece-test.false) in
     let done = c.done.ensures.did c.if-done.true o in
     let sectors : c.sectors-sectors.result ≡ g.S.SectorStore.size first.disk = c.sectors-sectors.ensures in
-    let all = meanwhile_on g.S.SectorStore.size g.S.SectorStore.told g.S.SectorStore.is_sure first m (record m { hardware = c.done.new.self }) is.meanwhile
+    let all = meanwhile_on g.S.SectorStore.size g.S.SectorStore.told g.S.SectorStore.failures first m (record m { hardware = c.done.new.self }) is.meanwhile
     (record {
       held = refl;
       says = refl;
       which = refl;
       pages = gains_done g.S.SectorStore.size o c.args.port.0 c.args.slot.0 m _ done;
-      keeps = on_hardware g.S.SectorStore.size g.S.SectorStore.told g.S.SectorStore.is_sure m c.done.new.self;
+      keeps = on_hardware g.S.SectorStore.size g.S.SectorStore.told g.S.SectorStore.failures m c.done.new.self;
       starved = c.done.ensures.fed c.if-done.true;
     }) in
-    answered_true g.S.SectorStore.size g.S.SectorStore.told g.S.SectorStore.is_sure (asked.Finish c.args.port c.args.slot) first _ c.done.result c.if-done.true (
+    answered_true g.S.SectorStore.size g.S.SectorStore.told g.S.SectorStore.failures (asked.Finish c.args.port c.args.slot) first _ c.done.result c.if-done.true (
       may_finish (g.S.SectorStore.size first.disk) _ c.args.port.0 c.args.slot.0 c.sectors-sectors.result c.in-Some.field-0.left c.if-port-ne0.false c.requires sectors
           (c.in-Some.ensures.begun.ready start),
       record {
@@ -162,7 +166,7 @@ returns-else-done-clause-answers g c = absurd (end_is_done g c)
 -- there is no port with a disk, or no command that can be done
 pub returns-then-port-ne0-clause-answers : goal.returns-then-port-ne0-clause-answers
 returns-then-port-ne0-clause-answers g c =
-    left_same g.S.SectorStore.size g.S.SectorStore.told g.S.SectorStore.is_sure _ c.args.self.now (λ may. c.if-port-ne0.true may.0)
+    left_same g.S.SectorStore.size g.S.SectorStore.told g.S.SectorStore.failures _ c.args.self.now (λ may. c.if-port-ne0.true may.0)
 
 pub returns-in_default-clause-answers : goal.returns-in_default-clause-answers
 returns-in_default-clause-answers g c =
@@ -172,9 +176,9 @@ returns-in_default-clause-answers g c =
     elim (c.in_default.ensures.left refl) [
       | inl never ↦
           let Left : Hardware → Type 0 = λ h.
-          IsLeftOut g.S.SectorStore.size g.S.SectorStore.told g.S.SectorStore.is_sure (asked.Finish c.args.port c.args.slot) m (record m { hardware = h }) in
+          IsLeftOut g.S.SectorStore.size g.S.SectorStore.told g.S.SectorStore.failures (asked.Finish c.args.port c.args.slot) m (record m { hardware = h }) in
           subst Left (sym never.1)
-          (left_same g.S.SectorStore.size g.S.SectorStore.told g.S.SectorStore.is_sure _ m
+          (left_same g.S.SectorStore.size g.S.SectorStore.told g.S.SectorStore.failures _ m
           (λ may.
           let P : ℕ → Type 0 = λ n. MayFinish (device_of m.hardware o) c.args.port.0 c.args.slot.0 n may.2 in
           never.0 o may.2 (subst P (sym sectors) may.3)))

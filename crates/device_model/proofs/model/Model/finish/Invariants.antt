@@ -22,5 +22,7 @@ invariant-loop-piece g l = record {
   going : IsGoing (device_at g.S.SectorStore.size g.S.SectorStore.told l.self) l.port.0 l.slot.0 l.sectors (l.left - l._piece);
   disks : (MovesSector (asked.Finish l.port l.slot) (device_at g.S.SectorStore.size g.S.SectorStore.told l.fn.self) → ⊥) → (which : Which) →
       store_of l.self which ≡ store_of l.fn.self which;
-  meanwhile : Meanwhile g.S.SectorStore.size g.S.SectorStore.is_sure l.fn.self l.self;
+  untouched : l.did ≡ false → (which : Which) → store_of l.self which ≡ store_of l.fn.self which;
+  fine : g.S.SectorStore.failures l.self.disk ≡ g.S.SectorStore.failures l.fn.self.disk;
+  meanwhile : Meanwhile g.S.SectorStore.size g.S.SectorStore.failures l.fn.self l.self;
 }

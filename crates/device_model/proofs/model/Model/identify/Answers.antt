@@ -18,7 +18,7 @@ pub returns-then-self-offset0-clause-left : goal.returns-then-self-offset0-claus
 returns-then-self-offset0-clause-left g c = record { taken = λ slot small may. search rules; done = λ slot small has. inl (search rules) }
 
 pub returns-then-self-offset0-clause-rest : goal.returns-then-self-offset0-clause-rest
-returns-then-self-offset0-clause-rest g c = goes_so_same g.S.SectorStore.size g.S.SectorStore.told g.S.SectorStore.is_sure c.args.self.now
+returns-then-self-offset0-clause-rest g c = goes_so_same g.S.SectorStore.size g.S.SectorStore.told g.S.SectorStore.failures c.args.self.now
 
 pub take_identify-requires-clause-there : goal.take_identify-requires-clause-there
 take_identify-requires-clause-there g c =
@@ -33,7 +33,7 @@ take_identify-requires-then-not-finish-clause-there g c =
     let step = asked.Finish (record { 0 = 0 }) (record { 0 = c.in-Some.found.slot }) in
     let has = found_ends old c.in-Some.found.slot c.in-Some.found.ends c.if-not-found.false (c.in-Some.ensures.found (outside_at g.S.SectorStore.size g.S.SectorStore.told m)) in
     let same =
-    (left_it g.S.SectorStore.size g.S.SectorStore.told g.S.SectorStore.is_sure step m c.finish.new.self c.finish.result c.finish.ensures.answers c.if-not-finish.true).device in
+    (left_it g.S.SectorStore.size g.S.SectorStore.told g.S.SectorStore.failures step m c.finish.new.self c.finish.result c.finish.ensures.answers c.if-not-finish.true).device in
     let P : Device → Type 0 = λ d. HasIdentify d c.in-Some.found.slot in
     inr (subst P (sym same) has)
 
@@ -41,7 +41,7 @@ pub loop-found-init : goal.loop-found-init
 loop-found-init g c = record {
   own = own_none c.args.self.now.held (device_at g.S.SectorStore.size g.S.SectorStore.told c.args.self.now);
   settled = λ _ s. s;
-  rest = goes_so_same g.S.SectorStore.size g.S.SectorStore.told g.S.SectorStore.is_sure c.args.self.now;
+  rest = goes_so_same g.S.SectorStore.size g.S.SectorStore.told g.S.SectorStore.failures c.args.self.now;
   starved = refl;
   disk = refl;
 }
@@ -53,9 +53,9 @@ loop-found-preserved g c =
     let new : Device = device_at g.S.SectorStore.size g.S.SectorStore.told c.finish.new.self in
     let step = asked.Finish (record { 0 = 0 }) (record { 0 = c.in-Some.found.slot }) in
     let went : c.finish.result ≡ true → GoesOn SendsEnd 0 c.in-Some.found.slot old new =
-    λ (e : c.finish.result ≡ true). (did_it g.S.SectorStore.size g.S.SectorStore.told g.S.SectorStore.is_sure step m c.finish.new.self c.finish.result c.finish.ensures.answers e).asked in
+    λ (e : c.finish.result ≡ true). (did_it g.S.SectorStore.size g.S.SectorStore.told g.S.SectorStore.failures step m c.finish.new.self c.finish.result c.finish.ensures.answers e).asked in
     let same : c.finish.result ≡ false → new ≡ old =
-    λ (e : c.finish.result ≡ false). (left_it g.S.SectorStore.size g.S.SectorStore.told g.S.SectorStore.is_sure step m c.finish.new.self c.finish.result c.finish.ensures.answers e).device in
+    λ (e : c.finish.result ≡ false). (left_it g.S.SectorStore.size g.S.SectorStore.told g.S.SectorStore.failures step m c.finish.new.self c.finish.result c.finish.ensures.answers e).device in
     let has = found_ends old c.in-Some.found.slot c.in-Some.found.ends c.if-not-found.false (c.in-Some.ensures.found (outside_at g.S.SectorStore.size g.S.SectorStore.told m)) in
     let is = c.loop-found.invariant in
     let loose : slice_index_or c.args.self.now.held 0 false ≡ false = search rules in
@@ -63,10 +63,10 @@ loop-found-preserved g c =
       own = own_on c.args.self.now.held _ old new is.own
           (own_gone IsPage is_page c.args.self.now.held 0 c.in-Some.found.slot loose c.finish.result old new went same (has_only old c.in-Some.found.slot has)).0;
       settled = λ held s. gone_settled 0 c.in-Some.found.slot c.finish.result old new went same held (is.settled held s);
-      rest = goes_so_on g.S.SectorStore.size g.S.SectorStore.told g.S.SectorStore.is_sure _ _ _ is.rest
-          (finish_goes_so g.S.SectorStore.size g.S.SectorStore.told g.S.SectorStore.is_sure (record { 0 = 0 }) (record { 0 = c.in-Some.found.slot }) c.finish.result m c.finish.new.self c.finish.ensures.answers);
-      starved = (did_it g.S.SectorStore.size g.S.SectorStore.told g.S.SectorStore.is_sure step m c.finish.new.self c.finish.result c.finish.ensures.answers c.if-not-finish.false).starved ∙ is.starved;
-      disk = finish_keeps g.S.SectorStore.size g.S.SectorStore.told g.S.SectorStore.is_sure m c.finish.new.self c.in-Some.found.slot c.finish.result c.finish.ensures.answers has ∙ is.disk;
+      rest = goes_so_on g.S.SectorStore.size g.S.SectorStore.told g.S.SectorStore.failures _ _ _ is.rest
+          (finish_goes_so g.S.SectorStore.size g.S.SectorStore.told g.S.SectorStore.failures (record { 0 = 0 }) (record { 0 = c.in-Some.found.slot }) c.finish.result m c.finish.new.self c.finish.ensures.answers);
+      starved = (did_it g.S.SectorStore.size g.S.SectorStore.told g.S.SectorStore.failures step m c.finish.new.self c.finish.result c.finish.ensures.answers c.if-not-finish.false).starved ∙ is.starved;
+      disk = finish_keeps g.S.SectorStore.size g.S.SectorStore.told g.S.SectorStore.failures m c.finish.new.self c.in-Some.found.slot c.finish.result c.finish.ensures.answers has ∙ is.disk;
     }
 
 pub loop-found-smaller : goal.loop-found-smaller
@@ -77,7 +77,7 @@ loop-found-smaller g c =
     let step = asked.Finish (record { 0 = 0 }) (record { 0 = c.in-Some.found.slot }) in
     let has = found_ends old c.in-Some.found.slot c.in-Some.found.ends c.if-not-found.false (c.in-Some.ensures.found (outside_at g.S.SectorStore.size g.S.SectorStore.told m)) in
     fewer_left c.in-Some.found.slot old new c.in-Some.ensures.small has
-    (did_it g.S.SectorStore.size g.S.SectorStore.told g.S.SectorStore.is_sure step m c.finish.new.self c.finish.result c.finish.ensures.answers c.if-not-finish.false).asked
+    (did_it g.S.SectorStore.size g.S.SectorStore.told g.S.SectorStore.failures step m c.finish.new.self c.finish.result c.finish.ensures.answers c.if-not-finish.false).asked
     ((c.finish.ensures.identifies refl has).0 c.if-not-finish.false)
 
 pub returns-then-not-found : goal.returns-then-not-found
@@ -96,7 +96,7 @@ returns-then-not-found g c =
         taken = λ k small may. absurd (t.none k may);
         done = λ k small has. absurd (found.1 (t.stuck found.0 k has));
       };
-      rest = goes_so_on g.S.SectorStore.size g.S.SectorStore.told g.S.SectorStore.is_sure _ _ _ is.rest t.rest;
+      rest = goes_so_on g.S.SectorStore.size g.S.SectorStore.told g.S.SectorStore.failures _ _ _ is.rest t.rest;
       told = λ now. inl (sym is.starved ∙ (sym t.starved ∙ now));
       disk = t.disk ∙ is.disk;
     }
@@ -108,9 +108,9 @@ returns-then-not-finish g c =
     let new : Device = device_at g.S.SectorStore.size g.S.SectorStore.told c.finish.new.self in
     let step = asked.Finish (record { 0 = 0 }) (record { 0 = c.in-Some.found.slot }) in
     let went : c.finish.result ≡ true → GoesOn SendsEnd 0 c.in-Some.found.slot old new =
-    λ (e : c.finish.result ≡ true). (did_it g.S.SectorStore.size g.S.SectorStore.told g.S.SectorStore.is_sure step m c.finish.new.self c.finish.result c.finish.ensures.answers e).asked in
+    λ (e : c.finish.result ≡ true). (did_it g.S.SectorStore.size g.S.SectorStore.told g.S.SectorStore.failures step m c.finish.new.self c.finish.result c.finish.ensures.answers e).asked in
     let same : c.finish.result ≡ false → new ≡ old =
-    λ (e : c.finish.result ≡ false). (left_it g.S.SectorStore.size g.S.SectorStore.told g.S.SectorStore.is_sure step m c.finish.new.self c.finish.result c.finish.ensures.answers e).device in
+    λ (e : c.finish.result ≡ false). (left_it g.S.SectorStore.size g.S.SectorStore.told g.S.SectorStore.failures step m c.finish.new.self c.finish.result c.finish.ensures.answers e).device in
     let has = found_ends old c.in-Some.found.slot c.in-Some.found.ends c.if-not-found.false (c.in-Some.ensures.found (outside_at g.S.SectorStore.size g.S.SectorStore.told m)) in
     let is = c.loop-found.invariant in
     let loose : slice_index_or c.args.self.now.held 0 false ≡ false = search rules in
@@ -125,14 +125,14 @@ returns-then-not-finish g c =
           (own_gone IsPage is_page c.args.self.now.held 0 c.in-Some.found.slot loose c.finish.result old new went same (has_only old c.in-Some.found.slot has)).0) (t.own c.args.self.now.held loose);
       settled = λ held s. t.settled held (gone_settled 0 c.in-Some.found.slot c.finish.result old new went same held (is.settled held s));
       left = record { taken = λ k small may. absurd (t.none k may); done = λ k small there. inr (t.starved ∙ lacks.0) };
-      rest = goes_so_on g.S.SectorStore.size g.S.SectorStore.told g.S.SectorStore.is_sure _ _ _
-          (goes_so_on g.S.SectorStore.size g.S.SectorStore.told g.S.SectorStore.is_sure _ _ _ is.rest
-          (finish_goes_so g.S.SectorStore.size g.S.SectorStore.told g.S.SectorStore.is_sure (record { 0 = 0 }) (record { 0 = c.in-Some.found.slot }) c.finish.result m c.finish.new.self c.finish.ensures.answers))
+      rest = goes_so_on g.S.SectorStore.size g.S.SectorStore.told g.S.SectorStore.failures _ _ _
+          (goes_so_on g.S.SectorStore.size g.S.SectorStore.told g.S.SectorStore.failures _ _ _ is.rest
+          (finish_goes_so g.S.SectorStore.size g.S.SectorStore.told g.S.SectorStore.failures (record { 0 = 0 }) (record { 0 = c.in-Some.found.slot }) c.finish.result m c.finish.new.self c.finish.ensures.answers))
           t.rest;
       told = λ _.
           let R : ℕ → Type 0 = λ n. HasRoom c.take_identify-then-not-finish.new.self.hardware (n + 1) in
           inr (c.in-Some.found.slot, c.in-Some.ensures.small, now.0, λ room. one.1 (t.room _ (subst R now.1 room)));
-      disk = t.disk ∙ (finish_keeps g.S.SectorStore.size g.S.SectorStore.told g.S.SectorStore.is_sure m c.finish.new.self c.in-Some.found.slot c.finish.result c.finish.ensures.answers has ∙ is.disk);
+      disk = t.disk ∙ (finish_keeps g.S.SectorStore.size g.S.SectorStore.told g.S.SectorStore.failures m c.finish.new.self c.in-Some.found.slot c.finish.result c.finish.ensures.answers has ∙ is.disk);
     }
 
 pub returns : goal.returns

@@ -29,7 +29,7 @@ use Rattle.device_model.proofs.model.Model.move_piece.Goals as goal
 pub returns-then-port-ne0-clause-answers : goal.returns-then-port-ne0-clause-answers
 returns-then-port-ne0-clause-answers g c =
     let m = c.args.self.now in
-    left_same g.S.SectorStore.size g.S.SectorStore.told g.S.SectorStore.is_sure _ m
+    left_same g.S.SectorStore.size g.S.SectorStore.told g.S.SectorStore.failures _ m
     (λ may. no_move m.hardware (disk_over m.which (g.S.SectorStore.size m.disk) (g.S.SectorStore.told m.disk)) (g.S.SectorStore.told m.other) _ c.args.port.0 c.args.slot.0 may.1
     c.if-port-ne0.true may.2)
 
@@ -59,11 +59,11 @@ returns-in_default-clause-answers g c =
     }
 
 -- the tape had no memory for it, and that is told
-pub returns-then-is_on-clause-answers : goal.returns-then-is_on-clause-answers
-returns-then-is_on-clause-answers g c =
+pub returns-then-not-room-clause-answers : goal.returns-then-not-room-clause-answers
+returns-then-not-room-clause-answers g c =
     let m = c.args.self.now in
     let o : Outside = outside_at g.S.SectorStore.size g.S.SectorStore.told m in
-    let on = c.is_on.ensures.0 c.if-is_on.true in
+    let on = c.is_on.ensures.0 c.if-not-is_on.false in
     let size = c.sectors.ensures in
     let fits = next_has_move c.reserve-room.new.self o _ c.args.port.0 c.args.slot.0 c.in-Some.next c.in-Some.ensures.found.0 c.if-port-ne0.false
     (c.reserve-room.ensures.same o) c.in-Some.ensures.found.1 (λ ranged. let here = on ranged in omega (arith, here, size)) in
@@ -77,12 +77,12 @@ returns-then-is_on-clause-answers g c =
       keeps = record { sectors = λ _. refl; sure = λ _. refl; out = λ _ _. refl; queue = refl; accesses = refl };
       why = λ _ _. (lacks, refl);
       starved_on = λ _. refl;
-      starved_since = λ _. inr ((c.requires, fits.0, fits.1), lacks);
+      starved_since = λ _. inr ((c.requires, taken_of c.in-Some.ensures.found.0, fits), lacks);
     }
 
--- nor is it possible
-pub returns-else-is_on-clause-answers : goal.returns-else-is_on-clause-answers
-returns-else-is_on-clause-answers g c =
+-- the sector that is to be moved isn't one of the disk
+pub returns-then-not-is_on-clause-answers : goal.returns-then-not-is_on-clause-answers
+returns-then-not-is_on-clause-answers g c =
     let m = c.args.self.now in
     let o : Outside = outside_at g.S.SectorStore.size g.S.SectorStore.told m in
     let size = c.sectors.ensures in
@@ -101,7 +101,7 @@ returns-else-is_on-clause-answers g c =
           (λ ranged.
           let here = next_on_disk c.reserve-room.new.self o _ c.args.port.0 c.args.slot.0 c.in-Some.next c.in-Some.ensures.found.0 may.1 c.if-port-ne0.false
           (c.reserve-room.ensures.same o) c.in-Some.ensures.found.1 may.2 ranged in
-          omega (arith, here, size))) c.if-is_on.false);
+          omega (arith, here, size))) c.if-not-is_on.true);
       starved_on = λ yes. starved ∙ yes;
       starved_since = λ yes. inl (sym starved ∙ yes);
     }
@@ -114,21 +114,22 @@ returns-then-not-exchange-clause-answers g c =
     let was : List Disk = map (λ s. disk_over s.which (g.S.SectorStore.size s.store.value) (g.S.SectorStore.told s.store.value)) m.plugged.items in
     let kept = c.exchange.ensures.kept c.if-not-exchange.true in
     let starved = c.reserve-room.ensures.starved in
-    let moves = next_moves c.reserve-room.new.self o _ c.args.port c.args.slot c.in-Some.next c.in-Some.ensures.found.0 (c.reserve-room.ensures.same o)
-    c.in-Some.ensures.found.1 in
+    let on = c.is_on.ensures.0 c.if-not-is_on.false in
+    let size = c.sectors.ensures in
+    let moves = next_moves c.reserve-room.new.self o _ c.args.port c.args.slot c.in-Some.next c.in-Some.ensures.found.0 c.if-port-ne0.false c.requires
+    (c.reserve-room.ensures.same o) c.in-Some.ensures.found.1 (λ ranged. let here = on ranged in omega (arith, here, size)) in
+    let ranged = c.exchange.ensures.ranged c.if-not-exchange.true in
+    let here = on ranged in
+    let failed = c.exchange.ensures.fails c.if-not-exchange.true (omega (arith, here, size)) in
     record {
       device = (λ i. device_of c.reserve-room.new.self (outside_of (disk_over m.which (c.exchange.ensures.size i) (kept i)) (g.S.SectorStore.told m.other) was))
           ∙ c.reserve-room.ensures.same o;
       held = refl;
       says = refl;
       which = refl;
-      disks = λ none _.
-          true-false (c.exchange.ensures.sure (λ ranged. absurd (none (moves ranged)))) c.if-not-exchange.true;
-      keeps = keeps_with g.S.SectorStore.size g.S.SectorStore.is_sure m _ _ c.exchange.ensures.size c.exchange.ensures.lasts;
-      why = λ served may.
-          let on = next_on_disk c.reserve-room.new.self o _ c.args.port.0 c.args.slot.0 c.in-Some.next c.in-Some.ensures.found.0 may.1 c.if-port-ne0.false
-          (c.reserve-room.ensures.same o) c.in-Some.ensures.found.1 may.2 in
-          true-false (c.exchange.ensures.sure (λ ranged. (served.0 (moves ranged), on ranged))) c.if-not-exchange.true;
+      disks = λ fine _. absurd (failed (fine (moves ranged)));
+      keeps = keeps_with g.S.SectorStore.size g.S.SectorStore.failures m _ _ c.exchange.ensures.size c.exchange.ensures.lasts;
+      why = λ served _. absurd (failed (served.0 (moves ranged)));
       starved_on = λ yes. starved ∙ yes;
       starved_since = λ yes. inl (sym starved ∙ yes);
     }
@@ -172,10 +173,11 @@ returns-clause-answers g c =
     let o : Outside = outside_at g.S.SectorStore.size g.S.SectorStore.told m in
     let noted = c.move_bytes.ensures.moved o in
     let entry : Entry = entry.Move (move_of c.args.port.0 c.args.slot.0 (taken_of noted.0) c.exchange.new.bytes) in
-    let keeps = keeps_with g.S.SectorStore.size g.S.SectorStore.is_sure m c.move_bytes.new.self _ c.exchange.ensures.size c.exchange.ensures.lasts in
+    let keeps = keeps_with g.S.SectorStore.size g.S.SectorStore.failures m c.move_bytes.new.self _ c.exchange.ensures.size c.exchange.ensures.lasts in
+    let on = c.exchange.ensures.inside c.if-not-exchange.false in
     let fits = next_has_move c.reserve-room.new.self o _ c.args.port.0 c.args.slot.0 c.in-Some.next c.in-Some.ensures.found.0 c.if-port-ne0.false
-    (c.reserve-room.ensures.same o) c.in-Some.ensures.found.1 (c.exchange.ensures.inside c.if-not-exchange.false) in (
-      (c.requires, fits.0, fits.1),
+    (c.reserve-room.ensures.same o) c.in-Some.ensures.found.1 on in (
+      (c.requires, taken_of c.in-Some.ensures.found.0, fits),
       record {
         asked = moved g c;
         ends = λ _. tt;
@@ -188,8 +190,8 @@ returns-clause-answers g c =
         disks = λ none.
             both_kept m (record m { hardware = c.move_bytes.new.self; disk = c.exchange.new.disk }) refl
             (c.exchange.ensures.same
-            (next_page c.reserve-room.new.self o _ c.args.port c.args.slot c.in-Some.next c.in-Some.ensures.found.0 (c.reserve-room.ensures.same o)
-            c.in-Some.ensures.found.1 none)) keeps.out;
+            (next_page c.reserve-room.new.self o _ c.args.port c.args.slot c.in-Some.next c.in-Some.ensures.found.0 c.if-port-ne0.false c.requires
+            (c.reserve-room.ensures.same o) c.in-Some.ensures.found.1 on none)) keeps.out;
         keeps = keeps;
         starved = c.move_bytes.ensures.starved ∙ c.reserve-room.ensures.starved;
       },
@@ -197,11 +199,11 @@ returns-clause-answers g c =
 
 -- ---- memory that is left
 
-pub returns-then-is_on-clause-left : goal.returns-then-is_on-clause-left
-returns-then-is_on-clause-left g c = λ n room. let kept = c.reserve-room.ensures.kept (n + 1) room in omega (arith, kept)
+pub returns-then-not-room-clause-left : goal.returns-then-not-room-clause-left
+returns-then-not-room-clause-left g c = λ n room. let kept = c.reserve-room.ensures.kept (n + 1) room in omega (arith, kept)
 
-pub returns-else-is_on-clause-left : goal.returns-else-is_on-clause-left
-returns-else-is_on-clause-left g c = λ n room. let kept = c.reserve-room.ensures.kept (n + 1) room in omega (arith, kept)
+pub returns-then-not-is_on-clause-left : goal.returns-then-not-is_on-clause-left
+returns-then-not-is_on-clause-left g c = λ n room. let kept = c.reserve-room.ensures.kept (n + 1) room in omega (arith, kept)
 
 pub returns-in_default-clause-left : goal.returns-in_default-clause-left
 returns-in_default-clause-left g c = λ n room. let kept = c.reserve-room.ensures.kept (n + 1) room in omega (arith, kept)
@@ -231,18 +233,22 @@ returns-in_default-clause-page g c = λ t taken identifies _ move low _.
     c.next_move.ensures.none c.in_default.is found.r found.holds found.left (omega (arith, place, low)) found.inside
     (sector_small found.r (g.S.SectorStore.size m.disk) sectors found.on_disk)
 
-pub returns-then-is_on-clause-page : goal.returns-then-is_on-clause-page
-returns-then-is_on-clause-page g c = λ t taken identifies _ _ _ room. true-false (c.reserve-room.ensures.enough room) c.if-not-room.true
+pub returns-then-not-room-clause-page : goal.returns-then-not-room-clause-page
+returns-then-not-room-clause-page g c = λ t taken identifies _ _ _ room. true-false (c.reserve-room.ensures.enough room) c.if-not-room.true
 
-pub returns-else-is_on-clause-page : goal.returns-else-is_on-clause-page
-returns-else-is_on-clause-page g c = λ t taken identifies _ _ _ room. true-false (c.reserve-room.ensures.enough room) c.if-not-room.true
+pub returns-then-not-is_on-clause-page : goal.returns-then-not-is_on-clause-page
+returns-then-not-is_on-clause-page g c = λ t taken identifies.
+    let o : Outside = outside_at g.S.SectorStore.size g.S.SectorStore.told c.args.self.now in
+    let kind = next_identifies c.reserve-room.new.self o _ c.args.port.0 c.args.slot.0 c.in-Some.next c.in-Some.ensures.found.0 t (c.reserve-room.ensures.same o)
+    c.in-Some.ensures.found.1 taken identifies in
+    λ _ _ _ _. true-false (c.is_on.ensures.1 (λ ranged. true-false ranged (ap (λ (k : Transfer). is_ranged (operation_of k)) kind))) c.if-not-is_on.true
 
 pub returns-then-not-exchange-clause-page : goal.returns-then-not-exchange-clause-page
 returns-then-not-exchange-clause-page g c = λ t taken identifies.
     let o : Outside = outside_at g.S.SectorStore.size g.S.SectorStore.told c.args.self.now in
     let kind = next_identifies c.reserve-room.new.self o _ c.args.port.0 c.args.slot.0 c.in-Some.next c.in-Some.ensures.found.0 t (c.reserve-room.ensures.same o)
     c.in-Some.ensures.found.1 taken identifies in
-    λ _ _ _ _. true-false (c.exchange.ensures.sure (λ ranged. true-false ranged (ap (λ (k : Transfer). is_ranged (operation_of k)) kind))) c.if-not-exchange.true
+    λ _ _ _ _. true-false (c.exchange.ensures.ranged c.if-not-exchange.true) (ap (λ (k : Transfer). is_ranged (operation_of k)) kind)
 
 pub returns-clause-page : goal.returns-clause-page
 returns-clause-page g c = λ t taken identifies never. absurd (let e : true ≡ false = never in cc)

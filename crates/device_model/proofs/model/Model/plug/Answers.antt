@@ -102,7 +102,7 @@ returns g c =
     let o : Outside = outside_at g.S.SectorStore.size g.S.SectorStore.told m in
     let plug = asked.Plug c.args.port c.args.disk in
     let P : ℕ → Type 0 = λ p. DoesPlug p c.args.disk.0 (device_at g.S.SectorStore.size g.S.SectorStore.told m) (device_at g.S.SectorStore.size g.S.SectorStore.told (after g c)) in
-    let Q : Model g.row.S.Denot → Type 0 = λ x. Did g.S.SectorStore.size g.S.SectorStore.told g.S.SectorStore.is_sure plug m (record x { plugged = c.remember.new.plugged }) in
+    let Q : Model g.row.S.Denot → Type 0 = λ x. Did g.S.SectorStore.size g.S.SectorStore.told g.S.SectorStore.failures plug m (record x { plugged = c.remember.new.plugged }) in
     let small = number_small c.in-Some.which in
     let put = c.plug.ensures.did c.if-not-plug.false o (disk_over t.which (g.S.SectorStore.size t.disk) (g.S.SectorStore.told t.disk)) (ap disk_number c.turn_to.ensures.which ∙ sym c.number.ensures) in (
       (c.if-port-ne0.false, omega (arith, small, c.in-Some.ensures.found), c.if-self-offset0.false),
@@ -118,7 +118,7 @@ returns g c =
             keeps = record {
               out = λ w _. each w;
               sectors = λ w. ap g.S.SectorStore.size (each w);
-              sure = λ w. ap g.S.SectorStore.is_sure (each w);
+              sure = λ w. ap (λ s. is_some (g.S.SectorStore.failures s)) (each w);
               queue = refl;
               accesses = refl;
             };

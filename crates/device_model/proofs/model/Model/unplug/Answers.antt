@@ -7,5 +7,5 @@ pub returns-then-port-eq0 : goal.returns-then-port-eq0
 returns-then-port-eq0 g c =
     let f = c.unplug.ensures in
     let o : Outside = outside_at g.S.SectorStore.size g.S.SectorStore.told c.args.self.now in
-    unplug_answers g.S.SectorStore.size g.S.SectorStore.told g.S.SectorStore.is_sure c.args.self.now c.unplug.new.self c.args.port c.unplug.result c.if-port-eq0.true
+    unplug_answers g.S.SectorStore.size g.S.SectorStore.told g.S.SectorStore.failures c.args.self.now c.unplug.new.self c.args.port c.unplug.result c.if-port-eq0.true
     (λ e. f.did e o) (λ e. f.refused e o) (λ e. f.left e o) f.fed

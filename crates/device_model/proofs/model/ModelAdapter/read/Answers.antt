@@ -30,7 +30,7 @@ returns-clause-reads g c =
     let settled = c.settle.ensures.own o in
     record {
       mid = device_of c.identify.new.self.hardware last;
-      steps = Steps-trans (begins_steps g.S.SectorStore.size g.S.SectorStore.told g.S.SectorStore.is_sure _ _ c.do_queued.ensures)
+      steps = Steps-trans (begins_steps g.S.SectorStore.size g.S.SectorStore.told g.S.SectorStore.failures _ _ c.do_queued.ensures)
           (Steps-trans (reset_steps _ _ _ _ settled.1) (Steps-trans (own_steps _ _ _ settled.2) (own_steps _ _ _ c.identify.ensures.own)));
       shows = c.shown-value.ensures last;
       effect = c.note.ensures.notes last;
