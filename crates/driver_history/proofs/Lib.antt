@@ -1,3 +1,4 @@
 pub mod Telling
 pub mod Placing
 pub mod Instants
+pub mod Calm

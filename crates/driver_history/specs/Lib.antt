@@ -4,3 +4,4 @@ pub mod Holds
 pub mod Guard
 pub mod Histories
 pub mod Moves
+pub mod Claims

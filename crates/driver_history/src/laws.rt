@@ -1,17 +1,22 @@
 // Laws of the definitions, for callers: the clause is the theorem. These functions do nothing.
 ghost use Rattle.std.specs.Prelude.{ℕ, true, ◌≡◌, ◌<◌, List, ◌∷◌, Contains};
+ghost use Rattle.ata_types.specs.declared.Port.{Port};
 ghost use Rattle.ata_types.specs.declared.PortState.TheVariants.{Ready};
 ghost use Rattle.adapter.specs.Device.{Device};
 ghost use Rattle.adapter.specs.declared.access.DeviceStep.{DeviceStep};
 ghost use Rattle.agreement.specs.Slots.{ServesRequest};
-ghost use Rattle.block_machine.specs.Events.{steps_of, IsRun, EveryReadHolds};
+ghost use Rattle.block_machine.specs.Events.{steps_of, Service, IsRun, EveryReadHolds};
 ghost use Rattle.block_machine.specs.Histories.{Instant, Happening, events_of, now};
 ghost use Rattle.block_machine.specs.Ports.{AreFit};
 ghost use Rattle.block_machine.specs.State.{Pending};
 ghost use Rattle.identify.specs.declared.wanted.Wanted.{Wanted};
+ghost use Rattle.driver_history.specs.Claims.{IsSpared};
+ghost use Rattle.driver_history.specs.Guard.{StaysHealthy};
 ghost use Rattle.driver_history.specs.Histories.{IsHistory};
 ghost use Rattle.driver_history.specs.Holds.{HoldsAt};
 ghost use Rattle.driver_history.specs.Moves.{KeepsMoves};
+
+use agreement::laws::disks_are_told;
 
 /// The calls of a history are a run of the block machine. So its laws on runs hold of them: each request that is
 /// issued was accepted and broke no rule, each touch is of an accepted request's own sector at a frame that is lent to it, and
@@ -57,3 +62,13 @@ pub fn issued_requests_have_their_slots()
         e.request.port.0 slot e.request.id
         × (((now first past).device.port e.request.port.0).st ≡ true) }
 {}
+
+/// In a service a ready port that stays healthy is left alone: it is what it was, each answer there is Ok, and neither its PxCMD nor its PxSCTL
+/// is written.
+pub fn healthy_ports_are_left_alone()
+    ensures { (wanted : List Wanted) (first : Instant Device) (past : List (Happening Device DeviceStep)) (h : Happening Device DeviceStep)
+        (port : Port) → (history : IsHistory wanted first (h ∷ past)) → h.event.ask ≡ Service → (now first past).moment.ports.state port ≡ Ready
+        → StaysHealthy port.0 (now first past).device h.device → IsSpared (now first past) h history.2.accesses port }
+{
+    disks_are_told();
+}

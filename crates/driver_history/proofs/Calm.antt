@@ -1,0 +1,128 @@
+-- A port that stays healthy in a call is left alone, and runs well after it.
+use Rattle.std.proofs.Common.{ℕ, ◌≡◌, ◌≢◌, ◌⊎◌, ◌≤◌, true, false, List, [], ◌∷◌, Some, None, Ok, Err, refl, sym, ◌∙◌, ap, inl, inr, subst, arith, ⊎_elim}
+use Rattle.std.specs.List.{All, Contains, list_any}
+use Rattle.std.proofs.lemmas.Bool.{false≢true}
+use Rattle.std.proofs.lemmas.List.{append_cancel_left}
+use Rattle.std.proofs.lemmas.List.Elements.{All-contains}
+use Rattle.ata_types.specs.declared.Port.{Port}
+use Rattle.ata_types.specs.declared.PortState.TheVariants.{Ready}
+use Rattle.ata_types.specs.declared.request.Outcome.{Outcome}
+use Rattle.ata_types.specs.declared.request.Outcome.TheVariants as outcome
+use Rattle.adapter.specs.Access.{Access}
+use Rattle.adapter.specs.Device.{Device, PortState}
+use Rattle.adapter.specs.declared.access.DeviceStep.{DeviceStep}
+use Rattle.adapter.specs.declared.tape.Entry.{Entry}
+use Rattle.adapter.specs.declared.tape.Entry.TheVariants as entry
+use Rattle.agreement.specs.Errors.{IsFatalOf}
+use Rattle.agreement.specs.Facts.{Undisturbed, IsDisturbance, IsFaultOf, RunsWell, ShowsNoTrouble}
+use Rattle.agreement.specs.Links.{IsPlugging}
+use Rattle.agreement.specs.Tape.{TellsAmong}
+use Rattle.block_machine.specs.Events.{Ask, Moment, Service, IsDisturbed, IsLeftAlone, ServesReady, HeedsAt, changes_disk, moment_after}
+use Rattle.block_machine.specs.Histories.{Instant, Happening}
+use Rattle.block_machine.specs.Ports.{Evidence, IsInterrupted}
+use Rattle.block_machine.specs.State.{Machine, Pending}
+use Rattle.block_machine.specs.Steps.{Step, Answer}
+use Rattle.identify.specs.declared.wanted.Wanted.{Wanted}
+use Rattle.driver_history.specs.Claims.{IsSpared}
+use Rattle.driver_history.specs.Evidence.{Gains, HasErrors, IsEvidencedOf, IsGone, ShowsFailure, ShowsFatal}
+use Rattle.driver_history.specs.Guard.{StaysHealthy}
+use Rattle.driver_history.specs.Histories.{Ties}
+
+-- what the law on disks says
+abbrev pub EntryIsTold : Type 0
+EntryIsTold = (port : Port) (m : Machine) (gained : List Entry) (steps : List Step) → TellsAmong m gained steps
+    → list_any (changes_disk port) steps ≡ true → (e : Entry) × Contains gained e × IsPlugging port.0 e
+
+-- ---- what disturbs a port
+
+plugging_disturbs : (port : ℕ) (e : Entry) → IsPlugging port e → IsDisturbance port e
+plugging_disturbs port (entry.Unplug at) is = is
+plugging_disturbs port (entry.Plug at name) is = is
+plugging_disturbs port (entry.Move x) is = absurd is
+plugging_disturbs port (entry.Clear x) is = absurd is
+plugging_disturbs port (entry.Done x) is = absurd is
+plugging_disturbs port (entry.Fault x) is = absurd is
+plugging_disturbs port (entry.Fatal x) is = absurd is
+
+fault_disturbs : (port : ℕ) (e : Entry) → IsFaultOf port e → IsDisturbance port e
+fault_disturbs port (entry.Fault x) is = is
+fault_disturbs port (entry.Fatal x) is = absurd is
+fault_disturbs port (entry.Unplug x) is = absurd is
+fault_disturbs port (entry.Plug x name) is = absurd is
+fault_disturbs port (entry.Move x) is = absurd is
+fault_disturbs port (entry.Clear x) is = absurd is
+fault_disturbs port (entry.Done x) is = absurd is
+
+fatal_disturbs : (port : ℕ) (e : Entry) → IsFatalOf port e → IsDisturbance port e
+fatal_disturbs port (entry.Fatal x) is = is
+fatal_disturbs port (entry.Fault x) is = absurd is
+fatal_disturbs port (entry.Unplug x) is = absurd is
+fatal_disturbs port (entry.Plug x name) is = absurd is
+fatal_disturbs port (entry.Move x) is = absurd is
+fatal_disturbs port (entry.Clear x) is = absurd is
+fatal_disturbs port (entry.Done x) is = absurd is
+
+-- a calm tape gained no disturbance
+none_gained : (port : ℕ) (Is : Entry → Type 0) (old new : Device) → ((e : Entry) → Is e → IsDisturbance port e) → Undisturbed port old new → Gains Is old new → ⊥
+none_gained port Is old new disturbs u g =
+    let same : g.gained ≡ u.gained = append_cancel_left old.tape g.gained u.gained (sym g.tape ∙ u.tape) in
+    All-contains (λ e. IsDisturbance port e → ⊥) u.gained g.entry u.calm (subst (λ (xs : List Entry). Contains xs g.entry) same g.here) (disturbs g.entry g.is)
+
+no_fatal : (p : PortState) → ShowsNoTrouble p → ShowsFatal p → ⊥
+no_fatal p quiet f = let low = f.from in let high = f.to in false≢true (sym (quiet.quiet f.place low (omega (arith, high))) ∙ f.set)
+
+no_failure : (p : PortState) → ShowsNoTrouble p → ShowsFailure p → ⊥
+no_failure p quiet f = ⊎_elim (no_fatal p quiet) (λ fault. false≢true (sym (quiet.quiet 30 (omega arith) (omega arith)) ∙ fault)) f
+
+-- ---- a call in which a port stays healthy
+
+module _ (told : EntryIsTold) (wanted : List Wanted) (old : Instant Device) (h : Happening Device DeviceStep) (t : Ties wanted old h) (port : Port)
+    (healthy : StaysHealthy port.0 old.device h.device) where
+  p : PortState
+  p = old.device.port port.0
+
+  ev : IsEvidencedOf h.event.ask h.event.said t.accesses old h.event.ports h.device h.event.evidence port
+  ev = t.evidenced.port port
+
+  errors : HasErrors port old h.device → ⊥
+  errors e = ⊎_elim
+      (no_failure (old.device.port port.0) healthy.well.quiet)
+      (λ g. ⊎_elim
+      (none_gained port.0 (IsFaultOf port.0) old.device h.device (fault_disturbs port.0) healthy.undisturbed)
+      (none_gained port.0 (IsFatalOf port.0) old.device h.device (fatal_disturbs port.0) healthy.undisturbed)
+      g)
+      e.1
+
+  plugs : Gains (IsPlugging port.0) old.device h.device → ⊥
+  plugs = none_gained port.0 (IsPlugging port.0) old.device h.device (plugging_disturbs port.0) healthy.undisturbed
+
+  gone : IsGone port old h.device → ⊥
+  gone g = ⊎_elim
+      (λ change. ⊎_elim (λ n. false≢true (sym healthy.well.quiet.serr_n ∙ n)) (λ x. false≢true (sym healthy.well.quiet.serr_x ∙ x)) change)
+      (λ more. ⊎_elim (λ missing. missing healthy.well.det) plugs more)
+      g.1
+
+  changes : list_any (changes_disk port) h.event.steps ≡ true → ⊥
+  changes is =
+      let x = told port old.moment.machine t.backed.gained h.event.steps t.backed.tells is in
+      plugs (record { gained = t.backed.gained; tape = t.backed.tape; entry = x.0; here = x.1; is = x.2 })
+
+  undisturbed : IsDisturbed h.event.evidence h.event.steps port → ⊥
+  undisturbed d = ⊎_elim (λ failed. errors (ev.failed_only failed)) (λ rest. ⊎_elim (λ g. gone (ev.gone_only g)) changes rest) d
+
+  module _ (asks : h.event.ask ≡ Service) (ready : old.moment.ports.state port ≡ Ready) where
+    serves : ServesReady old.moment h.event.evidence h.event.steps (moment_after old.moment h.event) port
+    serves =
+        let Heeded : Ask DeviceStep → Type 0 = λ ask. HeedsAt port ask old.moment h.event.evidence h.event.steps (moment_after old.moment h.event) in
+        let its : Heeded Service = subst Heeded asks (t.port port healthy).heeds in
+        its ready
+
+    alone : IsLeftAlone old.moment.ports h.event.evidence h.event.steps h.event.ports port
+    alone = ⊎_elim (λ d. absurd (undisturbed d)) (λ a. a) serves.calm
+
+    pub spared : IsSpared old h t.accesses port
+    spared = record {
+      same = alone.same;
+      told = λ e o here at. ⊎_elim (λ x. x) (λ x. x) (alone.told e o here at);
+      engine = ⊎_elim (λ a. a) (λ i. absurd (alone.uninterrupted i)) ev.stopped_all;
+    }
