@@ -17,7 +17,7 @@ use Rattle.agreement.specs.Errors.{IsFatalOf}
 use Rattle.agreement.specs.Facts.{Undisturbed, IsDisturbance, IsFaultOf, RunsWell, ShowsNoTrouble}
 use Rattle.agreement.specs.Links.{IsPlugging}
 use Rattle.agreement.specs.Tape.{TellsAmong}
-use Rattle.block_machine.specs.Events.{Ask, Moment, Service, IsDisturbed, IsLeftAlone, ServesReady, HeedsAt, changes_disk, moment_after}
+use Rattle.block_machine.specs.Events.{Ask, Moment, Submit, StoreAt, LoadAt, Service, Tick, Reset, State, Device as Told, Said, Submitted, Stored, Loaded, Served, WasReset, Shown, Stepped, IsAnswered, IsDisturbed, IsHung, IsLeftAlone, ServesReady, HeedsAt, changes_disk, moment_after}
 use Rattle.block_machine.specs.Histories.{Instant, Happening}
 use Rattle.block_machine.specs.Ports.{Evidence, IsInterrupted}
 use Rattle.block_machine.specs.State.{Machine, Pending}
@@ -27,6 +27,7 @@ use Rattle.driver_history.specs.Claims.{IsSpared}
 use Rattle.driver_history.specs.Evidence.{Gains, HasErrors, IsEvidencedOf, IsGone, ShowsFailure, ShowsFatal}
 use Rattle.driver_history.specs.Guard.{StaysHealthy}
 use Rattle.driver_history.specs.Histories.{Ties}
+use Rattle.driver_history.specs.Trace.{LeavesEngine}
 
 -- what the law on disks says
 abbrev pub EntryIsTold : Type 0
@@ -126,3 +127,36 @@ module _ (told : EntryIsTold) (wanted : List Wanted) (old : Instant Device) (h :
       told = λ e o here at. ⊎_elim (λ x. x) (λ x. x) (alone.told e o here at);
       engine = ⊎_elim (λ a. a) (λ i. absurd (alone.uninterrupted i)) ev.stopped_all;
     }
+
+  -- nothing stopped it, unless it is a tick that restarts it, or a reset
+  no_interrupt : (ask : Ask DeviceStep) → HeedsAt port ask old.moment h.event.evidence h.event.steps (moment_after old.moment h.event) → ask ≢ Reset
+      → (ask ≡ Tick → IsInterrupted h.event.evidence port → ⊥) → old.moment.ports.state port ≡ Ready → IsInterrupted h.event.evidence port → ⊥
+  no_interrupt Service heeds other spares ready i = ⊎_elim undisturbed (λ (a : IsLeftAlone old.moment.ports h.event.evidence h.event.steps h.event.ports port). a.uninterrupted i) (heeds ready).calm
+  no_interrupt Tick heeds other spares ready i = spares refl i
+  no_interrupt Reset heeds other spares ready i = other refl
+  no_interrupt (Submit r) heeds other spares ready i = heeds i
+  no_interrupt (StoreAt client frame offset bytes) heeds other spares ready i = heeds i
+  no_interrupt (LoadAt client frame offset count) heeds other spares ready i = heeds i
+  no_interrupt (State at) heeds other spares ready i = heeds i
+  no_interrupt (Told step) heeds other spares ready i = heeds i
+
+  pub engine_left : h.event.ask ≢ Reset → (h.event.ask ≡ Tick → IsInterrupted h.event.evidence port → ⊥) → old.moment.ports.state port ≡ Ready → All (LeavesEngine port) t.accesses
+  engine_left other spares ready = ⊎_elim (λ a. a) (λ i. absurd (no_interrupt h.event.ask (t.port port healthy).heeds other spares ready i)) ev.stopped_all
+
+-- a tick interrupts none that it doesn't bring to its limit
+pub tick_spares : (ask : Ask DeviceStep) (said : Said) (old : Moment) (evidence : Evidence) (steps : List Step) (new : Moment) (port : Port) → IsAnswered ask said old evidence steps new
+    → (ask ≡ Tick → IsHung old port → ⊥) → ask ≡ Tick → IsInterrupted evidence port → ⊥
+tick_spares Tick (Served replies) old evidence steps new port answered young asks i = young refl (answered.restarts.spares port i)
+tick_spares Tick (Submitted x) old evidence steps new port answered young asks i = answered
+tick_spares Tick (Stored x) old evidence steps new port answered young asks i = answered
+tick_spares Tick (Loaded x) old evidence steps new port answered young asks i = answered
+tick_spares Tick (WasReset x) old evidence steps new port answered young asks i = answered
+tick_spares Tick (Shown x) old evidence steps new port answered young asks i = answered
+tick_spares Tick (Stepped x) old evidence steps new port answered young asks i = answered
+tick_spares Service said old evidence steps new port answered young asks i = let z : Service ≡ Tick = asks in absurd cc
+tick_spares Reset said old evidence steps new port answered young asks i = let z : Reset ≡ Tick = asks in absurd cc
+tick_spares (Submit r) said old evidence steps new port answered young asks i = let z : Submit r ≡ Tick = asks in absurd cc
+tick_spares (StoreAt client frame offset bytes) said old evidence steps new port answered young asks i = let z : StoreAt client frame offset bytes ≡ Tick = asks in absurd cc
+tick_spares (LoadAt client frame offset count) said old evidence steps new port answered young asks i = let z : LoadAt client frame offset count ≡ Tick = asks in absurd cc
+tick_spares (State at) said old evidence steps new port answered young asks i = let z : State at ≡ Tick = asks in absurd cc
+tick_spares (Told step) said old evidence steps new port answered young asks i = let z : Told step ≡ Tick = asks in absurd cc

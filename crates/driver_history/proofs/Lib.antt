@@ -2,3 +2,5 @@ pub mod Telling
 pub mod Placing
 pub mod Instants
 pub mod Calm
+pub mod Lasting
+pub mod Leaving

@@ -1,11 +1,12 @@
 // Laws of the definitions, for callers: the clause is the theorem. These functions do nothing.
-ghost use Rattle.std.specs.Prelude.{ℕ, true, ◌≡◌, ◌<◌, List, ◌∷◌, Contains};
+ghost use Rattle.std.specs.Prelude.{ℕ, true, ◌≡◌, ◌≢◌, ◌<◌, List, ◌∷◌, Contains};
 ghost use Rattle.ata_types.specs.declared.Port.{Port};
 ghost use Rattle.ata_types.specs.declared.PortState.TheVariants.{Ready};
 ghost use Rattle.adapter.specs.Device.{Device};
 ghost use Rattle.adapter.specs.declared.access.DeviceStep.{DeviceStep};
+ghost use Rattle.agreement.specs.Facts.{RunsWell};
 ghost use Rattle.agreement.specs.Slots.{ServesRequest};
-ghost use Rattle.block_machine.specs.Events.{steps_of, Service, IsRun, EveryReadHolds};
+ghost use Rattle.block_machine.specs.Events.{steps_of, Service, Tick, Reset, IsHung, IsRun, EveryReadHolds};
 ghost use Rattle.block_machine.specs.Histories.{Instant, Happening, events_of, now};
 ghost use Rattle.block_machine.specs.Ports.{AreFit};
 ghost use Rattle.block_machine.specs.State.{Pending};
@@ -16,6 +17,7 @@ ghost use Rattle.driver_history.specs.Histories.{IsHistory};
 ghost use Rattle.driver_history.specs.Holds.{HoldsAt};
 ghost use Rattle.driver_history.specs.Moves.{KeepsMoves};
 
+use agreement::facts::healthy_stays;
 use agreement::laws::disks_are_told;
 
 /// The calls of a history are a run of the block machine. So its laws on runs hold of them: each request that is
@@ -71,4 +73,16 @@ pub fn healthy_ports_are_left_alone()
         → StaysHealthy port.0 (now first past).device h.device → IsSpared (now first past) h history.2.accesses port }
 {
     disks_are_told();
+}
+
+/// A port that is ready and stays healthy in a call runs well after it, unless the call is a reset, or a tick that brings a request of the port to
+/// its age of three.
+pub fn calls_leave_ports_well()
+    ensures { (wanted : List Wanted) (first : Instant Device) (past : List (Happening Device DeviceStep)) (h : Happening Device DeviceStep)
+        (port : Port) → IsHistory wanted first (h ∷ past) → (now first past).moment.ports.state port ≡ Ready → h.event.ask ≢ Reset
+        → (h.event.ask ≡ Tick → IsHung (now first past).moment port → ⊥) → StaysHealthy port.0 (now first past).device h.device
+        → RunsWell (h.device.port port.0) }
+{
+    disks_are_told();
+    healthy_stays();
 }

@@ -33,7 +33,7 @@ use Rattle.host_boot.proofs.Hosting.{switches_on}
 -- ---- a port that runs well
 
 -- where it runs on, and nothing goes wrong on it, no bit tells of trouble either
-well_on : (port : ℕ) (old new : Device) → RunsOn port old new → Undisturbed port old new → RunsWell (old.port port) → RunsWell (new.port port)
+pub well_on : (port : ℕ) (old new : Device) → RunsOn port old new → Undisturbed port old new → RunsWell (old.port port) → RunsWell (new.port port)
 well_on port old new runs calm well =
     let none = undisturbed_plugs port old new calm in
     let disks = runs.goes.disks well.linked in

@@ -1,0 +1,79 @@
+-- A port that stays healthy in a call runs well after it.
+use Rattle.std.proofs.Common.{ℕ, ◌≡◌, ◌≢◌, ◌⊎◌, ◌*◌, ◌+◌, true, false, List, [], ◌∷◌, Option, Some, None, Ok, Err, refl, sym, ◌∙◌, ap, inl, inr, subst, ⊎_elim}
+use Rattle.std.specs.List.{All}
+use Rattle.std.proofs.lemmas.List.Elements.{All-cons, All-nil}
+use Rattle.ata_types.specs.declared.Port.{Port}
+use Rattle.ata_types.specs.declared.memory.TheConstants.{FRAME_BYTES}
+use Rattle.hba_regs.specs.declared.reg.Reg.TheVariants.{Ghc, Px}
+use Rattle.hba_regs.specs.declared.reg.PortReg.TheVariants.{Cmd, Sctl, Sact, Ci}
+use Rattle.adapter.specs.Access.{Access, DoesAll}
+use Rattle.adapter.specs.Access.Access.{Reading, Writing, Loading, Storing}
+use Rattle.adapter.specs.Device.{Device}
+use Rattle.adapter.specs.Rules.{IsOn}
+use Rattle.adapter.specs.Steps.{Steps}
+use Rattle.adapter.specs.declared.access.DeviceStep.{DeviceStep}
+use Rattle.adapter.proofs.Going.{asked_steps}
+use Rattle.agreement.specs.Facts.{RunsWell, Undisturbed}
+use Rattle.agreement.specs.Links.{SparesRegister}
+use Rattle.block_machine.specs.Events.{Ask, Submit, StoreAt, LoadAt, Service, Tick, Reset, State, Device as Told, Said, Submitted, Stored, Loaded, Served, WasReset, Shown, Stepped}
+use Rattle.block_machine.specs.State.{Machine}
+use Rattle.host_boot.proofs.Running.{well_on}
+use Rattle.port_boot.proofs.Enduring.{lasts}
+use Rattle.driver_history.specs.Histories.{CameBy, IsIssuing}
+use Rattle.driver_history.specs.Trace.{IsServing, LeavesEngine}
+
+-- it writes neither GHC, nor PxCMD or PxSCTL of the port
+abbrev pub LeavesRunning : Port → Access → Type 0
+LeavesRunning port access = SparesRegister Ghc access × LeavesEngine port access
+
+-- such accesses, or none
+abbrev pub IsCalm : Port → List Access → Device → Device → Type 0
+IsCalm port accesses old new = (All (LeavesRunning port) accesses × DoesAll accesses old new) ⊎ Steps old new
+
+issuing_leaves : (port at : Port) (access : Access) → IsIssuing at access → LeavesRunning port access
+issuing_leaves port at (Writing r v) (inl e) =
+    (λ q. absurd (let z : Px at Sact ≡ Ghc = sym e ∙ q in cc), ((λ q. absurd (let z : Px at Sact ≡ Px port Cmd = sym e ∙ q in cc)), (λ q. absurd (let z : Px at Sact ≡ Px port Sctl = sym e ∙ q in cc))))
+issuing_leaves port at (Writing r v) (inr e) =
+    (λ q. absurd (let z : Px at Ci ≡ Ghc = sym e ∙ q in cc), ((λ q. absurd (let z : Px at Ci ≡ Px port Cmd = sym e ∙ q in cc)), (λ q. absurd (let z : Px at Ci ≡ Px port Sctl = sym e ∙ q in cc))))
+issuing_leaves port at (Storing place bytes) here = (tt, (tt, tt))
+issuing_leaves port at (Reading r v) here = absurd here
+issuing_leaves port at (Loading place bytes) here = absurd here
+
+one_leaves : (port : Port) (access : Access) → LeavesRunning port access → All (LeavesRunning port) (access ∷ [])
+one_leaves port access is = All-cons (LeavesRunning port) access [] is (All-nil (LeavesRunning port))
+
+-- the call isn't a reset
+abbrev pub IsNoReset : Ask DeviceStep → Type 0
+IsNoReset ask = ask ≢ Reset
+
+module _ (port : Port) (m : Machine) (accesses : List Access) (old new : Device) where
+  abbrev Calm : Type 0
+  Calm = IsCalm port accesses old new
+
+  serving : All IsServing accesses → All (LeavesEngine port) accesses → All (LeavesRunning port) accesses
+  serving serves leaves i e small = ((serves i e small).1, leaves i e small)
+
+  none : accesses ≡ [] → new ≡ old → Calm
+  none made same = inl (subst (λ (list : List Access). All (LeavesRunning port) list × DoesAll list old new) (sym made) (All-nil (LeavesRunning port), same))
+
+  -- how the call came there, if it leaves the engine alone
+  pub came_calmly : (ask : Ask DeviceStep) (said : Said) → CameBy m ask said accesses old new → IsNoReset ask → All (LeavesEngine port) accesses → Calm
+  came_calmly (Told step) (Stepped true) c other leaves = inr (asked_steps step old new c.1)
+  came_calmly (Submit r) (Submitted (Ok id)) c other leaves = inl ((λ i e small. issuing_leaves port c.1.0.port _ (c.1.2 i e small)), c.0)
+  came_calmly (StoreAt client frame offset bytes) (Stored None) c other leaves =
+      inl (subst (All (LeavesRunning port)) (sym c.1) (one_leaves port (Storing (FRAME_BYTES * frame.0 + offset) bytes) (tt, (tt, tt))), c.0)
+  came_calmly (LoadAt client frame offset count) (Loaded (Ok bytes)) c other leaves =
+      inl (subst (All (LeavesRunning port)) (sym c.1) (one_leaves port (Loading (FRAME_BYTES * frame.0 + offset) bytes) (tt, (tt, tt))), c.0)
+  came_calmly Service (Served replies) c other leaves = inl (serving c.1 leaves, c.0)
+  came_calmly Tick (Served replies) c other leaves = inl (serving c.1 leaves, c.0)
+  came_calmly Reset said c other leaves = absurd (other refl)
+  came_calmly ask said c other leaves = none c.0 c.1
+
+-- what the law on healthy ports says of the device's steps
+abbrev pub StepsKeepWell : Type 0
+StepsKeepWell = (port : ℕ) (old new : Device) → old.hr ≡ false → Steps old new → Undisturbed port old new → RunsWell (old.port port) → RunsWell (new.port port)
+
+pub runs_well : StepsKeepWell → (port : Port) (accesses : List Access) (old new : Device) → IsOn old → IsCalm port accesses old new → Undisturbed port.0 old new → RunsWell (old.port port.0) → RunsWell (new.port port.0)
+runs_well steps port accesses old new on (inr moves) calm well = steps port.0 old new on.no_reset moves calm well
+runs_well steps port accesses old new on (inl (only, does)) calm well =
+    well_on port.0 old new (lasts port (LeavesRunning port) (λ access is. is.0) (λ access is. is.1.1) old new on (record { accesses = accesses; all = does; only = only }) (λ access is. is.1.0)).runs calm well

@@ -1,0 +1,27 @@
+-- What a call leaves of a port that stays healthy in it.
+use Rattle.std.proofs.Common.{◌≡◌, ◌≢◌, List, ◌∷◌}
+use Rattle.ata_types.specs.declared.Port.{Port}
+use Rattle.ata_types.specs.declared.PortState.TheVariants.{Ready}
+use Rattle.adapter.specs.Device.{Device}
+use Rattle.adapter.specs.declared.access.DeviceStep.{DeviceStep}
+use Rattle.agreement.specs.Facts.{RunsWell}
+use Rattle.block_machine.specs.Events.{Tick, Reset, IsHung, moment_after}
+use Rattle.block_machine.specs.Histories.{Instant, Happening, now}
+use Rattle.identify.specs.declared.wanted.Wanted.{Wanted}
+use Rattle.driver_history.specs.Guard.{StaysHealthy}
+use Rattle.driver_history.specs.Histories.{IsHistory, Ties}
+use Rattle.driver_history.proofs.Calm.{EntryIsTold, engine_left, tick_spares}
+use Rattle.driver_history.proofs.Instants.{fit_at, holds_at, ready_at}
+use Rattle.driver_history.proofs.Lasting.{StepsKeepWell, came_calmly, runs_well}
+
+pub left_well : EntryIsTold → StepsKeepWell → (wanted : List Wanted) (first : Instant Device) (past : List (Happening Device DeviceStep)) (h : Happening Device DeviceStep)
+    (port : Port) → IsHistory wanted first (h ∷ past) → (now first past).moment.ports.state port ≡ Ready → h.event.ask ≢ Reset
+    → (h.event.ask ≡ Tick → IsHung (now first past).moment port → ⊥) → StaysHealthy port.0 (now first past).device h.device → RunsWell (h.device.port port.0)
+left_well told steps wanted first past h port history ready other young healthy =
+    let old : Instant Device = now first past in
+    let t : Ties wanted old h = history.2 in
+    let holds = holds_at wanted first past history.0 in
+    let at = ready_at wanted old port (fit_at wanted first past history.0) holds.0 holds.1 ready in
+    let leaves = engine_left told wanted old h t port healthy other
+    (tick_spares h.event.ask h.event.said old.moment h.event.evidence h.event.steps (moment_after old.moment h.event) port history.1.answered young) ready in
+    runs_well steps port t.accesses old.device h.device at.on (came_calmly port old.moment.machine t.accesses old.device h.device h.event.ask h.event.said t.came other leaves) healthy.undisturbed healthy.well
