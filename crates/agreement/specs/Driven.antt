@@ -93,6 +93,15 @@ pub record IsFollowedTo (May : Access → Type 0) (Fits : Uses → Type 0) (next
 abbrev pub IsFollowed : (Access → Type 0) → (Uses → Type 0) → Device → Device → Type 0
 IsFollowed May Fits old new = IsFollowedTo May Fits (λ uses. uses) old new
 
+-- What was followed, and so much is told of the list of its accesses: that list to which the machine's steps belong.
+pub record IsToldTo (Tells : List Access → Type 0) (May : Access → Type 0) (Fits : Uses → Type 0) (next : Uses → Uses) (old new : Device) : Type 0 where
+  pub followed : IsFollowedTo May Fits next old new
+  pub tells : Tells followed.driven.accesses
+
+-- the same, where each slot goes on as it is used
+abbrev pub IsTold : (List Access → Type 0) → (Access → Type 0) → (Uses → Type 0) → Device → Device → Type 0
+IsTold Tells May Fits old new = IsToldTo Tells May Fits (λ uses. uses) old new
+
 -- ---- what they leave
 
 -- no slot of the port has a command, neither issued nor taken

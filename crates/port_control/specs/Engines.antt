@@ -1,0 +1,53 @@
+-- What accesses tell of a port's two engines: the one that works on the command list (ST and CR of PxCMD), and the one that receives
+-- FISes (FRE and FR; AHCI 1.3.1, 3.3.7, 10.3.1 and 10.3.2).
+use Rattle.std.specs.Prelude.{ℕ, true, false, ◌≡◌, ◌⊎◌, ◌++◌, List, ◌∷◌, All, length}
+use Rattle.ata_types.specs.declared.Port.{Port}
+use Rattle.hba_regs.specs.Bits.{bit}
+use Rattle.hba_regs.specs.declared.reg.PortReg.TheVariants.{Cmd}
+use Rattle.hba_regs.specs.declared.reg.Reg.TheVariants.{Px}
+use Rattle.adapter.specs.Access.{Access}
+use Rattle.adapter.specs.Access.Access.{Reading, Writing}
+use Rattle.agreement.specs.Links.{SparesRegister}
+
+-- An engine fell: the bit that starts it was written 0, and the bit that shows it running was read 0 after that, with PxCMD not
+-- written between.
+pub record Falls (start running : ℕ) (port : Port) (accesses : List Access) : Type 0 where
+  pub before : List Access
+  pub cleared : ℕ
+  pub between : List Access
+  pub fallen : ℕ
+  pub later : List Access
+  pub here : accesses ≡ before ++ (Writing (Px port Cmd) cleared ∷ (between ++ (Reading (Px port Cmd) fallen ∷ later)))
+  pub clears : bit cleared start ≡ false
+  pub only : All (SparesRegister (Px port Cmd)) between
+  pub shown : bit fallen running ≡ false
+
+-- ST was cleared, and CR was read 0
+abbrev pub Stops : Port → List Access → Type 0
+Stops port accesses = Falls 0 15 port accesses
+
+-- FRE was cleared, and FR was read 0
+abbrev pub StopsReceiving : Port → List Access → Type 0
+StopsReceiving port accesses = Falls 4 14 port accesses
+
+-- both engines fell
+abbrev pub StopsBoth : Port → List Access → Type 0
+StopsBoth port accesses = Stops port accesses × StopsReceiving port accesses
+
+-- a value of PxCMD shows an engine that was cleared and runs still: CR while ST is 0, or FR while FRE is 0
+abbrev pub ShowsStuck : ℕ → Type 0
+ShowsStuck v = ((bit v 0 ≡ false) × (bit v 15 ≡ true)) ⊎ ((bit v 4 ≡ false) × (bit v 14 ≡ true))
+
+-- it reads PxCMD, which shows that
+abbrev pub IsStuckReading : Port → Access → Type 0
+IsStuckReading port (Reading r v) = (r ≡ Px port Cmd) × ShowsStuck v
+IsStuckReading port access = ⊥
+
+-- An engine was awaited in vain: 64 readings in a row showed that it runs still.
+pub record Sticks (port : Port) (accesses : List Access) : Type 0 where
+  pub before : List Access
+  pub stuck : List Access
+  pub later : List Access
+  pub here : accesses ≡ before ++ (stuck ++ later)
+  pub number : length stuck ≡ 64
+  pub all : All (IsStuckReading port) stuck
