@@ -26,7 +26,7 @@ use Rattle.disk_page.specs.Asking.{IsAsking}
 use Rattle.identify.specs.Page.{Describes, HasNoFault, IsFirstFault, IsSerial, number_of}
 use Rattle.identify.specs.declared.DiskInfo.{DiskInfo}
 use Rattle.identify.specs.declared.Unfit.{Unfit as Fault}
-use Rattle.port_control.specs.Engines.{Stops, StopsReceiving, Sticks}
+use Rattle.port_control.specs.Engines.{FailsToStop, Stops, StopsReceiving, Sticks}
 use Rattle.port_control.specs.Ports.{WritesCommand, IsStopped, IsRunning, IsPlacing, IsResetting, SawDevice, Shows, FindsSignature, Looks, WasReset, HasClearErrors, IsFound}
 use Rattle.port_control.specs.declared.PortFault.{PortFault}
 use Rattle.port_control.specs.declared.PortFault.TheVariants.{NoDevice, Busy, EngineStuck, NotAta}
@@ -265,4 +265,4 @@ abbrev pub IsHaltedAs : Port → PortState → PortState → Device → Device �
 IsHaltedAs port wanted state old new =
     ((state ≡ wanted) × IsStopped (new.port port.0) × IsTold (Stops port) (IsControl WritesCommand port) AnyUse old new)
     ⊎ ((state ≡ Dead) × ((new.port port.0).st ≡ false) × Shows EngineStuck (new.port port.0).notes
-    × IsTold (Sticks port) (IsControl WritesCommand port) AnyUse old new)
+    × IsTold (FailsToStop port) (IsControl WritesCommand port) AnyUse old new)

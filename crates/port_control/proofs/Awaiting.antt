@@ -1,6 +1,5 @@
 -- What accesses tell of an engine that is awaited.
-use Rattle.std.proofs.Common.{ℕ, ◌≡◌, ◌+◌, ◌++◌, false, List, [], ◌∷◌, length, refl, sym, ◌∙◌, ap, append_assoc, append-nil}
-use Rattle.std.specs.List.{All}
+use Rattle.std.proofs.Common.{ℕ, ◌≡◌, ◌+◌, ◌++◌, false, List, [], ◌∷◌, refl, ◌∙◌, ap, append_assoc}
 use Rattle.std.proofs.lemmas.List.{length-append}
 use Rattle.std.proofs.lemmas.List.Elements.{All-nil, All-push, All-weaker}
 use Rattle.ata_types.specs.declared.Port.{Port}
@@ -10,17 +9,7 @@ use Rattle.hba_regs.specs.declared.reg.Reg.TheVariants.{Px}
 use Rattle.adapter.specs.Access.{Access}
 use Rattle.adapter.specs.Access.Access.{Reading, Writing, Loading, Storing}
 use Rattle.agreement.specs.Links.{SparesRegister}
-use Rattle.port_control.specs.Engines.{Falls, ShowsStuck, IsStuckReading, Sticks}
-
--- The bit that starts an engine was written 0, and so many readings of PxCMD since, and nothing else, showed an engine that is stuck.
-pub record IsAwaiting (start : ℕ) (port : Port) (n : ℕ) (accesses : List Access) : Type 0 where
-  pub before : List Access
-  pub cleared : ℕ
-  pub stuck : List Access
-  pub here : accesses ≡ before ++ (Writing (Px port Cmd) cleared ∷ stuck)
-  pub clears : bit cleared start ≡ false
-  pub number : length stuck ≡ n
-  pub all : All (IsStuckReading port) stuck
+use Rattle.port_control.specs.Engines.{Awaits, Falls, ShowsStuck, IsStuckReading}
 
 -- such a reading writes nothing
 reading_spares : (port : Port) (access : Access) → IsStuckReading port access → SparesRegister (Px port Cmd) access
@@ -31,7 +20,7 @@ reading_spares port (Storing at bytes) is = absurd is
 
 module _ (start : ℕ) (port : Port) where
   -- the bit is written 0
-  pub awaits_none : (cleared : ℕ) → bit cleared start ≡ false → (early late : List Access) → late ≡ Writing (Px port Cmd) cleared ∷ [] → IsAwaiting start port 0 (early ++ late)
+  pub awaits_none : (cleared : ℕ) → bit cleared start ≡ false → (early late : List Access) → late ≡ Writing (Px port Cmd) cleared ∷ [] → Awaits start port 0 (early ++ late)
   awaits_none cleared zero early late is = record {
     before = early;
     cleared = cleared;
@@ -43,14 +32,14 @@ module _ (start : ℕ) (port : Port) where
   }
 
   -- PxCMD is read
-  module _ (n v : ℕ) (early late : List Access) (a : IsAwaiting start port n early) (is : late ≡ Reading (Px port Cmd) v ∷ []) where
+  module _ (n v : ℕ) (early late : List Access) (a : Awaits start port n early) (is : late ≡ Reading (Px port Cmd) v ∷ []) where
     then_reads : early ++ late ≡ a.before ++ (Writing (Px port Cmd) a.cleared ∷ (a.stuck ++ Reading (Px port Cmd) v ∷ []))
     then_reads =
         ap (λ (accesses : List Access). accesses ++ late) a.here
         ∙ (append_assoc a.before (Writing (Px port Cmd) a.cleared ∷ a.stuck) late
         ∙ ap (λ (accesses : List Access). a.before ++ (Writing (Px port Cmd) a.cleared ∷ (a.stuck ++ accesses))) is)
 
-    pub awaits_more : ShowsStuck v → IsAwaiting start port (n + 1) (early ++ late)
+    pub awaits_more : ShowsStuck v → Awaits start port (n + 1) (early ++ late)
     awaits_more shows = record {
       before = a.before;
       cleared = a.cleared;
@@ -73,15 +62,3 @@ module _ (start : ℕ) (port : Port) where
       only = All-weaker (IsStuckReading port) (SparesRegister (Px port Cmd)) (reading_spares port) a.stuck a.all;
       shown = zero;
     }
-
-  -- after 64 readings
-  pub awaits_sticks : (accesses : List Access) → IsAwaiting start port 64 accesses → Sticks port accesses
-  awaits_sticks accesses a = record {
-    before = a.before ++ Writing (Px port Cmd) a.cleared ∷ [];
-    stuck = a.stuck;
-    later = [];
-    here = a.here ∙ (sym (append_assoc a.before (Writing (Px port Cmd) a.cleared ∷ []) a.stuck)
-        ∙ ap (λ (rest : List Access). (a.before ++ Writing (Px port Cmd) a.cleared ∷ []) ++ rest) (sym (append-nil a.stuck)));
-    number = a.number;
-    all = a.all;
-  }

@@ -15,13 +15,13 @@ use Rattle.agreement.specs.Driver.{LeavesUses}
 use Rattle.agreement.specs.Facts.{IsAfterReset}
 use Rattle.agreement.specs.Slots.{Uses}
 use Rattle.agreement.proofs.Allowing.{stopping_may, no_receiving_may, receiving_may}
-use Rattle.agreement.proofs.Driven.{followed_then, followed_read, followed_write, told_both, told_more, told_read, told_write}
+use Rattle.agreement.proofs.Driven.{followed_then, followed_read, followed_write, told_both, told_read, told_write}
 use Rattle.agreement.proofs.Halting.{stop_is_found}
 use Rattle.agreement.proofs.Noting.{command_noted, notes_read, shown_after}
 use Rattle.agreement.proofs.Setting.{command_set}
-use Rattle.port_control.specs.Engines.{Falls, ShowsStuck, Sticks}
+use Rattle.port_control.specs.Engines.{Awaits, Falls, ShowsStuck}
 use Rattle.port_control.specs.Ports.{WritesCommand, IsUsable, IsStopped, ReceivesFises, SameBeside, HasStopped, programmed}
-use Rattle.port_control.proofs.Awaiting.{IsAwaiting, awaits_none, awaits_more, awaits_falls, awaits_sticks}
+use Rattle.port_control.proofs.Awaiting.{awaits_none, awaits_more, awaits_falls}
 use Rattle.port_control.proofs.Using.{usable_after, usable_read, cleared_bits, beside_then, beside_read, beside_command, bases_command, stopped_on, stopped_read, stopped_command}
 
 -- ---- counts of readings
@@ -54,33 +54,32 @@ reading port v old new call = followed_read (IsControl WritesCommand port) (Px p
 module _ (start : ℕ) (port : Port) where
   -- PxCMD was read, and written with the bit of an engine 0
   pub told_clears : (was v : ℕ) (old mid new : Device) → bit v start ≡ false → Reads (Px port Cmd) was old mid → Stays (MayWrite (Px port Cmd) v) mid →
-      ((uses : Uses) → AnyUse uses → LeavesUses uses (Px port Cmd) v mid) → Writes (Px port Cmd) v mid new → IsTold (IsAwaiting start port 0) (IsControl WritesCommand port) AnyUse old new
+      ((uses : Uses) → AnyUse uses → LeavesUses uses (Px port Cmd) v mid) → Writes (Px port Cmd) v mid new → IsTold (Awaits start port 0) (IsControl WritesCommand port) AnyUse old new
   told_clears was v old mid new zero read may leaves write =
-      told_both (λ accesses. accesses ≡ Reading (Px port Cmd) was ∷ []) (λ accesses. accesses ≡ Writing (Px port Cmd) v ∷ []) (IsAwaiting start port 0)
+      told_both (λ accesses. accesses ≡ Reading (Px port Cmd) was ∷ []) (λ accesses. accesses ≡ Writing (Px port Cmd) v ∷ []) (Awaits start port 0)
       (λ early late is then. awaits_none start port v zero early late then) (IsControl WritesCommand port) AnyUse AnyUse (λ uses. uses) (λ uses. uses) (λ uses is. is) old mid new
       (told_read (IsControl WritesCommand port) AnyUse (Px port Cmd) was old mid refl read)
       (told_write (IsControl WritesCommand port) AnyUse (Px port Cmd) v mid new (refl, refl) may leaves write)
 
-  module _ (n v : ℕ) (old mid new : Device) (a : IsTold (IsAwaiting start port n) (IsControl WritesCommand port) AnyUse old mid) (call : Reads (Px port Cmd) v mid new) where
+  module _ (n v : ℕ) (old mid new : Device) (a : IsTold (Awaits start port n) (IsControl WritesCommand port) AnyUse old mid) (call : Reads (Px port Cmd) v mid new) where
     -- what is told of them, and of one more reading
-    with_reading : (Tells : List Access → Type 0) → ((early late : List Access) → IsAwaiting start port n early → late ≡ Reading (Px port Cmd) v ∷ [] → Tells (early ++ late)) →
+    with_reading : (Tells : List Access → Type 0) → ((early late : List Access) → Awaits start port n early → late ≡ Reading (Px port Cmd) v ∷ [] → Tells (early ++ late)) →
         IsTold Tells (IsControl WritesCommand port) AnyUse old new
     with_reading Tells join =
-        told_both (IsAwaiting start port n) (λ accesses. accesses ≡ Reading (Px port Cmd) v ∷ []) Tells join
+        told_both (Awaits start port n) (λ accesses. accesses ≡ Reading (Px port Cmd) v ∷ []) Tells join
         (IsControl WritesCommand port) AnyUse AnyUse (λ uses. uses) (λ uses. uses) (λ uses is. is) old mid new a
         (told_read (IsControl WritesCommand port) AnyUse (Px port Cmd) v mid new refl call)
 
-    pub told_stuck : ShowsStuck v → IsTold (IsAwaiting start port (n + 1)) (IsControl WritesCommand port) AnyUse old new
-    told_stuck shows = with_reading (IsAwaiting start port (n + 1)) (λ early late a is. awaits_more start port n v early late a is shows)
+    pub told_stuck : ShowsStuck v → IsTold (Awaits start port (n + 1)) (IsControl WritesCommand port) AnyUse old new
+    told_stuck shows = with_reading (Awaits start port (n + 1)) (λ early late a is. awaits_more start port n v early late a is shows)
 
     pub told_falls : (running : ℕ) → bit v running ≡ false → IsTold (Falls start running port) (IsControl WritesCommand port) AnyUse old new
     told_falls running zero = with_reading (Falls start running port) (λ early late a is. awaits_falls start port n v early late a is running zero)
 
   -- after 64 of them
-  pub told_sticks : (n : ℕ) → n ≡ 64 → (old new : Device) → IsTold (IsAwaiting start port n) (IsControl WritesCommand port) AnyUse old new →
-      IsTold (Sticks port) (IsControl WritesCommand port) AnyUse old new
-  told_sticks n all old new a = told_more (IsAwaiting start port n) (Sticks port) (IsControl WritesCommand port) AnyUse (λ uses. uses) old new
-      (λ accesses here. awaits_sticks start port accesses (subst (λ (k : ℕ). IsAwaiting start port k accesses) all here)) a
+  pub told_awaits : (n : ℕ) → n ≡ 64 → (old new : Device) → IsTold (Awaits start port n) (IsControl WritesCommand port) AnyUse old new →
+      IsTold (Awaits start port 64) (IsControl WritesCommand port) AnyUse old new
+  told_awaits n all old new a = subst (λ (k : ℕ). IsTold (Awaits start port k) (IsControl WritesCommand port) AnyUse old new) all a
 
 -- PxCMD is read, and written
 module _ (port : Port) (was v : ℕ) (old mid : Device) (u : IsUsable AnyUse port old) (read : Reads (Px port Cmd) was old mid) where
@@ -118,7 +117,7 @@ module _ (port : Port) (was v : ℕ) (old mid : Device) (u : IsUsable AnyUse por
     }
 
     module _ (new : Device) (write : Writes (Px port Cmd) v mid new) where
-      pub stop_told : IsTold (IsAwaiting 0 port 0) (IsControl WritesCommand port) AnyUse old new
+      pub stop_told : IsTold (Awaits 0 port 0) (IsControl WritesCommand port) AnyUse old new
       stop_told = told_clears 0 port was v old mid new zero read stop_may stop_leaves write
 
       pub stop_has : HasStopped (old.port port.0) (new.port port.0)
@@ -153,7 +152,7 @@ module _ (port : Port) (was v : ℕ) (old mid : Device) (u : IsUsable AnyUse por
     empty_leaves uses is = record { start = λ on. true-false on st_zero; receive = λ on. true-false on zero }
 
     module _ (new : Device) (write : Writes (Px port Cmd) v mid new) where
-      pub empty_begins : IsTold (IsAwaiting 4 port 0) (IsControl WritesCommand port) AnyUse old new × IsStopped (new.port port.0) × ((new.port port.0).fre ≡ false)
+      pub empty_begins : IsTold (Awaits 4 port 0) (IsControl WritesCommand port) AnyUse old new × IsStopped (new.port port.0) × ((new.port port.0).fre ≡ false)
           × ((new.port port.0).bases ≡ (old.port port.0).bases) × SameBeside (old.port port.0) (new.port port.0)
       empty_begins = (
         told_clears 4 port was v old mid new zero read empty_may empty_leaves write,
@@ -201,7 +200,7 @@ module _ (port : Port) (was v : ℕ) (old mid : Device) (u : IsUsable AnyUse por
 
 -- ST was cleared, and so many readings found CR set
 pub record IsFalling (port : Port) (start : Device) (n : ℕ) (d : Device) : Type 0 where
-  pub told : IsTold (IsAwaiting 0 port n) (IsControl WritesCommand port) AnyUse start d
+  pub told : IsTold (Awaits 0 port n) (IsControl WritesCommand port) AnyUse start d
   pub usable : IsUsable AnyUse port d
   pub has : HasStopped (start.port port.0) (d.port port.0)
   pub low : n ≤ (d.port port.0).notes.engine_count
@@ -266,7 +265,7 @@ pub record HasEmptied (port : Port) (start d : Device) : Type 0 where
 
 -- FRE was cleared, and so many readings found FR set
 pub record IsEmptying (port : Port) (start : Device) (n : ℕ) (d : Device) : Type 0 where
-  pub told : IsTold (IsAwaiting 4 port n) (IsControl WritesCommand port) AnyUse start d
+  pub told : IsTold (Awaits 4 port n) (IsControl WritesCommand port) AnyUse start d
   pub has : HasEmptied port start d
   pub low : n ≤ (d.port port.0).notes.engine_count
   pub high : 0 < n → (d.port port.0).notes.engine_count ≤ 64

@@ -1,5 +1,5 @@
 -- What an access of a port needs, and what goes on over accesses.
-use Rattle.std.proofs.Common.{ℕ, ◌≡◌, ◌⊎◌, ◌&&◌, ◌++◌, Bool, List, ◌∷◌, false, inl, inr, refl, sym, ◌∙◌, ap, subst, append_assoc}
+use Rattle.std.proofs.Common.{ℕ, ◌≡◌, ◌⊎◌, ◌&&◌, ◌++◌, Bool, List, [], ◌∷◌, false, inl, inr, refl, sym, ◌∙◌, ap, subst, append_assoc, append-nil}
 use Rattle.ata_types.specs.declared.Port.{Port}
 use Rattle.hba_regs.specs.Bits.{bit}
 use Rattle.hba_regs.specs.declared.reg.PortReg.{PortReg}
@@ -21,7 +21,7 @@ use Rattle.agreement.proofs.Driven.{followed_as, followed_read, told_as}
 use Rattle.agreement.proofs.Halting.{halted_on, halted_writes}
 use Rattle.agreement.proofs.Noting.{notes_read}
 use Rattle.agreement.proofs.Unarmed.{writes_clear}
-use Rattle.port_control.specs.Engines.{Falls, Sticks}
+use Rattle.port_control.specs.Engines.{Awaits, Falls, Sticks}
 use Rattle.port_control.specs.Ports.{WritesCommand, IsResetting, IsUsable, IsStopped, ReceivesFises, SameButCommand, SameBeside}
 
 -- ---- the port may be used on
@@ -164,7 +164,21 @@ receiving_write port r v old new off kind call h =
     let w : PutAt port.0 r v old new = put port r v old new call off in
     subst (ReceivesFises port.0) (sym w.here) (written_receiving port.0 v _ (w.mid.port port.0) (receiving_on (w.keeps.port port.0) (w.keeps.on.controls port.0) h) r kind)
 
--- ---- what is told of accesses is told of more
+-- ---- what is told of accesses
+
+-- an engine that was awaited for 64 readings is stuck
+pub awaits_sticks : (start : ℕ) (port : Port) (accesses : List Access) → Awaits start port 64 accesses → Sticks port accesses
+awaits_sticks start port accesses a = record {
+  before = a.before ++ Writing (Px port Cmd) a.cleared ∷ [];
+  stuck = a.stuck;
+  later = [];
+  here = a.here ∙ (sym (append_assoc a.before (Writing (Px port Cmd) a.cleared ∷ []) a.stuck)
+      ∙ ap (λ (rest : List Access). (a.before ++ Writing (Px port Cmd) a.cleared ∷ []) ++ rest) (sym (append-nil a.stuck)));
+  number = a.number;
+  all = a.all;
+}
+
+-- what is told of accesses is told of more
 
 module _ (early late : List Access) where
   pub falls_then : (start running : ℕ) (port : Port) → Falls start running port early → Falls start running port (early ++ late)

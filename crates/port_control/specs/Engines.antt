@@ -43,7 +43,26 @@ abbrev pub IsStuckReading : Port → Access → Type 0
 IsStuckReading port (Reading r v) = (r ≡ Px port Cmd) × ShowsStuck v
 IsStuckReading port access = ⊥
 
--- An engine was awaited in vain: 64 readings in a row showed that it runs still.
+-- An engine is awaited: the bit that starts it was written 0, and so many readings of PxCMD since, and nothing else, showed one that is
+-- stuck.
+pub record Awaits (start : ℕ) (port : Port) (count : ℕ) (accesses : List Access) : Type 0 where
+  pub before : List Access
+  pub cleared : ℕ
+  pub stuck : List Access
+  pub here : accesses ≡ before ++ (Writing (Px port Cmd) cleared ∷ stuck)
+  pub clears : bit cleared start ≡ false
+  pub number : length stuck ≡ count
+  pub all : All (IsStuckReading port) stuck
+
+-- ST was cleared, and then 64 readings, the last of the accesses, showed an engine that is stuck
+abbrev pub FailsToStop : Port → List Access → Type 0
+FailsToStop port accesses = Awaits 0 port 64 accesses
+
+-- FRE was cleared, and then the same
+abbrev pub FailsToStopReceiving : Port → List Access → Type 0
+FailsToStopReceiving port accesses = Awaits 4 port 64 accesses
+
+-- 64 readings in a row showed an engine that was cleared and runs still.
 pub record Sticks (port : Port) (accesses : List Access) : Type 0 where
   pub before : List Access
   pub stuck : List Access

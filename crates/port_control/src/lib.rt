@@ -12,7 +12,7 @@ ghost use Rattle.agreement.specs.Errors.{NoneComes, ChangesByDisks};
 ghost use Rattle.agreement.specs.Facts.{IsAfterReset, IsAwaited, IsQuiet, IsRecorded, IsUnflagged};
 ghost use Rattle.agreement.specs.Links.{PlugsNone};
 ghost use Rattle.agreement.specs.Started.{IsUp, IsComingUp, IsStarted};
-ghost use Rattle.port_control.specs.Engines.{Stops, StopsReceiving, Sticks};
+ghost use Rattle.port_control.specs.Engines.{FailsToStop, FailsToStopReceiving, Stops, StopsReceiving};
 ghost use Rattle.port_control.specs.Ports.{WritesCommand, IsPlacing, IsClearing, IsResetting, IsUsable, IsStopped, ReceivesFises, IsRunning, SawDevice, SawIdle, Shows, SameBeside, HasStopped, HasLink, ShowsIdle, ReadsWithout, ReadsUntil, ClearsErrors, FindsSignature, Looks, WasReset, HasClearErrors, FindsDevice, IsFound, ShowsSignature, SameButStart, programmed};
 
 use adapter::Adapter;
@@ -101,7 +101,7 @@ pub fn stop<A: Adapter>(adapter: &mut A, port: Port) -> Result<Stopped, PortFaul
     requires agreed { AgreesWith AnyUse (A.device adapter.old) }
     ensures stops { OnOk result (IsTold (Stops port) (IsControl WritesCommand port) AnyUse (A.device adapter.old)
         (A.device adapter.new)) }
-    ensures sticks { OnErr result (IsTold (Sticks port) (IsControl WritesCommand port) AnyUse (A.device adapter.old)
+    ensures sticks { OnErr result (IsTold (FailsToStop port) (IsControl WritesCommand port) AnyUse (A.device adapter.old)
         (A.device adapter.new)) }
     ensures on { IsOn (A.device adapter.new) }
     ensures has { HasStopped ((A.device adapter.old).port port.0) ((A.device adapter.new).port port.0) }
@@ -127,7 +127,7 @@ fn stop_receiving<A: Adapter>(adapter: &mut A, port: Port) -> bool
     requires stopped { IsStopped ((A.device adapter.old).port port.0) }
     ensures stops { result ≡ true → IsTold (StopsReceiving port) (IsControl WritesCommand port) AnyUse
         (A.device adapter.old) (A.device adapter.new) }
-    ensures sticks { result ≡ false → IsTold (Sticks port) (IsControl WritesCommand port) AnyUse
+    ensures sticks { result ≡ false → IsTold (FailsToStopReceiving port) (IsControl WritesCommand port) AnyUse
         (A.device adapter.old) (A.device adapter.new) }
     ensures stopped { IsStopped ((A.device adapter.new).port port.0) }
     ensures fre { ((A.device adapter.new).port port.0).fre ≡ false }
@@ -193,7 +193,7 @@ pub fn receive<A: Adapter>(
     requires room { DRIVER_BYTES ≤ (A.device adapter.old).size }
     ensures stops { OnOk result (IsTold (StopsReceiving stopped.port) (IsControl IsPlacing stopped.port) AnyUse
         (A.device adapter.old) (A.device adapter.new)) }
-    ensures sticks { OnErr result (IsTold (Sticks stopped.port) (IsControl IsPlacing stopped.port) AnyUse
+    ensures sticks { OnErr result (IsTold (FailsToStopReceiving stopped.port) (IsControl IsPlacing stopped.port) AnyUse
         (A.device adapter.old) (A.device adapter.new)) }
     ensures on { IsOn (A.device adapter.new) }
     ensures stopped { IsStopped ((A.device adapter.new).port stopped.port.0) }

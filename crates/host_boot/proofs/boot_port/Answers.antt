@@ -3,11 +3,11 @@ use Rattle.ata_types.specs.declared.Port.{Port}
 use Rattle.ata_types.specs.declared.PortState.TheVariants.{Dead}
 use Rattle.hba_regs.specs.Bits.{bit}
 use Rattle.identify.specs.declared.wanted.Wanted.TheVariants.{Nothing}
-use Rattle.port_control.specs.Engines.{StopsReceiving, Sticks}
+use Rattle.port_control.specs.Engines.{StopsReceiving}
 use Rattle.port_boot.specs.States.{EndsAs, IsBoot, IsBootTo, IsBootable, IsOfBoot, IsReady, EndsEarly, EndsLate, GetsReady, IsEarly, IsLate, ShowsNews, StopsOnWay}
 use Rattle.agreement.proofs.Driven.{by_none}
 use Rattle.port_boot.proofs.Staying.{boot_driven}
-use Rattle.host_boot.proofs.Stopping.{bootable, ended_since, since_stop, still_there, stop_boots, then_boot, then_boot_to}
+use Rattle.host_boot.proofs.Stopping.{bootable, ended_since, since_stop, still_there, stuck_boots, then_boot, then_boot_to}
 use Rattle.host_boot.proofs.Taking.{boots_same}
 use Rattle.host_boot.specs.declared.Found.TheVariants.{Ready, Unready}
 use Rattle.host_boot.proofs.boot_port.Goals as goal
@@ -16,10 +16,10 @@ pub returns-in_default-clause-stands : goal.returns-in_default-clause-stands
 returns-in_default-clause-stands g c =
     let there : bit (g.A.Adapter.device c.args.adapter.now).pi c.args.port.0 ≡ true = search (c.if-not-is_set.ensures, c.from.ensures, c.requires.there, rules) in
     let wants : c.args.wanted.now ≢ Nothing = search (c.eq.ensures, c.if-eq.false, rules) in
-    ((wants, (still_there c.args.port _ _ (boots_same c.args.port _ _ (Unready Dead) (inl (stop_boots (Sticks c.args.port) c.args.port _ _ c.in_default.ensures.sticks))) (c.requires.port, there)).1), (c.stop.ensures.has.st, c.in_default.ensures.stuck))
+    ((wants, (still_there c.args.port _ _ (boots_same c.args.port _ _ (Unready Dead) (inl (stuck_boots c.args.port _ _ c.in_default.ensures.sticks))) (c.requires.port, there)).1), (c.stop.ensures.has.st, c.in_default.ensures.stuck))
 
 pub returns-in_default-clause-boots : goal.returns-in_default-clause-boots
-returns-in_default-clause-boots g c = inl (stop_boots (Sticks c.args.port) c.args.port _ _ c.in_default.ensures.sticks)
+returns-in_default-clause-boots g c = inl (stuck_boots c.args.port _ _ c.in_default.ensures.sticks)
 
 pub boot-requires-clause-bootable : goal.boot-requires-clause-bootable
 boot-requires-clause-bootable g c =

@@ -3,10 +3,9 @@ use Rattle.ata_types.specs.declared.Port.{Port}
 use Rattle.adapter.specs.Rules.{HasPort}
 use Rattle.agreement.specs.Driven.{AgreesWith, AnyUse, IsControl, IsFollowed}
 use Rattle.agreement.specs.Driver.{AllFree}
-use Rattle.port_control.specs.Engines.{Sticks}
-use Rattle.port_control.specs.Ports.{WritesCommand, IsPlacing, IsResetting}
-use Rattle.port_boot.proofs.Bringing.{told_boots, placing, HasFound, FoundFault, HasStarted, placed_bootable, reset_bootable, reset_boots, reset_since, ends_early, up_boots, brought_up}
-use Rattle.port_boot.proofs.Identifying.{up_boots as up_boots_as, faulty_boots}
+use Rattle.port_control.specs.Ports.{WritesCommand, IsResetting}
+use Rattle.port_boot.proofs.Bringing.{HasFound, FoundFault, HasStarted, placed_bootable, reset_bootable, reset_boots, reset_since, ends_early, up_boots, brought_up}
+use Rattle.port_boot.proofs.Identifying.{faulty_boots, stuck_boots}
 use Rattle.port_boot.proofs.bring_up.Goals as goal
 
 pub comreset-requires-clause-there : goal.comreset-requires-clause-there
@@ -21,8 +20,7 @@ comreset-requires-clause-agreed g c =
 
 pub returns-in_default-clause-boots_to : goal.returns-in_default-clause-boots_to
 returns-in_default-clause-boots_to g c =
-    inl (up_boots_as (Sticks c.args.stopped.port) c.args.stopped.port _ _
-    (told_boots (Sticks c.args.stopped.port) IsPlacing AnyUse c.args.stopped.port _ _ placing (λ uses free. tt) c.in_default.ensures.sticks))
+    inl (stuck_boots c.args.stopped.port _ _ c.in_default.ensures.sticks)
 
 pub returns-in-Err-clause-boots_to : goal.returns-in-Err-clause-boots_to
 returns-in-Err-clause-boots_to g c =

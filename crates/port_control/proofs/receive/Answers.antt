@@ -2,7 +2,7 @@ use Rattle.std.proofs.Common.{inl}
 use Rattle.agreement.specs.Driven.{AnyUse, IsControl}
 use Rattle.agreement.proofs.Controlled.{same_adapter}
 use Rattle.agreement.proofs.Driven.{followed_then, told_then}
-use Rattle.port_control.specs.Engines.{StopsReceiving, Sticks}
+use Rattle.port_control.specs.Engines.{FailsToStopReceiving, StopsReceiving}
 use Rattle.port_control.proofs.Using.{falls_then, followed_wider, told_wider, usable_after}
 use Rattle.port_control.specs.Ports.{WritesCommand, IsPlacing}
 use Rattle.port_control.proofs.receive.Goals as goal
@@ -14,7 +14,7 @@ returns-then-not-stop_receiving-clause-on g c =
 
 pub returns-then-not-stop_receiving-clause-sticks : goal.returns-then-not-stop_receiving-clause-sticks
 returns-then-not-stop_receiving-clause-sticks g c =
-    told_wider (Sticks c.args.stopped.port) WritesCommand IsPlacing AnyUse c.args.stopped.port _ _ (λ r is. inl is) (c.stop_receiving.ensures.sticks c.if-not-stop_receiving.true)
+    told_wider (FailsToStopReceiving c.args.stopped.port) WritesCommand IsPlacing AnyUse c.args.stopped.port _ _ (λ r is. inl is) (c.stop_receiving.ensures.sticks c.if-not-stop_receiving.true)
 
 pub place-requires-clause-usable : goal.place-requires-clause-usable
 place-requires-clause-usable g c =

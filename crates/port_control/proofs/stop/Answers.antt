@@ -1,7 +1,7 @@
 use Rattle.std.proofs.Common.{◌≡◌, sym, ◌∙◌, arith}
 use Rattle.agreement.specs.Driven.{AnyUse}
 use Rattle.port_control.proofs.Using.{usable_after}
-use Rattle.port_control.proofs.Ceasing.{stop_may, stop_told, stop_has, falls, falling_on, has_still, fallen, falls_still, told_sticks}
+use Rattle.port_control.proofs.Ceasing.{stop_may, stop_told, stop_has, falls, falling_on, has_still, fallen, falls_still, told_awaits}
 use Rattle.port_control.specs.Ports.{WritesCommand}
 use Rattle.port_control.proofs.stop.Goals as goal
 
@@ -35,4 +35,4 @@ loop-reading-preserved g c = falls_still _ _ _ _ _ _ c.loop-reading.invariant c.
 pub returns-clause-sticks : goal.returns-clause-sticks
 returns-clause-sticks g c =
     let all : c.loop-reading._reading ≡ 64 = omega arith in
-    told_sticks 0 c.args.port _ all _ _ c.loop-reading.invariant.told
+    told_awaits 0 c.args.port _ all _ _ c.loop-reading.invariant.told

@@ -1,7 +1,7 @@
 use Rattle.std.proofs.Common.{◌≡◌, sym, ◌∙◌, arith}
 use Rattle.agreement.specs.Driven.{AnyUse}
 use Rattle.port_control.proofs.Using.{usable_after}
-use Rattle.port_control.proofs.Ceasing.{empty_may, empty_begins, empties, emptied, empties_told, empties_still, told_sticks}
+use Rattle.port_control.proofs.Ceasing.{empty_may, empty_begins, empties, emptied, empties_told, empties_still, told_awaits}
 use Rattle.port_control.specs.Ports.{WritesCommand}
 use Rattle.port_control.proofs.stop_receiving.Goals as goal
 
@@ -47,4 +47,4 @@ loop-reading-preserved g c = empties_still _ _ _ _ _ _ c.loop-reading.invariant 
 pub returns-clause-sticks : goal.returns-clause-sticks
 returns-clause-sticks g c = λ _.
     let all : c.loop-reading._reading ≡ 64 = omega arith in
-    told_sticks 4 c.args.port _ all _ _ c.loop-reading.invariant.told
+    told_awaits 4 c.args.port _ all _ _ c.loop-reading.invariant.told

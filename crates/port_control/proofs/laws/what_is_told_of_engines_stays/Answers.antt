@@ -1,5 +1,8 @@
-use Rattle.port_control.proofs.Using.{falls_then, falls_since, sticks_then, sticks_since}
+use Rattle.port_control.proofs.Using.{awaits_sticks, falls_then, falls_since, sticks_then, sticks_since}
 use Rattle.port_control.proofs.laws.what_is_told_of_engines_stays.Goals as goal
+
+pub returns-clause-awaits : goal.returns-clause-awaits
+returns-clause-awaits c = awaits_sticks
 
 pub returns-clause-falls_then : goal.returns-clause-falls_then
 returns-clause-falls_then c = falls_then
