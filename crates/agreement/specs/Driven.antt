@@ -1,11 +1,12 @@
 -- Stretches of a driver's accesses, and what they are to the block machine (this project's own).
-use Rattle.std.specs.Prelude.{ℕ, ◌≡◌, ◌++◌, List, All}
+use Rattle.std.specs.Prelude.{ℕ, true, false, ◌≡◌, ◌≢◌, ◌++◌, List, All}
 use Rattle.ata_types.specs.declared.Port.{Port}
 use Rattle.ata_types.specs.declared.request.RequestId.{RequestId}
+use Rattle.hba_regs.specs.Bits.{bit}
 use Rattle.hba_regs.specs.declared.reg.PortReg.{PortReg}
 use Rattle.hba_regs.specs.declared.reg.PortReg.TheVariants.{Sact, Ci}
 use Rattle.hba_regs.specs.declared.reg.Reg.{Reg}
-use Rattle.hba_regs.specs.declared.reg.Reg.TheVariants.{Px}
+use Rattle.hba_regs.specs.declared.reg.Reg.TheVariants.{Is, Px}
 use Rattle.adapter.specs.Access.{Access, DoesAll}
 use Rattle.adapter.specs.Access.Access.{Reading, Writing}
 use Rattle.adapter.specs.Device.{PortState, Device}
@@ -61,11 +62,17 @@ IsControl Written port (Reading (Px at r) v) = at ≡ port
 IsControl Written port (Writing (Px at r) v) = (at ≡ port) × Written r
 IsControl Written port access = ⊥
 
--- It reads or writes a register of the port, reads one of the adapter's own, or loads or stores bytes: it touches no register of another
--- port.
+-- the value has the port's bit alone
+pub record IsBitOf (port v : ℕ) : Type 0 where
+  pub here : bit v port ≡ true
+  pub alone : (k : ℕ) → k ≢ port → bit v k ≡ false
+
+-- It reads or writes a register of the port, writes IS with the port's bit alone, reads a register of the adapter's own, or loads or stores
+-- bytes: it touches no register of another port, nor another port's bit of IS.
 abbrev pub IsOf : Port → Access → Type 0
 IsOf port (Reading (Px at r) v) = at ≡ port
 IsOf port (Writing (Px at r) v) = at ≡ port
+IsOf port (Writing Is v) = IsBitOf port.0 v
 IsOf port (Writing r v) = ⊥
 IsOf port access = Unit {0}
 
