@@ -150,8 +150,8 @@ module _ (port : Port) (start old mid : Device) (up : IsBroughtUp port start old
 
 -- a port that was to stop was driven so, however it ended
 pub halt_driven : (port : Port) (wanted state : PortState) (old new : Device) → IsHaltedAs port wanted state old new → IsDrivenBy (IsControl WritesCommand port) old new
-halt_driven port wanted state old new (inl x) = x.2.followed.driven
-halt_driven port wanted state old new (inr x) = x.3.followed.driven
+halt_driven port wanted state old new (inl x) = x.1.told.followed.driven
+halt_driven port wanted state old new (inr x) = x.2.told.followed.driven
 
 -- where it didn't stop, its engine is stuck
 failing_sticks : (port : Port) (old new : Device) → IsTold (FailsToStop port) (IsControl WritesCommand port) AnyUse old new → IsTold (Sticks port) (IsControl WritesCommand port) AnyUse old new
@@ -194,22 +194,22 @@ module _ (port : Port) (start old mid : Device) (up : IsBroughtUp port start old
     pub unasked_ends : (wanted : Option (List ℕ)) (result : PortState) → IsHaltedAs port (Unfit 9) result mid new → EndsAs wanted result port.0 new
     unasked_ends wanted result (inl x) = let P : PortState → Type 0 = λ s. EndsAs wanted s port.0 new in
         subst P (sym x.0) (
-          x.1,
+          x.1.stopped,
           inr (inr (inl (
             refl,
             (ap (λ (n : Notes). n.last_ssts % 16) has.notes ∙ (asked_saw port start old mid up l).0, ap (λ (n : Notes). n.link_count) has.notes ∙ (asked_saw port start old mid up l).1),
             ap (λ (n : Notes). n.command_count) has.notes ∙ reads.0,
           ))),
         )
-    unasked_ends wanted result (inr x) = let P : PortState → Type 0 = λ s. EndsAs wanted s port.0 new in subst P (sym x.0) (x.1, x.2)
+    unasked_ends wanted result (inr x) = let P : PortState → Type 0 = λ s. EndsAs wanted s port.0 new in subst P (sym x.0) (x.1, x.2.stuck)
 
     pub unasked_boots : (result : PortState) → IsHaltedAs port (Unfit 9) result mid new → IsBootTo (Stops port) port result old new
     unasked_boots result (inl x) =
         let P : PortState → Type 0 = λ s. IsBootTo (Stops port) port s old new in
-        subst P (sym x.0) (stopped_boots (Stops port) (λ early late. falls_since early late 0 15 port) x.2 (record { issued = x.1.halted.ci 0; free = x.1.halted.taken 0 }))
+        subst P (sym x.0) (stopped_boots (Stops port) (λ early late. falls_since early late 0 15 port) x.1.told (record { issued = x.1.stopped.halted.ci 0; free = x.1.stopped.halted.taken 0 }))
     unasked_boots result (inr x) =
         let P : PortState → Type 0 = λ s. IsBootTo (Stops port) port s old new in
-        subst P (sym x.0) (inr (given_boots (Sticks port) (λ early late. sticks_since early late port) (failing_sticks port mid new x.3)))
+        subst P (sym x.0) (inr (given_boots (Sticks port) (λ early late. sticks_since early late port) (failing_sticks port mid new x.2.told)))
 
 -- ---- a page came
 
@@ -287,10 +287,10 @@ module _ (port : Port) (start old mid : Device) (page : List ℕ) (up : IsBrough
   halted_boots wanted state result new judged (inl x) =
       let P : PortState → Type 0 = λ s. IsBootTo (Stops port) port s old new in
       let alive : state ≢ Dead = λ (dead : state ≡ Dead). absurd (subst (λ (s : PortState). Judges wanted s page) dead judged) in
-      subst P (sym x.0) (boots_to (Stops port) port old new state alive (halted_as (Stops port) (λ early late. falls_since early late 0 15 port) new x.2))
+      subst P (sym x.0) (boots_to (Stops port) port old new state alive (halted_as (Stops port) (λ early late. falls_since early late 0 15 port) new x.1.told))
   halted_boots wanted state result new judged (inr x) =
       let P : PortState → Type 0 = λ s. IsBootTo (Stops port) port s old new in
-      subst P (sym x.0) (inl (halted_as (Sticks port) (λ early late. sticks_since early late port) new (failing_sticks port mid new x.3)))
+      subst P (sym x.0) (inl (halted_as (Sticks port) (λ early late. sticks_since early late port) new (failing_sticks port mid new x.2.told)))
 
   module _ (new : Device) (stops : IsDrivenBy (IsControl WritesCommand port) mid new) (has : HasStopped (mid.port port.0) (new.port port.0)) where
     halted_page : HasPage port.0 new page
@@ -300,12 +300,12 @@ module _ (port : Port) (start old mid : Device) (page : List ℕ) (up : IsBrough
         page_on port.0 mid new page silent.0 (ap (λ (n : Notes). n.sctl_written_at) has.notes) h.has
 
     pub halted_ends : (wanted : Option (List ℕ)) (state result : PortState) → Judges wanted state page → IsHaltedAs port state result mid new → EndsAs wanted result port.0 new
-    halted_ends wanted (Unfit n) result judged (inl x) = let P : PortState → Type 0 = λ s. EndsAs wanted s port.0 new in subst P (sym x.0) (x.1, inr (inr (inr (page, halted_page, judged))))
-    halted_ends wanted Foreign result judged (inl x) = let P : PortState → Type 0 = λ s. EndsAs wanted s port.0 new in subst P (sym x.0) (x.1, (page, halted_page, judged))
+    halted_ends wanted (Unfit n) result judged (inl x) = let P : PortState → Type 0 = λ s. EndsAs wanted s port.0 new in subst P (sym x.0) (x.1.stopped, inr (inr (inr (page, halted_page, judged))))
+    halted_ends wanted Foreign result judged (inl x) = let P : PortState → Type 0 = λ s. EndsAs wanted s port.0 new in subst P (sym x.0) (x.1.stopped, (page, halted_page, judged))
     halted_ends wanted Absent result judged (inl x) = absurd judged
     halted_ends wanted Ready result judged (inl x) = absurd judged
     halted_ends wanted Dead result judged (inl x) = absurd judged
-    halted_ends wanted state result judged (inr x) = let P : PortState → Type 0 = λ s. EndsAs wanted s port.0 new in subst P (sym x.0) (x.1, x.2)
+    halted_ends wanted state result judged (inr x) = let P : PortState → Type 0 = λ s. EndsAs wanted s port.0 new in subst P (sym x.0) (x.1, x.2.stuck)
 
 -- ---- the whole boot
 

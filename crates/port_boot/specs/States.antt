@@ -15,7 +15,7 @@ use Rattle.adapter.specs.declared.tape.Entry.{Entry}
 use Rattle.adapter.specs.declared.tape.Entry.TheVariants as entry
 use Rattle.adapter.specs.declared.tape.Move as tape_move
 use Rattle.adapter.specs.Rules.{IsOn, HasPort}
-use Rattle.agreement.specs.Driven.{AgreesWith, AnyUse, IsControl, IsDrivenBy, IsTold, IsToldTo}
+use Rattle.agreement.specs.Driven.{AgreesWith, IsControl, IsDrivenBy, IsTold, IsToldTo}
 use Rattle.agreement.specs.Driver.{AllFree}
 use Rattle.agreement.specs.Errors.{NoneComes, ChangesByDisks, ChangesByErrors, NoneFatal, NoneFails}
 use Rattle.agreement.specs.Facts.{IsRecorded, RunsWell, Undisturbed}
@@ -26,8 +26,8 @@ use Rattle.disk_page.specs.Asking.{IsAsking}
 use Rattle.identify.specs.Page.{Describes, HasNoFault, IsFirstFault, IsSerial, number_of}
 use Rattle.identify.specs.declared.DiskInfo.{DiskInfo}
 use Rattle.identify.specs.declared.Unfit.{Unfit as Fault}
-use Rattle.port_control.specs.Engines.{FailsToStop, Stops, StopsReceiving, Sticks}
-use Rattle.port_control.specs.Ports.{WritesCommand, IsStopped, IsRunning, IsPlacing, IsResetting, SawDevice, Shows, FindsSignature, Looks, WasReset, HasClearErrors, IsFound}
+use Rattle.port_control.specs.Engines.{Stops, StopsReceiving, Sticks}
+use Rattle.port_control.specs.Ports.{FailsToHalt, Halts, WritesCommand, IsStopped, IsRunning, IsPlacing, IsResetting, SawDevice, Shows, FindsSignature, Looks, WasReset, HasClearErrors, IsFound}
 use Rattle.port_control.specs.declared.PortFault.{PortFault}
 use Rattle.port_control.specs.declared.PortFault.TheVariants.{NoDevice, Busy, EngineStuck, NotAta}
 
@@ -260,9 +260,7 @@ pub record StopsThen (port : Port) (old new : Device) : Type 0 where
   pub goes : HasCauses port.0 old new
   pub up : Undisturbed port.0 old new → IsStarted (old.port port.0) → IsUp (new.port port.0)
 
--- The port was stopped, and is in this state; or its engine is stuck, and it is dead. Either was read.
+-- The port was stopped, and is in this state; or its engine is stuck, and it is dead.
 abbrev pub IsHaltedAs : Port → PortState → PortState → Device → Device → Type 0
-IsHaltedAs port wanted state old new =
-    ((state ≡ wanted) × IsStopped (new.port port.0) × IsTold (Stops port) (IsControl WritesCommand port) AnyUse old new)
-    ⊎ ((state ≡ Dead) × ((new.port port.0).st ≡ false) × Shows EngineStuck (new.port port.0).notes
-    × IsTold (FailsToStop port) (IsControl WritesCommand port) AnyUse old new)
+IsHaltedAs port wanted state old new = ((state ≡ wanted) × Halts port old new)
+    ⊎ ((state ≡ Dead) × ((new.port port.0).st ≡ false) × FailsToHalt port old new)

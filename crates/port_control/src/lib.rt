@@ -12,8 +12,8 @@ ghost use Rattle.agreement.specs.Errors.{NoneComes, ChangesByDisks};
 ghost use Rattle.agreement.specs.Facts.{IsAfterReset, IsAwaited, IsQuiet, IsRecorded, IsUnflagged};
 ghost use Rattle.agreement.specs.Links.{PlugsNone};
 ghost use Rattle.agreement.specs.Started.{IsUp, IsComingUp, IsStarted};
-ghost use Rattle.port_control.specs.Engines.{FailsToStop, FailsToStopReceiving, Stops, StopsReceiving};
-ghost use Rattle.port_control.specs.Ports.{WritesCommand, IsPlacing, IsClearing, IsResetting, IsUsable, IsStopped, ReceivesFises, IsRunning, SawDevice, SawIdle, Shows, SameBeside, HasStopped, HasLink, ShowsIdle, ReadsWithout, ReadsUntil, ClearsErrors, FindsSignature, Looks, WasReset, HasClearErrors, FindsDevice, IsFound, ShowsSignature, SameButStart, programmed};
+ghost use Rattle.port_control.specs.Engines.{FailsToStopReceiving, StopsReceiving};
+ghost use Rattle.port_control.specs.Ports.{FailsToHalt, FailsToReceive, Halts, Receives, WritesCommand, IsPlacing, IsClearing, IsResetting, IsUsable, IsStopped, ReceivesFises, IsRunning, SawDevice, SawIdle, Shows, SameBeside, HasStopped, HasLink, ShowsIdle, ReadsWithout, ReadsUntil, ClearsErrors, FindsSignature, Looks, WasReset, HasClearErrors, FindsDevice, IsFound, ShowsSignature, SameButStart, programmed};
 
 use adapter::Adapter;
 use ata_types::{DRIVER_BYTES, PORT_BYTES, Port, RECEIVED};
@@ -99,16 +99,12 @@ pub fn stop<A: Adapter>(adapter: &mut A, port: Port) -> Result<Stopped, PortFaul
     requires on { IsOn (A.device adapter.old) }
     requires there { HasPort (A.device adapter.old) port.0 }
     requires agreed { AgreesWith AnyUse (A.device adapter.old) }
-    ensures stops { OnOk result (IsTold (Stops port) (IsControl WritesCommand port) AnyUse (A.device adapter.old)
-        (A.device adapter.new)) }
-    ensures sticks { OnErr result (IsTold (FailsToStop port) (IsControl WritesCommand port) AnyUse (A.device adapter.old)
-        (A.device adapter.new)) }
     ensures on { IsOn (A.device adapter.new) }
     ensures has { HasStopped ((A.device adapter.old).port port.0) ((A.device adapter.new).port port.0) }
     ensures names { IfOk result (λ token. token.port ≡ port) }
-    ensures stopped { OnOk result (IsStopped ((A.device adapter.new).port port.0)) }
+    ensures halts { OnOk result (Halts port (A.device adapter.old) (A.device adapter.new)) }
     ensures fault { IfErr result (λ fault. fault ≡ PortFault.EngineStuck) }
-    ensures stuck { OnErr result (Shows PortFault.EngineStuck ((A.device adapter.new).port port.0).notes) }
+    ensures fails { OnErr result (FailsToHalt port (A.device adapter.old) (A.device adapter.new)) }
 {
     let command = PortCommand(adapter.read(Reg::Px(port, PortReg::Cmd)));
     adapter.write(Reg::Px(port, PortReg::Cmd), command.without_start().0);
@@ -191,21 +187,14 @@ pub fn receive<A: Adapter>(
     requires agreed { AgreesWith AnyUse (A.device adapter.old) }
     requires stopped { IsStopped ((A.device adapter.old).port stopped.port.0) }
     requires room { DRIVER_BYTES ≤ (A.device adapter.old).size }
-    ensures stops { OnOk result (IsTold (StopsReceiving stopped.port) (IsControl IsPlacing stopped.port) AnyUse
-        (A.device adapter.old) (A.device adapter.new)) }
-    ensures sticks { OnErr result (IsTold (FailsToStopReceiving stopped.port) (IsControl IsPlacing stopped.port) AnyUse
-        (A.device adapter.old) (A.device adapter.new)) }
     ensures on { IsOn (A.device adapter.new) }
     ensures stopped { IsStopped ((A.device adapter.new).port stopped.port.0) }
     ensures same { SameBeside ((A.device adapter.old).port stopped.port.0)
         ((A.device adapter.new).port stopped.port.0) }
     ensures names { IfOk result (λ token. token.port ≡ stopped.port) }
-    ensures receives { OnOk result (ReceivesFises stopped.port.0 ((A.device adapter.new).port stopped.port.0)) }
+    ensures receives { OnOk result (Receives stopped.port (A.device adapter.old) (A.device adapter.new)) }
     ensures fault { IfErr result (λ fault. (fault.0 ≡ PortFault.EngineStuck) × (fault.1 ≡ stopped)) }
-    ensures stuck { OnErr result (Shows PortFault.EngineStuck ((A.device adapter.new).port stopped.port.0).notes) }
-    ensures fre { OnErr result (((A.device adapter.new).port stopped.port.0).fre ≡ false) }
-    ensures bases { OnErr result (((A.device adapter.new).port stopped.port.0).bases ≡
-        ((A.device adapter.old).port stopped.port.0).bases) }
+    ensures fails { OnErr result (FailsToReceive stopped.port (A.device adapter.old) (A.device adapter.new)) }
 {
     let port = stopped.port;
     if !stop_receiving(adapter, port) {

@@ -1,5 +1,5 @@
 -- A server goes on while a ready port is looked at, and while its transfer is looked for.
-use Rattle.std.proofs.Common.{ℕ, ◌≡◌, ◌≢◌, ◌<◌, true, inl, inr, refl, sym, ap, ◌∙◌, arith}
+use Rattle.std.proofs.Common.{ℕ, ◌≡◌, ◌≢◌, ◌<◌, true, inl, inr, refl, sym, ap, ◌∙◌}
 use Rattle.ata_types.specs.declared.Port.{Port}
 use Rattle.ata_types.specs.declared.PortState.TheVariants.{Dead, Ready as ReadyState}
 use Rattle.hba_regs.specs.declared.reg.Reg.TheVariants.{Px}

@@ -12,9 +12,15 @@ returns-then-not-stop_receiving-clause-on g c =
     let first = usable_after WritesCommand AnyUse c.args.stopped.port _ _ (record { on = c.requires.on; there = c.requires.there; agreed = c.requires.agreed }) (c.stop_receiving.ensures.sticks c.if-not-stop_receiving.true).followed in
     first.on
 
-pub returns-then-not-stop_receiving-clause-sticks : goal.returns-then-not-stop_receiving-clause-sticks
-returns-then-not-stop_receiving-clause-sticks g c =
-    told_wider (FailsToStopReceiving c.args.stopped.port) WritesCommand IsPlacing AnyUse c.args.stopped.port _ _ (λ r is. inl is) (c.stop_receiving.ensures.sticks c.if-not-stop_receiving.true)
+pub returns-then-not-stop_receiving-clause-fails : goal.returns-then-not-stop_receiving-clause-fails
+returns-then-not-stop_receiving-clause-fails g c =
+    let stuck = c.if-not-stop_receiving.true in
+    record {
+      told = told_wider (FailsToStopReceiving c.args.stopped.port) WritesCommand IsPlacing AnyUse c.args.stopped.port _ _ (λ r is. inl is) (c.stop_receiving.ensures.sticks stuck);
+      stuck = c.stop_receiving.ensures.stuck stuck;
+      fre = c.stop_receiving.ensures.fre;
+      bases = c.stop_receiving.ensures.bases;
+    }
 
 pub place-requires-clause-usable : goal.place-requires-clause-usable
 place-requires-clause-usable g c =
@@ -30,11 +36,14 @@ start_receiving-requires-clause-usable g c =
     let second = usable_after IsPlacing AnyUse c.args.stopped.port _ _ first c.place.ensures.followed in
     second
 
-pub returns-clause-stops : goal.returns-clause-stops
-returns-clause-stops g c =
-    told_then (StopsReceiving c.args.stopped.port) (IsControl IsPlacing c.args.stopped.port) AnyUse (λ early late. falls_then early late 4 14 c.args.stopped.port) _ _ _
-    (told_wider (StopsReceiving c.args.stopped.port) WritesCommand IsPlacing AnyUse c.args.stopped.port _ _ (λ r is. inl is) (c.stop_receiving.ensures.stops c.if-not-stop_receiving.false))
-    (followed_then (IsControl IsPlacing c.args.stopped.port) AnyUse _ _ _ c.place.ensures.followed (followed_wider WritesCommand IsPlacing AnyUse c.args.stopped.port _ _ (λ r is. inl is) c.start_receiving.ensures.followed))
+pub returns-clause-receives : goal.returns-clause-receives
+returns-clause-receives g c = record {
+  told = told_then (StopsReceiving c.args.stopped.port) (IsControl IsPlacing c.args.stopped.port) AnyUse (λ early late. falls_then early late 4 14 c.args.stopped.port) _ _ _
+      (told_wider (StopsReceiving c.args.stopped.port) WritesCommand IsPlacing AnyUse c.args.stopped.port _ _ (λ r is. inl is) (c.stop_receiving.ensures.stops c.if-not-stop_receiving.false))
+      (followed_then (IsControl IsPlacing c.args.stopped.port) AnyUse _ _ _ c.place.ensures.followed
+      (followed_wider WritesCommand IsPlacing AnyUse c.args.stopped.port _ _ (λ r is. inl is) c.start_receiving.ensures.followed));
+  receives = c.start_receiving.ensures.receives;
+}
 
 pub returns-clause-on : goal.returns-clause-on
 returns-clause-on g c =

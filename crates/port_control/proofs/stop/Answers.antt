@@ -17,22 +17,27 @@ loop-reading-init g c = record {
   high = λ h. absurd (omega (arith, h));
 }
 
-pub returns-then-not-list_running-clause-stops : goal.returns-then-not-list_running-clause-stops
-returns-then-not-list_running-clause-stops g c = falls _ _ _ _ _ _ c.loop-reading.invariant c.read-in-loop-reading.ensures (sym c.list_running.ensures ∙ c.if-not-list_running.true)
-
 pub returns-then-not-list_running-clause-on : goal.returns-then-not-list_running-clause-on
 returns-then-not-list_running-clause-on g c = (falling_on _ _ _ _ _ _ c.loop-reading.invariant c.read-in-loop-reading.ensures).on
 
 pub returns-then-not-list_running-clause-has : goal.returns-then-not-list_running-clause-has
 returns-then-not-list_running-clause-has g c = has_still _ _ _ _ _ _ c.loop-reading.invariant c.read-in-loop-reading.ensures
 
-pub returns-then-not-list_running-clause-stopped : goal.returns-then-not-list_running-clause-stopped
-returns-then-not-list_running-clause-stopped g c = fallen _ _ _ _ _ _ c.loop-reading.invariant c.read-in-loop-reading.ensures (sym c.list_running.ensures ∙ c.if-not-list_running.true)
+pub returns-then-not-list_running-clause-halts : goal.returns-then-not-list_running-clause-halts
+returns-then-not-list_running-clause-halts g c =
+    let clear = sym c.list_running.ensures ∙ c.if-not-list_running.true in
+    record {
+      told = falls _ _ _ _ _ _ c.loop-reading.invariant c.read-in-loop-reading.ensures clear;
+      stopped = fallen _ _ _ _ _ _ c.loop-reading.invariant c.read-in-loop-reading.ensures clear;
+    }
 
 pub loop-reading-preserved : goal.loop-reading-preserved
 loop-reading-preserved g c = falls_still _ _ _ _ _ _ c.loop-reading.invariant c.read-in-loop-reading.ensures (omega arith) (sym c.list_running.ensures ∙ c.if-not-list_running.false)
 
-pub returns-clause-sticks : goal.returns-clause-sticks
-returns-clause-sticks g c =
+pub returns-clause-fails : goal.returns-clause-fails
+returns-clause-fails g c =
+    let w = c.loop-reading.invariant in
     let all : c.loop-reading._reading ≡ 64 = omega arith in
-    told_awaits 0 c.args.port _ all _ _ c.loop-reading.invariant.told
+    let low = w.low in
+    let high = w.high (omega (arith, all)) in
+    record { told = told_awaits 0 c.args.port _ all _ _ w.told; stuck = omega (arith, all, low, high) }
