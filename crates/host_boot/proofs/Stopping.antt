@@ -17,7 +17,7 @@ use Rattle.agreement.proofs.Controlled.{agreeing_goes_on, control_wider, same_ad
 use Rattle.agreement.proofs.Driven.{told_as, told_both, told_more, told_since}
 use Rattle.port_control.specs.Engines.{FailsToStop, Stops, StopsBoth, StopsReceiving, Sticks}
 use Rattle.port_control.specs.Ports.{WritesCommand}
-use Rattle.port_control.proofs.Using.{there_after, awaits_sticks, falls_then, falls_since, sticks_then, sticks_since}
+use Rattle.port_control.proofs.Using.{there_after, failing_sticks, falls_then, falls_since, sticks_then, sticks_since}
 use Rattle.port_boot.specs.States.{IsBoot, IsBooting, IsBootTo, IsBootable, IsOfBoot, StopsOnWay}
 use Rattle.host_boot.specs.Taken.{TellsEngines, WroteControl}
 use Rattle.host_boot.specs.declared.Found.{Found}
@@ -32,7 +32,7 @@ stop_boots Tells port old mid stops = told_as Tells (IsControl WritesCommand por
 
 -- where it didn't stop, its engine is stuck
 pub stuck_boots : (port : Port) (old mid : Device) → IsTold (FailsToStop port) (IsControl WritesCommand port) AnyUse old mid → IsBoot (Sticks port) port old mid
-stuck_boots port old mid f = told_more (FailsToStop port) (Sticks port) (IsOfBoot port) (λ uses. AllFree uses port.0) (λ uses. uses) old mid (awaits_sticks 0 port) (stop_boots (FailsToStop port) port old mid f)
+stuck_boots port old mid f = told_more (FailsToStop port) (Sticks port) (IsOfBoot port) (λ uses. AllFree uses port.0) (λ uses. uses) old mid (failing_sticks port) (stop_boots (FailsToStop port) port old mid f)
 
 module _ (port : Port) (old mid : Device) (stops : IsTold (Stops port) (IsControl WritesCommand port) AnyUse old mid) where
   pub bootable : HasPort old port.0 → 163840 ≤ old.size → AgreesWith (λ uses. AllFree uses port.0) old → IsOn mid → IsBootable port mid

@@ -36,7 +36,7 @@ use Rattle.port_control.specs.Ports.{WritesCommand, IsPlacing, IsRunning, HasSto
 use Rattle.port_boot.specs.States.{told_causes, HasPage, IsFit, Judges, EndsAs, IsReady, IsBooting, IsOfBoot, IsBoot, IsBootTo, IsBootable, IsBroughtUp, IsHaltedAs, IsLate, StopsOnWay, TellsFault}
 use Rattle.port_control.specs.declared.PortFault.{PortFault}
 use Rattle.port_control.specs.declared.PortFault.TheVariants.{NoDevice, Busy, EngineStuck, NotAta}
-use Rattle.port_control.proofs.Using.{there_after, awaits_sticks, falls_then, falls_since, sticks_since}
+use Rattle.port_control.proofs.Using.{there_after, failing_sticks, failing_receiving_sticks, falls_then, falls_since, sticks_since}
 use Rattle.port_boot.proofs.Bringing.{placing, starting, told_boots}
 
 -- ---- the page stays the last
@@ -154,8 +154,8 @@ halt_driven port wanted state old new (inl x) = x.1.told.followed.driven
 halt_driven port wanted state old new (inr x) = x.2.told.followed.driven
 
 -- where it didn't stop, its engine is stuck
-failing_sticks : (port : Port) (old new : Device) → IsTold (FailsToStop port) (IsControl WritesCommand port) AnyUse old new → IsTold (Sticks port) (IsControl WritesCommand port) AnyUse old new
-failing_sticks port old new f = told_more (FailsToStop port) (Sticks port) (IsControl WritesCommand port) AnyUse (λ uses. uses) old new (awaits_sticks 0 port) f
+halting_sticks : (port : Port) (old new : Device) → IsTold (FailsToStop port) (IsControl WritesCommand port) AnyUse old new → IsTold (Sticks port) (IsControl WritesCommand port) AnyUse old new
+halting_sticks port old new f = told_more (FailsToStop port) (Sticks port) (IsControl WritesCommand port) AnyUse (λ uses. uses) old new (failing_sticks port) f
 
 -- a boot to any state but Dead
 pub boots_to : (Tells : List Access → Type 0) (port : Port) (old new : Device) (state : PortState) → state ≢ Dead → IsBoot Tells port old new → IsBootTo Tells port state old new
@@ -209,7 +209,7 @@ module _ (port : Port) (start old mid : Device) (up : IsBroughtUp port start old
         subst P (sym x.0) (stopped_boots (Stops port) (λ early late. falls_since early late 0 15 port) x.1.told (record { issued = x.1.stopped.halted.ci 0; free = x.1.stopped.halted.taken 0 }))
     unasked_boots result (inr x) =
         let P : PortState → Type 0 = λ s. IsBootTo (Stops port) port s old new in
-        subst P (sym x.0) (inr (given_boots (Sticks port) (λ early late. sticks_since early late port) (failing_sticks port mid new x.2.told)))
+        subst P (sym x.0) (inr (given_boots (Sticks port) (λ early late. sticks_since early late port) (halting_sticks port mid new x.2.told)))
 
 -- ---- a page came
 
@@ -290,7 +290,7 @@ module _ (port : Port) (start old mid : Device) (page : List ℕ) (up : IsBrough
       subst P (sym x.0) (boots_to (Stops port) port old new state alive (halted_as (Stops port) (λ early late. falls_since early late 0 15 port) new x.1.told))
   halted_boots wanted state result new judged (inr x) =
       let P : PortState → Type 0 = λ s. IsBootTo (Stops port) port s old new in
-      subst P (sym x.0) (inl (halted_as (Sticks port) (λ early late. sticks_since early late port) new (failing_sticks port mid new x.2.told)))
+      subst P (sym x.0) (inl (halted_as (Sticks port) (λ early late. sticks_since early late port) new (halting_sticks port mid new x.2.told)))
 
   module _ (new : Device) (stops : IsDrivenBy (IsControl WritesCommand port) mid new) (has : HasStopped (mid.port port.0) (new.port port.0)) where
     halted_page : HasPage port.0 new page
@@ -314,7 +314,7 @@ up_boots Tells port old mid f = told_as Tells (IsControl IsBooting port) (IsOfBo
 
 -- no part came after it, since FR didn't fall
 pub stuck_boots : (port : Port) (old mid : Device) → IsTold (FailsToStopReceiving port) (IsControl IsPlacing port) AnyUse old mid → IsBoot (Sticks port) port old mid
-stuck_boots port old mid f = told_more (FailsToStopReceiving port) (Sticks port) (IsOfBoot port) (λ uses. AllFree uses port.0) (λ uses. uses) old mid (awaits_sticks 4 port)
+stuck_boots port old mid f = told_more (FailsToStopReceiving port) (Sticks port) (IsOfBoot port) (λ uses. AllFree uses port.0) (λ uses. uses) old mid (failing_receiving_sticks port)
     (up_boots (FailsToStopReceiving port) port old mid (told_boots (FailsToStopReceiving port) IsPlacing AnyUse port old mid placing (λ uses free. tt) f))
 
 -- no part came after it, since there was a fault

@@ -1,12 +1,13 @@
 -- What an access of a port needs, and what goes on over accesses.
 use Rattle.std.proofs.Common.{ℕ, ◌≡◌, ◌⊎◌, ◌&&◌, ◌++◌, Bool, List, [], ◌∷◌, false, inl, inr, refl, sym, ◌∙◌, ap, subst, append_assoc, append-nil}
+use Rattle.std.proofs.lemmas.List.Elements.{All-weaker}
 use Rattle.ata_types.specs.declared.Port.{Port}
 use Rattle.hba_regs.specs.Bits.{bit}
 use Rattle.hba_regs.specs.declared.reg.PortReg.{PortReg}
 use Rattle.hba_regs.specs.declared.reg.PortReg.TheVariants.{Is, Cmd, Sctl, Sact}
 use Rattle.hba_regs.specs.declared.reg.Reg.TheVariants.{Px}
 use Rattle.adapter.specs.Access.{Access, Reads, Writes, port_written, with_st, with_fre}
-use Rattle.adapter.specs.Access.Access.{Reading, Writing}
+use Rattle.adapter.specs.Access.Access.{Reading, Writing, Loading, Storing}
 use Rattle.adapter.specs.Device.{Notes, PortState, Device}
 use Rattle.adapter.specs.Kept.{KeepsPort, KeepsControls}
 use Rattle.adapter.specs.Rules.{HasPort, MayWrite, Stays}
@@ -21,7 +22,7 @@ use Rattle.agreement.proofs.Driven.{followed_as, followed_read, told_as}
 use Rattle.agreement.proofs.Halting.{halted_on, halted_writes}
 use Rattle.agreement.proofs.Noting.{notes_read}
 use Rattle.agreement.proofs.Unarmed.{writes_clear}
-use Rattle.port_control.specs.Engines.{Awaits, Falls, Sticks}
+use Rattle.port_control.specs.Engines.{Awaits, FailsToStop, FailsToStopReceiving, Falls, Hangs, ReadsCommand, ShowsStuck, Sticks}
 use Rattle.port_control.specs.Ports.{WritesCommand, IsResetting, IsUsable, IsStopped, ReceivesFises, SameButCommand, SameBeside}
 
 -- ---- the port may be used on
@@ -167,16 +168,28 @@ receiving_write port r v old new off kind call h =
 -- ---- what is told of accesses
 
 -- an engine that was awaited for 64 readings is stuck
-pub awaits_sticks : (start : ℕ) (port : Port) (accesses : List Access) → Awaits start port 64 accesses → Sticks port accesses
-awaits_sticks start port accesses a = record {
+awaits_sticks : (start running : ℕ) → ((v : ℕ) → Hangs start running v → ShowsStuck v) → (port : Port) (accesses : List Access) → Awaits start running port 64 accesses → Sticks port accesses
+awaits_sticks start running shows port accesses a = record {
   before = a.before ++ Writing (Px port Cmd) a.cleared ∷ [];
   stuck = a.stuck;
   later = [];
   here = a.here ∙ (sym (append_assoc a.before (Writing (Px port Cmd) a.cleared ∷ []) a.stuck)
       ∙ ap (λ (rest : List Access). (a.before ++ Writing (Px port Cmd) a.cleared ∷ []) ++ rest) (sym (append-nil a.stuck)));
   number = a.number;
-  all = a.all;
+  all = All-weaker (ReadsCommand (Hangs start running) port) (ReadsCommand ShowsStuck port) reading a.stuck a.all;
 }
+  where
+    reading : (access : Access) → ReadsCommand (Hangs start running) port access → ReadsCommand ShowsStuck port access
+    reading (Reading r v) is = (is.0, shows v is.1)
+    reading (Writing r v) is = absurd is
+    reading (Loading at bytes) is = absurd is
+    reading (Storing at bytes) is = absurd is
+
+pub failing_sticks : (port : Port) (accesses : List Access) → FailsToStop port accesses → Sticks port accesses
+failing_sticks = awaits_sticks 0 15 (λ v is. inl is)
+
+pub failing_receiving_sticks : (port : Port) (accesses : List Access) → FailsToStopReceiving port accesses → Sticks port accesses
+failing_receiving_sticks = awaits_sticks 4 14 (λ v is. inr is)
 
 -- what is told of accesses is told of more
 

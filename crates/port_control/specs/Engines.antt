@@ -34,33 +34,37 @@ StopsReceiving port accesses = Falls 4 14 port accesses
 abbrev pub StopsBoth : Port → List Access → Type 0
 StopsBoth port accesses = Stops port accesses × StopsReceiving port accesses
 
--- a value of PxCMD shows an engine that was cleared and runs still: CR while ST is 0, or FR while FRE is 0
+-- a value of PxCMD shows that an engine was cleared, and runs still
+abbrev pub Hangs : ℕ → ℕ → ℕ → Type 0
+Hangs start running v = (bit v start ≡ false) × (bit v running ≡ true)
+
+-- either engine: CR is 1 while ST is 0, or FR while FRE is 0
 abbrev pub ShowsStuck : ℕ → Type 0
-ShowsStuck v = ((bit v 0 ≡ false) × (bit v 15 ≡ true)) ⊎ ((bit v 4 ≡ false) × (bit v 14 ≡ true))
+ShowsStuck v = Hangs 0 15 v ⊎ Hangs 4 14 v
 
--- it reads PxCMD, which shows that
-abbrev pub IsStuckReading : Port → Access → Type 0
-IsStuckReading port (Reading r v) = (r ≡ Px port Cmd) × ShowsStuck v
-IsStuckReading port access = ⊥
+-- it reads PxCMD, whose value shows this
+abbrev pub ReadsCommand : (ℕ → Type 0) → Port → Access → Type 0
+ReadsCommand Shown port (Reading r v) = (r ≡ Px port Cmd) × Shown v
+ReadsCommand Shown port access = ⊥
 
--- An engine is awaited: the bit that starts it was written 0, and so many readings of PxCMD since, and nothing else, showed one that is
--- stuck.
-pub record Awaits (start : ℕ) (port : Port) (count : ℕ) (accesses : List Access) : Type 0 where
+-- An engine is awaited: the bit that starts it was written 0, and so many readings of PxCMD since, and nothing else, showed that it runs
+-- still.
+pub record Awaits (start running : ℕ) (port : Port) (count : ℕ) (accesses : List Access) : Type 0 where
   pub before : List Access
   pub cleared : ℕ
   pub stuck : List Access
   pub here : accesses ≡ before ++ (Writing (Px port Cmd) cleared ∷ stuck)
   pub clears : bit cleared start ≡ false
   pub number : length stuck ≡ count
-  pub all : All (IsStuckReading port) stuck
+  pub all : All (ReadsCommand (Hangs start running) port) stuck
 
--- ST was cleared, and then 64 readings, the last of the accesses, showed an engine that is stuck
+-- ST was cleared, and then 64 readings, the last of the accesses, showed CR still
 abbrev pub FailsToStop : Port → List Access → Type 0
-FailsToStop port accesses = Awaits 0 port 64 accesses
+FailsToStop port accesses = Awaits 0 15 port 64 accesses
 
--- FRE was cleared, and then the same
+-- FRE was cleared, and then they showed FR still
 abbrev pub FailsToStopReceiving : Port → List Access → Type 0
-FailsToStopReceiving port accesses = Awaits 4 port 64 accesses
+FailsToStopReceiving port accesses = Awaits 4 14 port 64 accesses
 
 -- 64 readings in a row showed an engine that was cleared and runs still.
 pub record Sticks (port : Port) (accesses : List Access) : Type 0 where
@@ -69,4 +73,4 @@ pub record Sticks (port : Port) (accesses : List Access) : Type 0 where
   pub later : List Access
   pub here : accesses ≡ before ++ (stuck ++ later)
   pub number : length stuck ≡ 64
-  pub all : All (IsStuckReading port) stuck
+  pub all : All (ReadsCommand ShowsStuck port) stuck

@@ -229,17 +229,18 @@ pub record Halts (port : Port) (old new : Device) : Type 0 where
   pub told : IsTold (Stops port) (IsControl WritesCommand port) AnyUse old new
   pub stopped : IsStopped (new.port port.0)
 
--- It was to stop, and CR didn't fall in 64 readings, the last of the accesses.
+-- The port was to stop, and CR didn't fall in 64 readings, the last of the accesses.
 pub record FailsToHalt (port : Port) (old new : Device) : Type 0 where
   pub told : IsTold (FailsToStop port) (IsControl WritesCommand port) AnyUse old new
   pub stuck : Shows EngineStuck (new.port port.0).notes
 
--- A stopped port receives FISes: FR fell, as was read after FRE was cleared; then the areas were put in their places, and FRE was set.
+-- A stopped port receives FISes, with its areas in their places: FR fell, as was read after FRE was cleared.
 pub record Receives (port : Port) (old new : Device) : Type 0 where
   pub told : IsTold (StopsReceiving port) (IsControl IsPlacing port) AnyUse old new
   pub receives : ReceivesFises port.0 (new.port port.0)
 
--- It was to receive FISes, and FR didn't fall in 64 readings, the last of the accesses. FRE is 0, and the addresses are as they were.
+-- A stopped port was to receive FISes, and FR didn't fall in 64 readings, the last of the accesses. FRE is 0, and the addresses are as
+-- they were.
 pub record FailsToReceive (port : Port) (old new : Device) : Type 0 where
   pub told : IsTold (FailsToStopReceiving port) (IsControl IsPlacing port) AnyUse old new
   pub stuck : Shows EngineStuck (new.port port.0).notes

@@ -2,12 +2,13 @@
 ghost use Rattle.std.specs.Prelude.{ℕ, ◌++◌, List};
 ghost use Rattle.ata_types.specs.declared.Port.{Port};
 ghost use Rattle.adapter.specs.Access.{Access};
-ghost use Rattle.port_control.specs.Engines.{Awaits, Falls, Sticks};
+ghost use Rattle.port_control.specs.Engines.{FailsToStop, FailsToStopReceiving, Falls, Sticks};
 
-/// What accesses tell of a port's engines, they tell with others after them, and with others before them. Where an engine was awaited for
-/// 64 readings, they show that it is stuck.
+/// What accesses tell of a port's engines, they tell with others after them, and with others before them. Those of a call that failed to
+/// stop one show that it is stuck.
 pub fn what_is_told_of_engines_stays()
-    ensures awaits { (start : ℕ) (port : Port) (accesses : List Access) → Awaits start port 64 accesses → Sticks port accesses }
+    ensures fails { (port : Port) (accesses : List Access) → FailsToStop port accesses → Sticks port accesses }
+    ensures fails_receiving { (port : Port) (accesses : List Access) → FailsToStopReceiving port accesses → Sticks port accesses }
     ensures falls_then { (early late : List Access) (start running : ℕ) (port : Port) → Falls start running port early
         → Falls start running port (early ++ late) }
     ensures falls_since { (early late : List Access) (start running : ℕ) (port : Port) → Falls start running port late

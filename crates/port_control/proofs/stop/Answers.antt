@@ -40,4 +40,4 @@ returns-clause-fails g c =
     let all : c.loop-reading._reading ≡ 64 = omega arith in
     let low = w.low in
     let high = w.high (omega (arith, all)) in
-    record { told = told_awaits 0 c.args.port _ all _ _ w.told; stuck = omega (arith, all, low, high) }
+    record { told = told_awaits 0 15 c.args.port _ all _ _ w.told; stuck = omega (arith, all, low, high) }

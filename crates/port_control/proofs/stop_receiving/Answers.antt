@@ -47,4 +47,4 @@ loop-reading-preserved g c = empties_still _ _ _ _ _ _ c.loop-reading.invariant 
 pub returns-clause-sticks : goal.returns-clause-sticks
 returns-clause-sticks g c = λ _.
     let all : c.loop-reading._reading ≡ 64 = omega arith in
-    told_awaits 4 c.args.port _ all _ _ c.loop-reading.invariant.told
+    told_awaits 4 14 c.args.port _ all _ _ c.loop-reading.invariant.told

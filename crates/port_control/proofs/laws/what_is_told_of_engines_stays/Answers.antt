@@ -1,8 +1,11 @@
-use Rattle.port_control.proofs.Using.{awaits_sticks, falls_then, falls_since, sticks_then, sticks_since}
+use Rattle.port_control.proofs.Using.{failing_sticks, failing_receiving_sticks, falls_then, falls_since, sticks_then, sticks_since}
 use Rattle.port_control.proofs.laws.what_is_told_of_engines_stays.Goals as goal
 
-pub returns-clause-awaits : goal.returns-clause-awaits
-returns-clause-awaits c = awaits_sticks
+pub returns-clause-fails : goal.returns-clause-fails
+returns-clause-fails c = failing_sticks
+
+pub returns-clause-fails_receiving : goal.returns-clause-fails_receiving
+returns-clause-fails_receiving c = failing_receiving_sticks
 
 pub returns-clause-falls_then : goal.returns-clause-falls_then
 returns-clause-falls_then c = falls_then
