@@ -24,24 +24,24 @@ use Rattle.agreement.proofs.Recording.{steps_recorded}
 
 -- ---- accesses that touch no register of another port
 
-of_spares : (port : Port) (r : Reg) → ((s : PortReg) → Px port s ≢ r) → NoneWrites (IsOf port) r
-of_spares port r never (Writing (Px p s) v) is = λ e. never s (ap (λ (q : Port). Px q s) (sym is) ∙ e)
-of_spares port r never (Writing Cap v) is = absurd is
-of_spares port r never (Writing Ghc v) is = absurd is
-of_spares port r never (Writing Is v) is = absurd is
-of_spares port r never (Writing Pi v) is = absurd is
-of_spares port r never (Writing Vs v) is = absurd is
-of_spares port r never (Writing Cap2 v) is = absurd is
-of_spares port r never (Writing Bohc v) is = absurd is
-of_spares port r never (Reading s v) is = tt
-of_spares port r never (Loading at bytes) is = tt
-of_spares port r never (Storing at bytes) is = tt
+of_spares : (port : Port) (r : Reg) → ((s : PortReg) → Px port s ≢ r) → Is ≢ r → NoneWrites (IsOf port) r
+of_spares port r never apart (Writing (Px p s) v) is = λ e. never s (ap (λ (q : Port). Px q s) (sym is) ∙ e)
+of_spares port r never apart (Writing Cap v) is = absurd is
+of_spares port r never apart (Writing Ghc v) is = absurd is
+of_spares port r never apart (Writing Is v) is = apart
+of_spares port r never apart (Writing Pi v) is = absurd is
+of_spares port r never apart (Writing Vs v) is = absurd is
+of_spares port r never apart (Writing Cap2 v) is = absurd is
+of_spares port r never apart (Writing Bohc v) is = absurd is
+of_spares port r never apart (Reading s v) is = tt
+of_spares port r never apart (Loading at bytes) is = tt
+of_spares port r never apart (Storing at bytes) is = tt
 
 pub of_spares_ghc : (port : Port) → NoneWrites (IsOf port) Ghc
-of_spares_ghc port = of_spares port Ghc (λ s e. absurd (let z : Px port s ≡ Ghc = e in cc))
+of_spares_ghc port = of_spares port Ghc (λ s e. absurd (let z : Px port s ≡ Ghc = e in cc)) (λ e. absurd (let z : Is ≡ Ghc = e in cc))
 
 pub of_spares_others : (port q : Port) (r : PortReg) → q.0 ≢ port.0 → NoneWrites (IsOf port) (Px q r)
-of_spares_others port q r other = of_spares port (Px q r) (λ s e. let z : Px port s ≡ Px q r = e in let same : port ≡ q = cc in other (ap (λ (x : Port). x.0) (sym same)))
+of_spares_others port q r other = of_spares port (Px q r) (λ s e. let z : Px port s ≡ Px q r = e in let same : port ≡ q = cc in other (ap (λ (x : Port). x.0) (sym same))) (λ e. absurd (let z : Is ≡ Px q r = e in cc))
 
 -- ---- controls
 

@@ -1,6 +1,7 @@
 -- What holds of a port goes on over an access: the device's steps come first, and then the access's effect.
 use Rattle.std.proofs.Common.{ℕ, ◌≡◌, ◌≢◌, Bool, true, false, length, refl, sym, ◌∙◌, ap, subst}
 use Rattle.std.specs.Prelude.{if◌then◌else◌}
+use Rattle.std.proofs.lemmas.Bool.{cond-false}
 use Rattle.ata_types.specs.declared.Port.{Port}
 use Rattle.hba_regs.specs.Bits.{bit}
 use Rattle.hba_regs.specs.declared.reg.Reg.{Reg}
@@ -84,7 +85,7 @@ module _ (port : Port) (q : ℕ) (other : q ≢ port.0) where
   written_beside (Px p r) v d is = changed_other d.port p.0 _ q (beside p is)
   written_beside Cap v d is = absurd is
   written_beside Ghc v d is = absurd is
-  written_beside Is v d is = absurd is
+  written_beside Is v d is = cond-false (bit v q) (unacknowledged (d.port q)) (d.port q) (is.alone q other)
   written_beside Pi v d is = absurd is
   written_beside Vs v d is = absurd is
   written_beside Cap2 v d is = absurd is

@@ -22,7 +22,7 @@ use Rattle.block_machine.specs.Left.{after}
 use Rattle.block_machine.specs.State.{Machine}
 use Rattle.agreement.specs.Acts.{Act, InSlots, IsDone, at, accesses_of, steps_of}
 use Rattle.agreement.specs.Driver.{Knows, ByDevice, LeavesUses, MayStore, IsOwnPrepared}
-use Rattle.agreement.specs.Driven.{known, AnyUse, IsDrivenBy, IsFollowed, IsFollowedTo, NoneWrites, SendsNone}
+use Rattle.agreement.specs.Driven.{known, AnyUse, IsDrivenBy, IsFollowed, IsFollowedTo, IsTold, IsToldTo, NoneWrites, SendsNone}
 use Rattle.agreement.specs.Links.{SparesRegister}
 use Rattle.agreement.specs.Slots.{Use, Own, Uses, put, op_of}
 use Rattle.agreement.proofs.Parts.{accesses_append, steps_append, all_acts, done_more, done_goes, done_silent, done_uses}
@@ -156,6 +156,42 @@ module _ (May More : Access → Type 0) (Fits Less : Uses → Type 0) where
       IsFollowed May Fits old new → IsFollowed More Less old new
   followed_as old new kind fits a = followed_to_as (λ uses. uses) old new kind fits a
 
+-- ---- what is told of a list of accesses
+
+module _ (Tells More : List Access → Type 0) (May : Access → Type 0) (Fits : Uses → Type 0) (next : Uses → Uses) where
+  -- more is told of it
+  pub told_more : (old new : Device) → ((accesses : List Access) → Tells accesses → More accesses) → IsToldTo Tells May Fits next old new → IsToldTo More May Fits next old new
+  told_more old new more a = record { followed = a.followed; tells = more a.followed.driven.accesses a.tells }
+
+-- of one stretch after another
+module _ (First Second Tells : List Access → Type 0) (join : (early late : List Access) → First early → Second late → Tells (early ++ late)) (May : Access → Type 0) where
+  pub told_both : (Fits Less : Uses → Type 0) (first second : Uses → Uses) → ((uses : Uses) → Fits uses → Less (first uses)) → (old mid new : Device) →
+      IsToldTo First May Fits first old mid → IsToldTo Second May Less second mid new → IsToldTo Tells May Fits (λ uses. second (first uses)) old new
+  unfolding followed_both by_then
+  told_both Fits Less first second on old mid new a b = record {
+    followed = followed_both May Fits Less first second on old mid new a.followed b.followed;
+    tells = join a.followed.driven.accesses b.followed.driven.accesses a.tells b.tells;
+  }
+
+-- of one that goes on, or that was begun before
+module _ (Tells : List Access → Type 0) (May : Access → Type 0) (Fits : Uses → Type 0) where
+  pub told_then : ((early late : List Access) → Tells early → Tells (early ++ late)) → (old mid new : Device) → IsTold Tells May Fits old mid → IsFollowed May Fits mid new →
+      IsTold Tells May Fits old new
+  told_then on old mid new a b = told_both Tells (λ late. Unit {0}) Tells (λ early late is any. on early late is) May Fits Fits (λ uses. uses) (λ uses. uses) (λ uses fits. fits) old mid new a
+      (record { followed = b; tells = tt })
+
+  pub told_since : ((early late : List Access) → Tells late → Tells (early ++ late)) → (next : Uses → Uses) (old mid new : Device) → IsFollowed May Fits old mid →
+      IsToldTo Tells May Fits next mid new → IsToldTo Tells May Fits next old new
+  told_since on next old mid new a b = told_both (λ early. Unit {0}) Tells Tells (λ early late any is. on early late is) May Fits Fits (λ uses. uses) next (λ uses fits. fits) old mid new
+      (record { followed = a; tells = tt }) b
+
+-- of accesses that are of another kind, too, where the uses fit less
+module _ (Tells : List Access → Type 0) (May More : Access → Type 0) (Fits Less : Uses → Type 0) where
+  pub told_as : (next : Uses → Uses) (old new : Device) → ((access : Access) → May access → More access) → ((uses : Uses) → Less uses → Fits uses) →
+      IsToldTo Tells May Fits next old new → IsToldTo Tells More Less next old new
+  unfolding followed_to_as driven_as
+  told_as next old new kind fits a = record { followed = followed_to_as May More Fits Less next old new kind fits a.followed; tells = a.tells }
+
 -- the driver knows then of the same device that its slots are used so
 module _ (May : Access → Type 0) (Fits : Uses → Type 0) (next later : Uses → Uses) (old new : Device) where
   pub followed_known : ((uses : Uses) (parked : ℕ → List RequestId) (m : Machine) → Fits uses → Knows m (known (next uses) parked new) → Knows m (known (later uses) parked new)) →
@@ -181,6 +217,14 @@ module _ (May : Access → Type 0) (Fits : Uses → Type 0) (next later : Uses �
           };
         };
   }
+
+  -- and as much is told of the list
+  pub told_known : (Tells : List Access → Type 0) →
+      ((uses : Uses) (parked : ℕ → List RequestId) (m : Machine) → Fits uses → Knows m (known (next uses) parked new) → Knows m (known (later uses) parked new)) →
+      ((uses : Uses) (port : Port) → NoneWrites May (Px port Ci) → NoneWrites May (Px port Sact) → later uses port.0 ≡ uses port.0) → IsToldTo Tells May Fits next old new →
+      IsToldTo Tells May Fits later old new
+  unfolding followed_known
+  told_known Tells knows stays a = record { followed = followed_known knows stays a.followed; tells = a.tells }
 
 -- ---- what it gives
 
@@ -245,6 +289,17 @@ pub followed_write : (May : Access → Type 0) (Fits : Uses → Type 0) (r : Reg
     ((uses : Uses) → Fits uses → LeavesUses uses r v old) → Writes r v old new → IsFollowed May Fits old new
 followed_write May Fits r v old new kind may leaves call =
     followed_by May Fits (λ uses. uses) (Writing r v) old new kind call (λ uses parked is. write_adds (known uses parked old) r v new may (leaves uses is) call) (λ uses q issues arms. refl)
+
+-- the list of one reading, or of one write
+module _ (May : Access → Type 0) (Fits : Uses → Type 0) (r : Reg) (v : ℕ) (old new : Device) where
+  pub told_read : May (Reading r v) → Reads r v old new → IsTold (λ accesses. accesses ≡ Reading r v ∷ []) May AnyUse old new
+  unfolding followed_read followed_by by_one
+  told_read kind call = record { followed = followed_read May r v old new kind call; tells = refl }
+
+  pub told_write : May (Writing r v) → Stays (MayWrite r v) old → ((uses : Uses) → Fits uses → LeavesUses uses r v old) → Writes r v old new →
+      IsTold (λ accesses. accesses ≡ Writing r v ∷ []) May Fits old new
+  unfolding followed_write followed_by by_one
+  told_write kind may leaves call = record { followed = followed_write May Fits r v old new kind may leaves call; tells = refl }
 
 -- a command of the driver's own is issued
 pub followed_asking : (May : Access → Type 0) (Fits : Uses → Type 0) (port : Port) (o : Operation) (v : ℕ) (old new : Device) → May (Writing (Px port Ci) v) → old.hr ≡ false →

@@ -1,11 +1,12 @@
 -- Stretches of a driver's accesses, and what they are to the block machine (this project's own).
-use Rattle.std.specs.Prelude.{ℕ, ◌≡◌, ◌++◌, List, All}
+use Rattle.std.specs.Prelude.{ℕ, true, false, ◌≡◌, ◌≢◌, ◌++◌, List, All}
 use Rattle.ata_types.specs.declared.Port.{Port}
 use Rattle.ata_types.specs.declared.request.RequestId.{RequestId}
+use Rattle.hba_regs.specs.Bits.{bit}
 use Rattle.hba_regs.specs.declared.reg.PortReg.{PortReg}
 use Rattle.hba_regs.specs.declared.reg.PortReg.TheVariants.{Sact, Ci}
 use Rattle.hba_regs.specs.declared.reg.Reg.{Reg}
-use Rattle.hba_regs.specs.declared.reg.Reg.TheVariants.{Px}
+use Rattle.hba_regs.specs.declared.reg.Reg.TheVariants.{Is, Px}
 use Rattle.adapter.specs.Access.{Access, DoesAll}
 use Rattle.adapter.specs.Access.Access.{Reading, Writing}
 use Rattle.adapter.specs.Device.{PortState, Device}
@@ -61,11 +62,17 @@ IsControl Written port (Reading (Px at r) v) = at ≡ port
 IsControl Written port (Writing (Px at r) v) = (at ≡ port) × Written r
 IsControl Written port access = ⊥
 
--- It reads or writes a register of the port, reads one of the adapter's own, or loads or stores bytes: it touches no register of another
--- port.
+-- the value has the port's bit alone
+pub record IsBitOf (port v : ℕ) : Type 0 where
+  pub here : bit v port ≡ true
+  pub alone : (k : ℕ) → k ≢ port → bit v k ≡ false
+
+-- It reads or writes a register of the port, writes IS with the port's bit alone, reads a register of the adapter's own, or loads or stores
+-- bytes: it touches no register of another port, nor another port's bit of IS.
 abbrev pub IsOf : Port → Access → Type 0
 IsOf port (Reading (Px at r) v) = at ≡ port
 IsOf port (Writing (Px at r) v) = at ≡ port
+IsOf port (Writing Is v) = IsBitOf port.0 v
 IsOf port (Writing r v) = ⊥
 IsOf port access = Unit {0}
 
@@ -92,6 +99,15 @@ pub record IsFollowedTo (May : Access → Type 0) (Fits : Uses → Type 0) (next
 -- the same, where each slot goes on as it is used
 abbrev pub IsFollowed : (Access → Type 0) → (Uses → Type 0) → Device → Device → Type 0
 IsFollowed May Fits old new = IsFollowedTo May Fits (λ uses. uses) old new
+
+-- What was followed, and so much is told of the list of its accesses: that list to which the machine's steps belong.
+pub record IsToldTo (Tells : List Access → Type 0) (May : Access → Type 0) (Fits : Uses → Type 0) (next : Uses → Uses) (old new : Device) : Type 0 where
+  pub followed : IsFollowedTo May Fits next old new
+  pub tells : Tells followed.driven.accesses
+
+-- the same, where each slot goes on as it is used
+abbrev pub IsTold : (List Access → Type 0) → (Access → Type 0) → (Uses → Type 0) → Device → Device → Type 0
+IsTold Tells May Fits old new = IsToldTo Tells May Fits (λ uses. uses) old new
 
 -- ---- what they leave
 

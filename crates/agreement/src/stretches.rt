@@ -59,8 +59,9 @@ pub fn stretches_compose()
         → Stores at bytes old new → IsFollowed (IsOf port) (IsUse uses) old new }
 {}
 
-/// Accesses that touch no register of another port leave every other port to the device, with what readings noted of it, and
-/// with the record of its faults; and where they are followed, its disk sends no page for which its slot 0 has no command.
+/// Accesses that touch no register of another port, nor another port's bit of IS (`IsOf`), leave every other port to the device, with what
+/// readings noted of it, and with the record of its faults; and where they are followed, its disk sends no page for which its slot 0 has
+/// no command.
 /// What is left so in two stretches is left in both. An adapter that is on stays on. Any accesses leave the adapter what it is,
 /// and the tape only gains.
 pub fn other_ports_are_left()

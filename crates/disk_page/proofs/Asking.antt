@@ -29,14 +29,14 @@ use Rattle.adapter.specs.declared.tape.Entry.{Entry}
 use Rattle.block_machine.specs.Histories.{AddsSteps}
 use Rattle.block_machine.specs.State.{Machine}
 use Rattle.block_machine.proofs.HistoryLemmas.{reached_more}
-use Rattle.agreement.specs.Driven.{known, IsAgreed, IsDrivenBy, IsFollowed, IsFollowedTo, IsOf, AnyUse, NoneWrites}
+use Rattle.agreement.specs.Driven.{known, IsAgreed, IsDrivenBy, IsFollowed, IsFollowedTo, IsTold, IsToldTo, IsOf, AnyUse, NoneWrites}
 use Rattle.agreement.specs.Driver.{Knows, ByDevice, IsOwnPrepared}
 use Rattle.agreement.specs.Facts.{IsClear}
 use Rattle.agreement.specs.Places.{list_of, scratch_of}
 use Rattle.agreement.specs.Slots.{Free, Own, Uses, put as used, Told, IsOver, op_of, Brought}
 use Rattle.agreement.proofs.Controlled.{agreed_on, of_spares_ghc}
 use Rattle.agreement.proofs.Deciding.{own_release_knows}
-use Rattle.agreement.proofs.Driven.{along, followed_none, followed_as, followed_asking, followed_load, followed_then, followed_read, followed_adds, followed_known}
+use Rattle.agreement.proofs.Driven.{along, followed_none, followed_as, followed_asking, followed_load, followed_then, followed_read, followed_adds, told_known}
 use Rattle.agreement.proofs.Finished.{access_clear}
 use Rattle.agreement.proofs.Lasting.{access_on, access_same}
 use Rattle.agreement.proofs.Pages.{page_is_issued, access_waits, page_is_awaited, awaited_is_loaded}
@@ -386,10 +386,14 @@ released uses parked port o m d free over knows =
     (own_release_knows (known (used uses port 0 (Own o)) parked d) m knows port 0 over o (put_same uses port 0 (Own o)))
 
 -- a page that came meanwhile was issued on the port
+pub told_back : (Tells : List Access → Type 0) (May : Access → Type 0) (port : Port) (o : Operation) (v : ℕ) (old new : Device) → May (Writing (Px port Ci) v) → IsOver (new.port port.0) 0 →
+    IsToldTo Tells May (IsUnused port.0 0) (λ uses. used uses port.0 0 (Own o)) old new → IsTold Tells May (IsUnused port.0 0) old new
+told_back Tells May port o v old new issues over a = told_known May (IsUnused port.0 0) (λ uses. used uses port.0 0 (Own o)) (λ uses. uses) old new Tells
+    (λ uses parked m free knows. released uses parked port.0 o m new free over knows) (λ uses q none arms. refl) a
+
 pub followed_back : (May : Access → Type 0) (port : Port) (o : Operation) (v : ℕ) (old new : Device) → May (Writing (Px port Ci) v) → IsOver (new.port port.0) 0 →
     IsFollowedTo May (IsUnused port.0 0) (λ uses. used uses port.0 0 (Own o)) old new → IsFollowed May (IsUnused port.0 0) old new
-followed_back May port o v old new issues over a = followed_known May (IsUnused port.0 0) (λ uses. used uses port.0 0 (Own o)) (λ uses. uses) old new
-    (λ uses parked m free knows. released uses parked port.0 o m new free over knows) (λ uses q none arms. refl) a
+followed_back May port o v old new issues over a = (told_back (λ accesses. Unit {0}) May port o v old new issues over (record { followed = a; tells = tt })).followed
 
 -- a page that came since a time came since an earlier one
 sooner : (memory : ℕ → ℕ) (tape : List Entry) (port : ℕ) (o : Operation) (since early : ℕ) → early ≤ since → (b : Brought memory tape port o since) → (bytes : List ℕ) → bytes ≡ b.move.bytes.value →

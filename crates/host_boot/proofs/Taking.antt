@@ -1,5 +1,5 @@
 -- Port after port is booted, and the machine follows.
-use Rattle.std.proofs.Common.{ℕ, true, ◌≡◌, ◌≢◌, ◌<◌, ◌≤◌, ◌+◌, ◌/◌, ◌%◌, List, length, inl, inr, refl, sym, ◌∙◌, ap, subst, arith, le_trans}
+use Rattle.std.proofs.Common.{ℕ, true, ◌≡◌, ◌≢◌, ◌<◌, ◌≤◌, ◌+◌, ◌/◌, ◌%◌, ◌++◌, List, length, inl, inr, refl, sym, ◌∙◌, ap, subst, arith, le_trans}
 use Rattle.std.specs.Prelude.{slice_set}
 use Rattle.std.proofs.lemmas.Bool.{cases_eq}
 use Rattle.std.proofs.lemmas.List.{length-set, length-append, get_or-set_same, get_or-set_other}
@@ -20,22 +20,24 @@ use Rattle.adapter.specs.declared.command.Operation.TheVariants.{Identify}
 use Rattle.block_machine.specs.Left.{after}
 use Rattle.block_machine.proofs.HistoryLemmas.{reached_more}
 use Rattle.agreement.specs.Agrees.{port_at}
-use Rattle.agreement.specs.Driven.{AnyUse, IsAgreed, IsDrivenBy, IsFollowed, IsFollowedTo, IsOf, IsUse, LeavesPort, NoneWrites, SendsNone, AreDevices}
+use Rattle.agreement.specs.Driven.{AnyUse, IsAgreed, IsDrivenBy, IsFollowed, IsFollowedTo, IsOf, IsToldTo, IsUse, LeavesPort, NoneWrites, SendsNone, AreDevices}
 use Rattle.agreement.specs.Driver.{AllFree}
 use Rattle.agreement.specs.Links.{SameAdapter}
 use Rattle.agreement.specs.Slots.{Free, Own, Uses, put}
 use Rattle.agreement.proofs.Controlled.{agreed_on, of_spares_others, other_left, same_over, tape_over}
-use Rattle.agreement.proofs.Driven.{driven_as, followed_as, followed_to_as, followed_adds, followed_silent, followed_both}
+use Rattle.agreement.proofs.Driven.{driven_as, followed_as, followed_adds, followed_silent, told_as, told_both, told_more}
 use Rattle.agreement.proofs.Lasting.{same_more, same_refl}
 use Rattle.agreement.proofs.Putting.{put_same, put_other}
 use Rattle.identify.specs.declared.wanted.Wanted.{Wanted}
 use Rattle.identify.specs.declared.wanted.Wanted.TheVariants.{Nothing}
+use Rattle.port_control.specs.Engines.{StopsBoth}
 use Rattle.port_boot.specs.States.{IsBoot, IsBootTo, IsOfBoot}
-use Rattle.port_boot.proofs.Staying.{of_boot}
-use Rattle.host_boot.specs.Taken.{Boots, GoesOver, IsLeft, IsOfHost, IsOfTaking, LeavesPorts, StandsBehind, TakesOver, WroteControl, found_of, unused, wanted_of}
+use Rattle.port_boot.proofs.Staying.{boot_driven, of_boot}
+use Rattle.host_boot.specs.Taken.{Boots, GoesOver, IsLeft, IsOfHost, IsOfTaking, LeavesPorts, StandsBehind, TakesOver, TellsEngines, WroteControl, found_of, unused, wanted_of}
 use Rattle.host_boot.specs.declared.Host.{Host}
 use Rattle.host_boot.specs.declared.Found.{Found}
 use Rattle.host_boot.specs.declared.Found.TheVariants.{Unserved, Ready, Unready}
+use Rattle.host_boot.proofs.Stopping.{tells_then, tells_since}
 use Rattle.host_boot.proofs.Leaving.{idle_on, is_served, stands_on, reset_on}
 use Rattle.agreement.specs.Acts.{Comes, at}
 
@@ -54,14 +56,16 @@ module _ (May : Access → Type 0) (first : Uses) where
         subst (λ (u : Uses). Comes a.driven.accesses (at s old) m (at (record s { uses = u }) new) (AreDevices May s.uses)) is (a.comes s m reached x tt);
   }
 
-  -- nothing more is
-  pub then_on : (Fits : Uses → Type 0) (uses : Uses) (old mid new : Device) → Fits uses → GoesTo May first uses old mid → IsFollowed May Fits mid new → GoesTo May first uses old new
-  then_on Fits uses old mid new fits a b = followed_both May (IsUse first) Fits (λ _. uses) (λ u. u) (λ were is. fits) old mid new a b
+  -- and then others, with what is told of both
+  pub then_told : (Before Here Tells : List Access → Type 0) → ((early late : List Access) → Before early → Here late → Tells (early ++ late)) → (Fits : Uses → Type 0) (next : Uses → Uses) (uses : Uses)
+      (old mid new : Device) → Fits uses → IsToldTo Before May (IsUse first) (λ _. uses) old mid → IsToldTo Here May Fits next mid new → IsToldTo Tells May (IsUse first) (λ _. next uses) old new
+  then_told Before Here Tells join Fits next uses old mid new fits a b = told_both Before Here Tells join May (IsUse first) Fits (λ _. uses) next (λ were is. fits) old mid new a b
 
-  -- more is
-  pub then_to : (Fits : Uses → Type 0) (next : Uses → Uses) (uses : Uses) (old mid new : Device) → Fits uses → GoesTo May first uses old mid → IsFollowedTo May Fits next mid new →
-      GoesTo May first (next uses) old new
-  then_to Fits next uses old mid new fits a b = followed_both May (IsUse first) Fits (λ _. uses) next (λ were is. fits) old mid new a b
+-- ---- what accesses tell of engines
+
+-- what they tell of the first ports
+abbrev TellsFirst : List Found → ℕ → List Access → Type 0
+TellsFirst ports n accesses = (port : ℕ) → port < n → TellsEngines (port_at port) (found_of ports port) accesses
 
 -- ---- on the way
 
@@ -73,7 +77,7 @@ pub record IsUnderway (wanted : List Wanted) (ports : List Found) (n : ℕ) (sta
   pub uses : Uses
   pub left : (port slot : ℕ) → IsLeft ports uses port slot
   pub free : (port slot : ℕ) → n ≤ port → uses port slot ≡ Free
-  pub followed : GoesTo (IsOfTaking wanted) unused uses start d
+  pub told : IsToldTo (TellsFirst ports n) (IsOfTaking wanted) (IsUse unused) (λ _. uses) start d
   pub agreed : IsAgreed uses d
   pub stands : (port : ℕ) → port < n → StandsBehind (wanted_of wanted port) (found_of ports port) port d
   pub reset : (port : ℕ) → port < n → WroteControl (found_of ports port) port (length start.tape) d
@@ -133,7 +137,7 @@ module _ (wanted : List Wanted) (ports : List Found) (port : Port) (below : port
     -- the tape only grew before it
     longer : length start.tape ≤ length old.tape
     longer =
-        let g = tape_over (IsOfTaking wanted) start old u.followed.driven in
+        let g = tape_over (IsOfTaking wanted) start old u.told.followed.driven in
         let n : length old.tape ≡ length start.tape + length g.0 = ap (λ es. length es) g.1 ∙ length-append start.tape g.0 in
         omega (arith, n)
 
@@ -165,13 +169,40 @@ module _ (wanted : List Wanted) (ports : List Found) (port : Port) (below : port
     taking : found ≢ Unserved → (access : Access) → IsOfBoot port access → IsOfTaking wanted access
     taking served access is = inr (port, wants served, is)
 
+  -- ---- what is told of engines
+
+  -- of those before it, and of its own
+  later_engines : (early late : List Access) → TellsFirst ports port.0 early → TellsEngines port found late → TellsFirst (slice_set ports port.0 found) (port.0 + 1) (early ++ late)
+  later_engines early late before here q less = elim (cases_eq q port.0) [
+    | inl e ↦
+        let P : ℕ → Type 0 = λ k. TellsEngines (port_at k) (found_of (slice_set ports port.0 found) k) (early ++ late) in
+        let Q : Found → Type 0 = λ f. TellsEngines port f (early ++ late) in
+        subst P (sym e) (subst Q (sym here_is) (tells_since port found early late here))
+    | inr other ↦
+        let Q : Found → Type 0 = λ f. TellsEngines (port_at q) f (early ++ late) in
+        subst Q (sym (other_is q other)) (tells_then (port_at q) (found_of ports q) early late (before q (omega (arith, less, other))))
+  ]
+
+  -- and where nothing was done
+  same_engines : found ≡ Unserved → (accesses : List Access) → TellsFirst ports port.0 accesses → TellsFirst (slice_set ports port.0 found) (port.0 + 1) accesses
+  same_engines is accesses before q less = elim (cases_eq q port.0) [
+    | inl e ↦
+        let P : ℕ → Type 0 = λ k. TellsEngines (port_at k) (found_of (slice_set ports port.0 found) k) accesses in
+        let Q : Found → Type 0 = λ f. TellsEngines port f accesses in
+        subst P (sym e) (subst Q (sym (here_is ∙ is)) tt)
+    | inr other ↦
+        let Q : Found → Type 0 = λ f. TellsEngines (port_at q) f accesses in
+        subst Q (sym (other_is q other)) (before q (omega (arith, less, other)))
+  ]
+
   -- ---- its slots are not used afterwards
 
   unused_here : AllFree u.uses port.0
   unused_here slot = u.free port.0 slot (omega arith)
 
-  pub booted : found ≢ Unserved → IsBoot port old new → Later
-  booted served f =
+  pub booted : found ≢ Unserved → IsBoot (TellsEngines port found) port old new → Later
+  booted served told =
+      let f : IsFollowed (IsOfBoot port) (λ uses. AllFree uses port.0) old new = told.followed in
       let quiet : (q : Port) → q.0 ≢ port.0 → (u.uses q.0 0 ≡ Own Identify → ⊥) → SendsNone q.0 Identify old new =
       λ (q : Port) (other : q.0 ≢ port.0) (not : u.uses q.0 0 ≡ Own Identify → ⊥).
       followed_silent f u.uses u.agreed.parked u.agreed.machine unused_here u.agreed.reached u.agreed.knows q Identify refl (λ access may. of_spares_others port q Ci other access (of_boot port access may))
@@ -186,8 +217,9 @@ module _ (wanted : List Wanted) (ports : List Found) (port : Port) (below : port
           | inr other ↦ was_left q slot other
         ];
         free = λ q slot more. u.free q slot (omega (arith, more));
-        followed = then_on (IsOfTaking wanted) unused (λ uses. AllFree uses port.0) u.uses start old new unused_here u.followed
-            (followed_as (IsOfBoot port) (IsOfTaking wanted) (λ uses. AllFree uses port.0) (λ uses. AllFree uses port.0) old new (taking f.driven quiet served) (λ uses free. free) f);
+        told = then_told (IsOfTaking wanted) unused (TellsFirst ports port.0) (TellsEngines port found) (TellsFirst (slice_set ports port.0 found) (port.0 + 1)) later_engines (λ uses. AllFree uses port.0) (λ uses. uses)
+            u.uses start old new unused_here u.told
+            (told_as (TellsEngines port found) (IsOfBoot port) (IsOfTaking wanted) (λ uses. AllFree uses port.0) (λ uses. AllFree uses port.0) (λ uses. uses) old new (taking f.driven quiet served) (λ uses free. free) told);
         agreed = agreed_on (IsOfBoot port) (λ uses. AllFree uses port.0) u.uses old new unused_here f u.agreed;
         stands = later_stands f.driven quiet;
         reset = later_reset f.driven quiet;
@@ -199,8 +231,9 @@ module _ (wanted : List Wanted) (ports : List Found) (port : Port) (below : port
   abbrev Asked : Uses → Uses
   Asked uses = put uses port.0 0 (Own Identify)
 
-  pub died : found ≡ Unready Dead → IsFollowedTo (IsOfBoot port) (λ uses. AllFree uses port.0) Asked old new → Later
-  died dead f =
+  pub died : found ≡ Unready Dead → IsToldTo (TellsEngines port found) (IsOfBoot port) (λ uses. AllFree uses port.0) Asked old new → Later
+  died dead told =
+      let f : IsFollowedTo (IsOfBoot port) (λ uses. AllFree uses port.0) Asked old new = told.followed in
       let served : found ≢ Unserved = λ (e : found ≡ Unserved). absurd (let k : Unready Dead ≡ Unserved = sym dead ∙ e in cc) in
       let quiet : (q : Port) → q.0 ≢ port.0 → (u.uses q.0 0 ≡ Own Identify → ⊥) → SendsNone q.0 Identify old new =
       λ (q : Port) (other : q.0 ≢ port.0) (not : u.uses q.0 0 ≡ Own Identify → ⊥).
@@ -230,8 +263,9 @@ module _ (wanted : List Wanted) (ports : List Found) (port : Port) (below : port
           ]
         ];
         free = λ q slot more. put_other u.uses port.0 0 (Own Identify) q slot (λ at head. absurd (omega (arith, at, more))) ∙ u.free q slot (omega (arith, more));
-        followed = then_to (IsOfTaking wanted) unused (λ uses. AllFree uses port.0) Asked u.uses start old new unused_here u.followed
-            (followed_to_as (IsOfBoot port) (IsOfTaking wanted) (λ uses. AllFree uses port.0) (λ uses. AllFree uses port.0) Asked old new (taking f.driven quiet served) (λ uses free. free) f);
+        told = then_told (IsOfTaking wanted) unused (TellsFirst ports port.0) (TellsEngines port found) (TellsFirst (slice_set ports port.0 found) (port.0 + 1)) later_engines (λ uses. AllFree uses port.0) Asked
+            u.uses start old new unused_here u.told
+            (told_as (TellsEngines port found) (IsOfBoot port) (IsOfTaking wanted) (λ uses. AllFree uses port.0) (λ uses. AllFree uses port.0) Asked old new (taking f.driven quiet served) (λ uses free. free) told);
         agreed = record {
           machine = after u.agreed.machine x.0;
           parked = u.agreed.parked;
@@ -258,7 +292,7 @@ module _ (wanted : List Wanted) (ports : List Found) (port : Port) (below : port
           | inr other ↦ was_left q slot other
         ];
         free = λ q slot more. u.free q slot (omega (arith, more));
-        followed = u.followed;
+        told = told_more (TellsFirst ports port.0) (TellsFirst (slice_set ports port.0 found) (port.0 + 1)) (IsOfTaking wanted) (IsUse unused) (λ _. u.uses) start old (same_engines is) u.told;
         agreed = u.agreed;
         stands = λ q less. elim (cases_eq q port.0) [
           | inl e ↦
@@ -286,29 +320,27 @@ module _ (wanted : List Wanted) (ports : List Found) (port : Port) (below : port
   pub next : Boots port found old new → Later
   next boots = by found refl boots
     where
-      by_state : (state : PortState) → found ≡ Unready state → IsBootTo port state old new → Later
-      by_state Dead is (inl f) = booted (λ e. absurd (let k : Unready Dead ≡ Unserved = sym is ∙ e in cc)) f
-      by_state Dead is (inr f) = died is f
-      by_state Absent is f = booted (λ e. absurd (let k : Unready Absent ≡ Unserved = sym is ∙ e in cc)) f
-      by_state ReadyState is f = booted (λ e. absurd (let k : Unready ReadyState ≡ Unserved = sym is ∙ e in cc)) f
-      by_state Foreign is f = booted (λ e. absurd (let k : Unready Foreign ≡ Unserved = sym is ∙ e in cc)) f
-      by_state (Unfit n) is f = booted (λ e. absurd (let k : Unready (Unfit n) ≡ Unserved = sym is ∙ e in cc)) f
+      booted_as : (f : Found) → found ≡ f → f ≢ Unserved → IsBoot (TellsEngines port f) port old new → Later
+      booted_as f is served b = booted (λ e. served (sym is ∙ e)) (subst (λ (x : Found). IsBoot (TellsEngines port x) port old new) (sym is) b)
+
+      by_state : (state : PortState) → found ≡ Unready state → IsBootTo (StopsBoth port) port state old new → Later
+      by_state Dead is (inl b) = booted_as (Unready Dead) is (λ e. absurd cc) b
+      by_state Dead is (inr b) = died is (subst (λ (x : Found). IsToldTo (TellsEngines port x) (IsOfBoot port) (λ uses. AllFree uses port.0) Asked old new) (sym is) b)
+      by_state Absent is b = booted_as (Unready Absent) is (λ e. absurd cc) b
+      by_state ReadyState is b = booted_as (Unready ReadyState) is (λ e. absurd cc) b
+      by_state Foreign is b = booted_as (Unready Foreign) is (λ e. absurd cc) b
+      by_state (Unfit n) is b = booted_as (Unready (Unfit n)) is (λ e. absurd cc) b
 
       by : (f : Found) → found ≡ f → Boots port f old new → Later
       by Unserved is same = passed is same
-      by (Ready info) is f = booted (λ e. absurd (let k : Ready info ≡ Unserved = sym is ∙ e in cc)) f
-      by (Unready state) is f = by_state state is f
+      by (Ready info) is b = booted_as (Ready info) is (λ e. absurd cc) b
+      by (Unready state) is b = by_state state is b
 
 -- the adapter is what it was
 pub boots_same : (port : Port) (old new : Device) (found : Found) → Boots port found old new → SameAdapter old new
 boots_same port old new Unserved is = subst (SameAdapter old) (sym is) (same_refl old)
-boots_same port old new (Ready info) f = same_over (IsOfBoot port) old new f.driven
-boots_same port old new (Unready Dead) (inl f) = same_over (IsOfBoot port) old new f.driven
-boots_same port old new (Unready Dead) (inr f) = same_over (IsOfBoot port) old new f.driven
-boots_same port old new (Unready Absent) f = same_over (IsOfBoot port) old new f.driven
-boots_same port old new (Unready ReadyState) f = same_over (IsOfBoot port) old new f.driven
-boots_same port old new (Unready Foreign) f = same_over (IsOfBoot port) old new f.driven
-boots_same port old new (Unready (Unfit n)) f = same_over (IsOfBoot port) old new f.driven
+boots_same port old new (Ready info) f = same_over (IsOfBoot port) old new f.followed.driven
+boots_same port old new (Unready state) f = same_over (IsOfBoot port) old new (boot_driven (StopsBoth port) port old new state f)
 
 -- ---- accesses of the adapter's own registers
 
@@ -339,7 +371,7 @@ module _ (wanted : List Wanted) (start : Device) where
     uses = unused;
     left = λ port slot. inl refl;
     free = λ port slot more. refl;
-    followed = goes_on (IsOfTaking wanted) unused start d (hosting wanted start d f);
+    told = record { followed = goes_on (IsOfTaking wanted) unused start d (hosting wanted start d f); tells = λ port less. absurd (omega (arith, less)) };
     agreed = agreed_on IsOfHost AnyUse unused start d tt f agreed;
     stands = λ port less. absurd (omega (arith, less));
     reset = λ port less. absurd (omega (arith, less));
@@ -358,6 +390,10 @@ module _ (wanted : List Wanted) (start : Device) where
           | inr (head, is, dead) ↦ alive dead
         ])
 
+    all_told : IsToldTo (TellsFirst ports 4) (IsOfTaking wanted) (IsUse unused) (λ _. u.uses) start new
+    all_told = then_told (IsOfTaking wanted) unused (TellsFirst ports 4) (λ late. Unit {0}) (TellsFirst ports 4) (λ early late is any port less. tells_then (port_at port) (found_of ports port) early late (is port less))
+        AnyUse (λ uses. uses) u.uses start d new tt u.told (record { followed = hosting wanted d new f; tells = tt })
+
     pub ends : (host : Host) → host.ports ≡ ports → host.slots ≡ new.cap / 256 % 32 + 1 → host.queued ≡ bit new.cap 30 → IsOn new → new.ie ≡ true → GoesOver ports start new → TakesOver wanted host start new
     ends host is slots queued on tells way = record {
       on = on;
@@ -374,6 +410,7 @@ module _ (wanted : List Wanted) (start : Device) where
       way = let P : List Found → Type 0 = λ ps. GoesOver ps start new in subst P (sym is) way;
       uses = u.uses;
       left = λ port slot. let P : List Found → Type 0 = λ ps. IsLeft ps u.uses port slot in subst P (sym is) (u.left port slot);
-      followed = then_on (IsOfTaking wanted) unused AnyUse u.uses start d new tt u.followed (hosting wanted d new f);
+      followed = all_told.followed;
+      engines = let P : List Found → Type 0 = λ ps. TellsFirst ps 4 all_told.followed.driven.accesses in subst P (sym is) all_told.tells;
       agreed = agreed_on IsOfHost AnyUse u.uses d new tt f u.agreed;
     }

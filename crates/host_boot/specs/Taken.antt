@@ -18,6 +18,7 @@ use Rattle.agreement.specs.Slots.{Free, Own, Uses}
 use Rattle.identify.specs.Wanted.{serial_of}
 use Rattle.identify.specs.declared.wanted.Wanted.{Wanted}
 use Rattle.identify.specs.declared.wanted.Wanted.TheVariants.{Nothing}
+use Rattle.port_control.specs.Engines.{StopsBoth, Sticks}
 use Rattle.port_control.specs.Ports.{WritesCommand}
 use Rattle.port_boot.specs.States.{EndsAs, EndsEarly, EndsLate, GetsReady, HasFitDisk, IsBoot, IsBootTo, IsEarly, IsLate, IsOfBoot, IsReady, ShowsNews}
 use Rattle.host_boot.specs.declared.Found.{Found}
@@ -62,11 +63,18 @@ WroteControl Unserved port since d = Unit {0}
 WroteControl (Unready Dead) port since d = Unit {0}
 WroteControl _ port since d = since ≤ (d.port port).notes.sctl_written_at
 
--- A port that isn't served isn't touched; another was booted.
+-- What accesses tell of the engines of a port that was found to be this: both fell, as was read after each was cleared. Of a dead port 64
+-- readings in a row showed one that runs still; and one that isn't served wasn't stopped.
+abbrev pub TellsEngines : Port → Found → List Access → Type 0
+TellsEngines port Unserved accesses = Unit {0}
+TellsEngines port (Unready Dead) accesses = Sticks port accesses
+TellsEngines port _ accesses = StopsBoth port accesses
+
+-- A port that isn't served isn't touched; another was stopped and booted, and its accesses tell of its engines.
 abbrev pub Boots : Port → Found → Device → Device → Type 0
 Boots port Unserved old new = new ≡ old
-Boots port (Ready info) old new = IsBoot port old new
-Boots port (Unready state) old new = IsBootTo port state old new
+Boots port (Ready info) old new = IsBoot (StopsBoth port) port old new
+Boots port (Unready state) old new = IsBootTo (StopsBoth port) port state old new
 
 -- ---- accesses
 
@@ -131,7 +139,7 @@ IsLeft ports uses port slot = (uses port slot ≡ Free)
     ⊎ ((slot ≡ 0) × (uses port 0 ≡ Own Identify) × (found_of ports port ≡ Unready Dead))
 
 -- An idle adapter was taken over: it is on, and may interrupt; what is told of it is so; each of its ports is as it was found, by a
--- COMRESET of this very call; and the machine followed, by steps of the device alone.
+-- COMRESET of this very call; and the machine followed, by steps of the device alone, over accesses that tell of each port's engines.
 pub record TakesOver (wanted : List Wanted) (host : Host) (old new : Device) : Type 0 where
   pub on : IsOn new
   pub interrupts : new.ie ≡ true
@@ -144,4 +152,5 @@ pub record TakesOver (wanted : List Wanted) (host : Host) (old new : Device) : T
   pub uses : Uses
   pub left : (port slot : ℕ) → IsLeft host.ports uses port slot
   pub followed : IsFollowedTo (IsOfTaking wanted) (IsUse unused) (λ _. uses) old new
+  pub engines : (port : ℕ) → port < 4 → TellsEngines (port_at port) (found_of host.ports port) followed.driven.accesses
   pub agreed : IsAgreed uses new

@@ -4,23 +4,25 @@ use Rattle.std.proofs.lemmas.List.{length-append}
 use Rattle.ata_types.specs.declared.Port.{Port}
 use Rattle.ata_types.specs.declared.PortState.{PortState}
 use Rattle.hba_regs.specs.declared.reg.PortReg.{PortReg}
+use Rattle.adapter.specs.Access.{Access}
 use Rattle.adapter.specs.Device.{Notes, Device}
 use Rattle.adapter.specs.declared.tape.Entry.{Entry}
 use Rattle.adapter.proofs.Absurd.{true-false}
-use Rattle.agreement.specs.Driven.{AnyUse, IsControl, IsFollowed}
+use Rattle.agreement.specs.Driven.{AnyUse, IsControl, IsFollowed, IsTold}
 use Rattle.agreement.specs.Driver.{AllFree}
 use Rattle.agreement.specs.Errors.{NoneComes, ChangesByDisks}
 use Rattle.agreement.specs.Facts.{IsQuiet, IsRecorded}
 use Rattle.agreement.specs.Links.{PlugsNone}
 use Rattle.agreement.specs.Slots.{Uses}
 use Rattle.agreement.specs.Started.{IsUp, IsComingUp, IsStarted}
-use Rattle.agreement.proofs.Controlled.{Grows, grows_more, same_adapter, stays_on, tape_gains, agreeing_goes_on}
-use Rattle.agreement.proofs.Driven.{followed_as, followed_then}
+use Rattle.agreement.proofs.Controlled.{Grows, grows_more, same_adapter, stays_on, tape_gains, agreeing_goes_on, control_wider}
+use Rattle.agreement.proofs.Driven.{followed_as, told_as, told_then}
+use Rattle.port_control.specs.Engines.{StopsReceiving}
 use Rattle.port_control.specs.Ports.{WritesCommand, IsPlacing, IsResetting, IsRunning, SameButStart, SawDevice, SawIdle, FindsSignature, Looks, WasReset, IsFound}
 use Rattle.port_control.specs.declared.PortFault.{PortFault}
 use Rattle.port_control.specs.declared.PortFault.TheVariants.{NoDevice}
 use Rattle.port_control.proofs.Settling.{comes_in_parts, plugs_in_parts}
-use Rattle.port_control.proofs.Using.{there_after, followed_wider}
+use Rattle.port_control.proofs.Using.{there_after, falls_then, followed_wider}
 use Rattle.port_boot.specs.States.{IsBooting, IsBootable, IsBroughtUp, EndsEarly, TellsFault}
 
 -- ---- what the calls of `port_control` say, of one port
@@ -75,6 +77,12 @@ module _ (Written : PortReg → Type 0) (Fits : Uses → Type 0) (port : Port) (
   boots wider fits = followed_wider Written IsBooting (λ uses. AllFree uses port.0) port old new wider
       (followed_as (IsControl Written port) (IsControl Written port) Fits (λ uses. AllFree uses port.0) old new (λ access may. may) fits f)
 
+-- so it is, and as much is told of it
+pub told_boots : (Tells : List Access → Type 0) (Written : PortReg → Type 0) (Fits : Uses → Type 0) (port : Port) (old new : Device) → ((r : PortReg) → Written r → IsBooting r) →
+    ((uses : Uses) → AllFree uses port.0 → Fits uses) → IsTold Tells (IsControl Written port) Fits old new → IsTold Tells (IsControl IsBooting port) (λ uses. AllFree uses port.0) old new
+told_boots Tells Written Fits port old new wider fits f =
+    told_as Tells (IsControl Written port) (IsControl IsBooting port) Fits (λ uses. AllFree uses port.0) (λ uses. uses) old new (control_wider Written port IsBooting wider) fits f
+
 -- placing, resetting and starting are of a boot
 pub placing : (r : PortReg) → IsPlacing r → IsBooting r
 placing r is = inl is
@@ -88,23 +96,23 @@ starting r is = inl (inl is)
 pub placed_bootable : (port : Port) (old mid : Device) → IsBootable port old → IsFollowed (IsControl IsPlacing port) AnyUse old mid → IsBootable port mid
 placed_bootable port old mid b first = bootable_after IsPlacing AnyUse port old mid first (λ uses free. tt) b
 
-module _ (port : Port) (old mid reset : Device) (b : IsBootable port old) (first : IsFollowed (IsControl IsPlacing port) AnyUse old mid)
+module _ (port : Port) (old mid reset : Device) (b : IsBootable port old) (first : IsTold (StopsReceiving port) (IsControl IsPlacing port) AnyUse old mid)
     (second : IsFollowed (IsControl IsResetting port) AnyUse mid reset) where
   pub reset_bootable : IsBootable port reset
-  reset_bootable = bootable_after IsResetting AnyUse port mid reset second (λ uses free. tt) (placed_bootable port old mid b first)
+  reset_bootable = bootable_after IsResetting AnyUse port mid reset second (λ uses free. tt) (placed_bootable port old mid b first.followed)
 
-  pub reset_boots : IsFollowed (IsControl IsBooting port) (λ uses. AllFree uses port.0) old reset
-  reset_boots = followed_then (IsControl IsBooting port) (λ uses. AllFree uses port.0) old mid reset
-      (boots IsPlacing AnyUse port old mid first placing (λ uses free. tt)) (boots IsResetting AnyUse port mid reset second resetting (λ uses free. tt))
+  pub reset_boots : IsTold (StopsReceiving port) (IsControl IsBooting port) (λ uses. AllFree uses port.0) old reset
+  reset_boots = told_then (StopsReceiving port) (IsControl IsBooting port) (λ uses. AllFree uses port.0) (λ early late. falls_then early late 4 14 port) old mid reset
+      (told_boots (StopsReceiving port) IsPlacing AnyUse port old mid placing (λ uses free. tt) first) (boots IsResetting AnyUse port mid reset second resetting (λ uses free. tt))
 
   early : Grows old mid
-  early = tape_gains IsPlacing port old mid first.driven
+  early = tape_gains IsPlacing port old mid first.followed.driven
 
   late : Grows mid reset
   late = tape_gains IsResetting port mid reset second.driven
 
   pub reset_since : {Then : Device → Device → Type 0} → WasReset port Then mid reset → length old.tape ≤ (reset.port port.0).notes.sctl_written_at
-  reset_since was = le_trans (later IsPlacing AnyUse port old mid first) was.since
+  reset_since was = le_trans (later IsPlacing AnyUse port old mid first.followed) was.since
 
   -- what was found is so of the whole
   found_before : IsFound port.0 mid reset → IsFound port.0 old reset
@@ -124,15 +132,15 @@ module _ (port : Port) (old mid reset : Device) (b : IsBootable port old) (first
     fault = fault;
     told = told;
     placed = mid;
-    places = first.driven;
+    places = first.followed.driven;
     resets = f.resets;
     coming = λ none. f.coming (comes_in_parts port.0 old mid reset early late none).1;
     found = λ other. found_before (f.found other);
   }
 
   module _ (new : Device) (third : IsFollowed (IsControl WritesCommand port) (λ uses. AllFree uses port.0) reset new) where
-    pub up_boots : IsFollowed (IsControl IsBooting port) (λ uses. AllFree uses port.0) old new
-    up_boots = followed_then (IsControl IsBooting port) (λ uses. AllFree uses port.0) old reset new reset_boots
+    pub up_boots : IsTold (StopsReceiving port) (IsControl IsBooting port) (λ uses. AllFree uses port.0) old new
+    up_boots = told_then (StopsReceiving port) (IsControl IsBooting port) (λ uses. AllFree uses port.0) (λ early late. falls_then early late 4 14 port) old reset new reset_boots
         (boots WritesCommand (λ uses. AllFree uses port.0) port reset new third starting (λ uses free. free))
 
     last : Grows reset new
@@ -157,7 +165,7 @@ module _ (port : Port) (old mid reset : Device) (b : IsBootable port old) (first
           known = s.set;
           since = later_still;
           marked = still;
-          way = record { placed = mid; places = first.driven; found = reset; resets = f.resets; starts = third.driven };
+          way = record { placed = mid; places = first.followed.driven; found = reset; resets = f.resets; starts = third.driven };
           calm = λ place small. s.calm place (found.calm place small);
           clear = record {
             serr_n = λ none. let parts = plugs_in_parts port.0 old reset new (grows_more old mid reset early late) last none in changes.serr_n parts.1 (found.clear.serr_n parts.0);

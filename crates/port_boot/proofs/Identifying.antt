@@ -1,5 +1,5 @@
 -- A disk is asked for its page, and the port goes on or is stopped.
-use Rattle.std.proofs.Common.{ℕ, ◌≡◌, ◌≤◌, ◌%◌, ◌++◌, inl, inr, false, List, ◌∷◌, Option, None, Some, length, refl, sym, ◌∙◌, ap, subst, arith, append_assoc}
+use Rattle.std.proofs.Common.{ℕ, ◌≡◌, ◌≢◌, ◌≤◌, ◌%◌, ◌++◌, inl, inr, false, List, ◌∷◌, Option, None, Some, length, refl, sym, ◌∙◌, ap, subst, arith, append_assoc}
 use Rattle.std.specs.Prelude.{Result, Ok, Err, OnOk, IfErr}
 use Rattle.std.proofs.lemmas.List.Elements.{All-append}
 use Rattle.std.proofs.lemmas.Bool.{cases_eq}
@@ -17,24 +17,27 @@ use Rattle.adapter.specs.declared.command.Operation.TheVariants.{Identify}
 use Rattle.adapter.specs.declared.tape.Entry.{Entry}
 use Rattle.adapter.specs.declared.tape.Entry.TheVariants as entry
 use Rattle.adapter.proofs.Calls.{put, PutAt}
-use Rattle.agreement.specs.Driven.{AgreesWith, AnyUse, IsAgreed, IsControl, IsDrivenBy, IsFollowed, IsFollowedTo}
+use Rattle.agreement.specs.Driven.{AgreesWith, AnyUse, IsAgreed, IsControl, IsDrivenBy, IsFollowed, IsTold, IsToldTo}
 use Rattle.agreement.specs.Links.{SameAdapter}
 use Rattle.agreement.specs.Driver.{AllFree}
 use Rattle.agreement.specs.Slots.{Own, Uses, put as used, IsMove, IsOver}
 use Rattle.agreement.proofs.Allowing.{write_stays}
 use Rattle.agreement.proofs.Controlled.{control_wider, same_over}
-use Rattle.agreement.proofs.Driven.{followed_as, followed_then, followed_to_as, followed_to_more, followed_to_then, followed_write}
+use Rattle.agreement.proofs.Driven.{followed_as, followed_then, followed_to_as, followed_write, told_as, told_both, told_more, told_since, told_then}
 use Rattle.agreement.proofs.Lasting.{access_on}
 use Rattle.agreement.proofs.Gaining.{GainsNone}
 use Rattle.agreement.proofs.Unmoving.{access_unmoving, controls_unmoving}
 use Rattle.command_table.specs.Written.{IsUnused}
 use Rattle.disk_page.specs.Asking.{IsAsking, LeavesRunning, Brings, Reads, MayAsk}
-use Rattle.disk_page.proofs.Asking.{followed_back}
+use Rattle.disk_page.proofs.Asking.{told_back}
 use Rattle.identify.specs.declared.DiskInfo.{DiskInfo}
-use Rattle.port_control.specs.Ports.{WritesCommand, IsRunning, HasStopped, SawDevice}
-use Rattle.port_boot.specs.States.{told_causes, HasPage, IsFit, Judges, EndsAs, IsReady, IsBooting, IsOfBoot, IsBoot, IsBootTo, IsBootable, IsBroughtUp, IsHaltedAs}
-use Rattle.port_control.proofs.Using.{there_after}
-use Rattle.port_boot.proofs.Bringing.{starting}
+use Rattle.port_control.specs.Engines.{FailsToStop, FailsToStopReceiving, Stops, StopsReceiving, Sticks}
+use Rattle.port_control.specs.Ports.{WritesCommand, IsPlacing, IsRunning, HasStopped, SawDevice}
+use Rattle.port_boot.specs.States.{told_causes, HasPage, IsFit, Judges, EndsAs, IsReady, IsBooting, IsOfBoot, IsBoot, IsBootTo, IsBootable, IsBroughtUp, IsHaltedAs, IsLate, StopsOnWay, TellsFault}
+use Rattle.port_control.specs.declared.PortFault.{PortFault}
+use Rattle.port_control.specs.declared.PortFault.TheVariants.{NoDevice, Busy, EngineStuck, NotAta}
+use Rattle.port_control.proofs.Using.{there_after, failing_sticks, failing_receiving_sticks, falls_then, falls_since, sticks_since}
+use Rattle.port_boot.proofs.Bringing.{placing, starting, told_boots}
 
 -- ---- the page stays the last
 
@@ -133,8 +136,9 @@ unused : (port : Port) (uses : Uses) → AllFree uses port.0 → IsUnused port.0
 unused port uses free = free 0
 
 -- a stop is a part of the boot
-stop_boots : (port : Port) (mid new : Device) → IsFollowed (IsControl WritesCommand port) AnyUse mid new → IsFollowed (IsOfBoot port) AnyUse mid new
-stop_boots port mid new f = followed_as (IsControl WritesCommand port) (IsOfBoot port) AnyUse AnyUse mid new (λ access may. inl (control_wider WritesCommand port IsBooting starting access may)) (λ uses is. is) f
+stop_boots : (Tells : List Access → Type 0) (port : Port) (mid new : Device) → IsTold Tells (IsControl WritesCommand port) AnyUse mid new → IsTold Tells (IsOfBoot port) AnyUse mid new
+stop_boots Tells port mid new f = told_as Tells (IsControl WritesCommand port) (IsOfBoot port) AnyUse AnyUse (λ uses. uses) mid new
+    (λ access may. inl (control_wider WritesCommand port IsBooting starting access may)) (λ uses is. is) f
 
 module _ (port : Port) (start old mid : Device) (up : IsBroughtUp port start old) (on : IsOn mid) (l : LeavesRunning port.0 old mid) where
   module _ (driven : IsDrivenBy (IsAsking port) old mid) where
@@ -144,13 +148,22 @@ module _ (port : Port) (start old mid : Device) (up : IsBroughtUp port start old
     pub asked_room : 163840 ≤ mid.size
     asked_room = let same = (asking_adapter port old mid driven).size in let room = up.bootable.room in omega (arith, same, room)
 
--- a boot to any state
-pub boots_to : (port : Port) (old new : Device) (state : PortState) → IsBoot port old new → IsBootTo port state old new
-boots_to port old new Dead b = inl b
-boots_to port old new Absent b = b
-boots_to port old new Ready b = b
-boots_to port old new Foreign b = b
-boots_to port old new (Unfit n) b = b
+-- a port that was to stop was driven so, however it ended
+pub halt_driven : (port : Port) (wanted state : PortState) (old new : Device) → IsHaltedAs port wanted state old new → IsDrivenBy (IsControl WritesCommand port) old new
+halt_driven port wanted state old new (inl x) = x.1.told.followed.driven
+halt_driven port wanted state old new (inr x) = x.2.told.followed.driven
+
+-- where it didn't stop, its engine is stuck
+halting_sticks : (port : Port) (old new : Device) → IsTold (FailsToStop port) (IsControl WritesCommand port) AnyUse old new → IsTold (Sticks port) (IsControl WritesCommand port) AnyUse old new
+halting_sticks port old new f = told_more (FailsToStop port) (Sticks port) (IsControl WritesCommand port) AnyUse (λ uses. uses) old new (failing_sticks port) f
+
+-- a boot to any state but Dead
+pub boots_to : (Tells : List Access → Type 0) (port : Port) (old new : Device) (state : PortState) → state ≢ Dead → IsBoot Tells port old new → IsBootTo Tells port state old new
+boots_to Tells port old new Dead alive b = absurd (alive refl)
+boots_to Tells port old new Absent alive b = b
+boots_to Tells port old new Ready alive b = b
+boots_to Tells port old new Foreign alive b = b
+boots_to Tells port old new (Unfit n) alive b = b
 
 -- ---- no page came
 
@@ -162,34 +175,41 @@ module _ (port : Port) (start old mid : Device) (up : IsBroughtUp port start old
   pub unasked_agreed : AgreesWith AnyUse mid
   unasked_agreed = let a = up.bootable.agreed in (used a.0 port.0 0 (Own Identify), tt, agrees a.0 (a.1 0) a.2)
 
-  module _ (new : Device) (stops : IsFollowed (IsControl WritesCommand port) AnyUse mid new) (has : HasStopped (mid.port port.0) (new.port port.0)) where
-    given : IsFollowedTo (IsOfBoot port) (IsUnused port.0 0) (λ uses. used uses port.0 0 (Own Identify)) old new
-    given = followed_to_more (IsOfBoot port) (IsUnused port.0 0) (λ uses. used uses port.0 0 (Own Identify)) old mid new
-        (followed_to_as (IsAsking port) (IsOfBoot port) (IsUnused port.0 0) (IsUnused port.0 0) (λ uses. used uses port.0 0 (Own Identify)) old mid (asking port) (λ uses free. free) reads.1)
-        (stop_boots port mid new stops)
+  module _ (new : Device) (has : HasStopped (mid.port port.0) (new.port port.0)) where
+    -- asked, and then stopped, of which so much is told
+    module _ (Tells : List Access → Type 0) (since : (early late : List Access) → Tells late → Tells (early ++ late)) (stops : IsTold Tells (IsControl WritesCommand port) AnyUse mid new) where
+      given : IsToldTo Tells (IsOfBoot port) (IsUnused port.0 0) (λ uses. used uses port.0 0 (Own Identify)) old new
+      given = told_both (λ early. Unit {0}) Tells Tells (λ early late any is. since early late is) (IsOfBoot port) (IsUnused port.0 0) AnyUse (λ uses. used uses port.0 0 (Own Identify)) (λ uses. uses)
+          (λ uses free. tt) old mid new
+          (record { followed = followed_to_as (IsAsking port) (IsOfBoot port) (IsUnused port.0 0) (IsUnused port.0 0) (λ uses. used uses port.0 0 (Own Identify)) old mid (asking port) (λ uses free. free) reads.1; tells = tt })
+          (stop_boots Tells port mid new stops)
 
-    given_boots : IsFollowedTo (IsOfBoot port) (λ uses. AllFree uses port.0) (λ uses. used uses port.0 0 (Own Identify)) old new
-    given_boots = followed_to_as (IsOfBoot port) (IsOfBoot port) (IsUnused port.0 0) (λ uses. AllFree uses port.0) (λ uses. used uses port.0 0 (Own Identify)) old new (λ access may. may) (unused port) given
+      given_boots : IsToldTo Tells (IsOfBoot port) (λ uses. AllFree uses port.0) (λ uses. used uses port.0 0 (Own Identify)) old new
+      given_boots = told_as Tells (IsOfBoot port) (IsOfBoot port) (IsUnused port.0 0) (λ uses. AllFree uses port.0) (λ uses. used uses port.0 0 (Own Identify)) old new (λ access may. may) (unused port) given
 
-    stopped_boots : IsOver (new.port port.0) 0 → IsBoot port old new
-    stopped_boots over = followed_as (IsOfBoot port) (IsOfBoot port) (IsUnused port.0 0) (λ uses. AllFree uses port.0) old new (λ access may. may) (unused port)
-        (followed_back (IsOfBoot port) port Identify 1 old new (inr (refl, refl)) over given)
+      stopped_boots : IsOver (new.port port.0) 0 → IsBoot Tells port old new
+      stopped_boots over = told_as Tells (IsOfBoot port) (IsOfBoot port) (IsUnused port.0 0) (λ uses. AllFree uses port.0) (λ uses. uses) old new (λ access may. may) (unused port)
+          (told_back Tells (IsOfBoot port) port Identify 1 old new (inr (refl, refl)) over given)
 
-    pub unasked_ends : (wanted : Option (List ℕ)) (result : PortState) → IsHaltedAs (Unfit 9) result port.0 new → EndsAs wanted result port.0 new
+    pub unasked_ends : (wanted : Option (List ℕ)) (result : PortState) → IsHaltedAs port (Unfit 9) result mid new → EndsAs wanted result port.0 new
     unasked_ends wanted result (inl x) = let P : PortState → Type 0 = λ s. EndsAs wanted s port.0 new in
         subst P (sym x.0) (
-          x.1,
+          x.1.stopped,
           inr (inr (inl (
             refl,
             (ap (λ (n : Notes). n.last_ssts % 16) has.notes ∙ (asked_saw port start old mid up l).0, ap (λ (n : Notes). n.link_count) has.notes ∙ (asked_saw port start old mid up l).1),
             ap (λ (n : Notes). n.command_count) has.notes ∙ reads.0,
           ))),
         )
-    unasked_ends wanted result (inr x) = let P : PortState → Type 0 = λ s. EndsAs wanted s port.0 new in subst P (sym x.0) (x.1, x.2)
+    unasked_ends wanted result (inr x) = let P : PortState → Type 0 = λ s. EndsAs wanted s port.0 new in subst P (sym x.0) (x.1, x.2.stuck)
 
-    pub unasked_boots : (result : PortState) → IsHaltedAs (Unfit 9) result port.0 new → IsBootTo port result old new
-    unasked_boots result (inl x) = let P : PortState → Type 0 = λ s. IsBootTo port s old new in subst P (sym x.0) (stopped_boots (record { issued = x.1.halted.ci 0; free = x.1.halted.taken 0 }))
-    unasked_boots result (inr x) = let P : PortState → Type 0 = λ s. IsBootTo port s old new in subst P (sym x.0) (inr given_boots)
+    pub unasked_boots : (result : PortState) → IsHaltedAs port (Unfit 9) result mid new → IsBootTo (Stops port) port result old new
+    unasked_boots result (inl x) =
+        let P : PortState → Type 0 = λ s. IsBootTo (Stops port) port s old new in
+        subst P (sym x.0) (stopped_boots (Stops port) (λ early late. falls_since early late 0 15 port) x.1.told (record { issued = x.1.stopped.halted.ci 0; free = x.1.stopped.halted.taken 0 }))
+    unasked_boots result (inr x) =
+        let P : PortState → Type 0 = λ s. IsBootTo (Stops port) port s old new in
+        subst P (sym x.0) (inr (given_boots (Sticks port) (λ early late. sticks_since early late port) (halting_sticks port mid new x.2.told)))
 
 -- ---- a page came
 
@@ -211,7 +231,7 @@ module _ (port : Port) (start old mid : Device) (page : List ℕ) (up : IsBrough
         has = asked_page port start old mid up l page reads.0;
       }
 
-  asked_boots : IsBoot port old mid
+  asked_boots : IsFollowed (IsOfBoot port) (λ uses. AllFree uses port.0) old mid
   asked_boots = followed_as (IsAsking port) (IsOfBoot port) (IsUnused port.0 0) (λ uses. AllFree uses port.0) old mid (asking port) (unused port) reads.1
 
   -- and then PxIE is written
@@ -254,56 +274,86 @@ module _ (port : Port) (start old mid : Device) (page : List ℕ) (up : IsBrough
           };
         }
 
-    pub enabled_boots : IsBoot port old new
+    pub enabled_boots : IsFollowed (IsOfBoot port) (λ uses. AllFree uses port.0) old new
     enabled_boots = followed_then (IsOfBoot port) (λ uses. AllFree uses port.0) old mid new asked_boots
         (followed_write (IsOfBoot port) (λ uses. AllFree uses port.0) (Px port Ie) v mid new (inl (refl, inr (inr refl))) (enabling port v mid identified.bootable) (λ uses free. tt) call)
 
-  -- or the port is stopped
-  module _ (new : Device) (stops : IsFollowed (IsControl WritesCommand port) AnyUse mid new) (has : HasStopped (mid.port port.0) (new.port port.0)) where
-    pub halted_boots : IsBoot port old new
-    halted_boots = followed_then (IsOfBoot port) (λ uses. AllFree uses port.0) old mid new asked_boots
-        (followed_as (IsOfBoot port) (IsOfBoot port) AnyUse (λ uses. AllFree uses port.0) mid new (λ access may. may) (λ uses free. tt) (stop_boots port mid new stops))
+  -- or the port is stopped, of which so much is told
+  halted_as : (Tells : List Access → Type 0) → ((early late : List Access) → Tells late → Tells (early ++ late)) → (new : Device) → IsTold Tells (IsControl WritesCommand port) AnyUse mid new → IsBoot Tells port old new
+  halted_as Tells since new stops = told_since Tells (IsOfBoot port) (λ uses. AllFree uses port.0) since (λ uses. uses) old mid new asked_boots
+      (told_as Tells (IsOfBoot port) (IsOfBoot port) AnyUse (λ uses. AllFree uses port.0) (λ uses. uses) mid new (λ access may. may) (λ uses free. tt) (stop_boots Tells port mid new stops))
 
+  pub halted_boots : (wanted : Option (List ℕ)) (state result : PortState) (new : Device) → Judges wanted state page → IsHaltedAs port state result mid new → IsBootTo (Stops port) port result old new
+  halted_boots wanted state result new judged (inl x) =
+      let P : PortState → Type 0 = λ s. IsBootTo (Stops port) port s old new in
+      let alive : state ≢ Dead = λ (dead : state ≡ Dead). absurd (subst (λ (s : PortState). Judges wanted s page) dead judged) in
+      subst P (sym x.0) (boots_to (Stops port) port old new state alive (halted_as (Stops port) (λ early late. falls_since early late 0 15 port) new x.1.told))
+  halted_boots wanted state result new judged (inr x) =
+      let P : PortState → Type 0 = λ s. IsBootTo (Stops port) port s old new in
+      subst P (sym x.0) (inl (halted_as (Sticks port) (λ early late. sticks_since early late port) new (halting_sticks port mid new x.2.told)))
+
+  module _ (new : Device) (stops : IsDrivenBy (IsControl WritesCommand port) mid new) (has : HasStopped (mid.port port.0) (new.port port.0)) where
     halted_page : HasPage port.0 new page
     halted_page =
         let h = identified in
-        let silent = controls_unmoving WritesCommand command_quiet port Identify mid new stops.driven (λ slot. record { issued = h.runs.ci slot; free = h.runs.taken slot }) in
+        let silent = controls_unmoving WritesCommand command_quiet port Identify mid new stops (λ slot. record { issued = h.runs.ci slot; free = h.runs.taken slot }) in
         page_on port.0 mid new page silent.0 (ap (λ (n : Notes). n.sctl_written_at) has.notes) h.has
 
-    pub halted_ends : (wanted : Option (List ℕ)) (state result : PortState) → Judges wanted state page → IsHaltedAs state result port.0 new → EndsAs wanted result port.0 new
-    halted_ends wanted (Unfit n) result judged (inl x) = let P : PortState → Type 0 = λ s. EndsAs wanted s port.0 new in subst P (sym x.0) (x.1, inr (inr (inr (page, halted_page, judged))))
-    halted_ends wanted Foreign result judged (inl x) = let P : PortState → Type 0 = λ s. EndsAs wanted s port.0 new in subst P (sym x.0) (x.1, (page, halted_page, judged))
+    pub halted_ends : (wanted : Option (List ℕ)) (state result : PortState) → Judges wanted state page → IsHaltedAs port state result mid new → EndsAs wanted result port.0 new
+    halted_ends wanted (Unfit n) result judged (inl x) = let P : PortState → Type 0 = λ s. EndsAs wanted s port.0 new in subst P (sym x.0) (x.1.stopped, inr (inr (inr (page, halted_page, judged))))
+    halted_ends wanted Foreign result judged (inl x) = let P : PortState → Type 0 = λ s. EndsAs wanted s port.0 new in subst P (sym x.0) (x.1.stopped, (page, halted_page, judged))
     halted_ends wanted Absent result judged (inl x) = absurd judged
     halted_ends wanted Ready result judged (inl x) = absurd judged
     halted_ends wanted Dead result judged (inl x) = absurd judged
-    halted_ends wanted state result judged (inr x) = let P : PortState → Type 0 = λ s. EndsAs wanted s port.0 new in subst P (sym x.0) (x.1, x.2)
+    halted_ends wanted state result judged (inr x) = let P : PortState → Type 0 = λ s. EndsAs wanted s port.0 new in subst P (sym x.0) (x.1, x.2.stuck)
 
 -- ---- the whole boot
 
-pub up_boots : (port : Port) (old mid : Device) → IsFollowed (IsControl IsBooting port) (λ uses. AllFree uses port.0) old mid → IsBoot port old mid
-up_boots port old mid f = followed_as (IsControl IsBooting port) (IsOfBoot port) (λ uses. AllFree uses port.0) (λ uses. AllFree uses port.0) old mid (controlling port) (λ uses free. free) f
+pub up_boots : (Tells : List Access → Type 0) (port : Port) (old mid : Device) → IsTold Tells (IsControl IsBooting port) (λ uses. AllFree uses port.0) old mid → IsBoot Tells port old mid
+up_boots Tells port old mid f = told_as Tells (IsControl IsBooting port) (IsOfBoot port) (λ uses. AllFree uses port.0) (λ uses. AllFree uses port.0) (λ uses. uses) old mid (controlling port) (λ uses free. free) f
 
--- no part came after it
-pub up_ended : (port : Port) (old mid : Device) (result : Result DiskInfo PortState) → IsFollowed (IsControl IsBooting port) (λ uses. AllFree uses port.0) old mid →
-    IfErr result (λ state. IsBootTo port state old mid)
-up_ended port old mid (Ok info) first = tt
-up_ended port old mid (Err state) first = boots_to port old mid state (up_boots port old mid first)
+-- no part came after it, since FR didn't fall
+pub stuck_boots : (port : Port) (old mid : Device) → IsTold (FailsToStopReceiving port) (IsControl IsPlacing port) AnyUse old mid → IsBoot (Sticks port) port old mid
+stuck_boots port old mid f = told_more (FailsToStopReceiving port) (Sticks port) (IsOfBoot port) (λ uses. AllFree uses port.0) (λ uses. uses) old mid (failing_receiving_sticks port)
+    (up_boots (FailsToStopReceiving port) port old mid (told_boots (FailsToStopReceiving port) IsPlacing AnyUse port old mid placing (λ uses free. tt) f))
 
-whole : (port : Port) (old mid new : Device) → IsFollowed (IsControl IsBooting port) (λ uses. AllFree uses port.0) old mid → IsBoot port mid new → IsBoot port old new
-whole port old mid new first then = followed_then (IsOfBoot port) (λ uses. AllFree uses port.0) old mid new (up_boots port old mid first) then
+-- no part came after it, since there was a fault
+pub faulty_boots : (port : Port) (old mid : Device) (fault : PortFault) → fault ≢ EngineStuck → (state : PortState) → TellsFault state fault →
+    IsTold (StopsReceiving port) (IsControl IsBooting port) (λ uses. AllFree uses port.0) old mid → IsBootTo (StopsOnWay port state) port state old mid
+faulty_boots port old mid fault other state told first = by fault other told
+  where
+    early : (s : PortState) → state ≡ s → s ≢ Dead → (IsLate s → ⊥) → IsBootTo (StopsOnWay port state) port state old mid
+    early s is alive late =
+        let P : PortState → Type 0 = λ x. IsBootTo (StopsOnWay port x) port x old mid in
+        subst P (sym is) (boots_to (StopsOnWay port s) port old mid s alive
+        (told_more (StopsReceiving port) (StopsOnWay port s) (IsOfBoot port) (λ uses. AllFree uses port.0) (λ uses. uses) old mid (λ accesses here. (here, λ is. absurd (late is))) (up_boots (StopsReceiving port) port old mid first)))
+
+    by : (fault : PortFault) → fault ≢ EngineStuck → TellsFault state fault → IsBootTo (StopsOnWay port state) port state old mid
+    by NoDevice other told = early Absent told (λ e. absurd cc) (λ late. late)
+    by Busy other told = early (Unfit 7) told (λ e. absurd cc) (λ late. absurd (late.0 refl))
+    by EngineStuck other told = absurd (other refl)
+    by (NotAta signature) other told = early (Unfit 8) told (λ e. absurd cc) (λ late. absurd (late.1 refl))
 
 -- what was proved of one part is so of the whole
-pub whole_ready : (port : Port) (old mid new : Device) (result : Result DiskInfo PortState) → IsFollowed (IsControl IsBooting port) (λ uses. AllFree uses port.0) old mid → OnOk result (IsBoot port mid new) →
-    OnOk result (IsBoot port old new)
-whole_ready port old mid new (Ok info) first then = whole port old mid new first then
-whole_ready port old mid new (Err state) first then = then
+module _ (port : Port) (old mid new : Device) (first : IsTold (StopsReceiving port) (IsControl IsBooting port) (λ uses. AllFree uses port.0) old mid) where
+  pub whole_ready : (result : Result DiskInfo PortState) → OnOk result (IsFollowed (IsOfBoot port) (λ uses. AllFree uses port.0) mid new) → OnOk result (IsBoot (StopsReceiving port) port old new)
+  whole_ready (Ok info) then = told_then (StopsReceiving port) (IsOfBoot port) (λ uses. AllFree uses port.0) (λ early late. falls_then early late 4 14 port) old mid new (up_boots (StopsReceiving port) port old mid first) then
+  whole_ready (Err state) then = then
 
-pub whole_ended : (port : Port) (old mid new : Device) (result : Result DiskInfo PortState) → IsFollowed (IsControl IsBooting port) (λ uses. AllFree uses port.0) old mid →
-    IfErr result (λ state. IsBootTo port state mid new) → IfErr result (λ state. IsBootTo port state old new)
-whole_ended port old mid new (Ok info) first then = then
-whole_ended port old mid new (Err Dead) first (inl then) = inl (whole port old mid new first then)
-whole_ended port old mid new (Err Dead) first (inr then) = inr (followed_to_then (IsOfBoot port) (λ uses. AllFree uses port.0) (λ uses. used uses port.0 0 (Own Identify)) old mid new (up_boots port old mid first) then)
-whole_ended port old mid new (Err Absent) first then = whole port old mid new first then
-whole_ended port old mid new (Err Ready) first then = whole port old mid new first then
-whole_ended port old mid new (Err Foreign) first then = whole port old mid new first then
-whole_ended port old mid new (Err (Unfit n)) first then = whole port old mid new first then
+  -- both engines fell
+  whole : (state : PortState) → IsBoot (Stops port) port mid new → IsBoot (StopsOnWay port state) port old new
+  whole state then = told_both (StopsReceiving port) (Stops port) (StopsOnWay port state) (λ early late here is. (falls_then early late 4 14 port here, λ _. falls_since early late 0 15 port is)) (IsOfBoot port)
+      (λ uses. AllFree uses port.0) (λ uses. AllFree uses port.0) (λ uses. uses) (λ uses. uses) (λ uses free. free) old mid new (up_boots (StopsReceiving port) port old mid first) then
+
+  -- or one is stuck
+  dies : (next : Uses → Uses) → IsToldTo (Sticks port) (IsOfBoot port) (λ uses. AllFree uses port.0) next mid new → IsToldTo (Sticks port) (IsOfBoot port) (λ uses. AllFree uses port.0) next old new
+  dies next then = told_since (Sticks port) (IsOfBoot port) (λ uses. AllFree uses port.0) (λ early late. sticks_since early late port) next old mid new (up_boots (StopsReceiving port) port old mid first).followed then
+
+  pub whole_ended : (result : Result DiskInfo PortState) → IfErr result (λ state. IsBootTo (Stops port) port state mid new) → IfErr result (λ state. IsBootTo (StopsOnWay port state) port state old new)
+  whole_ended (Ok info) then = then
+  whole_ended (Err Dead) (inl then) = inl (dies (λ uses. uses) then)
+  whole_ended (Err Dead) (inr then) = inr (dies (λ uses. used uses port.0 0 (Own Identify)) then)
+  whole_ended (Err Absent) then = whole Absent then
+  whole_ended (Err Ready) then = whole Ready then
+  whole_ended (Err Foreign) then = whole Foreign then
+  whole_ended (Err (Unfit n)) then = whole (Unfit n) then

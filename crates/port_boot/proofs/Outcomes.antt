@@ -5,7 +5,7 @@ use Rattle.std.specs.Result.{IsErrAnd}
 use Rattle.std.proofs.lemmas.Bool.{cases_eq}
 use Rattle.ata_types.specs.declared.Port.{Port}
 use Rattle.ata_types.specs.declared.PortState.{PortState}
-use Rattle.ata_types.specs.declared.PortState.TheVariants.{Absent, Ready, Foreign, Unfit, Dead}
+use Rattle.ata_types.specs.declared.PortState.TheVariants.{Unfit, Dead}
 use Rattle.hba_regs.specs.declared.reg.Reg.{Reg}
 use Rattle.hba_regs.specs.declared.reg.Reg.TheVariants.{Ghc, Px}
 use Rattle.hba_regs.specs.declared.reg.PortReg.TheVariants.{Ci, Cmd, Ie, Sctl}
@@ -13,7 +13,8 @@ use Rattle.adapter.specs.Access.{Access, Writes}
 use Rattle.adapter.specs.Access.Access.{Reading, Writing, Loading, Storing}
 use Rattle.adapter.specs.Device.{Device}
 use Rattle.adapter.specs.Rules.{IsOn}
-use Rattle.agreement.specs.Driven.{IsControl, IsDrivenBy}
+use Rattle.agreement.specs.Driven.{IsControl, IsDrivenBy, IsFollowed}
+use Rattle.agreement.specs.Driver.{AllFree}
 use Rattle.agreement.specs.Errors.{NoneFatal, NoneFails}
 use Rattle.agreement.specs.Facts.{Undisturbed, ShowsNoTrouble}
 use Rattle.agreement.specs.Links.{SparesRegister}
@@ -26,11 +27,13 @@ use Rattle.agreement.proofs.Linking.{undisturbed_plugs}
 use Rattle.agreement.proofs.Restarting.{started_up}
 use Rattle.agreement.proofs.Running.{well_of}
 use Rattle.disk_page.specs.Asking.{IsAsking, LeavesRunning}
+use Rattle.port_control.specs.Engines.{Stops}
 use Rattle.port_control.specs.Ports.{WritesCommand, HasClearErrors}
 use Rattle.port_control.specs.declared.PortFault.{PortFault}
 use Rattle.port_control.specs.declared.PortFault.TheVariants.{NoDevice, Busy, EngineStuck, NotAta}
 use Rattle.port_control.proofs.Settling.{comes_in_parts, plugs_in_parts}
-use Rattle.port_boot.specs.States.{TellsFault, IsOfBoot, IsBoot, IsBootTo, IsBroughtUp, GetsAsked, GetsReady, EndsEarly, EndsLate, IsLate, ShowsNews, HasCauses, RunsOn, StopsThen}
+use Rattle.port_boot.specs.States.{TellsFault, IsOfBoot, IsBootTo, IsBroughtUp, GetsAsked, GetsReady, EndsEarly, EndsLate, IsLate, ShowsNews, HasCauses, RunsOn, StopsThen}
+use Rattle.port_boot.proofs.Staying.{boot_driven}
 use Rattle.port_boot.proofs.Enduring.{calm_in_parts, Endures, Lasts, endures, lasts, lasts_access, lasts_more, goes_more}
 
 -- ---- the registers that are left alone
@@ -78,14 +81,6 @@ module _ (port : Port) (start old mid : Device) (up : IsBroughtUp port start old
 -- the tape gains
 pub driven_grows : (May : Access → Type 0) (old new : Device) → IsDrivenBy May old new → Grows old new
 driven_grows May old new driven = along Grows grows_none grows_more May (λ access a b may does. access_grows access a b does) driven.accesses old new driven.only driven.all
-
-pub boot_driven : (port : Port) (old new : Device) (state : PortState) → IsBootTo port state old new → IsDrivenBy (IsOfBoot port) old new
-boot_driven port old new Dead (inl b) = b.driven
-boot_driven port old new Dead (inr b) = b.driven
-boot_driven port old new Absent b = b.driven
-boot_driven port old new Ready b = b.driven
-boot_driven port old new Foreign b = b.driven
-boot_driven port old new (Unfit n) b = b.driven
 
 module _ (port : Port) (start old new : Device) (up : IsBroughtUp port start old) (early : Grows start old) (late : Grows old new) where
   linked : (old.port port.0).link_due ≡ false
@@ -161,14 +156,14 @@ module _ {T : Type 0} (port : Port) (start old new : Device) (early : Grows star
   whole_way (Ok x) up then = record { up = old; first = up.way; then = then }
   whole_way (Err state) up then = then
 
-  pub whole_news : (result : Result T PortState) → IsBroughtUp port start old → OnOk result (IsBoot port old new) → OnOk result (RunsOn port.0 old new) → OnOk result (ShowsNews port.0 start new)
+  pub whole_news : (result : Result T PortState) → IsBroughtUp port start old → OnOk result (IsFollowed (IsOfBoot port) (λ uses. AllFree uses port.0) old new) → OnOk result (RunsOn port.0 old new) → OnOk result (ShowsNews port.0 start new)
   whole_news (Ok x) up boots runs = shows_news port start old new up early (driven_grows (IsOfBoot port) old new boots.driven) runs
   whole_news (Err state) up boots runs = runs
 
-  pub whole_late : (result : Result T PortState) → IsBroughtUp port start old → IfErr result (λ state. IsBootTo port state old new) → IfErr result (λ state. StopsThen port old new) →
+  pub whole_late : (result : Result T PortState) → IsBroughtUp port start old → IfErr result (λ state. IsBootTo (Stops port) port state old new) → IfErr result (λ state. StopsThen port old new) →
       IfErr result (λ state. IsLate state → EndsLate port start new)
   whole_late (Ok x) up boots stops = stops
-  whole_late (Err state) up boots stops = λ late. ends_late port start old new up early (driven_grows (IsOfBoot port) old new (boot_driven port old new state boots)) stops
+  whole_late (Err state) up boots stops = λ late. ends_late port start old new up early (driven_grows (IsOfBoot port) old new (boot_driven (Stops port) port old new state boots)) stops
 
 -- what is said of a state that was handed on
 pub handed_on : {T : Type 0} (P : PortState → Type 0) (result : Result T PortState) (state : PortState) → IsErrAnd result (λ s. s ≡ state) → P state → IfErr result P

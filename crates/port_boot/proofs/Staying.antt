@@ -7,13 +7,13 @@ use Rattle.adapter.specs.Access.{Access}
 use Rattle.adapter.specs.Device.{Notes, Device}
 use Rattle.adapter.specs.Device as device
 use Rattle.adapter.specs.declared.command.Operation.TheVariants.{Identify}
-use Rattle.agreement.specs.Driven.{IsOf, LeavesPort, SendsNone}
+use Rattle.agreement.specs.Driven.{IsDrivenBy, IsOf, LeavesPort, SendsNone}
 use Rattle.agreement.proofs.Controlled.{control_is_of}
 use Rattle.disk_page.proofs.Asking.{asking_is_of}
 use Rattle.identify.specs.declared.DiskInfo.{DiskInfo}
 use Rattle.port_control.specs.Ports.{IsStopped, IsRunning, SawDevice, Shows}
 use Rattle.port_control.specs.declared.PortFault.{PortFault}
-use Rattle.port_boot.specs.States.{EndsAs, HasFitDisk, HasPage, IsBooting, IsOfBoot, IsReady, IsUnfit}
+use Rattle.port_boot.specs.States.{EndsAs, HasFitDisk, HasPage, IsBooting, IsBootTo, IsOfBoot, IsReady, IsUnfit}
 use Rattle.port_boot.proofs.Identifying.{page_on}
 
 -- ---- the disk
@@ -84,3 +84,13 @@ module _ (port : ℕ) (old new : Device) (l : LeavesPort (old.port port) (new.po
 pub of_boot : (port : Port) (access : Access) → IsOfBoot port access → IsOf port access
 of_boot port access (inl control) = control_is_of IsBooting port access control
 of_boot port access (inr asking) = asking_is_of port access asking
+
+-- ---- accesses of a boot, to any state
+
+pub boot_driven : (Tells : List Access → Type 0) (port : Port) (old new : Device) (state : PortState) → IsBootTo Tells port state old new → IsDrivenBy (IsOfBoot port) old new
+boot_driven Tells port old new Dead (inl b) = b.followed.driven
+boot_driven Tells port old new Dead (inr b) = b.followed.driven
+boot_driven Tells port old new Absent b = b.followed.driven
+boot_driven Tells port old new Ready b = b.followed.driven
+boot_driven Tells port old new Foreign b = b.followed.driven
+boot_driven Tells port old new (Unfit n) b = b.followed.driven

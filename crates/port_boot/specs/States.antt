@@ -15,7 +15,7 @@ use Rattle.adapter.specs.declared.tape.Entry.{Entry}
 use Rattle.adapter.specs.declared.tape.Entry.TheVariants as entry
 use Rattle.adapter.specs.declared.tape.Move as tape_move
 use Rattle.adapter.specs.Rules.{IsOn, HasPort}
-use Rattle.agreement.specs.Driven.{AgreesWith, IsControl, IsDrivenBy, IsFollowed, IsFollowedTo}
+use Rattle.agreement.specs.Driven.{AgreesWith, IsControl, IsDrivenBy, IsTold, IsToldTo}
 use Rattle.agreement.specs.Driver.{AllFree}
 use Rattle.agreement.specs.Errors.{NoneComes, ChangesByDisks, ChangesByErrors, NoneFatal, NoneFails}
 use Rattle.agreement.specs.Facts.{IsRecorded, RunsWell, Undisturbed}
@@ -26,7 +26,8 @@ use Rattle.disk_page.specs.Asking.{IsAsking}
 use Rattle.identify.specs.Page.{Describes, HasNoFault, IsFirstFault, IsSerial, number_of}
 use Rattle.identify.specs.declared.DiskInfo.{DiskInfo}
 use Rattle.identify.specs.declared.Unfit.{Unfit as Fault}
-use Rattle.port_control.specs.Ports.{WritesCommand, IsStopped, IsRunning, IsPlacing, IsResetting, SawDevice, Shows, FindsSignature, Looks, WasReset, HasClearErrors, IsFound}
+use Rattle.port_control.specs.Engines.{Stops, StopsReceiving, Sticks}
+use Rattle.port_control.specs.Ports.{FailsToHalt, Halts, WritesCommand, IsStopped, IsRunning, IsPlacing, IsResetting, SawDevice, Shows, FindsSignature, Looks, WasReset, HasClearErrors, IsFound}
 use Rattle.port_control.specs.declared.PortFault.{PortFault}
 use Rattle.port_control.specs.declared.PortFault.TheVariants.{NoDevice, Busy, EngineStuck, NotAta}
 
@@ -127,14 +128,16 @@ abbrev pub IsOfBoot : Port → Access → Type 0
 IsOfBoot port access = IsControl IsBooting port access ⊎ IsAsking port access
 
 -- What a boot is to each machine that agrees with a driver that uses no slot of the port: steps of the device alone, after which none is
--- used. Where the port is dead, its slot 0 may have IDENTIFY DEVICE instead.
-abbrev pub IsBoot : Port → Device → Device → Type 0
-IsBoot port old new = IsFollowed (IsOfBoot port) (λ uses. AllFree uses port.0) old new
+-- used; and so much is told of its accesses.
+abbrev pub IsBoot : (List Access → Type 0) → Port → Device → Device → Type 0
+IsBoot Tells port old new = IsTold Tells (IsOfBoot port) (λ uses. AllFree uses port.0) old new
 
-abbrev pub IsBootTo : Port → PortState → Device → Device → Type 0
-IsBootTo port Dead old new = IsBoot port old new
-    ⊎ IsFollowedTo (IsOfBoot port) (λ uses. AllFree uses port.0) (λ uses. put uses port.0 0 (Own Identify)) old new
-IsBootTo port _ old new = IsBoot port old new
+-- So it is of a boot to this state. Where the port is dead, 64 readings are told in place of that, which showed an engine that is stuck;
+-- and its slot 0 may have IDENTIFY DEVICE.
+abbrev pub IsBootTo : (List Access → Type 0) → Port → PortState → Device → Device → Type 0
+IsBootTo Tells port Dead old new = IsBoot (Sticks port) port old new
+    ⊎ IsToldTo (Sticks port) (IsOfBoot port) (λ uses. AllFree uses port.0) (λ uses. put uses port.0 0 (Own Identify)) old new
+IsBootTo Tells port _ old new = IsBoot Tells port old new
 
 -- ---- how a boot goes
 
@@ -181,6 +184,11 @@ abbrev pub IsLate : PortState → Type 0
 IsLate Foreign = Unit {0}
 IsLate (Unfit n) = (n ≢ 7) × (n ≢ 8)
 IsLate _ = ⊥
+
+-- What the accesses of a boot to a state that isn't Dead tell of the port's engines: the one that receives FISes fell; and where the port
+-- was started, so did the other.
+abbrev pub StopsOnWay : Port → PortState → List Access → Type 0
+StopsOnWay port state accesses = StopsReceiving port accesses × (IsLate state → Stops port accesses)
 
 -- ---- what a port shows of trouble after a boot
 
@@ -253,6 +261,6 @@ pub record StopsThen (port : Port) (old new : Device) : Type 0 where
   pub up : Undisturbed port.0 old new → IsStarted (old.port port.0) → IsUp (new.port port.0)
 
 -- The port was stopped, and is in this state; or its engine is stuck, and it is dead.
-abbrev pub IsHaltedAs : PortState → PortState → ℕ → Device → Type 0
-IsHaltedAs wanted state port d = ((state ≡ wanted) × IsStopped (d.port port))
-    ⊎ ((state ≡ Dead) × ((d.port port).st ≡ false) × Shows EngineStuck (d.port port).notes)
+abbrev pub IsHaltedAs : Port → PortState → PortState → Device → Device → Type 0
+IsHaltedAs port wanted state old new = ((state ≡ wanted) × Halts port old new)
+    ⊎ ((state ≡ Dead) × ((new.port port.0).st ≡ false) × FailsToHalt port old new)

@@ -5,10 +5,11 @@
 ghost use Rattle.std.specs.Prelude.{ℕ, List, Option, ◌≡◌, ◌≢◌, ◌≤◌, ◌⊎◌, ◌↔◌, IsTrue, length, IfOk, IfErr, OnOk, OnErr};
 ghost use Rattle.adapter.specs.Device.{Device};
 ghost use Rattle.adapter.specs.Rules.{IsOn, HasPort};
-ghost use Rattle.agreement.specs.Driven.{AgreesWith, AnyUse, IsControl, IsFollowed};
+ghost use Rattle.agreement.specs.Driven.{AgreesWith, AnyUse, IsControl, IsFollowed, IsTold};
 ghost use Rattle.agreement.specs.Driver.{AllFree};
-ghost use Rattle.port_control.specs.Ports.{WritesCommand, IsStopped, HasStopped};
-ghost use Rattle.port_boot.specs.States.{told_causes, TellsFault, Fits, IsFit, Judges, EndsAs, IsReady, IsBooting, IsBoot, IsBootTo, IsBootable, IsBroughtUp, IsHaltedAs, GetsAsked, GetsReady, EndsEarly, EndsLate, IsEarly, IsLate, ShowsNews, RunsOn, StopsThen};
+ghost use Rattle.port_control.specs.Engines.{Stops, StopsReceiving};
+ghost use Rattle.port_control.specs.Ports.{IsStopped, HasStopped};
+ghost use Rattle.port_boot.specs.States.{told_causes, TellsFault, Fits, IsFit, Judges, EndsAs, IsReady, IsBooting, IsBoot, IsBootTo, IsBootable, IsOfBoot, IsBroughtUp, IsHaltedAs, GetsAsked, GetsReady, EndsEarly, EndsLate, IsEarly, IsLate, ShowsNews, RunsOn, StopsOnWay, StopsThen};
 
 use adapter::Adapter;
 use ata_types::{Port, PortState};
@@ -72,7 +73,8 @@ fn bring_up<A: Adapter>(adapter: &mut A, stopped: Stopped) -> Result<Running, Po
     requires bootable { IsBootable stopped.port (A.device adapter.old) }
     requires stopped { IsStopped ((A.device adapter.old).port stopped.port.0) }
     ensures on { IsOn (A.device adapter.new) }
-    ensures followed { IsFollowed (IsControl IsBooting stopped.port) (λ uses. AllFree uses stopped.port.0) (A.device adapter.old) (A.device adapter.new) }
+    ensures boots { OnOk result (IsTold (StopsReceiving stopped.port) (IsControl IsBooting stopped.port) (λ uses. AllFree uses stopped.port.0) (A.device adapter.old) (A.device adapter.new)) }
+    ensures boots_to { IfErr result (λ state. IsBootTo (StopsOnWay stopped.port state) stopped.port state (A.device adapter.old) (A.device adapter.new)) }
     ensures names { IfOk result (λ running. running.port ≡ stopped.port) }
     ensures up { OnOk result (IsBroughtUp stopped.port (A.device adapter.old) (A.device adapter.new)) }
     ensures ended { IfErr result (λ state. (wanted : Option (List ℕ)) → EndsAs wanted state stopped.port.0 (A.device adapter.new)) }
@@ -98,9 +100,8 @@ fn halt<A: Adapter>(adapter: &mut A, port: Port, state: PortState) -> PortState
     requires there { HasPort (A.device adapter.old) port.0 }
     requires agreed { AgreesWith AnyUse (A.device adapter.old) }
     ensures on { IsOn (A.device adapter.new) }
-    ensures followed { IsFollowed (IsControl WritesCommand port) AnyUse (A.device adapter.old) (A.device adapter.new) }
     ensures has { HasStopped ((A.device adapter.old).port port.0) ((A.device adapter.new).port port.0) }
-    ensures halted { IsHaltedAs state result port.0 (A.device adapter.new) }
+    ensures halted { IsHaltedAs port state result (A.device adapter.old) (A.device adapter.new) }
 {
     match stop(adapter, port) {
         Ok(_) => state,
@@ -126,8 +127,8 @@ fn identify_disk<A: Adapter>(
     ensures ready { IfOk result (IsReady wanted.now port.0 (A.device adapter.new)) }
     ensures ended { IfErr result (λ state. EndsAs wanted.now state port.0 (A.device adapter.new)) }
     ensures written { ((A.device adapter.new).port port.0).notes.sctl_written_at ≡ ((A.device adapter.old).port port.0).notes.sctl_written_at }
-    ensures boots { OnOk result (IsBoot port (A.device adapter.old) (A.device adapter.new)) }
-    ensures boots_to { IfErr result (λ state. IsBootTo port state (A.device adapter.old) (A.device adapter.new)) }
+    ensures boots { OnOk result (IsFollowed (IsOfBoot port) (λ uses. AllFree uses port.0) (A.device adapter.old) (A.device adapter.new)) }
+    ensures boots_to { IfErr result (λ state. IsBootTo (Stops port) port state (A.device adapter.old) (A.device adapter.new)) }
     ensures asked { OnOk result (GetsAsked port (A.device adapter.old) (A.device adapter.new)) }
     ensures runs_on { OnOk result (RunsOn port.0 (A.device adapter.old) (A.device adapter.new)) }
     ensures stops { IfErr result (λ state. StopsThen port (A.device adapter.old) (A.device adapter.new)) }
@@ -162,8 +163,8 @@ pub fn boot<A: Adapter>(
     ensures ended { IfErr result (λ state. EndsAs wanted.now state stopped.port.0 (A.device adapter.new)) }
     ensures since { OnOk result (length (A.device adapter.old).tape ≤ ((A.device adapter.new).port stopped.port.0).notes.sctl_written_at) }
     ensures since_ended { IfErr result (λ state. state ≢ PortState.Dead → length (A.device adapter.old).tape ≤ ((A.device adapter.new).port stopped.port.0).notes.sctl_written_at) }
-    ensures boots { OnOk result (IsBoot stopped.port (A.device adapter.old) (A.device adapter.new)) }
-    ensures boots_to { IfErr result (λ state. IsBootTo stopped.port state (A.device adapter.old) (A.device adapter.new)) }
+    ensures boots { OnOk result (IsBoot (StopsReceiving stopped.port) stopped.port (A.device adapter.old) (A.device adapter.new)) }
+    ensures boots_to { IfErr result (λ state. IsBootTo (StopsOnWay stopped.port state) stopped.port state (A.device adapter.old) (A.device adapter.new)) }
     ensures way { OnOk result (GetsReady stopped.port (A.device adapter.old) (A.device adapter.new)) }
     ensures news { OnOk result (ShowsNews stopped.port.0 (A.device adapter.old) (A.device adapter.new)) }
     ensures early { IfErr result (λ state. IsEarly state → EndsEarly stopped.port state (A.device adapter.old) (A.device adapter.new)) }

@@ -1,24 +1,27 @@
 -- PxCMD is read and written back, and read until an engine stands.
-use Rattle.std.proofs.Common.{ℕ, ◌≡◌, ◌≢◌, ◌+◌, ◌<◌, ◌≤◌, ◌&&◌, ◌||◌, not, Bool, true, false, refl, sym, ◌∙◌, ap, arith, lit<}
+use Rattle.std.proofs.Common.{ℕ, ◌≡◌, ◌≢◌, ◌+◌, ◌<◌, ◌≤◌, ◌&&◌, ◌||◌, not, Bool, true, false, List, [], ◌∷◌, ◌++◌, refl, sym, ◌∙◌, ap, subst, arith, lit<}
 use Rattle.ata_types.specs.declared.Port.{Port}
 use Rattle.hba_regs.specs.Bits.{bit}
 use Rattle.hba_regs.specs.declared.reg.PortReg.TheVariants.{Cmd}
 use Rattle.hba_regs.specs.declared.reg.Reg.TheVariants.{Px}
-use Rattle.adapter.specs.Access.{Reads, Writes, counted}
+use Rattle.adapter.specs.Access.{Access, Reads, Writes, counted}
+use Rattle.adapter.specs.Access.Access.{Reading, Writing}
 use Rattle.adapter.specs.Device.{Bases, Notes, PortState, Device}
 use Rattle.adapter.specs.Rules.{MayWrite, Stays}
 use Rattle.adapter.proofs.Absurd.{true-false}
 use Rattle.adapter.proofs.Calls.{SeenAt, seen}
-use Rattle.agreement.specs.Driven.{AnyUse, IsControl, IsFollowed}
+use Rattle.agreement.specs.Driven.{AnyUse, IsControl, IsFollowed, IsTold}
 use Rattle.agreement.specs.Driver.{LeavesUses}
 use Rattle.agreement.specs.Facts.{IsAfterReset}
 use Rattle.agreement.specs.Slots.{Uses}
 use Rattle.agreement.proofs.Allowing.{stopping_may, no_receiving_may, receiving_may}
-use Rattle.agreement.proofs.Driven.{followed_then, followed_read, followed_write}
+use Rattle.agreement.proofs.Driven.{followed_then, followed_read, followed_write, told_both, told_read, told_write}
 use Rattle.agreement.proofs.Halting.{stop_is_found}
 use Rattle.agreement.proofs.Noting.{command_noted, notes_read, shown_after}
 use Rattle.agreement.proofs.Setting.{command_set}
+use Rattle.port_control.specs.Engines.{Awaits, Falls, Hangs}
 use Rattle.port_control.specs.Ports.{WritesCommand, IsUsable, IsStopped, ReceivesFises, SameBeside, HasStopped, programmed}
+use Rattle.port_control.proofs.Awaiting.{awaits_none, awaits_more, awaits_falls}
 use Rattle.port_control.proofs.Using.{usable_after, usable_read, cleared_bits, beside_then, beside_read, beside_command, bases_command, stopped_on, stopped_read, stopped_command}
 
 -- ---- counts of readings
@@ -45,6 +48,38 @@ bit_zero was v others = others 0 (lit< tt) (λ e. absurd (omega (arith, e)))
 
 pub reading : (port : Port) (v : ℕ) (old new : Device) → Reads (Px port Cmd) v old new → IsFollowed (IsControl WritesCommand port) AnyUse old new
 reading port v old new call = followed_read (IsControl WritesCommand port) (Px port Cmd) v old new refl call
+
+-- ---- what is told of the accesses
+
+module _ (start running : ℕ) (port : Port) where
+  -- PxCMD was read, and written with the bit of an engine 0
+  pub told_clears : (was v : ℕ) (old mid new : Device) → bit v start ≡ false → Reads (Px port Cmd) was old mid → Stays (MayWrite (Px port Cmd) v) mid →
+      ((uses : Uses) → AnyUse uses → LeavesUses uses (Px port Cmd) v mid) → Writes (Px port Cmd) v mid new → IsTold (Awaits start running port 0) (IsControl WritesCommand port) AnyUse old new
+  told_clears was v old mid new zero read may leaves write =
+      told_both (λ accesses. accesses ≡ Reading (Px port Cmd) was ∷ []) (λ accesses. accesses ≡ Writing (Px port Cmd) v ∷ []) (Awaits start running port 0)
+      (λ early late is then. awaits_none start running port v zero early late then) (IsControl WritesCommand port) AnyUse AnyUse (λ uses. uses) (λ uses. uses) (λ uses is. is) old mid new
+      (told_read (IsControl WritesCommand port) AnyUse (Px port Cmd) was old mid refl read)
+      (told_write (IsControl WritesCommand port) AnyUse (Px port Cmd) v mid new (refl, refl) may leaves write)
+
+  module _ (n v : ℕ) (old mid new : Device) (a : IsTold (Awaits start running port n) (IsControl WritesCommand port) AnyUse old mid) (call : Reads (Px port Cmd) v mid new) where
+    -- what is told of them, and of one more reading
+    with_reading : (Tells : List Access → Type 0) → ((early late : List Access) → Awaits start running port n early → late ≡ Reading (Px port Cmd) v ∷ [] → Tells (early ++ late)) →
+        IsTold Tells (IsControl WritesCommand port) AnyUse old new
+    with_reading Tells join =
+        told_both (Awaits start running port n) (λ accesses. accesses ≡ Reading (Px port Cmd) v ∷ []) Tells join
+        (IsControl WritesCommand port) AnyUse AnyUse (λ uses. uses) (λ uses. uses) (λ uses is. is) old mid new a
+        (told_read (IsControl WritesCommand port) AnyUse (Px port Cmd) v mid new refl call)
+
+    pub told_stuck : Hangs start running v → IsTold (Awaits start running port (n + 1)) (IsControl WritesCommand port) AnyUse old new
+    told_stuck shows = with_reading (Awaits start running port (n + 1)) (λ early late a is. awaits_more start running port n v early late a is shows)
+
+    pub told_falls : bit v running ≡ false → IsTold (Falls start running port) (IsControl WritesCommand port) AnyUse old new
+    told_falls zero = with_reading (Falls start running port) (λ early late a is. awaits_falls start running port n v early late a is zero)
+
+  -- after 64 of them
+  pub told_awaits : (n : ℕ) → n ≡ 64 → (old new : Device) → IsTold (Awaits start running port n) (IsControl WritesCommand port) AnyUse old new →
+      IsTold (Awaits start running port 64) (IsControl WritesCommand port) AnyUse old new
+  told_awaits n all old new a = subst (λ (k : ℕ). IsTold (Awaits start running port k) (IsControl WritesCommand port) AnyUse old new) all a
 
 -- PxCMD is read, and written
 module _ (port : Port) (was v : ℕ) (old mid : Device) (u : IsUsable AnyUse port old) (read : Reads (Px port Cmd) was old mid) where
@@ -82,13 +117,12 @@ module _ (port : Port) (was v : ℕ) (old mid : Device) (u : IsUsable AnyUse por
     }
 
     module _ (new : Device) (write : Writes (Px port Cmd) v mid new) where
-      pub stop_followed : IsFollowed (IsControl WritesCommand port) AnyUse old new
-      stop_followed = followed_then (IsControl WritesCommand port) AnyUse old mid new (reading port was old mid read)
-          (followed_write (IsControl WritesCommand port) AnyUse (Px port Cmd) v mid new (refl, refl) stop_may stop_leaves write)
+      pub stop_told : IsTold (Awaits 0 15 port 0) (IsControl WritesCommand port) AnyUse old new
+      stop_told = told_clears 0 15 port was v old mid new zero read stop_may stop_leaves write
 
       pub stop_has : HasStopped (old.port port.0) (new.port port.0)
       stop_has =
-          let after : IsUsable AnyUse port new = usable_after WritesCommand AnyUse port old new u stop_followed in
+          let after : IsUsable AnyUse port new = usable_after WritesCommand AnyUse port old new u stop_told.followed in
           let set = command_set port v mid new write in
           let same = beside_then (old.port port.0) (mid.port port.0) (new.port port.0) (beside_read port was old mid u.on.no_reset read) (beside_command port v mid new here.on.no_reset zero write) in
           let bits = cleared_bits after.agreed.0 new port.0 after.agreed.2 (set.0 ∙ zero) in
@@ -118,11 +152,10 @@ module _ (port : Port) (was v : ℕ) (old mid : Device) (u : IsUsable AnyUse por
     empty_leaves uses is = record { start = λ on. true-false on st_zero; receive = λ on. true-false on zero }
 
     module _ (new : Device) (write : Writes (Px port Cmd) v mid new) where
-      pub empty_begins : IsFollowed (IsControl WritesCommand port) AnyUse old new × IsStopped (new.port port.0) × ((new.port port.0).fre ≡ false)
+      pub empty_begins : IsTold (Awaits 4 14 port 0) (IsControl WritesCommand port) AnyUse old new × IsStopped (new.port port.0) × ((new.port port.0).fre ≡ false)
           × ((new.port port.0).bases ≡ (old.port port.0).bases) × SameBeside (old.port port.0) (new.port port.0)
       empty_begins = (
-        followed_then (IsControl WritesCommand port) AnyUse old mid new (reading port was old mid read)
-            (followed_write (IsControl WritesCommand port) AnyUse (Px port Cmd) v mid new (refl, refl) empty_may empty_leaves write),
+        told_clears 4 14 port was v old mid new zero read empty_may empty_leaves write,
         stopped_command port v mid new empty_may st_zero write still,
         (command_set port v mid new write).1 ∙ zero,
         bases_command port v mid new here.on.no_reset st_zero write ∙ (s.keeps.port port.0).bases,
@@ -167,7 +200,7 @@ module _ (port : Port) (was v : ℕ) (old mid : Device) (u : IsUsable AnyUse por
 
 -- ST was cleared, and so many readings found CR set
 pub record IsFalling (port : Port) (start : Device) (n : ℕ) (d : Device) : Type 0 where
-  pub followed : IsFollowed (IsControl WritesCommand port) AnyUse start d
+  pub told : IsTold (Awaits 0 15 port n) (IsControl WritesCommand port) AnyUse start d
   pub usable : IsUsable AnyUse port d
   pub has : HasStopped (start.port port.0) (d.port port.0)
   pub low : n ≤ (d.port port.0).notes.engine_count
@@ -177,8 +210,8 @@ module _ (port : Port) (start d e : Device) (v n : ℕ) (w : IsFalling port star
   off : d.hr ≡ false
   off = w.usable.on.no_reset
 
-  pub falls : IsFollowed (IsControl WritesCommand port) AnyUse start e
-  falls = followed_then (IsControl WritesCommand port) AnyUse start d e w.followed (reading port v d e call)
+  pub falls : bit v 15 ≡ false → IsTold (Falls 0 15 port) (IsControl WritesCommand port) AnyUse start e
+  falls clear = told_falls 0 15 port n v start d e w.told call clear
 
   pub falling_on : IsUsable AnyUse port e
   falling_on = usable_read AnyUse port Cmd v d e w.usable call
@@ -212,49 +245,63 @@ module _ (port : Port) (start d e : Device) (v n : ℕ) (w : IsFalling port star
   falls_still small set =
       let count = ap (λ (k : Notes). k.engine_count) (notes_read port Cmd v d e off call) in
       let one = counted_again _ n (d.port port.0).notes.engine_count (awaited set) w.low small in
-      record { followed = falls; usable = falling_on; has = has_still; low = rw count one.0; high = λ _. rw count one.1 }
+      record {
+        told = told_stuck 0 15 port n v start d e w.told call ((shown_after port Cmd v d e off call).0 ∙ has_still.st, set);
+        usable = falling_on;
+        has = has_still;
+        low = rw count one.0;
+        high = λ _. rw count one.1;
+      }
 
 -- ---- FR is awaited
 
--- FRE was cleared, and so many readings found FR set
-pub record IsEmptying (port : Port) (start : Device) (n : ℕ) (d : Device) : Type 0 where
-  pub followed : IsFollowed (IsControl WritesCommand port) AnyUse start d
+-- the port is stopped still, FRE is 0, and all else is as it was
+pub record HasEmptied (port : Port) (start d : Device) : Type 0 where
   pub usable : IsUsable AnyUse port d
   pub stopped : IsStopped (d.port port.0)
   pub fre : (d.port port.0).fre ≡ false
   pub bases : (d.port port.0).bases ≡ (start.port port.0).bases
   pub same : SameBeside (start.port port.0) (d.port port.0)
+
+-- FRE was cleared, and so many readings found FR set
+pub record IsEmptying (port : Port) (start : Device) (n : ℕ) (d : Device) : Type 0 where
+  pub told : IsTold (Awaits 4 14 port n) (IsControl WritesCommand port) AnyUse start d
+  pub has : HasEmptied port start d
   pub low : n ≤ (d.port port.0).notes.engine_count
   pub high : 0 < n → (d.port port.0).notes.engine_count ≤ 64
 
 module _ (port : Port) (start d e : Device) (v n : ℕ) (w : IsEmptying port start n d) (call : Reads (Px port Cmd) v d e) where
   quiet : d.hr ≡ false
-  quiet = w.usable.on.no_reset
+  quiet = w.has.usable.on.no_reset
 
   -- what goes on, whatever was read
-  pub empties : IsEmptying port start 0 e
+  pub empties : HasEmptied port start e
   empties =
       let s : SeenAt port.0 Cmd v d e = seen port Cmd v d e call quiet in
       record {
-        followed = followed_then (IsControl WritesCommand port) AnyUse start d e w.followed (reading port v d e call);
-        usable = usable_read AnyUse port Cmd v d e w.usable call;
-        stopped = stopped_on (s.keeps.port port.0) w.stopped;
-        fre = (s.keeps.on.controls port.0).fre ∙ w.fre;
-        bases = (s.keeps.port port.0).bases ∙ w.bases;
-        same = beside_then (start.port port.0) (d.port port.0) (e.port port.0) w.same (beside_read port v d e quiet call);
-        low = omega arith;
-        high = λ h. absurd (omega (arith, h));
+        usable = usable_read AnyUse port Cmd v d e w.has.usable call;
+        stopped = stopped_on (s.keeps.port port.0) w.has.stopped;
+        fre = (s.keeps.on.controls port.0).fre ∙ w.has.fre;
+        bases = (s.keeps.port port.0).bases ∙ w.has.bases;
+        same = beside_then (start.port port.0) (d.port port.0) (e.port port.0) w.has.same (beside_read port v d e quiet call);
       }
 
   pub emptied : bit v 14 ≡ false → (e.port port.0).fr ≡ false
   emptied clear = sym (shown_after port Cmd v d e quiet call).2 ∙ clear
 
+  pub empties_told : bit v 14 ≡ false → IsTold (Falls 4 14 port) (IsControl WritesCommand port) AnyUse start e
+  empties_told clear = told_falls 4 14 port n v start d e w.told call clear
+
   held : bit v 14 ≡ true → not (d.port port.0).st && bit v 15 || not (d.port port.0).fre && bit v 14 ≡ true
-  held set = or_true _ _ (ap (λ (fre : Bool). not fre && bit v 14) w.fre ∙ set)
+  held set = or_true _ _ (ap (λ (fre : Bool). not fre && bit v 14) w.has.fre ∙ set)
 
   pub empties_still : n < 64 → bit v 14 ≡ true → IsEmptying port start (n + 1) e
   empties_still small set =
       let count = ap (λ (k : Notes). k.engine_count) (notes_read port Cmd v d e quiet call) in
       let one = counted_again _ n (d.port port.0).notes.engine_count (held set) w.low small in
-      let r = empties in
-      record { followed = r.followed; usable = r.usable; stopped = r.stopped; fre = r.fre; bases = r.bases; same = r.same; low = rw count one.0; high = λ _. rw count one.1 }
+      record {
+        told = told_stuck 4 14 port n v start d e w.told call ((shown_after port Cmd v d e quiet call).1 ∙ empties.fre, set);
+        has = empties;
+        low = rw count one.0;
+        high = λ _. rw count one.1;
+      }

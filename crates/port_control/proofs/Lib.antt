@@ -1,4 +1,5 @@
 pub mod Using
+pub mod Awaiting
 pub mod Ceasing
 pub mod Placing
 pub mod Settling

@@ -1,25 +1,28 @@
 -- What an access of a port needs, and what goes on over accesses.
-use Rattle.std.proofs.Common.{ℕ, ◌≡◌, ◌⊎◌, ◌&&◌, Bool, false, inl, inr, refl, sym, ◌∙◌, ap, subst}
+use Rattle.std.proofs.Common.{ℕ, ◌≡◌, ◌⊎◌, ◌&&◌, ◌++◌, Bool, List, [], ◌∷◌, false, inl, inr, refl, sym, ◌∙◌, ap, subst, append_assoc, append-nil}
+use Rattle.std.proofs.lemmas.List.Elements.{All-weaker}
 use Rattle.ata_types.specs.declared.Port.{Port}
 use Rattle.hba_regs.specs.Bits.{bit}
 use Rattle.hba_regs.specs.declared.reg.PortReg.{PortReg}
 use Rattle.hba_regs.specs.declared.reg.PortReg.TheVariants.{Is, Cmd, Sctl, Sact}
 use Rattle.hba_regs.specs.declared.reg.Reg.TheVariants.{Px}
-use Rattle.adapter.specs.Access.{Reads, Writes, port_written, with_st, with_fre}
+use Rattle.adapter.specs.Access.{Access, Reads, Writes, port_written, with_st, with_fre}
+use Rattle.adapter.specs.Access.Access.{Reading, Writing, Loading, Storing}
 use Rattle.adapter.specs.Device.{Notes, PortState, Device}
 use Rattle.adapter.specs.Kept.{KeepsPort, KeepsControls}
 use Rattle.adapter.specs.Rules.{HasPort, MayWrite, Stays}
 use Rattle.adapter.proofs.Absurd.{true-false}
 use Rattle.adapter.proofs.Calls.{SeenAt, seen, PutAt, put}
-use Rattle.agreement.specs.Driven.{AnyUse, IsAgreed, IsControl, IsFollowed}
+use Rattle.agreement.specs.Driven.{AnyUse, IsAgreed, IsControl, IsFollowed, IsTold}
 use Rattle.agreement.specs.Links.{SameAdapter}
 use Rattle.agreement.specs.Slots.{Use, Free, Own, Serves, Uses, IsServed, Stage, OwnWaits, OwnTaken, OwnOver, Armed}
 use Rattle.agreement.proofs.Causing.{written_notes}
 use Rattle.agreement.proofs.Controlled.{control_wider, stays_on, same_adapter, agreeing_goes_on}
-use Rattle.agreement.proofs.Driven.{followed_as, followed_read}
+use Rattle.agreement.proofs.Driven.{followed_as, followed_read, told_as}
 use Rattle.agreement.proofs.Halting.{halted_on, halted_writes}
 use Rattle.agreement.proofs.Noting.{notes_read}
 use Rattle.agreement.proofs.Unarmed.{writes_clear}
+use Rattle.port_control.specs.Engines.{Awaits, FailsToStop, FailsToStopReceiving, Falls, Hangs, ReadsCommand, ShowsStuck, Sticks}
 use Rattle.port_control.specs.Ports.{WritesCommand, IsResetting, IsUsable, IsStopped, ReceivesFises, SameButCommand, SameBeside}
 
 -- ---- the port may be used on
@@ -40,6 +43,11 @@ pub followed_wider : (Written More : PortReg → Type 0) (Fits : Uses → Type 0
     IsFollowed (IsControl Written port) Fits old new → IsFollowed (IsControl More port) Fits old new
 followed_wider Written More Fits port old new wider f =
     followed_as (IsControl Written port) (IsControl More port) Fits Fits old new (control_wider Written port More wider) (λ uses is. is) f
+
+pub told_wider : (Tells : List Access → Type 0) (Written More : PortReg → Type 0) (Fits : Uses → Type 0) (port : Port) (old new : Device) → ((r : PortReg) → Written r → More r) →
+    IsTold Tells (IsControl Written port) Fits old new → IsTold Tells (IsControl More port) Fits old new
+told_wider Tells Written More Fits port old new wider f =
+    told_as Tells (IsControl Written port) (IsControl More port) Fits Fits (λ uses. uses) old new (control_wider Written port More wider) (λ uses is. is) f
 
 -- over a reading, of any kind
 pub usable_read : (Fits : Uses → Type 0) (port : Port) (r : PortReg) (v : ℕ) (old new : Device) → IsUsable Fits port old → Reads (Px port r) v old new → IsUsable Fits port new
@@ -156,3 +164,82 @@ pub receiving_write : (port : Port) (r : PortReg) (v : ℕ) (old new : Device) �
 receiving_write port r v old new off kind call h =
     let w : PutAt port.0 r v old new = put port r v old new call off in
     subst (ReceivesFises port.0) (sym w.here) (written_receiving port.0 v _ (w.mid.port port.0) (receiving_on (w.keeps.port port.0) (w.keeps.on.controls port.0) h) r kind)
+
+-- ---- what is told of accesses
+
+-- an engine that was awaited for 64 readings is stuck
+awaits_sticks : (start running : ℕ) → ((v : ℕ) → Hangs start running v → ShowsStuck v) → (port : Port) (accesses : List Access) → Awaits start running port 64 accesses → Sticks port accesses
+awaits_sticks start running shows port accesses a = record {
+  before = a.before ++ Writing (Px port Cmd) a.cleared ∷ [];
+  stuck = a.stuck;
+  later = [];
+  here = a.here ∙ (sym (append_assoc a.before (Writing (Px port Cmd) a.cleared ∷ []) a.stuck)
+      ∙ ap (λ (rest : List Access). (a.before ++ Writing (Px port Cmd) a.cleared ∷ []) ++ rest) (sym (append-nil a.stuck)));
+  number = a.number;
+  all = All-weaker (ReadsCommand (Hangs start running) port) (ReadsCommand ShowsStuck port) reading a.stuck a.all;
+}
+  where
+    reading : (access : Access) → ReadsCommand (Hangs start running) port access → ReadsCommand ShowsStuck port access
+    reading (Reading r v) is = (is.0, shows v is.1)
+    reading (Writing r v) is = absurd is
+    reading (Loading at bytes) is = absurd is
+    reading (Storing at bytes) is = absurd is
+
+pub failing_sticks : (port : Port) (accesses : List Access) → FailsToStop port accesses → Sticks port accesses
+failing_sticks = awaits_sticks 0 15 (λ v is. inl is)
+
+pub failing_receiving_sticks : (port : Port) (accesses : List Access) → FailsToStopReceiving port accesses → Sticks port accesses
+failing_receiving_sticks = awaits_sticks 4 14 (λ v is. inr is)
+
+-- what is told of accesses is told of more
+
+module _ (early late : List Access) where
+  pub falls_then : (start running : ℕ) (port : Port) → Falls start running port early → Falls start running port (early ++ late)
+  falls_then start running port f = record {
+    before = f.before;
+    cleared = f.cleared;
+    between = f.between;
+    fallen = f.fallen;
+    later = f.later ++ late;
+    here = ap (λ (accesses : List Access). accesses ++ late) f.here
+        ∙ (append_assoc f.before (Writing (Px port Cmd) f.cleared ∷ (f.between ++ (Reading (Px port Cmd) f.fallen ∷ f.later))) late
+        ∙ ap (λ (accesses : List Access). f.before ++ (Writing (Px port Cmd) f.cleared ∷ accesses)) (append_assoc f.between (Reading (Px port Cmd) f.fallen ∷ f.later) late));
+    clears = f.clears;
+    only = f.only;
+    shown = f.shown;
+  }
+
+  pub falls_since : (start running : ℕ) (port : Port) → Falls start running port late → Falls start running port (early ++ late)
+  falls_since start running port f = record {
+    before = early ++ f.before;
+    cleared = f.cleared;
+    between = f.between;
+    fallen = f.fallen;
+    later = f.later;
+    here = ap (λ (accesses : List Access). early ++ accesses) f.here
+        ∙ sym (append_assoc early f.before (Writing (Px port Cmd) f.cleared ∷ (f.between ++ (Reading (Px port Cmd) f.fallen ∷ f.later))));
+    clears = f.clears;
+    only = f.only;
+    shown = f.shown;
+  }
+
+  pub sticks_then : (port : Port) → Sticks port early → Sticks port (early ++ late)
+  sticks_then port s = record {
+    before = s.before;
+    stuck = s.stuck;
+    later = s.later ++ late;
+    here = ap (λ (accesses : List Access). accesses ++ late) s.here
+        ∙ (append_assoc s.before (s.stuck ++ s.later) late ∙ ap (λ (accesses : List Access). s.before ++ accesses) (append_assoc s.stuck s.later late));
+    number = s.number;
+    all = s.all;
+  }
+
+  pub sticks_since : (port : Port) → Sticks port late → Sticks port (early ++ late)
+  sticks_since port s = record {
+    before = early ++ s.before;
+    stuck = s.stuck;
+    later = s.later;
+    here = ap (λ (accesses : List Access). early ++ accesses) s.here ∙ sym (append_assoc early s.before (s.stuck ++ s.later));
+    number = s.number;
+    all = s.all;
+  }

@@ -10,13 +10,14 @@ use Rattle.adapter.specs.Access.{Access, Reads, Writes}
 use Rattle.adapter.specs.Access.Access.{Reading}
 use Rattle.adapter.specs.Device.{Bases, Notes, PortState, Device}
 use Rattle.adapter.specs.Rules.{IsOn, HasPort}
-use Rattle.agreement.specs.Driven.{AgreesWith, IsDrivenBy}
+use Rattle.agreement.specs.Driven.{AgreesWith, AnyUse, IsControl, IsDrivenBy, IsTold}
 use Rattle.agreement.specs.Errors.{NoneComes}
 use Rattle.agreement.specs.Facts.{IsAwaited, IsHalted, IsQuiet}
 use Rattle.agreement.specs.Links.{PlugsNone}
 use Rattle.agreement.specs.Places.{list_of, received_of}
 use Rattle.agreement.specs.Slots.{Uses}
 use Rattle.agreement.specs.Started.{IsUp, IsComingUp}
+use Rattle.port_control.specs.Engines.{FailsToStop, FailsToStopReceiving, Stops, StopsReceiving}
 use Rattle.port_control.specs.declared.PortFault.{PortFault}
 use Rattle.port_control.specs.declared.PortFault.TheVariants.{NoDevice, Busy, EngineStuck, NotAta}
 
@@ -220,3 +221,28 @@ pub record FindsDevice (port : ℕ) (old new : Device) : Type 0 where
 -- the signature that was read last is the one that the port shows
 abbrev pub ShowsSignature : PortState → Type 0
 ShowsSignature p = p.notes.last_sig ≡ p.sig
+
+-- ---- what the calls do that await an engine
+
+-- The port was stopped: CR fell, as was read after ST was cleared.
+pub record Halts (port : Port) (old new : Device) : Type 0 where
+  pub told : IsTold (Stops port) (IsControl WritesCommand port) AnyUse old new
+  pub stopped : IsStopped (new.port port.0)
+
+-- The port was to stop, and CR didn't fall in 64 readings, the last of the accesses.
+pub record FailsToHalt (port : Port) (old new : Device) : Type 0 where
+  pub told : IsTold (FailsToStop port) (IsControl WritesCommand port) AnyUse old new
+  pub stuck : Shows EngineStuck (new.port port.0).notes
+
+-- A stopped port receives FISes, with its areas in their places: FR fell, as was read after FRE was cleared.
+pub record Receives (port : Port) (old new : Device) : Type 0 where
+  pub told : IsTold (StopsReceiving port) (IsControl IsPlacing port) AnyUse old new
+  pub receives : ReceivesFises port.0 (new.port port.0)
+
+-- A stopped port was to receive FISes, and FR didn't fall in 64 readings, the last of the accesses. FRE is 0, and the addresses are as
+-- they were.
+pub record FailsToReceive (port : Port) (old new : Device) : Type 0 where
+  pub told : IsTold (FailsToStopReceiving port) (IsControl IsPlacing port) AnyUse old new
+  pub stuck : Shows EngineStuck (new.port port.0).notes
+  pub fre : (new.port port.0).fre ≡ false
+  pub bases : (new.port port.0).bases ≡ (old.port port.0).bases

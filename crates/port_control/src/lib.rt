@@ -6,17 +6,20 @@ ghost use Rattle.std.specs.Prelude.{ℕ, ◌≡◌, ◌≢◌, ◌<◌, ◌≤�
 ghost use Rattle.hba_regs.specs.Bits.{bit};
 ghost use Rattle.hba_regs.specs.declared.reg.PortReg.TheVariants.{Ssts, Tfd};
 ghost use Rattle.adapter.specs.Rules.{IsOn, HasPort};
-ghost use Rattle.agreement.specs.Driven.{AgreesWith, AnyUse, IsControl, IsFollowed};
+ghost use Rattle.agreement.specs.Driven.{AgreesWith, AnyUse, IsControl, IsFollowed, IsTold};
 ghost use Rattle.agreement.specs.Driver.{AllFree};
 ghost use Rattle.agreement.specs.Errors.{NoneComes, ChangesByDisks};
 ghost use Rattle.agreement.specs.Facts.{IsAfterReset, IsAwaited, IsQuiet, IsRecorded, IsUnflagged};
 ghost use Rattle.agreement.specs.Links.{PlugsNone};
 ghost use Rattle.agreement.specs.Started.{IsUp, IsComingUp, IsStarted};
-ghost use Rattle.port_control.specs.Ports.{WritesCommand, IsPlacing, IsClearing, IsResetting, IsUsable, IsStopped, ReceivesFises, IsRunning, SawDevice, SawIdle, Shows, SameBeside, HasStopped, HasLink, ShowsIdle, ReadsWithout, ReadsUntil, ClearsErrors, FindsSignature, Looks, WasReset, HasClearErrors, FindsDevice, IsFound, ShowsSignature, SameButStart, programmed};
+ghost use Rattle.port_control.specs.Engines.{FailsToStopReceiving, StopsReceiving};
+ghost use Rattle.port_control.specs.Ports.{FailsToHalt, FailsToReceive, Halts, Receives, WritesCommand, IsPlacing, IsClearing, IsResetting, IsUsable, IsStopped, ReceivesFises, IsRunning, SawDevice, SawIdle, Shows, SameBeside, HasStopped, HasLink, ShowsIdle, ReadsWithout, ReadsUntil, ClearsErrors, FindsSignature, Looks, WasReset, HasClearErrors, FindsDevice, IsFound, ShowsSignature, SameButStart, programmed};
 
 use adapter::Adapter;
 use ata_types::{DRIVER_BYTES, PORT_BYTES, Port, RECEIVED};
 use hba_regs::{ATA_SIGNATURE, PortCommand, PortReg, Reg, SataControl, SataStatus, TaskFile};
+
+pub mod laws;
 
 /// Readings of a register in one wait.
 pub const READINGS: u32 = 64;
@@ -96,13 +99,12 @@ pub fn stop<A: Adapter>(adapter: &mut A, port: Port) -> Result<Stopped, PortFaul
     requires on { IsOn (A.device adapter.old) }
     requires there { HasPort (A.device adapter.old) port.0 }
     requires agreed { AgreesWith AnyUse (A.device adapter.old) }
-    ensures followed { IsFollowed (IsControl WritesCommand port) AnyUse (A.device adapter.old) (A.device adapter.new) }
     ensures on { IsOn (A.device adapter.new) }
     ensures has { HasStopped ((A.device adapter.old).port port.0) ((A.device adapter.new).port port.0) }
     ensures names { IfOk result (λ token. token.port ≡ port) }
-    ensures stopped { OnOk result (IsStopped ((A.device adapter.new).port port.0)) }
+    ensures halts { OnOk result (Halts port (A.device adapter.old) (A.device adapter.new)) }
     ensures fault { IfErr result (λ fault. fault ≡ PortFault.EngineStuck) }
-    ensures stuck { OnErr result (Shows PortFault.EngineStuck ((A.device adapter.new).port port.0).notes) }
+    ensures fails { OnErr result (FailsToHalt port (A.device adapter.old) (A.device adapter.new)) }
 {
     let command = PortCommand(adapter.read(Reg::Px(port, PortReg::Cmd)));
     adapter.write(Reg::Px(port, PortReg::Cmd), command.without_start().0);
@@ -119,7 +121,10 @@ pub fn stop<A: Adapter>(adapter: &mut A, port: Port) -> Result<Stopped, PortFaul
 fn stop_receiving<A: Adapter>(adapter: &mut A, port: Port) -> bool
     requires usable { IsUsable AnyUse port (A.device adapter.old) }
     requires stopped { IsStopped ((A.device adapter.old).port port.0) }
-    ensures followed { IsFollowed (IsControl WritesCommand port) AnyUse (A.device adapter.old) (A.device adapter.new) }
+    ensures stops { result ≡ true → IsTold (StopsReceiving port) (IsControl WritesCommand port) AnyUse
+        (A.device adapter.old) (A.device adapter.new) }
+    ensures sticks { result ≡ false → IsTold (FailsToStopReceiving port) (IsControl WritesCommand port) AnyUse
+        (A.device adapter.old) (A.device adapter.new) }
     ensures stopped { IsStopped ((A.device adapter.new).port port.0) }
     ensures fre { ((A.device adapter.new).port port.0).fre ≡ false }
     ensures bases { ((A.device adapter.new).port port.0).bases ≡ ((A.device adapter.old).port port.0).bases }
@@ -182,19 +187,14 @@ pub fn receive<A: Adapter>(
     requires agreed { AgreesWith AnyUse (A.device adapter.old) }
     requires stopped { IsStopped ((A.device adapter.old).port stopped.port.0) }
     requires room { DRIVER_BYTES ≤ (A.device adapter.old).size }
-    ensures followed { IsFollowed (IsControl IsPlacing stopped.port) AnyUse (A.device adapter.old)
-        (A.device adapter.new) }
     ensures on { IsOn (A.device adapter.new) }
     ensures stopped { IsStopped ((A.device adapter.new).port stopped.port.0) }
     ensures same { SameBeside ((A.device adapter.old).port stopped.port.0)
         ((A.device adapter.new).port stopped.port.0) }
     ensures names { IfOk result (λ token. token.port ≡ stopped.port) }
-    ensures receives { OnOk result (ReceivesFises stopped.port.0 ((A.device adapter.new).port stopped.port.0)) }
+    ensures receives { OnOk result (Receives stopped.port (A.device adapter.old) (A.device adapter.new)) }
     ensures fault { IfErr result (λ fault. (fault.0 ≡ PortFault.EngineStuck) × (fault.1 ≡ stopped)) }
-    ensures stuck { OnErr result (Shows PortFault.EngineStuck ((A.device adapter.new).port stopped.port.0).notes) }
-    ensures fre { OnErr result (((A.device adapter.new).port stopped.port.0).fre ≡ false) }
-    ensures bases { OnErr result (((A.device adapter.new).port stopped.port.0).bases ≡
-        ((A.device adapter.old).port stopped.port.0).bases) }
+    ensures fails { OnErr result (FailsToReceive stopped.port (A.device adapter.old) (A.device adapter.new)) }
 {
     let port = stopped.port;
     if !stop_receiving(adapter, port) {

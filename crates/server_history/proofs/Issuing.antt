@@ -45,7 +45,7 @@ use Rattle.adapter.specs.declared.command.Operation.TheVariants.{Identify}
 use Rattle.agreement.proofs.Driven.{driven_as}
 use Rattle.server_history.proofs.Looking.{behind_served}
 use Rattle.transfers.specs.Services.{IsService}
-use Rattle.transfers.proofs.Apart.{issuing_apart}
+use Rattle.transfers.proofs.Apart.{apart, issuing_of}
 
 abbrev pub every : Port → Bool
 every port = true
@@ -196,5 +196,5 @@ pub behind_issued : (s : Server) (new : Device) (port : Port) (r : Transfer) →
     → (uses : Uses) (parked : ℕ → List RequestId) (m : Machine) → IsReached m → Knows m (known uses parked s.device) → uses port.0 0 ≡ Free
     → ((q : ℕ) → found_of s.ports q ≢ Unready Dead → uses q 0 ≡ Own Identify → ⊥) → (q : ℕ) → q < 4 → IsPortOf s.wanted s.ports q new
 behind_issued s new port r k ready issues uses parked m reached knows free none =
-    behind_served s new port k ready (issued_serves port r s.device new issues) (λ q low other. issuing_apart port q other s.device new k.on issues.driven)
+    behind_served s new port k ready (issued_serves port r s.device new issues) (λ q low other. apart port (IsIssuing port) (issuing_of port) q other s.device new k.on issues.driven)
     (λ q other. issues.silent uses parked m reached knows free (port_at q) Identify refl (none q other))

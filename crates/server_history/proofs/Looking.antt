@@ -1,5 +1,5 @@
 -- A server goes on while a ready port is looked at, and while its transfer is looked for.
-use Rattle.std.proofs.Common.{ℕ, ◌≡◌, ◌≢◌, ◌<◌, true, inl, inr, refl, sym, ap, ◌∙◌, arith}
+use Rattle.std.proofs.Common.{ℕ, ◌≡◌, ◌≢◌, ◌<◌, true, inl, inr, refl, sym, ap, ◌∙◌}
 use Rattle.ata_types.specs.declared.Port.{Port}
 use Rattle.ata_types.specs.declared.PortState.TheVariants.{Dead, Ready as ReadyState}
 use Rattle.hba_regs.specs.declared.reg.Reg.TheVariants.{Px}
@@ -24,7 +24,7 @@ use Rattle.server_history.proofs.Unused.{ready_found, serves_first}
 use Rattle.transfers.specs.Looks.{IsLooking}
 use Rattle.transfers.specs.Services.{IsService}
 use Rattle.transfers.specs.Transfers.{IsFinding, FindsTransfer}
-use Rattle.transfers.proofs.Apart.{finding_apart, looking_apart}
+use Rattle.transfers.proofs.Apart.{apart, finding_of, looking_of}
 use Rattle.transfers.proofs.Serving.{finding_ordinary, looking_service, services_on, services_same}
 
 -- ---- what stands behind the ports
@@ -70,11 +70,11 @@ module _ (s : Server) (new : Device) (port : Port) (k : IsKept s) (ready : state
 
   pub looking_kept : IsFollowed (IsLooking port) AnyUse s.device new → IsKept (record s { device = new })
   looking_kept followed =
-      kept_over (IsLooking port) (looking_service port) (λ q. (looking_spares q Ci (λ e. absurd cc), looking_spares q Sact (λ e. absurd cc))) (λ q low other. looking_apart port q other (omega (arith, low)) s.device new k.on followed.driven) followed
+      kept_over (IsLooking port) (looking_service port) (λ q. (looking_spares q Ci (λ e. absurd cc), looking_spares q Sact (λ e. absurd cc))) (λ q low other. apart port (IsLooking port) (looking_of port) q other s.device new k.on followed.driven) followed
 
   pub finding_kept : IsFollowed (IsFinding port) AnyUse s.device new → IsKept (record s { device = new })
   finding_kept followed =
-      kept_over (IsFinding port) (λ access here. (finding_ordinary port port access here).0) (λ q. (finding_spares q Ci, finding_spares q Sact)) (λ q low other. finding_apart port q other s.device new k.on followed.driven) followed
+      kept_over (IsFinding port) (λ access here. (finding_ordinary port port access here).0) (λ q. (finding_spares q Ci, finding_spares q Sact)) (λ q low other. apart port (IsFinding port) (finding_of port) q other s.device new k.on followed.driven) followed
 
   -- a transfer that was found done is over
   pub found_over : has_of port s.book ≡ true → FindsTransfer port true s.device new → IsOver (new.port port.0) 0

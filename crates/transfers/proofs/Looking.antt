@@ -1,7 +1,7 @@
 -- The accesses of a look.
-use Rattle.std.proofs.Common.{ℕ, ◌≡◌, ◌≢◌, ◌<◌, true, ◌==◌, inl, inr, refl, sym, ◌∙◌, ap, subst}
-use Rattle.std.proofs.lemmas.Bool.{cases_eq}
-use Rattle.std.proofs.lemmas.Nat.Bits.{bit_at-zero}
+use Rattle.std.proofs.Common.{ℕ, ◌≡◌, ◌≢◌, ◌<◌, ◌^◌, true, false, ◌==◌, inl, inr, refl, sym, ◌∙◌, ap, subst}
+use Rattle.std.proofs.lemmas.Bool.{cases_eq, cases_lt}
+use Rattle.std.proofs.lemmas.Nat.Bits.{bit_at-zero, bit_at_above}
 use Rattle.ata_types.specs.declared.Port.{Port}
 use Rattle.hba_regs.specs.Bits.{bit}
 use Rattle.hba_regs.specs.declared.reg.Reg.TheVariants as reg
@@ -13,19 +13,25 @@ use Rattle.adapter.specs.Device.{Notes, PortState, Device}
 use Rattle.adapter.specs.Rules.{IsOn, HasPort, MayWrite, Stays}
 use Rattle.adapter.proofs.Absurd.{true-false}
 use Rattle.adapter.proofs.Calls.{SeenAt, seen, PutAt, put, on_after, steps_keep_all}
-use Rattle.agreement.specs.Driven.{AnyUse, IsFollowed}
+use Rattle.agreement.specs.Driven.{AnyUse, IsBitOf, IsFollowed}
 use Rattle.agreement.proofs.Driven.{followed_then, followed_read, followed_write}
 use Rattle.agreement.proofs.Lasting.{access_on, access_same}
 use Rattle.agreement.proofs.Noting.{notes_stay}
-use Rattle.transfers.specs.Looks.{look_of, IsBitOf, IsLooking, LooksAt}
+use Rattle.transfers.specs.Looks.{look_of, IsLooking, LooksAt}
 use Rattle.transfers.specs.declared.Look.{Look}
 use Rattle.transfers.proofs.Finding.{there_after}
 
 -- a bit that was set in no other bits
-pub bit_alone : (port place v : ℕ) → place ≡ port → bit v place ≡ true → ((k : ℕ) → k < 32 → k ≢ place → bit v k ≡ bit 0 k) → IsBitOf port v
-bit_alone port place v same set others =
+pub bit_alone : (port place v : ℕ) → place ≡ port → v < 2 ^ 32 → bit v place ≡ true → ((k : ℕ) → k < 32 → k ≢ place → bit v k ≡ bit 0 k) → IsBitOf port v
+bit_alone port place v same fits set others =
     let P : ℕ → Type 0 = λ p. IsBitOf p v in
-    subst P same (record { here = set; alone = λ k small other. others k small other ∙ ap (λ (n : ℕ). n == 1) (bit_at-zero k) })
+    subst P same (record { here = set; alone = alone })
+  where
+    alone : (k : ℕ) → k ≢ place → bit v k ≡ false
+    alone k other = elim (cases_lt k 32) [
+      | inl small ↦ others k small other ∙ ap (λ (n : ℕ). n == 1) (bit_at-zero k)
+      | inr above ↦ ap (λ (n : ℕ). n == 1) (bit_at_above v 32 k fits above)
+    ]
 
 module _ (port : Port) (d0 d1 : Device) (causes : ℕ) (on : IsOn d0) (there : HasPort d0 port.0) (first : Reads (Px port Is) causes d0 d1) where
   one : SeenAt port.0 Is causes d0 d1
@@ -56,7 +62,7 @@ module _ (port : Port) (d0 d1 : Device) (causes : ℕ) (on : IsOn d0) (there : H
             | inl e ↦
                 let P : ℕ → Type 0 = λ p. (mid.port p).notes.acknowledged ≡ true in
                 subst P (sym e) (ap (λ (n : Notes). n.acknowledged) (notes_stay port.0 d2 mid steps) ∙ ap (λ (p : PortState). p.notes.acknowledged) two.here)
-            | inr other ↦ true-false set (alone.alone q small other)
+            | inr other ↦ true-false set (alone.alone q other)
           ],
     )
 

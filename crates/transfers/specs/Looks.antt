@@ -1,5 +1,5 @@
 -- A look at a port: what it reads and acknowledges, and what that tells (AHCI 1.3.1, 3.1.3, 3.3.5, 3.3.10, 5.5.3 and 6.2).
-use Rattle.std.specs.Prelude.{ℕ, true, false, ◌≡◌, ◌≢◌, ◌⊎◌, ◌<◌, ◌%◌, ◌||◌, ◌==◌, not, if◌then◌else◌}
+use Rattle.std.specs.Prelude.{ℕ, ◌≡◌, ◌⊎◌, ◌%◌, ◌||◌, ◌==◌, not, if◌then◌else◌}
 use Rattle.ata_types.specs.declared.Port.{Port}
 use Rattle.hba_regs.specs.Bits.{bit}
 use Rattle.hba_regs.specs.declared.reg.Reg.TheVariants as reg
@@ -8,6 +8,7 @@ use Rattle.hba_regs.specs.declared.reg.PortReg.TheVariants.{Is, Ssts}
 use Rattle.adapter.specs.Access.{Access, Reads, Writes}
 use Rattle.adapter.specs.Access.Access.{Reading, Writing}
 use Rattle.adapter.specs.Device.{Device}
+use Rattle.agreement.specs.Driven.{IsBitOf}
 use Rattle.transfers.specs.declared.Look.{Look}
 use Rattle.transfers.specs.declared.Look.TheVariants.{Lost, Broken, Failed, Undisturbed}
 
@@ -18,11 +19,6 @@ look_of causes status =
     if bit causes 6 || bit causes 22 || not (status % 16 == 3) then Lost
     else (if bit causes 28 || bit causes 29 || bit causes 27 then Broken
     else (if bit causes 30 then Failed else Undisturbed))
-
--- the value has the port's bit alone
-pub record IsBitOf (port v : ℕ) : Type 0 where
-  pub here : bit v port ≡ true
-  pub alone : (k : ℕ) → k < 32 → k ≢ port → bit v k ≡ false
 
 -- It reads PxIS or PxSSTS, or it writes PxIS, or IS with the port's bit alone.
 abbrev pub IsLooking : Port → Access → Type 0

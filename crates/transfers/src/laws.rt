@@ -9,7 +9,7 @@ ghost use Rattle.block_machine.specs.Due.{is_plain};
 ghost use Rattle.block_machine.specs.State.{Pending};
 ghost use Rattle.block_machine.specs.Steps.{Issue, May};
 ghost use Rattle.block_machine.specs.declared.due.Mode.{Mode};
-ghost use Rattle.agreement.specs.Driven.{IsUse, IsAgreed, IsDrivenBy, IsFollowed, LeavesPort};
+ghost use Rattle.agreement.specs.Driven.{IsUse, IsAgreed, IsDrivenBy, IsFollowed, IsOf};
 ghost use Rattle.agreement.specs.Errors.{KeepsErrors, NoneComes};
 ghost use Rattle.agreement.specs.Facts.{IsRecorded, RunsWell, ShowsNoTrouble, TellsNoTrouble, Undisturbed};
 ghost use Rattle.agreement.specs.Links.{SameAdapter};
@@ -38,14 +38,11 @@ pub fn a_transfer_may_be_issued()
     ensures { FirstMayBeIssued }
 {}
 
-/// No call touches another port: each leaves it to the device, with what readings noted of it.
-pub fn other_ports_are_left()
-    ensures issuing { (port : Port) (q : ℕ) (old new : Device) → q ≢ port.0 → IsOn old → IsDrivenBy (IsIssuing port) old new
-        → LeavesPort (old.port q) (new.port q) }
-    ensures looking { (port : Port) (q : ℕ) (old new : Device) → q ≢ port.0 → q < 32 → IsOn old
-        → IsDrivenBy (IsLooking port) old new → LeavesPort (old.port q) (new.port q) }
-    ensures finding { (port : Port) (q : ℕ) (old new : Device) → q ≢ port.0 → IsOn old → IsDrivenBy (IsFinding port) old new
-        → LeavesPort (old.port q) (new.port q) }
+/// No call touches a register of another port, nor another port's bit of IS: so what is said of such accesses (`IsOf`) is so of each.
+pub fn calls_are_of_one_port()
+    ensures issuing { (port : Port) (access : Access) → IsIssuing port access → IsOf port access }
+    ensures looking { (port : Port) (access : Access) → IsLooking port access → IsOf port access }
+    ensures finding { (port : Port) (access : Access) → IsFinding port access → IsOf port access }
 {}
 
 /// What serving ports leaves: the adapter, which stays on; each port that may begin a transfer; DET of each port's PxSCTL, its PxIE,

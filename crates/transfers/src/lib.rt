@@ -11,7 +11,7 @@ ghost use Rattle.agreement.specs.Slots.{Told};
 ghost use Rattle.command_table.specs.Places.{places_of};
 ghost use Rattle.command_table.specs.Written.{IsUnused};
 ghost use Rattle.disk_page.specs.Asking.{LeavesRunning};
-ghost use Rattle.transfers.specs.Looks.{look_of, IsBitOf, IsLooking, LooksAt};
+ghost use Rattle.transfers.specs.Looks.{look_of, IsLooking, LooksAt};
 ghost use Rattle.transfers.specs.Transfers.{IsTransfer, operation_of, meaning_of, MayTransfer, IssuesTransfer, IsFinding, FindsTransfer, ReadsDone};
 
 use adapter::{Adapter, Command};

@@ -1,6 +1,6 @@
 use Rattle.std.proofs.Common.{◌∙◌, ap}
 use Rattle.adapter.specs.Device.{Notes}
-use Rattle.port_boot.proofs.Identifying.{boots_to, identified, unasked_there, unasked_agreed, unasked_boots, unasked_ends, enabling, enabled_on, enabled_written, enabled_ready, enabled_boots, halted_boots, halted_ends}
+use Rattle.port_boot.proofs.Identifying.{halt_driven, identified, unasked_there, unasked_agreed, unasked_boots, unasked_ends, enabling, enabled_on, enabled_written, enabled_ready, enabled_boots, halted_boots, halted_ends}
 use Rattle.port_boot.proofs.Outcomes.{told_runs_on, stops_then}
 use Rattle.port_boot.proofs.identify_disk.Goals as goal
 
@@ -14,13 +14,13 @@ pub returns-in_default-clause-boots_to : goal.returns-in_default-clause-boots_to
 returns-in_default-clause-boots_to g c =
     let e = c.in_default.ensures in
     let h = c.halt.ensures in
-    unasked_boots c.args.port _ _ _ c.requires.up.1 e.on e.leaves e.reads e.agrees _ h.followed h.has _ h.halted
+    unasked_boots c.args.port _ _ _ c.requires.up.1 e.on e.leaves e.reads e.agrees _ h.has _ h.halted
 
 pub returns-in_default-clause-ended : goal.returns-in_default-clause-ended
 returns-in_default-clause-ended g c =
     let e = c.in_default.ensures in
     let h = c.halt.ensures in
-    unasked_ends c.args.port _ _ _ c.requires.up.1 e.on e.leaves e.reads e.agrees _ h.followed h.has c.args.wanted.now _ h.halted
+    unasked_ends c.args.port _ _ _ c.requires.up.1 e.on e.leaves e.reads e.agrees _ h.has c.args.wanted.now _ h.halted
 
 pub write-requires : goal.write-requires
 write-requires g c = let e = c.in-Some.ensures in enabling c.args.port c.causes.result _ (identified c.args.port _ _ _ c.in-Some.page c.requires.up.1 e.on e.leaves e.reads e.agrees).bootable
@@ -54,18 +54,18 @@ pub returns-in-Err-clause-ended : goal.returns-in-Err-clause-ended
 returns-in-Err-clause-ended g c =
     let e = c.in-Some.ensures in
     let h = c.halt-in-Err.ensures in
-    halted_ends c.args.port _ _ _ c.in-Some.page c.requires.up.1 e.on e.leaves e.reads e.agrees _ h.followed h.has c.args.wanted.now _ _ c.in-Err.ensures.judged h.halted
+    halted_ends c.args.port _ _ _ c.in-Some.page c.requires.up.1 e.on e.leaves e.reads e.agrees _ (halt_driven c.args.port _ _ _ _ h.halted) h.has c.args.wanted.now _ _ c.in-Err.ensures.judged h.halted
 
 pub returns-in-Err-clause-boots_to : goal.returns-in-Err-clause-boots_to
 returns-in-Err-clause-boots_to g c =
     let e = c.in-Some.ensures in
     let h = c.halt-in-Err.ensures in
-    boots_to c.args.port _ _ c.halt-in-Err.result (halted_boots c.args.port _ _ _ c.in-Some.page c.requires.up.1 e.on e.leaves e.reads e.agrees _ h.followed h.has)
+    halted_boots c.args.port _ _ _ c.in-Some.page c.requires.up.1 e.on e.leaves e.reads e.agrees c.args.wanted.now _ _ _ c.in-Err.ensures.judged h.halted
 
 pub returns-in_default-clause-stops : goal.returns-in_default-clause-stops
 returns-in_default-clause-stops g c =
     let e = c.in_default.ensures in
-    stops_then c.args.port _ _ _ c.requires.up.1 e.reads.1.driven _ e.on e.leaves c.halt.ensures.followed.driven
+    stops_then c.args.port _ _ _ c.requires.up.1 e.reads.1.driven _ e.on e.leaves (halt_driven c.args.port _ _ _ _ c.halt.ensures.halted)
 
 pub returns-in-Ok-clause-runs_on : goal.returns-in-Ok-clause-runs_on
 returns-in-Ok-clause-runs_on g c =
@@ -75,4 +75,4 @@ returns-in-Ok-clause-runs_on g c =
 pub returns-in-Err-clause-stops : goal.returns-in-Err-clause-stops
 returns-in-Err-clause-stops g c =
     let e = c.in-Some.ensures in
-    stops_then c.args.port _ _ _ c.requires.up.1 e.reads.1.driven _ e.on e.leaves c.halt-in-Err.ensures.followed.driven
+    stops_then c.args.port _ _ _ c.requires.up.1 e.reads.1.driven _ e.on e.leaves (halt_driven c.args.port _ _ _ _ c.halt-in-Err.ensures.halted)

@@ -1,7 +1,7 @@
-use Rattle.std.proofs.Common.{sym, ◌∙◌, arith}
+use Rattle.std.proofs.Common.{◌≡◌, sym, ◌∙◌, arith}
 use Rattle.agreement.specs.Driven.{AnyUse}
 use Rattle.port_control.proofs.Using.{usable_after}
-use Rattle.port_control.proofs.Ceasing.{empty_may, empty_begins, empties, emptied, empties_still}
+use Rattle.port_control.proofs.Ceasing.{empty_may, empty_begins, empties, emptied, empties_told, empties_still, told_awaits}
 use Rattle.port_control.specs.Ports.{WritesCommand}
 use Rattle.port_control.proofs.stop_receiving.Goals as goal
 
@@ -11,18 +11,20 @@ write-requires g c = empty_may _ _ _ _ _ c.requires.usable c.read.ensures c.requ
 pub loop-reading-init : goal.loop-reading-init
 loop-reading-init g c = let b = empty_begins _ _ _ _ _ c.requires.usable c.read.ensures c.requires.stopped c.without_receive.ensures.cleared c.without_receive.ensures.others _ c.write.ensures in
     record {
-      followed = b.0;
-      usable = usable_after WritesCommand AnyUse c.args.port _ _ c.requires.usable b.0;
-      stopped = b.1;
-      fre = b.2;
-      bases = b.3;
-      same = b.4;
+      told = b.0;
+      has = record {
+        usable = usable_after WritesCommand AnyUse c.args.port _ _ c.requires.usable b.0.followed;
+        stopped = b.1;
+        fre = b.2;
+        bases = b.3;
+        same = b.4;
+      };
       low = omega arith;
       high = λ h. absurd (omega (arith, h));
     }
 
-pub returns-then-not-receive_running-clause-followed : goal.returns-then-not-receive_running-clause-followed
-returns-then-not-receive_running-clause-followed g c = (empties _ _ _ _ _ _ c.loop-reading.invariant c.read-in-loop-reading.ensures).followed
+pub returns-then-not-receive_running-clause-stops : goal.returns-then-not-receive_running-clause-stops
+returns-then-not-receive_running-clause-stops g c = λ _. empties_told _ _ _ _ _ _ c.loop-reading.invariant c.read-in-loop-reading.ensures (sym c.receive_running.ensures ∙ c.if-not-receive_running.true)
 
 pub returns-then-not-receive_running-clause-stopped : goal.returns-then-not-receive_running-clause-stopped
 returns-then-not-receive_running-clause-stopped g c = (empties _ _ _ _ _ _ c.loop-reading.invariant c.read-in-loop-reading.ensures).stopped
@@ -41,3 +43,8 @@ returns-then-not-receive_running-clause-fallen g c = λ _. emptied _ _ _ _ _ _ c
 
 pub loop-reading-preserved : goal.loop-reading-preserved
 loop-reading-preserved g c = empties_still _ _ _ _ _ _ c.loop-reading.invariant c.read-in-loop-reading.ensures (omega arith) (sym c.receive_running.ensures ∙ c.if-not-receive_running.false)
+
+pub returns-clause-sticks : goal.returns-clause-sticks
+returns-clause-sticks g c = λ _.
+    let all : c.loop-reading._reading ≡ 64 = omega arith in
+    told_awaits 4 14 c.args.port _ all _ _ c.loop-reading.invariant.told

@@ -1,0 +1,64 @@
+-- What accesses tell of an engine that is awaited.
+use Rattle.std.proofs.Common.{ℕ, ◌≡◌, ◌+◌, ◌++◌, false, List, [], ◌∷◌, refl, ◌∙◌, ap, append_assoc}
+use Rattle.std.proofs.lemmas.List.{length-append}
+use Rattle.std.proofs.lemmas.List.Elements.{All-nil, All-push, All-weaker}
+use Rattle.ata_types.specs.declared.Port.{Port}
+use Rattle.hba_regs.specs.Bits.{bit}
+use Rattle.hba_regs.specs.declared.reg.PortReg.TheVariants.{Cmd}
+use Rattle.hba_regs.specs.declared.reg.Reg.TheVariants.{Px}
+use Rattle.adapter.specs.Access.{Access}
+use Rattle.adapter.specs.Access.Access.{Reading, Writing, Loading, Storing}
+use Rattle.agreement.specs.Links.{SparesRegister}
+use Rattle.port_control.specs.Engines.{Awaits, Falls, Hangs, ReadsCommand}
+
+-- a reading writes nothing
+reading_spares : (Shown : ℕ → Type 0) (port : Port) (access : Access) → ReadsCommand Shown port access → SparesRegister (Px port Cmd) access
+reading_spares Shown port (Reading r v) is = tt
+reading_spares Shown port (Writing r v) is = absurd is
+reading_spares Shown port (Loading at bytes) is = absurd is
+reading_spares Shown port (Storing at bytes) is = absurd is
+
+module _ (start running : ℕ) (port : Port) where
+  -- the bit is written 0
+  pub awaits_none : (cleared : ℕ) → bit cleared start ≡ false → (early late : List Access) → late ≡ Writing (Px port Cmd) cleared ∷ [] → Awaits start running port 0 (early ++ late)
+  awaits_none cleared zero early late is = record {
+    before = early;
+    cleared = cleared;
+    stuck = [];
+    here = ap (λ (accesses : List Access). early ++ accesses) is;
+    clears = zero;
+    number = refl;
+    all = All-nil (ReadsCommand (Hangs start running) port);
+  }
+
+  -- PxCMD is read
+  module _ (n v : ℕ) (early late : List Access) (a : Awaits start running port n early) (is : late ≡ Reading (Px port Cmd) v ∷ []) where
+    then_reads : early ++ late ≡ a.before ++ (Writing (Px port Cmd) a.cleared ∷ (a.stuck ++ Reading (Px port Cmd) v ∷ []))
+    then_reads =
+        ap (λ (accesses : List Access). accesses ++ late) a.here
+        ∙ (append_assoc a.before (Writing (Px port Cmd) a.cleared ∷ a.stuck) late
+        ∙ ap (λ (accesses : List Access). a.before ++ (Writing (Px port Cmd) a.cleared ∷ (a.stuck ++ accesses))) is)
+
+    pub awaits_more : Hangs start running v → Awaits start running port (n + 1) (early ++ late)
+    awaits_more shows = record {
+      before = a.before;
+      cleared = a.cleared;
+      stuck = a.stuck ++ Reading (Px port Cmd) v ∷ [];
+      here = then_reads;
+      clears = a.clears;
+      number = length-append a.stuck (Reading (Px port Cmd) v ∷ []) ∙ ap (λ (k : ℕ). k + 1) a.number;
+      all = All-push (ReadsCommand (Hangs start running) port) a.stuck (Reading (Px port Cmd) v) a.all (refl, shows);
+    }
+
+    pub awaits_falls : bit v running ≡ false → Falls start running port (early ++ late)
+    awaits_falls zero = record {
+      before = a.before;
+      cleared = a.cleared;
+      between = a.stuck;
+      fallen = v;
+      later = [];
+      here = then_reads;
+      clears = a.clears;
+      only = All-weaker (ReadsCommand (Hangs start running) port) (SparesRegister (Px port Cmd)) (reading_spares (Hangs start running) port) a.stuck a.all;
+      shown = zero;
+    }

@@ -1,0 +1,76 @@
+-- What accesses tell of a port's two engines: the one that works on the command list (ST and CR of PxCMD), and the one that receives
+-- FISes (FRE and FR; AHCI 1.3.1, 3.3.7, 10.3.1 and 10.3.2).
+use Rattle.std.specs.Prelude.{ℕ, true, false, ◌≡◌, ◌⊎◌, ◌++◌, List, ◌∷◌, All, length}
+use Rattle.ata_types.specs.declared.Port.{Port}
+use Rattle.hba_regs.specs.Bits.{bit}
+use Rattle.hba_regs.specs.declared.reg.PortReg.TheVariants.{Cmd}
+use Rattle.hba_regs.specs.declared.reg.Reg.TheVariants.{Px}
+use Rattle.adapter.specs.Access.{Access}
+use Rattle.adapter.specs.Access.Access.{Reading, Writing}
+use Rattle.agreement.specs.Links.{SparesRegister}
+
+-- An engine fell: the bit that starts it was written 0, and the bit that shows it running was read 0 after that, with PxCMD not
+-- written between.
+pub record Falls (start running : ℕ) (port : Port) (accesses : List Access) : Type 0 where
+  pub before : List Access
+  pub cleared : ℕ
+  pub between : List Access
+  pub fallen : ℕ
+  pub later : List Access
+  pub here : accesses ≡ before ++ (Writing (Px port Cmd) cleared ∷ (between ++ (Reading (Px port Cmd) fallen ∷ later)))
+  pub clears : bit cleared start ≡ false
+  pub only : All (SparesRegister (Px port Cmd)) between
+  pub shown : bit fallen running ≡ false
+
+-- ST was cleared, and CR was read 0
+abbrev pub Stops : Port → List Access → Type 0
+Stops port accesses = Falls 0 15 port accesses
+
+-- FRE was cleared, and FR was read 0
+abbrev pub StopsReceiving : Port → List Access → Type 0
+StopsReceiving port accesses = Falls 4 14 port accesses
+
+-- both engines fell
+abbrev pub StopsBoth : Port → List Access → Type 0
+StopsBoth port accesses = Stops port accesses × StopsReceiving port accesses
+
+-- a value of PxCMD shows that an engine was cleared, and runs still
+abbrev pub Hangs : ℕ → ℕ → ℕ → Type 0
+Hangs start running v = (bit v start ≡ false) × (bit v running ≡ true)
+
+-- either engine: CR is 1 while ST is 0, or FR while FRE is 0
+abbrev pub ShowsStuck : ℕ → Type 0
+ShowsStuck v = Hangs 0 15 v ⊎ Hangs 4 14 v
+
+-- it reads PxCMD, whose value shows this
+abbrev pub ReadsCommand : (ℕ → Type 0) → Port → Access → Type 0
+ReadsCommand Shown port (Reading r v) = (r ≡ Px port Cmd) × Shown v
+ReadsCommand Shown port access = ⊥
+
+-- An engine is awaited: the bit that starts it was written 0, and so many readings of PxCMD since, and nothing else, showed that it runs
+-- still.
+pub record Awaits (start running : ℕ) (port : Port) (count : ℕ) (accesses : List Access) : Type 0 where
+  pub before : List Access
+  pub cleared : ℕ
+  pub stuck : List Access
+  pub here : accesses ≡ before ++ (Writing (Px port Cmd) cleared ∷ stuck)
+  pub clears : bit cleared start ≡ false
+  pub number : length stuck ≡ count
+  pub all : All (ReadsCommand (Hangs start running) port) stuck
+
+-- ST was cleared, and then 64 readings, the last of the accesses, showed CR still
+abbrev pub FailsToStop : Port → List Access → Type 0
+FailsToStop port accesses = Awaits 0 15 port 64 accesses
+
+-- FRE was cleared, and then they showed FR still
+abbrev pub FailsToStopReceiving : Port → List Access → Type 0
+FailsToStopReceiving port accesses = Awaits 4 14 port 64 accesses
+
+-- 64 readings in a row showed an engine that was cleared and runs still.
+pub record Sticks (port : Port) (accesses : List Access) : Type 0 where
+  pub before : List Access
+  pub stuck : List Access
+  pub later : List Access
+  pub here : accesses ≡ before ++ (stuck ++ later)
+  pub number : length stuck ≡ 64
+  pub all : All (ReadsCommand ShowsStuck port) stuck
