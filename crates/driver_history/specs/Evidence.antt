@@ -21,7 +21,8 @@ use Rattle.block_machine.specs.Events.{Ask, Reset, Said, WasReset}
 use Rattle.block_machine.specs.Histories.{Instant}
 use Rattle.block_machine.specs.Ports.{Ports, SameDisk, Fault, Evidence, IsInterrupted}
 use Rattle.block_machine.specs.State.{Pending}
-use Rattle.driver_history.specs.Trace.{LeavesEngine, Stops, Sticks, IsBeforeStop}
+use Rattle.port_control.specs.Engines.{Stops, Sticks}
+use Rattle.driver_history.specs.Trace.{LeavesEngine, IsBeforeStop}
 
 -- the tape gained an entry of this kind
 pub record Gains (Is : Entry → Type 0) (old new : Device) : Type 0 where

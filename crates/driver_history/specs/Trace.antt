@@ -1,5 +1,5 @@
 -- What stands in the list of a call's accesses, the first access first (this project's own).
-use Rattle.std.specs.Prelude.{ℕ, true, false, ◌≡◌, ◌⊎◌, ◌+◌, ◌≤◌, ◌++◌, List, [], ◌∷◌, length, All}
+use Rattle.std.specs.Prelude.{ℕ, true, ◌≡◌, ◌+◌, ◌≤◌, ◌++◌, List, [], ◌∷◌, length, All}
 use Rattle.ata_types.specs.declared.Port.{Port}
 use Rattle.ata_types.specs.declared.memory.TheConstants.{DRIVER_BYTES}
 use Rattle.hba_regs.specs.Bits.{bit}
@@ -20,14 +20,6 @@ LeavesCommand port access = SparesRegister (Px port Cmd) access
 abbrev pub LeavesEngine : Port → Access → Type 0
 LeavesEngine port access = LeavesCommand port access × SparesRegister (Px port Sctl) access
 
--- PxCMD shows an engine that is awaited and hasn't fallen: CR while ST is 0, or FR while FRE is 0 (AHCI 1.3.1, 3.3.7)
-abbrev pub ShowsStuck : ℕ → Type 0
-ShowsStuck v = ((bit v 0 ≡ false) × (bit v 15 ≡ true)) ⊎ ((bit v 4 ≡ false) × (bit v 14 ≡ true))
-
-abbrev pub IsStuckReading : Port → Access → Type 0
-IsStuckReading port (Reading r v) = (r ≡ Px port Cmd) × ShowsStuck v
-IsStuckReading port access = ⊥
-
 -- The driver's own stores lie in its frames, and so does what it loads. Registers are left to the rules of the adapter.
 abbrev pub IsDriversOwn : Access → Type 0
 IsDriversOwn (Reading r v) = Unit {0}
@@ -40,27 +32,6 @@ abbrev pub IsServing : Access → Type 0
 IsServing access = IsDriversOwn access × SparesRegister Ghc access
 
 -- ---- what the list shows
-
--- ST was cleared, and CR was read 0 after that, with PxCMD not written between.
-pub record Stops (port : Port) (accesses : List Access) : Type 0 where
-  pub before : List Access
-  pub cleared : ℕ
-  pub between : List Access
-  pub fallen : ℕ
-  pub later : List Access
-  pub here : accesses ≡ before ++ Writing (Px port Cmd) cleared ∷ (between ++ Reading (Px port Cmd) fallen ∷ later)
-  pub clears : bit cleared 0 ≡ false
-  pub only : All (LeavesCommand port) between
-  pub shown : bit fallen 15 ≡ false
-
--- 64 readings in a row showed an awaited engine that runs still.
-pub record Sticks (port : Port) (accesses : List Access) : Type 0 where
-  pub before : List Access
-  pub stuck : List Access
-  pub later : List Access
-  pub here : accesses ≡ before ++ (stuck ++ later)
-  pub number : length stuck ≡ 64
-  pub all : All (IsStuckReading port) stuck
 
 -- PxCI was read, and right after it PxSACT, before PxCMD was written: what both show is of commands that were not given up.
 pub record ReadsMasks (port : Port) (ci sact : ℕ) (accesses : List Access) : Type 0 where
