@@ -17,7 +17,7 @@ use Rattle.agreement.specs.Errors.{IsFatalOf}
 use Rattle.agreement.specs.Facts.{Undisturbed, IsDisturbance, IsFaultOf, RunsWell, ShowsNoTrouble}
 use Rattle.agreement.specs.Links.{IsPlugging}
 use Rattle.agreement.specs.Tape.{TellsAmong}
-use Rattle.block_machine.specs.Events.{Ask, Moment, Submit, StoreAt, LoadAt, Service, Tick, Reset, State, Device as Told, Said, Submitted, Stored, Loaded, Served, WasReset, Shown, Stepped, IsAnswered, IsDisturbed, IsHung, IsLeftAlone, ServesReady, HeedsAt, changes_disk, moment_after}
+use Rattle.block_machine.specs.Events.{Ask, Moment, Submit, StoreAt, LoadAt, Service, Tick, Reset, State, Device as Told, Said, Submitted, Stored, Loaded, Served, WasReset, Shown, Stepped, IsAnswered, IsDisturbed, IsHung, IsLeftAlone, RestartsHung, ServesReady, HeedsAt, changes_disk, moment_after}
 use Rattle.block_machine.specs.Histories.{Instant, Happening}
 use Rattle.block_machine.specs.Ports.{Evidence, IsInterrupted}
 use Rattle.block_machine.specs.State.{Machine, Pending}
@@ -143,20 +143,20 @@ module _ (told : EntryIsTold) (wanted : List Wanted) (old : Instant Device) (h :
   pub engine_left : h.event.ask ≢ Reset → (h.event.ask ≡ Tick → IsInterrupted h.event.evidence port → ⊥) → old.moment.ports.state port ≡ Ready → All (LeavesEngine port) t.accesses
   engine_left other spares ready = ⊎_elim (λ a. a) (λ i. absurd (no_interrupt h.event.ask (t.port port healthy).heeds other spares ready i)) ev.stopped_all
 
+tick_restarts : (said : Said) (old : Moment) (evidence : Evidence) (steps : List Step) (new : Moment) → IsAnswered {D = DeviceStep} Tick said old evidence steps new → RestartsHung old evidence steps new
+tick_restarts (Served replies) old evidence steps new a = a.restarts
+tick_restarts (Submitted r) old evidence steps new a = absurd a
+tick_restarts (Stored r) old evidence steps new a = absurd a
+tick_restarts (Loaded r) old evidence steps new a = absurd a
+tick_restarts (WasReset r) old evidence steps new a = absurd a
+tick_restarts (Shown r) old evidence steps new a = absurd a
+tick_restarts (Stepped r) old evidence steps new a = absurd a
+
+pub restarts_of : (ask : Ask DeviceStep) (said : Said) (old : Moment) (evidence : Evidence) (steps : List Step) (new : Moment) → IsAnswered ask said old evidence steps new → ask ≡ Tick
+    → RestartsHung old evidence steps new
+restarts_of ask said old evidence steps new answered asks = tick_restarts said old evidence steps new (subst (λ (a : Ask DeviceStep). IsAnswered a said old evidence steps new) asks answered)
+
 -- a tick interrupts none that it doesn't bring to its limit
 pub tick_spares : (ask : Ask DeviceStep) (said : Said) (old : Moment) (evidence : Evidence) (steps : List Step) (new : Moment) (port : Port) → IsAnswered ask said old evidence steps new
     → (ask ≡ Tick → IsHung old port → ⊥) → ask ≡ Tick → IsInterrupted evidence port → ⊥
-tick_spares Tick (Served replies) old evidence steps new port answered young asks i = young refl (answered.restarts.spares port i)
-tick_spares Tick (Submitted x) old evidence steps new port answered young asks i = answered
-tick_spares Tick (Stored x) old evidence steps new port answered young asks i = answered
-tick_spares Tick (Loaded x) old evidence steps new port answered young asks i = answered
-tick_spares Tick (WasReset x) old evidence steps new port answered young asks i = answered
-tick_spares Tick (Shown x) old evidence steps new port answered young asks i = answered
-tick_spares Tick (Stepped x) old evidence steps new port answered young asks i = answered
-tick_spares Service said old evidence steps new port answered young asks i = let z : Service ≡ Tick = asks in absurd cc
-tick_spares Reset said old evidence steps new port answered young asks i = let z : Reset ≡ Tick = asks in absurd cc
-tick_spares (Submit r) said old evidence steps new port answered young asks i = let z : Submit r ≡ Tick = asks in absurd cc
-tick_spares (StoreAt client frame offset bytes) said old evidence steps new port answered young asks i = let z : StoreAt client frame offset bytes ≡ Tick = asks in absurd cc
-tick_spares (LoadAt client frame offset count) said old evidence steps new port answered young asks i = let z : LoadAt client frame offset count ≡ Tick = asks in absurd cc
-tick_spares (State at) said old evidence steps new port answered young asks i = let z : State at ≡ Tick = asks in absurd cc
-tick_spares (Told step) said old evidence steps new port answered young asks i = let z : Told step ≡ Tick = asks in absurd cc
+tick_spares ask said old evidence steps new port answered young asks i = young asks ((restarts_of ask said old evidence steps new answered asks).spares port i)

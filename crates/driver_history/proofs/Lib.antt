@@ -4,3 +4,5 @@ pub mod Instants
 pub mod Calm
 pub mod Lasting
 pub mod Leaving
+pub mod Resting
+pub mod Standing

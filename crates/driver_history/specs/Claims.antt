@@ -1,15 +1,20 @@
 -- What is claimed of each history of a driver (this project's own).
-use Rattle.std.specs.Prelude.{◌≡◌, List, All, Contains}
+use Rattle.std.specs.Prelude.{true, ◌≡◌, ◌⊎◌, List, All, Contains}
 use Rattle.ata_types.specs.declared.Port.{Port}
+use Rattle.ata_types.specs.declared.PortState.TheVariants.{Ready, Dead}
 use Rattle.ata_types.specs.declared.request.Outcome.{Outcome}
 use Rattle.ata_types.specs.declared.request.Outcome.TheVariants as outcome
 use Rattle.adapter.specs.Access.{Access}
 use Rattle.adapter.specs.Device.{Device}
+use Rattle.adapter.specs.Rules.{IsOn}
 use Rattle.adapter.specs.declared.access.DeviceStep.{DeviceStep}
+use Rattle.block_machine.specs.Events.{WasIssued}
 use Rattle.block_machine.specs.Histories.{Instant, Happening}
 use Rattle.block_machine.specs.Ports.{SamePort}
 use Rattle.block_machine.specs.State.{Pending}
-use Rattle.block_machine.specs.Steps.{Answer}
+use Rattle.block_machine.specs.Steps.{Answer, AllTouched}
+use Rattle.port_control.specs.Engines.{Stops}
+use Rattle.driver_history.specs.Evidence.{IsFaultTold, IsLost}
 use Rattle.driver_history.specs.Trace.{LeavesEngine}
 
 -- A call that made these accesses leaves a port alone: it is what it was, each answer there is Ok, and neither PxCMD nor PxSCTL of it is written.
@@ -17,3 +22,16 @@ pub record IsSpared (old : Instant Device) (h : Happening Device DeviceStep) (ac
   pub same : SamePort old.moment.ports h.event.ports port
   pub told : (e : Pending) (o : Outcome) → Contains h.event.steps (Answer e o) → e.request.port ≡ port → o ≡ outcome.Ok
   pub engine : All (LeavesEngine port) accesses
+
+-- What an answer of a call that made these accesses rests on, in the device's terms. Ok: the request was issued when the call began, the device has
+-- moved all its sectors since its last issue, and ended it. DeviceError: the device told that fault, and the port was stopped. Aborted: four
+-- issues, on a port that is ready. Unplugged: the port was lost. PortDead: its engine was awaited in vain, or the adapter isn't on.
+abbrev pub AnswerRests : Instant Device → Happening Device DeviceStep → List Access → Pending → Outcome → Type 0
+AnswerRests old h accesses e outcome.Ok =
+    WasIssued old.moment.machine e.request.id × (e.issued ≡ true) × AllTouched e × (e.ended ≡ true)
+AnswerRests old h accesses e (outcome.DeviceError status error) =
+    IsFaultTold old h.device accesses (record { id = e.request.id; status = status; error = error }) × Stops e.request.port accesses
+AnswerRests old h accesses e outcome.Aborted = (e.issues ≡ 4) × (h.event.ports.state e.request.port ≡ Ready)
+AnswerRests old h accesses e outcome.Unplugged = IsLost e.request.port old h.event.ports h.device
+AnswerRests old h accesses e outcome.PortDead = (h.event.ports.state e.request.port ≡ Dead)
+    × (((h.device.port e.request.port.0).notes.engine_count ≡ 64) ⊎ (IsOn h.device → ⊥))

@@ -1,23 +1,32 @@
 // Laws of the definitions, for callers: the clause is the theorem. These functions do nothing.
-ghost use Rattle.std.specs.Prelude.{ℕ, true, ◌≡◌, ◌≢◌, ◌<◌, List, ◌∷◌, Contains};
+ghost use Rattle.std.specs.Prelude.{ℕ, true, false, ◌≡◌, ◌≢◌, ◌⊎◌, ◌<◌, ◌≤◌, None, List, ◌∷◌, Contains};
 ghost use Rattle.ata_types.specs.declared.Port.{Port};
-ghost use Rattle.ata_types.specs.declared.PortState.TheVariants.{Ready};
+ghost use Rattle.ata_types.specs.declared.PortState.TheVariants.{Ready, Dead};
+ghost use Rattle.ata_types.specs.declared.memory.TheConstants.{DRIVER_FRAMES};
+ghost use Rattle.ata_types.specs.declared.request.Frame.{Frame};
+ghost use Rattle.ata_types.specs.declared.request.Outcome.{Outcome};
+ghost use Rattle.ata_types.specs.declared.request.Outcome.TheVariants as outcome;
+ghost use Rattle.ata_types.specs.declared.request.RequestId.{RequestId};
 ghost use Rattle.adapter.specs.Device.{Device};
+ghost use Rattle.adapter.specs.Rules.{Stays};
 ghost use Rattle.adapter.specs.declared.access.DeviceStep.{DeviceStep};
-ghost use Rattle.agreement.specs.Facts.{RunsWell};
+ghost use Rattle.agreement.specs.Facts.{IsStill, RunsWell};
+ghost use Rattle.agreement.specs.Links.{PlugsNone};
 ghost use Rattle.agreement.specs.Slots.{ServesRequest};
-ghost use Rattle.block_machine.specs.Events.{steps_of, Service, Tick, Reset, IsHung, IsRun, EveryReadHolds};
+ghost use Rattle.block_machine.specs.Events.{steps_of, Service, Tick, Reset, IsHung, IsRun, EveryReadHolds, NoneKeepsIssue};
 ghost use Rattle.block_machine.specs.Histories.{Instant, Happening, events_of, now};
-ghost use Rattle.block_machine.specs.Ports.{AreFit};
+ghost use Rattle.block_machine.specs.Ports.{AreFit, SameDisk};
 ghost use Rattle.block_machine.specs.State.{Pending};
+ghost use Rattle.block_machine.specs.Steps.{Answer};
 ghost use Rattle.identify.specs.declared.wanted.Wanted.{Wanted};
-ghost use Rattle.driver_history.specs.Claims.{IsSpared};
+ghost use Rattle.driver_history.specs.Claims.{AnswerRests, IsSpared};
+ghost use Rattle.driver_history.specs.Evidence.{ShowsChange};
 ghost use Rattle.driver_history.specs.Guard.{StaysHealthy};
 ghost use Rattle.driver_history.specs.Histories.{IsHistory};
 ghost use Rattle.driver_history.specs.Holds.{HoldsAt};
 ghost use Rattle.driver_history.specs.Moves.{KeepsMoves};
 
-use agreement::facts::healthy_stays;
+use agreement::facts::{frames_are_still, healthy_stays};
 use agreement::laws::disks_are_told;
 
 /// The calls of a history are a run of the block machine. So its laws on runs hold of them: each request that is
@@ -86,3 +95,47 @@ pub fn calls_leave_ports_well()
     disks_are_told();
     healthy_stays();
 }
+
+/// Each answer of a history rests on what the device did and showed.
+pub fn answers_rest()
+    ensures { (wanted : List Wanted) (first : Instant Device) (past : List (Happening Device DeviceStep)) (h : Happening Device DeviceStep)
+        (history : IsHistory wanted first (h ∷ past)) → (e : Pending) (told : Outcome) → Contains h.event.steps (Answer e told)
+        → AnswerRests (now first past) h history.2.accesses e told }
+{}
+
+/// A client's frame that isn't lent is one that the device uses no byte of, whatever it does next. (That holds between calls. Within one, a
+/// frame leaves a loan where its request has ended, or its port has stopped: see what each answer rests on.)
+pub fn unlent_frames_are_still()
+    ensures { (wanted : List Wanted) (first : Instant Device) (past : List (Happening Device DeviceStep)) (frame : Frame) → IsHistory wanted first past
+        → DRIVER_FRAMES ≤ frame.0 → (now first past).moment.machine.lent frame ≡ None → Stays (IsStill frame) (now first past).device }
+{
+    frames_are_still();
+}
+
+/// Unplugged is told of no request whose port had told of no change and showed a device when the call began, of which no disk went or came, and
+/// which ends the call dead, or ready with the same serial and size.
+pub fn false_unplugged_is_refused()
+    ensures { (wanted : List Wanted) (first : Instant Device) (past : List (Happening Device DeviceStep)) (h : Happening Device DeviceStep)
+        (e : Pending) → IsHistory wanted first (h ∷ past) → (ShowsChange ((now first past).device.port e.request.port.0) → ⊥)
+        → ((now first past).device.port e.request.port.0).ssts_det ≡ 3 → PlugsNone e.request.port.0 (now first past).device h.device
+        → (h.event.ports.state e.request.port ≡ Dead) ⊎ ((h.event.ports.state e.request.port ≡ Ready)
+        × SameDisk (now first past).moment.ports h.event.ports e.request.port)
+        → Contains h.event.steps (Answer e outcome.Unplugged) → ⊥ }
+{}
+
+/// A service answers each request of a ready port that stays healthy whose bits are clear when it begins.
+pub fn seen_are_answered()
+    ensures { (wanted : List Wanted) (first : Instant Device) (past : List (Happening Device DeviceStep)) (h : Happening Device DeviceStep)
+        (port : Port) (slot : ℕ) (id : RequestId) → IsHistory wanted first (h ∷ past) → h.event.ask ≡ Service
+        → (now first past).moment.ports.state port ≡ Ready → StaysHealthy port.0 (now first past).device h.device
+        → ServesRequest (now first past).moment.machine (now first past).device.memory ((now first past).device.port port.0) port.0 slot id
+        → ((now first past).device.port port.0).ci slot ≡ false → ((now first past).device.port port.0).sact slot ≡ false
+        → (done : Pending) × (done.request.id ≡ id) × Contains h.event.steps (Answer done outcome.Ok) }
+{}
+
+/// A tick that brings a request of a port to its age of three leaves no unanswered request of the port its issue.
+pub fn ticks_end_issues()
+    ensures { (wanted : List Wanted) (first : Instant Device) (past : List (Happening Device DeviceStep)) (h : Happening Device DeviceStep)
+        (port : Port) → IsHistory wanted first (h ∷ past) → h.event.ask ≡ Tick → IsHung (now first past).moment port
+        → NoneKeepsIssue h.event.steps (now first (h ∷ past)).moment.machine port }
+{}

@@ -1,0 +1,89 @@
+-- What the answers of a history rest on.
+use Rattle.std.proofs.Common.{◌≡◌, ◌≢◌, ◌⊎◌, ◌<◌, Bool, true, false, List, [], ◌∷◌, Some, None, inl, inr, ⊎_elim, refl, sym, ◌∙◌, subst}
+use Rattle.std.specs.List.{Contains}
+use Rattle.std.proofs.lemmas.Bool.{cases_Bool}
+use Rattle.ata_types.specs.declared.Port.{Port}
+use Rattle.ata_types.specs.declared.PortState.{PortState}
+use Rattle.ata_types.specs.declared.PortState.TheVariants.{Absent, Dead}
+use Rattle.ata_types.specs.declared.request.Outcome.{Outcome}
+use Rattle.ata_types.specs.declared.request.Outcome.TheVariants as outcome
+use Rattle.adapter.specs.Device.{Device}
+use Rattle.adapter.specs.declared.access.DeviceStep.{DeviceStep}
+use Rattle.block_machine.specs.Events.{Ask, Submit, StoreAt, LoadAt, Service, Tick, Reset, State, Device as Told, Said, Moment, AllLawful, Belong, Happens, IsDevices, IsLawful, IsServers, moment_after}
+use Rattle.block_machine.specs.Histories.{Instant, Happening}
+use Rattle.block_machine.specs.Ports.{Ports, Evidence, AreFit}
+use Rattle.block_machine.specs.State.{Pending}
+use Rattle.block_machine.specs.Steps.{Step, Again, Answer}
+use Rattle.block_machine.proofs.Members.{contains_none, contains_cases}
+use Rattle.host_boot.specs.Taken.{wanted_of}
+use Rattle.identify.specs.declared.wanted.Wanted.{Wanted}
+use Rattle.driver_history.specs.Claims.{AnswerRests}
+use Rattle.driver_history.specs.Evidence.{EndsReset}
+use Rattle.driver_history.specs.Histories.{Ties}
+use Rattle.driver_history.specs.Holds.{HoldsAt, HoldsOf, IsDeadAt}
+
+-- a dead port is one of the four, and dead
+dead_at : (wanted : List Wanted) (i : Instant Device) (port : Port) → AreFit i.moment.ports → HoldsAt wanted i → i.moment.ports.state port ≡ Dead → IsDeadAt (wanted_of wanted port.0) i port
+dead_at wanted i port fit (s, holds) dead = ⊎_elim
+    (λ (served : i.moment.ports.served port ≡ true).
+    subst (λ (state : PortState). HoldsOf (wanted_of wanted port.0) s i port true state) dead
+    (subst (λ (b : Bool). HoldsOf (wanted_of wanted port.0) s i port b (i.moment.ports.state port)) served (holds.port port (fit.few port served))))
+    (λ (other : i.moment.ports.served port ≡ false). let z : Absent ≡ Dead = sym (fit.absent port other) ∙ dead in absurd cc)
+    (cases_Bool (i.moment.ports.served port))
+
+-- ---- a step of a call
+
+lawful_rest : (old : Moment) (evidence : Evidence) (ports : Ports) (step : Step) (before : List Step) → AllLawful old evidence ports (step ∷ before) → AllLawful old evidence ports before
+lawful_rest old evidence ports (Answer e o) before l = l.0
+lawful_rest old evidence ports (Again e) before l = l.0
+lawful_rest old evidence ports _ before l = l
+
+lawful_of : (old : Moment) (evidence : Evidence) (ports : Ports) (steps : List Step) → AllLawful old evidence ports steps → (e : Pending) (o : Outcome)
+    → Contains steps (Answer e o) → IsLawful old evidence ports e o
+lawful_of old evidence ports [] l e o h = absurd (contains_none (Answer e o) h)
+lawful_of old evidence ports (step ∷ before) l e o h = ⊎_elim
+    (λ (same : Answer e o ≡ step).
+    let whole : AllLawful old evidence ports (Answer e o ∷ before) = subst (λ (x : Step). AllLawful old evidence ports (x ∷ before)) (sym same) l in
+    whole.1)
+    (λ i. lawful_of old evidence ports before (lawful_rest old evidence ports step before l) e o i)
+    (contains_cases step before (Answer e o) h)
+
+belongs_of : (ask : Ask DeviceStep) (ports : Ports) (steps : List Step) → Belong ask ports steps → (step : Step) → Contains steps step → IsDevices step ⊎ IsServers ask ports step
+belongs_of ask ports [] l step h = absurd (contains_none step h)
+belongs_of ask ports (x ∷ before) l step h = ⊎_elim
+    (λ (same : step ≡ x). subst (λ (y : Step). IsDevices y ⊎ IsServers ask ports y) (sym same) l.1)
+    (λ i. belongs_of ask ports before l.0 step i)
+    (contains_cases x before step h)
+
+-- a reset tells no fault
+no_fault : (ask : Ask DeviceStep) (said : Said) (ports : Ports) (e : Pending) (status error : _) → EndsReset ask said → IsServers ask ports (Answer e (outcome.DeviceError status error)) → ⊥
+no_fault Reset said ports e status error ends s = s
+no_fault (Submit r) said ports e status error ends s = ends
+no_fault (StoreAt c f o b) said ports e status error ends s = ends
+no_fault (LoadAt c f o n) said ports e status error ends s = ends
+no_fault Service said ports e status error ends s = ends
+no_fault Tick said ports e status error ends s = ends
+no_fault (State p) said ports e status error ends s = ends
+no_fault (Told d) said ports e status error ends s = ends
+
+module _ (wanted : List Wanted) (old : Instant Device) (h : Happening Device DeviceStep) (x : Happens old.moment h.event) (t : Ties wanted old h) where
+  rests : (e : Pending) (o : Outcome) → Contains h.event.steps (Answer e o) → IsLawful old.moment h.event.evidence h.event.ports e o → AnswerRests old h t.accesses e o
+  rests e outcome.Ok here l = l
+  rests e (outcome.DeviceError status error) here l = (
+    t.evidenced.faults _ l.2,
+    ⊎_elim
+        (λ stops. stops)
+        (λ (ends : _ × _). absurd (⊎_elim (λ (d : ⊥). d) (λ s. no_fault h.event.ask h.event.said h.event.ports e status error ends.0 s)
+        (belongs_of h.event.ask h.event.ports h.event.steps x.belong (Answer e (outcome.DeviceError status error)) here)))
+        ((t.evidenced.port e.request.port).stopped_only l.3),
+  )
+  rests e outcome.Aborted here l = (l.1, l.2)
+  rests e outcome.Unplugged here l = (t.evidenced.port e.request.port).lost l.0
+  rests e outcome.PortDead here l = (
+    l,
+    ⊎_elim (λ ends. inl ends.1) (λ off. inr off)
+        (dead_at wanted (record { device = h.device; moment = moment_after old.moment h.event }) e.request.port x.fit t.holds l).why,
+  )
+
+  pub answer_rests : (e : Pending) (o : Outcome) → Contains h.event.steps (Answer e o) → AnswerRests old h t.accesses e o
+  answer_rests e o here = rests e o here (lawful_of old.moment h.event.evidence h.event.ports h.event.steps x.lawful e o here)

@@ -1,0 +1,96 @@
+-- Frames and requests of a history.
+use Rattle.std.proofs.Common.{ℕ, ◌≡◌, ◌≢◌, ◌≤◌, ◌⊎◌, ◌&&◌, not, Bool, true, false, List, ◌∷◌, None, refl, sym, ap, ◌∙◌, inl, inr, subst, ⊎_elim}
+use Rattle.std.specs.List.{Contains}
+use Rattle.std.proofs.lemmas.Bool.{false≢true}
+use Rattle.std.proofs.lemmas.List.{append_cancel_left}
+use Rattle.std.proofs.lemmas.List.Elements.{All-contains}
+use Rattle.ata_types.specs.declared.Port.{Port}
+use Rattle.ata_types.specs.declared.PortState.TheVariants.{Ready, Dead}
+use Rattle.ata_types.specs.declared.memory.TheConstants.{DRIVER_FRAMES}
+use Rattle.ata_types.specs.declared.request.Frame.{Frame}
+use Rattle.ata_types.specs.declared.request.Outcome.TheVariants as outcome
+use Rattle.ata_types.specs.declared.request.RequestId.{RequestId}
+use Rattle.adapter.specs.Commands.{Meaning, is_queued}
+use Rattle.adapter.specs.Device.{PortState, Device}
+use Rattle.adapter.specs.Rules.{Stays}
+use Rattle.adapter.specs.declared.access.DeviceStep.{DeviceStep}
+use Rattle.adapter.specs.declared.tape.Entry.{Entry}
+use Rattle.agreement.specs.Agrees.{Agrees, port_at}
+use Rattle.agreement.specs.Facts.{IsStill}
+use Rattle.agreement.specs.Links.{IsPlugging, PlugsNone}
+use Rattle.agreement.specs.Slots.{ServesRequest, Stage, Uses}
+use Rattle.block_machine.specs.Events.{Ask, Service, HeedsAt, ServesReady, moment_after}
+use Rattle.block_machine.specs.Histories.{Instant, Happening, IsReached, now}
+use Rattle.block_machine.specs.Ports.{SameDisk}
+use Rattle.block_machine.specs.State.{Accepted, Machine, Pending}
+use Rattle.block_machine.specs.Steps.{Answer}
+use Rattle.block_machine.proofs.HistoryLemmas.{history_reaches}
+use Rattle.identify.specs.declared.wanted.Wanted.{Wanted}
+use Rattle.driver_history.specs.Evidence.{Gains, ShowsChange}
+use Rattle.driver_history.specs.Guard.{StaysHealthy}
+use Rattle.driver_history.specs.Histories.{Begins, IsHistory, Ties}
+use Rattle.driver_history.proofs.Instants.{fit_at, holds_at, ready_at}
+use Rattle.driver_history.proofs.Resting.{answer_rests}
+
+-- what the law on frames says
+abbrev pub UnlentIsStill : Type 0
+UnlentIsStill = (uses : Uses) (m : Machine) (d : Device) (frame : Frame) → IsReached m → Agrees uses m d → m.lent frame ≡ None → DRIVER_FRAMES ≤ frame.0 → Stays (IsStill frame) d
+
+pub unlent_still : UnlentIsStill → (wanted : List Wanted) (first : Instant Device) (past : List (Happening Device DeviceStep)) (frame : Frame) → IsHistory wanted first past
+    → DRIVER_FRAMES ≤ frame.0 → (now first past).moment.machine.lent frame ≡ None → Stays (IsStill frame) (now first past).device
+unlent_still law wanted first past frame history low free =
+    let h = holds_at wanted first past history in
+    law h.0.uses (now first past).moment.machine (now first past).device frame (history_reaches (Begins wanted) (Ties wanted) first past history) h.1.knows.agrees free low
+
+-- ---- what is seen
+
+-- on a started port a taken command has one of its bits
+taken_bits : (st queued ci sact : Bool) → st ≡ true → ci ≡ st && not queued → sact ≡ st && queued → ci ≡ false → sact ≡ false → ⊥
+taken_bits true true ci sact on i s a b = false≢true (sym b ∙ s)
+taken_bits true false ci sact on i s a b = false≢true (sym a ∙ i)
+taken_bits false queued ci sact on i s a b = false≢true on
+
+ended_of : (memory : ℕ → ℕ) (p : PortState) (port slot : ℕ) (e : Pending) (c : Meaning) (places : List ℕ) → Stage memory p port slot e c places → p.st ≡ true
+    → p.ci slot ≡ false → p.sact slot ≡ false → e.ended ≡ true
+ended_of memory p port slot e c places (inl waits) st ci sact = absurd (false≢true (sym ci ∙ waits.issued))
+ended_of memory p port slot e c places (inr (inl taken)) st ci sact = absurd (taken_bits p.st (is_queued c.operation) (p.ci slot) (p.sact slot) st taken.issued taken.sact ci sact)
+ended_of memory p port slot e c places (inr (inr (inl ended))) st ci sact = ended.ended
+ended_of memory p port slot e c places (inr (inr (inr dropped))) st ci sact = absurd (false≢true (sym dropped.stopped ∙ st))
+
+pub seen_answered : (wanted : List Wanted) (first : Instant Device) (past : List (Happening Device DeviceStep)) (h : Happening Device DeviceStep) (port : Port) (slot : ℕ) (id : RequestId)
+    → IsHistory wanted first (h ∷ past) → h.event.ask ≡ Service → (now first past).moment.ports.state port ≡ Ready → StaysHealthy port.0 (now first past).device h.device
+    → ServesRequest (now first past).moment.machine (now first past).device.memory ((now first past).device.port port.0) port.0 slot id
+    → ((now first past).device.port port.0).ci slot ≡ false → ((now first past).device.port port.0).sact slot ≡ false
+    → (done : Pending) × (done.request.id ≡ id) × Contains h.event.steps (Answer done outcome.Ok)
+seen_answered wanted first past h port slot id history asks ready healthy serves ci sact =
+    let old : Instant Device = now first past in
+    let t : Ties wanted old h = history.2 in
+    let holds = holds_at wanted first past history.0 in
+    let at = ready_at wanted old port (fit_at wanted first past history.0) holds.0 holds.1 ready in
+    let same_port : serves.pending.request.port ≡ port = ap port_at serves.port_is in
+    let booked : Contains old.moment.machine.book serves.pending = ⊎_elim (λ b. b.0) (λ k. absurd (at.kept serves.pending k same_port)) serves.moves in
+    let ended : serves.pending.ended ≡ true = ended_of old.device.memory (old.device.port port.0) port.0 slot serves.pending serves.command serves.places serves.stage at.runs.st ci sact in
+    let Heeded : Ask DeviceStep → Type 0 = λ ask. HeedsAt port ask old.moment h.event.evidence h.event.steps (moment_after old.moment h.event) in
+    let served : Heeded Service = subst Heeded asks (t.port port healthy).heeds in
+    let answer = (served ready).ended serves.pending booked same_port ended in
+    (answer.0, ap (λ (r : Accepted). r.id) answer.1 ∙ serves.id_is, answer.2)
+
+-- ---- Unplugged
+
+-- none of a kind was gained
+none_of : (port : ℕ) (old new : Device) → PlugsNone port old new → Gains (IsPlugging port) old new → ⊥
+none_of port old new u g =
+    let same : g.gained ≡ u.gained = append_cancel_left old.tape g.gained u.gained (sym g.tape ∙ u.tape) in
+    All-contains (λ e. IsPlugging port e → ⊥) u.gained g.entry u.none (subst (λ (xs : List Entry). Contains xs g.entry) same g.here) g.is
+
+pub unplugged_refused : (wanted : List Wanted) (first : Instant Device) (past : List (Happening Device DeviceStep)) (h : Happening Device DeviceStep) (e : Pending)
+    → IsHistory wanted first (h ∷ past) → (ShowsChange ((now first past).device.port e.request.port.0) → ⊥) → ((now first past).device.port e.request.port.0).ssts_det ≡ 3
+    → PlugsNone e.request.port.0 (now first past).device h.device
+    → (h.event.ports.state e.request.port ≡ Dead) ⊎ ((h.event.ports.state e.request.port ≡ Ready) × SameDisk (now first past).moment.ports h.event.ports e.request.port)
+    → Contains h.event.steps (Answer e outcome.Unplugged) → ⊥
+unplugged_refused wanted first past h e history quiet det none ends here =
+    let lost = answer_rests wanted (now first past) h history.1 history.2 e outcome.Unplugged here in
+    ⊎_elim quiet
+    (λ a. ⊎_elim (λ missing. missing det)
+    (λ b. ⊎_elim (none_of e.request.port.0 (now first past).device h.device none)
+    (λ (c : _ × _). ⊎_elim (λ dead. c.0 dead) (λ (same : _ × _). c.1 same.0 same.1) ends) b) a) lost
