@@ -1,27 +1,24 @@
 -- A port that stays healthy in a call is left alone, and runs well after it.
-use Rattle.std.proofs.Common.{ℕ, ◌≡◌, ◌≢◌, ◌⊎◌, ◌≤◌, true, false, List, [], ◌∷◌, Some, None, Ok, Err, refl, sym, ◌∙◌, ap, inl, inr, subst, arith, ⊎_elim}
+use Rattle.std.proofs.Common.{ℕ, ◌≡◌, ◌≢◌, true, List, refl, sym, ◌∙◌, subst, arith, ⊎_elim}
 use Rattle.std.specs.List.{All, Contains, list_any}
 use Rattle.std.proofs.lemmas.Bool.{false≢true}
 use Rattle.std.proofs.lemmas.List.{append_cancel_left}
 use Rattle.std.proofs.lemmas.List.Elements.{All-contains}
 use Rattle.ata_types.specs.declared.Port.{Port}
 use Rattle.ata_types.specs.declared.PortState.TheVariants.{Ready}
-use Rattle.ata_types.specs.declared.request.Outcome.{Outcome}
-use Rattle.ata_types.specs.declared.request.Outcome.TheVariants as outcome
-use Rattle.adapter.specs.Access.{Access}
 use Rattle.adapter.specs.Device.{Device, PortState}
 use Rattle.adapter.specs.declared.access.DeviceStep.{DeviceStep}
 use Rattle.adapter.specs.declared.tape.Entry.{Entry}
 use Rattle.adapter.specs.declared.tape.Entry.TheVariants as entry
 use Rattle.agreement.specs.Errors.{IsFatalOf}
-use Rattle.agreement.specs.Facts.{Undisturbed, IsDisturbance, IsFaultOf, RunsWell, ShowsNoTrouble}
+use Rattle.agreement.specs.Facts.{Undisturbed, IsDisturbance, IsFaultOf, ShowsNoTrouble}
 use Rattle.agreement.specs.Links.{IsPlugging}
 use Rattle.agreement.specs.Tape.{TellsAmong}
 use Rattle.block_machine.specs.Events.{Ask, Moment, Submit, StoreAt, LoadAt, Service, Tick, Reset, State, Device as Told, Said, Submitted, Stored, Loaded, Served, WasReset, Shown, Stepped, IsAnswered, IsDisturbed, IsHung, IsLeftAlone, RestartsHung, ServesReady, HeedsAt, changes_disk, moment_after}
 use Rattle.block_machine.specs.Histories.{Instant, Happening}
 use Rattle.block_machine.specs.Ports.{Evidence, IsInterrupted}
-use Rattle.block_machine.specs.State.{Machine, Pending}
-use Rattle.block_machine.specs.Steps.{Step, Answer}
+use Rattle.block_machine.specs.State.{Machine}
+use Rattle.block_machine.specs.Steps.{Step}
 use Rattle.identify.specs.declared.wanted.Wanted.{Wanted}
 use Rattle.driver_history.specs.Claims.{IsSpared}
 use Rattle.driver_history.specs.Evidence.{Gains, HasErrors, IsEvidencedOf, IsGone, ShowsFailure, ShowsFatal}

@@ -1,5 +1,5 @@
 -- A port that stays healthy in a call runs well after it.
-use Rattle.std.proofs.Common.{ℕ, ◌≡◌, ◌≢◌, ◌⊎◌, ◌*◌, ◌+◌, true, false, List, [], ◌∷◌, Option, Some, None, Ok, Err, refl, sym, ◌∙◌, ap, inl, inr, subst, ⊎_elim}
+use Rattle.std.proofs.Common.{ℕ, ◌≡◌, ◌≢◌, ◌⊎◌, ◌*◌, ◌+◌, true, false, List, [], ◌∷◌, None, Ok, refl, sym, ◌∙◌, inl, inr, subst}
 use Rattle.std.specs.List.{All}
 use Rattle.std.proofs.lemmas.List.Elements.{All-cons, All-nil}
 use Rattle.ata_types.specs.declared.Port.{Port}
@@ -15,7 +15,7 @@ use Rattle.adapter.specs.declared.access.DeviceStep.{DeviceStep}
 use Rattle.adapter.proofs.Going.{asked_steps}
 use Rattle.agreement.specs.Facts.{RunsWell, Undisturbed}
 use Rattle.agreement.specs.Links.{SparesRegister}
-use Rattle.block_machine.specs.Events.{Ask, Submit, StoreAt, LoadAt, Service, Tick, Reset, State, Device as Told, Said, Submitted, Stored, Loaded, Served, WasReset, Shown, Stepped}
+use Rattle.block_machine.specs.Events.{Ask, Submit, StoreAt, LoadAt, Service, Tick, Reset, Device as Told, Said, Submitted, Stored, Loaded, Served, Stepped}
 use Rattle.block_machine.specs.State.{Machine}
 use Rattle.host_boot.proofs.Running.{well_on}
 use Rattle.port_boot.proofs.Enduring.{lasts}

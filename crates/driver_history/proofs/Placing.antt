@@ -1,39 +1,26 @@
 -- Where the moves of a history go.
-use Rattle.std.proofs.Common.{ℕ, ◌≡◌, ◌≢◌, true, List, [], ◌∷◌, ◌++◌, Option, Some, None, slice_index, refl, sym, ap, ◌∙◌, subst, inl, ⊎_elim, append_assoc}
-use Rattle.std.proofs.lemmas.Bool.{cases_eq}
+use Rattle.std.proofs.Common.{◌≡◌, List, [], ◌∷◌, ◌++◌, Option, Some, None, slice_index, refl, sym, ap, ◌∙◌, subst, ⊎_elim, append_assoc}
 use Rattle.std.specs.List.{Contains}
-use Rattle.ata_types.specs.declared.Port.{Port}
-use Rattle.ata_types.specs.declared.PortState.TheVariants.{Ready as ReadyState}
 use Rattle.ata_types.specs.declared.request.Op.{Op}
 use Rattle.ata_types.specs.declared.request.Op.TheVariants.{Read, Write, Trim, Flush}
 use Rattle.adapter.specs.Device.{Device}
-use Rattle.adapter.specs.Idle.{IsIdle}
-use Rattle.adapter.specs.Rules.{IsOn}
 use Rattle.adapter.specs.declared.access.DeviceStep.{DeviceStep}
 use Rattle.adapter.specs.declared.tape.Entry.{Entry}
 use Rattle.adapter.specs.declared.tape.Entry.TheVariants as entry
 use Rattle.adapter.specs.declared.tape.Move as tape_move
 use Rattle.adapter.specs.declared.tape.Clear as tape_clear
-use Rattle.agreement.specs.Driven.{known}
-use Rattle.agreement.specs.Driver.{Knows}
-use Rattle.agreement.specs.Facts.{RunsWell, Undisturbed}
-use Rattle.agreement.specs.Slots.{Free, Serves, ServesRequest, IsServed, Use, Uses, op_of}
+use Rattle.agreement.specs.Slots.{op_of}
 use Rattle.agreement.specs.Places.{scratch_of}
 use Rattle.agreement.specs.Tape.{IsTouch, IsClear, TellsAmong, TellsEntry, TellsMove}
 use Rattle.block_machine.specs.Events.{IsRun, steps_of}
 use Rattle.block_machine.specs.Histories.{Instant, Happening, IsHistory, events_of, now}
 use Rattle.block_machine.specs.Left.{after, IsLegal}
-use Rattle.block_machine.specs.Ports.{Ports}
-use Rattle.block_machine.specs.State.{Machine, Pending}
+use Rattle.block_machine.specs.State.{Machine}
 use Rattle.block_machine.specs.Steps.{Step, Touch}
 use Rattle.block_machine.proofs.Accepts.{living_accepted, touch_is_confined}
 use Rattle.block_machine.proofs.EventLemmas.{after-append, run_legal, run_starts, step_of_run}
 use Rattle.block_machine.proofs.Trace.{runs_lives}
 use Rattle.block_machine.proofs.Members.{contains_cases, contains_none}
-use Rattle.host_boot.specs.Taken.{TakesOver, found_of}
-use Rattle.host_boot.specs.declared.Found.{Found}
-use Rattle.host_boot.specs.declared.Host.{Host}
-use Rattle.host_boot.proofs.Beginning.{taken_runs}
 use Rattle.identify.specs.declared.wanted.Wanted.{Wanted}
 use Rattle.driver_history.specs.Histories.{Begins, Ties}
 use Rattle.driver_history.specs.Moves.{IsConfinedClear, IsConfinedMove, KeepsMoves, KeepsTo}

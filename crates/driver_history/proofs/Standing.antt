@@ -1,5 +1,5 @@
 -- Frames and requests of a history.
-use Rattle.std.proofs.Common.{ℕ, ◌≡◌, ◌≢◌, ◌≤◌, ◌⊎◌, ◌&&◌, not, Bool, true, false, List, ◌∷◌, None, refl, sym, ap, ◌∙◌, inl, inr, subst, ⊎_elim}
+use Rattle.std.proofs.Common.{ℕ, ◌≡◌, ◌≤◌, ◌⊎◌, ◌&&◌, not, Bool, true, false, List, ◌∷◌, None, sym, ap, ◌∙◌, inl, inr, subst, ⊎_elim}
 use Rattle.std.specs.List.{Contains}
 use Rattle.std.proofs.lemmas.Bool.{false≢true}
 use Rattle.std.proofs.lemmas.List.{append_cancel_left}
@@ -19,7 +19,7 @@ use Rattle.agreement.specs.Agrees.{Agrees, port_at}
 use Rattle.agreement.specs.Facts.{IsStill}
 use Rattle.agreement.specs.Links.{IsPlugging, PlugsNone}
 use Rattle.agreement.specs.Slots.{ServesRequest, Stage, Uses}
-use Rattle.block_machine.specs.Events.{Ask, Service, HeedsAt, ServesReady, moment_after}
+use Rattle.block_machine.specs.Events.{Ask, Service, HeedsAt, moment_after}
 use Rattle.block_machine.specs.Histories.{Instant, Happening, IsReached, now}
 use Rattle.block_machine.specs.Ports.{SameDisk}
 use Rattle.block_machine.specs.State.{Accepted, Machine, Pending}

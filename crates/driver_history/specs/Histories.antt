@@ -21,7 +21,7 @@ use Rattle.agreement.specs.Slots.{ServesRequest}
 use Rattle.block_machine.specs.Events.{Ask, Submit, StoreAt, LoadAt, Service, Tick, Reset, Device as Told, Said, Submitted, Stored, Loaded, Served, WasReset, Stepped, HeedsAt, IsHung, moment_after}
 use Rattle.block_machine.specs.Histories.{Instant, Happening}
 use Rattle.block_machine.specs.Histories as histories
-use Rattle.block_machine.specs.Ports.{Ports, SamePort, Evidence}
+use Rattle.block_machine.specs.Ports.{Ports, SamePort}
 use Rattle.block_machine.specs.Rules.{IsNamed}
 use Rattle.block_machine.specs.State.{Pending, Machine}
 use Rattle.block_machine.specs.Steps.{Step, Answer}

@@ -29,12 +29,11 @@ use Rattle.block_machine.proofs.EventLemmas.{after-append}
 use Rattle.block_machine.proofs.HistoryLemmas.{may-append, reached_more}
 use Rattle.block_machine.proofs.Members.{contains_here, contains_there, some_in}
 use Rattle.agreement.specs.Agrees.{port_at}
-use Rattle.agreement.specs.Driven.{IsDrivenBy, known}
+use Rattle.agreement.specs.Driven.{known}
 use Rattle.agreement.specs.Driver.{Knows}
 use Rattle.agreement.proofs.Adding.{backed_then}
 use Rattle.agreement.proofs.Calling.{own_backed}
 use Rattle.agreement.proofs.Deciding.{accept_knows}
-use Rattle.agreement.proofs.Driven.{by_none}
 use Rattle.agreement.proofs.Lasting.{same_refl}
 use Rattle.dma_frames.specs.Table.{Table, owner_of, lent_to, LendsOnly}
 use Rattle.host_boot.specs.Taken.{found_of}

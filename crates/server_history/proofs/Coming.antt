@@ -1,5 +1,5 @@
 -- What the accesses of calls are: those of a port's turn in a service one by one, and of what kind they are.
-use Rattle.std.proofs.Common.{ℕ, ◌≡◌, ◌≢◌, ◌⊎◌, ◌+◌, ◌*◌, ◌≤◌, ◌<◌, ◌++◌, Bool, true, false, List, [], ◌∷◌, Option, length, refl, sym, ◌∙◌, ap, subst, inl, inr, arith, ⊎_elim}
+use Rattle.std.proofs.Common.{ℕ, ◌≡◌, ◌≢◌, ◌⊎◌, ◌+◌, ◌≤◌, ◌<◌, ◌++◌, Bool, true, false, List, [], ◌∷◌, Option, length, refl, sym, ◌∙◌, subst, inl, inr, arith, ⊎_elim}
 use Rattle.std.specs.List.{All}
 use Rattle.std.proofs.lemmas.Bool.{cases_Bool}
 use Rattle.std.proofs.lemmas.List.Elements.{All-append, All-cons, All-nil}
@@ -22,9 +22,9 @@ use Rattle.command_table.specs.Written.{IsTableStore}
 use Rattle.driver_history.specs.Histories.{IsIssuing as IsIssuingAccess}
 use Rattle.driver_history.specs.Trace.{IsDriversOwn, IsServing, LeavesCommand, LeavesEngine, ReadsMasks}
 use Rattle.server_history.specs.Served.{Checks, HasTurn}
-use Rattle.transfers.specs.Looks.{IsLooking, LooksAt}
+use Rattle.transfers.specs.Looks.{LooksAt}
 use Rattle.transfers.specs.Services.{IsService}
-use Rattle.transfers.specs.Transfers.{IsIssuing, ReadsDone}
+use Rattle.transfers.specs.Transfers.{IsIssuing}
 use Rattle.transfers.specs.declared.Look.{Look}
 use Rattle.transfers.specs.declared.Look.TheVariants.{Lost, Broken, Failed, Undisturbed as Calm}
 use Rattle.transfers.proofs.Seeing.{seen_well}

@@ -4,10 +4,8 @@ use Rattle.std.specs.List.{AllPairs, Contains}
 use Rattle.std.proofs.lemmas.Bool.{and_from, cases_eq}
 use Rattle.ata_types.specs.declared.Port.{Port}
 use Rattle.ata_types.specs.declared.request.Frame.{Frame}
-use Rattle.ata_types.specs.declared.request.Op.{Op}
-use Rattle.ata_types.specs.declared.request.Op.TheVariants.{Read, Write, Trim, Flush}
 use Rattle.adapter.specs.Device.{Device}
-use Rattle.block_machine.specs.Due.{IsDue, is_plain}
+use Rattle.block_machine.specs.Due.{IsDue}
 use Rattle.block_machine.specs.Events.{AllDevices, AllMay}
 use Rattle.block_machine.specs.Histories.{IsReached}
 use Rattle.block_machine.specs.Left.{after}

@@ -1,20 +1,18 @@
 -- A ready port runs on while ports are served.
-use Rattle.std.proofs.Common.{ℕ, ◌≡◌, ◌≢◌, ◌+◌, ◌%◌, Bool, true, false, cond, nat_eq, refl, sym, ap, ◌∙◌, subst, ⊎_elim}
+use Rattle.std.proofs.Common.{ℕ, ◌≡◌, ◌≢◌, ◌+◌, ◌%◌, Bool, true, false, nat_eq, refl, ap, ◌∙◌, subst, ⊎_elim}
 use Rattle.std.specs.Prelude.{min, if◌then◌else◌}
 use Rattle.std.proofs.lemmas.Bool.{cases_eq}
 use Rattle.ata_types.specs.declared.Port.{Port}
 use Rattle.hba_regs.specs.declared.reg.Reg.{Reg}
-use Rattle.hba_regs.specs.declared.reg.Reg.TheVariants as reg
 use Rattle.hba_regs.specs.declared.reg.Reg.TheVariants.{Px}
-use Rattle.hba_regs.specs.declared.reg.PortReg.{PortReg}
-use Rattle.hba_regs.specs.declared.reg.PortReg.TheVariants.{Clb, Clbu, Fb, Fbu, Is, Cmd, Ssts, Sctl, Ci}
+use Rattle.hba_regs.specs.declared.reg.PortReg.TheVariants.{Clb, Clbu, Fb, Fbu, Cmd, Ssts, Sctl}
 use Rattle.adapter.specs.Access.{Access, Does, Reads, note}
 use Rattle.adapter.specs.Access.Access.{Reading, Writing, Loading, Storing}
 use Rattle.adapter.specs.Device.{Notes, PortState, Device}
 use Rattle.adapter.specs.Rules.{IsOn}
 use Rattle.block_machine.proofs.Keeps.{same_port}
 use Rattle.agreement.specs.Driven.{IsDrivenBy}
-use Rattle.agreement.specs.Links.{LeavesControls, SparesRegister}
+use Rattle.agreement.specs.Links.{LeavesControls}
 use Rattle.agreement.proofs.Linking.{access_controls}
 use Rattle.agreement.proofs.Noting.{access_notes, notes_read}
 use Rattle.agreement.specs.Noted.{SparesReading}

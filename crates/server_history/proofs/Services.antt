@@ -1,5 +1,5 @@
 -- Ready ports that are served one after another add an event.
-use Rattle.std.proofs.Common.{ℕ, suc, ◌≡◌, ◌≢◌, ◌≤◌, ◌<◌, ◌+◌, ◌-◌, ◌&&◌, not, Bool, true, false, List, [], ◌∷◌, ◌++◌, map, Option, Some, None, refl, sym, ap, ◌∙◌, subst, inl, inr, ⊎_elim, arith, append_assoc, append-nil, eq-eqb}
+use Rattle.std.proofs.Common.{ℕ, suc, ◌≡◌, ◌≢◌, ◌≤◌, ◌<◌, ◌+◌, ◌-◌, not, Bool, true, false, List, [], ◌∷◌, ◌++◌, map, Option, Some, None, refl, sym, ap, ◌∙◌, subst, inl, inr, ⊎_elim, arith, append_assoc, append-nil}
 use Rattle.std.specs.List.{All, AllPairs, Contains, list_any}
 use Rattle.std.specs.List.Sorted.{IsPermutation}
 use Rattle.std.specs.Prelude.{◌↔◌}
@@ -51,13 +51,12 @@ use Rattle.host_boot.specs.Taken.{found_of}
 use Rattle.host_boot.specs.declared.Found.{Found}
 use Rattle.host_boot.specs.declared.Found.TheVariants.{Unserved, Ready, Unready}
 use Rattle.identify.specs.declared.DiskInfo.{DiskInfo}
-use Rattle.request_book.specs.Entries.{first_of, has_of, is_of, rest_of}
-use Rattle.request_book.specs.Machine.{IsBook, IsEntry}
+use Rattle.request_book.specs.Entries.{first_of, has_of}
+use Rattle.request_book.specs.Machine.{IsEntry}
 use Rattle.request_book.specs.declared.book.Accepted.{Accepted}
 use Rattle.request_book.proofs.Due.{none_due}
-use Rattle.request_book.proofs.Ending.{other_first}
-use Rattle.request_book.proofs.Standing.{at_left, at_right, first_is}
-use Rattle.request_book.proofs.Stepping.{Stands as StandsIn, has_first, same_some}
+use Rattle.request_book.proofs.Standing.{at_right, first_is}
+use Rattle.request_book.proofs.Stepping.{Stands as StandsIn, same_some}
 use Rattle.driver_history.specs.Guard.{StaysHealthy}
 use Rattle.driver_history.specs.Histories.{Begins, FindsDone, HasBadDisk, IsAnsweredOk, IsIssuedOn, Ties, TiesPort}
 use Rattle.driver_history.specs.Trace.{LeavesCommand, ReadsMasks}
@@ -69,7 +68,7 @@ use Rattle.server_history.proofs.Going.{happening, lead_by, ports_same, with_dev
 use Rattle.server_history.proofs.Serving.{first_has, still_over}
 use Rattle.server_history.proofs.Standing.{not_running}
 use Rattle.server_history.proofs.Told.{grounded_told, no_evidence, serves_told, told_by}
-use Rattle.server_history.proofs.Unused.{none_first, ready_found}
+use Rattle.server_history.proofs.Unused.{ready_found}
 use Rattle.server_history.proofs.Turns.{AreTurns, IsSame, answer_on, devices_answer, devices_on, issue_on, no_turns, turns_more}
 use Rattle.transfers.specs.Services.{IsService}
 use Rattle.transfers.specs.Looks.{IsLooking}

@@ -1,5 +1,5 @@
 -- The evidence of a call in which no port is stopped: it names each ready port that showed trouble when the call began.
-use Rattle.std.proofs.Common.{ℕ, ◌≡◌, ◌≢◌, ◌⊎◌, ◌≤◌, ◌<◌, ◌||◌, ◌&&◌, not, nat_eq, Bool, true, false, cond, eq-eqb, List, [], ◌∷◌, ◌++◌, inl, inr, refl, sym, ap, ◌∙◌, subst, arith, ⊎_elim}
+use Rattle.std.proofs.Common.{ℕ, ◌≡◌, ◌≢◌, ◌⊎◌, ◌<◌, ◌||◌, ◌&&◌, not, nat_eq, Bool, true, false, cond, eq-eqb, List, [], ◌∷◌, inl, inr, refl, sym, ap, ◌∙◌, subst, arith, ⊎_elim}
 use Rattle.std.specs.List.{All, Contains}
 use Rattle.std.proofs.lemmas.Bool.{cases_Bool, cases_eq, cond-true, cond-false, false≢true, or_cases, or_left, or_right, and_from, and_parts, ne_eqb}
 use Rattle.ata_types.specs.declared.Port.{Port}
@@ -16,7 +16,7 @@ use Rattle.block_machine.specs.Ports.{Ports, Evidence, IsInterrupted}
 use Rattle.block_machine.specs.Steps.{Step, Again, Answer}
 use Rattle.ata_types.specs.declared.request.Outcome.TheVariants as outcome
 use Rattle.block_machine.proofs.Members.{contains_cases, contains_here, contains_none, contains_there}
-use Rattle.driver_history.specs.Evidence.{IsEvidenced, IsEvidencedOf, ShowsChange, ShowsFailure, ShowsFatal, ShowsLoss}
+use Rattle.driver_history.specs.Evidence.{IsEvidenced, IsEvidencedOf, ShowsChange, ShowsFailure, ShowsFatal}
 use Rattle.driver_history.specs.Trace.{LeavesEngine}
 
 -- no item in any list
