@@ -1,5 +1,6 @@
 -- Histories of a driver: what ties the device to the block machine, call by call (this project's own).
-use Rattle.std.specs.Prelude.{ℕ, true, false, ◌≡◌, ◌≢◌, ◌⊎◌, ◌↔◌, ◌+◌, ◌*◌, ◌≤◌, List, [], ◌∷◌, length, All, Contains, Some, None, Ok}
+use Rattle.std.specs.Prelude.{ℕ, true, false, ◌≡◌, ◌≢◌, ◌⊎◌, ◌↔◌, ◌+◌, ◌*◌, ◌≤◌, List, [], ◌∷◌, length, All, Contains, Some, None, Ok, map, if◌then◌else◌}
+use Rattle.std.specs.List.{list_any}
 use Rattle.ata_types.specs.declared.Port.{Port}
 use Rattle.ata_types.specs.declared.PortState.TheVariants.{Absent, Ready, Foreign, Unfit, Dead}
 use Rattle.ata_types.specs.declared.grant.GrantRow.{GrantRow}
@@ -18,13 +19,16 @@ use Rattle.agreement.specs.Driver.{IsBacked}
 use Rattle.agreement.specs.Errors.{NoneComes, NoneFatal}
 use Rattle.agreement.specs.Links.{IsPlugging, PlugsNone}
 use Rattle.agreement.specs.Slots.{ServesRequest}
-use Rattle.block_machine.specs.Events.{Ask, Submit, StoreAt, LoadAt, Service, Tick, Reset, Device as Told, Said, Submitted, Stored, Loaded, Served, WasReset, Stepped, HeedsAt, IsHung, moment_after}
+use Rattle.block_machine.specs.Events.{Ask, Submit, StoreAt, LoadAt, Service, Tick, Reset, Device as Told, Said, Submitted, Stored, Loaded, Served, WasReset, Stepped, HeedsAt, IsHung, IsIssuedIn, issues_it, moment_after}
+use Rattle.block_machine.specs.Due.{IsDue}
 use Rattle.block_machine.specs.Histories.{Instant, Happening}
 use Rattle.block_machine.specs.Histories as histories
 use Rattle.block_machine.specs.Ports.{Ports, SamePort}
 use Rattle.block_machine.specs.Rules.{IsNamed}
-use Rattle.block_machine.specs.State.{Pending, Machine}
+use Rattle.block_machine.specs.State.{Pending, Machine, unanswered}
 use Rattle.block_machine.specs.Steps.{Step, Answer}
+use Rattle.block_machine.specs.declared.due.Mode.{Mode}
+use Rattle.block_machine.specs.declared.due.Unanswered.{Unanswered}
 use Rattle.identify.specs.declared.wanted.Wanted.{Wanted}
 use Rattle.driver_history.specs.Evidence.{Gains, ShowsChange, ShowsFatal, IsEvidenced}
 use Rattle.driver_history.specs.Guard.{StaysHealthy}
@@ -55,6 +59,25 @@ CameBy m Tick (Served replies) accesses old new = DoesAll accesses old new × Al
 CameBy m Reset (WasReset (Some replies)) accesses old new = DoesAll accesses old new × All IsDriversOwn accesses × BeginsReset accesses
 CameBy m Reset (WasReset None) accesses old new = DoesAll accesses old new × BeginsReset accesses × EndsWithReset accesses
 CameBy m ask said accesses old new = (accesses ≡ []) × (new ≡ old)
+
+-- ---- what is issued
+
+-- the book, were none of the requests issued that these steps issue
+abbrev pub unissued : List Step → List Unanswered → List Unanswered
+unissued steps book = map (λ (r : Unanswered). if list_any (issues_it r.id) steps then record r { issued = false } else r) book
+
+-- Of the unanswered requests of a port the steps issue exactly those that are due once all else is done.
+abbrev pub IssuesDue : Mode → List Step → Machine → Port → Type 0
+IssuesDue mode steps later port = (r : Unanswered) → Contains (unissued steps (map unanswered later.book)) r → r.port ≡ port
+    → IsIssuedIn r.id steps ↔ IsDue mode (unissued steps (map unanswered later.book)) r
+
+-- So a submit, a service, a tick and a reset do on each port that is ready at their end.
+abbrev pub Issues : Ask DeviceStep → List Step → Machine → Ports → Port → Type 0
+Issues (Submit r) steps later ports port = ports.state port ≡ Ready → IssuesDue (ports.mode port) steps later port
+Issues Service steps later ports port = ports.state port ≡ Ready → IssuesDue (ports.mode port) steps later port
+Issues Tick steps later ports port = ports.state port ≡ Ready → IssuesDue (ports.mode port) steps later port
+Issues Reset steps later ports port = ports.state port ≡ Ready → IssuesDue (ports.mode port) steps later port
+Issues ask steps later ports port = Unit {0}
 
 -- ---- what is found done
 
@@ -171,13 +194,14 @@ pub record TiesPort (old : Instant Device) (h : Happening Device DeviceStep) (ac
   pub boots : Boots h.event.ask h.event.said old h.event.ports h.device port
   pub heeds : HeedsAt port h.event.ask old.moment h.event.evidence h.event.steps (moment_after old.moment h.event)
 
--- The device's part in a call. Its accesses led there, and the tape backs the machine's steps. What stands behind the evidence is so. Of each
--- port that stays healthy the call has done its part. And after it there holds what holds at each instant.
+-- The device's part in a call. Its accesses led there, and the tape backs the machine's steps. What stands behind the evidence is so. It has
+-- issued what is due. Of each port that stays healthy it has done its part. And after it there holds what holds at each instant.
 pub record Ties (wanted : List Wanted) (old : Instant Device) (h : Happening Device DeviceStep) : Type 0 where
   pub accesses : List Access
   pub came : CameBy old.moment.machine h.event.ask h.event.said accesses old.device h.device
   pub backed : IsBacked old.device h.device old.moment.machine h.event.steps
   pub evidenced : IsEvidenced h.event.ask h.event.said accesses old h.event.ports h.device h.event.evidence
+  pub issues : (port : Port) → Issues h.event.ask h.event.steps (moment_after old.moment h.event).machine h.event.ports port
   pub port : (port : Port) → StaysHealthy port.0 old.device h.device → TiesPort old h accesses port
   pub holds : HoldsAt wanted (record { device = h.device; moment = moment_after old.moment h.event })
 

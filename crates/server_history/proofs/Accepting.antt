@@ -24,10 +24,10 @@ use Rattle.block_machine.specs.Refusals.{Situation, IsAcceptable}
 use Rattle.block_machine.specs.Rules.{IsNamed}
 use Rattle.block_machine.specs.State as machine
 use Rattle.block_machine.specs.State.{Machine, unanswered}
-use Rattle.block_machine.specs.Steps.{Step, Accept, Issue, Again, Answer, IsNew, after_step, lend}
+use Rattle.block_machine.specs.Steps.{Step, Accept, Issue, Again, Answer, IsNew, after_step, at, issue, lend}
 use Rattle.block_machine.proofs.EventLemmas.{after-append}
 use Rattle.block_machine.proofs.HistoryLemmas.{may-append, reached_more}
-use Rattle.block_machine.proofs.Members.{contains_here, contains_there, some_in}
+use Rattle.block_machine.proofs.Members.{at_cases, contains_here, contains_there, map_in, some_in}
 use Rattle.agreement.specs.Agrees.{port_at}
 use Rattle.agreement.specs.Driven.{known}
 use Rattle.agreement.specs.Driver.{Knows}
@@ -52,6 +52,7 @@ use Rattle.server_history.specs.Served.{Accepts, accepted_as, issued_of}
 use Rattle.server_history.specs.Server.{Server, IsKept, IsMachineOf, IsPortOf, IsUseOf, none_parked, plain_mode, ports_of, situation_of, state_of}
 use Rattle.server_history.proofs.Calls.{reached, situation_is}
 use Rattle.server_history.proofs.Devices.{not_handled}
+use Rattle.server_history.proofs.Dues.{issues_due}
 use Rattle.server_history.proofs.Going.{kept_then, lead_by, ports_same}
 use Rattle.server_history.proofs.Coming.{issuing_is, issuing_leaves}
 use Rattle.server_history.proofs.Told.{no_evidence, uninterrupted}
@@ -142,6 +143,19 @@ first_longer book e none =
     ∙ cond-true (is_of e.port e) (Some e) None (is_of_own e)
 
 -- ---- the server with one more
+
+-- what a last step issued is issued after it, where the steps before issued nothing
+issued_now : (m : Machine) (e : machine.Pending) (before : List Step) → ((id : RequestId) → IsIssuedIn id before → ⊥) → (p : machine.Pending)
+    → Contains (after m (Issue plain_mode e ∷ before)).book p → IsIssuedIn p.request.id (Issue plain_mode e ∷ before) → p.issued ≡ true
+issued_now m e before none p here i = ⊎_elim
+    (λ (its : (e.request.id.0 == p.request.id.0) ≡ true).
+    let y = map_in (at e.request.id issue) (after m before).book p here in
+    ⊎_elim
+    (λ q. ap (λ (x : machine.Pending). x.issued) (y.2 ∙ q.1))
+    (λ q. absurd (q.0 (ap (λ r. r.id.0) (ap (λ (x : machine.Pending). x.request) (sym q.1 ∙ sym y.2)) ∙ sym (eqb-true e.request.id.0 p.request.id.0 its))))
+    (at_cases e.request.id issue y.0))
+    (λ (later : IsIssuedIn p.request.id before). absurd (none p.request.id later))
+    (or_cases (e.request.id.0 == p.request.id.0) (list_any (events.issues_it p.request.id) before) i)
 
 module _ (s : Server) (k : IsKept s) (r : Request) (acc : IsAcceptable (situation_of s) r) (row : GrantRow) (named : IsNamed s.grants r row) (port : Port) (port_is : row.port ≡ port)
     (id : RequestId) (id_is : id.0 ≡ s.last + 1) (table : Table) (lends : LendsOnly s.table table r.frames.items (Some id)) where
@@ -312,6 +326,7 @@ module _ (s : Server) (k : IsKept s) (r : Request) (acc : IsAcceptable (situatio
         []
         (refl, (row, its_row, All-nil (IsIssuingAccess row.port)))
         (λ other. All-nil (LeavesEngine other))
+        (λ other is_ready. issues_due (more s.device) (next m was is) (reached_next m was is) stands in_order.ordered (Accept asked ∷ []) (λ p here i. absurd (false≢true i)) other)
         (λ other healthy. record { finds = tt; faults = tt; tries = tt; boots = tt; heeds = uninterrupted s.device old.moment.ports other })
         (own_backed s.device m (Accept asked) (λ no. no))
         stands
@@ -332,6 +347,8 @@ module _ (s : Server) (k : IsKept s) (r : Request) (acc : IsAcceptable (situatio
         issues.driven.accesses
         (issues.driven.all, (row, its_row, All-weaker (IsIssuing port) (IsIssuingAccess row.port) (λ access here. subst (λ (p : Port). IsIssuingAccess p access) (sym port_is) (issuing_is port port_low access here)) issues.driven.accesses issues.driven.only))
         (λ other. All-weaker (IsIssuing port) (LeavesEngine other) (issuing_leaves port other) issues.driven.accesses issues.driven.only)
+        (λ other is_ready. issues_due (more new) (after m (late ++ early)) (reached_more m (late ++ early) was (may-append m late early (tt, fresh m was is) x.may)) stands in_order.ordered (late ++ early)
+        (issued_now m x.request (x.steps ++ early) (λ other_id. none_issued other_id x.steps early x.only (λ j. false≢true j))) other)
         (λ other healthy. record { finds = tt; faults = tt; tries = tt; boots = tt; heeds = uninterrupted s.device old.moment.ports other })
         (backed_then s.device s.device new m early late (own_backed s.device m (Accept asked) (λ no. no)) x.backed)
         stands

@@ -49,10 +49,11 @@ use Rattle.request_book.specs.Entries.{first_of}
 use Rattle.request_book.proofs.Counts.{as_many}
 use Rattle.transfers.specs.Services.{IsService}
 use Rattle.transfers.proofs.Serving.{services_on}
-use Rattle.driver_history.specs.Histories.{Begins, CameBy, Ties, TiesPort}
+use Rattle.driver_history.specs.Histories.{Begins, CameBy, Issues, Ties, TiesPort}
 use Rattle.driver_history.specs.Trace.{LeavesEngine}
 use Rattle.server_history.specs.Histories.{Adds, Leads, Stands, load_said, store_said}
 use Rattle.server_history.specs.Server.{Server, IsKept, IsMachineOf, IsPortOf, none_parked, ports_of, situation_of}
+use Rattle.server_history.proofs.Dues.{issues_due}
 use Rattle.server_history.proofs.Devices.{devices_belong, devices_last, devices_lawful, devices_transfer}
 use Rattle.server_history.proofs.Coming.{none_loaded}
 use Rattle.server_history.proofs.Going.{happening, kept_on, lead_by, machine_on, machine_with, ports_same, with_device}
@@ -117,6 +118,7 @@ device_adds_event s new step k asked moves = record { kept = device_kept s new k
         []
         (refl, asked)
         (λ port. All-nil (LeavesEngine port))
+        (λ port. tt)
         (λ port healthy. record { finds = tt; faults = tt; tries = tt; boots = tt; heeds = uninterrupted s.device old.moment.ports port })
         x.3.backed
         (machine_on s new old.moment.machine steps m x.3.only x.2)
@@ -125,32 +127,36 @@ device_adds_event s new step k asked moves = record { kept = device_kept s new k
 
 nothing_adds : (s : Server) (ask : Ask DeviceStep) (said : Said) → IsKept s → ((m : Machine) → CameBy m ask said [] s.device s.device)
     → ((old : Instant Device) → Stands old s → (evidence : Evidence) → IsAnswered ask said old.moment evidence [] (record { machine = old.moment.machine; ports = ports_of s.ports }))
+    → ((old : Instant Device) → IsReached old.moment.machine → Stands old s → (port : Port) → Issues ask [] old.moment.machine (ports_of s.ports) port)
     → ((old : Instant Device) (port : Port) → TiesPort old (happening old s.device ask said [] (ports_of s.ports)) [] port)
     → Adds s s ask said
-nothing_adds s ask said k came answered parts = record { kept = k; adds = adds }
+nothing_adds s ask said k came answered issues parts = record { kept = k; adds = adds }
   where
     adds : (first : Instant Device) (past : List (Happening Device DeviceStep)) → Leads first past s
         → (h : Happening Device DeviceStep) × (h.event.ask ≡ ask) × (h.event.said ≡ said) × Leads first (h ∷ past) s
     adds first past leads =
         let old : Instant Device = now first past in
         lead_by first past s s ask said [] refl refl leads k tt tt tt tt (answered old leads.stands (told_by s.device old.moment.ports)) [] (came old.moment.machine)
-        (λ port. All-nil (LeavesEngine port)) (λ port healthy. parts (with_device s.device old) port) (nothing_backed s.device old.moment.machine) leads.stands.machine
+        (λ port. All-nil (LeavesEngine port)) (issues old (reached first past s leads) leads.stands) (λ port healthy. parts (with_device s.device old) port) (nothing_backed s.device old.moment.machine) leads.stands.machine
 
 pub undone_adds : (s : Server) (step : DeviceStep) → IsKept s → Adds s s (Told step) (Stepped false)
 undone_adds s step k =
     nothing_adds s (Told step) (Stepped false) k (λ m. (refl, refl))
-    (λ old at evidence. (refl, ports_same old.moment.ports (ports_of s.ports) at.ports_are)) (λ old port. record { finds = tt; faults = tt; tries = tt; boots = tt; heeds = uninterrupted old.device old.moment.ports port })
+    (λ old at evidence. (refl, ports_same old.moment.ports (ports_of s.ports) at.ports_are)) (λ old was at port. tt)
+    (λ old port. record { finds = tt; faults = tt; tries = tt; boots = tt; heeds = uninterrupted old.device old.moment.ports port })
 
 pub state_adds : (s : Server) (port : Port) → IsKept s → Adds s s (State port) (Shown ((ports_of s.ports).state port))
 state_adds s port k =
     nothing_adds s (State port) (Shown ((ports_of s.ports).state port)) k (λ m. (refl, refl))
-    (λ old at evidence. (ap (λ (ports : Ports). ports.state port) (sym at.ports_are), refl, ports_same old.moment.ports (ports_of s.ports) at.ports_are)) (λ old port. record { finds = tt; faults = tt; tries = tt; boots = tt; heeds = uninterrupted old.device old.moment.ports port })
+    (λ old at evidence. (ap (λ (ports : Ports). ports.state port) (sym at.ports_are), refl, ports_same old.moment.ports (ports_of s.ports) at.ports_are)) (λ old was at port. tt)
+    (λ old port. record { finds = tt; faults = tt; tries = tt; boots = tt; heeds = uninterrupted old.device old.moment.ports port })
 
 pub store_refused : (s : Server) (client : ClientId) (frame : Frame) (offset : ℕ) (bytes : List ℕ) (fault : MemFault) → IsKept s
     → IsFirstMemFault (owner_of s.table) (lent_to s.table) client frame offset (length bytes) fault → Adds s s (StoreAt client frame offset bytes) (store_said (Err fault))
 store_refused s client frame offset bytes fault k is =
     nothing_adds s (StoreAt client frame offset bytes) (store_said (Err fault)) k (λ m. (refl, refl))
     (λ old at evidence. (as_told s old.moment.machine at.machine (λ owner lent. IsFirstMemFault owner lent client frame offset (length bytes) fault) is, refl, ports_same old.moment.ports (ports_of s.ports) at.ports_are))
+    (λ old was at port. tt)
     (λ old port. record { finds = tt; faults = tt; tries = tt; boots = tt; heeds = uninterrupted old.device old.moment.ports port })
 
 pub load_refused : (s : Server) (client : ClientId) (frame : Frame) (offset count : ℕ) (bytes : List ℕ) (fault : MemFault) → IsKept s
@@ -158,6 +164,7 @@ pub load_refused : (s : Server) (client : ClientId) (frame : Frame) (offset coun
 load_refused s client frame offset count bytes fault k is =
     nothing_adds s (LoadAt client frame offset count) (load_said (Err fault) bytes) k (λ m. (refl, refl))
     (λ old at evidence. (as_told s old.moment.machine at.machine (λ owner lent. IsFirstMemFault owner lent client frame offset count fault) is, refl, ports_same old.moment.ports (ports_of s.ports) at.ports_are))
+    (λ old was at port. tt)
     (λ old port. record { finds = tt; faults = tt; tries = tt; boots = tt; heeds = uninterrupted old.device old.moment.ports port })
 
 -- ---- what a request meets
@@ -178,6 +185,7 @@ pub submit_refused : (s : Server) (r : Request) (refusal : Refusal) → IsKept s
 submit_refused s r refusal k is =
     nothing_adds s (Submit r) (Submitted (Err refusal)) k (λ m. (refl, refl))
     (λ old at evidence. (subst (λ (x : Situation). IsFirstRefusal x r refusal) (sym (situation_is s old at)) is, refl, ports_same old.moment.ports (ports_of s.ports) at.ports_are))
+    (λ old was at port ready. issues_due s old.moment.machine was at.machine k.ordered.ordered [] (λ p here i. absurd (false≢true i)) port)
     (λ old port. record { finds = tt; faults = tt; tries = tt; boots = tt; heeds = uninterrupted old.device old.moment.ports port })
 
 -- ---- clients' bytes
@@ -240,6 +248,7 @@ module _ (s : Server) (new : Device) (client : ClientId) (frame : Frame) (offset
           (Loading (4096 * frame.0 + offset) bytes ∷ [])
           ((new, loads, refl), refl)
           (λ port. All-cons (LeavesEngine port) (Loading (4096 * frame.0 + offset) bytes) [] (tt, tt) (All-nil (LeavesEngine port)))
+          (λ port. tt)
           (λ port healthy. record { finds = tt; faults = tt; tries = tt; boots = tt; heeds = uninterrupted s.device old.moment.ports port })
           x.0.backed x.1
 
@@ -259,6 +268,7 @@ module _ (s : Server) (new : Device) (client : ClientId) (frame : Frame) (offset
           (Storing (4096 * frame.0 + offset) bytes ∷ [])
           ((new, stores, refl), refl)
           (λ port. All-cons (LeavesEngine port) (Storing (4096 * frame.0 + offset) bytes) [] (tt, tt) (All-nil (LeavesEngine port)))
+          (λ port. tt)
           (λ port healthy. record { finds = tt; faults = tt; tries = tt; boots = tt; heeds = uninterrupted s.device old.moment.ports port })
           x.0.backed x.1
 

@@ -27,7 +27,7 @@ use Rattle.request_book.specs.Entries.{IsAccepted, IsInOrder}
 use Rattle.request_book.specs.Machine.{IsBook, IsEntry}
 use Rattle.request_book.specs.declared.book.Accepted.{Accepted}
 use Rattle.driver_history.specs.Guard.{StaysHealthy}
-use Rattle.driver_history.specs.Histories.{Begins, CameBy, Ties, TiesPort}
+use Rattle.driver_history.specs.Histories.{Begins, CameBy, Issues, Ties, TiesPort}
 use Rattle.driver_history.specs.Trace.{LeavesEngine}
 use Rattle.driver_history.proofs.Instants.{history_fit, ready_low}
 use Rattle.server_history.specs.Histories.{Leads, Stands}
@@ -141,12 +141,13 @@ pub lead_by : (first : Instant Device) (past : List (Happening Device DeviceStep
     → IsAnswered ask said (now first past).moment (told_by s.device (now first past).moment.ports) steps (record { machine = after (now first past).moment.machine steps; ports = ports_of new.ports })
     → (accesses : List Access) → CameBy (now first past).moment.machine ask said accesses s.device new.device
     → ((port : Port) → All (LeavesEngine port) accesses)
+    → ((port : Port) → Issues ask steps (after (now first past).moment.machine steps) (ports_of new.ports) port)
     → ((port : Port) → StaysHealthy port.0 s.device new.device
     → TiesPort (with_device s.device (now first past)) (happening (with_device s.device (now first past)) new.device ask said steps (ports_of new.ports)) accesses port)
     → IsBacked s.device new.device (now first past).moment.machine steps
     → IsMachineOf new (after (now first past).moment.machine steps)
     → (h : Happening Device DeviceStep) × (h.event.ask ≡ ask) × (h.event.said ≡ said) × Leads first (h ∷ past) new
-lead_by first past s new ask said steps wanted_is ports_is leads kept may belong last lawful answered accesses came leaves parts backed stands = (
+lead_by first past s new ask said steps wanted_is ports_is leads kept may belong last lawful answered accesses came leaves issues parts backed stands = (
   h,
   refl,
   refl,
@@ -195,6 +196,7 @@ lead_by first past s new ask said steps wanted_is ports_is leads kept may belong
       came = came;
       backed = backed;
       evidenced = evidenced ask said accesses (with_device s.device old) (ports_of new.ports) new.device (λ port ready. (ready_low old port fit ready).1) leaves;
+      issues = issues;
       port = parts;
       holds = (slots new kept later reached stands, holds_with new kept later reached stands);
     }

@@ -1,6 +1,7 @@
 pub mod Told
 pub mod Running
 pub mod Standing
+pub mod Dues
 pub mod Behind
 pub mod Going
 pub mod Ports

@@ -35,7 +35,7 @@ use Rattle.agreement.proofs.Finished.{steps_over}
 use Rattle.agreement.proofs.Unarmed.{reads_clear, steps_clear}
 use Rattle.agreement.proofs.Finding.{ended_is_clear}
 use Rattle.agreement.proofs.Sparing.{found_later, steps_spare}
-use Rattle.block_machine.specs.Events.{Moment, Service, Served, AllDevices, AllMay, AnswersEnded, IsDevices, AnswersService, IsToldBefore, ServesReady, answers_of, reply_of}
+use Rattle.block_machine.specs.Events.{Moment, Service, Served, AllDevices, AllMay, AnswersEnded, IsDevices, IsIssuedIn, AnswersService, IsToldBefore, ServesReady, answers_of, reply_of}
 use Rattle.block_machine.specs.Histories.{Instant, Happening, IsReached, now}
 use Rattle.block_machine.specs.Left.{after}
 use Rattle.block_machine.specs.Ports.{Ports, IsServiced}
@@ -64,6 +64,7 @@ use Rattle.server_history.specs.Histories.{Adds, Leads}
 use Rattle.server_history.specs.Served.{AnswersBy, Checks, IssuesOnly, SameSettings, ServePorts, ServesPort, done_reply, reply_list}
 use Rattle.server_history.specs.Server.{Server, IsKept, IsMachineOf, IsUseOf, plain_mode, ports_of, state_of}
 use Rattle.server_history.proofs.Coming.{IsTurn, TurnList, turn_leaves, turn_list, turn_serving}
+use Rattle.server_history.proofs.Dues.{issues_due}
 use Rattle.server_history.proofs.Going.{happening, lead_by, ports_same, with_device}
 use Rattle.server_history.proofs.Serving.{first_has, still_over}
 use Rattle.server_history.proofs.Standing.{not_running}
@@ -730,6 +731,12 @@ module _ (s new : Server) (replies : List Reply) (kept : IsKept s) (serves : Ser
       not_bad (inl foreign) ready = let z : Foreign ≡ ReadyState = sym foreign ∙ ready in cc
       not_bad (inr (cause, unfit)) ready = let z : Unfit cause ≡ ReadyState = sym unfit ∙ ready in cc
 
+  -- what was issued is issued at the end
+  issued_still : (e : Pending) → Contains (after old.machine p.steps).book e → IsIssuedIn e.request.id p.steps → e.issued ≡ true
+  issued_still e here i =
+      let w = p.turns.issued e.request.id i in
+      ap (λ (x : Pending). x.issued) (sym ((standing (after old.machine p.steps) (reached_more old.machine p.steps reached p.turns.may)).sound.one w.0 e w.1 here w.2)) ∙ w.4
+
   pub service_event : (h : Happening Device DeviceStep) × (h.event.ask ≡ Service) × (h.event.said ≡ Served replies) × Leads first (h ∷ past) new
   service_event = subst (λ (x : Server). (h : Happening Device DeviceStep) × (h.event.ask ≡ Service) × (h.event.said ≡ Served replies) × Leads first (h ∷ past) x) (sym p.same)
       (lead_by first past s later Service (Served replies) p.steps refl refl leads holds
@@ -737,6 +744,7 @@ module _ (s new : Server) (replies : List Reply) (kept : IsKept s) (serves : Ser
       p.driven.accesses
       (p.driven.all, λ i d small. turn_serving _ (p.driven.only i d small))
       (λ port i d small. turn_leaves port _ (p.driven.only i d small))
+      (λ port ready. issues_due later (after old.machine p.steps) (reached_more old.machine p.steps reached p.turns.may) stands holds.ordered.ordered p.steps issued_still port)
       port_part
       p.backed stands)
 

@@ -40,7 +40,7 @@ pub record AreTurns (old : Moment) (ports : Ports) (below from : ℕ) (steps : L
   pub grounded : AllGrounded no_evidence steps
   pub told : (e : Pending) (o : Outcome) → Contains steps (Answer e o) → (o ≡ Ok) × (ports.state e.request.port ≡ Ready) × (e.request.port.0 < from)
   pub issued : (id : RequestId) → IsIssuedIn id steps
-      → (e : Pending) × Contains (after old.machine steps).book e × (e.request.id.0 ≡ id.0) × (e.request.port.0 < below)
+      → (e : Pending) × Contains (after old.machine steps).book e × (e.request.id.0 ≡ id.0) × (e.request.port.0 < below) × (e.issued ≡ true)
   pub further : (e : Pending) → Contains old.machine.book e → from ≤ e.request.port.0
       → (x : Pending) × Contains (after old.machine steps).book x × IsSame e x
   pub origin : (x : Pending) → Contains (after old.machine steps).book x → from ≤ x.request.port.0
@@ -69,6 +69,13 @@ devices_answer (step ∷ late) base is = devices_answer late base is.0
 same_request : (id : RequestId) (e : Pending) → (at id issue e).request ≡ e.request
 same_request id e = ⊎_elim (λ q. ap (λ (x : Pending). x.request) q.1) (λ q. ap (λ (x : Pending). x.request) q.1) (at_cases id issue e)
 
+-- it is issued then
+issued_now : (e : Pending) → (at e.request.id issue e).issued ≡ true
+issued_now e = ⊎_elim (λ q. ap (λ (x : Pending). x.issued) q.1) (λ q. absurd (q.0 refl)) (at_cases e.request.id issue e)
+
+issued_still : (id : RequestId) (e : Pending) → e.issued ≡ true → (at id issue e).issued ≡ true
+issued_still id e is = ⊎_elim (λ q. ap (λ (x : Pending). x.issued) q.1) (λ q. ap (λ (x : Pending). x.issued) q.1 ∙ is) (at_cases id issue e)
+
 module _ (old : Moment) (ports : Ports) where
   pub no_turns : AreTurns old ports 0 0 []
   no_turns = record {
@@ -92,7 +99,7 @@ module _ (old : Moment) (ports : Ports) where
     lawful = x.lawful;
     grounded = x.grounded;
     told = λ e o h. let w = x.told e o h in let small = w.2 in (w.0, w.1, omega (arith, then, small));
-    issued = λ id i. let w = x.issued id i in let small = w.3 in (w.0, w.1, w.2, omega (arith, first, small));
+    issued = λ id i. let w = x.issued id i in let small = w.3 in (w.0, w.1, w.2, omega (arith, first, small), w.4);
     further = λ e h far. x.further e h (omega (arith, then, far));
     origin = λ e h far. x.origin e h (omega (arith, then, far));
   }
@@ -113,7 +120,7 @@ module _ (old : Moment) (ports : Ports) where
         (λ (h : IsIssuedIn id base).
         let w = x.issued id h in
         let l = found_later before.book later.book w.0 spares.book w.1 in
-        (l.0, l.1, ap (λ r. r.id.0) l.2.request ∙ w.2, subst (λ r. r.port.0 < below) (sym l.2.request) w.3))
+        (l.0, l.1, ap (λ r. r.id.0) l.2.request ∙ w.2, subst (λ r. r.port.0 < below) (sym l.2.request) w.3, l.2.issued ∙ w.4))
         (or_cases (issues_it id step) (list_any (issues_it id) base) i);
     further = λ e h far.
         let w = x.further e h far in
@@ -174,7 +181,7 @@ module _ (old : Moment) (ports : Ports) where
       issued = λ id i.
           let w = x.issued id i in
           let small = w.3 in
-          (w.0, stays w.0 w.1 (λ own. omega (arith, small, own)), w.2, w.3);
+          (w.0, stays w.0 w.1 (λ own. omega (arith, small, own)), w.2, w.3, w.4);
       further = λ y h far.
           let w = x.further y h (omega (arith, far)) in
           let port : w.0.request.port.0 ≡ y.request.port.0 = ap (λ r. r.port.0) w.2.request in
@@ -211,6 +218,7 @@ module _ (old : Moment) (ports : Ports) where
             into_map (at e.request.id issue) before.book e here,
             ap (λ r. r.id.0) (same_request e.request.id e) ∙ eqb-true e.request.id.0 id.0 h,
             subst (λ r. r.port.0 < suc n) (sym (same_request e.request.id e)) (omega (arith, its)),
+            issued_now e,
           ))
           (λ (h : IsIssuedIn id base).
           let w = x.issued id h in
@@ -219,6 +227,7 @@ module _ (old : Moment) (ports : Ports) where
             into_map (at e.request.id issue) before.book w.0 w.1,
             ap (λ r. r.id.0) (same_request e.request.id w.0) ∙ w.2,
             subst (λ r. r.port.0 < suc n) (sym (same_request e.request.id w.0)) (omega (arith, small)),
+            issued_still e.request.id w.0 w.4,
           ))
           (or_cases (e.request.id.0 == id.0) (list_any (issues_it id) base) i);
       further = λ y h far.
