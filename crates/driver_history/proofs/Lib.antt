@@ -6,3 +6,4 @@ pub mod Lasting
 pub mod Leaving
 pub mod Resting
 pub mod Standing
+pub mod Healthy

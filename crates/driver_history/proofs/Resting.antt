@@ -48,7 +48,7 @@ lawful_of old evidence ports (step ∷ before) l e o h = ⊎_elim
     (λ i. lawful_of old evidence ports before (lawful_rest old evidence ports step before l) e o i)
     (contains_cases step before (Answer e o) h)
 
-belongs_of : (ask : Ask DeviceStep) (ports : Ports) (steps : List Step) → Belong ask ports steps → (step : Step) → Contains steps step → IsDevices step ⊎ IsServers ask ports step
+pub belongs_of : (ask : Ask DeviceStep) (ports : Ports) (steps : List Step) → Belong ask ports steps → (step : Step) → Contains steps step → IsDevices step ⊎ IsServers ask ports step
 belongs_of ask ports [] l step h = absurd (contains_none step h)
 belongs_of ask ports (x ∷ before) l step h = ⊎_elim
     (λ (same : step ≡ x). subst (λ (y : Step). IsDevices y ⊎ IsServers ask ports y) (sym same) l.1)

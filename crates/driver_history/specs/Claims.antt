@@ -1,5 +1,5 @@
 -- What is claimed of each history of a driver (this project's own).
-use Rattle.std.specs.Prelude.{true, ◌≡◌, ◌⊎◌, List, All, Contains}
+use Rattle.std.specs.Prelude.{true, ◌≡◌, ◌≢◌, ◌⊎◌, List, [], ◌∷◌, All, Contains}
 use Rattle.ata_types.specs.declared.Port.{Port}
 use Rattle.ata_types.specs.declared.PortState.TheVariants.{Ready, Dead}
 use Rattle.ata_types.specs.declared.request.Outcome.{Outcome}
@@ -8,13 +8,16 @@ use Rattle.adapter.specs.Access.{Access}
 use Rattle.adapter.specs.Device.{Device}
 use Rattle.adapter.specs.Rules.{IsOn}
 use Rattle.adapter.specs.declared.access.DeviceStep.{DeviceStep}
-use Rattle.block_machine.specs.Events.{WasIssued}
-use Rattle.block_machine.specs.Histories.{Instant, Happening}
+use Rattle.agreement.specs.Facts.{RunsWell}
+use Rattle.block_machine.specs.Events.{Reset, Tick, IsHung, WasIssued, moment_after}
+use Rattle.block_machine.specs.Histories.{Instant, Happening, now}
 use Rattle.block_machine.specs.Ports.{SamePort}
 use Rattle.block_machine.specs.State.{Pending}
 use Rattle.block_machine.specs.Steps.{Answer, AllTouched}
 use Rattle.port_control.specs.Engines.{Stops}
 use Rattle.driver_history.specs.Evidence.{IsFaultTold, IsLost}
+use Rattle.driver_history.specs.Guard.{StaysHealthy}
+use Rattle.driver_history.specs.Histories.{CameBy, Finds, Issues}
 use Rattle.driver_history.specs.Trace.{LeavesEngine}
 
 -- A call that made these accesses leaves a port alone: it is what it was, each answer there is Ok, and neither PxCMD nor PxSCTL of it is written.
@@ -35,3 +38,33 @@ AnswerRests old h accesses e outcome.Aborted = (e.issues ≡ 4) × (h.event.port
 AnswerRests old h accesses e outcome.Unplugged = IsLost e.request.port old h.event.ports h.device
 AnswerRests old h accesses e outcome.PortDead = (h.event.ports.state e.request.port ≡ Dead)
     × (((h.device.port e.request.port.0).notes.engine_count ≡ 64) ⊎ (IsOn h.device → ⊥))
+
+-- ---- healthy calls
+
+-- A call is healthy for a port that is ready, runs well when it begins, and on which nothing goes wrong meanwhile; it isn't a reset, nor a tick
+-- that brings a request of the port to its age of three.
+pub record IsHealthyFor (old : Instant Device) (h : Happening Device DeviceStep) (port : Port) : Type 0 where
+  pub ready : old.moment.ports.state port ≡ Ready
+  pub healthy : StaysHealthy port.0 old.device h.device
+  pub no_reset : h.event.ask ≢ Reset
+  pub young : h.event.ask ≡ Tick → IsHung old.moment port → ⊥
+
+-- Such a call goes well for it: the port is left alone, and runs well after it; a service has read the masks, and answered exactly what they show
+-- done; and what is due is issued.
+pub record GoesWellFor (old : Instant Device) (h : Happening Device DeviceStep) (port : Port) : Type 0 where
+  pub accesses : List Access
+  pub came : CameBy old.moment.machine h.event.ask h.event.said accesses old.device h.device
+  pub spared : IsSpared old h accesses port
+  pub well : RunsWell (h.device.port port.0)
+  pub finds : Finds h.event.ask accesses old h.event.steps port
+  pub issues : Issues h.event.ask h.event.steps (moment_after old.moment h.event).machine h.event.ports port
+
+-- each call is healthy for the port
+abbrev pub AllHealthyFor : Port → Instant Device → List (Happening Device DeviceStep) → Type 0
+AllHealthyFor port first [] = Unit {0}
+AllHealthyFor port first (h ∷ past) = AllHealthyFor port first past × IsHealthyFor (now first past) h port
+
+-- each goes well for it
+abbrev pub AllGoWellFor : Port → Instant Device → List (Happening Device DeviceStep) → Type 0
+AllGoWellFor port first [] = Unit {0}
+AllGoWellFor port first (h ∷ past) = AllGoWellFor port first past × GoesWellFor (now first past) h port

@@ -19,10 +19,10 @@ ghost use Rattle.block_machine.specs.Ports.{AreFit, SameDisk};
 ghost use Rattle.block_machine.specs.State.{Pending};
 ghost use Rattle.block_machine.specs.Steps.{Answer};
 ghost use Rattle.identify.specs.declared.wanted.Wanted.{Wanted};
-ghost use Rattle.driver_history.specs.Claims.{AnswerRests, IsSpared};
+ghost use Rattle.driver_history.specs.Claims.{AllGoWellFor, AllHealthyFor, AnswerRests, IsSpared};
 ghost use Rattle.driver_history.specs.Evidence.{ShowsChange};
 ghost use Rattle.driver_history.specs.Guard.{StaysHealthy};
-ghost use Rattle.driver_history.specs.Histories.{IsHistory};
+ghost use Rattle.driver_history.specs.Histories.{IsHistory, Issues};
 ghost use Rattle.driver_history.specs.Holds.{HoldsAt};
 ghost use Rattle.driver_history.specs.Moves.{KeepsMoves};
 
@@ -138,4 +138,22 @@ pub fn ticks_end_issues()
     ensures { (wanted : List Wanted) (first : Instant Device) (past : List (Happening Device DeviceStep)) (h : Happening Device DeviceStep)
         (port : Port) → IsHistory wanted first (h ∷ past) → h.event.ask ≡ Tick → IsHung (now first past).moment port
         → NoneKeepsIssue h.event.steps (now first (h ∷ past)).moment.machine port }
+{}
+
+/// Composition on healthy ports: where each call of a history is healthy for a port, each goes well for it. It is left alone, with ST one, and each
+/// answer is Ok; a service answers exactly the issued requests whose bits are clear in the masks that it read; and a call issues exactly what is
+/// due.
+pub fn healthy_calls_go_well()
+    ensures { (wanted : List Wanted) (first : Instant Device) (port : Port) (past : List (Happening Device DeviceStep)) → IsHistory wanted first past
+        → AllHealthyFor port first past → AllGoWellFor port first past }
+{
+    disks_are_told();
+    healthy_stays();
+}
+
+/// On a port that is ready at the end of a submit, a service, a tick or a reset, exactly what is due was issued.
+pub fn due_are_issued()
+    ensures { (wanted : List Wanted) (first : Instant Device) (past : List (Happening Device DeviceStep)) (h : Happening Device DeviceStep)
+        (port : Port) → IsHistory wanted first (h ∷ past)
+        → Issues h.event.ask h.event.steps (now first (h ∷ past)).moment.machine h.event.ports port }
 {}

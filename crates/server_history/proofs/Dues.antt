@@ -1,11 +1,11 @@
 -- A call issues exactly what is due: the first of a port that has none issued.
-use Rattle.std.proofs.Common.{ℕ, ◌≡◌, ◌≢◌, ◌≤◌, ◌<◌, ◌==◌, ◌&&◌, ◌||◌, not, Bool, true, false, cond, List, [], ◌∷◌, map, Option, Some, None, refl, sym, ap, ap₂, ◌∙◌, subst, arith, ⊎_elim, eq-eqb}
-use Rattle.std.specs.Prelude.{◌↔◌, nat_lt}
+use Rattle.std.proofs.Common.{◌≡◌, ◌≢◌, not, Bool, true, false, cond, List, [], ◌∷◌, map, Option, Some, None, refl, sym, ap, ap₂, ◌∙◌, subst, arith, ⊎_elim, eq-eqb}
+use Rattle.std.specs.Prelude.{◌↔◌}
 use Rattle.std.specs.List.{AllPairs, AllZip, Contains, list_any}
-use Rattle.std.proofs.lemmas.Bool.{and_from, and_parts, both_ways, cases_Bool, cases_eq, cond-true, cond-false, false≢true, lt-ltb, or_left, or_right}
+use Rattle.std.proofs.lemmas.Bool.{and_from, and_parts, both_ways, cases_Bool, cases_eq, cond-true, cond-false, false≢true, lt-ltb, or_right}
 use Rattle.ata_types.specs.declared.Port.{Port}
 use Rattle.ata_types.specs.declared.request.RequestId.{RequestId}
-use Rattle.block_machine.specs.Due.{IsDue, holds_back, is_plain}
+use Rattle.block_machine.specs.Due.{IsDue, is_plain}
 use Rattle.block_machine.specs.Events.{IsIssuedIn, issues_it}
 use Rattle.block_machine.specs.Histories.{IsReached}
 use Rattle.block_machine.specs.State.{Machine, Pending, unanswered}
@@ -75,8 +75,8 @@ module _ (steps : List Step) where
         subst (IsEntry e) (sym (mark_request p)) entry,
         (
           (λ now.
-          let leads : first_of e.port book ≡ Some e = (issued (ap (λ (x : Pending). x.issued) (sym same) ∙ now)).1 in
-          (ap (λ (o : Option Accepted). not (first_is_issued o)) leads ∙ ap not (ap is_issued (sym entry.id) ∙ is), leads)),
+              let leads : first_of e.port book ≡ Some e = (issued (ap (λ (x : Pending). x.issued) (sym same) ∙ now)).1 in
+              (ap (λ (o : Option Accepted). not (first_is_issued o)) leads ∙ ap not (ap is_issued (sym entry.id) ∙ is), leads)),
           (λ both. ap (λ (x : Pending). x.issued) same ∙ first (refl, both.1)),
         ),
       ))
@@ -118,20 +118,20 @@ module _ (s : Server) (m : Machine) (reached : IsReached m) (is : IsMachineOf s 
       let f = some_first port s.book e.0 e.1 of_port in
       let r_id : r.id ≡ e.0.id = ap (λ (u : Unanswered). u.id) x.2 ∙ e.2.0.id in (
         (λ issued.
-        let y_id : y.0.request.id ≡ r.id = sym (ap (λ p. p.request.id) y.2 ∙ ap (λ q. q.id) (mark_request steps y.0)) ∙ sym (ap (λ (u : Unanswered). u.id) x.2) in
-        let was : y.0.issued ≡ true = fresh y.0 y.1 (subst (λ (i : RequestId). IsIssuedIn i steps) (sym y_id) issued) in
-        let o = at_right (λ a p. IsEntry a p.request × ((p.issued ≡ true) ↔ ((true ≡ true) × (first_of a.port s.book ≡ Some a)))) s.book m.book is.book y.0 y.1 in
-        let leads : first_of o.0.port s.book ≡ Some o.0 = (o.2.1.0 was).1 in
-        let at_port : o.0.port ≡ port = sym o.2.0.port ∙ sym (ap (λ p. p.request.port) y.2 ∙ ap (λ q. q.port) (mark_request steps y.0)) ∙ sym (ap (λ (u : Unanswered). u.port) x.2) ∙ own in
-        let first : first_of port s.book ≡ Some o.0 = ap (λ (q : Port). first_of q s.book) (sym at_port) ∙ leads in
-        let off : old_ports steps s.book port ≡ false = ap (λ (l : Option Accepted). not (first_is_issued steps l)) first ∙ ap not (ap (is_issued steps) (sym o.2.0.id ∙ y_id) ∙ issued) in
-        let d = first_due plain_mode (old_ports steps s.book) port s.book marked refl on o.0 ordered first off in
-        let same : d.0 ≡ x.0 = same_mark y.0 d.0 y.1 d.1 (d.2.id ∙ sym o.2.0.id) ∙ sym y.2 in
-        subst (IsDue plain_mode (map unanswered marked)) (ap unanswered same ∙ sym x.2) d.3),
+            let y_id : y.0.request.id ≡ r.id = sym (ap (λ p. p.request.id) y.2 ∙ ap (λ q. q.id) (mark_request steps y.0)) ∙ sym (ap (λ (u : Unanswered). u.id) x.2) in
+            let was : y.0.issued ≡ true = fresh y.0 y.1 (subst (λ (i : RequestId). IsIssuedIn i steps) (sym y_id) issued) in
+            let o = at_right (λ a p. IsEntry a p.request × ((p.issued ≡ true) ↔ ((true ≡ true) × (first_of a.port s.book ≡ Some a)))) s.book m.book is.book y.0 y.1 in
+            let leads : first_of o.0.port s.book ≡ Some o.0 = (o.2.1.0 was).1 in
+            let at_port : o.0.port ≡ port = sym o.2.0.port ∙ sym (ap (λ p. p.request.port) y.2 ∙ ap (λ q. q.port) (mark_request steps y.0)) ∙ sym (ap (λ (u : Unanswered). u.port) x.2) ∙ own in
+            let first : first_of port s.book ≡ Some o.0 = ap (λ (q : Port). first_of q s.book) (sym at_port) ∙ leads in
+            let off : old_ports steps s.book port ≡ false = ap (λ (l : Option Accepted). not (first_is_issued steps l)) first ∙ ap not (ap (is_issued steps) (sym o.2.0.id ∙ y_id) ∙ issued) in
+            let d = first_due plain_mode (old_ports steps s.book) port s.book marked refl on o.0 ordered first off in
+            let same : d.0 ≡ x.0 = same_mark y.0 d.0 y.1 d.1 (d.2.id ∙ sym o.2.0.id) ∙ sym y.2 in
+            subst (IsDue plain_mode (map unanswered marked)) (ap unanswered same ∙ sym x.2) d.3),
         (λ due. ⊎_elim
-        (λ (issued : IsIssuedIn r.id steps). issued)
-        (λ (none : list_any (issues_it r.id) steps ≡ false). absurd (stands_back r x.0 x.2 e.0 e.1 e.2 f.0 f.1 due none of_port))
-        (cases_Bool (list_any (issues_it r.id) steps))),
+            (λ (issued : IsIssuedIn r.id steps). issued)
+            (λ (none : list_any (issues_it r.id) steps ≡ false). absurd (stands_back r x.0 x.2 e.0 e.1 e.2 f.0 f.1 due none of_port))
+            (cases_Bool (list_any (issues_it r.id) steps))),
       )
     where
       -- it was issued before, or an earlier one is in its way

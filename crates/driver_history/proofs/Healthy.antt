@@ -1,0 +1,108 @@
+-- Calls that are healthy for a port go well for it.
+use Rattle.std.proofs.Common.{◌≡◌, ◌≢◌, true, false, List, [], ◌∷◌, Some, None, Ok, Err, refl, subst, ⊎_elim}
+use Rattle.std.specs.List.{All}
+use Rattle.ata_types.specs.declared.Port.{Port}
+use Rattle.ata_types.specs.declared.request.Outcome.{Outcome}
+use Rattle.adapter.specs.Device.{Device}
+use Rattle.adapter.specs.declared.access.DeviceStep.{DeviceStep}
+use Rattle.block_machine.specs.Events.{Ask, Submit, StoreAt, LoadAt, Service, Tick, Reset, State, Device as Told, Said, Submitted, Stored, Loaded, Shown, Stepped, Moment, IsAnswered, IsHung, IsServers, moment_after}
+use Rattle.block_machine.specs.Histories.{Instant, Happening, now}
+use Rattle.block_machine.specs.Ports.{Ports, Evidence, SamePort}
+use Rattle.block_machine.specs.State.{Pending}
+use Rattle.block_machine.specs.Steps.{Step, Answer}
+use Rattle.identify.specs.declared.wanted.Wanted.{Wanted}
+use Rattle.driver_history.specs.Claims.{AllGoWellFor, AllHealthyFor, GoesWellFor, IsHealthyFor, IsSpared}
+use Rattle.driver_history.specs.Histories.{IsHistory, Ties}
+use Rattle.driver_history.specs.Trace.{LeavesEngine}
+use Rattle.driver_history.proofs.Calm.{EntryIsTold, engine_left, restarts_of, spared, tick_spares}
+use Rattle.driver_history.proofs.Lasting.{StepsKeepWell}
+use Rattle.driver_history.proofs.Leaving.{left_well}
+use Rattle.driver_history.proofs.Resting.{belongs_of}
+
+-- calls that are neither a service, nor a tick, nor a reset leave each port what it is, and answer nobody
+same_port : (ask : Ask DeviceStep) (said : Said) (old : Moment) (evidence : Evidence) (steps : List Step) (new : Moment) (port : Port) → IsAnswered ask said old evidence steps new
+    → ask ≢ Service → ask ≢ Tick → ask ≢ Reset → SamePort old.ports new.ports port
+same_port (Submit r) (Submitted (Ok id)) old evidence steps new port a one two three = a.2 port
+same_port (Submit r) (Submitted (Err refusal)) old evidence steps new port a one two three = a.2 port
+same_port (StoreAt client frame offset bytes) (Stored None) old evidence steps new port a one two three = a.2 port
+same_port (StoreAt client frame offset bytes) (Stored (Some fault)) old evidence steps new port a one two three = a.2 port
+same_port (LoadAt client frame offset count) (Loaded (Ok bytes)) old evidence steps new port a one two three = a.2 port
+same_port (LoadAt client frame offset count) (Loaded (Err fault)) old evidence steps new port a one two three = a.2 port
+same_port (State at) (Shown state) old evidence steps new port a one two three = a.2 port
+same_port (Told step) (Stepped true) old evidence steps new port a one two three = a.1 port
+same_port (Told step) (Stepped false) old evidence steps new port a one two three = a.1 port
+same_port Service said old evidence steps new port a one two three = absurd (one refl)
+same_port Tick said old evidence steps new port a one two three = absurd (two refl)
+same_port Reset said old evidence steps new port a one two three = absurd (three refl)
+same_port ask said old evidence steps new port a one two three = absurd a
+
+answers_none : (ask : Ask DeviceStep) (ports : Ports) (e : Pending) (o : Outcome) → IsServers ask ports (Answer e o) → ask ≢ Service → ask ≢ Tick → ask ≢ Reset → ⊥
+answers_none (Submit r) ports e o s one two three = s
+answers_none (StoreAt client frame offset bytes) ports e o s one two three = s
+answers_none (LoadAt client frame offset count) ports e o s one two three = s
+answers_none (State at) ports e o s one two three = s
+answers_none (Told step) ports e o s one two three = s
+answers_none Service ports e o s one two three = one refl
+answers_none Tick ports e o s one two three = two refl
+answers_none Reset ports e o s one two three = three refl
+
+-- whether it is a service, a tick, a reset, or none of these
+data Kind (ask : Ask DeviceStep) : Type 0 where
+  service : ask ≡ Service → Kind ask
+  tick : ask ≡ Tick → Kind ask
+  reset : ask ≡ Reset → Kind ask
+  other : ask ≢ Service → ask ≢ Tick → ask ≢ Reset → Kind ask
+
+kind_of : (ask : Ask DeviceStep) → Kind ask
+kind_of Service = service refl
+kind_of Tick = tick refl
+kind_of Reset = reset refl
+kind_of (Submit r) = other (λ e. let z : Submit r ≡ Service = e in absurd cc) (λ e. let z : Submit r ≡ Tick = e in absurd cc) (λ e. let z : Submit r ≡ Reset = e in absurd cc)
+kind_of (StoreAt client frame offset bytes) =
+    other (λ e. let z : StoreAt client frame offset bytes ≡ Service = e in absurd cc) (λ e. let z : StoreAt client frame offset bytes ≡ Tick = e in absurd cc) (λ e. let z : StoreAt client frame offset bytes ≡ Reset = e in absurd cc)
+kind_of (LoadAt client frame offset count) =
+    other (λ e. let z : LoadAt client frame offset count ≡ Service = e in absurd cc) (λ e. let z : LoadAt client frame offset count ≡ Tick = e in absurd cc) (λ e. let z : LoadAt client frame offset count ≡ Reset = e in absurd cc)
+kind_of (State at) = other (λ e. let z : State at ≡ Service = e in absurd cc) (λ e. let z : State at ≡ Tick = e in absurd cc) (λ e. let z : State at ≡ Reset = e in absurd cc)
+kind_of (Told step) = other (λ e. let z : Told step ≡ Service = e in absurd cc) (λ e. let z : Told step ≡ Tick = e in absurd cc) (λ e. let z : Told step ≡ Reset = e in absurd cc)
+
+module _ (told : EntryIsTold) (steps : StepsKeepWell) (wanted : List Wanted) (first : Instant Device) (port : Port) where
+  module _ (past : List (Happening Device DeviceStep)) (h : Happening Device DeviceStep) (history : IsHistory wanted first (h ∷ past)) (healthy : IsHealthyFor (now first past) h port) where
+    abbrev old : Instant Device
+    old = now first past
+
+    t : Ties wanted old h
+    t = history.2
+
+    engine : All (LeavesEngine port) t.accesses
+    engine = engine_left told wanted old h t port healthy.healthy healthy.no_reset
+        (tick_spares h.event.ask h.event.said old.moment h.event.evidence h.event.steps (moment_after old.moment h.event) port history.1.answered healthy.young) healthy.ready
+
+    left_alone : Kind h.event.ask → IsSpared old h t.accesses port
+    left_alone (service asks) = spared told wanted old h t port healthy.healthy asks healthy.ready
+    left_alone (reset asks) = absurd (healthy.no_reset asks)
+    left_alone (tick asks) =
+        let r = restarts_of h.event.ask h.event.said old.moment h.event.evidence h.event.steps (moment_after old.moment h.event) history.1.answered asks in
+        record {
+          same = ⊎_elim (λ (calm : _ × _). calm.1) (λ (hung : _ × _). absurd (healthy.young asks hung.0)) (r.ports port);
+          told = λ e o here own. absurd (healthy.young asks (subst (IsHung old.moment) own (r.answer e o here)));
+          engine = engine;
+        }
+    left_alone (other one two three) = record {
+      same = same_port h.event.ask h.event.said old.moment h.event.evidence h.event.steps (moment_after old.moment h.event) port history.1.answered one two three;
+      told = λ e o here own. absurd (⊎_elim (λ (d : ⊥). d) (λ s. answers_none h.event.ask h.event.ports e o s one two three) (belongs_of h.event.ask h.event.ports h.event.steps history.1.belong (Answer e o) here));
+      engine = engine;
+    }
+
+    goes_well : GoesWellFor old h port
+    goes_well = record {
+      accesses = t.accesses;
+      came = t.came;
+      spared = left_alone (kind_of h.event.ask);
+      well = left_well told steps wanted first past h port history healthy.ready healthy.no_reset healthy.young healthy.healthy;
+      finds = (t.port port healthy.healthy).finds;
+      issues = t.issues port;
+    }
+
+  pub all_go_well : (past : List (Happening Device DeviceStep)) → IsHistory wanted first past → AllHealthyFor port first past → AllGoWellFor port first past
+  all_go_well [] history healthy = tt
+  all_go_well (h ∷ past) history healthy = (all_go_well past history.0 healthy.0, goes_well past h history healthy.1)
