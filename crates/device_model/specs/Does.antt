@@ -117,8 +117,8 @@ pub record Did {S : Type 0} (size : S → ℕ) (told : S → Option (ℕ → Lis
   pub starved : new.hardware.starved ≡ old.hardware.starved
 
 -- A step that is left: nothing is another, but the store of the disk that is in, where the step moves a sector and a call on it has failed, and that
--- want of memory may be told now. A step that is possible, and served, is left only where there was no room to note it without growing, and that is told as want of memory. It is
--- told where it was, and else only where the step was possible and there was no such room.
+-- want of memory may be told now. A step that is possible, and served, is left only where there was no room to note it without growing, and
+-- that is told as want of memory. It is told where it was, and else only where the step was possible and there was no such room.
 pub record IsLeftOut {S : Type 0} (size : S → ℕ) (told : S → Option (ℕ → List ℕ)) (failures : S → Option ℕ) (s : DeviceStep) (old new : Model S) : Type 0 where
   pub device : device_at size told new ≡ device_at size told old
   pub held : new.held ≡ old.held
