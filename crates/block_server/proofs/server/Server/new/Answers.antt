@@ -1,4 +1,5 @@
 use Rattle.std.proofs.Common.{◌≡◌, ◌*◌, ◌≤◌, List, map, refl, sym, ◌∙◌, ap, subst, arith}
+use Rattle.std.proofs.lemmas.Grind.{common_steps}
 use Rattle.std.specs.List.{AllPairs}
 use Rattle.ata_types.specs.declared.grant.GrantRow.{GrantRow}
 use Rattle.block_machine.specs.Rules.{DifferInName}
@@ -56,3 +57,6 @@ returns-clause-made g c =
           (new_fits s c.take_over.result plan c.in-Ok.ensures.fits rows
           (rw c.owners.ensures.owners at c.in-Ok-boxed.ensures.only) room c.in-Ok-from_rows.ensures.names c.in-Ok-from_rows.ensures.few c.in-Ok-boxed.ensures.free refl c.take_over.ensures.four c.in-Ok-new.ensures.empty refl)).1;
     }
+
+pub returns-in-Err-clause-refused : goal.returns-in-Err-clause-refused
+returns-in-Err-clause-refused g c = grind (arith, common_steps)
