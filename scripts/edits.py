@@ -123,7 +123,7 @@ def without_parameters(text):
 
 
 def block_name(kind, head):
-    """What a block adds to the names of the functions in it, and the type that it is of, if it is of one."""
+    """What a block adds to the names of the functions in it, and the type in whose module these stand, if not in that of the block."""
     head = re.sub(r"^<(?:[^<>]|<[^<>]*>)*>", "", head.partition(" where ")[0].strip()).strip()
     if kind != "impl":
         return without_parameters(head).partition(":")[0].strip(), None
@@ -132,7 +132,7 @@ def block_name(kind, head):
     # (where a trait has arguments, their types are a part of the name)
     arguments = of.partition("<")[2].rpartition(">")[0]
     whole = last(to) + last(of) + "".join(map(last, arguments.split(", "))) if to else last(of)
-    return whole, last(to) if to else last(of)
+    return whole, None if to else last(of)
 
 
 def module_of(path):
@@ -142,7 +142,7 @@ def module_of(path):
 
 
 def functions_in(path, text, types):
-    """The functions of a file. A method's name begins with the module in which its type stands."""
+    """The functions of a file. A method's name begins with the module in which its type stands, or, where it is a trait's, its `impl`."""
     lines, found, inside = text.split("\n"), [], []
     for at, line in enumerate(lines):
         inside = [it for it in inside if at <= it[1]]

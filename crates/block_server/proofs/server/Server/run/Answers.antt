@@ -1,4 +1,5 @@
 use Rattle.std.proofs.Common.{◌<◌, ◌++◌, ◌∷◌, List, sym, ◌∙◌, ap, subst, [], append_assoc, length, take, arith}
+use Rattle.std.proofs.lemmas.Grind.{common_steps}
 use Rattle.std.proofs.lemmas.List.{append-nil, take_more}
 use Rattle.block_server.specs.Running.{Answered, Ran}
 use Rattle.block_server.specs.declared.types.Event.{Event}
@@ -32,3 +33,6 @@ loop-at-preserved g c =
       length = let n = c.push_reserved.ensures.len in let r = c.reserve.ensures.len in let i = c.loop-at.invariant.length in omega (arith, n, r, i);
       room = omega (arith, c.loop-at.invariant.room, c.reserve.ensures.capacity, c.push_reserved.ensures.capacity);
     }
+
+pub returns-then-is_err-clause-ample : goal.returns-then-is_err-clause-ample
+returns-then-is_err-clause-ample g c = grind (arith, common_steps)

@@ -1,4 +1,5 @@
 use Rattle.std.proofs.Common.{◌≡◌, ◌++◌, List, [], ◌∷◌, Option, None, Some, append_assoc, arith, length, sym, ap, ◌∙◌, subst, rules}
+use Rattle.std.proofs.lemmas.Grind.{common_steps}
 use Rattle.ata_types.specs.declared.request.Reply.{Reply}
 use Rattle.agreement.specs.Agrees.{port_at}
 use Rattle.block_server.specs.View.{ServerView, server_of}
@@ -61,3 +62,6 @@ returns-clause-adds g c =
     let K : ServerView g.row.A.Denot → Type 0 = λ v. IsKept (server_of g.A.Adapter.device v) in
     services_add (server_of g.A.Adapter.device c.args.self.now) (server_of g.A.Adapter.device c.loop-number.self) c.loop-number.replies.items
     (subst K c.self.view_is c.self.invariant) (returns-clause-services g c).serves
+
+pub loop-number-init : goal.loop-number-init
+loop-number-init g c = grind (arith, common_steps)

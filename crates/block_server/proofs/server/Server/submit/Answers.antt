@@ -1,4 +1,5 @@
-use Rattle.std.proofs.Common.{Err, sym, ap, ◌∙◌, subst}
+use Rattle.std.proofs.Common.{Err, sym, ap, ◌∙◌, subst, arith}
+use Rattle.std.proofs.lemmas.Grind.{common_steps}
 use Rattle.std.proofs.lemmas.Result.{err_from_is_err_and}
 use Rattle.block_machine.specs.Events.{Submit, Submitted}
 use Rattle.server_history.specs.Histories.{Adds}
@@ -13,3 +14,6 @@ returns-in_err-port-clause-adds g c =
     let s = server_of g.A.Adapter.device c.args.self.now in
     subst (λ r. Adds s s (Submit c.args.r.now) (Submitted r)) (sym (told.1 ∙ ap Err told.2))
     (submit_refused s c.args.r.now c.in_err-port.field-0.0 (subst (λ (v : ServerView g.row.A.Denot). IsKept (server_of g.A.Adapter.device v)) c.self.view_is c.self.invariant) c.in_err-port.ensures.refused)
+
+pub accept-requires-clause-port : goal.accept-requires-clause-port
+accept-requires-clause-port g c = grind (arith, common_steps)
