@@ -23,7 +23,7 @@ use Rattle.identify.specs.declared.wanted.Wanted.{Wanted}
 use Rattle.driver_history.specs.Claims.{IsSpared}
 use Rattle.driver_history.specs.Evidence.{Gains, HasErrors, IsEvidencedOf, IsGone, ShowsFailure, ShowsFatal}
 use Rattle.driver_history.specs.Guard.{StaysHealthy}
-use Rattle.driver_history.specs.Histories.{Ties}
+use Rattle.driver_history.specs.Histories.{LosesNoTrouble, Ties}
 use Rattle.driver_history.specs.Trace.{LeavesEngine}
 
 -- what the law on disks says
@@ -71,6 +71,22 @@ no_fatal p quiet f = let low = f.from in let high = f.to in false≢true (sym (q
 
 no_failure : (p : PortState) → ShowsNoTrouble p → ShowsFailure p → ⊥
 no_failure p quiet f = ⊎_elim (no_fatal p quiet) (λ fault. false≢true (sym (quiet.quiet 30 (omega arith) (omega arith)) ∙ fault)) f
+
+-- a port that stays healthy has no trouble that could be lost
+pub untroubled : (evidence : Evidence) (old : Instant Device) (new : Device) (port : Port) → StaysHealthy port.0 old.device new → LosesNoTrouble evidence old new port
+untroubled evidence old new port healthy = record {
+  errors = λ ready trouble. absurd (⊎_elim
+      (no_failure (old.device.port port.0) healthy.well.quiet)
+      (λ g. ⊎_elim
+      (none_gained port.0 (IsFaultOf port.0) old.device new (fault_disturbs port.0) healthy.undisturbed)
+      (none_gained port.0 (IsFatalOf port.0) old.device new (fatal_disturbs port.0) healthy.undisturbed)
+      g)
+      trouble);
+  changes = λ ready trouble. absurd (⊎_elim
+      (λ change. ⊎_elim (λ n. false≢true (sym healthy.well.quiet.serr_n ∙ n)) (λ x. false≢true (sym healthy.well.quiet.serr_x ∙ x)) change)
+      (none_gained port.0 (IsPlugging port.0) old.device new (plugging_disturbs port.0) healthy.undisturbed)
+      trouble);
+}
 
 -- ---- a call in which a port stays healthy
 

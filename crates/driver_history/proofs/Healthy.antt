@@ -11,7 +11,7 @@ use Rattle.block_machine.specs.Ports.{Ports, Evidence, SamePort}
 use Rattle.block_machine.specs.State.{Pending}
 use Rattle.block_machine.specs.Steps.{Step, Answer}
 use Rattle.identify.specs.declared.wanted.Wanted.{Wanted}
-use Rattle.driver_history.specs.Claims.{AllGoWellFor, AllHealthyFor, GoesWellFor, IsHealthyFor, IsSpared}
+use Rattle.driver_history.specs.Claims.{GoesWellFor, IsHealthyFor, IsSpared}
 use Rattle.driver_history.specs.Histories.{IsHistory, Ties}
 use Rattle.driver_history.specs.Trace.{LeavesEngine}
 use Rattle.driver_history.proofs.Calm.{EntryIsTold, engine_left, restarts_of, spared, tick_spares}
@@ -93,7 +93,7 @@ module _ (told : EntryIsTold) (steps : StepsKeepWell) (wanted : List Wanted) (fi
       engine = engine;
     }
 
-    goes_well : GoesWellFor old h port
+    pub goes_well : GoesWellFor old h port
     goes_well = record {
       accesses = t.accesses;
       came = t.came;
@@ -102,7 +102,3 @@ module _ (told : EntryIsTold) (steps : StepsKeepWell) (wanted : List Wanted) (fi
       finds = (t.port port healthy.healthy).finds;
       issues = t.issues port;
     }
-
-  pub all_go_well : (past : List (Happening Device DeviceStep)) → IsHistory wanted first past → AllHealthyFor port first past → AllGoWellFor port first past
-  all_go_well [] history healthy = tt
-  all_go_well (h ∷ past) history healthy = (all_go_well past history.0 healthy.0, goes_well past h history healthy.1)

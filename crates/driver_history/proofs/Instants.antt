@@ -42,7 +42,7 @@ ready_at wanted i port fit s holds ready =
 
 module _ (wanted : List Wanted) where
   pub holds_at : (first : Instant Device) (past : List (Happening Device DeviceStep)) → IsHistory wanted first past → HoldsAt wanted (now first past)
-  holds_at first [] h = h.1
+  holds_at first [] h = h.1.0
   holds_at first (x ∷ past) h = h.2.holds
 
   pub fit_at : (first : Instant Device) (past : List (Happening Device DeviceStep)) → IsHistory wanted first past → AreFit (now first past).moment.ports

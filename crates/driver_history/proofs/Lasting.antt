@@ -15,11 +15,10 @@ use Rattle.adapter.specs.declared.access.DeviceStep.{DeviceStep}
 use Rattle.adapter.proofs.Going.{asked_steps}
 use Rattle.agreement.specs.Facts.{RunsWell, Undisturbed}
 use Rattle.agreement.specs.Links.{SparesRegister}
-use Rattle.block_machine.specs.Events.{Ask, Submit, StoreAt, LoadAt, Service, Tick, Reset, Device as Told, Said, Submitted, Stored, Loaded, Served, Stepped}
-use Rattle.block_machine.specs.State.{Machine}
+use Rattle.block_machine.specs.Events.{Ask, Submit, StoreAt, LoadAt, Service, Tick, Reset, Device as Told, Said, Submitted, Stored, Loaded, Served, Stepped, IsHung, Moment}
 use Rattle.host_boot.proofs.Running.{well_on}
 use Rattle.port_boot.proofs.Enduring.{lasts}
-use Rattle.driver_history.specs.Histories.{CameBy, IsIssuing}
+use Rattle.driver_history.specs.Histories.{CameBy, IsIssuing, ServesPort}
 use Rattle.driver_history.specs.Trace.{IsServing, LeavesEngine}
 
 -- it writes neither GHC, nor PxCMD or PxSCTL of the port
@@ -46,12 +45,12 @@ one_leaves port access is = All-cons (LeavesRunning port) access [] is (All-nil 
 abbrev pub IsNoReset : Ask DeviceStep → Type 0
 IsNoReset ask = ask ≢ Reset
 
-module _ (port : Port) (m : Machine) (accesses : List Access) (old new : Device) where
+module _ (port : Port) (m : Moment) (accesses : List Access) (old new : Device) where
   abbrev Calm : Type 0
   Calm = IsCalm port accesses old new
 
-  serving : All IsServing accesses → All (LeavesEngine port) accesses → All (LeavesRunning port) accesses
-  serving serves leaves i e small = ((serves i e small).1, leaves i e small)
+  serving : (Such : Port → Type 0) → All (IsServing Such) accesses → All (LeavesEngine port) accesses → All (LeavesRunning port) accesses
+  serving Such serves leaves i e small = ((serves i e small).1, leaves i e small)
 
   none : accesses ≡ [] → new ≡ old → Calm
   none made same = inl (subst (λ (list : List Access). All (LeavesRunning port) list × DoesAll list old new) (sym made) (All-nil (LeavesRunning port), same))
@@ -64,8 +63,8 @@ module _ (port : Port) (m : Machine) (accesses : List Access) (old new : Device)
       inl (subst (All (LeavesRunning port)) (sym c.1) (one_leaves port (Storing (FRAME_BYTES * frame.0 + offset) bytes) (tt, (tt, tt))), c.0)
   came_calmly (LoadAt client frame offset count) (Loaded (Ok bytes)) c other leaves =
       inl (subst (All (LeavesRunning port)) (sym c.1) (one_leaves port (Loading (FRAME_BYTES * frame.0 + offset) bytes) (tt, (tt, tt))), c.0)
-  came_calmly Service (Served replies) c other leaves = inl (serving c.1 leaves, c.0)
-  came_calmly Tick (Served replies) c other leaves = inl (serving c.1 leaves, c.0)
+  came_calmly Service (Served replies) c other leaves = inl (serving (ServesPort m.ports) c.1 leaves, c.0)
+  came_calmly Tick (Served replies) c other leaves = inl (serving (IsHung m) c.1 leaves, c.0)
   came_calmly Reset said c other leaves = absurd (other refl)
   came_calmly ask said c other leaves = none c.0 c.1
 

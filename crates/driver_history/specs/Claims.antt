@@ -53,18 +53,8 @@ pub record IsHealthyFor (old : Instant Device) (h : Happening Device DeviceStep)
 -- done; and what is due is issued.
 pub record GoesWellFor (old : Instant Device) (h : Happening Device DeviceStep) (port : Port) : Type 0 where
   pub accesses : List Access
-  pub came : CameBy old.moment.machine h.event.ask h.event.said accesses old.device h.device
+  pub came : CameBy old.moment h.event.ask h.event.said accesses old.device h.device
   pub spared : IsSpared old h accesses port
   pub well : RunsWell (h.device.port port.0)
   pub finds : Finds h.event.ask accesses old h.event.steps port
   pub issues : Issues h.event.ask h.event.steps (moment_after old.moment h.event).machine h.event.ports port
-
--- each call is healthy for the port
-abbrev pub AllHealthyFor : Port → Instant Device → List (Happening Device DeviceStep) → Type 0
-AllHealthyFor port first [] = Unit {0}
-AllHealthyFor port first (h ∷ past) = AllHealthyFor port first past × IsHealthyFor (now first past) h port
-
--- each goes well for it
-abbrev pub AllGoWellFor : Port → Instant Device → List (Happening Device DeviceStep) → Type 0
-AllGoWellFor port first [] = Unit {0}
-AllGoWellFor port first (h ∷ past) = AllGoWellFor port first past × GoesWellFor (now first past) h port

@@ -1,5 +1,6 @@
--- What the server doesn't do yet: each clause that waits for it has one of these for its premise, and loses it when the server does it
--- (this project's own).
+-- What the server doesn't do yet (this project's own). What a call does of a port is asked where the port stays healthy, and loses that premise
+-- when the server heeds trouble. Until then this asks nothing of what is done about a fault, a fatal error, a disk that went or came, or a port
+-- that isn't ready, since none of these is there on a port that stays healthy.
 use Rattle.std.specs.Prelude.{ℕ, Bool, false}
 use Rattle.adapter.specs.Device.{Device}
 use Rattle.agreement.specs.Facts.{RunsWell, Undisturbed}
@@ -10,6 +11,6 @@ pub record StaysHealthy (port : ℕ) (old new : Device) : Type 0 where
   pub well : RunsWell (old.port port)
   pub undisturbed : Undisturbed port old new
 
--- Commands aren't queued: whatever adapter and disk can do, one is issued at a time.
+-- Commands aren't queued: whatever adapter and disk can do, one is issued at a time. (This becomes `true` when they are.)
 abbrev pub queues_commands : Bool
 queues_commands = false

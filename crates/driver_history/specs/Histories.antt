@@ -14,26 +14,28 @@ use Rattle.adapter.specs.Access.Access.{Writing, Loading, Storing}
 use Rattle.adapter.specs.Asked.{Asked}
 use Rattle.adapter.specs.Commands.{is_queued}
 use Rattle.adapter.specs.Device.{PortState, Device}
+use Rattle.adapter.specs.Rules.{IsOn}
 use Rattle.adapter.specs.declared.access.DeviceStep.{DeviceStep}
 use Rattle.agreement.specs.Driver.{IsBacked}
-use Rattle.agreement.specs.Errors.{NoneComes, NoneFatal}
+use Rattle.agreement.specs.Errors.{IsFatalOf, NoneComes, NoneFatal}
+use Rattle.agreement.specs.Facts.{RunsWell, Undisturbed, IsFaultOf}
 use Rattle.agreement.specs.Links.{IsPlugging, PlugsNone}
 use Rattle.agreement.specs.Slots.{ServesRequest}
-use Rattle.block_machine.specs.Events.{Ask, Submit, StoreAt, LoadAt, Service, Tick, Reset, Device as Told, Said, Submitted, Stored, Loaded, Served, WasReset, Stepped, HeedsAt, IsHung, IsIssuedIn, issues_it, moment_after}
+use Rattle.block_machine.specs.Events.{Ask, Submit, StoreAt, LoadAt, Service, Tick, Reset, Device as Told, Said, Submitted, Stored, Loaded, Served, WasReset, Stepped, Moment, HeedsAt, IsHung, IsIssuedIn, issues_it, moment_after}
 use Rattle.block_machine.specs.Due.{IsDue}
 use Rattle.block_machine.specs.Histories.{Instant, Happening}
 use Rattle.block_machine.specs.Histories as histories
-use Rattle.block_machine.specs.Ports.{Ports, SamePort}
+use Rattle.block_machine.specs.Ports.{Ports, SamePort, Evidence, IsInterrupted}
 use Rattle.block_machine.specs.Rules.{IsNamed}
 use Rattle.block_machine.specs.State.{Pending, Machine, unanswered}
 use Rattle.block_machine.specs.Steps.{Step, Answer}
 use Rattle.block_machine.specs.declared.due.Mode.{Mode}
 use Rattle.block_machine.specs.declared.due.Unanswered.{Unanswered}
 use Rattle.identify.specs.declared.wanted.Wanted.{Wanted}
-use Rattle.driver_history.specs.Evidence.{Gains, ShowsChange, ShowsFatal, IsEvidenced}
+use Rattle.driver_history.specs.Evidence.{Gains, ShowsChange, ShowsFailure, ShowsFatal, ShowsLoss, IsEvidenced}
 use Rattle.driver_history.specs.Guard.{StaysHealthy}
 use Rattle.driver_history.specs.Holds.{HoldsAt}
-use Rattle.driver_history.specs.Trace.{ReadsMasks, IsServing, IsDriversOwn, BeginsReset, EndsWithReset}
+use Rattle.driver_history.specs.Trace.{ReadsMasks, ResetsLink, IsServing, IsDriversOwn, IsOfPorts, AwaitsReset, BeginsReset}
 
 -- ---- how a call came from the one device to the other
 
@@ -43,22 +45,34 @@ IsIssuing port (Writing r v) = (r ≡ Px port Sact) ⊎ (r ≡ Px port Ci)
 IsIssuing port (Storing at bytes) = at + length bytes ≤ DRIVER_BYTES
 IsIssuing port access = ⊥
 
+-- the server serves the port
+abbrev pub ServesPort : Ports → Port → Type 0
+ServesPort ports port = ports.served port ≡ true
+
+-- The adapter is on, and tells of its causes (AHCI 1.3.1, 3.1.2: AE and IE).
+abbrev pub IsOnAndTells : Device → Type 0
+IsOnAndTells d = IsOn d × (d.ie ≡ true)
+
 -- What was done in a call. A device step is the device's own, with no access. A client's bytes are stored, or loaded, by one access. For a
--- request that is accepted requests of its port are issued, if any. A service, a tick and a reset make accesses; what the driver stores and
--- loads in them lies in its own frames, and a reset alone writes GHC. Each other call makes none, a refused one among them.
-abbrev pub CameBy : Machine → Ask DeviceStep → Said → List Access → Device → Device → Type 0
-CameBy m (Told step) (Stepped true) accesses old new = (accesses ≡ []) × Asked step old new
-CameBy m (Submit r) (Submitted (Ok id)) accesses old new =
-    DoesAll accesses old new × ((row : GrantRow) × IsNamed m.rows r row × All (IsIssuing row.port) accesses)
-CameBy m (StoreAt client frame offset bytes) (Stored None) accesses old new =
+-- request that is accepted requests of its port are issued, if any. A service, a tick and a reset make accesses: what the driver stores and
+-- loads in them lies in its own frames, and of ports' registers they use those of served ports alone, a tick those of hung ports. Neither a
+-- service nor a tick writes GHC. A reset that ends leaves the adapter on; of one that doesn't, no more is seen than that. Each other call makes
+-- none, a refused one among them.
+abbrev pub CameBy : Moment → Ask DeviceStep → Said → List Access → Device → Device → Type 0
+CameBy now (Told step) (Stepped true) accesses old new = (accesses ≡ []) × Asked step old new
+CameBy now (Submit r) (Submitted (Ok id)) accesses old new =
+    DoesAll accesses old new × ((row : GrantRow) × IsNamed now.machine.rows r row × All (IsIssuing row.port) accesses)
+CameBy now (StoreAt client frame offset bytes) (Stored None) accesses old new =
     DoesAll accesses old new × (accesses ≡ Storing (FRAME_BYTES * frame.0 + offset) bytes ∷ [])
-CameBy m (LoadAt client frame offset count) (Loaded (Ok bytes)) accesses old new =
+CameBy now (LoadAt client frame offset count) (Loaded (Ok bytes)) accesses old new =
     DoesAll accesses old new × (accesses ≡ Loading (FRAME_BYTES * frame.0 + offset) bytes ∷ [])
-CameBy m Service (Served replies) accesses old new = DoesAll accesses old new × All IsServing accesses
-CameBy m Tick (Served replies) accesses old new = DoesAll accesses old new × All IsServing accesses
-CameBy m Reset (WasReset (Some replies)) accesses old new = DoesAll accesses old new × All IsDriversOwn accesses × BeginsReset accesses
-CameBy m Reset (WasReset None) accesses old new = DoesAll accesses old new × BeginsReset accesses × EndsWithReset accesses
-CameBy m ask said accesses old new = (accesses ≡ []) × (new ≡ old)
+CameBy now Service (Served replies) accesses old new = DoesAll accesses old new × All (IsServing (ServesPort now.ports)) accesses
+CameBy now Tick (Served replies) accesses old new = DoesAll accesses old new × All (IsServing (IsHung now)) accesses
+CameBy now Reset (WasReset (Some replies)) accesses old new =
+    DoesAll accesses old new × All IsDriversOwn accesses × All (IsOfPorts (ServesPort now.ports)) accesses × BeginsReset accesses
+    × IsOnAndTells new
+CameBy now Reset (WasReset None) accesses old new = DoesAll accesses old new × AwaitsReset accesses
+CameBy now ask said accesses old new = (accesses ≡ []) × (new ≡ old)
 
 -- ---- what is issued
 
@@ -91,7 +105,7 @@ pub record IsIssuedOn (port : Port) (m : Machine) (e : Pending) : Type 0 where
   pub port_is : e.request.port ≡ port
   pub issued : e.issued ≡ true
 
--- The masks were read once the call began; and of the port's requests that were issued then, exactly those are answered Ok whose bits were clear
+-- The masks were read, at some time in the call; and of the port's requests that were issued then, exactly those are answered Ok whose bits were clear
 -- in both.
 pub record FindsDone (port : Port) (accesses : List Access) (old : Instant Device) (steps : List Step) : Type 0 where
   pub ci : ℕ
@@ -117,7 +131,7 @@ pub record ShowsFaultAlone (p : PortState) : Type 0 where
   pub change : ShowsChange p → ⊥
   pub device : p.ssts_det ≡ 3
 
--- so it was when the call began, and no fatal error came in it, nor a disk, nor went one
+-- so it was of a ready port when the call began, and no fatal error came in it, nor a disk, nor went one
 pub record HasFaultAlone (port : Port) (old : Instant Device) (new : Device) : Type 0 where
   pub ready : old.moment.ports.state port ≡ Ready
   pub shows : ShowsFaultAlone (old.device.port port.0)
@@ -139,9 +153,9 @@ TellsPlainFaults ask old ports new steps port = Unit {0}
 
 -- ---- disks that are there are tried
 
--- PxSCTL of the port was written in this very call: so what its readings count, and its disk's last page, are of this boot
-abbrev pub WasBooted : Port → Device → Device → Type 0
-WasBooted port old new = length old.tape ≤ (new.port port.0).notes.sctl_written_at
+-- The port was booted in this very call: COMRESET was sent, so what its readings count, and its disk's last page, are of this boot.
+abbrev pub WasBooted : Port → List Access → Device → Device → Type 0
+WasBooted port accesses old new = ResetsLink port accesses × (length old.tape ≤ (new.port port.0).notes.sctl_written_at)
 
 -- its first FIS has come, or no device shows
 abbrev pub IsFreshOrGone : PortState → Type 0
@@ -151,11 +165,12 @@ IsFreshOrGone p = (p.fresh ≡ true) ⊎ (p.ssts_det ≢ 3)
 abbrev pub HasBadDisk : Ports → Port → Type 0
 HasBadDisk ports port = (ports.state port ≡ Foreign) ⊎ ((cause : ℕ) × (ports.state port ≡ Unfit cause))
 
--- A service in which no disk of a served port comes boots what is there: an absent port that shows a device, unless that goes before it is
--- looked at; and an unfit or foreign one without a device, or with X set. After that the disk's first FIS has come, or there is no disk.
-pub record TriesDisk (old : Instant Device) (ports : Ports) (new : Device) (port : Port) : Type 0 where
+-- A service in which no disk of a served port comes boots what is there: an absent port that shows a device, unless that goes meanwhile;
+-- and an unfit or foreign one with X set; one without a device is absent from then on. After a boot the disk's first FIS has come, or there
+-- is no disk.
+pub record TriesDisk (accesses : List Access) (old : Instant Device) (ports : Ports) (new : Device) (port : Port) : Type 0 where
   pub shown : old.moment.ports.state port ≡ Absent → (old.device.port port.0).ssts_det ≡ 3
-      → (ports.state port ≡ Dead) ⊎ (WasBooted port old.device new ⊎ Gains (IsPlugging port.0) old.device new)
+      → (ports.state port ≡ Dead) ⊎ (WasBooted port accesses old.device new ⊎ Gains (IsPlugging port.0) old.device new)
   pub absent : old.moment.ports.state port ≡ Absent → (old.device.port port.0).ssts_det ≡ 3 → (old.device.port port.0).fresh ≡ false
       → (ports.state port ≡ Dead) ⊎ IsFreshOrGone (new.port port.0)
   pub missing : HasBadDisk old.moment.ports port → (old.device.port port.0).ssts_det ≢ 3
@@ -164,50 +179,72 @@ pub record TriesDisk (old : Instant Device) (ports : Ports) (new : Device) (port
       → (ports.state port ≡ Absent) ⊎ ((ports.state port ≡ Dead)
       ⊎ (((new.port port.0).serr_x ≡ false) × IsFreshOrGone (new.port port.0)))
 
-abbrev pub Tries : Ask DeviceStep → Instant Device → Ports → Device → Port → Type 0
-Tries Service old ports new port = old.moment.ports.served port ≡ true → NoneComes port.0 old.device new → TriesDisk old ports new port
-Tries ask old ports new port = Unit {0}
+abbrev pub Tries : Ask DeviceStep → List Access → Instant Device → Ports → Device → Port → Type 0
+Tries Service accesses old ports new port =
+    old.moment.ports.served port ≡ true → NoneComes port.0 old.device new → TriesDisk accesses old ports new port
+Tries ask accesses old ports new port = Unit {0}
 
 -- ---- boots are made anew
 
--- A reset that ends boots each served port, unless that gets stuck; so does a tick with each that is hung; and a service with each that met a
--- fatal error, and with each that it shows anew, but as absent or dead.
-abbrev pub Boots : Ask DeviceStep → Said → Instant Device → Ports → Device → Port → Type 0
-Boots Reset (WasReset (Some replies)) old ports new port =
-    old.moment.ports.served port ≡ true → (ports.state port ≡ Dead) ⊎ WasBooted port old.device new
-Boots Tick said old ports new port = IsHung old.moment port → (ports.state port ≡ Dead) ⊎ WasBooted port old.device new
-Boots Service said old ports new port =
-    (old.moment.ports.state port ≡ Ready → ShowsFatal (old.device.port port.0)
-    → (ports.state port ≡ Dead) ⊎ ((ports.state port ≡ Absent) ⊎ WasBooted port old.device new))
+-- A reset that ends boots each served port, unless that gets stuck; so does a tick with each that is hung; and a service with each ready one that
+-- met a fatal error or lost its disk, and with each that it shows anew, but as absent or dead.
+abbrev pub BootsAnew : Ask DeviceStep → Said → List Access → Instant Device → Ports → Device → Port → Type 0
+BootsAnew Reset (WasReset (Some replies)) accesses old ports new port =
+    old.moment.ports.served port ≡ true → (ports.state port ≡ Dead) ⊎ WasBooted port accesses old.device new
+BootsAnew Tick said accesses old ports new port =
+    IsHung old.moment port → (ports.state port ≡ Dead) ⊎ WasBooted port accesses old.device new
+BootsAnew Service said accesses old ports new port =
+    (old.moment.ports.state port ≡ Ready → ShowsFatal (old.device.port port.0) ⊎ ShowsLoss port old.device new
+    → (ports.state port ≡ Dead) ⊎ ((ports.state port ≡ Absent) ⊎ WasBooted port accesses old.device new))
     × (SamePort old.moment.ports ports port
-    ⊎ ((ports.state port ≡ Dead) ⊎ ((ports.state port ≡ Absent) ⊎ WasBooted port old.device new)))
-Boots ask said old ports new port = Unit {0}
+    ⊎ ((ports.state port ≡ Dead) ⊎ ((ports.state port ≡ Absent) ⊎ WasBooted port accesses old.device new)))
+BootsAnew ask said accesses old ports new port = Unit {0}
+
+-- ---- trouble is heeded, or shown still
+
+-- Errors and changes of a ready port that were there when the call began, or came in it, are shown still at its end, unless it stopped the port
+-- (or its engine got stuck). A disk that is out shows in PxSSTS.
+pub record LosesNoTrouble (evidence : Evidence) (old : Instant Device) (new : Device) (port : Port) : Type 0 where
+  pub errors : old.moment.ports.state port ≡ Ready
+      → ShowsFailure (old.device.port port.0) ⊎ (Gains (IsFaultOf port.0) old.device new ⊎ Gains (IsFatalOf port.0) old.device new)
+      → IsInterrupted evidence port ⊎ ShowsFailure (new.port port.0)
+  pub changes : old.moment.ports.state port ≡ Ready → ShowsChange (old.device.port port.0) ⊎ Gains (IsPlugging port.0) old.device new
+      → IsInterrupted evidence port ⊎ (ShowsChange (new.port port.0) ⊎ ((new.port port.0).ssts_det ≢ 3))
+
+-- Where a port was stopped and is ready after the call, its boot or its recovery has taken the trouble away: it runs well, unless there was new
+-- trouble meanwhile. (Where it isn't booted, its disk's first FIS had come, so that no link was due.)
+abbrev pub RunsWellAnew : Evidence → List Access → Instant Device → Ports → Device → Port → Type 0
+RunsWellAnew evidence accesses old ports new port =
+    IsInterrupted evidence port → ports.state port ≡ Ready → Undisturbed port.0 old.device new
+    → WasBooted port accesses old.device new ⊎ ((old.device.port port.0).fresh ≡ true) → RunsWell (new.port port.0)
 
 -- ---- one port's part in a call, and the whole
 
--- What a call has done of a port, as far as it needs the device: what was found done, a plain request's fault, a disk that is there, and boots;
--- and the call heeds what it finds of it.
+-- What a call has done of a port, as far as it needs the device: what was found done, a plain request's fault, a disk that is there, boots, and
+-- trouble; and the call heeds what it finds of it.
 pub record TiesPort (old : Instant Device) (h : Happening Device DeviceStep) (accesses : List Access) (port : Port) : Type 0 where
   pub finds : Finds h.event.ask accesses old h.event.steps port
   pub faults : TellsPlainFaults h.event.ask old h.event.ports h.device h.event.steps port
-  pub tries : Tries h.event.ask old h.event.ports h.device port
-  pub boots : Boots h.event.ask h.event.said old h.event.ports h.device port
+  pub tries : Tries h.event.ask accesses old h.event.ports h.device port
+  pub boots : BootsAnew h.event.ask h.event.said accesses old h.event.ports h.device port
+  pub trouble : LosesNoTrouble h.event.evidence old h.device port
+  pub well : RunsWellAnew h.event.evidence accesses old h.event.ports h.device port
   pub heeds : HeedsAt port h.event.ask old.moment h.event.evidence h.event.steps (moment_after old.moment h.event)
 
 -- The device's part in a call. Its accesses led there, and the tape backs the machine's steps. What stands behind the evidence is so. It has
 -- issued what is due. Of each port that stays healthy it has done its part. And after it there holds what holds at each instant.
 pub record Ties (wanted : List Wanted) (old : Instant Device) (h : Happening Device DeviceStep) : Type 0 where
   pub accesses : List Access
-  pub came : CameBy old.moment.machine h.event.ask h.event.said accesses old.device h.device
+  pub came : CameBy old.moment h.event.ask h.event.said accesses old.device h.device
   pub backed : IsBacked old.device h.device old.moment.machine h.event.steps
   pub evidenced : IsEvidenced h.event.ask h.event.said accesses old h.event.ports h.device h.event.evidence
   pub issues : (port : Port) → Issues h.event.ask h.event.steps (moment_after old.moment h.event).machine h.event.ports port
   pub port : (port : Port) → StaysHealthy port.0 old.device h.device → TiesPort old h accesses port
   pub holds : HoldsAt wanted (record { device = h.device; moment = moment_after old.moment h.event })
 
--- What a new server leaves is no more than what holds at each instant: its book is empty, since the machine is a start.
+-- What a new server leaves is what holds at each instant, with the adapter on. (Its book is empty, since the machine is a start.)
 abbrev pub Begins : List Wanted → Instant Device → Type 0
-Begins wanted first = HoldsAt wanted first
+Begins wanted first = HoldsAt wanted first × IsOnAndTells first.device
 
 -- calls one after another, from what a new server left
 abbrev pub IsHistory : List Wanted → Instant Device → List (Happening Device DeviceStep) → Type 0

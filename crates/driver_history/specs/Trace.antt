@@ -1,5 +1,5 @@
 -- What stands in the list of a call's accesses, the first access first (this project's own).
-use Rattle.std.specs.Prelude.{ℕ, true, ◌≡◌, ◌+◌, ◌≤◌, ◌++◌, List, [], ◌∷◌, length, All}
+use Rattle.std.specs.Prelude.{ℕ, true, ◌≡◌, ◌+◌, ◌%◌, ◌≤◌, ◌++◌, List, [], ◌∷◌, length, All}
 use Rattle.ata_types.specs.declared.Port.{Port}
 use Rattle.ata_types.specs.declared.memory.TheConstants.{DRIVER_BYTES}
 use Rattle.hba_regs.specs.Bits.{bit}
@@ -27,13 +27,24 @@ IsDriversOwn (Writing r v) = Unit {0}
 IsDriversOwn (Loading at bytes) = at + length bytes ≤ DRIVER_BYTES
 IsDriversOwn (Storing at bytes) = at + length bytes ≤ DRIVER_BYTES
 
--- and it doesn't write GHC: so it neither resets the adapter nor switches it off
-abbrev pub IsServing : Access → Type 0
-IsServing access = IsDriversOwn access × SparesRegister Ghc access
+-- of ports' registers it uses those of such ports alone
+abbrev pub IsOfPorts : (Port → Type 0) → Access → Type 0
+IsOfPorts Such (Reading (Px port r) v) = Such port
+IsOfPorts Such (Writing (Px port r) v) = Such port
+IsOfPorts Such access = Unit {0}
+
+-- An access that serves such ports: it doesn't write GHC either, so it neither resets the adapter nor switches it off.
+abbrev pub IsServing : (Port → Type 0) → Access → Type 0
+IsServing Such access = IsDriversOwn access × SparesRegister Ghc access × IsOfPorts Such access
+
+-- GHC is read
+abbrev pub AsksReset : Access → Type 0
+AsksReset (Reading Ghc v) = Unit {0}
+AsksReset access = ⊥
 
 -- ---- what the list shows
 
--- PxCI was read, and right after it PxSACT, before PxCMD was written: what both show is of commands that were not given up.
+-- PxCI was read, and right after it PxSACT, at a moment when PxCMD hadn't been written: what both show is of commands that were not given up.
 pub record ReadsMasks (port : Port) (ci sact : ℕ) (accesses : List Access) : Type 0 where
   pub before : List Access
   pub later : List Access
@@ -49,14 +60,28 @@ pub record IsBeforeStop (port : Port) (accesses : List Access) (old at new : Dev
   pub first : DoesAll early old at
   pub rest : DoesAll late at new
 
+-- The port's link was reset by COMRESET: DET of PxSCTL was set to one, and then to zero, and PxSCTL wasn't written again (AHCI 1.3.1, 10.4.2).
+pub record ResetsLink (port : Port) (accesses : List Access) : Type 0 where
+  pub before : List Access
+  pub between : List Access
+  pub later : List Access
+  pub sending : ℕ
+  pub ending : ℕ
+  pub here : accesses ≡ before ++ (Writing (Px port Sctl) sending ∷ (between ++ (Writing (Px port Sctl) ending ∷ later)))
+  pub sends : sending % 16 ≡ 1
+  pub ends : ending % 16 ≡ 0
+  pub held : All (SparesRegister (Px port Sctl)) between
+  pub left : All (SparesRegister (Px port Sctl)) later
+
 -- The adapter was reset first of all (AHCI 1.3.1, 3.1.2 and 10.4.3).
 pub record BeginsReset (accesses : List Access) : Type 0 where
   pub rest : List Access
   pub here : accesses ≡ Writing Ghc 0x80000001 ∷ rest
 
--- GHC was read last of all, with HR still one.
-pub record EndsWithReset (accesses : List Access) : Type 0 where
-  pub before : List Access
+-- It was reset, and then GHC alone was read, at last with HR still one.
+pub record AwaitsReset (accesses : List Access) : Type 0 where
+  pub asked : List Access
   pub shown : ℕ
-  pub here : accesses ≡ before ++ Reading Ghc shown ∷ []
+  pub here : accesses ≡ Writing Ghc 0x80000001 ∷ (asked ++ Reading Ghc shown ∷ [])
+  pub only : All AsksReset asked
   pub pending : bit shown 0 ≡ true

@@ -19,7 +19,7 @@ ghost use Rattle.block_machine.specs.Ports.{AreFit, SameDisk};
 ghost use Rattle.block_machine.specs.State.{Pending};
 ghost use Rattle.block_machine.specs.Steps.{Answer};
 ghost use Rattle.identify.specs.declared.wanted.Wanted.{Wanted};
-ghost use Rattle.driver_history.specs.Claims.{AllGoWellFor, AllHealthyFor, AnswerRests, IsSpared};
+ghost use Rattle.driver_history.specs.Claims.{AnswerRests, GoesWellFor, IsHealthyFor, IsSpared};
 ghost use Rattle.driver_history.specs.Evidence.{ShowsChange};
 ghost use Rattle.driver_history.specs.Guard.{StaysHealthy};
 ghost use Rattle.driver_history.specs.Histories.{IsHistory, Issues};
@@ -140,12 +140,12 @@ pub fn ticks_end_issues()
         → NoneKeepsIssue h.event.steps (now first (h ∷ past)).moment.machine port }
 {}
 
-/// Composition on healthy ports: where each call of a history is healthy for a port, each goes well for it. It is left alone, with ST one, and each
-/// answer is Ok; a service answers exactly the issued requests whose bits are clear in the masks that it read; and a call issues exactly what is
-/// due.
+/// Composition on healthy ports: each call of a history that is healthy for a port goes well for it, whatever was before. The port is left alone,
+/// with ST one, and each answer is Ok; a service answers exactly the issued requests whose bits are clear in the masks that it read; and a
+/// call issues exactly what is due.
 pub fn healthy_calls_go_well()
-    ensures { (wanted : List Wanted) (first : Instant Device) (port : Port) (past : List (Happening Device DeviceStep)) → IsHistory wanted first past
-        → AllHealthyFor port first past → AllGoWellFor port first past }
+    ensures { (wanted : List Wanted) (first : Instant Device) (past : List (Happening Device DeviceStep)) (h : Happening Device DeviceStep)
+        (port : Port) → IsHistory wanted first (h ∷ past) → IsHealthyFor (now first past) h port → GoesWellFor (now first past) h port }
 {
     disks_are_told();
     healthy_stays();

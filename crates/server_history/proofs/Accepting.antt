@@ -47,15 +47,16 @@ use Rattle.request_book.proofs.Standing.{is_of_own}
 use Rattle.request_book.proofs.Stepping.{goes_last, has_first, same_ports}
 use Rattle.driver_history.specs.Histories.{IsIssuing as IsIssuingAccess}
 use Rattle.driver_history.specs.Trace.{LeavesEngine}
+use Rattle.driver_history.proofs.Calm.{untroubled}
 use Rattle.server_history.specs.Histories.{Adds, Leads}
 use Rattle.server_history.specs.Served.{Accepts, accepted_as, issued_of}
 use Rattle.server_history.specs.Server.{Server, IsKept, IsMachineOf, IsPortOf, IsUseOf, none_parked, plain_mode, ports_of, situation_of, state_of}
 use Rattle.server_history.proofs.Calls.{reached, situation_is}
 use Rattle.server_history.proofs.Devices.{not_handled}
 use Rattle.server_history.proofs.Dues.{issues_due}
-use Rattle.server_history.proofs.Going.{kept_then, lead_by, ports_same}
+use Rattle.server_history.proofs.Going.{kept_then, lead_by, ports_same, with_device}
 use Rattle.server_history.proofs.Coming.{issuing_is, issuing_leaves}
-use Rattle.server_history.proofs.Told.{no_evidence, uninterrupted}
+use Rattle.server_history.proofs.Told.{no_evidence, told_by, uninterrupted}
 use Rattle.server_history.proofs.Granting.{has_room, is_accepted, is_new, lent_elsewhere, on_ready, request_in, entry_in}
 use Rattle.server_history.proofs.Issuing.{LacksIssue, IsIssue, apart_all, every, issue_first, behind_issued, issued_serves}
 use Rattle.server_history.proofs.Ports.{not_own}
@@ -327,7 +328,7 @@ module _ (s : Server) (k : IsKept s) (r : Request) (acc : IsAcceptable (situatio
         (refl, (row, its_row, All-nil (IsIssuingAccess row.port)))
         (λ other. All-nil (LeavesEngine other))
         (λ other is_ready. issues_due (more s.device) (next m was is) (reached_next m was is) stands in_order.ordered (Accept asked ∷ []) (λ p here i. absurd (false≢true i)) other)
-        (λ other healthy. record { finds = tt; faults = tt; tries = tt; boots = tt; heeds = uninterrupted s.device old.moment.ports other })
+        (λ other healthy. record { finds = tt; faults = tt; tries = tt; boots = tt; trouble = untroubled (told_by s.device old.moment.ports) (with_device s.device old) s.device other healthy; well = λ i. absurd (uninterrupted s.device old.moment.ports other i); heeds = uninterrupted s.device old.moment.ports other })
         (own_backed s.device m (Accept asked) (λ no. no))
         stands
 
@@ -349,7 +350,7 @@ module _ (s : Server) (k : IsKept s) (r : Request) (acc : IsAcceptable (situatio
         (λ other. All-weaker (IsIssuing port) (LeavesEngine other) (issuing_leaves port other) issues.driven.accesses issues.driven.only)
         (λ other is_ready. issues_due (more new) (after m (late ++ early)) (reached_more m (late ++ early) was (may-append m late early (tt, fresh m was is) x.may)) stands in_order.ordered (late ++ early)
         (issued_now m x.request (x.steps ++ early) (λ other_id. none_issued other_id x.steps early x.only (λ j. false≢true j))) other)
-        (λ other healthy. record { finds = tt; faults = tt; tries = tt; boots = tt; heeds = uninterrupted s.device old.moment.ports other })
+        (λ other healthy. record { finds = tt; faults = tt; tries = tt; boots = tt; trouble = untroubled (told_by s.device old.moment.ports) (with_device s.device old) new other healthy; well = λ i. absurd (uninterrupted s.device old.moment.ports other i); heeds = uninterrupted s.device old.moment.ports other })
         (backed_then s.device s.device new m early late (own_backed s.device m (Accept asked) (λ no. no)) x.backed)
         stands
 

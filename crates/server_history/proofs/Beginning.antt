@@ -292,7 +292,7 @@ module _ (s : Server) (host : Host) (d : Device) (is : IsIdle d) (told : TellsDi
         (
           record { device = s.device; moment = record { machine = later; ports = ports_of s.ports } },
           record {
-            history = ((begun, ports_fit), (slots s kept later reached stands, holds_with s kept later reached stands));
+            history = ((begun, ports_fit), ((slots s kept later reached stands, holds_with s kept later reached stands), (kept.on, taken.interrupts)));
             stands = record { device_is = refl; ports_are = refl; machine = stands };
           },
         ),

@@ -5,6 +5,7 @@ use Rattle.std.proofs.lemmas.Bool.{cases_Bool}
 use Rattle.std.proofs.lemmas.List.Elements.{All-append, All-cons, All-nil}
 use Rattle.ata_types.specs.declared.Port.{Port}
 use Rattle.ata_types.specs.declared.request.Reply.{Reply}
+use Rattle.hba_regs.specs.declared.reg.Reg.{Reg}
 use Rattle.hba_regs.specs.declared.reg.Reg.TheVariants as reg
 use Rattle.hba_regs.specs.declared.reg.Reg.TheVariants.{Px}
 use Rattle.hba_regs.specs.declared.reg.PortReg.TheVariants.{Is, Cmd, Ssts, Sctl, Sact, Ci}
@@ -20,7 +21,7 @@ use Rattle.agreement.specs.Facts.{RunsWell, Undisturbed}
 use Rattle.agreement.proofs.Driven.{by_none}
 use Rattle.command_table.specs.Written.{IsTableStore}
 use Rattle.driver_history.specs.Histories.{IsIssuing as IsIssuingAccess}
-use Rattle.driver_history.specs.Trace.{IsDriversOwn, IsServing, LeavesCommand, LeavesEngine, ReadsMasks}
+use Rattle.driver_history.specs.Trace.{IsDriversOwn, IsOfPorts, IsServing, LeavesCommand, LeavesEngine, ReadsMasks}
 use Rattle.server_history.specs.Served.{Checks, HasTurn}
 use Rattle.transfers.specs.Looks.{LooksAt}
 use Rattle.transfers.specs.Services.{IsService}
@@ -39,9 +40,9 @@ none_loaded old new steps = record { steps = steps; shows = refl }
 
 -- ---- kinds of accesses
 
--- it serves ports, and what it loads or stores is the driver's own
-abbrev pub IsTurn : Access → Type 0
-IsTurn access = IsService access × IsDriversOwn access
+-- it serves such ports, and what it loads or stores is the driver's own
+abbrev pub IsTurn : (Port → Type 0) → Access → Type 0
+IsTurn Such access = IsService access × (IsDriversOwn access × IsOfPorts Such access)
 
 -- header and table of slot 0 lie in the driver's frames
 table_own : (port at : ℕ) (bytes : List ℕ) → port < 4 → IsTableStore port 0 (Storing at bytes) → at + length bytes ≤ 163840
@@ -54,11 +55,11 @@ issuing_is port low (Storing at bytes) here = table_own port.0 at bytes low here
 issuing_is port low (Reading r v) here = absurd here
 issuing_is port low (Loading at bytes) here = absurd here
 
-issuing_turns : (port : Port) → port.0 < 4 → (access : Access) → IsIssuing port access → IsTurn access
-issuing_turns port low (Writing r v) here = ((issuing_ordinary port port (Writing r v) here).0, tt)
-issuing_turns port low (Storing at bytes) here = ((issuing_ordinary port port (Storing at bytes) here).0, table_own port.0 at bytes low here)
-issuing_turns port low (Reading r v) here = absurd here
-issuing_turns port low (Loading at bytes) here = absurd here
+issuing_turns : (Such : Port → Type 0) (port : Port) → Such port → port.0 < 4 → (access : Access) → IsIssuing port access → IsTurn Such access
+issuing_turns Such port such low (Writing r v) here = ((issuing_ordinary port port (Writing r v) here).0, (tt, subst (λ (q : Reg). IsOfPorts Such (Writing q v)) (sym here.0) such))
+issuing_turns Such port such low (Storing at bytes) here = ((issuing_ordinary port port (Storing at bytes) here).0, (table_own port.0 at bytes low here, tt))
+issuing_turns Such port such low (Reading r v) here = absurd here
+issuing_turns Such port such low (Loading at bytes) here = absurd here
 
 -- what serves ports writes neither PxCMD nor PxSCTL, nor GHC
 service_leaves : (port : Port) (access : Access) → IsService access → LeavesEngine port access
@@ -67,26 +68,26 @@ service_leaves port access here = (spares_port port Cmd (λ e. cc) (λ e. cc) ac
 pub issuing_leaves : (port other : Port) (access : Access) → IsIssuing port access → LeavesEngine other access
 issuing_leaves port other access here = service_leaves other access (issuing_ordinary port other access here).0
 
-pub turn_leaves : (port : Port) (access : Access) → IsTurn access → LeavesEngine port access
-turn_leaves port access here = service_leaves port access here.0
+pub turn_leaves : (Such : Port → Type 0) (port : Port) (access : Access) → IsTurn Such access → LeavesEngine port access
+turn_leaves Such port access here = service_leaves port access here.0
 
-pub turn_serving : (access : Access) → IsTurn access → IsServing access
-turn_serving access here = (here.1, spares_ghc access here.0)
+pub turn_serving : (Such : Port → Type 0) (access : Access) → IsTurn Such access → IsServing Such access
+turn_serving Such access here = (here.1.0, spares_ghc access here.0, here.1.1)
 
 -- ---- a port's turn
 
-module _ (port : Port) where
+module _ (Such : Port → Type 0) (port : Port) (such : Such port) where
   -- a look, access by access
   abbrev look_list : (causes own status : ℕ) → List Access
   look_list causes own status =
       Reading (Px port Is) causes ∷ Writing (Px port Is) causes ∷ Writing reg.Is own ∷ Reading (Px port Ssts) status ∷ []
 
-  look_turns : (causes own status : ℕ) → All IsTurn (look_list causes own status)
+  look_turns : (causes own status : ℕ) → All (IsTurn Such) (look_list causes own status)
   look_turns causes own status =
-      All-cons IsTurn (Reading (Px port Is) causes) (Writing (Px port Is) causes ∷ Writing reg.Is own ∷ Reading (Px port Ssts) status ∷ []) (tt, tt)
-      (All-cons IsTurn (Writing (Px port Is) causes) (Writing reg.Is own ∷ Reading (Px port Ssts) status ∷ []) (inr (port, inl refl), tt)
-      (All-cons IsTurn (Writing reg.Is own) (Reading (Px port Ssts) status ∷ []) (inl refl, tt)
-      (All-cons IsTurn (Reading (Px port Ssts) status) [] (tt, tt) (All-nil IsTurn))))
+      All-cons (IsTurn Such) (Reading (Px port Is) causes) (Writing (Px port Is) causes ∷ Writing reg.Is own ∷ Reading (Px port Ssts) status ∷ []) (tt, (tt, such))
+      (All-cons (IsTurn Such) (Writing (Px port Is) causes) (Writing reg.Is own ∷ Reading (Px port Ssts) status ∷ []) (inr (port, inl refl), (tt, such))
+      (All-cons (IsTurn Such) (Writing reg.Is own) (Reading (Px port Ssts) status ∷ []) (inl refl, (tt, tt))
+      (All-cons (IsTurn Such) (Reading (Px port Ssts) status) [] (tt, (tt, such)) (All-nil (IsTurn Such)))))
 
   look_does : (look : Look) (old new : Device) → (l : LooksAt port look old new) → DoesAll (look_list l.causes l.own l.status) old new
   look_does look old new l = (l.seen, l.reads, (l.cleared, l.clears, (l.acknowledged, l.acknowledges, (new, l.shows, refl))))
@@ -94,14 +95,14 @@ module _ (port : Port) where
   -- The accesses of a turn. Where the port goes well, the look tells nothing; and where the port's first request was checked, they read the
   -- masks.
   pub record TurnList (busy : Bool) (reply : Option Reply) (old new : Device) (t : HasTurn port busy reply old new) : Type 0 where
-    pub driven : IsDrivenBy IsTurn old new
+    pub driven : IsDrivenBy (IsTurn Such) old new
     pub calm : IsOn old → RunsWell (old.port port.0) → Undisturbed port.0 old new → t.look ≡ Calm
     pub masks : t.look ≡ Calm → busy ≡ true → (c : Checks port reply t.seen new) × ReadsMasks port c.reads.issued c.reads.active driven.accesses
 
   module _ (low : port.0 < 4) (busy : Bool) (reply : Option Reply) (old new : Device) (t : HasTurn port busy reply old new) where
     looked : (t.look ≢ Calm) ⊎ (busy ≡ false) → TurnList busy reply old new t
     looked why = record {
-      driven = subst (IsDrivenBy IsTurn old) (sym (t.only why).1) (record {
+      driven = subst (IsDrivenBy (IsTurn Such) old) (sym (t.only why).1) (record {
         accesses = look_list t.looks.causes t.looks.own t.looks.status;
         all = look_does t.look old t.seen t.looks;
         only = look_turns t.looks.causes t.looks.own t.looks.status;
@@ -111,27 +112,27 @@ module _ (port : Port) where
     }
 
     -- the accesses that come after the masks
-    rest : (c : Checks port reply t.seen new) → IsDrivenBy IsTurn c.read new
+    rest : (c : Checks port reply t.seen new) → IsDrivenBy (IsTurn Such) c.read new
     rest c = ⊎_elim
         (λ (done : c.done ≡ true).
         let d = (c.over done).1 in
-        record { accesses = d.accesses; all = d.all; only = λ i e small. issuing_turns port low _ (d.only i e small) })
-        (λ (running : c.done ≡ false). subst (IsDrivenBy IsTurn c.read) (sym (c.running running).1) (by_none IsTurn c.read))
+        record { accesses = d.accesses; all = d.all; only = λ i e small. issuing_turns Such port such low _ (d.only i e small) })
+        (λ (running : c.done ≡ false). subst (IsDrivenBy (IsTurn Such) c.read) (sym (c.running running).1) (by_none (IsTurn Such) c.read))
         (cases_Bool c.done)
 
     checked : t.look ≡ Calm → busy ≡ true → TurnList busy reply old new t
     checked calm has =
         let c : Checks port reply t.seen new = t.checks calm has in
-        let more : IsDrivenBy IsTurn c.read new = rest c in
+        let more : IsDrivenBy (IsTurn Such) c.read new = rest c in
         let early : List Access = look_list t.looks.causes t.looks.own t.looks.status in
         let late : List Access = Reading (Px port Ci) c.reads.issued ∷ Reading (Px port Sact) c.reads.active ∷ more.accesses in
         record {
           driven = record {
             accesses = early ++ late;
             all = does_append early late old t.seen new (look_does t.look old t.seen t.looks) (c.reads.seen, c.reads.shows_issued, (c.read, c.reads.shows_active, more.all));
-            only = All-append IsTurn early late (look_turns t.looks.causes t.looks.own t.looks.status)
-                (All-cons IsTurn (Reading (Px port Ci) c.reads.issued) (Reading (Px port Sact) c.reads.active ∷ more.accesses) (tt, tt)
-                (All-cons IsTurn (Reading (Px port Sact) c.reads.active) more.accesses (tt, tt) more.only));
+            only = All-append (IsTurn Such) early late (look_turns t.looks.causes t.looks.own t.looks.status)
+                (All-cons (IsTurn Such) (Reading (Px port Ci) c.reads.issued) (Reading (Px port Sact) c.reads.active ∷ more.accesses) (tt, (tt, such))
+                (All-cons (IsTurn Such) (Reading (Px port Sact) c.reads.active) more.accesses (tt, (tt, such)) more.only));
           };
           calm = λ _ _ _. calm;
           masks = λ _ _. (
@@ -146,7 +147,7 @@ module _ (port : Port) where
         }
       where
         leaves : All (LeavesCommand port) (look_list t.looks.causes t.looks.own t.looks.status)
-        leaves i e small = (turn_leaves port _ (look_turns t.looks.causes t.looks.own t.looks.status i e small)).0
+        leaves i e small = (turn_leaves Such port _ (look_turns t.looks.causes t.looks.own t.looks.status i e small)).0
 
     calm_or_not : (look : Look) → (look ≡ Calm) ⊎ (look ≢ Calm)
     calm_or_not Calm = inl refl

@@ -139,7 +139,7 @@ pub lead_by : (first : Instant Device) (past : List (Happening Device DeviceStep
     → AllMay (now first past).moment.machine steps → Belong ask (ports_of new.ports) steps → IssuesLast steps
     → AllLawful (now first past).moment no_evidence (ports_of new.ports) steps
     → IsAnswered ask said (now first past).moment (told_by s.device (now first past).moment.ports) steps (record { machine = after (now first past).moment.machine steps; ports = ports_of new.ports })
-    → (accesses : List Access) → CameBy (now first past).moment.machine ask said accesses s.device new.device
+    → (accesses : List Access) → CameBy (now first past).moment ask said accesses s.device new.device
     → ((port : Port) → All (LeavesEngine port) accesses)
     → ((port : Port) → Issues ask steps (after (now first past).moment.machine steps) (ports_of new.ports) port)
     → ((port : Port) → StaysHealthy port.0 s.device new.device

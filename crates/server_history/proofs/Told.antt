@@ -116,7 +116,7 @@ unfatal p h = ⊎_elim
     (or_cases (p.is 28) (p.is 29) more))
     (or_cases (p.is 27) (p.is 28 || p.is 29) h)
 
-fatal_shows : (p : PortState) → ShowsFatal p → shows_fatal p ≡ true
+pub fatal_shows : (p : PortState) → ShowsFatal p → shows_fatal p ≡ true
 fatal_shows p f = by (cases_eq f.place 27)
   where
     P : ℕ → Type 0
@@ -142,20 +142,20 @@ unlost p h = ⊎_elim
     (λ more. ⊎_elim (λ x. inl (inr x)) (λ other. inr (λ is. false≢true (sym (ap not (eq-eqb p.ssts_det 3 is)) ∙ other))) (or_cases p.serr_x (not (nat_eq p.ssts_det 3)) more))
     (or_cases p.serr_n (p.serr_x || not (nat_eq p.ssts_det 3)) h)
 
-loss_shows : (p : PortState) → ShowsChange p ⊎ (p.ssts_det ≢ 3) → shows_loss p ≡ true
+pub loss_shows : (p : PortState) → ShowsChange p ⊎ (p.ssts_det ≢ 3) → shows_loss p ≡ true
 loss_shows p (inl (inl n)) = or_left p.serr_n (p.serr_x || not (nat_eq p.ssts_det 3)) n
 loss_shows p (inl (inr x)) = or_right p.serr_n (p.serr_x || not (nat_eq p.ssts_det 3)) (or_left p.serr_x (not (nat_eq p.ssts_det 3)) x)
 loss_shows p (inr other) = or_right p.serr_n (p.serr_x || not (nat_eq p.ssts_det 3)) (or_right p.serr_x (not (nat_eq p.ssts_det 3)) (ap not (ne_eqb p.ssts_det 3 other)))
 
 -- a port that runs well shows none of it
 module _ (p : PortState) (well : RunsWell p) where
-  no_loss : shows_loss p ≡ true → ⊥
+  pub no_loss : shows_loss p ≡ true → ⊥
   no_loss h = ⊎_elim
       (λ change. ⊎_elim (λ n. false≢true (sym well.quiet.serr_n ∙ n)) (λ x. false≢true (sym well.quiet.serr_x ∙ x)) change)
       (λ other. other well.det)
       (unlost p h)
 
-  no_fatal : shows_fatal p ≡ true → ⊥
+  pub no_fatal : shows_fatal p ≡ true → ⊥
   no_fatal h = let f = unfatal p h in let low = f.from in let high = f.to in false≢true (sym (well.quiet.quiet f.place low (omega (arith, high))) ∙ f.set)
 
   no_failure : shows_failure p ≡ true → ⊥
