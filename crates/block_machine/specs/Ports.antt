@@ -51,13 +51,13 @@ pub record Fault : Type 0 where
   pub error : ℕ
 
 -- What the device vouches for in a call.
--- `faults`: of requests, each named with its bytes by the task file, or by the log page, that was read in the call.
+-- `faults`: of requests, each with its bytes as the device told them: in the task file, or in the log page that was read in the call.
 -- `lost`: ports that had N or X of PxSERR set, or a DET other than 3, when the call began; ports of which a disk went or came in
 -- it; and ports that end it neither dead nor ready with serial and size as when they were last ready before it.
--- `gone`: ports that were ready when the call began, and had N or X set then; or a DET other than 3, where no disk was put in in
--- the call.
--- `failed`: ports that were ready when the call began, and had TFES, HBDS, HBFS or IFS in PxIS then, or of which one was read in
--- it. `fatal`: those of them where it was HBDS, HBFS or IFS.
+-- `gone`: ports that were ready when the call began, all of those that had N or X set then, or a DET other than 3 where no disk was put
+-- in in the call; and others only of which a disk went or came in it, or DET was other than 3.
+-- `failed`: ports that were ready when the call began, all of those that had TFES, HBDS, HBFS or IFS in PxIS then; and others only that
+-- came to have one in it. `fatal`: so for HBDS, HBFS and IFS.
 -- `stopped`: ports whose CR was read 0 in the call after ST was cleared; and the served ports, where the call is a reset that ended.
 -- `stuck`: ports of which a wait of the call read CR, or FR, as 1 at each of its 64 readings; and the served ports, where the call
 -- is a reset that the adapter didn't end.
