@@ -1,0 +1,382 @@
+-- A reset that doesn't end, and the service after it.
+use Rattle.std.proofs.Common.{◌∙◌, ℕ, zero, suc, ◌≡◌, false, List, [], ◌∷◌, ◌++◌, None, inl, inr, ⊎_elim, refl, sym, ap, arith, true, ◌≢◌, append-nil}
+use Rattle.std.specs.List.{Contains}
+use Rattle.std.proofs.lemmas.List.Elements.{All-nil}
+use Rattle.std.proofs.lemmas.List.Sorted.{IsPermutation-refl}
+use Rattle.ata_types.specs.declared.Port.{Port}
+use Rattle.ata_types.specs.declared.PortState.TheVariants.{Absent, Ready, Unfit, Foreign, Dead}
+use Rattle.ata_types.specs.declared.request.Outcome.{Outcome}
+use Rattle.ata_types.specs.declared.request.Outcome.TheVariants as outcome
+use Rattle.ata_types.specs.declared.request.Reply.{Reply}
+use Rattle.adapter.specs.Device.{Device}
+use Rattle.adapter.specs.declared.access.DeviceStep.{DeviceStep}
+use Rattle.adapter.proofs.Absurd.{true-false}
+use Rattle.agreement.specs.Agrees.{port_at}
+use Rattle.agreement.specs.Acts.{at}
+use Rattle.agreement.specs.Driver.{IsBacked, Knows}
+use Rattle.agreement.specs.Slots.{ServesRequest, IsServed as IsServedAs}
+use Rattle.agreement.specs.Witness.{first_id}
+use Rattle.block_machine.specs.Events.{Service, Served, Happens}
+use Rattle.block_machine.specs.Histories.{Happening, Instant}
+use Rattle.block_machine.specs.Ports.{IsServiced, Ports, AreFit}
+use Rattle.block_machine.specs.Left.{after}
+use Rattle.block_machine.specs.State.{Pending, Machine}
+use Rattle.block_machine.specs.Steps.{Step, Answer, NoneKept}
+use Rattle.block_machine.proofs.Members.{contains_none, contains_here, contains_cases}
+use Rattle.host_boot.specs.Taken.{wanted_of}
+use Rattle.identify.specs.declared.wanted.Wanted.TheVariants.{Any}
+use Rattle.driver_history.specs.Evidence.{IsEvidencedOf}
+use Rattle.driver_history.specs.Histories.{Ties, TiesPort, TriesDisk, HasBadDisk, ServesPort}
+use Rattle.driver_history.specs.Holds.{HoldsOf, HoldsWith, NoneWaits}
+use Rattle.driver_history.specs.Trace.{LeavesEngine, IsServing, AsksReset}
+use Rattle.history_witnesses.specs.Dead.{reset_accesses, DeathIsAHistory}
+use Rattle.history_witnesses.specs.Scene.{having, showing}
+use Rattle.hba_regs.specs.declared.reg.Reg.TheVariants.{Ghc}
+use Rattle.adapter.specs.Access.{DoesAll}
+use Rattle.adapter.specs.Rules.{IsOn}
+use Rattle.agreement.specs.Acts.{at}
+use Rattle.agreement.specs.Driver.{Knows}
+use Rattle.block_machine.specs.Events.{Reset, WasReset}
+use Rattle.block_machine.specs.Ports.{Evidence, IsStuck}
+use Rattle.driver_history.specs.Histories.{TriesDisk}
+use Rattle.history_witnesses.proofs.Command.{read_memory}
+use Rattle.history_witnesses.proofs.Devices.{leaves}
+use Rattle.history_witnesses.proofs.Holding.{first_slots, have_first, unnamed_evidenced, unserved_at, uses_first, IsCalm, no_trouble}
+use Rattle.history_witnesses.proofs.Submitting.{issued, pages, second, submitted}
+use Rattle.history_witnesses.proofs.Accepting.{asked, both, calm, first, fit_both, holds_submitted, in_book, issuing, served_of, starts, submit, submit_happens, submit_ties, submitted_at, waiting, serves, begins}
+
+-- ---- the reset
+
+abbrev dead : Ports
+dead = showing (true ∷ true ∷ []) (Dead ∷ Dead ∷ [])
+
+abbrev pending : Device
+pending = record submitted { hr = true; ae = true; ie = false }
+
+resets : DoesAll reset_accesses submitted pending
+resets = (
+  pending,
+  record { mid = submitted; steps = record { steps = []; lead = refl }; effect = refl },
+  (pending, record { mid = pending; steps = record { steps = []; lead = refl }; shows = (refl, refl, refl); effect = refl }, refl),
+)
+
+abbrev stuck_evidence : Evidence
+stuck_evidence = record { faults = []; lost = []; gone = []; failed = []; fatal = []; stopped = []; stuck = port_at 0 ∷ port_at 1 ∷ [] }
+
+abbrev reset : Happening Device DeviceStep
+reset = record {
+  event = record { ask = Reset; said = WasReset None; evidence = stuck_evidence; steps = []; ports = dead };
+  device = pending;
+}
+
+abbrev pending_at : Instant Device
+pending_at = record { device = pending; moment = record { machine = issuing; ports = dead } }
+
+not_on : IsOn pending → ⊥
+not_on on = true-false refl on.no_reset
+
+-- nothing that the machine agrees with changes by a reset that is pending
+still_knows : (m : Machine) → Knows m (at first_slots submitted) → Knows m (at first_slots pending)
+still_knows m k = record {
+  agrees = record { slot = k.agrees.slot; apart = k.agrees.apart; received = k.agrees.received; disk = k.agrees.disk; memory = k.agrees.memory; sectors = k.agrees.sectors };
+  have = k.have;
+}
+
+-- what holds of each port, where requests are port 0's alone
+port_dead : (m : Machine) → ((n : ℕ) → n ≢ 0 → NoneWaits m (port_at n)) → ((n : ℕ) → n ≢ 0 → NoneKept m (port_at n)) → (n : ℕ)
+    → HoldsOf (wanted_of (Any ∷ Any ∷ []) n) first_slots (record { device = pending; moment = record { machine = m; ports = dead } }) (port_at n) (dead.served (port_at n)) (dead.state (port_at n))
+port_dead m waits kept zero = record { why = inr not_on; waits = λ on. absurd (not_on on) }
+port_dead m waits kept (suc zero) = record { why = inr not_on; waits = λ on. absurd (not_on on) }
+port_dead m waits kept (suc (suc n)) = unserved_at first_slots (record { device = pending; moment = record { machine = m; ports = dead } }) (suc (suc n)) refl refl
+    (record { free = λ slot. refl; unparked = refl }) (waits (suc (suc n)) (omega arith)) (kept (suc (suc n)) (omega arith))
+
+all_dead : (n : ℕ) → dead.served (port_at n) ≡ true → dead.state (port_at n) ≡ Dead
+all_dead zero is = refl
+all_dead (suc zero) is = refl
+all_dead (suc (suc n)) is = true-false is refl
+
+holds_dead : (m : Machine) → Knows m (at first_slots pending) → ((n : ℕ) → n ≢ 0 → NoneWaits m (port_at n)) → ((n : ℕ) → n ≢ 0 → NoneKept m (port_at n))
+    → HoldsWith (Any ∷ Any ∷ []) first_slots (record { device = pending; moment = record { machine = m; ports = dead } })
+holds_dead m knows waits kept = record {
+  knows = knows;
+  served = λ port low. served_of pages read_memory (issued ∷ second ∷ []) port.0;
+  on = inr (λ port is. all_dead port.0 is);
+  port = λ port low. port_dead m waits kept port.0;
+}
+
+waits_first : (n : ℕ) → n ≢ 0 → NoneWaits issuing (port_at n)
+waits_first n ne e here is = ne (sym (sym (ap (λ (x : Pending). x.request.port.0) (in_book e here)) ∙ ap (λ (p : Port). p.0) is))
+
+not_ready : (n : ℕ) → dead.state (port_at n) ≡ Ready → ⊥
+not_ready zero is = let x : Dead ≡ Ready = is in cc
+not_ready (suc zero) is = let x : Dead ≡ Ready = is in cc
+not_ready (suc (suc n)) is = let x : Absent ≡ Ready = is in cc
+
+fit_dead : AreFit dead
+fit_dead = record {
+  few = fit_both.few;
+  absent = λ port is. absent_of port.0 is;
+  slots = λ port is. absurd (not_ready port.0 is);
+  causes = λ port cause is. absurd (no_cause port.0 cause is);
+}
+  where
+    absent_of : (n : ℕ) → dead.served (port_at n) ≡ false → dead.state (port_at n) ≡ Absent
+    absent_of zero is = true-false refl is
+    absent_of (suc zero) is = true-false refl is
+    absent_of (suc (suc n)) is = refl
+
+    no_cause : (n cause : ℕ) → dead.state (port_at n) ≡ Unfit cause → ⊥
+    no_cause zero cause is = let x : Dead ≡ Unfit cause = is in cc
+    no_cause (suc zero) cause is = let x : Dead ≡ Unfit cause = is in cc
+    no_cause (suc (suc n)) cause is = let x : Absent ≡ Unfit cause = is in cc
+
+stuck_is : (n : ℕ) → IsStuck both stuck_evidence dead (port_at n)
+stuck_is zero = (refl, λ is. (refl, (0, omega arith, refl)), (refl, refl))
+stuck_is (suc zero) = (refl, λ is. (refl, (1, omega arith, refl)), (refl, refl))
+stuck_is (suc (suc n)) = (refl, λ is. true-false is refl, (refl, refl))
+
+reset_happens : Happens submitted_at.moment reset.event
+reset_happens = record {
+  may = tt;
+  belong = tt;
+  last = tt;
+  lawful = tt;
+  fit = fit_dead;
+  disks = λ e o here there same. (refl, refl);
+  answered = (tt, λ port. stuck_is port.0);
+}
+
+unchanged : (d : Device) → ((n : ℕ) → (d.port n).plugged ≡ (d.port n).plugged ++ [])
+unchanged d n = sym (append-nil (d.port n).plugged)
+
+reset_backed : IsBacked submitted pending issuing []
+reset_backed = record { telling = refl; gained = []; tape = refl; tells = tt; told = λ _. tt; plugged = λ port. ([], unchanged submitted port, refl) }
+
+-- the port is served if it is named
+named_served : (n : ℕ) → Contains (port_at 0 ∷ port_at 1 ∷ []) (port_at n) → both.served (port_at n) ≡ true
+named_served zero h = refl
+named_served (suc zero) h = refl
+named_served (suc (suc n)) h = absurd (⊎_elim
+    (λ (same : port_at (suc (suc n)) ≡ port_at 0). let z : suc (suc n) ≡ 0 = ap (λ (p : Port). p.0) same in omega (arith, z))
+    (λ rest. ⊎_elim (λ (same : port_at (suc (suc n)) ≡ port_at 1). let z : suc (suc n) ≡ 1 = ap (λ (p : Port). p.0) same in omega (arith, z)) (λ none. contains_none _ none) (contains_cases (port_at 1) [] (port_at (suc (suc n))) rest))
+    (contains_cases (port_at 0) (port_at 1 ∷ []) (port_at (suc (suc n))) h))
+
+reset_evidenced : (n : ℕ) → IsEvidencedOf Reset (WasReset None) reset_accesses submitted_at dead pending stuck_evidence (port_at n)
+reset_evidenced n =
+    let quiet = calm read_memory issued refl refl refl (λ place. refl) pending n in
+    record {
+      lost = λ h. absurd (contains_none (port_at n) h);
+      gone_all = λ is loss. absurd ((quiet is).0 loss);
+      gone_only = λ h. absurd (contains_none (port_at n) h);
+      failed_all = λ is f. absurd ((quiet is).1 f);
+      failed_only = λ h. absurd (contains_none (port_at n) h);
+      fatal_all = λ is f. absurd ((quiet is).1 (inl f));
+      fatal_only = λ h. absurd (contains_none (port_at n) h);
+      stopped_all = inl (leaves (λ r. r ≡ Ghc) (port_at n) (λ is. cc) (λ is. cc) reset_accesses (refl, tt));
+      stopped_only = λ h. absurd (contains_none (port_at n) h);
+      stuck_only = λ h. inr (tt, named_served n h);
+    }
+
+reset_part : (n : ℕ) → TiesPort submitted_at reset reset_accesses (port_at n)
+reset_part n = record {
+  finds = tt;
+  faults = tt;
+  tries = tt;
+  boots = tt;
+  trouble = no_trouble stuck_evidence submitted_at pending (port_at n) [] refl (All-nil (IsCalm n)) (calm read_memory issued refl refl refl (λ place. refl) pending n);
+  well = λ why ready. absurd (not_ready n ready);
+  heeds = tt;
+}
+
+reset_ties : Ties (Any ∷ Any ∷ []) submitted_at reset
+reset_ties = record {
+  accesses = reset_accesses;
+  came = (resets, record { asked = []; shown = 0x80000001; here = refl; only = All-nil AsksReset; pending = refl });
+  backed = reset_backed;
+  evidenced = record { faults = λ f here. absurd (contains_none f here); port = λ port. reset_evidenced port.0 };
+  issues = λ port is. absurd (not_ready port.0 is);
+  port = λ port healthy. reset_part port.0;
+  holds = (first_slots, holds_dead issuing (still_knows issuing holds_submitted.knows) waits_first (λ n ne e kept. absurd (contains_none e kept)));
+}
+
+-- ---- the service
+
+abbrev answer : Step
+answer = Answer waiting outcome.PortDead
+
+abbrev answered : Machine
+answered = after issuing (answer ∷ [])
+
+abbrev replies : List Reply
+replies = record { id = first_id; client = asked.client; outcome = outcome.PortDead } ∷ []
+
+abbrev nothing : Evidence
+nothing = record { faults = []; lost = []; gone = []; failed = []; fatal = []; stopped = []; stuck = [] }
+
+abbrev service : Happening Device DeviceStep
+service = record {
+  event = record { ask = Service; said = Served replies; evidence = nothing; steps = answer ∷ []; ports = dead };
+  device = pending;
+}
+
+is_kept : (e : Pending) → Contains answered.kept e → e ≡ waiting
+is_kept e here = ⊎_elim (λ same. same) (λ none. absurd (contains_none e none)) (contains_cases waiting [] e here)
+
+-- the slot serves the kept request as it served it before
+serves_kept : ServesRequest answered read_memory issued 0 0 first_id
+serves_kept =
+    let s = serves in
+    record {
+      pending = s.pending;
+      moves = inr (contains_here waiting [] s.pending (⊎_elim (λ here. in_book s.pending here.0) (λ kept. absurd (contains_none s.pending kept)) s.moves));
+      id_is = s.id_is;
+      port_is = s.port_is;
+      placed = s.placed;
+      command = s.command;
+      places = s.places;
+      told = s.told;
+      means = s.means;
+      stage = s.stage;
+    }
+
+slot_kept : (n k : ℕ) → IsServedAs answered read_memory pages (having (issued ∷ second ∷ []) n) n k (uses_first n k)
+slot_kept zero zero = serves_kept
+slot_kept zero (suc k) = holds_submitted.knows.agrees.slot zero (suc k)
+slot_kept (suc n) k = holds_submitted.knows.agrees.slot (suc n) k
+
+knows_kept : Knows answered (at first_slots pending)
+knows_kept =
+    let k : Knows issuing (at first_slots submitted) = holds_submitted.knows in
+    record {
+      agrees = record {
+        slot = slot_kept;
+        apart = k.agrees.apart;
+        received = k.agrees.received;
+        disk = λ n. let d = k.agrees.disk n in record { present = d.present; id = d.id; size = d.size };
+        memory = k.agrees.memory;
+        sectors = λ telling n. let d = k.agrees.sectors telling n in record { told = d.told; tells = d.tells; same = d.same };
+      };
+      have = λ n e may at_port. inr (⊎_elim
+          (λ here. absurd (contains_none e here.0))
+          (λ kept. have_first e n (ap (λ (x : Pending). x.request.port.0) (is_kept e kept)) (ap (λ (x : Pending). x.request.id) (is_kept e kept)) at_port) may);
+    }
+
+kept_first : (n : ℕ) → n ≢ 0 → NoneKept answered (port_at n)
+kept_first n ne e here is = ne (sym (sym (ap (λ (x : Pending). x.request.port.0) (is_kept e here)) ∙ ap (λ (p : Port). p.0) is))
+
+only_dead : (e : Pending) (o : Outcome) → Contains (answer ∷ []) (Answer e o) → o ≡ outcome.PortDead
+only_dead e o here = ⊎_elim (λ (same : Answer e o ≡ answer). cc) (λ none. absurd (contains_none _ none)) (contains_cases answer [] (Answer e o) here)
+
+only_one : (e : Pending) (o : Outcome) → Contains (answer ∷ []) (Answer e o) → e ≡ waiting
+only_one e o here = ⊎_elim (λ (same : Answer e o ≡ answer). cc) (λ none. absurd (contains_none _ none)) (contains_cases answer [] (Answer e o) here)
+
+not_unplugged : (e : Pending) → Contains (answer ∷ []) (Answer e outcome.Unplugged) → ⊥
+not_unplugged e here = let x : outcome.Unplugged ≡ outcome.PortDead = only_dead e outcome.Unplugged here in cc
+
+becomes : (n : ℕ) → IsServiced dead nothing dead (port_at n)
+becomes zero = (λ is. (refl, refl, refl, refl, refl, refl), λ other. absurd (other refl))
+becomes (suc zero) = (λ is. (refl, refl, refl, refl, refl, refl), λ other. absurd (other refl))
+becomes (suc (suc n)) = (
+  λ is. (refl, refl, refl, refl, refl, refl),
+  λ other. (
+    record {
+      served = refl;
+      stuck = λ is. absurd (let x : Absent ≡ Dead = is in cc);
+      dies = λ h. absurd (contains_none (port_at (suc (suc n))) h);
+      keeps = λ is. (refl, refl);
+    },
+    inl (refl, refl, refl, refl, refl, refl),
+  ),
+)
+
+service_happens : Happens pending_at.moment service.event
+service_happens = record {
+  may = (tt, contains_here waiting [] waiting refl);
+  belong = (tt, inr tt);
+  last = (tt, λ id handled issued_in. true-false issued_in refl);
+  lawful = (tt, refl);
+  fit = fit_dead;
+  disks = λ e o here. absurd (contains_none e here);
+  answered = record {
+    tells = record { answers = (waiting, outcome.PortDead) ∷ []; same = IsPermutation-refl _; ordered = λ i j d less low. absurd (omega (arith, less, low)); told = refl };
+    dead = λ e o here is. only_dead e o here;
+    grounded = tt;
+    unplugs = record { emptied = λ e other here. absurd (not_unplugged e here); alike = λ e other here. absurd (not_unplugged e here) };
+    issues = λ port is r at_port due. absurd (contains_none r due.here);
+    emptied = λ port other e here. absurd (contains_none e here);
+    becomes = λ port. becomes port.0;
+    disk = λ port. inl (refl, refl, refl, refl, refl, refl);
+  };
+}
+
+service_evidenced : (n : ℕ) → IsEvidencedOf Service (Served replies) [] pending_at dead pending nothing (port_at n)
+service_evidenced n = unnamed_evidenced Service (Served replies) [] pending_at dead pending nothing (port_at n)
+    (record {
+      lost = contains_none (port_at n);
+      gone = contains_none (port_at n);
+      failed = contains_none (port_at n);
+      fatal = contains_none (port_at n);
+      stopped = contains_none (port_at n);
+      stuck = contains_none (port_at n);
+    })
+    (λ is. absurd (not_ready n is))
+    (All-nil (LeavesEngine (port_at n)))
+
+tries : (n : ℕ) → dead.served (port_at n) ≡ true → TriesDisk [] pending_at dead pending (port_at n)
+tries n served =
+    let is = all_dead n served in
+    record {
+      shown = λ absent. absurd (let x : Dead ≡ Absent = sym is ∙ absent in cc);
+      absent = λ absent. absurd (let x : Dead ≡ Absent = sym is ∙ absent in cc);
+      missing = λ bad. absurd (not_bad is bad);
+      changed = λ bad. absurd (not_bad is bad);
+    }
+  where
+    not_bad : dead.state (port_at n) ≡ Dead → HasBadDisk dead (port_at n) → ⊥
+    not_bad is (inl foreign) = let x : Dead ≡ Foreign = sym is ∙ foreign in cc
+    not_bad is (inr unfit) = let x : Dead ≡ Unfit unfit.0 = sym is ∙ unfit.1 in cc
+
+service_part : (n : ℕ) → TiesPort pending_at service [] (port_at n)
+service_part n = record {
+  finds = λ is. absurd (not_ready n is);
+  faults = λ alone. absurd (not_ready n alone.ready);
+  tries = λ served none. tries n served;
+  boots = (λ is. absurd (not_ready n is), inl (refl, refl, refl, refl, refl, refl));
+  trouble = record { errors = λ is. absurd (not_ready n is); changes = λ is. absurd (not_ready n is) };
+  well = λ why is. absurd (not_ready n is);
+  heeds = λ is. absurd (not_ready n is);
+}
+
+service_backed : IsBacked pending pending issuing (answer ∷ [])
+service_backed = record { telling = refl; gained = []; tape = refl; tells = (tt, λ d. d); told = λ _. (tt, tt); plugged = λ port. ([], unchanged pending port, refl) }
+
+service_ties : Ties (Any ∷ Any ∷ []) pending_at service
+service_ties = record {
+  accesses = [];
+  came = (refl, All-nil (IsServing (ServesPort dead)));
+  backed = service_backed;
+  evidenced = record { faults = λ f here. absurd (contains_none f here); port = λ port. service_evidenced port.0 };
+  issues = λ port is. absurd (not_ready port.0 is);
+  port = λ port healthy. service_part port.0;
+  holds = (first_slots, holds_dead answered knows_kept (λ n ne e here. absurd (contains_none e here)) kept_first);
+}
+
+pub death_is_a_history : DeathIsAHistory
+unfolding reset_ties service_ties
+death_is_a_history = record {
+  first = first;
+  submit = submit;
+  asked = asked;
+  submits = (refl, refl);
+  reset = reset;
+  resets = (refl, refl);
+  dead = (refl, refl);
+  service = service;
+  serves = (refl, refl);
+  history = (((((starts, fit_both), begins), submit_happens, submit_ties), reset_happens, reset_ties), service_happens, service_ties);
+  kept = waiting;
+  keeps = (contains_here waiting [] waiting refl, refl);
+  accesses = (refl, refl);
+  reset_parts = λ port. reset_part port.0;
+  service_parts = λ port. service_part port.0;
+}

@@ -1,0 +1,12 @@
+mod Pages
+mod Devices
+mod Holding
+mod Command
+mod Submitting
+mod Accepting
+mod Recovering
+mod Recovered
+mod Losing
+mod Lost
+mod Answering
+mod Dying

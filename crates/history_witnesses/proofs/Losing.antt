@@ -1,0 +1,210 @@
+-- The read is done when a service looks at its port; then the disk of the next port is taken out. This is the way of the device.
+use Rattle.std.proofs.Common.{ℕ, zero, suc, ◌≡◌, true, false, List, [], ◌∷◌, ◌++◌, None, Some, refl, sym, ◌∙◌, arith, inl}
+use Rattle.hba_regs.specs.declared.reg.Reg.TheVariants.{Px}
+use Rattle.hba_regs.specs.declared.reg.PortReg.{PortReg}
+use Rattle.hba_regs.specs.declared.reg.PortReg.TheVariants.{Cmd, Ssts, Serr, Sact, Ci}
+use Rattle.adapter.specs.Access.{DoesAll, PortShows, Reads, Writes, note, port_written}
+use Rattle.adapter.specs.Device.{IsSector, PortState, Device}
+use Rattle.adapter.specs.FirstRead.{sector_of}
+use Rattle.adapter.specs.Memory.{changed, patched}
+use Rattle.history_witnesses.specs.Allowed.{AreAllowed}
+use Rattle.adapter.specs.Steps.{Steps, done_entry, move_of, with_done, with_move}
+use Rattle.adapter.specs.Steps.Step.{Move, Done, Unplug}
+use Rattle.adapter.specs.declared.command.Operation.TheVariants.{Read, Trim}
+use Rattle.adapter.specs.declared.tape.Entry.{Entry}
+use Rattle.adapter.specs.declared.tape.Entry.TheVariants as entry
+use Rattle.adapter.proofs.Changed.{changed_same, changed_other}
+use Rattle.adapter.proofs.FirstRead.{first_sane}
+use Rattle.adapter.proofs.Runs.{Steps-one, Steps-trans}
+use Rattle.agreement.specs.Agrees.{port_at}
+use Rattle.agreement.specs.Slots.{IsFree}
+use Rattle.history_witnesses.specs.Loss.{finding_turn, losing_turn}
+use Rattle.history_witnesses.specs.Scene.{device_with}
+use Rattle.history_witnesses.proofs.Command.{read_memory}
+use Rattle.history_witnesses.proofs.Submitting.{command, fetches, issued, others_clear, pages, second, submitted, taken}
+use Rattle.history_witnesses.proofs.Devices.{may_stop, but_first, but_second, fall, falls_reads, no_bit, put_device, reads, writes}
+
+-- ---- the read is done
+
+abbrev moved : PortState
+moved = with_move taken 0 command (sector_of 100)
+
+abbrev done : PortState
+done = with_done moved 0 0 Read
+
+abbrev pub tape_moved : List Entry
+tape_moved = pages ++ entry.Move (move_of 0 0 command (sector_of 100)) ∷ []
+
+abbrev pub tape_done : List Entry
+tape_done = tape_moved ++ done_entry 0 0 Read ∷ []
+
+unfoldable pub memory_done : ℕ → ℕ
+memory_done = patched read_memory 0x28000 (sector_of 100)
+
+pub is_sector : IsSector (sector_of 100)
+unfolding changed
+is_sector = first_sane.disk 0 sector_of refl 100 (omega arith)
+
+moves : Steps (device_with pages read_memory (taken ∷ second ∷ [])) (device_with tape_moved memory_done (moved ∷ second ∷ []))
+unfolding changed memory_done
+moves = Steps-one (Move 0 0 command (sector_of 100)) (device_with pages read_memory (taken ∷ second ∷ [])) (device_with tape_moved memory_done (moved ∷ second ∷ []))
+    (record {
+      works = record { taken = refl; working = record { running = refl; present = refl; fresh = refl; admitted = refl; whole = refl } };
+      left = omega arith;
+      inside = omega arith;
+      sector = is_sector;
+      brings = (omega arith, refl);
+    })
+    (put_device tape_moved memory_done 0 (taken ∷ second ∷ []) (moved ∷ second ∷ []) moved refl (but_first taken moved (second ∷ [])))
+
+ends : Steps (device_with tape_moved memory_done (moved ∷ second ∷ [])) (device_with tape_done memory_done (done ∷ second ∷ []))
+unfolding changed
+ends = Steps-one (Done 0 0 0 (record command { moved = 1 })) (device_with tape_moved memory_done (moved ∷ second ∷ [])) (device_with tape_done memory_done (done ∷ second ∷ []))
+    (record {
+      works = record { taken = refl; working = record { running = refl; present = refl; fresh = refl; admitted = refl; whole = refl } };
+      finished = record { moved = refl; cleared = λ e. absurd (let x : Read ≡ Trim = e in cc) };
+      shown = inl refl;
+    })
+    (put_device tape_done memory_done 0 (moved ∷ second ∷ []) (done ∷ second ∷ []) done refl (but_first moved done (second ∷ [])))
+
+-- no command is left
+done_clear : (k : ℕ) → done.ci k ≡ false
+done_clear zero = changed_same issued.ci 0 false
+done_clear (suc k) = changed_other issued.ci 0 false (suc k) (omega arith) ∙ others_clear k
+
+abbrev seen : PortState
+seen = record done { notes = note Ci 0 done }
+
+abbrev pub found : PortState
+found = record seen { notes = note Sact 0 seen }
+
+abbrev pub between : Device
+between = device_with tape_done memory_done (found ∷ second ∷ [])
+
+pub finds : DoesAll finding_turn submitted between
+finds = (
+  device_with tape_done memory_done (seen ∷ second ∷ []),
+  record {
+    mid = device_with tape_done memory_done (done ∷ second ∷ []);
+    steps = Steps-trans fetches (Steps-trans moves ends);
+    shows = λ k low. no_bit k ∙ sym (done_clear k);
+    effect = put_device tape_done memory_done 0 (done ∷ second ∷ []) (seen ∷ second ∷ []) seen refl (but_first done seen (second ∷ []));
+  },
+  (between, reads tape_done memory_done 0 (seen ∷ second ∷ []) (found ∷ second ∷ []) (but_first seen found (second ∷ [])) Sact 0 (λ k low. no_bit k) refl, refl),
+)
+
+pub found_free : (k : ℕ) → IsFree found k
+found_free k = record { issued = done_clear k; free = free k; unarmed = refl }
+  where
+    free : (k : ℕ) → done.taken k ≡ None
+    free zero = changed_same moved.taken 0 None
+    free (suc k) = changed_other moved.taken 0 None (suc k) (omega arith) ∙ changed_other taken.taken 0 (Some (record command { moved = 1 })) (suc k) (omega arith)
+        ∙ changed_other issued.taken 0 (Some command) (suc k) (omega arith)
+
+-- ---- the disk of the other port goes
+
+abbrev out : PortState
+out = record second { ssts_det = 0; present = false; fresh = false; serr_n = true }
+
+abbrev looked : PortState
+looked = record out { notes = note Ssts 0 out }
+
+abbrev commanded : PortState
+commanded = record looked { notes = note Cmd 0xc011 looked }
+
+abbrev stopping : PortState
+stopping = port_written Cmd 0xc010 5 commanded
+
+abbrev stopped : PortState
+stopped = record (fall stopping) { notes = note Cmd 0x4010 (fall stopping) }
+
+abbrev cleared : PortState
+cleared = port_written Serr 0xffffffff 5 stopped
+
+abbrev pub gone : PortState
+gone = record cleared { notes = note Ssts 0 cleared }
+
+abbrev pub tape_lost : List Entry
+tape_lost = tape_done ++ entry.Unplug (port_at 1) ∷ []
+
+abbrev lost_with : PortState → Device
+lost_with p = device_with tape_lost memory_done (found ∷ p ∷ [])
+
+abbrev pub lost : Device
+lost = lost_with gone
+
+goes : Steps between (lost_with out)
+goes = Steps-one (Unplug 1) between (lost_with out) refl (put_device tape_lost memory_done 1 (found ∷ second ∷ []) (found ∷ out ∷ []) out refl (but_second found second out []))
+
+-- an access of port 1
+reads_there : (r : PortReg) (v : ℕ) (p : PortState) → PortShows r v p → Reads (Px (port_at 1) r) v (lost_with p) (lost_with (record p { notes = note r v p }))
+reads_there r v p shows = reads tape_lost memory_done 1 (found ∷ p ∷ []) (found ∷ record p { notes = note r v p } ∷ []) (but_second found p (record p { notes = note r v p }) []) r v shows refl
+
+writes_there : (r : PortReg) (v : ℕ) (p : PortState) → Writes (Px (port_at 1) r) v (lost_with p) (lost_with (port_written r v 5 p))
+writes_there r v p = writes tape_lost memory_done 1 (found ∷ p ∷ []) (found ∷ port_written r v 5 p ∷ []) (but_second found p (port_written r v 5 p) []) r v refl
+
+falls : Reads (Px (port_at 1) Cmd) 0x4010 (lost_with stopping) (lost_with stopped)
+falls = falls_reads tape_lost memory_done 1 0x4010 (found ∷ stopping ∷ []) (found ∷ fall stopping ∷ []) (found ∷ stopped ∷ []) (but_second found stopping (fall stopping) []) (but_second found (fall stopping) stopped [])
+    refl refl refl (refl, refl, refl, refl) refl
+
+pub loses : DoesAll losing_turn between lost
+loses = (
+  lost_with looked,
+  record {
+    mid = lost_with out;
+    steps = goes;
+    shows = refl;
+    effect = put_device tape_lost memory_done 1 (found ∷ out ∷ []) (found ∷ looked ∷ []) looked refl (but_second found out looked []);
+  },
+  (
+    lost_with commanded,
+    reads_there Cmd 0xc011 looked (refl, refl, refl, refl),
+    (
+      lost_with stopping,
+      writes_there Cmd 0xc010 commanded,
+      (
+        lost_with stopped,
+        falls,
+        (
+          lost_with cleared,
+          writes_there Serr 0xffffffff stopped,
+          (lost, reads_there Ssts 0 cleared refl, refl),
+        ),
+      ),
+    ),
+  ),
+)
+
+-- ---- by the rules
+
+pub finding_allowed : AreAllowed finding_turn submitted between finds
+unfolding finds reads
+finding_allowed = (
+  (record { ae = refl; no_reset = refl }, (omega arith, refl)),
+  (
+    (record { ae = refl; no_reset = refl }, (omega arith, refl)),
+    tt,
+  ),
+)
+
+pub losing_allowed : AreAllowed losing_turn between lost loses
+unfolding loses falls reads_there writes_there reads writes falls_reads
+losing_allowed = (
+  (record { ae = refl; no_reset = refl }, (omega arith, refl)),
+  (
+    (record { ae = refl; no_reset = refl }, (omega arith, refl)),
+    (
+      (record { ae = refl; no_reset = refl }, (omega arith, refl), may_stop commanded 0xc010 0xc011 refl refl refl refl refl),
+      (
+        (record { ae = refl; no_reset = refl }, (omega arith, refl)),
+        (
+          (record { ae = refl; no_reset = refl }, (omega arith, refl), tt),
+          (
+            (record { ae = refl; no_reset = refl }, (omega arith, refl)),
+            tt,
+          ),
+        ),
+      ),
+    ),
+  ),
+)

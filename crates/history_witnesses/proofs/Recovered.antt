@@ -1,0 +1,390 @@
+-- What holds after that service, which tells the fault; and it meets all that is asked of it.
+use Rattle.adapter.proofs.Changed.{changed_other}
+use Rattle.std.proofs.lemmas.Bool.{cases_eq}
+use Rattle.adapter.specs.declared.tape.Entry.{Entry}
+use Rattle.std.proofs.lemmas.List.{append_cancel_left}
+use Rattle.std.proofs.Common.{true, subst, Some, ◌∙◌, ℕ, zero, suc, ◌≡◌, false, List, [], ◌∷◌, ◌++◌, None, inl, inr, ⊎_elim, refl, sym, ap, arith, ◌≢◌, Bool, not, ◌&&◌}
+use Rattle.std.specs.List.{Contains, All}
+use Rattle.std.proofs.lemmas.List.Elements.{All-nil, All-cons, All-contains}
+use Rattle.std.proofs.lemmas.List.Sorted.{IsPermutation-refl}
+use Rattle.ata_types.specs.declared.Port.{Port}
+use Rattle.ata_types.specs.declared.PortState.TheVariants.{Absent, Ready}
+use Rattle.ata_types.specs.declared.request.Outcome.{Outcome}
+use Rattle.ata_types.specs.declared.request.Outcome.TheVariants as outcome
+use Rattle.ata_types.specs.declared.request.Reply.{Reply}
+use Rattle.hba_regs.specs.Bits.{bit}
+use Rattle.hba_regs.specs.declared.reg.Reg.TheVariants.{Px}
+use Rattle.hba_regs.specs.declared.reg.PortReg.TheVariants.{Cmd, Tfd}
+use Rattle.adapter.specs.Access.Access.{Reading}
+use Rattle.adapter.specs.Device.{Device}
+use Rattle.adapter.specs.Memory.{changed}
+use Rattle.adapter.specs.declared.access.DeviceStep.{DeviceStep}
+use Rattle.adapter.specs.declared.command.Operation.TheVariants.{Identify}
+use Rattle.adapter.specs.declared.tape.Entry.TheVariants as entry
+use Rattle.adapter.proofs.Absurd.{true-false}
+use Rattle.agreement.specs.Agrees.{port_at}
+use Rattle.agreement.specs.Acts.{at}
+use Rattle.agreement.specs.Driver.{IsBacked, Knows}
+use Rattle.agreement.specs.Facts.{IsFaultOf, IsDisturbance, RunsWell}
+use Rattle.agreement.specs.Slots.{IsFree, IsMove, ServesRequest, Waits, IsTaken, IsEnded, IsDropped}
+use Rattle.agreement.specs.Witness.{first_id}
+use Rattle.block_machine.specs.Events.{Service, Served, Happens, ServesReady}
+use Rattle.block_machine.specs.Histories.{Happening, Instant}
+use Rattle.block_machine.specs.Ports.{IsServiced}
+use Rattle.block_machine.specs.Left.{after}
+use Rattle.block_machine.specs.State.{Pending, Machine}
+use Rattle.block_machine.specs.Steps.{Step, Answer}
+use Rattle.block_machine.proofs.Members.{contains_none, contains_here, contains_cases}
+use Rattle.host_boot.specs.Taken.{wanted_of}
+use Rattle.identify.specs.declared.wanted.Wanted.TheVariants.{Any}
+use Rattle.driver_history.specs.Evidence.{Gains, IsEvidencedOf, ShowsLoss, ShowsFailure}
+use Rattle.driver_history.specs.Histories.{Ties, TiesPort, FindsDone, IsAnsweredOk, IsIssuedOn, LosesNoTrouble, RunsWellAnew, ServesPort}
+use Rattle.driver_history.specs.Holds.{HoldsOf, HoldsWith, IsReadyAt}
+use Rattle.driver_history.specs.Trace.{LeavesCommand}
+use Rattle.port_control.specs.Engines.{Stops}
+use Rattle.history_witnesses.specs.Recovery.{fault_evidence, recovery_accesses, told_fault, RecoveryTies}
+use Rattle.history_witnesses.specs.Scene.{having, page_entry}
+use Rattle.history_witnesses.proofs.Command.{read_memory}
+use Rattle.history_witnesses.proofs.Devices.{IsOf, WritesOf, leaves, serving, AreServing}
+use Rattle.history_witnesses.proofs.Holding.{IsUnnamed, fit_disk, named, named_is, no_slots, requests_none, runs_on, tries_ready, unnamed_evidenced, unserved_at, IsCalm, no_trouble}
+use Rattle.history_witnesses.proofs.Pages.{info}
+use Rattle.history_witnesses.proofs.Submitting.{issued, second, submitted, pages}
+use Rattle.history_witnesses.proofs.Accepting.{agreeing, asked, both, calm, first, fit_both, free_apart, in_book, issuing, no_page, not_dead, other_page, past_driver, second_ready, served_of, served_ready, starts, submit, submit_happens, submit_parts, submit_ties, submitted_at, waiting, begins}
+use Rattle.history_witnesses.proofs.Recovering.{allowed, does, fault, from_fall, from_stop, recovered, started, tape_failed, told, until_stop}
+
+-- ---- the machine, and what holds
+
+abbrev answer : Step
+answer = Answer waiting (outcome.DeviceError 0x41 0x40)
+
+abbrev answered : Machine
+answered = after issuing (answer ∷ [])
+
+abbrev recovered_at : Instant Device
+recovered_at = record { device = recovered; moment = record { machine = answered; ports = both } }
+
+free : (n k : ℕ) → IsFree (having (started ∷ second ∷ []) n) k
+free zero k = record { issued = refl; free = refl; unarmed = refl }
+free (suc zero) k = record { issued = refl; free = refl; unarmed = refl }
+free (suc (suc n)) k = record { issued = refl; free = refl; unarmed = refl }
+
+present : (n : ℕ) → answered.present (port_at n) ≡ (having (started ∷ second ∷ []) n).present
+present zero = refl
+present (suc zero) = refl
+present (suc (suc n)) = refl
+
+knows : Knows answered (at no_slots recovered)
+knows = agreeing answered no_slots tape_failed read_memory started second
+    (record { own_first = refl; own_second = refl; disks = (refl, refl); present = present; ids = refl; sizes = refl; bytes = refl })
+    free free_apart (λ f b from small. past_driver f b from) (λ n e may at_port. ⊎_elim (λ z. absurd (contains_none e z.0)) (λ z. absurd (contains_none e z)) may)
+
+-- no page came after those of the two ports
+unpaged : (port : ℕ) → All (λ e. IsMove port Identify e → ⊥) (entry.Fault fault ∷ [])
+unpaged port = All-cons (λ e. IsMove port Identify e → ⊥) (entry.Fault fault) [] (λ x. x) (no_page port)
+
+ready : IsReadyAt Any no_slots recovered_at (port_at 0)
+unfolding changed
+ready = record {
+  on = record { ae = refl; no_reset = refl };
+  runs = runs_on 0 recovered refl refl refl refl refl (omega arith) refl refl refl;
+  info = info;
+  disk = fit_disk 0 recovered [] (page_entry 1 ∷ entry.Fault fault ∷ []) refl refl refl refl (other_page (entry.Fault fault ∷ []) (unpaged 0));
+  shows = record { serial = refl; sectors = refl; trims = refl; mode = refl };
+  slots = requests_none no_slots recovered_at (port_at 0) (both.mode (port_at 0)) (λ slot. refl) refl;
+  kept = λ e k. absurd (contains_none e k);
+}
+
+port_recovered : (n : ℕ) → HoldsOf (wanted_of (Any ∷ Any ∷ []) n) no_slots recovered_at (port_at n) (both.served (port_at n)) (both.state (port_at n))
+port_recovered zero = ready
+port_recovered (suc zero) = second_ready no_slots answered (entry.Fault fault ∷ []) started read_memory (unpaged 1) (λ slot. refl) refl refl
+port_recovered (suc (suc n)) = unserved_at no_slots recovered_at (suc (suc n)) refl refl (record { free = λ slot. refl; unparked = refl }) (λ e here. absurd (contains_none e here)) (λ e kept. absurd (contains_none e kept))
+
+holds_recovered : HoldsWith (Any ∷ Any ∷ []) no_slots recovered_at
+holds_recovered = record {
+  knows = knows;
+  served = λ port low. served_of tape_failed read_memory (started ∷ second ∷ []) port.0;
+  on = inl (record { ae = refl; no_reset = refl });
+  port = λ port low. port_recovered port.0;
+}
+
+-- ---- the call
+
+abbrev replies : List Reply
+replies = record { id = first_id; client = waiting.request.asked.client; outcome = outcome.DeviceError 0x41 0x40 } ∷ []
+
+abbrev service : Happening Device DeviceStep
+service = record {
+  event = record { ask = Service; said = Served replies; evidence = fault_evidence; steps = answer ∷ []; ports = both };
+  device = recovered;
+}
+
+stops : Stops (port_at 0) recovery_accesses
+stops = record {
+  before = until_stop ++ Reading (Px (port_at 0) Cmd) 0xc011 ∷ [];
+  cleared = 0xc010;
+  between = [];
+  fallen = 0x4010;
+  later = from_fall;
+  here = refl;
+  clears = refl;
+  only = All-nil (LeavesCommand (port_at 0));
+  shown = refl;
+}
+
+of_first : WritesOf (IsOf (port_at 0)) recovery_accesses
+of_first = (refl, (refl, (refl, (refl, tt))))
+
+gains : Gains (IsFaultOf 0) submitted recovered
+gains = record {
+  gained = entry.Fault fault ∷ [];
+  tape = refl;
+  entry = entry.Fault fault;
+  here = contains_here (entry.Fault fault) [] (entry.Fault fault) refl;
+  is = refl;
+}
+
+unnamed : (n : ℕ) → IsUnnamed fault_evidence (port_at (suc n))
+unnamed n = record {
+  lost = contains_none (port_at (suc n));
+  gone = contains_none (port_at (suc n));
+  failed = λ h. let same = named_is 0 (suc n) h in omega (arith, same);
+  fatal = contains_none (port_at (suc n));
+  stopped = λ h. let same = named_is 0 (suc n) h in omega (arith, same);
+  stuck = contains_none (port_at (suc n));
+}
+
+of_served : AreServing (ServesPort both) recovery_accesses
+of_served = (refl, (refl, (refl, (refl, ((λ is. cc, refl), (refl, ((λ is. cc, refl), ((λ is. cc, refl), (refl, (refl, ((λ is. cc, refl), tt)))))))))))
+
+quiet : (n : ℕ) → both.state (port_at n) ≡ Ready → (ShowsLoss (port_at n) submitted recovered → ⊥) × (ShowsFailure (submitted.port n) → ⊥)
+quiet = calm read_memory issued refl refl refl (λ place. refl) recovered
+
+evidenced_of : (n : ℕ) → IsEvidencedOf Service (Served replies) recovery_accesses submitted_at both recovered fault_evidence (port_at n)
+evidenced_of zero = record {
+  lost = λ h. absurd (contains_none (port_at 0) h);
+  gone_all = λ is loss. absurd ((quiet 0 is).0 loss);
+  gone_only = λ h. absurd (contains_none (port_at 0) h);
+  failed_all = λ is f. named 0;
+  failed_only = λ h. (refl, inr (inl gains));
+  fatal_all = λ is f. absurd ((quiet 0 is).1 (inl f));
+  fatal_only = λ h. absurd (contains_none (port_at 0) h);
+  stopped_all = inr (inl (named 0));
+  stopped_only = λ h. inl stops;
+  stuck_only = λ h. absurd (contains_none (port_at 0) h);
+}
+evidenced_of (suc n) = unnamed_evidenced Service (Served replies) recovery_accesses submitted_at both recovered fault_evidence (port_at (suc n)) (unnamed n) (quiet (suc n))
+    (leaves (IsOf (port_at 0)) (port_at (suc n)) (λ is. apart (ap (λ (p : Port). p.0) is)) (λ is. apart (ap (λ (p : Port). p.0) is)) recovery_accesses of_first)
+  where
+    apart : suc n ≡ 0 → ⊥
+    apart e = omega (arith, e)
+
+-- no answer is Ok
+none_ok : (e : Pending) → IsAnsweredOk e (answer ∷ []) → ⊥
+none_ok e a = ⊎_elim (λ (same : Answer a.0 outcome.Ok ≡ answer). cc) (λ none. contains_none _ none) (contains_cases answer [] (Answer a.0 outcome.Ok) a.2)
+
+-- a slot whose bit of PxCI is clear serves no request then
+bits_set : (e : Pending) (k : ℕ) → ServesRequest issuing read_memory issued 0 k e.request.id → bit 1 k ≡ false → ⊥
+bits_set e k s ci = ⊎_elim
+    (λ (w : Waits read_memory issued 0 k s.pending s.command). true-false w.issued ci)
+    (λ r. ⊎_elim
+    (λ (w : IsTaken read_memory issued 0 k s.pending s.command s.places). let x : None ≡ Some w.command = w.taken in cc)
+    (λ r. ⊎_elim
+    (λ (w : IsEnded issued k s.pending). true-false w.ended (ap (λ (p : Pending). p.ended) (⊎_elim (λ m. in_book s.pending m.0) (λ m. absurd (contains_none s.pending m)) s.moves)))
+    (λ (w : IsDropped issued k s.pending). true-false refl w.stopped) r) r)
+    s.stage
+
+finds : FindsDone (port_at 0) recovery_accesses submitted_at (answer ∷ [])
+finds = record {
+  ci = 1;
+  sact = 0;
+  reads = record { before = []; later = Reading (Px (port_at 0) Tfd) 0x4041 ∷ from_stop; here = refl; running = All-nil (LeavesCommand (port_at 0)) };
+  exact = λ e slot on s. (λ ok. absurd (none_ok e ok), λ clear. absurd (bits_set e slot s clear.0));
+}
+
+service_finds : (n : ℕ) (e : Pending) → IsIssuedOn (port_at n) issuing e → FindsDone (port_at n) recovery_accesses submitted_at (answer ∷ [])
+service_finds zero e on = finds
+service_finds (suc n) e on = absurd (let z : 0 ≡ suc n = sym (ap (λ (x : Pending). x.request.port.0) (in_book e on.here)) ∙ ap (λ (p : Port). p.0) on.port_is in omega (arith, z))
+
+no_flags : (n place : ℕ) → (submitted.port n).is place ≡ false
+no_flags zero place = refl
+no_flags (suc zero) place = refl
+no_flags (suc (suc n)) place = refl
+
+only_fault : (e : Pending) (o : Outcome) → Contains (answer ∷ []) (Answer e o) → o ≡ outcome.DeviceError 0x41 0x40
+only_fault e o here = ⊎_elim (λ (same : Answer e o ≡ answer). cc) (λ none. absurd (contains_none _ none)) (contains_cases answer [] (Answer e o) here)
+
+only_one : (e : Pending) (o : Outcome) → Contains (answer ∷ []) (Answer e o) → e ≡ waiting
+only_one e o here = ⊎_elim (λ (same : Answer e o ≡ answer). cc) (λ none. absurd (contains_none _ none)) (contains_cases answer [] (Answer e o) here)
+
+heeds : (n : ℕ) → both.state (port_at n) ≡ Ready → ServesReady submitted_at.moment fault_evidence (answer ∷ []) recovered_at.moment (port_at n)
+heeds zero is = record {
+  ended = λ e here at_port ended. true-false ended (ap (λ (p : Pending). p.ended) (in_book e here));
+  emptied = λ g. absurd (contains_none (port_at 0) g);
+  told = λ g. absurd (contains_none (port_at 0) g);
+  interrupts = λ why. inl (named 0);
+  anew = λ why e here. absurd (contains_none e here);
+  single = omega arith;
+  fatal = λ h. absurd (contains_none (port_at 0) h);
+  disk = λ shows. inl refl;
+  calm = inl (inl (named 0));
+}
+heeds (suc zero) is = record {
+  ended = λ e here at_port ended. true-false ended (ap (λ (p : Pending). p.ended) (in_book e here));
+  emptied = λ g. absurd ((unnamed 0).gone g);
+  told = λ g. absurd ((unnamed 0).gone g);
+  interrupts = λ why. absurd (⊎_elim (unnamed 0).failed (unnamed 0).gone why);
+  anew = λ why e here. absurd (contains_none e here);
+  single = omega arith;
+  fatal = λ h. absurd ((unnamed 0).fatal h);
+  disk = λ shows. inl refl;
+  calm = inr (record {
+    same = (refl, refl, refl, refl, refl, refl);
+    told = λ e o here at_port. absurd (let z : 0 ≡ 1 = sym (ap (λ (x : Pending). x.request.port.0) (only_one e o here)) ∙ ap (λ (p : Port). p.0) at_port in omega (arith, z));
+    uninterrupted = λ why. ⊎_elim (unnamed 0).stopped (unnamed 0).stuck why;
+  });
+}
+heeds (suc (suc n)) is = absurd (let x : Absent ≡ Ready = is in cc)
+
+-- the fault is the one entry that the tape has gained
+fault_alone : (n : ℕ) → n ≢ 0 → All (IsCalm n) (entry.Fault fault ∷ [])
+fault_alone n ne = All-cons (IsCalm n) (entry.Fault fault) [] (λ (is : 0 ≡ n). ne (sym is), λ x. x, λ x. x) (All-nil (IsCalm n))
+
+trouble : (n : ℕ) → LosesNoTrouble fault_evidence submitted_at recovered (port_at n)
+trouble zero = record { errors = λ ready why. inl (inl (named 0)); changes = λ ready why. inl (inl (named 0)) }
+trouble (suc n) = no_trouble fault_evidence submitted_at recovered (port_at (suc n)) (entry.Fault fault ∷ []) refl (fault_alone (suc n) (omega arith)) (quiet (suc n))
+
+-- it disturbs port 0; and no other port was stopped
+well : (n : ℕ) → RunsWellAnew fault_evidence recovery_accesses submitted_at both recovered (port_at n)
+well zero = λ why ready calm. absurd (
+    let same : calm.gained ≡ entry.Fault fault ∷ [] = append_cancel_left pages calm.gained (entry.Fault fault ∷ []) (sym calm.tape) in
+    All-contains (λ e. IsDisturbance 0 e → ⊥) calm.gained (entry.Fault fault) calm.calm
+    (subst (λ (es : List Entry). Contains es (entry.Fault fault)) (sym same) (contains_here (entry.Fault fault) [] (entry.Fault fault) refl)) refl)
+well (suc n) = λ why. absurd (⊎_elim (unnamed n).stopped (unnamed n).stuck why)
+
+part_of : (n : ℕ) → TiesPort submitted_at service recovery_accesses (port_at n)
+part_of n = record {
+  finds = λ is e on. service_finds n e on;
+  faults = λ alone. true-false alone.shows.fault (no_flags n 30);
+  tries = λ served none. tries_ready recovery_accesses submitted_at both recovered (port_at n) (served_ready n served);
+  boots = (λ is f. absurd (⊎_elim (λ fatal. (quiet n is).1 (inl fatal)) (quiet n is).0 f), inl (refl, refl, refl, refl, refl, refl));
+  trouble = trouble n;
+  well = well n;
+  heeds = heeds n;
+}
+
+backed : IsBacked submitted recovered issuing (answer ∷ [])
+backed = record {
+  telling = refl;
+  gained = entry.Fault fault ∷ [];
+  tape = refl;
+  tells = ([], [], answer ∷ [], tt, refl, (tt, λ d. d), refl);
+  told = λ _. (tt, tt);
+  plugged = λ port. ([], plugs port, refl);
+}
+  where
+    plugs : (n : ℕ) → (recovered.port n).plugged ≡ (submitted.port n).plugged ++ []
+    plugs zero = refl
+    plugs (suc zero) = refl
+    plugs (suc (suc n)) = refl
+
+becomes : (n : ℕ) → IsServiced both fault_evidence both (port_at n)
+becomes n = (
+  λ is. absurd (not_dead n is),
+  λ _. (
+    record {
+      served = refl;
+      stuck = λ is. absurd (not_dead n is);
+      dies = λ h. absurd (contains_none (port_at n) h);
+      keeps = λ is. (refl, refl);
+    },
+    inl (refl, refl, refl, refl, refl, refl),
+  ),
+)
+
+unplugged_not : (e : Pending) → Contains (answer ∷ []) (Answer e outcome.Unplugged) → ⊥
+unplugged_not e here = let x : outcome.Unplugged ≡ outcome.DeviceError 0x41 0x40 = only_fault e outcome.Unplugged here in cc
+
+happens : Happens submitted_at.moment service.event
+happens = record {
+  may = (tt, contains_here waiting [] waiting refl);
+  belong = (tt, inr tt);
+  last = (tt, λ id is none. true-false none refl);
+  lawful = (
+    tt,
+    (
+      record { pending = waiting; here = contains_here waiting [] waiting refl; id_is = refl; issued = refl },
+      refl,
+      contains_here told_fault [] told_fault refl,
+      named 0,
+    ),
+  );
+  fit = fit_both;
+  disks = λ e o here. absurd (contains_none e here);
+  answered = record {
+    tells = record { answers = (waiting, outcome.DeviceError 0x41 0x40) ∷ []; same = IsPermutation-refl _; ordered = λ i j d less low. absurd (omega (arith, less, low)); told = refl };
+    dead = λ e o here is. absurd (not_dead e.request.port.0 is);
+    grounded = (tt, named 0);
+    unplugs = record { emptied = λ e other here. absurd (unplugged_not e here); alike = λ e other here. absurd (unplugged_not e here) };
+    issues = λ port is r at_port due. absurd (contains_none r due.here);
+    emptied = λ port other e here. absurd (contains_none e here);
+    becomes = λ port. becomes port.0;
+    disk = λ port. inl (refl, refl, refl, refl, refl, refl);
+  };
+}
+
+ties : Ties (Any ∷ Any ∷ []) submitted_at service
+ties = record {
+  accesses = recovery_accesses;
+  came = (does, serving (ServesPort both) recovery_accesses of_served);
+  backed = backed;
+  evidenced = record {
+    faults = λ f here. ⊎_elim (λ same. told f same) (λ none. absurd (contains_none f none)) (contains_cases told_fault [] f here);
+    port = λ port. evidenced_of port.0;
+  };
+  issues = λ port is r here. absurd (contains_none r here);
+  port = λ port healthy. part_of port.0;
+  holds = (no_slots, holds_recovered);
+}
+
+-- the bits of PxIS are clear again
+quiet_again : (place : ℕ) → started.is place ≡ false
+unfolding changed
+quiet_again place = ⊎_elim
+    (λ (same : place ≡ 30). subst (λ (k : ℕ). started.is k ≡ false) (sym same) refl)
+    (λ (ne : place ≢ 30). ap (λ (b : Bool). b && not (bit 0xffffffff place)) (changed_other (λ _. false) 30 true place ne))
+    (cases_eq place 30)
+
+runs_well : RunsWell started
+runs_well = record {
+  st = refl;
+  cr = refl;
+  det = refl;
+  present = refl;
+  fresh = refl;
+  linked = refl;
+  running = refl;
+  whole = refl;
+  quiet = record { serr_n = refl; serr_x = refl; quiet = λ place from to. quiet_again place };
+}
+
+pub recovery_ties : RecoveryTies
+unfolding ties
+recovery_ties = record {
+  first = first;
+  submit = submit;
+  asked = asked;
+  reads = refl;
+  submits = (refl, refl);
+  ready = refl;
+  service = service;
+  serves = (refl, refl);
+  evidence = refl;
+  still = refl;
+  well = runs_well;
+  does = does;
+  allowed = allowed;
+  history = ((((starts, fit_both), begins), submit_happens, submit_ties), happens, ties);
+  accesses = refl;
+  submit_parts = submit_parts;
+  service_parts = λ port. part_of port.0;
+}

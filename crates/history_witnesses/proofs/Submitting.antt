@@ -1,0 +1,82 @@
+-- A read is issued on the first of two ports, and the device takes it.
+use Rattle.std.proofs.Common.{ℕ, suc, ◌≡◌, false, List, [], ◌∷◌, None, Some, refl, arith}
+use Rattle.hba_regs.specs.declared.reg.Reg.TheVariants.{Px}
+use Rattle.hba_regs.specs.declared.reg.PortReg.TheVariants.{Ci}
+use Rattle.adapter.specs.Access.{Access, DoesAll, Stores, port_written}
+use Rattle.adapter.specs.Access.Access.{Writing, Storing}
+use Rattle.adapter.specs.Device.{PortState, Taken, Device}
+use Rattle.adapter.specs.FirstRead.{header_bytes}
+use Rattle.adapter.specs.Memory.{changed, patched}
+use Rattle.adapter.specs.ReadDone.{read_of}
+use Rattle.adapter.specs.Says.{cut}
+use Rattle.adapter.specs.Steps.{Steps, begun, with_fetch}
+use Rattle.adapter.specs.Steps.Step.{Fetch}
+use Rattle.adapter.specs.declared.tape.Entry.{Entry}
+use Rattle.adapter.proofs.Runs.{Steps-one}
+use Rattle.agreement.specs.Agrees.{port_at}
+use Rattle.agreement.proofs.Witness.{bit_one_other}
+use Rattle.history_witnesses.specs.Scene.{device_with, page_entry, running_port}
+use Rattle.history_witnesses.proofs.Command.{place_bytes, read_bytes, read_memory, told, zeros}
+use Rattle.history_witnesses.proofs.Devices.{but_first, put_device, writes}
+
+-- ---- it is issued
+
+abbrev pub pages : List Entry
+pages = page_entry 0 ∷ page_entry 1 ∷ []
+
+abbrev pub second : PortState
+second = running_port 1
+
+abbrev pub booted : Device
+booted = device_with pages zeros (running_port 0 ∷ second ∷ [])
+
+abbrev pub issued : PortState
+issued = port_written Ci 1 2 (running_port 0)
+
+abbrev pub submitted : Device
+submitted = device_with pages read_memory (issued ∷ second ∷ [])
+
+abbrev pub submit_accesses : List Access
+submit_accesses = Storing 0 header_bytes ∷ Storing 0x1000 read_bytes ∷ Storing 0x1080 place_bytes ∷ Writing (Px (port_at 0) Ci) 1 ∷ []
+
+stores : (at : ℕ) (bytes : List ℕ) (memory : ℕ → ℕ) → Stores at bytes (device_with pages memory (running_port 0 ∷ second ∷ [])) (device_with pages (patched memory at bytes) (running_port 0 ∷ second ∷ []))
+stores at bytes memory = record { mid = device_with pages memory (running_port 0 ∷ second ∷ []); steps = record { steps = []; lead = refl }; effect = refl }
+
+pub submits : DoesAll submit_accesses booted submitted
+unfolding read_memory
+submits = (
+  device_with pages (patched zeros 0 header_bytes) (running_port 0 ∷ second ∷ []),
+  stores 0 header_bytes zeros,
+  (
+    device_with pages (patched (patched zeros 0 header_bytes) 0x1000 read_bytes) (running_port 0 ∷ second ∷ []),
+    stores 0x1000 read_bytes (patched zeros 0 header_bytes),
+    (
+      device_with pages read_memory (running_port 0 ∷ second ∷ []),
+      stores 0x1080 place_bytes (patched (patched zeros 0 header_bytes) 0x1000 read_bytes),
+      (submitted, writes pages read_memory 0 (running_port 0 ∷ second ∷ []) (issued ∷ second ∷ []) (but_first (running_port 0) issued (second ∷ [])) Ci 1 refl, refl),
+    ),
+  ),
+)
+
+-- slot 0 alone has a bit
+pub others_clear : (k : ℕ) → issued.ci (suc k) ≡ false
+others_clear k = bit_one_other (suc k) (omega arith)
+
+-- ---- and taken by the device
+
+abbrev pub command : Taken
+command = begun (read_of 100 1) (cut 0x28000 1)
+
+abbrev pub taken : PortState
+taken = with_fetch issued 0 (read_of 100 1) (cut 0x28000 1)
+
+pub fetches : Steps submitted (device_with pages read_memory (taken ∷ second ∷ []))
+unfolding changed
+fetches = Steps-one (Fetch 0 0 (read_of 100 1) (cut 0x28000 1)) submitted (device_with pages read_memory (taken ∷ second ∷ []))
+    (record {
+      fetchable = record { st = refl; issued = refl; free = refl };
+      working = record { running = refl; present = refl; fresh = refl; admitted = refl; whole = refl };
+      alone = λ slot t is. absurd (let x : None ≡ Some t = is in cc);
+      says = told.says;
+    })
+    (put_device pages read_memory 0 (issued ∷ second ∷ []) (taken ∷ second ∷ []) taken refl (but_first issued taken (second ∷ [])))

@@ -1,0 +1,42 @@
+-- A history in which a reset of the adapter doesn't end, and a service then tells the dead ports (this project's own; AHCI 1.3.1, 10.4.3).
+use Rattle.std.specs.Prelude.{◌≡◌, List, [], ◌∷◌, Contains, None, Ok}
+use Rattle.ata_types.specs.declared.Port.{Port}
+use Rattle.ata_types.specs.declared.PortState.TheVariants.{Dead}
+use Rattle.ata_types.specs.declared.request.Outcome.TheVariants.{PortDead}
+use Rattle.ata_types.specs.declared.request.Request.{Request}
+use Rattle.hba_regs.specs.declared.reg.Reg.TheVariants.{Ghc}
+use Rattle.adapter.specs.Access.{Access}
+use Rattle.adapter.specs.Access.Access.{Reading, Writing}
+use Rattle.adapter.specs.Device.{Device}
+use Rattle.adapter.specs.declared.access.DeviceStep.{DeviceStep}
+use Rattle.agreement.specs.Agrees.{port_at}
+use Rattle.agreement.specs.Witness.{first_id}
+use Rattle.block_machine.specs.Events.{Submit, Service, Reset, Submitted, Served, WasReset}
+use Rattle.block_machine.specs.Histories.{Instant, Happening, now}
+use Rattle.block_machine.specs.State.{Pending}
+use Rattle.identify.specs.declared.wanted.Wanted.TheVariants.{Any}
+use Rattle.driver_history.specs.Histories.{IsHistory, TiesPort}
+
+-- HR of GHC is set, and is read 1 still
+abbrev pub reset_accesses : List Access
+reset_accesses = Writing Ghc 0x80000001 ∷ Reading Ghc 0x80000001 ∷ []
+
+-- A read of port 0 is accepted and issued; then a reset doesn't end, which leaves both ports dead and the read unanswered; and a service,
+-- which makes no access, answers it PortDead: its frames are kept. Each port's part in these calls is done, whether it stays healthy or not.
+pub record DeathIsAHistory : Type 0 where
+  pub first : Instant Device
+  pub submit : Happening Device DeviceStep
+  pub asked : Request
+  pub submits : (submit.event.ask ≡ Submit asked) × (submit.event.said ≡ Submitted (Ok first_id))
+  pub reset : Happening Device DeviceStep
+  pub resets : (reset.event.ask ≡ Reset) × (reset.event.said ≡ WasReset None)
+  pub dead : (reset.event.ports.state (port_at 0) ≡ Dead) × (reset.event.ports.state (port_at 1) ≡ Dead)
+  pub service : Happening Device DeviceStep
+  pub serves : (service.event.ask ≡ Service)
+      × (service.event.said ≡ Served (record { id = first_id; client = asked.client; outcome = PortDead } ∷ []))
+  pub history : IsHistory (Any ∷ Any ∷ []) first (service ∷ reset ∷ submit ∷ [])
+  pub kept : Pending
+  pub keeps : Contains (now first (service ∷ reset ∷ submit ∷ [])).moment.machine.kept kept × (kept.request.id ≡ first_id)
+  pub accesses : (history.0.2.accesses ≡ reset_accesses) × (history.2.accesses ≡ [])
+  pub reset_parts : (port : Port) → TiesPort (now first (submit ∷ [])) reset history.0.2.accesses port
+  pub service_parts : (port : Port) → TiesPort (now first (reset ∷ submit ∷ [])) service history.2.accesses port

@@ -1,0 +1,6 @@
+pub mod Scene
+pub mod Allowed
+pub mod Begun
+pub mod Recovery
+pub mod Loss
+pub mod Dead

@@ -1,0 +1,72 @@
+-- An adapter with ports that run, each with a disk that sent its page (this project's own).
+use Rattle.std.specs.Prelude.{ℕ, Bool, false, List, ◌∷◌, ◌++◌, replicate, slice_index_or, true}
+use Rattle.ata_types.specs.declared.PortState as shown
+use Rattle.ata_types.specs.declared.PortState.TheVariants.{Absent}
+use Rattle.adapter.specs.Device.{PortState, Device}
+use Rattle.adapter.specs.FirstRead.{first_read, no_notes, quiet_port, reading_port}
+use Rattle.adapter.specs.Steps.{noted_bytes}
+use Rattle.adapter.specs.declared.command.Direction.TheVariants.{ToMemory}
+use Rattle.adapter.specs.declared.command.Operation.TheVariants.{Identify}
+use Rattle.adapter.specs.declared.tape.Entry.{Entry}
+use Rattle.adapter.specs.declared.tape.Entry.TheVariants as entry
+use Rattle.adapter.specs.declared.tape.Move as tape_move
+use Rattle.agreement.specs.Places.{scratch_of}
+use Rattle.block_machine.specs.Ports.{Ports}
+use Rattle.port_boot.specs.States.{told_causes}
+use Rattle.port_control.specs.Ports.{programmed}
+
+-- ---- disks
+
+-- The page of a disk with 256 sectors and no queue: word 83 is 6400h, word 100 is 0100h, and all else is zero.
+abbrev pub page_rest : List ℕ
+page_rest = 0x64 ∷ (replicate 33 0 ++ (1 ∷ replicate 310 0))
+
+abbrev pub fit_page : List ℕ
+fit_page = replicate 167 0 ++ page_rest
+
+-- the port's disk sent it
+abbrev pub page_move : ℕ → tape_move.Move
+page_move port = record {
+  port = record { 0 = port };
+  slot = record { 0 = 0 };
+  operation = Identify;
+  sector = 0;
+  address = scratch_of port;
+  direction = ToMemory;
+  bytes = noted_bytes fit_page;
+}
+
+abbrev pub page_entry : ℕ → Entry
+page_entry port = entry.Move (page_move port)
+
+-- ---- ports
+
+-- The port runs with the disk of the first read, in its own places, and tells of its causes; a device was seen, and no command is in a slot.
+abbrev pub running_port : ℕ → PortState
+running_port port = record reading_port {
+  bases = programmed port;
+  ci = λ _. false;
+  ie = told_causes;
+  notes = record no_notes { last_ssts = 3; link_count = 64 };
+}
+
+-- these are the first ports, and the others are as after a reset
+abbrev pub having : List PortState → ℕ → PortState
+having ports port = slice_index_or ports port quiet_port
+
+-- the adapter of the first read, which tells of its causes, with this tape, this memory, and these ports
+abbrev pub device_with : List Entry → (ℕ → ℕ) → List PortState → Device
+device_with tape memory ports = record first_read { ie = true; tape = tape; memory = memory; port = having ports }
+
+-- ---- what clients see
+
+-- These ports are served, and in these states; their disks are alike.
+abbrev pub showing : List Bool → List shown.PortState → Ports
+showing served states = record {
+  served = λ port. slice_index_or served port.0 false;
+  state = λ port. slice_index_or states port.0 Absent;
+  serial = λ port. replicate 20 0;
+  sectors = λ port. 256;
+  trims = λ port. false;
+  mode = λ port. record { queued = false; usable = 1 };
+}

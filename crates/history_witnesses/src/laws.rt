@@ -1,0 +1,27 @@
+// Laws of the definitions: the clause is the theorem. These functions do nothing.
+ghost use Rattle.history_witnesses.specs.Begun.{ReadyPortHasBegun};
+ghost use Rattle.history_witnesses.specs.Dead.{DeathIsAHistory};
+ghost use Rattle.history_witnesses.specs.Loss.{LossIsAHistory};
+ghost use Rattle.history_witnesses.specs.Recovery.{RecoveryTies};
+
+/// There is an instant at which a history may begin with ports that are ready.
+pub fn a_ready_port_has_begun()
+    ensures { ReadyPortHasBegun }
+{}
+
+/// There is a history with a service that answers a plain read with its fault, and leaves the port running well: all that is asked of its
+/// calls is met.
+pub fn a_recovery_ties()
+    ensures { RecoveryTies }
+{}
+
+/// There is a history with a service that finds a read done on one port, and loses the disk of another: all that is asked of its calls is
+/// met.
+pub fn a_loss_is_a_history()
+    ensures { LossIsAHistory }
+{}
+
+/// There is a history with a reset that doesn't end, and a service that tells its ports dead: all that is asked of its calls is met.
+pub fn a_death_is_a_history()
+    ensures { DeathIsAHistory }
+{}
