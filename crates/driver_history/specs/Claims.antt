@@ -1,5 +1,5 @@
 -- What is claimed of each history of a driver (this project's own).
-use Rattle.std.specs.Prelude.{true, ◌≡◌, ◌≢◌, ◌⊎◌, List, [], ◌∷◌, All, Contains}
+use Rattle.std.specs.Prelude.{true, ◌≡◌, ◌≢◌, ◌⊎◌, List, All, Contains}
 use Rattle.ata_types.specs.declared.Port.{Port}
 use Rattle.ata_types.specs.declared.PortState.TheVariants.{Ready, Dead}
 use Rattle.ata_types.specs.declared.request.Outcome.{Outcome}
@@ -10,7 +10,7 @@ use Rattle.adapter.specs.Rules.{IsOn}
 use Rattle.adapter.specs.declared.access.DeviceStep.{DeviceStep}
 use Rattle.agreement.specs.Facts.{RunsWell}
 use Rattle.block_machine.specs.Events.{Reset, Tick, IsHung, WasIssued, moment_after}
-use Rattle.block_machine.specs.Histories.{Instant, Happening, now}
+use Rattle.block_machine.specs.Histories.{Instant, Happening}
 use Rattle.block_machine.specs.Ports.{SamePort}
 use Rattle.block_machine.specs.State.{Pending}
 use Rattle.block_machine.specs.Steps.{Answer, AllTouched}

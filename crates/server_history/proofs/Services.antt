@@ -725,11 +725,11 @@ module _ (s new : Server) (replies : List Reply) (kept : IsKept s) (serves : Ser
       changed = λ bad. absurd (idle (ap (λ (ports : Ports). ports.served port) (sym same) ∙ served) (λ ready. not_bad bad (is_ready port ∙ ready)));
     };
     boots = (
-        λ ready trouble. absurd (⊎_elim
-            (λ fatal. no_fatal (s.device.port port.0) well.well (fatal_shows (s.device.port port.0) fatal))
-            (λ loss. no_loss (s.device.port port.0) well.well (loss_shows (s.device.port port.0) (⊎_elim (λ change. inl change) (λ out. inr out.0) loss)))
-            trouble),
-        inl (ports_same old.ports (ports_of s.ports) same port),
+      λ ready trouble. absurd (⊎_elim
+          (λ fatal. no_fatal (s.device.port port.0) well.well (fatal_shows (s.device.port port.0) fatal))
+          (λ loss. no_loss (s.device.port port.0) well.well (loss_shows (s.device.port port.0) (⊎_elim (λ change. inl change) (λ out. inr out.0) loss)))
+          trouble),
+      inl (ports_same old.ports (ports_of s.ports) same port),
     );
     trouble = untroubled (told_by s.device old.ports) (with_device s.device (now first past)) new.device port well;
     well = λ i. absurd (uninterrupted s.device old.ports port i);
