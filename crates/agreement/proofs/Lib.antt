@@ -59,7 +59,7 @@ pub mod Resending
 pub mod Noting
 pub mod ComingUp
 pub mod Raising
-mod Present
+pub mod Present
 mod Changing
 pub mod Running
 pub mod Booting
@@ -86,7 +86,7 @@ mod FailingOpenly
 mod GivingUp
 mod Outstanding
 mod Readied
-mod Vacated
+pub mod Vacated
 mod Looked
 mod Recovered
 mod Needing

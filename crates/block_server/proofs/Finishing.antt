@@ -1,5 +1,6 @@
 -- A port's first request is finished: what its next one is, and what the server then is.
 use Rattle.std.proofs.Common.{◌≡◌, ◌≢◌, ◌+◌, ◌/◌, ◌^◌, ◌<◌, ◌≤◌, inl, inr, List, length, Some, None, refl, sym, ◌∙◌, ap, subst}
+use Rattle.std.proofs.lemmas.Bool.{true≢false}
 use Rattle.std.specs.List.{All}
 use Rattle.std.proofs.lemmas.List.Elements.{All-contains}
 use Rattle.ata_types.specs.Grant.{Allows}
@@ -8,7 +9,6 @@ use Rattle.ata_types.specs.declared.grant.GrantRow.{GrantRow}
 use Rattle.ata_types.specs.declared.request.Op.{Op}
 use Rattle.ata_types.specs.declared.request.Op.TheVariants.{Read, Write, Trim, Flush}
 use Rattle.adapter.specs.Device.{Device}
-use Rattle.adapter.proofs.Absurd.{true-false}
 use Rattle.block_machine.specs.Rules.{IsCount, frames_for}
 use Rattle.dma_frames.specs.Table.{Table, LendsOnly}
 use Rattle.request_book.specs.Entries.{first_of, rest_of, IsAccepted}
@@ -33,8 +33,8 @@ module _ (rows : List GrantRow) (table : Table) (e : Accepted) (reads : All IsTr
   by_op : (op : Op) → e.op ≡ op → IsTransfer e.op
   by_op Read same = inl same
   by_op Write same = inr same
-  by_op Trim same = true-false (allowed Trim same) transfer.trim
-  by_op Flush same = true-false (allowed Flush same) transfer.flush
+  by_op Trim same = absurd (true≢false (sym (allowed Trim same) ∙ transfer.trim))
+  by_op Flush same = absurd (true≢false (sym (allowed Flush same) ∙ transfer.flush))
 
   pub moves : IsTransfer e.op
   moves = by_op e.op refl

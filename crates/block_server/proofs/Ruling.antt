@@ -2,7 +2,7 @@
 use Rattle.std.proofs.Common.{ℕ, ◌≡◌, ◌≢◌, ◌+◌, ◌/◌, ◌^◌, ◌<◌, ◌≤◌, inl, inr, Bool, false, List, length, Option, Some, refl, sym, ◌∙◌, ap, subst, arith, get_or}
 use Rattle.std.specs.Prelude.{IsTrue, IsSome}
 use Rattle.std.specs.List.{All, Contains}
-use Rattle.std.proofs.lemmas.Bool.{cases_eq, cases_lt}
+use Rattle.std.proofs.lemmas.Bool.{cases_eq, cases_lt, true≢false}
 use Rattle.std.proofs.lemmas.Option.{slice_get-get_or}
 use Rattle.ata_types.specs.Grant.{Allows}
 use Rattle.ata_types.specs.declared.PortState.{PortState}
@@ -18,7 +18,6 @@ use Rattle.ata_types.specs.declared.request.Op.{Op}
 use Rattle.ata_types.specs.declared.request.Op.TheVariants.{Read, Write, Trim, Flush}
 use Rattle.ata_types.specs.declared.request.Request.{Request}
 use Rattle.ata_types.specs.declared.request.RequestId.{RequestId}
-use Rattle.adapter.proofs.Absurd.{true-false}
 use Rattle.block_machine.specs.Refusals.{Situation, Applies, IsAcceptable, IsFirstRefusal}
 use Rattle.block_machine.specs.Rules.{IsCount, frames_for, IsNamed, HasNoFault, Breaks, BreaksNone, IsFirstBroken, IsBefore, rank}
 use Rattle.block_machine.proofs.RuleLemmas.{number, place}
@@ -114,7 +113,7 @@ module _ (s : Situation) (r : Request) where
 -- ---- what an acceptable request is, where grants are to read and to write
 
 is_true_false : {b : Bool} {A : Type 0} → IsTrue b → b ≡ false → A
-is_true_false h e = true-false h e
+is_true_false h e = absurd (true≢false (sym h ∙ e))
 
 module _ (rows : List GrantRow) (table : Table) (r : Request) (reads : All IsTransferRow rows)
     (none : BreaksNone rows (owner_of table) (lent_to table) r) where

@@ -1,5 +1,6 @@
 -- A driver's own command is issued, waited for, and its page loaded.
 use Rattle.std.proofs.Common.{ℕ, ◌≡◌, ◌+◌, ◌*◌, ◌%◌, ◌<◌, ◌≤◌, ◌++◌, Bool, true, false, List, [], ◌∷◌, length, None, refl, sym, ◌∙◌, ap, subst, ⊎_elim, arith, lit<, le_refl, le_trans, if◌then◌else◌, nat_eq}
+use Rattle.std.proofs.lemmas.Bool.{true≢false}
 use Rattle.std.proofs.lemmas.List.{length-append}
 use Rattle.std.specs.List.{All}
 use Rattle.ata_types.specs.declared.Port.{Port}
@@ -20,7 +21,6 @@ use Rattle.adapter.specs.Says.{pieces, IsWhole}
 use Rattle.adapter.specs.declared.command.Command.{Command}
 use Rattle.adapter.specs.declared.command.Operation.{Operation}
 use Rattle.adapter.specs.declared.command.Prd.{Prd}
-use Rattle.adapter.proofs.Absurd.{true-false}
 use Rattle.adapter.proofs.Calls.{KeepsAll, KeepsAll-trans, steps_keep_all, seen, SeenAt, put, PutAt}
 use Rattle.adapter.proofs.Changed.{fun_ext}
 use Rattle.adapter.proofs.KeptLemmas.{steps_keep}
@@ -270,7 +270,7 @@ module _ (port : Port) (old mid : Device) (on : IsOn old) (stores : IsFollowed (
 pub table_for : (page : Page) (command : Command) (prds : List Prd) (port n : ℕ) → n ≡ port → command ≡ command_of (operation_of page) 0 0 0 → All IsWhole prds →
     pieces prds ≡ places_of (record { 0 = 10 * n + 9 } ∷ []) 1 → IsTableFor 0 command prds (meaning_of page) (scratch_of port ∷ [])
 table_for page command prds port n same is whole places = record {
-  meaning = record { ranged = λ ranged. true-false ranged (unranged page); not_ranged = λ _. (refl, refl) };
+  meaning = record { ranged = λ ranged. absurd (true≢false (sym ranged ∙ (unranged page))); not_ranged = λ _. (refl, refl) };
   fields = is;
   whole = whole;
   in_order = (let at : 4096 * (10 * n + 9) + 512 * (0 % 8) ≡ scratch_of port = omega (arith, same) in ap (λ (a : ℕ). a ∷ []) (sym at)) ∙ sym places;

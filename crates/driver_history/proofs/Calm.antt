@@ -1,9 +1,9 @@
 -- A port that stays healthy in a call is left alone, and runs well after it.
-use Rattle.std.proofs.Common.{ℕ, ◌≡◌, ◌≢◌, true, List, refl, sym, ◌∙◌, subst, arith, ⊎_elim}
+use Rattle.std.proofs.Common.{ℕ, ◌≡◌, ◌≢◌, true, List, refl, sym, ◌∙◌, subst, arith, ⊎_elim, ◌++◌, ◌∷◌}
 use Rattle.std.specs.List.{All, Contains, list_any}
 use Rattle.std.proofs.lemmas.Bool.{false≢true}
 use Rattle.std.proofs.lemmas.List.{append_cancel_left}
-use Rattle.std.proofs.lemmas.List.Elements.{All-contains}
+use Rattle.std.proofs.lemmas.List.Elements.{All-contains, Contains-append_right}
 use Rattle.ata_types.specs.declared.Port.{Port}
 use Rattle.ata_types.specs.declared.PortState.TheVariants.{Ready}
 use Rattle.adapter.specs.Device.{Device, PortState}
@@ -16,13 +16,12 @@ use Rattle.agreement.specs.Links.{IsPlugging}
 use Rattle.agreement.specs.Tape.{TellsAmong}
 use Rattle.block_machine.specs.Events.{Ask, Moment, Submit, StoreAt, LoadAt, Service, Tick, Reset, State, Device as Told, Said, Submitted, Stored, Loaded, Served, WasReset, Shown, Stepped, IsAnswered, IsDisturbed, IsHung, IsLeftAlone, RestartsHung, ServesReady, HeedsAt, changes_disk, moment_after}
 use Rattle.block_machine.specs.Histories.{Instant, Happening}
-use Rattle.block_machine.specs.Ports.{Evidence, IsInterrupted}
+use Rattle.block_machine.specs.Ports.{Ports, Evidence, IsInterrupted}
 use Rattle.block_machine.specs.State.{Machine}
 use Rattle.block_machine.specs.Steps.{Step}
 use Rattle.identify.specs.declared.wanted.Wanted.{Wanted}
 use Rattle.driver_history.specs.Claims.{IsSpared}
-use Rattle.driver_history.specs.Evidence.{Gains, HasErrors, IsEvidencedOf, IsGone, ShowsFailure, ShowsFatal}
-use Rattle.driver_history.specs.Guard.{StaysHealthy}
+use Rattle.driver_history.specs.Evidence.{Gains, GainsRunning, HasErrors, IsEvidencedOf, IsGone, ShowsFailure, ShowsFatal, StaysHealthy}
 use Rattle.driver_history.specs.Histories.{LosesNoTrouble, Ties}
 use Rattle.driver_history.specs.Trace.{LeavesEngine}
 
@@ -72,9 +71,19 @@ no_fatal p quiet f = let low = f.from in let high = f.to in false≢true (sym (q
 no_failure : (p : PortState) → ShowsNoTrouble p → ShowsFailure p → ⊥
 no_failure p quiet f = ⊎_elim (no_fatal p quiet) (λ fault. false≢true (sym (quiet.quiet 30 (omega arith) (omega arith)) ∙ fault)) f
 
+-- what was gained while ST was one was gained
+pub gains_of : (port : ℕ) (Is : Entry → Type 0) (old new : Device) → GainsRunning Is port old new → Gains Is old new
+gains_of port Is old new g = record {
+  gained = g.before ++ (g.entry ∷ g.later);
+  tape = g.tape;
+  entry = g.entry;
+  here = Contains-append_right g.before (g.entry ∷ g.later) g.entry (0, omega arith, refl);
+  is = g.is;
+}
+
 -- a port that stays healthy has no trouble that could be lost
-pub untroubled : (evidence : Evidence) (old : Instant Device) (new : Device) (port : Port) → StaysHealthy port.0 old.device new → LosesNoTrouble evidence old new port
-untroubled evidence old new port healthy = record {
+pub untroubled : (evidence : Evidence) (old : Instant Device) (ports : Ports) (new : Device) (port : Port) → StaysHealthy port.0 old.device new → LosesNoTrouble evidence old ports new port
+untroubled evidence old ports new port healthy = record {
   errors = λ ready trouble. absurd (⊎_elim
       (no_failure (old.device.port port.0) healthy.well.quiet)
       (λ g. ⊎_elim
@@ -82,6 +91,9 @@ untroubled evidence old new port healthy = record {
       (none_gained port.0 (IsFatalOf port.0) old.device new (fatal_disturbs port.0) healthy.undisturbed)
       g)
       trouble);
+  fault = λ ready g. absurd (none_gained port.0 (IsFaultOf port.0) old.device new (fault_disturbs port.0) healthy.undisturbed (gains_of port.0 (IsFaultOf port.0) old.device new g));
+  fatal = λ ready g. absurd (none_gained port.0 (IsFatalOf port.0) old.device new (fatal_disturbs port.0) healthy.undisturbed (gains_of port.0 (IsFatalOf port.0) old.device new g));
+  disk = λ ready g. absurd (none_gained port.0 (IsPlugging port.0) old.device new (plugging_disturbs port.0) healthy.undisturbed (gains_of port.0 (IsPlugging port.0) old.device new g));
   changes = λ ready trouble. absurd (⊎_elim
       (λ change. ⊎_elim (λ n. false≢true (sym healthy.well.quiet.serr_n ∙ n)) (λ x. false≢true (sym healthy.well.quiet.serr_x ∙ x)) change)
       (none_gained port.0 (IsPlugging port.0) old.device new (plugging_disturbs port.0) healthy.undisturbed)

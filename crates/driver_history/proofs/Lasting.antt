@@ -18,7 +18,7 @@ use Rattle.agreement.specs.Links.{SparesRegister}
 use Rattle.block_machine.specs.Events.{Ask, Submit, StoreAt, LoadAt, Service, Tick, Reset, Device as Told, Said, Submitted, Stored, Loaded, Served, Stepped, IsHung, Moment}
 use Rattle.host_boot.proofs.Running.{well_on}
 use Rattle.port_boot.proofs.Enduring.{lasts}
-use Rattle.driver_history.specs.Histories.{CameBy, IsIssuing, ServesPort}
+use Rattle.driver_history.specs.Histories.{CameBy, IssuesOn, TendsPort}
 use Rattle.driver_history.specs.Trace.{IsServing, LeavesEngine}
 
 -- it writes neither GHC, nor PxCMD or PxSCTL of the port
@@ -29,7 +29,7 @@ LeavesRunning port access = SparesRegister Ghc access × LeavesEngine port acces
 abbrev pub IsCalm : Port → List Access → Device → Device → Type 0
 IsCalm port accesses old new = (All (LeavesRunning port) accesses × DoesAll accesses old new) ⊎ Steps old new
 
-issuing_leaves : (port at : Port) (access : Access) → IsIssuing at access → LeavesRunning port access
+issuing_leaves : (port at : Port) (access : Access) → IssuesOn at access → LeavesRunning port access
 issuing_leaves port at (Writing r v) (inl e) =
     (λ q. absurd (let z : Px at Sact ≡ Ghc = sym e ∙ q in cc), ((λ q. absurd (let z : Px at Sact ≡ Px port Cmd = sym e ∙ q in cc)), (λ q. absurd (let z : Px at Sact ≡ Px port Sctl = sym e ∙ q in cc))))
 issuing_leaves port at (Writing r v) (inr e) =
@@ -63,7 +63,7 @@ module _ (port : Port) (m : Moment) (accesses : List Access) (old new : Device) 
       inl (subst (All (LeavesRunning port)) (sym c.1) (one_leaves port (Storing (FRAME_BYTES * frame.0 + offset) bytes) (tt, (tt, tt))), c.0)
   came_calmly (LoadAt client frame offset count) (Loaded (Ok bytes)) c other leaves =
       inl (subst (All (LeavesRunning port)) (sym c.1) (one_leaves port (Loading (FRAME_BYTES * frame.0 + offset) bytes) (tt, (tt, tt))), c.0)
-  came_calmly Service (Served replies) c other leaves = inl (serving (ServesPort m.ports) c.1 leaves, c.0)
+  came_calmly Service (Served replies) c other leaves = inl (serving (TendsPort m.ports) c.1 leaves, c.0)
   came_calmly Tick (Served replies) c other leaves = inl (serving (IsHung m) c.1 leaves, c.0)
   came_calmly Reset said c other leaves = absurd (other refl)
   came_calmly ask said c other leaves = none c.0 c.1

@@ -8,7 +8,7 @@ use Rattle.agreement.specs.Facts.{RunsWell}
 use Rattle.block_machine.specs.Events.{Tick, Reset, IsHung, moment_after}
 use Rattle.block_machine.specs.Histories.{Instant, Happening, now}
 use Rattle.identify.specs.declared.wanted.Wanted.{Wanted}
-use Rattle.driver_history.specs.Guard.{StaysHealthy}
+use Rattle.driver_history.specs.Evidence.{StaysHealthy}
 use Rattle.driver_history.specs.Histories.{IsHistory, Ties}
 use Rattle.driver_history.proofs.Calm.{EntryIsTold, engine_left, tick_spares}
 use Rattle.driver_history.proofs.Instants.{fit_at, holds_at, ready_at}

@@ -18,7 +18,7 @@ use Rattle.block_machine.proofs.Members.{contains_none, contains_cases}
 use Rattle.host_boot.specs.Taken.{wanted_of}
 use Rattle.identify.specs.declared.wanted.Wanted.{Wanted}
 use Rattle.driver_history.specs.Claims.{AnswerRests}
-use Rattle.driver_history.specs.Evidence.{EndsReset}
+use Rattle.driver_history.specs.Evidence.{IsEndedReset}
 use Rattle.driver_history.specs.Histories.{Ties}
 use Rattle.driver_history.specs.Holds.{HoldsAt, HoldsOf, IsDeadAt}
 
@@ -56,7 +56,7 @@ belongs_of ask ports (x ∷ before) l step h = ⊎_elim
     (contains_cases x before step h)
 
 -- a reset tells no fault
-no_fault : (ask : Ask DeviceStep) (said : Said) (ports : Ports) (e : Pending) (status error : _) → EndsReset ask said → IsServers ask ports (Answer e (outcome.DeviceError status error)) → ⊥
+no_fault : (ask : Ask DeviceStep) (said : Said) (ports : Ports) (e : Pending) (status error : _) → IsEndedReset ask said → IsServers ask ports (Answer e (outcome.DeviceError status error)) → ⊥
 no_fault Reset said ports e status error ends s = s
 no_fault (Submit r) said ports e status error ends s = ends
 no_fault (StoreAt c f o b) said ports e status error ends s = ends

@@ -26,8 +26,7 @@ use Rattle.block_machine.specs.State.{Accepted, Machine, Pending}
 use Rattle.block_machine.specs.Steps.{Answer}
 use Rattle.block_machine.proofs.HistoryLemmas.{history_reaches}
 use Rattle.identify.specs.declared.wanted.Wanted.{Wanted}
-use Rattle.driver_history.specs.Evidence.{Gains, ShowsChange}
-use Rattle.driver_history.specs.Guard.{StaysHealthy}
+use Rattle.driver_history.specs.Evidence.{Gains, ShowsChange, StaysHealthy}
 use Rattle.driver_history.specs.Histories.{Begins, IsHistory, Ties}
 use Rattle.driver_history.proofs.Instants.{fit_at, holds_at, ready_at}
 use Rattle.driver_history.proofs.Resting.{answer_rests}

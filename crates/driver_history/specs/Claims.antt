@@ -15,9 +15,8 @@ use Rattle.block_machine.specs.Ports.{SamePort}
 use Rattle.block_machine.specs.State.{Pending}
 use Rattle.block_machine.specs.Steps.{Answer, AllTouched}
 use Rattle.port_control.specs.Engines.{Stops}
-use Rattle.driver_history.specs.Evidence.{IsFaultTold, IsLost}
-use Rattle.driver_history.specs.Guard.{StaysHealthy}
-use Rattle.driver_history.specs.Histories.{CameBy, Finds, Issues}
+use Rattle.driver_history.specs.Evidence.{IsFaultTold, IsLost, StaysHealthy}
+use Rattle.driver_history.specs.Histories.{CameBy, FindsIn, Issues}
 use Rattle.driver_history.specs.Trace.{LeavesEngine}
 
 -- A call that made these accesses leaves a port alone: it is what it was, each answer there is Ok, and neither PxCMD nor PxSCTL of it is written.
@@ -56,5 +55,5 @@ pub record GoesWellFor (old : Instant Device) (h : Happening Device DeviceStep) 
   pub came : CameBy old.moment h.event.ask h.event.said accesses old.device h.device
   pub spared : IsSpared old h accesses port
   pub well : RunsWell (h.device.port port.0)
-  pub finds : Finds h.event.ask accesses old h.event.steps port
+  pub finds : FindsIn h.event.ask accesses old h.event.steps port
   pub issues : Issues h.event.ask h.event.steps (moment_after old.moment h.event).machine h.event.ports port

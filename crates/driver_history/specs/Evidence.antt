@@ -1,6 +1,6 @@
 -- What stands behind the evidence that a call names: the device when it began, its accesses, and the device at its end (this project's own;
 -- PxIS and PxSERR: AHCI 1.3.1, 3.3.5 and 3.3.12; log 10h: ACS-3, A.14).
-use Rattle.std.specs.Prelude.{ℕ, true, false, ◌≡◌, ◌≢◌, ◌⊎◌, ◌%◌, ◌≤◌, ◌++◌, List, ◌∷◌, length, sum, drop, slice_index, All, Contains, Some, None}
+use Rattle.std.specs.Prelude.{ℕ, true, false, ◌≡◌, ◌≢◌, ◌⊎◌, ◌+◌, ◌%◌, ◌≤◌, ◌++◌, List, ◌∷◌, length, sum, drop, slice_index, All, Contains, Some, None}
 use Rattle.ata_types.specs.declared.Port.{Port}
 use Rattle.ata_types.specs.declared.PortState.TheVariants.{Ready, Dead}
 use Rattle.hba_regs.specs.Bits.{bit}
@@ -14,7 +14,7 @@ use Rattle.adapter.specs.declared.tape.Entry.TheVariants as entry
 use Rattle.adapter.specs.declared.tape.Fault as tape_fault
 use Rattle.adapter.specs.declared.tape.Move as tape_move
 use Rattle.agreement.specs.Errors.{IsFatalOf, NoneComes}
-use Rattle.agreement.specs.Facts.{IsFaultOf}
+use Rattle.agreement.specs.Facts.{IsFaultOf, RunsWell, Undisturbed}
 use Rattle.agreement.specs.Links.{IsPlugging}
 use Rattle.agreement.specs.Slots.{ServesRequest, IsMove}
 use Rattle.block_machine.specs.Events.{Ask, Reset, Said, WasReset}
@@ -31,6 +31,20 @@ pub record Gains (Is : Entry → Type 0) (old new : Device) : Type 0 where
   pub entry : Entry
   pub here : Contains gained entry
   pub is : Is entry
+
+-- it has gained one since ST of the port was last set
+pub record GainsRunning (Is : Entry → Type 0) (port : ℕ) (old new : Device) : Type 0 where
+  pub before : List Entry
+  pub entry : Entry
+  pub later : List Entry
+  pub tape : new.tape ≡ old.tape ++ (before ++ entry ∷ later)
+  pub is : Is entry
+  pub since : (new.port port).notes.st_set_at ≤ length old.tape + length before
+
+-- The port runs well when the call begins, and nothing goes wrong on it meanwhile.
+pub record StaysHealthy (port : ℕ) (old new : Device) : Type 0 where
+  pub well : RunsWell (old.port port)
+  pub undisturbed : Undisturbed port old new
 
 -- ---- what a port shows
 
@@ -92,7 +106,7 @@ pub record FailsPlain (old : Instant Device) (new : Device) (accesses : List Acc
   pub status_is : fault.status ≡ told.status
   pub error_is : fault.error ≡ told.error
 
--- Of a queued one the log's page names the slot, with status and error.
+-- Of a queued one, such a fault of the port stands there, and the log's page names the slot, with status and error.
 pub record FailsQueued (old : Instant Device) (new : Device) (accesses : List Access) (e : Pending) (slot : ℕ) (told : Fault) : Type 0 where
   pub fault : tape_fault.Fault
   pub failed : HasFailed e.request.port accesses old.device new fault
@@ -147,9 +161,9 @@ HasFatalErrors port old new = (old.moment.ports.state port ≡ Ready)
 -- ---- resets
 
 -- the call is a reset that ended
-abbrev pub EndsReset : Ask DeviceStep → Said → Type 0
-EndsReset Reset (WasReset (Some replies)) = Unit {0}
-EndsReset ask said = ⊥
+abbrev pub IsEndedReset : Ask DeviceStep → Said → Type 0
+IsEndedReset Reset (WasReset (Some replies)) = Unit {0}
+IsEndedReset ask said = ⊥
 
 -- the call is a reset that the adapter didn't end
 abbrev pub IsStuckReset : Ask DeviceStep → Said → Type 0
@@ -171,7 +185,7 @@ pub record IsEvidencedOf (ask : Ask DeviceStep) (said : Said) (accesses : List A
   pub fatal_all : old.moment.ports.state port ≡ Ready → ShowsFatal (old.device.port port.0) → Contains evidence.fatal port
   pub fatal_only : Contains evidence.fatal port → HasFatalErrors port old new
   pub stopped_all : All (LeavesEngine port) accesses ⊎ IsInterrupted evidence port
-  pub stopped_only : Contains evidence.stopped port → Stops port accesses ⊎ (EndsReset ask said × (old.moment.ports.served port ≡ true))
+  pub stopped_only : Contains evidence.stopped port → Stops port accesses ⊎ (IsEndedReset ask said × (old.moment.ports.served port ≡ true))
   pub stuck_only : Contains evidence.stuck port
       → (Sticks port accesses × ((new.port port.0).notes.engine_count ≡ 64)) ⊎ (IsStuckReset ask said × (old.moment.ports.served port ≡ true))
 

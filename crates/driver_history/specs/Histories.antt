@@ -32,22 +32,27 @@ use Rattle.block_machine.specs.Steps.{Step, Answer}
 use Rattle.block_machine.specs.declared.due.Mode.{Mode}
 use Rattle.block_machine.specs.declared.due.Unanswered.{Unanswered}
 use Rattle.identify.specs.declared.wanted.Wanted.{Wanted}
-use Rattle.driver_history.specs.Evidence.{Gains, ShowsChange, ShowsFailure, ShowsFatal, ShowsLoss, IsEvidenced}
-use Rattle.driver_history.specs.Guard.{StaysHealthy}
+use Rattle.driver_history.specs.Evidence.{Gains, GainsRunning, ShowsChange, ShowsFailure, ShowsFatal, ShowsLoss, IsEvidenced}
+use Rattle.driver_history.specs.Guard.{IsAskedOf}
 use Rattle.driver_history.specs.Holds.{HoldsAt}
 use Rattle.driver_history.specs.Trace.{ReadsMasks, ResetsLink, IsServing, IsDriversOwn, IsOfPorts, AwaitsReset, BeginsReset}
 
 -- ---- how a call came from the one device to the other
 
--- A request is issued: its header, table and block are stored, and its bits of PxSACT and PxCI are written.
-abbrev pub IsIssuing : Port → Access → Type 0
-IsIssuing port (Writing r v) = (r ≡ Px port Sact) ⊎ (r ≡ Px port Ci)
-IsIssuing port (Storing at bytes) = at + length bytes ≤ DRIVER_BYTES
-IsIssuing port access = ⊥
+-- What issuing a request on the port is made of: stores in the driver's frames, of its header, table and block, and writes of PxSACT and PxCI.
+-- (That these are the right bytes and bits is said by what holds after the call.)
+abbrev pub IssuesOn : Port → Access → Type 0
+IssuesOn port (Writing r v) = (r ≡ Px port Sact) ⊎ (r ≡ Px port Ci)
+IssuesOn port (Storing at bytes) = at + length bytes ≤ DRIVER_BYTES
+IssuesOn port access = ⊥
 
 -- the server serves the port
 abbrev pub ServesPort : Ports → Port → Type 0
 ServesPort ports port = ports.served port ≡ true
+
+-- and it isn't dead
+abbrev pub TendsPort : Ports → Port → Type 0
+TendsPort ports port = ServesPort ports port × (ports.state port ≢ Dead)
 
 -- The adapter is on, and tells of its causes (AHCI 1.3.1, 3.1.2: AE and IE).
 abbrev pub IsOnAndTells : Device → Type 0
@@ -55,18 +60,19 @@ IsOnAndTells d = IsOn d × (d.ie ≡ true)
 
 -- What was done in a call. A device step is the device's own, with no access. A client's bytes are stored, or loaded, by one access. For a
 -- request that is accepted requests of its port are issued, if any. A service, a tick and a reset make accesses: what the driver stores and
--- loads in them lies in its own frames, and of ports' registers they use those of served ports alone, a tick those of hung ports. Neither a
+-- loads in them lies in its own frames, and of ports' registers they use those of served ports alone: a service of
+-- those that aren't dead, and a tick of hung ports. Neither a
 -- service nor a tick writes GHC. A reset that ends leaves the adapter on; of one that doesn't, no more is seen than that. Each other call makes
 -- none, a refused one among them.
 abbrev pub CameBy : Moment → Ask DeviceStep → Said → List Access → Device → Device → Type 0
 CameBy now (Told step) (Stepped true) accesses old new = (accesses ≡ []) × Asked step old new
 CameBy now (Submit r) (Submitted (Ok id)) accesses old new =
-    DoesAll accesses old new × ((row : GrantRow) × IsNamed now.machine.rows r row × All (IsIssuing row.port) accesses)
+    DoesAll accesses old new × ((row : GrantRow) × IsNamed now.machine.rows r row × All (IssuesOn row.port) accesses)
 CameBy now (StoreAt client frame offset bytes) (Stored None) accesses old new =
     DoesAll accesses old new × (accesses ≡ Storing (FRAME_BYTES * frame.0 + offset) bytes ∷ [])
 CameBy now (LoadAt client frame offset count) (Loaded (Ok bytes)) accesses old new =
     DoesAll accesses old new × (accesses ≡ Loading (FRAME_BYTES * frame.0 + offset) bytes ∷ [])
-CameBy now Service (Served replies) accesses old new = DoesAll accesses old new × All (IsServing (ServesPort now.ports)) accesses
+CameBy now Service (Served replies) accesses old new = DoesAll accesses old new × All (IsServing (TendsPort now.ports)) accesses
 CameBy now Tick (Served replies) accesses old new = DoesAll accesses old new × All (IsServing (IsHung now)) accesses
 CameBy now Reset (WasReset (Some replies)) accesses old new =
     DoesAll accesses old new × All IsDriversOwn accesses × All (IsOfPorts (ServesPort now.ports)) accesses × BeginsReset accesses
@@ -116,11 +122,11 @@ pub record FindsDone (port : Port) (accesses : List Access) (old : Instant Devic
       → IsAnsweredOk e steps ↔ ((bit ci slot ≡ false) × (bit sact slot ≡ false))
 
 -- A service finds what is done on each port that was ready and has something issued; a tick does on each that is hung.
-abbrev pub Finds : Ask DeviceStep → List Access → Instant Device → List Step → Port → Type 0
-Finds Service accesses old steps port =
+abbrev pub FindsIn : Ask DeviceStep → List Access → Instant Device → List Step → Port → Type 0
+FindsIn Service accesses old steps port =
     old.moment.ports.state port ≡ Ready → (e : Pending) → IsIssuedOn port old.moment.machine e → FindsDone port accesses old steps
-Finds Tick accesses old steps port = IsHung old.moment port → FindsDone port accesses old steps
-Finds ask accesses old steps port = Unit {0}
+FindsIn Tick accesses old steps port = IsHung old.moment port → FindsDone port accesses old steps
+FindsIn ask accesses old steps port = Unit {0}
 
 -- ---- a plain request's fault
 
@@ -153,10 +159,6 @@ TellsPlainFaults ask old ports new steps port = Unit {0}
 
 -- ---- disks that are there are tried
 
--- The port was booted in this very call: COMRESET was sent, so what its readings count, and its disk's last page, are of this boot.
-abbrev pub WasBooted : Port → List Access → Device → Device → Type 0
-WasBooted port accesses old new = ResetsLink port accesses × (length old.tape ≤ (new.port port.0).notes.sctl_written_at)
-
 -- its first FIS has come, or no device shows
 abbrev pub IsFreshOrGone : PortState → Type 0
 IsFreshOrGone p = (p.fresh ≡ true) ⊎ (p.ssts_det ≢ 3)
@@ -170,14 +172,14 @@ HasBadDisk ports port = (ports.state port ≡ Foreign) ⊎ ((cause : ℕ) × (po
 -- is no disk.
 pub record TriesDisk (accesses : List Access) (old : Instant Device) (ports : Ports) (new : Device) (port : Port) : Type 0 where
   pub shown : old.moment.ports.state port ≡ Absent → (old.device.port port.0).ssts_det ≡ 3
-      → (ports.state port ≡ Dead) ⊎ (WasBooted port accesses old.device new ⊎ Gains (IsPlugging port.0) old.device new)
+      → (ports.state port ≡ Dead) ⊎ (ResetsLink port accesses ⊎ Gains (IsPlugging port.0) old.device new)
   pub absent : old.moment.ports.state port ≡ Absent → (old.device.port port.0).ssts_det ≡ 3 → (old.device.port port.0).fresh ≡ false
       → (ports.state port ≡ Dead) ⊎ IsFreshOrGone (new.port port.0)
   pub missing : HasBadDisk old.moment.ports port → (old.device.port port.0).ssts_det ≢ 3
       → (ports.state port ≡ Absent) ⊎ (ports.state port ≡ Dead)
   pub changed : HasBadDisk old.moment.ports port → (old.device.port port.0).serr_x ≡ true
       → (ports.state port ≡ Absent) ⊎ ((ports.state port ≡ Dead)
-      ⊎ (((new.port port.0).serr_x ≡ false) × IsFreshOrGone (new.port port.0)))
+      ⊎ (ResetsLink port accesses × ((new.port port.0).serr_x ≡ false) × IsFreshOrGone (new.port port.0)))
 
 abbrev pub Tries : Ask DeviceStep → List Access → Instant Device → Ports → Device → Port → Type 0
 Tries Service accesses old ports new port =
@@ -190,44 +192,48 @@ Tries ask accesses old ports new port = Unit {0}
 -- met a fatal error or lost its disk, and with each that it shows anew, but as absent or dead.
 abbrev pub BootsAnew : Ask DeviceStep → Said → List Access → Instant Device → Ports → Device → Port → Type 0
 BootsAnew Reset (WasReset (Some replies)) accesses old ports new port =
-    old.moment.ports.served port ≡ true → (ports.state port ≡ Dead) ⊎ WasBooted port accesses old.device new
+    old.moment.ports.served port ≡ true → (ports.state port ≡ Dead) ⊎ ResetsLink port accesses
 BootsAnew Tick said accesses old ports new port =
-    IsHung old.moment port → (ports.state port ≡ Dead) ⊎ WasBooted port accesses old.device new
+    IsHung old.moment port → (ports.state port ≡ Dead) ⊎ ResetsLink port accesses
 BootsAnew Service said accesses old ports new port =
     (old.moment.ports.state port ≡ Ready → ShowsFatal (old.device.port port.0) ⊎ ShowsLoss port old.device new
-    → (ports.state port ≡ Dead) ⊎ ((ports.state port ≡ Absent) ⊎ WasBooted port accesses old.device new))
+    → (ports.state port ≡ Dead) ⊎ ((ports.state port ≡ Absent) ⊎ ResetsLink port accesses))
     × (SamePort old.moment.ports ports port
-    ⊎ ((ports.state port ≡ Dead) ⊎ ((ports.state port ≡ Absent) ⊎ WasBooted port accesses old.device new)))
+    ⊎ ((ports.state port ≡ Dead) ⊎ ((ports.state port ≡ Absent) ⊎ ResetsLink port accesses)))
 BootsAnew ask said accesses old ports new port = Unit {0}
 
 -- ---- trouble is heeded, or shown still
 
--- Errors and changes of a ready port that were there when the call began, or came in it, are shown still at its end, unless it stopped the port
--- (or its engine got stuck). A disk that is out shows in PxSSTS.
-pub record LosesNoTrouble (evidence : Evidence) (old : Instant Device) (new : Device) (port : Port) : Type 0 where
+-- Errors of a ready port, and changes of a served one that isn't dead, which were there when the call began, or came in it, are shown still at its
+-- end, unless it stopped the port (or its engine got stuck). Whatever it did, on a port that is ready after it there is shown what came since ST was last
+-- set: a fault, a fatal error, and a disk that went or came.
+pub record LosesNoTrouble (evidence : Evidence) (old : Instant Device) (ports : Ports) (new : Device) (port : Port) : Type 0 where
   pub errors : old.moment.ports.state port ≡ Ready
       → ShowsFailure (old.device.port port.0) ⊎ (Gains (IsFaultOf port.0) old.device new ⊎ Gains (IsFatalOf port.0) old.device new)
       → IsInterrupted evidence port ⊎ ShowsFailure (new.port port.0)
-  pub changes : old.moment.ports.state port ≡ Ready → ShowsChange (old.device.port port.0) ⊎ Gains (IsPlugging port.0) old.device new
-      → IsInterrupted evidence port ⊎ (ShowsChange (new.port port.0) ⊎ ((new.port port.0).ssts_det ≢ 3))
+  pub changes : TendsPort old.moment.ports port → ShowsChange (old.device.port port.0) ⊎ Gains (IsPlugging port.0) old.device new
+      → IsInterrupted evidence port ⊎ ShowsChange (new.port port.0)
+  pub fault : ports.state port ≡ Ready → GainsRunning (IsFaultOf port.0) port.0 old.device new → (new.port port.0).is 30 ≡ true
+  pub fatal : ports.state port ≡ Ready → GainsRunning (IsFatalOf port.0) port.0 old.device new → ShowsFatal (new.port port.0)
+  pub disk : ports.state port ≡ Ready → GainsRunning (IsPlugging port.0) port.0 old.device new → (new.port port.0).serr_n ≡ true
 
 -- Where a port was stopped and is ready after the call, its boot or its recovery has taken the trouble away: it runs well, unless there was new
--- trouble meanwhile. (Where it isn't booted, its disk's first FIS had come, so that no link was due.)
+-- trouble meanwhile. (One that wasn't booted had its disk's first FIS: without that, no command is taken that could fail.)
 abbrev pub RunsWellAnew : Evidence → List Access → Instant Device → Ports → Device → Port → Type 0
 RunsWellAnew evidence accesses old ports new port =
     IsInterrupted evidence port → ports.state port ≡ Ready → Undisturbed port.0 old.device new
-    → WasBooted port accesses old.device new ⊎ ((old.device.port port.0).fresh ≡ true) → RunsWell (new.port port.0)
+    → ResetsLink port accesses ⊎ ((old.device.port port.0).fresh ≡ true) → RunsWell (new.port port.0)
 
 -- ---- one port's part in a call, and the whole
 
 -- What a call has done of a port, as far as it needs the device: what was found done, a plain request's fault, a disk that is there, boots, and
 -- trouble; and the call heeds what it finds of it.
 pub record TiesPort (old : Instant Device) (h : Happening Device DeviceStep) (accesses : List Access) (port : Port) : Type 0 where
-  pub finds : Finds h.event.ask accesses old h.event.steps port
+  pub finds : FindsIn h.event.ask accesses old h.event.steps port
   pub faults : TellsPlainFaults h.event.ask old h.event.ports h.device h.event.steps port
   pub tries : Tries h.event.ask accesses old h.event.ports h.device port
   pub boots : BootsAnew h.event.ask h.event.said accesses old h.event.ports h.device port
-  pub trouble : LosesNoTrouble h.event.evidence old h.device port
+  pub trouble : LosesNoTrouble h.event.evidence old h.event.ports h.device port
   pub well : RunsWellAnew h.event.evidence accesses old h.event.ports h.device port
   pub heeds : HeedsAt port h.event.ask old.moment h.event.evidence h.event.steps (moment_after old.moment h.event)
 
@@ -239,7 +245,7 @@ pub record Ties (wanted : List Wanted) (old : Instant Device) (h : Happening Dev
   pub backed : IsBacked old.device h.device old.moment.machine h.event.steps
   pub evidenced : IsEvidenced h.event.ask h.event.said accesses old h.event.ports h.device h.event.evidence
   pub issues : (port : Port) → Issues h.event.ask h.event.steps (moment_after old.moment h.event).machine h.event.ports port
-  pub port : (port : Port) → StaysHealthy port.0 old.device h.device → TiesPort old h accesses port
+  pub port : (port : Port) → IsAskedOf port.0 old.device h.device → TiesPort old h accesses port
   pub holds : HoldsAt wanted (record { device = h.device; moment = moment_after old.moment h.event })
 
 -- What a new server leaves is what holds at each instant, with the adapter on. (Its book is empty, since the machine is a start.)

@@ -12,6 +12,7 @@ use Rattle.adapter.specs.Rules.{IsOn}
 use Rattle.agreement.specs.Acts.{InSlots, at}
 use Rattle.agreement.specs.Driver.{AllFree, Knows}
 use Rattle.agreement.specs.Facts.{HasFaults}
+use Rattle.agreement.specs.Links.{HasDeviceOrNone}
 use Rattle.agreement.specs.Slots.{Use, Free, Serves, Told}
 use Rattle.block_machine.specs.Due.{is_plain}
 use Rattle.block_machine.specs.Histories.{Instant}
@@ -19,7 +20,7 @@ use Rattle.block_machine.specs.Ports.{Ports}
 use Rattle.block_machine.specs.State.{Pending, Machine}
 use Rattle.block_machine.specs.Steps.{NoneKept}
 use Rattle.block_machine.specs.declared.due.Mode.{Mode}
-use Rattle.host_boot.specs.Taken.{wanted_of, IsServed}
+use Rattle.host_boot.specs.Taken.{wanted_of, FoundBadDisk, IsServed}
 use Rattle.identify.specs.Wanted.{serial_of}
 use Rattle.identify.specs.declared.DiskInfo.{DiskInfo}
 use Rattle.identify.specs.declared.wanted.Wanted.{Wanted}
@@ -45,8 +46,8 @@ pub record ShowsDiskInfo (ports : Ports) (port : Port) (cap : ℕ) (info : DiskI
   pub mode : ports.mode port ≡ mode_of cap info
 
 -- The engine of a port runs, with its command list and its received FIS area in their places; a device was seen since PxSCTL was written (the
--- count of PxSSTS stays at 64 from then on, whatever is read later); and the record of its faults since ST was set is kept, so that no link is
--- due. (Whether the device goes well, or is there still, is no part of it.)
+-- count of PxSSTS stays at 64 from then on, whatever is read later); the record of its faults since ST was set is kept; and no link is due.
+-- (Whether the device goes well, or is there still, is no part of it.)
 pub record Runs (port : ℕ) (d : Device) : Type 0 where
   pub st : (d.port port).st ≡ true
   pub cr : (d.port port).cr ≡ true
@@ -90,7 +91,8 @@ pub record HasNothing (s : InSlots) (port : ℕ) : Type 0 where
 abbrev pub NoneWaits : Machine → Port → Type 0
 NoneWaits m port = (e : Pending) → Contains m.book e → e.request.port ≢ port
 
--- A ready port runs, and its disk's last page, which came after PxSCTL was last written, says what clients are told.
+-- A ready port runs, and its disk's last page, which came after PxSCTL was last written, says what clients are told. Clients' requests are in
+-- its slots, and no request is kept.
 pub record IsReadyAt (wanted : Wanted) (s : InSlots) (i : Instant Device) (port : Port) : Type 0 where
   pub on : IsOn i.device
   pub runs : Runs port.0 i.device
@@ -102,10 +104,12 @@ pub record IsReadyAt (wanted : Wanted) (s : InSlots) (i : Instant Device) (port 
 
 -- ---- the other states
 
--- An absent, unfit or foreign port is stopped, and what was read last, or its disk's last page, says why. Nobody waits for it.
+-- An absent, unfit or foreign port is stopped, with nothing in its slots, and what was read last, or its disk's last page, says why. In one with a
+-- disk a device shows, or none is in. Nobody waits for it, and no request is kept.
 pub record IsStoppedAt (wanted : Wanted) (s : InSlots) (i : Instant Device) (port : Port) (state : PortState) : Type 0 where
   pub on : IsOn i.device
   pub ends : EndsAs (serial_of wanted) state port.0 i.device
+  pub shown : FoundBadDisk state → HasDeviceOrNone (i.device.port port.0)
   pub slots : HasNothing s port.0
   pub waits : NoneWaits i.moment.machine port
   pub kept : NoneKept i.moment.machine port
@@ -116,7 +120,7 @@ pub record IsDeadAt (wanted : Wanted) (i : Instant Device) (port : Port) : Type 
   pub why : EndsAs (serial_of wanted) Dead port.0 i.device ⊎ (IsOn i.device → ⊥)
   pub waits : IsOn i.device → NoneWaits i.moment.machine port
 
--- A port that isn't served is idle, and absent to clients.
+-- A port that isn't served is idle, with nothing in its slots, and absent to clients: nobody waits for it.
 pub record IsUnservedAt (s : InSlots) (i : Instant Device) (port : Port) : Type 0 where
   pub absent : i.moment.ports.state port ≡ Absent
   pub idle : IsIdlePort (i.device.port port.0)

@@ -1,5 +1,6 @@
 -- The read is accepted and issued: the machine, and what holds before and after it.
 use Rattle.std.proofs.Common.{ℕ, zero, suc, ◌≡◌, ◌+◌, ◌*◌, ◌<◌, ◌≤◌, ◌↔◌, ◌∙◌, true, false, List, [], ◌∷◌, slice_index, slice_index_or, Some, inl, inr, ⊎_elim, refl, sym, ap, subst, arith, ◌++◌}
+use Rattle.std.proofs.lemmas.Bool.{true≢false}
 use Rattle.std.specs.List.{All, Contains}
 use Rattle.std.proofs.lemmas.List.Elements.{All-nil, All-cons}
 use Rattle.ata_types.specs.declared.Port.{Port}
@@ -17,7 +18,6 @@ use Rattle.adapter.specs.ReadDone.{read_of}
 use Rattle.adapter.specs.Says.{cut}
 use Rattle.adapter.specs.declared.command.Operation.TheVariants.{Identify}
 use Rattle.adapter.specs.declared.tape.Entry.{Entry}
-use Rattle.adapter.proofs.Absurd.{true-false}
 use Rattle.adapter.proofs.MemoryLemmas.{patched_past}
 use Rattle.agreement.specs.Acts.{InSlots, at}
 use Rattle.agreement.specs.Agrees.{AreApart, HaveSlots, IsReceiving, SameMemory, SameSectors, port_at}
@@ -49,7 +49,7 @@ use Rattle.adapter.specs.Access.Access.{Writing, Storing}
 use Rattle.adapter.specs.declared.access.DeviceStep.{DeviceStep}
 use Rattle.block_machine.specs.Due.{IsDue, NoneDue, is_clear}
 use Rattle.driver_history.specs.Evidence.{IsEvidencedOf, ShowsFailure, ShowsLoss}
-use Rattle.driver_history.specs.Histories.{IssuesDue, IsIssuing, Ties, TiesPort, Begins}
+use Rattle.driver_history.specs.Histories.{IssuesDue, IssuesOn, Ties, TiesPort, Begins}
 use Rattle.history_witnesses.specs.Begun.{ReadyPortHasBegun}
 use Rattle.history_witnesses.proofs.Holding.{first_slots, fit_disk, have_first, no_slots, requests_first, requests_none, runs_on, serves_first, unfailing, unlost, unnamed_evidenced, unserved_at, uses_first, IsCalm, no_trouble}
 use Rattle.history_witnesses.proofs.Pages.{info}
@@ -122,7 +122,7 @@ abbrev pub submit_steps : List Step
 submit_steps = Issue plain waits ∷ Accept accepted ∷ []
 
 pub may_issue : May (after start (Accept accepted ∷ [])) (Issue plain waits)
-may_issue = (contains_here waits [] waits refl, record { here = contains_here _ [] _ refl; clear = refl; slot = λ h. true-false refl h }, λ e h. absurd (contains_none e h))
+may_issue = (contains_here waits [] waits refl, record { here = contains_here _ [] _ refl; clear = refl; slot = λ h. absurd (true≢false h) }, λ e h. absurd (contains_none e h))
 
 abbrev pub issuing : Machine
 issuing = after start submit_steps
@@ -160,7 +160,7 @@ module _ (m : Machine) (s : InSlots) (tape : List Entry) (memory : ℕ → ℕ) 
   received : (n : ℕ) → (having (p ∷ q ∷ []) n).fre ≡ true → IsReceiving (having (p ∷ q ∷ []) n) n
   received zero f = record { below = omega arith; area = ap (λ (b : Bases). b.fb) are.own_first }
   received (suc zero) f = record { below = omega arith; area = ap (λ (b : Bases). b.fb) are.own_second }
-  received (suc (suc n)) f = true-false f refl
+  received (suc (suc n)) f = absurd (true≢false (sym f))
 
   name_of : (n : ℕ) → start.disk_ids (port_at n) ≡ (having (p ∷ q ∷ []) n).disk.name
   name_of zero = sym (ap (λ (d : Disk). d.name) are.disks.0)
@@ -319,7 +319,7 @@ port_submitted (suc (suc n)) = unserved_at first_slots submitted_at (suc (suc n)
 pub served_of : (tape : List Entry) (memory : ℕ → ℕ) (ports : List PortState) (n : ℕ) → (both.served (port_at n) ≡ true) ↔ IsServed (wanted_of (Any ∷ Any ∷ []) n) n (device_with tape memory ports)
 served_of tape memory ports zero = (λ _. ((λ e. let x : Any ≡ Nothing = e in absurd cc), refl), λ _. refl)
 served_of tape memory ports (suc zero) = (λ _. ((λ e. let x : Any ≡ Nothing = e in absurd cc), refl), λ _. refl)
-served_of tape memory ports (suc (suc n)) = (λ f. true-false f refl, λ (s : IsServed (wanted_of (Any ∷ Any ∷ []) (suc (suc n))) (suc (suc n)) (device_with tape memory ports)). absurd (s.0 refl))
+served_of tape memory ports (suc (suc n)) = (λ f. absurd (true≢false (sym f)), λ (s : IsServed (wanted_of (Any ∷ Any ∷ []) (suc (suc n))) (suc (suc n)) (device_with tape memory ports)). absurd (s.0 refl))
 
 pub holds_first : HoldsWith (Any ∷ Any ∷ []) no_slots first
 holds_first = record {
@@ -343,7 +343,7 @@ holds_submitted = record {
 pub served_ready : (n : ℕ) → both.served (port_at n) ≡ true → both.state (port_at n) ≡ Ready
 served_ready zero is = refl
 served_ready (suc zero) is = refl
-served_ready (suc (suc n)) is = true-false is refl
+served_ready (suc (suc n)) is = absurd (true≢false (sym is))
 
 pub fit_both : AreFit both
 fit_both = record {
@@ -356,11 +356,11 @@ fit_both = record {
     few_of : (n : ℕ) → both.served (port_at n) ≡ true → n < 4
     few_of zero is = omega arith
     few_of (suc zero) is = omega arith
-    few_of (suc (suc n)) is = true-false is refl
+    few_of (suc (suc n)) is = absurd (true≢false (sym is))
 
     absent_of : (n : ℕ) → both.served (port_at n) ≡ false → both.state (port_at n) ≡ Absent
-    absent_of zero is = true-false refl is
-    absent_of (suc zero) is = true-false refl is
+    absent_of zero is = absurd (true≢false is)
+    absent_of (suc zero) is = absurd (true≢false is)
     absent_of (suc (suc n)) is = refl
 
     no_cause : (n cause : ℕ) → both.state (port_at n) ≡ Unfit cause → ⊥
@@ -397,7 +397,7 @@ submit = record {
 
 pub none_due : (port : Port) → NoneDue plain (unanswered waiting ∷ []) port
 none_due port r at_port due = ⊎_elim
-    (λ (same : r ≡ unanswered waiting). let waits : false ≡ true = sym (ap (is_clear plain (unanswered waiting ∷ [])) same) ∙ due.clear in true-false waits refl)
+    (λ (same : r ≡ unanswered waiting). let waits : false ≡ true = sym (ap (is_clear plain (unanswered waiting ∷ [])) same) ∙ due.clear in absurd (true≢false (sym waits)))
     (λ none. contains_none r none)
     (contains_cases (unanswered waiting) [] r due.here)
 
@@ -405,19 +405,19 @@ pub submit_happens : Happens first.moment submit.event
 submit_happens = record {
   may = ((tt, is_new), may_issue);
   belong = ((tt, inr refl), inr (refl, refl));
-  last = ((tt, λ id handled issued_in. true-false handled refl), λ id handled issued_in. true-false issued_in refl);
+  last = ((tt, λ id handled issued_in. absurd (true≢false (sym handled))), λ id handled issued_in. absurd (true≢false (sym issued_in)));
   lawful = tt;
   fit = fit_both;
   disks = λ e o here there same. (refl, refl);
   answered = (is_acceptable, (accepted, refl, refl), λ port. (refl, refl, refl, refl, refl, refl), λ port is. none_due port);
 }
 
-issues : All (IsIssuing (port_at 0)) submit_accesses
+issues : All (IssuesOn (port_at 0)) submit_accesses
 issues =
-    All-cons (IsIssuing (port_at 0)) (Storing 0 header_bytes) (Storing 0x1000 read_bytes ∷ Storing 0x1080 place_bytes ∷ Writing (Px (port_at 0) Ci) 1 ∷ []) (omega arith)
-    (All-cons (IsIssuing (port_at 0)) (Storing 0x1000 read_bytes) (Storing 0x1080 place_bytes ∷ Writing (Px (port_at 0) Ci) 1 ∷ []) (omega arith)
-    (All-cons (IsIssuing (port_at 0)) (Storing 0x1080 place_bytes) (Writing (Px (port_at 0) Ci) 1 ∷ []) (omega arith)
-    (All-cons (IsIssuing (port_at 0)) (Writing (Px (port_at 0) Ci) 1) [] (inr refl) (All-nil (IsIssuing (port_at 0))))))
+    All-cons (IssuesOn (port_at 0)) (Storing 0 header_bytes) (Storing 0x1000 read_bytes ∷ Storing 0x1080 place_bytes ∷ Writing (Px (port_at 0) Ci) 1 ∷ []) (omega arith)
+    (All-cons (IssuesOn (port_at 0)) (Storing 0x1000 read_bytes) (Storing 0x1080 place_bytes ∷ Writing (Px (port_at 0) Ci) 1 ∷ []) (omega arith)
+    (All-cons (IssuesOn (port_at 0)) (Storing 0x1080 place_bytes) (Writing (Px (port_at 0) Ci) 1 ∷ []) (omega arith)
+    (All-cons (IssuesOn (port_at 0)) (Writing (Px (port_at 0) Ci) 1) [] (inr refl) (All-nil (IssuesOn (port_at 0))))))
 
 submit_backed : IsBacked booted submitted start submit_steps
 submit_backed = record {
@@ -460,7 +460,7 @@ submit_part n = record {
   faults = tt;
   tries = tt;
   boots = tt;
-  trouble = no_trouble nothing first submitted (port_at n) [] refl (All-nil (IsCalm n)) (calm zeros (running_port 0) refl refl refl (λ place. refl) submitted n);
+  trouble = no_trouble nothing first both submitted (port_at n) [] refl (All-nil (IsCalm n)) (served_ready n) (calm zeros (running_port 0) refl refl refl (λ place. refl) submitted n);
   well = λ why. absurd (⊎_elim (contains_none (port_at n)) (contains_none (port_at n)) why);
   heeds = λ why. ⊎_elim (λ h. contains_none (port_at n) h) (λ h. contains_none (port_at n) h) why;
 }

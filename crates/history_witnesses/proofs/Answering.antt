@@ -3,6 +3,7 @@ use Rattle.adapter.specs.declared.command.Operation.TheVariants as operation
 use Rattle.adapter.specs.FirstRead.{sector_of}
 use Rattle.adapter.specs.Steps.{move_of, done_entry}
 use Rattle.std.proofs.Common.{ℕ, zero, suc, ◌≡◌, ◌≢◌, ◌∙◌, true, false, List, [], ◌∷◌, inl, inr, ⊎_elim, refl, sym, ap, arith, ◌⊎◌, ◌++◌}
+use Rattle.std.proofs.lemmas.Bool.{true≢false}
 use Rattle.std.specs.List.{Contains, All}
 use Rattle.std.proofs.lemmas.List.Elements.{All-nil, All-cons}
 use Rattle.ata_types.specs.declared.Port.{Port}
@@ -11,7 +12,6 @@ use Rattle.ata_types.specs.declared.request.Op.TheVariants.{Read, Write}
 use Rattle.ata_types.specs.declared.request.Outcome.TheVariants as outcome
 use Rattle.adapter.specs.Device.{Device}
 use Rattle.adapter.specs.declared.tape.Entry.TheVariants as entry
-use Rattle.adapter.proofs.Absurd.{true-false}
 use Rattle.agreement.specs.Agrees.{port_at}
 use Rattle.agreement.specs.Driver.{IsBacked}
 use Rattle.agreement.specs.Witness.{first_id}
@@ -34,7 +34,7 @@ use Rattle.adapter.specs.Access.Access.{Reading, Writing}
 use Rattle.adapter.specs.declared.access.DeviceStep.{DeviceStep}
 use Rattle.agreement.specs.Links.{IsPlugging}
 use Rattle.driver_history.specs.Evidence.{Gains, IsEvidencedOf, ShowsLoss, ShowsFailure, ShowsFatal}
-use Rattle.driver_history.specs.Histories.{FindsDone, IsIssuedOn, Ties, TiesPort, BootsAnew, LosesNoTrouble, RunsWellAnew, ServesPort}
+use Rattle.driver_history.specs.Histories.{FindsDone, IsIssuedOn, Ties, TiesPort, BootsAnew, LosesNoTrouble, RunsWellAnew, TendsPort}
 use Rattle.driver_history.specs.Trace.{LeavesCommand}
 use Rattle.port_control.specs.Engines.{Stops}
 use Rattle.history_witnesses.specs.Loss.{finding_turn, losing_turn, loss_evidence, LossIsAHistory}
@@ -57,7 +57,7 @@ fit_one = record {
 }
   where
     absent_of : (n : ℕ) → one.served (port_at n) ≡ false → one.state (port_at n) ≡ Absent
-    absent_of zero is = true-false refl is
+    absent_of zero is = absurd (true≢false is)
     absent_of (suc zero) is = refl
     absent_of (suc (suc n)) is = refl
 
@@ -139,7 +139,7 @@ service_happens = record {
     refl,
   );
   belong = ((((tt, inl tt), inl tt), inr tt), inl tt);
-  last = ((((tt, λ id h is. true-false is refl), λ id h is. true-false is refl), λ id h is. true-false is refl), λ id h is. true-false is refl);
+  last = ((((tt, λ id h is. absurd (true≢false (sym is))), λ id h is. absurd (true≢false (sym is))), λ id h is. absurd (true≢false (sym is))), λ id h is. absurd (true≢false (sym is)));
   lawful = (tt, (record { pending = waiting; here = contains_here waiting [] waiting refl; id_is = refl; issued = refl }, refl, all_touched, refl));
   fit = fit_one;
   disks = λ e o here. absurd (contains_none e here);
@@ -216,8 +216,11 @@ stops = record {
 of_second : WritesOf (IsOf (port_at 1)) turns
 of_second = (refl, (refl, tt))
 
-of_served : AreServing (ServesPort both) turns
-of_served = (refl, (refl, (refl, (refl, ((λ is. cc, refl), (refl, ((λ is. cc, refl), (refl, tt))))))))
+of_served : AreServing (TendsPort both) turns
+of_served = (tended 0 refl, (tended 0 refl, (tended 1 refl, (tended 1 refl, ((λ is. cc, tended 1 refl), (tended 1 refl, ((λ is. cc, tended 1 refl), (tended 1 refl, tt))))))))
+  where
+    tended : (n : ℕ) → both.served (port_at n) ≡ true → TendsPort both (port_at n)
+    tended n served = (served, not_dead n)
 
 gains : Gains (IsPlugging 1) submitted lost
 gains = record {
@@ -277,7 +280,7 @@ service_finds zero e on = done_there
 service_finds (suc n) e on = absurd (let z : 0 ≡ suc n = sym (ap (λ (x : Pending). x.request.port.0) (in_book e on.here)) ∙ ap (λ (p : Port). p.0) on.port_is in omega (arith, z))
 
 not_ended : (e : Pending) → Contains issuing.book e → e.ended ≡ true → ⊥
-not_ended e here is = true-false is (ap (λ (x : Pending). x.ended) (in_book e here))
+not_ended e here is = absurd (true≢false (sym is ∙ (ap (λ (x : Pending). x.ended) (in_book e here))))
 
 heeds : (n : ℕ) → both.state (port_at n) ≡ Ready → ServesReady submitted_at.moment loss_evidence service_steps lost_at.moment (port_at n)
 heeds zero is = record {
@@ -331,10 +334,16 @@ gained_calm n ne =
     (All-cons (IsCalm n) (done_entry 0 0 operation.Read) (entry.Unplug (port_at 1) ∷ []) (λ x. x, λ x. x, λ x. x)
     (All-cons (IsCalm n) (entry.Unplug (port_at 1)) [] (λ x. x, λ x. x, λ (is : 1 ≡ n). ne (sym is)) (All-nil (IsCalm n))))
 
-trouble : (n : ℕ) → LosesNoTrouble loss_evidence submitted_at lost (port_at n)
-trouble zero = no_trouble loss_evidence submitted_at lost (port_at 0) gained refl (gained_calm 0 (omega arith)) (quiet 0)
-trouble (suc zero) = record { errors = λ ready why. inl (inl (named 1)); changes = λ ready why. inl (inl (named 1)) }
-trouble (suc (suc n)) = no_trouble loss_evidence submitted_at lost (port_at (suc (suc n))) gained refl (gained_calm (suc (suc n)) (omega arith)) (quiet (suc (suc n)))
+trouble : (n : ℕ) → LosesNoTrouble loss_evidence submitted_at one lost (port_at n)
+trouble zero = no_trouble loss_evidence submitted_at one lost (port_at 0) gained refl (gained_calm 0 (omega arith)) (served_ready 0) (quiet 0)
+trouble (suc zero) = record {
+  errors = λ ready why. inl (inl (named 1));
+  changes = λ tends why. inl (inl (named 1));
+  fault = λ ready. absurd (let x : Absent ≡ Ready = ready in cc);
+  fatal = λ ready. absurd (let x : Absent ≡ Ready = ready in cc);
+  disk = λ ready. absurd (let x : Absent ≡ Ready = ready in cc);
+}
+trouble (suc (suc n)) = no_trouble loss_evidence submitted_at one lost (port_at (suc (suc n))) gained refl (gained_calm (suc (suc n)) (omega arith)) (served_ready (suc (suc n))) (quiet (suc (suc n)))
 
 -- the port that was stopped isn't ready, and no other was stopped
 well : (n : ℕ) → RunsWellAnew loss_evidence turns submitted_at one lost (port_at n)
@@ -345,7 +354,7 @@ well (suc (suc n)) = λ why. absurd (⊎_elim (unnamed (suc (suc n)) (omega arit
 service_part : (n : ℕ) → TiesPort submitted_at service turns (port_at n)
 service_part n = record {
   finds = λ is e on. service_finds n e on;
-  faults = λ alone. true-false alone.shows.fault (no_flags n 30);
+  faults = λ alone. absurd (true≢false (sym alone.shows.fault ∙ (no_flags n 30)));
   tries = λ served none. tries_ready turns submitted_at one lost (port_at n) (served_ready n served);
   boots = service_boots n;
   trouble = trouble n;
@@ -356,7 +365,7 @@ service_part n = record {
 service_ties : Ties (Any ∷ Any ∷ []) submitted_at service
 service_ties = record {
   accesses = turns;
-  came = (does_append finding_turn losing_turn submitted between lost finds loses, serving (ServesPort both) turns of_served);
+  came = (does_append finding_turn losing_turn submitted between lost finds loses, serving (TendsPort both) turns of_served);
   backed = service_backed;
   evidenced = record { faults = λ f here. absurd (contains_none f here); port = λ port. service_evidenced port.0 };
   issues = λ port is r here. absurd (contains_none r here);

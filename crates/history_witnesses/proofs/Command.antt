@@ -1,12 +1,12 @@
 -- A read of one sector, as it stands in memory: into the first 512 bytes of frame 40.
 use Rattle.std.proofs.Common.{ℕ, zero, suc, ◌≡◌, ◌≤◌, ◌<◌, ◌+◌, List, [], ◌∷◌, ◌++◌, All, length, replicate, slice_index, refl, arith}
+use Rattle.std.proofs.lemmas.Bool.{true≢false}
 use Rattle.std.proofs.lemmas.List.{get_or-replicate}
 use Rattle.adapter.specs.FirstRead.{header_bytes}
 use Rattle.adapter.specs.Memory.{bytes_at, patched}
 use Rattle.adapter.specs.ReadDone.{read_of}
 use Rattle.adapter.specs.Says.{Says, IsWhole, cut}
 use Rattle.adapter.specs.declared.command.Prd.{Prd}
-use Rattle.adapter.proofs.Absurd.{true-false}
 use Rattle.agreement.specs.Slots.{Told}
 
 -- READ DMA EXT of sector 100 alone, and its PRD at 28000h
@@ -52,7 +52,7 @@ says = record {
     count = refl;
     zeros = λ i low high. zeros_past read_bytes 6 i low high;
   };
-  meaning = record { ranged = λ _. (omega arith, omega arith, omega arith); not_ranged = λ h. true-false refl h };
+  meaning = record { ranged = λ _. (omega arith, omega arith, omega arith); not_ranged = λ h. absurd (true≢false h) };
   stand = (
     record {
       size = refl;

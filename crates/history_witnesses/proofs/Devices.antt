@@ -1,7 +1,7 @@
 -- One port of a device is changed, by an access or by a step of the device; and what accesses leave.
 use Rattle.std.proofs.Common.{ℕ, zero, suc, inl, inr, ◌/◌, ◌≡◌, ◌≢◌, ◌+◌, ◌≤◌, ◌++◌, ◌==◌, true, false, List, [], ◌∷◌, length, None, refl, sym, ◌∙◌, ap, subst, ⊎_elim}
 use Rattle.std.specs.List.{All}
-use Rattle.std.proofs.lemmas.Bool.{cases_eq}
+use Rattle.std.proofs.lemmas.Bool.{cases_eq, true≢false}
 use Rattle.std.proofs.lemmas.List.Elements.{All-nil, All-cons}
 use Rattle.std.proofs.lemmas.Nat.Bits.{bit_at-suc, bit_at-zero}
 use Rattle.std.specs.Int.{bit_at}
@@ -17,7 +17,6 @@ use Rattle.adapter.specs.Access.Access.{Reading, Writing, Loading, Storing}
 use Rattle.adapter.specs.Device.{PortState, Device}
 use Rattle.adapter.specs.Memory.{changed}
 use Rattle.adapter.specs.Rules.{MayCommand, MayStart}
-use Rattle.adapter.proofs.Absurd.{true-false}
 use Rattle.adapter.specs.Steps.Step.{Fall}
 use Rattle.adapter.specs.declared.tape.Entry.{Entry}
 use Rattle.adapter.proofs.Changed.{changed_same, changed_other, fun_ext}
@@ -98,9 +97,9 @@ same_above v w half (suc k) ne = ap (λ (b : ℕ). b == 1) (bit_at-suc v k ∙ a
 -- ST may be cleared where FRE is set, and where the value is as it was read but for ST
 pub may_stop : (p : PortState) (v was : ℕ) → bit v 0 ≡ false → bit v 4 ≡ true → p.fre ≡ true → p.notes.last_cmd ≡ was → v / 2 ≡ was / 2 → MayCommand p v
 may_stop p v was clear receives fre read half = record {
-  start = λ h. true-false h clear;
+  start = λ h. absurd (true≢false (sym h ∙ clear));
   receive = λ h. inl fre;
-  stop_receiving = λ h. true-false receives h;
+  stop_receiving = λ h. absurd (true≢false (sym receives ∙ h));
   others = λ place low ne other. same_above v was half place ne ∙ ap (λ (x : ℕ). bit x place) (sym read);
 }
 
@@ -109,7 +108,7 @@ pub may_start : (p : PortState) (v was : ℕ) → bit v 4 ≡ true → p.fre ≡
 may_start p v was receives fre read half may = record {
   start = λ h. inr may;
   receive = λ h. inl fre;
-  stop_receiving = λ h. true-false receives h;
+  stop_receiving = λ h. absurd (true≢false (sym receives ∙ h));
   others = λ place low ne other. same_above v was half place ne ∙ ap (λ (x : ℕ). bit x place) (sym read);
 }
 

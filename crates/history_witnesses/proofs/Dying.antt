@@ -1,5 +1,6 @@
 -- A reset that doesn't end, and the service after it.
 use Rattle.std.proofs.Common.{◌∙◌, ℕ, zero, suc, ◌≡◌, false, List, [], ◌∷◌, ◌++◌, None, inl, inr, ⊎_elim, refl, sym, ap, arith, true, ◌≢◌, append-nil}
+use Rattle.std.proofs.lemmas.Bool.{true≢false}
 use Rattle.std.specs.List.{Contains}
 use Rattle.std.proofs.lemmas.List.Elements.{All-nil}
 use Rattle.std.proofs.lemmas.List.Sorted.{IsPermutation-refl}
@@ -10,7 +11,6 @@ use Rattle.ata_types.specs.declared.request.Outcome.TheVariants as outcome
 use Rattle.ata_types.specs.declared.request.Reply.{Reply}
 use Rattle.adapter.specs.Device.{Device}
 use Rattle.adapter.specs.declared.access.DeviceStep.{DeviceStep}
-use Rattle.adapter.proofs.Absurd.{true-false}
 use Rattle.agreement.specs.Agrees.{port_at}
 use Rattle.agreement.specs.Acts.{at}
 use Rattle.agreement.specs.Driver.{IsBacked, Knows}
@@ -26,7 +26,7 @@ use Rattle.block_machine.proofs.Members.{contains_none, contains_here, contains_
 use Rattle.host_boot.specs.Taken.{wanted_of}
 use Rattle.identify.specs.declared.wanted.Wanted.TheVariants.{Any}
 use Rattle.driver_history.specs.Evidence.{IsEvidencedOf}
-use Rattle.driver_history.specs.Histories.{Ties, TiesPort, TriesDisk, HasBadDisk, ServesPort}
+use Rattle.driver_history.specs.Histories.{Ties, TiesPort, TriesDisk, HasBadDisk, TendsPort}
 use Rattle.driver_history.specs.Holds.{HoldsOf, HoldsWith, NoneWaits}
 use Rattle.driver_history.specs.Trace.{LeavesEngine, IsServing, AsksReset}
 use Rattle.history_witnesses.specs.Dead.{reset_accesses, DeathIsAHistory}
@@ -43,7 +43,7 @@ use Rattle.history_witnesses.proofs.Command.{read_memory}
 use Rattle.history_witnesses.proofs.Devices.{leaves}
 use Rattle.history_witnesses.proofs.Holding.{first_slots, have_first, unnamed_evidenced, unserved_at, uses_first, IsCalm, no_trouble}
 use Rattle.history_witnesses.proofs.Submitting.{issued, pages, second, submitted}
-use Rattle.history_witnesses.proofs.Accepting.{asked, both, calm, first, fit_both, holds_submitted, in_book, issuing, served_of, starts, submit, submit_happens, submit_ties, submitted_at, waiting, serves, begins}
+use Rattle.history_witnesses.proofs.Accepting.{asked, both, calm, first, fit_both, holds_submitted, in_book, issuing, served_of, starts, submit, submit_happens, submit_ties, submitted_at, waiting, serves, begins, served_ready}
 
 -- ---- the reset
 
@@ -73,7 +73,7 @@ abbrev pending_at : Instant Device
 pending_at = record { device = pending; moment = record { machine = issuing; ports = dead } }
 
 not_on : IsOn pending → ⊥
-not_on on = true-false refl on.no_reset
+not_on on = absurd (true≢false on.no_reset)
 
 -- nothing that the machine agrees with changes by a reset that is pending
 still_knows : (m : Machine) → Knows m (at first_slots submitted) → Knows m (at first_slots pending)
@@ -93,7 +93,7 @@ port_dead m waits kept (suc (suc n)) = unserved_at first_slots (record { device 
 all_dead : (n : ℕ) → dead.served (port_at n) ≡ true → dead.state (port_at n) ≡ Dead
 all_dead zero is = refl
 all_dead (suc zero) is = refl
-all_dead (suc (suc n)) is = true-false is refl
+all_dead (suc (suc n)) is = absurd (true≢false (sym is))
 
 holds_dead : (m : Machine) → Knows m (at first_slots pending) → ((n : ℕ) → n ≢ 0 → NoneWaits m (port_at n)) → ((n : ℕ) → n ≢ 0 → NoneKept m (port_at n))
     → HoldsWith (Any ∷ Any ∷ []) first_slots (record { device = pending; moment = record { machine = m; ports = dead } })
@@ -121,8 +121,8 @@ fit_dead = record {
 }
   where
     absent_of : (n : ℕ) → dead.served (port_at n) ≡ false → dead.state (port_at n) ≡ Absent
-    absent_of zero is = true-false refl is
-    absent_of (suc zero) is = true-false refl is
+    absent_of zero is = absurd (true≢false is)
+    absent_of (suc zero) is = absurd (true≢false is)
     absent_of (suc (suc n)) is = refl
 
     no_cause : (n cause : ℕ) → dead.state (port_at n) ≡ Unfit cause → ⊥
@@ -133,7 +133,7 @@ fit_dead = record {
 stuck_is : (n : ℕ) → IsStuck both stuck_evidence dead (port_at n)
 stuck_is zero = (refl, λ is. (refl, (0, omega arith, refl)), (refl, refl))
 stuck_is (suc zero) = (refl, λ is. (refl, (1, omega arith, refl)), (refl, refl))
-stuck_is (suc (suc n)) = (refl, λ is. true-false is refl, (refl, refl))
+stuck_is (suc (suc n)) = (refl, λ is. absurd (true≢false (sym is)), (refl, refl))
 
 reset_happens : Happens submitted_at.moment reset.event
 reset_happens = record {
@@ -183,7 +183,7 @@ reset_part n = record {
   faults = tt;
   tries = tt;
   boots = tt;
-  trouble = no_trouble stuck_evidence submitted_at pending (port_at n) [] refl (All-nil (IsCalm n)) (calm read_memory issued refl refl refl (λ place. refl) pending n);
+  trouble = no_trouble stuck_evidence submitted_at dead pending (port_at n) [] refl (All-nil (IsCalm n)) (served_ready n) (calm read_memory issued refl refl refl (λ place. refl) pending n);
   well = λ why ready. absurd (not_ready n ready);
   heeds = tt;
 }
@@ -293,7 +293,7 @@ service_happens : Happens pending_at.moment service.event
 service_happens = record {
   may = (tt, contains_here waiting [] waiting refl);
   belong = (tt, inr tt);
-  last = (tt, λ id handled issued_in. true-false issued_in refl);
+  last = (tt, λ id handled issued_in. absurd (true≢false (sym issued_in)));
   lawful = (tt, refl);
   fit = fit_dead;
   disks = λ e o here. absurd (contains_none e here);
@@ -336,13 +336,24 @@ tries n served =
     not_bad is (inl foreign) = let x : Dead ≡ Foreign = sym is ∙ foreign in cc
     not_bad is (inr unfit) = let x : Dead ≡ Unfit unfit.0 = sym is ∙ unfit.1 in cc
 
+untended : (n : ℕ) → TendsPort dead (port_at n) → ⊥
+untended zero tends = tends.1 refl
+untended (suc zero) tends = tends.1 refl
+untended (suc (suc n)) tends = true≢false (sym tends.0)
+
 service_part : (n : ℕ) → TiesPort pending_at service [] (port_at n)
 service_part n = record {
   finds = λ is. absurd (not_ready n is);
   faults = λ alone. absurd (not_ready n alone.ready);
   tries = λ served none. tries n served;
   boots = (λ is. absurd (not_ready n is), inl (refl, refl, refl, refl, refl, refl));
-  trouble = record { errors = λ is. absurd (not_ready n is); changes = λ is. absurd (not_ready n is) };
+  trouble = record {
+    errors = λ is. absurd (not_ready n is);
+    changes = λ tends. absurd (untended n tends);
+    fault = λ is. absurd (not_ready n is);
+    fatal = λ is. absurd (not_ready n is);
+    disk = λ is. absurd (not_ready n is);
+  };
   well = λ why is. absurd (not_ready n is);
   heeds = λ is. absurd (not_ready n is);
 }
@@ -353,7 +364,7 @@ service_backed = record { telling = refl; gained = []; tape = refl; tells = (tt,
 service_ties : Ties (Any ∷ Any ∷ []) pending_at service
 service_ties = record {
   accesses = [];
-  came = (refl, All-nil (IsServing (ServesPort dead)));
+  came = (refl, All-nil (IsServing (TendsPort dead)));
   backed = service_backed;
   evidenced = record { faults = λ f here. absurd (contains_none f here); port = λ port. service_evidenced port.0 };
   issues = λ port is. absurd (not_ready port.0 is);

@@ -4,6 +4,7 @@ use Rattle.agreement.specs.Errors.{IsFatalOf}
 use Rattle.std.proofs.lemmas.List.Elements.{All-contains}
 use Rattle.std.proofs.lemmas.List.{append_cancel_left}
 use Rattle.std.proofs.Common.{ℕ, zero, suc, ◌≡◌, ◌≢◌, ◌≤◌, ◌∙◌, ◌++◌, true, false, List, [], ◌∷◌, length, None, inl, inr, ⊎_elim, refl, sym, ap, subst, arith}
+use Rattle.std.proofs.lemmas.Bool.{true≢false}
 use Rattle.std.specs.List.{Contains, All}
 use Rattle.ata_types.specs.declared.Port.{Port}
 use Rattle.ata_types.specs.declared.PortState.TheVariants.{Absent, Foreign, Ready, Unfit}
@@ -16,7 +17,6 @@ use Rattle.adapter.specs.Idle.{IsIdlePort}
 use Rattle.adapter.specs.declared.access.DeviceStep.{DeviceStep}
 use Rattle.adapter.specs.declared.command.Operation.TheVariants.{Identify}
 use Rattle.adapter.specs.declared.tape.Entry.{Entry}
-use Rattle.adapter.proofs.Absurd.{true-false}
 use Rattle.agreement.specs.Acts.{InSlots}
 use Rattle.agreement.specs.Agrees.{port_at}
 use Rattle.agreement.specs.Facts.{IsFaulted, IsFaultOf}
@@ -31,6 +31,7 @@ use Rattle.block_machine.specs.declared.due.Mode.{Mode}
 use Rattle.block_machine.proofs.Members.{contains_none, contains_here, contains_cases}
 use Rattle.port_boot.specs.States.{told_causes, HasFitDisk}
 use Rattle.port_control.specs.Ports.{programmed}
+use Rattle.driver_history.proofs.Calm.{gains_of}
 use Rattle.driver_history.specs.Evidence.{IsEvidencedOf, ShowsFailure, ShowsLoss, Gains}
 use Rattle.driver_history.specs.Histories.{HasBadDisk, TriesDisk, LosesNoTrouble}
 use Rattle.driver_history.specs.Holds.{HasNothing, HasRequests, IsClients, IsOfKind, IsUnservedAt, NoneWaits, Runs}
@@ -84,7 +85,7 @@ runs_on port d st cr fre bases saw known linked calm whole = record {
   fre = fre;
   bases = bases;
   saw = saw;
-  recorded = record { known = known; linked = linked; flag = λ f. true-false f calm; fault = λ f. absurd (unfaulted (subst IsFaulted whole f)) };
+  recorded = record { known = known; linked = linked; flag = λ f. absurd (true≢false (sym f ∙ calm)); fault = λ f. absurd (unfaulted (subst IsFaulted whole f)) };
 }
 
 -- the last page of its disk stands on the tape
@@ -170,11 +171,11 @@ pub record IsUnnamed (evidence : Evidence) (port : Port) : Type 0 where
 
 -- a port that shows its device, and no change
 pub unlost : (port : Port) (old new : Device) → (old.port port.0).serr_n ≡ false → (old.port port.0).serr_x ≡ false → (old.port port.0).ssts_det ≡ 3 → ShowsLoss port old new → ⊥
-unlost port old new n x there loss = ⊎_elim (λ change. ⊎_elim (λ a. true-false a n) (λ a. true-false a x) change) (λ missing. missing.0 there) loss
+unlost port old new n x there loss = ⊎_elim (λ change. ⊎_elim (λ a. absurd (true≢false (sym a ∙ n))) (λ a. absurd (true≢false (sym a ∙ x))) change) (λ missing. missing.0 there) loss
 
 -- and one with no bit of PxIS
 pub unfailing : (p : PortState) → ((place : ℕ) → p.is place ≡ false) → ShowsFailure p → ⊥
-unfailing p calm fails = ⊎_elim (λ fatal. true-false fatal.set (calm fatal.place)) (λ fault. true-false fault (calm 30)) fails
+unfailing p calm fails = ⊎_elim (λ fatal. absurd (true≢false (sym fatal.set ∙ (calm fatal.place)))) (λ fault. absurd (true≢false (sym fault ∙ (calm 30)))) fails
 
 -- a port that isn't named, wasn't stopped, and showed no trouble if it was ready
 pub unnamed_evidenced : (ask : Ask DeviceStep) (said : Said) (accesses : List Access) (old : Instant Device) (ports : Ports) (new : Device) (evidence : Evidence) (port : Port) → IsUnnamed evidence port
@@ -214,7 +215,7 @@ tries_ready accesses old ports new port ready = record {
 -- ---- trouble
 
 -- nothing of this kind was gained
-gained_none : (Is : Entry → Type 0) (old new : Device) (gained : List Entry) → new.tape ≡ old.tape ++ gained → All (λ e. Is e → ⊥) gained → Gains Is old new → ⊥
+pub gained_none : (Is : Entry → Type 0) (old new : Device) (gained : List Entry) → new.tape ≡ old.tape ++ gained → All (λ e. Is e → ⊥) gained → Gains Is old new → ⊥
 gained_none Is old new gained is none g =
     let same : g.gained ≡ gained = append_cancel_left old.tape g.gained gained (sym g.tape ∙ is) in
     All-contains (λ e. Is e → ⊥) gained g.entry none (subst (λ (es : List Entry). Contains es g.entry) same g.here) g.is
@@ -227,10 +228,22 @@ each : {P Q : Entry → Type 0} (es : List Entry) → ((e : Entry) → P e → Q
 each es goes all k d low = goes _ (all k d low)
 
 -- where a port showed no trouble, and none came, there is none to be heeded
-pub no_trouble : (evidence : Evidence) (old : Instant Device) (new : Device) (port : Port) (gained : List Entry) → new.tape ≡ old.device.tape ++ gained → All (IsCalm port.0) gained
-    → (old.moment.ports.state port ≡ Ready → (ShowsLoss port old.device new → ⊥) × (ShowsFailure (old.device.port port.0) → ⊥)) → LosesNoTrouble evidence old new port
-no_trouble evidence old new port gained is none calm = record {
-  errors = λ ready why. absurd (⊎_elim (calm ready).1
-      (λ came. ⊎_elim (gained_none (IsFaultOf port.0) old.device new gained is (each gained (λ e (c : IsCalm port.0 e). c.0) none)) (gained_none (IsFatalOf port.0) old.device new gained is (each gained (λ e (c : IsCalm port.0 e). c.1) none)) came) why);
-  changes = λ ready why. absurd (⊎_elim (λ change. (calm ready).0 (inl change)) (gained_none (IsPlugging port.0) old.device new gained is (each gained (λ e (c : IsCalm port.0 e). c.2) none)) why);
+pub no_trouble : (evidence : Evidence) (old : Instant Device) (ports : Ports) (new : Device) (port : Port) (gained : List Entry) → new.tape ≡ old.device.tape ++ gained → All (IsCalm port.0) gained
+    → (old.moment.ports.served port ≡ true → old.moment.ports.state port ≡ Ready)
+    → (old.moment.ports.state port ≡ Ready → (ShowsLoss port old.device new → ⊥) × (ShowsFailure (old.device.port port.0) → ⊥)) → LosesNoTrouble evidence old ports new port
+no_trouble evidence old ports new port gained is none served calm = record {
+  errors = λ ready why. absurd (⊎_elim (calm ready).1 (λ came. ⊎_elim faults fatals came) why);
+  changes = λ tends why. absurd (⊎_elim (λ change. (calm (served tends.0)).0 (inl change)) plugs why);
+  fault = λ ready g. absurd (faults (gains_of port.0 (IsFaultOf port.0) old.device new g));
+  fatal = λ ready g. absurd (fatals (gains_of port.0 (IsFatalOf port.0) old.device new g));
+  disk = λ ready g. absurd (plugs (gains_of port.0 (IsPlugging port.0) old.device new g));
 }
+  where
+    faults : Gains (IsFaultOf port.0) old.device new → ⊥
+    faults = gained_none (IsFaultOf port.0) old.device new gained is (each gained (λ e (c : IsCalm port.0 e). c.0) none)
+
+    fatals : Gains (IsFatalOf port.0) old.device new → ⊥
+    fatals = gained_none (IsFatalOf port.0) old.device new gained is (each gained (λ e (c : IsCalm port.0 e). c.1) none)
+
+    plugs : Gains (IsPlugging port.0) old.device new → ⊥
+    plugs = gained_none (IsPlugging port.0) old.device new gained is (each gained (λ e (c : IsCalm port.0 e). c.2) none)

@@ -154,6 +154,7 @@ lost_ready = record {
 lost_absent : IsStoppedAt Any no_slots lost_at (port_at 1) Absent
 lost_absent = record {
   on = record { ae = refl; no_reset = refl };
+  shown = λ bad. absurd bad;
   ends = (
     record { halted = record { st = refl; cr = refl; ci = λ k. refl; taken = λ k. refl }; sact = λ k. refl },
     ((λ e. let x : 0 ≡ 3 = e in omega (arith, x)), refl),

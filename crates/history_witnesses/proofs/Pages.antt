@@ -1,7 +1,7 @@
 -- The page is one of a disk that fits.
 use Rattle.std.proofs.Common.{ℕ, ◌≡◌, ◌<◌, ◌+◌, ◌*◌, false, slice_index, replicate, None, ⊎_elim, refl, sym, ◌∙◌, arith}
+use Rattle.std.proofs.lemmas.Bool.{true≢false}
 use Rattle.std.proofs.lemmas.List.{get_or-replicate, get_or_append_left}
-use Rattle.adapter.proofs.Absurd.{true-false}
 use Rattle.identify.specs.Page.{HasNoFault, Describes, AllowsTrim}
 use Rattle.identify.specs.declared.DiskInfo.{DiskInfo}
 use Rattle.identify.specs.declared.Unfit.TheVariants.{BadChecksum, Word83, No48Bit, SectorSize, NoFlush, NoSectors}
@@ -34,9 +34,9 @@ describes = record {
     low = λ i low. zero_in (2 * i + 1) (omega (arith, low)) ∙ sym (zero_at (20 + 2 * i) (omega (arith, low)));
   };
   depth = refl;
-  ncq = (λ f. true-false f refl, λ a. let x : 0 ≡ 1 = a in absurd (omega (arith, x)));
+  ncq = (λ f. absurd (true≢false (sym f)), λ a. let x : 0 ≡ 1 = a in absurd (omega (arith, x)));
   sectors = refl;
-  trim = (λ f. true-false f refl, λ (a : AllowsTrim fit_page). let x : 0 ≡ 1 = a.trim in absurd (omega (arith, x)));
+  trim = (λ f. absurd (true≢false (sym f)), λ (a : AllowsTrim fit_page). let x : 0 ≡ 1 = a.trim in absurd (omega (arith, x)));
 }
 
 pub page_fits : IsFit None fit_page info

@@ -1,9 +1,9 @@
 -- What holds after that service, which tells the fault; and it meets all that is asked of it.
 use Rattle.adapter.proofs.Changed.{changed_other}
-use Rattle.std.proofs.lemmas.Bool.{cases_eq}
+use Rattle.std.proofs.lemmas.Bool.{cases_eq, true≢false}
 use Rattle.adapter.specs.declared.tape.Entry.{Entry}
 use Rattle.std.proofs.lemmas.List.{append_cancel_left}
-use Rattle.std.proofs.Common.{true, subst, Some, ◌∙◌, ℕ, zero, suc, ◌≡◌, false, List, [], ◌∷◌, ◌++◌, None, inl, inr, ⊎_elim, refl, sym, ap, arith, ◌≢◌, Bool, not, ◌&&◌}
+use Rattle.std.proofs.Common.{length, length-append, true, subst, Some, ◌∙◌, ℕ, zero, suc, ◌≡◌, false, List, [], ◌∷◌, ◌++◌, None, inl, inr, ⊎_elim, refl, sym, ap, arith, ◌≢◌, Bool, not, ◌&&◌}
 use Rattle.std.specs.List.{Contains, All}
 use Rattle.std.proofs.lemmas.List.Elements.{All-nil, All-cons, All-contains}
 use Rattle.std.proofs.lemmas.List.Sorted.{IsPermutation-refl}
@@ -21,11 +21,12 @@ use Rattle.adapter.specs.Memory.{changed}
 use Rattle.adapter.specs.declared.access.DeviceStep.{DeviceStep}
 use Rattle.adapter.specs.declared.command.Operation.TheVariants.{Identify}
 use Rattle.adapter.specs.declared.tape.Entry.TheVariants as entry
-use Rattle.adapter.proofs.Absurd.{true-false}
 use Rattle.agreement.specs.Agrees.{port_at}
 use Rattle.agreement.specs.Acts.{at}
 use Rattle.agreement.specs.Driver.{IsBacked, Knows}
+use Rattle.agreement.specs.Errors.{IsFatalOf}
 use Rattle.agreement.specs.Facts.{IsFaultOf, IsDisturbance, RunsWell}
+use Rattle.agreement.specs.Links.{IsPlugging}
 use Rattle.agreement.specs.Slots.{IsFree, IsMove, ServesRequest, Waits, IsTaken, IsEnded, IsDropped}
 use Rattle.agreement.specs.Witness.{first_id}
 use Rattle.block_machine.specs.Events.{Service, Served, Happens, ServesReady}
@@ -37,8 +38,9 @@ use Rattle.block_machine.specs.Steps.{Step, Answer}
 use Rattle.block_machine.proofs.Members.{contains_none, contains_here, contains_cases}
 use Rattle.host_boot.specs.Taken.{wanted_of}
 use Rattle.identify.specs.declared.wanted.Wanted.TheVariants.{Any}
-use Rattle.driver_history.specs.Evidence.{Gains, IsEvidencedOf, ShowsLoss, ShowsFailure}
-use Rattle.driver_history.specs.Histories.{Ties, TiesPort, FindsDone, IsAnsweredOk, IsIssuedOn, LosesNoTrouble, RunsWellAnew, ServesPort}
+use Rattle.driver_history.proofs.Calm.{gains_of}
+use Rattle.driver_history.specs.Evidence.{Gains, GainsRunning, IsEvidencedOf, ShowsLoss, ShowsFailure}
+use Rattle.driver_history.specs.Histories.{Ties, TiesPort, FindsDone, IsAnsweredOk, IsIssuedOn, LosesNoTrouble, RunsWellAnew, TendsPort}
 use Rattle.driver_history.specs.Holds.{HoldsOf, HoldsWith, IsReadyAt}
 use Rattle.driver_history.specs.Trace.{LeavesCommand}
 use Rattle.port_control.specs.Engines.{Stops}
@@ -46,7 +48,7 @@ use Rattle.history_witnesses.specs.Recovery.{fault_evidence, recovery_accesses, 
 use Rattle.history_witnesses.specs.Scene.{having, page_entry}
 use Rattle.history_witnesses.proofs.Command.{read_memory}
 use Rattle.history_witnesses.proofs.Devices.{IsOf, WritesOf, leaves, serving, AreServing}
-use Rattle.history_witnesses.proofs.Holding.{IsUnnamed, fit_disk, named, named_is, no_slots, requests_none, runs_on, tries_ready, unnamed_evidenced, unserved_at, IsCalm, no_trouble}
+use Rattle.history_witnesses.proofs.Holding.{IsUnnamed, fit_disk, named, named_is, no_slots, requests_none, runs_on, tries_ready, unnamed_evidenced, unserved_at, IsCalm, gained_none, no_trouble}
 use Rattle.history_witnesses.proofs.Pages.{info}
 use Rattle.history_witnesses.proofs.Submitting.{issued, second, submitted, pages}
 use Rattle.history_witnesses.proofs.Accepting.{agreeing, asked, both, calm, first, fit_both, free_apart, in_book, issuing, no_page, not_dead, other_page, past_driver, second_ready, served_of, served_ready, starts, submit, submit_happens, submit_parts, submit_ties, submitted_at, waiting, begins}
@@ -153,8 +155,11 @@ unnamed n = record {
   stuck = contains_none (port_at (suc n));
 }
 
-of_served : AreServing (ServesPort both) recovery_accesses
-of_served = (refl, (refl, (refl, (refl, ((λ is. cc, refl), (refl, ((λ is. cc, refl), ((λ is. cc, refl), (refl, (refl, ((λ is. cc, refl), tt)))))))))))
+of_served : AreServing (TendsPort both) recovery_accesses
+of_served = (tended, (tended, (tended, (tended, ((λ is. cc, tended), (tended, ((λ is. cc, tended), ((λ is. cc, tended), (tended, (tended, ((λ is. cc, tended), tt)))))))))))
+  where
+    tended : TendsPort both (port_at 0)
+    tended = (refl, not_dead 0)
 
 quiet : (n : ℕ) → both.state (port_at n) ≡ Ready → (ShowsLoss (port_at n) submitted recovered → ⊥) × (ShowsFailure (submitted.port n) → ⊥)
 quiet = calm read_memory issued refl refl refl (λ place. refl) recovered
@@ -185,12 +190,12 @@ none_ok e a = ⊎_elim (λ (same : Answer a.0 outcome.Ok ≡ answer). cc) (λ no
 -- a slot whose bit of PxCI is clear serves no request then
 bits_set : (e : Pending) (k : ℕ) → ServesRequest issuing read_memory issued 0 k e.request.id → bit 1 k ≡ false → ⊥
 bits_set e k s ci = ⊎_elim
-    (λ (w : Waits read_memory issued 0 k s.pending s.command). true-false w.issued ci)
+    (λ (w : Waits read_memory issued 0 k s.pending s.command). absurd (true≢false (sym w.issued ∙ ci)))
     (λ r. ⊎_elim
     (λ (w : IsTaken read_memory issued 0 k s.pending s.command s.places). let x : None ≡ Some w.command = w.taken in cc)
     (λ r. ⊎_elim
-    (λ (w : IsEnded issued k s.pending). true-false w.ended (ap (λ (p : Pending). p.ended) (⊎_elim (λ m. in_book s.pending m.0) (λ m. absurd (contains_none s.pending m)) s.moves)))
-    (λ (w : IsDropped issued k s.pending). true-false refl w.stopped) r) r)
+    (λ (w : IsEnded issued k s.pending). absurd (true≢false (sym w.ended ∙ (ap (λ (p : Pending). p.ended) (⊎_elim (λ m. in_book s.pending m.0) (λ m. absurd (contains_none s.pending m)) s.moves)))))
+    (λ (w : IsDropped issued k s.pending). absurd (true≢false w.stopped)) r) r)
     s.stage
 
 finds : FindsDone (port_at 0) recovery_accesses submitted_at (answer ∷ [])
@@ -218,7 +223,7 @@ only_one e o here = ⊎_elim (λ (same : Answer e o ≡ answer). cc) (λ none. a
 
 heeds : (n : ℕ) → both.state (port_at n) ≡ Ready → ServesReady submitted_at.moment fault_evidence (answer ∷ []) recovered_at.moment (port_at n)
 heeds zero is = record {
-  ended = λ e here at_port ended. true-false ended (ap (λ (p : Pending). p.ended) (in_book e here));
+  ended = λ e here at_port ended. absurd (true≢false (sym ended ∙ (ap (λ (p : Pending). p.ended) (in_book e here))));
   emptied = λ g. absurd (contains_none (port_at 0) g);
   told = λ g. absurd (contains_none (port_at 0) g);
   interrupts = λ why. inl (named 0);
@@ -229,7 +234,7 @@ heeds zero is = record {
   calm = inl (inl (named 0));
 }
 heeds (suc zero) is = record {
-  ended = λ e here at_port ended. true-false ended (ap (λ (p : Pending). p.ended) (in_book e here));
+  ended = λ e here at_port ended. absurd (true≢false (sym ended ∙ (ap (λ (p : Pending). p.ended) (in_book e here))));
   emptied = λ g. absurd ((unnamed 0).gone g);
   told = λ g. absurd ((unnamed 0).gone g);
   interrupts = λ why. absurd (⊎_elim (unnamed 0).failed (unnamed 0).gone why);
@@ -249,9 +254,24 @@ heeds (suc (suc n)) is = absurd (let x : Absent ≡ Ready = is in cc)
 fault_alone : (n : ℕ) → n ≢ 0 → All (IsCalm n) (entry.Fault fault ∷ [])
 fault_alone n ne = All-cons (IsCalm n) (entry.Fault fault) [] (λ (is : 0 ≡ n). ne (sym is), λ x. x, λ x. x) (All-nil (IsCalm n))
 
-trouble : (n : ℕ) → LosesNoTrouble fault_evidence submitted_at recovered (port_at n)
-trouble zero = record { errors = λ ready why. inl (inl (named 0)); changes = λ ready why. inl (inl (named 0)) }
-trouble (suc n) = no_trouble fault_evidence submitted_at recovered (port_at (suc n)) (entry.Fault fault ∷ []) refl (fault_alone (suc n) (omega arith)) (quiet (suc n))
+-- it came before ST was set again
+too_early : GainsRunning (IsFaultOf 0) 0 submitted recovered → ⊥
+too_early g =
+    let same : g.before ++ (g.entry ∷ g.later) ≡ entry.Fault fault ∷ [] = append_cancel_left pages (g.before ++ (g.entry ∷ g.later)) (entry.Fault fault ∷ []) (sym g.tape) in
+    let long : length (g.before ++ (g.entry ∷ g.later)) ≡ 1 = ap (λ (es : List Entry). length es) same in
+    let parts = length-append g.before (g.entry ∷ g.later) in
+    let since = g.since in
+    omega (arith, since, long, parts)
+
+trouble : (n : ℕ) → LosesNoTrouble fault_evidence submitted_at both recovered (port_at n)
+trouble zero = record {
+  errors = λ ready why. inl (inl (named 0));
+  changes = λ tends why. inl (inl (named 0));
+  fault = λ ready g. absurd (too_early g);
+  fatal = λ ready g. absurd (gained_none (IsFatalOf 0) submitted recovered (entry.Fault fault ∷ []) refl (All-cons (λ e. IsFatalOf 0 e → ⊥) (entry.Fault fault) [] (λ x. x) (All-nil (λ e. IsFatalOf 0 e → ⊥))) (gains_of 0 (IsFatalOf 0) submitted recovered g));
+  disk = λ ready g. absurd (gained_none (IsPlugging 0) submitted recovered (entry.Fault fault ∷ []) refl (All-cons (λ e. IsPlugging 0 e → ⊥) (entry.Fault fault) [] (λ x. x) (All-nil (λ e. IsPlugging 0 e → ⊥))) (gains_of 0 (IsPlugging 0) submitted recovered g));
+}
+trouble (suc n) = no_trouble fault_evidence submitted_at both recovered (port_at (suc n)) (entry.Fault fault ∷ []) refl (fault_alone (suc n) (omega arith)) (served_ready (suc n)) (quiet (suc n))
 
 -- it disturbs port 0; and no other port was stopped
 well : (n : ℕ) → RunsWellAnew fault_evidence recovery_accesses submitted_at both recovered (port_at n)
@@ -264,7 +284,7 @@ well (suc n) = λ why. absurd (⊎_elim (unnamed n).stopped (unnamed n).stuck wh
 part_of : (n : ℕ) → TiesPort submitted_at service recovery_accesses (port_at n)
 part_of n = record {
   finds = λ is e on. service_finds n e on;
-  faults = λ alone. true-false alone.shows.fault (no_flags n 30);
+  faults = λ alone. absurd (true≢false (sym alone.shows.fault ∙ (no_flags n 30)));
   tries = λ served none. tries_ready recovery_accesses submitted_at both recovered (port_at n) (served_ready n served);
   boots = (λ is f. absurd (⊎_elim (λ fatal. (quiet n is).1 (inl fatal)) (quiet n is).0 f), inl (refl, refl, refl, refl, refl, refl));
   trouble = trouble n;
@@ -308,7 +328,7 @@ happens : Happens submitted_at.moment service.event
 happens = record {
   may = (tt, contains_here waiting [] waiting refl);
   belong = (tt, inr tt);
-  last = (tt, λ id is none. true-false none refl);
+  last = (tt, λ id is none. absurd (true≢false (sym none)));
   lawful = (
     tt,
     (
@@ -335,7 +355,7 @@ happens = record {
 ties : Ties (Any ∷ Any ∷ []) submitted_at service
 ties = record {
   accesses = recovery_accesses;
-  came = (does, serving (ServesPort both) recovery_accesses of_served);
+  came = (does, serving (TendsPort both) recovery_accesses of_served);
   backed = backed;
   evidenced = record {
     faults = λ f here. ⊎_elim (λ same. told f same) (λ none. absurd (contains_none f none)) (contains_cases told_fault [] f here);

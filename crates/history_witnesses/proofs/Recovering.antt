@@ -1,5 +1,6 @@
 -- The read fails, and a service that finds it so stops its port and sets ST again. This is the way of the device.
-use Rattle.std.proofs.Common.{ℕ, ◌≡◌, false, List, [], ◌∷◌, ◌++◌, refl, sym, ap, subst, arith}
+use Rattle.std.proofs.Common.{ℕ, ◌≡◌, false, List, [], ◌∷◌, ◌++◌, refl, sym, ap, subst, arith, ◌∙◌}
+use Rattle.std.proofs.lemmas.Bool.{true≢false}
 use Rattle.std.specs.List.{All}
 use Rattle.std.proofs.lemmas.List.Elements.{All-nil, All-cons}
 use Rattle.hba_regs.specs.declared.reg.Reg.TheVariants.{Px}
@@ -15,7 +16,6 @@ use Rattle.adapter.specs.Steps.Step.{Fault as FaultStep}
 use Rattle.adapter.specs.declared.tape.Entry.{Entry}
 use Rattle.adapter.specs.declared.tape.Entry.TheVariants as entry
 use Rattle.adapter.specs.declared.tape.Fault as tape_fault
-use Rattle.adapter.proofs.Absurd.{true-false}
 use Rattle.agreement.specs.Agrees.{port_at}
 use Rattle.block_machine.specs.Ports.{Fault}
 use Rattle.block_machine.specs.State.{Pending}
@@ -244,5 +244,5 @@ told t is = subst (IsFaultTold submitted_at recovered recovery_accesses) (sym is
     status_is = refl;
     error_is = refl;
   };
-  queued = λ q. true-false q serves_plain;
+  queued = λ q. absurd (true≢false (sym q ∙ serves_plain));
 })

@@ -4,4 +4,5 @@ pub mod Stopping
 pub mod Ways
 pub mod Taking
 pub mod Running
+pub mod Showing
 pub mod Beginning

@@ -6,7 +6,7 @@ use Rattle.ata_types.specs.declared.Port.{Port}
 use Rattle.hba_regs.specs.declared.reg.Reg.TheVariants.{Ghc, Px}
 use Rattle.hba_regs.specs.declared.reg.PortReg.{PortReg}
 use Rattle.hba_regs.specs.declared.reg.PortReg.TheVariants.{Cmd, Sctl}
-use Rattle.adapter.specs.Access.{Access}
+use Rattle.adapter.specs.Access.{Access, Writes}
 use Rattle.adapter.specs.Access.Access.{Reading, Writing, Loading, Storing}
 use Rattle.adapter.specs.Device.{Device}
 use Rattle.adapter.specs.Idle.{IsIdle}
@@ -55,10 +55,10 @@ abbrev IsOfFrom : ℕ → Access → Type 0
 IsOfFrom n access = (port : Port) × (n ≤ port.0) × IsOf port access
 
 -- it is of another port than this one
-abbrev IsOfOther : ℕ → Access → Type 0
+abbrev pub IsOfOther : ℕ → Access → Type 0
 IsOfOther q access = (port : Port) × (q ≢ port.0) × IsOf port access
 
-other_spares : (port : Port) (r : PortReg) → NoneWrites (IsOfOther port.0) (Px port r)
+pub other_spares : (port : Port) (r : PortReg) → NoneWrites (IsOfOther port.0) (Px port r)
 other_spares port r access (at, other, is) = of_spares_others at port r other access is
 
 others_last : (port : Port) (old new : Device) → IsOn old → IsDrivenBy (IsOfOther port.0) old new → Lasts port.0 old new
@@ -113,21 +113,24 @@ go_well port info first (found ∷ rest) (suc k) old new at is on (mid, way, mor
     let parts = calm_in_parts port.0 old mid new (tape_over (IsOf (port_at first)) old mid early) (tape_over (IsOfFrom (first + 1)) mid new late) calm in
     go_well port info (first + 1) rest k mid new (omega (arith, at)) is (on_over (IsOf (port_at first)) old mid early (of_spares_ghc (port_at first)) on) more parts.1
 
--- so it is with the record of its faults
-go_recorded : (port : Port) (info : DiskInfo) (first : ℕ) (ports : List Found) (k : ℕ) (old new : Device) → port.0 ≡ first + k → slice_index_or ports k Unserved ≡ Ready info → IsOn old → GoThrough first ports old new →
-    IsRecorded new.tape (new.port port.0) port.0
-go_recorded port info first [] k old new at is on way = absurd (let e : Unserved ≡ Ready info = is in cc)
-go_recorded port info first (found ∷ rest) zero old new at is on (mid, way, more) =
+-- ---- what lasts, whatever goes wrong
+
+-- What holds once a port went its way, and lasts over accesses of other ports, holds once they all went theirs.
+go_last : (P : Device → Type 0) (port : Port) (its : Found) → its ≢ Unserved → ((old new : Device) → IsOn old → GoesThrough port its old new → P new)
+    → ((old new : Device) → IsOn old → IsDrivenBy (IsOfOther port.0) old new → P old → P new)
+    → (first : ℕ) (ports : List Found) (k : ℕ) (old new : Device) → port.0 ≡ first + k → slice_index_or ports k Unserved ≡ its → IsOn old → GoThrough first ports old new → P new
+go_last P port its served through lasting first [] k old new at is on way = absurd (served (sym is))
+go_last P port its served through lasting first (found ∷ rest) zero old new at is on (mid, way, more) =
     let same : port_at first ≡ port = ap port_at (sym (at ∙ (omega arith))) in
-    let its : GoesThrough port (Ready info) old mid = subst (λ (p : Port). GoesThrough p (Ready info) old mid) same (subst (λ (f : Found). GoesThrough (port_at first) f old mid) is way) in
+    let own : GoesThrough port its old mid = subst (λ (p : Port). GoesThrough p its old mid) same (subst (λ (f : Found). GoesThrough (port_at first) f old mid) is way) in
     let early = through_driven (port_at first) found old mid way in
     let late = go_driven (first + 1) (first + 1) rest mid new (omega arith) more in
-    (others_last port mid new (on_over (IsOf (port_at first)) old mid early (of_spares_ghc (port_at first)) on)
-    (driven_as (IsOfFrom (first + 1)) (IsOfOther port.0) mid new (λ access (q, above, its). (q, λ (e : port.0 ≡ q.0). absurd (omega (arith, at, above, e)), its)) late)).runs.recorded
-    its.4.recorded
-go_recorded port info first (found ∷ rest) (suc k) old new at is on (mid, way, more) =
+    lasting mid new (on_over (IsOf (port_at first)) old mid early (of_spares_ghc (port_at first)) on)
+    (driven_as (IsOfFrom (first + 1)) (IsOfOther port.0) mid new (λ access (q, above, of_q). (q, λ (e : port.0 ≡ q.0). absurd (omega (arith, at, above, e)), of_q)) late)
+    (through old mid on own)
+go_last P port its served through lasting first (found ∷ rest) (suc k) old new at is on (mid, way, more) =
     let early = through_driven (port_at first) found old mid way in
-    go_recorded port info (first + 1) rest k mid new (omega (arith, at)) is (on_over (IsOf (port_at first)) old mid early (of_spares_ghc (port_at first)) on) more
+    go_last P port its served through lasting (first + 1) rest k mid new (omega (arith, at)) is (on_over (IsOf (port_at first)) old mid early (of_spares_ghc (port_at first)) on) more
 
 -- ---- the whole taking over
 
@@ -150,11 +153,20 @@ taken_well port info ports old new idle is way calm =
     let within = calm_in_parts port.0 old way.surveyed way.booted before boots parts.0 in
     well_on port.0 way.booted new last.runs parts.1 (go_well port info 0 ports port.0 way.surveyed way.booted (omega arith) is surveyed way.boots within.1)
 
-pub taken_recorded : (port : Port) (info : DiskInfo) (ports : List Found) (old new : Device) → IsIdle old → found_of ports port.0 ≡ Ready info → GoesOver ports old new → IsRecorded new.tape (new.port port.0) port.0
-taken_recorded port info ports old new idle is way =
+-- and once the adapter was let interrupt, if that leaves it
+pub taken_last : (P : Device → Type 0) (port : Port) (its : Found) → its ≢ Unserved → ((old new : Device) → IsOn old → GoesThrough port its old new → P new)
+    → ((old new : Device) → IsOn old → IsDrivenBy (IsOfOther port.0) old new → P old → P new) → ((old new : Device) → IsOn old → Writes Ghc 0x80000002 old new → P old → P new)
+    → (ports : List Found) (old new : Device) → IsIdle old → found_of ports port.0 ≡ its → GoesOver ports old new → P new
+taken_last P port its served through lasting enabling ports old new idle is way =
     let on : IsOn way.switched = switches_on 0x80000000 old way.switched idle.no_reset refl refl way.switches in
     let surveyed : IsOn way.surveyed = on_over IsSurvey way.switched way.surveyed way.surveys survey_spares_ghc on in
     let driven = go_driven 0 0 ports way.surveyed way.booted (omega arith) way.boots in
     let booted : IsOn way.booted = on_over (IsOfFrom 0) way.surveyed way.booted driven (from_spares_ghc 0) surveyed in
-    (lasts_access port (Writing Ghc 0x80000002) way.booted new booted (λ (e : Ghc ≡ Px port Sctl). absurd cc) way.enables (λ (e : Ghc ≡ Px port Cmd). absurd cc)).runs.recorded
-    (go_recorded port info 0 ports port.0 way.surveyed way.booted (omega arith) is surveyed way.boots)
+    enabling way.booted new booted way.enables (go_last P port its served through lasting 0 ports port.0 way.surveyed way.booted (omega arith) is surveyed way.boots)
+
+pub taken_recorded : (port : Port) (info : DiskInfo) (ports : List Found) (old new : Device) → IsIdle old → found_of ports port.0 ≡ Ready info → GoesOver ports old new → IsRecorded new.tape (new.port port.0) port.0
+taken_recorded port info =
+    taken_last (λ d. IsRecorded d.tape (d.port port.0) port.0) port (Ready info) (λ e. absurd (let z : Ready info ≡ Unserved = e in cc))
+    (λ old new on its. its.4.recorded)
+    (λ old new on driven h. (others_last port old new on driven).runs.recorded h)
+    (λ old new on does h. (lasts_access port (Writing Ghc 0x80000002) old new on (λ (e : Ghc ≡ Px port Sctl). absurd cc) does (λ (e : Ghc ≡ Px port Cmd). absurd cc)).runs.recorded h)

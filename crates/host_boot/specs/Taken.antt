@@ -2,7 +2,8 @@
 -- the way: AHCI 1.3.1, 10.1.2).
 use Rattle.std.specs.Prelude.{ℕ, [], ◌∷◌, true, ◌≡◌, ◌≢◌, ◌+◌, ◌/◌, ◌%◌, ◌<◌, ◌≤◌, ◌⊎◌, List, length, slice_index_or}
 use Rattle.ata_types.specs.declared.Port.{Port}
-use Rattle.ata_types.specs.declared.PortState.TheVariants.{Dead}
+use Rattle.ata_types.specs.declared.PortState.{PortState as ShownState}
+use Rattle.ata_types.specs.declared.PortState.TheVariants.{Foreign, Unfit, Dead}
 use Rattle.hba_regs.specs.Bits.{bit}
 use Rattle.hba_regs.specs.declared.reg.Reg.TheVariants.{Cap, Ghc, Pi}
 use Rattle.adapter.specs.Access.{Access, Writes}
@@ -38,6 +39,12 @@ found_of ports port = slice_index_or ports port Unserved
 -- a disk is wanted in the port, and the adapter has it
 abbrev pub IsServed : Wanted → ℕ → Device → Type 0
 IsServed wanted port d = (wanted ≢ Nothing) × (bit d.pi port ≡ true)
+
+-- in the port a disk was found that isn't served
+abbrev pub FoundBadDisk : ShownState → Type 0
+FoundBadDisk Foreign = Unit {0}
+FoundBadDisk (Unfit n) = Unit {0}
+FoundBadDisk _ = ⊥
 
 -- What stands behind what a port was found to be. One that isn't served is as idle as it was; what stands behind the others is what
 -- their boot found.

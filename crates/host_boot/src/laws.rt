@@ -1,6 +1,7 @@
 // Laws of the definitions, for callers: the clause is the theorem. Nothing calls these functions.
 ghost use Rattle.std.specs.Prelude.{ℕ, true, false, ◌≡◌, ◌≢◌, ◌<◌, List};
 ghost use Rattle.ata_types.specs.declared.Port.{Port};
+ghost use Rattle.ata_types.specs.declared.PortState.{PortState};
 ghost use Rattle.ata_types.specs.declared.PortState.TheVariants.{Dead};
 ghost use Rattle.adapter.specs.Device.{Device};
 ghost use Rattle.adapter.specs.Idle.{IsIdle};
@@ -9,14 +10,17 @@ ghost use Rattle.adapter.specs.Steps.{Steps};
 ghost use Rattle.adapter.specs.declared.command.Operation.TheVariants.{Identify};
 ghost use Rattle.agreement.specs.Driven.{IsDrivenBy, IsOf, SendsNone};
 ghost use Rattle.agreement.specs.Facts.{IsRecorded, RunsWell, Undisturbed};
-ghost use Rattle.agreement.specs.Links.{SameAdapter};
+ghost use Rattle.agreement.specs.Links.{HasDeviceOrNone, SameAdapter};
 ghost use Rattle.agreement.specs.Places.{list_of};
 ghost use Rattle.identify.specs.declared.DiskInfo.{DiskInfo};
 ghost use Rattle.identify.specs.declared.wanted.Wanted.{Wanted};
-ghost use Rattle.host_boot.specs.Taken.{LeavesFound, LeavesPorts, StandsBehind, StillStandsBehind, TakesOver, found_of};
+ghost use Rattle.host_boot.specs.Taken.{FoundBadDisk, LeavesFound, LeavesPorts, StandsBehind, StillStandsBehind, TakesOver, found_of};
 ghost use Rattle.host_boot.specs.declared.Found.{Found};
 ghost use Rattle.host_boot.specs.declared.Found.TheVariants.{Unserved, Ready, Unready};
 ghost use Rattle.host_boot.specs.declared.Host.{Host};
+
+use agreement::disks::none_comes_in;
+use agreement::facts::device_or_none_stays;
 
 /// What stands behind what a port was found to be still stands as long as the port isn't booted anew. A boot begins it. It goes on where
 /// the adapter is the same, enough is left of the port, and its disk sends no page of IDENTIFY DEVICE, which a dead port's may.
@@ -36,7 +40,7 @@ pub fn the_device_leaves_ports()
 
 /// A server may begin with what was taken over. The adapter has each port that is served. A port that was found ready has its command
 /// list in its place, with ST set; where nothing went wrong on it in the whole taking over, it runs well; and whatever went wrong, its
-/// faults since ST was set are on record.
+/// faults since ST was set are on record. One that was found unfit or foreign shows a device, or has no disk in.
 pub fn what_was_taken_over_may_be_served()
     ensures there { (wanted : List Wanted) (host : Host) (port : ℕ) (old new : Device) → TakesOver wanted host old new → port < 4
         → found_of host.ports port ≢ Unserved → HasPort new port }
@@ -48,7 +52,13 @@ pub fn what_was_taken_over_may_be_served()
         → RunsWell (new.port port) }
     ensures recorded { (wanted : List Wanted) (host : Host) (port : ℕ) (info : DiskInfo) (old new : Device) → IsIdle old
         → TakesOver wanted host old new → found_of host.ports port ≡ Ready info → IsRecorded new.tape (new.port port) port }
-{}
+    ensures shown { (wanted : List Wanted) (host : Host) (port : ℕ) (state : PortState) (old new : Device) → IsIdle old
+        → TakesOver wanted host old new → FoundBadDisk state → found_of host.ports port ≡ Unready state
+        → HasDeviceOrNone (new.port port) }
+{
+    device_or_none_stays();
+    none_comes_in();
+}
 
 /// A port that runs well does so still after accesses of another port, where nothing goes wrong on it meanwhile.
 pub fn other_ports_run_well()

@@ -1,5 +1,6 @@
 -- The parts of a boot, one after another.
-use Rattle.std.proofs.Common.{ℕ, ◌≡◌, ◌≢◌, ◌≤◌, ◌+◌, ◌%◌, ◌||◌, Bool, true, false, inl, inr, List, length, refl, ◌∙◌, ap, arith, le_trans}
+use Rattle.std.proofs.Common.{ℕ, ◌≡◌, ◌≢◌, ◌≤◌, ◌+◌, ◌%◌, ◌||◌, Bool, true, false, inl, inr, List, length, refl, ◌∙◌, ap, arith, le_trans, sym}
+use Rattle.std.proofs.lemmas.Bool.{true≢false}
 use Rattle.std.proofs.lemmas.List.{length-append}
 use Rattle.ata_types.specs.declared.Port.{Port}
 use Rattle.ata_types.specs.declared.PortState.{PortState}
@@ -7,7 +8,6 @@ use Rattle.hba_regs.specs.declared.reg.PortReg.{PortReg}
 use Rattle.adapter.specs.Access.{Access}
 use Rattle.adapter.specs.Device.{Notes, Device}
 use Rattle.adapter.specs.declared.tape.Entry.{Entry}
-use Rattle.adapter.proofs.Absurd.{true-false}
 use Rattle.agreement.specs.Driven.{AnyUse, IsControl, IsFollowed, IsTold}
 use Rattle.agreement.specs.Driver.{AllFree}
 use Rattle.agreement.specs.Errors.{NoneComes, ChangesByDisks}
@@ -53,7 +53,7 @@ pub record HasStarted (port : Port) (old new : Device) : Type 0 where
 -- where neither is set, the second isn't
 neither_second : (a b : Bool) → a || b ≡ false → b ≡ false
 neither_second false b e = e
-neither_second true b e = true-false refl e
+neither_second true b e = absurd (true≢false e)
 
 -- ---- stretches of accesses
 

@@ -1,5 +1,6 @@
 -- PxCMD is read and written back, and read until an engine stands.
 use Rattle.std.proofs.Common.{ℕ, ◌≡◌, ◌≢◌, ◌+◌, ◌<◌, ◌≤◌, ◌&&◌, ◌||◌, not, Bool, true, false, List, [], ◌∷◌, ◌++◌, refl, sym, ◌∙◌, ap, subst, arith, lit<}
+use Rattle.std.proofs.lemmas.Bool.{true≢false}
 use Rattle.ata_types.specs.declared.Port.{Port}
 use Rattle.hba_regs.specs.Bits.{bit}
 use Rattle.hba_regs.specs.declared.reg.PortReg.TheVariants.{Cmd}
@@ -8,7 +9,6 @@ use Rattle.adapter.specs.Access.{Access, Reads, Writes, counted}
 use Rattle.adapter.specs.Access.Access.{Reading, Writing}
 use Rattle.adapter.specs.Device.{Bases, Notes, PortState, Device}
 use Rattle.adapter.specs.Rules.{MayWrite, Stays}
-use Rattle.adapter.proofs.Absurd.{true-false}
 use Rattle.adapter.proofs.Calls.{SeenAt, seen}
 use Rattle.agreement.specs.Driven.{AnyUse, IsControl, IsFollowed, IsTold}
 use Rattle.agreement.specs.Driver.{LeavesUses}
@@ -112,7 +112,7 @@ module _ (port : Port) (was v : ℕ) (old mid : Device) (u : IsUsable AnyUse por
 
     stop_leaves : (uses : Uses) → AnyUse uses → LeavesUses uses (Px port Cmd) v mid
     stop_leaves uses is = record {
-      start = λ on. true-false on zero;
+      start = λ on. absurd (true≢false (sym on ∙ zero));
       receive = λ on. let r = here.agreed.2.knows.agrees.received port.0 (sym fre_same ∙ on) in (r.below, r.area);
     }
 
@@ -149,7 +149,7 @@ module _ (port : Port) (was v : ℕ) (old mid : Device) (u : IsUsable AnyUse por
     empty_may = no_receiving_may port was v mid here.on here.there last (record { stopped = still.halted.st; fallen = still.halted.cr }) (record { start = st_zero; receive = zero; others = λ k small st fre. others k small fre })
 
     empty_leaves : (uses : Uses) → AnyUse uses → LeavesUses uses (Px port Cmd) v mid
-    empty_leaves uses is = record { start = λ on. true-false on st_zero; receive = λ on. true-false on zero }
+    empty_leaves uses is = record { start = λ on. absurd (true≢false (sym on ∙ st_zero)); receive = λ on. absurd (true≢false (sym on ∙ zero)) }
 
     module _ (new : Device) (write : Writes (Px port Cmd) v mid new) where
       pub empty_begins : IsTold (Awaits 4 14 port 0) (IsControl WritesCommand port) AnyUse old new × IsStopped (new.port port.0) × ((new.port port.0).fre ≡ false)
@@ -180,7 +180,7 @@ module _ (port : Port) (was v : ℕ) (old mid : Device) (u : IsUsable AnyUse por
         (record { start = st_same; receive = one; others = λ k small st fre. others k small fre })
 
     receive_leaves : (uses : Uses) → AnyUse uses → LeavesUses uses (Px port Cmd) v mid
-    receive_leaves uses is = record { start = λ on. true-false on (st_same ∙ stands.halted.st); receive = λ on. (here.there.0, ap (λ (b : Bases). b.fb) in_place) }
+    receive_leaves uses is = record { start = λ on. absurd (true≢false (sym on ∙ (st_same ∙ stands.halted.st))); receive = λ on. (here.there.0, ap (λ (b : Bases). b.fb) in_place) }
 
     module _ (new : Device) (write : Writes (Px port Cmd) v mid new) where
       pub receive_done : IsFollowed (IsControl WritesCommand port) AnyUse old new × ReceivesFises port.0 (new.port port.0) × SameBeside (old.port port.0) (new.port port.0)

@@ -1,5 +1,6 @@
 -- The waits for a device and until it is idle, and what clears the port's errors.
 use Rattle.std.proofs.Common.{ℕ, ◌≡◌, ◌≢◌, ◌+◌, ◌<◌, ◌≤◌, ◌%◌, ◌||◌, true, false, [], ◌∷◌, ◌++◌, inl, inr, refl, sym, ◌∙◌, ap, arith, nat_eq, if◌then◌else◌}
+use Rattle.std.proofs.lemmas.Bool.{true≢false}
 use Rattle.std.proofs.lemmas.Bool.Decides.{eqb_tells}
 use Rattle.std.proofs.lemmas.List.{length-append}
 use Rattle.std.proofs.lemmas.List.Elements.{All-nil, All-cons, All-append}
@@ -10,7 +11,6 @@ use Rattle.hba_regs.specs.declared.reg.PortReg.TheVariants.{Tfd, Sig, Ssts}
 use Rattle.hba_regs.specs.declared.reg.Reg.TheVariants.{Px}
 use Rattle.adapter.specs.Access.{Reads, counted, link_counted}
 use Rattle.adapter.specs.Access.Access.{Reading}
-use Rattle.adapter.proofs.Absurd.{true-false}
 use Rattle.adapter.proofs.Calls.{does_append}
 use Rattle.adapter.specs.Device.{Notes, PortState, Device}
 use Rattle.agreement.specs.Driven.{AnyUse, IsControl, IsFollowed}
@@ -171,7 +171,7 @@ module _ (port : Port) (start d e : Device) (v n : ℕ) (w : IsBusyStill port st
         saw = busy_saw;
         low = rw count one.0;
         high = λ _. rw count one.1;
-        stays = without_more port Tfd ShowsIdle n w.stays call (λ neither. true-false busy neither);
+        stays = without_more port Tfd ShowsIdle n w.stays call (λ neither. absurd (true≢false (sym busy ∙ neither)));
         awaits = λ h. let a = w.awaits h in (reads_awaited port.0 (Px port Tfd) v d e call a.0, reads_unflagged port.0 (Px port Tfd) v d e call a.1);
         quiet = λ _. busy_quiet;
       }

@@ -1,5 +1,6 @@
 -- What an access of a port needs, and what goes on over accesses.
 use Rattle.std.proofs.Common.{ℕ, ◌≡◌, ◌⊎◌, ◌&&◌, ◌++◌, Bool, List, [], ◌∷◌, false, inl, inr, refl, sym, ◌∙◌, ap, subst, append_assoc, append-nil}
+use Rattle.std.proofs.lemmas.Bool.{true≢false}
 use Rattle.std.proofs.lemmas.List.Elements.{All-weaker}
 use Rattle.ata_types.specs.declared.Port.{Port}
 use Rattle.hba_regs.specs.Bits.{bit}
@@ -11,7 +12,6 @@ use Rattle.adapter.specs.Access.Access.{Reading, Writing, Loading, Storing}
 use Rattle.adapter.specs.Device.{Notes, PortState, Device}
 use Rattle.adapter.specs.Kept.{KeepsPort, KeepsControls}
 use Rattle.adapter.specs.Rules.{HasPort, MayWrite, Stays}
-use Rattle.adapter.proofs.Absurd.{true-false}
 use Rattle.adapter.proofs.Calls.{SeenAt, seen, PutAt, put}
 use Rattle.agreement.specs.Driven.{AnyUse, IsAgreed, IsControl, IsFollowed, IsTold}
 use Rattle.agreement.specs.Links.{SameAdapter}
@@ -70,13 +70,13 @@ module _ (uses : Uses) (d : Device) (port : ℕ) (a : IsAgreed uses d) (st : (d.
   cleared_by (Own o) is h = (of h.stage, h.unqueued)
     where
       of : OwnWaits (d.port port) slot ⊎ (OwnTaken d.memory d.tape (d.port port) port slot h.command ⊎ OwnOver d.memory d.tape (d.port port) port slot h.command) → (d.port port).ci slot ≡ false
-      of (inl w) = true-false w.started st
+      of (inl w) = absurd (true≢false (sym w.started ∙ st))
       of (inr (inl t)) = t.issued ∙ st
       of (inr (inr x)) = x.over.issued
   cleared_by (Serves id) is h = of h.stage
     where
       of : Stage d.memory (d.port port) port slot h.pending h.command h.places → Cleared
-      of (inl w) = true-false w.started st
+      of (inl w) = absurd (true≢false (sym w.started ∙ st))
       of (inr (inl t)) = (masked _ _ t.issued, masked _ _ t.sact)
       of (inr (inr (inl x))) = (x.issued, x.sact)
       of (inr (inr (inr x))) = (x.issued, x.sact)

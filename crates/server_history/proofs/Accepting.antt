@@ -45,7 +45,7 @@ use Rattle.request_book.proofs.Giving.{still_accepted}
 use Rattle.request_book.proofs.Order.{longer_in_order}
 use Rattle.request_book.proofs.Standing.{is_of_own}
 use Rattle.request_book.proofs.Stepping.{goes_last, has_first, same_ports}
-use Rattle.driver_history.specs.Histories.{IsIssuing as IsIssuingAccess}
+use Rattle.driver_history.specs.Histories.{IssuesOn}
 use Rattle.driver_history.specs.Trace.{LeavesEngine}
 use Rattle.driver_history.proofs.Calm.{untroubled}
 use Rattle.server_history.specs.Histories.{Adds, Leads}
@@ -325,10 +325,10 @@ module _ (s : Server) (k : IsKept s) (r : Request) (acc : IsAcceptable (situatio
         (tt, fresh m was is) (tt, inr refl) (tt, λ other h i. false≢true h) tt
         (allowed, (asked, refl, refl), same_ports_are, all_issued (more s.device) (next m was is) stands)
         []
-        (refl, (row, its_row, All-nil (IsIssuingAccess row.port)))
+        (refl, (row, its_row, All-nil (IssuesOn row.port)))
         (λ other. All-nil (LeavesEngine other))
         (λ other is_ready. issues_due (more s.device) (next m was is) (reached_next m was is) stands in_order.ordered (Accept asked ∷ []) (λ p here i. absurd (false≢true i)) other)
-        (λ other healthy. record { finds = tt; faults = tt; tries = tt; boots = tt; trouble = untroubled (told_by s.device old.moment.ports) (with_device s.device old) s.device other healthy; well = λ i. absurd (uninterrupted s.device old.moment.ports other i); heeds = uninterrupted s.device old.moment.ports other })
+        (λ other healthy. record { finds = tt; faults = tt; tries = tt; boots = tt; trouble = untroubled (told_by s.device old.moment.ports) (with_device s.device old) (ports_of s.ports) s.device other healthy; well = λ i. absurd (uninterrupted s.device old.moment.ports other i); heeds = uninterrupted s.device old.moment.ports other })
         (own_backed s.device m (Accept asked) (λ no. no))
         stands
 
@@ -346,11 +346,11 @@ module _ (s : Server) (k : IsKept s) (r : Request) (acc : IsAcceptable (situatio
         (lawful_on old.moment no_evidence (ports_of s.ports) x.steps early x.only tt)
         (allowed, (asked, accepts_on x.steps early x.only, refl), same_ports_are, all_issued (more new) (after m (late ++ early)) stands)
         issues.driven.accesses
-        (issues.driven.all, (row, its_row, All-weaker (IsIssuing port) (IsIssuingAccess row.port) (λ access here. subst (λ (p : Port). IsIssuingAccess p access) (sym port_is) (issuing_is port port_low access here)) issues.driven.accesses issues.driven.only))
+        (issues.driven.all, (row, its_row, All-weaker (IsIssuing port) (IssuesOn row.port) (λ access here. subst (λ (p : Port). IssuesOn p access) (sym port_is) (issuing_is port port_low access here)) issues.driven.accesses issues.driven.only))
         (λ other. All-weaker (IsIssuing port) (LeavesEngine other) (issuing_leaves port other) issues.driven.accesses issues.driven.only)
         (λ other is_ready. issues_due (more new) (after m (late ++ early)) (reached_more m (late ++ early) was (may-append m late early (tt, fresh m was is) x.may)) stands in_order.ordered (late ++ early)
         (issued_now m x.request (x.steps ++ early) (λ other_id. none_issued other_id x.steps early x.only (λ j. false≢true j))) other)
-        (λ other healthy. record { finds = tt; faults = tt; tries = tt; boots = tt; trouble = untroubled (told_by s.device old.moment.ports) (with_device s.device old) new other healthy; well = λ i. absurd (uninterrupted s.device old.moment.ports other i); heeds = uninterrupted s.device old.moment.ports other })
+        (λ other healthy. record { finds = tt; faults = tt; tries = tt; boots = tt; trouble = untroubled (told_by s.device old.moment.ports) (with_device s.device old) (ports_of s.ports) new other healthy; well = λ i. absurd (uninterrupted s.device old.moment.ports other i); heeds = uninterrupted s.device old.moment.ports other })
         (backed_then s.device s.device new m early late (own_backed s.device m (Accept asked) (λ no. no)) x.backed)
         stands
 

@@ -21,6 +21,7 @@ use Rattle.agreement.specs.Slots.{Free, Own, Use, Uses}
 use Rattle.agreement.specs.Spares.{AllFurther, SparesBook}
 use Rattle.agreement.proofs.Idling.{idle_knows}
 use Rattle.agreement.proofs.Sparing.{steps_spare}
+use Rattle.agreement.specs.Links.{HasDeviceOrNone}
 use Rattle.block_machine.specs.Histories.{IsReached}
 use Rattle.block_machine.specs.Left.{after, IsStart}
 use Rattle.block_machine.specs.Ports.{AreFit}
@@ -28,7 +29,7 @@ use Rattle.block_machine.specs.State.{Disk, Machine, Pending}
 use Rattle.block_machine.specs.Rules.{DifferInName}
 use Rattle.block_machine.proofs.HistoryLemmas.{reached_more}
 use Rattle.dma_frames.specs.Table.{owner_of}
-use Rattle.host_boot.specs.Taken.{IsLeft, StandsBehind, TakesOver, found_of, wanted_of}
+use Rattle.host_boot.specs.Taken.{FoundBadDisk, IsLeft, StandsBehind, TakesOver, found_of, wanted_of}
 use Rattle.host_boot.specs.declared.Found.{Found}
 use Rattle.host_boot.specs.declared.Found.TheVariants.{Unserved, Ready, Unready}
 use Rattle.host_boot.specs.declared.Host.{Host}
@@ -43,7 +44,10 @@ use Rattle.request_book.specs.Machine.{IsBook}
 use Rattle.request_book.specs.declared.book.Accepted.{Accepted}
 use Rattle.driver_history.specs.Holds.{Runs}
 use Rattle.agreement.specs.Facts.{IsRecorded, RunsWell, Undisturbed}
+use Rattle.agreement.proofs.Present.{access_shown}
+use Rattle.agreement.proofs.Vacated.{device_shown}
 use Rattle.host_boot.proofs.Beginning.{taken_faults, taken_runs}
+use Rattle.host_boot.proofs.Showing.{taken_shown}
 use Rattle.server_history.proofs.Unused.{ready_found}
 use Rattle.identify.specs.declared.DiskInfo.{DiskInfo}
 use Rattle.server_history.proofs.Standing.{holds_with, slots}
@@ -216,6 +220,11 @@ module _ (s : Server) (host : Host) (d : Device) (is : IsIdle d) (told : TellsDi
       (λ (high : 4 ≤ port). absurd (false≢true (sym (ap is_served (found_is port ∙ none_past host.ports port (let l = n.four in omega (arith, l, high)))) ∙ served)))
       (cases_lt port 4)
 
+  shown_as : (port : ℕ) (f : Found) → found_of s.ports port ≡ f → FoundBadDisk (state_of f) → HasDeviceOrNone (s.device.port port)
+  shown_as port Unserved e bad = absurd bad
+  shown_as port (Ready info) e bad = absurd bad
+  shown_as port (Unready state) e bad = taken_shown access_shown device_shown (port_at port) state host.ports d s.device is bad (sym (found_is port) ∙ e) taken.way
+
   running : (port : ℕ) → port < 4 → state_of (found_of s.ports port) ≡ ReadyState → Runs port s.device × ((slot : ℕ) → (s.device.port port).sact slot ≡ false)
   running port below =
       ready_runs (wanted_of s.wanted port) (found_of s.ports port) port s.device (behind port below) (λ info found. taken_faults s.wanted host port d s.device taken info is (sym (found_is port) ∙ found))
@@ -225,6 +234,7 @@ module _ (s : Server) (host : Host) (d : Device) (is : IsIdle d) (told : TellsDi
     behind = boots_begin (wanted_of s.wanted port) (found_of s.ports port) port s.device (behind port below);
     runs = λ ready. (running port below ready).0;
     unqueued = λ ready. (running port below ready).1;
+    shown = shown_as port (found_of s.ports port) refl;
   }
 
   uses_are : AreUsesOf s taken.uses

@@ -20,7 +20,7 @@ use Rattle.agreement.specs.Driven.{IsDrivenBy}
 use Rattle.agreement.specs.Facts.{RunsWell, Undisturbed}
 use Rattle.agreement.proofs.Driven.{by_none}
 use Rattle.command_table.specs.Written.{IsTableStore}
-use Rattle.driver_history.specs.Histories.{IsIssuing as IsIssuingAccess}
+use Rattle.driver_history.specs.Histories.{IssuesOn}
 use Rattle.driver_history.specs.Trace.{IsDriversOwn, IsOfPorts, IsServing, LeavesCommand, LeavesEngine, ReadsMasks}
 use Rattle.server_history.specs.Served.{Checks, HasTurn}
 use Rattle.transfers.specs.Looks.{LooksAt}
@@ -49,7 +49,7 @@ table_own : (port at : ℕ) (bytes : List ℕ) → port < 4 → IsTableStore por
 table_own port at bytes low (inl h) = omega (arith, low, h.0, h.1)
 table_own port at bytes low (inr h) = omega (arith, low, h.0, h.1)
 
-pub issuing_is : (port : Port) → port.0 < 4 → (access : Access) → IsIssuing port access → IsIssuingAccess port access
+pub issuing_is : (port : Port) → port.0 < 4 → (access : Access) → IsIssuing port access → IssuesOn port access
 issuing_is port low (Writing r v) here = inr here.0
 issuing_is port low (Storing at bytes) here = table_own port.0 at bytes low here
 issuing_is port low (Reading r v) here = absurd here

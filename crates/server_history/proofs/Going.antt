@@ -26,7 +26,7 @@ use Rattle.host_boot.specs.Taken.{found_of}
 use Rattle.request_book.specs.Entries.{IsAccepted, IsInOrder}
 use Rattle.request_book.specs.Machine.{IsBook, IsEntry}
 use Rattle.request_book.specs.declared.book.Accepted.{Accepted}
-use Rattle.driver_history.specs.Guard.{StaysHealthy}
+use Rattle.driver_history.specs.Evidence.{StaysHealthy}
 use Rattle.driver_history.specs.Histories.{Begins, CameBy, Issues, Ties, TiesPort}
 use Rattle.driver_history.specs.Trace.{LeavesEngine}
 use Rattle.driver_history.proofs.Instants.{history_fit, ready_low}

@@ -22,7 +22,7 @@ use Rattle.transfers.specs.Services.{IsService}
 use Rattle.transfers.proofs.Serving.{services_controls, services_inactive}
 use Rattle.server_history.specs.Server.{IsPortOf, IsUseOf, state_of}
 use Rattle.server_history.proofs.Behind.{left_on, ready_on}
-use Rattle.server_history.proofs.Running.{runs_on}
+use Rattle.server_history.proofs.Running.{runs_on, shown_on}
 
 -- ---- loads and stores
 
@@ -72,6 +72,7 @@ port_on wanted found port old new same on by left silent is =
       behind = behind (found_of found port) left silent is.behind;
       runs = λ ready. runs_on (port_at port) old new on by (is.runs ready);
       unqueued = λ ready slot. services_inactive port slot old new by (is.unqueued ready slot);
+      shown = λ bad. shown_on (port_at port) old new on by (is.shown bad);
     }
   where
     behind : (f : Found) → (state_of f ≢ ReadyState → LeavesPort (old.port port) (new.port port)) → (f ≢ Unready Dead → SendsNone port Identify old new)

@@ -12,9 +12,10 @@ use Rattle.adapter.specs.Device.{Notes, PortState, Device}
 use Rattle.adapter.specs.Rules.{IsOn}
 use Rattle.block_machine.proofs.Keeps.{same_port}
 use Rattle.agreement.specs.Driven.{IsDrivenBy}
-use Rattle.agreement.specs.Links.{LeavesControls}
+use Rattle.agreement.specs.Links.{HasDeviceOrNone, LeavesControls}
 use Rattle.agreement.proofs.Linking.{access_controls}
 use Rattle.agreement.proofs.Noting.{access_notes, notes_read}
+use Rattle.agreement.proofs.Present.{access_shown}
 use Rattle.agreement.specs.Noted.{SparesReading}
 use Rattle.port_control.specs.Ports.{programmed}
 use Rattle.transfers.specs.Services.{IsService}
@@ -75,6 +76,12 @@ each port access old new on is does h =
       bases = (λ i. record { clb = list.0 i; fb = received.0 i; clb_set = list.1 i; clbu_set = list_upper i; fb_set = received.1 i; fbu_set = received_upper i }) ∙ h.bases;
       saw = link_still port access old new on is does h.saw;
     }
+
+-- a device shows still, or none is in
+pub shown_on : (port : Port) (old new : Device) → IsOn old → IsDrivenBy IsService old new → HasDeviceOrNone (old.port port.0) → HasDeviceOrNone (new.port port.0)
+shown_on port old new on driven =
+    (services_keep (λ x y. HasDeviceOrNone (x.port port.0) → HasDeviceOrNone (y.port port.0)) (λ d h. h) (λ x y z p q h. q (p h))
+    (λ access x y ready is does. access_shown port access x y ready.no_reset (spares_port port Sctl (λ e. cc) (λ e. cc) access is) does) old new on driven).0
 
 pub runs_on : (port : Port) (old new : Device) → IsOn old → IsDrivenBy IsService old new → Runs port.0 old → Runs port.0 new
 runs_on port old new on driven r = record {

@@ -57,8 +57,8 @@ use Rattle.request_book.specs.declared.book.Accepted.{Accepted}
 use Rattle.request_book.proofs.Due.{none_due}
 use Rattle.request_book.proofs.Standing.{at_right, first_is}
 use Rattle.request_book.proofs.Stepping.{Stands as StandsIn, same_some}
-use Rattle.driver_history.specs.Guard.{StaysHealthy}
-use Rattle.driver_history.specs.Histories.{Begins, FindsDone, HasBadDisk, IsAnsweredOk, IsIssuedOn, ServesPort as ServesPortOf, Ties, TiesPort}
+use Rattle.driver_history.specs.Evidence.{StaysHealthy}
+use Rattle.driver_history.specs.Histories.{Begins, FindsDone, HasBadDisk, IsAnsweredOk, IsIssuedOn, TendsPort, Ties, TiesPort}
 use Rattle.driver_history.specs.Trace.{IsServing, LeavesCommand, ReadsMasks}
 use Rattle.driver_history.proofs.Calm.{untroubled}
 use Rattle.server_history.specs.Histories.{Adds, Leads}
@@ -153,7 +153,7 @@ module _ (s : Server) (kept : IsKept s) (old : Moment) (reached : IsReached old.
   record Progress (n : ℕ) (c : Server) (replies : List Reply) : Type 0 where
     holds : IsKept c
     same : SameSettings s c
-    driven : IsDrivenBy (IsTurn (ServesPortOf (ports_of s.ports))) s.device c.device
+    driven : IsDrivenBy (IsTurn (TendsPort (ports_of s.ports))) s.device c.device
     steps : List Step
     turns : AreTurns old (ports_of s.ports) n n steps
     stands : IsMachineOf c (after old.machine steps)
@@ -171,7 +171,7 @@ module _ (s : Server) (kept : IsKept s) (old : Moment) (reached : IsReached old.
   begun = record {
     holds = kept;
     same = refl;
-    driven = by_none (IsTurn (ServesPortOf (ports_of s.ports))) s.device;
+    driven = by_none (IsTurn (TendsPort (ports_of s.ports))) s.device;
     steps = [];
     turns = no_turns old (ports_of s.ports);
     stands = at;
@@ -242,8 +242,8 @@ module _ (s : Server) (kept : IsKept s) (old : Moment) (reached : IsReached old.
     abbrev m : Machine
     m = after old.machine p.steps
 
-    its_served : ServesPortOf (ports_of s.ports) (port_at n)
-    its_served = ap is_served found_is
+    its_served : TendsPort (ports_of s.ports) (port_at n)
+    its_served = (ap is_served found_is, λ dead. let z : ReadyState ≡ Dead = sym (ap state_of found_is) ∙ dead in absurd cc)
 
     m_reached : IsReached m
     m_reached = reached_more old.machine p.steps reached p.turns.may
@@ -302,14 +302,14 @@ module _ (s : Server) (kept : IsKept s) (old : Moment) (reached : IsReached old.
         (Contains-append_cases b.2 (Answer b.1 Ok ∷ b.3) (Answer e o) (subst (λ (steps : List Step). Contains steps (Answer e o)) b.9 here))
 
     module _ (reply : Option Reply) (serves : ServesPort (port_at n) reply c mid) where
-      turn_is : TurnList (ServesPortOf (ports_of s.ports)) (port_at n) its_served (has_of (port_at n) c.book) reply c.device mid.device serves.turn
-      turn_is = turn_list (ServesPortOf (ports_of s.ports)) (port_at n) its_served low (has_of (port_at n) c.book) reply c.device mid.device serves.turn
+      turn_is : TurnList (TendsPort (ports_of s.ports)) (port_at n) its_served (has_of (port_at n) c.book) reply c.device mid.device serves.turn
+      turn_is = turn_list (TendsPort (ports_of s.ports)) (port_at n) its_served low (has_of (port_at n) c.book) reply c.device mid.device serves.turn
 
       through : IsDrivenBy IsService c.device mid.device
-      through = driven_as (IsTurn (ServesPortOf (ports_of s.ports))) IsService c.device mid.device (λ access is. is.0) turn_is.driven
+      through = driven_as (IsTurn (TendsPort (ports_of s.ports))) IsService c.device mid.device (λ access is. is.0) turn_is.driven
 
       so_far : IsDrivenBy IsService s.device c.device
-      so_far = driven_as (IsTurn (ServesPortOf (ports_of s.ports))) IsService s.device c.device (λ access is. is.0) p.driven
+      so_far = driven_as (IsTurn (TendsPort (ports_of s.ports))) IsService s.device c.device (λ access is. is.0) p.driven
 
       -- what goes well in both went well so far, and since
       well_parts : (q : Port) → StaysHealthy q.0 s.device mid.device → StaysHealthy q.0 s.device c.device × (RunsWell (c.device.port q.0) × Undisturbed q.0 c.device mid.device)
@@ -342,7 +342,7 @@ module _ (s : Server) (kept : IsKept s) (old : Moment) (reached : IsReached old.
         driven = record {
           accesses = p.driven.accesses ++ turn_is.driven.accesses;
           all = does_append p.driven.accesses turn_is.driven.accesses s.device c.device mid.device p.driven.all turn_is.driven.all;
-          only = All-append (IsTurn (ServesPortOf (ports_of s.ports))) p.driven.accesses turn_is.driven.accesses p.driven.only turn_is.driven.only;
+          only = All-append (IsTurn (TendsPort (ports_of s.ports))) p.driven.accesses turn_is.driven.accesses p.driven.only turn_is.driven.only;
         };
         steps = all;
         turns = turns;
@@ -466,7 +466,7 @@ module _ (s : Server) (kept : IsKept s) (old : Moment) (reached : IsReached old.
           here = ap (λ (late : List Access). p.driven.accesses ++ late) checks.1.here
               ∙ sym (append_assoc p.driven.accesses checks.1.before (Reading (Px (port_at n) Ci) k.reads.issued ∷ Reading (Px (port_at n) Sact) k.reads.active ∷ checks.1.later));
           running = All-append (LeavesCommand (port_at n)) p.driven.accesses checks.1.before
-              (λ i d small. (turn_leaves (ServesPortOf (ports_of s.ports)) (port_at n) _ (p.driven.only i d small)).0) checks.1.running;
+              (λ i d small. (turn_leaves (TendsPort (ports_of s.ports)) (port_at n) _ (p.driven.only i d small)).0) checks.1.running;
         };
         exact = λ other slot own says. ⊎_elim
             (λ (zero_is : slot ≡ 0). subst (λ (i : ℕ). IsAnsweredOk other (all reply serves) ↔ AreClear i) (sym zero_is) (at_head other own))
@@ -731,7 +731,7 @@ module _ (s new : Server) (replies : List Reply) (kept : IsKept s) (serves : Ser
           trouble),
       inl (ports_same old.ports (ports_of s.ports) same port),
     );
-    trouble = untroubled (told_by s.device old.ports) (with_device s.device (now first past)) new.device port well;
+    trouble = untroubled (told_by s.device old.ports) (with_device s.device (now first past)) (ports_of s.ports) new.device port well;
     well = λ i. absurd (uninterrupted s.device old.ports port i);
     heeds = λ ready. serves_told s.device old.ports old end p.steps port well.well (heeds port well ready);
   }
@@ -754,8 +754,8 @@ module _ (s new : Server) (replies : List Reply) (kept : IsKept s) (serves : Ser
       (lead_by first past s later Service (Served replies) p.steps refl refl leads holds
       p.turns.may p.turns.belong p.turns.last p.turns.lawful all_answered
       p.driven.accesses
-      (p.driven.all, subst (λ (ports : Ports). All (IsServing (ServesPortOf ports)) p.driven.accesses) (sym same) (λ i d small. turn_serving (ServesPortOf (ports_of s.ports)) _ (p.driven.only i d small)))
-      (λ port i d small. turn_leaves (ServesPortOf (ports_of s.ports)) port _ (p.driven.only i d small))
+      (p.driven.all, subst (λ (ports : Ports). All (IsServing (TendsPort ports)) p.driven.accesses) (sym same) (λ i d small. turn_serving (TendsPort (ports_of s.ports)) _ (p.driven.only i d small)))
+      (λ port i d small. turn_leaves (TendsPort (ports_of s.ports)) port _ (p.driven.only i d small))
       (λ port ready. issues_due later (after old.machine p.steps) (reached_more old.machine p.steps reached p.turns.may) stands holds.ordered.ordered p.steps issued_still port)
       port_part
       p.backed stands)

@@ -13,6 +13,7 @@ use Rattle.adapter.specs.Commands.{is_queued}
 use Rattle.adapter.specs.Device.{Device}
 use Rattle.agreement.specs.Acts.{InSlots}
 use Rattle.agreement.specs.Facts.{RunsWell}
+use Rattle.agreement.specs.Links.{HasDeviceOrNone}
 use Rattle.agreement.specs.Slots.{Free, Serves, ServesRequest, Stage, IsServed, Use}
 use Rattle.block_machine.specs.Due.{is_plain}
 use Rattle.block_machine.specs.Histories.{Instant, IsReached}
@@ -21,7 +22,7 @@ use Rattle.block_machine.specs.Steps.{NoneKept}
 use Rattle.block_machine.proofs.Members.{contains_none}
 use Rattle.block_machine.proofs.Standing.{standing}
 use Rattle.driver_history.specs.Holds.{HasNothing, HasRequests, HoldsOf, HoldsWith, IsClients, IsOfKind, NoneWaits, Runs, ServesIn}
-use Rattle.host_boot.specs.Taken.{IsServed as IsServedPort, StillStandsBehind, found_of, wanted_of}
+use Rattle.host_boot.specs.Taken.{FoundBadDisk, IsServed as IsServedPort, StillStandsBehind, found_of, wanted_of}
 use Rattle.host_boot.specs.declared.Found.{Found}
 use Rattle.host_boot.specs.declared.Found.TheVariants.{Unserved, Ready, Unready}
 use Rattle.identify.specs.declared.DiskInfo.{DiskInfo}
@@ -122,6 +123,9 @@ module _ (s : Server) (k : IsKept s) (m : Machine) (reached : IsReached m) (is :
         alone = λ slot e serves plain. (head slot e.request.id serves.serves, λ other ne. is.used.others port.0 other ne);
       }
 
+    shown_as : (f : Found) → found_of s.ports port.0 ≡ f → FoundBadDisk (state_of f) → HasDeviceOrNone (s.device.port port.0)
+    shown_as f e bad = (k.behind port.0 low).shown (subst (λ (x : Found). FoundBadDisk (state_of x)) (sym e) bad)
+
     of : (f : Found) → found_of s.ports port.0 ≡ f → StillStandsBehind (wanted_of s.wanted port.0) f port.0 s.device → (state_of f ≡ ReadyState → Runs port.0 s.device)
         → (state_of f ≡ ReadyState → (slot : ℕ) → (s.device.port port.0).sact slot ≡ false) → HoldsOf (wanted_of s.wanted port.0) slots instant port (is_served f) (state_of f)
     of Unserved e behind runs unqueued = record {
@@ -144,6 +148,7 @@ module _ (s : Server) (k : IsKept s) (m : Machine) (reached : IsReached m) (is :
     of (Unready Absent) e behind runs unqueued = record {
       on = k.on;
       ends = behind.1;
+      shown = λ bad. absurd bad;
       slots = nothing (used_as (Unready Absent) e);
       waits = none_waits port (λ ready. let z : Absent ≡ ReadyState = sym (ap state_of e) ∙ ready in absurd cc);
       kept = none_kept port;
@@ -151,6 +156,7 @@ module _ (s : Server) (k : IsKept s) (m : Machine) (reached : IsReached m) (is :
     of (Unready Foreign) e behind runs unqueued = record {
       on = k.on;
       ends = behind.1;
+      shown = λ bad. shown_as (Unready Foreign) e bad;
       slots = nothing (used_as (Unready Foreign) e);
       waits = none_waits port (λ ready. let z : Foreign ≡ ReadyState = sym (ap state_of e) ∙ ready in absurd cc);
       kept = none_kept port;
@@ -158,6 +164,7 @@ module _ (s : Server) (k : IsKept s) (m : Machine) (reached : IsReached m) (is :
     of (Unready (Unfit n)) e behind runs unqueued = record {
       on = k.on;
       ends = behind.1;
+      shown = λ bad. shown_as (Unready (Unfit n)) e bad;
       slots = nothing (used_as (Unready (Unfit n)) e);
       waits = none_waits port (λ ready. let z : Unfit n ≡ ReadyState = sym (ap state_of e) ∙ ready in absurd cc);
       kept = none_kept port;

@@ -13,6 +13,7 @@ use Rattle.adapter.specs.declared.command.Operation.TheVariants.{Identify}
 use Rattle.agreement.specs.Agrees.{port_at}
 use Rattle.agreement.specs.Driven.{known}
 use Rattle.agreement.specs.Driver.{Knows}
+use Rattle.agreement.specs.Links.{HasDeviceOrNone}
 use Rattle.agreement.specs.Slots.{Free, Own, Serves, Use, Uses}
 use Rattle.block_machine.specs.Histories.{IsReached}
 use Rattle.block_machine.specs.Left.{IsRow}
@@ -22,7 +23,7 @@ use Rattle.block_machine.specs.Rules.{DifferInName}
 use Rattle.block_machine.specs.State.{Machine}
 use Rattle.block_machine.specs.declared.due.Mode.{Mode}
 use Rattle.dma_frames.specs.Table.{Table, owner_of, lent_to}
-use Rattle.host_boot.specs.Taken.{StillStandsBehind, found_of, wanted_of}
+use Rattle.host_boot.specs.Taken.{FoundBadDisk, StillStandsBehind, found_of, wanted_of}
 use Rattle.host_boot.specs.declared.Found.{Found}
 use Rattle.host_boot.specs.declared.Found.TheVariants.{Unserved, Ready, Unready}
 use Rattle.host_boot.specs.declared.Host.{Host}
@@ -141,14 +142,17 @@ abbrev pub OwnsClientFrames : Table → ℕ → Type 0
 OwnsClientFrames table size = (frame : Frame) (client : ClientId) → owner_of table frame ≡ Some client
     → (DRIVER_FRAMES ≤ frame.0) × (FRAME_BYTES * frame.0 + FRAME_BYTES ≤ size)
 
--- What stands behind each port, as it was found; and a ready one runs, with no bit of PxSACT.
+-- What stands behind each port, as it was found; a ready one runs, with no bit of PxSACT; and one with a disk that isn't served shows a device, or has
+-- none in.
 pub record IsPortOf (wanted : List Wanted) (found : List Found) (port : ℕ) (d : Device) : Type 0 where
   pub behind : StillStandsBehind (wanted_of wanted port) (found_of found port) port d
   pub runs : state_of (found_of found port) ≡ ReadyState → Runs port d
   pub unqueued : state_of (found_of found port) ≡ ReadyState → (slot : ℕ) → (d.port port).sact slot ≡ false
+  pub shown : FoundBadDisk (state_of (found_of found port)) → HasDeviceOrNone (d.port port)
 
--- The adapter is on and has the memory of the driver and of the clients, and each port that is served; grants are for reads and writes;
--- requests are as they were accepted, in order, and of ready ports; and some machine that a history leads to stands for the server.
+-- The adapter is on and has the memory of the driver and of the clients, and each port that is served; each port is as it was found, and runs if
+-- that was ready; grants are for reads and writes; requests are as they were accepted, in order, and of ready ports; and some machine that a
+-- history leads to stands for the server.
 pub record IsKept (s : Server) : Type 0 where
   pub on : IsOn s.device
   pub room : DRIVER_BYTES ≤ s.device.size

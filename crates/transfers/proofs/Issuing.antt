@@ -1,6 +1,6 @@
 -- A transfer's header and table are written, and then its bit of PxCI.
 use Rattle.std.proofs.Common.{ℕ, ◌≡◌, ◌+◌, ◌^◌, ◌<◌, ◌≤◌, ◌++◌, ◌||◌, Bool, true, false, not, List, ◌∷◌, length, None, Some, slice_index, inl, inr, refl, sym, ◌∙◌, ap, subst, ⊎_elim, arith, lit<}
-use Rattle.std.proofs.lemmas.Bool.{cases_eq, cond-true}
+use Rattle.std.proofs.lemmas.Bool.{cases_eq, cond-true, true≢false}
 use Rattle.std.proofs.lemmas.List.FromFn.{length-map-range_with_len, get_or-map-range_with_len}
 use Rattle.std.specs.List.{All}
 use Rattle.ata_types.specs.declared.Port.{Port}
@@ -20,7 +20,6 @@ use Rattle.adapter.specs.Says.{Says, pieces, IsWhole}
 use Rattle.adapter.specs.Steps.{Steps}
 use Rattle.adapter.specs.declared.command.Command.{Command}
 use Rattle.adapter.specs.declared.command.Prd.{Prd}
-use Rattle.adapter.proofs.Absurd.{true-false}
 use Rattle.adapter.proofs.Calls.{KeepsAll, PutAt, put, on_after, steps_keep_all}
 use Rattle.adapter.proofs.SaysLemmas.{says_meaning}
 use Rattle.block_machine.specs.Due.{is_plain}
@@ -88,7 +87,7 @@ table_for : (r : Transfer) → IsIssuable r → (command : Command) (prds : List
 table_for r is command prds fields whole places = record {
   meaning = record {
     ranged = λ _. (is.some, let few = is.few in omega (arith, few), is.first);
-    not_ranged = λ h. true-false (of_transfer (λ (o : Op). is_ranged (operation_of o) ≡ true) refl refl r.op is.transfers) h;
+    not_ranged = λ h. absurd (true≢false (sym (of_transfer (λ (o : Op). is_ranged (operation_of o) ≡ true) refl refl r.op is.transfers) ∙ h));
   };
   fields = fields;
   whole = whole;
@@ -185,7 +184,7 @@ module _ (port : Port) (r : Transfer) (old mid : Device) (transfers : IsTransfer
 
   -- bit 0 alone is written
   only_bit : (slot : ℕ) → bit 1 slot ≡ true → slot ≡ 0
-  only_bit slot set = ⊎_elim (λ (e : slot ≡ 0). e) (λ (other : slot ≡ 0 → ⊥). true-false set (bit_one_other slot other)) (cases_eq slot 0)
+  only_bit slot set = ⊎_elim (λ (e : slot ≡ 0). e) (λ (other : slot ≡ 0 → ⊥). absurd (true≢false (sym set ∙ (bit_one_other slot other)))) (cases_eq slot 0)
 
   pub issue_permitted : Stays (MayWrite (Px port Ci) 1) mid
   issue_permitted later steps =
@@ -208,7 +207,7 @@ module _ (port : Port) (r : Transfer) (old mid : Device) (transfers : IsTransfer
           queued = λ slot m places set says queued.
               let P : ℕ → Type 0 = λ n. Says later.memory (later.port port.0).bases.clb n m places in
               let same : m ≡ meaning_of r = says_meaning later.memory (later.port port.0).bases.clb 0 m (meaning_of r) places (places_of r.frames r.count) (subst P (only_bit slot set) says) here.says in
-              true-false queued (ap (λ (w : Meaning). is_queued w.operation) same ∙ never_queued r.op);
+              absurd (true≢false (sym queued ∙ (ap (λ (w : Meaning). is_queued w.operation) same ∙ never_queued r.op)));
         },
       )
 

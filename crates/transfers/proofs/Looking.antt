@@ -1,6 +1,6 @@
 -- The accesses of a look.
 use Rattle.std.proofs.Common.{ℕ, ◌≡◌, ◌≢◌, ◌<◌, ◌^◌, true, false, ◌==◌, inl, inr, refl, sym, ◌∙◌, ap, subst}
-use Rattle.std.proofs.lemmas.Bool.{cases_eq, cases_lt}
+use Rattle.std.proofs.lemmas.Bool.{cases_eq, cases_lt, true≢false}
 use Rattle.std.proofs.lemmas.Nat.Bits.{bit_at-zero, bit_at_above}
 use Rattle.ata_types.specs.declared.Port.{Port}
 use Rattle.hba_regs.specs.Bits.{bit}
@@ -11,7 +11,6 @@ use Rattle.adapter.specs.Access.{Reads, Writes}
 use Rattle.adapter.specs.Access.Access.{Writing}
 use Rattle.adapter.specs.Device.{Notes, PortState, Device}
 use Rattle.adapter.specs.Rules.{IsOn, HasPort, MayWrite, Stays}
-use Rattle.adapter.proofs.Absurd.{true-false}
 use Rattle.adapter.proofs.Calls.{SeenAt, seen, PutAt, put, on_after, steps_keep_all}
 use Rattle.agreement.specs.Driven.{AnyUse, IsBitOf, IsFollowed}
 use Rattle.agreement.proofs.Driven.{followed_then, followed_read, followed_write}
@@ -62,7 +61,7 @@ module _ (port : Port) (d0 d1 : Device) (causes : ℕ) (on : IsOn d0) (there : H
             | inl e ↦
                 let P : ℕ → Type 0 = λ p. (mid.port p).notes.acknowledged ≡ true in
                 subst P (sym e) (ap (λ (n : Notes). n.acknowledged) (notes_stay port.0 d2 mid steps) ∙ ap (λ (p : PortState). p.notes.acknowledged) two.here)
-            | inr other ↦ true-false set (alone.alone q other)
+            | inr other ↦ absurd (true≢false (sym set ∙ (alone.alone q other)))
           ],
     )
 

@@ -1,16 +1,16 @@
 use Rattle.std.proofs.Common.{Bool, true, false, ◌≡◌, ◌&&◌, not, refl, sym, ◌∙◌, ap}
-use Rattle.adapter.proofs.Absurd.{true-false}
+use Rattle.std.proofs.lemmas.Bool.{true≢false}
 use Rattle.transfers.proofs.Finding.{read_there, finding_on, finding_followed, issued_clear, active_clear, transfer_found}
 use Rattle.transfers.proofs.is_done.Goals as goal
 
 -- where one bit is set, both aren't clear; where it is clear, the other decides
 still_set : (b other : Bool) → b ≡ true → false ≡ not b && not other
 still_set true other set = refl
-still_set false other set = true-false refl (sym set)
+still_set false other set = absurd (true≢false (sym set))
 
 clear : (b other : Bool) → b ≡ false → not other ≡ not b && not other
 clear false other is = refl
-clear true other is = true-false refl is
+clear true other is = absurd (true≢false is)
 
 pub read-active-requires : goal.read-active-requires
 read-active-requires g c = read_there c.args.port _ _ _ c.read-issued.ensures c.requires.on c.requires.there
@@ -20,7 +20,7 @@ returns-then-is_set-clause-on g c = finding_on c.args.port _ _ _ _ _ c.read-issu
 
 pub returns-then-is_set-clause-finds : goal.returns-then-is_set-clause-finds
 returns-then-is_set-clause-finds g c = λ started.
-    transfer_found c.args.port _ _ _ _ _ c.read-issued.ensures c.read-active.ensures c.requires.on false started (λ done. true-false done refl)
+    transfer_found c.args.port _ _ _ _ _ c.read-issued.ensures c.read-active.ensures c.requires.on false started (λ done. absurd (true≢false (sym done)))
 
 pub returns-then-is_set-clause-reads : goal.returns-then-is_set-clause-reads
 returns-then-is_set-clause-reads g c = record {
@@ -34,7 +34,7 @@ returns-then-is_set-clause-reads g c = record {
 
 pub returns-then-is_set-clause-seen : goal.returns-then-is_set-clause-seen
 returns-then-is_set-clause-seen g c = λ issued active.
-    true-false (sym c.is_set.ensures ∙ c.if-is_set.true) (issued_clear c.args.port _ _ _ _ _ c.read-issued.ensures c.read-active.ensures c.requires.on issued)
+    absurd (true≢false (sym (sym c.is_set.ensures ∙ c.if-is_set.true) ∙ (issued_clear c.args.port _ _ _ _ _ c.read-issued.ensures c.read-active.ensures c.requires.on issued)))
 
 pub returns-then-is_set-clause-followed : goal.returns-then-is_set-clause-followed
 returns-then-is_set-clause-followed g c = finding_followed c.args.port _ _ _ _ _ c.read-issued.ensures c.read-active.ensures
@@ -51,7 +51,7 @@ returns-clause-finds g c = λ started.
   where
     not_true : (b : Bool) → not b ≡ true → b ≡ false
     not_true false h = refl
-    not_true true h = true-false h refl
+    not_true true h = absurd (true≢false (sym h))
 
 pub returns-clause-reads : goal.returns-clause-reads
 returns-clause-reads g c = record {

@@ -1,4 +1,6 @@
+use Rattle.agreement.specs.Agrees.{port_at}
 use Rattle.host_boot.proofs.Beginning.{taken_there, taken_faults, taken_ready, taken_runs}
+use Rattle.host_boot.proofs.Showing.{taken_shown}
 use Rattle.host_boot.proofs.laws.what_was_taken_over_may_be_served.Goals as goal
 
 pub returns-clause-there : goal.returns-clause-there
@@ -12,3 +14,6 @@ returns-clause-well c = λ wanted host port info old new idle taken. taken_runs 
 
 pub returns-clause-recorded : goal.returns-clause-recorded
 returns-clause-recorded c = λ wanted host port info old new idle taken. taken_faults wanted host port old new taken info idle
+
+pub returns-clause-shown : goal.returns-clause-shown
+returns-clause-shown c = λ wanted host port state old new idle taken bad is. taken_shown c.device_or_none_stays.ensures.access c.none_comes_in.ensures.shown (port_at port) state host.ports old new idle bad is taken.way

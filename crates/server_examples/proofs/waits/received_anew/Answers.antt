@@ -11,7 +11,7 @@ use Rattle.server_examples.proofs.waits.received_anew.Goals as goal
 
 pub receive-requires-clause-there : goal.receive-requires-clause-there
 receive-requires-clause-there g c =
-    let same = same_over (IsControl WritesCommand (record { 0 = 0 })) _ _ c.stop.ensures.followed.driven in
+    let same = same_over (IsControl WritesCommand (record { 0 = 0 })) _ _ c.in-Ok.ensures.halts.told.followed.driven in
     let none : Ready c.in-Ready.field-0 ≡ Unserved → ⊥ = λ e. absurd cc in
     let there = taken_there _ _ 0 _ _ c.take_over-host.ensures.taken (omega arith) (λ e. none (sym c.in-Ready.is ∙ e)) in
     subst (λ (p : Port). HasPort (g.A.Adapter.device c.stop.new.adapter) p.0) (sym c.in-Ok.ensures.names) (there.0, ap (λ (pi : ℕ). bit pi 0) same.pi ∙ there.1)
@@ -19,11 +19,11 @@ receive-requires-clause-there g c =
 pub receive-requires-clause-agreed : goal.receive-requires-clause-agreed
 receive-requires-clause-agreed g c =
     let taken = c.take_over-host.ensures.taken in
-    (taken.uses, tt, agreeing_goes_on WritesCommand AnyUse (record { 0 = 0 }) taken.uses _ _ tt c.stop.ensures.followed taken.agreed)
+    (taken.uses, tt, agreeing_goes_on WritesCommand AnyUse (record { 0 = 0 }) taken.uses _ _ tt c.in-Ok.ensures.halts.told.followed taken.agreed)
 
 pub receive-requires-clause-room : goal.receive-requires-clause-room
 receive-requires-clause-room g c =
-    let same = (same_over (IsControl WritesCommand (record { 0 = 0 })) _ _ c.stop.ensures.followed.driven).size in
+    let same = (same_over (IsControl WritesCommand (record { 0 = 0 })) _ _ c.in-Ok.ensures.halts.told.followed.driven).size in
     let taken = c.take_over-host.ensures.taken.same.size in
     let room = c.requires.room in
     omega (arith, room, same, taken)

@@ -1,8 +1,8 @@
 use Rattle.std.proofs.Common.{ℕ, ◌≡◌, ◌≢◌, ◌+◌, ◌<◌, ◌≤◌, refl, sym, ◌∙◌, subst, arith}
+use Rattle.std.proofs.lemmas.Bool.{true≢false}
 use Rattle.ata_types.specs.declared.refusal.Refusal.TheVariants.{Rule, PortNotReady, OutsideDisk, ClientFull, IdsSpent}
 use Rattle.ata_types.specs.declared.refusal.Rule.TheVariants.{NoGrant}
 use Rattle.ata_types.specs.declared.request.Op.TheVariants.{Flush}
-use Rattle.adapter.proofs.Absurd.{true-false}
 use Rattle.block_machine.specs.Refusals.{IsAcceptable, IsFirstRefusal}
 use Rattle.block_server.specs.Calls.{IsFor}
 use Rattle.block_server.specs.Seen.{seen}
@@ -45,7 +45,7 @@ returns-then-unanswered-ge-CLIENT_PLACES-clause-refused g c =
     subst (λ (v : ServerView g.row.A.Denot). IsFirstRefusal (situation_of (server_of g.A.Adapter.device v)) c.args.r.now ClientFull) c.self.view_is
     (refusing.client_full (server_of g.A.Adapter.device (seen c.self.inside)) c.self.invariant.rows c.args.r.now (rw c.deref.ensures at c.in_default.ensures.ok) c.in-Some.row c.row.result c.in-Some.is
     (λ other its. (c.row.ensures other).1 its) ((c.row.ensures c.in-Some.row).0 c.in-Some.is) (sym (subst (λ (v : ServerView g.row.A.Denot). c.state-state.result ≡ state_of (found_of v.ports c.in-Some.row.port.0)) (sym c.self.view_is) c.state-state.ensures.state) ∙ c.in-Ready.is)
-    (λ leaves. true-false (c.leaves_disk.ensures.1 (subst (λ (n : ℕ). (c.args.r.now.op ≢ Flush) × (n < c.args.r.now.first.0 + c.args.r.now.count)) (sym (subst (λ (v : ServerView g.row.A.Denot). c.sectors.result ≡ sectors_of (found_of v.ports c.in-Some.row.port.0)) (sym c.self.view_is) c.sectors.ensures)) leaves)) c.if-leaves_disk.false)
+    (λ leaves. absurd (true≢false (sym (c.leaves_disk.ensures.1 (subst (λ (n : ℕ). (c.args.r.now.op ≢ Flush) × (n < c.args.r.now.first.0 + c.args.r.now.count)) (sym (subst (λ (v : ServerView g.row.A.Denot). c.sectors.result ≡ sectors_of (found_of v.ports c.in-Some.row.port.0)) (sym c.self.view_is) c.sectors.ensures)) leaves)) ∙ c.if-leaves_disk.false)))
     (let P : ℕ → Type 0 = λ n. 16 ≤ n in subst P c.unanswered.ensures c.if-unanswered-ge-CLIENT_PLACES.true))
 
 pub returns-then-self-ge18446744073709551615-clause-refused : goal.returns-then-self-ge18446744073709551615-clause-refused
@@ -53,7 +53,7 @@ returns-then-self-ge18446744073709551615-clause-refused g c =
     subst (λ (v : ServerView g.row.A.Denot). IsFirstRefusal (situation_of (server_of g.A.Adapter.device v)) c.args.r.now IdsSpent) c.self.view_is
     (refusing.ids_spent (server_of g.A.Adapter.device (seen c.self.inside)) c.self.invariant.rows c.args.r.now (rw c.deref.ensures at c.in_default.ensures.ok) c.in-Some.row c.row.result c.in-Some.is
     (λ other its. (c.row.ensures other).1 its) ((c.row.ensures c.in-Some.row).0 c.in-Some.is) (sym (subst (λ (v : ServerView g.row.A.Denot). c.state-state.result ≡ state_of (found_of v.ports c.in-Some.row.port.0)) (sym c.self.view_is) c.state-state.ensures.state) ∙ c.in-Ready.is)
-    (λ leaves. true-false (c.leaves_disk.ensures.1 (subst (λ (n : ℕ). (c.args.r.now.op ≢ Flush) × (n < c.args.r.now.first.0 + c.args.r.now.count)) (sym (subst (λ (v : ServerView g.row.A.Denot). c.sectors.result ≡ sectors_of (found_of v.ports c.in-Some.row.port.0)) (sym c.self.view_is) c.sectors.ensures)) leaves)) c.if-leaves_disk.false)
+    (λ leaves. absurd (true≢false (sym (c.leaves_disk.ensures.1 (subst (λ (n : ℕ). (c.args.r.now.op ≢ Flush) × (n < c.args.r.now.first.0 + c.args.r.now.count)) (sym (subst (λ (v : ServerView g.row.A.Denot). c.sectors.result ≡ sectors_of (found_of v.ports c.in-Some.row.port.0)) (sym c.self.view_is) c.sectors.ensures)) leaves)) ∙ c.if-leaves_disk.false)))
     (let P : ℕ → Type 0 = λ n. n < 16 in subst P c.unanswered.ensures c.if-unanswered-ge-CLIENT_PLACES.false)
     (let h = c.if-self-ge18446744073709551615.true in omega (arith, h)))
 
@@ -62,7 +62,7 @@ returns-clause-admitted g c =
     subst (λ (v : ServerView g.row.A.Denot). IsAcceptable (situation_of (server_of g.A.Adapter.device v)) c.args.r.now × IsFor v.grants c.args.r.now c.in-Some.row.port) c.self.view_is (
       refusing.none_applies (server_of g.A.Adapter.device (seen c.self.inside)) c.self.invariant.rows c.args.r.now (rw c.deref.ensures at c.in_default.ensures.ok) c.in-Some.row c.row.result c.in-Some.is
           (λ other its. (c.row.ensures other).1 its) ((c.row.ensures c.in-Some.row).0 c.in-Some.is) (sym (subst (λ (v : ServerView g.row.A.Denot). c.state-state.result ≡ state_of (found_of v.ports c.in-Some.row.port.0)) (sym c.self.view_is) c.state-state.ensures.state) ∙ c.in-Ready.is)
-          (λ leaves. true-false (c.leaves_disk.ensures.1 (subst (λ (n : ℕ). (c.args.r.now.op ≢ Flush) × (n < c.args.r.now.first.0 + c.args.r.now.count)) (sym (subst (λ (v : ServerView g.row.A.Denot). c.sectors.result ≡ sectors_of (found_of v.ports c.in-Some.row.port.0)) (sym c.self.view_is) c.sectors.ensures)) leaves)) c.if-leaves_disk.false)
+          (λ leaves. absurd (true≢false (sym (c.leaves_disk.ensures.1 (subst (λ (n : ℕ). (c.args.r.now.op ≢ Flush) × (n < c.args.r.now.first.0 + c.args.r.now.count)) (sym (subst (λ (v : ServerView g.row.A.Denot). c.sectors.result ≡ sectors_of (found_of v.ports c.in-Some.row.port.0)) (sym c.self.view_is) c.sectors.ensures)) leaves)) ∙ c.if-leaves_disk.false)))
           (let P : ℕ → Type 0 = λ n. n < 16 in subst P c.unanswered.ensures c.if-unanswered-ge-CLIENT_PLACES.false)
           (let h = c.if-self-ge18446744073709551615.false in omega (arith, h)),
       (c.in-Some.row, (c.row.ensures c.in-Some.row).0 c.in-Some.is, refl),
