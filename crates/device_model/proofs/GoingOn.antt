@@ -12,7 +12,7 @@ use Rattle.device_model.specs.Bits.{bits_of}
 use Rattle.device_model.specs.Held.{IsPortHeld, IsPortLoose}
 use Rattle.device_model.specs.Sent.{SendsEnd, SendsRegisters, signature_of}
 use Rattle.device_model.proofs.Posting.{end_rest}
-use Rattle.device_model.specs.Settled.{DoesOwn, GoesTo, IsSettled, IsSettledPort}
+use Rattle.device_model.specs.Settled.{LeadsOwn, Settles, GoesTo, IsSettled, IsSettledPort}
 use Rattle.device_model.specs.View.{Media, port_of, blank}
 use Rattle.device_model.specs.declared.port.PortModel.{PortModel}
 use Rattle.device_model.proofs.NewModel.{zero_bit}
@@ -35,12 +35,12 @@ with_twice d port a b =
     ]))
 
 pub goes_nowhere : (p : PortState) → GoesTo p p
-goes_nowhere p held d port loose is = let P : Device → Type 0 = λ x. DoesOwn held d x in subst P (sym (with_same d port p is)) (own_none held d)
+goes_nowhere p held d port loose is = let P : Device → Type 0 = λ x. LeadsOwn (Settles held) d x in subst P (sym (with_same d port p is)) (own_none (Settles held) d)
 
 pub goes_on : (a b c : PortState) → GoesTo a b → GoesTo b c → GoesTo a c
 goes_on a b c first then held d port loose is =
-    let P : Device → Type 0 = λ x. DoesOwn held (with_port d port b) x in
-    own_on held d (with_port d port b) (with_port d port c) (first held d port loose is)
+    let P : Device → Type 0 = λ x. LeadsOwn (Settles held) (with_port d port b) x in
+    own_on (Settles held) d (with_port d port b) (with_port d port c) (first held d port loose is)
     (subst P (with_twice d port b c) (then held (with_port d port b) port loose (changed_same d.port port b)))
 
 abbrev fallen : PortState → PortState
@@ -48,7 +48,7 @@ fallen p = record p { cr = false; taken = λ _. None }
 
 pub goes_fallen : (old new : PortState) → old.st ≡ false → old.cr ≡ true → new ≡ fallen old → GoesTo old new
 goes_fallen old new st cr is held d port loose here =
-    own_one held (Fall port) d _ loose (ap (λ (p : PortState). p.st) here ∙ st, ap (λ (p : PortState). p.cr) here ∙ cr)
+    own_one (Settles held) (Fall port) d _ (loose, tt) (ap (λ (p : PortState). p.st) here ∙ st, ap (λ (p : PortState). p.cr) here ∙ cr)
     (ap (λ (p : PortState). with_port d port p) (is ∙ ap fallen (sym here)))
 
 abbrev area_fallen : PortState → PortState
@@ -56,17 +56,17 @@ area_fallen p = record p { fr = false }
 
 pub goes_area_fallen : (old new : PortState) → old.fre ≡ false → old.cr ≡ false → old.fr ≡ true → new ≡ area_fallen old → GoesTo old new
 goes_area_fallen old new fre cr fr is held d port loose here =
-    own_one held (FrFall port) d _ loose
+    own_one (Settles held) (FrFall port) d _ (loose, tt)
     (ap (λ (p : PortState). p.fre) here ∙ fre, ap (λ (p : PortState). p.cr) here ∙ cr, ap (λ (p : PortState). p.fr) here ∙ fr)
     (ap (λ (p : PortState). with_port d port p) (is ∙ ap area_fallen (sym here)))
 
 -- the link of a port in this state comes up, and the disk's first FIS is sent
 pub own_linked : (held : List Bool) (d linked new : Device) (port : ℕ) (p : PortState) → IsPortLoose held port → d.port port ≡ p → MayLinkUp p 0x101 →
-    linked ≡ with_port d port (with_link p 0x101 true) → SendsRegisters port (signature_of (linked.port port)) linked new → DoesOwn held d new
+    linked ≡ with_port d port (with_link p 0x101 true) → SendsRegisters port (signature_of (linked.port port)) linked new → LeadsOwn (Settles held) d new
 own_linked held d linked new port p loose here may is sends =
     let P : Device → Type 0 = λ x. SendsRegisters port (signature_of (x.port port)) x new in
     let same : linked ≡ with_port d port (with_link (d.port port) 0x101 true) = is ∙ ap (λ (x : PortState). with_port d port (with_link x 0x101 true)) (sym here) in
-    own_one held (LinkUp port 0x101 true) d new (loose, refl, refl) (subst (λ (x : PortState). MayLinkUp x 0x101) (sym here) may) (subst P same sends)
+    own_one (Settles held) (LinkUp port 0x101 true) d new ((loose, refl, refl), tt) (subst (λ (x : PortState). MayLinkUp x 0x101) (sym here) may) (subst P same sends)
 
 -- a port is settled after its link may have come up, where CR and FR had fallen before
 pub linked_settled : (settled was linked : PortModel) (m : Media) → was ≡ settled → (settled.st ≡ false → settled.cr ≡ true → false ≡ true) →

@@ -16,27 +16,27 @@ use Rattle.adapter.proofs.Runs.{Steps-one, Steps-refl, Steps-trans}
 use Rattle.adapter.specs.Steps.Step.{Fetch, FetchFault, Move, Clear, Done, Fault, Fatal, Fall, FrFall, LinkUp, Unplug, Plug, ResetEnds, Scribble}
 use Rattle.device_model.specs.Held.{IsPortHeld, IsPortLoose}
 use Rattle.device_model.specs.Sent.{SendsAfter, SendsEnd}
-use Rattle.device_model.specs.Settled.{DoesOwn, EndsReset, IsOwn, LeadsSending}
+use Rattle.device_model.specs.Settled.{DoesOwn, EndsReset, Identifies, IsOwn, LeadsOwn, LeadsSending}
 use Rattle.device_model.proofs.Posting.{after_rest, after_steps, end_rest}
 
-pub own_none : (held : List Bool) (d : Device) → DoesOwn held d d
-own_none held d = record { steps = []; own = All-nil (IsOwn held); lead = refl }
+pub own_none : (Own : Step → Type 0) (d : Device) → LeadsOwn Own d d
+own_none Own d = record { steps = []; own = All-nil Own; lead = refl }
 
 all_one : {X : Type 0} (P : X → Type 0) (x : X) → P x → All P (x ∷ [])
 all_one P x here zero d small = here
 all_one P x here (suc k) d small = absurd (omega (arith, small))
 
-pub own_one : (held : List Bool) (step : Step) (old new : Device) → IsOwn held step → Can step old → SendsAfter step (after step old) new → DoesOwn held old new
-own_one held step old new own can sends = record { steps = step ∷ []; own = all_one (IsOwn held) step own; lead = (can, new, sends, refl) }
+pub own_one : (Own : Step → Type 0) (step : Step) (old new : Device) → Own step → Can step old → SendsAfter step (after step old) new → LeadsOwn Own old new
+own_one Own step old new own can sends = record { steps = step ∷ []; own = all_one Own step own; lead = (can, new, sends, refl) }
 
 leads_on : (first more : List Step) (old mid new : Device) → LeadsSending first old mid → LeadsSending more mid new → LeadsSending (first ++ more) old new
 leads_on [] more old mid new e rest = let P : Device → Type 0 = λ d. LeadsSending more d new in subst P e rest
 leads_on (step ∷ steps) more old mid new (can, next, sends, lead) rest = (can, next, sends, leads_on steps more next mid new lead rest)
 
-pub own_on : (held : List Bool) (old mid new : Device) → DoesOwn held old mid → DoesOwn held mid new → DoesOwn held old new
-own_on held old mid new a b = record {
+pub own_on : (Own : Step → Type 0) (old mid new : Device) → LeadsOwn Own old mid → LeadsOwn Own mid new → LeadsOwn Own old new
+own_on Own old mid new a b = record {
   steps = a.steps ++ b.steps;
-  own = All-append (IsOwn held) a.steps b.steps a.own b.own;
+  own = All-append Own a.steps b.steps a.own b.own;
   lead = leads_on a.steps b.steps old mid new a.lead b.lead;
 }
 
@@ -45,8 +45,8 @@ leads_steps [] old new e = let P : Device → Type 0 = λ d. Steps old d in subs
 leads_steps (step ∷ steps) old new (can, next, sends, lead) =
     Steps-trans (Steps-one step old (after step old) can refl) (Steps-trans (after_steps step (after step old) next sends) (leads_steps steps next new lead))
 
-pub own_steps : (held : List Bool) (old new : Device) → DoesOwn held old new → Steps old new
-own_steps held old new d = leads_steps d.steps old new d.lead
+pub own_steps : (Own : Step → Type 0) (old new : Device) → LeadsOwn Own old new → Steps old new
+own_steps Own old new d = leads_steps d.steps old new d.lead
 
 pub reset_steps : (was held : List Bool) (old new : Device) → EndsReset was held old new → Steps old new
 reset_steps was held old new (inl stays) = record { steps = []; lead = stays.2 }
@@ -95,11 +95,11 @@ module _ (P : Operation → List ℕ → Type 0) (is_page : (o : Operation) (pla
         fetched = λ m places can. some-none stands can.fetchable.free;
       }
 
-  own_by_one : (old new : Device) → DoesOne SendsEnd port slot old new → IsOnly P old port slot → DoesOwn held old new × IsOnly P new port slot
+  own_by_one : (old new : Device) → DoesOne SendsEnd port slot old new → IsOnly P old port slot → LeadsOwn (Identifies held) old new × IsOnly P new port slot
   own_by_one old new (inl f) only =
       let holds = only.fetched f.meaning f.places f.can in
       let p : PortState = with_fetch (old.port port) slot f.meaning f.places in (
-        own_one held (Fetch port slot f.meaning f.places) old new (loose, is_page _ _ holds) f.can f.effect,
+        own_one (Identifies held) (Fetch port slot f.meaning f.places) old new ((loose, is_page _ _ holds), tt) f.can f.effect,
         only_with new p (begun f.meaning f.places) (ap (λ (d : Device). d.port port) f.effect ∙ changed_same old.port port p)
             (changed_same (old.port port).taken slot (Some (begun f.meaning f.places))) holds,
       )
@@ -107,7 +107,7 @@ module _ (P : Operation → List ℕ → Type 0) (is_page : (o : Operation) (pla
       let holds = only.taken m.t m.can.works.taken in
       let p : PortState = with_move (old.port port) slot m.t m.bytes in
       let u : Taken = record m.t { moved = m.t.moved + 1; block = block_after m.t.meaning.operation m.bytes m.t.block } in (
-        own_one held (Move port slot m.t m.bytes) old new (loose, is_page _ _ holds) m.can m.effect,
+        own_one (Identifies held) (Move port slot m.t m.bytes) old new ((loose, is_page _ _ holds), tt) m.can m.effect,
         only_with new p u (ap (λ (d : Device). d.port port) m.effect ∙ changed_same old.port port p) (changed_same (old.port port).taken slot (Some u)) holds,
       )
   own_by_one old new (inr (inr e)) only =
@@ -124,22 +124,22 @@ module _ (P : Operation → List ℕ → Type 0) (is_page : (o : Operation) (pla
       ap (λ (x : PortState). x.ci slot) there
       ∙ (ap (λ (b : Bool). (if b then (old.port port).ci else changed (old.port port).ci slot false) slot) (ap is_queued identifies)
       ∙ changed_same (old.port port).ci slot false) in (
-        own_one held (Done port slot e.done.flag t) old new (loose, identifies) e.done.can (subst Sends e.done.effect e.posts),
+        own_one (Identifies held) (Done port slot e.done.flag t) old new ((loose, identifies), tt) e.done.can (subst Sends e.done.effect e.posts),
         record { taken = λ t is. some-none is none; fetched = λ m places can. true-false can.fetchable.issued clear },
       )
 
-  pub own_by_some : (n : ℕ) (old new : Device) → DoesSome SendsEnd n port slot old new → IsOnly P old port slot → DoesOwn held old new × IsOnly P new port slot
+  pub own_by_some : (n : ℕ) (old new : Device) → DoesSome SendsEnd n port slot old new → IsOnly P old port slot → LeadsOwn (Identifies held) old new × IsOnly P new port slot
   own_by_some zero old new e only =
-      let Q : Device → Type 0 = λ d. DoesOwn held old d × IsOnly P d port slot in
-      subst Q (sym e) (own_none held old, only)
+      let Q : Device → Type 0 = λ d. LeadsOwn (Identifies held) old d × IsOnly P d port slot in
+      subst Q (sym e) (own_none (Identifies held) old, only)
   own_by_some (suc n) old new s only =
       let first = own_by_some n old s.0 s.1 only in
       let last = own_by_one s.0 new s.2 first.1 in
-      (own_on held old s.0 new first.0 last.0, last.1)
+      (own_on (Identifies held) old s.0 new first.0 last.0, last.1)
 
   -- a command went on, or didn't
   pub own_gone : (did : Bool) (old new : Device) → (did ≡ true → GoesOn SendsEnd port slot old new) → (did ≡ false → new ≡ old) → IsOnly P old port slot →
-      DoesOwn held old new × IsOnly P new port slot
+      LeadsOwn (Identifies held) old new × IsOnly P new port slot
   own_gone true old new went same only = let g = went refl in own_by_some (suc g.0) old new g.1 only
   own_gone false old new went same only = own_by_some zero old new (same refl) only
 
@@ -166,8 +166,13 @@ module _ (held : List Bool) (port : ℕ) (is : IsPortHeld held port) where
   one_stays ResetEnds d own = absurd own
   one_stays (Scribble q slot at bytes) d own = absurd own
 
-  pub held_stays : (steps : List Step) (old new : Device) → All (IsOwn held) steps → LeadsSending steps old new → new.port port ≡ old.port port
+  held_stays : (steps : List Step) (old new : Device) → All (IsOwn held) steps → LeadsSending steps old new → new.port port ≡ old.port port
   held_stays [] old new own e = ap (λ (d : Device). d.port port) e
   held_stays (step ∷ steps) old new own (can, next, sends, lead) =
       held_stays steps next new (λ k d small. own (suc k) d (omega (arith, small))) lead
       ∙ (ap (λ (d : Device). d.port port) (after_rest step (after step old) next sends) ∙ one_stays step old (own 0 step (omega arith)))
+
+  pub own_stays : (old new : Device) → DoesOwn held old new → new.port port ≡ old.port port
+  own_stays old new d =
+      held_stays d.identifies.steps d.settled new (λ k e small. (d.identifies.own k e small).0) d.identifies.lead
+      ∙ held_stays d.settles.steps old d.settled (λ k e small. (d.settles.own k e small).0) d.settles.lead

@@ -15,7 +15,7 @@ use Rattle.hba_regs.specs.declared.reg.Reg.TheVariants.{Cap, Ghc, Is, Pi, Vs, Ca
 use Rattle.device_model.specs.Fetched.{bytes_of}
 use Rattle.device_model.specs.Held.{IsPortHeld, IsPortLoose}
 use Rattle.device_model.specs.Sent.{SendsRegisters, signature_of}
-use Rattle.device_model.specs.Settled.{DoesOwn, GoesTo, IsSettled}
+use Rattle.device_model.specs.Settled.{LeadsOwn, Settles, GoesTo, IsSettled}
 use Rattle.device_model.specs.View.{Media, port_of, blank}
 use Rattle.device_model.specs.Whole.{Outside, device_of, HasRegister}
 use Rattle.device_model.specs.declared.port.PortModel.{PortModel}
@@ -80,9 +80,9 @@ has_port_write Bohc v d may = tt
 -- one port that isn't held did what it does by itself
 pub port_settles : (h : Hardware) (o : Outside) (p : ℕ) (new : PortModel) (held : List Bool) → p < length h.ports → IsPortLoose held p →
     GoesTo (port_of (slice_index_or h.ports p blank) (o.media p)) (port_of new (o.media p)) →
-    DoesOwn held (device_of h o) (device_of (record h { ports = slice_set h.ports p new }) o)
+    LeadsOwn (Settles held) (device_of h o) (device_of (record h { ports = slice_set h.ports p new }) o)
 port_settles h o p new held small loose goes =
-    let P : Device → Type 0 = λ d. DoesOwn held (device_of h o) d in
+    let P : Device → Type 0 = λ d. LeadsOwn (Settles held) (device_of h o) d in
     subst P (sym (set_port h o p new _ small refl)) (goes held (device_of h o) p loose refl)
 
 -- its link came up, and the disk's first FIS was sent
@@ -90,7 +90,7 @@ pub port_links : (h : Hardware) (o : Outside) (p : ℕ) (linked : PortModel) (he
     MayLinkUp (port_of (slice_index_or h.ports p blank) (o.media p)) 0x101 →
     port_of linked (o.media p) ≡ with_link (port_of (slice_index_or h.ports p blank) (o.media p)) 0x101 true →
     SendsRegisters p (signature_of ((device_of (record h { ports = slice_set h.ports p linked }) o).port p)) (device_of (record h { ports = slice_set h.ports p linked }) o) new →
-    DoesOwn held (device_of h o) new
+    LeadsOwn (Settles held) (device_of h o) new
 port_links h o p linked held new small loose may is sends =
     own_linked held (device_of h o) (device_of (record h { ports = slice_set h.ports p linked }) o) new p (port_of (slice_index_or h.ports p blank) (o.media p)) loose refl may
     (set_port h o p linked _ small is) sends

@@ -20,16 +20,44 @@ IsOwn held (Move port slot t bytes) = IsPortLoose held port × (t.meaning.operat
 IsOwn held (Done port slot flag t) = IsPortLoose held port × (t.meaning.operation ≡ Identify)
 IsOwn held step = ⊥
 
+-- CR or FR falls, or the link comes up
+abbrev pub IsSettling : Step → Type 0
+IsSettling (Fall port) = Unit {0}
+IsSettling (FrFall port) = Unit {0}
+IsSettling (LinkUp port sig n) = Unit {0}
+IsSettling step = ⊥
+
+-- IDENTIFY DEVICE is taken, moved or ended
+abbrev pub IsIdentifying : Step → Type 0
+IsIdentifying (Fetch port slot meaning places) = Unit {0}
+IsIdentifying (Move port slot t bytes) = Unit {0}
+IsIdentifying (Done port slot flag t) = Unit {0}
+IsIdentifying step = ⊥
+
+-- such a step of the model's own
+abbrev pub Settles : List Bool → Step → Type 0
+Settles held step = IsOwn held step × IsSettling step
+
+-- or such a one
+abbrev pub Identifies : List Bool → Step → Type 0
+Identifies held step = IsOwn held step × IsIdentifying step
+
 -- steps one after another, each with the FIS that is sent after it
 abbrev pub LeadsSending : List Step → Device → Device → Type 0
 LeadsSending [] old new = new ≡ old
 LeadsSending (step ∷ steps) old new = Can step old × (mid : Device) × SendsAfter step (after step old) mid × LeadsSending steps mid new
 
 -- such steps with their FISes, and no others, lead from the one state to the other
-pub record DoesOwn (held : List Bool) (old new : Device) : Type 0 where
+pub record LeadsOwn (Own : Step → Type 0) (old new : Device) : Type 0 where
   pub steps : List Step
-  pub own : All (IsOwn held) steps
+  pub own : All Own steps
   pub lead : LeadsSending steps old new
+
+-- What the model does by itself: first the ports settle, and then IDENTIFY DEVICE goes on. So no command is ended that falls with CR.
+pub record DoesOwn (held : List Bool) (old new : Device) : Type 0 where
+  pub settled : Device
+  pub settles : LeadsOwn (Settles held) old settled
+  pub identifies : LeadsOwn (Identifies held) settled new
 
 -- A pending reset ends, and ends all holds, unless all ports are held.
 abbrev pub EndsReset : List Bool → List Bool → Device → Device → Type 0
@@ -38,7 +66,7 @@ EndsReset was held old new =
 
 -- in each device, and on each port that isn't held, such steps lead from the one state of the port to the other, and change nothing else
 abbrev pub GoesTo : PortState → PortState → Type 0
-GoesTo old new = (held : List Bool) (d : Device) (port : ℕ) → IsPortLoose held port → d.port port ≡ old → DoesOwn held d (with_port d port new)
+GoesTo old new = (held : List Bool) (d : Device) (port : ℕ) → IsPortLoose held port → d.port port ≡ old → LeadsOwn (Settles held) d (with_port d port new)
 
 -- CR and FR have fallen where ST and FRE are zero, and no link is left that may come up
 pub record IsSettledPort (p : PortState) : Type 0 where

@@ -7,7 +7,7 @@ ghost use Rattle.adapter.specs.Steps.{after, with_reset};
 ghost use Rattle.adapter.specs.Steps.Step.{ResetEnds};
 ghost use Rattle.hba_regs.specs.Bits.{bit};
 ghost use Rattle.device_model.specs.Held.{IsPortLoose, all_held};
-ghost use Rattle.device_model.specs.Settled.{DoesOwn, EndsReset, IsSettled, IsSettledPort};
+ghost use Rattle.device_model.specs.Settled.{EndsReset, IsSettled, IsSettledPort, LeadsOwn, Settles};
 ghost use Rattle.device_model.specs.View.{Media, port_of, blank};
 ghost use Rattle.device_model.specs.Whole.{Outside, device_of, HasRegister};
 
@@ -190,7 +190,7 @@ impl Hardware {
     /// What one port does by itself: CR and FR fall where they may, and the link comes up, with the disk's first FIS.
     fn settle_port(&mut self, port: usize)
         requires { port < 4 }
-        ensures own { (o : Outside) (held : List Bool) → IsPortLoose held port → DoesOwn held (device_of self.old o) (device_of self.new o) }
+        ensures own { (o : Outside) (held : List Bool) → IsPortLoose held port → LeadsOwn (Settles held) (device_of self.old o) (device_of self.new o) }
         ensures settled { (o : Outside) → IsSettledPort ((device_of self.new o).port port) }
         ensures others { (o : Outside) (q : ℕ) → q ≢ port → (device_of self.new o).port q ≡ (device_of self.old o).port q }
         ensures number { length self.new.ports ≡ length self.old.ports }
@@ -207,7 +207,7 @@ impl Hardware {
     /// What the adapter does by itself before a register is read: a pending reset ends unless all ports are held, and ends all holds;
     /// then each port that isn't held does what it does by itself. Afterwards none of this is possible any more.
     pub fn settle(&mut self, held: &mut [bool; PORTS])
-        ensures own { (o : Outside) → (reset : Device) × EndsReset held.old held.new (device_of self.old o) reset × DoesOwn held.new reset (device_of self.new o) }
+        ensures own { (o : Outside) → (reset : Device) × EndsReset held.old held.new (device_of self.old o) reset × LeadsOwn (Settles held.new) reset (device_of self.new o) }
         ensures settled { (o : Outside) → IsSettled held.new (device_of self.new o) }
         ensures tape { self.new.tape ≡ self.old.tape }
         ensures starved { self.new.starved ≡ self.old.starved }

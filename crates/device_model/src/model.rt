@@ -19,7 +19,7 @@ ghost use Rattle.device_model.specs.Does.{AnswersStep, GoesOnSo};
 ghost use Rattle.device_model.specs.Tells.{disks_told};
 ghost use Rattle.device_model.specs.Queue.{BeginsAccess, DoesRead, DoesThen};
 ghost use Rattle.device_model.specs.Modelled.{device_at, cap_of, IsNewModel};
-ghost use Rattle.device_model.specs.Settled.{DoesOwn, IsSettled, LeavesOne, NoneIsLeft};
+ghost use Rattle.device_model.specs.Settled.{Identifies, IsSettled, LeadsOwn, LeavesOne, NoneIsLeft};
 ghost use Rattle.device_model.specs.View.{Takes, operation_of};
 
 use crate::config::{ModelConfig, NoMemory};
@@ -293,7 +293,7 @@ impl<S: SectorStore> Model<S> {
     fn take_identify(&mut self, slot: u8)
         requires small { slot < 32 }
         requires there { MayIdentify (device_at S.size S.told self.old) slot ⊎ HasIdentify (device_at S.size S.told self.old) slot }
-        ensures own { (held : List Bool) → IsPortLoose held 0 → DoesOwn held (device_at S.size S.told self.old) (device_at S.size S.told self.new) }
+        ensures own { (held : List Bool) → IsPortLoose held 0 → LeadsOwn (Identifies held) (device_at S.size S.told self.old) (device_at S.size S.told self.new) }
         ensures settled { (held : List Bool) → IsSettled held (device_at S.size S.told self.old) → IsSettled held (device_at S.size S.told self.new) }
         ensures none { (other : ℕ) → MayIdentify (device_at S.size S.told self.new) other → ⊥ }
         ensures stuck { MayIdentify (device_at S.size S.told self.old) slot → (other : ℕ) → HasIdentify (device_at S.size S.told self.new) other →
@@ -312,7 +312,7 @@ impl<S: SectorStore> Model<S> {
     /// stand where another's bytes are, so they are looked for anew after each. One that can't be done to its end, or for which the tape has no memory,
     /// is taken, and no more; the others wait for it.
     fn identify(&mut self)
-        ensures own { DoesOwn self.old.held (device_at S.size S.told self.old) (device_at S.size S.told self.new) }
+        ensures own { LeadsOwn (Identifies self.old.held) (device_at S.size S.told self.old) (device_at S.size S.told self.new) }
         ensures settled { (held : List Bool) → IsSettled held (device_at S.size S.told self.old) → IsSettled held (device_at S.size S.told self.new) }
         ensures left { NoneIsLeft self.new.held self.new.hardware.starved (device_at S.size S.told self.new) }
         ensures rest { GoesOnSo S.size S.failures self.old self.new }

@@ -60,10 +60,9 @@ IsOnAndTells d = IsOn d × (d.ie ≡ true)
 
 -- What was done in a call. A device step is the device's own, with no access. A client's bytes are stored, or loaded, by one access. For a
 -- request that is accepted requests of its port are issued, if any. A service, a tick and a reset make accesses: what the driver stores and
--- loads in them lies in its own frames, and of ports' registers they use those of served ports alone: a service of
--- those that aren't dead, and a tick of hung ports. Neither a
--- service nor a tick writes GHC. A reset that ends leaves the adapter on; of one that doesn't, no more is seen than that. Each other call makes
--- none, a refused one among them.
+-- loads in them lies in its own frames, and of ports' registers they use those of served ports alone, a service of those that aren't dead, and a
+-- tick of those that are hung. Neither a service nor a tick writes GHC. A reset that ends leaves the adapter on; of one that doesn't, no more is
+-- seen than that. Each other call makes none, a refused one among them.
 abbrev pub CameBy : Moment → Ask DeviceStep → Said → List Access → Device → Device → Type 0
 CameBy now (Told step) (Stepped true) accesses old new = (accesses ≡ []) × Asked step old new
 CameBy now (Submit r) (Submitted (Ok id)) accesses old new =

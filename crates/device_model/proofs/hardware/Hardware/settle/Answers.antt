@@ -5,7 +5,7 @@ use Rattle.std.proofs.lemmas.List.{get_or_past}
 use Rattle.adapter.specs.Device.{PortState}
 use Rattle.adapter.proofs.Absurd.{true-false}
 use Rattle.device_model.proofs.Own.{own_none, own_on}
-use Rattle.device_model.specs.Settled.{IsSettledPort}
+use Rattle.device_model.specs.Settled.{Settles, IsSettledPort}
 use Rattle.device_model.specs.View.{port_of, blank}
 use Rattle.device_model.specs.Whole.{device_of}
 use Rattle.device_model.specs.declared.port.PortModel.{PortModel}
@@ -17,7 +17,7 @@ pub loop-port-init : goal.loop-port-init
 loop-port-init c =
     let r = c.end_reset_unless_held.ensures in
     let four : length c.args.self.now.ports ≡ 4 = search rules in record {
-      own = λ o. own_none c.end_reset_unless_held.new.held (device_of c.end_reset_unless_held.new.self o);
+      own = λ o. own_none (Settles c.end_reset_unless_held.new.held) (device_of c.end_reset_unless_held.new.self o);
       settled = λ o q small free. absurd (omega (arith, small));
       number = r.number ∙ four;
       left = r.left;
@@ -33,7 +33,7 @@ loop-port-preserved c =
           let s = w.settle_port.ensures in
           rw w.self-is
           (record {
-            own = λ o. own_on c.end_reset_unless_held.new.held _ _ _ (is.own o) (s.own o c.end_reset_unless_held.new.held (search rules));
+            own = λ o. own_on (Settles c.end_reset_unless_held.new.held) _ _ _ (is.own o) (s.own o c.end_reset_unless_held.new.held (search rules));
             settled = λ o q small free.
                 elim (eqb_tells q c.loop-port.port) [
                   | inl same ↦ let P : ℕ → Type 0 = λ k. IsSettledPort ((device_of w.settle_port.new.self o).port k) in subst P (sym same.1) (s.settled o)

@@ -1,7 +1,7 @@
 use Rattle.std.proofs.Common.{rules, ℕ, ◌<◌, ◌∙◌, List, length, slice_index_or, sym, ap, subst, get_or-set_same, get_or-set_other}
 use Rattle.std.specs.Prelude.{slice_set}
 use Rattle.adapter.specs.Device.{Device}
-use Rattle.device_model.specs.Settled.{DoesOwn, IsSettledPort}
+use Rattle.device_model.specs.Settled.{LeadsOwn, Settles, IsSettledPort}
 use Rattle.device_model.specs.View.{port_of, blank}
 use Rattle.device_model.specs.Whole.{device_of}
 use Rattle.device_model.specs.declared.hardware.Hardware.{Hardware}
@@ -19,7 +19,7 @@ returns-then-link-clause-own c = λ o held loose.
     let small : p < length h.ports = search rules in
     let still : p < length mid.ports = search rules in
     let up = c.link.ensures.up c.if-link.true (o.media p) in
-    own_on held (device_of h o) (device_of mid o) _ (port_settles h o p c.settle.new.self held small loose (c.settle.ensures.does (o.media p)))
+    own_on (Settles held) (device_of h o) (device_of mid o) _ (port_settles h o p c.settle.new.self held small loose (c.settle.ensures.does (o.media p)))
     (port_links mid o p c.link.new.self held _ still loose up.0 up.1 (c.send_signature.ensures.sent o))
 
 pub returns-else-link-clause-own : goal.returns-else-link-clause-own
@@ -29,7 +29,7 @@ returns-else-link-clause-own c = λ o held loose.
     let mid : Hardware = record h { ports = slice_set h.ports p c.settle.new.self } in
     let small : p < length h.ports = search rules in
     let still : p < length mid.ports = search rules in
-    let P : Device → Type 0 = λ d. DoesOwn held (device_of h o) d in
+    let P : Device → Type 0 = λ d. LeadsOwn (Settles held) (device_of h o) d in
     subst P (sym (port_same mid o p c.link.new.self still (c.link.ensures.same c.if-link.false)))
     (port_settles h o p c.settle.new.self held small loose (c.settle.ensures.does (o.media p)))
 

@@ -2,6 +2,7 @@ use Rattle.std.proofs.Common.{ℕ, rules, true, false, ◌≡◌, ◌∙◌, sli
 use Rattle.adapter.specs.Asked.{GoesOn}
 use Rattle.adapter.specs.Device.{Device}
 use Rattle.adapter.specs.declared.access.DeviceStep.TheVariants as asked
+use Rattle.device_model.specs.Settled.{Identifies}
 use Rattle.device_model.specs.Finishing.{HasIdentify, HasRoom}
 use Rattle.device_model.specs.Modelled.{device_at, outside_at}
 use Rattle.device_model.specs.Sent.{SendsEnd}
@@ -39,7 +40,7 @@ take_identify-requires-then-not-finish-clause-there g c =
 
 pub loop-found-init : goal.loop-found-init
 loop-found-init g c = record {
-  own = own_none c.args.self.now.held (device_at g.S.SectorStore.size g.S.SectorStore.told c.args.self.now);
+  own = own_none (Identifies c.args.self.now.held) (device_at g.S.SectorStore.size g.S.SectorStore.told c.args.self.now);
   settled = λ _ s. s;
   rest = goes_so_same g.S.SectorStore.size g.S.SectorStore.told g.S.SectorStore.failures c.args.self.now;
   starved = refl;
@@ -60,7 +61,7 @@ loop-found-preserved g c =
     let is = c.loop-found.invariant in
     let loose : slice_index_or c.args.self.now.held 0 false ≡ false = search rules in
     record {
-      own = own_on c.args.self.now.held _ old new is.own
+      own = own_on (Identifies c.args.self.now.held) _ old new is.own
           (own_gone IsPage is_page c.args.self.now.held 0 c.in-Some.found.slot loose c.finish.result old new went same (has_only old c.in-Some.found.slot has)).0;
       settled = λ held s. gone_settled 0 c.in-Some.found.slot c.finish.result old new went same held (is.settled held s);
       rest = goes_so_on g.S.SectorStore.size g.S.SectorStore.told g.S.SectorStore.failures _ _ _ is.rest
@@ -90,7 +91,7 @@ returns-then-not-found g c =
     let is = c.loop-found.invariant in
     let loose : slice_index_or c.args.self.now.held 0 false ≡ false = search rules in
     record {
-      own = own_on c.args.self.now.held _ old new is.own (t.own c.args.self.now.held loose);
+      own = own_on (Identifies c.args.self.now.held) _ old new is.own (t.own c.args.self.now.held loose);
       settled = λ held s. t.settled held (is.settled held s);
       left = record {
         taken = λ k small may. absurd (t.none k may);
@@ -121,7 +122,7 @@ returns-then-not-finish g c =
     let one = subst P (sym (same c.if-not-finish.true)) (has, lacks.1) in
     let now = t.left one.0 in
     record {
-      own = own_on c.args.self.now.held _ new last (own_on c.args.self.now.held _ old new is.own
+      own = own_on (Identifies c.args.self.now.held) _ new last (own_on (Identifies c.args.self.now.held) _ old new is.own
           (own_gone IsPage is_page c.args.self.now.held 0 c.in-Some.found.slot loose c.finish.result old new went same (has_only old c.in-Some.found.slot has)).0) (t.own c.args.self.now.held loose);
       settled = λ held s. t.settled held (gone_settled 0 c.in-Some.found.slot c.finish.result old new went same held (is.settled held s));
       left = record { taken = λ k small may. absurd (t.none k may); done = λ k small there. inr (t.starved ∙ lacks.0) };

@@ -11,7 +11,7 @@ use Rattle.device_model.specs.Modelled.{device_at, outside_at}
 use Rattle.device_model.specs.Whole.{Outside, device_of}
 use Rattle.device_model.proofs.TwoDisks.{both_kept, in_kept}
 use Rattle.device_model.proofs.Identifying.{noted_identify, noted_may}
-use Rattle.device_model.proofs.Own.{own_on, own_steps, reset_steps}
+use Rattle.device_model.proofs.Own.{own_steps, reset_steps}
 use Rattle.device_model.proofs.Ports.{has_port_read, noted_settled}
 use Rattle.device_model.proofs.Queueing.{begins_steps}
 use Rattle.device_model.proofs.Telling.{gains_none, gains_on, noted_tape}
@@ -78,7 +78,7 @@ returns-clause-alone g c =
       reset = settled.0;
       ends = subst P (sym own.held) settled.1;
       last = device_of c.identify.new.self.hardware last;
-      own = subst Q (sym own.held) (own_on c.settle.new.held settled.0 _ _ settled.2 c.identify.ensures.own);
+      own = subst Q (sym own.held) (record { settled = device_of c.settle.new.self o; settles = settled.2; identifies = c.identify.ensures.own });
       shows = c.shown-value.ensures last;
       effect = c.note.ensures.notes last;
       says = own.says;
