@@ -1,17 +1,18 @@
 -- What a model makes of a step that it is told.
-use Rattle.std.proofs.Common.{ℕ, Bool, true, false, ◌≡◌, ◌∙◌, List, Option, refl, sym, ap, subst, inl, inr, arith}
+use Rattle.std.proofs.Common.{ℕ, Bool, true, false, ◌≡◌, ◌≤◌, ◌<◌, ◌^◌, ◌∙◌, List, Option, refl, sym, ap, subst, inl, inr, arith}
 use Rattle.adapter.specs.Asked.{GoesOn}
 use Rattle.adapter.specs.declared.access.DeviceStep.TheVariants as asked
 use Rattle.ata_types.specs.declared.Port.{Port}
 use Rattle.ata_types.specs.declared.Slot.{Slot}
-use Rattle.adapter.specs.Device.{Device}
+use Rattle.adapter.specs.Device.{Device, Taken}
 use Rattle.adapter.specs.declared.access.DeviceStep.{DeviceStep}
 use Rattle.adapter.proofs.Going.{asked_steps}
 use Rattle.adapter.proofs.Runs.{Steps-refl}
 use Rattle.adapter.specs.Steps.{Steps}
-use Rattle.device_model.specs.Does.{AnswersStep, Did, GoesOnSo, IsLeftOut, MovesSector, StoreServes, StepKeeps, Possible}
+use Rattle.sector_store.specs.declared.store.Failures.{Failures}
+use Rattle.device_model.specs.Does.{AnswersStep, Did, FailsAt, GoesOnSo, IsLeftOut, LacksMemory, MovesSector, NeedsAddresses, NoneFails, StepKeeps, Possible}
 use Rattle.device_model.specs.Disks.{store_of}
-use Rattle.device_model.specs.Finishing.{HasRoom}
+use Rattle.device_model.specs.Finishing.{HasMove, HasRoom}
 use Rattle.device_model.specs.Modelled.{device_at}
 use Rattle.device_model.specs.Paged.{GainsPages}
 use Rattle.device_model.proofs.TwoDisks.{in_kept}
@@ -24,12 +25,12 @@ use Rattle.device_model.specs.declared.model.Queued.{Queued}
 use Rattle.std.specs.Global.{Vec}
 
 -- what stays while a command goes on
-pub record Meanwhile {S : Type 0} (size : S → ℕ) (failures : S → Option ℕ) (old new : Model S) : Type 0 where
+pub record Meanwhile {S : Type 0} (size : S → ℕ) (old new : Model S) : Type 0 where
   pub held : new.held ≡ old.held
   pub says : new.says ≡ old.says
   pub which : new.which ≡ old.which
   pub pages : GainsPages size old new
-  pub keeps : StepKeeps size failures old new
+  pub keeps : StepKeeps size old new
   pub starved : new.hardware.starved ≡ old.hardware.starved
 
 -- where the one is as the other was, and never ceases to be, they are one
@@ -38,20 +39,19 @@ same_flag true b forth back = forth refl
 same_flag false true forth back = sym (back refl)
 same_flag false false forth back = refl
 
-module _ {S : Type 0} (size : S → ℕ) (told : S → Option (ℕ → List ℕ)) (failures : S → Option ℕ) where
-  pub keeps_same : (m : Model S) → StepKeeps size failures m m
-  keeps_same m = record { sectors = λ _. refl; sure = λ _. refl; out = λ _ _. refl; queue = refl; accesses = refl }
+module _ {S : Type 0} (size : S → ℕ) (told : S → Option (ℕ → List ℕ)) (failures : S → Option Failures) where
+  pub keeps_same : (m : Model S) → StepKeeps size m m
+  keeps_same m = record { sectors = λ _. refl; out = λ _ _. refl; queue = refl; accesses = refl }
 
-  pub keeps_on : (a b c : Model S) → b.which ≡ a.which → StepKeeps size failures a b → StepKeeps size failures b c → StepKeeps size failures a c
+  pub keeps_on : (a b c : Model S) → b.which ≡ a.which → StepKeeps size a b → StepKeeps size b c → StepKeeps size a c
   keeps_on a b c same first then = record {
     out = λ w ne. then.out w (λ is. ne (is ∙ same)) ∙ first.out w ne;
     sectors = λ w. then.sectors w ∙ first.sectors w;
-    sure = λ w. then.sure w ∙ first.sure w;
     queue = then.queue ∙ first.queue;
     accesses = then.accesses ∙ first.accesses;
   }
 
-  pub meanwhile_on : (a b c : Model S) → Meanwhile size failures a b → Meanwhile size failures b c → Meanwhile size failures a c
+  pub meanwhile_on : (a b c : Model S) → Meanwhile size a b → Meanwhile size b c → Meanwhile size a c
   meanwhile_on a b c first then = record {
     held = then.held ∙ first.held;
     says = then.says ∙ first.says;
@@ -68,9 +68,8 @@ module _ {S : Type 0} (size : S → ℕ) (told : S → Option (ℕ → List ℕ)
     held = refl;
     says = refl;
     which = refl;
-    disks = λ _ _. refl;
+    why = inr ((λ _. refl), λ _ possible. absurd (never possible));
     keeps = keeps_same m;
-    why = λ _ possible. absurd (never possible);
     starved_on = λ yes. yes;
     starved_since = λ yes. inl yes;
   }
@@ -89,7 +88,7 @@ module _ {S : Type 0} (size : S → ℕ) (told : S → Option (ℕ → List ℕ)
     left_it true a e = absurd (let no : true ≡ false = e in cc)
     left_it false a e = a
 
-    pub did_or_left_keeps : (answer : Bool) → AnswersStep size told failures s answer old new → StepKeeps size failures old new
+    pub did_or_left_keeps : (answer : Bool) → AnswersStep size told failures s answer old new → StepKeeps size old new
     did_or_left_keeps true a = a.1.keeps
     did_or_left_keeps false a = a.keeps
 
@@ -98,8 +97,8 @@ module _ {S : Type 0} (size : S → ℕ) (told : S → Option (ℕ → List ℕ)
     answers_steps false a = let P : Device → Type 0 = λ d. Steps (device_at size told old) d in subst P (sym a.device) (Steps-refl (device_at size told old))
 
   -- the same, whatever is queued
-  keeps_queued : (old new : Model S) (q : Vec Queued) → StepKeeps size failures old new → StepKeeps size failures (record old { queue = q }) (record new { queue = q })
-  keeps_queued old new q k = record { out = k.out; sectors = k.sectors; sure = k.sure; queue = refl; accesses = k.accesses }
+  keeps_queued : (old new : Model S) (q : Vec Queued) → StepKeeps size old new → StepKeeps size (record old { queue = q }) (record new { queue = q })
+  keeps_queued old new q k = record { out = k.out; sectors = k.sectors; queue = refl; accesses = k.accesses }
 
   pub answers_queued : (s : DeviceStep) (answer : Bool) (old new : Model S) (q : Vec Queued) → AnswersStep size told failures s answer old new →
       AnswersStep size told failures s answer (record old { queue = q }) (record new { queue = q })
@@ -122,34 +121,46 @@ module _ {S : Type 0} (size : S → ℕ) (told : S → Option (ℕ → List ℕ)
     held = a.held;
     says = a.says;
     which = a.which;
-    disks = a.disks;
-    keeps = keeps_queued old new q a.keeps;
     why = a.why;
+    keeps = keeps_queued old new q a.keeps;
     starved_on = a.starved_on;
     starved_since = a.starved_since;
   }
 
-  -- A Finish was cut short where a move was left: not for want of memory, for which there was room; so it wasn't served. Where it moves no sector,
-  -- each disk is as it was.
+  -- A Finish came to a move that was left, for which there was room, and which was possible. So a call failed on its sector, or it has no address.
   pub cut_short : (p : Port) (slot : Slot) (did : Bool) (old mid new : Model S) → Possible (asked.Finish p slot) (device_at size told old) →
       (did ≡ true → GoesOn SendsEnd p.0 slot.0 (device_at size told old) (device_at size told mid)) → (did ≡ false → device_at size told mid ≡ device_at size told old) →
-      (device_at size told mid).size ≡ (device_at size told old).size → Meanwhile size failures old mid →
+      (device_at size told mid).size ≡ (device_at size told old).size → Meanwhile size old mid →
       (MovesSector (asked.Move p slot) (device_at size told mid) → MovesSector (asked.Finish p slot) (device_at size told old)) →
       ((MovesSector (asked.Finish p slot) (device_at size told old) → ⊥) → (which : Which) → store_of mid which ≡ store_of old which) →
-      (did ≡ false → (which : Which) → store_of mid which ≡ store_of old which) → failures mid.disk ≡ failures old.disk → IsLeftOut size told failures (asked.Move p slot) mid new → HasRoom mid.hardware 1 → Possible (asked.Move p slot) (device_at size told mid) →
+      (did ≡ false → (which : Which) → store_of mid which ≡ store_of old which) → NoneFails failures old mid →
+      IsLeftOut size told failures (asked.Move p slot) mid new → HasRoom mid.hardware 1 → slot.0 < 32 → (t : Taken) → HasMove (device_at size told mid) p.0 slot.0 t →
       AnswersStep size told failures (asked.Finish p slot) did old new
-  cut_short p slot did old mid new may went stayed sizes meanwhile moved same untouched fine step room move = by did went stayed untouched
+  cut_short p slot did old mid new may went stayed sizes meanwhile moved same untouched none step room small t move = by did went stayed untouched
     where
-      unserved : StoreServes (asked.Finish p slot) (failures old.disk) (failures new.disk) (device_at size told old) → ⊥
-      unserved served = let n = served.1 in (step.why ((λ moves. served.0 (moved moves) ∙ sym fine), omega (arith, sizes, n)) move).0 room
+      fine : failures mid.disk ≡ failures old.disk
+      fine = in_kept failures old mid meanwhile.which none
+
+      -- where no store is another, it has no address
+      unserved : (NeedsAddresses (asked.Move p slot) (device_at size told mid) → Possible (asked.Move p slot) (device_at size told mid) →
+          LacksMemory (asked.Move p slot) (device_at size told mid) mid.hardware mid.plugged × (new.hardware.starved ≡ true)) →
+          (device_at size told old).size ≤ 2 ^ 32 → ⊥
+      unserved why small_enough = (why (omega (arith, sizes, small_enough)) (small, t, move)).0 room
+
+      failed : FailsAt p.0 slot.0 (failures mid.disk) (failures new.disk) (device_at size told new) →
+          FailsAt p.0 slot.0 (failures old.disk) (failures new.disk) (device_at size told new)
+      failed f = subst (λ was. FailsAt p.0 slot.0 was (failures new.disk) (device_at size told new)) fine f
 
       disks : (MovesSector (asked.Finish p slot) (device_at size told old) → ⊥) → (which : Which) → store_of new which ≡ store_of old which
-      disks none which = step.disks (λ moves. absurd (none (moved moves))) which ∙ same none which
+      disks never which = elim step.why [
+        | inl f ↦ absurd (never (moved (small, f.t, subst (λ (d : Device). HasMove d p.0 slot.0 f.t) step.device f.move, f.ranged)))
+        | inr left ↦ left.0 which ∙ same never which
+      ]
 
       told_before : new.hardware.starved ≡ true → mid.hardware.starved ≡ true
       told_before now = elim (step.starved_since now) [ inl before ↦ before | inr lacks ↦ absurd (lacks.1 room) ]
 
-      all : Meanwhile size failures old new
+      all : Meanwhile size old new
       all = meanwhile_on old mid new meanwhile (record {
         held = step.held;
         says = step.says;
@@ -166,7 +177,10 @@ module _ {S : Type 0} (size : S → ℕ) (told : S → Option (ℕ → List ℕ)
         may,
         record {
           asked = subst (λ (d : Device). GoesOn SendsEnd p.0 slot.0 (device_at size told old) d) (sym step.device) (on refl);
-          ends = λ served. absurd (unserved served);
+          ends = elim step.why [
+            | inl f ↦ inl (failed f)
+            | inr left ↦ inr ((λ which. ap failures (left.0 which) ∙ none which), λ small_enough. absurd (unserved left.1 small_enough))
+          ];
           held = all.held;
           says = all.says;
           which = all.which;
@@ -181,19 +195,26 @@ module _ {S : Type 0} (size : S → ℕ) (told : S → Option (ℕ → List ℕ)
         held = all.held;
         says = all.says;
         which = all.which;
-        disks = λ served which. step.disks (λ moves. served (moved moves) ∙ sym fine) which ∙ first refl which;
+        why = elim step.why [
+          | inl f ↦ inl (failed f)
+          | inr left ↦ inr (
+            (λ which. left.0 which ∙ first refl which),
+            λ served _.
+                let taken = ap (λ (d : Device). (d.port p.0).taken slot.0) (sym (same refl)) ∙ move.works.taken in
+                absurd (unserved left.1 (served t taken)),
+          )
+        ];
         keeps = all.keeps;
-        why = λ served _. absurd (unserved served);
         starved_on = λ yes. all.starved ∙ yes;
         starved_since = λ yes. inl (sym all.starved ∙ yes);
       }
 
   -- ---- what the model does by itself
 
-  pub goes_so_same : (m : Model S) → GoesOnSo size failures m m
+  pub goes_so_same : (m : Model S) → GoesOnSo size m m
   goes_so_same m = record { held = refl; says = refl; which = refl; pages = gains_none size m m refl; keeps = keeps_same m; starved_on = λ yes. yes }
 
-  pub goes_so_on : (a b c : Model S) → GoesOnSo size failures a b → GoesOnSo size failures b c → GoesOnSo size failures a c
+  pub goes_so_on : (a b c : Model S) → GoesOnSo size a b → GoesOnSo size b c → GoesOnSo size a c
   goes_so_on a b c first then = record {
     held = then.held ∙ first.held;
     says = then.says ∙ first.says;
@@ -204,7 +225,7 @@ module _ {S : Type 0} (size : S → ℕ) (told : S → Option (ℕ → List ℕ)
   }
 
   pub finish_goes_so : (p : Port) (slot : Slot) (answer : Bool) (old new : Model S) → AnswersStep size told failures (asked.Finish p slot) answer old new →
-      GoesOnSo size failures old new
+      GoesOnSo size old new
   finish_goes_so p slot true old new a =
       record { held = a.1.held; says = a.1.says; which = a.1.which; pages = a.1.pages; keeps = a.1.keeps; starved_on = λ yes. a.1.starved ∙ yes }
   finish_goes_so p slot false old new a = record {

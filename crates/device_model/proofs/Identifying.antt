@@ -21,8 +21,9 @@ use Rattle.hba_regs.specs.declared.reg.Reg.TheVariants.{Cap, Ghc, Is, Pi, Vs, Ca
 use Rattle.ata_types.specs.declared.Port.{Port}
 use Rattle.ata_types.specs.declared.Slot.{Slot}
 use Rattle.adapter.specs.declared.access.DeviceStep.TheVariants as asked
+use Rattle.sector_store.specs.declared.store.Failures.{Failures}
 use Rattle.device_model.specs.Does.{AnswersStep, MovesSector}
-use Rattle.device_model.specs.Finishing.{AreInside, HasIdentify, Identifies, IsCovered, MayFinish, MayIdentify}
+use Rattle.device_model.specs.Finishing.{AreInside, HasIdentify, HasMove, Identifies, IsCovered, MayFinish, MayIdentify}
 use Rattle.device_model.specs.Held.{none_held}
 use Rattle.device_model.specs.Modelled.{device_at}
 use Rattle.device_model.specs.Sent.{SendsEnd}
@@ -119,13 +120,19 @@ page_moves_none d slot sectors left has may ranged = by may.begins
     by (inl works) = true-false ranged (ap is_ranged ((has_only d slot has).taken t works.taken).0)
     by (inr begins) = true-false ranged (ap is_ranged ((has_only d slot has).fetched t.meaning t.places begins.0).0)
 
-pub finish_keeps : {S : Type 0} (size : S → ℕ) (told : S → Option (ℕ → List ℕ)) (failures : S → Option ℕ) (old new : Model S) (slot : ℕ) (answer : Bool) →
+pub finish_keeps : {S : Type 0} (size : S → ℕ) (told : S → Option (ℕ → List ℕ)) (failures : S → Option Failures) (old new : Model S) (slot : ℕ) (answer : Bool) →
     AnswersStep size told failures (asked.Finish (record { 0 = 0 }) (record { 0 = slot })) answer old new → HasIdentify (device_at size told old) slot →
     new.disk ≡ old.disk
 finish_keeps size told failures old new slot true a has =
     in_kept (λ s. s) old new a.1.which (a.1.disks (λ moves. page_moves_none (device_at size told old) slot _ _ has moves.3 moves.4))
 finish_keeps size told failures old new slot false a has =
-    in_kept (λ s. s) old new a.which (a.disks (λ moves. absurd (page_moves_none (device_at size told old) slot _ _ has moves.3 moves.4)))
+    elim a.why [
+      | inl f ↦
+          let P : Device → Type 0 = λ d. HasMove d 0 slot f.t in
+          let taken = (subst P a.device f.move).works.taken in
+          true-false f.ranged (ap is_ranged ((has_only (device_at size told old) slot has).taken f.t taken).0)
+      | inr left ↦ in_kept (λ s. s) old new a.which left.0
+    ]
 
 -- a Move of what a Finish has begun moves one only where the Finish does
 pub finish_moves : (p : Port) (s : Slot) (did : Bool) (old new : Device) (sectors left : ℕ) → p.0 ≡ 0 → sectors ≡ (old.port 0).disk.size → 1 ≤ left →

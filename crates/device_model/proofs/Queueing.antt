@@ -8,6 +8,7 @@ use Rattle.std.proofs.lemmas.List.Edits.{remove-append_right}
 use Rattle.adapter.specs.Steps.{Steps}
 use Rattle.adapter.specs.declared.access.DeviceStep.{DeviceStep}
 use Rattle.adapter.proofs.Runs.{Steps-refl, Steps-trans}
+use Rattle.sector_store.specs.declared.store.Failures.{Failures}
 use Rattle.device_model.specs.Does.{AnswersStep}
 use Rattle.device_model.specs.Modelled.{device_at}
 use Rattle.device_model.specs.Queue.{BeginsAccess, due, not_due, DoesEach}
@@ -17,7 +18,7 @@ use Rattle.device_model.proofs.Doing.{answers_steps}
 
 -- ---- steps, one more at the end
 
-module _ {S : Type 0} (size : S → ℕ) (told : S → Option (ℕ → List ℕ)) (failures : S → Option ℕ) where
+module _ {S : Type 0} (size : S → ℕ) (told : S → Option (ℕ → List ℕ)) (failures : S → Option Failures) where
   pub each_more : (done : List DeviceStep) (s : DeviceStep) (answer : Bool) (old mid new : Model S) → DoesEach size told failures done old mid →
       AnswersStep size told failures s answer mid new → DoesEach size told failures (done ++ s ∷ []) old new
   each_more [] s answer old mid new e one =
@@ -36,7 +37,7 @@ module _ {S : Type 0} (size : S → ℕ) (told : S → Option (ℕ → List ℕ)
   begins_steps old new b = each_steps (due new.accesses old.queue.items) (record old { accesses = new.accesses; queue = new.queue }) new b.does
 
 -- these steps lead from the one model to the other, whatever is queued in both
-abbrev pub DoneSo : {S : Type 0} → (S → ℕ) → (S → Option (ℕ → List ℕ)) → (S → Option ℕ) → Model S → Model S → List DeviceStep → Type 0
+abbrev pub DoneSo : {S : Type 0} → (S → ℕ) → (S → Option (ℕ → List ℕ)) → (S → Option Failures) → Model S → Model S → List DeviceStep → Type 0
 DoneSo size told failures old new done =
     (q : Vec Queued) → DoesEach size told failures done (record old { queue = q }) (record new { queue = q })
 

@@ -13,6 +13,7 @@ use Rattle.adapter.specs.declared.tape.Entry.TheVariants as entry
 use Rattle.adapter.proofs.Changed.{changed_same}
 use Rattle.ata_types.specs.declared.Port.{Port}
 use Rattle.ata_types.specs.declared.Slot.{Slot}
+use Rattle.sector_store.specs.declared.store.Failures.{Failures}
 use Rattle.device_model.specs.Does.{AnswersStep, IsLeftOut, StepKeeps, LacksMemory, Possible}
 use Rattle.device_model.specs.Finishing.{HasRoom, IsPassed}
 use Rattle.device_model.specs.Modelled.{device_at, outside_at}
@@ -38,15 +39,15 @@ fetched_takes old h o port slot f =
     let P : Taken → Type 0 = λ x. Takes x.meaning.operation in
     subst P (sym w.3) (is_taken w.0.transfer)
 
-module _ {S : Type 0} (size : S → ℕ) (told : S → Option (ℕ → List ℕ)) (failures : S → Option ℕ) (m : Model S) (h : Hardware) where
+module _ {S : Type 0} (size : S → ℕ) (told : S → Option (ℕ → List ℕ)) (failures : S → Option Failures) (m : Model S) (h : Hardware) where
   abbrev new : Model S
   new = record m { hardware = h }
 
   abbrev behind : Outside
   behind = outside_at size told m
 
-  pub on_hardware : StepKeeps size failures m new
-  on_hardware = record { sectors = λ _. refl; sure = λ _. refl; out = λ _ _. refl; queue = refl; accesses = refl }
+  pub on_hardware : StepKeeps size m new
+  on_hardware = record { sectors = λ _. refl; out = λ _ _. refl; queue = refl; accesses = refl }
 
   -- a step that notes one entry wasn't done
   passed_left : (s : DeviceStep) (possible : Type 0) → (Possible s (device_at size told m) → possible) → (possible → Possible s (device_at size told m)) →
@@ -57,9 +58,8 @@ module _ {S : Type 0} (size : S → ℕ) (told : S → Option (ℕ → List ℕ)
     held = refl;
     says = refl;
     which = refl;
-    disks = λ _ _. refl;
+    why = inr ((λ _. refl), λ _ may. absurd (never.0 (forth may)));
     keeps = on_hardware;
-    why = λ _ may. absurd (never.0 (forth may));
     starved_on = λ yes. ap (λ (x : Hardware). x.starved) never.1 ∙ yes;
     starved_since = λ yes. inl (sym (ap (λ (x : Hardware). x.starved) never.1) ∙ yes);
   }
@@ -68,9 +68,8 @@ module _ {S : Type 0} (size : S → ℕ) (told : S → Option (ℕ → List ℕ)
     held = refl;
     says = refl;
     which = refl;
-    disks = λ _ _. refl;
+    why = inr ((λ _. refl), λ _ may. (lacks missed.1, missed.2));
     keeps = on_hardware;
-    why = λ _ may. (lacks missed.1, missed.2);
     starved_on = λ _. missed.2;
     starved_since = λ _. inr (back missed.0, lacks missed.1);
   }
@@ -84,7 +83,7 @@ module _ {S : Type 0} (size : S → ℕ) (told : S → Option (ℕ → List ℕ)
         (port, slot, f.meaning, f.places, fetched_takes (device_of m.hardware behind) h behind p.0 s.0 f, f.can),
         record {
           asked = f;
-          ends = λ _. tt;
+          ends = inr ((λ _. refl), λ _. tt);
           held = refl;
           says = refl;
           which = refl;
@@ -99,9 +98,8 @@ module _ {S : Type 0} (size : S → ℕ) (told : S → Option (ℕ → List ℕ)
     held = refl;
     says = refl;
     which = refl;
-    disks = λ _ _. refl;
+    why = inr ((λ _. refl), λ _ may. absurd (only refl may.2 may.3 may.4 may.5));
     keeps = on_hardware;
-    why = λ _ may. absurd (only refl may.2 may.3 may.4 may.5);
     starved_on = λ yes. starved ∙ yes;
     starved_since = λ yes. inl (sym starved ∙ yes);
   }
@@ -115,7 +113,7 @@ module _ {S : Type 0} (size : S → ℕ) (told : S → Option (ℕ → List ℕ)
         (port, slot, d.done.flag, d.done.t, d.done.can),
         record {
           asked = d;
-          ends = λ _. tt;
+          ends = inr ((λ _. refl), λ _. tt);
           held = refl;
           says = refl;
           which = refl;
@@ -139,7 +137,7 @@ module _ {S : Type 0} (size : S → ℕ) (told : S → Option (ℕ → List ℕ)
         (zero, d.0),
         record {
           asked = subst P (sym zero) (record { can = d.0; effect = d.1 });
-          ends = λ _. tt;
+          ends = inr ((λ _. refl), λ _. tt);
           held = refl;
           says = refl;
           which = refl;

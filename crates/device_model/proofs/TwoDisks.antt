@@ -1,6 +1,6 @@
 -- The two disks of port 0, as a model has them.
 use Rattle.std.proofs.Common.{ℕ, Bool, true, false, ◌≡◌, ◌≢◌, ◌<◌, ◌∙◌, ◌&&◌, refl, sym, ap, subst, arith}
-use Rattle.std.specs.Prelude.{Option, if◌then◌else◌, is_some, nat_eq}
+use Rattle.std.specs.Prelude.{if◌then◌else◌, nat_eq}
 use Rattle.device_model.specs.Disks.{is_same, disk_number, store_of}
 use Rattle.device_model.specs.Does.{StepKeeps}
 use Rattle.device_model.specs.declared.disks.Which.{Which}
@@ -53,7 +53,7 @@ module _ {S : Type 0} where
   pub in_kept : {X : Type 0} (f : S → X) (old new : Model S) → new.which ≡ old.which → ((w : Which) → f (store_of new w) ≡ f (store_of old w)) → f new.disk ≡ f old.disk
   in_kept f old new same each = sym (ap f (in_is new)) ∙ (each new.which ∙ (ap (λ w. f (store_of old w)) same ∙ ap f (in_is old)))
 
-  kept_in : {X : Type 0} (f : S → X) (b : Bool) (new old other : S) → f new ≡ f old → f (if b then new else other) ≡ f (if b then old else other)
+  pub kept_in : {X : Type 0} (f : S → X) (b : Bool) (new old other : S) → f new ≡ f old → f (if b then new else other) ≡ f (if b then old else other)
   kept_in f true new old other same = same
   kept_in f false new old other same = refl
 
@@ -76,12 +76,11 @@ module _ {S : Type 0} where
       by Disk1 Disk1 e = subst (λ x. store_of new x ≡ store_of old x) e inside
 
   -- another store stands for the disk that is in
-  pub keeps_with : (size : S → ℕ) (failures : S → Option ℕ) (m : Model S) (h : Hardware) (disk : S) → size disk ≡ size m.disk → is_some (failures disk) ≡ is_some (failures m.disk) →
-      StepKeeps size failures m (record m { hardware = h; disk = disk })
-  keeps_with size failures m h disk sectors lasts = record {
+  pub keeps_with : (size : S → ℕ) (m : Model S) (h : Hardware) (disk : S) → size disk ≡ size m.disk →
+      StepKeeps size m (record m { hardware = h; disk = disk })
+  keeps_with size m h disk sectors = record {
     out = λ w ne. kept_out (is_same w m.which) disk m.disk m.other (not_same w m.which ne);
     sectors = λ w. kept_in size (is_same w m.which) disk m.disk m.other sectors;
-    sure = λ w. kept_in (λ s. is_some (failures s)) (is_same w m.which) disk m.disk m.other lasts;
     queue = refl;
     accesses = refl;
   }

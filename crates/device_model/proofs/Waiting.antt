@@ -9,8 +9,10 @@ use Rattle.adapter.specs.Steps.{Can, WorksOn, begun}
 use Rattle.adapter.specs.Steps.Step.{Fetch}
 use Rattle.adapter.specs.declared.access.DeviceStep.{DeviceStep}
 use Rattle.adapter.specs.declared.access.DeviceStep.TheVariants as asked
+use Rattle.sector_store.specs.declared.store.Failures.{Failures}
 use Rattle.device_model.specs.Disks.{disk_number, disk_over, store_of}
-use Rattle.device_model.specs.Does.{AnswersStep, MovesSector, Possible, PutsIn, which_after}
+use Rattle.device_model.specs.Does.{AnswersStep, MovesSector, Possible, PutsIn, StoreStops, which_after}
+use Rattle.device_model.specs.Finishing.{HasMove}
 use Rattle.device_model.specs.Modelled.{device_at}
 use Rattle.device_model.specs.Queue.{DoesEach}
 use Rattle.device_model.specs.Sent.{SendsEnd}
@@ -57,23 +59,26 @@ is_it Disk0 Disk1 = inr (λ e. absurd (let no : Disk0 ≡ Disk1 = e in cc))
 is_it Disk1 Disk0 = inr (λ e. absurd (let no : Disk1 ≡ Disk0 = e in cc))
 is_it Disk1 Disk1 = inl refl
 
-module _ {S : Type 0} (size : S → ℕ) (told : S → Option (ℕ → List ℕ)) (failures : S → Option ℕ) where
+module _ {S : Type 0} (size : S → ℕ) (told : S → Option (ℕ → List ℕ)) (failures : S → Option Failures) where
   -- where it is the disk that is in or was last, port 0 has none
   abbrev pub IsOut : Which → Model S → Type 0
   IsOut w m = w ≡ m.which → ((device_at size told m).port 0).present ≡ false
 
-  -- where port 0 has no disk, no sector is moved
-  none_moves : (s : DeviceStep) (m : Model S) → ((device_at size told m).port 0).present ≡ false → MovesSector s (device_at size told m) → ⊥
-  none_moves (asked.Move p s) m empty moves =
-      let d : Device = device_at size told m in
-      elim (eqb_tells p.0 0) [
+  -- where port 0 has no disk, no move is possible
+  none_has : (m : Model S) (port slot : ℕ) (t : Taken) → ((device_at size told m).port 0).present ≡ false → HasMove (device_at size told m) port slot t → ⊥
+  none_has m port slot t empty move =
+      elim (eqb_tells port 0) [
         | inl here ↦
-            let P : ℕ → Type 0 = λ q. (d.port q).present ≡ true in
-            let present = subst P here.1 moves.2.works.working.present in
+            let P : ℕ → Type 0 = λ q. ((device_at size told m).port q).present ≡ true in
+            let present = subst P here.1 move.works.working.present in
             let no : true ≡ false = sym present ∙ empty in
             cc
-        | inr there ↦ no_move m.hardware (disk_over m.which (size m.disk) (told m.disk)) (told m.other) _ p.0 s.0 moves.1 there.1 moves.2
+        | inr there ↦ no_move m.hardware (disk_over m.which (size m.disk) (told m.disk)) (told m.other) _ port slot t there.1 move
       ]
+
+  -- so no sector is moved
+  none_moves : (s : DeviceStep) (m : Model S) → ((device_at size told m).port 0).present ≡ false → MovesSector s (device_at size told m) → ⊥
+  none_moves (asked.Move p s) m empty moves = none_has m p.0 s.0 moves.1 empty moves.2
   none_moves (asked.Finish p s) m empty moves = by moves.3.begins
     where
       d : Device
@@ -100,6 +105,20 @@ module _ {S : Type 0} (size : S → ℕ) (told : S → Option (ℕ → List ℕ)
   none_moves (asked.Unplug p) m empty moves = moves
   none_moves (asked.Plug p number) m empty moves = moves
 
+  -- nor does the store stop a step
+  none_stops : (s : DeviceStep) (was now : Option Failures) (old new : Model S) → ((device_at size told old).port 0).present ≡ false →
+      device_at size told new ≡ device_at size told old → StoreStops s was now (device_at size told new) → ⊥
+  none_stops (asked.Move p s) was now old new empty same f = none_has old p.0 s.0 f.t empty (subst (λ (d : Device). HasMove d p.0 s.0 f.t) same f.move)
+  none_stops (asked.Finish p s) was now old new empty same f = none_has old p.0 s.0 f.t empty (subst (λ (d : Device). HasMove d p.0 s.0 f.t) same f.move)
+  none_stops (asked.Fetch p s) was now old new empty same f = f
+  none_stops (asked.Done p s) was now old new empty same f = f
+  none_stops (asked.Lie p page offset bits) was now old new empty same f = f
+  none_stops (asked.Truth p) was now old new empty same f = f
+  none_stops (asked.Hold p) was now old new empty same f = f
+  none_stops (asked.Release p) was now old new empty same f = f
+  none_stops (asked.Unplug p) was now old new empty same f = f
+  none_stops (asked.Plug p number) was now old new empty same f = f
+
   one_stays : (s : DeviceStep) (answer : Bool) (old new : Model S) (w : Which) → w ≢ old.which → (PutsIn w s → ⊥) → AnswersStep size told failures s answer old new →
       (w ≢ new.which) × (store_of new w ≡ store_of old w)
   one_stays s true old new w out never a = (λ e. still_out s _ w old.which out never a.0 (e ∙ a.1.which), a.1.keeps.out w out)
@@ -122,7 +141,7 @@ module _ {S : Type 0} (size : S → ℕ) (told : S → Option (ℕ → List ℕ)
   )
   last_stays s false old new w is empty never a = (
     λ _. ap (λ (d : Device). (d.port 0).present) a.device ∙ empty,
-    a.disks (λ moves. absurd (none_moves s old empty moves)) w,
+    elim a.why [ inl stops ↦ absurd (none_stops s _ _ old new empty a.device stops) | inr left ↦ left.0 w ],
   )
 
   one_waits : (s : DeviceStep) (answer : Bool) (old new : Model S) (w : Which) → IsOut w old → (PutsIn w s → ⊥) → AnswersStep size told failures s answer old new →

@@ -1,16 +1,18 @@
 -- What a model makes of a step that it is told: when the step is possible, what it changes where it is done, and what stays where it is left
 -- (this project's own).
-use Rattle.std.specs.Prelude.{ℕ, Bool, true, false, ◌≡◌, ◌≢◌, ◌+◌, ◌^◌, ◌<◌, ◌≤◌, ◌⊎◌, List, Option, if◌then◌else◌, is_some, nat_eq}
+use Rattle.std.specs.Prelude.{ℕ, Bool, true, false, ◌≡◌, ◌≢◌, ◌+◌, ◌^◌, ◌<◌, ◌≤◌, ◌⊎◌, List, Option, Some, if◌then◌else◌, nat_eq}
 use Rattle.std.specs.Global.{Vec}
 use Rattle.std.specs.Vec.{vec_len, vec_capacity}
 use Rattle.adapter.specs.Asked.{AskedOf}
-use Rattle.adapter.specs.Commands.{Meaning, is_ranged}
+use Rattle.adapter.specs.Commands.{Meaning, is_ranged, reads_memory}
 use Rattle.adapter.specs.Device.{Device, Taken}
 use Rattle.adapter.specs.OneCommand.{IsFreeSlot}
-use Rattle.adapter.specs.Steps.{Can}
+use Rattle.adapter.specs.Steps.{Can, next_sector}
 use Rattle.adapter.specs.Steps.Step.{Fetch, Done, Unplug}
 use Rattle.adapter.specs.declared.access.DeviceStep.{DeviceStep}
 use Rattle.adapter.specs.declared.access.DeviceStep.TheVariants as asked
+use Rattle.sector_store.specs.Stores.{FailsOn}
+use Rattle.sector_store.specs.declared.store.Failures.{Failures}
 use Rattle.device_model.specs.Disks.{disk_number, store_of}
 use Rattle.device_model.specs.Finishing.{HasMove, HasRoom, MayFinish}
 use Rattle.device_model.specs.Held.{held_after}
@@ -62,12 +64,11 @@ MovesSector (asked.Finish p s) d =
     (p.0 ≡ 0) × (s.0 < 32) × (left : ℕ) × (may : MayFinish d p.0 s.0 (d.port 0).disk.size (left + 1)) × (is_ranged may.t.meaning.operation ≡ true)
 MovesSector step d = ⊥
 
--- What the step moves is served: where that is a sector, the store of the disk that is in tells of no call that has failed meanwhile; and each place of
--- the memory has an address of 32 bits.
-abbrev pub StoreServes : DeviceStep → (was now : Option ℕ) → Device → Type 0
-StoreServes (asked.Move p s) was now d = (MovesSector (asked.Move p s) d → now ≡ was) × (d.size ≤ 2 ^ 32)
-StoreServes (asked.Finish p s) was now d = (MovesSector (asked.Finish p s) d → now ≡ was) × (d.size ≤ 2 ^ 32)
-StoreServes step was now d = Unit {0}
+-- Each place of the memory has an address of 32 bits, for a step to which that matters: a Move, or a Finish of a command that is taken already.
+abbrev pub NeedsAddresses : DeviceStep → Device → Type 0
+NeedsAddresses (asked.Move p s) d = d.size ≤ 2 ^ 32
+NeedsAddresses (asked.Finish p s) d = (t : Taken) → (d.port p.0).taken s.0 ≡ Some t → d.size ≤ 2 ^ 32
+NeedsAddresses step d = Unit {0}
 
 -- ---- what a step makes of a model
 
@@ -87,62 +88,85 @@ abbrev pub PutsIn : Which → DeviceStep → Type 0
 PutsIn which (asked.Plug p number) = number.0 ≡ disk_number which
 PutsIn which step = ⊥
 
--- What no step changes: the disk that isn't in, or wasn't last; of each disk how many sectors it has, and whether its calls may fail; the queue; and the
--- count of the accesses.
-pub record StepKeeps {S : Type 0} (size : S → ℕ) (failures : S → Option ℕ) (old new : Model S) : Type 0 where
+-- What no step changes: the disk that isn't in, or wasn't last; of each disk how many sectors it has; the queue; and the count of the accesses.
+pub record StepKeeps {S : Type 0} (size : S → ℕ) (old new : Model S) : Type 0 where
   pub out : (which : Which) → which ≢ old.which → store_of new which ≡ store_of old which
   pub sectors : (which : Which) → size (store_of new which) ≡ size (store_of old which)
-  pub sure : (which : Which) → is_some (failures (store_of new which)) ≡ is_some (failures (store_of old which))
   pub queue : new.queue ≡ old.queue
   pub accesses : new.accesses ≡ old.accesses
+
+-- One more call on the store of the disk that is in has failed: that of the slot's command for the sector that it moves next.
+pub record FailsAt (port slot : ℕ) (was now : Option Failures) (d : Device) : Type 0 where
+  pub t : Taken
+  pub move : HasMove d port slot t
+  pub ranged : is_ranged t.meaning.operation ≡ true
+  pub fails : FailsOn (reads_memory t.meaning.operation) (next_sector t) was now
+
+-- so the store stops a step, which is left
+abbrev pub StoreStops : DeviceStep → (was now : Option Failures) → Device → Type 0
+StoreStops (asked.Move p s) was now d = FailsAt p.0 s.0 was now d
+StoreStops (asked.Finish p s) was now d = FailsAt p.0 s.0 was now d
+StoreStops step was now d = ⊥
+
+-- so it cuts a step short, which is done: a Finish, that came to this sector
+abbrev pub StoreCuts : DeviceStep → (was now : Option Failures) → Device → Type 0
+StoreCuts (asked.Finish p s) was now d = FailsAt p.0 s.0 was now d
+StoreCuts step was now d = ⊥
+
+-- no call has failed, on either store
+abbrev pub NoneFails : {S : Type 0} → (S → Option Failures) → Model S → Model S → Type 0
+NoneFails failures old new = (which : Which) → failures (store_of new which) ≡ failures (store_of old which)
 
 -- a Finish ends its command
 abbrev pub EndsIt : DeviceStep → Device → Type 0
 EndsIt (asked.Finish p s) d = IsFreeSlot (d.port p.0) s.0
 EndsIt step d = Unit {0}
 
--- A step that is done: the device did what it was asked, and sent the FIS of a command that ended. The ports are held that are held after it; the disk
--- is in, or was last, that is after it, and each disk has the sectors that it had, but where a sector is moved; the disks say of themselves what they
--- say after it, and each page that the tape has gained is as the one that was in said before; and that nothing was left out for want of memory is told
--- as it was.
-pub record Did {S : Type 0} (size : S → ℕ) (told : S → Option (ℕ → List ℕ)) (failures : S → Option ℕ) (s : DeviceStep) (old new : Model S) : Type 0 where
+-- A step that is done: the device did what it was asked, and sent the FIS of a command that ended. No call on a store has failed, and a Finish ended its
+-- command, in a memory of at most 4 GiB; or a call failed, and the Finish came to the sector on which it did. The ports are held that are held after it;
+-- the disk is in, or was last, that is after it, and each disk has the sectors that it had, but where a sector is moved; the disks say of themselves what
+-- they say after it, and each page that the tape has gained is as the one that was in said before; and that nothing was left out for want of memory is
+-- told as it was.
+pub record Did {S : Type 0} (size : S → ℕ) (told : S → Option (ℕ → List ℕ)) (failures : S → Option Failures) (s : DeviceStep) (old new : Model S) : Type 0 where
   pub asked : AskedOf SendsEnd s (device_at size told old) (device_at size told new)
-  pub ends : StoreServes s (failures old.disk) (failures new.disk) (device_at size told old) → EndsIt s (device_at size told new)
+  pub ends : StoreCuts s (failures old.disk) (failures new.disk) (device_at size told new)
+      ⊎ (NoneFails failures old new × ((device_at size told old).size ≤ 2 ^ 32 → EndsIt s (device_at size told new)))
   pub held : new.held ≡ held_after s old.held
   pub says : new.says ≡ says_after s old.says
   pub which : new.which ≡ which_after s old.which
   pub pages : GainsPages size old new
   pub disks : (MovesSector s (device_at size told old) → ⊥) → (which : Which) → store_of new which ≡ store_of old which
-  pub keeps : StepKeeps size failures old new
+  pub keeps : StepKeeps size old new
   pub starved : new.hardware.starved ≡ old.hardware.starved
 
--- A step that is left: nothing is another, but the store of the disk that is in, where the step moves a sector and a call on it has failed, and that
--- want of memory may be told now. A step that is possible, and served, is left only where there was no room to note it without growing, and
--- that is told as want of memory. It is told where it was, and else only where the step was possible and there was no such room.
-pub record IsLeftOut {S : Type 0} (size : S → ℕ) (told : S → Option (ℕ → List ℕ)) (failures : S → Option ℕ) (s : DeviceStep) (old new : Model S) : Type 0 where
+-- A step that is left: the device is as it was, and what the model says. Either the store of the disk that is in has stopped it; or each store is
+-- as it was, too, and a step that is possible is left only where there was no room to note it without growing, and that is told as want of memory. That is
+-- told where it was, and else only where the step was possible and there was no such room.
+pub record IsLeftOut {S : Type 0} (size : S → ℕ) (told : S → Option (ℕ → List ℕ)) (failures : S → Option Failures) (s : DeviceStep) (old new : Model S) : Type 0 where
   pub device : device_at size told new ≡ device_at size told old
   pub held : new.held ≡ old.held
   pub says : new.says ≡ old.says
   pub which : new.which ≡ old.which
-  pub disks : (MovesSector s (device_at size told old) → failures new.disk ≡ failures old.disk) → (which : Which) → store_of new which ≡ store_of old which
-  pub keeps : StepKeeps size failures old new
-  pub why : StoreServes s (failures old.disk) (failures new.disk) (device_at size told old) → Possible s (device_at size told old) →
-      LacksMemory s (device_at size told old) old.hardware old.plugged × (new.hardware.starved ≡ true)
+  pub why : StoreStops s (failures old.disk) (failures new.disk) (device_at size told new)
+      ⊎ (((which : Which) → store_of new which ≡ store_of old which)
+      × (NeedsAddresses s (device_at size told old) → Possible s (device_at size told old) →
+      LacksMemory s (device_at size told old) old.hardware old.plugged × (new.hardware.starved ≡ true)))
+  pub keeps : StepKeeps size old new
   pub starved_on : old.hardware.starved ≡ true → new.hardware.starved ≡ true
   pub starved_since : new.hardware.starved ≡ true → (old.hardware.starved ≡ true)
       ⊎ (Possible s (device_at size told old) × LacksMemory s (device_at size told old) old.hardware old.plugged)
 
 -- what a model makes of a step that it is told: it answers `true` where it was possible and is done, and `false` where it is left
-abbrev pub AnswersStep : {S : Type 0} → (S → ℕ) → (S → Option (ℕ → List ℕ)) → (S → Option ℕ) → DeviceStep → Bool → Model S → Model S → Type 0
+abbrev pub AnswersStep : {S : Type 0} → (S → ℕ) → (S → Option (ℕ → List ℕ)) → (S → Option Failures) → DeviceStep → Bool → Model S → Model S → Type 0
 AnswersStep size told failures s true old new = Possible s (device_at size told old) × Did size told failures s old new
 AnswersStep size told failures s false old new = IsLeftOut size told failures s old new
 
 -- What the model does by itself leaves: which ports are held, which disk is in, what the disks say of themselves, as each page tells that the tape
 -- has gained, and what no step changes. What was told of want of memory stays told.
-pub record GoesOnSo {S : Type 0} (size : S → ℕ) (failures : S → Option ℕ) (old new : Model S) : Type 0 where
+pub record GoesOnSo {S : Type 0} (size : S → ℕ) (old new : Model S) : Type 0 where
   pub held : new.held ≡ old.held
   pub says : new.says ≡ old.says
   pub which : new.which ≡ old.which
   pub pages : GainsPages size old new
-  pub keeps : StepKeeps size failures old new
+  pub keeps : StepKeeps size old new
   pub starved_on : old.hardware.starved ≡ true → new.hardware.starved ≡ true

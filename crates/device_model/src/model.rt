@@ -1,13 +1,14 @@
 // The model as an adapter.
-ghost use Rattle.std.specs.Prelude.{◌≡◌, ◌≢◌, ◌↔◌, ◌<◌, ◌≤◌, ◌+◌, ◌-◌, ◌*◌, ◌^◌, ◌⊎◌, ◌++◌, ◌∷◌, [], ℕ, Bool, List, true, false, is_some, Some, ◌&&◌, min, max, map, length, slice_index, slice_set, IsTrue, IfSome, IfOk, OnOk, OnErr};
+ghost use Rattle.std.specs.Prelude.{◌≡◌, ◌↔◌, ◌<◌, ◌≤◌, ◌+◌, ◌-◌, ◌*◌, ◌^◌, ◌⊎◌, ◌++◌, ◌∷◌, [], ℕ, Bool, List, true, false, is_some, Some, ◌&&◌, min, max, map, length, slice_index, slice_set, IsTrue, IfSome, IfOk, OnOk, OnErr};
 ghost use Rattle.std.specs.Vec.{vec_len, vec_capacity};
-ghost use Rattle.adapter.specs.Commands.{is_ranged};
+ghost use Rattle.adapter.specs.Commands.{is_ranged, reads_memory};
 ghost use Rattle.adapter.specs.Device.{Disk, IsSector, Taken};
 ghost use Rattle.adapter.specs.Access.{Reads, Writes, Loads, Stores, written};
 ghost use Rattle.adapter.specs.Memory.{bytes_at, patched};
 ghost use Rattle.adapter.specs.Rules.{MayRead, MayWrite, IsFree, Stays};
 ghost use Rattle.adapter.specs.Steps.{Steps, disk_after, next_place};
 ghost use Rattle.adapter.specs.Asked.{Asked};
+ghost use Rattle.sector_store.specs.Stores.{FailsOn};
 ghost use Rattle.device_model.specs.Fetched.{bytes_of};
 ghost use Rattle.adapter.specs.declared.command.Operation.TheVariants.{Identify};
 ghost use Rattle.adapter.specs.OneCommand.{IsFreeSlot};
@@ -230,7 +231,6 @@ impl<S: SectorStore> Model<S> {
         ensures left { (n : ℕ) → HasRoom self.old.hardware (n + 1) → HasRoom self.new.hardware n }
         ensures page { (t : Taken) → ((device_at S.size S.told self.old).port port.0).taken slot.0 ≡ Some t → t.meaning.operation ≡ Identify →
             result ≡ false → HasMove (device_at S.size S.told self.old) port.0 slot.0 t → next_place t < 2 ^ 32 → HasRoom self.old.hardware 1 → ⊥ }
-        ensures fine { result ≡ true → S.failures self.new.disk ≡ S.failures self.old.disk }
     {
         // No other port has a disk.
         if port.0 != 0 {
@@ -300,7 +300,7 @@ impl<S: SectorStore> Model<S> {
             HasIdentify (device_at S.size S.told self.old) slot }
         ensures left { (has : HasIdentify (device_at S.size S.told self.old) slot) →
             (now : HasIdentify (device_at S.size S.told self.new) slot) × (now.left ≡ has.left) }
-        ensures rest { GoesOnSo S.size S.failures self.old self.new }
+        ensures rest { GoesOnSo S.size self.old self.new }
         ensures room { (n : ℕ) → HasRoom self.new.hardware n → HasRoom self.old.hardware n }
         ensures starved { self.new.hardware.starved ≡ self.old.hardware.starved }
         ensures disk { self.new.disk ≡ self.old.disk }
@@ -315,7 +315,7 @@ impl<S: SectorStore> Model<S> {
         ensures own { LeadsOwn (Identifies self.old.held) (device_at S.size S.told self.old) (device_at S.size S.told self.new) }
         ensures settled { (held : List Bool) → IsSettled held (device_at S.size S.told self.old) → IsSettled held (device_at S.size S.told self.new) }
         ensures left { NoneIsLeft self.new.held self.new.hardware.starved (device_at S.size S.told self.new) }
-        ensures rest { GoesOnSo S.size S.failures self.old self.new }
+        ensures rest { GoesOnSo S.size self.old self.new }
         ensures told { self.new.hardware.starved ≡ true → (self.old.hardware.starved ≡ true) ⊎ LeavesOne self.new.hardware (device_at S.size S.told self.new) }
         ensures disk { self.new.disk ≡ self.old.disk }
     {
@@ -449,10 +449,9 @@ fn exchange<S: SectorStore>(
         ≡ disk_after (operation_of next.transfer) (disk_over which (S.size disk.old) (S.told disk.old)) next.sector bytes.new }
     ensures kept { result ≡ false → S.told disk.new ≡ S.told disk.old }
     ensures size { S.size disk.new ≡ S.size disk.old }
-    ensures lasts { is_some (S.failures disk.new) ≡ is_some (S.failures disk.old) }
     ensures fine { result ≡ true → S.failures disk.new ≡ S.failures disk.old }
     ensures ranged { result ≡ false → is_ranged (operation_of next.transfer) ≡ true }
-    ensures fails { result ≡ false → next.sector < S.size disk.old → S.failures disk.new ≢ S.failures disk.old }
+    ensures fails { result ≡ false → next.sector < S.size disk.old → FailsOn (reads_memory (operation_of next.transfer)) next.sector (S.failures disk.old) (S.failures disk.new) }
 {
     match next.transfer {
         Transfer::Read => disk.read(next.sector, bytes),

@@ -1,5 +1,6 @@
 -- What stores hold.
-use Rattle.std.specs.Prelude.{ℕ, ◌≡◌, ◌<◌, List, [], Option, IfSome, All, if◌then◌else◌, length, nat_eq, slice_index_or}
+use Rattle.std.specs.Prelude.{ℕ, Bool, ◌≡◌, ◌+◌, ◌%◌, ◌^◌, ◌<◌, List, [], Option, Some, IfSome, All, if◌then◌else◌, length, nat_eq, slice_index_or}
+use Rattle.sector_store.specs.declared.store.Failures.{Failures}
 
 -- the bytes of a sector
 abbrev pub IsSector : List ℕ → Type 0
@@ -16,3 +17,8 @@ AreSectors size told = IfSome told (λ f. (k : ℕ) → k < size → IsSector (f
 -- each item is a sector
 abbrev pub HoldSectors : List (List ℕ) → Type 0
 HoldSectors items = (k : ℕ) → k < length items → IsSector (slice_index_or items k [])
+
+-- One more call has failed: a write, or else a read, of this sector.
+abbrev pub FailsOn : Bool → ℕ → (was now : Option Failures) → Type 0
+FailsOn is_write sector was now =
+    (f : Failures) × (was ≡ Some f) × (now ≡ Some (record { calls = (f.calls + 1) % 2 ^ 64; sector = sector; is_write = is_write }))

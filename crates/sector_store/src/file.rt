@@ -1,8 +1,8 @@
 // A disk over an open file.
-ghost use Rattle.std.specs.Prelude.{◌≡◌, ◌≢◌, ◌<◌, ◌≤◌, ◌*◌, ◌/◌, ◌^◌, Some, None, true, false};
-ghost use Rattle.sector_store.specs.Stores.{IsSector};
+ghost use Rattle.std.specs.Prelude.{◌≡◌, ◌<◌, ◌≤◌, ◌*◌, ◌/◌, ◌^◌, Some, None, true, false};
+ghost use Rattle.sector_store.specs.Stores.{FailsOn, IsSector};
 
-use crate::SectorStore;
+use crate::{Failures, SectorStore};
 use std::fs::{File, Files, OpenOptions, TryLockError};
 use std::io::{self, Seek, SeekFrom};
 use std::os::unix::fs::FileExt;
@@ -17,8 +17,8 @@ const SECTOR_BYTES: u64 = 512;
 pub struct FileStore {
     file: File,
     sectors: u64,
-    /// How many calls failed on sectors that are there, modulo 2^64, for contracts alone.
-    failed: u64,
+    /// For contracts alone.
+    failures: Failures,
     ghost few: { sectors < 2 ^ 64 },
     ghost within_offsets: { sectors * 512 < 2 ^ 64 },
 }
@@ -51,7 +51,11 @@ impl FileStore {
         FileStore {
             file,
             sectors: bytes / SECTOR_BYTES,
-            failed: 0,
+            failures: Failures {
+                calls: 0,
+                sector: 0,
+                is_write: false,
+            },
         }
     }
 
@@ -67,14 +71,18 @@ impl FileStore {
         }
     }
 
-    /// Counts a call on a sector that is there, if it failed.
-    fn count(&mut self, done: bool)
-        ensures same { done ≡ true → self.new.failed ≡ self.old.failed }
-        ensures another { done ≡ false → self.new.failed ≢ self.old.failed }
+    /// Notes a read or a write of a sector that is there, if it failed.
+    fn note(&mut self, is_write: bool, sector: u64, done: bool)
+        ensures same { done ≡ true → self.new.failures ≡ self.old.failures }
+        ensures fails { done ≡ false → FailsOn is_write sector (Some self.old.failures) (Some self.new.failures) }
         ensures sectors { self.new.sectors ≡ self.old.sectors }
     {
         if !done {
-            self.failed = self.failed.wrapping_add(1);
+            self.failures = Failures {
+                calls: self.failures.calls.wrapping_add(1),
+                sector,
+                is_write,
+            };
         }
     }
 }
@@ -91,7 +99,7 @@ impl SectorStore for FileStore {
 
     ghost told = { λ _. None };
 
-    ghost failures = { λ s. Some s.failed };
+    ghost failures = { λ s. Some s.failures };
 
     ghost tells_sectors = { λ _. tt };
 
@@ -107,7 +115,7 @@ impl SectorStore for FileStore {
         };
         let mut bytes = [0; 512];
         let done = self.file.read_exact_at(&mut bytes, place).is_ok();
-        self.count(done);
+        self.note(false, sector, done);
         if done {
             copy(&bytes, out);
         }
@@ -118,7 +126,7 @@ impl SectorStore for FileStore {
         match self.place_of(sector) {
             Some(place) => {
                 let done = self.file.write_all_at(bytes, place).is_ok();
-                self.count(done);
+                self.note(true, sector, done);
                 done
             }
             None => false,

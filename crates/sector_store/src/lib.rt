@@ -8,4 +8,4 @@ mod store;
 
 pub use disks::Disk;
 pub use file::FileStore;
-pub use store::{MemStore, SectorStore};
+pub use store::{Failures, MemStore, SectorStore};

@@ -1,8 +1,20 @@
 // Stores of sectors of 512 bytes.
-ghost use Rattle.std.specs.Prelude.{◌≡◌, ◌≢◌, ◌<◌, ◌≤◌, ◌⊎◌, ◌^◌, ℕ, List, Option, None, Some, IfSome, IfOk, is_some, option_map, replicate, true, false, length, slice_index_or, []};
-ghost use Rattle.sector_store.specs.Stores.{AreSectors, HoldSectors, IsSector, replaced};
+ghost use Rattle.std.specs.Prelude.{◌≡◌, ◌<◌, ◌≤◌, ◌⊎◌, ◌^◌, ℕ, List, Option, None, Some, IfSome, IfOk, option_map, replicate, true, false, length, slice_index_or, []};
+ghost use Rattle.sector_store.specs.Stores.{AreSectors, FailsOn, HoldSectors, IsSector, replaced};
+ghost use Rattle.sector_store.specs.declared.store.Failures.{Failures};
 
 use std::alloc::{AllocError, Global};
+
+/// What a store tells of its calls that failed on sectors that are there.
+#[derive(Clone, Copy, Debug)]
+pub struct Failures {
+    /// How many there were, modulo 2^64.
+    pub calls: u64,
+    /// The sector of the last one; 0 where there was none.
+    pub sector: u64,
+    /// Whether the last one was a write.
+    pub is_write: bool,
+}
 
 /// The sectors of a disk, by their numbers. A sector has 512 bytes. A call that answers `false` failed: a read gave no
 /// sector; a write changed none where the store tells its sectors, and else may have changed a part of its own.
@@ -13,9 +25,8 @@ pub trait SectorStore: Drop {
     /// The bytes of each sector, where the store tells them, as memory does and a file doesn't.
     ghost told: { Self → Option (ℕ → List ℕ) };
 
-    /// What it tells of failed calls: a number, which is another after each call that fails on a sector that is there, and stays over
-    /// all other calls; or `None`, where no such call fails, as in memory.
-    ghost failures: { Self → Option ℕ };
+    /// What it tells of the calls that failed on sectors that are there; or `None`, where no such call fails, as in memory.
+    ghost failures: { Self → Option Failures };
 
     /// How many sectors there are.
     fn sectors(&self) -> u64
@@ -27,10 +38,8 @@ pub trait SectorStore: Drop {
         ensures gives { result ≡ true → IfSome (told self.old) (λ told. out.new ≡ told sector) }
         ensures bytes { result ≡ true → IsSector out.new }
         ensures kept { result ≡ false → out.new ≡ out.old }
-        ensures sure { failures self.old ≡ None → sector < size self.old → result ≡ true }
         ensures serves { (result ≡ true) ⊎ (size self.old ≤ sector) → failures self.new ≡ failures self.old }
-        ensures fails { result ≡ false → sector < size self.old → failures self.new ≢ failures self.old }
-        ensures lasts { is_some (failures self.new) ≡ is_some (failures self.old) }
+        ensures fails { result ≡ false → sector < size self.old → FailsOn false sector (failures self.old) (failures self.new) }
         ensures told { told self.new ≡ told self.old }
         ensures size { size self.new ≡ size self.old };
 
@@ -39,10 +48,8 @@ pub trait SectorStore: Drop {
         ensures inside { result ≡ true → sector < size self.old }
         ensures puts { result ≡ true → told self.new ≡ option_map (λ told. replaced told sector bytes.now) (told self.old) }
         ensures kept { result ≡ false → told self.new ≡ told self.old }
-        ensures sure { failures self.old ≡ None → sector < size self.old → result ≡ true }
         ensures serves { (result ≡ true) ⊎ (size self.old ≤ sector) → failures self.new ≡ failures self.old }
-        ensures fails { result ≡ false → sector < size self.old → failures self.new ≢ failures self.old }
-        ensures lasts { is_some (failures self.new) ≡ is_some (failures self.old) }
+        ensures fails { result ≡ false → sector < size self.old → FailsOn true sector (failures self.old) (failures self.new) }
         ensures size { size self.new ≡ size self.old };
 
     /// What it tells are sectors.

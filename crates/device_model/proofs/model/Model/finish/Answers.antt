@@ -33,7 +33,7 @@ loop-piece-init g c =
       disk = sym c.sectors-sectors.ensures;
       disks = λ _ _. refl;
       untouched = λ _ _. refl;
-      fine = refl;
+      fine = λ _. refl;
       meanwhile = record {
         held = refl;
         says = refl;
@@ -67,7 +67,7 @@ loop-piece-preserved g c =
           c.sectors-sectors.ensures (omega (arith, c.loop-piece-test.true)) c.loop-piece.invariant.did c.loop-piece.invariant.refused (c.in-Some.ensures.begun.ready o) in
           step.disks (λ sector. none (moves sector)) which ∙ c.loop-piece.invariant.disks none which;
       untouched = λ never. absurd (let e : true ≡ false = never in cc);
-      fine = c.move_piece.ensures.fine c.if-not-move_piece.false ∙ c.loop-piece.invariant.fine;
+      fine = λ which. elim step.ends [ inl never ↦ absurd never | inr ended ↦ ended.0 which ∙ c.loop-piece.invariant.fine which ];
       room = c.move_piece.ensures.left _ (omega (arith, c.loop-piece.invariant.room, c.loop-piece-test.true));
       going =
           let P : ℕ → Type 0 = λ n. IsGoing (device_at g.S.SectorStore.size g.S.SectorStore.told c.loop-piece.self) c.args.port.0 c.args.slot.0 c.sectors-sectors.result n in
@@ -109,7 +109,7 @@ returns-then-not-move_piece-clause-answers g c =
     is.did is.refused is.size is.meanwhile
     (finish_moves c.args.port c.args.slot c.loop-piece.did _ _ c.sectors-sectors.result c.in-Some.field-0.left zero sectors
     (omega (arith, c.loop-piece-test.true)) is.did is.refused (c.in-Some.ensures.begun.ready o))
-    is.disks is.untouched is.fine step room (c.requires, found.0, found.1)
+    is.disks is.untouched is.fine step room c.requires found.0 found.1
 
 pub returns-then-done-clause-answers : goal.returns-then-done-clause-answers
 returns-then-done-clause-answers g c =
@@ -136,7 +136,7 @@ returns-then-done-clause-answers g c =
           (c.in-Some.ensures.begun.ready start),
       record {
         asked = goes_next SendsEnd c.args.port.0 c.args.slot.0 _ _ _ c.loop-piece.did is.did is.refused (inr (inr done));
-        ends = λ _. done_frees c.args.port.0 c.args.slot.0 c.sectors-sectors.result _ _ (subst P none is.going) done;
+        ends = inr (is.fine, λ _. done_frees c.args.port.0 c.args.slot.0 c.sectors-sectors.result _ _ (subst P none is.going) done);
         held = all.held;
         says = all.says;
         which = all.which;
@@ -190,9 +190,8 @@ returns-in_default-clause-answers g c =
             held = refl;
             says = refl;
             which = refl;
-            disks = λ _ _. refl;
-            keeps = record { sectors = λ _. refl; sure = λ _. refl; out = λ _ _. refl; queue = refl; accesses = refl };
-            why = λ _ _. ((lacks.left, ready, lacks.lacked), lacks.told);
+            why = inr ((λ _. refl), λ _ _. ((lacks.left, ready, lacks.lacked), lacks.told));
+            keeps = record { sectors = λ _. refl; out = λ _ _. refl; queue = refl; accesses = refl };
             starved_on = λ _. lacks.told;
             starved_since = λ _. inr ((c.if-port-ne0.false, c.requires, lacks.left, ready), (lacks.left, ready, lacks.lacked));
           }

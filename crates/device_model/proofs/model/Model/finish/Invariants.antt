@@ -2,7 +2,7 @@ use Rattle.std.proofs.Common.{◌≡◌, ◌+◌, ◌-◌, true, false}
 use Rattle.adapter.specs.Asked.{GoesOn}
 use Rattle.adapter.specs.declared.access.DeviceStep.TheVariants as asked
 use Rattle.device_model.specs.Disks.{store_of}
-use Rattle.device_model.specs.Does.{MovesSector}
+use Rattle.device_model.specs.Does.{MovesSector, NoneFails}
 use Rattle.device_model.specs.Finishing.{HasRoom, IsGoing}
 use Rattle.device_model.specs.Modelled.{device_at}
 use Rattle.device_model.specs.Sent.{SendsEnd}
@@ -23,6 +23,6 @@ invariant-loop-piece g l = record {
   disks : (MovesSector (asked.Finish l.port l.slot) (device_at g.S.SectorStore.size g.S.SectorStore.told l.fn.self) → ⊥) → (which : Which) →
       store_of l.self which ≡ store_of l.fn.self which;
   untouched : l.did ≡ false → (which : Which) → store_of l.self which ≡ store_of l.fn.self which;
-  fine : g.S.SectorStore.failures l.self.disk ≡ g.S.SectorStore.failures l.fn.self.disk;
-  meanwhile : Meanwhile g.S.SectorStore.size g.S.SectorStore.failures l.fn.self l.self;
+  fine : NoneFails g.S.SectorStore.failures l.fn.self l.self;
+  meanwhile : Meanwhile g.S.SectorStore.size l.fn.self l.self;
 }

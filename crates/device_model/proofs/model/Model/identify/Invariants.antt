@@ -9,7 +9,7 @@ abbrev pub invariant-loop-found : goal.invariant-loop-found
 invariant-loop-found g l = record {
   own : LeadsOwn (Identifies l.fn.self.held) (device_at g.S.SectorStore.size g.S.SectorStore.told l.fn.self) (device_at g.S.SectorStore.size g.S.SectorStore.told l.self);
   settled : (held : List Bool) → IsSettled held (device_at g.S.SectorStore.size g.S.SectorStore.told l.fn.self) → IsSettled held (device_at g.S.SectorStore.size g.S.SectorStore.told l.self);
-  rest : GoesOnSo g.S.SectorStore.size g.S.SectorStore.failures l.fn.self l.self;
+  rest : GoesOnSo g.S.SectorStore.size l.fn.self l.self;
   starved : l.self.hardware.starved ≡ l.fn.self.hardware.starved;
   disk : l.self.disk ≡ l.fn.self.disk;
 }

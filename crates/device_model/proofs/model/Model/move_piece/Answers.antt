@@ -1,25 +1,27 @@
 use Rattle.std.specs.Prelude.{map}
-use Rattle.std.proofs.Common.{refl, ◌++◌, ℕ, true, false, ◌≡◌, ◌≤◌, ◌∙◌, ◌+◌, ◌^◌, ◌∷◌, [], List, length, sym, ap, subst, arith, inl, inr}
+use Rattle.std.proofs.Common.{Bool, refl, ◌++◌, ℕ, true, false, ◌≡◌, ◌≤◌, ◌∙◌, ◌+◌, ◌^◌, ◌∷◌, [], List, length, sym, ap, subst, arith, inl, inr}
 use Rattle.adapter.proofs.Absurd.{some_one, true-false}
 use Rattle.adapter.specs.Asked.{DoesMove}
-use Rattle.adapter.specs.Commands.{is_ranged}
+use Rattle.adapter.specs.Commands.{is_ranged, reads_memory}
 use Rattle.adapter.specs.Device.{Device, Disk}
-use Rattle.adapter.specs.Steps.{next_place, Can, after, move_of}
+use Rattle.adapter.specs.Steps.{next_place, next_sector, Can, after, move_of}
 use Rattle.adapter.specs.Steps.Step.{Move}
 use Rattle.adapter.specs.declared.tape.Entry.{Entry}
 use Rattle.adapter.specs.declared.tape.Entry.TheVariants as entry
-use Rattle.device_model.specs.Finishing.{HasRoom}
+use Rattle.sector_store.specs.Stores.{FailsOn}
+use Rattle.device_model.specs.Does.{NoneFails}
+use Rattle.device_model.specs.Finishing.{HasMove, HasRoom}
 use Rattle.device_model.specs.Modelled.{device_at, outside_at}
 use Rattle.device_model.specs.Slots.{IsNext}
 use Rattle.device_model.specs.View.{operation_of, taken_of}
 use Rattle.device_model.specs.declared.port.Transfer.{Transfer}
-use Rattle.device_model.specs.Disks.{disk_over}
+use Rattle.device_model.specs.Disks.{disk_over, is_same}
 use Rattle.device_model.specs.Whole.{Outside, device_of, outside_of, outside_after}
 use Rattle.device_model.specs.declared.port.TakenCommand.{TakenCommand}
-use Rattle.device_model.proofs.TwoDisks.{both_kept, keeps_with}
+use Rattle.device_model.proofs.TwoDisks.{both_kept, keeps_with, kept_in}
 use Rattle.device_model.proofs.Doing.{left_same}
 use Rattle.device_model.proofs.Finishing.{move_fits, no_move, next_has_move, next_on_disk, outside_moved, sector_small}
-use Rattle.device_model.proofs.Identifying.{next_identifies, next_moves, next_page}
+use Rattle.device_model.proofs.Identifying.{next_identifies, next_page}
 use Rattle.device_model.proofs.Stepping.{may_move}
 use Rattle.device_model.proofs.Telling.{gains_moved}
 use Rattle.device_model.proofs.model.Model.move_piece.Given.{Over}
@@ -44,16 +46,18 @@ returns-in_default-clause-answers g c =
       held = refl;
       says = refl;
       which = refl;
-      disks = λ _ _. refl;
-      keeps = record { sectors = λ _. refl; sure = λ _. refl; out = λ _ _. refl; queue = refl; accesses = refl };
-      why = λ served may.
-          absurd (
-          let sectors = g.met.S.SectorStore.fits m.disk in
-          let few : length m.hardware.memory.items ≤ 2 ^ 32 = served.1 in
-          let size : length c.reserve-room.new.self.memory.items ≡ length m.hardware.memory.items = ap (λ (d : Device). d.size) (c.reserve-room.ensures.same o) in
-          let found = move_fits c.reserve-room.new.self o _ c.args.port.0 c.args.slot.0 may.1 c.if-port-ne0.false (c.reserve-room.ensures.same o) may.2 in
-          c.next_move.ensures.none c.in_default.is found.r found.holds found.left (let there = found.inside in omega (arith, size, few, there)) found.inside
-          (sector_small found.r (g.S.SectorStore.size m.disk) sectors found.on_disk));
+      keeps = record { sectors = λ _. refl; out = λ _ _. refl; queue = refl; accesses = refl };
+      why = inr (
+        (λ _. refl),
+        λ served may.
+            absurd (
+            let sectors = g.met.S.SectorStore.fits m.disk in
+            let few : length m.hardware.memory.items ≤ 2 ^ 32 = served in
+            let size : length c.reserve-room.new.self.memory.items ≡ length m.hardware.memory.items = ap (λ (d : Device). d.size) (c.reserve-room.ensures.same o) in
+            let found = move_fits c.reserve-room.new.self o _ c.args.port.0 c.args.slot.0 may.1 c.if-port-ne0.false (c.reserve-room.ensures.same o) may.2 in
+            c.next_move.ensures.none c.in_default.is found.r found.holds found.left (let there = found.inside in omega (arith, size, few, there)) found.inside
+            (sector_small found.r (g.S.SectorStore.size m.disk) sectors found.on_disk)),
+      );
       starved_on = λ yes. starved ∙ yes;
       starved_since = λ yes. inl (sym starved ∙ yes);
     }
@@ -73,9 +77,8 @@ returns-then-not-room-clause-answers g c =
       held = refl;
       says = refl;
       which = refl;
-      disks = λ _ _. refl;
-      keeps = record { sectors = λ _. refl; sure = λ _. refl; out = λ _ _. refl; queue = refl; accesses = refl };
-      why = λ _ _. (lacks, refl);
+      keeps = record { sectors = λ _. refl; out = λ _ _. refl; queue = refl; accesses = refl };
+      why = inr ((λ _. refl), λ _ _. (lacks, refl));
       starved_on = λ _. refl;
       starved_since = λ _. inr ((c.requires, taken_of c.in-Some.ensures.found.0, fits), lacks);
     }
@@ -92,16 +95,18 @@ returns-then-not-is_on-clause-answers g c =
       held = refl;
       says = refl;
       which = refl;
-      disks = λ _ _. refl;
-      keeps = record { sectors = λ _. refl; sure = λ _. refl; out = λ _ _. refl; queue = refl; accesses = refl };
-      why = λ _ may.
-          absurd
-          (true-false
-          (c.is_on.ensures.1
-          (λ ranged.
-          let here = next_on_disk c.reserve-room.new.self o _ c.args.port.0 c.args.slot.0 c.in-Some.next c.in-Some.ensures.found.0 may.1 c.if-port-ne0.false
-          (c.reserve-room.ensures.same o) c.in-Some.ensures.found.1 may.2 ranged in
-          omega (arith, here, size))) c.if-not-is_on.true);
+      keeps = record { sectors = λ _. refl; out = λ _ _. refl; queue = refl; accesses = refl };
+      why = inr (
+        (λ _. refl),
+        λ _ may.
+            absurd
+            (true-false
+            (c.is_on.ensures.1
+            (λ ranged.
+            let here = next_on_disk c.reserve-room.new.self o _ c.args.port.0 c.args.slot.0 c.in-Some.next c.in-Some.ensures.found.0 may.1 c.if-port-ne0.false
+            (c.reserve-room.ensures.same o) c.in-Some.ensures.found.1 may.2 ranged in
+            omega (arith, here, size))) c.if-not-is_on.true),
+      );
       starved_on = λ yes. starved ∙ yes;
       starved_since = λ yes. inl (sym starved ∙ yes);
     }
@@ -116,20 +121,29 @@ returns-then-not-exchange-clause-answers g c =
     let starved = c.reserve-room.ensures.starved in
     let on = c.is_on.ensures.0 c.if-not-is_on.false in
     let size = c.sectors.ensures in
-    let moves = next_moves c.reserve-room.new.self o _ c.args.port c.args.slot c.in-Some.next c.in-Some.ensures.found.0 c.if-port-ne0.false c.requires
-    (c.reserve-room.ensures.same o) c.in-Some.ensures.found.1 (λ ranged. let here = on ranged in omega (arith, here, size)) in
+    let next = c.in-Some.ensures.found in
+    let fits = next_has_move c.reserve-room.new.self o _ c.args.port.0 c.args.slot.0 c.in-Some.next next.0 c.if-port-ne0.false
+    (c.reserve-room.ensures.same o) next.1 (λ ranged. let here = on ranged in omega (arith, here, size)) in
     let ranged = c.exchange.ensures.ranged c.if-not-exchange.true in
     let here = on ranged in
     let failed = c.exchange.ensures.fails c.if-not-exchange.true (omega (arith, here, size)) in
+    let same = (λ i. device_of c.reserve-room.new.self (outside_of (disk_over m.which (c.exchange.ensures.size i) (kept i)) (g.S.SectorStore.told m.other) was))
+    ∙ c.reserve-room.ensures.same o in
+    let P : Device → Type 0 = λ d. HasMove d c.args.port.0 c.args.slot.0 (taken_of next.0) in
+    let Q : Bool → ℕ → Type 0 = λ is_write sector. FailsOn is_write sector (g.S.SectorStore.failures m.disk) (g.S.SectorStore.failures c.exchange.new.disk) in
+    let writes = ap (λ (k : Transfer). reads_memory (operation_of k)) next.1.transfer_is in
     record {
-      device = (λ i. device_of c.reserve-room.new.self (outside_of (disk_over m.which (c.exchange.ensures.size i) (kept i)) (g.S.SectorStore.told m.other) was))
-          ∙ c.reserve-room.ensures.same o;
+      device = same;
       held = refl;
       says = refl;
       which = refl;
-      disks = λ fine _. absurd (failed (fine (moves ranged)));
-      keeps = keeps_with g.S.SectorStore.size g.S.SectorStore.failures m _ _ c.exchange.ensures.size c.exchange.ensures.lasts;
-      why = λ served _. absurd (failed (served.0 (moves ranged)));
+      why = inl (record {
+        t = taken_of next.0;
+        move = subst P (sym same) fits;
+        ranged = ap (λ (k : Transfer). is_ranged (operation_of k)) (sym next.1.transfer_is) ∙ ranged;
+        fails = subst (λ b. Q b (next_sector (taken_of next.0))) writes (subst (Q (reads_memory (operation_of c.in-Some.next.transfer))) next.1.sector_is failed);
+      });
+      keeps = keeps_with g.S.SectorStore.size m _ _ c.exchange.ensures.size;
       starved_on = λ yes. starved ∙ yes;
       starved_since = λ yes. inl (sym starved ∙ yes);
     }
@@ -167,20 +181,27 @@ moved g c =
           ∙ (moved.2 ∙ ap (λ (d : Device). after (Move c.args.port.0 c.args.slot.0 (taken_of r) bytes) d) (c.reserve-room.ensures.same o));
     }
 
+-- no call has failed
+both_fine : (g : Over) (c : goal.After-move_bytes g) →
+    NoneFails g.S.SectorStore.failures c.args.self.now (record c.args.self.now { hardware = c.move_bytes.new.self; disk = c.exchange.new.disk })
+both_fine g c = λ which.
+    let m = c.args.self.now in
+    kept_in g.S.SectorStore.failures (is_same which m.which) c.exchange.new.disk m.disk m.other (c.exchange.ensures.fine c.if-not-exchange.false)
+
 pub returns-clause-answers : goal.returns-clause-answers
 returns-clause-answers g c =
     let m = c.args.self.now in
     let o : Outside = outside_at g.S.SectorStore.size g.S.SectorStore.told m in
     let noted = c.move_bytes.ensures.moved o in
     let entry : Entry = entry.Move (move_of c.args.port.0 c.args.slot.0 (taken_of noted.0) c.exchange.new.bytes) in
-    let keeps = keeps_with g.S.SectorStore.size g.S.SectorStore.failures m c.move_bytes.new.self _ c.exchange.ensures.size c.exchange.ensures.lasts in
+    let keeps = keeps_with g.S.SectorStore.size m c.move_bytes.new.self _ c.exchange.ensures.size in
     let on = c.exchange.ensures.inside c.if-not-exchange.false in
     let fits = next_has_move c.reserve-room.new.self o _ c.args.port.0 c.args.slot.0 c.in-Some.next c.in-Some.ensures.found.0 c.if-port-ne0.false
     (c.reserve-room.ensures.same o) c.in-Some.ensures.found.1 on in (
       (c.requires, taken_of c.in-Some.ensures.found.0, fits),
       record {
         asked = moved g c;
-        ends = λ _. tt;
+        ends = inr (both_fine g c, λ _. tt);
         held = refl;
         says = refl;
         which = refl;

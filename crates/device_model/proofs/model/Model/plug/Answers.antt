@@ -38,9 +38,8 @@ returns-then-not-plug g c =
         held = refl;
         says = refl;
         which = refl;
-        disks = λ _ _. refl;
-        keeps = record { out = λ _ _. refl; sectors = λ _. refl; sure = λ _. refl; queue = refl; accesses = refl };
-        why = λ _ _. (λ room _. missed.1 room, missed.2);
+        keeps = record { out = λ _ _. refl; sectors = λ _. refl; queue = refl; accesses = refl };
+        why = inr ((λ _. refl), λ _ _. (λ room _. missed.1 room, missed.2));
         starved_on = λ _. missed.2;
         starved_since = λ _. inr ((c.if-port-ne0.false, omega (arith, small, c.in-Some.ensures.found), free), λ room _. missed.1 room);
       }
@@ -109,7 +108,7 @@ returns g c =
       subst Q (sym c.turn_to.ensures.rest)
           (record {
             asked = subst P (sym c.if-port-ne0.false) (does g c);
-            ends = λ _. tt;
+            ends = inr ((λ w. ap g.S.SectorStore.failures (each w)), λ _. tt);
             held = refl;
             says = refl;
             which = c.turn_to.ensures.which ∙ of_number c.in-Some.which c.args.disk.0 c.in-Some.ensures.found;
@@ -118,7 +117,6 @@ returns g c =
             keeps = record {
               out = λ w _. each w;
               sectors = λ w. ap g.S.SectorStore.size (each w);
-              sure = λ w. ap (λ s. is_some (g.S.SectorStore.failures s)) (each w);
               queue = refl;
               accesses = refl;
             };

@@ -42,7 +42,7 @@ returns g c =
         says = refl;
         which = refl;
         pages = gains_none g.S.SectorStore.size was is (ap (λ (v : Vec Entry). v.items) c.fetch-taken.ensures.tape);
-        keeps = record { out = λ _ _. refl; sectors = λ _. refl; sure = λ _. refl; queue = refl; accesses = refl };
+        keeps = record { out = λ _ _. refl; sectors = λ _. refl; queue = refl; accesses = refl };
         starved_on = λ yes. c.fetch-taken.ensures.starved ∙ yes;
       };
       room = λ n room.

@@ -92,7 +92,6 @@ returns-clause-alone g c =
       keeps = record {
         out = own.keeps.out;
         sectors = own.keeps.sectors;
-        sure = own.keeps.sure;
         queue = own.keeps.queue;
         accesses = own.keeps.accesses;
       };
