@@ -1,5 +1,6 @@
 pub mod Members
 pub mod Keeping
+pub mod Walk
 pub mod Stepping
 pub mod Counts
 pub mod Changing

@@ -75,10 +75,16 @@ fn free_slots(store: &Store, mode: Mode, port: Port) -> usize
 {
     let mut issued = 0usize;
     for place in 0..store.len() {
-        let asks = store.asks(place);
-        if asks.port.0 == port.0 && asks.issued {
+        if is_issued_on(&store.asks(place), port) {
             issued += 1;
         }
     }
     (mode.usable as usize).saturating_sub(issued)
+}
+
+/// Whether the request is issued on this port.
+fn is_issued_on(asks: &Unanswered, port: Port) -> bool
+    ensures { result ≡ (asks.now.port.0 == port.0 && asks.now.issued) }
+{
+    asks.port.0 == port.0 && asks.issued
 }
