@@ -86,7 +86,7 @@ changed_at es place e id f ordered is named =
             (λ (high : place ≤ k). let lt = ordered place k d (omega (arith, high, ne)) short in omega (arith, lt, its, n, same))
             (cases_lt k place)
 
-rest_ordered : (x : Held) (xs : List Held) → AllPairs IsEarlier (x ∷ xs) → AllPairs IsEarlier xs
+pub rest_ordered : (x : Held) (xs : List Held) → AllPairs IsEarlier (x ∷ xs) → AllPairs IsEarlier xs
 rest_ordered x xs ordered i j d lt small = ordered (suc i) (suc j) d (omega (arith, lt)) (omega (arith, small))
 
 pub later_than : (x : Held) (xs : List Held) (y : Held) → AllPairs IsEarlier (x ∷ xs) → Contains xs y → x.entry.id.0 < y.entry.id.0

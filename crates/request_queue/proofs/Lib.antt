@@ -7,3 +7,5 @@ pub mod Changing
 pub mod Ending
 pub mod Working
 pub mod Listing
+pub mod Finding
+pub mod Lending

@@ -1,5 +1,5 @@
 -- The book and the machine's book go together.
-use Rattle.std.proofs.Common.{ℕ, suc, ◌≡◌, ◌↔◌, ◌==◌, ◌&&◌, Bool, true, false, cond, not, List, [], ◌∷◌, ◌++◌, map, refl, sym, ap, ◌∙◌, subst, arith}
+use Rattle.std.proofs.Common.{ℕ, suc, ◌≡◌, ◌↔◌, ◌==◌, ◌&&◌, Bool, true, false, cond, not, List, [], ◌∷◌, ◌++◌, map, refl, sym, ap, ◌∙◌, subst, arith, ⊎_elim}
 use Rattle.std.specs.List.{AllZip, Contains, filter}
 use Rattle.std.proofs.lemmas.Bool.{cond-true, cond-false}
 use Rattle.ata_types.specs.declared.Port.{Port}
@@ -14,7 +14,7 @@ use Rattle.block_machine.specs.Steps as steps
 use Rattle.request_queue.specs.Entries.{Held, asks, asks_of, has_id, at, without, issue, requeued, older, aged, unanswered_of, due_ids}
 use Rattle.request_queue.specs.Machine.{IsEntry, IsBook}
 use Rattle.request_queue.specs.declared.Entry.{Entry}
-use Rattle.request_queue.proofs.Members.{count_cons, map_in, into_map}
+use Rattle.request_queue.proofs.Members.{contains_none, contains_here, contains_there, contains_cases, count_cons, map_in, into_map}
 
 -- ---- two lists, place by place
 
@@ -47,6 +47,24 @@ zip_push R [] [] a b all last = (last, tt)
 zip_push R [] (y ∷ ys) a b all last = absurd all
 zip_push R (x ∷ xs) [] a b all last = absurd all
 zip_push R (x ∷ xs) (y ∷ ys) a b all last = (all.0, zip_push R xs ys a b all.1 last)
+
+-- each of the one list has its like in the other
+pub like_right : {X Y : Type 0} (R : X → Y → Type 0) (xs : List X) (ys : List Y) → AllZip R xs ys → (x : X) → Contains xs x → (y : Y) × Contains ys y × R x y
+like_right R [] ys all x here = absurd (contains_none x here)
+like_right R (a ∷ xs) [] all x here = absurd all
+like_right R (a ∷ xs) (b ∷ ys) all x here = ⊎_elim
+    (λ (same : x ≡ a). (b, contains_here b ys b refl, subst (λ (z : _). R z b) (sym same) all.0))
+    (λ later. let r = like_right R xs ys all.1 x later in (r.0, contains_there b ys r.0 r.1, r.2))
+    (contains_cases a xs x here)
+
+pub like_left : {X Y : Type 0} (R : X → Y → Type 0) (xs : List X) (ys : List Y) → AllZip R xs ys → (y : Y) → Contains ys y → (x : X) × Contains xs x × R x y
+like_left R [] [] all y here = absurd (contains_none y here)
+like_left R [] (b ∷ ys) all y here = absurd all
+like_left R (a ∷ xs) [] all y here = absurd (contains_none y here)
+like_left R (a ∷ xs) (b ∷ ys) all y here = ⊎_elim
+    (λ (same : y ≡ b). (a, contains_here a xs a refl, subst (λ (z : _). R a z) (sym same) all.0))
+    (λ later. let r = like_left R xs ys all.1 y later in (r.0, contains_there a xs r.0 r.1, r.2))
+    (contains_cases b ys y here)
 
 -- ---- one request
 
