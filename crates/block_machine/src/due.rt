@@ -64,12 +64,14 @@ pub fn conflict(a: &Unanswered, b: &Unanswered) -> bool
 pub fn holds_back(mode: Mode, r: &Unanswered, other: &Unanswered) -> bool
     ensures { result ≡ due.holds_back mode r.now other.now }
 {
+    if other.port.0 != r.port.0 {
+        return false;
+    }
     let earlier = other.id.0 < r.id.0;
-    let blocks = if is_plain(mode, r.op) {
+    if is_plain(mode, r.op) {
         other.issued || earlier
     } else {
         let plain = is_plain(mode, other.op);
         (plain && other.issued) || (earlier && (plain || conflict(other, r)))
-    };
-    other.port.0 == r.port.0 && blocks
+    }
 }
