@@ -43,7 +43,7 @@ fn goes(store: &Store, mode: Mode, port: Port, asks: &Unanswered, given: usize, 
         && (is_plain(mode, asks.op) || given < free)
 }
 
-/// Whether no request after this one goes: each of its port waits for a plain one, and no slot is left for a queued one.
+/// Whether none after this one goes: where this one is plain, those of its port wait for it, and else no slot is left.
 fn ends(mode: Mode, port: Port, asks: &Unanswered, given: usize, free: usize) -> bool
     ensures { result ≡ (asks.now.port.0 == port.0 && (machine.is_plain mode asks.now.op || not (nat_lt given free))) }
 {
