@@ -19,7 +19,7 @@ use Rattle.slab.specs.Slab.{Slab, get, slab_len, Updates, with_value}
 use Rattle.dma_frames.specs.Loan.{Lending}
 use Rattle.request_queue.specs.declared.Entry.{Entry}
 use Rattle.request_queue.specs.Entries.{Held}
-use Rattle.request_queue.specs.Store.{blank, frames_of, held_at, entries, IsHeld, IsSound}
+use Rattle.request_queue.specs.Store.{blank, frames_of, held_at, entries, IsKept, IsSound}
 
 none-some : {A : Type 0} {o : Option A} (x : A) → o ≡ None → o ≡ Some x → ⊥
 none-some x p q = let r = sym p ∙ q in cc
@@ -43,7 +43,7 @@ module _ (s s' : Slab Entry) (loans : List (Option Lending)) (order : List ℕ) 
   fresh none i d lt e = let h = sound.held i d lt in none-some h.request (subst (λ n. get s n ≡ None) (sym e) none) h.has_request
 
   -- what stays held
-  still_held : (slot : Option Lending) → ((k : ℕ) → k ≢ key → get s' k ≡ get s k) → (k : ℕ) → k ≢ key → IsHeld s loans k → IsHeld s' (set loans key slot) k
+  still_held : (slot : Option Lending) → ((k : ℕ) → k ≢ key → get s' k ≡ get s k) → (k : ℕ) → k ≢ key → IsKept s loans k → IsKept s' (set loans key slot) k
   still_held slot others k ne h = record {
     request = h.request;
     loan = h.loan;
@@ -64,7 +64,7 @@ module _ (s s' : Slab Entry) (loans : List (Option Lending)) (order : List ℕ) 
       places = length-set loans key (Some loan) ∙ (sound.places ∙ sym capacity);
       count = rw (len, length_push) (omega (arith, sound.count));
       distinct = all_pairs_push (λ (a : ℕ) (b : ℕ). a ≢ b) order key sound.distinct (fresh vacant);
-      held = All-push (IsHeld s' (set loans key (Some loan))) order key
+      held = All-push (IsKept s' (set loans key (Some loan))) order key
           (λ i d lt. still_held (Some loan) updates.others (get_or order i d) (fresh vacant i d lt) (sound.held i d lt))
           (record { request = r; loan = loan; has_request = updates.changed; has_loan = get_or-set_same loans key (Some loan) None within; same_id = id; in_place = rw length-set within });
       vacant = λ k out.
@@ -85,12 +85,12 @@ module _ (s s' : Slab Entry) (loans : List (Option Lending)) (order : List ℕ) 
         shorter : length (remove order place) + 1 ≡ length order
         shorter = length-remove order place within
 
-    kept : All (IsHeld s loans) (remove order place)
+    kept : All (IsKept s loans) (remove order place)
     kept i d lt =
         let shorter = length-remove order place within in
         elim (cases_lt i place) [
-          | inl low ↦ subst (IsHeld s loans) (sym (get_or-remove_below order place d i low within)) (sound.held i d (omega arith))
-          | inr high ↦ subst (IsHeld s loans) (sym (get_or-remove_above order place d i high within)) (sound.held (i + 1) d (omega arith))
+          | inl low ↦ subst (IsKept s loans) (sym (get_or-remove_below order place d i low within)) (sound.held i d (omega arith))
+          | inr high ↦ subst (IsKept s loans) (sym (get_or-remove_above order place d i high within)) (sound.held (i + 1) d (omega arith))
         ]
 
     pub entries_less : entries s' (set loans key None) (remove order place) ≡ remove (entries s loans order) place
@@ -109,15 +109,15 @@ module _ (s s' : Slab Entry) (loans : List (Option Lending)) (order : List ℕ) 
       distinct = all_pairs_remove (λ (a : ℕ) (b : ℕ). a ≢ b) order place within sound.distinct;
       held = λ i d lt. still_held None updates.others (get_or (remove order place) i d) (once i d lt) (kept i d lt);
       vacant = λ k out. elim (cases_eq k key) [
-        | inl e ↦ rw e (updates.changed, get_or-set_same loans key None None (subst (IsHeld s loans) (is_key 0) (sound.held place 0 within)).in_place)
+        | inl e ↦ rw e (updates.changed, get_or-set_same loans key None None (subst (IsKept s loans) (is_key 0) (sound.held place 0 within)).in_place)
         | inr ne ↦ let old = sound.vacant k (λ w. out (in_remove order place w.0 k within w.1 (sym w.2)
             (λ e. ne (sym w.2 ∙ (ap (λ n. get_or order n k) e ∙ is_key k)))).1) in
             (updates.others k ne ∙ old.0, set_beside loans key None k ne ∙ old.1)
       ];
     }
 
-    held_there : IsHeld s loans key
-    held_there = subst (IsHeld s loans) (is_key 0) (sound.held place 0 within)
+    held_there : IsKept s loans key
+    held_there = subst (IsKept s loans) (is_key 0) (sound.held place 0 within)
 
     pub key_in_place : key < length loans
     key_in_place = held_there.in_place
@@ -144,7 +144,7 @@ module _ (s : Slab Entry) (loans : List (Option Lending)) (order : List ℕ) (ke
   frames_there loan there = slice_get-map (λ (e : Held). e.frames) (entries s loans order) place ∙ rw (stands_at, there) refl
 
   pub key_there : IsSound s loans order → key < length loans
-  key_there sound = (subst (IsHeld s loans) (is_key 0) (sound.held place 0 within)).in_place
+  key_there sound = (subst (IsKept s loans) (is_key 0) (sound.held place 0 within)).in_place
 
 -- ---- another state of one request
 
@@ -178,7 +178,7 @@ module _ (s : Slab Entry) (loans : List (Option Lending)) (order : List ℕ) (ke
         (updates.others k ne ∙ was.0, was.1);
   }
     where
-      held_after : (k : ℕ) → IsHeld s loans k → IsHeld after loans k
+      held_after : (k : ℕ) → IsKept s loans k → IsKept after loans k
       held_after k h = elim (cases_eq k key) [
         | inl e ↦ record {
           request = new;

@@ -21,21 +21,24 @@ blank = record {
   age = 0;
 }
 
+-- the frames of a loan, if there is one
 abbrev pub frames_of : Option Lending → List Frame
 frames_of None = []
 frames_of (Some loan) = loan.frames
 
+-- what stands at a key
 abbrev pub held_at : Slab Entry → List (Option Lending) → ℕ → Held
 held_at requests loans key = record {
   entry = unwrap_or (get requests key) blank;
   frames = frames_of (slice_index_or loans key None);
 }
 
+-- the requests in order of acceptance: what contracts see of a store
 abbrev pub entries : Slab Entry → List (Option Lending) → List ℕ → List Held
 entries requests loans order = map (held_at requests loans) order
 
 -- the key has a request, and beside it the loan of that request
-pub record IsHeld (requests : Slab Entry) (loans : List (Option Lending)) (key : ℕ) : Type 0 where
+pub record IsKept (requests : Slab Entry) (loans : List (Option Lending)) (key : ℕ) : Type 0 where
   pub request : Entry
   pub loan : Lending
   pub has_request : get requests key ≡ Some request
@@ -49,5 +52,5 @@ pub record IsSound (requests : Slab Entry) (loans : List (Option Lending)) (orde
   pub places : length loans ≡ requests.capacity
   pub count : slab_len requests ≡ length order
   pub distinct : AllPairs (λ (a : ℕ) (b : ℕ). a ≢ b) order
-  pub held : All (IsHeld requests loans) order
+  pub held : All (IsKept requests loans) order
   pub vacant : (key : ℕ) → (Contains order key → ⊥) → (get requests key ≡ None) × (slice_index_or loans key None ≡ None)
