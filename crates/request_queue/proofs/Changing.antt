@@ -3,7 +3,8 @@ use Rattle.std.proofs.Common.{ℕ, zero, suc, ◌≡◌, ◌≢◌, ◌⊎◌, �
 use Rattle.std.specs.List.{All, AllPairs, Contains, count_by, remove, slice_get}
 use Rattle.std.proofs.lemmas.Bool.{cond-true, cond-false, cases_eq, cases_lt, ne_eqb, false≢true}
 use Rattle.std.proofs.lemmas.List.{get_or-map, length-map, get_or-set_same, get_or-set_other, length-set, same_lists, get_or_default}
-use Rattle.std.proofs.lemmas.List.Elements.{All-push, All-contains}
+use Rattle.std.proofs.lemmas.List.Elements.{All-push, All-contains, All-filter}
+use Rattle.std.proofs.lemmas.List.Kept.{AllPairs-filter}
 use Rattle.std.proofs.lemmas.List.Quantifiers.{all_pairs_push}
 use Rattle.std.proofs.lemmas.Option.{slice_get_within, get_or_from_slice_get, same_Some}
 use Rattle.ata_types.specs.declared.Port.{Port}
@@ -272,23 +273,6 @@ without_in id (x ∷ xs) e h = go (not (has_id id x)) (λ k. without_in id xs e 
     go true rest k = ⊎_elim (λ same. contains_here x xs e same) (λ later. contains_there x xs e (rest later)) (contains_cases x (without id xs) e k)
     go false rest k = contains_there x xs e (rest k)
 
-fewer_ordered : (id : RequestId) (es : List Held) → AllPairs IsEarlier es → AllPairs IsEarlier (without id es)
-fewer_ordered id [] ordered = ordered
-fewer_ordered id (x ∷ xs) ordered = go (not (has_id id x)) (fewer_ordered id xs (rest_ordered x xs ordered))
-  where
-    go : (b : Bool) → AllPairs IsEarlier (without id xs) → AllPairs IsEarlier (cond b (x ∷ without id xs) (without id xs))
-    go false rest = rest
-    go true rest = front
-      where
-        front : AllPairs IsEarlier (x ∷ without id xs)
-        front zero zero d lt below = absurd (omega (arith, lt))
-        front zero (suc j) d lt below =
-            let y : Held = get_or (without id xs) j d in
-            let inside : j < length (without id xs) = omega (arith, below) in
-            later_than x xs y ordered (without_in id xs y (j, inside, get_or_default (without id xs) j y d inside))
-        front (suc i) zero d lt below = absurd (omega (arith, lt))
-        front (suc i) (suc j) d lt below = rest i j d (omega (arith, lt)) (omega (arith, below))
-
 fewer_counted : (id : RequestId) (p : Held → Bool) (es : List Held) → count_by p (without id es) ≤ count_by p es
 fewer_counted id p [] = omega arith
 fewer_counted id p (x ∷ xs) = go (not (has_id id x)) (fewer_counted id p xs)
@@ -299,16 +283,11 @@ fewer_counted id p (x ∷ xs) = go (not (has_id id x)) (fewer_counted id p xs)
 
 pub fewer_in_order : (id : RequestId) (es : List Held) → IsInOrder es → IsInOrder (without id es)
 fewer_in_order id es s = record {
-  ordered = fewer_ordered id es s.ordered;
-  clients = λ k d lt. All-contains (λ (x : Held). (1 ≤ x.entry.client.0) × (x.entry.client.0 ≤ 8)) es (get_or (without id es) k d) s.clients (still k d lt);
+  ordered = AllPairs-filter IsEarlier (λ e. not (has_id id e)) es s.ordered;
+  clients = All-filter (λ e. not (has_id id e)) (λ (x : Held). (1 ≤ x.entry.client.0) × (x.entry.client.0 ≤ 8)) es s.clients;
   few = λ client. let a = fewer_counted id (λ (x : Held). x.entry.client.0 == client) es in let b = s.few client in omega (arith, a, b);
-  issues = λ k d lt. All-contains (λ (x : Held). HasIssuesLeft x.entry) es (get_or (without id es) k d) s.issues (still k d lt);
+  issues = All-filter (λ e. not (has_id id e)) (λ (x : Held). HasIssuesLeft x.entry) es s.issues;
 }
-  where
-    still : (k : ℕ) (d : Held) → k < length (without id es) → Contains es (get_or (without id es) k d)
-    still k d lt =
-        let y : Held = get_or (without id es) k d in
-        without_in id es y (k, lt, get_or_default (without id es) k y d lt)
 
 -- ---- the walk is given a book in order
 

@@ -1,6 +1,7 @@
 pub mod Members
 pub mod Keeping
 pub mod Walk
+pub mod Own
 pub mod Stepping
 pub mod Counts
 pub mod Changing

@@ -1,8 +1,8 @@
 -- The walk gives a slot to the requests that are due, and ends where no later one is.
-use Rattle.std.proofs.Common.{◌≡◌, ◌↔◌, ℕ, ◌<◌, ◌≤◌, ◌+◌, Bool, true, false, not, cond, ◌&&◌, ◌||◌, ◌==◌, ltb, List, [], ◌∷◌, ◌++◌, length, get_or, map, take, drop, Some, refl, sym, ap, ◌∙◌, subst, arith, append_assoc, lt-ltb, ltb-true, eqb-true, eq-eqb, ⊎_elim}
-use Rattle.std.specs.List.{count_by, filter, list_any, slice_get, Contains}
+use Rattle.std.proofs.Common.{◌≡◌, ◌↔◌, ℕ, ◌<◌, ◌≤◌, ◌+◌, Bool, true, false, not, cond, ◌&&◌, ◌||◌, ◌==◌, List, [], ◌∷◌, ◌++◌, length, map, take, drop, Some, refl, sym, ap, ◌∙◌, subst, arith, append_assoc, lt-ltb, ltb-true, eqb-true, ⊎_elim}
+use Rattle.std.specs.List.{count_by, filter, slice_get, Contains}
 use Rattle.std.specs.Prelude.{nat_lt}
-use Rattle.std.proofs.lemmas.Bool.{and_left, and_parts, and_from, or_cases, or_left, or_right, cond-true, cond-false, not-true, both_ways, false_from_ne_true}
+use Rattle.std.proofs.lemmas.Bool.{and_parts, and_from, or_cases, or_left, or_right, cond-true, cond-false, not-true, both_ways, false_from_ne_true}
 use Rattle.std.proofs.lemmas.List.{take-append-drop, map-append, append-nil, length-map}
 use Rattle.std.proofs.lemmas.List.Folds.{list_any_at}
 use Rattle.std.proofs.lemmas.List.Sums.{length-filter}
@@ -12,7 +12,7 @@ use Rattle.ata_types.specs.declared.Port.{Port}
 use Rattle.ata_types.specs.declared.request.RequestId.{RequestId}
 use Rattle.block_machine.specs.declared.due.Mode.{Mode}
 use Rattle.block_machine.specs.declared.due.Unanswered.{Unanswered}
-use Rattle.block_machine.specs.Due.{IsInOrder, conflict, holds_back, is_plain, is_earlier, is_clear, ahead, free_slots, is_due, due_ahead}
+use Rattle.block_machine.specs.Due.{IsInOrder, conflict, holds_back, is_plain, is_clear, ahead, free_slots, is_due, due_ahead}
 use Rattle.request_queue.proofs.Members.{taken_more, count_least, none_pass}
 
 turn : (a b c : Bool) → ((a && b) && c) ≡ (b && (a && c))
@@ -37,12 +37,13 @@ due_test mode port book x = x.port.0 == port.0 && is_due mode book x
 abbrev pub ids_so_far : Mode → Port → List Unanswered → ℕ → List RequestId
 ids_so_far mode port book i = map (λ (x : Unanswered). x.id) (filter (due_test mode port book) (take i book))
 
--- the walk's tests of a request, where so many slots are free and so many of them are given away: whether it goes, and whether no later one does
-abbrev pub walk_test : Mode → Port → List Unanswered → Unanswered → ℕ → ℕ → Bool
-walk_test mode port book r given free = r.port.0 == port.0 && (is_clear mode book r && (is_plain mode r.op || nat_lt given free))
+-- the walk's tests of a request of the port, where so many slots are free and so many of them are given away: whether it goes, and whether no
+-- later one does
+abbrev pub walk_test : Mode → List Unanswered → Unanswered → ℕ → ℕ → Bool
+walk_test mode book r given free = is_clear mode book r && (is_plain mode r.op || nat_lt given free)
 
-abbrev pub end_test : Mode → Port → Unanswered → ℕ → ℕ → Bool
-end_test mode port r given free = r.port.0 == port.0 && (is_plain mode r.op || not (nat_lt given free))
+abbrev pub end_test : Mode → Unanswered → ℕ → ℕ → Bool
+end_test mode r given free = is_plain mode r.op || not (nat_lt given free)
 
 -- two laws of the machine: those that stand before a request are the earlier ones, and a slot is left after them, clear or due
 abbrev pub StandBefore : Type 0
@@ -78,19 +79,15 @@ module _ (before : StandBefore) (by_due : SlotsByDue) (mode : Mode) (port : Port
   own_port r mine = ap (λ (n : ℕ). record { 0 = n }) (eqb-true r.port.0 port.0 mine)
 
   -- so the walk's test is the definition's
-  pub walks : (i : ℕ) (r : Unanswered) (given : ℕ) → slice_get book i ≡ Some r → given ≡ count_by (due_test mode port book) (take i book)
-      → walk_test mode port book r given (free_slots mode book port) ≡ due_test mode port book r
-  walks i r given at counted = by (r.port.0 == port.0) refl
-    where
-      by : (b : Bool) → (r.port.0 == port.0) ≡ b → walk_test mode port book r given (free_slots mode book port) ≡ due_test mode port book r
-      by false other = and_left _ _ other ∙ sym (and_left _ _ other)
-      by true mine =
-          let own = own_port r mine in
-          let slots : nat_lt given (free_slots mode book port) ≡ nat_lt (ahead mode book r) (free_slots mode book r.port) =
-          ap (λ (n : ℕ). nat_lt n (free_slots mode book port)) (counted ∙ sym (taken i r at own))
-          ∙ (ap (λ (x : Port). nat_lt (due_ahead mode book r) (free_slots mode book x)) (sym own)
-          ∙ sym (same_lt (ahead mode book r) (due_ahead mode book r) (free_slots mode book r.port) (by_due mode book r ordered (here i r at)))) in
-          ap (λ (x : Bool). (r.port.0 == port.0) && (is_clear mode book r && (is_plain mode r.op || x))) slots
+  pub walks : (i : ℕ) (r : Unanswered) (given : ℕ) → slice_get book i ≡ Some r → (r.port.0 == port.0) ≡ true → given ≡ count_by (due_test mode port book) (take i book)
+      → walk_test mode book r given (free_slots mode book port) ≡ due_test mode port book r
+  walks i r given at mine counted =
+      let own = own_port r mine in
+      let slots : nat_lt given (free_slots mode book port) ≡ nat_lt (ahead mode book r) (free_slots mode book r.port) =
+      ap (λ (n : ℕ). nat_lt n (free_slots mode book port)) (counted ∙ sym (taken i r at own))
+      ∙ (ap (λ (x : Port). nat_lt (due_ahead mode book r) (free_slots mode book x)) (sym own)
+      ∙ sym (same_lt (ahead mode book r) (due_ahead mode book r) (free_slots mode book r.port) (by_due mode book r ordered (here i r at)))) in
+      ap (λ (x : Bool). is_clear mode book r && (is_plain mode r.op || x)) slots ∙ sym (ap (λ (b : Bool). b && is_due mode book r) mine)
 
   -- what stands in the way of a request isn't there where the request is clear
   unheld : (r o : Unanswered) → is_clear mode book o ≡ true → Contains book r → holds_back mode o r ≡ true → ⊥
@@ -99,18 +96,17 @@ module _ (before : StandBefore) (by_due : SlotsByDue) (mode : Mode) (port : Port
       (list_any_at (holds_back mode o) book h.0 r h.1 (ap (holds_back mode o) h.2 ∙ held))
 
   -- no later one is due
-  pub none_later : (i : ℕ) (r : Unanswered) (given : ℕ) → slice_get book i ≡ Some r → given ≡ count_by (due_test mode port book) (take (i + 1) book)
-      → end_test mode port r given (free_slots mode book port) ≡ true → (j : ℕ) (o : Unanswered) → i + 1 ≤ j → slice_get book j ≡ Some o → due_test mode port book o ≡ false
-  none_later i r given at counted ends j o later at_j = false_from_ne_true _ (λ due.
+  pub none_later : (i : ℕ) (r : Unanswered) (given : ℕ) → slice_get book i ≡ Some r → (r.port.0 == port.0) ≡ true → given ≡ count_by (due_test mode port book) (take (i + 1) book)
+      → end_test mode r given (free_slots mode book port) ≡ true → (j : ℕ) (o : Unanswered) → i + 1 ≤ j → slice_get book j ≡ Some o → due_test mode port book o ≡ false
+  none_later i r given at its counted ends j o later at_j = false_from_ne_true _ (λ due.
       let mine = and_parts (o.port.0 == port.0) _ due in
       let clear = and_parts (is_clear mode book o) _ mine.1 in
-      let last = and_parts (r.port.0 == port.0) _ ends in
       let own = own_port o mine.0 in
-      let of_one_port : (r.port.0 == o.port.0) ≡ true = ap (λ (x : Port). r.port.0 == x.0) own ∙ last.0 in
+      let of_one_port : (r.port.0 == o.port.0) ≡ true = ap (λ (x : Port). r.port.0 == x.0) own ∙ its in
       let first : r.id.0 < o.id.0 = earlier in
       let lt : nat_lt r.id.0 o.id.0 ≡ true = lt-ltb r.id.0 o.id.0 first in
       let held : holds_back mode o r ≡ true → ⊥ = unheld r o clear.0 (here i r at) in
-      by of_one_port lt held own clear.1 (is_plain mode o.op) refl last.1)
+      by of_one_port lt held own clear.1 (is_plain mode o.op) refl ends)
     where
       earlier : r.id.0 < o.id.0
       earlier =
@@ -143,13 +139,13 @@ module _ (before : StandBefore) (by_due : SlotsByDue) (mode : Mode) (port : Port
 -- ---- at a place of the book
 
 module _ (before : StandBefore) (by_due : SlotsByDue) (mode : Mode) (port : Port) (book : List Unanswered) (ordered : IsInOrder book)
-    (i : ℕ) (r : Unanswered) (at : slice_get book i ≡ Some r) (due : List RequestId) (so_far : due ≡ ids_so_far mode port book i) (given free : ℕ)
+    (i : ℕ) (r : Unanswered) (at : slice_get book i ≡ Some r) (mine : (r.port.0 == port.0) ≡ true) (due : List RequestId) (so_far : due ≡ ids_so_far mode port book i) (given free : ℕ)
     (counted : given ≡ length due) (slots : free ≡ free_slots mode book port) where
   many : (n : ℕ) → length (ids_so_far mode port book n) ≡ count_by (due_test mode port book) (take n book)
   many n = length-map (filter (due_test mode port book) (take n book)) (λ (x : Unanswered). x.id) ∙ length-filter (due_test mode port book) (take n book)
 
-  walks_at : walk_test mode port book r given free ≡ due_test mode port book r
-  walks_at = ap (λ (n : ℕ). walk_test mode port book r given n) slots ∙ walks before by_due mode port book ordered i r given at (counted ∙ (ap length so_far ∙ many i))
+  walks_at : walk_test mode book r given free ≡ due_test mode port book r
+  walks_at = ap (λ (n : ℕ). walk_test mode book r given n) slots ∙ walks before by_due mode port book ordered i r given at mine (counted ∙ (ap length so_far ∙ many i))
 
   one_more : ids_so_far mode port book (i + 1) ≡ ids_so_far mode port book i ++ map (λ (x : Unanswered). x.id) (filter (due_test mode port book) (r ∷ []))
   one_more =
@@ -157,40 +153,40 @@ module _ (before : StandBefore) (by_due : SlotsByDue) (mode : Mode) (port : Port
       ∙ (ap (λ (xs : List Unanswered). map (λ (x : Unanswered). x.id) xs) (filter-append (due_test mode port book) (take i book) (r ∷ []))
       ∙ map-append (λ (x : Unanswered). x.id) (filter (due_test mode port book) (take i book)) (filter (due_test mode port book) (r ∷ [])))
 
-  goes_on : walk_test mode port book r given free ≡ true → due ++ r.id ∷ [] ≡ ids_so_far mode port book (i + 1)
+  goes_on : walk_test mode book r given free ≡ true → due ++ r.id ∷ [] ≡ ids_so_far mode port book (i + 1)
   goes_on goes =
       let passes : due_test mode port book r ≡ true = sym walks_at ∙ goes in
       ap (λ (xs : List RequestId). xs ++ r.id ∷ []) so_far
       ∙ sym (one_more ∙ ap (λ (xs : List Unanswered). ids_so_far mode port book i ++ map (λ (x : Unanswered). x.id) xs) (cond-true (due_test mode port book r) (r ∷ []) [] passes))
 
-  stays_on : walk_test mode port book r given free ≡ false → due ≡ ids_so_far mode port book (i + 1)
+  stays_on : walk_test mode book r given free ≡ false → due ≡ ids_so_far mode port book (i + 1)
   stays_on stays =
       let fails : due_test mode port book r ≡ false = sym walks_at ∙ stays in
       so_far ∙ sym (one_more ∙ (ap (λ (xs : List Unanswered). ids_so_far mode port book i ++ map (λ (x : Unanswered). x.id) xs) (cond-false (due_test mode port book r) (r ∷ []) [] fails)
       ∙ append-nil (ids_so_far mode port book i)))
 
   -- what it has after this place
-  pub steps_on : (after : List RequestId) (goes : Bool) → goes ≡ walk_test mode port book r given free → after ≡ cond goes (due ++ r.id ∷ []) due → after ≡ ids_so_far mode port book (i + 1)
+  pub steps_on : (after : List RequestId) (goes : Bool) → goes ≡ walk_test mode book r given free → after ≡ cond goes (due ++ r.id ∷ []) due → after ≡ ids_so_far mode port book (i + 1)
   steps_on after true goes is = is ∙ goes_on (sym goes)
   steps_on after false stays is = is ∙ stays_on (sym stays)
 
 -- where the walk ends at this place, it has all
-pub has_all : StandBefore → SlotsByDue → (mode : Mode) (port : Port) (book : List Unanswered) → IsInOrder book → (i : ℕ) (r : Unanswered) → slice_get book i ≡ Some r
+pub has_all : StandBefore → SlotsByDue → (mode : Mode) (port : Port) (book : List Unanswered) → IsInOrder book → (i : ℕ) (r : Unanswered) → slice_get book i ≡ Some r → (r.port.0 == port.0) ≡ true
     → (due : List RequestId) → due ≡ ids_so_far mode port book (i + 1) → (given free : ℕ) → given ≡ length due → free ≡ free_slots mode book port
-    → end_test mode port r given free ≡ true → due ≡ map (λ (x : Unanswered). x.id) (filter (due_test mode port book) book)
-has_all before by_due mode port book ordered i r at due so_far given free counted slots ends =
+    → end_test mode r given free ≡ true → due ≡ map (λ (x : Unanswered). x.id) (filter (due_test mode port book) book)
+has_all before by_due mode port book ordered i r at mine due so_far given free counted slots ends =
     so_far ∙ ap (λ (xs : List Unanswered). map (λ (x : Unanswered). x.id) xs) (none_pass (due_test mode port book) book (i + 1)
-    (none_later before by_due mode port book ordered i r given at many (ap (λ (n : ℕ). end_test mode port r given n) (sym slots) ∙ ends)))
+    (none_later before by_due mode port book ordered i r given at mine many (ap (λ (n : ℕ). end_test mode r given n) (sym slots) ∙ ends)))
   where
     many : given ≡ count_by (due_test mode port book) (take (i + 1) book)
     many = counted ∙ (ap length so_far ∙ (length-map (filter (due_test mode port book) (take (i + 1) book)) (λ (x : Unanswered). x.id) ∙ length-filter (due_test mode port book) (take (i + 1) book)))
 
 -- a walk that goes on has room for one more
 pub has_room : (mode : Mode) (port : Port) (book : List Unanswered) (r : Unanswered) (given free : ℕ) → free ≡ free_slots mode book port → mode.usable ≤ 32
-    → (r.port.0 == port.0) ≡ true → end_test mode port r given free ≡ false → given < 32
-has_room mode port book r given free slots small mine goes_on =
+    → end_test mode r given free ≡ false → given < 32
+has_room mode port book r given free slots small goes_on =
     by (nat_lt given free) refl
   where
     by : (b : Bool) → nat_lt given free ≡ b → given < 32
     by true lt = let l = ltb-true given free lt in let f : free_slots mode book port ≤ mode.usable = omega arith in omega (arith, l, f, small, slots)
-    by false ge = absurd (both_ways _ goes_on (and_from _ _ mine (or_right (is_plain mode r.op) _ (ap not ge))))
+    by false ge = absurd (both_ways _ goes_on (or_right (is_plain mode r.op) _ (ap not ge)))

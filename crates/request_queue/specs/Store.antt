@@ -4,7 +4,8 @@ use Rattle.slab.specs.Slab.{Slab, get, slab_len}
 use Rattle.ata_types.specs.declared.request.Frame.{Frame}
 use Rattle.ata_types.specs.declared.request.Op.TheVariants.{Read}
 use Rattle.dma_frames.specs.Loan.{Lending}
-use Rattle.request_queue.specs.Entries.{Held}
+use Rattle.block_machine.specs.declared.due.Unanswered.{Unanswered}
+use Rattle.request_queue.specs.Entries.{Held, asks, asks_of}
 use Rattle.request_queue.specs.declared.Entry.{Entry}
 
 -- what an empty key would show; `IsSound` says that none is shown
@@ -54,3 +55,7 @@ pub record IsSound (requests : Slab Entry) (loans : List (Option Lending)) (orde
   pub distinct : AllPairs (λ (a : ℕ) (b : ℕ). a ≢ b) order
   pub held : All (IsKept requests loans) order
   pub vacant : (key : ℕ) → (Contains order key → ⊥) → (get requests key ≡ None) × (slice_index_or loans key None ≡ None)
+
+-- what of the requests at these places says whether they are due
+abbrev pub asks_at : List Held → List ℕ → List Unanswered
+asks_at held places = map (λ place. slice_index_or (asks_of held) place (asks blank)) places

@@ -1,4 +1,4 @@
-use Rattle.std.proofs.Common.{◌≡◌, ◌∙◌, ap, sym, map, Some, List}
+use Rattle.std.proofs.Common.{◌∙◌, ap, sym, map, Some, List}
 use Rattle.std.specs.List.{slice_get}
 use Rattle.std.proofs.lemmas.Option.{slice_get-map}
 use Rattle.block_machine.specs.declared.due.Unanswered.{Unanswered}
