@@ -122,12 +122,6 @@ one_older ports e p s = go (e.entry.issued && ports e.entry.port) refl
     same : (p.issued && ports p.request.port) ≡ (e.entry.issued && ports e.entry.port)
     same = ap (λ (b : Bool). b && ports p.request.port) s.issued ∙ ap (λ (q : Port). e.entry.issued && ports q) s.port
 
-    aged_one : Entry
-    aged_one = record (e.entry) { age = suc e.entry.age }
-
-    aged_other : machine.Pending
-    aged_other = record p { age = suc p.age }
-
     go : (b : Bool) → (e.entry.issued && ports e.entry.port) ≡ b → IsEntry (record e { entry = older ports e.entry }) (steps.older ports p)
     go true here =
         subst (λ (r : Entry). IsEntry (record e { entry = r }) (steps.older ports p)) (sym (cond-true (e.entry.issued && ports e.entry.port) (record (e.entry) { age = suc e.entry.age }) e.entry here))

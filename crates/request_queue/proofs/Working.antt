@@ -1,7 +1,6 @@
 -- What the book's operations make of what says which requests are due.
-use Rattle.std.proofs.Common.{ℕ, suc, ◌≡◌, ◌<◌, ◌+◌, ◌==◌, ◌&&◌, Bool, true, false, cond, not, List, [], ◌∷◌, map, drop, length, get_or, refl, sym, ap, ◌∙◌, subst}
+use Rattle.std.proofs.Common.{suc, ◌≡◌, ◌==◌, ◌&&◌, Bool, true, false, cond, not, List, [], ◌∷◌, map, refl, sym, ap, ◌∙◌, subst}
 use Rattle.std.proofs.lemmas.Bool.{cond-true, cond-false, not-true, and_parts}
-use Rattle.std.proofs.lemmas.List.{drop_more}
 use Rattle.ata_types.specs.declared.Port.{Port}
 use Rattle.ata_types.specs.declared.request.RequestId.{RequestId}
 use Rattle.block_machine.specs.declared.due.Mode.{Mode}
@@ -27,9 +26,6 @@ changed : (id : RequestId) (f : Entry → Entry) (g : Unanswered → Unanswered)
 changed id f g same [] = refl
 changed id f g same (e ∷ es) = go (has_id id e) refl (changed id f g same es)
   where
-    mark : Unanswered → Unanswered
-    mark u = cond (u.id.0 == id.0) (g u) u
-
     go : (b : Bool) → has_id id e ≡ b → asks_of (map (at id f) es) ≡ map (λ u. cond (u.id.0 == id.0) (g u) u) (asks_of es)
         → asks_of (map (at id f) (e ∷ es)) ≡ map (λ u. cond (u.id.0 == id.0) (g u) u) (asks_of (e ∷ es))
     go true t rest =
@@ -68,11 +64,9 @@ after_tick (e ∷ es) ports =
 
 -- ---- a walk that issues
 
-pub head_of : (mode : Mode) (port : Port) (ids : List RequestId) (i : ℕ) (d : RequestId) (es : List Held) → i < length ids → AreDueInTurn mode port (drop i ids) (asks_of es)
-    → IsWaiting (get_or ids i d) es × AreDueInTurn mode port (drop (i + 1) ids) (asks_of (map (at (get_or ids i d) issue) es))
-head_of mode port ids i d es lt turn =
-    let id = get_or ids i d in
-    let now = subst (λ (xs : List RequestId). AreDueInTurn mode port xs (asks_of es)) (drop_more ids i d lt) turn in (
-      subst (λ (x : RequestId). IsWaiting x es) now.0.1 (due_waits mode es now.0.0 now.0.3),
-      subst (λ (us : List Unanswered). AreDueInTurn mode port (drop (i + 1) ids) us) (sym (after_issue es id)) now.1,
-    )
+pub head_of : (mode : Mode) (port : Port) (ids : List RequestId) (id : RequestId) (es : List Held) → AreDueInTurn mode port (id ∷ ids) (asks_of es)
+    → IsWaiting id es × AreDueInTurn mode port ids (asks_of (map (at id issue) es))
+head_of mode port ids id es turn = (
+  subst (λ (x : RequestId). IsWaiting x es) turn.0.1 (due_waits mode es turn.0.0 turn.0.3),
+  subst (λ (us : List Unanswered). AreDueInTurn mode port ids us) (sym (after_issue es id)) turn.1,
+)

@@ -6,7 +6,7 @@ ghost use Rattle.ata_types.specs.declared.request.ClientId.{ClientId};
 ghost use Rattle.ata_types.specs.declared.request.Frame.{Frame};
 ghost use Rattle.ata_types.specs.declared.request.Outcome.{Outcome};
 ghost use Rattle.ata_types.specs.declared.request.RequestId.{RequestId};
-ghost use Rattle.block_machine.specs.Due.{IsDue, IsInOrder as machine_in_order, with_issued, with_none, with_waiting};
+ghost use Rattle.block_machine.specs.Due.{AreDueInTurn, IsDue, IsInOrder as machine_in_order, with_issued, with_none, with_waiting};
 ghost use Rattle.block_machine.specs.State.{Machine, unanswered};
 ghost use Rattle.block_machine.specs.State as machine;
 ghost use Rattle.block_machine.specs.Steps as steps;
@@ -17,7 +17,7 @@ ghost use Rattle.request_queue.specs.Entries.{Held, IsAccepted, IsEarlier, IsFre
 ghost use Rattle.request_queue.specs.Machine.{IsBook, IsEntry};
 ghost use Rattle.request_queue.specs.declared.Entry.{Entry};
 
-use block_machine::laws::due_is_exact;
+use block_machine::laws::{due_in_turn, due_is_exact};
 
 /// Where the machine's book is the book, the machine's due requests are the book's.
 pub fn the_machines_due()
@@ -67,6 +67,17 @@ pub fn operations_change_what_is_due()
     ensures answer { (entries : List Held) (id : RequestId) → asks_of (without id entries) ≡ with_none id (asks_of entries) }
     ensures tick { (entries : List Held) (ports : Port → Bool) → asks_of (aged ports entries) ≡ asks_of entries }
 {}
+
+/// The due requests of a port may be issued one after the other: each of them waits when its turn comes; and then none is due.
+pub fn due_requests_go_in_turn()
+    ensures first { (mode : Mode) (port : Port) (entries : List Held) → IsInOrder entries
+        → AreDueInTurn mode port (due_ids mode port (asks_of entries)) (asks_of entries) }
+    ensures next { (mode : Mode) (port : Port) (id : RequestId) (ids : List RequestId) (entries : List Held)
+        → AreDueInTurn mode port (id ∷ ids) (asks_of entries)
+        → IsWaiting id entries × AreDueInTurn mode port ids (asks_of (map (at id issue) entries)) }
+{
+    due_in_turn();
+}
 
 /// Each request of the one book stands in the other.
 pub fn books_have_the_same_requests()
