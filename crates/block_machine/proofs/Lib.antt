@@ -23,5 +23,6 @@ pub mod Ranks
 pub mod Dues
 pub mod DueTests
 pub mod Turns
+pub mod Alone
 pub mod Stepping
 pub mod Calm

@@ -16,7 +16,7 @@ use Rattle.block_machine.proofs.Dues.{in_order_one, issues_one_by_one}
 use Rattle.block_machine.proofs.Keeps.{same_port}
 use Rattle.block_machine.proofs.DueTests.{same_test, due_test as tested}
 
-abbrev due_test : Mode → Port → List Unanswered → Unanswered → Bool
+abbrev pub due_test : Mode → Port → List Unanswered → Unanswered → Bool
 due_test mode port book x = x.port.0 == port.0 && is_due mode book x
 
 abbrev due_ids : Mode → Port → List Unanswered → List RequestId
@@ -33,7 +33,7 @@ filter_in p (y ∷ ys) x h = go (p y) refl (λ k. filter_in p ys x k) h
     go true e rest (inr k) = let r = rest k in (inr r.0, r.1)
     go false e rest k = let r = rest k in (inr r.0, r.1)
 
-in_filter : (p : Unanswered → Bool) (xs : List Unanswered) (x : Unanswered) → p x ≡ true → In x xs → In x (filter p xs)
+pub in_filter : (p : Unanswered → Bool) (xs : List Unanswered) (x : Unanswered) → p x ≡ true → In x xs → In x (filter p xs)
 in_filter p [] x t h = absurd h
 in_filter p (y ∷ ys) x t h = go (p y) refl (λ k. in_filter p ys x t k) h
   where

@@ -1,7 +1,7 @@
 //! Laws about the definitions in specs/. The clause of each function is the law; the functions do nothing, and nothing
 //! calls them. `D` are the steps that a device can be told to do: a law on runs holds for any device.
 
-ghost use Rattle.std.specs.Prelude.{◌≡◌, ◌≢◌, ◌↔◌, ◌<◌, ℕ, Bool, IsTrue, true, false, List, ◌∷◌, ◌++◌, Some, length, map, Contains};
+ghost use Rattle.std.specs.Prelude.{◌≡◌, ◌≢◌, ◌↔◌, ◌<◌, ℕ, Bool, IsTrue, true, false, List, [], ◌∷◌, ◌++◌, ◌≤◌, ◌&&◌, nat_lt, Some, length, map, count_by, Contains};
 ghost use Rattle.ata_types.specs.declared.Port.{Port};
 ghost use Rattle.ata_types.specs.declared.request.Frame.{Frame};
 ghost use Rattle.ata_types.specs.declared.request.Outcome.{Outcome};
@@ -156,6 +156,12 @@ pub fn slots_by_due()
         (due_ahead mode book r < free_slots mode book r.port) }
 {}
 
+/// In a book in order, those that stand before a request are those that were accepted before it.
+pub fn earlier_ones_stand_before()
+    ensures { (passes : Unanswered → Bool) (front back : List Unanswered) (r : Unanswered) → IsInOrder (front ++ r ∷ back)
+        → count_by (λ other. nat_lt other.id.0 r.id.0 && passes other) (front ++ r ∷ back) ≡ count_by passes front }
+{}
+
 /// A request of the book is due where the test says so.
 pub fn due_is_tested()
     ensures { (mode : Mode) (book : List Unanswered) (r : Unanswered) → Contains book r
@@ -181,6 +187,18 @@ pub fn due_after_issue()
 pub fn due_in_turn()
     ensures { (mode : Mode) (port : Port) (book : List Unanswered) → IsInOrder book
         → AreDueInTurn mode port (map (λ r. r.id) (due_of mode port book)) book }
+{}
+
+/// A port that takes plain commands alone has one due request at most, and none while one is issued. It is the first of those that wait.
+pub fn plain_ports_take_one()
+    ensures one { (mode : Mode) (port : Port) (book : List Unanswered) → IsInOrder book → mode.queued ≡ false
+        → length (due_of mode port book) ≤ 1 }
+    ensures none { (mode : Mode) (port : Port) (book : List Unanswered) (r : Unanswered) → mode.queued ≡ false → Contains book r
+        → r.port ≡ port → r.issued ≡ true → due_of mode port book ≡ [] }
+    ensures first { (mode : Mode) (port : Port) (book : List Unanswered) (r : Unanswered) → IsInOrder book → mode.queued ≡ false
+        → Contains book r → r.port ≡ port
+        → ((other : Unanswered) → Contains book other → other.port ≡ port → (other.issued ≡ false) × (r.id.0 ≤ other.id.0))
+        → due_of mode port book ≡ r ∷ [] }
 {}
 
 /// Which requests of a port are due depends on the port's own requests.

@@ -1,0 +1,101 @@
+-- The requests of one port, at their places.
+use Rattle.std.proofs.Common.{◌≡◌, ℕ, zero, suc, ◌<◌, ◌+◌, ◌-◌, ◌==◌, ◌&&◌, Bool, true, false, cond, List, [], ◌∷◌, ◌++◌, length, get_or, map, take, Some, refl, sym, ap, ◌∙◌, subst, arith}
+use Rattle.std.specs.List.{All, count_by, filter, slice_get}
+use Rattle.std.specs.Option.{option_map}
+use Rattle.std.proofs.lemmas.Bool.{cond-true, cond-false}
+use Rattle.std.proofs.lemmas.List.{map-append, append-nil, length-map}
+use Rattle.std.proofs.lemmas.List.Elements.{All-head, All-tail, filter-append}
+use Rattle.std.proofs.lemmas.List.Kept.{AllPairs-filter}
+use Rattle.std.proofs.lemmas.Option.{get_or_from_slice_get, slice_get_within, slice_get-get_or, slice_get-map}
+use Rattle.ata_types.specs.declared.Port.{Port}
+use Rattle.ata_types.specs.declared.request.RequestId.{RequestId}
+use Rattle.block_machine.specs.declared.due.Mode.{Mode}
+use Rattle.block_machine.specs.declared.due.Unanswered.{Unanswered}
+use Rattle.block_machine.specs.Due.{IsInOrder, issued_count, free_slots, of_port, due_of}
+use Rattle.request_queue.specs.Entries.{Held, asks, asks_of, due_ids}
+use Rattle.request_queue.specs.Store.{asks_at, blank}
+use Rattle.request_queue.proofs.Members.{count_cons, taken_more}
+
+-- what a filter leaves passes
+passes : (p : Unanswered → Bool) (xs : List Unanswered) → All (λ x. p x ≡ true) (filter p xs)
+passes p [] = λ k d lt. absurd (omega (arith, lt))
+passes p (y ∷ ys) = go (p y) refl (passes p ys)
+  where
+    first : p y ≡ true → All (λ x. p x ≡ true) (filter p ys) → All (λ x. p x ≡ true) (y ∷ filter p ys)
+    first t rest zero d lt = t
+    first t rest (suc k) d lt = rest k d (omega (arith, lt))
+
+    go : (b : Bool) → p y ≡ b → All (λ x. p x ≡ true) (filter p ys) → All (λ x. p x ≡ true) (cond b (y ∷ filter p ys) (filter p ys))
+    go true t rest = first t rest
+    go false t rest = rest
+
+-- and passes again
+again : (p : Unanswered → Bool) (xs : List Unanswered) → filter p (filter p xs) ≡ filter p xs
+again p [] = refl
+again p (x ∷ xs) = go (p x) refl (again p xs)
+  where
+    go : (b : Bool) → p x ≡ b → filter p (filter p xs) ≡ filter p xs → filter p (cond b (x ∷ filter p xs) (filter p xs)) ≡ cond b (x ∷ filter p xs) (filter p xs)
+    go true t rest = cond-true (p x) (x ∷ filter p (filter p xs)) (filter p (filter p xs)) t ∙ ap (λ (ys : List Unanswered). x ∷ ys) rest
+    go false t rest = rest
+
+all_own : (port : Port) (book : List Unanswered) → All (λ r. (r.port.0 == port.0) ≡ true) (of_port port book)
+all_own port book = passes (λ r. r.port.0 == port.0) book
+
+-- so their issued ones are the port's
+own_issued : (port : Port) (xs : List Unanswered) → All (λ r. (r.port.0 == port.0) ≡ true) xs → count_by (λ r. r.issued) xs ≡ issued_count xs port
+own_issued port [] own = refl
+own_issued port (x ∷ xs) own =
+    let rest = own_issued port xs (All-tail (λ (r : Unanswered). (r.port.0 == port.0) ≡ true) x xs own) in
+    let mine = All-head (λ (r : Unanswered). (r.port.0 == port.0) ≡ true) x xs own in
+    let head : ◌≡◌ {A = ℕ} (cond ((x.port.0 == port.0) && x.issued) 1 0) (cond x.issued 1 0) = ap (λ (b : Bool). cond {A = ℕ} (b && x.issued) 1 0) mine in
+    omega (arith, rest, head, count_cons (λ (r : Unanswered). r.issued) x xs, count_cons (λ (r : Unanswered). (r.port.0 == port.0) && r.issued) x xs)
+
+-- which of the machine's laws says that a port's own requests count
+abbrev pub OwnCount : Type 0
+OwnCount = (mode : Mode) (port : Port) (book other : List Unanswered) → of_port port book ≡ of_port port other → due_of mode port book ≡ due_of mode port other
+
+-- the walk is over these
+module _ (port : Port) (all book : List Unanswered) (is : book ≡ of_port port all) where
+  pub own_in_order : IsInOrder all → IsInOrder book
+  own_in_order order = subst (λ (xs : List Unanswered). IsInOrder xs) (sym is) (AllPairs-filter (λ (a : Unanswered) (b : Unanswered). a.id.0 < b.id.0) (λ r. r.port.0 == port.0) all order)
+
+  own : All (λ r. (r.port.0 == port.0) ≡ true) book
+  own = subst (λ (xs : List Unanswered). All (λ r. (r.port.0 == port.0) ≡ true) xs) (sym is) (all_own port all)
+
+  pub own_at : (i : ℕ) (r : Unanswered) → slice_get book i ≡ Some r → (r.port.0 == port.0) ≡ true
+  own_at i r at = subst (λ (x : Unanswered). (x.port.0 == port.0) ≡ true) (get_or_from_slice_get book i r r at) (own i r (slice_get_within book i r at))
+
+  pub own_free : (mode : Mode) (free : ℕ) → free ≡ mode.usable - count_by (λ r. r.issued) book → free ≡ free_slots mode book port
+  own_free mode free counted = counted ∙ ap (λ (n : ℕ). mode.usable - n) (own_issued port book own)
+
+  pub own_due : OwnCount → (mode : Mode) (due : List RequestId) → due ≡ due_ids mode port book → due ≡ due_ids mode port all
+  own_due law mode due so_far = so_far ∙ ap (λ (rs : List Unanswered). map (λ (r : Unanswered). r.id) rs) (law mode port book all (ap (of_port port) is ∙ again (λ r. r.port.0 == port.0) all))
+
+-- as many as there are places
+pub as_long : (es : List Held) (places : List ℕ) → length (asks_at es places) ≡ length places
+as_long es places = length-map places (λ (place : ℕ). get_or (asks_of es) place (asks blank))
+
+-- the request at the place with a number
+pub at_number : (es : List Held) (places read : List ℕ) (n : ℕ) (r : Unanswered) → n < length places → read ≡ places → slice_get (asks_of es) (get_or read n 0) ≡ Some r
+    → slice_get (asks_at es places) n ≡ Some r
+at_number es places read n r lt same is =
+    slice_get-map (λ (place : ℕ). get_or (asks_of es) place (asks blank)) places n
+    ∙ (ap (option_map (λ (place : ℕ). get_or (asks_of es) place (asks blank))) (slice_get-get_or places n 0 lt)
+    ∙ ap Some (ap (λ (xs : List ℕ). get_or (asks_of es) (get_or xs n 0) (asks blank)) (sym same) ∙ get_or_from_slice_get (asks_of es) (get_or read n 0) r (asks blank) is))
+
+-- one place more
+module _ (port : Port) (es : List Held) (places : List ℕ) (i : ℕ) (r : Unanswered) (is : slice_get (asks_of es) i ≡ Some r)
+    (so_far : asks_at es places ≡ of_port port (take i (asks_of es))) where
+  more : of_port port (take (i + 1) (asks_of es)) ≡ of_port port (take i (asks_of es)) ++ of_port port (r ∷ [])
+  more = ap (of_port port) (taken_more (asks_of es) i r is) ∙ filter-append (λ x. x.port.0 == port.0) (take i (asks_of es)) (r ∷ [])
+
+  pub one_own : (r.port.0 == port.0) ≡ true → asks_at es (places ++ i ∷ []) ≡ of_port port (take (i + 1) (asks_of es))
+  one_own mine =
+      map-append (λ (place : ℕ). get_or (asks_of es) place (asks blank)) places (i ∷ [])
+      ∙ (ap (λ (xs : List Unanswered). xs ++ get_or (asks_of es) i (asks blank) ∷ []) so_far
+      ∙ (ap (λ (x : Unanswered). of_port port (take i (asks_of es)) ++ x ∷ []) (get_or_from_slice_get (asks_of es) i r (asks blank) is)
+      ∙ sym (more ∙ ap (λ (xs : List Unanswered). of_port port (take i (asks_of es)) ++ xs) (cond-true (r.port.0 == port.0) (r ∷ []) [] mine))))
+
+  pub one_foreign : (r.port.0 == port.0) ≡ false → asks_at es places ≡ of_port port (take (i + 1) (asks_of es))
+  one_foreign other =
+      so_far ∙ sym (more ∙ (ap (λ (xs : List Unanswered). of_port port (take i (asks_of es)) ++ xs) (cond-false (r.port.0 == port.0) (r ∷ []) [] other) ∙ append-nil (of_port port (take i (asks_of es)))))
