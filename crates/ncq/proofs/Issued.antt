@@ -1,0 +1,468 @@
+-- A transfer's table is stored, its slot armed if it is queued, and its bit of PxCI written.
+use Rattle.std.proofs.Common.{ℕ, ◌≡◌, ◌≢◌, ◌+◌, ◌<◌, ◌≤◌, ◌⊎◌, ◌/◌, ◌%◌, ◌++◌, ◌||◌, Bool, true, false, not, List, [], ◌∷◌, length, Some, inl, inr, refl, sym, ◌∙◌, ap, subst, ⊎_elim, append_assoc, arith}
+use Rattle.std.proofs.lemmas.Bool.{cases_eq, cond-true, eq-eqb}
+use Rattle.std.proofs.lemmas.List.Elements.{All-append, All-cons, All-nil, All-head, All-tail}
+use Rattle.std.specs.List.{All}
+use Rattle.ata_types.specs.declared.Port.{Port}
+use Rattle.ata_types.specs.declared.request.Frame.{Frame}
+use Rattle.ata_types.specs.declared.request.Op.{Op}
+use Rattle.ata_types.specs.declared.request.RequestId.{RequestId}
+use Rattle.hba_regs.specs.Bits.{bit}
+use Rattle.hba_regs.specs.declared.reg.Reg.{Reg}
+use Rattle.hba_regs.specs.declared.reg.Reg.TheVariants.{Ghc, Px}
+use Rattle.hba_regs.specs.declared.reg.PortReg.TheVariants.{Clb, Ci, Sact}
+use Rattle.adapter.specs.Access.{Access, Does, DoesAll, Writes}
+use Rattle.adapter.specs.Access.Access.{Reading, Writing, Loading, Storing}
+use Rattle.adapter.specs.Commands.{Meaning, is_queued}
+use Rattle.adapter.specs.Device.{Bases, PortState, Device}
+use Rattle.adapter.specs.Memory.{changed}
+use Rattle.adapter.specs.Rules.{IsOn, HasPort, MayWrite, Stays}
+use Rattle.adapter.specs.Steps.{Steps}
+use Rattle.block_machine.specs.Due.{is_plain}
+use Rattle.block_machine.specs.Events.{AllDevices, AllMay}
+use Rattle.block_machine.specs.Histories.{IsReached, AddsSteps}
+use Rattle.block_machine.specs.Left.{after}
+use Rattle.block_machine.specs.State.{Pending, Machine}
+use Rattle.block_machine.specs.Steps.{Step, Issue, May}
+use Rattle.block_machine.specs.declared.due.Mode.{Mode}
+use Rattle.agreement.specs.Acts.{Act, InSlots, IsDone, AreDone, Comes, at, accesses_of, steps_of}
+use Rattle.agreement.specs.Agrees.{Agrees, port_at}
+use Rattle.agreement.specs.Driven.{AnyAccess, AreDevices, IsBitOf, IsDrivenBy, IsFollowed, IsOf, LeavesPort, NoneWrites}
+use Rattle.agreement.specs.Driver.{Known, Knows, ByDevice, Goes, EndsWith, IsPrepared, MissesTable, serving}
+use Rattle.agreement.specs.Follows.{Follows}
+use Rattle.agreement.specs.Links.{SameAdapter, SparesRegister}
+use Rattle.agreement.specs.Places.{list_of}
+use Rattle.agreement.specs.Readying.{IsStored, IsReadied}
+use Rattle.agreement.specs.Slots.{Use, Free, Armed, Serves, Uses, put, Means, HasBlock, Told, IsArmed, IsServed}
+use Rattle.agreement.specs.Started.{ClearsNoStart}
+use Rattle.command_table.specs.Places.{places_of}
+use Rattle.command_table.specs.Written.{IsTableStore, IsUnused}
+use Rattle.ncq.specs.Issuing.{IsArmedFor, IsIssued}
+use Rattle.ncq.specs.Transfers.{Arms, IsInOrder, IsIssuing, IsOnItsWay, IsTransferOf, MayServe, IssuesLast, MayTransfer, meaning_of, with_serving, writes_of}
+use Rattle.ncq.specs.declared.Transfer.{Transfer}
+use Rattle.ncq.proofs.Telling.{kind_of, no_block, transfer_means}
+
+-- ---- lists
+
+pub all_as : {X : Type 0} (P Q : X → Type 0) → ((x : X) → P x → Q x) → (xs : List X) → All P xs → All Q xs
+all_as P Q more [] all = All-nil Q
+all_as P Q more (x ∷ xs) all = All-cons Q x xs (more x (All-head P x xs all)) (all_as P Q more xs (All-tail P x xs all))
+
+-- a function that is changed has the new value at the place
+pub changed_here : {A : Type 0} (f : ℕ → A) (place : ℕ) (x : A) → changed f place x place ≡ x
+unfolding changed
+changed_here f place x = rw (eq-eqb place place refl) refl
+
+does_then : (first then : List Access) (old mid new : Device) → DoesAll first old mid → DoesAll then mid new → DoesAll (first ++ then) old new
+does_then [] then old mid new e rest = let P : Device → Type 0 = λ d. DoesAll then d new in subst P e rest
+does_then (access ∷ accesses) then old mid new (one, does, more) rest = (one, does, does_then accesses then one mid new more rest)
+
+-- ---- the stores
+
+-- accesses of another port leave the port to the device
+abbrev LeavesOthers : Type 0
+LeavesOthers = (port : Port) (q : ℕ) (old new : Device) → q ≢ port.0 → IsOn old → IsDrivenBy (IsOf port) old new → LeavesPort (old.port q) (new.port q)
+
+-- any accesses leave the adapter what it is
+abbrev LeavesAdapter : Type 0
+LeavesAdapter = (old new : Device) → IsDrivenBy AnyAccess old new → SameAdapter old new
+
+module _ (port : Port) (slot : ℕ) (old mid : Device) (stores : IsFollowed (IsTableStore port.0 slot) (IsUnused port.0 slot) old mid) where
+  of_next : (access : Access) → IsTableStore port.0 slot access → IsOf (record { 0 = port.0 + 1 }) access
+  of_next (Storing at bytes) here = tt
+  of_next (Reading q v) here = absurd here
+  of_next (Writing q v) here = absurd here
+  of_next (Loading at bytes) here = absurd here
+
+  -- no store is of a register, so the port is left as by accesses of another one
+  stores_left : LeavesOthers → IsOn old → LeavesPort (old.port port.0) (mid.port port.0)
+  stores_left left on = left (record { 0 = port.0 + 1 }) port.0 old mid (λ (e : port.0 ≡ port.0 + 1). omega (arith, e)) on (record {
+    accesses = stores.driven.accesses;
+    all = stores.driven.all;
+    only = all_as (IsTableStore port.0 slot) (IsOf (record { 0 = port.0 + 1 })) of_next stores.driven.accesses stores.driven.only;
+  })
+
+  pub stores_same : LeavesAdapter → SameAdapter old mid
+  stores_same adapter = adapter old mid (record {
+    accesses = stores.driven.accesses;
+    all = stores.driven.all;
+    only = all_as (IsTableStore port.0 slot) AnyAccess (λ access is. tt) stores.driven.accesses stores.driven.only;
+  })
+
+  pub stores_there : LeavesAdapter → HasPort old port.0 → HasPort mid port.0
+  stores_there adapter there = (there.0, ap (λ (pi : ℕ). bit pi port.0) (stores_same adapter).pi ∙ there.1)
+
+  pub stores_may : LeavesOthers → IsOn old → MayTransfer port.0 old → MayTransfer port.0 mid
+  stores_may left on may = record {
+    started = (stores_left left on).controls.st ∙ may.started;
+    list = ap (λ (x : Bases). x.clb) (stores_left left on).keeps.bases ∙ may.list;
+  }
+
+  pub stores_stored : LeavesOthers → IsOn old → HasPort old port.0 → slot < 32 → MayTransfer port.0 old → (c : Meaning) (places : List ℕ) → Told mid.memory (list_of port.0) port.0 slot c places → IsStored mid port.0 slot c places
+  stores_stored left on there small may c places told = record {
+    started = (stores_may left on may).started;
+    placed = record { port_below = there.0; slot_below = small; list = (stores_may left on may).list };
+    told = subst (λ (list : ℕ). Told mid.memory list port.0 slot c places) (sym (stores_may left on may).list) told;
+  }
+
+-- ---- what laws of the crates below say
+
+pub record Laws : Type 0 where
+  pub left : LeavesOthers
+  pub adapter : LeavesAdapter
+  pub same : (access : Access) (old new : Device) → Does access old new → SameAdapter old new
+  pub on : (access : Access) (old new : Device) → IsOn old → ((v : ℕ) → access ≡ Writing Ghc v → (bit v 31 ≡ true) × (bit v 0 ≡ false)) → Does access old new → IsOn new
+  pub access : (k later : Known) (m : Machine) (access : Access) → AddsSteps Knows k later (ByDevice k.device later.device) → IsReached m → Knows m k
+      → Does access k.device later.device → (steps : List Step) × AllDevices steps × IsDone k m (record { access = Some access; steps = steps; later = later })
+  pub ends : (k later : Known) (m : Machine) (access : Access) (step : Step) → (e : EndsWith k m step later) → Does access k.device later.device
+      → IsDone k m (record { access = Some access; steps = step ∷ e.steps; later = later })
+  pub more : (early late : List Act) (a b c : Known) (m : Machine) → AreDone early a m b → AreDone late b (after m (steps_of early)) c → AreDone (early ++ late) a m c
+  pub accesses : (early late : List Act) → accesses_of (early ++ late) ≡ accesses_of early ++ accesses_of late
+  pub steps : (early late : List Act) → steps_of (early ++ late) ≡ steps_of late ++ steps_of early
+  pub goes : (acts : List Act) (k later : Known) (m : Machine) → Knows m k → AreDone acts k m later → Goes k m (steps_of acts) later
+  pub reached : (k later : Known) (m : Machine) (steps : List Step) → IsReached m → Goes k m steps later → IsReached (after m steps)
+  pub device : (late early : List Step) → AllDevices late → AllDevices early → AllDevices (late ++ early)
+  pub due : (m : Machine) (steps : List Step) → IsReached m → AllDevices steps → AllMay m steps → (mode : Mode) (e : Pending) → May m (Issue mode e)
+      → May (after m steps) (Issue mode e)
+  pub arming : (k : Known) (port : Port) (slot v : ℕ) (new : Device) → k.device.hr ≡ false → k.uses port.0 slot ≡ Free → (k.device.port port.0).st ≡ true → bit v slot ≡ true
+      → ((other : ℕ) → other ≢ slot → bit v other ≡ false) → Writes (Px port Sact) v k.device new
+      → AddsSteps Knows k (record k { uses = put k.uses port.0 slot Armed; device = new }) (ByDevice k.device new)
+  pub issuing : (k : Known) (m : Machine) (port : Port) (slot : ℕ) (mode : Mode) (e : Pending) (v : ℕ) (new : Device) → IsReached m → Knows m k → k.device.hr ≡ false
+      → IsPrepared k.uses m k.device port.0 slot mode e v → Writes (Px port Ci) v k.device new → EndsWith k m (Issue mode e) (serving k port.0 slot e.request.id new)
+  pub arms : (uses : Uses) (m : Machine) (port : Port) (slot : ℕ) (c : Meaning) (places : List ℕ) (v : ℕ) (old new : Device) → IsReached m → Agrees uses m old → old.hr ≡ false
+      → is_queued c.operation ≡ true → uses port.0 slot ≡ Free → bit v slot ≡ true → Writes (Px port Sact) v old new → IsStored old port.0 slot c places
+      → IsReadied (put uses port.0 slot Armed) new port.0 slot c places
+  pub plain : (uses : Uses) (d : Device) (port slot : ℕ) (c : Meaning) (places : List ℕ) → is_queued c.operation ≡ false → uses port slot ≡ Free → IsStored d port slot c places
+      → IsReadied uses d port slot c places
+  pub stays : (uses : Uses) (m : Machine) (port : Port) (slot : ℕ) (c : Meaning) (places : List ℕ) (access : Access) (old new : Device) → IsReached m → Agrees uses m old
+      → old.hr ≡ false → ClearsNoStart port access → SparesRegister (Px port Clb) access
+      → ((at : ℕ) (bytes : List ℕ) → access ≡ Storing at bytes → MissesTable port.0 slot at (length bytes)) → Does access old new → IsStored old port.0 slot c places
+      → IsStored new port.0 slot c places
+  pub permitted : (uses : Uses) (m : Machine) (d : Device) (port : Port) (slot : ℕ) (c : Meaning) (places : List ℕ) (v : ℕ) → IsReached m → Agrees uses m d → IsOn d
+      → HasPort d port.0 → slot ≤ d.cap / 256 % 32 → IsReadied uses d port.0 slot c places → bit v slot ≡ true → ((k : ℕ) → k ≢ slot → bit v k ≡ false)
+      → Stays (MayWrite (Px port Ci) v) d
+  pub prepared : (uses : Uses) (m : Machine) (d : Device) (port slot : ℕ) (c : Meaning) (places : List ℕ) (mode : Mode) (e : Pending) (v : ℕ)
+      → IsReadied uses d port slot c places → May m (Issue mode e) → e.request.port.0 ≡ port → slot < mode.usable → (is_plain mode e.request.asked.op ≡ true → slot ≡ 0)
+      → Means port slot e.request c places → is_queued c.operation ≡ not (is_plain mode e.request.asked.op)
+      → HasBlock e.request.asked.op d.memory port e.request → bit v slot ≡ true → ((k : ℕ) → k ≢ slot → bit v k ≡ false) → IsPrepared uses m d port slot mode e v
+  pub follows : (uses : Uses) (m : Machine) (old new : Device) → IsReached m → Agrees uses m old → Steps old new → Follows uses m old new
+  pub spares : (port slot : ℕ) (r : Reg) → NoneWrites (IsTableStore port slot) r
+  pub put_here : (uses : Uses) (port slot : ℕ) (u : Use) → put uses port slot u port slot ≡ u
+  pub put_others : (uses : Uses) (port slot : ℕ) (u : Use) (other_port other_slot : ℕ) → (other_port ≡ port → other_slot ≡ slot → ⊥)
+      → put uses port slot u other_port other_slot ≡ uses other_port other_slot
+
+-- ---- a slot is armed, or left alone
+
+abbrev with_armed : Bool → Port → ℕ → InSlots → InSlots
+with_armed true port slot s = record s { uses = put s.uses port.0 slot Armed }
+with_armed false port slot s = s
+
+abbrev arming_of : Port → Bool → ℕ → List Access
+arming_of port true v = Writing (Px port Sact) v ∷ []
+arming_of port false v = []
+
+-- the slot was free, or it is armed
+abbrev IsUnissued : Use → Type 0
+IsUnissued u = (u ≡ Free) ⊎ (u ≡ Armed)
+
+-- Acts with these accesses lead to an armed slot, or to one that is free still. The device alone makes steps, and other slots go on as they are used.
+record Reaches (port : Port) (slot : ℕ) (queued : Bool) (accesses : List Access) (s : InSlots) (m : Machine) (from armed : Device) : Type 0 where
+  acts : List Act
+  done : AreDone acts (at s from) m (at (with_armed queued port slot s) armed)
+  accesses_are : accesses_of acts ≡ accesses
+  device : AllDevices (steps_of acts)
+  own : All (λ act. IsUnissued (act.later.uses port.0 slot)) acts
+  others : (q k : ℕ) → (q ≡ port.0 → k ≡ slot → ⊥) → All (λ act. act.later.uses q k ≡ s.uses q k) acts
+
+module _ (laws : Laws) where
+  module _ (port : Port) (slot own : ℕ) (alone : IsBitOf slot own) (mid armed : Device) (on : IsOn mid) (started : (mid.port port.0).st ≡ true) where
+    armed_from : (queued : Bool) → Arms queued port own mid armed → (s : InSlots) (m : Machine) → IsReached m → Knows m (at s mid) → s.uses port.0 slot ≡ Free →
+        Reaches port slot queued (arming_of port queued own) s m mid armed
+    armed_from true arms s m reached knows free =
+        let later : Known = at (with_armed true port slot s) armed in
+        let x = laws.access (at s mid) later m (Writing (Px port Sact) own) (laws.arming (at s mid) port slot own armed on.no_reset free started alone.here alone.alone arms) reached knows arms in
+        let act : Act = record { access = Some (Writing (Px port Sact) own); steps = x.0; later = later } in
+        record {
+          acts = act ∷ [];
+          done = (x.2, refl);
+          accesses_are = refl;
+          device = x.1;
+          own = let P : Act → Type 0 = λ a. IsUnissued (a.later.uses port.0 slot) in All-cons P act [] (inr (laws.put_here s.uses port.0 slot Armed)) (All-nil P);
+          others = λ q k other. let P : Act → Type 0 = λ a. a.later.uses q k ≡ s.uses q k in All-cons P act [] (laws.put_others s.uses port.0 slot Armed q k other) (All-nil P);
+        }
+    armed_from false arms s m reached knows free = record {
+      acts = [];
+      done = ap (λ (d : Device). at s d) arms;
+      accesses_are = refl;
+      device = tt;
+      own = All-nil (λ a. IsUnissued (a.later.uses port.0 slot));
+      others = λ q k other. All-nil (λ a. a.later.uses q k ≡ s.uses q k);
+    }
+
+    armed_on : (queued : Bool) → Arms queued port own mid armed → IsOn armed
+    armed_on true arms = laws.on (Writing (Px port Sact) own) mid armed on (λ v e. absurd cc) arms
+    armed_on false arms = subst IsOn (sym arms) on
+
+    armed_same : (queued : Bool) → Arms queued port own mid armed → (armed.pi ≡ mid.pi) × (armed.cap ≡ mid.cap)
+    armed_same true arms = let z = laws.same (Writing (Px port Sact) own) mid armed arms in (z.pi, z.cap)
+    armed_same false arms = (ap (λ (d : Device). d.pi) arms, ap (λ (d : Device). d.cap) arms)
+
+    armed_readied : (c : Meaning) (places : List ℕ) (queued : Bool) → is_queued c.operation ≡ queued → Arms queued port own mid armed → (s : InSlots) (m : Machine) → IsReached m →
+        Knows m (at s mid) → s.uses port.0 slot ≡ Free → IsStored mid port.0 slot c places → IsReadied (with_armed queued port slot s).uses armed port.0 slot c places
+    armed_readied c places true is arms s m reached knows free stored =
+        laws.arms s.uses m port slot c places own mid armed reached knows.agrees on.no_reset is free alone.here arms stored
+    armed_readied c places false is arms s m reached knows free stored =
+        laws.plain s.uses armed port.0 slot c places is free (subst (λ (d : Device). IsStored d port.0 slot c places) (sym arms) stored)
+
+  -- ---- a slot that was armed serves
+
+  module _ (uses : Uses) (p k : ℕ) (id : RequestId) where
+    put_twice_at : (q j : ℕ) → put (put uses p k Armed) p k (Serves id) q j ≡ put uses p k (Serves id) q j
+    put_twice_at q j =
+        ⊎_elim (λ (at_port : q ≡ p).
+        ⊎_elim (λ (at_slot : j ≡ k).
+        let P : ℕ → ℕ → Type 0 = λ a b. put (put uses p k Armed) p k (Serves id) a b ≡ put uses p k (Serves id) a b in
+        subst (λ (a : ℕ). P a j) (sym at_port) (subst (λ (b : ℕ). P p b) (sym at_slot) (laws.put_here (put uses p k Armed) p k (Serves id) ∙ sym (laws.put_here uses p k (Serves id)))))
+        (λ (other : j ≢ k). beside q j (λ a b. other b)) (cases_eq j k))
+        (λ (other : q ≢ p). beside q j (λ a b. other a)) (cases_eq q p)
+      where
+        beside : (q j : ℕ) → (q ≡ p → j ≡ k → ⊥) → put (put uses p k Armed) p k (Serves id) q j ≡ put uses p k (Serves id) q j
+        beside q j other =
+            laws.put_others (put uses p k Armed) p k (Serves id) q j other ∙ (laws.put_others uses p k Armed q j other ∙ sym (laws.put_others uses p k (Serves id) q j other))
+
+    put_twice : put (put uses p k Armed) p k (Serves id) ≡ put uses p k (Serves id)
+    put_twice = λ i q j. put_twice_at q j i
+
+  served : (queued : Bool) (port : Port) (slot : ℕ) (s : InSlots) (id : RequestId) (armed new : Device) →
+      serving (at (with_armed queued port slot s) armed) port.0 slot id new ≡ at (with_serving port slot id s) new
+  served true port slot s id armed new = ap (λ (uses : Uses). at (record s { uses = uses }) new) (put_twice s.uses port.0 slot id)
+  served false port slot s id armed new = refl
+
+  -- ---- the whole
+
+  module _ (port : Port) (slot : ℕ) (r : Transfer) (frames : List Frame) (own : ℕ) (old armed : Device) (b : IsArmedFor port slot r frames own old armed) where
+    stored : IsStored b.mid port.0 slot (meaning_of r) (places_of frames r.range.count)
+    stored = stores_stored port slot old b.mid b.stores laws.left b.on b.there b.small b.may (meaning_of r) (places_of frames r.range.count) b.told
+
+    on_armed : IsOn armed
+    on_armed = armed_on port slot own b.alone b.mid armed b.mid_on stored.started r.queued b.arms
+
+    -- from a machine that agrees, acts lead to the armed slot, which is ready for PxCI
+    record Stage (s : InSlots) (m : Machine) : Type 0 where
+      reaches : Reaches port slot r.queued (b.stores.driven.accesses ++ arming_of port r.queued own) s m old armed
+      goes : Goes (at s old) m (steps_of reaches.acts) (at (with_armed r.queued port slot s) armed)
+      reached : IsReached (after m (steps_of reaches.acts))
+      readied : IsReadied (with_armed r.queued port slot s).uses armed port.0 slot (meaning_of r) (places_of frames r.range.count)
+
+    stage : (s : InSlots) (m : Machine) → IsReached m → Knows m (at s old) → s.uses port.0 slot ≡ Free → Stage s m
+    stage s m reached knows free = record { reaches = reaches; goes = goes; reached = laws.reached (at s old) later m (steps_of reaches.acts) reached goes; readied = readied }
+      where
+        later : Known
+        later = at (with_armed r.queued port slot s) armed
+
+        x : Comes b.stores.driven.accesses (at s old) m (at s b.mid) (AreDevices (IsTableStore port.0 slot) s.uses)
+        x = b.stores.comes s m reached knows free
+
+        g : Goes (at s old) m (steps_of x.acts) (at s b.mid)
+        g = laws.goes x.acts (at s old) (at s b.mid) m knows x.done
+
+        mid_reached : IsReached (after m (steps_of x.acts))
+        mid_reached = laws.reached (at s old) (at s b.mid) m (steps_of x.acts) reached g
+
+        y : Reaches port slot r.queued (arming_of port r.queued own) s (after m (steps_of x.acts)) b.mid armed
+        y = armed_from port slot own b.alone b.mid armed b.mid_on stored.started r.queued b.arms s (after m (steps_of x.acts)) mid_reached g.knows free
+
+        kept : (q : Port) → All (λ act. act.later.uses q.0 ≡ s.uses q.0) x.acts
+        kept q = x.tells.kept q (laws.spares port.0 slot (Px q Ci)) (laws.spares port.0 slot (Px q Sact))
+
+        reaches : Reaches port slot r.queued (b.stores.driven.accesses ++ arming_of port r.queued own) s m old armed
+        reaches = record {
+          acts = x.acts ++ y.acts;
+          done = laws.more x.acts y.acts (at s old) (at s b.mid) later m x.done y.done;
+          accesses_are = laws.accesses x.acts y.acts
+              ∙ (ap (λ (early : List Access). early ++ accesses_of y.acts) x.accesses_are ∙ ap (λ (late : List Access). b.stores.driven.accesses ++ late) y.accesses_are);
+          device = subst AllDevices (sym (laws.steps x.acts y.acts)) (laws.device (steps_of y.acts) (steps_of x.acts) y.device x.tells.only);
+          own = let P : Act → Type 0 = λ act. IsUnissued (act.later.uses port.0 slot) in
+              All-append P x.acts y.acts
+              (all_as (λ act. act.later.uses port.0 ≡ s.uses port.0) P (λ act same. inl (ap (λ (f : ℕ → Use). f slot) same ∙ free)) x.acts (kept port)) y.own;
+          others = λ q k other.
+              let P : Act → Type 0 = λ act. act.later.uses q k ≡ s.uses q k in
+              All-append P x.acts y.acts
+              (all_as (λ act. act.later.uses q ≡ s.uses q) P (λ act same. ap (λ (f : ℕ → Use). f k) same) x.acts (kept (port_at q))) (y.others q k other);
+        }
+
+        goes : Goes (at s old) m (steps_of reaches.acts) later
+        goes = laws.goes reaches.acts (at s old) later m knows reaches.done
+
+        readied : IsReadied (with_armed r.queued port slot s).uses armed port.0 slot (meaning_of r) (places_of frames r.range.count)
+        readied =
+            armed_readied port slot own b.alone b.mid armed b.mid_on stored.started (meaning_of r) (places_of frames r.range.count) r.queued (kind_of r.queued r.op b.transfers) b.arms
+            s (after m (steps_of x.acts)) mid_reached g.knows free stored
+
+    -- the machine that the caller knows of
+    abbrev s0 : InSlots
+    s0 = record { uses = b.agreed.0; parked = b.agreed.2.parked }
+
+    known_stage : Stage s0 b.agreed.2.machine
+    known_stage = stage s0 b.agreed.2.machine b.agreed.2.reached b.agreed.2.knows b.agreed.1
+
+    permitted : Stays (MayWrite (Px port Ci) own) armed
+    permitted =
+        let x = known_stage in
+        let same = armed_same port slot own b.alone b.mid armed b.mid_on stored.started r.queued b.arms in
+        let whole = stores_same port slot old b.mid b.stores laws.adapter in
+        laws.permitted (with_armed r.queued port slot s0).uses (after b.agreed.2.machine (steps_of x.reaches.acts)) armed port slot (meaning_of r) (places_of frames r.range.count) own
+        x.reached x.goes.knows.agrees on_armed (b.there.0, ap (λ (pi : ℕ). bit pi port.0) (same.0 ∙ whole.pi) ∙ b.there.1)
+        (subst (λ (cap : ℕ). slot ≤ cap / 256 % 32) (sym (same.1 ∙ whole.cap)) b.usable) x.readied b.alone.here b.alone.alone
+
+    -- ---- PxCI is written
+
+    module _ (new : Device) (call : Writes (Px port Ci) own armed new) where
+      arming_does : (queued : Bool) → Arms queued port own b.mid armed → DoesAll (arming_of port queued own) b.mid armed
+      arming_does true arms = (armed, arms, refl)
+      arming_does false arms = arms
+
+      arming_only : (queued : Bool) → All (IsIssuing port slot) (arming_of port queued own)
+      arming_only true = All-cons (IsIssuing port slot) (Writing (Px port Sact) own) [] (inl refl, b.alone) (All-nil (IsIssuing port slot))
+      arming_only false = All-nil (IsIssuing port slot)
+
+      in_table : (access : Access) → IsTableStore port.0 slot access → IsIssuing port slot access
+      in_table (Storing at bytes) here = here
+      in_table (Reading q v) here = absurd here
+      in_table (Writing q v) here = absurd here
+      in_table (Loading at bytes) here = absurd here
+
+      abbrev accesses : List Access
+      accesses = (b.stores.driven.accesses ++ arming_of port r.queued own) ++ Writing (Px port Ci) own ∷ []
+
+      driven_only : All (IsIssuing port slot) accesses
+      driven_only =
+          let P : Access → Type 0 = IsIssuing port slot in
+          All-append P (b.stores.driven.accesses ++ arming_of port r.queued own) (Writing (Px port Ci) own ∷ [])
+          (All-append P b.stores.driven.accesses (arming_of port r.queued own)
+          (all_as (IsTableStore port.0 slot) P in_table b.stores.driven.accesses b.stores.driven.only) (arming_only r.queued))
+          (All-cons P (Writing (Px port Ci) own) [] (inr refl, b.alone) (All-nil P))
+
+      driven_all : DoesAll accesses old new
+      driven_all =
+          does_then (b.stores.driven.accesses ++ arming_of port r.queued own) (Writing (Px port Ci) own ∷ []) old armed new
+          (does_then b.stores.driven.accesses (arming_of port r.queued own) old b.mid armed b.stores.driven.all (arming_does r.queued b.arms)) (new, call, refl)
+
+      writes_are : (queued : Bool) → arming_of port queued own ++ Writing (Px port Ci) own ∷ [] ≡ writes_of port queued own
+      writes_are true = refl
+      writes_are false = refl
+
+      in_order : IsInOrder port slot r.queued accesses
+      in_order = record {
+        stores = b.stores.driven.accesses;
+        only = b.stores.driven.only;
+        own = own;
+        alone = b.alone;
+        order = append_assoc b.stores.driven.accesses (arming_of port r.queued own) (Writing (Px port Ci) own ∷ [])
+            ∙ ap (λ (late : List Access). b.stores.driven.accesses ++ late) (writes_are r.queued);
+      }
+
+      -- ---- from a machine on which the request is due
+
+      module _ (mode : Mode) (e : Pending) (is : IsTransferOf port slot r frames mode e) where
+        kind : is_queued (meaning_of r).operation ≡ not (is_plain mode e.request.asked.op)
+        kind = kind_of r.queued r.op b.transfers ∙ (is.kind ∙ sym (ap (λ (o : Op). not (is_plain mode o)) is.operation))
+
+        head : is_plain mode e.request.asked.op ≡ true → slot ≡ 0
+        head plain = is.head (is.kind ∙ ap not (sym (ap (is_plain mode) is.operation) ∙ plain))
+
+        comes : (s : InSlots) (m : Machine) → IsReached m → Knows m (at s old) → MayServe port slot mode e s m →
+            Comes accesses (at s old) m (at (with_serving port slot e.request.id s) new) (IssuesLast port slot mode e s.uses)
+        comes s m reached knows fits = record {
+          acts = x.reaches.acts ++ act ∷ [];
+          done = laws.more x.reaches.acts (act ∷ []) (at s old) before later m x.reaches.done (last, refl);
+          accesses_are = laws.accesses x.reaches.acts (act ∷ []) ∙ ap (λ (early : List Access). early ++ Writing (Px port Ci) own ∷ []) x.reaches.accesses_are;
+          tells = record {
+            before = ends.steps ++ steps_of x.reaches.acts;
+            device = laws.device ends.steps (steps_of x.reaches.acts) ends.only x.reaches.device;
+            last = laws.steps x.reaches.acts (act ∷ []);
+            own = let P : Act → Type 0 = λ a. IsOnItsWay e.request.id (a.later.uses port.0 slot) in
+                All-append P x.reaches.acts (act ∷ [])
+                (all_as (λ a. IsUnissued (a.later.uses port.0 slot)) P (λ a u. ⊎_elim (λ free. inl free) (λ is_armed. inr (inl is_armed)) u) x.reaches.acts x.reaches.own)
+                (All-cons P act [] (inr (inr (laws.put_here s.uses port.0 slot (Serves e.request.id)))) (All-nil P));
+            others = λ q k other. let P : Act → Type 0 = λ a. a.later.uses q k ≡ s.uses q k in
+                All-append P x.reaches.acts (act ∷ []) (x.reaches.others q k other)
+                (All-cons P act [] (laws.put_others s.uses port.0 slot (Serves e.request.id) q k other) (All-nil P));
+          };
+        }
+          where
+            before : Known
+            before = at (with_armed r.queued port slot s) armed
+
+            later : Known
+            later = at (with_serving port slot e.request.id s) new
+
+            x : Stage s m
+            x = stage s m reached knows fits.0
+
+            m2 : Machine
+            m2 = after m (steps_of x.reaches.acts)
+
+            prepared : IsPrepared (with_armed r.queued port slot s).uses m2 armed port.0 slot mode e own
+            prepared =
+                laws.prepared (with_armed r.queued port slot s).uses m2 armed port.0 slot (meaning_of r) (places_of frames r.range.count) mode e own x.readied
+                (laws.due m (steps_of x.reaches.acts) reached x.reaches.device x.goes.may mode e fits.1) (ap (λ (p : Port). p.0) is.port_is) is.usable head (transfer_means port slot r frames mode e b.transfers is) kind (no_block port slot r frames mode e b.transfers is armed.memory)
+                b.alone.here b.alone.alone
+
+            ends : EndsWith before m2 (Issue mode e) later
+            ends = subst (λ (k : Known). EndsWith before m2 (Issue mode e) k) (served r.queued port slot s e.request.id armed new)
+                (laws.issuing before m2 port slot mode e own new x.reached x.goes.knows on_armed.no_reset prepared call)
+
+            act : Act
+            act = record { access = Some (Writing (Px port Ci) own); steps = Issue mode e ∷ ends.steps; later = later }
+
+            last : IsDone before m2 act
+            last = laws.ends before later m2 (Writing (Px port Ci) own) (Issue mode e) ends call
+
+      -- ---- what it comes to
+
+      or_true : (x : Bool) → x || true ≡ true
+      or_true true = refl
+      or_true false = refl
+
+      set : (new.port port.0).ci slot ≡ true
+      set =
+          ap (λ (d : Device). (d.port port.0).ci slot) call.effect
+          ∙ (ap (λ (p : PortState). p.ci slot) (changed_here call.mid.port port.0 _)
+          ∙ (ap (λ (x : Bool). (call.mid.port port.0).ci slot || x) b.alone.here ∙ or_true ((call.mid.port port.0).ci slot)))
+
+      stored_then : IsStored new port.0 slot (meaning_of r) (places_of frames r.range.count)
+      stored_then =
+          let x = known_stage in
+          laws.stays (with_armed r.queued port slot s0).uses (after b.agreed.2.machine (steps_of x.reaches.acts)) port slot (meaning_of r) (places_of frames r.range.count)
+          (Writing (Px port Ci) own) armed new x.reached x.goes.knows.agrees on_armed.no_reset (λ v e. absurd cc) (λ e. absurd cc) (λ at bytes e. absurd cc) call x.readied.stored
+
+      -- the armed slot's bit of PxSACT goes as ST does
+      active : r.queued ≡ true → (new.port port.0).sact slot ≡ true
+      active queued =
+          let x = known_stage in
+          let uses : Uses = (with_armed r.queued port slot s0).uses in
+          let m2 : Machine = after b.agreed.2.machine (steps_of x.reaches.acts) in
+          let f : Follows uses m2 armed call.mid = laws.follows uses m2 armed call.mid x.reached x.goes.knows.agrees call.steps in
+          let used : uses port.0 slot ≡ Armed = x.readied.used ∙ cond-true (is_queued (meaning_of r).operation) Armed Free (kind_of r.queued r.op b.transfers ∙ queued) in
+          let h : IsArmed (call.mid.port port.0) slot = subst (λ (u : Use). IsServed (after m2 f.steps) call.mid.memory call.mid.tape (call.mid.port port.0) port.0 slot u) used (f.agrees.slot port.0 slot) in
+          ap (λ (d : Device). (d.port port.0).sact slot) call.effect
+          ∙ (ap (λ (p : PortState). p.sact slot) (changed_here call.mid.port port.0 _)
+          ∙ (h.armed
+          ∙ (sym (ap (λ (d : Device). (d.port port.0).st) call.effect ∙ ap (λ (p : PortState). p.st) (changed_here call.mid.port port.0 _)) ∙ stored_then.started)))
+
+      issued : IsIssued port slot r frames old new
+      issued = record {
+        on = laws.on (Writing (Px port Ci) own) armed new on_armed (λ v e. absurd cc) call;
+        issues = record {
+          driven = record { accesses = accesses; all = driven_all; only = driven_only };
+          order = in_order;
+          comes = λ mode e is. comes mode e is;
+        };
+        stored = stored_then;
+        set = set;
+        active = active;
+      }
+
+    pub leads : Stays (MayWrite (Px port Ci) own) armed × ((new : Device) → Writes (Px port Ci) own armed new → IsIssued port slot r frames old new)
+    leads = (permitted, issued)

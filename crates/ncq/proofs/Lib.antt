@@ -1,0 +1,4 @@
+pub mod Found
+pub mod Issued
+pub mod Performed
+pub mod Telling

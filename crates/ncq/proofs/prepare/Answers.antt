@@ -1,0 +1,41 @@
+use Rattle.std.proofs.Common.{◌≡◌, ap, ◌∙◌, arith, subst, sym}
+use Rattle.adapter.specs.Says.{pieces}
+use Rattle.adapter.specs.declared.command.Prd.{Prd}
+use Rattle.command_table.specs.Places.{places_of}
+use Rattle.command_table.specs.Written.{IsTableFor}
+use Rattle.std.specs.Prelude.{List}
+use Rattle.ncq.specs.Transfers.{meaning_of}
+use Rattle.ncq.proofs.Telling.{table_says}
+use Rattle.ncq.proofs.prepare.Goals as goal
+
+pub arm-requires-clause-there : goal.arm-requires-clause-there
+arm-requires-clause-there g c = (c.stores_leave_the_port.ensures c.args.port c.args.slot.0 _ _ c.requires.on c.requires.there c.requires.may c.write_table.ensures.followed).0
+
+pub arm-requires-clause-started : goal.arm-requires-clause-started
+arm-requires-clause-started g c = (c.stores_leave_the_port.ensures c.args.port c.args.slot.0 _ _ c.requires.on c.requires.there c.requires.may c.write_table.ensures.followed).1.started
+
+pub returns : goal.returns
+returns g c =
+    let q = c.requires in
+    let few = q.fits.few in
+    let places : pieces c.prds-prds.result.items ≡ places_of c.args.frames.now c.args.transfer.now.range.count =
+    c.prds-prds.ensures.places (omega arith) ∙ ap (places_of c.args.frames.now) (omega arith) in
+    let table = table_says c.args.transfer.now c.args.frames.now c.args.slot.0 q.fits.transfers q.fits.some few q.fits.first c.command.result c.prds-prds.result.items c.command.ensures
+    (c.prds-prds.ensures.whole (omega arith)) places in
+    record {
+      on = q.on;
+      there = q.there;
+      small = q.slot;
+      usable = q.usable;
+      agreed = q.agreed;
+      may = q.may;
+      transfers = q.fits.transfers;
+      mid = g.A.Adapter.device c.write_table.new.adapter;
+      mid_on = c.write_table.ensures.on;
+      stores = c.write_table.ensures.followed;
+      told =
+          let P : List Prd → Type 0 = λ es. IsTableFor c.args.slot.0 c.command.result es (meaning_of c.args.transfer.now) (places_of c.args.frames.now c.args.transfer.now.range.count) in
+          c.write_table.ensures.says (meaning_of c.args.transfer.now) (places_of c.args.frames.now c.args.transfer.now.range.count) (subst P (sym c.as_slice.ensures.value) table);
+      alone = c.bit_of-own.ensures;
+      arms = c.arm.ensures;
+    }

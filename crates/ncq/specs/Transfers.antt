@@ -1,0 +1,125 @@
+-- Transfers in any slot of a port, by queued or plain commands, and how they are issued (AHCI 1.3.1, 3.3.13, 3.3.14 and 5.5; ACS-3:
+-- READ DMA EXT, WRITE DMA EXT, READ FPDMA QUEUED, WRITE FPDMA QUEUED).
+use Rattle.std.specs.Prelude.{ℕ, Bool, true, false, not, ◌≡◌, ◌⊎◌, ◌<◌, ◌≤◌, ◌+◌, ◌/◌, ◌^◌, ◌++◌, List, [], ◌∷◌, length, All}
+use Rattle.ata_types.specs.declared.Port.{Port}
+use Rattle.ata_types.specs.declared.request.Frame.{Frame}
+use Rattle.ata_types.specs.declared.request.Op.{Op}
+use Rattle.ata_types.specs.declared.request.Op.TheVariants.{Read, Write, Trim, Flush}
+use Rattle.ata_types.specs.declared.request.RequestId.{RequestId}
+use Rattle.hba_regs.specs.declared.reg.Reg.TheVariants.{Px}
+use Rattle.hba_regs.specs.declared.reg.PortReg.TheVariants.{Ci, Sact}
+use Rattle.adapter.specs.Access.{Access, Writes}
+use Rattle.adapter.specs.Access.Access.{Writing, Storing}
+use Rattle.adapter.specs.Commands.{Meaning}
+use Rattle.adapter.specs.Device.{Device}
+use Rattle.adapter.specs.declared.command.Operation.{Operation}
+use Rattle.adapter.specs.declared.command.Operation.TheVariants as operation
+use Rattle.block_machine.specs.Due.{is_plain}
+use Rattle.block_machine.specs.Events.{AllDevices}
+use Rattle.block_machine.specs.State.{Pending, Machine}
+use Rattle.block_machine.specs.Steps.{Step, Issue, May}
+use Rattle.block_machine.specs.declared.due.Mode.{Mode}
+use Rattle.agreement.specs.Acts.{Act, InSlots, ComesWith, steps_of}
+use Rattle.agreement.specs.Driven.{IsBitOf, IsDrivenBy}
+use Rattle.agreement.specs.Places.{list_of}
+use Rattle.agreement.specs.Slots.{Use, Free, Armed, Serves, Uses, put}
+use Rattle.command_table.specs.Written.{IsTableStore}
+use Rattle.ncq.specs.declared.Transfer.{Transfer}
+
+-- ---- transfers
+
+-- a request that moves its sectors to or from its frames
+abbrev pub IsTransfer : Op → Type 0
+IsTransfer op = (op ≡ Read) ⊎ (op ≡ Write)
+
+-- A read or a write of 1 to 256 sectors below 2^48, and the frames that they need, eight sectors to a frame.
+pub record IsFit (r : Transfer) (frames : List Frame) : Type 0 where
+  pub transfers : IsTransfer r.op
+  pub some : 1 ≤ r.range.count
+  pub few : r.range.count ≤ 256
+  pub first : r.range.first.0 < 2 ^ 48
+  pub number : length frames ≡ (r.range.count + 7) / 8
+
+-- the command that does what a request asks, queued if it is to be
+abbrev pub operation_of : Bool → Op → Operation
+operation_of true Read = operation.ReadQueued
+operation_of false Read = operation.Read
+operation_of true Write = operation.WriteQueued
+operation_of false Write = operation.Write
+operation_of queued Trim = operation.Trim
+operation_of queued Flush = operation.Flush
+
+-- what the transfer's command says
+abbrev pub meaning_of : Transfer → Meaning
+meaning_of r = record { operation = operation_of r.queued r.op; first = r.range.first.0; count = r.range.count }
+
+-- The request is this transfer, on this port, and its mode asks for this kind of command. The slot is usable, and a plain one's is slot 0.
+pub record IsTransferOf (port : Port) (slot : ℕ) (r : Transfer) (frames : List Frame) (mode : Mode) (e : Pending) : Type 0 where
+  pub port_is : e.request.port ≡ port
+  pub operation : e.request.asked.op ≡ r.op
+  pub first : e.request.asked.first ≡ r.range.first
+  pub count : e.request.asked.count ≡ r.range.count
+  pub frames_are : e.request.asked.frames.items ≡ frames
+  pub kind : r.queued ≡ not (is_plain mode r.op)
+  pub usable : slot < mode.usable
+  pub head : r.queued ≡ false → slot ≡ 0
+
+-- ---- issuing
+
+-- the port runs, with its command list in its place
+pub record MayTransfer (port : ℕ) (d : Device) : Type 0 where
+  pub started : (d.port port).st ≡ true
+  pub list : (d.port port).bases.clb ≡ list_of port
+
+-- It stores the slot's header or table, or writes PxSACT or PxCI with the slot's bit alone.
+abbrev pub IsIssuing : Port → ℕ → Access → Type 0
+IsIssuing port slot (Writing r v) = ((r ≡ Px port Sact) ⊎ (r ≡ Px port Ci)) × IsBitOf slot v
+IsIssuing port slot (Storing at bytes) = IsTableStore port.0 slot (Storing at bytes)
+IsIssuing port slot access = ⊥
+
+-- What stands behind the stores: for a queued command PxSACT is written before PxCI (AHCI 1.3.1, 5.5.1).
+abbrev pub writes_of : Port → Bool → ℕ → List Access
+writes_of port true v = Writing (Px port Sact) v ∷ Writing (Px port Ci) v ∷ []
+writes_of port false v = Writing (Px port Ci) v ∷ []
+
+-- PxSACT was written, for a queued command; for a plain one nothing was done
+abbrev pub Arms : Bool → Port → ℕ → Device → Device → Type 0
+Arms true port v old new = Writes (Px port Sact) v old new
+Arms false port v old new = new ≡ old
+
+-- Stores of the slot's header and table come first, and then the writes of its bit.
+pub record IsInOrder (port : Port) (slot : ℕ) (queued : Bool) (accesses : List Access) : Type 0 where
+  pub stores : List Access
+  pub only : All (IsTableStore port.0 slot) stores
+  pub own : ℕ
+  pub alone : IsBitOf slot own
+  pub order : accesses ≡ stores ++ writes_of port queued own
+
+-- the slot is free, and the request is due
+abbrev pub MayServe : Port → ℕ → Mode → Pending → InSlots → Machine → Type 0
+MayServe port slot mode e s m = (s.uses port.0 slot ≡ Free) × May m (Issue mode e)
+
+-- the slot serves the request
+abbrev pub with_serving : Port → ℕ → RequestId → InSlots → InSlots
+with_serving port slot id s = record s { uses = put s.uses port.0 slot (Serves id) }
+
+-- on its way from being free to serving this request
+abbrev pub IsOnItsWay : RequestId → Use → Type 0
+IsOnItsWay id u = (u ≡ Free) ⊎ ((u ≡ Armed) ⊎ (u ≡ Serves id))
+
+-- The device makes steps, and last of all the request is issued. The slot is put to no other use meanwhile, and each other one is used after
+-- each act as before the first.
+pub record IssuesLast (port : Port) (slot : ℕ) (mode : Mode) (e : Pending) (uses : Uses) (acts : List Act) : Type 0 where
+  pub before : List Step
+  pub device : AllDevices before
+  pub last : steps_of acts ≡ Issue mode e ∷ before
+  pub own : All (λ act. IsOnItsWay e.request.id (act.later.uses port.0 slot)) acts
+  pub others : (q k : ℕ) → (q ≡ port.0 → k ≡ slot → ⊥) → All (λ act. act.later.uses q k ≡ uses q k) acts
+
+-- Such accesses led there, in this order. And from each machine that agrees with the slot free, and on which a request that is this transfer is
+-- due, acts with these accesses lead to one that agrees with a driver whose slot serves it.
+pub record IssuesTransfer (port : Port) (slot : ℕ) (r : Transfer) (frames : List Frame) (old new : Device) : Type 0 where
+  pub driven : IsDrivenBy (IsIssuing port slot) old new
+  pub order : IsInOrder port slot r.queued driven.accesses
+  pub comes : (mode : Mode) (e : Pending) → IsTransferOf port slot r frames mode e
+      → ComesWith driven.accesses (MayServe port slot mode e) (with_serving port slot e.request.id) (λ s m. IssuesLast port slot mode e s.uses) old new

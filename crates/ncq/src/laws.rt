@@ -1,0 +1,60 @@
+// Laws of the definitions, for callers: the clause is the theorem. Nothing calls these functions.
+ghost use Rattle.std.specs.Prelude.{ℕ, None, ◌≡◌, List};
+ghost use Rattle.ata_types.specs.declared.Port.{Port};
+ghost use Rattle.ata_types.specs.declared.request.Frame.{Frame};
+ghost use Rattle.adapter.specs.Access.{Access};
+ghost use Rattle.adapter.specs.Device.{Device};
+ghost use Rattle.adapter.specs.declared.command.Operation.{Operation};
+ghost use Rattle.block_machine.specs.Histories.{IsReached};
+ghost use Rattle.block_machine.specs.State.{Machine, Pending};
+ghost use Rattle.block_machine.specs.Steps.{Issue};
+ghost use Rattle.block_machine.specs.declared.due.Mode.{Mode};
+ghost use Rattle.agreement.specs.Acts.{InSlots, Performs, at};
+ghost use Rattle.agreement.specs.Driven.{AnyUse, IsAgreed, IsFollowed, IsOf, SendsNone};
+ghost use Rattle.agreement.specs.Driver.{EndsWith, Knows};
+ghost use Rattle.agreement.specs.Slots.{Own, op_of};
+ghost use Rattle.ncq.specs.Masks.{FindsDone, IsFinding};
+ghost use Rattle.ncq.specs.Transfers.{IsIssuing, IssuesLast, IssuesTransfer, IsTransferOf, MayServe, with_serving};
+ghost use Rattle.ncq.specs.declared.Transfer.{Transfer};
+
+use agreement::acts::acts_give;
+use agreement::laws::going_composes;
+use command_table::laws::stores_are_of_one_port;
+
+/// No call touches a register of another port, nor another port's bit of IS: so what is said of such accesses (`IsOf`) is so of each.
+pub fn calls_are_of_one_port()
+    ensures issuing { (port : Port) (slot : ℕ) (access : Access) → IsIssuing port slot access → IsOf port access }
+    ensures finding { (port : Port) (access : Access) → IsFinding port access → IsOf port access }
+{
+    stores_are_of_one_port();
+}
+
+/// Issuing a transfer is a part of a call, in the one form of all. From a machine that agrees with the slot free, and on which a request that is
+/// the transfer is due: by its two ends it is the device's steps, and then the request's issue; some machine agrees then; and no
+/// disk sends a page meanwhile, but to a slot 0 that has a command of the driver's own.
+pub fn issuing_performs()
+    ensures performs { (port : Port) (slot : ℕ) (r : Transfer) (frames : List Frame) (mode : Mode) (e : Pending) (old new : Device)
+        → (i : IssuesTransfer port slot r frames old new) → IsTransferOf port slot r frames mode e
+        → Performs i.driven.accesses (MayServe port slot mode e) (with_serving port slot e.request.id)
+        (λ s m. IssuesLast port slot mode e s.uses) old new }
+    ensures ends { (port : Port) (slot : ℕ) (r : Transfer) (frames : List Frame) (mode : Mode) (e : Pending) (old new : Device)
+        (s : InSlots) (m : Machine) → IssuesTransfer port slot r frames old new → IsTransferOf port slot r frames mode e → IsReached m
+        → Knows m (at s old) → MayServe port slot mode e s m
+        → EndsWith (at s old) m (Issue mode e) (at (with_serving port slot e.request.id s) new) }
+    ensures agrees { (port : Port) (slot : ℕ) (r : Transfer) (frames : List Frame) (mode : Mode) (e : Pending) (old new : Device)
+        (s : InSlots) (m : Machine) → IssuesTransfer port slot r frames old new → IsTransferOf port slot r frames mode e → IsReached m
+        → Knows m (at s old) → MayServe port slot mode e s m → IsAgreed (with_serving port slot e.request.id s).uses new }
+    ensures silent { (port : Port) (slot : ℕ) (r : Transfer) (frames : List Frame) (mode : Mode) (e : Pending) (old new : Device)
+        (s : InSlots) (m : Machine) → IssuesTransfer port slot r frames old new → IsTransferOf port slot r frames mode e → IsReached m
+        → Knows m (at s old) → MayServe port slot mode e s m → (q : ℕ) (o : Operation) → op_of o ≡ None
+        → (s.uses q 0 ≡ Own o → ⊥) → SendsNone q o old new }
+{
+    acts_give();
+    going_composes();
+}
+
+/// What is found done is a stretch that is followed, with each slot used as it was.
+pub fn finding_is_followed()
+    ensures { (port : Port) (mask done : ℕ) (old new : Device) → FindsDone port mask done old new
+        → IsFollowed (IsFinding port) AnyUse old new }
+{}

@@ -1,0 +1,195 @@
+//! Transfers in any slot of a port, by queued commands (native command queuing) or plain ones: they are issued, and found done
+//! (AHCI 1.3.1, 5.5; ACS-3). Each call is of one port, whatever the others do.
+#![tactic(auto)]
+
+ghost use Rattle.std.specs.Prelude.{◌≡◌, ◌≤◌, ◌<◌, ◌+◌, ◌*◌, ◌/◌, ◌%◌, ◌^◌, ◌&&◌, not, ℕ, true, false, length, All};
+ghost use Rattle.adapter.specs.Access.{Writes};
+ghost use Rattle.adapter.specs.Commands.{command_of};
+ghost use Rattle.adapter.specs.Rules.{IsOn, HasPort};
+ghost use Rattle.agreement.specs.Driven.{AgreesWith, IsBitOf};
+ghost use Rattle.agreement.specs.Readying.{IsStored};
+ghost use Rattle.command_table.specs.Places.{places_of};
+ghost use Rattle.command_table.specs.Written.{IsUnused};
+ghost use Rattle.hba_regs.specs.Bits.{bit};
+ghost use Rattle.hba_regs.specs.declared.reg.PortReg.TheVariants.{Ci, Sact};
+ghost use Rattle.hba_regs.specs.declared.reg.Reg.TheVariants.{Px};
+ghost use Rattle.ncq.specs.Issuing.{IsArmedFor};
+ghost use Rattle.ncq.specs.Masks.{AreClear, FindsDone, SeesClear};
+ghost use Rattle.ncq.specs.Transfers.{Arms, IsFit, IsTransfer, IssuesTransfer, MayTransfer, meaning_of, operation_of};
+
+mod finding;
+mod issuing;
+pub mod laws;
+
+use adapter::{Adapter, Command};
+use agreement::facts::adapter_stays;
+use agreement::laws::writing_is_permitted;
+use ata_types::{DRIVER_BYTES, Frame, Op, Port, Range, Slot};
+use command_table::{prds, write_table};
+use finding::reading_finds_done;
+use hba_regs::{PortReg, Reg, with_bit};
+use issuing::{stores_leave_the_port, writing_issues};
+
+/// READ DMA EXT (ACS-3).
+const READ_DMA_EXT: u8 = 0x25;
+
+/// WRITE DMA EXT (ACS-3).
+const WRITE_DMA_EXT: u8 = 0x35;
+
+/// READ FPDMA QUEUED (ACS-3).
+const READ_FPDMA_QUEUED: u8 = 0x60;
+
+/// WRITE FPDMA QUEUED (ACS-3).
+const WRITE_FPDMA_QUEUED: u8 = 0x61;
+
+/// Where a queued command has its tag, which is its slot: bits 7:3 of the count field (ACS-3).
+const TAG_FACTOR: u16 = 8;
+
+/// The device field of a command with a 48-bit address (ACS-3).
+const LBA: u8 = 0x40;
+
+const SECTOR_BYTES: u32 = 512;
+
+/// A transfer between sectors of a disk and frames of memory.
+#[derive(Clone, Copy, Debug, PartialEq, Eq)]
+pub struct Transfer {
+    /// A read or a write.
+    pub op: Op,
+    /// 1 to 256 sectors below 2^48.
+    pub range: Range,
+    /// Whether its command is queued.
+    pub queued: bool,
+}
+
+/// The command of a transfer in a slot (ACS-3): of a queued one, the features field has the sectors, and the count field the tag.
+fn command(transfer: &Transfer, slot: Slot) -> Command
+    requires transfers { IsTransfer transfer.now.op }
+    requires few { transfer.now.range.count ≤ 256 }
+    requires slot { slot.0 < 32 }
+    ensures { result ≡ command_of (operation_of transfer.now.queued transfer.now.op) slot.0 transfer.now.range.first.0 transfer.now.range.count }
+{
+    let sectors = transfer.range.count as u16;
+    let reads = transfer.op == Op::Read;
+    let code = match (reads, transfer.queued) {
+        (true, true) => READ_FPDMA_QUEUED,
+        (true, false) => READ_DMA_EXT,
+        (false, true) => WRITE_FPDMA_QUEUED,
+        (false, false) => WRITE_DMA_EXT,
+    };
+    let (features, count) = if transfer.queued {
+        (sectors, TAG_FACTOR * u16::from(slot.0))
+    } else {
+        (0, sectors)
+    };
+    Command {
+        code,
+        features,
+        count,
+        lba: transfer.range.first.0,
+        device: LBA,
+    }
+}
+
+/// The slot's bit of PxCI and PxSACT, alone.
+fn bit_of(slot: Slot) -> u32
+    requires { slot.0 < 32 }
+    ensures { IsBitOf slot.0 result }
+{
+    with_bit(0, u32::from(slot.0))
+}
+
+/// Sets the slot's bit of PxSACT for a queued command; nothing is done for a plain one.
+fn arm<A: Adapter>(adapter: &mut A, port: Port, own: u32, queued: bool)
+    requires on { IsOn (A.device adapter.old) }
+    requires there { HasPort (A.device adapter.old) port.0 }
+    requires started { ((A.device adapter.old).port port.0).st ≡ true }
+    ensures { Arms queued port own (A.device adapter.old) (A.device adapter.new) }
+{
+    writing_is_permitted();
+    if queued {
+        adapter.write(Reg::Px(port, PortReg::Sact), own);
+    }
+}
+
+/// Stores header and table of the slot, so that they say the transfer, and arms the slot. The slot's bit, alone, is the result.
+fn prepare<A: Adapter>(
+    adapter: &mut A,
+    port: Port,
+    slot: Slot,
+    transfer: &Transfer,
+    frames: &[Frame],
+) -> u32
+    requires on { IsOn (A.device adapter.old) }
+    requires there { HasPort (A.device adapter.old) port.0 }
+    requires room { DRIVER_BYTES ≤ (A.device adapter.old).size }
+    requires slot { slot.0 < 32 }
+    requires usable { slot.0 ≤ (A.device adapter.old).cap / 256 % 32 }
+    requires agreed { AgreesWith (IsUnused port.0 slot.0) (A.device adapter.old) }
+    requires may { MayTransfer port.0 (A.device adapter.old) }
+    requires fits { IsFit transfer.now frames.now }
+    ensures { IsArmedFor port slot.0 transfer.now frames.now result (A.device adapter.old) (A.device adapter.new) }
+{
+    let prds = prds(frames, SECTOR_BYTES * transfer.range.count);
+    write_table(
+        adapter,
+        port,
+        slot,
+        &command(transfer, slot),
+        prds.as_slice(),
+    );
+    let own = bit_of(slot);
+    stores_leave_the_port();
+    arm(adapter, port, own, transfer.queued);
+    own
+}
+
+/// Issues a transfer, eight sectors to a frame, in an unused slot of a port that runs: a queued one as READ or WRITE FPDMA QUEUED, for which
+/// the slot's bit of PxSACT is set first, and a plain one as READ or WRITE DMA EXT.
+pub fn issue<A: Adapter>(
+    adapter: &mut A,
+    port: Port,
+    slot: Slot,
+    transfer: &Transfer,
+    frames: &[Frame],
+)
+    requires on { IsOn (A.device adapter.old) }
+    requires there { HasPort (A.device adapter.old) port.0 }
+    requires room { DRIVER_BYTES ≤ (A.device adapter.old).size }
+    requires slot { slot.0 < 32 }
+    requires usable { slot.0 ≤ (A.device adapter.old).cap / 256 % 32 }
+    requires agreed { AgreesWith (IsUnused port.0 slot.0) (A.device adapter.old) }
+    requires may { MayTransfer port.0 (A.device adapter.old) }
+    requires fits { IsFit transfer.now frames.now }
+    ensures on { IsOn (A.device adapter.new) }
+    ensures issues { IssuesTransfer port slot.0 transfer.now frames.now (A.device adapter.old) (A.device adapter.new) }
+    ensures stored { IsStored (A.device adapter.new) port.0 slot.0 (meaning_of transfer.now) (places_of frames.now transfer.now.range.count) }
+    ensures set { ((A.device adapter.new).port port.0).ci slot.0 ≡ true }
+    ensures active { transfer.now.queued ≡ true → ((A.device adapter.new).port port.0).sact slot.0 ≡ true }
+{
+    let own = prepare(adapter, port, slot, transfer, frames);
+    writing_issues();
+    adapter.write(Reg::Px(port, PortReg::Ci), own);
+}
+
+/// The bits of the mask that are clear in both of the others.
+fn clear_in_both(mask: u32, issued: u32, active: u32) -> u32
+    ensures { AreClear mask issued active result }
+{
+    mask & !(issued | active)
+}
+
+/// The slots of the mask whose commands are done: their bits are clear in PxCI and in PxSACT, which are read in this order, once each. Bit k is
+/// slot k. While ST is one, the device alone clears these bits; a queued command leaves PxCI when it is taken, and PxSACT when it ends.
+pub fn done<A: Adapter>(adapter: &mut A, port: Port, mask: u32) -> u32
+    requires on { IsOn (A.device adapter.old) }
+    requires there { HasPort (A.device adapter.old) port.0 }
+    ensures on { IsOn (A.device adapter.new) }
+    ensures finds { FindsDone port mask result (A.device adapter.old) (A.device adapter.new) }
+    ensures seen { SeesClear port mask result (A.device adapter.old) }
+{
+    adapter_stays();
+    reading_finds_done();
+    let issued = adapter.read(Reg::Px(port, PortReg::Ci));
+    let active = adapter.read(Reg::Px(port, PortReg::Sact));
+    clear_in_both(mask, issued, active)
+}
