@@ -25,7 +25,7 @@ back_more [] back o order y (inr h) = let lt = order.0 y h in omega (arith, lt)
 back_more (x ∷ xs) back o order y h = back_more xs back o order.1 y h
 
 -- a count of those before o is a count over the front
-count_front : (q : Unanswered → Bool) (front back : List Unanswered) (o : Unanswered) → Ordered (front ++ o ∷ back) → count_by (λ y. ltb y.id.0 o.id.0 && q y) (front ++ o ∷ back) ≡ count_by q front
+pub count_front : (q : Unanswered → Bool) (front back : List Unanswered) (o : Unanswered) → Ordered (front ++ o ∷ back) → count_by (λ y. ltb y.id.0 o.id.0 && q y) (front ++ o ∷ back) ≡ count_by q front
 count_front q front back o order =
     let test : Unanswered → Bool = λ y. ltb y.id.0 o.id.0 && q y in
     let a = count_append test front (o ∷ back) in

@@ -1,7 +1,7 @@
 //! Laws about the definitions in specs/. The clause of each function is the law; the functions do nothing, and nothing
 //! calls them. `D` are the steps that a device can be told to do: a law on runs holds for any device.
 
-ghost use Rattle.std.specs.Prelude.{◌≡◌, ◌≢◌, ◌↔◌, ◌<◌, ℕ, Bool, IsTrue, true, false, List, ◌∷◌, ◌++◌, Some, length, map, Contains};
+ghost use Rattle.std.specs.Prelude.{◌≡◌, ◌≢◌, ◌↔◌, ◌<◌, ℕ, Bool, IsTrue, true, false, List, ◌∷◌, ◌++◌, ◌&&◌, nat_lt, Some, length, map, count_by, Contains};
 ghost use Rattle.ata_types.specs.declared.Port.{Port};
 ghost use Rattle.ata_types.specs.declared.request.Frame.{Frame};
 ghost use Rattle.ata_types.specs.declared.request.Outcome.{Outcome};
@@ -154,6 +154,12 @@ pub fn slots_by_due()
         → Contains book r
         → (ahead mode book r < free_slots mode book r.port) ↔
         (due_ahead mode book r < free_slots mode book r.port) }
+{}
+
+/// In a book in order, those that stand before a request are those that were accepted before it.
+pub fn earlier_ones_stand_before()
+    ensures { (passes : Unanswered → Bool) (front back : List Unanswered) (r : Unanswered) → IsInOrder (front ++ r ∷ back)
+        → count_by (λ other. nat_lt other.id.0 r.id.0 && passes other) (front ++ r ∷ back) ≡ count_by passes front }
 {}
 
 /// A request of the book is due where the test says so.

@@ -4,4 +4,4 @@
 mod due;
 pub mod laws;
 
-pub use due::{Mode, Unanswered};
+pub use due::{Mode, Unanswered, conflict, holds_back, is_plain, is_writer};

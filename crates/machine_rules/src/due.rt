@@ -4,59 +4,8 @@ ghost use Rattle.std.specs.List.{list_any};
 ghost use Rattle.block_machine.specs.Due as due;
 
 use arrayvec::ArrayVec;
-use ata_types::{Op, Port, Range, RequestId};
-use block_machine::{Mode, Unanswered};
-
-/// Whether the operation changes sectors.
-pub fn is_writer(op: Op) -> bool
-    ensures { result ≡ due.is_writer op }
-{
-    match op {
-        Op::Read | Op::Flush => false,
-        Op::Write | Op::Trim => true,
-    }
-}
-
-/// Whether the operation is issued alone, in this mode.
-pub fn is_plain(mode: Mode, op: Op) -> bool
-    ensures { result ≡ due.is_plain mode op }
-{
-    match op {
-        Op::Read | Op::Write => !mode.queued,
-        Op::Trim | Op::Flush => true,
-    }
-}
-
-/// Whether the ranges have a sector in common.
-fn overlap(a: &Range, b: &Range) -> bool
-    ensures { result ≡ due.overlap a.now b.now }
-{
-    a.overlaps(b)
-}
-
-/// Whether the two conflict: a flush with every request of its port, and two with a sector in common if one of them writes
-/// or trims.
-pub fn conflict(a: &Unanswered, b: &Unanswered) -> bool
-    ensures { result ≡ due.conflict a.now b.now }
-{
-    let flush = a.op == Op::Flush || b.op == Op::Flush;
-    let writes = is_writer(a.op) || is_writer(b.op);
-    a.port.0 == b.port.0 && (flush || (writes && overlap(&a.range, &b.range)))
-}
-
-/// Whether `other` stands in the way of `r`.
-pub fn holds_back(mode: Mode, r: &Unanswered, other: &Unanswered) -> bool
-    ensures { result ≡ due.holds_back mode r.now other.now }
-{
-    let earlier = other.id.0 < r.id.0;
-    let blocks = if is_plain(mode, r.op) {
-        other.issued || earlier
-    } else {
-        let plain = is_plain(mode, other.op);
-        (plain && other.issued) || (earlier && (plain || conflict(other, r)))
-    };
-    other.port.0 == r.port.0 && blocks
-}
+use ata_types::Port;
+use block_machine::{Mode, Unanswered, holds_back, is_plain};
 
 /// Whether a request of the book stands in the way of `r`.
 fn is_held(mode: Mode, book: &[Unanswered], r: &Unanswered) -> bool

@@ -5,8 +5,8 @@ ghost use Rattle.block_machine.specs.State.{Block, written_by};
 ghost use Rattle.machine_rules.specs.PlainLeft as plain_left;
 ghost use Rattle.machine_rules.specs.PlainLeft.{history_of, step_of, accepted_of, start_filled, IsWriterNow, IsLater, IsLastWriter};
 
-use crate::due::is_writer;
 use ata_types::{Op, Port, Range, RequestId};
+use block_machine::is_writer;
 
 /// A request of a small history. A write has, in all places of its i-th sector, the byte `fill` + i, modulo 256.
 #[derive(Clone, Copy, Debug, Default, PartialEq, Eq)]

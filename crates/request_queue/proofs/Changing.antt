@@ -1,0 +1,328 @@
+-- What a change of one request makes of the book, and that the book stays in order.
+use Rattle.std.proofs.Common.{ℕ, zero, suc, ◌≡◌, ◌≢◌, ◌⊎◌, ◌<◌, ◌≤◌, ◌+◌, ◌==◌, ◌&&◌, Bool, true, false, cond, not, List, [], ◌∷◌, ◌++◌, length, get_or, set, map, Option, Some, None, refl, sym, ap, ◌∙◌, subst, arith, ⊎_elim, inl, inr, eqb-true, eq-eqb}
+use Rattle.std.specs.List.{All, AllPairs, Contains, count_by, remove, slice_get}
+use Rattle.std.proofs.lemmas.Bool.{cond-true, cond-false, cases_eq, cases_lt, ne_eqb, false≢true}
+use Rattle.std.proofs.lemmas.List.{get_or-map, length-map, get_or-set_same, get_or-set_other, length-set, same_lists, get_or_default}
+use Rattle.std.proofs.lemmas.List.Elements.{All-push, All-contains}
+use Rattle.std.proofs.lemmas.List.Quantifiers.{all_pairs_push}
+use Rattle.std.proofs.lemmas.Option.{slice_get_within, get_or_from_slice_get, same_Some}
+use Rattle.ata_types.specs.declared.Port.{Port}
+use Rattle.ata_types.specs.declared.request.RequestId.{RequestId}
+use Rattle.block_machine.specs.declared.due.Unanswered.{Unanswered}
+use Rattle.block_machine.specs.Due as machine
+use Rattle.request_queue.specs.Entries.{Held, asks, asks_of, has_id, at, without, issue, requeued, older, aged, unanswered_of, IsEarlier, IsInOrder, HasIssuesLeft, IsFresh}
+use Rattle.request_queue.specs.declared.Entry.{Entry}
+use Rattle.request_queue.proofs.Members.{count_cons, count_append, count_map, contains_here, contains_there, contains_cases}
+
+-- ---- by place
+
+pub there : (es : List Held) (place : ℕ) (e : Held) → slice_get es place ≡ Some e → Contains es e
+there es place e h = (place, slice_get_within es place e h, get_or_from_slice_get es place e e h)
+
+pub request_is : (es : List Held) (place : ℕ) (r : Entry) (d : Held) → slice_get (map (λ (e : Held). e.entry) es) place ≡ Some r → (get_or es place d).entry ≡ r
+request_is es place r d h =
+    let within = slice_get_within (map (λ (e : Held). e.entry) es) place r h in
+    let lt : place < length es = omega (arith, within, length-map es (λ (e : Held). e.entry)) in
+    sym (get_or-map (λ (e : Held). e.entry) es place d d.entry lt) ∙ get_or_from_slice_get (map (λ (e : Held). e.entry) es) place r d.entry h
+
+pub request_at : (es : List Held) (place : ℕ) (r : Entry) (e : Held) → slice_get (map (λ (x : Held). x.entry) es) place ≡ Some r → slice_get es place ≡ Some e → e.entry ≡ r
+request_at es place r e h is = ap (λ (x : Held). x.entry) (sym (get_or_from_slice_get es place e e is)) ∙ request_is es place r e h
+
+pub place_within : (es : List Held) (place : ℕ) (r : Entry) → slice_get (map (λ (e : Held). e.entry) es) place ≡ Some r → place < length es
+place_within es place r h = let within = slice_get_within (map (λ (e : Held). e.entry) es) place r h in omega (arith, within, length-map es (λ (e : Held). e.entry))
+
+-- two of one id are one
+pub one_by_id : (es : List Held) (a b : Held) → AllPairs IsEarlier es → Contains es a → Contains es b → a.entry.id.0 ≡ b.entry.id.0 → a ≡ b
+one_by_id es a b ordered x y same = ⊎_elim
+    (λ (low : x.0 < y.0). let lt = ordered x.0 y.0 a low y.1 in
+    let p = ap (λ (e : Held). e.entry.id.0) x.2 in
+    let q = ap (λ (e : Held). e.entry.id.0) (get_or_default es y.0 a b y.1 ∙ y.2) in
+    absurd (omega (arith, lt, p, q, same)))
+    (λ (high : y.0 ≤ x.0). ⊎_elim
+    (λ (e : x.0 ≡ y.0). sym x.2 ∙ (ap (λ (n : ℕ). get_or es n a) e ∙ (get_or_default es y.0 a b y.1 ∙ y.2)))
+    (λ (ne : x.0 ≢ y.0). let lt = ordered y.0 x.0 a (omega (arith, high, ne)) x.1 in
+    let p = ap (λ (e : Held). e.entry.id.0) x.2 in
+    let q = ap (λ (e : Held). e.entry.id.0) (get_or_default es y.0 a b y.1 ∙ y.2) in
+    absurd (omega (arith, lt, p, q, same)))
+    (cases_eq x.0 y.0))
+    (cases_lt x.0 y.0)
+
+-- another state at the place of a request is a change of the request with its id
+pub changed_at : (es : List Held) (place : ℕ) (e : Held) (id : RequestId) (f : Entry → Entry) → AllPairs IsEarlier es → slice_get es place ≡ Some e → e.entry.id ≡ id
+    → set es place (record e { entry = f e.entry }) ≡ map (at id f) es
+changed_at es place e id f ordered is named =
+    same_lists (set es place new) (map (at id f) es) (length-set es place new ∙ sym (length-map es (at id f))) each
+  where
+    new : Held
+    new = record e { entry = f e.entry }
+
+    within : place < length es
+    within = slice_get_within es place e is
+
+    each : (k : ℕ) (d : Held) → k < length (set es place new) → get_or (set es place new) k d ≡ get_or (map (at id f) es) k d
+    each k d lt =
+        let short : k < length es = omega (arith, lt, length-set es place new) in
+        ⊎_elim
+        (λ (same : k ≡ place).
+        ap (λ (n : ℕ). get_or (set es place new) n d) same
+        ∙ (get_or-set_same es place new d within
+        ∙ sym (ap (λ (n : ℕ). get_or (map (at id f) es) n d) same
+        ∙ (get_or-map (at id f) es place d d within
+        ∙ (ap (at id f) (get_or_from_slice_get es place e d is)
+        ∙ cond-true (has_id id e) new e (eq-eqb e.entry.id.0 id.0 (ap (λ (i : RequestId). i.0) named)))))))
+        (λ (ne : k ≢ place).
+        get_or-set_other es place k new d ne
+        ∙ sym (get_or-map (at id f) es k d d short
+        ∙ cond-false (has_id id (get_or es k d)) (record (get_or es k d) { entry = f (get_or es k d).entry }) (get_or es k d)
+        (ne_eqb (get_or es k d).entry.id.0 id.0 (apart k d ne short))))
+        (cases_eq k place)
+      where
+        apart : (k : ℕ) (d : Held) → k ≢ place → k < length es → (get_or es k d).entry.id.0 ≢ id.0
+        apart k d ne short same =
+            let its = ap (λ (x : Held). x.entry.id.0) (get_or_from_slice_get es place e d is) in
+            let n = ap (λ (i : RequestId). i.0) named in
+            ⊎_elim
+            (λ (low : k < place). let lt = ordered k place d low within in omega (arith, lt, its, n, same))
+            (λ (high : place ≤ k). let lt = ordered place k d (omega (arith, high, ne)) short in omega (arith, lt, its, n, same))
+            (cases_lt k place)
+
+pub rest_ordered : (x : Held) (xs : List Held) → AllPairs IsEarlier (x ∷ xs) → AllPairs IsEarlier xs
+rest_ordered x xs ordered i j d lt small = ordered (suc i) (suc j) d (omega (arith, lt)) (omega (arith, small))
+
+pub later_than : (x : Held) (xs : List Held) (y : Held) → AllPairs IsEarlier (x ∷ xs) → Contains xs y → x.entry.id.0 < y.entry.id.0
+later_than x xs y ordered h =
+    let lt : x.entry.id.0 < (get_or xs h.0 y).entry.id.0 = ordered 0 (suc h.0) y (omega arith) (let l = h.1 in omega (arith, l)) in
+    subst (λ (z : Held). x.entry.id.0 < z.entry.id.0) h.2 lt
+
+none_named : (id : RequestId) (xs : List Held) → ((y : Held) → Contains xs y → has_id id y ≡ false) → without id xs ≡ xs
+none_named id [] none = refl
+none_named id (x ∷ xs) none =
+    cond-true (not (has_id id x)) (x ∷ without id xs) (without id xs) (ap not (none x (contains_here x xs x refl)))
+    ∙ ap (λ (ys : List Held). x ∷ ys) (none_named id xs (λ y h. none y (contains_there x xs y h)))
+
+-- a place taken out is a request taken out
+pub dropped_at : (es : List Held) (place : ℕ) (e : Held) (id : RequestId) → AllPairs IsEarlier es → slice_get es place ≡ Some e → e.entry.id ≡ id → remove es place ≡ without id es
+dropped_at [] place e id ordered is named = let no : ◌≡◌ {A = Option Held} None (Some e) = is in cc
+dropped_at (x ∷ xs) zero e id ordered is named =
+    let same : x ≡ e = same_Some x e is in
+    let its : x.entry.id.0 ≡ id.0 = ap (λ (y : Held). y.entry.id.0) same ∙ ap (λ (i : RequestId). i.0) named in
+    sym (cond-false (not (has_id id x)) (x ∷ without id xs) (without id xs) (ap not (eq-eqb x.entry.id.0 id.0 its))
+    ∙ none_named id xs (λ y h. ne_eqb y.entry.id.0 id.0 (λ same. let lt = later_than x xs y ordered h in let f : ⊥ = omega (arith, lt, same, its) in f)))
+dropped_at (x ∷ xs) (suc place) e id ordered is named =
+    let rest = dropped_at xs place e id (rest_ordered x xs ordered) is named in
+    let lt = later_than x xs e ordered (there xs place e is) in
+    ap (λ (ys : List Held). x ∷ ys) rest
+    ∙ sym (cond-true (not (has_id id x)) (x ∷ without id xs) (without id xs)
+    (ap not (ne_eqb x.entry.id.0 id.0 (λ same. let n = ap (λ (i : RequestId). i.0) named in let f : ⊥ = omega (arith, lt, same, n) in f))))
+
+-- ---- the book stays in order
+
+-- what each change leaves of a request
+pub record Leaves (e x : Held) : Type 0 where
+  pub id : x.entry.id.0 ≡ e.entry.id.0
+  pub client : x.entry.client.0 ≡ e.entry.client.0
+  pub issues : HasIssuesLeft x.entry
+
+pub changed_in_order : (es : List Held) (g : Held → Held) → ((e : Held) → Contains es e → Leaves e (g e)) → IsInOrder es → IsInOrder (map g es)
+changed_in_order es g leaves s = record {
+  ordered = λ i j d lt below.
+      let inside : j < length es = short j below in
+      let a = s.ordered i j d lt inside in
+      let x = at_place i d (omega (arith, lt, inside)) in
+      let y = at_place j d inside in
+      let p = ap (λ (z : Held). z.entry.id.0) x.1 in
+      let q = ap (λ (z : Held). z.entry.id.0) y.1 in
+      omega (arith, a, p, q, x.0.id, y.0.id);
+  clients = λ i d below.
+      let x = at_place i d (short i below) in
+      let c = s.clients i d (short i below) in
+      let p = ap (λ (z : Held). z.entry.client.0) x.1 in
+      (omega (arith, c.0, p, x.0.client), omega (arith, c.1, p, x.0.client));
+  few = λ client.
+      let f = s.few client in
+      let same : unanswered_of (map g es) client ≡ unanswered_of es client =
+      count_map (λ (e : Held). e.entry.client.0 == client) (λ (e : Held). e.entry.client.0 == client) g es (λ y h. ap (λ (n : ℕ). n == client) (leaves y h).client) in
+      omega (arith, f, same);
+  issues = λ i d below.
+      let x = at_place i d (short i below) in
+      subst (λ (z : Held). HasIssuesLeft z.entry) (sym x.1) x.0.issues;
+}
+  where
+    short : (k : ℕ) → k < length (map g es) → k < length es
+    short k below = omega (arith, below, length-map es g)
+
+    at_place : (k : ℕ) (d : Held) → k < length es → Leaves (get_or es k d) (g (get_or es k d)) × (get_or (map g es) k d ≡ g (get_or es k d))
+    at_place k d lt = (leaves (get_or es k d) (k, lt, get_or_default es k (get_or es k d) d lt), get_or-map g es k d d lt)
+
+-- a change of one request, that the request bears
+pub one_in_order : (es : List Held) (id : RequestId) (f : Entry → Entry) → ((r : Entry) → (f r).id.0 ≡ r.id.0) → ((r : Entry) → (f r).client.0 ≡ r.client.0)
+    → ((e : Held) → Contains es e → e.entry.id.0 ≡ id.0 → HasIssuesLeft (f e.entry)) → IsInOrder es → IsInOrder (map (at id f) es)
+one_in_order es id f ids clients bears s = changed_in_order es (at id f) (λ e h. go e h (has_id id e) refl) s
+  where
+    go : (e : Held) → Contains es e → (b : Bool) → has_id id e ≡ b → Leaves e (at id f e)
+    go e h true named = subst (λ (x : Held). Leaves e x) (sym (cond-true (has_id id e) (record e { entry = f e.entry }) e named))
+        (record { id = ids e.entry; client = clients e.entry; issues = bears e h (eqb-true e.entry.id.0 id.0 named) })
+    go e h false named = subst (λ (x : Held). Leaves e x) (sym (cond-false (has_id id e) (record e { entry = f e.entry }) e named))
+        (record { id = refl; client = refl; issues = All-contains (λ (x : Held). HasIssuesLeft x.entry) es e s.issues h })
+
+pub issued_in_order : (es : List Held) (id : RequestId) (e : Held) → IsInOrder es → Contains es e → e.entry.id ≡ id → e.entry.issued ≡ false → IsInOrder (map (at id issue) es)
+issued_in_order es id e s here named waits = one_in_order es id issue (λ r. refl) (λ r. refl) bears s
+  where
+    bears : (x : Held) → Contains es x → x.entry.id.0 ≡ id.0 → HasIssuesLeft (issue x.entry)
+    bears x h same =
+        let is : x ≡ e = one_by_id es x e s.ordered h here (same ∙ sym (ap (λ (i : RequestId). i.0) named)) in
+        let left = (All-contains (λ (y : Held). HasIssuesLeft y.entry) es e s.issues here).1 waits in
+        let n = ap (λ (y : Held). y.entry.issues) is in
+        (omega (arith, left, n), λ no. absurd (false≢true (sym no)))
+
+pub waiting_in_order : (es : List Held) (id : RequestId) (e : Held) → IsInOrder es → Contains es e → e.entry.id ≡ id → e.entry.issues < 4 → IsInOrder (map (at id requeued) es)
+waiting_in_order es id e s here named few = one_in_order es id requeued (λ r. refl) (λ r. refl) bears s
+  where
+    bears : (x : Held) → Contains es x → x.entry.id.0 ≡ id.0 → HasIssuesLeft (requeued x.entry)
+    bears x h same =
+        let is : x ≡ e = one_by_id es x e s.ordered h here (same ∙ sym (ap (λ (i : RequestId). i.0) named)) in
+        let n = ap (λ (y : Held). y.entry.issues) is in
+        (omega (arith, few, n), λ no. omega (arith, few, n))
+
+pub longer_in_order : (es : List Held) (e : Held) → IsInOrder es → All (λ x. x.entry.id.0 < e.entry.id.0) es → IsFresh e.entry → 1 ≤ e.entry.client.0 → e.entry.client.0 ≤ 8
+    → unanswered_of es e.entry.client.0 < 16 → IsInOrder (es ++ e ∷ [])
+longer_in_order es e s newest fresh low high has_room = record {
+  ordered = all_pairs_push IsEarlier es e s.ordered newest;
+  clients = All-push (λ (x : Held). (1 ≤ x.entry.client.0) × (x.entry.client.0 ≤ 8)) es e s.clients (low, high);
+  few = λ client. few client (cases_eq e.entry.client.0 client);
+  issues = All-push (λ (x : Held). HasIssuesLeft x.entry) es e s.issues (let n = fresh.1 in (omega (arith, n), λ no. omega (arith, n)));
+}
+  where
+    counted : (client : ℕ) → unanswered_of (es ++ e ∷ []) client ≡ unanswered_of es client + cond {A = ℕ} (e.entry.client.0 == client) 1 0
+    counted client =
+        let p : Held → Bool = λ x. x.entry.client.0 == client in
+        let a = count_append p es (e ∷ []) in
+        let b = count_cons p e [] in
+        omega (arith, a, b)
+
+    small : (b : Bool) → cond {A = ℕ} b 1 0 ≤ 1
+    small true = omega arith
+    small false = omega arith
+
+    few : (client : ℕ) → (e.entry.client.0 ≡ client) ⊎ (e.entry.client.0 ≢ client) → unanswered_of (es ++ e ∷ []) client ≤ 16
+    few client (inl is) =
+        let P : ℕ → Type 0 = λ n. unanswered_of es n < 16 in
+        let here = subst P is has_room in
+        omega (arith, counted client, small (e.entry.client.0 == client), here)
+    few client (inr other) =
+        let none : ◌≡◌ {A = ℕ} (cond (e.entry.client.0 == client) 1 0) 0 = cond-false (e.entry.client.0 == client) 1 0 (ne_eqb e.entry.client.0 client other) in
+        omega (arith, counted client, none, s.few client)
+
+-- ---- and as all get older
+
+pub older_in_order : (ports : Port → Bool) (es : List Held) → IsInOrder es → IsInOrder (aged ports es)
+older_in_order ports es s = changed_in_order es (λ (e : Held). record e { entry = older ports e.entry }) leaves s
+  where
+    leaves : (e : Held) → Contains es e → Leaves e (record e { entry = older ports e.entry })
+    leaves e h = go (e.entry.issued && ports e.entry.port) refl
+      where
+        left : HasIssuesLeft e.entry
+        left = All-contains (λ (x : Held). HasIssuesLeft x.entry) es e s.issues h
+
+        go : (b : Bool) → (e.entry.issued && ports e.entry.port) ≡ b → Leaves e (record e { entry = older ports e.entry })
+        go true t = subst (λ (r : Entry). Leaves e (record e { entry = r })) (sym (cond-true (e.entry.issued && ports e.entry.port) (record (e.entry) { age = suc e.entry.age }) e.entry t))
+            (record { id = refl; client = refl; issues = left })
+        go false t = subst (λ (r : Entry). Leaves e (record e { entry = r })) (sym (cond-false (e.entry.issued && ports e.entry.port) (record (e.entry) { age = suc e.entry.age }) e.entry t))
+            (record { id = refl; client = refl; issues = left })
+
+-- those before a place are older, and the others are as they were
+pub record OlderSoFar (ports : Port → Bool) (old now : List Held) (place : ℕ) : Type 0 where
+  pub done : (k : ℕ) (d : Held) → k < place → k < length old → get_or now k d ≡ record (get_or old k d) { entry = older ports (get_or old k d).entry }
+  pub rest : (k : ℕ) (d : Held) → place ≤ k → get_or now k d ≡ get_or old k d
+  pub long : length now ≡ length old
+
+pub one_older_more : (ports : Port → Bool) (old now : List Held) (place : ℕ) (e : Held) (r : Entry) → OlderSoFar ports old now place → slice_get now place ≡ Some e → r ≡ older ports e.entry
+    → OlderSoFar ports old (set now place (record e { entry = r })) (place + 1)
+one_older_more ports old now place e r so_far is changed = record {
+  done = λ k d lt short. ⊎_elim
+      (λ (here : k ≡ place).
+      let its : get_or old k d ≡ e = ap (λ (n : ℕ). get_or old n d) here ∙ (sym (so_far.rest place d (omega arith)) ∙ get_or_from_slice_get now place e d is) in
+      ap (λ (n : ℕ). get_or (set now place new) n d) here
+      ∙ (get_or-set_same now place new d (slice_get_within now place e is)
+      ∙ (ap (λ (x : Entry). record e { entry = x }) changed
+      ∙ ap (λ (x : Held). record x { entry = older ports x.entry }) (sym its))))
+      (λ (other : k ≢ place). get_or-set_other now place k new d other ∙ so_far.done k d (omega (arith, lt, other)) short)
+      (cases_eq k place);
+  rest = λ k d le. get_or-set_other now place k new d (λ here. let no : ⊥ = omega (arith, here, le) in no) ∙ so_far.rest k d (omega (arith, le));
+  long = length-set now place new ∙ so_far.long;
+}
+  where
+    new : Held
+    new = record e { entry = r }
+
+pub all_older : (ports : Port → Bool) (old now : List Held) (place : ℕ) → length old ≤ place → OlderSoFar ports old now place → now ≡ aged ports old
+all_older ports old now place all so_far =
+    same_lists now (aged ports old) (so_far.long ∙ sym (length-map old (λ (e : Held). record e { entry = older ports e.entry })))
+    (λ k d lt.
+    let short : k < length old = omega (arith, lt, so_far.long) in
+    so_far.done k d (omega (arith, short, all)) short ∙ sym (get_or-map (λ (e : Held). record e { entry = older ports e.entry }) old k d d short))
+
+-- ---- and as one goes
+
+pub without_in : (id : RequestId) (es : List Held) (e : Held) → Contains (without id es) e → Contains es e
+without_in id [] e h = h
+without_in id (x ∷ xs) e h = go (not (has_id id x)) (λ k. without_in id xs e k) h
+  where
+    go : (b : Bool) → (Contains (without id xs) e → Contains xs e) → Contains (cond b (x ∷ without id xs) (without id xs)) e → Contains (x ∷ xs) e
+    go true rest k = ⊎_elim (λ same. contains_here x xs e same) (λ later. contains_there x xs e (rest later)) (contains_cases x (without id xs) e k)
+    go false rest k = contains_there x xs e (rest k)
+
+fewer_ordered : (id : RequestId) (es : List Held) → AllPairs IsEarlier es → AllPairs IsEarlier (without id es)
+fewer_ordered id [] ordered = ordered
+fewer_ordered id (x ∷ xs) ordered = go (not (has_id id x)) (fewer_ordered id xs (rest_ordered x xs ordered))
+  where
+    go : (b : Bool) → AllPairs IsEarlier (without id xs) → AllPairs IsEarlier (cond b (x ∷ without id xs) (without id xs))
+    go false rest = rest
+    go true rest = front
+      where
+        front : AllPairs IsEarlier (x ∷ without id xs)
+        front zero zero d lt below = absurd (omega (arith, lt))
+        front zero (suc j) d lt below =
+            let y : Held = get_or (without id xs) j d in
+            let inside : j < length (without id xs) = omega (arith, below) in
+            later_than x xs y ordered (without_in id xs y (j, inside, get_or_default (without id xs) j y d inside))
+        front (suc i) zero d lt below = absurd (omega (arith, lt))
+        front (suc i) (suc j) d lt below = rest i j d (omega (arith, lt)) (omega (arith, below))
+
+fewer_counted : (id : RequestId) (p : Held → Bool) (es : List Held) → count_by p (without id es) ≤ count_by p es
+fewer_counted id p [] = omega arith
+fewer_counted id p (x ∷ xs) = go (not (has_id id x)) (fewer_counted id p xs)
+  where
+    go : (b : Bool) → count_by p (without id xs) ≤ count_by p xs → count_by p (cond b (x ∷ without id xs) (without id xs)) ≤ count_by p (x ∷ xs)
+    go true rest = omega (arith, rest, count_cons p x xs, count_cons p x (without id xs))
+    go false rest = omega (arith, rest, count_cons p x xs)
+
+pub fewer_in_order : (id : RequestId) (es : List Held) → IsInOrder es → IsInOrder (without id es)
+fewer_in_order id es s = record {
+  ordered = fewer_ordered id es s.ordered;
+  clients = λ k d lt. All-contains (λ (x : Held). (1 ≤ x.entry.client.0) × (x.entry.client.0 ≤ 8)) es (get_or (without id es) k d) s.clients (still k d lt);
+  few = λ client. let a = fewer_counted id (λ (x : Held). x.entry.client.0 == client) es in let b = s.few client in omega (arith, a, b);
+  issues = λ k d lt. All-contains (λ (x : Held). HasIssuesLeft x.entry) es (get_or (without id es) k d) s.issues (still k d lt);
+}
+  where
+    still : (k : ℕ) (d : Held) → k < length (without id es) → Contains es (get_or (without id es) k d)
+    still k d lt =
+        let y : Held = get_or (without id es) k d in
+        without_in id es y (k, lt, get_or_default (without id es) k y d lt)
+
+-- ---- the walk is given a book in order
+
+pub asks_in_order : (es : List Held) → AllPairs IsEarlier es → machine.IsInOrder (asks_of es)
+asks_in_order es ordered i j d lt below =
+    let long = length-map es (λ (e : Held). asks e.entry) in
+    let inside : j < length es = omega (arith, below, long) in
+    step es i j d lt inside (ordered i j)
+  where
+    step : (es : List Held) (i j : ℕ) (d : Unanswered) → i < j → j < length es → ((e : Held) → i < j → j < length es → (get_or es i e).entry.id.0 < (get_or es j e).entry.id.0)
+        → (get_or (asks_of es) i d).id.0 < (get_or (asks_of es) j d).id.0
+    step [] i j d lt inside o = absurd (omega (arith, inside))
+    step (x ∷ xs) i j d lt inside o =
+        let a = ap (λ (u : Unanswered). u.id.0) (get_or-map (λ (e : Held). asks e.entry) (x ∷ xs) i x d (omega (arith, lt, inside))) in
+        let b = ap (λ (u : Unanswered). u.id.0) (get_or-map (λ (e : Held). asks e.entry) (x ∷ xs) j x d inside) in
+        let c = o x lt inside in
+        omega (arith, a, b, c)

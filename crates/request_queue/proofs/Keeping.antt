@@ -1,0 +1,224 @@
+-- What a call on the slab, the loans and the order does to the entries.
+use Rattle.std.proofs.Common.{◌≡◌, ◌≢◌, ℕ, ◌<◌, ◌+◌, suc, List, [], ◌∷◌, ◌++◌, length, get_or, set, map, take, drop, Option, Some, None, ap, sym, ◌∙◌, subst, inl, inr, arith, refl}
+use Rattle.std.specs.Prelude.{unwrap_or}
+use Rattle.std.specs.List.{All, Contains, remove, slice_get}
+use Rattle.std.proofs.lemmas.Bool.{cases_eq, cases_lt}
+use Rattle.std.proofs.lemmas.Grind.{in_remove}
+use Rattle.std.proofs.lemmas.List.{get_or-set_same, get_or-set_other, length-set, map-append, take-map, drop-map, length_push}
+use Rattle.std.proofs.lemmas.List.Edits.{length-remove, get_or-remove_below, get_or-remove_above}
+use Rattle.std.proofs.lemmas.List.Elements.{All-push, All-head, All-tail, Contains-push, Contains-append_left}
+use Rattle.std.proofs.lemmas.List.Quantifiers.{all_pairs_push, all_pairs_remove}
+use Rattle.std.proofs.lemmas.Option.{slice_get-map, slice_get-get_or}
+use Rattle.std.proofs.Common.{cond, is_some}
+use Rattle.std.specs.Option.{IsSome}
+use Rattle.std.proofs.lemmas.List.{same_lists, get_or-map, length-map}
+use Rattle.std.proofs.lemmas.List.Sums.{sum_by-set}
+use Rattle.std.proofs.lemmas.Option.{same_Some}
+use Rattle.slab.proofs.SlabLemmas.{ContainsKey-within, Updates-with_value}
+use Rattle.slab.specs.Slab.{Slab, get, slab_len, Updates, with_value}
+use Rattle.dma_frames.specs.Loan.{Lending}
+use Rattle.request_queue.specs.declared.Entry.{Entry}
+use Rattle.request_queue.specs.Entries.{Held}
+use Rattle.request_queue.specs.Store.{blank, frames_of, held_at, entries, IsHeld, IsSound}
+
+none-some : {A : Type 0} {o : Option A} (x : A) → o ≡ None → o ≡ Some x → ⊥
+none-some x p q = let r = sym p ∙ q in cc
+
+-- entries under other keys stay
+same_entries : (s s' : Slab Entry) (loans loans' : List (Option Lending)) (key : ℕ)
+    → ((k : ℕ) → k ≢ key → get s' k ≡ get s k) → ((k : ℕ) → k ≢ key → get_or loans' k None ≡ get_or loans k None)
+    → (order : List ℕ) → All (λ k. k ≢ key) order → entries s' loans' order ≡ entries s loans order
+same_entries s s' loans loans' key others beside [] ne = refl
+same_entries s s' loans loans' key others beside (k ∷ ks) ne =
+    let apart = All-head (λ (k : ℕ). k ≢ key) k ks ne in
+    rw (others k apart, beside k apart) (ap (λ es. held_at s loans k ∷ es)
+    (same_entries s s' loans loans' key others beside ks (All-tail (λ (k : ℕ). k ≢ key) k ks ne)))
+
+set_beside : (loans : List (Option Lending)) (key : ℕ) (slot : Option Lending) (k : ℕ) → k ≢ key → get_or (set loans key slot) k None ≡ get_or loans k None
+set_beside loans key slot k ne = get_or-set_other loans key k slot None ne
+
+module _ (s s' : Slab Entry) (loans : List (Option Lending)) (order : List ℕ) (key : ℕ) (sound : IsSound s loans order) where
+  -- a key without a request isn't in the order
+  pub fresh : get s key ≡ None → All (λ k. k ≢ key) order
+  fresh none i d lt e = let h = sound.held i d lt in none-some h.request (subst (λ n. get s n ≡ None) (sym e) none) h.has_request
+
+  -- what stays held
+  still_held : (slot : Option Lending) → ((k : ℕ) → k ≢ key → get s' k ≡ get s k) → (k : ℕ) → k ≢ key → IsHeld s loans k → IsHeld s' (set loans key slot) k
+  still_held slot others k ne h = record {
+    request = h.request;
+    loan = h.loan;
+    has_request = others k ne ∙ h.has_request;
+    has_loan = set_beside loans key slot k ne ∙ h.has_loan;
+    same_id = h.same_id;
+    in_place = rw length-set h.in_place;
+  }
+
+  module _ (r : Entry) (loan : Lending) (vacant : get s key ≡ None) (updates : Updates s s' key (Some r)) (within : key < length loans) (id : loan.request ≡ r.id) where
+    pub entries_more : entries s' (set loans key (Some loan)) (order ++ key ∷ []) ≡ entries s loans order ++ record { entry = r; frames = loan.frames } ∷ []
+    entries_more = map-append (held_at s' (set loans key (Some loan))) order (key ∷ [])
+        ∙ rw (same_entries s s' loans (set loans key (Some loan)) key updates.others (set_beside loans key (Some loan)) order (fresh vacant), updates.changed, get_or-set_same loans key (Some loan) None within) refl
+
+    pub sound_more : slab_len s' ≡ slab_len s + 1 → s'.capacity ≡ s.capacity → IsSound s' (set loans key (Some loan)) (order ++ key ∷ [])
+    sound_more len capacity = record {
+      room = rw capacity sound.room;
+      places = length-set loans key (Some loan) ∙ (sound.places ∙ sym capacity);
+      count = rw (len, length_push) (omega (arith, sound.count));
+      distinct = all_pairs_push (λ (a : ℕ) (b : ℕ). a ≢ b) order key sound.distinct (fresh vacant);
+      held = All-push (IsHeld s' (set loans key (Some loan))) order key
+          (λ i d lt. still_held (Some loan) updates.others (get_or order i d) (fresh vacant i d lt) (sound.held i d lt))
+          (record { request = r; loan = loan; has_request = updates.changed; has_loan = get_or-set_same loans key (Some loan) None within; same_id = id; in_place = rw length-set within });
+      vacant = λ k out.
+          let ne : k ≢ key = λ e. out (subst (Contains (order ++ key ∷ [])) (sym e) (Contains-push order key)) in
+          let old = sound.vacant k (λ w. out (Contains-append_left order (key ∷ []) k w)) in
+          (updates.others k ne ∙ old.0, set_beside loans key (Some loan) k ne ∙ old.1);
+    }
+
+  module _ (place : ℕ) (within : place < length order) (is_key : (d : ℕ) → get_or order place d ≡ key) (updates : Updates s s' key None) where
+    -- the key stands at its place alone
+    once : All (λ k. k ≢ key) (remove order place)
+    once i d lt e = elim (cases_lt i place) [
+      | inl low ↦ sound.distinct i place d low within (sym (get_or-remove_below order place d i low within) ∙ (e ∙ sym (is_key d)))
+      | inr high ↦ sound.distinct place (i + 1) d (omega arith) (omega (arith, lt, shorter))
+          (is_key d ∙ (sym e ∙ get_or-remove_above order place d i high within))
+    ]
+      where
+        shorter : length (remove order place) + 1 ≡ length order
+        shorter = length-remove order place within
+
+    kept : All (IsHeld s loans) (remove order place)
+    kept i d lt =
+        let shorter = length-remove order place within in
+        elim (cases_lt i place) [
+          | inl low ↦ subst (IsHeld s loans) (sym (get_or-remove_below order place d i low within)) (sound.held i d (omega arith))
+          | inr high ↦ subst (IsHeld s loans) (sym (get_or-remove_above order place d i high within)) (sound.held (i + 1) d (omega arith))
+        ]
+
+    pub entries_less : entries s' (set loans key None) (remove order place) ≡ remove (entries s loans order) place
+    entries_less = same_entries s s' loans (set loans key None) key updates.others (set_beside loans key None) (remove order place) once
+        ∙ (map-append (held_at s loans) (take place order) (drop (suc place) order) ∙ rw (take-map, drop-map) refl)
+
+    pub entry_there : (r : Entry) (loan : Lending) → get s key ≡ Some r → get_or loans key None ≡ Some loan → slice_get (entries s loans order) place ≡ Some (record { entry = r; frames = loan.frames })
+    entry_there r loan has_request has_loan = slice_get-map (held_at s loans) order place
+        ∙ rw (slice_get-get_or order place key within, is_key key, has_request, has_loan) refl
+
+    pub sound_less : slab_len s' + 1 ≡ slab_len s → s'.capacity ≡ s.capacity → IsSound s' (set loans key None) (remove order place)
+    sound_less len capacity = record {
+      room = rw capacity sound.room;
+      places = length-set loans key None ∙ (sound.places ∙ sym capacity);
+      count = omega (arith, length-remove order place within, sound.count, len);
+      distinct = all_pairs_remove (λ (a : ℕ) (b : ℕ). a ≢ b) order place within sound.distinct;
+      held = λ i d lt. still_held None updates.others (get_or (remove order place) i d) (once i d lt) (kept i d lt);
+      vacant = λ k out. elim (cases_eq k key) [
+        | inl e ↦ rw e (updates.changed, get_or-set_same loans key None None (subst (IsHeld s loans) (is_key 0) (sound.held place 0 within)).in_place)
+        | inr ne ↦ let old = sound.vacant k (λ w. out (in_remove order place w.0 k within w.1 (sym w.2)
+            (λ e. ne (sym w.2 ∙ (ap (λ n. get_or order n k) e ∙ is_key k)))).1) in
+            (updates.others k ne ∙ old.0, set_beside loans key None k ne ∙ old.1)
+      ];
+    }
+
+    held_there : IsHeld s loans key
+    held_there = subst (IsHeld s loans) (is_key 0) (sound.held place 0 within)
+
+    pub key_in_place : key < length loans
+    key_in_place = held_there.in_place
+
+    pub loan_of_request : (r : Entry) (loan : Lending) → get s key ≡ Some r → get_or loans key None ≡ Some loan → loan.request ≡ r.id
+    loan_of_request r loan has_request has_loan =
+        ap (λ (l : Lending). l.request) (same_Some loan held_there.loan (sym has_loan ∙ held_there.has_loan))
+        ∙ (held_there.same_id ∙ ap (λ (x : Entry). x.id) (same_Some held_there.request r (sym held_there.has_request ∙ has_request)))
+
+-- ---- what stands at a place
+
+pub map-map : {A B C : Type 0} (g : B → C) (f : A → B) (xs : List A) → map g (map f xs) ≡ map (λ x. g (f x)) xs
+map-map g f [] = refl
+map-map g f (x ∷ xs) = ap (λ ys. g (f x) ∷ ys) (map-map g f xs)
+
+module _ (s : Slab Entry) (loans : List (Option Lending)) (order : List ℕ) (key place : ℕ) (within : place < length order) (is_key : (d : ℕ) → get_or order place d ≡ key) where
+  pub stands_at : slice_get (entries s loans order) place ≡ Some (held_at s loans key)
+  stands_at = slice_get-map (held_at s loans) order place ∙ rw (slice_get-get_or order place key within, is_key key) refl
+
+  pub request_there : (r : Entry) → get s key ≡ Some r → slice_get (map (λ (e : Held). e.entry) (entries s loans order)) place ≡ Some r
+  request_there r there = slice_get-map (λ (e : Held). e.entry) (entries s loans order) place ∙ rw (stands_at, there) refl
+
+  pub frames_there : (loan : Lending) → get_or loans key None ≡ Some loan → slice_get (map (λ (e : Held). e.frames) (entries s loans order)) place ≡ Some loan.frames
+  frames_there loan there = slice_get-map (λ (e : Held). e.frames) (entries s loans order) place ∙ rw (stands_at, there) refl
+
+  pub key_there : IsSound s loans order → key < length loans
+  key_there sound = (subst (IsHeld s loans) (is_key 0) (sound.held place 0 within)).in_place
+
+-- ---- another state of one request
+
+-- a value that is replaced leaves as many
+pub slab_len-with_value : (s : Slab Entry) (key : ℕ) (old new : Entry) → get s key ≡ Some old → slab_len (with_value s key new) ≡ slab_len s
+slab_len-with_value s key old new there =
+    let within = ContainsKey-within s key (subst IsSome (sym there) refl) in
+    let sums = sum_by-set (λ (slot : Option Entry). cond (is_some slot) 1 0) s.slots key (Some new) None within in
+    let sums' = rw there at sums in
+    omega (arith, sums')
+
+module _ (s : Slab Entry) (loans : List (Option Lending)) (order : List ℕ) (key place : ℕ) (old new : Entry)
+    (sound : IsSound s loans order) (within : place < length order) (is_key : (d : ℕ) → get_or order place d ≡ key)
+    (there : get s key ≡ Some old) where
+  abbrev after : Slab Entry
+  after = with_value s key new
+
+  updates : Updates s after key (Some new)
+  updates = Updates-with_value s key new (subst IsSome (sym there) refl)
+
+  pub sound_replaced : new.id ≡ old.id → IsSound after loans order
+  sound_replaced same = record {
+    room = sound.room;
+    places = sound.places;
+    count = slab_len-with_value s key old new there ∙ sound.count;
+    distinct = sound.distinct;
+    held = λ i d lt. held_after (get_or order i d) (sound.held i d lt);
+    vacant = λ k out.
+        let ne : k ≢ key = λ e. out (place, within, is_key k ∙ sym e) in
+        let was = sound.vacant k out in
+        (updates.others k ne ∙ was.0, was.1);
+  }
+    where
+      held_after : (k : ℕ) → IsHeld s loans k → IsHeld after loans k
+      held_after k h = elim (cases_eq k key) [
+        | inl e ↦ record {
+          request = new;
+          loan = h.loan;
+          has_request = ap (λ n. get after n) e ∙ updates.changed;
+          has_loan = h.has_loan;
+          same_id = h.same_id ∙ (ap (λ (x : Entry). x.id) (same_Some h.request old (sym h.has_request ∙ (ap (λ n. get s n) e ∙ there))) ∙ sym same);
+          in_place = h.in_place;
+        }
+        | inr ne ↦ record {
+          request = h.request;
+          loan = h.loan;
+          has_request = updates.others k ne ∙ h.has_request;
+          has_loan = h.has_loan;
+          same_id = h.same_id;
+          in_place = h.in_place;
+        }
+      ]
+
+  abbrev changed : Held
+  changed = record { entry = new; frames = frames_of (get_or loans key None) }
+
+  pub entries_replaced : entries after loans order ≡ set (entries s loans order) place changed
+  entries_replaced = same_lists (map (held_at after loans) order) (set (map (held_at s loans) order) place changed)
+      (length-map order (held_at after loans) ∙ sym (length-set (map (held_at s loans) order) place changed ∙ length-map order (held_at s loans)))
+      each
+    where
+      each : (k : ℕ) (d : Held) → k < length (map (held_at after loans) order) → get_or (map (held_at after loans) order) k d ≡ get_or (set (map (held_at s loans) order) place changed) k d
+      each k d lt =
+          let short : k < length order = omega (arith, lt, length-map order (held_at after loans)) in
+          elim (cases_eq k place) [
+            | inl e ↦ rw e (get_or-map (held_at after loans) order place key d within
+                ∙ (rw (is_key key, updates.changed) refl ∙ sym (get_or-set_same (map (held_at s loans) order) place changed d (omega (arith, within, length-map order (held_at s loans))))))
+            | inr ne ↦ get_or-map (held_at after loans) order k key d short
+                ∙ (ap (λ (o : Option Entry). record { entry = unwrap_or o blank; frames = frames_of (get_or loans (get_or order k key) None) }) (updates.others (get_or order k key) (apart k ne short))
+                ∙ (sym (get_or-map (held_at s loans) order k key d short) ∙ sym (get_or-set_other (map (held_at s loans) order) place k changed d ne)))
+          ]
+        where
+          apart : (k : ℕ) → k ≢ place → k < length order → get_or order k key ≢ key
+          apart k ne short e = elim (cases_lt k place) [
+            | inl low ↦ sound.distinct k place key low within (e ∙ sym (is_key key))
+            | inr high ↦ sound.distinct place k key (omega arith) short (is_key key ∙ sym e)
+          ]

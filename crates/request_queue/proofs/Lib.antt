@@ -1,0 +1,11 @@
+pub mod Members
+pub mod Keeping
+pub mod Walk
+pub mod Stepping
+pub mod Counts
+pub mod Changing
+pub mod Ending
+pub mod Working
+pub mod Listing
+pub mod Finding
+pub mod Lending

@@ -1,0 +1,78 @@
+-- What the book's operations make of what says which requests are due.
+use Rattle.std.proofs.Common.{ℕ, suc, ◌≡◌, ◌<◌, ◌+◌, ◌==◌, ◌&&◌, Bool, true, false, cond, not, List, [], ◌∷◌, map, drop, length, get_or, refl, sym, ap, ◌∙◌, subst}
+use Rattle.std.proofs.lemmas.Bool.{cond-true, cond-false, not-true, and_parts}
+use Rattle.std.proofs.lemmas.List.{drop_more}
+use Rattle.ata_types.specs.declared.Port.{Port}
+use Rattle.ata_types.specs.declared.request.RequestId.{RequestId}
+use Rattle.block_machine.specs.declared.due.Mode.{Mode}
+use Rattle.block_machine.specs.declared.due.Unanswered.{Unanswered}
+use Rattle.block_machine.specs.Due.{IsDue, with_issued, with_waiting, with_none, AreDueInTurn}
+use Rattle.request_queue.specs.Entries.{Held, asks, asks_of, has_id, at, without, issue, requeued, older, aged, IsWaiting}
+use Rattle.request_queue.specs.declared.Entry.{Entry}
+use Rattle.request_queue.proofs.Members.{map_in}
+
+-- a due request waits
+pub due_waits : (mode : Mode) (es : List Held) (r : Unanswered) → IsDue mode (asks_of es) r → IsWaiting r.id es
+due_waits mode es r due =
+    let e = map_in (λ (x : Held). asks x.entry) es r due.here in (
+      e.0,
+      e.1,
+      ap (λ (u : Unanswered). u.id) (sym e.2),
+      ap (λ (u : Unanswered). u.issued) (sym e.2) ∙ not-true r.issued (and_parts (not r.issued) _ due.clear).0,
+    )
+
+-- a change of one request
+changed : (id : RequestId) (f : Entry → Entry) (g : Unanswered → Unanswered) → ((r : Entry) → asks (f r) ≡ g (asks r)) → (es : List Held)
+    → asks_of (map (at id f) es) ≡ map (λ u. cond (u.id.0 == id.0) (g u) u) (asks_of es)
+changed id f g same [] = refl
+changed id f g same (e ∷ es) = go (has_id id e) refl (changed id f g same es)
+  where
+    mark : Unanswered → Unanswered
+    mark u = cond (u.id.0 == id.0) (g u) u
+
+    go : (b : Bool) → has_id id e ≡ b → asks_of (map (at id f) es) ≡ map (λ u. cond (u.id.0 == id.0) (g u) u) (asks_of es)
+        → asks_of (map (at id f) (e ∷ es)) ≡ map (λ u. cond (u.id.0 == id.0) (g u) u) (asks_of (e ∷ es))
+    go true t rest =
+        ap (λ (x : Held). asks x.entry ∷ asks_of (map (at id f) es)) (cond-true (has_id id e) (record e { entry = f e.entry }) e t)
+        ∙ (ap (λ (u : Unanswered). u ∷ asks_of (map (at id f) es)) (same e.entry ∙ sym (cond-true (e.entry.id.0 == id.0) (g (asks e.entry)) (asks e.entry) t))
+        ∙ ap (λ (us : List Unanswered). cond (e.entry.id.0 == id.0) (g (asks e.entry)) (asks e.entry) ∷ us) rest)
+    go false t rest =
+        ap (λ (x : Held). asks x.entry ∷ asks_of (map (at id f) es)) (cond-false (has_id id e) (record e { entry = f e.entry }) e t)
+        ∙ (ap (λ (u : Unanswered). u ∷ asks_of (map (at id f) es)) (sym (cond-false (e.entry.id.0 == id.0) (g (asks e.entry)) (asks e.entry) t))
+        ∙ ap (λ (us : List Unanswered). cond (e.entry.id.0 == id.0) (g (asks e.entry)) (asks e.entry) ∷ us) rest)
+
+pub after_issue : (es : List Held) (id : RequestId) → asks_of (map (at id issue) es) ≡ with_issued id (asks_of es)
+after_issue es id = changed id issue (λ u. record u { issued = true }) (λ r. refl) es
+
+pub after_requeue : (es : List Held) (id : RequestId) → asks_of (map (at id requeued) es) ≡ with_waiting id (asks_of es)
+after_requeue es id = changed id requeued (λ u. record u { issued = false }) (λ r. refl) es
+
+pub after_answer : (es : List Held) (id : RequestId) → asks_of (without id es) ≡ with_none id (asks_of es)
+after_answer [] id = refl
+after_answer (e ∷ es) id = go (not (has_id id e)) (after_answer es id)
+  where
+    go : (b : Bool) → asks_of (without id es) ≡ with_none id (asks_of es)
+        → asks_of (cond b (e ∷ without id es) (without id es)) ≡ cond b (asks e.entry ∷ with_none id (asks_of es)) (with_none id (asks_of es))
+    go true rest = ap (λ (us : List Unanswered). asks e.entry ∷ us) rest
+    go false rest = rest
+
+pub after_tick : (es : List Held) (ports : Port → Bool) → asks_of (aged ports es) ≡ asks_of es
+after_tick [] ports = refl
+after_tick (e ∷ es) ports =
+    ap (λ (u : Unanswered). u ∷ asks_of (aged ports es)) (one (e.entry.issued && ports e.entry.port) refl)
+    ∙ ap (λ (us : List Unanswered). asks e.entry ∷ us) (after_tick es ports)
+  where
+    one : (b : Bool) → (e.entry.issued && ports e.entry.port) ≡ b → asks (older ports e.entry) ≡ asks e.entry
+    one true t = ap asks (cond-true (e.entry.issued && ports e.entry.port) (record (e.entry) { age = suc e.entry.age }) e.entry t)
+    one false t = ap asks (cond-false (e.entry.issued && ports e.entry.port) (record (e.entry) { age = suc e.entry.age }) e.entry t)
+
+-- ---- a walk that issues
+
+pub head_of : (mode : Mode) (port : Port) (ids : List RequestId) (i : ℕ) (d : RequestId) (es : List Held) → i < length ids → AreDueInTurn mode port (drop i ids) (asks_of es)
+    → IsWaiting (get_or ids i d) es × AreDueInTurn mode port (drop (i + 1) ids) (asks_of (map (at (get_or ids i d) issue) es))
+head_of mode port ids i d es lt turn =
+    let id = get_or ids i d in
+    let now = subst (λ (xs : List RequestId). AreDueInTurn mode port xs (asks_of es)) (drop_more ids i d lt) turn in (
+      subst (λ (x : RequestId). IsWaiting x es) now.0.1 (due_waits mode es now.0.0 now.0.3),
+      subst (λ (us : List Unanswered). AreDueInTurn mode port (drop (i + 1) ids) us) (sym (after_issue es id)) now.1,
+    )

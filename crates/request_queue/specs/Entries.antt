@@ -1,0 +1,152 @@
+-- Unanswered requests of all ports, in order of acceptance (this project's own).
+use Rattle.std.specs.Prelude.{ℕ, suc, ◌≡◌, ◌≢◌, ◌^◌, ◌<◌, ◌≤◌, ◌==◌, Bool, true, false, not, ◌&&◌, if◌then◌else◌, List, map, filter, count_by, Option, Some, None, All, AllPairs, Contains, slice_index_or, length}
+use Rattle.std.specs.List.{find}
+use Rattle.ata_types.specs.Grant.{Allows, Covers}
+use Rattle.ata_types.specs.declared.Port.{Port}
+use Rattle.ata_types.specs.declared.grant.GrantRow.{GrantRow}
+use Rattle.ata_types.specs.declared.memory.TheConstants.{DRIVER_FRAMES}
+use Rattle.ata_types.specs.declared.request.ClientId.{ClientId}
+use Rattle.ata_types.specs.declared.request.Frame.{Frame}
+use Rattle.ata_types.specs.declared.request.Op.TheVariants.{Flush}
+use Rattle.ata_types.specs.declared.request.RequestId.{RequestId}
+use Rattle.block_machine.specs.declared.due.Mode.{Mode}
+use Rattle.block_machine.specs.declared.due.Unanswered.{Unanswered}
+use Rattle.block_machine.specs.Due.{due_of}
+use Rattle.block_machine.specs.Rules.{IsCount, frames_for}
+use Rattle.dma_frames.specs.Table.{Table, owner_of, lent_to}
+use Rattle.request_queue.specs.declared.Entry.{Entry}
+
+-- an unanswered request, and the frames that are lent to it
+pub record Held : Type 0 where
+  pub entry : Entry
+  pub frames : List Frame
+
+-- what of a request says which are due
+abbrev pub asks : Entry → Unanswered
+asks r = record { id = r.id; port = r.port; op = r.op; range = r.range; issued = r.issued }
+
+-- and the same of each request of a book
+abbrev pub asks_of : List Held → List Unanswered
+asks_of entries = map (λ e. asks e.entry) entries
+
+-- the ids of the port's due requests, in order of acceptance
+abbrev pub due_ids : Mode → Port → List Unanswered → List RequestId
+due_ids mode port book = map (λ r. r.id) (due_of mode port book)
+
+-- the request has this id
+abbrev pub has_id : RequestId → Held → Bool
+has_id id e = e.entry.id.0 == id.0
+
+-- the request with this id, if it is unanswered
+abbrev pub held_of : RequestId → List Held → Option Held
+held_of id entries = find (has_id id) entries
+
+-- a change of the request with this id alone
+abbrev pub at : RequestId → (Entry → Entry) → Held → Held
+at id change e = if has_id id e then record e { entry = change e.entry } else e
+
+-- the requests but for the one with this id
+abbrev pub without : RequestId → List Held → List Held
+without id entries = filter (λ e. not (has_id id e)) entries
+
+-- the request issued once more, of age 0
+abbrev pub issue : Entry → Entry
+issue r = record r { issued = true; issues = suc r.issues; age = 0 }
+
+-- the request waiting again
+abbrev pub requeued : Entry → Entry
+requeued r = record r { issued = false }
+
+-- the request a tick older, if it is issued on one of these ports
+abbrev pub older : (Port → Bool) → Entry → Entry
+older ports r = if r.issued && ports r.port then record r { age = suc r.age } else r
+
+-- each request a tick older that is issued on one of these ports
+abbrev pub aged : (Port → Bool) → List Held → List Held
+aged ports entries = map (λ (e : Held). record e { entry = older ports e.entry }) entries
+
+-- the ids of the requests that pass, in order of acceptance
+abbrev pub ids_where : (Entry → Bool) → List Held → List RequestId
+ids_where passes entries = map (λ e. e.entry.id) (filter (λ e. passes e.entry) entries)
+
+-- the request is of this port
+abbrev pub is_of : Port → Entry → Bool
+is_of port r = r.port.0 == port.0
+
+-- the request waits, and was accepted under this grant of the client
+abbrev pub waits_under : ClientId → ℕ → Entry → Bool
+waits_under client grant r = not r.issued && (r.client.0 == client.0 && r.grant == grant)
+
+-- how many of the requests are a client's
+abbrev pub unanswered_of : List Held → ℕ → ℕ
+unanswered_of entries client = count_by (λ e. e.entry.client.0 == client) entries
+
+-- the request was accepted before the other
+abbrev pub IsEarlier : Held → Held → Type 0
+IsEarlier a b = a.entry.id.0 < b.entry.id.0
+
+-- a request with this id is unanswered
+abbrev pub IsUnanswered : RequestId → List Held → Type 0
+IsUnanswered id entries = (e : Held) × Contains entries e × (e.entry.id ≡ id)
+
+-- and it waits
+abbrev pub IsWaiting : RequestId → List Held → Type 0
+IsWaiting id entries = (e : Held) × Contains entries e × (e.entry.id ≡ id) × (e.entry.issued ≡ false)
+
+-- and it may go again: it is issued, and was fewer than four times
+abbrev pub MayGoAgain : RequestId → List Held → Type 0
+MayGoAgain id entries = (e : Held) × Contains entries e × (e.entry.id ≡ id) × (e.entry.issued ≡ true) × (e.entry.issues < 4)
+
+-- it was just accepted
+abbrev pub IsFresh : Entry → Type 0
+IsFresh r = (r.issued ≡ false) × (r.issues ≡ 0) × (r.age ≡ 0)
+
+-- the port is one of these
+abbrev pub is_among : List Bool → Port → Bool
+is_among ports port = slice_index_or ports port.0 false
+
+-- no issued request of these ports is so old that its age would not fit
+abbrev pub AreYoung : (Port → Bool) → List Held → Type 0
+AreYoung ports entries = All (λ e. e.entry.issued ≡ true → ports e.entry.port ≡ true → e.entry.age < 3) entries
+
+-- A request was issued four times at most; and fewer times where it waits, so that it may be issued.
+abbrev pub HasIssuesLeft : Entry → Type 0
+HasIssuesLeft r = (r.issues ≤ 4) × (r.issued ≡ false → r.issues < 4)
+
+-- Requests as a book holds them: their ids rise, each is of a client 1 to 8, no client has more than 16, and each has issues left.
+-- So there are 128 at most.
+pub record IsInOrder (entries : List Held) : Type 0 where
+  pub ordered : AllPairs IsEarlier entries
+  pub clients : All (λ e. (1 ≤ e.entry.client.0) × (e.entry.client.0 ≤ 8)) entries
+  pub few : (client : ℕ) → unanswered_of entries client ≤ 16
+  pub issues : All (λ e. HasIssuesLeft e.entry) entries
+
+-- The request is of its client's grant of this number, which is for its port, and lets the client do what it asks, with its sectors.
+-- (A flush has none.)
+abbrev pub IsCovered : List GrantRow → Entry → Type 0
+IsCovered rows e = (row : GrantRow) × Contains rows row × (row.client ≡ e.client) × (row.number ≡ e.grant) × (row.port ≡ e.port)
+    × Allows row.rights e.op × (e.op ≢ Flush → Covers row e.range.first.0 e.range.count)
+
+-- An accepted request: of a client 1 to 8, of as many sectors as its operation may have, below 2^48 and within its grant, with as many
+-- frames as it needs, each another one, all of them the client's own and lent to it.
+pub record IsAccepted (rows : List GrantRow) (table : Table) (held : Held) : Type 0 where
+  pub client_from : 1 ≤ held.entry.client.0
+  pub client_to : held.entry.client.0 ≤ 8
+  pub sectors : IsCount held.entry.op held.entry.range.count
+  pub first : held.entry.op ≢ Flush → held.entry.range.first.0 < 2 ^ 48
+  pub frames : length held.frames ≡ frames_for held.entry.op held.entry.range.count
+  pub row : IsCovered rows held.entry
+  pub clients : All (λ frame. DRIVER_FRAMES ≤ frame.0) held.frames
+  pub own : All (λ frame. owner_of table frame ≡ Some held.entry.client) held.frames
+  pub apart : AllPairs (λ a b. a ≢ b) held.frames
+  pub lent : All (λ frame. lent_to table frame ≡ Some held.entry.id) held.frames
+
+-- each of the entry's frames is lent to its request
+abbrev pub Stands : Table → Held → Type 0
+Stands table e = All (λ f. lent_to table f ≡ Some e.entry.id) e.frames
+
+-- what is lent to these requests is given back: their frames are lent to none, and nothing else changed
+pub record GivesBack (old new : Table) (entries : List Held) : Type 0 where
+  pub owners : new.owners ≡ old.owners
+  pub none : (e : Held) (f : Frame) → Contains entries e → Contains e.frames f → lent_to new f ≡ None
+  pub others : (f : Frame) → ((e : Held) → Contains entries e → Contains e.frames f → ⊥) → lent_to new f ≡ lent_to old f

@@ -1,0 +1,53 @@
+-- How the requests are kept: in a slab, their loans beside it at their keys, and the keys in order of acceptance.
+use Rattle.std.specs.Prelude.{◌≡◌, ◌≢◌, ℕ, ◌<◌, ◌≤◌, List, [], map, length, Option, Some, None, false, unwrap_or, slice_index_or, All, AllPairs, Contains}
+use Rattle.slab.specs.Slab.{Slab, get, slab_len}
+use Rattle.ata_types.specs.declared.request.Frame.{Frame}
+use Rattle.ata_types.specs.declared.request.Op.TheVariants.{Read}
+use Rattle.dma_frames.specs.Loan.{Lending}
+use Rattle.request_queue.specs.Entries.{Held}
+use Rattle.request_queue.specs.declared.Entry.{Entry}
+
+-- what an empty key would show; `IsSound` says that none is shown
+abbrev pub blank : Entry
+blank = record {
+  id = record { 0 = 0 };
+  client = record { 0 = 0 };
+  grant = 0;
+  port = record { 0 = 0 };
+  op = Read;
+  range = record { first = record { 0 = 0 }; count = 0 };
+  issued = false;
+  issues = 0;
+  age = 0;
+}
+
+abbrev pub frames_of : Option Lending → List Frame
+frames_of None = []
+frames_of (Some loan) = loan.frames
+
+abbrev pub held_at : Slab Entry → List (Option Lending) → ℕ → Held
+held_at requests loans key = record {
+  entry = unwrap_or (get requests key) blank;
+  frames = frames_of (slice_index_or loans key None);
+}
+
+abbrev pub entries : Slab Entry → List (Option Lending) → List ℕ → List Held
+entries requests loans order = map (held_at requests loans) order
+
+-- the key has a request, and beside it the loan of that request
+pub record IsHeld (requests : Slab Entry) (loans : List (Option Lending)) (key : ℕ) : Type 0 where
+  pub request : Entry
+  pub loan : Lending
+  pub has_request : get requests key ≡ Some request
+  pub has_loan : slice_index_or loans key None ≡ Some loan
+  pub same_id : loan.request ≡ request.id
+  pub in_place : key < length loans
+
+-- each key in the order has its request and loan, and no other key has one
+pub record IsSound (requests : Slab Entry) (loans : List (Option Lending)) (order : List ℕ) : Type 0 where
+  pub room : 128 ≤ requests.capacity
+  pub places : length loans ≡ requests.capacity
+  pub count : slab_len requests ≡ length order
+  pub distinct : AllPairs (λ (a : ℕ) (b : ℕ). a ≢ b) order
+  pub held : All (IsHeld requests loans) order
+  pub vacant : (key : ℕ) → (Contains order key → ⊥) → (get requests key ≡ None) × (slice_index_or loans key None ≡ None)

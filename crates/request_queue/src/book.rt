@@ -1,0 +1,275 @@
+// The book.
+ghost use Rattle.std.specs.Prelude.{◌≡◌, ◌<◌, ◌≤◌, ◌≢◌, ◌++◌, ◌∷◌, [], false, true, length, map, All, AllPairs, Contains, IfOk, Some, slice_get, slice_set};
+ghost use Rattle.request_queue.specs.Entries.{due_ids};
+ghost use Rattle.request_queue.specs.Entries.{Held, GivesBack, IsEarlier, IsFresh, IsInOrder, IsUnanswered, IsWaiting, MayGoAgain, Stands, aged, asks_of, at, has_id, ids_where, is_among, is_of, issue, older, requeued, unanswered_of, waits_under, without, AreYoung};
+
+use crate::Entry;
+use crate::due::due;
+use crate::store::Store;
+use arrayvec::ArrayVec;
+use ata_types::{ClientId, Port, RequestId};
+use block_machine::Mode;
+use dma_frames::{FrameTable, Loan};
+use std::alloc::Global;
+use std::marker::Model;
+
+/// Memory was refused.
+#[derive(Clone, Copy, Debug, PartialEq, Eq)]
+pub struct NoMemory;
+
+/// Unanswered requests of all ports, in order of acceptance. It can't be dropped, as it holds loans: `give_all_back` ends it.
+pub struct Book {
+    store: Store,
+}
+
+impl Model for Book {
+    ghost use Rattle.std.specs.Prelude.{List};
+    ghost use Rattle.request_queue.specs.Entries.{Held, IsInOrder};
+
+    ghost Value = { List Held };
+
+    ghost view = { λ b. b.store };
+
+    ghost invariant = { λ b. IsInOrder b.store };
+}
+
+impl Book {
+    /// A book without requests, with room for all that eight clients may have. The only error is want of memory, and no
+    /// other call takes memory.
+    pub fn new(alloc: Global) -> Result<Self, NoMemory>
+        ensures { IfOk result (λ book. book ≡ []) }
+    {
+        match Store::new(alloc) {
+            Ok(store) => Ok(Book { store }),
+            Err(_) => Err(NoMemory),
+        }
+    }
+
+    /// What always holds of a book.
+    pub fn is_in_order(&self)
+        ensures { IsInOrder self.now }
+    {
+        let _ = &self.store;
+    }
+
+    /// How many of the requests are the client's.
+    pub fn unanswered(&self, client: ClientId) -> usize
+        ensures { result ≡ unanswered_of self.now client.0 }
+    {
+        let mut count = 0;
+        for place in 0..self.store.len() {
+            if self.store.request(place).client.0 == client.0 {
+                count += 1;
+            }
+        }
+        count
+    }
+
+    /// Puts a request last, with its loan.
+    pub fn accept(&mut self, request: Entry, loan: Loan)
+        requires newest { All (λ e. e.entry.id.0 < request.id.0) self.old }
+        requires fresh { IsFresh request }
+        requires client { (1 ≤ request.client.0) × (request.client.0 ≤ 8) }
+        requires few { unanswered_of self.old request.client.0 < 16 }
+        requires id { loan.request ≡ request.id }
+        ensures { self.new ≡ self.old ++ record { entry = request; frames = loan.frames } ∷ [] }
+    {
+        self.store.push(request, loan);
+    }
+
+    /// The due requests of a port that takes commands in this mode, in order of acceptance.
+    pub fn issuable(&self, mode: Mode, port: Port) -> ArrayVec<RequestId, 32>
+        requires { mode.usable ≤ 32 }
+        ensures { result.items ≡ due_ids mode port (asks_of self.now) }
+    {
+        due(&self.store, mode, port)
+    }
+
+    /// An unanswered request, and how far it is.
+    pub fn request(&self, id: RequestId) -> Entry
+        requires { IsUnanswered id self.now }
+        ensures { (e : Held) × Contains self.now e × (e.entry ≡ result) × (result.id ≡ id) }
+    {
+        self.store.request(place_of(&self.store, id))
+    }
+
+    /// What is lent to an unanswered request.
+    pub fn loan(&self, id: RequestId) -> &Loan
+        requires { IsUnanswered id self.now }
+        ensures { (e : Held) × Contains self.now e × (e.entry.id ≡ id) × (e.frames ≡ result.now.frames) }
+    {
+        self.store.loan(place_of(&self.store, id))
+    }
+
+    /// The ids of a port's requests, in order of acceptance.
+    pub fn ids_of(&self, port: Port) -> ArrayVec<RequestId, 128>
+        ensures { result.items ≡ ids_where (is_of port) self.now }
+    {
+        ids_of(&self.store, port)
+    }
+
+    /// The ids of the requests that wait, and were accepted under this grant of the client.
+    pub fn waiting_of(&self, client: ClientId, grant: u8) -> ArrayVec<RequestId, 128>
+        ensures { result.items ≡ ids_where (waits_under client grant) self.now }
+    {
+        waiting_of(&self.store, client, grant)
+    }
+
+    /// Notes that a waiting request is issued.
+    pub fn issue(&mut self, id: RequestId)
+        requires { IsWaiting id self.old }
+        ensures { self.new ≡ map (at id issue) self.old }
+    {
+        let place = place_of(&self.store, id);
+        let old = self.store.request(place);
+        self.store.replace(
+            place,
+            Entry {
+                issued: true,
+                issues: old.issues + 1,
+                age: 0,
+                ..old
+            },
+        );
+    }
+
+    /// Notes that an issued request waits again, in its old place and with its loan.
+    pub fn requeue(&mut self, id: RequestId)
+        requires { MayGoAgain id self.old }
+        ensures { self.new ≡ map (at id requeued) self.old }
+    {
+        let place = place_of(&self.store, id);
+        let old = self.store.request(place);
+        self.store.replace(
+            place,
+            Entry {
+                issued: false,
+                ..old
+            },
+        );
+    }
+
+    /// Notes a tick: the issued requests of these ports, by number, are a tick older.
+    pub fn tick(&mut self, ports: &[bool])
+        requires { AreYoung (is_among ports.now) self.old }
+        ensures { self.new ≡ aged (is_among ports.now) self.old }
+    {
+        age(&mut self.store, ports);
+    }
+
+    /// Takes a request out; the others stay in their order.
+    pub fn answer(&mut self, id: RequestId) -> (Entry, Loan)
+        requires { IsUnanswered id self.old }
+        ensures entry { Contains self.old (record { entry = result.0; frames = result.1.frames }) }
+        ensures id { (result.0.id ≡ id) × (result.1.request ≡ id) }
+        ensures rest { self.new ≡ without id self.old }
+    {
+        let place = place_of(&self.store, id);
+        self.store.remove(place)
+    }
+
+    /// Ends the book: what it has lent is given back.
+    pub fn give_all_back(self, table: &mut FrameTable)
+        requires { All (Stands table.old) self }
+        ensures { GivesBack table.old table.new self }
+    {
+        let Book { store } = self;
+        give_back(store, table);
+    }
+}
+
+/// The place of a request.
+fn place_of(store: &Store, id: RequestId) -> usize
+    requires { IsUnanswered id store.now }
+    ensures { (e : Held) × (slice_get store.now result ≡ Some e) × (e.entry.id ≡ id) }
+{
+    for place in 0..store.len() {
+        if store.request(place).id.0 == id.0 {
+            return place;
+        }
+    }
+    unreachable!()
+}
+
+fn ids_of(store: &Store, port: Port) -> ArrayVec<RequestId, 128>
+    requires { length store.now ≤ 128 }
+    ensures { result.items ≡ ids_where (is_of port) store.now }
+{
+    let mut ids = ArrayVec::new();
+    for place in 0..store.len() {
+        let request = store.request(place);
+        if request.port.0 == port.0 {
+            ids.push(request.id);
+        }
+    }
+    ids
+}
+
+fn waiting_of(store: &Store, client: ClientId, grant: u8) -> ArrayVec<RequestId, 128>
+    requires { length store.now ≤ 128 }
+    ensures { result.items ≡ ids_where (waits_under client grant) store.now }
+{
+    let mut ids = ArrayVec::new();
+    for place in 0..store.len() {
+        let request = store.request(place);
+        if waits_under(request, client, grant) {
+            ids.push(request.id);
+        }
+    }
+    ids
+}
+
+fn waits_under(request: Entry, client: ClientId, grant: u8) -> bool
+    ensures { result ≡ waits_under client grant request }
+{
+    !request.issued && request.client.0 == client.0 && request.grant == grant
+}
+
+/// Makes the issued requests of these ports a tick older.
+fn age(store: &mut Store, ports: &[bool])
+    requires { AreYoung (is_among ports.now) store.old }
+    ensures { store.new ≡ aged (is_among ports.now) store.old }
+{
+    for place in 0..store.len() {
+        let request = store.request(place);
+        store.replace(place, older(request, ports));
+    }
+}
+
+/// The request a tick older, if it is issued on one of these ports.
+fn older(request: Entry, ports: &[bool]) -> Entry
+    requires { request.issued ≡ true → is_among ports.now request.port ≡ true → request.age < 3 }
+    ensures { result ≡ older (is_among ports.now) request }
+{
+    if request.issued && is_among(ports, request.port) {
+        Entry {
+            age: request.age + 1,
+            ..request
+        }
+    } else {
+        request
+    }
+}
+
+fn is_among(ports: &[bool], port: Port) -> bool
+    ensures { result ≡ is_among ports.now port }
+{
+    match ports.get(port.0 as usize) {
+        Some(among) => *among,
+        None => false,
+    }
+}
+
+/// Gives back what was lent to the requests.
+fn give_back(store: Store, table: &mut FrameTable)
+    requires stands { All (Stands table.old) store }
+    requires ordered { AllPairs IsEarlier store }
+    ensures { GivesBack table.old table.new store }
+{
+    let mut store = store;
+    while store.len() > 0 {
+        let (_, loan) = store.remove(0);
+        table.give_back(loan);
+    }
+    store.end();
+}

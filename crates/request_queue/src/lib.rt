@@ -1,0 +1,28 @@
+//! The book of a server: the unanswered requests of all ports in order of acceptance, and which of them are due.
+#![tactic(auto)]
+
+mod book;
+mod due;
+pub mod laws;
+mod store;
+
+use ata_types::{ClientId, Op, Port, Range, RequestId};
+pub use book::{Book, NoMemory};
+
+/// An unanswered request, and how far it is.
+#[derive(Clone, Copy, Debug, Default, PartialEq, Eq)]
+pub struct Entry {
+    pub id: RequestId,
+    pub client: ClientId,
+    /// The number of the client's grant that it was accepted under.
+    pub grant: u8,
+    /// The port of the grant.
+    pub port: Port,
+    pub op: Op,
+    pub range: Range,
+    pub issued: bool,
+    /// How often it was issued: four times at most.
+    pub issues: u8,
+    /// How many ticks ago it was issued last.
+    pub age: u8,
+}

@@ -1,0 +1,158 @@
+// Where the requests stand: in a slab, their loans beside it at their keys, and the keys in order of acceptance.
+ghost use Rattle.std.specs.Prelude.{◌≡◌, ◌<◌, ◌≤◌, ◌++◌, ◌∷◌, [], length, map, replicate, remove, slice_get, slice_set, IfOk, IfSome, None, Some};
+ghost use Rattle.request_queue.specs.Entries.{Held, asks_of};
+
+use crate::Entry;
+use block_machine::Unanswered;
+use dma_frames::Loan;
+use slab::Slab;
+use std::alloc::{AllocError, Global};
+use std::marker::Model;
+use std::mem;
+
+/// Requests that there is room for: 16 of each of 8 clients.
+pub const PLACES: usize = 128;
+
+/// Requests with their loans, each at its place.
+pub struct Store {
+    requests: Slab<Entry>,
+    loans: Vec<Option<Loan>>,
+    order: Vec<usize>,
+}
+
+impl Model for Store {
+    ghost use Rattle.std.specs.Prelude.{List, ◌≤◌, length, vec_capacity};
+    ghost use Rattle.request_queue.specs.Entries.{Held};
+    ghost use Rattle.request_queue.specs.Store.{entries, IsSound};
+
+    ghost Value = { List Held };
+
+    ghost view = { λ s. entries s.requests s.loans.items s.order.items };
+
+    ghost invariant = { λ s. IsSound s.requests s.loans.items s.order.items × (128 ≤ vec_capacity s.order) };
+}
+
+impl Store {
+    /// A store of no requests, with room for 128. Nothing else takes memory.
+    pub fn new(alloc: Global) -> Result<Self, AllocError>
+        ensures { IfOk result (λ store. store ≡ []) }
+    {
+        let requests = Slab::with_capacity(alloc, PLACES)?;
+        let order = Vec::with_capacity(alloc, PLACES)?;
+        let loans = no_loans(alloc, requests.capacity())?;
+        Ok(Store {
+            requests,
+            loans,
+            order,
+        })
+    }
+
+    /// How many requests there are.
+    pub fn len(&self) -> usize
+        ensures { result ≡ length self.now }
+    {
+        self.order.len()
+    }
+
+    /// The request at this place.
+    pub fn request(&self, place: usize) -> Entry
+        requires { place < length self.now }
+        ensures { slice_get (map (λ e. e.entry) self.now) place ≡ Some result }
+    {
+        self.requests[self.order[place]]
+    }
+
+    /// What is lent to the request at this place.
+    pub fn loan(&self, place: usize) -> &Loan
+        requires { place < length self.now }
+        ensures { slice_get (map (λ e. e.frames) self.now) place ≡ Some result.now.frames }
+    {
+        match &self.loans[self.order[place]] {
+            Some(loan) => loan,
+            None => unreachable!(),
+        }
+    }
+
+    /// Puts a request last, with its loan.
+    pub fn push(&mut self, request: Entry, loan: Loan)
+        requires room { length self.old < 128 }
+        requires id { loan.request ≡ request.id }
+        ensures { self.new ≡ self.old ++ record { entry = request; frames = loan.frames } ∷ [] }
+    {
+        let key = self.requests.insert_reserved(request);
+        match mem::replace(&mut self.loans[key], Some(loan)) {
+            None => {}
+            Some(_) => unreachable!(),
+        }
+        self.order.push_reserved(key);
+    }
+
+    /// Takes out the request at this place, with its loan.
+    pub fn remove(&mut self, place: usize) -> (Entry, Loan)
+        requires { place < length self.old }
+        ensures entry { slice_get self.old place ≡ Some (record { entry = result.0; frames = result.1.frames }) }
+        ensures id { result.1.request ≡ result.0.id }
+        ensures rest { self.new ≡ remove self.old place }
+    {
+        let key = self.order.remove(place);
+        let request = self.requests.remove(key);
+        match self.loans[key].take() {
+            Some(loan) => (request, loan),
+            None => unreachable!(),
+        }
+    }
+
+    /// Puts another state of the same request in its place.
+    pub fn replace(&mut self, place: usize, request: Entry)
+        requires within { place < length self.old }
+        requires same_id { IfSome (slice_get self.old place) (λ old. request.id ≡ old.entry.id) }
+        ensures { (e : Held) × (slice_get self.old place ≡ Some e) × (self.new ≡ slice_set self.old place (record e { entry = request })) }
+    {
+        let key = self.order[place];
+        self.requests[key] = request;
+    }
+
+    /// What of the request at this place says whether it is due.
+    pub fn asks(&self, place: usize) -> Unanswered
+        requires { place < length self.now }
+        ensures { slice_get (asks_of self.now) place ≡ Some result }
+    {
+        let entry = self.request(place);
+        Unanswered {
+            id: entry.id,
+            port: entry.port,
+            op: entry.op,
+            range: entry.range,
+            issued: entry.issued,
+        }
+    }
+
+    /// Ends the store, once it has no requests.
+    pub fn end(self)
+        requires { self ≡ [] }
+    {
+        let Store {
+            requests: _,
+            loans,
+            order: _,
+        } = self;
+        let mut loans = loans;
+        while let Some(slot) = loans.pop() {
+            match slot {
+                None => {}
+                Some(_) => unreachable!(),
+            }
+        }
+        loans.destroy_empty();
+    }
+}
+
+fn no_loans(alloc: Global, count: usize) -> Result<Vec<Option<Loan>>, AllocError>
+    ensures { IfOk result (λ loans. loans.items ≡ replicate count None) }
+{
+    let mut loans = Vec::with_capacity(alloc, count)?;
+    for _ in 0..count {
+        loans.push_reserved(None);
+    }
+    Ok(loans)
+}

@@ -1,0 +1,143 @@
+//! The command slots of a port: which request each is used for.
+#![tactic(auto)]
+
+ghost use Rattle.std.specs.Prelude.{◌≡◌, ◌↔◌, ℕ, ◌<◌, ◌≤◌, length, IfSome, IfNone, Some, None, IsSome, true, slice_index_or};
+ghost use Rattle.slots.specs.Uses.{IsTaken, IsLowestFree, has_kind, use_at, with_use};
+ghost use Rattle.std.specs.Int.{bit_at};
+
+use ata_types::{RequestId, Slot};
+use std::marker::Model;
+
+/// Slots of a port's command list (AHCI 1.3.1, 3.3.1).
+pub const SLOTS: usize = 32;
+
+/// What a slot is used for: the command of this request.
+#[derive(Clone, Copy, Debug, Default, PartialEq, Eq)]
+pub struct Use {
+    pub id: RequestId,
+    /// Whether its command is queued.
+    pub queued: bool,
+}
+
+/// The slots of a port: 32, of which the lowest `usable` are given out.
+#[derive(Drop)]
+pub struct Slots {
+    usable: u8,
+    places: [Option<Use>; SLOTS],
+}
+
+impl Model for Slots {
+    ghost use Rattle.std.specs.Prelude.{◌≡◌, ◌≤◌, length};
+    ghost use Rattle.slots.specs.Uses.{Uses};
+
+    ghost Value = { Uses };
+
+    ghost view = { λ s. record { usable = s.usable; places = s.places } };
+
+    ghost invariant = { λ s. (s.usable ≤ 32) × (length s.places ≡ 32) };
+}
+
+impl Slots {
+    /// Slots of which none is taken; `usable` of them, 32 at most, may be.
+    pub fn new(usable: u8) -> Self
+        requires { usable ≤ 32 }
+        ensures usable { result.usable ≡ usable }
+        ensures free { (slot : ℕ) → use_at result slot ≡ None }
+    {
+        Slots {
+            usable,
+            places: no_uses(),
+        }
+    }
+
+    /// Takes the lowest free usable slot for a request's command. `None` where each usable one is taken; then nothing changes.
+    pub fn take(&mut self, id: RequestId, queued: bool) -> Option<Slot>
+        ensures lowest { IfSome result (λ slot. IsLowestFree self.old slot.0) }
+        ensures taken { IfSome result (λ slot. self.new ≡ with_use self.old slot.0 (Some (record { id = id; queued = queued }))) }
+        ensures full { IfNone result ((slot : ℕ) → slot < self.old.usable → IsTaken self.old slot) }
+        ensures none { IfNone result (self.new ≡ self.old) }
+    {
+        let Some(place) = lowest_free(&self.places, self.usable) else {
+            return None;
+        };
+        self.places[place as usize] = Some(Use { id, queued });
+        Some(Slot(place))
+    }
+
+    /// Frees a slot, and tells what it was used for.
+    pub fn free(&mut self, slot: Slot) -> Option<Use>
+        requires { slot.0 < 32 }
+        ensures was { result ≡ use_at self.old slot.0 }
+        ensures freed { self.new ≡ with_use self.old slot.0 None }
+    {
+        self.places[slot.0 as usize].take()
+    }
+
+    /// What a slot is used for; `None` where it is free.
+    pub fn used_for(&self, slot: Slot) -> Option<Use>
+        ensures { result ≡ use_at self.now slot.0 }
+    {
+        match self.places.get(slot.0 as usize) {
+            Some(used) => *used,
+            None => None,
+        }
+    }
+
+    /// The slots with commands of this kind, queued or plain: bit k stands for slot k, as in PxCI and PxSACT.
+    pub fn mask(&self, queued: bool) -> u32
+        ensures { (slot : ℕ) → slot < 32 → (bit_at result slot ≡ 1) ↔ (has_kind queued (use_at self.now slot) ≡ true) }
+    {
+        mask_of(&self.places, queued)
+    }
+
+    /// How many slots may be used.
+    pub fn usable(&self) -> u8
+        ensures value { result ≡ self.now.usable }
+        ensures few { result ≤ 32 }
+    {
+        self.usable
+    }
+}
+
+fn no_uses() -> [Option<Use>; SLOTS]
+    ensures { (slot : ℕ) → slice_index_or result slot None ≡ None }
+{
+    [None; SLOTS]
+}
+
+fn mask_of(places: &[Option<Use>], queued: bool) -> u32
+    requires { length places.now ≡ 32 }
+    ensures { (slot : ℕ) → slot < 32 → (bit_at result slot ≡ 1) ↔ (has_kind queued (slice_index_or places.now slot None) ≡ true) }
+{
+    let mut mask = 0u32;
+    for place in 0..32u8 {
+        if has_kind(places[place as usize], queued) {
+            mask |= 1u32 << place;
+        }
+    }
+    mask
+}
+
+fn has_kind(used: Option<Use>, queued: bool) -> bool
+    ensures { result ≡ has_kind queued used }
+{
+    match used {
+        Some(used) => used.queued == queued,
+        None => false,
+    }
+}
+
+/// The lowest free place below `usable`.
+fn lowest_free(places: &[Option<Use>], usable: u8) -> Option<u8>
+    requires { usable ≤ length places.now }
+    ensures found { IfSome result (λ s. (s < usable) × (slice_index_or places.now s None ≡ None)
+        × ((k : ℕ) → k < s → IsSome (slice_index_or places.now k None))) }
+    ensures none { IfNone result ((k : ℕ) → k < usable → IsSome (slice_index_or places.now k None)) }
+{
+    for place in 0..usable {
+        if places[place as usize].is_none() {
+            return Some(place);
+        }
+    }
+    None
+}
