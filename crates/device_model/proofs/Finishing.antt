@@ -27,7 +27,7 @@ use Rattle.device_model.specs.declared.port.Transfer.TheVariants as transfer
 use Rattle.device_model.specs.declared.steps.NextMove.{NextMove}
 use Rattle.device_model.proofs.Posting.{end_rest}
 use Rattle.device_model.proofs.SlotLemmas.{slot_taken, taken_slot}
-use Rattle.device_model.proofs.Transfers.{is_taken, no_trim, plain, still_tells, transfer_of}
+use Rattle.device_model.proofs.Transfers.{is_taken, no_trim, still_tells, transfer_of}
 
 -- ---- a command goes on
 
@@ -111,21 +111,29 @@ module _ (port slot sectors : ℕ) where
       }
 
   -- and it has ended
-  pub done_frees : (old new : Device) → IsGoing old port slot sectors 0 → Ends SendsEnd port slot old new → IsFreeSlot (new.port port) slot
-  done_frees old new going e =
+  done_port : (old new : Device) (e : Ends SendsEnd port slot old new) → new.port port ≡ with_done (old.port port) slot e.done.flag e.done.t.meaning.operation
+  done_port old new e =
+      let f : DoesDone port slot old e.mid = e.done in
+      ap (λ (d : Device). d.port port) (end_rest port slot f.flag f.t.meaning.operation e.mid new e.posts)
+      ∙ (ap (λ (d : Device). d.port port) f.effect ∙ changed_same old.port port (with_done (old.port port) slot f.flag f.t.meaning.operation))
+
+  pub done_gone : (old new : Device) → Ends SendsEnd port slot old new → (new.port port).taken slot ≡ None
+  done_gone old new e = ap (λ (p : PortState). p.taken slot) (done_port old new e) ∙ changed_same (old.port port).taken slot None
+
+  -- a plain one is issued no more
+  pub done_frees : (old new : Device) (going : IsGoing old port slot sectors 0) → is_queued going.t.meaning.operation ≡ false → Ends SendsEnd port slot old new →
+      IsFreeSlot (new.port port) slot
+  done_frees old new going plain e =
       let f : DoesDone port slot old e.mid = e.done in
       let p : PortState = old.port port in
       let state : PortState = with_done p slot f.flag f.t.meaning.operation in
       let same : f.t ≡ going.t = some_one (sym f.can.works.taken ∙ going.works.taken) in
-      let kind = transfer_of f.t.meaning.operation (subst (λ (x : Taken). Takes x.meaning.operation) (sym same) going.takes) in
       let issued : state.ci ≡ changed p.ci slot false =
-      ap (λ b. if b then p.ci else changed p.ci slot false) (ap is_queued kind.1 ∙ plain kind.0) in
-      let there : new.port port ≡ state =
-      ap (λ (d : Device). d.port port) (end_rest port f.flag f.t.meaning.operation e.mid new e.posts)
-      ∙ (ap (λ (d : Device). d.port port) f.effect ∙ changed_same old.port port state) in
-      let P : PortState → Type 0 = λ x. IsFreeSlot x slot in
-      subst P (sym there)
-      (record { ci = ap (λ (f : ℕ → Bool). f slot) issued ∙ changed_same p.ci slot false; taken = changed_same p.taken slot None })
+      ap (λ b. if b then p.ci else changed p.ci slot false) (ap (λ (x : Taken). is_queued x.meaning.operation) same ∙ plain) in
+      record {
+        ci = ap (λ (x : PortState). x.ci slot) (done_port old new e) ∙ (ap (λ (f : ℕ → Bool). f slot) issued ∙ changed_same p.ci slot false);
+        taken = done_gone old new e;
+      }
 
   -- when nothing is left, it may end
   pub going_may_end : (d : Device) (going : IsGoing d port slot sectors 0) → Can (Done port slot 0 going.t) d
@@ -150,9 +158,8 @@ holds h o port slot t operation works =
       w.0,
       record {
         held = w.1;
-        slot_is = w.2;
         works = λ m. record {
-          taken = slot_taken p.taken w.0 slot w.1 w.2;
+          taken = slot_taken p.taken w.0 slot w.1;
           working = record {
             running = works.working.running;
             present = works.working.present;
@@ -162,7 +169,7 @@ holds h o port slot t operation works =
           };
         };
       },
-      w.3,
+      w.2,
     )
 
 -- what a move of port 0 that is possible says of the command
@@ -247,6 +254,8 @@ has_move d port slot t bytes takes disk can =
         is_ranged t.meaning.operation ≡ true → next_sector t < (d.port port).disk.size
     by transfer.Read e brings ranged = brings.0
     by transfer.Write e brings ranged = brings.0
+    by transfer.ReadQueued e brings ranged = brings.0
+    by transfer.WriteQueued e brings ranged = brings.0
     by transfer.Identify e brings ranged = true-false ranged (ap is_ranged e)
 
 -- a command that the model's port works on is one that it takes

@@ -140,7 +140,7 @@ one_settled port slot old new (inr (inl m)) =
     settled_with old new port (with_move (old.port port) slot m.t m.bytes) (ap (λ (d : Device). d.hr) m.effect) (ap (λ (d : Device). d.port) m.effect)
     (same _ _ refl refl refl refl refl refl refl)
 one_settled port slot old new (inr (inr e)) =
-    let rest = end_rest port e.done.flag e.done.t.meaning.operation e.mid new e.posts in
+    let rest = end_rest port slot e.done.flag e.done.t.meaning.operation e.mid new e.posts in
     settled_with old new port (with_done (old.port port) slot e.done.flag e.done.t.meaning.operation)
     (ap (λ (d : Device). d.hr) rest ∙ ap (λ (d : Device). d.hr) e.done.effect)
     (ap (λ (d : Device). d.port) rest ∙ ap (λ (d : Device). d.port) e.done.effect) (same _ _ refl refl refl refl refl refl refl)

@@ -214,7 +214,7 @@ found_stuck d slot false e found = found
 
 -- where a command is taken, no IDENTIFY DEVICE may be
 pub taken_bars : (d : Device) (slot k : ℕ) (t : Taken) → (d.port 0).taken slot ≡ Some t → MayIdentify d k → ⊥
-taken_bars d slot k t is may = some-none is (alone_none (d.port 0) may.meaning.operation (inr (inr may.identifies)) may.can.alone slot)
+taken_bars d slot k t is may = some-none is (alone_none (d.port 0) may.meaning.operation (ap is_queued may.identifies) may.can.alone slot)
 
 fetched_is : (slot : ℕ) (old new : Device) (f : DoesFetch 0 slot old new) → (new.port 0).taken ≡ changed (old.port 0).taken slot (Some (begun f.meaning f.places))
 fetched_is slot old new f =
@@ -229,7 +229,7 @@ pub fetched_bars : (slot k : ℕ) (did : Bool) (old new : Device) → (did ≡ t
     (did ≡ false → (m : Meaning) (places : List ℕ) → Takes m.operation → Can (Fetch 0 slot m places) old → ⊥) → (did ≡ false → new ≡ old) →
     MayIdentify old slot ⊎ HasIdentify old slot → MayIdentify new k → ⊥
 fetched_bars slot k true old new went never same there = let f = went refl in taken_bars new slot k (begun f.meaning f.places) (fetched_taken slot old new f)
-fetched_bars slot k false old new went never same (inl may) = absurd (never refl may.meaning may.places (inr (inr may.identifies)) may.can)
+fetched_bars slot k false old new went never same (inl may) = absurd (never refl may.meaning may.places (inr (inr (inl may.identifies))) may.can)
 fetched_bars slot k false old new went never same (inr has) = by has.ready.begins
   where
     t : Taken
@@ -284,7 +284,7 @@ pub fetched_has : (slot k : ℕ) (did : Bool) (old new : Device) → (did ≡ tr
     (did ≡ false → (m : Meaning) (places : List ℕ) → Takes m.operation → Can (Fetch 0 slot m places) old → ⊥) →
     MayIdentify old slot → HasIdentify new k → HasIdentify old slot
 fetched_has slot k true old new went never may has = taken_has slot k old new (went refl) has
-fetched_has slot k false old new went never may has = absurd (never refl may.meaning may.places (inr (inr may.identifies)) may.can)
+fetched_has slot k false old new went never may has = absurd (never refl may.meaning may.places (inr (inr (inl may.identifies))) may.can)
 
 -- one that can be done to its end still can be once it is taken
 pub fetched_left : (slot : ℕ) (did : Bool) (old new : Device) (has : HasIdentify old slot) → (did ≡ true → DoesFetch 0 slot old new) →
@@ -362,7 +362,7 @@ one_elsewhere slot old new (inr (inl m)) k ne =
 one_elsewhere slot old new (inr (inr e)) k ne =
     let p : PortState = with_done (old.port 0) slot e.done.flag e.done.t.meaning.operation in
     weight_with old new p slot k
-    (ap (λ (d : Device). d.port 0) (end_rest 0 e.done.flag e.done.t.meaning.operation e.mid new e.posts)
+    (ap (λ (d : Device). d.port 0) (end_rest 0 slot e.done.flag e.done.t.meaning.operation e.mid new e.posts)
     ∙ (ap (λ (d : Device). d.port 0) e.done.effect ∙ changed_same old.port 0 p))
     (kept_other (is_queued e.done.t.meaning.operation) (old.port 0).ci slot k ne) (changed_other (old.port 0).taken slot None k ne)
 

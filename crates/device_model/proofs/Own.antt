@@ -70,7 +70,7 @@ one_keeps_present port slot old new (inl f) =
 one_keeps_present port slot old new (inr (inl m)) =
     ap (λ (d : Device). (d.port 0).present) m.effect ∙ present_with old.port port (with_move (old.port port) slot m.t m.bytes) refl
 one_keeps_present port slot old new (inr (inr e)) =
-    ap (λ (d : Device). (d.port 0).present) (end_rest port e.done.flag e.done.t.meaning.operation e.mid new e.posts)
+    ap (λ (d : Device). (d.port 0).present) (end_rest port slot e.done.flag e.done.t.meaning.operation e.mid new e.posts)
     ∙ (ap (λ (d : Device). (d.port 0).present) e.done.effect ∙ present_with old.port port (with_done (old.port port) slot e.done.flag e.done.t.meaning.operation) refl)
 
 pub some_keep_present : (n port slot : ℕ) (old new : Device) → DoesSome SendsEnd n port slot old new → (new.port 0).present ≡ (old.port 0).present
@@ -115,9 +115,9 @@ module _ (P : Operation → List ℕ → Type 0) (is_page : (o : Operation) (pla
       let holds = only.taken t e.done.can.works.taken in
       let identifies : t.meaning.operation ≡ Identify = is_page _ _ holds in
       let p : PortState = with_done (old.port port) slot e.done.flag t.meaning.operation in
-      let Sends : Device → Type 0 = λ d. SendsEnd port e.done.flag t.meaning.operation d new in
+      let Sends : Device → Type 0 = λ d. SendsEnd port slot e.done.flag t.meaning.operation d new in
       let there : new.port port ≡ p =
-      ap (λ (d : Device). d.port port) (end_rest port e.done.flag t.meaning.operation e.mid new e.posts)
+      ap (λ (d : Device). d.port port) (end_rest port slot e.done.flag t.meaning.operation e.mid new e.posts)
       ∙ (ap (λ (d : Device). d.port port) e.done.effect ∙ changed_same old.port port p) in
       let none : (new.port port).taken slot ≡ None = ap (λ (x : PortState). x.taken slot) there ∙ changed_same (old.port port).taken slot None in
       let clear : (new.port port).ci slot ≡ false =

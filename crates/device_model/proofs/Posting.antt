@@ -20,25 +20,25 @@ received_there p size fre inside =
     ]
 
 -- a FIS is posted or lost
-sent_may : (port place : ℕ) (bytes : List ℕ) (old new : Device) → IsSent port place bytes old new → MayPost port 0 operation.Read old new
+sent_may : (port place : ℕ) (bytes : List ℕ) (old new : Device) → IsSent port place bytes old new → MayPost port 0 0 operation.Read old new
 sent_may port place bytes old new s = by (is_received (old.port port) old.size) refl
   where
-    by : (b : Bool) → is_received (old.port port) old.size ≡ b → MayPost port 0 operation.Read old new
+    by : (b : Bool) → is_received (old.port port) old.size ≡ b → MayPost port 0 0 operation.Read old new
     by true e = inr ((old.port port).bases.fb + place, bytes, s.posted e)
     by false e = inl (s.lost e)
 
-pub end_may : (port flag : ℕ) (o : Operation) (old new : Device) → SendsEnd port flag o old new → MayPost port flag o old new
-end_may port flag operation.Identify old new s = sent_may port 0x20 s.1.0 old new s.1.2
-end_may port flag operation.Read old new s = sent_may port 0x40 s.1.0 old new s.1.2
-end_may port flag operation.Write old new s = sent_may port 0x40 s.1.0 old new s.1.2
-end_may port flag operation.ReadQueued old new s = sent_may port 0x40 s.1.0 old new s.1.2
-end_may port flag operation.WriteQueued old new s = sent_may port 0x40 s.1.0 old new s.1.2
-end_may port flag operation.Flush old new s = sent_may port 0x40 s.1.0 old new s.1.2
-end_may port flag operation.Trim old new s = sent_may port 0x40 s.1.0 old new s.1.2
-end_may port flag operation.ReadLog old new s = sent_may port 0x40 s.1.0 old new s.1.2
+pub end_may : (port slot flag : ℕ) (o : Operation) (old new : Device) → SendsEnd port slot flag o old new → MayPost port slot flag o old new
+end_may port slot flag operation.Identify old new s = sent_may port 0x20 s.1.0 old new s.1.2
+end_may port slot flag operation.Read old new s = sent_may port 0x40 s.1.0 old new s.1.2
+end_may port slot flag operation.Write old new s = sent_may port 0x40 s.1.0 old new s.1.2
+end_may port slot flag operation.ReadQueued old new s = sent_may port 0x58 s.1.0 old new s.1.2
+end_may port slot flag operation.WriteQueued old new s = sent_may port 0x58 s.1.0 old new s.1.2
+end_may port slot flag operation.Flush old new s = sent_may port 0x40 s.1.0 old new s.1.2
+end_may port slot flag operation.Trim old new s = sent_may port 0x40 s.1.0 old new s.1.2
+end_may port slot flag operation.ReadLog old new s = sent_may port 0x40 s.1.0 old new s.1.2
 
-after_may : (step : Step) (old new : Device) → SendsAfter step old new → (port : ℕ) × MayPost port 0 operation.Read old new
-after_may (Done port slot flag t) old new s = (port, end_may port flag t.meaning.operation old new s)
+after_may : (step : Step) (old new : Device) → SendsAfter step old new → (port : ℕ) × MayPost port 0 0 operation.Read old new
+after_may (Done port slot flag t) old new s = (port, end_may port slot flag t.meaning.operation old new s)
 after_may (LinkUp port sig n) old new s = (port, sent_may port 0x40 s.0 old new s.2)
 after_may (Fetch port slot meaning places) old new e = (0, inl e)
 after_may (FetchFault port slot queued kept_bits) old new e = (0, inl e)
@@ -58,25 +58,25 @@ after_may (Scribble port slot at bytes) old new e = (0, inl e)
 with_memory : (old new : Device) (memory : ℕ → ℕ) → new ≡ record old { memory = memory } → new ≡ record old { memory = new.memory }
 with_memory old new memory e = e ∙ ap (λ (m : ℕ → ℕ). record old { memory = m }) (sym (ap (λ (d : Device). d.memory) e))
 
-may_rest : (port flag : ℕ) (o : Operation) (old new : Device) → MayPost port flag o old new → new ≡ record old { memory = new.memory }
-may_rest port flag o old new (inl same) = with_memory old new old.memory same
-may_rest port flag o old new (inr post) = with_memory old new _ post.2.effect
+may_rest : (port slot flag : ℕ) (o : Operation) (old new : Device) → MayPost port slot flag o old new → new ≡ record old { memory = new.memory }
+may_rest port slot flag o old new (inl same) = with_memory old new old.memory same
+may_rest port slot flag o old new (inr post) = with_memory old new _ post.2.effect
 
-pub end_rest : (port flag : ℕ) (o : Operation) (old new : Device) → SendsEnd port flag o old new → new ≡ record old { memory = new.memory }
-end_rest port flag o old new s = may_rest port flag o old new (end_may port flag o old new s)
+pub end_rest : (port slot flag : ℕ) (o : Operation) (old new : Device) → SendsEnd port slot flag o old new → new ≡ record old { memory = new.memory }
+end_rest port slot flag o old new s = may_rest port slot flag o old new (end_may port slot flag o old new s)
 
 pub after_rest : (step : Step) (old new : Device) → SendsAfter step old new → new ≡ record old { memory = new.memory }
-after_rest step old new s = let m = after_may step old new s in may_rest m.0 0 operation.Read old new m.1
+after_rest step old new s = let m = after_may step old new s in may_rest m.0 0 0 operation.Read old new m.1
 
 -- ---- it is a step of the device
 
 pub after_steps : (step : Step) (old new : Device) → SendsAfter step old new → Steps old new
-after_steps step old new s = let m = after_may step old new s in post_steps m.0 0 operation.Read old new m.1
+after_steps step old new s = let m = after_may step old new s in post_steps m.0 0 0 operation.Read old new m.1
 
 -- ---- what was asked of the model was asked of an adapter
 
 ends_may : (port slot : ℕ) (old new : Device) → Ends SendsEnd port slot old new → Ends MayPost port slot old new
-ends_may port slot old new e = record { mid = e.mid; done = e.done; posts = end_may port e.done.flag e.done.t.meaning.operation e.mid new e.posts }
+ends_may port slot old new e = record { mid = e.mid; done = e.done; posts = end_may port slot e.done.flag e.done.t.meaning.operation e.mid new e.posts }
 
 one_may : (port slot : ℕ) (old new : Device) → DoesOne SendsEnd port slot old new → DoesOne MayPost port slot old new
 one_may port slot old new (inl f) = inl f

@@ -37,7 +37,7 @@ fetched_takes old h o port slot f =
     ∙ changed_same (old.port port).taken slot (Some t)) in
     let w = taken_slot (slice_index_or h.ports port blank).taken slot t taken in
     let P : Taken → Type 0 = λ x. Takes x.meaning.operation in
-    subst P (sym w.3) (is_taken w.0.transfer)
+    subst P (sym w.2) (is_taken w.0.transfer)
 
 module _ {S : Type 0} (size : S → ℕ) (told : S → Option (ℕ → List ℕ)) (failures : S → Option Failures) (m : Model S) (h : Hardware) where
   abbrev new : Model S

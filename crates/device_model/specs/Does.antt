@@ -1,12 +1,11 @@
 -- What a model makes of a step that it is told: when the step is possible, what it changes where it is done, and what stays where it is left
 -- (this project's own).
-use Rattle.std.specs.Prelude.{ℕ, Bool, true, false, ◌≡◌, ◌≢◌, ◌+◌, ◌^◌, ◌<◌, ◌≤◌, ◌⊎◌, List, Option, Some, if◌then◌else◌, nat_eq}
+use Rattle.std.specs.Prelude.{ℕ, Bool, true, false, ◌≡◌, ◌≢◌, ◌+◌, ◌^◌, ◌<◌, ◌≤◌, ◌⊎◌, List, Option, None, Some, if◌then◌else◌, nat_eq}
 use Rattle.std.specs.Global.{Vec}
 use Rattle.std.specs.Vec.{vec_len, vec_capacity}
 use Rattle.adapter.specs.Asked.{AskedOf}
 use Rattle.adapter.specs.Commands.{Meaning, is_ranged, reads_memory}
 use Rattle.adapter.specs.Device.{Device, Taken}
-use Rattle.adapter.specs.OneCommand.{IsFreeSlot}
 use Rattle.adapter.specs.Steps.{Can, next_sector}
 use Rattle.adapter.specs.Steps.Step.{Fetch, Done, Unplug}
 use Rattle.adapter.specs.declared.access.DeviceStep.{DeviceStep}
@@ -117,9 +116,9 @@ StoreCuts step was now d = ⊥
 abbrev pub NoneFails : {S : Type 0} → (S → Option Failures) → Model S → Model S → Type 0
 NoneFails failures old new = (which : Which) → failures (store_of new which) ≡ failures (store_of old which)
 
--- a Finish ends its command
+-- a Finish ends its command: it is taken no more
 abbrev pub EndsIt : DeviceStep → Device → Type 0
-EndsIt (asked.Finish p s) d = IsFreeSlot (d.port p.0) s.0
+EndsIt (asked.Finish p s) d = (d.port p.0).taken s.0 ≡ None
 EndsIt step d = Unit {0}
 
 -- A step that is done: the device did what it was asked, and sent the FIS of a command that ended. No call on a store has failed, and a Finish ended its

@@ -1,4 +1,5 @@
 use Rattle.std.proofs.Common.{ℕ, suc, ◌≡◌, ◌<◌, ◌+◌, ◌-◌, ◌∙◌, true, false, inl, inr, refl, sym, ap, subst, arith}
+use Rattle.adapter.specs.Commands.{is_queued}
 use Rattle.adapter.specs.Device.{Device, Taken}
 use Rattle.adapter.specs.declared.access.DeviceStep.TheVariants as asked
 use Rattle.device_model.specs.Finishing.{HasMove, HasRoom, IsGoing, MayFinish}
@@ -13,7 +14,7 @@ use Rattle.device_model.proofs.TwoDisks.{in_kept}
 use Rattle.device_model.proofs.Doing.{answered_true, cut_short, did_it, left_it, left_same, meanwhile_on}
 use Rattle.adapter.specs.OneCommand.{IsFreeSlot}
 use Rattle.device_model.proofs.Identifying.{finish_moves, has_ready, page_taken}
-use Rattle.device_model.proofs.Finishing.{fetched_size, moved_goes, going_has_move, going_may_end, done_frees}
+use Rattle.device_model.proofs.Finishing.{fetched_size, moved_goes, going_has_move, going_may_end, done_frees, done_gone}
 use Rattle.device_model.proofs.Telling.{gains_none, gains_done}
 use Rattle.device_model.proofs.Told.{on_hardware}
 use Rattle.device_model.proofs.model.Model.finish.Given.{Over}
@@ -118,8 +119,6 @@ returns-then-done-clause-answers g c =
     let o : Outside = outside_at g.S.SectorStore.size g.S.SectorStore.told m in
     let start : Outside = outside_at g.S.SectorStore.size g.S.SectorStore.told first in
     let is = c.loop-piece.invariant in
-    let P : ℕ → Type 0 = λ n. IsGoing (device_at g.S.SectorStore.size g.S.SectorStore.told m) c.args.port.0 c.args.slot.0 c.sectors-sectors.result n in
-    let none : c.in-Some.field-0.left - c.loop-piece._piece ≡ 0 = omega (arith, c.loop-piece-test.false) in
     let done = c.done.ensures.did c.if-done.true o in
     let sectors : c.sectors-sectors.result ≡ g.S.SectorStore.size first.disk = c.sectors-sectors.ensures in
     let all = meanwhile_on g.S.SectorStore.size g.S.SectorStore.told g.S.SectorStore.failures first m (record m { hardware = c.done.new.self }) is.meanwhile
@@ -136,7 +135,7 @@ returns-then-done-clause-answers g c =
           (c.in-Some.ensures.begun.ready start),
       record {
         asked = goes_next SendsEnd c.args.port.0 c.args.slot.0 _ _ _ c.loop-piece.did is.did is.refused (inr (inr done));
-        ends = inr (is.fine, λ _. done_frees c.args.port.0 c.args.slot.0 c.sectors-sectors.result _ _ (subst P none is.going) done);
+        ends = inr (is.fine, λ _. done_gone c.args.port.0 c.args.slot.0 c.sectors-sectors.result _ _ done);
         held = all.held;
         says = all.says;
         which = all.which;
@@ -227,9 +226,11 @@ returns-then-done-clause-identifies g c = λ zero has.
     let o : Outside = outside_at g.S.SectorStore.size g.S.SectorStore.told m in
     let P : ℕ → Type 0 = λ n. IsGoing (device_at g.S.SectorStore.size g.S.SectorStore.told m) c.args.port.0 c.args.slot.0 c.sectors-sectors.result n in
     let Q : ℕ → Type 0 = λ q. IsFreeSlot ((device_of c.done.new.self o).port q) c.args.slot.0 in
-    let none : c.in-Some.field-0.left - c.loop-piece._piece ≡ 0 = omega (arith, c.loop-piece-test.false) in (
+    let none : c.in-Some.field-0.left - c.loop-piece._piece ≡ 0 = omega (arith, c.loop-piece-test.false) in
+    let going = subst P none c.loop-piece.invariant.going in
+    let page = page_taken c.args.port.0 c.args.slot.0 c.loop-piece.did _ _ zero c.loop-piece.invariant.did c.loop-piece.invariant.refused has going.t going.works.taken in (
       λ _. subst Q zero
-          (done_frees c.args.port.0 c.args.slot.0 c.sectors-sectors.result _ _ (subst P none c.loop-piece.invariant.going) (c.done.ensures.did c.if-done.true o)),
+          (done_frees c.args.port.0 c.args.slot.0 c.sectors-sectors.result _ _ going (ap is_queued page.0) (c.done.ensures.did c.if-done.true o)),
       λ never. true-false c.if-done.true never,
     )
 
