@@ -2,8 +2,8 @@ pub mod Stepping
 pub mod Ruling
 pub mod Refusing
 pub mod Running
-pub mod Finishing
 pub mod Serving
 pub mod Turns
 pub mod Making
 pub mod Accepting
+mod Sending

@@ -1,5 +1,5 @@
 -- What a server holds when it is made.
-use Rattle.std.proofs.Common.{◌≡◌, ◌*◌, ◌<◌, ◌≤◌, List, [], length, map, Some, None, get_or, refl, sym, subst, arith}
+use Rattle.std.proofs.Common.{ℕ, ◌≡◌, ◌*◌, ◌<◌, ◌≤◌, List, [], length, map, Some, None, get_or, refl, sym, subst, arith}
 use Rattle.std.specs.List.{AllPairs, Contains}
 use Rattle.std.proofs.lemmas.List.{get_or-map, get_or_default, length-map}
 use Rattle.std.proofs.lemmas.List.Elements.{All-contains}
@@ -12,7 +12,7 @@ use Rattle.dma_frames.specs.Table.{HasFrame, Run, owner_of, lent_to}
 use Rattle.grants.specs.Rows.{SameRows}
 use Rattle.host_boot.specs.declared.Host.{Host}
 use Rattle.plan.specs.Plan.{HasClientFrames, IsClient, IsPlan, IsServedGrant, PlanView}
-use Rattle.server_history.specs.Server.{IsNewServer, IsTransferRow, Server}
+use Rattle.server_history.specs.Server.{IsNewServer, IsTransferRow, Server, no_slots, used_for}
 use Rattle.block_server.specs.Made.{transfer_row}
 
 -- rows keep their names
@@ -47,8 +47,9 @@ module _ (s : Server) (host : Host) (plan : PlanView) (is : IsPlan plan) (rows :
       (omega (arith, inside.0, run.2.0), omega (arith, inside.2, run.2.1), subst IsClient run.3 its)
 
   pub new_fits : AllPairs DifferInName s.grants → length s.grants ≤ 64 → ((frame : Frame) → lent_to s.table frame ≡ None) → s.ports ≡ host.ports → length host.ports ≡ 4
-      → s.book ≡ [] → s.last ≡ 0 → IsNewServer host s
-  new_fits names few free ports four book last = record {
+      → length s.slots ≡ 4 → ((port : ℕ) → port < 4 → length (get_or s.slots port no_slots).places ≡ 32) → ((port : ℕ) → port < 4 → (get_or s.slots port no_slots).usable ≡ 1)
+      → ((port slot : ℕ) → used_for s.slots port slot ≡ None) → s.book ≡ [] → s.last ≡ 0 → IsNewServer host s
+  new_fits names few free ports four four_slots places usable unused book last = record {
     ports = ports;
     four = four;
     rows = λ k d small. transfer_rows (get_or s.grants k d) (k, small, get_or_default s.grants k (get_or s.grants k d) d small);
@@ -58,6 +59,10 @@ module _ (s : Server) (host : Host) (plan : PlanView) (is : IsPlan plan) (rows :
     clients = λ frame client own. let w = within frame client own in let m = is.memory in (w.2.0, w.2.1, omega (arith, w.1, m.1));
     room = let m = is.memory in omega (arith, m.0, room);
     lent = free;
+    four_slots = four_slots;
+    places = places;
+    usable = usable;
+    unused = unused;
     book = book;
     last = last;
   }

@@ -10,7 +10,7 @@ use Rattle.ata_types.specs.declared.request.Request.{Request}
 use Rattle.block_machine.specs.Refusals.{Applies, IsAcceptable, IsFirstRefusal}
 use Rattle.block_machine.specs.Rules.{IsNamed, BreaksNone}
 use Rattle.dma_frames.specs.Table.{owner_of, lent_to}
-use Rattle.request_book.specs.Entries.{unanswered_of}
+use Rattle.request_queue.specs.Entries.{unanswered_of}
 use Rattle.server_history.specs.Server.{Server, IsTransferRow, ports_of, situation_of}
 use Rattle.block_server.proofs.Ruling as ruling
 

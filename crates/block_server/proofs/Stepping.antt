@@ -6,10 +6,10 @@ use Rattle.adapter.specs.Steps.{Steps}
 use Rattle.adapter.specs.declared.access.DeviceStep.{DeviceStep}
 use Rattle.block_machine.specs.Events.{Device as Told, Stepped}
 use Rattle.server_history.specs.Histories.{Adds}
-use Rattle.server_history.specs.Server.{Server, IsKept}
+use Rattle.server_history.specs.Server.{Server, IsSettled}
 use Rattle.server_history.proofs.Calls.{device_adds_event, undone_adds}
 
-pub step_adds : (s : Server) (new : Device) (step : DeviceStep) (done : Bool) → IsKept s → (done ≡ true → Asked step s.device new) → Steps s.device new → (done ≡ false → new ≡ s.device)
+pub step_adds : (s : Server) (new : Device) (step : DeviceStep) (done : Bool) → IsSettled s → (done ≡ true → Asked step s.device new) → Steps s.device new → (done ≡ false → new ≡ s.device)
     → Adds s (record s { device = new }) (Told step) (Stepped done)
 step_adds s new step true k asked steps refused = device_adds_event s new step k (asked refl) steps
 step_adds s new step false k asked steps refused =

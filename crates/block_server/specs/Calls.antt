@@ -1,5 +1,5 @@
 -- What each call of the server does (this project's own).
-use Rattle.std.specs.Prelude.{ℕ, Bool, true, false, ◌≡◌, ◌+◌, ◌*◌, List, length, Ok, Err}
+use Rattle.std.specs.Prelude.{ℕ, Bool, true, false, ◌≡◌, ◌+◌, ◌*◌, List, [], length, Ok, Err}
 use Rattle.std.specs.declared.result.Result.{Result}
 use Rattle.ata_types.specs.declared.Port.{Port}
 use Rattle.ata_types.specs.declared.grant.GrantRow.{GrantRow}
@@ -20,9 +20,10 @@ use Rattle.block_machine.specs.Refusals.{IsAcceptable, IsFirstRefusal, IsOpen, I
 use Rattle.block_machine.specs.Rules.{IsNamed}
 use Rattle.block_server.specs.View.{ServerView, server_of}
 use Rattle.dma_frames.specs.Table.{owner_of, lent_to}
-use Rattle.request_book.specs.Entries.{has_of}
-use Rattle.server_history.specs.Served.{Accepts, ServePorts}
-use Rattle.server_history.specs.Server.{situation_of}
+use Rattle.block_machine.specs.Due.{due_of}
+use Rattle.request_queue.specs.Entries.{asks_of}
+use Rattle.server_history.specs.Served.{Accepts, ServePorts, accepting}
+use Rattle.server_history.specs.Server.{plain_mode, situation_of}
 
 -- only the adapter is another
 abbrev pub SameServer : {A : Type 0} → ServerView A → ServerView A → Type 0
@@ -32,24 +33,21 @@ SameServer old new = new ≡ record old { adapter = new.adapter }
 abbrev pub IsFor : List GrantRow → Request → Port → Type 0
 IsFor rows r port = (row : GrantRow) × IsNamed rows r row × (row.port ≡ port)
 
--- The request is acceptable, and was accepted, on its row's port. Where the port had no other, its bit of PxCI is set; else no access was made.
+-- The request is acceptable, and was accepted, on its row's port; then what is due there was issued. Where nothing was, no access was made.
 pub record AcceptsRequest {A : Type 0} (device : A → Device) (old new : ServerView A) (r : Request) (id : RequestId) : Type 0 where
   pub acceptable : IsAcceptable (situation_of (server_of device old)) r
   pub port : Port
   pub accepts : Accepts port r id (server_of device old) (server_of device new)
-  pub sent : has_of port old.book ≡ false → ((device new.adapter).port port.0).ci 0 ≡ true
-  pub same : has_of port old.book ≡ true → new.adapter ≡ old.adapter
-  pub room : new.room ≡ old.room
+  pub same : due_of plain_mode port (asks_of (accepting port r id accepts.table (server_of device old)).book) ≡ [] → new.adapter ≡ old.adapter
 
 -- A refused request is told the first cause that applies, and changes nothing: neither server nor adapter.
 abbrev pub Submits : {A : Type 0} → (A → Device) → ServerView A → ServerView A → Request → Result RequestId Refusal → Type 0
 Submits device old new r (Ok id) = AcceptsRequest device old new r id
 Submits device old new r (Err refusal) = IsFirstRefusal (situation_of (server_of device old)) r refusal × (new ≡ old)
 
--- Each ready port was served, in rising number; the memory of the book is as it was.
-pub record Services {A : Type 0} (device : A → Device) (old new : ServerView A) (replies : List Reply) : Type 0 where
-  pub serves : ServePorts 0 old.ports replies (server_of device old) (server_of device new)
-  pub room : new.room ≡ old.room
+-- each ready port was served, in rising number
+abbrev pub Services : {A : Type 0} → (A → Device) → ServerView A → ServerView A → List Reply → Type 0
+Services device old new replies = ServePorts 0 old.ports replies (server_of device old) (server_of device new)
 
 -- A refused load is told the first cause that applies, and changes nothing, the buffer neither. Another brings the frame's
 -- bytes and changes nothing of the server but what the device does meanwhile.

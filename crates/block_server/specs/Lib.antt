@@ -3,3 +3,4 @@ pub mod Seen
 pub mod Made
 pub mod Calls
 pub mod Running
+pub mod Ports

@@ -1,5 +1,5 @@
 -- A server as it is made (this project's own).
-use Rattle.std.specs.Prelude.{false, ◌≡◌, ◌≤◌, ◌*◌, [], None, map, Some}
+use Rattle.std.specs.Prelude.{ℕ, false, ◌≡◌, ◌≤◌, ◌*◌, [], None, map, Some}
 use Rattle.std.specs.List.{Contains}
 use Rattle.ata_types.specs.declared.grant.GrantRow.{GrantRow}
 use Rattle.ata_types.specs.declared.memory.TheConstants.{FRAME_BYTES}
@@ -16,7 +16,7 @@ use Rattle.host_boot.specs.Taken.{TakesOver}
 use Rattle.host_boot.specs.declared.Host.{Host}
 use Rattle.plan.specs.Plan.{PlanView, IsPlan, IsPlanOf}
 use Rattle.server_history.specs.Histories.{HasBegun}
-use Rattle.server_history.specs.Server.{IsKept}
+use Rattle.server_history.specs.Server.{IsSettled, used_for}
 use Rattle.block_server.specs.declared.types.ServerError.{ServerError}
 use Rattle.block_server.specs.declared.types.ServerError.TheVariants.{BadConfig, NoMemory}
 
@@ -30,8 +30,8 @@ abbrev pub transfer_row : GrantRow → GrantRow
 transfer_row row = record row { rights = record row.rights { trim = false; flush = false } }
 
 -- The server has what the configuration's plan says: its grants, without the rights to trim and to flush, its owners, and the disks that it
--- asks for. The adapter was taken over. Nothing is asked, nothing lent, no id handed out; there is memory for 128 requests. It keeps what a
--- server keeps, and a history without calls leads to it.
+-- asks for. The adapter was taken over. Nothing is asked, nothing lent, no slot used, no id handed out. It keeps what
+-- a server keeps, and a history without calls leads to it.
 pub record IsNew {A : Type 0} (device : A → Device) (config : Config) (adapter : A) (s : ServerView A) : Type 0 where
   pub plan : PlanView
   pub is_plan : IsPlan plan
@@ -46,8 +46,8 @@ pub record IsNew {A : Type 0} (device : A → Device) (config : Config) (adapter
   pub taken : TakesOver plan.wanted host (device adapter) (device s.adapter)
   pub book : s.book ≡ []
   pub last : s.last ≡ 0
-  pub room : s.room ≡ 128
-  pub kept : IsKept (server_of device s)
+  pub unused : (port slot : ℕ) → used_for s.slots port slot ≡ None
+  pub settled : IsSettled (server_of device s)
   pub begun : HasBegun (server_of device s)
 
 -- why no server is made

@@ -9,7 +9,7 @@ seen s = record {
   table = s.table.value;
   wanted = s.wanted;
   ports = s.ports;
-  book = s.book.entries;
+  slots = s.slots;
+  book = s.book;
   last = s.last;
-  room = s.book.room;
 }

@@ -2,6 +2,7 @@
 #![tactic(auto)]
 
 pub mod laws;
+mod port;
 mod run;
 mod server;
 mod types;

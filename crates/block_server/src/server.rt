@@ -1,13 +1,15 @@
 // The server.
 ghost use Rattle.block_server.specs.Made.{transfer_row};
-ghost use Rattle.std.specs.Prelude.{◌≡◌, ◌≢◌, ◌<◌, ◌≤◌, ◌+◌, ◌↔◌, ◌*◌, IsTrue, IfOk, IfErr, OnOk, MatchOption, None, Ok, Some, length, map, option_map, true};
+ghost use Rattle.server_history.specs.Server.{no_slots, used_for};
+ghost use Rattle.std.specs.Prelude.{◌≡◌, ◌≢◌, ◌<◌, ◌≤◌, ◌+◌, ◌↔◌, ◌*◌, ℕ, IsTrue, IfOk, IfErr, OnOk, MatchOption, None, Ok, Some, length, map, option_map, slice_index_or, true};
 
 use crate::ServerError;
+use crate::port::{PLAIN, issue_due};
 use adapter::{Adapter, DeviceStep, Stepped};
 use arrayvec::ArrayVec;
 use ata_types::{
-    ClientId, FRAME_BYTES, Frame, GrantRow, MemFault, Op, Outcome, Port, PortState, Refusal,
-    Replies, Reply, Request, RequestId, Rights,
+    ClientId, FRAME_BYTES, Frame, GrantRow, MemFault, Op, Outcome, Port, PortState, Range,
+    Refusal, Replies, Reply, Request, RequestId, Rights, Slot,
 };
 use configuration::Config;
 use dma_frames::FrameTable;
@@ -15,10 +17,15 @@ use grants::{Grants, decide};
 use host_boot::{Found, PORTS, take_over};
 use identify::Wanted;
 use plan::Plan;
-use request_book::{Accepted, Book};
+use request_queue::{Book, Entry};
+use slots::Slots;
 use std::alloc::Global;
+use server_history::laws::{
+    a_port_is_served, a_used_slot_has_its_request, acceptances_add, issues_settle, looks_keep,
+    requests_keep, services_add,
+};
 use std::marker::Model;
-use transfers::{Look, is_done, issue, look_at};
+use transfers::{Look, is_done, look_at};
 
 /// Unanswered requests of one client at most.
 const CLIENT_PLACES: usize = 16;
@@ -33,6 +40,7 @@ pub struct Server<A: Adapter> {
     table: Box<FrameTable>,
     wanted: [Wanted; PORTS],
     ports: [Found; PORTS],
+    slots: [Slots; PORTS],
     book: Book,
     last: u64,
 }
@@ -40,13 +48,13 @@ pub struct Server<A: Adapter> {
 impl<A: Adapter> Model for Server<A> {
     ghost use Rattle.block_server.specs.Seen.{seen};
     ghost use Rattle.block_server.specs.View.{ServerView, server_of};
-    ghost use Rattle.server_history.specs.Server.{IsKept};
+    ghost use Rattle.server_history.specs.Server.{IsSettled};
 
     ghost Value = { ServerView A };
 
     ghost view = { seen };
 
-    ghost invariant = { λ s. IsKept (server_of A.device (seen s)) };
+    ghost invariant = { λ s. IsSettled (server_of A.device (seen s)) };
 }
 
 /// Whether sectors of a request leave a disk of so many. A flush has none.
@@ -75,6 +83,20 @@ fn transfer_rows(rows: &[GrantRow]) -> ArrayVec<GrantRow, MOST_GRANTS>
     kept
 }
 
+/// The slots of each port, of which none is used: as many are usable as ports take commands at a time.
+fn unused_slots() -> [Slots; PORTS]
+    ensures places { (port : ℕ) → port < 4 → length (slice_index_or result port no_slots).places ≡ 32 }
+    ensures usable { (port : ℕ) → port < 4 → (slice_index_or result port no_slots).usable ≡ 1 }
+    ensures unused { (port slot : ℕ) → used_for result port slot ≡ None }
+{
+    [
+        Slots::new(PLAIN.usable),
+        Slots::new(PLAIN.usable),
+        Slots::new(PLAIN.usable),
+        Slots::new(PLAIN.usable),
+    ]
+}
+
 impl<A: Adapter> Server<A> {
     ghost use Rattle.block_machine.specs.Events.{Service, Served, Submit, Submitted, StoreAt, LoadAt, State, Shown};
     ghost use Rattle.block_machine.specs.Refusals.{IsAcceptable, IsFirstRefusal, IsOpen, IsFirstMemFault};
@@ -84,13 +106,13 @@ impl<A: Adapter> Server<A> {
     ghost use Rattle.configuration.specs.Rules.{IsSound};
     ghost use Rattle.dma_frames.specs.Table.{owner_of, lent_to};
     ghost use Rattle.host_boot.specs.Taken.{found_of};
-    ghost use Rattle.request_book.specs.Entries.{first_of, has_of};
+    ghost use Rattle.request_queue.specs.Entries.{Held};
     ghost use Rattle.server_history.specs.Histories.{Adds, store_said, load_said};
-    ghost use Rattle.server_history.specs.Served.{ServesPort, FinishesFirst, done_reply};
-    ghost use Rattle.server_history.specs.Server.{IsKept, ports_of, situation_of, state_of, sectors_of};
+    ghost use Rattle.server_history.specs.Served.{Finishes, ServesPort, done_reply};
+    ghost use Rattle.server_history.specs.Server.{IsSettled, ports_of, situation_of, state_of, sectors_of, used_for};
+    ghost use Rattle.slots.specs.declared.Use.{Use as SlotUse};
     ghost use Rattle.agreement.specs.Slots.{IsOver};
     ghost use Rattle.ata_types.specs.declared.PortState.TheVariants.{Ready};
-    ghost use Rattle.request_book.specs.declared.book.Accepted.{Accepted};
 
     /// A server of an idle adapter, by a configuration: who owns which frames, which grants there are, and which disks are wanted. Each
     /// port is booted in which a disk is wanted; nothing is asked yet. Grants are kept without the rights to trim and to flush.
@@ -126,6 +148,7 @@ impl<A: Adapter> Server<A> {
             table,
             wanted,
             ports,
+            slots: unused_slots(),
             book,
             last: 0,
         })
@@ -205,23 +228,29 @@ impl<A: Adapter> Server<A> {
         ensures accepts { AcceptsRequest A.device self.old self.new r.now result }
         ensures adds { Adds (server_of A.device self.old) (server_of A.device self.new) (Submit r.now) (Submitted (Ok result)) }
     {
+        requests_keep();
+        issues_settle();
+        acceptances_add();
         let id = RequestId(self.last + 1);
-        let waits = self.book.has_of(port);
         let loan = self.table.lend(r.client, r.frames.as_slice(), id);
-        self.book.accept(Accepted {
+        let entry = Entry {
             id,
             client: r.client,
+            grant: r.grant,
             port,
             op: r.op,
-            first: r.first,
-            count: r.count,
-            loan,
-        });
+            range: Range {
+                first: r.first,
+                count: r.count,
+            },
+            issued: false,
+            issues: 0,
+            age: 0,
+        };
+        self.book.accept(entry, loan);
         self.last = id.0;
-        if !waits {
-            let frames = r.frames.as_slice();
-            issue(&mut self.adapter, port, r.op, r.first, r.count, frames);
-        }
+        let slots = &mut self.slots[usize::from(port.0)];
+        issue_due(&mut self.adapter, &mut self.book, slots, port);
         id
     }
 
@@ -236,60 +265,46 @@ impl<A: Adapter> Server<A> {
         Ok(self.accept(r, port))
     }
 
-    /// Answers a port's first request, whose command is over: its frames are given back, and the port's next is issued.
-    fn finish_first(&mut self, port: Port) -> Reply
+    /// Answers the request of a port's slot 0, whose command is over: its frames are given back, and what is due then is issued.
+    fn finish(&mut self, port: Port, id: RequestId) -> Reply
         requires ready { state_of (found_of self.old.ports port.0) ≡ Ready }
-        requires some { has_of port self.old.book ≡ true }
+        requires used { (used : SlotUse) × (used_for self.old.slots port.0 0 ≡ Some used) × (used.id ≡ id) }
         requires over { IsOver ((A.device self.old.adapter).port port.0) 0 }
-        ensures finishes { (first : Accepted) × (result ≡ done_reply first) × FinishesFirst port first (server_of A.device self.old) (server_of A.device self.new) }
-        ensures room { self.new.room ≡ self.old.room }
+        ensures finishes { (request : Held) × (result ≡ done_reply request) × Finishes port request (server_of A.device self.old) (server_of A.device self.new) }
     {
-        let Accepted {
-            id,
-            client,
-            port: _,
-            op: _,
-            first: _,
-            count: _,
-            loan,
-        } = self.book.end_first_of(port);
+        a_used_slot_has_its_request();
+        requests_keep();
+        issues_settle();
+        let slots = &mut self.slots[usize::from(port.0)];
+        let _ = slots.free(Slot(0));
+        let (entry, loan) = self.book.answer(id);
         self.table.give_back(loan);
-        if let Some(next) = self.book.first_of(port) {
-            let frames = next.loan.frames();
-            issue(
-                &mut self.adapter,
-                port,
-                next.op,
-                next.first,
-                next.count,
-                frames,
-            );
-        }
+        issue_due(&mut self.adapter, &mut self.book, slots, port);
         Reply {
             id,
-            client,
+            client: entry.client,
             outcome: Outcome::Ok,
         }
     }
 
-    /// Looks at a ready port. Where its transfer is done, that is answered, and the port's next is issued. Where the look tells of
-    /// anything, nobody is answered.
+    /// Looks at a ready port. Where the command of what it has issued is done, that is answered, and what is due then is issued. Where
+    /// the look tells of anything, nobody is answered.
     fn serve_port(&mut self, port: Port) -> Option<Reply>
         requires ready { state_of (found_of self.old.ports port.0) ≡ Ready }
         ensures serves { ServesPort port result (server_of A.device self.old) (server_of A.device self.new) }
-        ensures kept { IsKept (server_of A.device self.new) }
-        ensures room { self.new.room ≡ self.old.room }
+        ensures settled { IsSettled (server_of A.device self.new) }
+        ensures ports { self.new.ports ≡ self.old.ports }
     {
+        looks_keep();
+        a_port_is_served();
         let Look::Undisturbed = look_at(&mut self.adapter, port) else {
             return None;
         };
-        if !self.book.has_of(port) {
-            return None;
-        }
+        let used = self.slots[usize::from(port.0)].used_for(Slot(0))?;
         if !is_done(&mut self.adapter, port) {
             return None;
         }
-        Some(self.finish_first(port))
+        Some(self.finish(port, used.id))
     }
 
     /// Serves each ready port, in rising number: where its transfer is done, that is answered, its frames are given back, and the port's
@@ -308,6 +323,7 @@ impl<A: Adapter> Server<A> {
         ensures services { Services A.device self.old self.new replies.new.items }
         ensures adds { Adds (server_of A.device self.old) (server_of A.device self.new) Service (Served replies.new.items) }
     {
+        services_add();
         replies.clear();
         let ports = self.ports;
         for number in 0..PORTS {
@@ -389,6 +405,7 @@ impl<A: Adapter> Server<A> {
             table,
             wanted: _,
             ports: _,
+            slots: _,
             book,
             last: _,
         } = self;

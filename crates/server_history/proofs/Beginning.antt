@@ -39,20 +39,22 @@ use Rattle.identify.specs.declared.Unfit.TheVariants as fault
 use Rattle.identify.specs.Wanted.{serial_of}
 use Rattle.identify.specs.declared.wanted.Wanted.{Wanted}
 use Rattle.port_boot.specs.States.{EndsAs, IsUnfit}
-use Rattle.request_book.specs.Entries.{IsAccepted, IsInOrder, first_of}
-use Rattle.request_book.specs.Machine.{IsBook}
-use Rattle.request_book.specs.declared.book.Accepted.{Accepted}
 use Rattle.driver_history.specs.Holds.{Runs}
 use Rattle.agreement.specs.Facts.{IsRecorded, RunsWell, Undisturbed}
 use Rattle.agreement.proofs.Present.{access_shown}
 use Rattle.agreement.proofs.Vacated.{device_shown}
 use Rattle.host_boot.proofs.Beginning.{taken_faults, taken_runs}
 use Rattle.host_boot.proofs.Showing.{taken_shown}
-use Rattle.server_history.proofs.Unused.{ready_found}
+use Rattle.server_history.proofs.Slots.{ready_found}
 use Rattle.identify.specs.declared.DiskInfo.{DiskInfo}
 use Rattle.server_history.proofs.Standing.{holds_with, slots}
 use Rattle.server_history.specs.Histories.{HasBegun}
-use Rattle.server_history.specs.Server.{Server, AreUsesOf, IsKept, IsMachineOf, IsNewServer, IsPortOf, IsTransferRow, IsUseOf, is_served, none_parked, ports_of, state_of}
+use Rattle.block_machine.specs.Due.{NoneDue}
+use Rattle.block_machine.proofs.Members.{contains_none}
+use Rattle.request_queue.specs.Entries.{Held, IsAccepted, IsInOrder, asks_of}
+use Rattle.request_queue.specs.Machine.{IsBook}
+use Rattle.slots.specs.Uses.{Uses as PortSlots}
+use Rattle.server_history.specs.Server.{Server, AreUsesOf, IsKept, IsMachineOf, IsNewServer, IsPortOf, IsSettled, IsTransferRow, IsUsedAs, is_served, none_parked, plain_mode, ports_of, state_of, use_of, used_for}
 use Rattle.host_boot.proofs.Leaving.{boots_begin}
 use Rattle.agreement.proofs.Driven.{followed_adds}
 
@@ -158,34 +160,20 @@ served_there wanted (Unready state) port d s served = s.0.1
 
 -- ---- slots
 
--- without requests no slot serves one
-use_none : (found : Found) (u : Use) → (u ≡ Free) ⊎ ((u ≡ Own Identify) × (found ≡ Unready Dead)) → IsUseOf found None u
-use_none Unserved u (inl free) = free
-use_none (Ready info) u (inl free) = free
-use_none (Unready Absent) u (inl free) = free
-use_none (Unready ReadyState) u (inl free) = free
-use_none (Unready Foreign) u (inl free) = free
-use_none (Unready (Unfit n)) u (inl free) = free
-use_none (Unready Dead) u (inl free) = inl free
-use_none (Unready Dead) u (inr (own, is)) = inr own
-use_none Unserved u (inr (own, is)) = absurd (let z : Unserved ≡ Unready Dead = is in cc)
-use_none (Ready info) u (inr (own, is)) = absurd (let z : Ready info ≡ Unready Dead = is in cc)
-use_none (Unready Absent) u (inr (own, is)) = absurd (let z : Unready Absent ≡ Unready Dead = is in cc)
-use_none (Unready ReadyState) u (inr (own, is)) = absurd (let z : Unready ReadyState ≡ Unready Dead = is in cc)
-use_none (Unready Foreign) u (inr (own, is)) = absurd (let z : Unready Foreign ≡ Unready Dead = is in cc)
-use_none (Unready (Unfit n)) u (inr (own, is)) = absurd (let z : Unready (Unfit n) ≡ Unready Dead = is in cc)
-
-use_left : (found : Found) (ports : List Found) (uses : Uses) (port : ℕ) → found ≡ found_of ports port → IsLeft ports uses port 0 → (uses port 0 ≡ Free) ⊎ ((uses port 0 ≡ Own Identify) × (found ≡ Unready Dead))
-use_left found ports uses port is (inl free) = inl free
-use_left found ports uses port is (inr (zero_is, own, dead)) = inr (own, is ∙ dead)
-
-other_left : (ports : List Found) (uses : Uses) (port slot : ℕ) → slot ≢ 0 → IsLeft ports uses port slot → uses port slot ≡ Free
-other_left ports uses port slot other (inl free) = free
-other_left ports uses port slot other (inr (zero_is, own, dead)) = absurd (other zero_is)
+-- a slot that was left as it was is used as a server without requests has it
+left_as : (ports found : List Found) (slots : List PortSlots) (uses : Uses) (port slot : ℕ) → found_of found port ≡ found_of ports port → used_for slots port slot ≡ None → IsLeft ports uses port slot
+    → IsUsedAs (found_of found port) slot (used_for slots port slot) (uses port slot)
+left_as ports found slots uses port slot same none (inl free) = inl (free ∙ sym (ap use_of none))
+left_as ports found slots uses port slot same none (inr (zero_is, own, dead)) = inr (same ∙ dead, zero_is, ap (uses port) zero_is ∙ own)
 
 -- no requests are in order
-none_in_order : (last : ℕ) → IsInOrder last []
-none_in_order last = record { ordered = λ i j d lt small. absurd (omega (arith, small)); handed_out = λ k d small. absurd (omega (arith, small)); few = λ client. omega arith }
+none_in_order : IsInOrder []
+none_in_order = record {
+  ordered = λ i j d lt small. absurd (omega (arith, small));
+  clients = λ k d small. absurd (omega (arith, small));
+  few = λ client. omega arith;
+  issues = λ k d small. absurd (omega (arith, small));
+}
 
 -- ---- the whole
 
@@ -238,18 +226,14 @@ module _ (s : Server) (host : Host) (d : Device) (is : IsIdle d) (told : TellsDi
   }
 
   uses_are : AreUsesOf s taken.uses
-  uses_are = record {
-    first = λ port. subst (λ (book : List Accepted). IsUseOf (found_of s.ports port) (first_of (port_at port) book) (taken.uses port 0)) (sym n.book)
-        (use_none (found_of s.ports port) (taken.uses port 0) (use_left (found_of s.ports port) host.ports taken.uses port (found_is port) (taken.left port 0)));
-    others = λ port slot other. other_left host.ports taken.uses port slot other (taken.left port slot);
-  }
+  uses_are port slot = left_as host.ports s.ports s.slots taken.uses port slot (found_is port) (n.unused port slot) (taken.left port slot)
 
   stands_for : (m : Machine) → IsStart m → SparesBook first_machine m → Knows m (known taken.uses none_parked s.device) → IsMachineOf s m
   stands_for m begun spares knows = record {
     uses = taken.uses;
     used = uses_are;
     knows = knows;
-    book = subst (λ (book : List Accepted). IsBook book m.book) (sym n.book) (subst (λ (es : List Pending). IsBook [] es) (sym begun.book) tt);
+    book = subst (λ (book : List Held). IsBook book m.book) (sym n.book) (subst (λ (es : List Pending). IsBook [] es) (sym begun.book) tt);
     kept = begun.kept;
     rows = spares.rows;
     owner = λ frame. ap (λ (owner : Frame → Option ClientId). owner frame) spares.owner;
@@ -281,15 +265,22 @@ module _ (s : Server) (host : Host) (d : Device) (is : IsIdle d) (told : TellsDi
     behind = ports_on;
     rows = n.rows;
     owners = n.owners;
-    accepted = subst (λ (book : List Accepted). All (IsAccepted s.grants s.table) book) (sym n.book) (All-nil (IsAccepted s.grants s.table));
-    ordered = subst (λ (book : List Accepted). IsInOrder s.last book) (sym n.book) (none_in_order s.last);
-    ready = subst (λ (book : List Accepted). All (λ e. state_of (found_of s.ports e.port.0) ≡ ReadyState) book) (sym n.book) (All-nil (λ (e : Accepted). state_of (found_of s.ports e.port.0) ≡ ReadyState));
+    four = n.four_slots;
+    slots = λ port low. record { places = n.places port low; usable = n.usable port low; unused = λ slot high. n.unused port slot };
+    accepted = subst (λ (book : List Held). All (IsAccepted s.grants s.table) book) (sym n.book) (All-nil (IsAccepted s.grants s.table));
+    ordered = subst IsInOrder (sym n.book) none_in_order;
+    handed_out = subst (λ (book : List Held). All (λ e. e.entry.id.0 ≤ s.last) book) (sym n.book) (All-nil (λ (e : Held). e.entry.id.0 ≤ s.last));
+    ready = subst (λ (book : List Held). All (λ e. state_of (found_of s.ports e.entry.port.0) ≡ ReadyState) book) (sym n.book) (All-nil (λ (e : Held). state_of (found_of s.ports e.entry.port.0) ≡ ReadyState));
     machine = m;
     reached = reached;
     stands = stands;
   }
 
-  pub new_server : IsKept s × HasBegun s
+  -- nothing is asked, so nothing is due
+  none_due : (port : Port) → NoneDue plain_mode (asks_of s.book) port
+  none_due port = subst (λ (book : List Held). NoneDue plain_mode (asks_of book) port) (sym n.book) (λ r own due. contains_none r due.here)
+
+  pub new_server : IsSettled s × HasBegun s
   new_server =
       let x = (followed_adds taken.followed (λ port slot. Free) none_parked refl).adds first_machine reached_first (machine_knows d s.grants (owner_of s.table) start is told) in
       let later : Machine = after first_machine x.0 in
@@ -298,7 +289,7 @@ module _ (s : Server) (host : Host) (d : Device) (is : IsIdle d) (told : TellsDi
       let stands : IsMachineOf s later = stands_for later begun spares x.2 in
       let reached : IsReached later = reached_more first_machine x.0 reached_first x.1 in
       let kept : IsKept s = kept_by later reached stands in (
-        kept,
+        record { kept = kept; issued = none_due },
         (
           record { device = s.device; moment = record { machine = later; ports = ports_of s.ports } },
           record {

@@ -45,8 +45,7 @@ use Rattle.dma_frames.specs.Table.{owner_of, lent_to}
 use Rattle.host_boot.specs.Taken.{found_of}
 use Rattle.host_boot.specs.declared.Found.TheVariants.{Unready}
 use Rattle.ata_types.specs.declared.PortState.TheVariants.{Dead}
-use Rattle.request_book.specs.Entries.{first_of}
-use Rattle.request_book.proofs.Counts.{as_many}
+use Rattle.request_queue.proofs.Stepping.{as_many}
 use Rattle.transfers.specs.Services.{IsService}
 use Rattle.transfers.proofs.Serving.{services_on}
 use Rattle.driver_history.specs.Histories.{Begins, CameBy, Issues, Ties, TiesPort}
@@ -54,13 +53,14 @@ use Rattle.driver_history.specs.Evidence.{StaysHealthy}
 use Rattle.driver_history.specs.Trace.{LeavesEngine}
 use Rattle.driver_history.proofs.Calm.{untroubled}
 use Rattle.server_history.specs.Histories.{Adds, Leads, Stands, load_said, store_said}
-use Rattle.server_history.specs.Server.{Server, IsKept, IsMachineOf, IsPortOf, none_parked, ports_of, situation_of}
-use Rattle.server_history.proofs.Dues.{issues_due}
+use Rattle.server_history.specs.Server.{Server, IsKept, IsMachineOf, IsPortOf, IsSettled, none_parked, ports_of, situation_of, used_for}
+use Rattle.server_history.proofs.Asks.{none_issued}
 use Rattle.server_history.proofs.Devices.{devices_belong, devices_last, devices_lawful, devices_transfer}
 use Rattle.server_history.proofs.Coming.{none_loaded}
 use Rattle.server_history.proofs.Going.{happening, kept_on, lead_by, machine_on, machine_with, ports_same, with_device}
 use Rattle.server_history.proofs.Told.{no_evidence, told_by, uninterrupted}
-use Rattle.server_history.proofs.Ports.{IsOfBytes, bytes_leave, bytes_serve, not_own, port_on}
+use Rattle.server_history.proofs.Ports.{IsOfBytes, bytes_leave, bytes_serve, port_on}
+use Rattle.server_history.proofs.Slots.{not_own}
 
 -- ---- what a history leads to
 
@@ -84,7 +84,7 @@ module _ (s : Server) (k : IsKept s) (new : Device) (access : Access) (is : IsOf
   silent : (port : ℕ) → found_of s.ports port ≢ Unready Dead → SendsNone port Identify s.device new
   silent port other =
       access_sends_none k.stands.uses k.machine access s.device new port Identify k.reached k.stands.knows.agrees does refl
-      (not_own (found_of s.ports port) (first_of (port_at port) s.book) (k.stands.uses port 0) other (k.stands.used.first port))
+      (not_own (found_of s.ports port) 0 (used_for s.slots port 0) (k.stands.uses port 0) other (k.stands.used port 0))
 
   ports_on : (port : ℕ) → port < 4 → IsPortOf s.wanted s.ports port new
   ports_on port below =
@@ -102,9 +102,9 @@ device_kept s new k steps =
     kept_with s k new (Loading 0 []) tt (none_loaded s.device new steps) x.0 x.1
     (machine_on s new k.machine x.0 k.stands x.3.only x.2)
 
-pub device_adds_event : (s : Server) (new : Device) (step : DeviceStep) → IsKept s → Asked step s.device new → Steps s.device new
+pub device_adds_event : (s : Server) (new : Device) (step : DeviceStep) → IsSettled s → Asked step s.device new → Steps s.device new
     → Adds s (record s { device = new }) (Told step) (Stepped true)
-device_adds_event s new step k asked moves = record { kept = device_kept s new k moves; adds = adds }
+device_adds_event s new step k asked moves = record { settled = record { kept = device_kept s new k.kept moves; issued = k.issued }; adds = adds }
   where
     adds : (first : Instant Device) (past : List (Happening Device DeviceStep)) → Leads first past s
         → (h : Happening Device DeviceStep) × (h.event.ask ≡ Told step) × (h.event.said ≡ Stepped true) × Leads first (h ∷ past) (record s { device = new })
@@ -114,7 +114,7 @@ device_adds_event s new step k asked moves = record { kept = device_kept s new k
         let m = at.machine in
         let x = (device_adds (known m.uses none_parked s.device) new moves).adds old.moment.machine (reached first past s leads) m.knows in
         let steps : List Step = x.0 in
-        lead_by first past s (record s { device = new }) (Told step) (Stepped true) steps refl refl leads (device_kept s new k moves) x.1 (devices_belong (Told step) (ports_of s.ports) steps x.3.only) (devices_last steps x.3.only)
+        lead_by first past s (record s { device = new }) (Told step) (Stepped true) steps refl refl leads (device_kept s new k.kept moves) x.1 (devices_belong (Told step) (ports_of s.ports) steps x.3.only) (devices_last steps x.3.only)
         (devices_lawful old.moment no_evidence (ports_of s.ports) steps x.3.only)
         (x.3.only, ports_same old.moment.ports (ports_of s.ports) at.ports_are)
         []
@@ -127,33 +127,33 @@ device_adds_event s new step k asked moves = record { kept = device_kept s new k
 
 -- ---- calls that do nothing
 
-nothing_adds : (s : Server) (ask : Ask DeviceStep) (said : Said) → IsKept s → ((m : Moment) → CameBy m ask said [] s.device s.device)
+nothing_adds : (s : Server) (ask : Ask DeviceStep) (said : Said) → IsSettled s → ((m : Moment) → CameBy m ask said [] s.device s.device)
     → ((old : Instant Device) → Stands old s → (evidence : Evidence) → IsAnswered ask said old.moment evidence [] (record { machine = old.moment.machine; ports = ports_of s.ports }))
     → ((old : Instant Device) → IsReached old.moment.machine → Stands old s → (port : Port) → Issues ask [] old.moment.machine (ports_of s.ports) port)
     → ((old : Instant Device) (port : Port) → StaysHealthy port.0 old.device s.device → TiesPort old (happening old s.device ask said [] (ports_of s.ports)) [] port)
     → Adds s s ask said
-nothing_adds s ask said k came answered issues parts = record { kept = k; adds = adds }
+nothing_adds s ask said k came answered issues parts = record { settled = k; adds = adds }
   where
     adds : (first : Instant Device) (past : List (Happening Device DeviceStep)) → Leads first past s
         → (h : Happening Device DeviceStep) × (h.event.ask ≡ ask) × (h.event.said ≡ said) × Leads first (h ∷ past) s
     adds first past leads =
         let old : Instant Device = now first past in
-        lead_by first past s s ask said [] refl refl leads k tt tt tt tt (answered old leads.stands (told_by s.device old.moment.ports)) [] (came old.moment)
+        lead_by first past s s ask said [] refl refl leads k.kept tt tt tt tt (answered old leads.stands (told_by s.device old.moment.ports)) [] (came old.moment)
         (λ port. All-nil (LeavesEngine port)) (issues old (reached first past s leads) leads.stands) (λ port healthy. parts (with_device s.device old) port healthy) (nothing_backed s.device old.moment.machine) leads.stands.machine
 
-pub undone_adds : (s : Server) (step : DeviceStep) → IsKept s → Adds s s (Told step) (Stepped false)
+pub undone_adds : (s : Server) (step : DeviceStep) → IsSettled s → Adds s s (Told step) (Stepped false)
 undone_adds s step k =
     nothing_adds s (Told step) (Stepped false) k (λ m. (refl, refl))
     (λ old at evidence. (refl, ports_same old.moment.ports (ports_of s.ports) at.ports_are)) (λ old was at port. tt)
     (λ old port healthy. record { finds = tt; faults = tt; tries = tt; boots = tt; trouble = untroubled (told_by old.device old.moment.ports) old (ports_of s.ports) s.device port healthy; well = λ i. absurd (uninterrupted old.device old.moment.ports port i); heeds = uninterrupted old.device old.moment.ports port })
 
-pub state_adds : (s : Server) (port : Port) → IsKept s → Adds s s (State port) (Shown ((ports_of s.ports).state port))
+pub state_adds : (s : Server) (port : Port) → IsSettled s → Adds s s (State port) (Shown ((ports_of s.ports).state port))
 state_adds s port k =
     nothing_adds s (State port) (Shown ((ports_of s.ports).state port)) k (λ m. (refl, refl))
     (λ old at evidence. (ap (λ (ports : Ports). ports.state port) (sym at.ports_are), refl, ports_same old.moment.ports (ports_of s.ports) at.ports_are)) (λ old was at port. tt)
     (λ old port healthy. record { finds = tt; faults = tt; tries = tt; boots = tt; trouble = untroubled (told_by old.device old.moment.ports) old (ports_of s.ports) s.device port healthy; well = λ i. absurd (uninterrupted old.device old.moment.ports port i); heeds = uninterrupted old.device old.moment.ports port })
 
-pub store_refused : (s : Server) (client : ClientId) (frame : Frame) (offset : ℕ) (bytes : List ℕ) (fault : MemFault) → IsKept s
+pub store_refused : (s : Server) (client : ClientId) (frame : Frame) (offset : ℕ) (bytes : List ℕ) (fault : MemFault) → IsSettled s
     → IsFirstMemFault (owner_of s.table) (lent_to s.table) client frame offset (length bytes) fault → Adds s s (StoreAt client frame offset bytes) (store_said (Err fault))
 store_refused s client frame offset bytes fault k is =
     nothing_adds s (StoreAt client frame offset bytes) (store_said (Err fault)) k (λ m. (refl, refl))
@@ -161,7 +161,7 @@ store_refused s client frame offset bytes fault k is =
     (λ old was at port. tt)
     (λ old port healthy. record { finds = tt; faults = tt; tries = tt; boots = tt; trouble = untroubled (told_by old.device old.moment.ports) old (ports_of s.ports) s.device port healthy; well = λ i. absurd (uninterrupted old.device old.moment.ports port i); heeds = uninterrupted old.device old.moment.ports port })
 
-pub load_refused : (s : Server) (client : ClientId) (frame : Frame) (offset count : ℕ) (bytes : List ℕ) (fault : MemFault) → IsKept s
+pub load_refused : (s : Server) (client : ClientId) (frame : Frame) (offset count : ℕ) (bytes : List ℕ) (fault : MemFault) → IsSettled s
     → IsFirstMemFault (owner_of s.table) (lent_to s.table) client frame offset count fault → Adds s s (LoadAt client frame offset count) (load_said (Err fault) bytes)
 load_refused s client frame offset count bytes fault k is =
     nothing_adds s (LoadAt client frame offset count) (load_said (Err fault) bytes) k (λ m. (refl, refl))
@@ -179,15 +179,15 @@ situation_is s old at = λ i. record {
   state = ap (λ (ports : Ports). ports.state) at.ports_are i;
   sectors = ap (λ (ports : Ports). ports.sectors) at.ports_are i;
   trims = ap (λ (ports : Ports). ports.trims) at.ports_are i;
-  unanswered = fun_ext (λ (client : ClientId). as_many (λ port. true) s.book old.moment.machine.book client at.machine.book) i;
+  unanswered = fun_ext (λ (client : ClientId). as_many s.book old.moment.machine.book client at.machine.book) i;
   next = at.machine.next i;
 }
 
-pub submit_refused : (s : Server) (r : Request) (refusal : Refusal) → IsKept s → IsFirstRefusal (situation_of s) r refusal → Adds s s (Submit r) (Submitted (Err refusal))
+pub submit_refused : (s : Server) (r : Request) (refusal : Refusal) → IsSettled s → IsFirstRefusal (situation_of s) r refusal → Adds s s (Submit r) (Submitted (Err refusal))
 submit_refused s r refusal k is =
     nothing_adds s (Submit r) (Submitted (Err refusal)) k (λ m. (refl, refl))
     (λ old at evidence. (subst (λ (x : Situation). IsFirstRefusal x r refusal) (sym (situation_is s old at)) is, refl, ports_same old.moment.ports (ports_of s.ports) at.ports_are))
-    (λ old was at port ready. issues_due s old.moment.machine was at.machine k.ordered.ordered [] (λ p here i. absurd (false≢true i)) port)
+    (λ old was at port ready. none_issued s old.moment.machine at.machine [] (λ id. refl) port (k.issued port))
     (λ old port healthy. record { finds = tt; faults = tt; tries = tt; boots = tt; trouble = untroubled (told_by old.device old.moment.ports) old (ports_of s.ports) s.device port healthy; well = λ i. absurd (uninterrupted old.device old.moment.ports port i); heeds = uninterrupted old.device old.moment.ports port })
 
 -- ---- clients' bytes
@@ -223,7 +223,10 @@ store_ends s new client frame offset bytes k opens stores m r is =
           (record { rows = spares.rows; owner = spares.owner; lent = spares.lent; next = spares.next; book = spares.book; kept = spares.kept }) x.knows,
     )
 
-module _ (s : Server) (new : Device) (client : ClientId) (frame : Frame) (offset : ℕ) (bytes : List ℕ) (k : IsKept s) (opens : IsOpen (owner_of s.table) (lent_to s.table) client frame offset (length bytes)) where
+module _ (s : Server) (new : Device) (client : ClientId) (frame : Frame) (offset : ℕ) (bytes : List ℕ) (t : IsSettled s) (opens : IsOpen (owner_of s.table) (lent_to s.table) client frame offset (length bytes)) where
+  abbrev k : IsKept s
+  k = t.kept
+
   pub load_kept : Loads (4096 * frame.0 + offset) bytes s.device new → IsKept (record s { device = new })
   load_kept loads =
       let x = load_ends s new client frame offset bytes k opens loads k.machine k.reached k.stands in
@@ -235,7 +238,7 @@ module _ (s : Server) (new : Device) (client : ClientId) (frame : Frame) (offset
       kept_with s k new (Storing (4096 * frame.0 + offset) bytes) tt stores (Store client frame offset bytes ∷ x.0.steps) x.0.may x.1
 
   pub load_adds : Loads (4096 * frame.0 + offset) bytes s.device new → Adds s (record s { device = new }) (LoadAt client frame offset (length bytes)) (load_said (Ok tt) bytes)
-  load_adds loads = record { kept = load_kept loads; adds = adds }
+  load_adds loads = record { settled = record { kept = load_kept loads; issued = t.issued }; adds = adds }
     where
       adds : (first : Instant Device) (past : List (Happening Device DeviceStep)) → Leads first past s
           → (h : Happening Device DeviceStep) × (h.event.ask ≡ LoadAt client frame offset (length bytes)) × (h.event.said ≡ load_said (Ok tt) bytes) × Leads first (h ∷ past) (record s { device = new })
@@ -255,7 +258,7 @@ module _ (s : Server) (new : Device) (client : ClientId) (frame : Frame) (offset
           x.0.backed x.1
 
   pub store_adds : Stores (4096 * frame.0 + offset) bytes s.device new → Adds s (record s { device = new }) (StoreAt client frame offset bytes) (store_said (Ok tt))
-  store_adds stores = record { kept = store_kept stores; adds = adds }
+  store_adds stores = record { settled = record { kept = store_kept stores; issued = t.issued }; adds = adds }
     where
       adds : (first : Instant Device) (past : List (Happening Device DeviceStep)) → Leads first past s
           → (h : Happening Device DeviceStep) × (h.event.ask ≡ StoreAt client frame offset bytes) × (h.event.said ≡ store_said (Ok tt)) × Leads first (h ∷ past) (record s { device = new })
@@ -275,7 +278,7 @@ module _ (s : Server) (new : Device) (client : ClientId) (frame : Frame) (offset
           x.0.backed x.1
 
 -- of so many bytes
-pub load_of : (s : Server) (new : Device) (client : ClientId) (frame : Frame) (offset count : ℕ) (bytes : List ℕ) → IsKept s → length bytes ≡ count
+pub load_of : (s : Server) (new : Device) (client : ClientId) (frame : Frame) (offset count : ℕ) (bytes : List ℕ) → IsSettled s → length bytes ≡ count
     → IsOpen (owner_of s.table) (lent_to s.table) client frame offset count → Loads (4096 * frame.0 + offset) bytes s.device new
     → Adds s (record s { device = new }) (LoadAt client frame offset count) (load_said (Ok tt) bytes)
 load_of s new client frame offset count bytes k long opens loads =

@@ -1,5 +1,5 @@
 -- A server goes on over steps of the device, and calls add events to its histories.
-use Rattle.std.proofs.Common.{ℕ, ◌≡◌, ◌≤◌, ◌<◌, ◌+◌, ◌*◌, true, get_or, Option, None, List, [], ◌∷◌, refl, sym, ap, ◌∙◌, subst}
+use Rattle.std.proofs.Common.{ℕ, ◌≡◌, ◌≤◌, ◌<◌, ◌+◌, ◌*◌, true, get_or, length, Option, None, List, [], ◌∷◌, refl, sym, ap, ◌∙◌, subst}
 use Rattle.std.specs.List.{All, AllZip}
 use Rattle.ata_types.specs.declared.Port.{Port}
 use Rattle.ata_types.specs.declared.PortState.TheVariants.{Ready as ReadyState}
@@ -23,40 +23,42 @@ use Rattle.block_machine.specs.Steps.{Step}
 use Rattle.block_machine.proofs.HistoryLemmas.{history_reaches, reached_more}
 use Rattle.dma_frames.specs.Table.{Table}
 use Rattle.host_boot.specs.Taken.{found_of}
-use Rattle.request_book.specs.Entries.{IsAccepted, IsInOrder}
-use Rattle.request_book.specs.Machine.{IsBook, IsEntry}
-use Rattle.request_book.specs.declared.book.Accepted.{Accepted}
 use Rattle.driver_history.specs.Evidence.{StaysHealthy}
 use Rattle.driver_history.specs.Histories.{Begins, CameBy, Issues, Ties, TiesPort}
 use Rattle.driver_history.specs.Trace.{LeavesEngine}
 use Rattle.driver_history.proofs.Instants.{history_fit, ready_low}
 use Rattle.server_history.specs.Histories.{Leads, Stands}
-use Rattle.server_history.specs.Server.{Server, IsKept, IsMachineOf, IsPortOf, none_parked, ports_of, state_of}
+use Rattle.request_queue.specs.Entries.{Held, IsAccepted, IsInOrder}
+use Rattle.request_queue.specs.Machine.{IsBook, IsEntry, range_of}
+use Rattle.slots.specs.Uses.{Uses as PortSlots}
+use Rattle.server_history.specs.Server.{HasSlots, Server, IsKept, IsMachineOf, IsPortOf, none_parked, ports_of, state_of}
 use Rattle.server_history.proofs.Standing.{holds_with, slots}
 use Rattle.server_history.proofs.Told.{evidenced, lawful_told, no_evidence, told_by}
 
 -- ---- the book
 
--- an entry and its request stay so when the request goes further
-pub further_stands : (leads : Type 0) (e : Accepted) (old new : Pending) → IsFurther old new → IsEntry e old.request × ((old.issued ≡ true → leads) × (leads → old.issued ≡ true))
-    → IsEntry e new.request × ((new.issued ≡ true → leads) × (leads → new.issued ≡ true))
-further_stands leads e old new f s = (
-  subst (IsEntry e) (sym f.request) s.0,
-  ((λ issued. s.1.0 (sym f.issued ∙ issued)), (λ is. f.issued ∙ s.1.1 is)),
-)
-
-pub zip_further : (R : Accepted → Pending → Type 0) → ((e : Accepted) (old new : Pending) → IsFurther old new → R e old → R e new)
-    → (book : List Accepted) (olds news : List Pending) → AllFurther olds news → AllZip R book olds → AllZip R book news
-zip_further R on [] [] news further all = subst (AllZip R []) (sym further) tt
-zip_further R on [] (old ∷ olds) news further all = absurd all
-zip_further R on (e ∷ es) [] news further all = absurd all
-zip_further R on (e ∷ es) (old ∷ olds) [] further all = absurd further
-zip_further R on (e ∷ es) (old ∷ olds) (new ∷ news) further all = (on e old new further.0 all.0, zip_further R on es olds news further.1 all.1)
+-- an entry stands for its request when that goes further
+entry_on : (e : Held) (old new : Pending) → IsFurther old new → IsEntry e old → IsEntry e new
+entry_on e old new f is = record {
+  id = ap (λ r. r.id) f.request ∙ is.id;
+  client = ap (λ r. r.asked.client) f.request ∙ is.client;
+  grant = ap (λ r. r.asked.grant) f.request ∙ is.grant;
+  port = ap (λ r. r.port) f.request ∙ is.port;
+  op = ap (λ r. r.asked.op) f.request ∙ is.op;
+  range = ap range_of f.request ∙ is.range;
+  frames = ap (λ r. r.asked.frames.items) f.request ∙ is.frames;
+  issued = f.issued ∙ is.issued;
+  issues = f.issues ∙ is.issues;
+  age = f.age ∙ is.age;
+}
 
 -- a book goes on as its requests go further
-pub book_on : (book : List Accepted) (olds news : List Pending) → AllFurther olds news → IsBook book olds → IsBook book news
-book_on book olds news further is =
-    zip_further _ (λ e old new f s. further_stands _ e old new f s) book olds news further is
+pub book_on : (book : List Held) (olds news : List Pending) → AllFurther olds news → IsBook book olds → IsBook book news
+book_on [] [] news further all = subst (AllZip IsEntry []) (sym further) tt
+book_on [] (old ∷ olds) news further all = absurd all
+book_on (e ∷ es) [] news further all = absurd all
+book_on (e ∷ es) (old ∷ olds) [] further all = absurd further
+book_on (e ∷ es) (old ∷ olds) (new ∷ news) further all = (entry_on e old new further.0 all.0, book_on es olds news further.1 all.1)
 
 none_on : (olds news : List Pending) → AllFurther olds news → olds ≡ [] → news ≡ []
 none_on olds news further is = subst (λ (es : List Pending). AllFurther es news) is further
@@ -68,7 +70,7 @@ pub machine_with : (s : Server) (new : Device) (m later : Machine) → (is : IsM
     → IsMachineOf (record s { device = new }) later
 machine_with s new m later is spares knows = record {
   uses = is.uses;
-  used = record { first = is.used.first; others = is.used.others };
+  used = is.used;
   knows = knows;
   book = book_on s.book m.book later.book spares.book is.book;
   kept = none_on m.kept later.kept spares.kept is.kept;
@@ -86,22 +88,26 @@ machine_on s new m steps is own knows = machine_with s new m (after m steps) is 
 
 -- ---- what a server keeps
 
--- a server with this device, these loans and this book
-pub kept_then : (s : Server) (device : Device) (table : Table) (book : List Accepted) (last : ℕ) → IsKept s → IsOn device → SameAdapter s.device device
-    → ((port : ℕ) → port < 4 → IsPortOf s.wanted s.ports port device) → table.owners ≡ s.table.owners → All (IsAccepted s.grants table) book → IsInOrder last book
-    → All (λ e. state_of (found_of s.ports e.port.0) ≡ ReadyState) book → (m : Machine) → IsReached m
-    → IsMachineOf (record s { device = device; table = table; book = book; last = last }) m → IsKept (record s { device = device; table = table; book = book; last = last })
-kept_then s device table book last k on same behind owners accepted ordered ready m reached is = record {
+-- a server with this device, these loans, slots and book
+pub kept_then : (s : Server) (device : Device) (table : Table) (slots : List PortSlots) (book : List Held) (last : ℕ) → IsKept s → IsOn device → SameAdapter s.device device
+    → ((port : ℕ) → port < 4 → IsPortOf s.wanted s.ports port device) → table.owners ≡ s.table.owners → length slots ≡ 4 → ((port : ℕ) → port < 4 → HasSlots s.ports slots port)
+    → All (IsAccepted s.grants table) book → IsInOrder book → All (λ e. e.entry.id.0 ≤ last) book → All (λ e. state_of (found_of s.ports e.entry.port.0) ≡ ReadyState) book → (m : Machine) → IsReached m
+    → IsMachineOf (record s { device = device; table = table; slots = slots; book = book; last = last }) m
+    → IsKept (record s { device = device; table = table; slots = slots; book = book; last = last })
+kept_then s device table slots book last k on same behind owners four used accepted ordered handed_out ready m reached is = record {
   on = on;
   room = subst (λ (n : ℕ). 163840 ≤ n) (sym same.size) k.room;
   there = λ port served. let t = k.there port served in (t.0, ap (λ (pi : ℕ). bit pi port) same.pi ∙ t.1);
   behind = behind;
+  four = four;
+  slots = used;
   rows = k.rows;
   owners = λ frame client own.
       let o = k.owners frame client (ap (λ (list : List (Option ClientId)). get_or list frame.0 None) (sym owners) ∙ own) in
       (o.0, subst (λ (n : ℕ). 4096 * frame.0 + 4096 ≤ n) (sym same.size) o.1);
   accepted = accepted;
   ordered = ordered;
+  handed_out = handed_out;
   ready = ready;
   machine = m;
   reached = reached;
@@ -113,7 +119,7 @@ pub kept_on : (s : Server) (new : Device) → (k : IsKept s) → IsOn new → Sa
     → ((port : ℕ) → port < 4 → IsPortOf s.wanted s.ports port new) → (steps : List Step) → AllMay k.machine steps
     → IsMachineOf (record s { device = new }) (after k.machine steps) → IsKept (record s { device = new })
 kept_on s new k on same behind steps may is =
-    kept_then s new s.table s.book s.last k on same behind refl k.accepted k.ordered k.ready (after k.machine steps) (reached_more k.machine steps k.reached may) is
+    kept_then s new s.table s.slots s.book s.last k on same behind refl k.four k.slots k.accepted k.ordered k.handed_out k.ready (after k.machine steps) (reached_more k.machine steps k.reached may) is
 
 -- ---- events
 

@@ -27,15 +27,15 @@ use Rattle.block_machine.specs.Rules.{DifferInName, IsCount, IsNamed, frames_for
 use Rattle.block_machine.specs.State as machine
 use Rattle.block_machine.specs.State.{Machine, block_of}
 use Rattle.block_machine.specs.Steps as steps
-use Rattle.block_machine.specs.Steps.{IsNew}
+use Rattle.block_machine.specs.Steps.{IsNew, newly_accepted}
 use Rattle.block_machine.proofs.Accepts.{accepted_is_granted}
 use Rattle.block_machine.proofs.Configured.{rows_stay}
 use Rattle.block_machine.proofs.Limits.{owned}
 use Rattle.block_machine.proofs.RuleLemmas.{one_row}
 use Rattle.dma_frames.specs.Table.{Table, owner_of, lent_to, LendsOnly}
 use Rattle.host_boot.specs.Taken.{found_of}
-use Rattle.request_book.specs.Entries.{IsAccepted, unanswered_of}
-use Rattle.request_book.specs.Machine.{IsEntry}
+use Rattle.request_queue.specs.Entries.{IsAccepted, unanswered_of}
+use Rattle.request_queue.specs.Machine.{IsEntry}
 use Rattle.server_history.specs.Served.{accepted_as}
 use Rattle.server_history.specs.Server.{Server, IsKept, IsMachineOf, IsTransferRow, ports_of, situation_of, state_of}
 use Rattle.server_history.proofs.Calls.{situation_is}
@@ -86,11 +86,13 @@ module _ (s : Server) (r : Request) (acc : IsAcceptable (situation_of s) r) (row
   has_room = ⊎_elim (λ (low : unanswered_of s.book r.client.0 < 16). low) (λ high. absurd (acc ClientFull high)) (cases_lt (unanswered_of s.book r.client.0) 16)
 
   -- none of its frames is lent
-  pub lent_elsewhere : (f : Frame) (id : RequestId) → lent_to s.table f ≡ Some id → Contains r.frames.items f → ⊥
-  lent_elsewhere f id lent there =
-      let at : Frame = get_or r.frames.items there.0 f in
-      acc (Rule (Frames (FrameLent there.0)))
-      (at, slice_get-get_or r.frames.items there.0 f there.1, subst (λ (o : Option RequestId). IsSome o) (sym (ap (lent_to s.table) there.2 ∙ lent)) refl)
+  pub unlent : All (λ f. lent_to s.table f ≡ None) r.frames.items
+  unlent i d small = free (lent_to s.table (get_or r.frames.items i d)) refl
+    where
+      free : (o : Option RequestId) → lent_to s.table (get_or r.frames.items i d) ≡ o → lent_to s.table (get_or r.frames.items i d) ≡ None
+      free None is = is
+      free (Some id) is =
+          absurd (acc (Rule (Frames (FrameLent i))) (get_or r.frames.items i d, slice_get-get_or r.frames.items i d small, subst (λ (o : Option RequestId). IsSome o) (sym is) refl))
 
   module _ (id : RequestId) (id_is : id.0 ≡ s.last + 1) where
     -- ---- it is new to the machine
@@ -99,8 +101,8 @@ module _ (s : Server) (r : Request) (acc : IsAcceptable (situation_of s) r) (row
     abbrev pub request_in : Machine → machine.Accepted
     request_in m = record { id = id; port = port; asked = r; held = block_of m.memory r.frames.items }
 
-    pub entry_in : (m : Machine) → IsEntry (accepted_as port r id) (request_in m)
-    entry_in m = record { id = refl; port = refl; op = refl; client = refl; first = refl; count = refl; frames = refl }
+    pub entry_in : (m : Machine) → IsEntry (accepted_as port r id) (newly_accepted (request_in m))
+    entry_in m = record { id = refl; client = refl; grant = refl; port = refl; op = refl; range = refl; frames = refl; issued = refl; issues = refl; age = refl }
 
     module _ (m : Machine) (reached : IsReached m) (is : IsMachineOf s m) where
       abbrev at : Instant Device
@@ -163,10 +165,9 @@ module _ (s : Server) (r : Request) (acc : IsAcceptable (situation_of s) r) (row
         sectors = count;
         first = first_below;
         frames = ⊎_elim (λ (same : length r.frames.items ≡ frames_for r.op r.count). same) (λ other. absurd (acc (Rule FrameCount) other)) (cases_eq (length r.frames.items) (frames_for r.op r.count));
-        row = (granted.row, there, granted.named.1.0, sym granted.port, granted.right, granted.covered);
+        row = (granted.row, there, granted.named.1.0, granted.named.1.1, sym granted.port, granted.right, granted.covered);
         clients = λ i d small. (k.owners (get_or r.frames.items i d) r.client (own i d small)).0;
         own = λ i d small. ap (λ (owners : List (Option ClientId)). get_or owners (get_or r.frames.items i d).0 None) lends.owners ∙ own i d small;
         apart = apart;
-        request = refl;
         lent = lends.these;
       }

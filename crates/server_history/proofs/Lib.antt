@@ -1,7 +1,6 @@
 pub mod Told
 pub mod Running
 pub mod Standing
-pub mod Dues
 pub mod Behind
 pub mod Going
 pub mod Ports
@@ -10,11 +9,17 @@ pub mod Coming
 pub mod Calls
 pub mod Beginning
 pub mod Turns
-pub mod Unused
+pub mod Zips
+pub mod Asks
+pub mod Slots
+pub mod Placing
+pub mod Changed
 pub mod Looking
 pub mod Issuing
+pub mod Rounds
 pub mod Granting
 pub mod Accepting
-pub mod Finishing
+pub mod Answering
 pub mod Services
 pub mod Serving
+pub mod Origins

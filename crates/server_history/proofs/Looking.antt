@@ -15,12 +15,11 @@ use Rattle.agreement.specs.Slots.{IsOver, Uses}
 use Rattle.agreement.proofs.Driven.{driven_as, followed_adds, followed_silent}
 use Rattle.host_boot.specs.Taken.{found_of}
 use Rattle.host_boot.specs.declared.Found.TheVariants.{Unready}
-use Rattle.request_book.specs.Entries.{first_of, has_of}
-use Rattle.request_book.proofs.Stepping.{has_first}
-use Rattle.server_history.specs.Server.{Server, IsKept, IsPortOf, none_parked, state_of}
+use Rattle.server_history.specs.Served.{is_busy}
+use Rattle.server_history.specs.Server.{Server, IsKept, IsPortOf, none_parked, state_of, used_for}
 use Rattle.server_history.proofs.Going.{machine_on, kept_on}
-use Rattle.server_history.proofs.Ports.{not_own, port_on}
-use Rattle.server_history.proofs.Unused.{ready_found, serves_first}
+use Rattle.server_history.proofs.Ports.{port_on}
+use Rattle.server_history.proofs.Slots.{busy_used, not_own, serves_used}
 use Rattle.transfers.specs.Looks.{IsLooking}
 use Rattle.transfers.specs.Services.{IsService}
 use Rattle.transfers.specs.Transfers.{IsFinding, FindsTransfer}
@@ -51,7 +50,7 @@ module _ (s : Server) (new : Device) (port : Port) (k : IsKept s) (ready : state
       kept_on s new k (services_on s.device new k.on driven) (services_same s.device new driven)
       (behind_served s new port k ready driven left
       (λ q other. followed_silent followed uses none_parked k.machine tt k.reached k.stands.knows (port_at q) Identify refl (none (port_at q)).0 (none (port_at q)).1
-      (not_own (found_of s.ports q) (first_of (port_at q) s.book) (uses q 0) other (k.stands.used.first q))))
+      (not_own (found_of s.ports q) 0 (used_for s.slots q 0) (uses q 0) other (k.stands.used q 0))))
       x.0 x.1
       (machine_on s new k.machine x.0 k.stands x.3.only x.2)
 
@@ -76,11 +75,10 @@ module _ (s : Server) (new : Device) (port : Port) (k : IsKept s) (ready : state
   finding_kept followed =
       kept_over (IsFinding port) (λ access here. (finding_ordinary port port access here).0) (λ q. (finding_spares q Ci, finding_spares q Sact)) (λ q low other. apart port (IsFinding port) (finding_of port) q other s.device new k.on followed.driven) followed
 
-  -- a transfer that was found done is over
-  pub found_over : has_of port s.book ≡ true → FindsTransfer port true s.device new → IsOver (new.port port.0) 0
-  found_over has finds =
-      let found = (ready_found s port.0 k ready).1 in
-      let first = has_first port s.book has in
-      let serves = serves_first s k.machine port found.0 found.1 k.stands first.0 first.1 in
-      let x = (finds.adds k.stands.uses none_parked first.0.id serves).adds k.machine k.reached k.stands.knows in
+  -- what the port has issued is over, if it was found done
+  pub found_over : is_busy port s ≡ true → FindsTransfer port true s.device new → IsOver (new.port port.0) 0
+  found_over busy finds =
+      let used = busy_used (used_for s.slots port.0 0) busy in
+      let serves = serves_used s k.machine port.0 k.stands ready 0 used.0 used.1 in
+      let x = (finds.adds k.stands.uses none_parked used.0.id serves).adds k.machine k.reached k.stands.knows in
       (x.3.ended refl).0

@@ -1,5 +1,5 @@
 -- What accesses leave of ports, as a server has them.
-use Rattle.std.proofs.Common.{ℕ, suc, ◌≡◌, ◌≢◌, List, Option, Some, None, refl, sym, ◌∙◌, arith}
+use Rattle.std.proofs.Common.{ℕ, suc, ◌≡◌, ◌≢◌, List, refl, sym, ◌∙◌, arith}
 use Rattle.ata_types.specs.declared.Port.{Port}
 use Rattle.ata_types.specs.declared.PortState.TheVariants.{Absent, Ready as ReadyState, Foreign, Unfit, Dead}
 use Rattle.adapter.specs.Access.{Access, Does}
@@ -10,17 +10,15 @@ use Rattle.adapter.specs.declared.command.Operation.TheVariants.{Identify}
 use Rattle.agreement.specs.Agrees.{port_at}
 use Rattle.agreement.specs.Driven.{IsDrivenBy, IsOf, LeavesPort, SendsNone}
 use Rattle.agreement.specs.Links.{SameAdapter}
-use Rattle.agreement.specs.Slots.{Free, Own, Serves, Use}
 use Rattle.agreement.proofs.Controlled.{other_left}
 use Rattle.agreement.proofs.Driven.{by_one}
 use Rattle.host_boot.specs.Taken.{StillStandsBehind, found_of, wanted_of}
 use Rattle.host_boot.specs.declared.Found.{Found}
 use Rattle.host_boot.specs.declared.Found.TheVariants.{Unserved, Ready, Unready}
 use Rattle.identify.specs.declared.wanted.Wanted.{Wanted}
-use Rattle.request_book.specs.declared.book.Accepted.{Accepted}
 use Rattle.transfers.specs.Services.{IsService}
 use Rattle.transfers.proofs.Serving.{services_controls, services_inactive}
-use Rattle.server_history.specs.Server.{IsPortOf, IsUseOf, state_of}
+use Rattle.server_history.specs.Server.{IsPortOf, state_of}
 use Rattle.server_history.proofs.Behind.{left_on, ready_on}
 use Rattle.server_history.proofs.Running.{runs_on, shown_on}
 
@@ -51,17 +49,6 @@ bytes_leave access old new is on does port =
     (λ same. absurd (omega (arith, same))) on
 
 -- ---- what stands behind a port
-
--- only the slot of a dead port has a command of the driver's own
-pub not_own : (found : Found) (first : Option Accepted) (u : Use) → found ≢ Unready Dead → IsUseOf found first u → u ≡ Own Identify → ⊥
-not_own Unserved first u other is own = let z : Free ≡ Own Identify = sym is ∙ own in absurd cc
-not_own (Ready info) None u other is own = let z : Free ≡ Own Identify = sym is ∙ own in absurd cc
-not_own (Ready info) (Some e) u other is own = let z : Serves e.id ≡ Own Identify = sym is ∙ own in absurd cc
-not_own (Unready Dead) first u other is own = absurd (other refl)
-not_own (Unready Absent) first u other is own = let z : Free ≡ Own Identify = sym is ∙ own in absurd cc
-not_own (Unready ReadyState) first u other is own = let z : Free ≡ Own Identify = sym is ∙ own in absurd cc
-not_own (Unready Foreign) first u other is own = let z : Free ≡ Own Identify = sym is ∙ own in absurd cc
-not_own (Unready (Unfit n)) first u other is own = let z : Free ≡ Own Identify = sym is ∙ own in absurd cc
 
 -- over accesses that serve ports, where the port is left to the device, unless it is ready
 pub port_on : (wanted : List Wanted) (found : List Found) (port : ℕ) (old new : Device) → SameAdapter old new → IsOn old → IsDrivenBy IsService old new

@@ -1,5 +1,5 @@
 -- Ready ports that are served one after another add an event.
-use Rattle.std.proofs.Common.{ℕ, suc, ◌≡◌, ◌≢◌, ◌≤◌, ◌<◌, ◌+◌, ◌-◌, not, Bool, true, false, List, [], ◌∷◌, ◌++◌, map, Option, Some, None, refl, sym, ap, ◌∙◌, subst, inl, inr, ⊎_elim, arith, append_assoc, append-nil}
+use Rattle.std.proofs.Common.{ℕ, suc, ◌≡◌, ◌≢◌, ◌≤◌, ◌<◌, ◌+◌, ◌-◌, ◌||◌, not, Bool, true, false, List, [], ◌∷◌, ◌++◌, map, Option, Some, None, refl, sym, ap, ◌∙◌, subst, inl, inr, ⊎_elim, arith, append_assoc, append-nil}
 use Rattle.std.specs.List.{All, AllPairs, Contains, list_any}
 use Rattle.std.specs.List.Sorted.{IsPermutation}
 use Rattle.std.specs.Prelude.{◌↔◌}
@@ -34,49 +34,56 @@ use Rattle.agreement.proofs.Driven.{by_none, driven_as}
 use Rattle.agreement.proofs.Finished.{steps_over}
 use Rattle.agreement.proofs.Unarmed.{reads_clear, steps_clear}
 use Rattle.agreement.proofs.Finding.{ended_is_clear}
-use Rattle.agreement.proofs.Sparing.{found_later, steps_spare}
-use Rattle.block_machine.specs.Events.{Moment, Service, Served, AllDevices, AllMay, AnswersEnded, IsDevices, IsIssuedIn, AnswersService, IsToldBefore, ServesReady, answers_of, reply_of}
+use Rattle.agreement.proofs.Sparing.{found_before, steps_spare}
+use Rattle.block_machine.specs.Events.{Moment, Service, Served, AllDevices, AllMay, AnswersEnded, IsDevices, IsIssuedIn, AnswersService, IsToldBefore, ServesReady, answers_of, issues_it, reply_of}
 use Rattle.block_machine.specs.Histories.{Instant, Happening, IsReached, now}
 use Rattle.block_machine.specs.Left.{after}
 use Rattle.block_machine.specs.Ports.{Ports, IsServiced}
-use Rattle.block_machine.specs.State.{Pending, Machine}
+use Rattle.block_machine.specs.Due.{of_port}
+use Rattle.block_machine.specs.State.{Pending, Machine, unanswered}
+use Rattle.block_machine.specs.declared.due.Unanswered.{Unanswered}
 use Rattle.block_machine.specs.Steps.{Step, Issue, Answer, May}
 use Rattle.block_machine.proofs.Calm.{calmly, is_refused}
 use Rattle.block_machine.proofs.EventLemmas.{after-append}
 use Rattle.block_machine.proofs.HistoryLemmas.{history_reaches, reached_more}
-use Rattle.block_machine.proofs.Members.{contains_cases, contains_here, contains_none, contains_there}
+use Rattle.block_machine.proofs.Members.{contains_cases, contains_here, contains_none, contains_there, into_map, map_in}
 use Rattle.block_machine.proofs.Standing.{standing}
 use Rattle.block_machine.proofs.Started.{ended_issued}
 use Rattle.host_boot.specs.Taken.{found_of}
 use Rattle.host_boot.specs.declared.Found.{Found}
 use Rattle.host_boot.specs.declared.Found.TheVariants.{Unserved, Ready, Unready}
 use Rattle.identify.specs.declared.DiskInfo.{DiskInfo}
-use Rattle.request_book.specs.Entries.{first_of, has_of}
-use Rattle.request_book.specs.Machine.{IsEntry}
-use Rattle.request_book.specs.declared.book.Accepted.{Accepted}
-use Rattle.request_book.proofs.Due.{none_due}
-use Rattle.request_book.proofs.Standing.{at_right, first_is}
-use Rattle.request_book.proofs.Stepping.{Stands as StandsIn, same_some}
 use Rattle.driver_history.specs.Evidence.{StaysHealthy}
-use Rattle.driver_history.specs.Histories.{Begins, FindsDone, HasBadDisk, IsAnsweredOk, IsIssuedOn, TendsPort, Ties, TiesPort}
+use Rattle.driver_history.specs.Histories.{Begins, FindsDone, HasBadDisk, IsAnsweredOk, IsIssuedOn, IssuesDue, TendsPort, Ties, TiesPort}
+use Rattle.dma_frames.specs.Table.{Table}
+use Rattle.request_queue.specs.Entries.{Held, IsInOrder, asks, asks_of, due_ids}
+use Rattle.request_queue.specs.Machine.{IsEntry}
+use Rattle.slots.specs.declared.Use.{Use as SlotUse}
 use Rattle.driver_history.specs.Trace.{IsServing, LeavesCommand, ReadsMasks}
 use Rattle.driver_history.proofs.Calm.{untroubled}
 use Rattle.server_history.specs.Histories.{Adds, Leads}
-use Rattle.server_history.specs.Served.{AnswersBy, Checks, IssuesOnly, SameSettings, ServePorts, ServesPort, done_reply, reply_list}
-use Rattle.server_history.specs.Server.{Server, IsKept, IsMachineOf, is_served, IsUseOf, plain_mode, ports_of, state_of}
+use Rattle.server_history.specs.Book.{BookLaws}
+use Rattle.server_history.specs.Served.{AddsTurn, AnswersBy, AnswersFirst, AnswersStep, Checks, IssuesOnly, SameSettings, ServePorts, ServesPort, is_busy, is_used, reply_list}
+use Rattle.server_history.specs.Server.{Server, IsKept, IsMachineOf, IsSettled, is_served, plain_mode, ports_of, state_of, used_for}
 use Rattle.server_history.proofs.Coming.{IsTurn, TurnList, turn_leaves, turn_list, turn_serving}
-use Rattle.server_history.proofs.Dues.{issues_due}
+use Rattle.server_history.proofs.Asks.{none_due, none_issued, same_book}
 use Rattle.server_history.proofs.Going.{happening, lead_by, ports_same, with_device}
-use Rattle.server_history.proofs.Serving.{first_has, still_over}
+use Rattle.server_history.proofs.Origins.{TurnSteps, answers_turn, issued_before, stood}
+use Rattle.server_history.proofs.Rounds.{any_append, dues_carried, each_apart, each_settings, or_none}
+use Rattle.server_history.proofs.Serving.{still_over}
 use Rattle.server_history.proofs.Standing.{not_running}
 use Rattle.server_history.proofs.Told.{fatal_shows, grounded_told, loss_shows, no_evidence, no_fatal, no_loss, serves_told, told_by, uninterrupted}
-use Rattle.server_history.proofs.Unused.{ready_found}
-use Rattle.server_history.proofs.Turns.{AreTurns, IsSame, answer_on, devices_answer, devices_on, issue_on, no_turns, turns_more}
+use Rattle.server_history.proofs.Slots.{free_unused, issued_in_first, of_ready, only_first, ready_found, serves_used}
+use Rattle.server_history.proofs.Zips.{at_right}
+use Rattle.server_history.proofs.Turns.{AreTurns, IsSame, answer_on, devices_answer, devices_on, issues_on, no_turns, turns_more}
 use Rattle.transfers.specs.Services.{IsService}
 use Rattle.transfers.specs.Looks.{IsLooking}
 use Rattle.transfers.specs.declared.Look.TheVariants.{Undisturbed as Calm}
 use Rattle.transfers.proofs.Seeing.{look_driven}
 use Rattle.transfers.proofs.Serving.{calm_parts, looking_service, services_inactive, services_well}
+
+same_some : {X : Type 0} {a b : X} → Some a ≡ Some b → a ≡ b
+same_some is = cc
 
 -- ---- steps
 
@@ -115,14 +122,22 @@ no_answer (step ∷ steps) only e o here = ⊎_elim
     (contains_cases step steps (Answer e o) here)
 
 no_answer_issuing : (port : Port) (steps : List Step) → IssuesOnly port steps → (e : Pending) (o : Outcome) → Contains steps (Answer e o) → ⊥
-no_answer_issuing port steps (inl only) e o here = no_answer steps only e o here
-no_answer_issuing port steps (inr (last, next, first, is, last_only, first_only, own)) e o here = ⊎_elim
-    (λ late. no_answer last last_only e o late)
-    (λ more. ⊎_elim
-    (λ (same : Answer e o ≡ Issue plain_mode next). absurd (let z : Answer e o ≡ Issue plain_mode next = same in cc))
-    (λ early. no_answer first first_only e o early)
-    (contains_cases (Issue plain_mode next) first (Answer e o) more))
-    (Contains-append_cases last (Issue plain_mode next ∷ first) (Answer e o) (subst (λ (all : List Step). Contains all (Answer e o)) is here))
+no_answer_issuing port [] only e o here = contains_none (Answer e o) here
+no_answer_issuing port (Issue mode x ∷ steps) only e o here = ⊎_elim
+    (λ (is : Answer e o ≡ Issue mode x). absurd (let z : Answer e o ≡ Issue mode x = is in cc))
+    (λ (there : Contains steps (Answer e o)). no_answer_issuing port steps only.2 e o there)
+    (contains_cases (Issue mode x) steps (Answer e o) here)
+no_answer_issuing port (step ∷ steps) only e o here = ⊎_elim
+    (λ (is : Answer e o ≡ step). subst IsDevices (sym is) only.0)
+    (λ (there : Contains steps (Answer e o)). no_answer_issuing port steps only.1 e o there)
+    (contains_cases step steps (Answer e o) here)
+
+-- nor do steps that issue requests
+issuing_answers : (port : Port) (late base : List Step) → IssuesOnly port late → answers_of (late ++ base) ≡ answers_of base
+issuing_answers port [] base only = refl
+issuing_answers port (Issue mode e ∷ late) base only = issuing_answers port late base only.2
+issuing_answers port (Answer e o ∷ late) base only = absurd only.0
+issuing_answers port (step ∷ late) base only = issuing_answers port late base only.1
 
 -- ---- bits that are read
 
@@ -141,17 +156,40 @@ active_clear port slot v old new small r clear = r.shows slot small ∙ steps_cl
 -- ---- settings
 
 same_more : (a b c : Server) → SameSettings a b → SameSettings b c → SameSettings a c
-same_more a b c first then = then ∙ ap (λ (x : Server). record x { device = c.device; table = c.table; book = c.book }) first
+same_more a b c first then = then ∙ ap (λ (x : Server). record x { device = c.device; table = c.table; slots = c.slots; book = c.book }) first
+
+-- what a turn leaves of the server
+answers_settings : BookLaws → (port : Port) (reply : Option Reply) (old new : Server) → AnswersFirst port reply old new → SameSettings old new
+answers_settings laws port None old new is = is ∙ ap (λ (n : Server). record old { device = n.device; table = n.table; slots = n.slots; book = n.book }) (sym is)
+answers_settings laws port (Some reply) old new (found, e, told, (mid, one, issues)) =
+    each_settings laws port (due_ids plain_mode port (asks_of mid.book)) mid new issues
+    ∙ ap (λ (n : Server). record n { device = new.device; slots = new.slots; book = new.book }) one.server
+    ∙ ap (λ (table : Table). record old { device = new.device; table = table; slots = new.slots; book = new.book }) (sym table_is)
+  where
+    table_is : new.table ≡ mid.table
+    table_is = ap (λ (n : Server). n.table) (each_settings laws port (due_ids plain_mode port (asks_of mid.book)) mid new issues)
+
+-- and of the requests of another port
+answers_apart : BookLaws → (port : Port) (reply : Option Reply) (old new : Server) → IsInOrder old.book → AnswersFirst port reply old new → (other : Port) → other ≢ port
+    → of_port other (asks_of new.book) ≡ of_port other (asks_of old.book)
+answers_apart laws port None old new order is other ne = ap (λ (n : Server). of_port other (asks_of n.book)) is
+answers_apart laws port (Some reply) old new order (found, e, told, (mid, one, issues)) other ne =
+    each_apart laws port (due_ids plain_mode port (asks_of mid.book)) mid new (subst (λ (n : Server). IsInOrder n.book) (sym one.server) (laws.fewer old.book e.entry.id order)) issues other ne
+    ∙ ap (of_port other) (ap (λ (n : Server). asks_of n.book) one.server ∙ laws.asks_answered old.book e.entry.id)
+    ∙ laws.answered_apart other (asks_of old.book) (asks e.entry) (laws.asked old.book order) (into_map (λ (y : Held). asks y.entry) old.book e one.here) (λ same. ne (sym same ∙ one.port_is))
 
 -- ---- what was done so far
 
-module _ (s : Server) (kept : IsKept s) (old : Moment) (reached : IsReached old.machine) (at : IsMachineOf s old.machine) where
+module _ (laws : BookLaws) (s : Server) (start : IsSettled s) (old : Moment) (reached : IsReached old.machine) (at : IsMachineOf s old.machine) where
+  abbrev kept : IsKept s
+  kept = start.kept
+
   abbrev began : Instant Device
   began = record { device = s.device; moment = old }
 
   -- Ports below this number had their turns, which led to this server with these replies.
   record Progress (n : ℕ) (c : Server) (replies : List Reply) : Type 0 where
-    holds : IsKept c
+    settled : IsSettled c
     same : SameSettings s c
     driven : IsDrivenBy (IsTurn (TendsPort (ports_of s.ports))) s.device c.device
     steps : List Step
@@ -166,10 +204,11 @@ module _ (s : Server) (kept : IsKept s) (old : Moment) (reached : IsReached old.
     heeded : (port : Port) → port.0 < n → state_of (found_of s.ports port.0) ≡ ReadyState → StaysHealthy port.0 s.device c.device → AnswersEnded old.machine steps port
     finds : (port : Port) → port.0 < n → state_of (found_of s.ports port.0) ≡ ReadyState → StaysHealthy port.0 s.device c.device → (e : Pending) → IsIssuedOn port old.machine e
         → FindsDone port driven.accesses began steps
+    due : (port : Port) → IssuesDue plain_mode steps (after old.machine steps) port
 
   begun : Progress 0 s []
   begun = record {
-    holds = kept;
+    settled = start;
     same = refl;
     driven = by_none (IsTurn (TendsPort (ports_of s.ports))) s.device;
     steps = [];
@@ -183,6 +222,7 @@ module _ (s : Server) (kept : IsKept s) (old : Moment) (reached : IsReached old.
     told = refl;
     heeded = λ port lt. absurd (omega (arith, lt));
     finds = λ port lt. absurd (omega (arith, lt));
+    due = λ port. none_issued s old.machine at [] (λ id. refl) port (start.issued port);
   }
 
   -- what was found done on a port was so still, where later steps answer nobody of it
@@ -214,7 +254,7 @@ module _ (s : Server) (kept : IsKept s) (old : Moment) (reached : IsReached old.
   -- a port that isn't ready has no turn
   skipped : (n : ℕ) (c : Server) (replies : List Reply) → state_of (found_of s.ports n) ≢ ReadyState → Progress n c replies → Progress (n + 1) c replies
   skipped n c replies other p = record {
-    holds = p.holds;
+    settled = p.settled;
     same = p.same;
     driven = p.driven;
     steps = p.steps;
@@ -234,11 +274,12 @@ module _ (s : Server) (kept : IsKept s) (old : Moment) (reached : IsReached old.
         (λ (less : port.0 < n). p.finds port less ready well)
         (λ (most : n ≤ port.0). absurd (other (ap (λ (q : ℕ). state_of (found_of s.ports q)) (omega (arith, lt, most)) ∙ ready)))
         (cases_lt port.0 n);
+    due = p.due;
   }
 
   -- ---- a turn
 
-  module _ (n : ℕ) (c mid : Server) (before : List Reply) (info : DiskInfo) (found_is : found_of s.ports n ≡ Ready info) (p : Progress n c before) (next : IsKept mid) where
+  module _ (n : ℕ) (c mid : Server) (before : List Reply) (info : DiskInfo) (found_is : found_of s.ports n ≡ Ready info) (p : Progress n c before) (next : IsSettled mid) where
     abbrev m : Machine
     m = after old.machine p.steps
 
@@ -257,24 +298,25 @@ module _ (s : Server) (kept : IsKept s) (old : Moment) (reached : IsReached old.
     low : n < 4
     low = (ready_found s n kept ready).0
 
-    -- a request that was issued on the port is its first
+    ready_c : state_of (found_of c.ports n) ≡ ReadyState
+    ready_c = ap (λ (found : List Found). state_of (found_of found n)) ports_is ∙ ready
+
+    -- a request that was issued on the port is in its slot 0
     record IsLeading (e : Pending) : Type 0 where
       now_is : Pending
       here : Contains m.book now_is
       same_as : IsSame e now_is
-      entry : Accepted
-      stands_for : IsEntry entry now_is.request
-      first_is_entry : first_of (port_at n) c.book ≡ Some entry
+      issued_now : now_is.issued ≡ true
+      used : SlotUse
+      used_is : used_for c.slots n 0 ≡ Some used
+      id_is : used.id ≡ now_is.request.id
 
     leading : (e : Pending) → IsIssuedOn (port_at n) old.machine e → IsLeading e
     leading e its =
         let w = p.turns.further e its.here (let q = ap (λ (x : Port). x.0) its.port_is in omega (arith, q)) in
-        let x : Pending = w.0 in
-        let issued : x.issued ≡ true = w.2.issued ∙ its.issued in
-        let a = at_right (StandsIn (λ _. true) c.book) c.book m.book p.stands.book x w.1 in
-        let of_port : a.0.port ≡ port_at n = sym a.2.0.port ∙ ap (λ r. r.port) w.2.request ∙ its.port_is in
-        let leads : first_of (port_at n) c.book ≡ Some a.0 = ap (λ (q : Port). first_of q c.book) (sym of_port) ∙ (a.2.1.0 issued).1 in
-        record { now_is = x; here = w.1; same_as = w.2; entry = a.0; stands_for = a.2.0; first_is_entry = leads }
+        let issued : w.0.issued ≡ true = w.2.issued ∙ its.issued in
+        let u = issued_in_first c m (port_at n) p.stands p.settled.kept ready_c w.0 w.1 (ap (λ r. r.port) w.2.request ∙ its.port_is) issued in
+        record { now_is = w.0; here = w.1; same_as = w.2; issued_now = issued; used = u.0; used_is = u.1; id_is = u.2 }
 
     -- one that had ended was issued
     ended_on : (e : Pending) → Contains old.machine.book e → e.request.port ≡ port_at n → e.ended ≡ true → IsIssuedOn (port_at n) old.machine e
@@ -284,9 +326,7 @@ module _ (s : Server) (kept : IsKept s) (old : Moment) (reached : IsReached old.
     ended_clear : (e : Pending) → IsLeading e → e.ended ≡ true → ((c.device.port n).ci 0 ≡ false) × ((c.device.port n).sact 0 ≡ false)
     ended_clear e h ended =
         let done : h.now_is.ended ≡ true = h.same_as.ended ended in
-        let slot : p.stands.uses n 0 ≡ Serves h.now_is.request.id =
-        subst (λ (f : Found). IsUseOf f (Some h.entry) (p.stands.uses n 0)) (ap (λ (found : List Found). found_of found n) ports_is ∙ found_is)
-        (subst (λ (o : Option Accepted). IsUseOf (found_of c.ports n) o (p.stands.uses n 0)) h.first_is_entry (p.stands.used.first n)) ∙ ap Serves (sym h.stands_for.id) in
+        let slot : p.stands.uses n 0 ≡ Serves h.now_is.request.id = serves_used c m n p.stands ready_c 0 h.used h.used_is ∙ ap Serves h.id_is in
         let clear = ended_is_clear p.stands.uses m c.device (port_at n) 0 h.now_is m_reached p.stands.knows.agrees (inl (h.here, ended_issued m h.now_is m_reached h.here done)) done slot in
         (clear.0.over.issued, clear.0.sact)
 
@@ -294,16 +334,16 @@ module _ (s : Server) (kept : IsKept s) (old : Moment) (reached : IsReached old.
     turn_answers : (reply : Option Reply) (late : List Step) → AnswersBy (port_at n) reply c late → (e : Pending) (o : Outcome) → Contains late (Answer e o) → e.request.port ≡ port_at n
     turn_answers None late only e o here = absurd (no_answer late only e o here)
     turn_answers (Some reply) late b e o here = ⊎_elim
-        (λ later. absurd (no_answer_issuing (port_at n) b.2 b.11 e o later))
+        (λ later. absurd (no_answer_issuing (port_at n) b.later b.last e o later))
         (λ rest. ⊎_elim
-        (λ (is : Answer e o ≡ Answer b.1 Ok). let same : e ≡ b.1 = cc in ap (λ (x : Pending). x.request.port) same ∙ b.5.port ∙ (first_is (port_at n) c.book b.0 b.4).1)
-        (λ early. absurd (no_answer b.3 b.10 e o early))
-        (contains_cases (Answer b.1 Ok) b.3 (Answer e o) rest))
-        (Contains-append_cases b.2 (Answer b.1 Ok ∷ b.3) (Answer e o) (subst (λ (steps : List Step). Contains steps (Answer e o)) b.9 here))
+        (λ (is : Answer e o ≡ Answer b.done Ok). let same : e ≡ b.done = cc in ap (λ (x : Pending). x.request.port) same ∙ b.entry.port ∙ b.port_is)
+        (λ early. absurd (no_answer b.before b.first e o early))
+        (contains_cases (Answer b.done Ok) b.before (Answer e o) rest))
+        (Contains-append_cases b.later (Answer b.done Ok ∷ b.before) (Answer e o) (subst (λ (steps : List Step). Contains steps (Answer e o)) b.steps_are here))
 
     module _ (reply : Option Reply) (serves : ServesPort (port_at n) reply c mid) where
-      turn_is : TurnList (TendsPort (ports_of s.ports)) (port_at n) its_served (has_of (port_at n) c.book) reply c.device mid.device serves.turn
-      turn_is = turn_list (TendsPort (ports_of s.ports)) (port_at n) its_served low (has_of (port_at n) c.book) reply c.device mid.device serves.turn
+      turn_is : TurnList (TendsPort (ports_of s.ports)) (port_at n) its_served (is_busy (port_at n) c) reply c.device mid.device serves.turn
+      turn_is = turn_list (TendsPort (ports_of s.ports)) (port_at n) its_served low (is_busy (port_at n) c) reply c.device mid.device serves.turn
 
       through : IsDrivenBy IsService c.device mid.device
       through = driven_as (IsTurn (TendsPort (ports_of s.ports))) IsService c.device mid.device (λ access is. is.0) turn_is.driven
@@ -322,13 +362,60 @@ module _ (s : Server) (kept : IsKept s) (old : Moment) (reached : IsReached old.
       never_none well e h ended =
           let w = (well_parts (port_at n) well).1 in
           let clear = ended_clear e h ended in
-          serves.answered w.0 w.1 clear.0 clear.1 (λ none. let z : Some h.entry ≡ None = sym h.first_is_entry ∙ none in absurd cc)
+          serves.answered w.0 w.1 clear.0 clear.1 (ap is_used h.used_is)
 
-      abbrev x : (late : List Step) × AllMay m late × IsMachineOf mid (after m late) × IsBacked c.device mid.device m late × AnswersBy (port_at n) reply c late
+      abbrev x : AddsTurn (port_at n) reply c mid m
       x = serves.adds m m_reached p.stands
 
       abbrev all : List Step
-      all = x.0 ++ p.steps
+      all = x.steps ++ p.steps
+
+      turn_steps : TurnSteps (port_at n) x.steps
+      turn_steps = answers_turn (port_at n) reply c x.steps x.answers
+
+      whole_is : after old.machine all ≡ after m x.steps
+      whole_is = after-append old.machine x.steps p.steps
+
+      one_of : (e y : Pending) → Contains m.book e → Contains m.book y → e.request.id.0 ≡ y.request.id.0 → e ≡ y
+      one_of e y here there same = (standing m m_reached).sound.one e y here there same
+
+      -- of the port, only the turn issues requests
+      own_alike : (u : Unanswered) → Contains (map unanswered (after m x.steps).book) u → u.port ≡ port_at n → list_any (issues_it u.id) x.steps ≡ list_any (issues_it u.id) all
+      own_alike u here its = ⊎_elim
+          (λ (early : IsIssuedIn u.id p.steps).
+          let w = p.turns.issued u.id early in
+          let y = map_in unanswered (after m x.steps).book u here in
+          let b = stood (port_at n) m x.steps turn_steps y.0 y.1 in
+          let same = one_of w.0 b.was w.1 b.here (w.2 ∙ ap (λ (v : Unanswered). v.id.0) y.2 ∙ ap (λ r. r.id.0) (sym b.request)) in
+          let small = w.3 in
+          let own = ap (λ (e : Pending). e.request.port.0) same ∙ ap (λ r. r.port.0) b.request ∙ ap (λ (v : Unanswered). v.port.0) (sym y.2) ∙ ap (λ (q : Port). q.0) its in
+          absurd (omega (arith, small, own)))
+          (λ (none : list_any (issues_it u.id) p.steps ≡ false).
+          sym (any_append (issues_it u.id) x.steps p.steps ∙ ap (λ (b : Bool). list_any (issues_it u.id) x.steps || b) none ∙ or_none (list_any (issues_it u.id) x.steps)))
+          (cases_Bool (list_any (issues_it u.id) p.steps))
+
+      -- and it issues none of another
+      other_alike : (q : Port) → q ≢ port_at n → (u : Unanswered) → Contains (map unanswered m.book) u → u.port ≡ q → list_any (issues_it u.id) p.steps ≡ list_any (issues_it u.id) all
+      other_alike q ne u here its = ⊎_elim
+          (λ (late : IsIssuedIn u.id x.steps).
+          let w = issued_before (port_at n) m x.steps turn_steps x.may u.id late in
+          let y = map_in unanswered m.book u here in
+          let same = one_of w.pending y.0 w.here y.1 (w.id_is ∙ ap (λ (v : Unanswered). v.id.0) y.2) in
+          absurd (ne (sym its ∙ ap (λ (v : Unanswered). v.port) y.2 ∙ ap (λ (e : Pending). e.request.port) (sym same) ∙ w.port_is)))
+          (λ (none : list_any (issues_it u.id) x.steps ≡ false). sym (any_append (issues_it u.id) x.steps p.steps ∙ ap (λ (b : Bool). b || list_any (issues_it u.id) p.steps) none))
+          (cases_Bool (list_any (issues_it u.id) x.steps))
+
+      due_now : (q : Port) → IssuesDue plain_mode all (after old.machine all) q
+      due_now q = subst (λ (k : Machine). IssuesDue plain_mode all k q) (sym whole_is) (⊎_elim
+          (λ (same : q.0 ≡ n).
+          subst (IssuesDue plain_mode all (after m x.steps)) (ap port_at (sym same))
+          (dues_carried laws x.steps all (after m x.steps) (after m x.steps) (port_at n) refl own_alike x.issues))
+          (λ (ne : q.0 ≢ n).
+          let apart : q ≢ port_at n = λ same. ne (ap (λ (p : Port). p.0) same) in
+          dues_carried laws p.steps all m (after m x.steps) q
+          (ap (of_port q) (same_book c.book m.book p.stands.book) ∙ sym (answers_apart laws (port_at n) reply c mid p.settled.kept.ordered serves.answers q apart) ∙ ap (of_port q) (sym (same_book mid.book (after m x.steps).book x.stands.book)))
+          (other_alike q apart) (p.due q))
+          (cases_eq q.0 n))
 
       -- the port had its turn, and these requests were answered
       had_turn : AreTurns old (ports_of s.ports) (n + 1) (n + 1) all → (answers : List (Pending × Outcome)) → IsPermutation answers (answers_of all) → AllPairs IsToldBefore answers
@@ -337,8 +424,8 @@ module _ (s : Server) (kept : IsKept s) (old : Moment) (reached : IsReached old.
           → (StaysHealthy n s.device mid.device → (e : Pending) → IsIssuedOn (port_at n) old.machine e → FindsDone (port_at n) (p.driven.accesses ++ turn_is.driven.accesses) began all)
           → Progress (n + 1) mid (before ++ reply_list reply)
       had_turn turns answers permuted ordered low told heeds here_finds = record {
-        holds = next;
-        same = same_more s c mid p.same serves.same;
+        settled = next;
+        same = same_more s c mid p.same (answers_settings laws (port_at n) reply c mid serves.answers);
         driven = record {
           accesses = p.driven.accesses ++ turn_is.driven.accesses;
           all = does_append p.driven.accesses turn_is.driven.accesses s.device c.device mid.device p.driven.all turn_is.driven.all;
@@ -346,8 +433,8 @@ module _ (s : Server) (kept : IsKept s) (old : Moment) (reached : IsReached old.
         };
         steps = all;
         turns = turns;
-        stands = subst (IsMachineOf mid) (sym (after-append old.machine x.0 p.steps)) x.2;
-        backed = backed_then s.device c.device mid.device old.machine p.steps x.0 p.backed x.3;
+        stands = subst (IsMachineOf mid) (sym whole_is) x.stands;
+        backed = backed_then s.device c.device mid.device old.machine p.steps x.steps p.backed x.backed;
         answers = answers;
         permuted = permuted;
         ordered = ordered;
@@ -356,20 +443,21 @@ module _ (s : Server) (kept : IsKept s) (old : Moment) (reached : IsReached old.
         heeded = λ q lt is_ready well e there own ended. ⊎_elim
             (λ (less : q.0 < n).
             let y = p.heeded q less is_ready (well_parts q well).0 e there own ended in
-            (y.0, y.1, Contains-append_right x.0 p.steps (Answer y.0 Ok) y.2))
+            (y.0, y.1, Contains-append_right x.steps p.steps (Answer y.0 Ok) y.2))
             (λ (most : n ≤ q.0).
             let q_is : q.0 ≡ n = omega (arith, lt, most) in
             heeds (subst (λ (k : ℕ). StaysHealthy k s.device mid.device) q_is well) e there (own ∙ ap port_at q_is) ended)
             (cases_lt q.0 n);
         finds = λ q lt is_ready well e its. ⊎_elim
             (λ (less : q.0 < n).
-            finds_more n c before p q turn_is.driven.accesses x.0 (λ done o there. let own = turn_answers reply x.0 x.4 done o there in let k = ap (λ (r : Port). r.0) own in λ same. omega (arith, less, k, ap (λ (r : Port). r.0) same))
+            finds_more n c before p q turn_is.driven.accesses x.steps (λ done o there. let own = turn_answers reply x.steps x.answers done o there in let k = ap (λ (r : Port). r.0) own in λ same. omega (arith, less, k, ap (λ (r : Port). r.0) same))
             (p.finds q less is_ready (well_parts q well).0 e its))
             (λ (most : n ≤ q.0).
             let q_is : port_at n ≡ q = ap port_at (omega (arith, lt, most)) in
             subst (λ (r : Port). FindsDone r (p.driven.accesses ++ turn_is.driven.accesses) began all) q_is
             (here_finds (subst (λ (r : Port). StaysHealthy r.0 s.device mid.device) (sym q_is) well) e (subst (λ (r : Port). IsIssuedOn r old.machine e) (sym q_is) its)))
             (cases_lt q.0 n);
+        due = due_now;
       }
 
     -- ---- what is found done in it
@@ -382,10 +470,10 @@ module _ (s : Server) (kept : IsKept s) (old : Moment) (reached : IsReached old.
       w = (well_parts reply serves (port_at n) healthy).1
 
       calm : serves.turn.look ≡ Calm
-      calm = (turn_is reply serves).calm p.holds.on w.0 w.1
+      calm = (turn_is reply serves).calm p.settled.kept.on w.0 w.1
 
-      has : has_of (port_at n) c.book ≡ true
-      has = let h = leading e its in first_has (port_at n) c.book h.entry h.first_is_entry
+      has : is_busy (port_at n) c ≡ true
+      has = ap is_used (leading e its).used_is
 
       checks : (k : Checks (port_at n) reply serves.turn.seen mid.device) × ReadsMasks (port_at n) k.reads.issued k.reads.active (turn_is reply serves).driven.accesses
       checks = (turn_is reply serves).masks calm has
@@ -424,7 +512,7 @@ module _ (s : Server) (kept : IsKept s) (old : Moment) (reached : IsReached old.
           has_ended = ap (λ (x : Pending). x.ended) (sym same) ∙ by says.stage
             where
               free : IsFree (s.device.port n) slot
-              free = subst (λ (u : Use). IsServed old.machine s.device.memory s.device.tape (s.device.port n) n slot u) (at.used.others n slot apart) (at.knows.agrees.slot n slot)
+              free = subst (λ (u : Use). IsServed old.machine s.device.memory s.device.tape (s.device.port n) n slot u) (free_unused s old.machine n at ready slot (only_first s n slot kept ready apart)) (at.knows.agrees.slot n slot)
 
               same : says.pending ≡ other
               same = ⊎_elim
@@ -448,7 +536,7 @@ module _ (s : Server) (kept : IsKept s) (old : Moment) (reached : IsReached old.
           )
             where
               free : IsFree (c.device.port n) slot
-              free = subst (λ (u : Use). IsServed m c.device.memory c.device.tape (c.device.port n) n slot u) (p.stands.used.others n slot apart) (p.stands.knows.agrees.slot n slot)
+              free = subst (λ (u : Use). IsServed m c.device.memory c.device.tape (c.device.port n) n slot u) (free_unused c m n p.stands ready_c slot (only_first c n slot p.settled.kept ready_c apart)) (p.stands.knows.agrees.slot n slot)
 
               looks : IsDrivenBy (IsLooking (port_at n)) c.device serves.turn.seen
               looks = look_driven (port_at n) serves.turn.look c.device serves.turn.seen serves.turn.looks
@@ -477,10 +565,10 @@ module _ (s : Server) (kept : IsKept s) (old : Moment) (reached : IsReached old.
     -- nobody is answered
     turn_none : ServesPort (port_at n) None c mid → Progress (n + 1) mid (before ++ [])
     turn_none serves =
-        let y = serves.adds m m_reached p.stands in
-        let same : answers_of (y.0 ++ p.steps) ≡ answers_of p.steps = devices_answer y.0 p.steps y.4 in
+        let y : AddsTurn (port_at n) None c mid m = serves.adds m m_reached p.stands in
+        let same : answers_of (y.steps ++ p.steps) ≡ answers_of p.steps = devices_answer y.steps p.steps y.answers in
         had_turn None serves
-        (turns_more old (ports_of s.ports) n n (n + 1) (n + 1) (y.0 ++ p.steps) (omega arith) (omega arith) (devices_on old (ports_of s.ports) n n y.0 p.steps y.4 y.1 p.turns))
+        (turns_more old (ports_of s.ports) n n (n + 1) (n + 1) (y.steps ++ p.steps) (omega arith) (omega arith) (devices_on old (ports_of s.ports) n n y.steps p.steps y.answers y.may p.turns))
         p.answers
         (subst (λ (answers : List (Pending × Outcome)). IsPermutation p.answers answers) (sym same) p.permuted)
         p.ordered
@@ -488,113 +576,82 @@ module _ (s : Server) (kept : IsKept s) (old : Moment) (reached : IsReached old.
         (append-nil before ∙ p.told)
         (λ well e there own ended. absurd (never_none None serves well e (leading e (ended_on e there own ended)) ended refl))
         (λ well e its. finding None serves (λ some. absurd (some refl))
-        (λ _ done there. ⊎_elim (λ late. absurd (no_answer y.0 y.4 done Ok late)) (λ early. (p.turns.told done Ok early).2) (Contains-append_cases y.0 p.steps (Answer done Ok) there))
+        (λ _ done there. ⊎_elim (λ late. absurd (no_answer y.steps y.answers done Ok late)) (λ early. (p.turns.told done Ok early).2) (Contains-append_cases y.steps p.steps (Answer done Ok) there))
         well e its)
 
-    -- what comes after the answer
-    later_on : (base later : List Step) → AreTurns old (ports_of s.ports) n (suc n) base → AllMay (after old.machine base) later → IssuesOnly (port_at n) later
-        → AreTurns old (ports_of s.ports) (suc n) (suc n) (later ++ base) × (answers_of (later ++ base) ≡ answers_of base)
-    later_on base later turns may (inl only) = (
-      turns_more old (ports_of s.ports) n (suc n) (suc n) (suc n) (later ++ base) (omega arith) (omega arith) (devices_on old (ports_of s.ports) n (suc n) later base only may turns),
-      devices_answer later base only,
-    )
-    later_on base later turns may (inr (last, e, first, is, last_only, first_only, own)) =
-        let both = may_parts (after old.machine base) last (Issue plain_mode e ∷ first) (subst (λ (steps : List Step). AllMay (after old.machine base) steps) is may) in
-        let first_turns = devices_on old (ports_of s.ports) n (suc n) first base first_only both.0.0 turns in
-        let here_may : May (after old.machine (first ++ base)) (Issue plain_mode e) = subst (λ (k : Machine). May k (Issue plain_mode e)) (sym (after-append old.machine first base)) both.0.1 in
-        let issued = issue_on old (ports_of s.ports) reached n (first ++ base) e (ap (λ (q : Port). q.0) own) here_may.0 plain_mode here_may
-        (ap (λ (q : Port). state_of (found_of s.ports q.0)) own ∙ ready) refl first_turns in
-        let whole : later ++ base ≡ last ++ (Issue plain_mode e ∷ (first ++ base)) = ap (λ (steps : List Step). steps ++ base) is ∙ append_assoc last (Issue plain_mode e ∷ first) base in (
-          subst (AreTurns old (ports_of s.ports) (suc n) (suc n)) (sym whole)
-              (devices_on old (ports_of s.ports) (suc n) (suc n) last (Issue plain_mode e ∷ (first ++ base)) last_only
-              (subst (λ (k : Machine). AllMay k last) (sym (after-append old.machine (Issue plain_mode e ∷ first) base)) both.1) issued),
-          ap answers_of whole ∙ devices_answer last (Issue plain_mode e ∷ (first ++ base)) last_only ∙ devices_answer first base first_only,
-        )
-
-    module _ (reply : Reply) (late : List Step) (may : AllMay m late) (b : AnswersBy (port_at n) (Some reply) c late) where
-      abbrev its_first : Accepted
-      its_first = b.0
-
-      abbrev its_done : Pending
-      its_done = b.1
-
-      abbrev its_later : List Step
-      its_later = b.2
-
-      abbrev its_early : List Step
-      its_early = b.3
-
-      both : (AllMay m its_early × May (after m its_early) (Answer its_done Ok)) × AllMay (after m (Answer its_done Ok ∷ its_early)) its_later
-      both = may_parts m its_later (Answer its_done Ok ∷ its_early) (subst (AllMay m) b.9 may)
+    module _ (reply : Reply) (late : List Step) (may : AllMay m late) (b : AnswersStep (port_at n) reply c late) where
+      both : (AllMay m b.before × May (after m b.before) (Answer b.done Ok)) × AllMay (after m (Answer b.done Ok ∷ b.before)) b.later
+      both = may_parts m b.later (Answer b.done Ok ∷ b.before) (subst (AllMay m) b.steps_are may)
 
       abbrev base : List Step
-      base = Answer its_done Ok ∷ (its_early ++ p.steps)
+      base = Answer b.done Ok ∷ (b.before ++ p.steps)
 
-      own : its_done.request.port ≡ port_at n
-      own = b.5.port ∙ (first_is (port_at n) c.book its_first b.4).1
+      own : b.done.request.port ≡ port_at n
+      own = b.entry.port ∙ b.port_is
 
       answered : AreTurns old (ports_of s.ports) n (suc n) base
-      answered = answer_on old (ports_of s.ports) reached n (its_early ++ p.steps) its_done (ap (λ (q : Port). q.0) own)
-          (subst (λ (k : Machine). Contains k.book its_done) (sym (after-append old.machine its_early p.steps)) both.0.1) b.6 b.8 b.7
+      answered = answer_on old (ports_of s.ports) reached n (b.before ++ p.steps) b.done (ap (λ (q : Port). q.0) own)
+          (subst (λ (k : Machine). Contains k.book b.done) (sym (after-append old.machine b.before p.steps)) both.0.1) b.issued b.touched b.ended
           (ap (λ (q : Port). state_of (found_of s.ports q.0)) own ∙ ready)
-          (devices_on old (ports_of s.ports) n n its_early p.steps b.10 both.0.0 p.turns)
+          (devices_on old (ports_of s.ports) n n b.before p.steps b.first both.0.0 p.turns)
 
-      then_on : AreTurns old (ports_of s.ports) (suc n) (suc n) (its_later ++ base) × (answers_of (its_later ++ base) ≡ answers_of base)
-      then_on = later_on base its_later answered (subst (λ (k : Machine). AllMay k its_later) (sym (after-append old.machine (Answer its_done Ok ∷ its_early) p.steps)) both.1) b.11
+      then_on : AreTurns old (ports_of s.ports) (suc n) (suc n) (b.later ++ base)
+      then_on = issues_on old (ports_of s.ports) reached n (port_at n) refl ready refl b.later base b.last
+          (subst (λ (k : Machine). AllMay k b.later) (sym (after-append old.machine (Answer b.done Ok ∷ b.before) p.steps)) both.1)
+          (turns_more old (ports_of s.ports) n (suc n) (suc n) (suc n) base (omega arith) (omega arith) answered)
 
-      whole : late ++ p.steps ≡ its_later ++ base
-      whole = ap (λ (steps : List Step). steps ++ p.steps) b.9 ∙ append_assoc its_later (Answer its_done Ok ∷ its_early) p.steps
+      whole : late ++ p.steps ≡ b.later ++ base
+      whole = ap (λ (steps : List Step). steps ++ p.steps) b.steps_are ∙ append_assoc b.later (Answer b.done Ok ∷ b.before) p.steps
 
       its_turns : AreTurns old (ports_of s.ports) (n + 1) (n + 1) (late ++ p.steps)
-      its_turns = turns_more old (ports_of s.ports) (suc n) (suc n) (n + 1) (n + 1) (late ++ p.steps) (omega arith) (omega arith) (subst (AreTurns old (ports_of s.ports) (suc n) (suc n)) (sym whole) then_on.0)
+      its_turns = turns_more old (ports_of s.ports) (suc n) (suc n) (n + 1) (n + 1) (late ++ p.steps) (omega arith) (omega arith) (subst (AreTurns old (ports_of s.ports) (suc n) (suc n)) (sym whole) then_on)
 
-      its_answers : answers_of (late ++ p.steps) ≡ (its_done, Ok) ∷ answers_of p.steps
-      its_answers = ap answers_of whole ∙ then_on.1 ∙ ap (λ (answers : List (Pending × Outcome)). (its_done, Ok) ∷ answers) (devices_answer its_early p.steps b.10)
+      its_answers : answers_of (late ++ p.steps) ≡ (b.done, Ok) ∷ answers_of p.steps
+      its_answers = ap answers_of whole ∙ issuing_answers (port_at n) b.later base b.last ∙ ap (λ (answers : List (Pending × Outcome)). (b.done, Ok) ∷ answers) (devices_answer b.before p.steps b.first)
 
-      -- a request that had ended is the one that is answered
-      is_done : (e : Pending) → IsLeading e → its_done.request ≡ e.request
+      -- a request that was issued is the one that is answered: both are in slot 0
+      is_done : (e : Pending) → IsLeading e → b.done.request ≡ e.request
       is_done e h =
-          let l = found_later m.book (after m its_early).book h.now_is (steps_spare m its_early b.10).book h.here in
-          let same : h.entry ≡ its_first = same_some (sym h.first_is_entry ∙ b.4) in
-          let one = (standing (after m its_early) (reached_more m its_early m_reached both.0.0)).sound.one l.0 its_done l.1 both.0.1
-          (ap (λ (i : RequestId). i.0) (ap (λ r. r.id) l.2.request ∙ h.stands_for.id ∙ ap (λ (a : Accepted). a.id) same ∙ sym b.5.id)) in
-          ap (λ (y : Pending). y.request) (sym one) ∙ l.2.request ∙ h.same_as.request
+          let l = found_before m.book (after m b.before).book b.done (steps_spare m b.before b.first).book both.0.1 in
+          let u = issued_in_first c m (port_at n) p.stands p.settled.kept ready_c l.0 l.1 (ap (λ r. r.port) (sym l.2.request) ∙ own) (sym l.2.issued ∙ b.issued) in
+          let slot : h.used ≡ u.0 = same_some (sym h.used_is ∙ u.1) in
+          let one : h.now_is ≡ l.0 = (standing m m_reached).sound.one h.now_is l.0 h.here l.1 (ap (λ (i : RequestId). i.0) (sym h.id_is ∙ ap (λ (x : SlotUse). x.id) slot ∙ u.2)) in
+          l.2.request ∙ ap (λ (y : Pending). y.request) (sym one) ∙ h.same_as.request
 
       is_answered : (e : Pending) → IsLeading e → IsAnsweredOk e (late ++ p.steps)
       is_answered e h = (
-        its_done,
+        b.done,
         is_done e h,
-        subst (λ (steps : List Step). Contains steps (Answer its_done Ok)) (sym whole)
-            (Contains-append_right its_later base (Answer its_done Ok) (contains_here (Answer its_done Ok) (its_early ++ p.steps) (Answer its_done Ok) refl)),
+        subst (λ (steps : List Step). Contains steps (Answer b.done Ok)) (sym whole)
+            (Contains-append_right b.later base (Answer b.done Ok) (contains_here (Answer b.done Ok) (b.before ++ p.steps) (Answer b.done Ok) refl)),
       )
 
-      told : reply ≡ done_reply its_first → before ++ reply ∷ [] ≡ map reply_of (p.answers ++ (its_done, Ok) ∷ [])
-      told says =
-          let its : reply ≡ reply_of (its_done, Ok) = says ∙ (λ i. record { id = sym b.5.id i; client = sym b.5.client i; outcome = Ok }) in
-          ap (λ (replies : List Reply). replies ++ reply ∷ []) p.told ∙ ap (λ (r : Reply). map reply_of p.answers ++ r ∷ []) its ∙ sym (map-append reply_of p.answers ((its_done, Ok) ∷ []))
+      told : before ++ reply ∷ [] ≡ map reply_of (p.answers ++ (b.done, Ok) ∷ [])
+      told =
+          let its : reply ≡ reply_of (b.done, Ok) = b.told ∙ (λ i. record { id = sym b.entry.id i; client = sym b.entry.client i; outcome = Ok }) in
+          ap (λ (replies : List Reply). replies ++ reply ∷ []) p.told ∙ ap (λ (r : Reply). map reply_of p.answers ++ r ∷ []) its ∙ sym (map-append reply_of p.answers ((b.done, Ok) ∷ []))
 
-      its_order : AllPairs IsToldBefore (p.answers ++ (its_done, Ok) ∷ [])
-      its_order = all_pairs_push IsToldBefore p.answers (its_done, Ok) p.ordered (λ k d small. inl (let lt = p.low k d small in let q = ap (λ (r : Port). r.0) own in omega (arith, lt, q)))
+      its_order : AllPairs IsToldBefore (p.answers ++ (b.done, Ok) ∷ [])
+      its_order = all_pairs_push IsToldBefore p.answers (b.done, Ok) p.ordered (λ k d small. inl (let lt = p.low k d small in let q = ap (λ (r : Port). r.0) own in omega (arith, lt, q)))
 
-      its_low : All (λ a. a.0.request.port.0 < n + 1) (p.answers ++ (its_done, Ok) ∷ [])
-      its_low = All-push (λ a. a.0.request.port.0 < n + 1) p.answers (its_done, Ok) (λ i d small. let lt = p.low i d small in omega (arith, lt)) (let q = ap (λ (r : Port). r.0) own in omega (arith, q))
+      its_low : All (λ a. a.0.request.port.0 < n + 1) (p.answers ++ (b.done, Ok) ∷ [])
+      its_low = All-push (λ a. a.0.request.port.0 < n + 1) p.answers (b.done, Ok) (λ i d small. let lt = p.low i d small in omega (arith, lt)) (let q = ap (λ (r : Port). r.0) own in omega (arith, q))
 
-    -- the port's first request is answered
+    -- what the port had issued is answered
     turn_some : (reply : Reply) → ServesPort (port_at n) (Some reply) c mid → Progress (n + 1) mid (before ++ reply ∷ [])
     turn_some reply serves =
-        let y = serves.adds m m_reached p.stands in
-        let b = y.4 in
-        let done : Pending = b.1 in
+        let y : AddsTurn (port_at n) (Some reply) c mid m = serves.adds m m_reached p.stands in
+        let b = y.answers in
         had_turn (Some reply) serves
-        (its_turns reply y.0 y.1 b)
-        (p.answers ++ (done, Ok) ∷ [])
-        (subst (λ (answers : List (Pending × Outcome)). IsPermutation (p.answers ++ (done, Ok) ∷ []) answers) (sym (its_answers reply y.0 y.1 b))
-        (IsPermutation-push_more p.answers (answers_of p.steps) ((done, Ok) ∷ answers_of p.steps) (done, Ok) p.permuted (IsPermutation-refl _)))
-        (its_order reply y.0 y.1 b)
-        (its_low reply y.0 y.1 b)
-        (told reply y.0 y.1 b (serves.answers.2 ∙ ap done_reply (same_some (sym serves.answers.1 ∙ b.4))))
-        (λ well e there own ended. is_answered reply y.0 y.1 b e (leading e (ended_on e there own ended)))
-        (λ well e its. finding (Some reply) serves (λ _ other h. is_answered reply y.0 y.1 b other h) (λ none. let z : Some reply ≡ None = none in absurd cc) well e its)
+        (its_turns reply y.steps y.may b)
+        (p.answers ++ (b.done, Ok) ∷ [])
+        (subst (λ (answers : List (Pending × Outcome)). IsPermutation (p.answers ++ (b.done, Ok) ∷ []) answers) (sym (its_answers reply y.steps y.may b))
+        (IsPermutation-push_more p.answers (answers_of p.steps) ((b.done, Ok) ∷ answers_of p.steps) (b.done, Ok) p.permuted (IsPermutation-refl _)))
+        (its_order reply y.steps y.may b)
+        (its_low reply y.steps y.may b)
+        (told reply y.steps y.may b)
+        (λ well e there own ended. is_answered reply y.steps y.may b e (leading e (ended_on e there own ended)))
+        (λ well e its. finding (Some reply) serves (λ _ other h. is_answered reply y.steps y.may b other h) (λ none. let z : Some reply ≡ None = none in absurd cc) well e its)
 
     turn : (reply : Option Reply) → ServesPort (port_at n) reply c mid → Progress (n + 1) mid (before ++ reply_list reply)
     turn None serves = turn_none serves
@@ -639,7 +696,7 @@ module _ (s : Server) (kept : IsKept s) (old : Moment) (reached : IsReached old.
 
 -- ---- the event
 
-module _ (s new : Server) (replies : List Reply) (kept : IsKept s) (serves : ServePorts 0 s.ports replies s new) (first : Instant Device) (past : List (Happening Device DeviceStep)) (leads : Leads first past s) where
+module _ (laws : BookLaws) (s new : Server) (replies : List Reply) (start : IsSettled s) (serves : ServePorts 0 s.ports replies s new) (first : Instant Device) (past : List (Happening Device DeviceStep)) (leads : Leads first past s) where
   abbrev old : Moment
   old = (now first past).moment
 
@@ -649,18 +706,21 @@ module _ (s new : Server) (replies : List Reply) (kept : IsKept s) (serves : Ser
   reached : IsReached old.machine
   reached = history_reaches (Begins s.wanted) (Ties s.wanted) first past leads.history
 
-  ends : Whole s kept old reached at new replies
-  ends = go s kept old reached at s.ports 0 (λ i. ap (λ (k : ℕ). found_of s.ports k) (omega arith)) s new [] replies (begun s kept old reached at) serves
+  ends : Whole laws s start old reached at new replies
+  ends = go laws s start old reached at s.ports 0 (λ i. ap (λ (k : ℕ). found_of s.ports k) (omega arith)) s new [] replies (begun laws s start old reached at) serves
 
-  p : Progress s kept old reached at ends.count new replies
+  p : Progress laws s start old reached at ends.count new replies
   p = ends.progress
 
   -- but for what a service changes, the old server
   abbrev later : Server
-  later = record s { device = new.device; table = new.table; book = new.book }
+  later = record s { device = new.device; table = new.table; slots = new.slots; book = new.book }
 
-  holds : IsKept later
-  holds = subst IsKept p.same p.holds
+  settled : IsSettled later
+  settled = subst IsSettled p.same p.settled
+
+  abbrev holds : IsKept later
+  holds = settled.kept
 
   stands : IsMachineOf later (after old.machine p.steps)
   stands = subst (λ (x : Server). IsMachineOf x (after old.machine p.steps)) p.same p.stands
@@ -679,9 +739,8 @@ module _ (s new : Server) (replies : List Reply) (kept : IsKept s) (serves : Ser
 
   emptied : (port : Port) → state_of (found_of s.ports port.0) ≢ ReadyState → (e : Pending) → Contains (after old.machine p.steps).book e → e.request.port ≢ port
   emptied port other e here own =
-      let a = at_right (StandsIn (λ _. true) new.book) new.book (after old.machine p.steps).book stands.book e here in
-      other (ap (λ (q : Port). state_of (found_of s.ports q.0)) (sym own ∙ a.2.0.port)
-      ∙ All-contains (λ (x : Accepted). state_of (found_of s.ports x.port.0) ≡ ReadyState) new.book a.0 holds.ready a.1)
+      let a = at_right IsEntry new.book (after old.machine p.steps).book stands.book e here in
+      other (ap (λ (q : Port). state_of (found_of s.ports q.0)) (sym own ∙ a.2.port) ∙ of_ready later holds a.0 a.1)
 
   all_answered : AnswersService old (told_by s.device old.ports) p.steps replies end
   all_answered = record {
@@ -692,7 +751,7 @@ module _ (s new : Server) (replies : List Reply) (kept : IsKept s) (serves : Ser
       emptied = λ e other h here own. not_unplugged Unplugged refl (p.turns.told e Unplugged h).0;
       alike = λ e other h here own. not_unplugged Unplugged refl (p.turns.told e Unplugged h).0;
     };
-    issues = λ port is. none_due plain_mode (λ _. true) port new.book (after old.machine p.steps).book refl stands.book refl;
+    issues = λ port is. none_due later (after old.machine p.steps) stands port (settled.issued port);
     emptied = emptied;
     becomes = serviced_same s.device old.ports old.ports (ports_of s.ports) same;
     disk = λ port. inl (ports_same old.ports (ports_of s.ports) same port);
@@ -737,17 +796,11 @@ module _ (s new : Server) (replies : List Reply) (kept : IsKept s) (serves : Ser
   }
     where
       idle : (ports_of s.ports).served port ≡ true → state_of (found_of s.ports port.0) ≢ ReadyState → ⊥
-      idle served other = not_running s kept port served other well.well
+      idle served other = not_running s start.kept port served other well.well
 
       not_bad : HasBadDisk old.ports port → old.ports.state port ≡ ReadyState → ⊥
       not_bad (inl foreign) ready = let z : Foreign ≡ ReadyState = sym foreign ∙ ready in cc
       not_bad (inr (cause, unfit)) ready = let z : Unfit cause ≡ ReadyState = sym unfit ∙ ready in cc
-
-  -- what was issued is issued at the end
-  issued_still : (e : Pending) → Contains (after old.machine p.steps).book e → IsIssuedIn e.request.id p.steps → e.issued ≡ true
-  issued_still e here i =
-      let w = p.turns.issued e.request.id i in
-      ap (λ (x : Pending). x.issued) (sym ((standing (after old.machine p.steps) (reached_more old.machine p.steps reached p.turns.may)).sound.one w.0 e w.1 here w.2)) ∙ w.4
 
   pub service_event : (h : Happening Device DeviceStep) × (h.event.ask ≡ Service) × (h.event.said ≡ Served replies) × Leads first (h ∷ past) new
   service_event = subst (λ (x : Server). (h : Happening Device DeviceStep) × (h.event.ask ≡ Service) × (h.event.said ≡ Served replies) × Leads first (h ∷ past) x) (sym p.same)
@@ -756,16 +809,16 @@ module _ (s new : Server) (replies : List Reply) (kept : IsKept s) (serves : Ser
       p.driven.accesses
       (p.driven.all, subst (λ (ports : Ports). All (IsServing (TendsPort ports)) p.driven.accesses) (sym same) (λ i d small. turn_serving (TendsPort (ports_of s.ports)) _ (p.driven.only i d small)))
       (λ port i d small. turn_leaves (TendsPort (ports_of s.ports)) port _ (p.driven.only i d small))
-      (λ port ready. issues_due later (after old.machine p.steps) (reached_more old.machine p.steps reached p.turns.may) stands holds.ordered.ordered p.steps issued_still port)
+      (λ port ready. p.due port)
       port_part
       p.backed stands)
 
 -- a server that served ports keeps what it keeps
-served_kept : (found : List Found) (n : ℕ) (s new : Server) (replies : List Reply) → IsKept s → ServePorts n found replies s new → IsKept new
-served_kept [] n s new replies kept serves = subst IsKept (sym serves.1) kept
+served_kept : (found : List Found) (n : ℕ) (s new : Server) (replies : List Reply) → IsSettled s → ServePorts n found replies s new → IsSettled new
+served_kept [] n s new replies kept serves = subst IsSettled (sym serves.1) kept
 served_kept (Ready info ∷ found) n s new replies kept (mid, reply, later, is, next, serves, more) = served_kept found (n + 1) mid new later next more
 served_kept (Unserved ∷ found) n s new replies kept serves = served_kept found (n + 1) s new replies kept serves
 served_kept (Unready state ∷ found) n s new replies kept serves = served_kept found (n + 1) s new replies kept serves
 
-pub services_add : (s new : Server) (replies : List Reply) → IsKept s → ServePorts 0 s.ports replies s new → Adds s new Service (Served replies)
-services_add s new replies kept serves = record { kept = served_kept s.ports 0 s new replies kept serves; adds = λ first past leads. service_event s new replies kept serves first past leads }
+pub services_add : BookLaws → (s new : Server) (replies : List Reply) → IsSettled s → ServePorts 0 s.ports replies s new → Adds s new Service (Served replies)
+services_add laws s new replies start serves = record { settled = served_kept s.ports 0 s new replies start serves; adds = λ first past leads. service_event laws s new replies start serves first past leads }

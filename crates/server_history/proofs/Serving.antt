@@ -1,9 +1,11 @@
 -- How a ready port is served: where nobody is answered, and where its first request is.
-use Rattle.std.proofs.Common.{ℕ, ◌≡◌, ◌≢◌, ◌⊎◌, ◌<◌, ◌∷◌, ◌++◌, Bool, true, false, not, ◌&&◌, List, Some, None, refl, sym, ap, ◌∙◌, subst, inl, inr, ⊎_elim, append_assoc}
+use Rattle.std.proofs.Common.{ℕ, ◌≡◌, ◌≢◌, ◌⊎◌, ◌<◌, ◌∷◌, ◌++◌, ◌||◌, Bool, true, false, not, ◌&&◌, List, [], Some, None, refl, sym, ap, ◌∙◌, subst, inl, inr, ⊎_elim, append_assoc}
 use Rattle.std.proofs.lemmas.Bool.{cases_Bool, false≢true}
 use Rattle.ata_types.specs.declared.Port.{Port}
 use Rattle.ata_types.specs.declared.PortState.TheVariants.{Ready as ReadyState}
 use Rattle.ata_types.specs.declared.request.Outcome.TheVariants.{Ok}
+use Rattle.ata_types.specs.declared.request.RequestId.{RequestId}
+use Rattle.std.specs.List.{list_any}
 use Rattle.hba_regs.specs.declared.reg.Reg.TheVariants.{Px}
 use Rattle.hba_regs.specs.declared.reg.PortReg.TheVariants.{Ci, Is}
 use Rattle.adapter.specs.Access.{Access}
@@ -15,10 +17,10 @@ use Rattle.agreement.specs.Driver.{IsBacked}
 use Rattle.agreement.specs.Facts.{RunsWell, Undisturbed}
 use Rattle.agreement.specs.Slots.{IsOver, ServesRequest, Stage}
 use Rattle.agreement.proofs.Adding.{backed_then}
-use Rattle.agreement.proofs.Driven.{along, by_none, driven_as, followed_as, followed_then, followed_adds}
+use Rattle.agreement.proofs.Calling.{own_backed}
+use Rattle.agreement.proofs.Driven.{along, driven_as, followed_as, followed_then, followed_adds}
 use Rattle.agreement.proofs.Finished.{access_over}
-use Rattle.agreement.proofs.Waiting.{device_append}
-use Rattle.block_machine.specs.Events.{AllDevices, AllMay}
+use Rattle.block_machine.specs.Events.{AllDevices, AllMay, issues_it}
 use Rattle.block_machine.specs.Histories.{IsReached}
 use Rattle.block_machine.specs.Left.{after}
 use Rattle.block_machine.specs.State.{Machine}
@@ -27,16 +29,19 @@ use Rattle.block_machine.proofs.EventLemmas.{after-append}
 use Rattle.block_machine.proofs.HistoryLemmas.{may-append, reached_more}
 use Rattle.host_boot.specs.Taken.{found_of}
 use Rattle.host_boot.specs.declared.Found.TheVariants.{Ready}
+use Rattle.driver_history.specs.Histories.{IssuesDue}
+use Rattle.request_queue.specs.Entries.{Held, asks_of, due_ids}
+use Rattle.slots.specs.declared.Use.{Use as SlotUse}
 use Rattle.identify.specs.declared.DiskInfo.{DiskInfo}
-use Rattle.request_book.specs.Entries.{first_of, has_of}
-use Rattle.request_book.specs.declared.book.Accepted.{Accepted}
-use Rattle.request_book.proofs.Stepping.{has_first}
-use Rattle.server_history.specs.Served.{AnswersBy, FinishesFirst, HasTurn, ServesPort, done_reply}
-use Rattle.server_history.specs.Server.{Server, IsKept, IsMachineOf, none_parked, state_of}
-use Rattle.server_history.proofs.Finishing.{finishing}
+use Rattle.server_history.specs.Book.{BookLaws}
+use Rattle.server_history.specs.Served.{AddsTurn, AnswersOne, Finishes, HasTurn, ServesPort, done_reply, is_busy, is_used}
+use Rattle.server_history.specs.Server.{Server, IsKept, IsMachineOf, IsSettled, none_parked, plain_mode, state_of, used_for}
+use Rattle.server_history.proofs.Answering.{IsAnswer, answer_kept, answer_one}
+use Rattle.server_history.proofs.Asks.{none_issued}
 use Rattle.server_history.proofs.Going.{machine_on}
 use Rattle.server_history.proofs.Looking.{finding_kept, looking_kept}
-use Rattle.server_history.proofs.Unused.{first_or_none, none_first, ready_found, served_by, serves_first}
+use Rattle.server_history.proofs.Rounds.{AreIssued, any_append, devices_issue_none, dues, dues_carried, each_driven, each_issued, or_none}
+use Rattle.server_history.proofs.Slots.{busy_used, ready_found, served_by, serves_used}
 use Rattle.transfers.specs.Looks.{IsLooking, LooksAt}
 use Rattle.transfers.specs.Services.{IsService}
 use Rattle.transfers.specs.Transfers.{IsFinding, IsIssuing, ReadsDone}
@@ -59,30 +64,24 @@ followed_steps s new followed m reached is =
     let x = (followed_adds followed is.uses none_parked tt).adds m reached is.knows in
     (x.0, x.1, machine_on s new m x.0 is x.3.only x.2, x.3.backed, x.3.only)
 
-nobody_answered : (s : Server) (new : Device) (port : Port) → HasTurn port (has_of port s.book) None s.device new → IsFollowed IsService AnyUse s.device new
-    → (RunsWell (s.device.port port.0) → Undisturbed port.0 s.device new → (s.device.port port.0).ci 0 ≡ false → (s.device.port port.0).sact 0 ≡ false → first_of port s.book ≢ None → ⊥)
+nobody_answered : (s : Server) (new : Device) (port : Port) → IsSettled s → HasTurn port (is_busy port s) None s.device new → IsFollowed IsService AnyUse s.device new
+    → (RunsWell (s.device.port port.0) → Undisturbed port.0 s.device new → (s.device.port port.0).ci 0 ≡ false → (s.device.port port.0).sact 0 ≡ false → is_busy port s ≡ true → ⊥)
     → ServesPort port None s (record s { device = new })
-nobody_answered s new port turn followed never = record {
+nobody_answered s new port settled turn followed never = record {
   turn = turn;
-  same = refl;
-  answers = (refl, refl);
-  adds = λ m reached is. followed_steps s new followed m reached is;
-  answered = λ well calm ci sact some. absurd (never well calm ci sact some);
+  answers = refl;
+  adds = λ m reached is.
+      let x = followed_steps s new followed m reached is in
+      record {
+        steps = x.0;
+        may = x.1;
+        stands = x.2;
+        backed = x.3;
+        answers = x.4;
+        issues = none_issued (record s { device = new }) (after m x.0) x.2 x.0 (λ id. devices_issue_none id x.0 x.4) port (settled.issued port);
+      };
+  answered = λ well calm ci sact busy. absurd (never well calm ci sact busy);
 }
-
--- what a finished port does last
-last_issues : (s new : Server) (port : Port) (first : Accepted) (found : Device) → FinishesFirst port first (record s { device = found }) new → IsDrivenBy (IsIssuing port) found new.device
-last_issues s new port first found f = ⊎_elim
-    (λ (has : has_of port new.book ≡ true). let next = has_first port new.book has in (f.next next.0 next.1).driven)
-    (λ (none : has_of port new.book ≡ false). subst (λ (d : Device). IsDrivenBy (IsIssuing port) found d) (sym (f.none none)) (by_none (IsIssuing port) found))
-    (cases_Bool (has_of port new.book))
-
--- a port with a first request has one
-pub first_has : (port : Port) (book : List Accepted) (first : Accepted) → first_of port book ≡ Some first → has_of port book ≡ true
-first_has port book first is = ⊎_elim
-    (λ (has : has_of port book ≡ true). has)
-    (λ (none : has_of port book ≡ false). let z : Some first ≡ None = sym is ∙ none_first port book none in absurd cc)
-    (cases_Bool (has_of port book))
 
 -- ---- bits that are clear
 
@@ -106,15 +105,15 @@ never_both true true ci sact on a b c d = false≢true (sym d ∙ b)
 never_both true false ci sact on a b c d = false≢true (sym c ∙ a)
 
 module _ (s : Server) (port : Port) (k : IsKept s) (ready : state_of (found_of s.ports port.0) ≡ ReadyState) where
-  -- where both bits of its first request are clear, its command is over
-  clear_over : (e : Accepted) → first_of port s.book ≡ Some e → (s.device.port port.0).ci 0 ≡ false → (s.device.port port.0).sact 0 ≡ false → IsOver (s.device.port port.0) 0
-  clear_over e first ci sact = by x.stage
+  -- where both bits of what is issued are clear, its command is over
+  clear_over : (used : SlotUse) → used_for s.slots port.0 0 ≡ Some used → (s.device.port port.0).ci 0 ≡ false → (s.device.port port.0).sact 0 ≡ false → IsOver (s.device.port port.0) 0
+  clear_over used its ci sact = by x.stage
     where
       found : (port.0 < 4) × ((info : DiskInfo) × (found_of s.ports port.0 ≡ Ready info))
       found = ready_found s port.0 k ready
 
-      x : ServesRequest k.machine s.device.memory (s.device.port port.0) port.0 0 e.id
-      x = served_by s k.machine port k.stands e.id (serves_first s k.machine port found.1.0 found.1.1 k.stands e first)
+      x : ServesRequest k.machine s.device.memory (s.device.port port.0) port.0 0 used.id
+      x = served_by s k.machine port.0 0 k.stands used.id (serves_used s k.machine port.0 k.stands ready 0 used its)
 
       by : Stage s.device.memory (s.device.port port.0) port.0 0 x.pending x.command x.places → IsOver (s.device.port port.0) 0
       by (inl w) = absurd (false≢true (sym ci ∙ w.issued))
@@ -123,35 +122,36 @@ module _ (s : Server) (port : Port) (k : IsKept s) (ready : state_of (found_of s
       by (inr (inr (inr d))) = record { issued = d.issued; free = d.free }
 
   -- and they are clear after a look
-  still_clear : (seen : Device) → IsDrivenBy (IsLooking port) s.device seen → (s.device.port port.0).ci 0 ≡ false → (s.device.port port.0).sact 0 ≡ false → first_of port s.book ≢ None
+  still_clear : (seen : Device) → IsDrivenBy (IsLooking port) s.device seen → (s.device.port port.0).ci 0 ≡ false → (s.device.port port.0).sact 0 ≡ false → is_busy port s ≡ true
       → ((seen.port port.0).ci 0 ≡ false) × ((seen.port port.0).sact 0 ≡ false)
-  still_clear seen driven ci sact some = ⊎_elim
-      (λ (first : (e : Accepted) × (first_of port s.book ≡ Some e)). (
-        (still_over port 0 s.device seen driven (clear_over first.0 first.1 ci sact)).issued,
+  still_clear seen driven ci sact busy =
+      let used = busy_used (used_for s.slots port.0 0) busy in (
+        (still_over port 0 s.device seen driven (clear_over used.0 used.1 ci sact)).issued,
         services_inactive port.0 0 s.device seen (driven_as (IsLooking port) IsService s.device seen (looking_service port) driven) sact,
-      ))
-      (λ (none : first_of port s.book ≡ None). absurd (some none))
-      (first_or_none port s.book)
+      )
 
 -- ---- the whole
 
-module _ (s : Server) (seen : Device) (port : Port) (k : IsKept s) (ready : state_of (found_of s.ports port.0) ≡ ReadyState) (looks : IsFollowed (IsLooking port) AnyUse s.device seen) where
+module _ (s : Server) (seen : Device) (port : Port) (t : IsSettled s) (ready : state_of (found_of s.ports port.0) ≡ ReadyState) (looks : IsFollowed (IsLooking port) AnyUse s.device seen) where
+  abbrev k : IsKept s
+  k = t.kept
+
   -- it was looked at, and that is all
-  pub looked : (look : Look) → LooksAt port look s.device seen → (look ≢ Calm) ⊎ (has_of port s.book ≡ false) → ServesPort port None s (record s { device = seen })
+  pub looked : (look : Look) → LooksAt port look s.device seen → (look ≢ Calm) ⊎ (is_busy port s ≡ false) → ServesPort port None s (record s { device = seen })
   looked look l why =
-      nobody_answered s seen port
+      nobody_answered s seen port t
       (record { look = look; seen = seen; looks = l; only = λ _. (refl, refl); checks = λ calm busy. absurd (⊎_elim (λ told. told calm) (λ none. false≢true (sym none ∙ busy)) why) })
       (looks_serve port s.device seen looks)
-      (λ well calm ci sact some. ⊎_elim
+      (λ well calm ci sact busy. ⊎_elim
       (λ (told : look ≢ Calm). told (seen_well port look s.device seen l k.on well calm).0)
-      (λ (none : has_of port s.book ≡ false). some (none_first port s.book none))
+      (λ (none : is_busy port s ≡ false). false≢true (sym none ∙ busy))
       why)
 
   module _ (l : LooksAt port Calm s.device seen) where
-    -- its transfer wasn't found done
-    pub unfinished : (new : Device) → has_of port s.book ≡ true → ReadsDone port false seen new → ((seen.port port.0).ci 0 ≡ false → (seen.port port.0).sact 0 ≡ false → ⊥) → IsFollowed (IsFinding port) AnyUse seen new → ServesPort port None s (record s { device = new })
+    -- what it has issued wasn't found done
+    pub unfinished : (new : Device) → is_busy port s ≡ true → ReadsDone port false seen new → ((seen.port port.0).ci 0 ≡ false → (seen.port port.0).sact 0 ≡ false → ⊥) → IsFollowed (IsFinding port) AnyUse seen new → ServesPort port None s (record s { device = new })
     unfinished new has reads running finds =
-        nobody_answered s new port
+        nobody_answered s new port t
         (record {
           look = Calm;
           seen = seen;
@@ -160,47 +160,88 @@ module _ (s : Server) (seen : Device) (port : Port) (k : IsKept s) (ready : stat
           checks = λ calm busy. record { done = false; read = new; reads = reads; running = λ _. (refl, refl); over = λ done. absurd (false≢true done) };
         })
         (followed_then IsService AnyUse s.device seen new (looks_serve port s.device seen looks) (finds_serve port seen new finds))
-        (λ well calm ci sact some. let c = still_clear s port k ready seen looks.driven ci sact some in running c.0 c.1)
+        (λ well calm ci sact busy. let c = still_clear s port k ready seen looks.driven ci sact busy in running c.0 c.1)
 
     -- it was found done, and answered
-    module _ (new : Server) (found : Device) (first : Accepted) (reads : ReadsDone port true seen found) (finds : IsFollowed (IsFinding port) AnyUse seen found) (over : IsOver (found.port port.0) 0)
-        (finishes : FinishesFirst port first (record s { device = found }) new) where
+    module _ (laws : BookLaws) (new : Server) (found : Device) (e : Held) (reads : ReadsDone port true seen found) (finds : IsFollowed (IsFinding port) AnyUse seen found) (over : IsOver (found.port port.0) 0)
+        (finishes : Finishes port e (record s { device = found }) new) where
       served : IsFollowed IsService AnyUse s.device found
       served = followed_then IsService AnyUse s.device seen found (looks_serve port s.device seen looks) (finds_serve port seen found finds)
 
       found_kept : IsKept (record s { device = found })
       found_kept = finding_kept (record s { device = seen }) found port (looking_kept s seen port k ready looks) ready finds
 
-      steps : (m : Machine) → IsReached m → IsMachineOf s m
-          → (steps : List Step) × AllMay m steps × IsMachineOf new (after m steps) × IsBacked s.device new.device m steps × AnswersBy port (Some (done_reply first)) s steps
-      steps m reached is =
-          let x = followed_steps s found served m reached is in
-          let y = finishing (record s { device = found }) new port first found_kept ready over finishes (after m x.0) (reached_more m x.0 reached x.1) x.2 in
-          let a = y.4 in (
-            y.0 ++ x.0,
-            may-append m y.0 x.0 x.1 y.1,
-            subst (IsMachineOf new) (sym (after-append m y.0 x.0)) y.2,
-            backed_then s.device found new.device m x.0 y.0 x.3 y.3,
-            (
-              a.0,
-              a.1,
-              a.2,
-              a.3 ++ x.0,
-              a.4,
-              a.5,
-              a.6,
-              a.7,
-              a.8,
-              ap (λ (steps : List Step). steps ++ x.0) a.9 ∙ append_assoc a.2 (Answer a.1 Ok ∷ a.3) x.0,
-              device_append a.3 x.0 a.10 x.4,
-              a.11,
-            ),
-          )
+      abbrev mid : Server
+      mid = finishes.0
 
-      has : has_of port s.book ≡ true
-      has = first_has port s.book first finishes.first_is
+      abbrev one : AnswersOne port e (record s { device = found }) mid
+      one = finishes.1
 
-      pub finished : ServesPort port (Some (done_reply first)) s new
+      mid_kept : IsKept mid
+      mid_kept = answer_kept laws (record s { device = found }) mid port e found_kept ready over one
+
+      mid_device : mid.device ≡ found
+      mid_device = ap (λ (n : Server). n.device) one.server
+
+      abbrev ids : List RequestId
+      ids = due_ids plain_mode port (asks_of mid.book)
+
+      turn_adds : (m : Machine) → IsReached m → IsMachineOf s m → AddsTurn port (Some (done_reply e)) s new m
+      turn_adds m reached is = record {
+        steps = z.steps ++ base;
+        may = may-append m z.steps base base_may z.may;
+        stands = subst (IsMachineOf new) (sym (after-append m z.steps base)) z.stands;
+        backed = backed_then s.device mid.device new.device m base z.steps base_backed z.backed;
+        answers = record {
+          request = e;
+          told = refl;
+          port_is = y.port_is;
+          done = y.done;
+          entry = y.entry;
+          issued = y.issued;
+          ended = y.ended;
+          touched = y.touched;
+          later = z.steps;
+          before = x.0;
+          steps_are = refl;
+          first = x.4;
+          last = z.only;
+        };
+        issues = subst (λ (n : Machine). IssuesDue plain_mode (z.steps ++ base) n port) (sym (after-append m z.steps base))
+            (dues_carried laws z.steps (z.steps ++ base) (after (after m base) z.steps) (after (after m base) z.steps) port refl
+            (λ u here own. sym (any_append (issues_it u.id) z.steps base ∙ ap (λ (b : Bool). list_any (issues_it u.id) z.steps || b) (devices_issue_none u.id x.0 x.4) ∙ or_none (list_any (issues_it u.id) z.steps)))
+            (dues laws port mid new mid_kept finishes.2 (after m base) z port (λ ne. absurd (ne refl))));
+      }
+        where
+          x : (steps : List Step) × AllMay m steps × IsMachineOf (record s { device = found }) (after m steps) × IsBacked s.device found m steps × AllDevices steps
+          x = followed_steps s found served m reached is
+
+          reached_x : IsReached (after m x.0)
+          reached_x = reached_more m x.0 reached x.1
+
+          y : IsAnswer port e (record s { device = found }) mid (after m x.0)
+          y = answer_one laws (record s { device = found }) mid port e found_kept ready over one (after m x.0) reached_x x.2
+
+          base : List Step
+          base = Answer y.done Ok ∷ x.0
+
+          base_may : AllMay m base
+          base_may = (x.1, y.here)
+
+          base_backed : IsBacked s.device mid.device m base
+          base_backed = subst (λ (d : Device). IsBacked s.device d m base) (sym mid_device)
+              (backed_then s.device found found m x.0 (Answer y.done Ok ∷ []) x.3 (own_backed found (after m x.0) (Answer y.done Ok) (λ none. none)))
+
+          z : AreIssued port ids mid new (after m base)
+          z = each_issued laws port ids mid new mid_kept finishes.2 (after m base) (reached_more m base reached base_may) y.stands
+
+      has : is_busy port s ≡ true
+      has = ap is_used one.served
+
+      last_issues : IsDrivenBy (IsIssuing port) found new.device
+      last_issues = subst (λ (d : Device). IsDrivenBy (IsIssuing port) d new.device) mid_device (each_driven laws port ids mid new finishes.2)
+
+      pub finished : ServesPort port (Some (done_reply e)) s new
       finished = record {
         turn = record {
           look = Calm;
@@ -212,11 +253,10 @@ module _ (s : Server) (seen : Device) (port : Port) (k : IsKept s) (ready : stat
             read = found;
             reads = reads;
             running = λ still. absurd (false≢true (sym still));
-            over = λ _. ((λ none. let z : Some (done_reply first) ≡ None = none in absurd cc), last_issues s new port first found finishes);
+            over = λ _. ((λ none. let w : Some (done_reply e) ≡ None = none in absurd cc), last_issues);
           };
         };
-        same = finishes.server ∙ ap (λ (book : List Accepted). record s { device = new.device; table = new.table; book = book }) (sym (ap (λ (x : Server). x.book) finishes.server));
-        answers = (first, finishes.first_is, refl, ap (λ (x : Server). x.book) finishes.server, finishes.lent);
-        adds = steps;
-        answered = λ well calm ci sact some none. let z : Some (done_reply first) ≡ None = none in absurd cc;
+        answers = (found, e, refl, finishes);
+        adds = turn_adds;
+        answered = λ well calm ci sact busy none. let w : Some (done_reply e) ≡ None = none in absurd cc;
       }

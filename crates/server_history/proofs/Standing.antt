@@ -1,13 +1,10 @@
 -- What holds at the instant of a server that keeps what it keeps.
-use Rattle.std.proofs.Common.{ℕ, ◌≡◌, ◌≢◌, ◌<◌, ◌&&◌, not, Bool, true, false, List, Option, Some, None, inl, inr, refl, sym, ap, ◌∙◌, subst, arith, ⊎_elim}
+use Rattle.std.proofs.Common.{ℕ, ◌≡◌, ◌≢◌, ◌<◌, ◌≤◌, ◌&&◌, not, Bool, true, false, List, Option, Some, None, inl, inr, refl, sym, ap, ◌∙◌, subst, arith, ⊎_elim}
 use Rattle.std.specs.Prelude.{◌↔◌}
 use Rattle.std.specs.List.{Contains}
 use Rattle.std.proofs.lemmas.Bool.{cases_eq, false≢true}
-use Rattle.std.proofs.lemmas.List.Elements.{All-contains}
 use Rattle.ata_types.specs.declared.Port.{Port}
 use Rattle.ata_types.specs.declared.PortState.TheVariants.{Absent, Ready as ReadyState, Foreign, Unfit, Dead}
-use Rattle.ata_types.specs.declared.request.Op.{Op}
-use Rattle.ata_types.specs.declared.request.Op.TheVariants.{Read, Write, Trim, Flush}
 use Rattle.ata_types.specs.declared.request.RequestId.{RequestId}
 use Rattle.adapter.specs.Commands.{is_queued}
 use Rattle.adapter.specs.Device.{Device}
@@ -27,17 +24,11 @@ use Rattle.host_boot.specs.declared.Found.{Found}
 use Rattle.host_boot.specs.declared.Found.TheVariants.{Unserved, Ready, Unready}
 use Rattle.identify.specs.declared.DiskInfo.{DiskInfo}
 use Rattle.identify.specs.declared.wanted.Wanted.{Wanted}
-use Rattle.request_book.specs.Entries.{first_of}
-use Rattle.request_book.specs.declared.book.Accepted.{Accepted}
-use Rattle.request_book.proofs.Standing.{at_right}
-use Rattle.request_book.proofs.Stepping.{Stands as StandsIn}
-use Rattle.server_history.specs.Server.{Server, IsKept, IsMachineOf, IsUseOf, is_served, none_parked, plain_mode, ports_of, sectors_of, serial_of, state_of, trims_of}
-
-pub all_plain : (op : Op) → is_plain plain_mode op ≡ true
-all_plain Read = refl
-all_plain Write = refl
-all_plain Trim = refl
-all_plain Flush = refl
+use Rattle.request_queue.specs.Machine.{IsEntry}
+use Rattle.slots.specs.declared.Use.{Use as SlotUse}
+use Rattle.server_history.specs.Server.{Server, IsKept, IsMachineOf, IsUsedAs, is_served, none_parked, plain_mode, ports_of, sectors_of, serial_of, state_of, trims_of, usable_of, use_of, used_for}
+use Rattle.server_history.proofs.Slots.{all_plain, free_unused, of_ready, only_first, ready_use, used_as}
+use Rattle.server_history.proofs.Zips.{at_right}
 
 -- a command is queued that the bits say is queued
 unqueued_is : (st queued sact : Bool) → st ≡ true → sact ≡ st && queued → sact ≡ false → queued ≡ false
@@ -45,9 +36,9 @@ unqueued_is true queued sact on is clear = sym is ∙ clear
 unqueued_is false queued sact on is clear = absurd (false≢true on)
 
 -- what is used for a client's request or for none
-clients : (first : Option Accepted) (info : DiskInfo) (u : Use) → IsUseOf (Ready info) first u → IsClients u
-clients None info u free = inl free
-clients (Some e) info u serves = inr (e.id, serves)
+clients : (used : Option SlotUse) → IsClients (use_of used)
+clients None = inl refl
+clients (Some used) = inr (used.id, refl)
 
 -- the port is served where it was found so
 served_is : (wanted : Wanted) (found : Found) (port : ℕ) (d : Device) → StillStandsBehind wanted found port d → (is_served found ≡ true) ↔ IsServedPort wanted port d
@@ -67,32 +58,33 @@ module _ (s : Server) (k : IsKept s) (m : Machine) (reached : IsReached m) (is :
 
   none_waits : (port : Port) → state_of (found_of s.ports port.0) ≢ ReadyState → NoneWaits m port
   none_waits port other e here own =
-      let a = at_right (StandsIn (λ _. true) s.book) s.book m.book is.book e here in
-      other (ap (λ (q : Port). state_of (found_of s.ports q.0)) (sym own ∙ a.2.0.port)
-      ∙ All-contains (λ (x : Accepted). state_of (found_of s.ports x.port.0) ≡ ReadyState) s.book a.0 k.ready a.1)
+      let a = at_right IsEntry s.book m.book is.book e here in
+      other (ap (λ (q : Port). state_of (found_of s.ports q.0)) (sym own ∙ a.2.port) ∙ of_ready s k a.0 a.1)
 
   module _ (port : Port) (low : port.0 < 4) where
-    -- where slot 0 is free, all are
-    nothing : is.uses port.0 0 ≡ Free → HasNothing slots port.0
-    nothing free = record {
-      free = λ slot. ⊎_elim
-          (λ (e : slot ≡ 0). subst (λ (n : ℕ). is.uses port.0 n ≡ Free) (sym e) free)
-          (λ (other : slot ≢ 0). is.used.others port.0 slot other)
-          (cases_eq slot 0);
+    -- a port that isn't ready uses no slot
+    nothing : (f : Found) → found_of s.ports port.0 ≡ f → usable_of f ≡ 0 → f ≢ Unready Dead → HasNothing slots port.0
+    nothing f e none other = record {
+      free = λ slot.
+          used_as f slot (used_for s.slots port.0 slot) (is.uses port.0 slot) other (subst (λ (x : Found). IsUsedAs x slot (used_for s.slots port.0 slot) (is.uses port.0 slot)) e (is.used port.0 slot))
+          ∙ ap use_of ((k.slots port.0 low).unused slot (subst (λ (n : ℕ). n ≤ slot) (sym (ap usable_of e ∙ none)) (omega arith)));
       unparked = refl;
     }
 
-    used_as : (f : Found) → found_of s.ports port.0 ≡ f → IsUseOf f (first_of port s.book) (is.uses port.0 0)
-    used_as f e = subst (λ (x : Found). IsUseOf x (first_of port s.book) (is.uses port.0 0)) e (is.used.first port.0)
-
-    -- a slot that serves a request is slot 0
-    head : (slot : ℕ) (id : RequestId) → is.uses port.0 slot ≡ Serves id → slot ≡ 0
-    head slot id serves = ⊎_elim
-        (λ (e : slot ≡ 0). e)
-        (λ (other : slot ≢ 0). let z : Free ≡ Serves id = sym (is.used.others port.0 slot other) ∙ serves in absurd cc)
-        (cases_eq slot 0)
-
     module _ (info : DiskInfo) (found : found_of s.ports port.0 ≡ Ready info) (runs : Runs port.0 s.device) (unqueued : (slot : ℕ) → (s.device.port port.0).sact slot ≡ false) where
+      ready : state_of (found_of s.ports port.0) ≡ ReadyState
+      ready = ap state_of found
+
+      -- slot 0 alone is used
+      unused : (slot : ℕ) → slot ≢ 0 → is.uses port.0 slot ≡ Free
+      unused slot other = free_unused s m port.0 is ready slot (only_first s port.0 slot k ready other)
+
+      head : (slot : ℕ) (id : RequestId) → is.uses port.0 slot ≡ Serves id → slot ≡ 0
+      head slot id serves = ⊎_elim
+          (λ (e : slot ≡ 0). e)
+          (λ (other : slot ≢ 0). let z : Free ≡ Serves id = sym (unused slot other) ∙ serves in absurd cc)
+          (cases_eq slot 0)
+
       kind : (slot : ℕ) (e : Pending) → ServesIn slots instant port slot e → e.ended ≡ false → IsOfKind plain_mode s.device port.0 slot e
       kind slot e serves unended = record { command = x.command; places = x.places; told = x.told; kind = by x.stage ∙ ap not (sym (all_plain e.request.asked.op)) }
         where
@@ -113,14 +105,11 @@ module _ (s : Server) (k : IsKept s) (m : Machine) (reached : IsReached m) (is :
 
       requests : HasRequests slots instant port plain_mode
       requests = record {
-        clients = λ slot. ⊎_elim
-            (λ (e : slot ≡ 0). subst (λ (n : ℕ). IsClients (is.uses port.0 n)) (sym e) (clients (first_of port s.book) info (is.uses port.0 0) (used_as (Ready info) found)))
-            (λ (other : slot ≢ 0). inl (is.used.others port.0 slot other))
-            (cases_eq slot 0);
-        low = λ slot high. is.used.others port.0 slot (λ e. absurd (omega (arith, high, e)));
+        clients = λ slot. subst IsClients (sym (ready_use s m port.0 is ready slot)) (clients (used_for s.slots port.0 slot));
+        low = λ slot high. unused slot (λ e. absurd (omega (arith, high, e)));
         unparked = refl;
         kinds = kind;
-        alone = λ slot e serves plain. (head slot e.request.id serves.serves, λ other ne. is.used.others port.0 other ne);
+        alone = λ slot e serves plain. (head slot e.request.id serves.serves, unused);
       }
 
     shown_as : (f : Found) → found_of s.ports port.0 ≡ f → FoundBadDisk (state_of f) → HasDeviceOrNone (s.device.port port.0)
@@ -131,7 +120,7 @@ module _ (s : Server) (k : IsKept s) (m : Machine) (reached : IsReached m) (is :
     of Unserved e behind runs unqueued = record {
       absent = ap state_of e;
       idle = behind.1;
-      slots = nothing (used_as Unserved e);
+      slots = nothing Unserved e refl (λ x. cc);
       waits = none_waits port (λ ready. let z : Absent ≡ ReadyState = sym (ap state_of e) ∙ ready in absurd cc);
       kept = none_kept port;
     }
@@ -149,7 +138,7 @@ module _ (s : Server) (k : IsKept s) (m : Machine) (reached : IsReached m) (is :
       on = k.on;
       ends = behind.1;
       shown = λ bad. absurd bad;
-      slots = nothing (used_as (Unready Absent) e);
+      slots = nothing (Unready Absent) e refl (λ x. cc);
       waits = none_waits port (λ ready. let z : Absent ≡ ReadyState = sym (ap state_of e) ∙ ready in absurd cc);
       kept = none_kept port;
     }
@@ -157,7 +146,7 @@ module _ (s : Server) (k : IsKept s) (m : Machine) (reached : IsReached m) (is :
       on = k.on;
       ends = behind.1;
       shown = λ bad. shown_as (Unready Foreign) e bad;
-      slots = nothing (used_as (Unready Foreign) e);
+      slots = nothing (Unready Foreign) e refl (λ x. cc);
       waits = none_waits port (λ ready. let z : Foreign ≡ ReadyState = sym (ap state_of e) ∙ ready in absurd cc);
       kept = none_kept port;
     }
@@ -165,7 +154,7 @@ module _ (s : Server) (k : IsKept s) (m : Machine) (reached : IsReached m) (is :
       on = k.on;
       ends = behind.1;
       shown = λ bad. shown_as (Unready (Unfit n)) e bad;
-      slots = nothing (used_as (Unready (Unfit n)) e);
+      slots = nothing (Unready (Unfit n)) e refl (λ x. cc);
       waits = none_waits port (λ ready. let z : Unfit n ≡ ReadyState = sym (ap state_of e) ∙ ready in absurd cc);
       kept = none_kept port;
     }

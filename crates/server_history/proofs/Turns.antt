@@ -1,7 +1,8 @@
 -- The steps of a service, in which ports have their turns one after another.
-use Rattle.std.proofs.Common.{ℕ, suc, ◌≡◌, ◌≤◌, ◌<◌, true, List, [], ◌∷◌, ◌++◌, map, ◌==◌, refl, sym, ap, ◌∙◌, subst, inl, inr, ⊎_elim, arith, eqb-true}
+use Rattle.std.proofs.Common.{ℕ, suc, ◌≡◌, ◌≤◌, ◌<◌, false, true, List, [], ◌∷◌, ◌++◌, map, ◌==◌, refl, sym, ap, ◌∙◌, subst, inl, inr, ⊎_elim, arith, eqb-true}
 use Rattle.std.specs.List.{Contains, list_any}
-use Rattle.std.proofs.lemmas.Bool.{false≢true, or_cases}
+use Rattle.std.proofs.lemmas.Bool.{and_parts, false≢true, or_cases}
+use Rattle.ata_types.specs.declared.Port.{Port}
 use Rattle.ata_types.specs.declared.PortState.TheVariants.{Ready}
 use Rattle.ata_types.specs.declared.request.Outcome.{Outcome}
 use Rattle.ata_types.specs.declared.request.Outcome.TheVariants.{Ok}
@@ -21,7 +22,10 @@ use Rattle.block_machine.proofs.EventLemmas.{after-append}
 use Rattle.block_machine.proofs.HistoryLemmas.{reached_more}
 use Rattle.block_machine.proofs.Members.{at_cases, contains_cases, contains_none, into_map, map_in, without_in}
 use Rattle.block_machine.proofs.Standing.{standing}
+use Rattle.server_history.specs.Served.{IssuesOnly}
+use Rattle.server_history.specs.Server.{plain_mode}
 use Rattle.server_history.proofs.Devices.{not_handled}
+use Rattle.server_history.proofs.Rounds.{not_true}
 use Rattle.server_history.proofs.Told.{no_evidence}
 
 -- the same request, issued as it was; and where it had ended, it has
@@ -30,8 +34,8 @@ pub record IsSame (old new : Pending) : Type 0 where
   pub issued : new.issued ≡ old.issued
   pub ended : old.ended ≡ true → new.ended ≡ true
 
--- Steps of a service in which ports had their turns: requests were issued on ports below the first number alone; and those on ports from the
--- second on are what they were when the call began, and none of them is answered.
+-- Steps of a service in which ports had their turns: requests were issued on ports below the first number alone, so that each other is as it was
+-- when the call began; and those on ports from the second number on are there still, and none of them is answered.
 pub record AreTurns (old : Moment) (ports : Ports) (below from : ℕ) (steps : List Step) : Type 0 where
   pub may : AllMay old.machine steps
   pub belong : Belong {D = DeviceStep} Service ports steps
@@ -43,7 +47,7 @@ pub record AreTurns (old : Moment) (ports : Ports) (below from : ℕ) (steps : L
       → (e : Pending) × Contains (after old.machine steps).book e × (e.request.id.0 ≡ id.0) × (e.request.port.0 < below) × (e.issued ≡ true)
   pub further : (e : Pending) → Contains old.machine.book e → from ≤ e.request.port.0
       → (x : Pending) × Contains (after old.machine steps).book x × IsSame e x
-  pub origin : (x : Pending) → Contains (after old.machine steps).book x → from ≤ x.request.port.0
+  pub origin : (x : Pending) → Contains (after old.machine steps).book x → below ≤ x.request.port.0
       → (e : Pending) × Contains old.machine.book e × IsSame e x
 
 device_lawful : (old : Moment) (ports : Ports) (step : Step) (steps : List Step) → IsDevices step → AllLawful old no_evidence ports steps → AllLawful old no_evidence ports (step ∷ steps)
@@ -101,7 +105,7 @@ module _ (old : Moment) (ports : Ports) where
     told = λ e o h. let w = x.told e o h in let small = w.2 in (w.0, w.1, omega (arith, then, small));
     issued = λ id i. let w = x.issued id i in let small = w.3 in (w.0, w.1, w.2, omega (arith, first, small), w.4);
     further = λ e h far. x.further e h (omega (arith, then, far));
-    origin = λ e h far. x.origin e h (omega (arith, then, far));
+    origin = λ e h far. x.origin e h (omega (arith, first, far));
   }
 
   device_on : (below from : ℕ) (step : Step) (base : List Step) → IsDevices step → May (after old.machine base) step → AreTurns old ports below from base → AreTurns old ports below from (step ∷ base)
@@ -128,7 +132,7 @@ module _ (old : Moment) (ports : Ports) where
         (l.0, l.1, record { request = l.2.request ∙ w.2.request; issued = l.2.issued ∙ w.2.issued; ended = λ y. l.2.ended (w.2.ended y) });
     origin = λ z h far.
         let l = found_before before.book later.book z spares.book h in
-        let w = x.origin l.0 l.1 (subst (λ r. from ≤ r.port.0) l.2.request far) in
+        let w = x.origin l.0 l.1 (subst (λ r. below ≤ r.port.0) l.2.request far) in
         (w.0, w.1, record { request = l.2.request ∙ w.2.request; issued = l.2.issued ∙ w.2.issued; ended = λ y. l.2.ended (w.2.ended y) });
   }
     where
@@ -161,6 +165,13 @@ module _ (old : Moment) (ports : Ports) where
         let own = one n from t w.0 w.1 (w.2 ∙ sym same) in
         absurd (omega (arith, small, own))
 
+    -- nor was it, where it waits
+    fresh_waiting : (below from : ℕ) → AreTurns old ports below from base → e.issued ≡ false → (id : RequestId) → e.request.id.0 ≡ id.0 → IsIssuedIn id base → ⊥
+    fresh_waiting below from t waits id same i =
+        let w = t.issued id i in
+        let it : w.0 ≡ e = (standing (after old.machine base) (reached_more old.machine base reached t.may)).sound.one w.0 e w.1 here (w.2 ∙ sym same) in
+        false≢true (sym waits ∙ ap (λ (y : Pending). y.issued) (sym it) ∙ w.4)
+
     pub answer_on : e.issued ≡ true → AllTouched e → e.ended ≡ true → ports.state e.request.port ≡ Ready → AreTurns old ports n n base → AreTurns old ports n (suc n) (Answer e Ok ∷ base)
     answer_on issued touched ended ready x = record {
       may = (x.may, here);
@@ -188,7 +199,7 @@ module _ (old : Moment) (ports : Ports) where
           (w.0, stays w.0 w.1 (λ own. omega (arith, far, port, own)), w.2);
       origin = λ z h far.
           let w = without_in e.request.id before.book z h in
-          x.origin z w.0 (omega (arith, far));
+          x.origin z w.0 far;
     }
       where
         before : Machine
@@ -201,11 +212,11 @@ module _ (old : Moment) (ports : Ports) where
         stays : (y : Pending) → Contains before.book y → (y.request.port.0 ≡ n → ⊥) → Contains (without e.request.id before.book) y
         stays y there other = without_into e.request.id before.book y (λ same. other (one n n x y there (ap (λ (i : RequestId). i.0) same))) there
 
-    pub issue_on : (mode : Mode) → May (after old.machine base) (Issue mode e) → ports.state e.request.port ≡ Ready → ports.mode e.request.port ≡ mode → AreTurns old ports n (suc n) base → AreTurns old ports (suc n) (suc n) (Issue mode e ∷ base)
-    issue_on mode may ready takes x = record {
+    pub issue_on : (mode : Mode) → May (after old.machine base) (Issue mode e) → e.issued ≡ false → ports.state e.request.port ≡ Ready → ports.mode e.request.port ≡ mode → AreTurns old ports (suc n) (suc n) base → AreTurns old ports (suc n) (suc n) (Issue mode e ∷ base)
+    issue_on mode may waits ready takes x = record {
       may = (x.may, may);
       belong = (x.belong, inr (ready, takes));
-      last = (x.last, λ id h i. fresh (suc n) x id (eqb-true e.request.id.0 id.0 h) i);
+      last = (x.last, λ id h i. fresh_waiting (suc n) (suc n) x waits id (eqb-true e.request.id.0 id.0 h) i);
       lawful = x.lawful;
       grounded = x.grounded;
       told = λ y o h. ⊎_elim
@@ -249,4 +260,20 @@ module _ (old : Moment) (ports : Ports) where
 
         -- a request of another port is left as it is
         left : (y : Pending) → Contains before.book y → (y.request.port.0 ≡ n → ⊥) → at e.request.id issue y ≡ y
-        left y there other = ⊎_elim (λ q. absurd (other (one n (suc n) x y there q.0))) (λ q. q.1) (at_cases e.request.id issue y)
+        left y there other = ⊎_elim (λ q. absurd (other (one (suc n) (suc n) x y there q.0))) (λ q. q.1) (at_cases e.request.id issue y)
+
+-- requests of the port are issued by such steps
+module _ (old : Moment) (ports : Ports) (reached : IsReached old.machine) (n : ℕ) (port : Port) (its : port.0 ≡ n) (ready : ports.state port ≡ Ready) (takes : ports.mode port ≡ plain_mode) where
+  pub issues_on : (late base : List Step) → IssuesOnly port late → AllMay (after old.machine base) late → AreTurns old ports (suc n) (suc n) base → AreTurns old ports (suc n) (suc n) (late ++ base)
+  issues_on [] base only may x = x
+  issues_on (Issue mode e ∷ late) base only may x =
+      issue_on old ports reached n (late ++ base) e (ap (λ (p : Port). p.0) only.1 ∙ its) its_may.0 mode its_may
+      (not_true e.issued (and_parts _ _ its_may.1.clear).0)
+      (ap ports.state only.1 ∙ ready) (ap ports.mode only.1 ∙ takes ∙ sym only.0)
+      (issues_on late base only.2 may.0 x)
+    where
+      its_may : May (after old.machine (late ++ base)) (Issue mode e)
+      its_may = subst (λ (m : Machine). May m (Issue mode e)) (sym (after-append old.machine late base)) may.1
+  issues_on (step ∷ late) base only may x =
+      device_on old ports (suc n) (suc n) step (late ++ base) only.0 (subst (λ (m : Machine). May m step) (sym (after-append old.machine late base)) may.1)
+      (issues_on late base only.1 may.0 x)

@@ -7,7 +7,7 @@ use Rattle.block_machine.specs.Events.{Ask, Said, Stored, Loaded}
 use Rattle.block_machine.specs.Histories.{Instant, Happening}
 use Rattle.block_machine.specs.Histories as histories
 use Rattle.driver_history.specs.Histories.{Begins, Ties}
-use Rattle.server_history.specs.Server.{Server, ports_of, IsKept, IsMachineOf}
+use Rattle.server_history.specs.Server.{Server, ports_of, IsSettled, IsMachineOf}
 
 -- An instant of a history is where the server stands: the device is its own, the ports are what it says, and the machine stands for it.
 pub record Stands (now : Instant Device) (s : Server) : Type 0 where
@@ -32,7 +32,7 @@ Leads first past s = histories.Leads (Begins s.wanted) (Ties s.wanted) Stands fi
 -- To every history that leads to the old server, a call that asked this and said that adds one event, which leads to the new one; and that keeps
 -- what a server keeps.
 pub record Adds (old new : Server) (ask : Ask DeviceStep) (said : Said) : Type 0 where
-  pub kept : IsKept new
+  pub settled : IsSettled new
   pub adds : (first : Instant Device) (past : List (Happening Device DeviceStep)) → Leads first past old
       → (h : Happening Device DeviceStep) × (h.event.ask ≡ ask) × (h.event.said ≡ said) × Leads first (h ∷ past) new
 

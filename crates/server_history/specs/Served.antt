@@ -1,5 +1,5 @@
 -- How a port is served, as the block machine has it (this project's own).
-use Rattle.std.specs.Prelude.{ℕ, Bool, true, false, ◌≡◌, ◌≢◌, ◌⊎◌, ◌+◌, ◌++◌, List, [], ◌∷◌, Option, Some, None}
+use Rattle.std.specs.Prelude.{ℕ, Bool, true, false, ◌≡◌, ◌≢◌, ◌⊎◌, ◌+◌, ◌++◌, List, [], ◌∷◌, map, Option, Some, None, Contains}
 use Rattle.ata_types.specs.declared.Port.{Port}
 use Rattle.ata_types.specs.declared.request.Outcome.TheVariants as outcome
 use Rattle.ata_types.specs.declared.grant.GrantRow.{GrantRow}
@@ -11,19 +11,22 @@ use Rattle.agreement.specs.Agrees.{port_at}
 use Rattle.agreement.specs.Driven.{IsDrivenBy}
 use Rattle.agreement.specs.Driver.{IsBacked}
 use Rattle.agreement.specs.Facts.{RunsWell, Undisturbed}
-use Rattle.block_machine.specs.Events.{AllMay, AllDevices}
+use Rattle.block_machine.specs.Due.{IsDue}
+use Rattle.block_machine.specs.Events.{AllMay, AllDevices, IsDevices}
 use Rattle.block_machine.specs.Histories.{IsReached}
 use Rattle.block_machine.specs.Left.{after}
 use Rattle.block_machine.specs.Rules.{IsNamed}
 use Rattle.block_machine.specs.State.{Machine, Pending}
 use Rattle.block_machine.specs.Steps.{Step, Answer, Issue, AllTouched}
-use Rattle.dma_frames.specs.Table.{LendsOnly}
+use Rattle.block_machine.specs.declared.due.Mode.{Mode}
+use Rattle.dma_frames.specs.Table.{Table, LendsOnly}
+use Rattle.driver_history.specs.Histories.{IssuesDue}
 use Rattle.host_boot.specs.declared.Found.{Found}
 use Rattle.host_boot.specs.declared.Found.TheVariants.{Ready}
-use Rattle.request_book.specs.Entries.{first_of, has_of, rest_of}
-use Rattle.request_book.specs.Machine.{IsEntry}
-use Rattle.request_book.specs.declared.book.Accepted.{Accepted}
-use Rattle.server_history.specs.Server.{Server, IsKept, IsMachineOf, plain_mode}
+use Rattle.request_queue.specs.Entries.{Held, asks, asks_of, at, due_ids, issue, without}
+use Rattle.request_queue.specs.Machine.{IsEntry}
+use Rattle.server_history.specs.Server.{Server, IsKept, IsSettled, IsMachineOf, plain_mode, used_for, with_slot}
+use Rattle.slots.specs.declared.Use.{Use as SlotUse}
 use Rattle.transfers.specs.Looks.{LooksAt}
 use Rattle.transfers.specs.Transfers.{Transfer, IsIssuing, IssuesTransfer, ReadsDone}
 use Rattle.transfers.specs.declared.Look.{Look}
@@ -45,8 +48,8 @@ pub record Checks (port : Port) (reply : Option Reply) (old new : Device) : Type
   pub running : done ≡ false → (reply ≡ None) × (new ≡ read)
   pub over : done ≡ true → (reply ≢ None) × IsDrivenBy (IsIssuing port) read new
 
--- A port's turn in a service. The port was looked at. Where that told of something, or the port had no request, that was all, and nobody
--- was answered; else its first request was checked.
+-- A port's turn in a service. The port was looked at. Where that told of something, or the port had nothing issued, that was all, and nobody
+-- was answered; else what it had issued was checked.
 pub record HasTurn (port : Port) (busy : Bool) (reply : Option Reply) (old new : Device) : Type 0 where
   pub look : Look
   pub seen : Device
@@ -54,90 +57,158 @@ pub record HasTurn (port : Port) (busy : Bool) (reply : Option Reply) (old new :
   pub only : (look ≢ Calm) ⊎ (busy ≡ false) → (reply ≡ None) × (new ≡ seen)
   pub checks : look ≡ Calm → busy ≡ true → Checks port reply seen new
 
--- the reply that says that a request was done
-abbrev pub done_reply : Accepted → Reply
-done_reply e = record { id = e.id; client = e.client; outcome = outcome.Ok }
+-- ---- requests are issued
+
+-- a request, as it is issued
+abbrev pub transfer_of : Held → Transfer
+transfer_of e = record { op = e.entry.op; first = e.entry.range.first.0; count = e.entry.range.count; frames = e.frames }
+
+-- A due request of the port was issued in slot 0: its bit of PxCI is set.
+pub record IssuesOne (port : Port) (id : RequestId) (old new : Server) : Type 0 where
+  pub request : Held
+  pub here : Contains old.book request
+  pub id_is : request.entry.id ≡ id
+  pub port_is : request.entry.port ≡ port
+  pub due : IsDue plain_mode (asks_of old.book) (asks request.entry)
+  pub issues : IssuesTransfer port (transfer_of request) old.device new.device
+  pub sent : (new.device.port port.0).ci 0 ≡ true
+  pub server : new ≡ record old {
+    device = new.device;
+    slots = with_slot old.slots port.0 0 (Some (record { id = id; queued = false }));
+    book = map (at id issue) old.book;
+  }
+
+-- these requests of the port were issued, one after another
+abbrev pub IssuesEach : Port → List RequestId → Server → Server → Type 0
+IssuesEach port [] old new = new ≡ old
+IssuesEach port (id ∷ ids) old new = (mid : Server) × IssuesOne port id old mid × IssuesEach port ids mid new
+
+-- the port's due requests were issued, in order of acceptance
+abbrev pub IssuesAll : Port → Server → Server → Type 0
+IssuesAll port old new = IssuesEach port (due_ids plain_mode port (asks_of old.book)) old new
 
 -- ---- a request is accepted
 
--- a request, as it is issued
-abbrev pub issued_of : Accepted → Transfer
-issued_of e = record { op = e.op; first = e.first.0; count = e.count; frames = e.loan.frames }
-
 -- the book's entry for a request, on a port
-abbrev pub accepted_as : Port → Request → RequestId → Accepted
+abbrev pub accepted_as : Port → Request → RequestId → Held
 accepted_as port r id = record {
-  id = id;
-  client = r.client;
-  port = port;
-  op = r.op;
-  first = r.first;
-  count = r.count;
-  loan = record { frames = r.frames.items; request = id };
+  entry = record {
+    id = id;
+    client = r.client;
+    grant = r.grant;
+    port = port;
+    op = r.op;
+    range = record { first = r.first; count = r.count };
+    issued = false;
+    issues = 0;
+    age = 0;
+  };
+  frames = r.frames.items;
 }
 
--- The request goes last in the book with the next id, on the port of its row, and its frames are lent to it. Where the port has no other, it
--- is issued; else no access is made.
+-- the server, with the request last in its book, and these loans
+abbrev pub accepting : Port → Request → RequestId → Table → Server → Server
+accepting port r id table s = record s { table = table; book = s.book ++ accepted_as port r id ∷ []; last = s.last + 1 }
+
+-- The request goes last in the book with the next id, on the port of its row, and its frames are lent to it. Then what is due on the port is
+-- issued.
 pub record Accepts (port : Port) (r : Request) (id : RequestId) (old new : Server) : Type 0 where
   pub row : GrantRow
   pub named : IsNamed old.grants r row
   pub port_is : row.port ≡ port
   pub id_is : id.0 ≡ old.last + 1
-  pub server : new ≡ record old { device = new.device; table = new.table; book = old.book ++ accepted_as port r id ∷ []; last = old.last + 1 }
-  pub lent : LendsOnly old.table new.table r.frames.items (Some id)
-  pub waits : has_of port old.book ≡ true → new.device ≡ old.device
-  pub issued : has_of port old.book ≡ false → IssuesTransfer port (issued_of (accepted_as port r id)) old.device new.device
+  pub table : Table
+  pub lent : LendsOnly old.table table r.frames.items (Some id)
+  pub issued : IssuesAll port (accepting port r id table old) new
 
 -- ---- a port is served
 
--- but for the device, the loans and the book, the server is as it was
+-- but for the device, the loans, the slots and the book, the server is as it was
 abbrev pub SameSettings : Server → Server → Type 0
-SameSettings old new = new ≡ record old { device = new.device; table = new.table; book = new.book }
+SameSettings old new = new ≡ record old { device = new.device; table = new.table; slots = new.slots; book = new.book }
 
--- Nobody was answered, or the port's first request was: it left the book, and its frames were given back.
+-- whether something is issued on the port
+abbrev pub is_used : Option SlotUse → Bool
+is_used None = false
+is_used (Some used) = true
+
+abbrev pub is_busy : Port → Server → Bool
+is_busy port s = is_used (used_for s.slots port.0 0)
+
+-- the reply that says that a request was done
+abbrev pub done_reply : Held → Reply
+done_reply e = record { id = e.entry.id; client = e.entry.client; outcome = outcome.Ok }
+
+-- The request of the port's slot 0 was answered: it left slot and book, and its frames were given back.
+pub record AnswersOne (port : Port) (request : Held) (old new : Server) : Type 0 where
+  pub here : Contains old.book request
+  pub port_is : request.entry.port ≡ port
+  pub used : SlotUse
+  pub served : used_for old.slots port.0 0 ≡ Some used
+  pub id_is : used.id ≡ request.entry.id
+  pub lent : LendsOnly old.table new.table request.frames None
+  pub server : new ≡ record old { table = new.table; slots = with_slot old.slots port.0 0 None; book = without request.entry.id old.book }
+
+-- it was answered, and then what is due on the port was issued
+abbrev pub Finishes : Port → Held → Server → Server → Type 0
+Finishes port request old new = (mid : Server) × AnswersOne port request old mid × IssuesAll port mid new
+
+-- Nobody was answered, and nothing but the device changed; or the request of the port's slot 0 was, at this moment of the device.
 abbrev pub AnswersFirst : Port → Option Reply → Server → Server → Type 0
-AnswersFirst port None old new = (new.book ≡ old.book) × (new.table ≡ old.table)
-AnswersFirst port (Some reply) old new = (first : Accepted) × (first_of port old.book ≡ Some first) × (reply ≡ done_reply first)
-    × (new.book ≡ rest_of port old.book) × LendsOnly old.table new.table first.loan.frames None
+AnswersFirst port None old new = new ≡ record old { device = new.device }
+AnswersFirst port (Some reply) old new = (found : Device) × (request : Held) × (reply ≡ done_reply request) × Finishes port request (record old { device = found }) new
 
--- The steps are the device's, but for one that issues a request of the port, if any.
+-- the steps are the device's, but for those that issue requests of the port
 abbrev pub IssuesOnly : Port → List Step → Type 0
-IssuesOnly port steps = AllDevices steps
-    ⊎ ((later : List Step) × (next : Pending) × (before : List Step) × (steps ≡ later ++ Issue plain_mode next ∷ before)
-    × AllDevices later × AllDevices before × (next.request.port ≡ port))
+IssuesOnly port [] = Unit {0}
+IssuesOnly port (Issue mode e ∷ steps) = (mode ≡ plain_mode) × (e.request.port ≡ port) × IssuesOnly port steps
+IssuesOnly port (step ∷ steps) = IsDevices step × IssuesOnly port steps
 
--- Where nobody is answered, the steps are the device's. Else they are the device's, then the answer of this request, which was issued and had
--- ended with all its sectors touched, and then the device's but for the issue of another of the port.
+-- The steps are the device's, then the answer of this request, which was issued and had ended with all its sectors touched, and then the device's
+-- but for the issues of others of the port.
+pub record AnswersStep (port : Port) (reply : Reply) (old : Server) (steps : List Step) : Type 0 where
+  pub request : Held
+  pub told : reply ≡ done_reply request
+  pub port_is : request.entry.port ≡ port
+  pub done : Pending
+  pub entry : IsEntry request done
+  pub issued : done.issued ≡ true
+  pub ended : done.ended ≡ true
+  pub touched : AllTouched done
+  pub later : List Step
+  pub before : List Step
+  pub steps_are : steps ≡ later ++ Answer done outcome.Ok ∷ before
+  pub first : AllDevices before
+  pub last : IssuesOnly port later
+
+-- Where nobody is answered, the steps are the device's.
 abbrev pub AnswersBy : Port → Option Reply → Server → List Step → Type 0
 AnswersBy port None old steps = AllDevices steps
-AnswersBy port (Some reply) old steps = (first : Accepted) × (done : Pending) × (later : List Step) × (before : List Step)
-    × (first_of port old.book ≡ Some first) × IsEntry first done.request × (done.issued ≡ true) × (done.ended ≡ true) × AllTouched done
-    × (steps ≡ later ++ Answer done outcome.Ok ∷ before) × AllDevices before × IssuesOnly port later
+AnswersBy port (Some reply) old steps = AnswersStep port reply old steps
 
--- What serving a port does: the port has its turn, in which its first request is answered, or nobody is; and from each machine that stands
--- for the old server such steps lead to one that stands for the new. On a port that goes well, a first request is answered whose command's
+-- What a port's turn adds to a machine that stands for the server.
+pub record AddsTurn (port : Port) (reply : Option Reply) (old new : Server) (m : Machine) : Type 0 where
+  pub steps : List Step
+  pub may : AllMay m steps
+  pub stands : IsMachineOf new (after m steps)
+  pub backed : IsBacked old.device new.device m steps
+  pub answers : AnswersBy port reply old steps
+  pub issues : IssuesDue plain_mode steps (after m steps) port
+
+-- What serving a port does: the port has its turn, in which the request of its slot 0 is answered, or nobody is; and from each machine that
+-- stands for the old server such steps lead to one that stands for the new. On a port that goes well, a request is answered whose command's
 -- bits were clear when the turn began.
 pub record ServesPort (port : Port) (reply : Option Reply) (old new : Server) : Type 0 where
-  pub turn : HasTurn port (has_of port old.book) reply old.device new.device
-  pub same : SameSettings old new
+  pub turn : HasTurn port (is_busy port old) reply old.device new.device
   pub answers : AnswersFirst port reply old new
-  pub adds : (m : Machine) → IsReached m → IsMachineOf old m
-      → (steps : List Step) × AllMay m steps × IsMachineOf new (after m steps) × IsBacked old.device new.device m steps × AnswersBy port reply old steps
+  pub adds : (m : Machine) → IsReached m → IsMachineOf old m → AddsTurn port reply old new m
   pub answered : RunsWell (old.device.port port.0) → Undisturbed port.0 old.device new.device
-      → (old.device.port port.0).ci 0 ≡ false → (old.device.port port.0).sact 0 ≡ false → first_of port old.book ≢ None → reply ≢ None
-
--- The port's first request was answered: it left the book, and its frames were given back. Then the port's next was issued, if there is one.
-pub record FinishesFirst (port : Port) (first : Accepted) (old new : Server) : Type 0 where
-  pub first_is : first_of port old.book ≡ Some first
-  pub server : new ≡ record old { device = new.device; table = new.table; book = rest_of port old.book }
-  pub lent : LendsOnly old.table new.table first.loan.frames None
-  pub none : has_of port new.book ≡ false → new.device ≡ old.device
-  pub next : (next : Accepted) → first_of port new.book ≡ Some next → IssuesTransfer port (issued_of next) old.device new.device
+      → (old.device.port port.0).ci 0 ≡ false → (old.device.port port.0).sact 0 ≡ false → is_busy port old ≡ true → reply ≢ None
 
 -- so it was with each of these ports that was found ready, one after another, of which the first has this number
 abbrev pub ServePorts : ℕ → List Found → List Reply → Server → Server → Type 0
 ServePorts port [] replies old new = (replies ≡ []) × (new ≡ old)
 ServePorts port (Ready info ∷ rest) replies old new =
     (mid : Server) × (reply : Option Reply) × (later : List Reply) × (replies ≡ reply_list reply ++ later)
-    × IsKept mid × ServesPort (port_at port) reply old mid × ServePorts (port + 1) rest later mid new
+    × IsSettled mid × ServesPort (port_at port) reply old mid × ServePorts (port + 1) rest later mid new
 ServePorts port (found ∷ rest) replies old new = ServePorts (port + 1) rest replies old new

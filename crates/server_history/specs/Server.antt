@@ -1,5 +1,6 @@
 -- What a server of several ports holds, and the block machine that stands for it (this project's own).
-use Rattle.std.specs.Prelude.{ℕ, Bool, true, false, ◌≡◌, ◌≢◌, ◌⊎◌, ◌+◌, ◌*◌, ◌<◌, ◌≤◌, List, [], Option, Some, None, All, AllPairs, length}
+use Rattle.std.specs.Prelude.{ℕ, Bool, true, false, ◌≡◌, ◌≢◌, ◌⊎◌, ◌+◌, ◌*◌, ◌<◌, ◌≤◌, List, [], Option, Some, None, All, AllPairs, length, slice_index_or, slice_set}
+use Rattle.ata_types.specs.declared.Port.{Port}
 use Rattle.ata_types.specs.declared.PortState.{PortState}
 use Rattle.ata_types.specs.declared.PortState.TheVariants.{Absent, Ready as ReadyState, Dead}
 use Rattle.ata_types.specs.declared.grant.GrantRow.{GrantRow}
@@ -10,11 +11,11 @@ use Rattle.ata_types.specs.declared.request.RequestId.{RequestId}
 use Rattle.adapter.specs.Device.{Device}
 use Rattle.adapter.specs.Rules.{IsOn, HasPort}
 use Rattle.adapter.specs.declared.command.Operation.TheVariants.{Identify}
-use Rattle.agreement.specs.Agrees.{port_at}
 use Rattle.agreement.specs.Driven.{known}
 use Rattle.agreement.specs.Driver.{Knows}
 use Rattle.agreement.specs.Links.{HasDeviceOrNone}
 use Rattle.agreement.specs.Slots.{Free, Own, Serves, Use, Uses}
+use Rattle.block_machine.specs.Due.{NoneDue}
 use Rattle.block_machine.specs.Histories.{IsReached}
 use Rattle.block_machine.specs.Left.{IsRow}
 use Rattle.block_machine.specs.Ports.{Ports}
@@ -28,20 +29,23 @@ use Rattle.host_boot.specs.declared.Found.{Found}
 use Rattle.host_boot.specs.declared.Found.TheVariants.{Unserved, Ready, Unready}
 use Rattle.host_boot.specs.declared.Host.{Host}
 use Rattle.identify.specs.declared.wanted.Wanted.{Wanted}
-use Rattle.request_book.specs.Entries.{first_of, unanswered_of, IsAccepted, IsInOrder}
-use Rattle.request_book.specs.Machine.{IsBook}
-use Rattle.request_book.specs.declared.book.Accepted.{Accepted}
+use Rattle.request_queue.specs.Entries.{Held, asks_of, unanswered_of, IsAccepted, IsInOrder}
+use Rattle.request_queue.specs.Machine.{IsBook}
+use Rattle.slots.specs.Uses.{Uses as PortSlots, use_at, with_use}
+use Rattle.slots.specs.declared.Use.{Use as SlotUse}
 use Rattle.driver_history.specs.Holds.{Runs}
 
--- The device behind the adapter; the grants; by frame its owner and the request that it is lent to; by port the disk that is wanted, and
--- what it was found to be; the unanswered requests in order of acceptance; and the id that was handed out last, or 0.
+-- The device behind the adapter; the grants; by frame its owner and the request that it is lent to; by port the disk that is wanted,
+-- what it was found to be, and what its slots are used for; the unanswered requests in order of acceptance, with what is lent to them; and the
+-- id that was handed out last, or 0.
 pub record Server : Type 0 where
   pub device : Device
   pub grants : List GrantRow
   pub table : Table
   pub wanted : List Wanted
   pub ports : List Found
-  pub book : List Accepted
+  pub slots : List PortSlots
+  pub book : List Held
   pub last : ℕ
 
 -- ---- its ports, to clients
@@ -104,20 +108,33 @@ situation_of s = record {
 abbrev pub none_parked : ℕ → List RequestId
 none_parked = λ port. []
 
--- What slot 0 of a port is used for: on a ready one, the first of its requests, if it has one. That of a dead port may have IDENTIFY DEVICE
--- still.
-abbrev pub IsUseOf : Found → Option Accepted → Use → Type 0
-IsUseOf (Ready info) (Some e) u = u ≡ Serves e.id
-IsUseOf (Unready Dead) first u = (u ≡ Free) ⊎ (u ≡ Own Identify)
-IsUseOf found first u = u ≡ Free
+-- a port that there isn't has no slot
+abbrev pub no_slots : PortSlots
+no_slots = record { usable = 0; places = [] }
 
--- slot 0 of each port is used so, and no other slot
-pub record AreUsesOf (s : Server) (uses : Uses) : Type 0 where
-  pub first : (port : ℕ) → IsUseOf (found_of s.ports port) (first_of (port_at port) s.book) (uses port 0)
-  pub others : (port slot : ℕ) → slot ≢ 0 → uses port slot ≡ Free
+-- what the slot of the port is used for
+abbrev pub used_for : List PortSlots → ℕ → ℕ → Option SlotUse
+used_for slots port slot = use_at (slice_index_or slots port no_slots) slot
 
--- The machine agrees with what the server knows of its device; and it has the server's book, of which each port's first request is
--- issued, its grants, its owners, its loans and its next id.
+-- the slots, with this one of the port used for this
+abbrev pub with_slot : List PortSlots → ℕ → ℕ → Option SlotUse → List PortSlots
+with_slot slots port slot used = slice_set slots port (with_use (slice_index_or slots port no_slots) slot used)
+
+-- it serves its request, or is free
+abbrev pub use_of : Option SlotUse → Use
+use_of None = Free
+use_of (Some used) = Serves used.id
+
+-- A slot is used as the server has it; but slot 0 of a dead port may have IDENTIFY DEVICE still.
+abbrev pub IsUsedAs : Found → ℕ → Option SlotUse → Use → Type 0
+IsUsedAs found slot used u = (u ≡ use_of used) ⊎ ((found ≡ Unready Dead) × (slot ≡ 0) × (u ≡ Own Identify))
+
+-- each slot of each port is used so
+abbrev pub AreUsesOf : Server → Uses → Type 0
+AreUsesOf s uses = (port slot : ℕ) → IsUsedAs (found_of s.ports port) slot (used_for s.slots port slot) (uses port slot)
+
+-- The machine agrees with what the server knows of its device; and it has the server's book, its grants, its owners, its loans and its
+-- next id.
 pub record IsMachineOf (s : Server) (m : Machine) : Type 0 where
   pub uses : Uses
   pub used : AreUsesOf s uses
@@ -150,22 +167,41 @@ pub record IsPortOf (wanted : List Wanted) (found : List Found) (port : ℕ) (d 
   pub unqueued : state_of (found_of found port) ≡ ReadyState → (slot : ℕ) → (d.port port).sact slot ≡ false
   pub shown : FoundBadDisk (state_of (found_of found port)) → HasDeviceOrNone (d.port port)
 
--- The adapter is on and has the memory of the driver and of the clients, and each port that is served; each port is as it was found, and runs if
--- that was ready; grants are for reads and writes; requests are as they were accepted, in order, and of ready ports; and some machine that a
--- history leads to stands for the server.
+-- how many slots of the port may be used
+abbrev pub usable_of : Found → ℕ
+usable_of (Ready info) = plain_mode.usable
+usable_of _ = 0
+
+-- The port may use so many of its 32 slots, and uses no other.
+pub record HasSlots (found : List Found) (slots : List PortSlots) (port : ℕ) : Type 0 where
+  pub places : length (slice_index_or slots port no_slots).places ≡ 32
+  pub usable : (slice_index_or slots port no_slots).usable ≡ plain_mode.usable
+  pub unused : (slot : ℕ) → usable_of (found_of found port) ≤ slot → used_for slots port slot ≡ None
+
+-- What holds of a server at each moment of a call. The adapter is on and has the memory of the driver and of the clients, and each port that is
+-- served; each port is as it was found, and runs if that was ready; the four ports use the slots that they may; grants are for reads and writes;
+-- requests are as they were accepted, in order, and of ready ports; and some machine that a history leads to stands for the server.
 pub record IsKept (s : Server) : Type 0 where
   pub on : IsOn s.device
   pub room : DRIVER_BYTES ≤ s.device.size
   pub there : (port : ℕ) → is_served (found_of s.ports port) ≡ true → HasPort s.device port
   pub behind : (port : ℕ) → port < 4 → IsPortOf s.wanted s.ports port s.device
+  pub four : length s.slots ≡ 4
+  pub slots : (port : ℕ) → port < 4 → HasSlots s.ports s.slots port
   pub rows : All IsTransferRow s.grants
   pub owners : OwnsClientFrames s.table s.device.size
   pub accepted : All (IsAccepted s.grants s.table) s.book
-  pub ordered : IsInOrder s.last s.book
-  pub ready : All (λ e. state_of (found_of s.ports e.port.0) ≡ ReadyState) s.book
+  pub ordered : IsInOrder s.book
+  pub handed_out : All (λ e. e.entry.id.0 ≤ s.last) s.book
+  pub ready : All (λ e. state_of (found_of s.ports e.entry.port.0) ≡ ReadyState) s.book
   pub machine : Machine
   pub reached : IsReached machine
   pub stands : IsMachineOf s machine
+
+-- Between calls each request is issued that is due.
+pub record IsSettled (s : Server) : Type 0 where
+  pub kept : IsKept s
+  pub issued : (port : Port) → NoneDue plain_mode (asks_of s.book) port
 
 -- A server as it is made: what was found and wanted of four ports, at most 64 grants that differ in name, owners that are clients 1 to 8, no
 -- frame lent, nothing asked, and no id handed out.
@@ -179,5 +215,9 @@ pub record IsNewServer (host : Host) (s : Server) : Type 0 where
   pub clients : (frame : Frame) (client : ClientId) → owner_of s.table frame ≡ Some client → (1 ≤ client.0) × (client.0 ≤ 8) × (frame.0 < MOST_FRAMES)
   pub room : DRIVER_BYTES ≤ s.device.size
   pub lent : (frame : Frame) → lent_to s.table frame ≡ None
+  pub four_slots : length s.slots ≡ 4
+  pub places : (port : ℕ) → port < 4 → length (slice_index_or s.slots port no_slots).places ≡ 32
+  pub usable : (port : ℕ) → port < 4 → (slice_index_or s.slots port no_slots).usable ≡ plain_mode.usable
+  pub unused : (port slot : ℕ) → used_for s.slots port slot ≡ None
   pub book : s.book ≡ []
   pub last : s.last ≡ 0

@@ -2,6 +2,7 @@
 ghost use Rattle.std.specs.Prelude.{ℕ, true, false, ◌≡◌, ◌≢◌, ◌⊎◌, ◌+◌, ◌*◌, List, ◌∷◌, Some, None, Ok, Err, length, Contains};
 ghost use Rattle.ata_types.specs.declared.Port.{Port};
 ghost use Rattle.ata_types.specs.declared.PortState.TheVariants.{Ready as ReadyState};
+ghost use Rattle.ata_types.specs.declared.grant.GrantRow.{GrantRow};
 ghost use Rattle.ata_types.specs.declared.memory.TheConstants.{FRAME_BYTES};
 ghost use Rattle.ata_types.specs.declared.refusal.MemFault.{MemFault};
 ghost use Rattle.ata_types.specs.declared.refusal.Refusal.{Refusal};
@@ -20,21 +21,46 @@ ghost use Rattle.adapter.specs.declared.access.DeviceStep.{DeviceStep};
 ghost use Rattle.agreement.specs.Driven.{AgreesWith, AnyUse, IsFollowed};
 ghost use Rattle.agreement.specs.Facts.{RunsWell, Undisturbed};
 ghost use Rattle.agreement.specs.Slots.{IsOver};
+ghost use Rattle.block_machine.specs.Due.{IsDue, NoneDue};
 ghost use Rattle.block_machine.specs.Events.{Submit, StoreAt, LoadAt, Service, State, Device as Told, Submitted, Served, Shown, Stepped};
 ghost use Rattle.block_machine.specs.Refusals.{IsAcceptable, IsFirstRefusal, IsOpen, IsFirstMemFault};
+ghost use Rattle.block_machine.specs.Rules.{IsNamed};
 ghost use Rattle.command_table.specs.Written.{IsUnused};
-ghost use Rattle.dma_frames.specs.Table.{owner_of, lent_to};
+ghost use Rattle.dma_frames.specs.Table.{Table, LendsOnly, owner_of, lent_to};
 ghost use Rattle.host_boot.specs.Taken.{found_of, TakesOver};
 ghost use Rattle.host_boot.specs.declared.Host.{Host};
-ghost use Rattle.request_book.specs.Entries.{has_of};
-ghost use Rattle.request_book.specs.declared.book.Accepted.{Accepted};
+ghost use Rattle.request_queue.specs.Entries.{Held, asks, asks_of};
+ghost use Rattle.server_history.specs.Book.{BookLaws};
 ghost use Rattle.server_history.specs.Histories.{Adds, HasBegun, load_said, store_said};
-ghost use Rattle.server_history.specs.Served.{Accepts, FinishesFirst, ServePorts, ServesPort, done_reply};
-ghost use Rattle.server_history.specs.Server.{Server, IsKept, IsNewServer, ports_of, situation_of, state_of};
+ghost use Rattle.server_history.specs.Served.{Accepts, AnswersOne, Finishes, IssuesAll, IssuesOne, ServePorts, ServesPort, accepting, done_reply, is_busy};
+ghost use Rattle.server_history.specs.Server.{Server, IsKept, IsNewServer, IsSettled, plain_mode, ports_of, situation_of, state_of, used_for};
+ghost use Rattle.slots.specs.declared.Use.{Use as SlotUse};
 ghost use Rattle.transfers.specs.Looks.{IsLooking, LooksAt};
 ghost use Rattle.transfers.specs.Transfers.{IsFinding, FindsTransfer, ReadsDone};
 ghost use Rattle.transfers.specs.declared.Look.{Look};
 ghost use Rattle.transfers.specs.declared.Look.TheVariants.{Undisturbed as Calm};
+
+use block_machine::laws::{due_in_turn, due_is_exact, other_ports_stay, own_requests_count};
+use request_queue::laws::{
+    accepted_requests_stay, an_id_is_one_request, operations_change_one_request,
+    operations_change_what_is_due, steps_change_the_book, the_book_stays_in_order,
+};
+
+/// What the book of requests does, as its laws have it.
+fn the_book_is_lawful()
+    ensures { BookLaws }
+{
+    steps_change_the_book();
+    an_id_is_one_request();
+    operations_change_one_request();
+    operations_change_what_is_due();
+    the_book_stays_in_order();
+    accepted_requests_stay();
+    due_is_exact();
+    due_in_turn();
+    own_requests_count();
+    other_ports_stay();
+}
 
 /// A ready port of a new server runs well, if nothing went wrong on it since the adapter was idle.
 pub fn new_ready_ports_run_well()
@@ -46,27 +72,27 @@ pub fn new_ready_ports_run_well()
 /// A server of an adapter that was taken over holds what a server keeps, and a history without calls leads to it.
 pub fn a_new_server_has_begun()
     ensures { (s : Server) (host : Host) (idle : Device) → IsIdle idle → TellsDisks idle → TakesOver s.wanted host idle s.device
-        → IsNewServer host s → IsKept s × HasBegun s }
+        → IsNewServer host s → IsSettled s × HasBegun s }
 {}
 
 /// A device that does what it is told adds an event, and so does one that can't.
 pub fn device_steps_add()
-    ensures done { (s : Server) (new : Device) (step : DeviceStep) → IsKept s → Asked step s.device new → Steps s.device new
+    ensures done { (s : Server) (new : Device) (step : DeviceStep) → IsSettled s → Asked step s.device new → Steps s.device new
         → Adds s (record s { device = new }) (Told step) (Stepped true) }
-    ensures refused { (s : Server) (step : DeviceStep) → IsKept s → Adds s s (Told step) (Stepped false) }
+    ensures refused { (s : Server) (step : DeviceStep) → IsSettled s → Adds s s (Told step) (Stepped false) }
 {}
 
 /// A call that is refused adds an event, and so does asking for a port's state: nothing changes.
 pub fn refusals_add()
-    ensures submit { (s : Server) (r : Request) (refusal : Refusal) → IsKept s → IsFirstRefusal (situation_of s) r refusal
+    ensures submit { (s : Server) (r : Request) (refusal : Refusal) → IsSettled s → IsFirstRefusal (situation_of s) r refusal
         → Adds s s (Submit r) (Submitted (Err refusal)) }
-    ensures store { (s : Server) (client : ClientId) (frame : Frame) (offset : ℕ) (bytes : List ℕ) (fault : MemFault) → IsKept s
+    ensures store { (s : Server) (client : ClientId) (frame : Frame) (offset : ℕ) (bytes : List ℕ) (fault : MemFault) → IsSettled s
         → IsFirstMemFault (owner_of s.table) (lent_to s.table) client frame offset (length bytes) fault
         → Adds s s (StoreAt client frame offset bytes) (store_said (Err fault)) }
-    ensures load { (s : Server) (client : ClientId) (frame : Frame) (offset count : ℕ) (bytes : List ℕ) (fault : MemFault) → IsKept s
+    ensures load { (s : Server) (client : ClientId) (frame : Frame) (offset count : ℕ) (bytes : List ℕ) (fault : MemFault) → IsSettled s
         → IsFirstMemFault (owner_of s.table) (lent_to s.table) client frame offset count fault
         → Adds s s (LoadAt client frame offset count) (load_said (Err fault) bytes) }
-    ensures state { (s : Server) (port : Port) → IsKept s → Adds s s (State port) (Shown ((ports_of s.ports).state port)) }
+    ensures state { (s : Server) (port : Port) → IsSettled s → Adds s s (State port) (Shown ((ports_of s.ports).state port)) }
 {}
 
 /// Bytes of an open frame may be loaded and stored, whatever the device does first.
@@ -78,26 +104,51 @@ pub fn open_bytes_are_free()
 
 /// Bytes of an open frame that a client stores or loads add an event.
 pub fn client_bytes_add()
-    ensures store { (s : Server) (new : Device) (client : ClientId) (frame : Frame) (offset : ℕ) (bytes : List ℕ) → IsKept s
+    ensures store { (s : Server) (new : Device) (client : ClientId) (frame : Frame) (offset : ℕ) (bytes : List ℕ) → IsSettled s
         → IsOpen (owner_of s.table) (lent_to s.table) client frame offset (length bytes)
         → Stores (FRAME_BYTES * frame.0 + offset) bytes s.device new
         → Adds s (record s { device = new }) (StoreAt client frame offset bytes) (store_said (Ok tt)) }
-    ensures load { (s : Server) (new : Device) (client : ClientId) (frame : Frame) (offset count : ℕ) (bytes : List ℕ) → IsKept s
+    ensures load { (s : Server) (new : Device) (client : ClientId) (frame : Frame) (offset count : ℕ) (bytes : List ℕ) → IsSettled s
         → length bytes ≡ count → IsOpen (owner_of s.table) (lent_to s.table) client frame offset count
         → Loads (FRAME_BYTES * frame.0 + offset) bytes s.device new
         → Adds s (record s { device = new }) (LoadAt client frame offset count) (load_said (Ok tt) bytes) }
 {}
 
-/// On a ready port that has no request, or whose first request's command is over, the next may be issued: some machine agrees with a driver
-/// that doesn't use slot 0.
-pub fn a_ready_port_may_issue()
-    ensures empty { (s : Server) (port : Port) → IsKept s → state_of (found_of s.ports port.0) ≡ ReadyState → has_of port s.book ≡ false
-        → AgreesWith (IsUnused port.0 0) s.device }
-    ensures over { (s : Server) (port : Port) → IsKept s → state_of (found_of s.ports port.0) ≡ ReadyState
-        → IsOver (s.device.port port.0) 0 → AgreesWith (IsUnused port.0 0) s.device }
+/// A due request of a server may be issued: its port's slot 0 is free, and some machine agrees with a driver that doesn't use it.
+pub fn a_due_request_may_issue()
+    ensures { (s : Server) (request : Held) → IsKept s → Contains s.book request → IsDue plain_mode (asks_of s.book) (asks request.entry)
+        → AgreesWith (IsUnused request.entry.port.0 0) s.device × (used_for s.slots request.entry.port.0 0 ≡ None) }
 {}
 
-/// A server goes on while its port is looked at, and while its transfer is looked for. Where that was found done, its command is over.
+/// A slot of a ready port that is used has an unanswered request of the port, which is issued.
+pub fn a_used_slot_has_its_request()
+    ensures { (s : Server) (port : Port) (slot : ℕ) (used : SlotUse) → IsKept s → state_of (found_of s.ports port.0) ≡ ReadyState
+        → used_for s.slots port.0 slot ≡ Some used
+        → (request : Held) × Contains s.book request × (request.entry.id ≡ used.id) × (request.entry.port ≡ port) × (request.entry.issued ≡ true) }
+{}
+
+/// A server goes on while requests are accepted, answered and issued.
+pub fn requests_keep()
+    ensures accepted { (s : Server) (port : Port) (r : Request) (row : GrantRow) (id : RequestId) (table : Table) → IsKept s → IsAcceptable (situation_of s) r
+        → IsNamed s.grants r row → row.port ≡ port → id.0 ≡ s.last + 1 → LendsOnly s.table table r.frames.items (Some id)
+        → IsKept (accepting port r id table s) }
+    ensures answered { (s new : Server) (port : Port) (request : Held) → IsKept s → state_of (found_of s.ports port.0) ≡ ReadyState
+        → IsOver (s.device.port port.0) 0 → AnswersOne port request s new → IsKept new }
+    ensures issued { (s new : Server) (port : Port) (id : RequestId) → IsKept s → IssuesOne port id s new → IsKept new }
+{
+    the_book_is_lawful();
+}
+
+/// Once the due requests of a port are issued, none of any port is due, if none of another was.
+pub fn issues_settle()
+    ensures { (s new : Server) (port : Port) → IsKept s → ((other : Port) → other ≢ port → NoneDue plain_mode (asks_of s.book) other)
+        → IssuesAll port s new → IsSettled new }
+{
+    the_book_is_lawful();
+}
+
+/// A server goes on while its port is looked at, and while what the port has issued is looked for. Where that was found done, its command is
+/// over.
 pub fn looks_keep()
     ensures looking { (s : Server) (new : Device) (port : Port) → IsKept s → state_of (found_of s.ports port.0) ≡ ReadyState
         → IsFollowed (IsLooking port) AnyUse s.device new
@@ -106,42 +157,42 @@ pub fn looks_keep()
         → IsFollowed (IsFinding port) AnyUse s.device new
         → IsKept (record s { device = new }) }
     ensures found { (s : Server) (new : Device) (port : Port) → IsKept s → state_of (found_of s.ports port.0) ≡ ReadyState
-        → has_of port s.book ≡ true → FindsTransfer port true s.device new → IsOver (new.port port.0) 0 }
+        → is_busy port s ≡ true → FindsTransfer port true s.device new → IsOver (new.port port.0) 0 }
 {}
 
-/// Where the command of a port's first request is over, that is answered and the next issued, the server keeps what it keeps.
-pub fn a_finished_port_is_kept()
-    ensures { (s new : Server) (port : Port) (first : Accepted) → IsKept s → state_of (found_of s.ports port.0) ≡ ReadyState
-        → IsOver (s.device.port port.0) 0 → FinishesFirst port first s new → IsKept new }
-{}
-
-/// How a ready port is served: it is looked at, and that is all where it told of something, or has no request; else its transfer is
-/// looked for; where that is found done, it is answered, and the next is issued.
+/// How a ready port is served: it is looked at, and that is all where it told of something, or has nothing issued; else that is looked
+/// for; where it is found done, it is answered, and what is due then is issued.
 pub fn a_port_is_served()
-    ensures looked { (s : Server) (seen : Device) (port : Port) (look : Look) → IsKept s → state_of (found_of s.ports port.0) ≡ ReadyState
+    ensures looked { (s : Server) (seen : Device) (port : Port) (look : Look) → IsSettled s → state_of (found_of s.ports port.0) ≡ ReadyState
         → LooksAt port look s.device seen → IsFollowed (IsLooking port) AnyUse s.device seen
-        → (look ≢ Calm) ⊎ (has_of port s.book ≡ false)
+        → (look ≢ Calm) ⊎ (is_busy port s ≡ false)
         → ServesPort port None s (record s { device = seen }) }
-    ensures unfinished { (s : Server) (seen new : Device) (port : Port) → IsKept s → state_of (found_of s.ports port.0) ≡ ReadyState
+    ensures unfinished { (s : Server) (seen new : Device) (port : Port) → IsSettled s → state_of (found_of s.ports port.0) ≡ ReadyState
         → LooksAt port Calm s.device seen → IsFollowed (IsLooking port) AnyUse s.device seen
-        → has_of port s.book ≡ true → ((seen.port port.0).ci 0 ≡ false → (seen.port port.0).sact 0 ≡ false → ⊥)
+        → is_busy port s ≡ true → ((seen.port port.0).ci 0 ≡ false → (seen.port port.0).sact 0 ≡ false → ⊥)
         → ReadsDone port false seen new → IsFollowed (IsFinding port) AnyUse seen new
         → ServesPort port None s (record s { device = new }) }
-    ensures finished { (s new : Server) (seen found : Device) (port : Port) (first : Accepted) → IsKept s
+    ensures finished { (s new : Server) (seen found : Device) (port : Port) (request : Held) → IsSettled s
         → state_of (found_of s.ports port.0) ≡ ReadyState
         → LooksAt port Calm s.device seen → IsFollowed (IsLooking port) AnyUse s.device seen
         → ReadsDone port true seen found → IsFollowed (IsFinding port) AnyUse seen found → IsOver (found.port port.0) 0
-        → FinishesFirst port first (record s { device = found }) new → ServesPort port (Some (done_reply first)) s new }
-{}
+        → Finishes port request (record s { device = found }) new → ServesPort port (Some (done_reply request)) s new }
+{
+    the_book_is_lawful();
+}
 
 /// A request that is accepted adds an event.
 pub fn acceptances_add()
-    ensures { (s new : Server) (port : Port) (r : Request) (id : RequestId) → IsKept s → IsAcceptable (situation_of s) r
+    ensures { (s new : Server) (port : Port) (r : Request) (id : RequestId) → IsSettled s → IsAcceptable (situation_of s) r
         → Accepts port r id s new → Adds s new (Submit r) (Submitted (Ok id)) }
-{}
+{
+    the_book_is_lawful();
+}
 
 /// Ready ports that are served one after another add an event.
 pub fn services_add()
-    ensures { (s new : Server) (replies : List Reply) → IsKept s → ServePorts 0 s.ports replies s new
+    ensures { (s new : Server) (replies : List Reply) → IsSettled s → ServePorts 0 s.ports replies s new
         → Adds s new Service (Served replies) }
-{}
+{
+    the_book_is_lawful();
+}

@@ -27,7 +27,7 @@ pub returns-in_default-state : goal.returns-in_default-state
 returns-in_default-state g c = record {
   admitted = tt;
   refused = subst (λ (v : ServerView g.row.A.Denot). IsFirstRefusal (situation_of (server_of g.A.Adapter.device v)) c.args.r.now (PortNotReady c.state-state.result)) c.self.view_is
-      (refusing.not_ready (server_of g.A.Adapter.device (seen c.self.inside)) c.self.invariant.rows c.args.r.now (rw c.deref.ensures at c.in_default.ensures.ok) c.in-Some.row c.row.result c.in-Some.is
+      (refusing.not_ready (server_of g.A.Adapter.device (seen c.self.inside)) c.self.invariant.kept.rows c.args.r.now (rw c.deref.ensures at c.in_default.ensures.ok) c.in-Some.row c.row.result c.in-Some.is
       (λ other its. (c.row.ensures other).1 its) ((c.row.ensures c.in-Some.row).0 c.in-Some.is) c.state-state.result
       (subst (λ (v : ServerView g.row.A.Denot). c.state-state.result ≡ state_of (found_of v.ports c.in-Some.row.port.0)) (sym c.self.view_is) c.state-state.ensures.state)
       c.in_default-state.not-Ready);
@@ -36,14 +36,14 @@ returns-in_default-state g c = record {
 pub returns-then-leaves_disk-clause-refused : goal.returns-then-leaves_disk-clause-refused
 returns-then-leaves_disk-clause-refused g c =
     subst (λ (v : ServerView g.row.A.Denot). IsFirstRefusal (situation_of (server_of g.A.Adapter.device v)) c.args.r.now OutsideDisk) c.self.view_is
-    (refusing.outside_disk (server_of g.A.Adapter.device (seen c.self.inside)) c.self.invariant.rows c.args.r.now (rw c.deref.ensures at c.in_default.ensures.ok) c.in-Some.row c.row.result c.in-Some.is
+    (refusing.outside_disk (server_of g.A.Adapter.device (seen c.self.inside)) c.self.invariant.kept.rows c.args.r.now (rw c.deref.ensures at c.in_default.ensures.ok) c.in-Some.row c.row.result c.in-Some.is
     (λ other its. (c.row.ensures other).1 its) ((c.row.ensures c.in-Some.row).0 c.in-Some.is) (sym (subst (λ (v : ServerView g.row.A.Denot). c.state-state.result ≡ state_of (found_of v.ports c.in-Some.row.port.0)) (sym c.self.view_is) c.state-state.ensures.state) ∙ c.in-Ready.is)
     (subst (λ (n : ℕ). (c.args.r.now.op ≢ Flush) × (n < c.args.r.now.first.0 + c.args.r.now.count)) (subst (λ (v : ServerView g.row.A.Denot). c.sectors.result ≡ sectors_of (found_of v.ports c.in-Some.row.port.0)) (sym c.self.view_is) c.sectors.ensures) (c.leaves_disk.ensures.0 c.if-leaves_disk.true)))
 
 pub returns-then-unanswered-ge-CLIENT_PLACES-clause-refused : goal.returns-then-unanswered-ge-CLIENT_PLACES-clause-refused
 returns-then-unanswered-ge-CLIENT_PLACES-clause-refused g c =
     subst (λ (v : ServerView g.row.A.Denot). IsFirstRefusal (situation_of (server_of g.A.Adapter.device v)) c.args.r.now ClientFull) c.self.view_is
-    (refusing.client_full (server_of g.A.Adapter.device (seen c.self.inside)) c.self.invariant.rows c.args.r.now (rw c.deref.ensures at c.in_default.ensures.ok) c.in-Some.row c.row.result c.in-Some.is
+    (refusing.client_full (server_of g.A.Adapter.device (seen c.self.inside)) c.self.invariant.kept.rows c.args.r.now (rw c.deref.ensures at c.in_default.ensures.ok) c.in-Some.row c.row.result c.in-Some.is
     (λ other its. (c.row.ensures other).1 its) ((c.row.ensures c.in-Some.row).0 c.in-Some.is) (sym (subst (λ (v : ServerView g.row.A.Denot). c.state-state.result ≡ state_of (found_of v.ports c.in-Some.row.port.0)) (sym c.self.view_is) c.state-state.ensures.state) ∙ c.in-Ready.is)
     (λ leaves. absurd (true≢false (sym (c.leaves_disk.ensures.1 (subst (λ (n : ℕ). (c.args.r.now.op ≢ Flush) × (n < c.args.r.now.first.0 + c.args.r.now.count)) (sym (subst (λ (v : ServerView g.row.A.Denot). c.sectors.result ≡ sectors_of (found_of v.ports c.in-Some.row.port.0)) (sym c.self.view_is) c.sectors.ensures)) leaves)) ∙ c.if-leaves_disk.false)))
     (let P : ℕ → Type 0 = λ n. 16 ≤ n in subst P c.unanswered.ensures c.if-unanswered-ge-CLIENT_PLACES.true))
@@ -51,7 +51,7 @@ returns-then-unanswered-ge-CLIENT_PLACES-clause-refused g c =
 pub returns-then-self-ge18446744073709551615-clause-refused : goal.returns-then-self-ge18446744073709551615-clause-refused
 returns-then-self-ge18446744073709551615-clause-refused g c =
     subst (λ (v : ServerView g.row.A.Denot). IsFirstRefusal (situation_of (server_of g.A.Adapter.device v)) c.args.r.now IdsSpent) c.self.view_is
-    (refusing.ids_spent (server_of g.A.Adapter.device (seen c.self.inside)) c.self.invariant.rows c.args.r.now (rw c.deref.ensures at c.in_default.ensures.ok) c.in-Some.row c.row.result c.in-Some.is
+    (refusing.ids_spent (server_of g.A.Adapter.device (seen c.self.inside)) c.self.invariant.kept.rows c.args.r.now (rw c.deref.ensures at c.in_default.ensures.ok) c.in-Some.row c.row.result c.in-Some.is
     (λ other its. (c.row.ensures other).1 its) ((c.row.ensures c.in-Some.row).0 c.in-Some.is) (sym (subst (λ (v : ServerView g.row.A.Denot). c.state-state.result ≡ state_of (found_of v.ports c.in-Some.row.port.0)) (sym c.self.view_is) c.state-state.ensures.state) ∙ c.in-Ready.is)
     (λ leaves. absurd (true≢false (sym (c.leaves_disk.ensures.1 (subst (λ (n : ℕ). (c.args.r.now.op ≢ Flush) × (n < c.args.r.now.first.0 + c.args.r.now.count)) (sym (subst (λ (v : ServerView g.row.A.Denot). c.sectors.result ≡ sectors_of (found_of v.ports c.in-Some.row.port.0)) (sym c.self.view_is) c.sectors.ensures)) leaves)) ∙ c.if-leaves_disk.false)))
     (let P : ℕ → Type 0 = λ n. n < 16 in subst P c.unanswered.ensures c.if-unanswered-ge-CLIENT_PLACES.false)
@@ -60,7 +60,7 @@ returns-then-self-ge18446744073709551615-clause-refused g c =
 pub returns-clause-admitted : goal.returns-clause-admitted
 returns-clause-admitted g c =
     subst (λ (v : ServerView g.row.A.Denot). IsAcceptable (situation_of (server_of g.A.Adapter.device v)) c.args.r.now × IsFor v.grants c.args.r.now c.in-Some.row.port) c.self.view_is (
-      refusing.none_applies (server_of g.A.Adapter.device (seen c.self.inside)) c.self.invariant.rows c.args.r.now (rw c.deref.ensures at c.in_default.ensures.ok) c.in-Some.row c.row.result c.in-Some.is
+      refusing.none_applies (server_of g.A.Adapter.device (seen c.self.inside)) c.self.invariant.kept.rows c.args.r.now (rw c.deref.ensures at c.in_default.ensures.ok) c.in-Some.row c.row.result c.in-Some.is
           (λ other its. (c.row.ensures other).1 its) ((c.row.ensures c.in-Some.row).0 c.in-Some.is) (sym (subst (λ (v : ServerView g.row.A.Denot). c.state-state.result ≡ state_of (found_of v.ports c.in-Some.row.port.0)) (sym c.self.view_is) c.state-state.ensures.state) ∙ c.in-Ready.is)
           (λ leaves. absurd (true≢false (sym (c.leaves_disk.ensures.1 (subst (λ (n : ℕ). (c.args.r.now.op ≢ Flush) × (n < c.args.r.now.first.0 + c.args.r.now.count)) (sym (subst (λ (v : ServerView g.row.A.Denot). c.sectors.result ≡ sectors_of (found_of v.ports c.in-Some.row.port.0)) (sym c.self.view_is) c.sectors.ensures)) leaves)) ∙ c.if-leaves_disk.false)))
           (let P : ℕ → Type 0 = λ n. n < 16 in subst P c.unanswered.ensures c.if-unanswered-ge-CLIENT_PLACES.false)

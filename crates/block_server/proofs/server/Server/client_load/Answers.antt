@@ -27,11 +27,11 @@ pub load-requires : goal.load-requires
 load-requires g c =
     let P : ServerView g.row.A.Denot → Type 0 = λ v. IsOpen (owner_of v.table) (lent_to v.table) c.args.client c.args.frame c.args.offset (length c.args.out.now) in
     subst (λ (at : ℕ). Stays (IsFree at (length c.args.out.now)) (g.A.Adapter.device c.self.inside.adapter)) (sym c.in_ok-address.ensures.ok.1)
-    (open_free (server_of g.A.Adapter.device (seen c.self.inside)) c.args.client c.args.frame c.args.offset (length c.args.out.now) c.self.invariant
+    (open_free (server_of g.A.Adapter.device (seen c.self.inside)) c.args.client c.args.frame c.args.offset (length c.args.out.now) c.self.invariant.kept
     (subst P (sym c.self.view_is) c.in_ok-address.ensures.ok.0))
 
 pub invariant_of-self : goal.invariant_of-self
-invariant_of-self g c = device_kept (server_of g.A.Adapter.device (seen c.self.inside)) (g.A.Adapter.device c.load.new.self) c.self.invariant c.load.ensures.steps
+invariant_of-self g c = record { kept = device_kept (server_of g.A.Adapter.device (seen c.self.inside)) (g.A.Adapter.device c.load.new.self) c.self.invariant.kept c.load.ensures.steps; issued = c.self.invariant.issued }
 
 pub returns-clause-adds : goal.returns-clause-adds
 returns-clause-adds g c =

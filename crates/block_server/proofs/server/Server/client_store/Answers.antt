@@ -27,15 +27,18 @@ pub store-requires : goal.store-requires
 store-requires g c =
     let P : ServerView g.row.A.Denot → Type 0 = λ v. IsOpen (owner_of v.table) (lent_to v.table) c.args.client c.args.frame c.args.offset (length c.args.bytes.now) in
     subst (λ (at : ℕ). Stays (IsFree at (length c.args.bytes.now)) (g.A.Adapter.device c.self.inside.adapter)) (sym c.in_ok-address.ensures.ok.1)
-    (open_free (server_of g.A.Adapter.device (seen c.self.inside)) c.args.client c.args.frame c.args.offset (length c.args.bytes.now) c.self.invariant
+    (open_free (server_of g.A.Adapter.device (seen c.self.inside)) c.args.client c.args.frame c.args.offset (length c.args.bytes.now) c.self.invariant.kept
     (subst P (sym c.self.view_is) c.in_ok-address.ensures.ok.0))
 
 pub invariant_of-self : goal.invariant_of-self
 invariant_of-self g c =
     let P : ServerView g.row.A.Denot → Type 0 = λ v. IsOpen (owner_of v.table) (lent_to v.table) c.args.client c.args.frame c.args.offset (length c.args.bytes.now) in
-    store_kept (server_of g.A.Adapter.device (seen c.self.inside)) (g.A.Adapter.device c.store.new.self) c.args.client c.args.frame c.args.offset c.args.bytes.now c.self.invariant
-    (subst P (sym c.self.view_is) c.in_ok-address.ensures.ok.0)
-    (subst (λ (at : ℕ). Stores at c.args.bytes.now (g.A.Adapter.device c.self.inside.adapter) (g.A.Adapter.device c.store.new.self)) c.in_ok-address.ensures.ok.1 c.store.ensures)
+    record {
+      kept = store_kept (server_of g.A.Adapter.device (seen c.self.inside)) (g.A.Adapter.device c.store.new.self) c.args.client c.args.frame c.args.offset c.args.bytes.now c.self.invariant
+          (subst P (sym c.self.view_is) c.in_ok-address.ensures.ok.0)
+          (subst (λ (at : ℕ). Stores at c.args.bytes.now (g.A.Adapter.device c.self.inside.adapter) (g.A.Adapter.device c.store.new.self)) c.in_ok-address.ensures.ok.1 c.store.ensures);
+      issued = c.self.invariant.issued;
+    }
 
 pub returns-clause-adds : goal.returns-clause-adds
 returns-clause-adds g c =

@@ -8,7 +8,7 @@ use Rattle.block_server.proofs.Stepping.{step_adds}
 use Rattle.block_server.proofs.server.Server.device.Goals as goal
 
 pub invariant_of-self : goal.invariant_of-self
-invariant_of-self g c = device_kept (server_of g.A.Adapter.device (seen c.self.inside)) (g.A.Adapter.device c.step.new.self) c.self.invariant c.step.ensures.steps
+invariant_of-self g c = record { kept = device_kept (server_of g.A.Adapter.device (seen c.self.inside)) (g.A.Adapter.device c.step.new.self) c.self.invariant.kept c.step.ensures.steps; issued = c.self.invariant.issued }
 
 pub returns-clause-adds : goal.returns-clause-adds
 returns-clause-adds g c =

@@ -1,4 +1,4 @@
-use Rattle.std.proofs.Common.{◌≡◌, ◌*◌, ◌≤◌, List, map, refl, sym, ◌∙◌, ap, subst, arith}
+use Rattle.std.proofs.Common.{rules, ◌≡◌, ◌*◌, ◌≤◌, List, map, refl, sym, ◌∙◌, ap, subst, arith}
 use Rattle.std.proofs.lemmas.Grind.{common_steps}
 use Rattle.std.specs.List.{AllPairs}
 use Rattle.ata_types.specs.declared.grant.GrantRow.{GrantRow}
@@ -23,24 +23,24 @@ pub invariant_of-result : goal.invariant_of-result
 invariant_of-result g c =
     let device = g.A.Adapter.device in
     let plan = c.in-Ok.plan in
-    let s : Server = record { device = device c.take_over.new.adapter; grants = c.in-Ok-from_rows.grants; table = c.in-Ok-boxed.table.value; wanted = c.wanted.result.now; ports = c.take_over.result.ports; book = c.in-Ok-new.book.entries; last = 0 } in
+    let s : Server = record { device = device c.take_over.new.adapter; grants = c.in-Ok-from_rows.grants; table = c.in-Ok-boxed.table.value; wanted = c.wanted.result.now; ports = c.take_over.result.ports; slots = c.unused_slots.result; book = c.in-Ok-new.book; last = 0 } in
     let rows_are : c.as_slice.result.now ≡ map transfer_row plan.grants = c.as_slice.ensures.value ∙ c.transfer_rows.ensures ∙ ap (map transfer_row) c.grants.ensures.grants in
     let room : 4096 * plan.frames ≤ s.device.size = let f = c.in-Ok.ensures.made.frames in let r = c.requires.ready.room c.in-Ok.ensures.sound in let z = c.take_over.ensures.taken.same.size in omega (arith, f, r, z) in
     (new_server s c.take_over.result (device c.args.adapter) c.requires.ready.idle (g.met.A.Adapter.tells c.args.adapter) c.take_over.ensures.taken
     (new_fits s c.take_over.result plan c.in-Ok.ensures.fits (subst (λ (rows : List GrantRow). SameRows rows c.in-Ok-from_rows.grants) rows_are c.in-Ok-from_rows.ensures.rows)
-    (rw c.owners.ensures.owners at c.in-Ok-boxed.ensures.only) room c.in-Ok-from_rows.ensures.names c.in-Ok-from_rows.ensures.few c.in-Ok-boxed.ensures.free refl c.take_over.ensures.four c.in-Ok-new.ensures.empty refl)).0
+    (rw c.owners.ensures.owners at c.in-Ok-boxed.ensures.only) room c.in-Ok-from_rows.ensures.names c.in-Ok-from_rows.ensures.few c.in-Ok-boxed.ensures.free refl c.take_over.ensures.four (search rules) c.unused_slots.ensures.places c.unused_slots.ensures.usable c.unused_slots.ensures.unused c.in-Ok-new.ensures refl)).0
 
 pub returns-clause-made : goal.returns-clause-made
 returns-clause-made g c =
     let device = g.A.Adapter.device in
     let plan = c.in-Ok.plan in
-    let s : Server = record { device = device c.take_over.new.adapter; grants = c.in-Ok-from_rows.grants; table = c.in-Ok-boxed.table.value; wanted = c.wanted.result.now; ports = c.take_over.result.ports; book = c.in-Ok-new.book.entries; last = 0 } in
+    let s : Server = record { device = device c.take_over.new.adapter; grants = c.in-Ok-from_rows.grants; table = c.in-Ok-boxed.table.value; wanted = c.wanted.result.now; ports = c.take_over.result.ports; slots = c.unused_slots.result; book = c.in-Ok-new.book; last = 0 } in
     let rows_are : c.as_slice.result.now ≡ map transfer_row plan.grants = c.as_slice.ensures.value ∙ c.transfer_rows.ensures ∙ ap (map transfer_row) c.grants.ensures.grants in
     let rows = subst (λ (rows : List GrantRow). SameRows rows c.in-Ok-from_rows.grants) rows_are c.in-Ok-from_rows.ensures.rows in
     let room : 4096 * plan.frames ≤ s.device.size = let f = c.in-Ok.ensures.made.frames in let r = c.requires.ready.room c.in-Ok.ensures.sound in let z = c.take_over.ensures.taken.same.size in omega (arith, f, r, z) in
     let begun = new_server s c.take_over.result (device c.args.adapter) c.requires.ready.idle (g.met.A.Adapter.tells c.args.adapter) c.take_over.ensures.taken
     (new_fits s c.take_over.result plan c.in-Ok.ensures.fits rows
-    (rw c.owners.ensures.owners at c.in-Ok-boxed.ensures.only) room c.in-Ok-from_rows.ensures.names c.in-Ok-from_rows.ensures.few c.in-Ok-boxed.ensures.free refl c.take_over.ensures.four c.in-Ok-new.ensures.empty refl) in
+    (rw c.owners.ensures.owners at c.in-Ok-boxed.ensures.only) room c.in-Ok-from_rows.ensures.names c.in-Ok-from_rows.ensures.few c.in-Ok-boxed.ensures.free refl c.take_over.ensures.four (search rules) c.unused_slots.ensures.places c.unused_slots.ensures.usable c.unused_slots.ensures.unused c.in-Ok-new.ensures refl) in
     record {
       plan = plan;
       is_plan = c.in-Ok.ensures.fits;
@@ -53,10 +53,10 @@ returns-clause-made g c =
       host = c.take_over.result;
       ports = refl;
       taken = rw c.wanted.ensures.wanted at c.take_over.ensures.taken;
-      book = c.in-Ok-new.ensures.empty;
+      book = c.in-Ok-new.ensures;
       last = refl;
-      room = c.in-Ok-new.ensures.room;
-      kept = begun.0;
+      unused = c.unused_slots.ensures.unused;
+      settled = begun.0;
       begun = begun.1;
     }
 

@@ -1,4 +1,4 @@
-use Rattle.std.proofs.Common.{◌≡◌, Some, None, sym, ap, subst, inl, inr}
+use Rattle.std.proofs.Common.{◌≡◌, true, Some, None, sym, ap, ◌∙◌, subst, inl, inr}
 use Rattle.std.proofs.lemmas.Bool.{false≢true}
 use Rattle.ata_types.specs.declared.PortState.TheVariants.{Ready}
 use Rattle.host_boot.specs.Taken.{found_of}
@@ -6,9 +6,7 @@ use Rattle.block_server.specs.Seen.{seen}
 use Rattle.block_server.specs.View.{ServerView, server_of}
 use Rattle.server_history.specs.Served.{ServesPort}
 use Rattle.server_history.specs.Server.{state_of}
-use Rattle.server_history.proofs.Looking.{looking_kept}
-use Rattle.server_history.proofs.Serving.{looked, unfinished}
-use Rattle.block_server.proofs.Serving.{answered, answered_kept, done_over, found_kept, looked_there}
+use Rattle.block_server.proofs.Serving.{ready_there}
 use Rattle.block_server.proofs.server.Server.serve_port.Goals as goal
 
 pub invariant_of-self : goal.invariant_of-self
@@ -17,7 +15,7 @@ invariant_of-self g c =
     let s = server_of device (seen c.self.inside) in
     let R : ServerView g.row.A.Denot → Type 0 = λ v. state_of (found_of v.ports c.args.port.0) ≡ Ready in
     let ready = subst R (sym c.self.view_is) c.requires.ready in
-    looking_kept s (device c.look_at.new.adapter) c.args.port c.self.invariant ready c.look_at.ensures.followed
+    record { kept = c.looks_keep.ensures.looking s (device c.look_at.new.adapter) c.args.port c.self.invariant.kept ready c.look_at.ensures.followed; issued = c.self.invariant.issued }
 
 pub returns-in_default : goal.returns-in_default
 returns-in_default g c =
@@ -27,35 +25,36 @@ returns-in_default g c =
     let ready = subst R (sym c.self.view_is) c.requires.ready in
     let P : ServerView g.row.A.Denot → Type 0 = λ v. ServesPort c.args.port None (server_of device v) (record s { device = device c.look_at.new.adapter }) in
     record {
-      serves = subst P c.self.view_is (looked s (device c.look_at.new.adapter) c.args.port c.self.invariant ready c.look_at.ensures.followed c.look_at.result c.look_at.ensures.looks (inl c.in_default.not-Undisturbed));
-      kept = looking_kept s (device c.look_at.new.adapter) c.args.port c.self.invariant ready c.look_at.ensures.followed;
-      room = ap (λ (v : ServerView g.row.A.Denot). v.room) c.self.view_is;
+      serves = subst P c.self.view_is (c.a_port_is_served.ensures.looked s (device c.look_at.new.adapter) c.args.port c.look_at.result c.self.invariant ready c.look_at.ensures.looks c.look_at.ensures.followed (inl c.in_default.not-Undisturbed));
+      settled = record { kept = c.looks_keep.ensures.looking s (device c.look_at.new.adapter) c.args.port c.self.invariant.kept ready c.look_at.ensures.followed; issued = c.self.invariant.issued };
+      ports = ap (λ (v : ServerView g.row.A.Denot). v.ports) c.self.view_is;
     }
 
-pub invariant_of-self-then-not-has_of : goal.invariant_of-self-then-not-has_of
-invariant_of-self-then-not-has_of g c =
+pub invariant_of-self-in_err-used : goal.invariant_of-self-in_err-used
+invariant_of-self-in_err-used g c =
     let device = g.A.Adapter.device in
     let s = server_of device (seen c.self.inside) in
     let R : ServerView g.row.A.Denot → Type 0 = λ v. state_of (found_of v.ports c.args.port.0) ≡ Ready in
     let ready = subst R (sym c.self.view_is) c.requires.ready in
-    looking_kept s (device c.look_at.new.adapter) c.args.port c.self.invariant ready c.look_at.ensures.followed
+    record { kept = c.looks_keep.ensures.looking s (device c.look_at.new.adapter) c.args.port c.self.invariant.kept ready c.look_at.ensures.followed; issued = c.self.invariant.issued }
 
-pub returns-then-not-has_of-clause-serves : goal.returns-then-not-has_of-clause-serves
-returns-then-not-has_of-clause-serves g c =
+pub returns-in_err-used-clause-serves : goal.returns-in_err-used-clause-serves
+returns-in_err-used-clause-serves g c =
     let device = g.A.Adapter.device in
     let s = server_of device (seen c.self.inside) in
     let R : ServerView g.row.A.Denot → Type 0 = λ v. state_of (found_of v.ports c.args.port.0) ≡ Ready in
     let ready = subst R (sym c.self.view_is) c.requires.ready in
     let P : ServerView g.row.A.Denot → Type 0 = λ v. ServesPort c.args.port None (server_of device v) (record s { device = device c.look_at.new.adapter }) in
-    subst P c.self.view_is (looked s (device c.look_at.new.adapter) c.args.port c.self.invariant ready c.look_at.ensures.followed c.look_at.result c.look_at.ensures.looks (inr (sym c.if-not-has_of.ensures)))
+    subst P c.self.view_is (c.a_port_is_served.ensures.looked s (device c.look_at.new.adapter) c.args.port c.look_at.result c.self.invariant ready c.look_at.ensures.looks c.look_at.ensures.followed
+    (inr ?))
 
-pub returns-then-not-has_of-clause-kept : goal.returns-then-not-has_of-clause-kept
-returns-then-not-has_of-clause-kept g c =
+pub returns-in_err-used-clause-settled : goal.returns-in_err-used-clause-settled
+returns-in_err-used-clause-settled g c =
     let device = g.A.Adapter.device in
     let s = server_of device (seen c.self.inside) in
     let R : ServerView g.row.A.Denot → Type 0 = λ v. state_of (found_of v.ports c.args.port.0) ≡ Ready in
     let ready = subst R (sym c.self.view_is) c.requires.ready in
-    looking_kept s (device c.look_at.new.adapter) c.args.port c.self.invariant ready c.look_at.ensures.followed
+    record { kept = c.looks_keep.ensures.looking s (device c.look_at.new.adapter) c.args.port c.self.invariant.kept ready c.look_at.ensures.followed; issued = c.self.invariant.issued }
 
 pub is_done-requires-clause-there : goal.is_done-requires-clause-there
 is_done-requires-clause-there g c =
@@ -63,7 +62,8 @@ is_done-requires-clause-there g c =
     let s = server_of device (seen c.self.inside) in
     let R : ServerView g.row.A.Denot → Type 0 = λ v. state_of (found_of v.ports c.args.port.0) ≡ Ready in
     let ready = subst R (sym c.self.view_is) c.requires.ready in
-    looked_there s (device c.look_at.new.adapter) c.args.port c.self.invariant ready c.look_at.ensures.followed
+    let seen_kept = c.looks_keep.ensures.looking s (device c.look_at.new.adapter) c.args.port c.self.invariant.kept ready c.look_at.ensures.followed in
+    ready_there (record s { device = device c.look_at.new.adapter }) c.args.port seen_kept ready
 
 pub invariant_of-self-then-not-is_done : goal.invariant_of-self-then-not-is_done
 invariant_of-self-then-not-is_done g c =
@@ -71,25 +71,19 @@ invariant_of-self-then-not-is_done g c =
     let s = server_of device (seen c.self.inside) in
     let R : ServerView g.row.A.Denot → Type 0 = λ v. state_of (found_of v.ports c.args.port.0) ≡ Ready in
     let ready = subst R (sym c.self.view_is) c.requires.ready in
-    found_kept s (device c.look_at.new.adapter) c.args.port c.self.invariant ready c.look_at.ensures.followed (device c.is_done.new.adapter) c.is_done.ensures.followed
+    let seen_kept = c.looks_keep.ensures.looking s (device c.look_at.new.adapter) c.args.port c.self.invariant.kept ready c.look_at.ensures.followed in
+    let found_kept = c.looks_keep.ensures.finding (record s { device = device c.look_at.new.adapter }) (device c.is_done.new.adapter) c.args.port seen_kept ready c.is_done.ensures.followed in
+    record { kept = found_kept; issued = c.self.invariant.issued }
 
-pub returns-then-not-is_done-clause-serves : goal.returns-then-not-is_done-clause-serves
-returns-then-not-is_done-clause-serves g c =
+pub returns-then-not-is_done-clause-settled : goal.returns-then-not-is_done-clause-settled
+returns-then-not-is_done-clause-settled g c =
     let device = g.A.Adapter.device in
     let s = server_of device (seen c.self.inside) in
     let R : ServerView g.row.A.Denot → Type 0 = λ v. state_of (found_of v.ports c.args.port.0) ≡ Ready in
     let ready = subst R (sym c.self.view_is) c.requires.ready in
-    let P : ServerView g.row.A.Denot → Type 0 = λ v. ServesPort c.args.port None (server_of device v) (record s { device = device c.is_done.new.adapter }) in
-    subst P c.self.view_is (unfinished s (device c.look_at.new.adapter) c.args.port c.self.invariant ready c.look_at.ensures.followed c.in-Undisturbed.ensures.looks (device c.is_done.new.adapter)
-    (sym c.if-not-has_of.ensures) c.if-not-is_done.ensures.reads (λ ci sact. false≢true (c.if-not-is_done.ensures.seen ci sact)) c.is_done.ensures.followed)
-
-pub returns-then-not-is_done-clause-kept : goal.returns-then-not-is_done-clause-kept
-returns-then-not-is_done-clause-kept g c =
-    let device = g.A.Adapter.device in
-    let s = server_of device (seen c.self.inside) in
-    let R : ServerView g.row.A.Denot → Type 0 = λ v. state_of (found_of v.ports c.args.port.0) ≡ Ready in
-    let ready = subst R (sym c.self.view_is) c.requires.ready in
-    found_kept s (device c.look_at.new.adapter) c.args.port c.self.invariant ready c.look_at.ensures.followed (device c.is_done.new.adapter) c.is_done.ensures.followed
+    let seen_kept = c.looks_keep.ensures.looking s (device c.look_at.new.adapter) c.args.port c.self.invariant.kept ready c.look_at.ensures.followed in
+    let found_kept = c.looks_keep.ensures.finding (record s { device = device c.look_at.new.adapter }) (device c.is_done.new.adapter) c.args.port seen_kept ready c.is_done.ensures.followed in
+    record { kept = found_kept; issued = c.self.invariant.issued }
 
 pub invariant_of-self-2 : goal.invariant_of-self-2
 invariant_of-self-2 g c =
@@ -97,33 +91,6 @@ invariant_of-self-2 g c =
     let s = server_of device (seen c.self.inside) in
     let R : ServerView g.row.A.Denot → Type 0 = λ v. state_of (found_of v.ports c.args.port.0) ≡ Ready in
     let ready = subst R (sym c.self.view_is) c.requires.ready in
-    found_kept s (device c.look_at.new.adapter) c.args.port c.self.invariant ready c.look_at.ensures.followed (device c.is_done.new.adapter) c.is_done.ensures.followed
-
-pub finish_first-requires-clause-over : goal.finish_first-requires-clause-over
-finish_first-requires-clause-over g c =
-    let device = g.A.Adapter.device in
-    let s = server_of device (seen c.self.inside) in
-    let R : ServerView g.row.A.Denot → Type 0 = λ v. state_of (found_of v.ports c.args.port.0) ≡ Ready in
-    let ready = subst R (sym c.self.view_is) c.requires.ready in
-    done_over s (device c.look_at.new.adapter) c.args.port c.self.invariant ready c.look_at.ensures.followed (device c.is_done.new.adapter) c.is_done.ensures.followed (sym c.if-not-has_of.ensures) c.if-not-is_done.ensures.finds
-
-pub returns-clause-serves : goal.returns-clause-serves
-returns-clause-serves g c =
-    let device = g.A.Adapter.device in
-    let s = server_of device (seen c.self.inside) in
-    let R : ServerView g.row.A.Denot → Type 0 = λ v. state_of (found_of v.ports c.args.port.0) ≡ Ready in
-    let ready = subst R (sym c.self.view_is) c.requires.ready in
-    let P : ServerView g.row.A.Denot → Type 0 = λ v. ServesPort c.args.port (Some c.finish_first.result) (server_of device v) (server_of device c.finish_first.new.self) in
-    subst P c.self.view_is (answered s (device c.look_at.new.adapter) c.args.port c.self.invariant ready c.look_at.ensures.followed (device c.is_done.new.adapter) c.is_done.ensures.followed c.if-not-is_done.ensures.reads
-    (done_over s (device c.look_at.new.adapter) c.args.port c.self.invariant ready c.look_at.ensures.followed (device c.is_done.new.adapter) c.is_done.ensures.followed (sym c.if-not-has_of.ensures) c.if-not-is_done.ensures.finds)
-    (server_of device c.finish_first.new.self) c.finish_first.result c.finish_first.ensures.finishes c.in-Undisturbed.ensures.looks)
-
-pub returns-clause-kept : goal.returns-clause-kept
-returns-clause-kept g c =
-    let device = g.A.Adapter.device in
-    let s = server_of device (seen c.self.inside) in
-    let R : ServerView g.row.A.Denot → Type 0 = λ v. state_of (found_of v.ports c.args.port.0) ≡ Ready in
-    let ready = subst R (sym c.self.view_is) c.requires.ready in
-    answered_kept s (device c.look_at.new.adapter) c.args.port c.self.invariant ready c.look_at.ensures.followed (device c.is_done.new.adapter) c.is_done.ensures.followed c.if-not-is_done.ensures.reads
-    (done_over s (device c.look_at.new.adapter) c.args.port c.self.invariant ready c.look_at.ensures.followed (device c.is_done.new.adapter) c.is_done.ensures.followed (sym c.if-not-has_of.ensures) c.if-not-is_done.ensures.finds)
-    (server_of device c.finish_first.new.self) c.finish_first.result c.finish_first.ensures.finishes
+    let seen_kept = c.looks_keep.ensures.looking s (device c.look_at.new.adapter) c.args.port c.self.invariant.kept ready c.look_at.ensures.followed in
+    let found_kept = c.looks_keep.ensures.finding (record s { device = device c.look_at.new.adapter }) (device c.is_done.new.adapter) c.args.port seen_kept ready c.is_done.ensures.followed in
+    record { kept = found_kept; issued = c.self.invariant.issued }

@@ -10,6 +10,5 @@ invariant-loop-number g l = record {
   rest : (later : List Reply) (new : Server) → ServePorts l.number (drop l.number l.ports) later (server_of g.A.Adapter.device l.self) new
       → ServePorts 0 l.fn.self.ports (l.replies.items ++ later) (server_of g.A.Adapter.device l.fn.self) new;
   ports : l.self.ports ≡ l.ports;
-  room : l.self.room ≡ l.fn.self.room;
   few : length l.replies.items ≤ l.number;
 }

@@ -1,6 +1,6 @@
 use Rattle.std.proofs.Common.{sym, ap, ◌∙◌, subst}
 use Rattle.ata_types.specs.declared.PortState.TheVariants.{Absent, Ready}
-use Rattle.server_history.specs.Server.{IsKept, state_of}
+use Rattle.server_history.specs.Server.{IsSettled, state_of}
 use Rattle.block_server.specs.View.{ServerView, server_of}
 use Rattle.block_server.proofs.Running.{shown_adds}
 use Rattle.block_server.proofs.server.Server.state.Goals as goal
@@ -8,17 +8,17 @@ use Rattle.block_server.proofs.server.Server.state.Goals as goal
 pub returns-in-Unserved-clause-adds : goal.returns-in-Unserved-clause-adds
 returns-in-Unserved-clause-adds g c =
     shown_adds g.A.Adapter.device c.args.self.now c.args.port Absent
-    (subst (λ (v : ServerView g.row.A.Denot). IsKept (server_of g.A.Adapter.device v)) c.self.view_is c.self.invariant)
+    (subst (λ (v : ServerView g.row.A.Denot). IsSettled (server_of g.A.Adapter.device v)) c.self.view_is c.self.invariant)
     (ap state_of (sym c.in-Unserved.is ∙ c.found.ensures))
 
 pub returns-in-Ready-clause-adds : goal.returns-in-Ready-clause-adds
 returns-in-Ready-clause-adds g c =
     shown_adds g.A.Adapter.device c.args.self.now c.args.port Ready
-    (subst (λ (v : ServerView g.row.A.Denot). IsKept (server_of g.A.Adapter.device v)) c.self.view_is c.self.invariant)
+    (subst (λ (v : ServerView g.row.A.Denot). IsSettled (server_of g.A.Adapter.device v)) c.self.view_is c.self.invariant)
     (ap state_of (sym c.in-Ready.is ∙ c.found.ensures))
 
 pub returns-in-Unready-clause-adds : goal.returns-in-Unready-clause-adds
 returns-in-Unready-clause-adds g c =
     shown_adds g.A.Adapter.device c.args.self.now c.args.port c.in-Unready.state
-    (subst (λ (v : ServerView g.row.A.Denot). IsKept (server_of g.A.Adapter.device v)) c.self.view_is c.self.invariant)
+    (subst (λ (v : ServerView g.row.A.Denot). IsSettled (server_of g.A.Adapter.device v)) c.self.view_is c.self.invariant)
     (ap state_of (sym c.in-Unready.is ∙ c.found.ensures))

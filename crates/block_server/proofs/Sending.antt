@@ -1,0 +1,207 @@
+-- A due request of a port is issued: what is asked of the calls, and what the server then is.
+use Rattle.std.proofs.Common.{ℕ, suc, ◌≡◌, ◌≢◌, ◌+◌, ◌/◌, ◌^◌, ◌<◌, ◌≤◌, false, true, inl, inr, List, [], ◌∷◌, drop, length, map, get_or, set, Option, Some, None, refl, sym, ◌∙◌, ap, subst, arith}
+use Rattle.std.specs.Prelude.{IfSome, IfNone, IsSome}
+use Rattle.std.specs.List.{All, Contains}
+use Rattle.std.proofs.lemmas.Bool.{true≢false}
+use Rattle.std.proofs.lemmas.List.{drop_more, get_or-set_same, set-get_or, set-set}
+use Rattle.std.proofs.lemmas.List.Elements.{All-contains}
+use Rattle.ata_types.specs.Grant.{Allows}
+use Rattle.ata_types.specs.declared.Port.{Port}
+use Rattle.ata_types.specs.declared.PortState.TheVariants.{Absent, Ready}
+use Rattle.ata_types.specs.declared.Slot.{Slot}
+use Rattle.ata_types.specs.declared.grant.GrantRow.{GrantRow}
+use Rattle.ata_types.specs.declared.request.Frame.{Frame}
+use Rattle.ata_types.specs.declared.request.Op.{Op}
+use Rattle.ata_types.specs.declared.request.Op.TheVariants.{Read, Write, Trim, Flush}
+use Rattle.ata_types.specs.declared.request.RequestId.{RequestId}
+use Rattle.adapter.specs.Device.{Device}
+use Rattle.block_machine.specs.Due.{AreDueInTurn, IsDue}
+use Rattle.block_machine.proofs.Members.{map_in}
+use Rattle.block_machine.specs.Rules.{IsCount, frames_for}
+use Rattle.block_machine.specs.declared.due.Unanswered.{Unanswered}
+use Rattle.block_server.specs.Ports.{Lends, with_part}
+use Rattle.dma_frames.specs.Table.{Table}
+use Rattle.adapter.specs.Rules.{IsOn, HasPort}
+use Rattle.agreement.specs.Driven.{AgreesWith}
+use Rattle.command_table.specs.Written.{IsUnused}
+use Rattle.driver_history.specs.Holds.{Runs}
+use Rattle.host_boot.specs.Taken.{found_of}
+use Rattle.host_boot.specs.declared.Found.{Found}
+use Rattle.host_boot.specs.declared.Found.TheVariants.{Unserved, Ready as FoundReady, Unready}
+use Rattle.request_queue.specs.Entries.{Held, IsAccepted, IsInOrder, asks, asks_of, at, issue}
+use Rattle.request_queue.specs.declared.Entry.{Entry}
+use Rattle.server_history.specs.Served.{IssuesOne, transfer_of}
+use Rattle.server_history.specs.Server.{Server, IsKept, IsTransferRow, is_served, no_slots, plain_mode, state_of, used_for, with_slot}
+use Rattle.slots.specs.Uses.{Uses as PortSlots, IsLowestFree, IsTaken, use_at, with_use}
+use Rattle.slots.specs.declared.Use.{Use as SlotUse}
+use Rattle.transfers.specs.Transfers.{IsTransfer, IssuesTransfer, MayTransfer}
+
+-- ---- what a request of the book is, where grants are to read and to write
+
+module _ (rows : List GrantRow) (table : Table) (e : Held) (reads : All IsTransferRow rows) (is : IsAccepted rows table e) where
+  transfer : IsTransferRow is.row.0
+  transfer = All-contains IsTransferRow rows is.row.0 reads is.row.1
+
+  allowed : (op : Op) → e.entry.op ≡ op → Allows is.row.0.rights op
+  allowed op same = let P : Op → Type 0 = λ x. Allows is.row.0.rights x in subst P same is.row.5
+
+  by_op : (op : Op) → e.entry.op ≡ op → IsTransfer e.entry.op
+  by_op Read same = inl same
+  by_op Write same = inr same
+  by_op Trim same = absurd (true≢false (sym (allowed Trim same) ∙ transfer.trim))
+  by_op Flush same = absurd (true≢false (sym (allowed Flush same) ∙ transfer.flush))
+
+  pub moves : IsTransfer e.entry.op
+  moves = by_op e.entry.op refl
+
+  -- what holds of reads and of writes
+  of_both : (P : Op → Type 0) → P Read → P Write → P e.entry.op
+  of_both P read write = elim moves [ inl same ↦ subst P (sym same) read | inr same ↦ subst P (sym same) write ]
+
+  counted : (1 ≤ e.entry.range.count) × (e.entry.range.count ≤ 256)
+  counted = of_both (λ op. IsCount op e.entry.range.count → (1 ≤ e.entry.range.count) × (e.entry.range.count ≤ 256)) (λ fits. fits) (λ fits. fits) is.sectors
+
+  pub some_sector : 1 ≤ e.entry.range.count
+  some_sector = counted.0
+
+  pub few_sectors : e.entry.range.count ≤ 256
+  few_sectors = counted.1
+
+  pub first_below : e.entry.range.first.0 < 2 ^ 48
+  first_below = is.first (of_both (λ op. op ≢ Flush) (λ same. cc) (λ same. cc))
+
+  pub frames_fit : length e.frames ≡ (e.entry.range.count + 7) / 8
+  frames_fit = is.frames ∙ of_both (λ op. frames_for op e.entry.range.count ≡ (e.entry.range.count + 7) / 8) refl refl
+
+-- ---- what is lent
+
+-- a due request of the port, with this id
+abbrev pub IsTurn : List Held → Port → RequestId → Type 0
+IsTurn book port id = (request : Held) × Contains book request × (request.entry.id ≡ id) × (request.entry.port ≡ port) × IsDue plain_mode (asks_of book) (asks request.entry)
+
+-- the lowest slot is taken where only it is usable, and free
+pub taken : (old new : PortSlots) (r : Option Slot) (used : SlotUse) → old.usable ≡ 1 → use_at old 0 ≡ None → IfSome r (λ slot. IsLowestFree old slot.0)
+    → IfSome r (λ slot. new ≡ with_use old slot.0 (Some used)) → IfNone r ((slot : ℕ) → slot < old.usable → IsTaken old slot) → new ≡ with_use old 0 (Some used)
+taken old new (Some slot) used one free lowest is full =
+    let small = lowest.0 in
+    subst (λ (n : ℕ). new ≡ with_use old n (Some used)) (omega (arith, small, one)) is
+taken old new None used one free lowest is full =
+    let z : IsSome (use_at old 0) = full 0 (omega (arith, one)) in
+    let y : false ≡ true = subst (λ (o : Option SlotUse). IsSome o) free z in
+    absurd (true≢false (sym y))
+
+-- a port that is ready is served, so it is there
+pub served_ready : (f : Found) → state_of f ≡ Ready → is_served f ≡ true
+served_ready Unserved ready = let z : Absent ≡ Ready = ready in absurd cc
+served_ready (FoundReady info) ready = refl
+served_ready (Unready state) ready = refl
+
+module _ (s : Server) (device : Device) (book : List Held) (slots : PortSlots) (port : Port) (l : Lends s device book slots port) where
+  there : HasPort s.device port.0
+  there = l.kept.there port.0 (served_ready (found_of s.ports port.0) l.ready)
+
+  abbrev runs : Runs port.0 s.device
+  runs = (l.kept.behind port.0 there.0).runs l.ready
+
+  pub lent_there : HasPort device port.0
+  lent_there = subst (λ (d : Device). HasPort d port.0) l.device_is there
+
+  pub lent_on : IsOn device
+  lent_on = subst IsOn l.device_is l.kept.on
+
+  pub lent_room : 163840 ≤ device.size
+  lent_room = subst (λ (d : Device). 163840 ≤ d.size) l.device_is l.kept.room
+
+  pub lent_may : MayTransfer port.0 device
+  lent_may = subst (MayTransfer port.0) l.device_is (record { started = runs.st; list = ap (λ b. b.clb) runs.bases })
+
+  in_list : port.0 < length s.slots
+  in_list = let f = l.kept.four in let p = there.0 in omega (arith, f, p)
+
+  -- what is lent is where it was
+  pub lent_same : with_part s device book slots port ≡ s
+  lent_same =
+      (λ i. record s { device = sym l.device_is i; slots = set s.slots port.0 (sym l.slots_are i); book = sym l.book_is i })
+      ∙ ap (λ (list : List PortSlots). record s { slots = list }) (set-get_or s.slots port.0 no_slots)
+
+  -- other parts in its place
+  module _ (new : Device) (later : List Held) (used : PortSlots) where
+    pub lent_on_from : IsKept (with_part s new later used port) → Lends (with_part s new later used port) new later used port
+    lent_on_from kept = record { kept = kept; ready = l.ready; device_is = refl; book_is = refl; slots_are = get_or-set_same s.slots port.0 used no_slots in_list }
+
+    pub lent_again : (d : Device) (b : List Held) (u : PortSlots) → with_part (with_part s new later used port) d b u port ≡ with_part s d b u port
+    lent_again d b u = ap (λ (list : List PortSlots). record s { device = d; slots = list; book = b }) (set-set s.slots port.0 used u)
+
+  module _ (id : RequestId) (turn : IsTurn book port id) where
+    abbrev e : Held
+    e = turn.0
+
+    here : Contains s.book e
+    here = subst (λ (b : List Held). Contains b e) (sym l.book_is) turn.1
+
+    due : IsDue plain_mode (asks_of s.book) (asks e.entry)
+    due = subst (λ (b : List Held). IsDue plain_mode (asks_of b) (asks e.entry)) (sym l.book_is) turn.4
+
+    pub its : IsAccepted s.grants s.table e
+    its = All-contains (IsAccepted s.grants s.table) s.book e l.kept.accepted here
+
+    -- what was found in the book by its id
+    module _ (one : (entries : List Held) (a b : Held) → IsInOrder entries → Contains entries a → Contains entries b → a.entry.id ≡ b.entry.id → a ≡ b) where
+      pub found_is : (found : Held) → Contains book found → found.entry.id ≡ id → found ≡ e
+      found_is found there_too same = one book found e (subst IsInOrder l.book_is l.kept.ordered) there_too turn.1 (same ∙ sym turn.2)
+
+      pub entry_is : (r : Entry) → (found : Held) × Contains book found × (found.entry ≡ r) × (r.id ≡ id) → r ≡ e.entry
+      entry_is r f = sym f.2 ∙ ap (λ (x : Held). x.entry) (found_is f.0 f.1 (ap (λ (x : Entry). x.id) f.2 ∙ f.3))
+
+      pub frames_are : (fs : List Frame) → (found : Held) × Contains book found × (found.entry.id ≡ id) × (found.frames ≡ fs) → fs ≡ e.frames
+      frames_are fs f = sym f.3 ∙ ap (λ (x : Held). x.frames) (found_is f.0 f.1 f.2)
+
+    module _ (may : (s : Server) (request : Held) → IsKept s → Contains s.book request → IsDue plain_mode (asks_of s.book) (asks request.entry)
+        → AgreesWith (IsUnused request.entry.port.0 0) s.device × (used_for s.slots request.entry.port.0 0 ≡ None)) where
+      may_issue : AgreesWith (IsUnused port.0 0) s.device × (used_for s.slots port.0 0 ≡ None)
+      may_issue = subst (λ (p : Port). AgreesWith (IsUnused p.0 0) s.device × (used_for s.slots p.0 0 ≡ None)) turn.3 (may s e l.kept here due)
+
+      pub agreed : AgreesWith (IsUnused port.0 0) device
+      agreed = subst (AgreesWith (IsUnused port.0 0)) l.device_is may_issue.0
+
+      -- it was issued
+      pub sent : (new : Device) → IssuesTransfer port (transfer_of e) device new → (new.port port.0).ci 0 ≡ true → (later : List Held) → later ≡ map (at id issue) book
+          → (used : PortSlots) (r : Option Slot) → IfSome r (λ slot. IsLowestFree slots slot.0)
+          → IfSome r (λ slot. used ≡ with_use slots slot.0 (Some (record { id = id; queued = false }))) → IfNone r ((slot : ℕ) → slot < slots.usable → IsTaken slots slot)
+          → IssuesOne port id s (with_part s new later used port)
+      sent new issues its_bit later later_is used r lowest took full = record {
+        request = e;
+        here = here;
+        id_is = turn.2;
+        port_is = turn.3;
+        due = due;
+        issues = subst (λ (d : Device). IssuesTransfer port (transfer_of e) d new) (sym l.device_is) issues;
+        sent = its_bit;
+        server = λ i. record s { device = new; slots = set_to i; book = (later_is ∙ ap (map (at id issue)) (sym l.book_is)) i };
+      }
+        where
+          usable : slots.usable ≡ 1
+          usable = ap (λ (u : PortSlots). u.usable) (sym l.slots_are) ∙ (l.kept.slots port.0 there.0).usable
+
+          free : use_at slots 0 ≡ None
+          free = ap (λ (u : PortSlots). use_at u 0) (sym l.slots_are) ∙ may_issue.1
+
+          used_is : used ≡ with_use slots 0 (Some (record { id = id; queued = false }))
+          used_is = taken slots used r (record { id = id; queued = false }) usable free lowest took full
+
+          set_to : set s.slots port.0 used ≡ with_slot s.slots port.0 0 (Some (record { id = id; queued = false }))
+          set_to = ap (set s.slots port.0) (used_is ∙ ap (λ (u : PortSlots). with_use u 0 (Some (record { id = id; queued = false }))) (sym l.slots_are))
+
+-- ---- one after another
+
+-- at a place, one is next
+pub next_there : (ids : List RequestId) (place : ℕ) (d : RequestId) → place < length ids → drop place ids ≡ get_or ids place d ∷ drop (place + 1) ids
+next_there ids place d low = drop_more ids place d low
+
+-- the next one is due
+pub next_due : (book : List Held) (port : Port) (ids : List RequestId) (place : ℕ) (d : RequestId) → place < length ids → AreDueInTurn plain_mode port (drop place ids) (asks_of book) → IsTurn book port (get_or ids place d)
+next_due book port ids place d low turns =
+    let t : AreDueInTurn plain_mode port (get_or ids place d ∷ drop (place + 1) ids) (asks_of book) = subst (λ (xs : List RequestId). AreDueInTurn plain_mode port xs (asks_of book)) (next_there ids place d low) turns in
+    let r = t.0 in
+    let x = map_in (λ (e : Held). asks e.entry) book r.0 r.3.here in
+    (x.0, x.1, ap (λ (u : Unanswered). u.id) (sym x.2) ∙ r.1, ap (λ (u : Unanswered). u.port) (sym x.2) ∙ r.2, subst (IsDue plain_mode (asks_of book)) x.2 r.3)

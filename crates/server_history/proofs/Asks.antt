@@ -1,0 +1,40 @@
+-- What the machine's book asks is what the server's asks, and what is due where nothing is issued.
+use Rattle.std.proofs.Common.{◌≡◌, Bool, false, List, [], ◌∷◌, map, refl, sym, ap, ap₂, ◌∙◌, subst}
+use Rattle.std.specs.Prelude.{◌↔◌}
+use Rattle.std.specs.List.{Contains, list_any}
+use Rattle.std.proofs.lemmas.Bool.{cond-false, false≢true}
+use Rattle.ata_types.specs.declared.Port.{Port}
+use Rattle.ata_types.specs.declared.request.RequestId.{RequestId}
+use Rattle.block_machine.specs.Due.{IsDue, NoneDue}
+use Rattle.block_machine.specs.Events.{IsIssuedIn, issues_it}
+use Rattle.block_machine.specs.State.{Machine, Pending, unanswered}
+use Rattle.block_machine.specs.Steps.{Step}
+use Rattle.block_machine.specs.declared.due.Unanswered.{Unanswered}
+use Rattle.driver_history.specs.Histories.{IssuesDue, unissued}
+use Rattle.request_queue.specs.Entries.{Held, asks, asks_of}
+use Rattle.request_queue.specs.Machine.{IsBook, IsEntry}
+use Rattle.server_history.specs.Server.{Server, IsMachineOf, plain_mode}
+
+pub asked_alike : (e : Held) (p : Pending) → IsEntry e p → unanswered p ≡ asks e.entry
+asked_alike e p is = λ i. record { id = is.id i; port = is.port i; op = is.op i; range = is.range i; issued = is.issued i }
+
+pub same_book : (book : List Held) (pending : List Pending) → IsBook book pending → map unanswered pending ≡ asks_of book
+same_book [] [] all = refl
+same_book [] (p ∷ pending) all = absurd all
+same_book (e ∷ book) [] all = absurd all
+same_book (e ∷ book) (p ∷ pending) all = ap₂ (λ (u : Unanswered) (us : List Unanswered). u ∷ us) (asked_alike e p all.0) (same_book book pending all.1)
+
+-- where the server has nothing due, the machine has nothing
+pub none_due : (s : Server) (m : Machine) → IsMachineOf s m → (port : Port) → NoneDue plain_mode (asks_of s.book) port → NoneDue plain_mode (map unanswered m.book) port
+none_due s m is port none = subst (λ (us : List Unanswered). NoneDue plain_mode us port) (sym (same_book s.book m.book is.book)) none
+
+-- Steps that issue nothing issue what is due, where nothing is.
+pub none_issued : (s : Server) (m : Machine) → IsMachineOf s m → (steps : List Step) → ((id : RequestId) → list_any (issues_it id) steps ≡ false) → (port : Port) → NoneDue plain_mode (asks_of s.book) port
+    → IssuesDue plain_mode steps m port
+none_issued s m is steps issues port none =
+    subst (λ (us : List Unanswered). (r : Unanswered) → Contains us r → r.port ≡ port → IsIssuedIn r.id steps ↔ IsDue plain_mode us r) (sym (unmarked (map unanswered m.book)))
+    (λ r here own. ((λ issued. absurd (false≢true (sym (issues r.id) ∙ issued))), (λ due. absurd (none_due s m is port none r own due))))
+  where
+    unmarked : (us : List Unanswered) → unissued steps us ≡ us
+    unmarked [] = refl
+    unmarked (u ∷ us) = ap₂ (λ (x : Unanswered) (xs : List Unanswered). x ∷ xs) (cond-false (list_any (issues_it u.id) steps) (record u { issued = false }) u (issues u.id)) (unmarked us)

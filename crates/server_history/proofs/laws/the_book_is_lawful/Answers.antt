@@ -1,0 +1,26 @@
+use Rattle.server_history.proofs.laws.the_book_is_lawful.Goals as goal
+
+pub returns : goal.returns
+returns c = record {
+  accepts = c.steps_change_the_book.ensures.accept;
+  issues = c.steps_change_the_book.ensures.issue;
+  answers = c.steps_change_the_book.ensures.answer;
+  one = c.an_id_is_one_request.ensures.one;
+  longer = c.the_book_stays_in_order.ensures.accepted;
+  issued = c.the_book_stays_in_order.ensures.issued;
+  fewer = c.the_book_stays_in_order.ensures.answered;
+  left = c.operations_change_one_request.ensures.answered;
+  asked = c.the_book_stays_in_order.ensures.asks;
+  still_lent = c.accepted_requests_stay.ensures.lent;
+  still_answered = c.accepted_requests_stay.ensures.answered;
+  still_issued = c.accepted_requests_stay.ensures.issued;
+  waits = c.operations_change_what_is_due.ensures.waits;
+  asks_issued = c.operations_change_what_is_due.ensures.issue;
+  asks_answered = c.operations_change_what_is_due.ensures.answer;
+  exact = c.due_is_exact.ensures.exact;
+  own = c.due_is_exact.ensures.own;
+  in_turn = c.due_in_turn.ensures;
+  same_due = c.own_requests_count.ensures.one;
+  issued_apart = c.other_ports_stay.ensures.issued;
+  answered_apart = c.other_ports_stay.ensures.answered;
+}

@@ -1,0 +1,46 @@
+-- What the laws of the book of requests say: the laws of this crate rest on them.
+use Rattle.std.specs.Prelude.{◌≡◌, ◌≢◌, ◌≤◌, ◌<◌, ◌↔◌, List, [], ◌∷◌, ◌++◌, map, Option, None, All, Contains}
+use Rattle.ata_types.specs.declared.Port.{Port}
+use Rattle.ata_types.specs.declared.grant.GrantRow.{GrantRow}
+use Rattle.ata_types.specs.declared.request.Frame.{Frame}
+use Rattle.ata_types.specs.declared.request.Outcome.{Outcome}
+use Rattle.ata_types.specs.declared.request.RequestId.{RequestId}
+use Rattle.block_machine.specs.Due.{AreDueInTurn, IsDue, IsInOrder as machine_in_order, due_of, of_port, with_issued, with_none}
+use Rattle.block_machine.specs.State.{Machine, Pending, unanswered}
+use Rattle.block_machine.specs.Steps.{Accept, Issue, Answer, after_step, newly_accepted}
+use Rattle.block_machine.specs.State as machine
+use Rattle.block_machine.specs.declared.due.Mode.{Mode}
+use Rattle.block_machine.specs.declared.due.Unanswered.{Unanswered}
+use Rattle.dma_frames.specs.Table.{Table, LendsOnly, lent_to}
+use Rattle.request_queue.specs.Entries.{Held, IsAccepted, IsEarlier, IsFresh, IsInOrder, IsWaiting, asks_of, at, issue, unanswered_of, without}
+use Rattle.request_queue.specs.Machine.{IsBook, IsEntry}
+
+pub record BookLaws : Type 0 where
+  -- the book and the machine's
+  pub accepts : (entries : List Held) (m : Machine) (e : Held) (r : machine.Accepted) → IsBook entries m.book → IsEntry e (newly_accepted r) → IsBook (entries ++ e ∷ []) (after_step m (Accept r)).book
+  pub issues : (entries : List Held) (m : Machine) (mode : Mode) (p : Pending) → IsBook entries m.book → IsBook (map (at p.request.id issue) entries) (after_step m (Issue mode p)).book
+  pub answers : (entries : List Held) (m : Machine) (p : Pending) (outcome : Outcome) → IsBook entries m.book → IsBook (without p.request.id entries) (after_step m (Answer p outcome)).book
+  -- its order
+  pub one : (entries : List Held) (a b : Held) → IsInOrder entries → Contains entries a → Contains entries b → a.entry.id ≡ b.entry.id → a ≡ b
+  pub longer : (entries : List Held) (e : Held) → IsInOrder entries → All (λ x. IsEarlier x e) entries → IsFresh e.entry → 1 ≤ e.entry.client.0 → e.entry.client.0 ≤ 8
+      → unanswered_of entries e.entry.client.0 < 16 → IsInOrder (entries ++ e ∷ [])
+  pub issued : (entries : List Held) (id : RequestId) → IsInOrder entries → IsWaiting id entries → IsInOrder (map (at id issue) entries)
+  pub fewer : (entries : List Held) (id : RequestId) → IsInOrder entries → IsInOrder (without id entries)
+  pub left : (entries : List Held) (id : RequestId) (e : Held) → Contains (without id entries) e ↔ (Contains entries e × (e.entry.id ≢ id))
+  pub asked : (entries : List Held) → IsInOrder entries → machine_in_order (asks_of entries)
+  -- what is lent
+  pub still_lent : (rows : List GrantRow) (old new : Table) (entries : List Held) (frames : List Frame) (to : Option RequestId) → LendsOnly old new frames to → All (λ f. lent_to old f ≡ None) frames
+      → All (IsAccepted rows old) entries → All (IsAccepted rows new) entries
+  pub still_answered : (rows : List GrantRow) (old new : Table) (entries : List Held) (e : Held) → Contains entries e → LendsOnly old new e.frames None → All (IsAccepted rows old) entries
+      → All (IsAccepted rows new) (without e.entry.id entries)
+  pub still_issued : (rows : List GrantRow) (table : Table) (entries : List Held) (id : RequestId) → All (IsAccepted rows table) entries → All (IsAccepted rows table) (map (at id issue) entries)
+  -- what is due
+  pub waits : (mode : Mode) (entries : List Held) (r : Unanswered) → IsDue mode (asks_of entries) r → IsWaiting r.id entries
+  pub asks_issued : (entries : List Held) (id : RequestId) → asks_of (map (at id issue) entries) ≡ with_issued id (asks_of entries)
+  pub asks_answered : (entries : List Held) (id : RequestId) → asks_of (without id entries) ≡ with_none id (asks_of entries)
+  pub exact : (mode : Mode) (port : Port) (book : List Unanswered) (r : Unanswered) → r.port ≡ port → Contains (due_of mode port book) r ↔ IsDue mode book r
+  pub own : (mode : Mode) (port : Port) (book : List Unanswered) (r : Unanswered) → Contains (due_of mode port book) r → r.port ≡ port
+  pub in_turn : (mode : Mode) (port : Port) (book : List Unanswered) → machine_in_order book → AreDueInTurn mode port (map (λ r. r.id) (due_of mode port book)) book
+  pub same_due : (mode : Mode) (port : Port) (book other : List Unanswered) (r : Unanswered) → of_port port book ≡ of_port port other → r.port ≡ port → IsDue mode book r ↔ IsDue mode other r
+  pub issued_apart : (port : Port) (book : List Unanswered) (r : Unanswered) → machine_in_order book → Contains book r → r.port ≢ port → of_port port (with_issued r.id book) ≡ of_port port book
+  pub answered_apart : (port : Port) (book : List Unanswered) (r : Unanswered) → machine_in_order book → Contains book r → r.port ≢ port → of_port port (with_none r.id book) ≡ of_port port book
