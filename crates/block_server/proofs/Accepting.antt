@@ -1,28 +1,28 @@
--- What an accepted request is to a server: what is asked of the calls that accept it.
-use Rattle.std.proofs.Common.{◌≡◌, ◌+◌, ◌/◌, ◌^◌, ◌<◌, ◌≤◌, ◌++◌, ◌∷◌, [], false, true, List, length, Some, inl, inr, ◌∙◌, ap, subst}
-use Rattle.std.specs.List.{All}
+-- An accepted request: what is asked of the calls that accept it, and what the server then is.
+use Rattle.std.proofs.Common.{ℕ, ◌≡◌, ◌+◌, ◌^◌, ◌<◌, ◌++◌, ◌∷◌, [], List, Some, inl, inr, refl, sym, ◌∙◌, ap, subst, arith}
+use Rattle.std.specs.Prelude.{slice_index_or}
 use Rattle.std.proofs.lemmas.Bool.{cases_lt}
+use Rattle.std.proofs.lemmas.List.{get_or_default}
 use Rattle.ata_types.specs.declared.Port.{Port}
 use Rattle.ata_types.specs.declared.PortState.TheVariants.{Ready as ReadyState}
+use Rattle.ata_types.specs.declared.grant.GrantRow.{GrantRow}
 use Rattle.ata_types.specs.declared.refusal.Refusal.TheVariants.{Rule, IdsSpent}
 use Rattle.ata_types.specs.declared.request.Frame.{Frame}
 use Rattle.ata_types.specs.declared.request.Request.{Request}
 use Rattle.ata_types.specs.declared.request.RequestId.{RequestId}
-use Rattle.adapter.specs.Device.{Device}
 use Rattle.adapter.specs.Rules.{HasPort}
-use Rattle.agreement.specs.Driven.{AgreesWith}
 use Rattle.block_machine.specs.Refusals.{IsAcceptable}
-use Rattle.block_machine.specs.Rules.{BreaksNone, HasNoFault}
-use Rattle.command_table.specs.Written.{IsUnused}
-use Rattle.dma_frames.specs.Loan.{Lending}
+use Rattle.block_machine.specs.Rules.{BreaksNone, HasNoFault, IsNamed}
 use Rattle.dma_frames.specs.Table.{LendsOnly, Table, owner_of, lent_to}
 use Rattle.host_boot.specs.Taken.{found_of}
-use Rattle.server_history.specs.Server.{Server, IsKept, is_served, situation_of, state_of}
+use Rattle.request_queue.specs.Entries.{Held, unanswered_of}
+use Rattle.server_history.specs.Served.{Accepts, IssuesAll, accepted_as, accepting}
+use Rattle.server_history.specs.Server.{Server, IsKept, no_slots, situation_of, state_of}
 use Rattle.server_history.proofs.Granting.{has_room, on_ready}
+use Rattle.slots.specs.Uses.{Uses as PortSlots}
 use Rattle.block_server.proofs.Sending.{served_ready}
-use Rattle.transfers.specs.Transfers.{IsTransfer, IssuesTransfer, MayTransfer}
 use Rattle.block_server.specs.Calls.{IsFor}
-use Rattle.block_server.proofs.Ruling as ruling
+use Rattle.block_server.specs.Ports.{Lends}
 
 -- ---- what is asked of the calls
 
@@ -30,34 +30,51 @@ module _ (s : Server) (r : Request) (acc : IsAcceptable (situation_of s) r) wher
   pub next_fits : s.last + 1 < 2 ^ 64
   next_fits = elim (cases_lt (s.last + 1) (2 ^ 64)) [ inl low ↦ low | inr high ↦ absurd (acc IdsSpent high) ]
 
-  pub none : BreaksNone s.grants (owner_of s.table) (lent_to s.table) r
+  none : BreaksNone s.grants (owner_of s.table) (lent_to s.table) r
   none rule = acc (Rule rule)
 
   pub faultless : HasNoFault (owner_of s.table) (lent_to s.table) r.client r.frames.items
   faultless fault = none (Rattle.ata_types.specs.declared.refusal.Rule.TheVariants.Frames fault)
 
-  module _ (k : IsKept s) where
-    pub transfers : IsTransfer r.op
-    transfers = ruling.transfers s.grants s.table r k.rows none
+  module _ (k : IsKept s) (port : Port) (is : IsFor s.grants r port) where
+    pub has_place : unanswered_of s.book r.client.0 < 16
+    has_place = has_room s r acc is.0 is.1 port is.2
 
-    pub some : 1 ≤ r.count
-    some = ruling.some s.grants s.table r k.rows none
+    ready : state_of (found_of s.ports port.0) ≡ ReadyState
+    ready = on_ready s r acc is.0 is.1 port is.2
 
-    pub few : r.count ≤ 256
-    few = ruling.few s.grants s.table r k.rows none
+    there : HasPort s.device port.0
+    there = k.there port.0 (served_ready (found_of s.ports port.0) ready)
 
-    pub below : r.first.0 < 2 ^ 48
-    below = ruling.first s.grants s.table r k.rows none
+    -- the slots of its port, wherever that is said to be
+    pub its_slots : (number : ℕ) → number ≡ port.0 → (default : PortSlots) → slice_index_or s.slots port.0 no_slots ≡ slice_index_or s.slots number default
+    its_slots number is default =
+        let f = k.four in
+        let p = there.0 in
+        get_or_default s.slots port.0 no_slots default (omega (arith, f, p)) ∙ ap (λ (n : ℕ). slice_index_or s.slots n default) (sym is)
 
-    pub frames_fit : length r.frames.items ≡ (r.count + 7) / 8
-    frames_fit = ruling.frames_fit s.grants s.table r k.rows none
+    -- ---- what the server then is
 
-    pub clients : All (λ frame. 40 ≤ frame.0) r.frames.items
-    clients = ruling.clients s.grants s.table r k.rows none s.device.size k.owners
+    -- It was put last into the book, and these frames lent to it.
+    module _ (keeps : (s : Server) (port : Port) (r : Request) (row : GrantRow) (id : RequestId) (table : Table) → IsKept s → IsAcceptable (situation_of s) r
+        → IsNamed s.grants r row → row.port ≡ port → id.0 ≡ s.last + 1 → LendsOnly s.table table r.frames.items (Some id) → IsKept (accepting port r id table s))
+        (id : RequestId) (id_is : id.0 ≡ s.last + 1) (frames : List Frame) (frames_are : frames ≡ r.frames.items)
+        (table : Table) (lent : LendsOnly s.table table frames (Some id)) (loan : List Frame) (loan_is : loan ≡ frames)
+        (book : List Held) (book_is : book ≡ s.book ++ record { entry = (accepted_as port r id).entry; frames = loan } ∷ []) where
+      its_lent : LendsOnly s.table table r.frames.items (Some id)
+      its_lent = subst (λ (fs : List Frame). LendsOnly s.table table fs (Some id)) frames_are lent
 
-    module _ (port : Port) (is : IsFor s.grants r port) where
-      pub ready : state_of (found_of s.ports port.0) ≡ ReadyState
-      ready = on_ready s r acc is.0 is.1 port is.2
+      pub its_book : s.book ++ accepted_as port r id ∷ [] ≡ book
+      its_book = sym (book_is ∙ ap (λ (fs : List Frame). s.book ++ record { entry = (accepted_as port r id).entry; frames = fs } ∷ []) (loan_is ∙ frames_are))
 
-      pub there : HasPort s.device port.0
-      there = k.there port.0 (served_ready (found_of s.ports port.0) ready)
+      pub lends : (slots : PortSlots) → slice_index_or s.slots port.0 no_slots ≡ slots → Lends (accepting port r id table s) s.device book slots port
+      lends slots are = record {
+        kept = keeps s port r is.0 id table k acc is.1 is.2 id_is its_lent;
+        ready = ready;
+        device_is = refl;
+        book_is = its_book;
+        slots_are = are;
+      }
+
+      pub accepts : (new : Server) → IssuesAll port (accepting port r id table s) new → Accepts port r id s new
+      accepts new issues = record { row = is.0; named = is.1; port_is = is.2; id_is = id_is; table = table; lent = its_lent; issued = issues }

@@ -21,8 +21,8 @@ use request_queue::{Book, Entry};
 use slots::Slots;
 use std::alloc::Global;
 use server_history::laws::{
-    a_port_is_served, a_used_slot_has_its_request, acceptances_add, issues_settle, looks_keep,
-    requests_keep, services_add,
+    a_finished_port_settles, a_port_is_served, a_used_slot_has_its_request, acceptances_add,
+    looks_keep, requests_keep, services_add,
 };
 use std::marker::Model;
 use transfers::{Look, is_done, look_at};
@@ -229,7 +229,6 @@ impl<A: Adapter> Server<A> {
         ensures adds { Adds (server_of A.device self.old) (server_of A.device self.new) (Submit r.now) (Submitted (Ok result)) }
     {
         requests_keep();
-        issues_settle();
         acceptances_add();
         let id = RequestId(self.last + 1);
         let loan = self.table.lend(r.client, r.frames.as_slice(), id);
@@ -274,7 +273,7 @@ impl<A: Adapter> Server<A> {
     {
         a_used_slot_has_its_request();
         requests_keep();
-        issues_settle();
+        a_finished_port_settles();
         let slots = &mut self.slots[usize::from(port.0)];
         let _ = slots.free(Slot(0));
         let (entry, loan) = self.book.answer(id);

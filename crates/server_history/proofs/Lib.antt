@@ -20,6 +20,7 @@ pub mod Rounds
 pub mod Granting
 pub mod Accepting
 pub mod Answering
+pub mod Settling
 pub mod Services
 pub mod Serving
 pub mod Origins

@@ -69,6 +69,7 @@ use Rattle.server_history.proofs.Coming.{IsTurn, TurnList, turn_leaves, turn_lis
 use Rattle.server_history.proofs.Asks.{none_due, none_issued, same_book}
 use Rattle.server_history.proofs.Going.{happening, lead_by, ports_same, with_device}
 use Rattle.server_history.proofs.Origins.{TurnSteps, answers_turn, issued_before, stood}
+use Rattle.server_history.proofs.Settling.{answer_apart}
 use Rattle.server_history.proofs.Rounds.{any_append, dues_carried, each_apart, each_settings, or_none}
 use Rattle.server_history.proofs.Serving.{still_over}
 use Rattle.server_history.proofs.Standing.{not_running}
@@ -175,8 +176,7 @@ answers_apart : BookLaws → (port : Port) (reply : Option Reply) (old new : Ser
 answers_apart laws port None old new order is other ne = ap (λ (n : Server). of_port other (asks_of n.book)) is
 answers_apart laws port (Some reply) old new order (found, e, told, (mid, one, issues)) other ne =
     each_apart laws port (due_ids plain_mode port (asks_of mid.book)) mid new (subst (λ (n : Server). IsInOrder n.book) (sym one.server) (laws.fewer old.book e.entry.id order)) issues other ne
-    ∙ ap (of_port other) (ap (λ (n : Server). asks_of n.book) one.server ∙ laws.asks_answered old.book e.entry.id)
-    ∙ laws.answered_apart other (asks_of old.book) (asks e.entry) (laws.asked old.book order) (into_map (λ (y : Held). asks y.entry) old.book e one.here) (λ same. ne (sym same ∙ one.port_is))
+    ∙ answer_apart laws port e (record old { device = found }) mid order one other ne
 
 -- ---- what was done so far
 

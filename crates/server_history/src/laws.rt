@@ -139,10 +139,10 @@ pub fn requests_keep()
     the_book_is_lawful();
 }
 
-/// Once the due requests of a port are issued, none of any port is due, if none of another was.
-pub fn issues_settle()
-    ensures { (s new : Server) (port : Port) → IsKept s → ((other : Port) → other ≢ port → NoneDue plain_mode (asks_of s.book) other)
-        → IssuesAll port s new → IsSettled new }
+/// Once a request is answered whose command is over, and then what is due on its port is issued, nothing is due.
+pub fn a_finished_port_settles()
+    ensures { (s new : Server) (port : Port) (request : Held) → IsSettled s → state_of (found_of s.ports port.0) ≡ ReadyState
+        → IsOver (s.device.port port.0) 0 → Finishes port request s new → IsSettled new }
 {
     the_book_is_lawful();
 }

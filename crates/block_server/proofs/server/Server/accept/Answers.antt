@@ -1,0 +1,87 @@
+use Rattle.std.proofs.Common.{ℕ, ◌≡◌, ◌+◌, List, Ok, refl, sym, [], subst, arith, slice_index_or, slice_set}
+use Rattle.ata_types.specs.declared.request.Frame.{Frame}
+use Rattle.block_machine.specs.Events.{Submit, Submitted}
+use Rattle.block_machine.specs.Due.{due_of}
+use Rattle.block_machine.specs.Refusals.{IsAcceptable}
+use Rattle.block_machine.specs.Rules.{HasNoFault}
+use Rattle.dma_frames.specs.Table.{owner_of, lent_to}
+use Rattle.block_server.specs.Calls.{AcceptsRequest, IsFor}
+use Rattle.block_server.specs.Ports.{with_part}
+use Rattle.block_server.specs.Seen.{seen}
+use Rattle.block_server.specs.View.{ServerView, server_of}
+use Rattle.request_queue.specs.Entries.{Held, asks_of}
+use Rattle.server_history.specs.Histories.{Adds}
+use Rattle.server_history.specs.Served.{Accepts, accepting}
+use Rattle.server_history.specs.Server.{Server, plain_mode, situation_of}
+use Rattle.block_server.proofs.Accepting as accepted
+use Rattle.block_server.proofs.server.Server.accept.Given.{Over}
+use Rattle.block_server.proofs.server.Server.accept.Goals as goal
+use Rattle.block_server.proofs.server.Server.accept.Goals.{After-issue_due}
+
+pub overflow_add-id : goal.overflow_add-id
+overflow_add-id g c = let h = accepted.next_fits (server_of g.A.Adapter.device (seen c.self.inside)) c.args.r.now (subst (λ (v : ServerView g.row.A.Denot). IsAcceptable (situation_of (server_of g.A.Adapter.device v)) c.args.r.now) (sym c.self.view_is) c.requires.acceptable) in omega (arith, h)
+
+pub lend-loan-requires-clause-clear : goal.lend-loan-requires-clause-clear
+lend-loan-requires-clause-clear g c =
+    rw c.deref_mut.ensures.value (subst (λ (frames : List Frame). HasNoFault (owner_of c.self.inside.table.value) (lent_to c.self.inside.table.value) c.args.r.now.client frames) (sym c.as_slice.ensures.value)
+    (accepted.faultless (server_of g.A.Adapter.device (seen c.self.inside)) c.args.r.now (subst (λ (v : ServerView g.row.A.Denot). IsAcceptable (situation_of (server_of g.A.Adapter.device v)) c.args.r.now) (sym c.self.view_is) c.requires.acceptable)))
+
+pub accept-requires-clause-few : goal.accept-requires-clause-few
+accept-requires-clause-few g c = accepted.has_place (server_of g.A.Adapter.device (seen c.self.inside)) c.args.r.now (subst (λ (v : ServerView g.row.A.Denot). IsAcceptable (situation_of (server_of g.A.Adapter.device v)) c.args.r.now) (sym c.self.view_is) c.requires.acceptable) c.self.invariant.kept c.args.port (subst (λ (v : ServerView g.row.A.Denot). IsFor v.grants c.args.r.now c.args.port) (sym c.self.view_is) c.requires.port)
+
+pub issue_due-requires : goal.issue_due-requires
+issue_due-requires g c = record {
+  lends = (accepting c.args.port c.args.r.now (record { 0 = c.self.inside.last + 1 }) c.lend-loan.new.self (server_of g.A.Adapter.device (seen c.self.inside)), accepted.lends (server_of g.A.Adapter.device (seen c.self.inside)) c.args.r.now (subst (λ (v : ServerView g.row.A.Denot). IsAcceptable (situation_of (server_of g.A.Adapter.device v)) c.args.r.now) (sym c.self.view_is) c.requires.acceptable) c.self.invariant.kept c.args.port (subst (λ (v : ServerView g.row.A.Denot). IsFor v.grants c.args.r.now c.args.port) (sym c.self.view_is) c.requires.port)
+    c.requests_keep.ensures.accepted (record { 0 = c.self.inside.last + 1 }) refl c.as_slice.result.now c.as_slice.ensures.value
+    c.lend-loan.new.self (rw c.deref_mut.ensures.value at c.lend-loan.ensures.lent) c.lend-loan.result.frames c.lend-loan.ensures.frames c.accept.new.self c.accept.ensures
+    (slice_index_or c.self.inside.slots c.from.result c.index-self-from.result)
+    (accepted.its_slots (server_of g.A.Adapter.device (seen c.self.inside)) c.args.r.now (subst (λ (v : ServerView g.row.A.Denot). IsAcceptable (situation_of (server_of g.A.Adapter.device v)) c.args.r.now) (sym c.self.view_is) c.requires.acceptable) c.self.invariant.kept c.args.port (subst (λ (v : ServerView g.row.A.Denot). IsFor v.grants c.args.r.now c.args.port) (sym c.self.view_is) c.requires.port) c.from.result c.from.ensures c.index-self-from.result));
+}
+
+-- the server then
+abbrev after : (g : Over) (c : After-issue_due g) → ServerView g.row.A.Denot
+after g c = record (seen c.self.inside) {
+  adapter = c.issue_due.new.adapter;
+  table = c.lend-loan.new.self;
+  slots = slice_set c.self.inside.slots c.from.result c.issue_due.new.slots;
+  book = c.issue_due.new.book;
+  last = c.self.inside.last + 1;
+}
+
+-- what was due then is issued
+sent : (g : Over) (c : After-issue_due g) → Accepts c.args.port c.args.r.now (record { 0 = c.self.inside.last + 1 }) (server_of g.A.Adapter.device (seen c.self.inside)) (server_of g.A.Adapter.device (after g c))
+sent g c =
+    let s = (server_of g.A.Adapter.device (seen c.self.inside)) in
+    let accepts = accepted.accepts (server_of g.A.Adapter.device (seen c.self.inside)) c.args.r.now (subst (λ (v : ServerView g.row.A.Denot). IsAcceptable (situation_of (server_of g.A.Adapter.device v)) c.args.r.now) (sym c.self.view_is) c.requires.acceptable) c.self.invariant.kept c.args.port (subst (λ (v : ServerView g.row.A.Denot). IsFor v.grants c.args.r.now c.args.port) (sym c.self.view_is) c.requires.port)
+        c.requests_keep.ensures.accepted (record { 0 = c.self.inside.last + 1 }) refl c.as_slice.result.now c.as_slice.ensures.value
+        c.lend-loan.new.self (rw c.deref_mut.ensures.value at c.lend-loan.ensures.lent) c.lend-loan.result.frames c.lend-loan.ensures.frames c.accept.new.self c.accept.ensures in
+    let lends = accepted.lends (server_of g.A.Adapter.device (seen c.self.inside)) c.args.r.now (subst (λ (v : ServerView g.row.A.Denot). IsAcceptable (situation_of (server_of g.A.Adapter.device v)) c.args.r.now) (sym c.self.view_is) c.requires.acceptable) c.self.invariant.kept c.args.port (subst (λ (v : ServerView g.row.A.Denot). IsFor v.grants c.args.r.now c.args.port) (sym c.self.view_is) c.requires.port)
+        c.requests_keep.ensures.accepted (record { 0 = c.self.inside.last + 1 }) refl c.as_slice.result.now c.as_slice.ensures.value
+        c.lend-loan.new.self (rw c.deref_mut.ensures.value at c.lend-loan.ensures.lent) c.lend-loan.result.frames c.lend-loan.ensures.frames c.accept.new.self c.accept.ensures
+        (slice_index_or c.self.inside.slots c.from.result c.index-self-from.result)
+        (accepted.its_slots (server_of g.A.Adapter.device (seen c.self.inside)) c.args.r.now (subst (λ (v : ServerView g.row.A.Denot). IsAcceptable (situation_of (server_of g.A.Adapter.device v)) c.args.r.now) (sym c.self.view_is) c.requires.acceptable) c.self.invariant.kept c.args.port (subst (λ (v : ServerView g.row.A.Denot). IsFor v.grants c.args.r.now c.args.port) (sym c.self.view_is) c.requires.port) c.from.result c.from.ensures c.index-self-from.result) in
+    let more : Server = accepting c.args.port c.args.r.now (record { 0 = c.self.inside.last + 1 }) c.lend-loan.new.self s in
+    subst (λ (n : ℕ). Accepts c.args.port c.args.r.now (record { 0 = c.self.inside.last + 1 }) s (record more { device = g.A.Adapter.device c.issue_due.new.adapter; slots = slice_set c.self.inside.slots n c.issue_due.new.slots; book = c.issue_due.new.book })) (sym c.from.ensures)
+    (accepts (with_part more (g.A.Adapter.device c.issue_due.new.adapter) c.issue_due.new.book c.issue_due.new.slots c.args.port) (c.issue_due.ensures.issues more lends))
+
+pub invariant_of-self : goal.invariant_of-self
+invariant_of-self g c =
+    (c.acceptances_add.ensures (server_of g.A.Adapter.device (seen c.self.inside)) (server_of g.A.Adapter.device (after g c)) c.args.port c.args.r.now (record { 0 = c.self.inside.last + 1 }) c.self.invariant (subst (λ (v : ServerView g.row.A.Denot). IsAcceptable (situation_of (server_of g.A.Adapter.device v)) c.args.r.now) (sym c.self.view_is) c.requires.acceptable) (sent g c)).settled
+
+pub returns-clause-accepts : goal.returns-clause-accepts
+returns-clause-accepts g c =
+    subst (λ (v : ServerView g.row.A.Denot). AcceptsRequest g.A.Adapter.device v (after g c) c.args.r.now (record { 0 = c.self.inside.last + 1 })) c.self.view_is (record {
+      acceptable = (subst (λ (v : ServerView g.row.A.Denot). IsAcceptable (situation_of (server_of g.A.Adapter.device v)) c.args.r.now) (sym c.self.view_is) c.requires.acceptable);
+      port = c.args.port;
+      accepts = sent g c;
+      same = λ none.
+          let book = accepted.its_book (server_of g.A.Adapter.device (seen c.self.inside)) c.args.r.now (subst (λ (v : ServerView g.row.A.Denot). IsAcceptable (situation_of (server_of g.A.Adapter.device v)) c.args.r.now) (sym c.self.view_is) c.requires.acceptable) c.self.invariant.kept c.args.port (subst (λ (v : ServerView g.row.A.Denot). IsFor v.grants c.args.r.now c.args.port) (sym c.self.view_is) c.requires.port)
+              c.requests_keep.ensures.accepted (record { 0 = c.self.inside.last + 1 }) refl c.as_slice.result.now c.as_slice.ensures.value
+              c.lend-loan.new.self (rw c.deref_mut.ensures.value at c.lend-loan.ensures.lent) c.lend-loan.result.frames c.lend-loan.ensures.frames c.accept.new.self c.accept.ensures in
+          c.issue_due.ensures.none (subst (λ (b : List Held). due_of plain_mode c.args.port (asks_of b) ≡ []) book none);
+    })
+
+pub returns-clause-adds : goal.returns-clause-adds
+returns-clause-adds g c =
+    subst (λ (v : ServerView g.row.A.Denot). Adds (server_of g.A.Adapter.device v) (server_of g.A.Adapter.device (after g c)) (Submit c.args.r.now) (Submitted (Ok (record { 0 = c.self.inside.last + 1 })))) c.self.view_is
+    (c.acceptances_add.ensures (server_of g.A.Adapter.device (seen c.self.inside)) (server_of g.A.Adapter.device (after g c)) c.args.port c.args.r.now (record { 0 = c.self.inside.last + 1 }) c.self.invariant (subst (λ (v : ServerView g.row.A.Denot). IsAcceptable (situation_of (server_of g.A.Adapter.device v)) c.args.r.now) (sym c.self.view_is) c.requires.acceptable) (sent g c))
