@@ -1,8 +1,7 @@
 -- An accepted request: what is asked of the calls that accept it, and what the server then is.
-use Rattle.std.proofs.Common.{ℕ, ◌≡◌, ◌+◌, ◌^◌, ◌<◌, ◌++◌, ◌∷◌, [], List, Some, inl, inr, refl, sym, ◌∙◌, ap, subst, arith}
+use Rattle.std.proofs.Common.{ℕ, ◌≡◌, ◌+◌, ◌^◌, ◌<◌, ◌++◌, ◌∷◌, [], List, Some, inl, inr, refl, sym, ◌∙◌, ap, subst}
 use Rattle.std.specs.Prelude.{slice_index_or}
 use Rattle.std.proofs.lemmas.Bool.{cases_lt}
-use Rattle.std.proofs.lemmas.List.{get_or_default}
 use Rattle.ata_types.specs.declared.Port.{Port}
 use Rattle.ata_types.specs.declared.PortState.TheVariants.{Ready as ReadyState}
 use Rattle.ata_types.specs.declared.grant.GrantRow.{GrantRow}
@@ -20,7 +19,7 @@ use Rattle.server_history.specs.Served.{Accepts, IssuesAll, accepted_as, accepti
 use Rattle.server_history.specs.Server.{Server, IsKept, no_slots, situation_of, state_of}
 use Rattle.server_history.proofs.Granting.{has_room, on_ready}
 use Rattle.slots.specs.Uses.{Uses as PortSlots}
-use Rattle.block_server.proofs.Sending.{served_ready}
+use Rattle.block_server.proofs.Sending.{served_ready, slots_at}
 use Rattle.block_server.specs.Calls.{IsFor}
 use Rattle.block_server.specs.Ports.{Lends}
 
@@ -46,12 +45,8 @@ module _ (s : Server) (r : Request) (acc : IsAcceptable (situation_of s) r) wher
     there : HasPort s.device port.0
     there = k.there port.0 (served_ready (found_of s.ports port.0) ready)
 
-    -- the slots of its port, wherever that is said to be
     pub its_slots : (number : ℕ) → number ≡ port.0 → (default : PortSlots) → slice_index_or s.slots port.0 no_slots ≡ slice_index_or s.slots number default
-    its_slots number is default =
-        let f = k.four in
-        let p = there.0 in
-        get_or_default s.slots port.0 no_slots default (omega (arith, f, p)) ∙ ap (λ (n : ℕ). slice_index_or s.slots n default) (sym is)
+    its_slots = slots_at s port.0 k there.0
 
     -- ---- what the server then is
 

@@ -6,4 +6,5 @@ pub mod Serving
 pub mod Turns
 pub mod Making
 pub mod Accepting
+pub mod Finishing
 mod Sending

@@ -3,7 +3,7 @@ use Rattle.std.proofs.Common.{ℕ, suc, ◌≡◌, ◌≢◌, ◌+◌, ◌/◌, 
 use Rattle.std.specs.Prelude.{IfSome, IfNone, IsSome}
 use Rattle.std.specs.List.{All, Contains}
 use Rattle.std.proofs.lemmas.Bool.{true≢false}
-use Rattle.std.proofs.lemmas.List.{drop_more, get_or-set_same, set-get_or, set-set}
+use Rattle.std.proofs.lemmas.List.{drop_more, get_or_default, get_or-set_same, set-get_or, set-set}
 use Rattle.std.proofs.lemmas.List.Elements.{All-contains}
 use Rattle.ata_types.specs.Grant.{Allows}
 use Rattle.ata_types.specs.declared.Port.{Port}
@@ -89,6 +89,12 @@ taken old new None used one free lowest is full =
     let z : IsSome (use_at old 0) = full 0 (omega (arith, one)) in
     let y : false ≡ true = subst (λ (o : Option SlotUse). IsSome o) free z in
     absurd (true≢false (sym y))
+
+-- the slots of a port, wherever that is said to be
+pub slots_at : (s : Server) (port : ℕ) → IsKept s → port < 4 → (number : ℕ) → number ≡ port → (default : PortSlots) → get_or s.slots port no_slots ≡ get_or s.slots number default
+slots_at s port k low number is default =
+    let f = k.four in
+    get_or_default s.slots port no_slots default (omega (arith, f, low)) ∙ ap (λ (n : ℕ). get_or s.slots n default) (sym is)
 
 -- a port that is ready is served, so it is there
 pub served_ready : (f : Found) → state_of f ≡ Ready → is_served f ≡ true

@@ -17,6 +17,7 @@ use grants::{Grants, decide};
 use host_boot::{Found, PORTS, take_over};
 use identify::Wanted;
 use plan::Plan;
+use request_queue::laws::an_id_is_one_request;
 use request_queue::{Book, Entry};
 use slots::Slots;
 use std::alloc::Global;
@@ -272,6 +273,7 @@ impl<A: Adapter> Server<A> {
         ensures finishes { (request : Held) × (result ≡ done_reply request) × Finishes port request (server_of A.device self.old) (server_of A.device self.new) }
     {
         a_used_slot_has_its_request();
+        an_id_is_one_request();
         requests_keep();
         a_finished_port_settles();
         let slots = &mut self.slots[usize::from(port.0)];
