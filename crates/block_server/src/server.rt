@@ -271,6 +271,8 @@ impl<A: Adapter> Server<A> {
         requires used { (used : SlotUse) × (used_for self.old.slots port.0 0 ≡ Some used) × (used.id ≡ id) }
         requires over { IsOver ((A.device self.old.adapter).port port.0) 0 }
         ensures finishes { (request : Held) × (result ≡ done_reply request) × Finishes port request (server_of A.device self.old) (server_of A.device self.new) }
+        ensures settled { IsSettled (server_of A.device self.new) }
+        ensures ports { self.new.ports ≡ self.old.ports }
     {
         a_used_slot_has_its_request();
         an_id_is_one_request();

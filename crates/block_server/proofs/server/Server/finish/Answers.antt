@@ -112,4 +112,6 @@ returns g c = record {
     ap (λ (id : RequestId). record { id = id; client = c.answer-loan.result.0.client; outcome = Ok }) (sym c.answer-loan.ensures.id.0),
     subst (λ (v : ServerView g.row.A.Denot). Finishes c.args.port (record { entry = c.answer-loan.result.0; frames = c.answer-loan.result.1.frames }) (server_of g.A.Adapter.device v) (server_of g.A.Adapter.device (after g c))) c.self.view_is (finished g c),
   );
+  settled = invariant_of-self g c;
+  ports = ap (λ (v : ServerView g.row.A.Denot). v.ports) c.self.view_is;
 }
