@@ -7,7 +7,6 @@ use Rattle.ata_types.specs.declared.PortState.TheVariants.{Ready}
 use Rattle.ata_types.specs.declared.request.RequestId.{RequestId}
 use Rattle.adapter.specs.Device.{Device}
 use Rattle.adapter.specs.Rules.{HasPort}
-use Rattle.agreement.specs.Slots.{IsOver}
 use Rattle.block_server.specs.Ports.{Lends, with_part}
 use Rattle.dma_frames.specs.Table.{LendsOnly, Table}
 use Rattle.host_boot.specs.Taken.{found_of}

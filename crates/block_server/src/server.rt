@@ -8,8 +8,8 @@ use crate::port::{PLAIN, issue_due};
 use adapter::{Adapter, DeviceStep, Stepped};
 use arrayvec::ArrayVec;
 use ata_types::{
-    ClientId, FRAME_BYTES, Frame, GrantRow, MemFault, Op, Outcome, Port, PortState, Range,
-    Refusal, Replies, Reply, Request, RequestId, Rights, Slot,
+    ClientId, FRAME_BYTES, Frame, GrantRow, MemFault, Op, Outcome, Port, PortState, Range, Refusal,
+    Replies, Reply, Request, RequestId, Rights, Slot,
 };
 use configuration::Config;
 use dma_frames::FrameTable;
@@ -19,12 +19,12 @@ use identify::Wanted;
 use plan::Plan;
 use request_queue::laws::an_id_is_one_request;
 use request_queue::{Book, Entry};
-use slots::Slots;
-use std::alloc::Global;
 use server_history::laws::{
     a_finished_port_settles, a_port_is_served, a_used_slot_has_its_request, acceptances_add,
     looks_keep, requests_keep, services_add,
 };
+use slots::Slots;
+use std::alloc::Global;
 use std::marker::Model;
 use transfers::{Look, is_done, look_at};
 

@@ -1,5 +1,5 @@
 -- A request that is accepted adds an event, and the server keeps what it keeps.
-use Rattle.std.proofs.Common.{ℕ, suc, ◌≡◌, ◌≢◌, ◌+◌, ◌≤◌, ◌<◌, ◌==◌, ◌||◌, cond, Bool, true, false, List, [], ◌∷◌, ◌++◌, map, Option, Some, None, Ok, inl, inr, refl, sym, ap, ◌∙◌, subst, arith, ⊎_elim, eqb-true, eq-eqb}
+use Rattle.std.proofs.Common.{ℕ, ◌≡◌, ◌≢◌, ◌+◌, ◌≤◌, ◌<◌, ◌==◌, cond, Bool, true, false, List, [], ◌∷◌, ◌++◌, Option, Some, None, Ok, inr, refl, sym, ap, ◌∙◌, subst, arith, ⊎_elim, eqb-true, eq-eqb}
 use Rattle.std.specs.List.{All, Contains, list_any}
 use Rattle.std.specs.Prelude.{slice_index_or}
 use Rattle.std.proofs.lemmas.Bool.{cond-true, cond-false, false≢true, ne_eqb, or_cases}
@@ -13,43 +13,40 @@ use Rattle.ata_types.specs.declared.request.Request.{Request}
 use Rattle.ata_types.specs.declared.request.RequestId.{RequestId}
 use Rattle.adapter.specs.Device.{Device}
 use Rattle.adapter.specs.declared.access.DeviceStep.{DeviceStep}
-use Rattle.block_machine.specs.Due.{IsDue, NoneDue, conflict, holds_back, is_clear, of_port}
+use Rattle.block_machine.specs.Due.{NoneDue, of_port}
 use Rattle.block_machine.specs.Events as events
 use Rattle.block_machine.specs.Events.{Moment, Submit, Submitted, AllDevices, AllIssued, AllLawful, Belong, IsIssuedIn, IssuesLast, accepts_of, issues_it}
 use Rattle.block_machine.specs.Histories.{Instant, Happening, IsReached, now}
 use Rattle.block_machine.specs.Left.{after}
-use Rattle.block_machine.specs.Ports.{Ports, Evidence, SamePorts}
+use Rattle.block_machine.specs.Ports.{SamePorts}
 use Rattle.block_machine.specs.Refusals.{Situation, IsAcceptable}
 use Rattle.block_machine.specs.Rules.{IsNamed}
 use Rattle.block_machine.specs.State as machine
 use Rattle.block_machine.specs.State.{Machine, unanswered}
-use Rattle.block_machine.specs.Steps.{Step, Accept, Issue, Again, Answer, IsNew, after_step, lend, newly_accepted}
+use Rattle.block_machine.specs.Steps.{Step, Accept, IsNew, after_step, lend}
 use Rattle.block_machine.specs.declared.due.Unanswered.{Unanswered}
 use Rattle.block_machine.proofs.EventLemmas.{after-append}
 use Rattle.block_machine.proofs.HistoryLemmas.{may-append, reached_more}
 use Rattle.block_machine.proofs.Members.{contains_here, contains_there, some_in}
 use Rattle.agreement.specs.Driven.{IsDrivenBy, known}
-use Rattle.agreement.specs.Driver.{Knows}
 use Rattle.agreement.proofs.Adding.{backed_then}
 use Rattle.agreement.proofs.Calling.{own_backed}
 use Rattle.agreement.proofs.Deciding.{accept_knows}
 use Rattle.agreement.proofs.Lasting.{same_refl}
-use Rattle.dma_frames.specs.Table.{Table, owner_of, lent_to, LendsOnly}
+use Rattle.dma_frames.specs.Table.{Table, lent_to, LendsOnly}
 use Rattle.host_boot.specs.Taken.{found_of}
 use Rattle.host_boot.specs.declared.Found.{Found}
-use Rattle.request_queue.specs.Entries.{Held, IsAccepted, IsEarlier, IsInOrder, asks, asks_of, due_ids}
-use Rattle.request_queue.specs.Machine.{IsBook, IsEntry}
+use Rattle.request_queue.specs.Entries.{Held, IsAccepted, IsEarlier, asks, asks_of, due_ids}
 use Rattle.driver_history.specs.Histories.{IssuesDue, IssuesOn}
 use Rattle.driver_history.specs.Trace.{LeavesEngine}
 use Rattle.driver_history.proofs.Calm.{untroubled}
 use Rattle.server_history.specs.Book.{BookLaws}
 use Rattle.server_history.specs.Histories.{Adds, Leads}
-use Rattle.server_history.specs.Served.{Accepts, IssuesAll, IssuesOnly, accepted_as, accepting}
+use Rattle.server_history.specs.Served.{Accepts, IssuesAll, accepted_as, accepting}
 use Rattle.server_history.specs.Server.{Server, IsKept, IsMachineOf, IsSettled, none_parked, plain_mode, ports_of, situation_of, state_of}
 use Rattle.server_history.proofs.Asks.{none_due}
 use Rattle.server_history.proofs.Calls.{reached, situation_is}
 use Rattle.server_history.proofs.Coming.{issuing_is, issuing_leaves}
-use Rattle.server_history.proofs.Devices.{not_handled}
 use Rattle.server_history.proofs.Going.{kept_then, lead_by, ports_same, with_device}
 use Rattle.server_history.proofs.Granting.{has_room, is_accepted, is_new, on_ready, request_in, entry_in, unlent}
 use Rattle.server_history.proofs.Rounds.{AreIssued, accepts_on, any_append, belong_on, dues, dues_carried, each_driven, each_issued, each_settings, last_on, lawful_on, or_none, settled}

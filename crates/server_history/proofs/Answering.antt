@@ -1,5 +1,5 @@
 -- The request of a ready port's slot 0, whose command is over, is answered.
-use Rattle.std.proofs.Common.{ℕ, ◌≡◌, ◌≢◌, ◌<◌, ◌≤◌, ◌==◌, Bool, true, false, cond, List, [], ◌∷◌, get_or, Option, Some, None, inl, inr, refl, sym, ap, ◌∙◌, subst, ⊎_elim, arith, eqb-true, eq-eqb}
+use Rattle.std.proofs.Common.{ℕ, ◌≡◌, ◌<◌, ◌≤◌, ◌==◌, Bool, true, false, cond, List, [], ◌∷◌, get_or, Option, Some, None, inl, refl, sym, ap, ◌∙◌, subst, ⊎_elim, arith, eqb-true, eq-eqb}
 use Rattle.std.specs.List.{All, Contains}
 use Rattle.std.proofs.lemmas.Bool.{cond-true, false≢true}
 use Rattle.std.proofs.lemmas.List.{get_or_default}
@@ -14,13 +14,13 @@ use Rattle.adapter.specs.Device.{Device}
 use Rattle.adapter.proofs.Changed.{changed_each}
 use Rattle.block_machine.specs.Histories.{IsReached}
 use Rattle.block_machine.specs.State.{Machine, Pending}
-use Rattle.block_machine.specs.Steps.{Step, Answer, AllTouched, IsLiving, after_step, is_lent_to, unlend}
+use Rattle.block_machine.specs.Steps.{Answer, AllTouched, IsLiving, after_step, is_lent_to, unlend}
 use Rattle.block_machine.proofs.HistoryLemmas.{reached_more}
 use Rattle.block_machine.proofs.Lending.{lent_own}
 use Rattle.block_machine.proofs.Members.{contains_none, contains_cases}
 use Rattle.agreement.specs.Driven.{known}
 use Rattle.agreement.specs.Driver.{Forgets, HasNoSlot, Known, parking}
-use Rattle.agreement.specs.Slots.{Free, Serves, Use, Uses, put, IsDropped, IsEnded, IsOver, ServesRequest}
+use Rattle.agreement.specs.Slots.{Free, Serves, Uses, put, IsDropped, IsEnded, IsOver, ServesRequest}
 use Rattle.agreement.proofs.Deciding.{answer_knows}
 use Rattle.agreement.proofs.Lasting.{same_refl}
 use Rattle.agreement.proofs.Parking.{parking_frees}
@@ -29,11 +29,11 @@ use Rattle.host_boot.specs.Taken.{found_of}
 use Rattle.request_queue.specs.Entries.{Held, IsAccepted, without}
 use Rattle.request_queue.specs.Machine.{IsBook, IsEntry}
 use Rattle.server_history.specs.Served.{AnswersOne}
-use Rattle.server_history.specs.Server.{Server, IsKept, IsMachineOf, none_parked, state_of, usable_of, used_for, with_slot}
+use Rattle.server_history.specs.Server.{Server, IsKept, IsMachineOf, none_parked, state_of, usable_of, with_slot}
 use Rattle.server_history.specs.Book.{BookLaws}
 use Rattle.server_history.proofs.Going.{kept_then}
 use Rattle.server_history.proofs.Placing.{placed_four, placed_has, placed_uses}
-use Rattle.server_history.proofs.Slots.{IsServedBy, of_ready, parked_first, ready_found, served_request, serves_used, stage_over}
+use Rattle.server_history.proofs.Slots.{IsServedBy, parked_first, ready_found, served_request, serves_used, stage_over}
 
 -- ---- loans
 

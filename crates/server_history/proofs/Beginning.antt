@@ -1,10 +1,10 @@
 -- A new server keeps what a server keeps, and a history without calls leads to it.
-use Rattle.std.proofs.Common.{ℕ, zero, suc, ◌≡◌, ◌≢◌, ◌+◌, ◌*◌, ◌<◌, ◌≤◌, ◌⊎◌, true, false, List, [], ◌∷◌, length, Option, Some, None, slice_index, refl, sym, ◌∙◌, ap, subst, arith, inl, inr, ⊎_elim}
+use Rattle.std.proofs.Common.{ℕ, zero, suc, ◌≡◌, ◌+◌, ◌*◌, ◌<◌, ◌≤◌, true, false, List, [], ◌∷◌, length, Option, Some, None, slice_index, refl, sym, ◌∙◌, ap, subst, arith, inl, inr, ⊎_elim}
 use Rattle.std.specs.List.{All, AllPairs, Contains}
 use Rattle.std.proofs.lemmas.Bool.{false≢true, cases_lt}
 use Rattle.std.proofs.lemmas.List.Elements.{All-contains, All-nil}
 use Rattle.ata_types.specs.declared.PortState.{PortState}
-use Rattle.ata_types.specs.declared.PortState.TheVariants.{Absent, Ready as ReadyState, Foreign, Unfit, Dead}
+use Rattle.ata_types.specs.declared.PortState.TheVariants.{Absent, Ready as ReadyState, Unfit}
 use Rattle.ata_types.specs.declared.Port.{Port}
 use Rattle.ata_types.specs.declared.grant.GrantRow.{GrantRow}
 use Rattle.ata_types.specs.declared.request.ClientId.{ClientId}
@@ -13,11 +13,10 @@ use Rattle.ata_types.specs.declared.request.RequestId.{RequestId}
 use Rattle.hba_regs.specs.Bits.{bit}
 use Rattle.adapter.specs.Device.{Device}
 use Rattle.adapter.specs.Idle.{IsIdle, TellsDisks}
-use Rattle.adapter.specs.declared.command.Operation.TheVariants.{Identify}
 use Rattle.agreement.specs.Agrees.{SameSectors, port_at}
 use Rattle.agreement.specs.Driven.{known}
 use Rattle.agreement.specs.Driver.{Knows, idle}
-use Rattle.agreement.specs.Slots.{Free, Own, Use, Uses}
+use Rattle.agreement.specs.Slots.{Free, Uses}
 use Rattle.agreement.specs.Spares.{AllFurther, SparesBook}
 use Rattle.agreement.proofs.Idling.{idle_knows}
 use Rattle.agreement.proofs.Sparing.{steps_spare}

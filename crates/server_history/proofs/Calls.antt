@@ -18,7 +18,6 @@ use Rattle.adapter.specs.Steps.{Steps}
 use Rattle.adapter.specs.declared.access.DeviceStep.{DeviceStep}
 use Rattle.adapter.specs.declared.command.Operation.TheVariants.{Identify}
 use Rattle.adapter.proofs.Changed.{fun_ext}
-use Rattle.agreement.specs.Agrees.{port_at}
 use Rattle.agreement.specs.Driven.{IsDrivenBy, SendsNone, known}
 use Rattle.agreement.specs.Driver.{EndsWith}
 use Rattle.agreement.specs.Links.{SameAdapter}

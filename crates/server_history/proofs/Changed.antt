@@ -16,4 +16,3 @@ all_changed id change P keeps (e ∷ book) all =
     one : (b : Bool) → has_id id e ≡ b → P (at id change e)
     one true is = subst P (sym (cond-true (has_id id e) (record e { entry = change e.entry }) e is)) (keeps e (All-head P e book all))
     one false is = subst P (sym (cond-false (has_id id e) (record e { entry = change e.entry }) e is)) (All-head P e book all)
-

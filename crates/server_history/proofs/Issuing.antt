@@ -1,10 +1,9 @@
 -- A due request is issued in slot 0 of its port.
-use Rattle.std.proofs.Common.{ℕ, ◌≡◌, ◌≢◌, ◌+◌, ◌<◌, ◌≤◌, false, true, not, Bool, List, [], ◌∷◌, map, Option, Some, None, inl, refl, sym, ap, ◌∙◌, subst, arith}
+use Rattle.std.proofs.Common.{ℕ, ◌≡◌, ◌<◌, ◌≤◌, false, true, not, Bool, List, ◌∷◌, map, Option, Some, None, refl, sym, ap, ◌∙◌, subst, arith}
 use Rattle.std.proofs.lemmas.Bool.{and_parts, false≢true}
-use Rattle.std.specs.List.{All, Contains}
+use Rattle.std.specs.List.{Contains}
 use Rattle.ata_types.specs.declared.Port.{Port}
-use Rattle.ata_types.specs.declared.PortState.TheVariants.{Dead, Ready as ReadyState}
-use Rattle.ata_types.specs.declared.request.Frame.{Frame}
+use Rattle.ata_types.specs.declared.PortState.TheVariants.{Ready as ReadyState}
 use Rattle.ata_types.specs.declared.request.RequestId.{RequestId}
 use Rattle.adapter.specs.Device.{Device}
 use Rattle.adapter.specs.declared.command.Operation.TheVariants.{Identify}
@@ -19,15 +18,13 @@ use Rattle.block_machine.proofs.HistoryLemmas.{reached_more}
 use Rattle.block_machine.proofs.Members.{contains_none}
 use Rattle.agreement.specs.Agrees.{port_at}
 use Rattle.agreement.specs.Driven.{known, IsDrivenBy}
-use Rattle.agreement.specs.Driver.{EndsWith, Knows, IsBacked, serving}
-use Rattle.agreement.specs.Slots.{Free, Own, Serves, Use, Uses, put}
+use Rattle.agreement.specs.Driver.{EndsWith, IsBacked, serving}
+use Rattle.agreement.specs.Slots.{Free, Serves, Use, put}
 use Rattle.agreement.specs.Spares.{AllFurther, SparesBook}
 use Rattle.agreement.proofs.Driven.{driven_as}
 use Rattle.agreement.proofs.Sparing.{steps_spare}
-use Rattle.dma_frames.specs.Table.{owner_of, lent_to}
 use Rattle.host_boot.specs.Taken.{found_of}
-use Rattle.host_boot.specs.declared.Found.TheVariants.{Unready}
-use Rattle.request_queue.specs.Entries.{Held, IsAccepted, IsInOrder, asks, asks_of, at, issue}
+use Rattle.request_queue.specs.Entries.{Held, asks_of, at, issue}
 use Rattle.request_queue.specs.Machine.{IsBook, IsEntry}
 use Rattle.slots.specs.declared.Use.{Use as SlotUse}
 use Rattle.server_history.specs.Served.{IssuesOne, transfer_of}

@@ -1,8 +1,8 @@
 -- A slot of a port put to another use.
-use Rattle.std.proofs.Common.{ℕ, ◌≡◌, ◌≢◌, ◌≤◌, ◌<◌, List, get_or, set, length, Option, Some, None, inl, refl, sym, ap, ◌∙◌, subst, ⊎_elim, arith}
+use Rattle.std.proofs.Common.{ℕ, ◌≡◌, ◌≢◌, ◌≤◌, ◌<◌, List, get_or, length, Option, None, inl, sym, ap, ◌∙◌, subst, ⊎_elim, arith}
 use Rattle.std.proofs.lemmas.Bool.{cases_eq}
 use Rattle.std.proofs.lemmas.List.{get_or-set_same, get_or-set_other, length-set}
-use Rattle.agreement.specs.Slots.{Own, Use, Uses, put}
+use Rattle.agreement.specs.Slots.{Use, Uses, put}
 use Rattle.agreement.proofs.Putting.{put_cases, put_same}
 use Rattle.host_boot.specs.Taken.{found_of}
 use Rattle.host_boot.specs.declared.Found.{Found}

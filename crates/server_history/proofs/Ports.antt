@@ -1,5 +1,5 @@
 -- What accesses leave of ports, as a server has them.
-use Rattle.std.proofs.Common.{ℕ, suc, ◌≡◌, ◌≢◌, List, refl, sym, ◌∙◌, arith}
+use Rattle.std.proofs.Common.{ℕ, suc, ◌≡◌, ◌≢◌, List, arith}
 use Rattle.ata_types.specs.declared.Port.{Port}
 use Rattle.ata_types.specs.declared.PortState.TheVariants.{Absent, Ready as ReadyState, Foreign, Unfit, Dead}
 use Rattle.adapter.specs.Access.{Access, Does}

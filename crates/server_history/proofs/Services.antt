@@ -5,7 +5,7 @@ use Rattle.std.specs.List.Sorted.{IsPermutation}
 use Rattle.std.specs.Prelude.{◌↔◌}
 use Rattle.std.proofs.lemmas.Bool.{and_from, and_parts, cases_Bool, cases_eq, false≢true, cases_lt, or_from}
 use Rattle.std.proofs.lemmas.List.{map-append}
-use Rattle.std.proofs.lemmas.List.Elements.{All-contains, All-nil, All-append, All-push, Contains-append_cases, Contains-append_right}
+use Rattle.std.proofs.lemmas.List.Elements.{All-nil, All-append, All-push, Contains-append_cases, Contains-append_right}
 use Rattle.std.proofs.lemmas.List.Quantifiers.{all_pairs_push}
 use Rattle.std.proofs.lemmas.List.Sorted.{IsPermutation-push_more, IsPermutation-refl}
 use Rattle.ata_types.specs.declared.Port.{Port}
@@ -46,7 +46,7 @@ use Rattle.block_machine.specs.Steps.{Step, Issue, Answer, May}
 use Rattle.block_machine.proofs.Calm.{calmly, is_refused}
 use Rattle.block_machine.proofs.EventLemmas.{after-append}
 use Rattle.block_machine.proofs.HistoryLemmas.{history_reaches, reached_more}
-use Rattle.block_machine.proofs.Members.{contains_cases, contains_here, contains_none, contains_there, into_map, map_in}
+use Rattle.block_machine.proofs.Members.{contains_cases, contains_here, contains_none, contains_there, map_in}
 use Rattle.block_machine.proofs.Standing.{standing}
 use Rattle.block_machine.proofs.Started.{ended_issued}
 use Rattle.host_boot.specs.Taken.{found_of}
@@ -56,7 +56,7 @@ use Rattle.identify.specs.declared.DiskInfo.{DiskInfo}
 use Rattle.driver_history.specs.Evidence.{StaysHealthy}
 use Rattle.driver_history.specs.Histories.{Begins, FindsDone, HasBadDisk, IsAnsweredOk, IsIssuedOn, IssuesDue, TendsPort, Ties, TiesPort}
 use Rattle.dma_frames.specs.Table.{Table}
-use Rattle.request_queue.specs.Entries.{Held, IsInOrder, asks, asks_of, due_ids}
+use Rattle.request_queue.specs.Entries.{IsInOrder, asks_of, due_ids}
 use Rattle.request_queue.specs.Machine.{IsEntry}
 use Rattle.slots.specs.declared.Use.{Use as SlotUse}
 use Rattle.driver_history.specs.Trace.{IsServing, LeavesCommand, ReadsMasks}

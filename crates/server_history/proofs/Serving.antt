@@ -1,6 +1,6 @@
 -- How a ready port is served: where nobody is answered, and where its first request is.
-use Rattle.std.proofs.Common.{ℕ, ◌≡◌, ◌≢◌, ◌⊎◌, ◌<◌, ◌∷◌, ◌++◌, ◌||◌, Bool, true, false, not, ◌&&◌, List, [], Some, None, refl, sym, ap, ◌∙◌, subst, inl, inr, ⊎_elim, append_assoc}
-use Rattle.std.proofs.lemmas.Bool.{cases_Bool, false≢true}
+use Rattle.std.proofs.Common.{ℕ, ◌≡◌, ◌≢◌, ◌⊎◌, ◌<◌, ◌∷◌, ◌++◌, ◌||◌, Bool, true, false, not, ◌&&◌, List, [], Some, None, refl, sym, ap, ◌∙◌, subst, inl, inr, ⊎_elim}
+use Rattle.std.proofs.lemmas.Bool.{false≢true}
 use Rattle.ata_types.specs.declared.Port.{Port}
 use Rattle.ata_types.specs.declared.PortState.TheVariants.{Ready as ReadyState}
 use Rattle.ata_types.specs.declared.request.Outcome.TheVariants.{Ok}

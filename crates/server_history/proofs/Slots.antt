@@ -1,6 +1,6 @@
 -- What the slots of ports are used for, and how that of a ready port is given up.
-use Rattle.std.proofs.Common.{ℕ, suc, ◌≡◌, ◌≢◌, ◌≤◌, ◌<◌, ◌⊎◌, ◌==◌, ◌&&◌, ◌||◌, true, false, List, [], ◌∷◌, Option, None, Some, inl, inr, refl, sym, ap, ◌∙◌, subst, ⊎_elim, arith, eq-eqb}
-use Rattle.std.specs.List.{AllPairs, AllZip, Contains}
+use Rattle.std.proofs.Common.{ℕ, ◌≡◌, ◌≢◌, ◌≤◌, ◌<◌, ◌⊎◌, true, List, Option, None, Some, inl, inr, refl, sym, ap, ◌∙◌, subst, ⊎_elim, arith, eq-eqb}
+use Rattle.std.specs.List.{Contains}
 use Rattle.std.proofs.lemmas.Bool.{and_from, cases_eq, cond-true, false≢true, or_left}
 use Rattle.std.proofs.lemmas.List.Elements.{All-contains}
 use Rattle.ata_types.specs.declared.Port.{Port}
@@ -14,7 +14,7 @@ use Rattle.adapter.specs.declared.command.Operation.TheVariants.{Identify}
 use Rattle.block_machine.specs.Due.{IsDue, is_plain}
 use Rattle.block_machine.specs.State.{Machine, Pending}
 use Rattle.block_machine.proofs.Counting.{unheld}
-use Rattle.block_machine.proofs.Members.{contains_cases, contains_here, contains_none, contains_there, into_map}
+use Rattle.block_machine.proofs.Members.{contains_none, into_map}
 use Rattle.agreement.specs.Driven.{AgreesWith, known}
 use Rattle.agreement.specs.Driver.{Knows, parking}
 use Rattle.agreement.specs.Slots.{Free, Own, Serves, Use, IsDropped, IsEnded, IsOver, IsServed, ServesRequest, Stage}
@@ -27,7 +27,7 @@ use Rattle.identify.specs.declared.DiskInfo.{DiskInfo}
 use Rattle.request_queue.specs.Entries.{Held, asks, asks_of}
 use Rattle.request_queue.specs.Machine.{IsEntry}
 use Rattle.slots.specs.declared.Use.{Use as SlotUse}
-use Rattle.server_history.specs.Served.{is_busy, is_used}
+use Rattle.server_history.specs.Served.{is_used}
 use Rattle.server_history.specs.Server.{Server, IsKept, IsMachineOf, IsUsedAs, is_served, none_parked, plain_mode, state_of, usable_of, use_of, used_for}
 use Rattle.server_history.proofs.Zips.{at_right}
 
@@ -123,9 +123,9 @@ pub served_request : (s : Server) (m : Machine) (port slot : ℕ) → (is : IsMa
 served_request s m port slot is id serves =
     let x : ServesRequest m s.device.memory (s.device.port port) port slot id = served_by s m port slot is id serves in
     let booked : Contains m.book x.pending × (x.pending.issued ≡ true) = ⊎_elim
-        (λ (b : Contains m.book x.pending × (x.pending.issued ≡ true)). b)
-        (λ (kept : Contains m.kept x.pending). absurd (contains_none x.pending (subst (λ (es : List Pending). Contains es x.pending) is.kept kept)))
-        x.moves in
+    (λ (b : Contains m.book x.pending × (x.pending.issued ≡ true)). b)
+    (λ (kept : Contains m.kept x.pending). absurd (contains_none x.pending (subst (λ (es : List Pending). Contains es x.pending) is.kept kept)))
+    x.moves in
     let e = at_right IsEntry s.book m.book is.book x.pending booked.0 in
     record {
       serves = x;

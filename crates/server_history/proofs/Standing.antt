@@ -12,7 +12,6 @@ use Rattle.agreement.specs.Acts.{InSlots}
 use Rattle.agreement.specs.Facts.{RunsWell}
 use Rattle.agreement.specs.Links.{HasDeviceOrNone}
 use Rattle.agreement.specs.Slots.{Free, Serves, ServesRequest, Stage, IsServed, Use}
-use Rattle.block_machine.specs.Due.{is_plain}
 use Rattle.block_machine.specs.Histories.{Instant, IsReached}
 use Rattle.block_machine.specs.State.{Machine, Pending}
 use Rattle.block_machine.specs.Steps.{NoneKept}

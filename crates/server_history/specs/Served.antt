@@ -18,14 +18,13 @@ use Rattle.block_machine.specs.Left.{after}
 use Rattle.block_machine.specs.Rules.{IsNamed}
 use Rattle.block_machine.specs.State.{Machine, Pending}
 use Rattle.block_machine.specs.Steps.{Step, Answer, Issue, AllTouched}
-use Rattle.block_machine.specs.declared.due.Mode.{Mode}
 use Rattle.dma_frames.specs.Table.{Table, LendsOnly}
 use Rattle.driver_history.specs.Histories.{IssuesDue}
 use Rattle.host_boot.specs.declared.Found.{Found}
 use Rattle.host_boot.specs.declared.Found.TheVariants.{Ready}
 use Rattle.request_queue.specs.Entries.{Held, asks, asks_of, at, due_ids, issue, without}
 use Rattle.request_queue.specs.Machine.{IsEntry}
-use Rattle.server_history.specs.Server.{Server, IsKept, IsSettled, IsMachineOf, plain_mode, used_for, with_slot}
+use Rattle.server_history.specs.Server.{Server, IsSettled, IsMachineOf, plain_mode, used_for, with_slot}
 use Rattle.slots.specs.declared.Use.{Use as SlotUse}
 use Rattle.transfers.specs.Looks.{LooksAt}
 use Rattle.transfers.specs.Transfers.{Transfer, IsIssuing, IssuesTransfer, ReadsDone}

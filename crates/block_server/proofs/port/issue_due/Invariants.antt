@@ -1,4 +1,4 @@
-use Rattle.std.proofs.Common.{◌≡◌, List, drop}
+use Rattle.std.proofs.Common.{◌≡◌, drop}
 use Rattle.block_machine.specs.Due.{AreDueInTurn}
 use Rattle.block_server.specs.Ports.{Lends, with_part}
 use Rattle.request_queue.specs.Entries.{asks_of}

@@ -1,12 +1,7 @@
-use Rattle.std.proofs.Common.{◌≡◌, ℕ, ◌+◌, ◌/◌, List, length, refl, sym, ap, ◌∙◌, subst}
+use Rattle.std.proofs.Common.{◌+◌, ◌/◌, List, length, sym, ap, ◌∙◌, subst}
 use Rattle.ata_types.specs.declared.request.Frame.{Frame}
-use Rattle.adapter.specs.Device.{Device}
-use Rattle.block_server.specs.Ports.{Lends}
-use Rattle.request_queue.specs.Entries.{Held}
 use Rattle.request_queue.specs.declared.Entry.{Entry}
-use Rattle.server_history.specs.Served.{transfer_of}
-use Rattle.server_history.specs.Server.{Server}
-use Rattle.transfers.specs.Transfers.{IssuesTransfer, Transfer}
+use Rattle.transfers.specs.Transfers.{IssuesTransfer}
 use Rattle.block_server.proofs.Sending as sending
 use Rattle.block_server.proofs.port.issue_one.Goals as goal
 

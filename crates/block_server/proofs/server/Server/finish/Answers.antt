@@ -1,4 +1,4 @@
-use Rattle.std.proofs.Common.{◌≡◌, refl, sym, ap, subst, ◌∙◌, slice_index_or, slice_set}
+use Rattle.std.proofs.Common.{◌≡◌, sym, ap, subst, slice_index_or, slice_set}
 use Rattle.ata_types.specs.declared.PortState.TheVariants.{Ready}
 use Rattle.ata_types.specs.declared.request.RequestId.{RequestId}
 use Rattle.ata_types.specs.declared.request.Outcome.TheVariants.{Ok}
@@ -6,8 +6,8 @@ use Rattle.agreement.specs.Slots.{IsOver}
 use Rattle.block_server.specs.Seen.{seen}
 use Rattle.block_server.specs.View.{ServerView, server_of}
 use Rattle.host_boot.specs.Taken.{found_of}
-use Rattle.server_history.specs.Served.{Finishes, done_reply}
-use Rattle.server_history.specs.Server.{Server, state_of}
+use Rattle.server_history.specs.Served.{Finishes}
+use Rattle.server_history.specs.Server.{state_of}
 use Rattle.block_server.proofs.Finishing as finishing
 use Rattle.block_server.proofs.server.Server.finish.Given.{Over}
 use Rattle.block_server.proofs.server.Server.finish.Goals as goal
@@ -23,32 +23,36 @@ answer-loan-requires g c =
 pub issue_due-requires : goal.issue_due-requires
 issue_due-requires g c =
     let kept = c.requests_keep.ensures.answered (server_of g.A.Adapter.device (seen c.self.inside))
-        (finishing.mid (server_of g.A.Adapter.device (seen c.self.inside)) c.args.port c.self.invariant.kept
+    (finishing.mid (server_of g.A.Adapter.device (seen c.self.inside)) c.args.port c.self.invariant.kept
     (subst (λ (v : ServerView g.row.A.Denot). state_of (found_of v.ports c.args.port.0) ≡ Ready) (sym c.self.view_is) c.requires.ready)
     c.args.id (subst (λ (v : ServerView g.row.A.Denot). finishing.IsUsedBy (server_of g.A.Adapter.device v) c.args.port c.args.id) (sym c.self.view_is) c.requires.used)
     c.a_used_slot_has_its_request.ensures
     c.an_id_is_one_request.ensures.one (record { entry = c.answer-loan.result.0; frames = c.answer-loan.result.1.frames }) c.answer-loan.ensures.entry c.answer-loan.ensures.id.0 c.give_back.new.self (rw c.deref_mut.ensures.value at c.give_back.ensures))
-        c.args.port (record { entry = c.answer-loan.result.0; frames = c.answer-loan.result.1.frames }) c.self.invariant.kept (subst (λ (v : ServerView g.row.A.Denot). state_of (found_of v.ports c.args.port.0) ≡ Ready) (sym c.self.view_is) c.requires.ready) (subst (λ (v : ServerView g.row.A.Denot). IsOver ((g.A.Adapter.device v.adapter).port c.args.port.0) 0) (sym c.self.view_is) c.requires.over)
-        (finishing.answers (server_of g.A.Adapter.device (seen c.self.inside)) c.args.port c.self.invariant.kept
+    c.args.port (record { entry = c.answer-loan.result.0; frames = c.answer-loan.result.1.frames }) c.self.invariant.kept (subst (λ (v : ServerView g.row.A.Denot). state_of (found_of v.ports c.args.port.0) ≡ Ready) (sym c.self.view_is) c.requires.ready) (subst (λ (v : ServerView g.row.A.Denot). IsOver ((g.A.Adapter.device v.adapter).port c.args.port.0) 0) (sym c.self.view_is) c.requires.over)
+    (finishing.answers (server_of g.A.Adapter.device (seen c.self.inside)) c.args.port c.self.invariant.kept
     (subst (λ (v : ServerView g.row.A.Denot). state_of (found_of v.ports c.args.port.0) ≡ Ready) (sym c.self.view_is) c.requires.ready)
     c.args.id (subst (λ (v : ServerView g.row.A.Denot). finishing.IsUsedBy (server_of g.A.Adapter.device v) c.args.port c.args.id) (sym c.self.view_is) c.requires.used)
     c.a_used_slot_has_its_request.ensures
     c.an_id_is_one_request.ensures.one (record { entry = c.answer-loan.result.0; frames = c.answer-loan.result.1.frames }) c.answer-loan.ensures.entry c.answer-loan.ensures.id.0 c.give_back.new.self (rw c.deref_mut.ensures.value at c.give_back.ensures)) in
-    record { lends = (finishing.mid (server_of g.A.Adapter.device (seen c.self.inside)) c.args.port c.self.invariant.kept
-    (subst (λ (v : ServerView g.row.A.Denot). state_of (found_of v.ports c.args.port.0) ≡ Ready) (sym c.self.view_is) c.requires.ready)
-    c.args.id (subst (λ (v : ServerView g.row.A.Denot). finishing.IsUsedBy (server_of g.A.Adapter.device v) c.args.port c.args.id) (sym c.self.view_is) c.requires.used)
-    c.a_used_slot_has_its_request.ensures
-    c.an_id_is_one_request.ensures.one (record { entry = c.answer-loan.result.0; frames = c.answer-loan.result.1.frames }) c.answer-loan.ensures.entry c.answer-loan.ensures.id.0 c.give_back.new.self (rw c.deref_mut.ensures.value at c.give_back.ensures),
-    finishing.lends (server_of g.A.Adapter.device (seen c.self.inside)) c.args.port c.self.invariant.kept
-    (subst (λ (v : ServerView g.row.A.Denot). state_of (found_of v.ports c.args.port.0) ≡ Ready) (sym c.self.view_is) c.requires.ready)
-    c.args.id (subst (λ (v : ServerView g.row.A.Denot). finishing.IsUsedBy (server_of g.A.Adapter.device v) c.args.port c.args.id) (sym c.self.view_is) c.requires.used)
-    c.a_used_slot_has_its_request.ensures
-    c.an_id_is_one_request.ensures.one (record { entry = c.answer-loan.result.0; frames = c.answer-loan.result.1.frames }) c.answer-loan.ensures.entry c.answer-loan.ensures.id.0 c.give_back.new.self (rw c.deref_mut.ensures.value at c.give_back.ensures)
-    kept c.answer-loan.new.self c.answer-loan.ensures.rest (slice_index_or c.self.inside.slots c.from.result c.index-self-from.result) c.free.new.self
-    (finishing.its_slots (server_of g.A.Adapter.device (seen c.self.inside)) c.args.port c.self.invariant.kept
-    (subst (λ (v : ServerView g.row.A.Denot). state_of (found_of v.ports c.args.port.0) ≡ Ready) (sym c.self.view_is) c.requires.ready)
-    c.args.id (subst (λ (v : ServerView g.row.A.Denot). finishing.IsUsedBy (server_of g.A.Adapter.device v) c.args.port c.args.id) (sym c.self.view_is) c.requires.used)
-    c.a_used_slot_has_its_request.ensures c.from.result c.from.ensures c.index-self-from.result) c.free.ensures.freed) }
+    record {
+      lends = (
+        finishing.mid (server_of g.A.Adapter.device (seen c.self.inside)) c.args.port c.self.invariant.kept
+            (subst (λ (v : ServerView g.row.A.Denot). state_of (found_of v.ports c.args.port.0) ≡ Ready) (sym c.self.view_is) c.requires.ready)
+            c.args.id (subst (λ (v : ServerView g.row.A.Denot). finishing.IsUsedBy (server_of g.A.Adapter.device v) c.args.port c.args.id) (sym c.self.view_is) c.requires.used)
+            c.a_used_slot_has_its_request.ensures
+            c.an_id_is_one_request.ensures.one (record { entry = c.answer-loan.result.0; frames = c.answer-loan.result.1.frames }) c.answer-loan.ensures.entry c.answer-loan.ensures.id.0 c.give_back.new.self (rw c.deref_mut.ensures.value at c.give_back.ensures),
+        finishing.lends (server_of g.A.Adapter.device (seen c.self.inside)) c.args.port c.self.invariant.kept
+            (subst (λ (v : ServerView g.row.A.Denot). state_of (found_of v.ports c.args.port.0) ≡ Ready) (sym c.self.view_is) c.requires.ready)
+            c.args.id (subst (λ (v : ServerView g.row.A.Denot). finishing.IsUsedBy (server_of g.A.Adapter.device v) c.args.port c.args.id) (sym c.self.view_is) c.requires.used)
+            c.a_used_slot_has_its_request.ensures
+            c.an_id_is_one_request.ensures.one (record { entry = c.answer-loan.result.0; frames = c.answer-loan.result.1.frames }) c.answer-loan.ensures.entry c.answer-loan.ensures.id.0 c.give_back.new.self (rw c.deref_mut.ensures.value at c.give_back.ensures)
+            kept c.answer-loan.new.self c.answer-loan.ensures.rest (slice_index_or c.self.inside.slots c.from.result c.index-self-from.result) c.free.new.self
+            (finishing.its_slots (server_of g.A.Adapter.device (seen c.self.inside)) c.args.port c.self.invariant.kept
+            (subst (λ (v : ServerView g.row.A.Denot). state_of (found_of v.ports c.args.port.0) ≡ Ready) (sym c.self.view_is) c.requires.ready)
+            c.args.id (subst (λ (v : ServerView g.row.A.Denot). finishing.IsUsedBy (server_of g.A.Adapter.device v) c.args.port c.args.id) (sym c.self.view_is) c.requires.used)
+            c.a_used_slot_has_its_request.ensures c.from.result c.from.ensures c.index-self-from.result) c.free.ensures.freed,
+      );
+    }
 
 -- the server then
 abbrev after : (g : Over) (c : After-result-1 g) → ServerView g.row.A.Denot
@@ -62,13 +66,13 @@ after g c = record (seen c.self.inside) {
 finished : (g : Over) (c : After-result-1 g) → Finishes c.args.port (record { entry = c.answer-loan.result.0; frames = c.answer-loan.result.1.frames }) (server_of g.A.Adapter.device (seen c.self.inside)) (server_of g.A.Adapter.device (after g c))
 finished g c =
     let kept = c.requests_keep.ensures.answered (server_of g.A.Adapter.device (seen c.self.inside))
-        (finishing.mid (server_of g.A.Adapter.device (seen c.self.inside)) c.args.port c.self.invariant.kept
+    (finishing.mid (server_of g.A.Adapter.device (seen c.self.inside)) c.args.port c.self.invariant.kept
     (subst (λ (v : ServerView g.row.A.Denot). state_of (found_of v.ports c.args.port.0) ≡ Ready) (sym c.self.view_is) c.requires.ready)
     c.args.id (subst (λ (v : ServerView g.row.A.Denot). finishing.IsUsedBy (server_of g.A.Adapter.device v) c.args.port c.args.id) (sym c.self.view_is) c.requires.used)
     c.a_used_slot_has_its_request.ensures
     c.an_id_is_one_request.ensures.one (record { entry = c.answer-loan.result.0; frames = c.answer-loan.result.1.frames }) c.answer-loan.ensures.entry c.answer-loan.ensures.id.0 c.give_back.new.self (rw c.deref_mut.ensures.value at c.give_back.ensures))
-        c.args.port (record { entry = c.answer-loan.result.0; frames = c.answer-loan.result.1.frames }) c.self.invariant.kept (subst (λ (v : ServerView g.row.A.Denot). state_of (found_of v.ports c.args.port.0) ≡ Ready) (sym c.self.view_is) c.requires.ready) (subst (λ (v : ServerView g.row.A.Denot). IsOver ((g.A.Adapter.device v.adapter).port c.args.port.0) 0) (sym c.self.view_is) c.requires.over)
-        (finishing.answers (server_of g.A.Adapter.device (seen c.self.inside)) c.args.port c.self.invariant.kept
+    c.args.port (record { entry = c.answer-loan.result.0; frames = c.answer-loan.result.1.frames }) c.self.invariant.kept (subst (λ (v : ServerView g.row.A.Denot). state_of (found_of v.ports c.args.port.0) ≡ Ready) (sym c.self.view_is) c.requires.ready) (subst (λ (v : ServerView g.row.A.Denot). IsOver ((g.A.Adapter.device v.adapter).port c.args.port.0) 0) (sym c.self.view_is) c.requires.over)
+    (finishing.answers (server_of g.A.Adapter.device (seen c.self.inside)) c.args.port c.self.invariant.kept
     (subst (λ (v : ServerView g.row.A.Denot). state_of (found_of v.ports c.args.port.0) ≡ Ready) (sym c.self.view_is) c.requires.ready)
     c.args.id (subst (λ (v : ServerView g.row.A.Denot). finishing.IsUsedBy (server_of g.A.Adapter.device v) c.args.port c.args.id) (sym c.self.view_is) c.requires.used)
     c.a_used_slot_has_its_request.ensures

@@ -1,4 +1,4 @@
-use Rattle.std.proofs.Common.{◌≡◌, true, Option, Some, None, refl, sym, ap, ◌∙◌, subst, inl, inr}
+use Rattle.std.proofs.Common.{◌≡◌, Option, Some, None, refl, sym, ap, ◌∙◌, subst, inl, inr}
 use Rattle.std.proofs.lemmas.Bool.{false≢true}
 use Rattle.ata_types.specs.declared.PortState.TheVariants.{Ready}
 use Rattle.ata_types.specs.declared.request.Reply.{Reply}
@@ -141,7 +141,7 @@ returns-clause-serves g c =
     let used = ap (λ (u : PortSlots). use_at u 0) (serving.slots_are s c.args.port c.self.invariant.kept ready c.from.result c.from.ensures c.index-self-from.result) ∙ sym c.in_ok-used.ensures in
     let seen_kept = c.looks_keep.ensures.looking s (device c.look_at.new.adapter) c.args.port c.self.invariant.kept ready c.look_at.ensures.followed in
     let over = c.looks_keep.ensures.found (record s { device = device c.look_at.new.adapter }) (device c.is_done.new.adapter) c.args.port seen_kept ready (ap is_used used)
-        (c.if-not-is_done.ensures.finds (serving.running (record s { device = device c.look_at.new.adapter }) c.args.port seen_kept ready)) in
+    (c.if-not-is_done.ensures.finds (serving.running (record s { device = device c.look_at.new.adapter }) c.args.port seen_kept ready)) in
     let new = server_of device c.finish.new.self in
     let finishes = c.finish.ensures.finishes in
     let P : ServerView g.row.A.Denot → Type 0 = λ v. ServesPort c.args.port (Some c.finish.result) (server_of device v) new in

@@ -4,7 +4,7 @@ use Rattle.ata_types.specs.declared.request.Reply.{Reply}
 use Rattle.agreement.specs.Agrees.{port_at}
 use Rattle.block_server.specs.View.{ServerView, server_of}
 use Rattle.server_history.specs.Served.{ServePorts, ServesPort}
-use Rattle.server_history.specs.Server.{Server, IsSettled}
+use Rattle.server_history.specs.Server.{IsSettled}
 use Rattle.block_server.proofs.Turns.{all_served, one_served}
 use Rattle.block_server.proofs.server.Server.service_into.Goals as goal
 use Rattle.block_server.proofs.server.Server.service_into.Goals.{in-Some, in_default-serve_port}
