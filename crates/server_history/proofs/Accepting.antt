@@ -40,9 +40,9 @@ use Rattle.request_queue.specs.Entries.{Held, IsAccepted, IsEarlier, asks, asks_
 use Rattle.driver_history.specs.Histories.{IssuesDue, IssuesOn}
 use Rattle.driver_history.specs.Trace.{LeavesEngine}
 use Rattle.driver_history.proofs.Calm.{untroubled}
-use Rattle.server_history.specs.Book.{BookLaws}
+use Rattle.server_history.specs.Below.{LawsBelow}
 use Rattle.server_history.specs.Histories.{Adds, Leads}
-use Rattle.server_history.specs.Served.{Accepts, IssuesAll, accepted_as, accepting}
+use Rattle.server_history.specs.Served.{IsPlainIssuing, Accepts, IssuesAll, accepted_as, accepting}
 use Rattle.server_history.specs.Server.{Server, IsKept, IsMachineOf, IsSettled, none_parked, plain_mode, ports_of, situation_of, state_of}
 use Rattle.server_history.proofs.Asks.{none_due}
 use Rattle.server_history.proofs.Calls.{reached, situation_is}
@@ -52,7 +52,6 @@ use Rattle.server_history.proofs.Granting.{has_room, is_accepted, is_new, on_rea
 use Rattle.server_history.proofs.Rounds.{AreIssued, accepts_on, any_append, belong_on, dues, dues_carried, each_driven, each_issued, each_settings, last_on, lawful_on, or_none, settled}
 use Rattle.server_history.proofs.Slots.{ready_found}
 use Rattle.server_history.proofs.Told.{no_evidence, told_by, uninterrupted}
-use Rattle.transfers.specs.Transfers.{IsIssuing}
 
 -- ---- lending
 
@@ -87,7 +86,7 @@ own_longer q [] e other = cond-false (e.entry.port.0 == q.0) (asks e.entry ∷ [
 own_longer q (x ∷ book) e other =
     ap (λ (us : List Unanswered). cond (x.entry.port.0 == q.0) (asks x.entry ∷ us) us) (own_longer q book e other)
 
-module _ (laws : BookLaws) (s : Server) (k : IsKept s) (r : Request) (acc : IsAcceptable (situation_of s) r) (row : GrantRow) (named : IsNamed s.grants r row) (port : Port) (port_is : row.port ≡ port)
+module _ (laws : LawsBelow) (s : Server) (k : IsKept s) (r : Request) (acc : IsAcceptable (situation_of s) r) (row : GrantRow) (named : IsNamed s.grants r row) (port : Port) (port_is : row.port ≡ port)
     (id : RequestId) (id_is : id.0 ≡ s.last + 1) (table : Table) (lends : LendsOnly s.table table r.frames.items (Some id)) where
   abbrev e : Held
   e = accepted_as port r id
@@ -158,7 +157,7 @@ module _ (laws : BookLaws) (s : Server) (k : IsKept s) (r : Request) (acc : IsAc
     same : new ≡ record more { device = new.device; slots = new.slots; book = new.book }
     same = each_settings laws port ids more new issues
 
-    driven : IsDrivenBy (IsIssuing port) s.device new.device
+    driven : IsDrivenBy (IsPlainIssuing port) s.device new.device
     driven = each_driven laws port ids more new issues
 
     port_low : port.0 < 4
@@ -174,8 +173,8 @@ module _ (laws : BookLaws) (s : Server) (k : IsKept s) (r : Request) (acc : IsAc
         (lawful_on port old.moment no_evidence (ports_of new.ports) x.steps early x.only tt)
         (allowed, (asked, accepts_on port x.steps early x.only, refl), same_ports_are, all_issued)
         driven.accesses
-        (driven.all, (row, its_row, All-weaker (IsIssuing port) (IssuesOn row.port) (λ access here. subst (λ (p : Port). IssuesOn p access) (sym port_is) (issuing_is port port_low access here)) driven.accesses driven.only))
-        (λ other. All-weaker (IsIssuing port) (LeavesEngine other) (issuing_leaves port other) driven.accesses driven.only)
+        (driven.all, (row, its_row, All-weaker (IsPlainIssuing port) (IssuesOn row.port) (λ access here. subst (λ (p : Port). IssuesOn p access) (sym port_is) (issuing_is port port_low access here)) driven.accesses driven.only))
+        (λ other. All-weaker (IsPlainIssuing port) (LeavesEngine other) (issuing_leaves port other) driven.accesses driven.only)
         (λ other is_ready. due_now other)
         (λ other healthy. record { finds = tt; faults = tt; tries = tt; boots = tt; trouble = untroubled (told_by s.device old.moment.ports) (with_device s.device old) (ports_of new.ports) new.device other healthy; well = λ i. absurd (uninterrupted s.device old.moment.ports other i); heeds = uninterrupted s.device old.moment.ports other })
         (backed_then s.device s.device new.device m early x.steps (own_backed s.device m (Accept asked) (λ no. no)) x.backed)
@@ -230,7 +229,7 @@ module _ (laws : BookLaws) (s : Server) (k : IsKept s) (r : Request) (acc : IsAc
             (λ u here own. sym (any_append (issues_it u.id) x.steps early ∙ or_none (list_any (issues_it u.id) x.steps)))
             (dues laws port more new accept_kept issues (next m was is) x other (none_other other)))
 
-pub acceptance : BookLaws → (s new : Server) (port : Port) (r : Request) (id : RequestId) → IsSettled s → IsAcceptable (situation_of s) r → Accepts port r id s new → Adds s new (Submit r) (Submitted (Ok id))
+pub acceptance : LawsBelow → (s new : Server) (port : Port) (r : Request) (id : RequestId) → IsSettled s → IsAcceptable (situation_of s) r → Accepts port r id s new → Adds s new (Submit r) (Submitted (Ok id))
 acceptance laws s new port r id k acc a = record {
   settled = settles laws s k.kept r acc a.row a.named port a.port_is id a.id_is a.table a.lent k.issued new a.issued;
   adds = event laws s k.kept r acc a.row a.named port a.port_is id a.id_is a.table a.lent k.issued new a.issued;

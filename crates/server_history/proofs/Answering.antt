@@ -30,7 +30,7 @@ use Rattle.request_queue.specs.Entries.{Held, IsAccepted, without}
 use Rattle.request_queue.specs.Machine.{IsBook, IsEntry}
 use Rattle.server_history.specs.Served.{AnswersOne}
 use Rattle.server_history.specs.Server.{Server, IsKept, IsMachineOf, none_parked, state_of, usable_of, with_slot}
-use Rattle.server_history.specs.Book.{BookLaws}
+use Rattle.server_history.specs.Below.{LawsBelow}
 use Rattle.server_history.proofs.Going.{kept_then}
 use Rattle.server_history.proofs.Placing.{placed_four, placed_has, placed_uses}
 use Rattle.server_history.proofs.Slots.{IsServedBy, parked_first, ready_found, served_request, serves_used, stage_over}
@@ -87,7 +87,7 @@ pub record IsAnswer (port : Port) (request : Held) (old new : Server) (m : Machi
   pub port_is : request.entry.port ≡ port
   pub stands : IsMachineOf new (after_step m (Answer done outcome.Ok))
 
-module _ (laws : BookLaws) (s new : Server) (port : Port) (e : Held) (k : IsKept s) (ready : state_of (found_of s.ports port.0) ≡ ReadyState) (over : IsOver (s.device.port port.0) 0) (one : AnswersOne port e s new) where
+module _ (laws : LawsBelow) (s new : Server) (port : Port) (e : Held) (k : IsKept s) (ready : state_of (found_of s.ports port.0) ≡ ReadyState) (over : IsOver (s.device.port port.0) 0) (one : AnswersOne port e s new) where
   abbrev id : RequestId
   id = e.entry.id
 

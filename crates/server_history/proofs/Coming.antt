@@ -5,6 +5,7 @@ use Rattle.std.proofs.lemmas.Bool.{cases_Bool}
 use Rattle.std.proofs.lemmas.List.Elements.{All-append, All-cons, All-nil}
 use Rattle.ata_types.specs.declared.Port.{Port}
 use Rattle.ata_types.specs.declared.request.Reply.{Reply}
+use Rattle.hba_regs.specs.Bits.{bit}
 use Rattle.hba_regs.specs.declared.reg.Reg.{Reg}
 use Rattle.hba_regs.specs.declared.reg.Reg.TheVariants as reg
 use Rattle.hba_regs.specs.declared.reg.Reg.TheVariants.{Px}
@@ -22,14 +23,14 @@ use Rattle.agreement.proofs.Driven.{by_none}
 use Rattle.command_table.specs.Written.{IsTableStore}
 use Rattle.driver_history.specs.Histories.{IssuesOn}
 use Rattle.driver_history.specs.Trace.{IsDriversOwn, IsOfPorts, IsServing, LeavesCommand, LeavesEngine, ReadsMasks}
-use Rattle.server_history.specs.Served.{Checks, HasTurn}
+use Rattle.server_history.specs.Served.{Checks, HasTurn, IsPlainIssuing}
+use Rattle.server_history.proofs.Plain.{both_read, plain_serves}
 use Rattle.transfers.specs.Looks.{LooksAt}
 use Rattle.transfers.specs.Services.{IsService}
-use Rattle.transfers.specs.Transfers.{IsIssuing}
 use Rattle.transfers.specs.declared.Look.{Look}
 use Rattle.transfers.specs.declared.Look.TheVariants.{Lost, Broken, Failed, Undisturbed as Calm}
 use Rattle.transfers.proofs.Seeing.{seen_well}
-use Rattle.transfers.proofs.Serving.{issuing_ordinary, spares_ghc, spares_port}
+use Rattle.transfers.proofs.Serving.{spares_ghc, spares_port}
 
 -- ---- the device's steps
 
@@ -49,15 +50,15 @@ table_own : (port at : ℕ) (bytes : List ℕ) → port < 4 → IsTableStore por
 table_own port at bytes low (inl h) = omega (arith, low, h.0, h.1)
 table_own port at bytes low (inr h) = omega (arith, low, h.0, h.1)
 
-pub issuing_is : (port : Port) → port.0 < 4 → (access : Access) → IsIssuing port access → IssuesOn port access
+pub issuing_is : (port : Port) → port.0 < 4 → (access : Access) → IsPlainIssuing port access → IssuesOn port access
 issuing_is port low (Writing r v) here = inr here.0
 issuing_is port low (Storing at bytes) here = table_own port.0 at bytes low here
 issuing_is port low (Reading r v) here = absurd here
 issuing_is port low (Loading at bytes) here = absurd here
 
-issuing_turns : (Such : Port → Type 0) (port : Port) → Such port → port.0 < 4 → (access : Access) → IsIssuing port access → IsTurn Such access
-issuing_turns Such port such low (Writing r v) here = ((issuing_ordinary port port (Writing r v) here).0, (tt, subst (λ (q : Reg). IsOfPorts Such (Writing q v)) (sym here.0) such))
-issuing_turns Such port such low (Storing at bytes) here = ((issuing_ordinary port port (Storing at bytes) here).0, (table_own port.0 at bytes low here, tt))
+issuing_turns : (Such : Port → Type 0) (port : Port) → Such port → port.0 < 4 → (access : Access) → IsPlainIssuing port access → IsTurn Such access
+issuing_turns Such port such low (Writing r v) here = (plain_serves port (Writing r v) here, (tt, subst (λ (q : Reg). IsOfPorts Such (Writing q v)) (sym here.0) such))
+issuing_turns Such port such low (Storing at bytes) here = (plain_serves port (Storing at bytes) here, (table_own port.0 at bytes low here, tt))
 issuing_turns Such port such low (Reading r v) here = absurd here
 issuing_turns Such port such low (Loading at bytes) here = absurd here
 
@@ -65,8 +66,8 @@ issuing_turns Such port such low (Loading at bytes) here = absurd here
 service_leaves : (port : Port) (access : Access) → IsService access → LeavesEngine port access
 service_leaves port access here = (spares_port port Cmd (λ e. cc) (λ e. cc) access here, spares_port port Sctl (λ e. cc) (λ e. cc) access here)
 
-pub issuing_leaves : (port other : Port) (access : Access) → IsIssuing port access → LeavesEngine other access
-issuing_leaves port other access here = service_leaves other access (issuing_ordinary port other access here).0
+pub issuing_leaves : (port other : Port) (access : Access) → IsPlainIssuing port access → LeavesEngine other access
+issuing_leaves port other access here = service_leaves other access (plain_serves port access here)
 
 pub turn_leaves : (Such : Port → Type 0) (port : Port) (access : Access) → IsTurn Such access → LeavesEngine port access
 turn_leaves Such port access here = service_leaves port access here.0
@@ -114,11 +115,11 @@ module _ (Such : Port → Type 0) (port : Port) (such : Such port) where
     -- the accesses that come after the masks
     rest : (c : Checks port reply t.seen new) → IsDrivenBy (IsTurn Such) c.read new
     rest c = ⊎_elim
-        (λ (done : c.done ≡ true).
+        (λ (done : bit c.done 0 ≡ true).
         let d = (c.over done).1 in
         record { accesses = d.accesses; all = d.all; only = λ i e small. issuing_turns Such port such low _ (d.only i e small) })
-        (λ (running : c.done ≡ false). subst (IsDrivenBy (IsTurn Such) c.read) (sym (c.running running).1) (by_none (IsTurn Such) c.read))
-        (cases_Bool c.done)
+        (λ (running : bit c.done 0 ≡ false). subst (IsDrivenBy (IsTurn Such) c.read) (sym (c.running running).1) (by_none (IsTurn Such) c.read))
+        (cases_Bool (bit c.done 0))
 
     checked : t.look ≡ Calm → busy ≡ true → TurnList busy reply old new t
     checked calm has =
@@ -129,7 +130,7 @@ module _ (Such : Port → Type 0) (port : Port) (such : Such port) where
         record {
           driven = record {
             accesses = early ++ late;
-            all = does_append early late old t.seen new (look_does t.look old t.seen t.looks) (c.reads.seen, c.reads.shows_issued, (c.read, c.reads.shows_active, more.all));
+            all = does_append early late old t.seen new (look_does t.look old t.seen t.looks) (let r = both_read port 1 c.done t.seen c.read c.reads in (r.0, r.1, (c.read, r.2, more.all)));
             only = All-append (IsTurn Such) early late (look_turns t.looks.causes t.looks.own t.looks.status)
                 (All-cons (IsTurn Such) (Reading (Px port Ci) c.reads.issued) (Reading (Px port Sact) c.reads.active ∷ more.accesses) (tt, (tt, such))
                 (All-cons (IsTurn Such) (Reading (Px port Sact) c.reads.active) more.accesses (tt, (tt, such)) more.only));

@@ -27,9 +27,9 @@ use Rattle.host_boot.specs.Taken.{found_of}
 use Rattle.request_queue.specs.Entries.{Held, asks_of, at, issue}
 use Rattle.request_queue.specs.Machine.{IsBook, IsEntry}
 use Rattle.slots.specs.declared.Use.{Use as SlotUse}
-use Rattle.server_history.specs.Served.{IssuesOne, transfer_of}
+use Rattle.server_history.specs.Served.{IsPlainIssuing, IssuesOne, transfer_of}
 use Rattle.server_history.specs.Server.{Server, IsKept, IsMachineOf, IsPortOf, IsUsedAs, none_parked, plain_mode, state_of, usable_of, used_for, with_slot}
-use Rattle.server_history.specs.Book.{BookLaws}
+use Rattle.server_history.specs.Below.{LawsBelow}
 use Rattle.server_history.proofs.Asks.{asked_alike, same_book}
 use Rattle.server_history.proofs.Changed.{all_changed}
 use Rattle.server_history.proofs.Going.{book_on, kept_then}
@@ -38,9 +38,10 @@ use Rattle.server_history.proofs.Placing.{placed_four, placed_has, placed_uses}
 use Rattle.server_history.proofs.Slots.{all_plain, due_unused, free_unused, not_own, of_ready, ready_found}
 use Rattle.server_history.proofs.Zips.{at_left}
 use Rattle.transfers.specs.Services.{IsService}
-use Rattle.transfers.specs.Transfers.{IssuesTransfer, IsTransferOf, Transfer, IsIssuing}
-use Rattle.transfers.proofs.Apart.{apart, issuing_of}
-use Rattle.transfers.proofs.Serving.{issuing_ordinary, services_on, services_same}
+use Rattle.ncq.specs.Transfers.{IsIssuing, IsTransferOf, IssuesTransfer, MayServe}
+use Rattle.server_history.proofs.Plain.{issued_plain, plain_serves}
+use Rattle.transfers.proofs.Apart.{apart}
+use Rattle.transfers.proofs.Serving.{services_on, services_same}
 
 not_true : (b : Bool) → not b ≡ true → b ≡ false
 not_true false is = refl
@@ -61,18 +62,19 @@ pub record IsIssue (port : Port) (id : RequestId) (old new : Server) (m : Machin
 
 -- ---- what stands behind the ports then
 
-pub issued_serves : (port : Port) (r : Transfer) (old new : Device) → IssuesTransfer port r old new → IsDrivenBy IsService old new
-issued_serves port r old new issues = driven_as (IsIssuing port) IsService old new (λ access here. (issuing_ordinary port port access here).0) issues.driven
+pub issued_serves : (port : Port) (e : Held) (old new : Device) → IssuesTransfer port 0 (transfer_of e) e.frames old new → IsDrivenBy IsService old new
+issued_serves port e old new issues = driven_as (IsPlainIssuing port) IsService old new (plain_serves port) (issued_plain port e e.frames old new issues)
 
 -- on a ready port, that leaves what stands behind each
-behind_issued : (s : Server) (new : Device) (port : Port) (r : Transfer) (k : IsKept s) → state_of (found_of s.ports port.0) ≡ ReadyState → IssuesTransfer port r s.device new
-    → k.stands.uses port.0 0 ≡ Free → (q : ℕ) → q < 4 → IsPortOf s.wanted s.ports q new
-behind_issued s new port r k ready issues free =
-    behind_served s new port k ready (issued_serves port r s.device new issues) (λ q low other. apart port (IsIssuing port) (issuing_of port) q other s.device new k.on issues.driven)
-    (λ q other. issues.silent k.stands.uses none_parked k.machine k.reached k.stands.knows free (port_at q) Identify refl
+behind_issued : LawsBelow → (s : Server) (new : Device) (port : Port) (e : Held) (p : Pending) (k : IsKept s) → state_of (found_of s.ports port.0) ≡ ReadyState
+    → IssuesTransfer port 0 (transfer_of e) e.frames s.device new → IsTransferOf port 0 (transfer_of e) e.frames plain_mode p
+    → MayServe port 0 plain_mode p (record { uses = k.stands.uses; parked = none_parked }) k.machine → (q : ℕ) → q < 4 → IsPortOf s.wanted s.ports q new
+behind_issued laws s new port e p k ready issues its may =
+    behind_served s new port k ready (issued_serves port e s.device new issues) (λ q low other. apart port (IsIssuing port 0) (laws.issuing_of port 0) q other s.device new k.on issues.driven)
+    (λ q other. laws.issuing_silent port 0 (transfer_of e) e.frames plain_mode p s.device new (record { uses = k.stands.uses; parked = none_parked }) k.machine issues its k.reached k.stands.knows may q Identify refl
     (not_own (found_of s.ports q) 0 (used_for s.slots q 0) (k.stands.uses q 0) other (k.stands.used q 0)))
 
-module _ (laws : BookLaws) (s new : Server) (port : Port) (id : RequestId) (k : IsKept s) (one : IssuesOne port id s new) where
+module _ (laws : LawsBelow) (s new : Server) (port : Port) (id : RequestId) (k : IsKept s) (one : IssuesOne port id s new) where
   abbrev e : Held
   e = one.request
 
@@ -117,17 +119,20 @@ module _ (laws : BookLaws) (s new : Server) (port : Port) (id : RequestId) (k : 
     may : May m (Issue plain_mode p)
     may = (x.1, due, λ y here. absurd (contains_none y (subst (λ (es : List Pending). Contains es y) is.kept here)))
 
-    transfer : IsTransferOf port (transfer_of e) p
-    transfer = record {
+    its_transfer : IsTransferOf port 0 (transfer_of e) e.frames plain_mode p
+    its_transfer = record {
       port_is = x.2.port ∙ one.port_is;
       operation = x.2.op;
-      first = ap (λ r. r.first.0) x.2.range;
+      first = ap (λ r. r.first) x.2.range;
       count = ap (λ r. r.count) x.2.range;
-      frames = x.2.frames;
+      frames_are = x.2.frames;
+      kind = ap not (sym (all_plain e.entry.op));
+      usable = omega arith;
+      head = λ _. refl;
     }
 
     ends : EndsWith (known is.uses none_parked s.device) m (Issue plain_mode p) (serving (known is.uses none_parked s.device) port.0 0 p.request.id new.device)
-    ends = one.issues.issues is.uses none_parked m plain_mode p reached is.knows free may (all_plain e.entry.op) (omega arith) transfer
+    ends = laws.issuing_ends port 0 (transfer_of e) e.frames plain_mode p s.device new.device (record { uses = is.uses; parked = none_parked }) m one.issues its_transfer reached is.knows (free, may)
 
     its_id : p.request.id ≡ id
     its_id = x.2.id ∙ one.id_is
@@ -154,7 +159,7 @@ module _ (laws : BookLaws) (s new : Server) (port : Port) (id : RequestId) (k : 
     issue_one = record {
       request = p;
       id_is = its_id;
-      port_is = transfer.port_is;
+      port_is = its_transfer.port_is;
       here = x.1;
       waits = x.2.issued ∙ waiting;
       steps = ends.steps;
@@ -174,7 +179,8 @@ module _ (laws : BookLaws) (s new : Server) (port : Port) (id : RequestId) (k : 
       subst IsKept (sym one.server)
       (kept_then s new.device s.table (with_slot s.slots port.0 0 its_use) (map (at id issue) s.book) s.last k
       (services_on s.device new.device k.on driven) (services_same s.device new.device driven)
-      (behind_issued s new.device port (transfer_of e) k issued_ready one.issues (free k.machine k.reached k.stands))
+      (behind_issued laws s new.device port e (p k.machine k.reached k.stands) k issued_ready one.issues (its_transfer k.machine k.reached k.stands)
+      (free k.machine k.reached k.stands, may k.machine k.reached k.stands))
       refl
       (placed_four s.ports s.slots port.0 0 its_use k.four low slot_low few k.slots)
       (placed_has s.ports s.slots port.0 0 its_use k.four low slot_low few k.slots)
@@ -186,7 +192,7 @@ module _ (laws : BookLaws) (s new : Server) (port : Port) (id : RequestId) (k : 
       (subst (λ (n : Server). IsMachineOf n (after k.machine (Issue plain_mode i.request ∷ i.steps))) one.server i.stands))
     where
       driven : IsDrivenBy IsService s.device new.device
-      driven = issued_serves port (transfer_of e) s.device new.device one.issues
+      driven = issued_serves port e s.device new.device one.issues
 
       waiting : e.entry.issued ≡ false
       waiting = not_true e.entry.issued (and_parts _ _ one.due.clear).0

@@ -14,6 +14,7 @@ pub mod Asks
 pub mod Slots
 pub mod Placing
 pub mod Changed
+pub mod Plain
 pub mod Looking
 pub mod Issuing
 pub mod Rounds

@@ -1,5 +1,5 @@
 -- A server goes on while a ready port is looked at, and while its transfer is looked for.
-use Rattle.std.proofs.Common.{ℕ, ◌≡◌, ◌≢◌, ◌<◌, true, inl, inr, refl, sym, ap, ◌∙◌}
+use Rattle.std.proofs.Common.{ℕ, ◌≡◌, ◌≢◌, ◌<◌, true, Some, inl, inr, refl, sym, ap, ◌∙◌}
 use Rattle.ata_types.specs.declared.Port.{Port}
 use Rattle.ata_types.specs.declared.PortState.TheVariants.{Dead, Ready as ReadyState}
 use Rattle.hba_regs.specs.declared.reg.Reg.TheVariants.{Px}
@@ -12,6 +12,7 @@ use Rattle.adapter.specs.declared.command.Operation.TheVariants.{Identify}
 use Rattle.agreement.specs.Agrees.{port_at}
 use Rattle.agreement.specs.Driven.{AnyUse, IsDrivenBy, IsFollowed, LeavesPort, NoneWrites, SendsNone}
 use Rattle.agreement.specs.Slots.{IsOver, Uses}
+use Rattle.slots.specs.declared.Use.{Use as SlotUse}
 use Rattle.agreement.proofs.Driven.{driven_as, followed_adds, followed_silent}
 use Rattle.host_boot.specs.Taken.{found_of}
 use Rattle.host_boot.specs.declared.Found.TheVariants.{Unready}
@@ -19,12 +20,15 @@ use Rattle.server_history.specs.Served.{is_busy}
 use Rattle.server_history.specs.Server.{Server, IsKept, IsPortOf, none_parked, state_of, used_for}
 use Rattle.server_history.proofs.Going.{machine_on, kept_on}
 use Rattle.server_history.proofs.Ports.{port_on}
-use Rattle.server_history.proofs.Slots.{busy_used, not_own, serves_used}
+use Rattle.server_history.proofs.Slots.{not_own, ready_found, serves_used}
 use Rattle.transfers.specs.Looks.{IsLooking}
 use Rattle.transfers.specs.Services.{IsService}
-use Rattle.transfers.specs.Transfers.{IsFinding, FindsTransfer}
-use Rattle.transfers.proofs.Apart.{apart, finding_of, looking_of}
-use Rattle.transfers.proofs.Serving.{finding_ordinary, looking_service, services_on, services_same}
+use Rattle.ncq.specs.Masks.{FindsDone, IsFinding}
+use Rattle.hba_regs.specs.Bits.{bit}
+use Rattle.server_history.specs.Below.{LawsBelow}
+use Rattle.server_history.proofs.Plain.{finding_serves}
+use Rattle.transfers.proofs.Apart.{apart, looking_of}
+use Rattle.transfers.proofs.Serving.{looking_service, services_on, services_same}
 
 -- ---- what stands behind the ports
 
@@ -71,14 +75,18 @@ module _ (s : Server) (new : Device) (port : Port) (k : IsKept s) (ready : state
   looking_kept followed =
       kept_over (IsLooking port) (looking_service port) (λ q. (looking_spares q Ci (λ e. absurd cc), looking_spares q Sact (λ e. absurd cc))) (λ q low other. apart port (IsLooking port) (looking_of port) q other s.device new k.on followed.driven) followed
 
-  pub finding_kept : IsFollowed (IsFinding port) AnyUse s.device new → IsKept (record s { device = new })
-  finding_kept followed =
-      kept_over (IsFinding port) (λ access here. (finding_ordinary port port access here).0) (λ q. (finding_spares q Ci, finding_spares q Sact)) (λ q low other. apart port (IsFinding port) (finding_of port) q other s.device new k.on followed.driven) followed
+  module _ (laws : LawsBelow) (mask done : ℕ) (finds : FindsDone port mask done s.device new) where
+    pub finding_kept : IsKept (record s { device = new })
+    finding_kept =
+        let followed = laws.finding_followed port mask done s.device new finds in
+        kept_over (IsFinding port) (finding_serves port) (λ q. (finding_spares q Ci, finding_spares q Sact))
+        (λ q low other. apart port (IsFinding port) (laws.finding_of port) q other s.device new k.on followed.driven) followed
 
-  -- what the port has issued is over, if it was found done
-  pub found_over : is_busy port s ≡ true → FindsTransfer port true s.device new → IsOver (new.port port.0) 0
-  found_over busy finds =
-      let used = busy_used (used_for s.slots port.0 0) busy in
-      let serves = serves_used s k.machine port.0 k.stands ready 0 used.0 used.1 in
-      let x = (finds.adds k.stands.uses none_parked used.0.id serves).adds k.machine k.reached k.stands.knows in
-      (x.3.ended refl).0
+    -- the command of a slot that was found done is over
+    pub found_over : (slot : ℕ) (used : SlotUse) → used_for s.slots port.0 slot ≡ Some used → slot < 32 → bit done slot ≡ true → IsOver (new.port port.0) slot
+    found_over slot used its small found =
+        let x = finds.comes (record { uses = k.stands.uses; parked = none_parked }) k.machine k.reached k.stands.knows tt in
+        (x.tells.ended started slot used.id small found (serves_used s k.machine port.0 k.stands ready slot used its)).0
+      where
+        started : (s.device.port port.0).st ≡ true
+        started = ((k.behind port.0 (ready_found s port.0 k ready).0).runs ready).st

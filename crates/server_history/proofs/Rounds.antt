@@ -25,13 +25,13 @@ use Rattle.block_machine.proofs.HistoryLemmas.{may-append, reached_more}
 use Rattle.block_machine.proofs.Members.{contains_cases, contains_here, contains_none, contains_there, into_map, map_in}
 use Rattle.driver_history.specs.Histories.{IssuesDue, unissued}
 use Rattle.request_queue.specs.Entries.{Held, IsInOrder, IsWaiting, asks, asks_of, at, due_ids, has_id, issue}
-use Rattle.server_history.specs.Book.{BookLaws}
-use Rattle.server_history.specs.Served.{IssuesAll, IssuesEach, IssuesOne, IssuesOnly}
+use Rattle.server_history.specs.Below.{LawsBelow}
+use Rattle.server_history.specs.Served.{IsPlainIssuing, IssuesAll, IssuesEach, IssuesOne, IssuesOnly}
+use Rattle.server_history.proofs.Plain.{issued_plain}
 use Rattle.server_history.specs.Server.{Server, IsKept, IsMachineOf, IsSettled, plain_mode}
 use Rattle.server_history.proofs.Asks.{same_book}
 use Rattle.server_history.proofs.Devices.{devices_last, not_handled}
 use Rattle.server_history.proofs.Issuing.{IsIssue, issue_kept, issue_one}
-use Rattle.transfers.specs.Transfers.{IsIssuing}
 
 pub not_true : (b : Bool) → not b ≡ true → b ≡ false
 not_true false is = refl
@@ -129,7 +129,7 @@ pub record AreIssued (port : Port) (ids : List RequestId) (old new : Server) (m 
 same_id : (a b : RequestId) → a.0 ≡ b.0 → a ≡ b
 same_id a b same = ap (λ (n : ℕ). record { 0 = n }) same
 
-module _ (laws : BookLaws) (port : Port) where
+module _ (laws : LawsBelow) (port : Port) where
   -- each waits until its turn comes
   each_waits : (ids : List RequestId) (old new : Server) → IsKept old → IssuesEach port ids old new → (id : RequestId) → Contains ids id → (e : Held) → Contains old.book e → e.entry.id ≡ id → e.entry.issued ≡ false
   each_waits [] old new k none id there e here its = absurd (contains_none id there)
@@ -218,15 +218,15 @@ module _ (laws : BookLaws) (port : Port) where
       each_settings ids mid new more ∙ ap (λ (n : Server). record n { device = new.device; slots = new.slots; book = new.book }) one.server
 
   -- the accesses that issue them
-  pub each_driven : (ids : List RequestId) (old new : Server) → IssuesEach port ids old new → IsDrivenBy (IsIssuing port) old.device new.device
-  each_driven [] old new none = subst (λ (n : Server). IsDrivenBy (IsIssuing port) old.device n.device) (sym none) (by_none (IsIssuing port) old.device)
+  pub each_driven : (ids : List RequestId) (old new : Server) → IssuesEach port ids old new → IsDrivenBy (IsPlainIssuing port) old.device new.device
+  each_driven [] old new none = subst (λ (n : Server). IsDrivenBy (IsPlainIssuing port) old.device n.device) (sym none) (by_none (IsPlainIssuing port) old.device)
   each_driven (first ∷ ids) old new (mid, one, more) =
       let late = each_driven ids mid new more in
-      let early = one.issues.driven in
+      let early = issued_plain port one.request one.request.frames old.device mid.device one.issues in
       record {
         accesses = early.accesses ++ late.accesses;
         all = does_append early.accesses late.accesses old.device mid.device new.device early.all late.all;
-        only = All-append (IsIssuing port) early.accesses late.accesses early.only late.only;
+        only = All-append (IsPlainIssuing port) early.accesses late.accesses early.only late.only;
       }
 
   -- ---- the book then
@@ -428,7 +428,7 @@ mark_id steps r = by (list_any (issues_it r.id) steps)
 
 -- Where the port's requests are the same in two machines, and the same of them are issued in two lists of steps, what is due once the others
 -- are undone is the same.
-pub dues_carried : BookLaws → (one other : List Step) (m n : Machine) (q : Port) → of_port q (map unanswered m.book) ≡ of_port q (map unanswered n.book)
+pub dues_carried : LawsBelow → (one other : List Step) (m n : Machine) (q : Port) → of_port q (map unanswered m.book) ≡ of_port q (map unanswered n.book)
     → ((r : Unanswered) → Contains (map unanswered m.book) r → r.port ≡ q → list_any (issues_it r.id) one ≡ list_any (issues_it r.id) other)
     → IssuesDue plain_mode one m q → IssuesDue plain_mode other n q
 dues_carried laws one other m n q same alike dues r here own = (

@@ -1,5 +1,5 @@
 -- Ready ports that are served one after another add an event.
-use Rattle.std.proofs.Common.{ℕ, suc, ◌≡◌, ◌≢◌, ◌≤◌, ◌<◌, ◌+◌, ◌-◌, ◌||◌, not, Bool, true, false, List, [], ◌∷◌, ◌++◌, map, Option, Some, None, refl, sym, ap, ◌∙◌, subst, inl, inr, ⊎_elim, arith, append_assoc, append-nil}
+use Rattle.std.proofs.Common.{◌&&◌, ℕ, suc, ◌≡◌, ◌≢◌, ◌≤◌, ◌<◌, ◌+◌, ◌-◌, ◌||◌, not, Bool, true, false, List, [], ◌∷◌, ◌++◌, map, Option, Some, None, refl, sym, ap, ◌∙◌, subst, inl, inr, ⊎_elim, arith, append_assoc, append-nil}
 use Rattle.std.specs.List.{All, AllPairs, Contains, list_any}
 use Rattle.std.specs.List.Sorted.{IsPermutation}
 use Rattle.std.specs.Prelude.{◌↔◌}
@@ -62,7 +62,7 @@ use Rattle.slots.specs.declared.Use.{Use as SlotUse}
 use Rattle.driver_history.specs.Trace.{IsServing, LeavesCommand, ReadsMasks}
 use Rattle.driver_history.proofs.Calm.{untroubled}
 use Rattle.server_history.specs.Histories.{Adds, Leads}
-use Rattle.server_history.specs.Book.{BookLaws}
+use Rattle.server_history.specs.Below.{LawsBelow}
 use Rattle.server_history.specs.Served.{AddsTurn, AnswersBy, AnswersFirst, AnswersStep, Checks, IssuesOnly, SameSettings, ServePorts, ServesPort, is_busy, is_used, reply_list}
 use Rattle.server_history.specs.Server.{Server, IsKept, IsMachineOf, IsSettled, is_served, plain_mode, ports_of, state_of, used_for}
 use Rattle.server_history.proofs.Coming.{IsTurn, TurnList, turn_leaves, turn_list, turn_serving}
@@ -77,6 +77,7 @@ use Rattle.server_history.proofs.Told.{fatal_shows, grounded_told, loss_shows, n
 use Rattle.server_history.proofs.Slots.{free_unused, issued_in_first, of_ready, only_first, ready_found, serves_used}
 use Rattle.server_history.proofs.Zips.{at_right}
 use Rattle.server_history.proofs.Turns.{AreTurns, IsSame, answer_on, devices_answer, devices_on, issues_on, no_turns, turns_more}
+use Rattle.server_history.proofs.Plain.{both_read, first_told}
 use Rattle.transfers.specs.Services.{IsService}
 use Rattle.transfers.specs.Looks.{IsLooking}
 use Rattle.transfers.specs.declared.Look.TheVariants.{Undisturbed as Calm}
@@ -160,7 +161,7 @@ same_more : (a b c : Server) → SameSettings a b → SameSettings b c → SameS
 same_more a b c first then = then ∙ ap (λ (x : Server). record x { device = c.device; table = c.table; slots = c.slots; book = c.book }) first
 
 -- what a turn leaves of the server
-answers_settings : BookLaws → (port : Port) (reply : Option Reply) (old new : Server) → AnswersFirst port reply old new → SameSettings old new
+answers_settings : LawsBelow → (port : Port) (reply : Option Reply) (old new : Server) → AnswersFirst port reply old new → SameSettings old new
 answers_settings laws port None old new is = is ∙ ap (λ (n : Server). record old { device = n.device; table = n.table; slots = n.slots; book = n.book }) (sym is)
 answers_settings laws port (Some reply) old new (found, e, told, (mid, one, issues)) =
     each_settings laws port (due_ids plain_mode port (asks_of mid.book)) mid new issues
@@ -171,7 +172,7 @@ answers_settings laws port (Some reply) old new (found, e, told, (mid, one, issu
     table_is = ap (λ (n : Server). n.table) (each_settings laws port (due_ids plain_mode port (asks_of mid.book)) mid new issues)
 
 -- and of the requests of another port
-answers_apart : BookLaws → (port : Port) (reply : Option Reply) (old new : Server) → IsInOrder old.book → AnswersFirst port reply old new → (other : Port) → other ≢ port
+answers_apart : LawsBelow → (port : Port) (reply : Option Reply) (old new : Server) → IsInOrder old.book → AnswersFirst port reply old new → (other : Port) → other ≢ port
     → of_port other (asks_of new.book) ≡ of_port other (asks_of old.book)
 answers_apart laws port None old new order is other ne = ap (λ (n : Server). of_port other (asks_of n.book)) is
 answers_apart laws port (Some reply) old new order (found, e, told, (mid, one, issues)) other ne =
@@ -180,7 +181,7 @@ answers_apart laws port (Some reply) old new order (found, e, told, (mid, one, i
 
 -- ---- what was done so far
 
-module _ (laws : BookLaws) (s : Server) (start : IsSettled s) (old : Moment) (reached : IsReached old.machine) (at : IsMachineOf s old.machine) where
+module _ (laws : LawsBelow) (s : Server) (start : IsSettled s) (old : Moment) (reached : IsReached old.machine) (at : IsMachineOf s old.machine) where
   abbrev kept : IsKept s
   kept = start.kept
 
@@ -481,30 +482,36 @@ module _ (laws : BookLaws) (s : Server) (start : IsSettled s) (old : Moment) (re
       abbrev k : Checks (port_at n) reply serves.turn.seen mid.device
       k = checks.0
 
+      tells : bit k.done 0 ≡ (not (bit k.reads.issued 0) && not (bit k.reads.active 0))
+      tells = first_told (port_at n) k.done serves.turn.seen k.read k.reads
+
+      masks_read : (read : Device) × Reads (Px (port_at n) Ci) k.reads.issued serves.turn.seen read × Reads (Px (port_at n) Sact) k.reads.active read k.read
+      masks_read = both_read (port_at n) 1 k.done serves.turn.seen k.read k.reads
+
       abbrev AreClear : ℕ → Type 0
       AreClear slot = (bit k.reads.issued slot ≡ false) × (bit k.reads.active slot ≡ false)
 
       -- slot 0's bits tell whether the first was answered
       module _ (other : Pending) (own : IsIssuedOn (port_at n) old.machine other) where
-        when_done : k.done ≡ true → IsAnsweredOk other (all reply serves) × AreClear 0
+        when_done : bit k.done 0 ≡ true → IsAnsweredOk other (all reply serves) × AreClear 0
         when_done done =
-            let both = and_parts (not (bit k.reads.issued 0)) (not (bit k.reads.active 0)) (sym k.reads.tells ∙ done) in
+            let both = and_parts (not (bit k.reads.issued 0)) (not (bit k.reads.active 0)) (sym tells ∙ done) in
             (answers (k.over done).0 other (leading other own), (not_true (bit k.reads.issued 0) both.0, not_true (bit k.reads.active 0) both.1))
 
-        when_not : k.done ≡ false → (IsAnsweredOk other (all reply serves) → ⊥) × (AreClear 0 → ⊥)
+        when_not : bit k.done 0 ≡ false → (IsAnsweredOk other (all reply serves) → ⊥) × (AreClear 0 → ⊥)
         when_not running = (
           (λ ok.
               let small = answers_none (k.running running).0 ok.0 ok.2 in
               let at = ap (λ (r : Port). r.0) (ap (λ r. r.port) ok.1 ∙ own.port_is) in
               omega (arith, small, at)),
-          (λ clear. false≢true (sym running ∙ k.reads.tells ∙ and_from (not (bit k.reads.issued 0)) (not (bit k.reads.active 0)) (ap not clear.0) (ap not clear.1))),
+          (λ clear. false≢true (sym running ∙ tells ∙ and_from (not (bit k.reads.issued 0)) (not (bit k.reads.active 0)) (ap not clear.0) (ap not clear.1))),
         )
 
         at_head : IsAnsweredOk other (all reply serves) ↔ AreClear 0
         at_head = ⊎_elim
-            (λ (done : k.done ≡ true). ((λ _. (when_done done).1), (λ _. (when_done done).0)))
-            (λ (running : k.done ≡ false). ((λ ok. absurd ((when_not running).0 ok)), (λ clear. absurd ((when_not running).1 clear))))
-            (cases_Bool k.done)
+            (λ (done : bit k.done 0 ≡ true). ((λ _. (when_done done).1), (λ _. (when_done done).0)))
+            (λ (running : bit k.done 0 ≡ false). ((λ ok. absurd ((when_not running).0 ok)), (λ clear. absurd ((when_not running).1 clear))))
+            (cases_Bool (bit k.done 0))
 
         -- bytes of another slot may say its command still: then it has ended, and that slot isn't used
         module _ (slot : ℕ) (apart : slot ≢ 0) (says : ServesRequest old.machine s.device.memory (s.device.port n) n slot other.request.id) where
@@ -528,10 +535,10 @@ module _ (laws : BookLaws) (s : Server) (start : IsSettled s) (old : Moment) (re
 
           clear_there : AreClear slot
           clear_there = (
-            issued_clear (port_at n) slot k.reads.issued serves.turn.seen k.reads.seen says.placed.slot_below k.reads.shows_issued
+            issued_clear (port_at n) slot k.reads.issued serves.turn.seen masks_read.0 says.placed.slot_below masks_read.1
                 (still_over (port_at n) slot c.device serves.turn.seen looks (record { issued = free.issued; free = free.free })),
-            active_clear (port_at n) slot k.reads.active k.reads.seen k.read says.placed.slot_below k.reads.shows_active
-                (reads_clear n slot (Px (port_at n) Ci) k.reads.issued serves.turn.seen k.reads.seen k.reads.shows_issued
+            active_clear (port_at n) slot k.reads.active masks_read.0 k.read says.placed.slot_below masks_read.2
+                (reads_clear n slot (Px (port_at n) Ci) k.reads.issued serves.turn.seen masks_read.0 masks_read.1
                 (services_inactive n slot c.device serves.turn.seen (driven_as (IsLooking (port_at n)) IsService c.device serves.turn.seen (looking_service (port_at n)) looks) free.unarmed)),
           )
             where
@@ -696,7 +703,7 @@ module _ (laws : BookLaws) (s : Server) (start : IsSettled s) (old : Moment) (re
 
 -- ---- the event
 
-module _ (laws : BookLaws) (s new : Server) (replies : List Reply) (start : IsSettled s) (serves : ServePorts 0 s.ports replies s new) (first : Instant Device) (past : List (Happening Device DeviceStep)) (leads : Leads first past s) where
+module _ (laws : LawsBelow) (s new : Server) (replies : List Reply) (start : IsSettled s) (serves : ServePorts 0 s.ports replies s new) (first : Instant Device) (past : List (Happening Device DeviceStep)) (leads : Leads first past s) where
   abbrev old : Moment
   old = (now first past).moment
 
@@ -820,5 +827,5 @@ served_kept (Ready info ∷ found) n s new replies kept (mid, reply, later, is, 
 served_kept (Unserved ∷ found) n s new replies kept serves = served_kept found (n + 1) s new replies kept serves
 served_kept (Unready state ∷ found) n s new replies kept serves = served_kept found (n + 1) s new replies kept serves
 
-pub services_add : BookLaws → (s new : Server) (replies : List Reply) → IsSettled s → ServePorts 0 s.ports replies s new → Adds s new Service (Served replies)
+pub services_add : LawsBelow → (s new : Server) (replies : List Reply) → IsSettled s → ServePorts 0 s.ports replies s new → Adds s new Service (Served replies)
 services_add laws s new replies start serves = record { settled = served_kept s.ports 0 s new replies start serves; adds = λ first past leads. service_event laws s new replies start serves first past leads }

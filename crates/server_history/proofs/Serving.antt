@@ -1,5 +1,5 @@
 -- How a ready port is served: where nobody is answered, and where its first request is.
-use Rattle.std.proofs.Common.{ℕ, ◌≡◌, ◌≢◌, ◌⊎◌, ◌<◌, ◌∷◌, ◌++◌, ◌||◌, Bool, true, false, not, ◌&&◌, List, [], Some, None, refl, sym, ap, ◌∙◌, subst, inl, inr, ⊎_elim}
+use Rattle.std.proofs.Common.{ℕ, arith, ◌≡◌, ◌≢◌, ◌⊎◌, ◌<◌, ◌∷◌, ◌++◌, ◌||◌, Bool, true, false, not, ◌&&◌, List, [], Some, None, refl, sym, ap, ◌∙◌, subst, inl, inr, ⊎_elim}
 use Rattle.std.proofs.lemmas.Bool.{false≢true}
 use Rattle.ata_types.specs.declared.Port.{Port}
 use Rattle.ata_types.specs.declared.PortState.TheVariants.{Ready as ReadyState}
@@ -33,8 +33,8 @@ use Rattle.driver_history.specs.Histories.{IssuesDue}
 use Rattle.request_queue.specs.Entries.{Held, asks_of, due_ids}
 use Rattle.slots.specs.declared.Use.{Use as SlotUse}
 use Rattle.identify.specs.declared.DiskInfo.{DiskInfo}
-use Rattle.server_history.specs.Book.{BookLaws}
-use Rattle.server_history.specs.Served.{AddsTurn, AnswersOne, Finishes, HasTurn, ServesPort, done_reply, is_busy, is_used}
+use Rattle.server_history.specs.Below.{LawsBelow}
+use Rattle.server_history.specs.Served.{AddsTurn, AnswersOne, Finishes, HasTurn, IsPlainIssuing, ServesPort, done_reply, is_busy, is_used}
 use Rattle.server_history.specs.Server.{Server, IsKept, IsMachineOf, IsSettled, none_parked, plain_mode, state_of, used_for}
 use Rattle.server_history.proofs.Answering.{IsAnswer, answer_kept, answer_one}
 use Rattle.server_history.proofs.Asks.{none_issued}
@@ -44,18 +44,20 @@ use Rattle.server_history.proofs.Rounds.{AreIssued, any_append, devices_issue_no
 use Rattle.server_history.proofs.Slots.{busy_used, ready_found, served_by, serves_used}
 use Rattle.transfers.specs.Looks.{IsLooking, LooksAt}
 use Rattle.transfers.specs.Services.{IsService}
-use Rattle.transfers.specs.Transfers.{IsFinding, IsIssuing, ReadsDone}
+use Rattle.ncq.specs.Masks.{FindsDone, IsFinding, SeesClear}
+use Rattle.hba_regs.specs.Bits.{bit}
+use Rattle.server_history.proofs.Plain.{finding_serves}
 use Rattle.transfers.specs.declared.Look.{Look}
 use Rattle.transfers.specs.declared.Look.TheVariants.{Undisturbed as Calm}
 use Rattle.transfers.proofs.Seeing.{seen_well}
-use Rattle.transfers.proofs.Serving.{finding_ordinary, looking_service, services_inactive}
+use Rattle.transfers.proofs.Serving.{looking_service, services_inactive}
 
 -- accesses of a look, and of finding a transfer done, serve ports
 looks_serve : (port : Port) (old new : Device) → IsFollowed (IsLooking port) AnyUse old new → IsFollowed IsService AnyUse old new
 looks_serve port old new followed = followed_as (IsLooking port) IsService AnyUse AnyUse old new (looking_service port) (λ uses any. any) followed
 
-finds_serve : (port : Port) (old new : Device) → IsFollowed (IsFinding port) AnyUse old new → IsFollowed IsService AnyUse old new
-finds_serve port old new followed = followed_as (IsFinding port) IsService AnyUse AnyUse old new (λ access is. (finding_ordinary port port access is).0) (λ uses any. any) followed
+finds_serve : LawsBelow → (port : Port) (mask done : ℕ) (old new : Device) → FindsDone port mask done old new → IsFollowed IsService AnyUse old new
+finds_serve laws port mask done old new finds = followed_as (IsFinding port) IsService AnyUse AnyUse old new (finding_serves port) (λ uses any. any) (laws.finding_followed port mask done old new finds)
 
 -- the steps of a stretch in which nobody is answered
 followed_steps : (s : Server) (new : Device) → IsFollowed IsService AnyUse s.device new → (m : Machine) → IsReached m → IsMachineOf s m
@@ -149,27 +151,27 @@ module _ (s : Server) (seen : Device) (port : Port) (t : IsSettled s) (ready : s
 
   module _ (l : LooksAt port Calm s.device seen) where
     -- what it has issued wasn't found done
-    pub unfinished : (new : Device) → is_busy port s ≡ true → ReadsDone port false seen new → ((seen.port port.0).ci 0 ≡ false → (seen.port port.0).sact 0 ≡ false → ⊥) → IsFollowed (IsFinding port) AnyUse seen new → ServesPort port None s (record s { device = new })
-    unfinished new has reads running finds =
+    pub unfinished : LawsBelow → (new : Device) → is_busy port s ≡ true → (done : ℕ) → FindsDone port 1 done seen new → SeesClear port 1 done seen → bit done 0 ≡ false → ServesPort port None s (record s { device = new })
+    unfinished laws new has done reads sees running =
         nobody_answered s new port t
         (record {
           look = Calm;
           seen = seen;
           looks = l;
           only = λ why. absurd (⊎_elim (λ told. told refl) (λ none. false≢true (sym none ∙ has)) why);
-          checks = λ calm busy. record { done = false; read = new; reads = reads; running = λ _. (refl, refl); over = λ done. absurd (false≢true done) };
+          checks = λ calm busy. record { done = done; read = new; reads = reads; running = λ _. (refl, refl); over = λ found. absurd (false≢true (sym running ∙ found)) };
         })
-        (followed_then IsService AnyUse s.device seen new (looks_serve port s.device seen looks) (finds_serve port seen new finds))
-        (λ well calm ci sact busy. let c = still_clear s port k ready seen looks.driven ci sact busy in running c.0 c.1)
+        (followed_then IsService AnyUse s.device seen new (looks_serve port s.device seen looks) (finds_serve laws port 1 done seen new reads))
+        (λ well calm ci sact busy. let c = still_clear s port k ready seen looks.driven ci sact busy in false≢true (sym running ∙ sees 0 (omega arith) refl c.0 c.1))
 
     -- it was found done, and answered
-    module _ (laws : BookLaws) (new : Server) (found : Device) (e : Held) (reads : ReadsDone port true seen found) (finds : IsFollowed (IsFinding port) AnyUse seen found) (over : IsOver (found.port port.0) 0)
+    module _ (laws : LawsBelow) (new : Server) (found : Device) (e : Held) (done : ℕ) (reads : FindsDone port 1 done seen found) (was_done : bit done 0 ≡ true) (over : IsOver (found.port port.0) 0)
         (finishes : Finishes port e (record s { device = found }) new) where
       served : IsFollowed IsService AnyUse s.device found
-      served = followed_then IsService AnyUse s.device seen found (looks_serve port s.device seen looks) (finds_serve port seen found finds)
+      served = followed_then IsService AnyUse s.device seen found (looks_serve port s.device seen looks) (finds_serve laws port 1 done seen found reads)
 
       found_kept : IsKept (record s { device = found })
-      found_kept = finding_kept (record s { device = seen }) found port (looking_kept s seen port k ready looks) ready finds
+      found_kept = finding_kept (record s { device = seen }) found port (looking_kept s seen port k ready looks) ready laws 1 done reads
 
       abbrev mid : Server
       mid = finishes.0
@@ -238,8 +240,8 @@ module _ (s : Server) (seen : Device) (port : Port) (t : IsSettled s) (ready : s
       has : is_busy port s ≡ true
       has = ap is_used one.served
 
-      last_issues : IsDrivenBy (IsIssuing port) found new.device
-      last_issues = subst (λ (d : Device). IsDrivenBy (IsIssuing port) d new.device) mid_device (each_driven laws port ids mid new finishes.2)
+      last_issues : IsDrivenBy (IsPlainIssuing port) found new.device
+      last_issues = subst (λ (d : Device). IsDrivenBy (IsPlainIssuing port) d new.device) mid_device (each_driven laws port ids mid new finishes.2)
 
       pub finished : ServesPort port (Some (done_reply e)) s new
       finished = record {
@@ -249,10 +251,10 @@ module _ (s : Server) (seen : Device) (port : Port) (t : IsSettled s) (ready : s
           looks = l;
           only = λ why. absurd (⊎_elim (λ told. told refl) (λ none. false≢true (sym none ∙ has)) why);
           checks = λ calm busy. record {
-            done = true;
+            done = done;
             read = found;
             reads = reads;
-            running = λ still. absurd (false≢true (sym still));
+            running = λ still. absurd (false≢true (sym still ∙ was_done));
             over = λ _. ((λ none. let w : Some (done_reply e) ≡ None = none in absurd cc), last_issues);
           };
         };

@@ -1,4 +1,4 @@
 pub mod Server
 pub mod Histories
 pub mod Served
-pub mod Book
+pub mod Below

@@ -22,12 +22,21 @@ use Rattle.dma_frames.specs.Table.{Table, LendsOnly}
 use Rattle.driver_history.specs.Histories.{IssuesDue}
 use Rattle.host_boot.specs.declared.Found.{Found}
 use Rattle.host_boot.specs.declared.Found.TheVariants.{Ready}
+use Rattle.adapter.specs.Access.{Access}
+use Rattle.adapter.specs.Access.Access.{Writing, Storing}
+use Rattle.agreement.specs.Driven.{IsBitOf}
+use Rattle.command_table.specs.Written.{IsTableStore}
+use Rattle.hba_regs.specs.Bits.{bit}
+use Rattle.hba_regs.specs.declared.reg.PortReg.TheVariants.{Ci}
+use Rattle.hba_regs.specs.declared.reg.Reg.TheVariants.{Px}
+use Rattle.ncq.specs.Masks.{FindsDone}
+use Rattle.ncq.specs.Transfers.{IssuesTransfer}
+use Rattle.ncq.specs.declared.Transfer.{Transfer}
 use Rattle.request_queue.specs.Entries.{Held, asks, asks_of, at, due_ids, issue, without}
 use Rattle.request_queue.specs.Machine.{IsEntry}
 use Rattle.server_history.specs.Server.{Server, IsSettled, IsMachineOf, plain_mode, used_for, with_slot}
 use Rattle.slots.specs.declared.Use.{Use as SlotUse}
 use Rattle.transfers.specs.Looks.{LooksAt}
-use Rattle.transfers.specs.Transfers.{Transfer, IsIssuing, IssuesTransfer, ReadsDone}
 use Rattle.transfers.specs.declared.Look.{Look}
 use Rattle.transfers.specs.declared.Look.TheVariants.{Undisturbed as Calm}
 
@@ -38,14 +47,20 @@ abbrev pub reply_list : Option Reply → List Reply
 reply_list None = []
 reply_list (Some reply) = reply ∷ []
 
+-- It stores header or table of slot 0, or writes PxCI with bit 0 alone.
+abbrev pub IsPlainIssuing : Port → Access → Type 0
+IsPlainIssuing port (Writing r v) = (r ≡ Px port Ci) × IsBitOf 0 v
+IsPlainIssuing port (Storing at bytes) = IsTableStore port.0 0 (Storing at bytes)
+IsPlainIssuing port access = ⊥
+
 -- PxCI and PxSACT were read. Where slot 0's bit was set in one of them, nobody was answered, and that was all. Where it was clear in both,
 -- a request was answered; of accesses, only those followed that issue a request of the port's, if any.
 pub record Checks (port : Port) (reply : Option Reply) (old new : Device) : Type 0 where
-  pub done : Bool
+  pub done : ℕ
   pub read : Device
-  pub reads : ReadsDone port done old read
-  pub running : done ≡ false → (reply ≡ None) × (new ≡ read)
-  pub over : done ≡ true → (reply ≢ None) × IsDrivenBy (IsIssuing port) read new
+  pub reads : FindsDone port 1 done old read
+  pub running : bit done 0 ≡ false → (reply ≡ None) × (new ≡ read)
+  pub over : bit done 0 ≡ true → (reply ≢ None) × IsDrivenBy (IsPlainIssuing port) read new
 
 -- A port's turn in a service. The port was looked at. Where that told of something, or the port had nothing issued, that was all, and nobody
 -- was answered; else what it had issued was checked.
@@ -60,7 +75,7 @@ pub record HasTurn (port : Port) (busy : Bool) (reply : Option Reply) (old new :
 
 -- a request, as it is issued
 abbrev pub transfer_of : Held → Transfer
-transfer_of e = record { op = e.entry.op; first = e.entry.range.first.0; count = e.entry.range.count; frames = e.frames }
+transfer_of e = record { op = e.entry.op; range = e.entry.range; queued = false }
 
 -- A due request of the port was issued in slot 0: its bit of PxCI is set.
 pub record IssuesOne (port : Port) (id : RequestId) (old new : Server) : Type 0 where
@@ -69,7 +84,7 @@ pub record IssuesOne (port : Port) (id : RequestId) (old new : Server) : Type 0 
   pub id_is : request.entry.id ≡ id
   pub port_is : request.entry.port ≡ port
   pub due : IsDue plain_mode (asks_of old.book) (asks request.entry)
-  pub issues : IssuesTransfer port (transfer_of request) old.device new.device
+  pub issues : IssuesTransfer port 0 (transfer_of request) request.frames old.device new.device
   pub sent : (new.device.port port.0).ci 0 ≡ true
   pub server : new ≡ record old {
     device = new.device;

@@ -1,5 +1,5 @@
 // Laws of the definitions, for callers: the clause is the theorem. These functions do nothing.
-ghost use Rattle.std.specs.Prelude.{ℕ, true, false, ◌≡◌, ◌≢◌, ◌⊎◌, ◌+◌, ◌*◌, List, ◌∷◌, Some, None, Ok, Err, length, Contains};
+ghost use Rattle.std.specs.Prelude.{ℕ, true, false, ◌≡◌, ◌≢◌, ◌⊎◌, ◌<◌, ◌+◌, ◌*◌, List, ◌∷◌, Some, None, Ok, Err, length, Contains};
 ghost use Rattle.ata_types.specs.declared.Port.{Port};
 ghost use Rattle.ata_types.specs.declared.PortState.TheVariants.{Ready as ReadyState};
 ghost use Rattle.ata_types.specs.declared.grant.GrantRow.{GrantRow};
@@ -29,26 +29,28 @@ ghost use Rattle.command_table.specs.Written.{IsUnused};
 ghost use Rattle.dma_frames.specs.Table.{Table, LendsOnly, owner_of, lent_to};
 ghost use Rattle.host_boot.specs.Taken.{found_of, TakesOver};
 ghost use Rattle.host_boot.specs.declared.Host.{Host};
+ghost use Rattle.hba_regs.specs.Bits.{bit};
+ghost use Rattle.ncq.specs.Masks.{FindsDone, SeesClear};
 ghost use Rattle.request_queue.specs.Entries.{Held, asks, asks_of};
-ghost use Rattle.server_history.specs.Book.{BookLaws};
+ghost use Rattle.server_history.specs.Below.{LawsBelow};
 ghost use Rattle.server_history.specs.Histories.{Adds, HasBegun, load_said, store_said};
 ghost use Rattle.server_history.specs.Served.{Accepts, AnswersOne, Finishes, IssuesAll, IssuesOne, ServePorts, ServesPort, accepting, done_reply, is_busy};
 ghost use Rattle.server_history.specs.Server.{Server, IsKept, IsNewServer, IsSettled, plain_mode, ports_of, situation_of, state_of, used_for};
 ghost use Rattle.slots.specs.declared.Use.{Use as SlotUse};
 ghost use Rattle.transfers.specs.Looks.{IsLooking, LooksAt};
-ghost use Rattle.transfers.specs.Transfers.{IsFinding, FindsTransfer, ReadsDone};
 ghost use Rattle.transfers.specs.declared.Look.{Look};
 ghost use Rattle.transfers.specs.declared.Look.TheVariants.{Undisturbed as Calm};
 
 use block_machine::laws::{due_in_turn, due_is_exact, other_ports_stay, own_requests_count};
+use ncq::laws::{calls_are_of_one_port, finding_is_followed, issuing_performs};
 use request_queue::laws::{
     accepted_requests_stay, an_id_is_one_request, operations_change_one_request,
     operations_change_what_is_due, steps_change_the_book, the_book_stays_in_order,
 };
 
-/// What the book of requests does, as its laws have it.
-fn the_book_is_lawful()
-    ensures { BookLaws }
+/// What requests and transfers do, as the laws of the crates below have it.
+fn the_laws_below_hold()
+    ensures { LawsBelow }
 {
     steps_change_the_book();
     an_id_is_one_request();
@@ -60,6 +62,9 @@ fn the_book_is_lawful()
     due_in_turn();
     own_requests_count();
     other_ports_stay();
+    issuing_performs();
+    calls_are_of_one_port();
+    finding_is_followed();
 }
 
 /// A ready port of a new server runs well, if nothing went wrong on it since the adapter was idle.
@@ -136,7 +141,7 @@ pub fn requests_keep()
         → IsOver (s.device.port port.0) 0 → AnswersOne port request s new → IsKept new }
     ensures issued { (s new : Server) (port : Port) (id : RequestId) → IsKept s → IssuesOne port id s new → IsKept new }
 {
-    the_book_is_lawful();
+    the_laws_below_hold();
 }
 
 /// Once a request is answered whose command is over, and then what is due on its port is issued, nothing is due.
@@ -144,7 +149,7 @@ pub fn a_finished_port_settles()
     ensures { (s new : Server) (port : Port) (request : Held) → IsSettled s → state_of (found_of s.ports port.0) ≡ ReadyState
         → IsOver (s.device.port port.0) 0 → Finishes port request s new → IsSettled new }
 {
-    the_book_is_lawful();
+    the_laws_below_hold();
 }
 
 /// A server goes on while its port is looked at, and while what the port has issued is looked for. Where that was found done, its command is
@@ -153,12 +158,14 @@ pub fn looks_keep()
     ensures looking { (s : Server) (new : Device) (port : Port) → IsKept s → state_of (found_of s.ports port.0) ≡ ReadyState
         → IsFollowed (IsLooking port) AnyUse s.device new
         → IsKept (record s { device = new }) }
-    ensures finding { (s : Server) (new : Device) (port : Port) → IsKept s → state_of (found_of s.ports port.0) ≡ ReadyState
-        → IsFollowed (IsFinding port) AnyUse s.device new
-        → IsKept (record s { device = new }) }
-    ensures found { (s : Server) (new : Device) (port : Port) → IsKept s → state_of (found_of s.ports port.0) ≡ ReadyState
-        → is_busy port s ≡ true → FindsTransfer port true s.device new → IsOver (new.port port.0) 0 }
-{}
+    ensures finding { (s : Server) (new : Device) (port : Port) (mask done : ℕ) → IsKept s → state_of (found_of s.ports port.0) ≡ ReadyState
+        → FindsDone port mask done s.device new → IsKept (record s { device = new }) }
+    ensures found { (s : Server) (new : Device) (port : Port) (mask done slot : ℕ) (used : SlotUse) → IsKept s
+        → state_of (found_of s.ports port.0) ≡ ReadyState → used_for s.slots port.0 slot ≡ Some used → slot < 32
+        → FindsDone port mask done s.device new → bit done slot ≡ true → IsOver (new.port port.0) slot }
+{
+    the_laws_below_hold();
+}
 
 /// How a ready port is served: it is looked at, and that is all where it told of something, or has nothing issued; else that is looked
 /// for; where it is found done, it is answered, and what is due then is issued.
@@ -169,16 +176,15 @@ pub fn a_port_is_served()
         → ServesPort port None s (record s { device = seen }) }
     ensures unfinished { (s : Server) (seen new : Device) (port : Port) → IsSettled s → state_of (found_of s.ports port.0) ≡ ReadyState
         → LooksAt port Calm s.device seen → IsFollowed (IsLooking port) AnyUse s.device seen
-        → is_busy port s ≡ true → ((seen.port port.0).ci 0 ≡ false → (seen.port port.0).sact 0 ≡ false → ⊥)
-        → ReadsDone port false seen new → IsFollowed (IsFinding port) AnyUse seen new
+        → is_busy port s ≡ true → (done : ℕ) → FindsDone port 1 done seen new → SeesClear port 1 done seen → bit done 0 ≡ false
         → ServesPort port None s (record s { device = new }) }
     ensures finished { (s new : Server) (seen found : Device) (port : Port) (request : Held) → IsSettled s
         → state_of (found_of s.ports port.0) ≡ ReadyState
         → LooksAt port Calm s.device seen → IsFollowed (IsLooking port) AnyUse s.device seen
-        → ReadsDone port true seen found → IsFollowed (IsFinding port) AnyUse seen found → IsOver (found.port port.0) 0
+        → (done : ℕ) → FindsDone port 1 done seen found → bit done 0 ≡ true → IsOver (found.port port.0) 0
         → Finishes port request (record s { device = found }) new → ServesPort port (Some (done_reply request)) s new }
 {
-    the_book_is_lawful();
+    the_laws_below_hold();
 }
 
 /// A request that is accepted adds an event.
@@ -186,7 +192,7 @@ pub fn acceptances_add()
     ensures { (s new : Server) (port : Port) (r : Request) (id : RequestId) → IsSettled s → IsAcceptable (situation_of s) r
         → Accepts port r id s new → Adds s new (Submit r) (Submitted (Ok id)) }
 {
-    the_book_is_lawful();
+    the_laws_below_hold();
 }
 
 /// Ready ports that are served one after another add an event.
@@ -194,5 +200,5 @@ pub fn services_add()
     ensures { (s new : Server) (replies : List Reply) → IsSettled s → ServePorts 0 s.ports replies s new
         → Adds s new Service (Served replies) }
 {
-    the_book_is_lawful();
+    the_laws_below_hold();
 }

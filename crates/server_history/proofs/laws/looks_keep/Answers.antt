@@ -5,7 +5,7 @@ pub returns-clause-looking : goal.returns-clause-looking
 returns-clause-looking c = looking_kept
 
 pub returns-clause-finding : goal.returns-clause-finding
-returns-clause-finding c = finding_kept
+returns-clause-finding c s new port mask done k ready finds = finding_kept s new port k ready c.the_laws_below_hold.ensures mask done finds
 
 pub returns-clause-found : goal.returns-clause-found
-returns-clause-found c = found_over
+returns-clause-found c s new port mask done slot used k ready its small finds found = found_over s new port k ready c.the_laws_below_hold.ensures mask done finds slot used its small found

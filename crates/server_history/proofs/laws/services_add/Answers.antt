@@ -2,4 +2,4 @@ use Rattle.server_history.proofs.Services.{services_add}
 use Rattle.server_history.proofs.laws.services_add.Goals as goal
 
 pub returns : goal.returns
-returns c = services_add c.the_book_is_lawful.ensures
+returns c = services_add c.the_laws_below_hold.ensures

@@ -1,4 +1,4 @@
-use Rattle.server_history.proofs.laws.the_book_is_lawful.Goals as goal
+use Rattle.server_history.proofs.laws.the_laws_below_hold.Goals as goal
 
 pub returns : goal.returns
 returns c = record {
@@ -23,4 +23,9 @@ returns c = record {
   same_due = c.own_requests_count.ensures.one;
   issued_apart = c.other_ports_stay.ensures.issued;
   answered_apart = c.other_ports_stay.ensures.answered;
+  issuing_ends = c.issuing_performs.ensures.ends;
+  issuing_silent = c.issuing_performs.ensures.silent;
+  issuing_of = c.calls_are_of_one_port.ensures.issuing;
+  finding_of = c.calls_are_of_one_port.ensures.finding;
+  finding_followed = c.finding_is_followed.ensures;
 }

@@ -1,10 +1,18 @@
--- What the laws of the book of requests say: the laws of this crate rest on them.
-use Rattle.std.specs.Prelude.{◌≡◌, ◌≢◌, ◌≤◌, ◌<◌, ◌↔◌, List, [], ◌∷◌, ◌++◌, map, Option, None, All, Contains}
+-- What the laws of the crates below say of requests and of transfers: the laws of this crate rest on them.
+use Rattle.std.specs.Prelude.{ℕ, ◌≡◌, ◌≢◌, ◌≤◌, ◌<◌, ◌↔◌, List, [], ◌∷◌, ◌++◌, map, Option, None, All, Contains}
 use Rattle.ata_types.specs.declared.Port.{Port}
 use Rattle.ata_types.specs.declared.grant.GrantRow.{GrantRow}
 use Rattle.ata_types.specs.declared.request.Frame.{Frame}
 use Rattle.ata_types.specs.declared.request.Outcome.{Outcome}
 use Rattle.ata_types.specs.declared.request.RequestId.{RequestId}
+use Rattle.adapter.specs.Access.{Access}
+use Rattle.adapter.specs.Device.{Device}
+use Rattle.adapter.specs.declared.command.Operation.{Operation}
+use Rattle.agreement.specs.Acts.{InSlots}
+use Rattle.agreement.specs.Acts.{at as at_slots}
+use Rattle.agreement.specs.Driven.{AnyUse, IsFollowed, IsOf, SendsNone}
+use Rattle.agreement.specs.Driver.{EndsWith, Knows}
+use Rattle.agreement.specs.Slots.{Own, op_of}
 use Rattle.block_machine.specs.Due.{AreDueInTurn, IsDue, IsInOrder as machine_in_order, due_of, of_port, with_issued, with_none}
 use Rattle.block_machine.specs.State.{Machine, Pending, unanswered}
 use Rattle.block_machine.specs.Steps.{Accept, Issue, Answer, after_step, newly_accepted}
@@ -12,10 +20,14 @@ use Rattle.block_machine.specs.State as machine
 use Rattle.block_machine.specs.declared.due.Mode.{Mode}
 use Rattle.block_machine.specs.declared.due.Unanswered.{Unanswered}
 use Rattle.dma_frames.specs.Table.{Table, LendsOnly, lent_to}
+use Rattle.block_machine.specs.Histories.{IsReached}
+use Rattle.ncq.specs.Masks.{FindsDone, IsFinding}
+use Rattle.ncq.specs.Transfers.{IsIssuing, IsTransferOf, IssuesTransfer, MayServe, with_serving}
+use Rattle.ncq.specs.declared.Transfer.{Transfer}
 use Rattle.request_queue.specs.Entries.{Held, IsAccepted, IsEarlier, IsFresh, IsInOrder, IsWaiting, asks_of, at, issue, unanswered_of, without}
 use Rattle.request_queue.specs.Machine.{IsBook, IsEntry}
 
-pub record BookLaws : Type 0 where
+pub record LawsBelow : Type 0 where
   -- the book and the machine's
   pub accepts : (entries : List Held) (m : Machine) (e : Held) (r : machine.Accepted) → IsBook entries m.book → IsEntry e (newly_accepted r) → IsBook (entries ++ e ∷ []) (after_step m (Accept r)).book
   pub issues : (entries : List Held) (m : Machine) (mode : Mode) (p : Pending) → IsBook entries m.book → IsBook (map (at p.request.id issue) entries) (after_step m (Issue mode p)).book
@@ -44,3 +56,14 @@ pub record BookLaws : Type 0 where
   pub same_due : (mode : Mode) (port : Port) (book other : List Unanswered) (r : Unanswered) → of_port port book ≡ of_port port other → r.port ≡ port → IsDue mode book r ↔ IsDue mode other r
   pub issued_apart : (port : Port) (book : List Unanswered) (r : Unanswered) → machine_in_order book → Contains book r → r.port ≢ port → of_port port (with_issued r.id book) ≡ of_port port book
   pub answered_apart : (port : Port) (book : List Unanswered) (r : Unanswered) → machine_in_order book → Contains book r → r.port ≢ port → of_port port (with_none r.id book) ≡ of_port port book
+  -- a transfer is issued
+  pub issuing_ends : (port : Port) (slot : ℕ) (r : Transfer) (frames : List Frame) (mode : Mode) (e : Pending) (old new : Device) (s : InSlots) (m : Machine)
+      → IssuesTransfer port slot r frames old new → IsTransferOf port slot r frames mode e → IsReached m → Knows m (at_slots s old) → MayServe port slot mode e s m
+      → EndsWith (at_slots s old) m (Issue mode e) (at_slots (with_serving port slot e.request.id s) new)
+  pub issuing_silent : (port : Port) (slot : ℕ) (r : Transfer) (frames : List Frame) (mode : Mode) (e : Pending) (old new : Device) (s : InSlots) (m : Machine)
+      → IssuesTransfer port slot r frames old new → IsTransferOf port slot r frames mode e → IsReached m → Knows m (at_slots s old) → MayServe port slot mode e s m
+      → (q : ℕ) (o : Operation) → op_of o ≡ None → (s.uses q 0 ≡ Own o → ⊥) → SendsNone q o old new
+  pub issuing_of : (port : Port) (slot : ℕ) (access : Access) → IsIssuing port slot access → IsOf port access
+  -- it is found done
+  pub finding_of : (port : Port) (access : Access) → IsFinding port access → IsOf port access
+  pub finding_followed : (port : Port) (mask done : ℕ) (old new : Device) → FindsDone port mask done old new → IsFollowed (IsFinding port) AnyUse old new
