@@ -34,7 +34,7 @@ use Rattle.server_history.specs.Served.{IssuesOne, transfer_of}
 use Rattle.server_history.specs.Server.{Server, IsKept, IsTransferRow, is_served, no_slots, plain_mode, state_of, used_for, with_slot}
 use Rattle.slots.specs.Uses.{Uses as PortSlots, IsLowestFree, IsTaken, use_at, with_use}
 use Rattle.slots.specs.declared.Use.{Use as SlotUse}
-use Rattle.transfers.specs.Transfers.{IsTransfer, IssuesTransfer, MayTransfer}
+use Rattle.ncq.specs.Transfers.{IsFit, IsTransfer, IssuesTransfer, MayTransfer}
 
 -- ---- what a request of the book is, where grants are to read and to write
 
@@ -51,7 +51,7 @@ module _ (rows : List GrantRow) (table : Table) (e : Held) (reads : All IsTransf
   by_op Trim same = absurd (true≢false (sym (allowed Trim same) ∙ transfer.trim))
   by_op Flush same = absurd (true≢false (sym (allowed Flush same) ∙ transfer.flush))
 
-  pub moves : IsTransfer e.entry.op
+  moves : IsTransfer e.entry.op
   moves = by_op e.entry.op refl
 
   -- what holds of reads and of writes
@@ -61,17 +61,24 @@ module _ (rows : List GrantRow) (table : Table) (e : Held) (reads : All IsTransf
   counted : (1 ≤ e.entry.range.count) × (e.entry.range.count ≤ 256)
   counted = of_both (λ op. IsCount op e.entry.range.count → (1 ≤ e.entry.range.count) × (e.entry.range.count ≤ 256)) (λ fits. fits) (λ fits. fits) is.sectors
 
-  pub some_sector : 1 ≤ e.entry.range.count
+  some_sector : 1 ≤ e.entry.range.count
   some_sector = counted.0
 
-  pub few_sectors : e.entry.range.count ≤ 256
+  few_sectors : e.entry.range.count ≤ 256
   few_sectors = counted.1
 
-  pub first_below : e.entry.range.first.0 < 2 ^ 48
+  first_below : e.entry.range.first.0 < 2 ^ 48
   first_below = is.first (of_both (λ op. op ≢ Flush) (λ same. cc) (λ same. cc))
 
-  pub frames_fit : length e.frames ≡ (e.entry.range.count + 7) / 8
+  frames_fit : length e.frames ≡ (e.entry.range.count + 7) / 8
   frames_fit = is.frames ∙ of_both (λ op. frames_for op e.entry.range.count ≡ (e.entry.range.count + 7) / 8) refl refl
+
+  -- as a transfer, wherever its entry and its frames are told
+  pub fits : (entry : Entry) → entry ≡ e.entry → (frames : List Frame) → frames ≡ e.frames → IsFit (record { op = entry.op; range = entry.range; queued = false }) frames
+  fits entry entry_is frames frames_are =
+      subst (λ (x : Entry). IsFit (record { op = x.op; range = x.range; queued = false }) frames) (sym entry_is)
+      (subst (IsFit (record { op = e.entry.op; range = e.entry.range; queued = false })) (sym frames_are)
+      (record { transfers = moves; some = some_sector; few = few_sectors; first = first_below; number = frames_fit }))
 
 -- ---- what is lent
 
@@ -171,7 +178,7 @@ module _ (s : Server) (device : Device) (book : List Held) (slots : PortSlots) (
       agreed = subst (AgreesWith (IsUnused port.0 0)) l.device_is may_issue.0
 
       -- it was issued
-      pub sent : (new : Device) → IssuesTransfer port (transfer_of e) device new → (new.port port.0).ci 0 ≡ true → (later : List Held) → later ≡ map (at id issue) book
+      pub sent : (new : Device) → IssuesTransfer port 0 (transfer_of e) e.frames device new → (new.port port.0).ci 0 ≡ true → (later : List Held) → later ≡ map (at id issue) book
           → (used : PortSlots) (r : Option Slot) → IfSome r (λ slot. IsLowestFree slots slot.0)
           → IfSome r (λ slot. used ≡ with_use slots slot.0 (Some (record { id = id; queued = false }))) → IfNone r ((slot : ℕ) → slot < slots.usable → IsTaken slots slot)
           → IssuesOne port id s (with_part s new later used port)
@@ -181,7 +188,7 @@ module _ (s : Server) (device : Device) (book : List Held) (slots : PortSlots) (
         id_is = turn.2;
         port_is = turn.3;
         due = due;
-        issues = subst (λ (d : Device). IssuesTransfer port (transfer_of e) d new) (sym l.device_is) issues;
+        issues = subst (λ (d : Device). IssuesTransfer port 0 (transfer_of e) e.frames d new) (sym l.device_is) issues;
         sent = its_bit;
         server = λ i. record s { device = new; slots = set_to i; book = (later_is ∙ ap (map (at id issue)) (sym l.book_is)) i };
       }

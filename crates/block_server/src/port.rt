@@ -8,7 +8,7 @@ ghost use Rattle.server_history.specs.Server.{Server, plain_mode};
 ghost use Rattle.std.specs.List.{Contains};
 
 use adapter::Adapter;
-use ata_types::{Port, RequestId};
+use ata_types::{Port, RequestId, Slot};
 use block_machine::Mode;
 use block_machine::laws::due_in_turn;
 use request_queue::Book;
@@ -16,14 +16,17 @@ use request_queue::laws::{
     an_id_is_one_request, operations_change_what_is_due, the_book_stays_in_order,
 };
 use server_history::laws::{a_due_request_may_issue, requests_keep};
+use ncq::{Transfer, issue};
 use slots::Slots;
-use transfers::issue;
 
 /// How ports take commands: one plain command at a time.
 pub(crate) const PLAIN: Mode = Mode {
     queued: false,
     usable: 1,
 };
+
+/// The slot of plain commands.
+const FIRST: Slot = Slot(0);
 
 /// Issues a due request of a port, in slot 0.
 fn issue_one<A: Adapter>(
@@ -42,15 +45,12 @@ fn issue_one<A: Adapter>(
     a_due_request_may_issue();
     an_id_is_one_request();
     let entry = book.request(id);
-    let frames = book.loan(id).frames();
-    issue(
-        adapter,
-        port,
-        entry.op,
-        entry.range.first,
-        entry.range.count,
-        frames,
-    );
+    let transfer = Transfer {
+        op: entry.op,
+        range: entry.range,
+        queued: PLAIN.queued,
+    };
+    issue(adapter, port, FIRST, &transfer, book.loan(id).frames());
     let _ = slots.take(id, false);
     book.issue(id);
 }

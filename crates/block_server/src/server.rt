@@ -15,7 +15,9 @@ use configuration::Config;
 use dma_frames::FrameTable;
 use grants::{Grants, decide};
 use host_boot::{Found, PORTS, take_over};
+use hba_regs::is_set;
 use identify::Wanted;
+use ncq::done;
 use plan::Plan;
 use request_queue::laws::an_id_is_one_request;
 use request_queue::{Book, Entry};
@@ -26,12 +28,15 @@ use server_history::laws::{
 use slots::Slots;
 use std::alloc::Global;
 use std::marker::Model;
-use transfers::{Look, is_done, look_at};
+use transfers::{Look, look_at};
 
 /// Unanswered requests of one client at most.
 const CLIENT_PLACES: usize = 16;
 
 const MOST_GRANTS: usize = 64;
+
+/// The bit of slot 0, in PxCI and PxSACT.
+const FIRST_BIT: u32 = 1;
 
 /// A server of reads and writes on up to four ports of an adapter. It can't be dropped: `close` ends it.
 pub struct Server<A: Adapter> {
@@ -304,7 +309,7 @@ impl<A: Adapter> Server<A> {
             return None;
         };
         let used = self.slots[usize::from(port.0)].used_for(Slot(0))?;
-        if !is_done(&mut self.adapter, port) {
+        if !is_set(done(&mut self.adapter, port, FIRST_BIT), 0) {
             return None;
         }
         Some(self.finish(port, used.id))
