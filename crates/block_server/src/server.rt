@@ -28,7 +28,7 @@ use server_history::laws::{
 use slots::Slots;
 use std::alloc::Global;
 use std::marker::Model;
-use transfers::{Look, look_at};
+use port_look::{Look, look_at};
 
 /// Unanswered requests of one client at most.
 const CLIENT_PLACES: usize = 16;

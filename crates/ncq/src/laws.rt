@@ -15,10 +15,12 @@ ghost use Rattle.agreement.specs.Driver.{EndsWith, Knows};
 ghost use Rattle.agreement.specs.Slots.{Own, op_of};
 ghost use Rattle.ncq.specs.Masks.{FindsDone, IsFinding};
 ghost use Rattle.ncq.specs.Transfers.{IsIssuing, IssuesLast, IssuesTransfer, IsTransferOf, MayServe, with_serving};
+ghost use Rattle.ncq.specs.Witness.{FirstMayBeIssued};
 ghost use Rattle.ncq.specs.declared.Transfer.{Transfer};
 
+use adapter::laws::{a_first_read_exists, saying_is_one};
 use agreement::acts::acts_give;
-use agreement::laws::going_composes;
+use agreement::laws::{a_prepared_read_agrees, going_composes};
 use command_table::laws::stores_are_of_one_port;
 
 /// No call touches a register of another port, nor another port's bit of IS: so what is said of such accesses (`IsOf`) is so of each.
@@ -58,3 +60,12 @@ pub fn finding_is_followed()
     ensures { (port : Port) (mask done : ℕ) (old new : Device) → FindsDone port mask done old new
         → IsFollowed (IsFinding port) AnyUse old new }
 {}
+
+/// There is an adapter on which a plain transfer may be issued in slot 0, so that the clauses on issuing speak of something.
+pub fn a_transfer_may_be_issued()
+    ensures { FirstMayBeIssued }
+{
+    a_prepared_read_agrees();
+    saying_is_one();
+    a_first_read_exists();
+}

@@ -45,8 +45,8 @@ use Rattle.host_boot.specs.Taken.{found_of}
 use Rattle.host_boot.specs.declared.Found.TheVariants.{Unready}
 use Rattle.ata_types.specs.declared.PortState.TheVariants.{Dead}
 use Rattle.request_queue.proofs.Stepping.{as_many}
-use Rattle.transfers.specs.Services.{IsService}
-use Rattle.transfers.proofs.Serving.{services_on}
+use Rattle.port_look.specs.Services.{IsService}
+use Rattle.port_look.proofs.Serving.{services_on}
 use Rattle.driver_history.specs.Histories.{Begins, CameBy, Issues, Ties, TiesPort}
 use Rattle.driver_history.specs.Evidence.{StaysHealthy}
 use Rattle.driver_history.specs.Trace.{LeavesEngine}

@@ -25,12 +25,12 @@ use Rattle.driver_history.specs.Histories.{IssuesOn}
 use Rattle.driver_history.specs.Trace.{IsDriversOwn, IsOfPorts, IsServing, LeavesCommand, LeavesEngine, ReadsMasks}
 use Rattle.server_history.specs.Served.{Checks, HasTurn, IsPlainIssuing}
 use Rattle.server_history.proofs.Plain.{both_read, plain_serves}
-use Rattle.transfers.specs.Looks.{LooksAt}
-use Rattle.transfers.specs.Services.{IsService}
-use Rattle.transfers.specs.declared.Look.{Look}
-use Rattle.transfers.specs.declared.Look.TheVariants.{Lost, Broken, Failed, Undisturbed as Calm}
-use Rattle.transfers.proofs.Seeing.{seen_well}
-use Rattle.transfers.proofs.Serving.{spares_ghc, spares_port}
+use Rattle.port_look.specs.Looks.{LooksAt}
+use Rattle.port_look.specs.Services.{IsService}
+use Rattle.port_look.specs.declared.Look.{Look}
+use Rattle.port_look.specs.declared.Look.TheVariants.{Lost, Broken, Failed, Undisturbed as Calm}
+use Rattle.port_look.proofs.Seeing.{seen_well}
+use Rattle.port_look.proofs.Serving.{spares_ghc, spares_port}
 
 -- ---- the device's steps
 

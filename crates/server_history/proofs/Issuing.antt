@@ -37,11 +37,11 @@ use Rattle.server_history.proofs.Looking.{behind_served}
 use Rattle.server_history.proofs.Placing.{placed_four, placed_has, placed_uses}
 use Rattle.server_history.proofs.Slots.{all_plain, due_unused, free_unused, not_own, of_ready, ready_found}
 use Rattle.server_history.proofs.Zips.{at_left}
-use Rattle.transfers.specs.Services.{IsService}
+use Rattle.port_look.specs.Services.{IsService}
 use Rattle.ncq.specs.Transfers.{IsIssuing, IsTransferOf, IssuesTransfer, MayServe}
 use Rattle.server_history.proofs.Plain.{issued_plain, plain_serves}
-use Rattle.transfers.proofs.Apart.{apart}
-use Rattle.transfers.proofs.Serving.{services_on, services_same}
+use Rattle.port_look.proofs.Apart.{apart}
+use Rattle.port_look.proofs.Serving.{services_on, services_same}
 
 not_true : (b : Bool) → not b ≡ true → b ≡ false
 not_true false is = refl

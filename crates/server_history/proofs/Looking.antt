@@ -21,14 +21,14 @@ use Rattle.server_history.specs.Server.{Server, IsKept, IsPortOf, none_parked, s
 use Rattle.server_history.proofs.Going.{machine_on, kept_on}
 use Rattle.server_history.proofs.Ports.{port_on}
 use Rattle.server_history.proofs.Slots.{not_own, ready_found, serves_used}
-use Rattle.transfers.specs.Looks.{IsLooking}
-use Rattle.transfers.specs.Services.{IsService}
+use Rattle.port_look.specs.Looks.{IsLooking}
+use Rattle.port_look.specs.Services.{IsService}
 use Rattle.ncq.specs.Masks.{FindsDone, IsFinding}
 use Rattle.hba_regs.specs.Bits.{bit}
 use Rattle.server_history.specs.Below.{LawsBelow}
 use Rattle.server_history.proofs.Plain.{finding_serves}
-use Rattle.transfers.proofs.Apart.{apart, looking_of}
-use Rattle.transfers.proofs.Serving.{looking_service, services_on, services_same}
+use Rattle.port_look.proofs.Apart.{apart, looking_of}
+use Rattle.port_look.proofs.Serving.{looking_service, services_on, services_same}
 
 -- ---- what stands behind the ports
 

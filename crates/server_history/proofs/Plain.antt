@@ -16,7 +16,7 @@ use Rattle.ncq.specs.Masks.{FindsDone, IsFinding}
 use Rattle.ncq.specs.Transfers.{IssuesTransfer}
 use Rattle.request_queue.specs.Entries.{Held}
 use Rattle.server_history.specs.Served.{IsPlainIssuing, transfer_of}
-use Rattle.transfers.specs.Services.{IsService}
+use Rattle.port_look.specs.Services.{IsService}
 
 -- ---- issuing
 

@@ -16,8 +16,8 @@ use Rattle.host_boot.specs.Taken.{StillStandsBehind, found_of, wanted_of}
 use Rattle.host_boot.specs.declared.Found.{Found}
 use Rattle.host_boot.specs.declared.Found.TheVariants.{Unserved, Ready, Unready}
 use Rattle.identify.specs.declared.wanted.Wanted.{Wanted}
-use Rattle.transfers.specs.Services.{IsService}
-use Rattle.transfers.proofs.Serving.{services_controls, services_inactive}
+use Rattle.port_look.specs.Services.{IsService}
+use Rattle.port_look.proofs.Serving.{services_controls, services_inactive}
 use Rattle.server_history.specs.Server.{IsPortOf, state_of}
 use Rattle.server_history.proofs.Behind.{left_on, ready_on}
 use Rattle.server_history.proofs.Running.{runs_on, shown_on}

@@ -18,9 +18,9 @@ use Rattle.agreement.proofs.Noting.{access_notes, notes_read}
 use Rattle.agreement.proofs.Present.{access_shown}
 use Rattle.agreement.specs.Noted.{SparesReading}
 use Rattle.port_control.specs.Ports.{programmed}
-use Rattle.transfers.specs.Services.{IsService}
-use Rattle.transfers.proofs.Recording.{services_recorded}
-use Rattle.transfers.proofs.Serving.{services_keep, spares_port}
+use Rattle.port_look.specs.Services.{IsService}
+use Rattle.port_look.proofs.Recording.{services_recorded}
+use Rattle.port_look.proofs.Serving.{services_keep, spares_port}
 use Rattle.driver_history.specs.Holds.{Runs}
 
 -- the engine runs, and its areas and its device were found

@@ -78,11 +78,11 @@ use Rattle.server_history.proofs.Slots.{free_unused, issued_in_first, of_ready, 
 use Rattle.server_history.proofs.Zips.{at_right}
 use Rattle.server_history.proofs.Turns.{AreTurns, IsSame, answer_on, devices_answer, devices_on, issues_on, no_turns, turns_more}
 use Rattle.server_history.proofs.Plain.{both_read, first_told}
-use Rattle.transfers.specs.Services.{IsService}
-use Rattle.transfers.specs.Looks.{IsLooking}
-use Rattle.transfers.specs.declared.Look.TheVariants.{Undisturbed as Calm}
-use Rattle.transfers.proofs.Seeing.{look_driven}
-use Rattle.transfers.proofs.Serving.{calm_parts, looking_service, services_inactive, services_well}
+use Rattle.port_look.specs.Services.{IsService}
+use Rattle.port_look.specs.Looks.{IsLooking}
+use Rattle.port_look.specs.declared.Look.TheVariants.{Undisturbed as Calm}
+use Rattle.port_look.proofs.Seeing.{look_driven}
+use Rattle.port_look.proofs.Serving.{calm_parts, looking_service, services_inactive, services_well}
 
 same_some : {X : Type 0} {a b : X} → Some a ≡ Some b → a ≡ b
 same_some is = cc

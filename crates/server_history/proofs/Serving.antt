@@ -42,15 +42,15 @@ use Rattle.server_history.proofs.Going.{machine_on}
 use Rattle.server_history.proofs.Looking.{finding_kept, looking_kept}
 use Rattle.server_history.proofs.Rounds.{AreIssued, any_append, devices_issue_none, dues, dues_carried, each_driven, each_issued, or_none}
 use Rattle.server_history.proofs.Slots.{busy_used, ready_found, served_by, serves_used}
-use Rattle.transfers.specs.Looks.{IsLooking, LooksAt}
-use Rattle.transfers.specs.Services.{IsService}
+use Rattle.port_look.specs.Looks.{IsLooking, LooksAt}
+use Rattle.port_look.specs.Services.{IsService}
 use Rattle.ncq.specs.Masks.{FindsDone, IsFinding, SeesClear}
 use Rattle.hba_regs.specs.Bits.{bit}
 use Rattle.server_history.proofs.Plain.{finding_serves}
-use Rattle.transfers.specs.declared.Look.{Look}
-use Rattle.transfers.specs.declared.Look.TheVariants.{Undisturbed as Calm}
-use Rattle.transfers.proofs.Seeing.{seen_well}
-use Rattle.transfers.proofs.Serving.{looking_service, services_inactive}
+use Rattle.port_look.specs.declared.Look.{Look}
+use Rattle.port_look.specs.declared.Look.TheVariants.{Undisturbed as Calm}
+use Rattle.port_look.proofs.Seeing.{seen_well}
+use Rattle.port_look.proofs.Serving.{looking_service, services_inactive}
 
 -- accesses of a look, and of finding a transfer done, serve ports
 looks_serve : (port : Port) (old new : Device) → IsFollowed (IsLooking port) AnyUse old new → IsFollowed IsService AnyUse old new

@@ -36,9 +36,9 @@ use Rattle.request_queue.specs.Entries.{Held, asks, asks_of, at, due_ids, issue,
 use Rattle.request_queue.specs.Machine.{IsEntry}
 use Rattle.server_history.specs.Server.{Server, IsSettled, IsMachineOf, plain_mode, used_for, with_slot}
 use Rattle.slots.specs.declared.Use.{Use as SlotUse}
-use Rattle.transfers.specs.Looks.{LooksAt}
-use Rattle.transfers.specs.declared.Look.{Look}
-use Rattle.transfers.specs.declared.Look.TheVariants.{Undisturbed as Calm}
+use Rattle.port_look.specs.Looks.{LooksAt}
+use Rattle.port_look.specs.declared.Look.{Look}
+use Rattle.port_look.specs.declared.Look.TheVariants.{Undisturbed as Calm}
 
 -- ---- a port's turn
 

@@ -37,9 +37,9 @@ ghost use Rattle.server_history.specs.Histories.{Adds, HasBegun, load_said, stor
 ghost use Rattle.server_history.specs.Served.{Accepts, AnswersOne, Finishes, IssuesAll, IssuesOne, ServePorts, ServesPort, accepting, done_reply, is_busy};
 ghost use Rattle.server_history.specs.Server.{Server, IsKept, IsNewServer, IsSettled, plain_mode, ports_of, situation_of, state_of, used_for};
 ghost use Rattle.slots.specs.declared.Use.{Use as SlotUse};
-ghost use Rattle.transfers.specs.Looks.{IsLooking, LooksAt};
-ghost use Rattle.transfers.specs.declared.Look.{Look};
-ghost use Rattle.transfers.specs.declared.Look.TheVariants.{Undisturbed as Calm};
+ghost use Rattle.port_look.specs.Looks.{IsLooking, LooksAt};
+ghost use Rattle.port_look.specs.declared.Look.{Look};
+ghost use Rattle.port_look.specs.declared.Look.TheVariants.{Undisturbed as Calm};
 
 use block_machine::laws::{due_in_turn, due_is_exact, other_ports_stay, own_requests_count};
 use ncq::laws::{calls_are_of_one_port, finding_is_followed, issuing_performs};

@@ -1,0 +1,6 @@
+pub mod Apart
+pub mod Looking
+pub mod Serving
+pub mod Telling
+pub mod Recording
+pub mod Seeing

@@ -1,0 +1,27 @@
+use Rattle.port_look.proofs.Recording.{services_recorded}
+use Rattle.port_look.proofs.Serving.{services_on, services_same, services_port, services_controls, services_well, services_inactive, services_agree}
+use Rattle.port_look.proofs.laws.services_leave.Goals as goal
+
+pub returns-clause-on : goal.returns-clause-on
+returns-clause-on c = services_on
+
+pub returns-clause-adapter : goal.returns-clause-adapter
+returns-clause-adapter c = services_same
+
+pub returns-clause-port : goal.returns-clause-port
+returns-clause-port c = services_port
+
+pub returns-clause-controls : goal.returns-clause-controls
+returns-clause-controls c = services_controls
+
+pub returns-clause-inactive : goal.returns-clause-inactive
+returns-clause-inactive c = services_inactive
+
+pub returns-clause-agrees : goal.returns-clause-agrees
+returns-clause-agrees c = services_agree
+
+pub returns-clause-well : goal.returns-clause-well
+returns-clause-well c = services_well
+
+pub returns-clause-recorded : goal.returns-clause-recorded
+returns-clause-recorded c = services_recorded

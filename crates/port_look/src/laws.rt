@@ -1,0 +1,95 @@
+// Laws of the definitions, for callers: the clause is the theorem. Nothing calls these functions.
+ghost use Rattle.std.specs.Prelude.{ℕ, Bool, true, false, ◌≡◌, ◌≢◌, ◌<◌, ◌≤◌, ◌%◌, ◌⊎◌};
+ghost use Rattle.ata_types.specs.declared.Port.{Port};
+ghost use Rattle.hba_regs.specs.Bits.{bit};
+ghost use Rattle.adapter.specs.Access.{Access};
+ghost use Rattle.adapter.specs.Device.{Device};
+ghost use Rattle.adapter.specs.Rules.{IsOn};
+ghost use Rattle.block_machine.specs.Due.{is_plain};
+ghost use Rattle.block_machine.specs.State.{Pending};
+ghost use Rattle.block_machine.specs.Steps.{Issue, May};
+ghost use Rattle.block_machine.specs.declared.due.Mode.{Mode};
+ghost use Rattle.agreement.specs.Driven.{IsUse, IsAgreed, IsDrivenBy, IsFollowed, IsOf};
+ghost use Rattle.agreement.specs.Errors.{KeepsErrors, NoneComes};
+ghost use Rattle.agreement.specs.Facts.{IsRecorded, RunsWell, ShowsNoTrouble, TellsNoTrouble, Undisturbed};
+ghost use Rattle.agreement.specs.Links.{SameAdapter};
+ghost use Rattle.agreement.specs.Slots.{Free, Serves, Uses, put};
+ghost use Rattle.port_look.specs.Looks.{look_of, IsLooking, LooksAt};
+ghost use Rattle.port_look.specs.Services.{IsService, IsOrdinary, KeepsChanges};
+ghost use Rattle.port_look.specs.declared.Look.{Look};
+ghost use Rattle.port_look.specs.declared.Look.TheVariants as look;
+
+/// The accesses of a look serve ports, and are ordinary for each other port.
+pub fn looks_are_services()
+    ensures looking { (port : Port) (access : Access) → IsLooking port access → IsService access }
+    ensures beside { (port other : Port) (access : Access) → port.0 ≢ other.0 → IsLooking port access → IsOrdinary other access }
+    ensures look { (port : Port) (result : Look) (old new : Device) → LooksAt port result old new
+        → IsDrivenBy (IsLooking port) old new }
+{}
+
+/// A look touches no register of another port, nor another port's bit of IS: so what is said of such accesses (`IsOf`) is so of each.
+pub fn looks_are_of_one_port()
+    ensures { (port : Port) (access : Access) → IsLooking port access → IsOf port access }
+{}
+
+/// What serving ports leaves: the adapter, which stays on; ST and the command list of each port; DET of each port's PxSCTL, its PxIE,
+/// and when PxSCTL was written and ST set; each port that runs well, where nothing goes wrong on it; the record of each port's faults; and bits
+/// of PxSACT that are clear. So a machine that agrees goes on to, where the stretch is followed.
+pub fn services_leave()
+    ensures on { (old new : Device) → IsOn old → IsDrivenBy IsService old new → IsOn new }
+    ensures adapter { (old new : Device) → IsDrivenBy IsService old new → SameAdapter old new }
+    ensures port { (port : Port) (old new : Device) → IsOn old → IsDrivenBy IsService old new
+        → ((new.port port.0).st ≡ (old.port port.0).st) × ((new.port port.0).bases.clb ≡ (old.port port.0).bases.clb) }
+    ensures controls { (port : ℕ) (old new : Device) → IsOn old → IsDrivenBy IsService old new
+        → ((new.port port).sctl_det ≡ (old.port port).sctl_det) × ((new.port port).ie ≡ (old.port port).ie)
+        × ((new.port port).notes.sctl_written_at ≡ (old.port port).notes.sctl_written_at)
+        × ((new.port port).notes.st_set_at ≡ (old.port port).notes.st_set_at) }
+    ensures well { (port : Port) (old new : Device) → IsOn old → IsDrivenBy IsService old new → Undisturbed port.0 old new
+        → RunsWell (old.port port.0) → RunsWell (new.port port.0) }
+    ensures recorded { (port : ℕ) (old new : Device) → IsDrivenBy IsService old new → IsRecorded old.tape (old.port port) port
+        → IsRecorded new.tape (new.port port) port }
+    ensures inactive { (port slot : ℕ) (old new : Device) → IsDrivenBy IsService old new
+        → (old.port port).sact slot ≡ false → (new.port port).sact slot ≡ false }
+    ensures agrees { (uses : Uses) (old new : Device) → IsFollowed IsService (IsUse uses) old new → IsAgreed uses old
+        → IsAgreed uses new }
+{}
+
+/// What each answer of a look says of what was read.
+pub fn answers_tell()
+    ensures lost { (causes status : ℕ) → look_of causes status ≡ look.Lost
+        → (bit causes 6 ≡ true) ⊎ (bit causes 22 ≡ true) ⊎ (status % 16 ≢ 3) }
+    ensures broken { (causes status : ℕ) → look_of causes status ≡ look.Broken
+        → ((bit causes 28 ≡ true) ⊎ (bit causes 29 ≡ true) ⊎ (bit causes 27 ≡ true))
+        × (bit causes 6 ≡ false) × (bit causes 22 ≡ false) × (status % 16 ≡ 3) }
+    ensures failed { (causes status : ℕ) → look_of causes status ≡ look.Failed
+        → (bit causes 30 ≡ true) × (bit causes 6 ≡ false) × (bit causes 22 ≡ false)
+        × ((place : ℕ) → 27 ≤ place → place ≤ 29 → bit causes place ≡ false) × (status % 16 ≡ 3) }
+    ensures undisturbed { (causes status : ℕ) → look_of causes status ≡ look.Undisturbed
+        → TellsNoTrouble causes × (status % 16 ≡ 3) }
+    ensures calm { (causes status : ℕ) → TellsNoTrouble causes → status % 16 ≡ 3 → look_of causes status ≡ look.Undisturbed }
+{}
+
+/// A look sees what there is. A port is Undisturbed only where it told no trouble, and where nothing went wrong until PxIS was read. It is
+/// Lost where N or X of PxSERR was set; and where no device was seen, no link was due, and no disk came in the call. A port that runs well
+/// is Undisturbed, and runs well still, where nothing goes wrong in the call.
+pub fn trouble_is_seen()
+    ensures calm { (port : Port) (result : Look) (old new : Device) → IsOn old → (l : LooksAt port result old new)
+        → result ≡ look.Undisturbed → ShowsNoTrouble (old.port port.0) × Undisturbed port.0 old l.seen }
+    ensures changed { (port : Port) (result : Look) (old new : Device) → IsOn old → LooksAt port result old new
+        → ((old.port port.0).serr_n ≡ true) ⊎ ((old.port port.0).serr_x ≡ true) → result ≡ look.Lost }
+    ensures unlinked { (port : Port) (result : Look) (old new : Device) → IsOn old → LooksAt port result old new
+        → (old.port port.0).ssts_det ≢ 3 → (old.port port.0).link_due ≡ false → NoneComes port.0 old new → result ≡ look.Lost }
+    ensures well { (port : Port) (result : Look) (old new : Device) → IsOn old → LooksAt port result old new
+        → RunsWell (old.port port.0) → Undisturbed port.0 old new → (result ≡ look.Undisturbed) × RunsWell (new.port port.0) }
+{}
+
+/// What tells of trouble isn't hidden. Ordinary accesses leave each bit of the port's PxIS, and N and X of its PxSERR, set where they are
+/// set. So does a look with N and X; and with each bit of PxIS that it hasn't read, also one that is set between the reading and the write.
+pub fn trouble_stays_told()
+    ensures errors { (port : Port) (old new : Device) → IsOn old → IsDrivenBy (IsOrdinary port) old new
+        → KeepsErrors (old.port port.0) (new.port port.0) }
+    ensures changes { (port : Port) (result : Look) (old new : Device) → IsOn old → LooksAt port result old new
+        → KeepsChanges (old.port port.0) (new.port port.0) }
+    ensures causes { (port : Port) (result : Look) (old new : Device) → IsOn old → (l : LooksAt port result old new) → (place : ℕ)
+        → (l.clears.mid.port port.0).is place ≡ true → bit l.causes place ≡ false → (new.port port.0).is place ≡ true }
+{}

@@ -1,9 +1,0 @@
-pub mod Apart
-pub mod Finding
-pub mod Issuing
-pub mod Looking
-pub mod Serving
-pub mod Telling
-pub mod Recording
-pub mod Seeing
-pub mod Witness

@@ -1,4 +1,0 @@
-pub mod Looks
-pub mod Services
-pub mod Transfers
-pub mod Witness
