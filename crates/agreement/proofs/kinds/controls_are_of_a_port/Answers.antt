@@ -1,0 +1,11 @@
+use Rattle.agreement.proofs.Controlled.{control_is_of, control_spares, control_wider}
+use Rattle.agreement.proofs.kinds.controls_are_of_a_port.Goals as goal
+
+pub returns-clause-of : goal.returns-clause-of
+returns-clause-of g c = λ set. control_is_of (g.R.Registers.has set)
+
+pub returns-clause-spares : goal.returns-clause-spares
+returns-clause-spares g c = λ set. control_spares (g.R.Registers.has set)
+
+pub returns-clause-wider : goal.returns-clause-wider
+returns-clause-wider g c = λ set more port. control_wider (g.R.Registers.has set) port (g.R.Registers.has more)
