@@ -1,6 +1,6 @@
 // Laws of stretches of accesses, whatever their kinds are, for the crates above: the clause is the theorem. A crate names its kinds by an
 // `impl`. Nothing calls these functions when it runs.
-ghost use Rattle.std.specs.Prelude.{ℕ, None, false, ◌≡◌, ◌++◌, [], ◌∷◌, List};
+ghost use Rattle.std.specs.Prelude.{ℕ, None, false, ◌≡◌, ◌⊎◌, ◌++◌, [], ◌∷◌, List};
 ghost use Rattle.ata_types.specs.declared.Port.{Port};
 ghost use Rattle.hba_regs.specs.declared.reg.PortReg.{PortReg};
 ghost use Rattle.hba_regs.specs.declared.reg.PortReg.TheVariants.{Sact, Ci};
@@ -34,9 +34,12 @@ pub trait Kinds {
     ghost fits: { Kind → Uses → Type 0 };
 }
 
-/// Accesses that read a port's registers and write those of a set are of that port (`IsOf`), spare its other registers, and are so of each
-/// wider set.
+/// Accesses that read a port's registers and write those of a set are the one or the other. They are of that port (`IsOf`), spare its other
+/// registers, and are so of each wider set.
 pub fn controls_are_of_a_port<R: Registers>()
+    ensures either { (set : R.Set) (port : Port) (access : Access) → IsControl (R.has set) port access
+        → ((r : PortReg) × (v : ℕ) × (access ≡ Reading (Px port r) v))
+        ⊎ ((r : PortReg) × (v : ℕ) × (access ≡ Writing (Px port r) v) × R.has set r) }
     ensures of { (set : R.Set) (port : Port) (access : Access) → IsControl (R.has set) port access → IsOf port access }
     ensures spares { (set : R.Set) (port : Port) (r : PortReg) → (R.has set r → ⊥) → (access : Access)
         → IsControl (R.has set) port access → SparesRegister (Px port r) access }
