@@ -5,7 +5,7 @@ ghost use Rattle.ata_types.specs.declared.PortState.{PortState};
 ghost use Rattle.ata_types.specs.declared.PortState.TheVariants.{Dead};
 ghost use Rattle.hba_regs.specs.declared.reg.PortReg.TheVariants.{Cmd, Sctl};
 ghost use Rattle.hba_regs.specs.declared.reg.Reg.TheVariants.{Ghc, Px};
-ghost use Rattle.adapter.specs.Access.{Access, DoesAll};
+ghost use Rattle.adapter.specs.Access.{Access, Does, DoesAll};
 ghost use Rattle.adapter.specs.Device.{Device};
 ghost use Rattle.adapter.specs.Rules.{IsOn};
 ghost use Rattle.adapter.specs.declared.command.Operation.TheVariants.{Identify};
@@ -56,9 +56,11 @@ pub fn boots_are_driven()
     laws_hold();
 }
 
-/// A port that runs does so still after accesses that write neither GHC nor its PxCMD and PxSCTL. Where it ran well, and nothing went wrong
-/// on it, it runs well.
+/// A port that runs does so still after an access that writes neither its PxCMD nor its PxSCTL, and after several that don't write GHC
+/// either. Where it ran well, and nothing went wrong on it, it runs well.
 pub fn a_port_runs_on()
+    ensures over { (port : Port) (access : Access) (old new : Device) → IsOn old → SparesRegister (Px port Sctl) access
+        → SparesRegister (Px port Cmd) access → Does access old new → RunsOn port.0 old new }
     ensures runs { (port : Port) (accesses : List Access) (old new : Device) → IsOn old → DoesAll accesses old new
         → All (SparesRegister Ghc) accesses → All (SparesRegister (Px port Sctl)) accesses
         → All (SparesRegister (Px port Cmd)) accesses → RunsOn port.0 old new }
