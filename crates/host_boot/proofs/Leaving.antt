@@ -17,7 +17,7 @@ use Rattle.identify.specs.declared.wanted.Wanted.{Wanted}
 use Rattle.host_boot.specs.Taken.{IsServed, LeavesFound, StandsBehind, StillStandsBehind, WroteControl}
 use Rattle.host_boot.specs.declared.Found.{Found}
 use Rattle.host_boot.specs.declared.Found.TheVariants.{Unserved, Ready, Unready}
-use Rattle.host_boot.specs.Laws.{Laws}
+use Rattle.host_boot.specs.Laws.{FoundLaws, Laws}
 
 module _ (old new : device.PortState) (l : LeavesPort old new) where
   pub idle_on : IsIdlePort old → IsIdlePort new
@@ -49,7 +49,17 @@ boots_begin wanted Unserved port d h = h
 boots_begin wanted (Ready info) port d (is, ready) = (is, ready.disk)
 boots_begin wanted (Unready state) port d h = h
 
-module _ (laws : Laws) where
+module _ (port : ℕ) (old new : Device) (l : LeavesPort (old.port port) (new.port port)) where
+  pub reset_on : (found : Found) (since : ℕ) → WroteControl found port since old → WroteControl found port since new
+  reset_on Unserved since is = is
+  reset_on (Ready info) since is = subst (λ (k : Notes). since ≤ k.sctl_written_at) (sym l.notes) is
+  reset_on (Unready Absent) since is = subst (λ (k : Notes). since ≤ k.sctl_written_at) (sym l.notes) is
+  reset_on (Unready ReadyState) since is = subst (λ (k : Notes). since ≤ k.sctl_written_at) (sym l.notes) is
+  reset_on (Unready Foreign) since is = subst (λ (k : Notes). since ≤ k.sctl_written_at) (sym l.notes) is
+  reset_on (Unready (Unfit n)) since is = subst (λ (k : Notes). since ≤ k.sctl_written_at) (sym l.notes) is
+  reset_on (Unready Dead) since is = is
+
+module _ (laws : FoundLaws) where
   -- ---- what stands behind it
 
   module _ (port : ℕ) (old new : Device) (l : LeavesPort (old.port port) (new.port port)) where
@@ -60,15 +70,6 @@ module _ (laws : Laws) where
     stands_on same wanted (Unready state) silent (is, ends) =
         (served_on port old new same wanted is, laws.ends_on (serial_of wanted) state port old new l (λ other. silent (λ e. other (let k : Unready state ≡ Unready Dead = e in cc))) ends)
 
-    pub reset_on : (found : Found) (since : ℕ) → WroteControl found port since old → WroteControl found port since new
-    reset_on Unserved since is = is
-    reset_on (Ready info) since is = subst (λ (k : Notes). since ≤ k.sctl_written_at) (sym l.notes) is
-    reset_on (Unready Absent) since is = subst (λ (k : Notes). since ≤ k.sctl_written_at) (sym l.notes) is
-    reset_on (Unready ReadyState) since is = subst (λ (k : Notes). since ≤ k.sctl_written_at) (sym l.notes) is
-    reset_on (Unready Foreign) since is = subst (λ (k : Notes). since ≤ k.sctl_written_at) (sym l.notes) is
-    reset_on (Unready (Unfit n)) since is = subst (λ (k : Notes). since ≤ k.sctl_written_at) (sym l.notes) is
-    reset_on (Unready Dead) since is = is
-
   pub still_on : (wanted : Wanted) (found : Found) (port : ℕ) (old new : Device) → SameAdapter old new → LeavesFound found (old.port port) (new.port port) →
       (found ≢ Unready Dead → SendsNone port Identify old new) → StillStandsBehind wanted found port old → StillStandsBehind wanted found port new
   still_on wanted Unserved port old new same left silent h = stands_on port old new left same wanted Unserved silent h
@@ -76,6 +77,7 @@ module _ (laws : Laws) where
       (served_on port old new same wanted is, laws.disk_on (serial_of wanted) port old new info (silent (λ e. absurd cc)) left.0 left.1 left.2 disk)
   still_on wanted (Unready state) port old new same left silent h = stands_on port old new left same wanted (Unready state) silent h
 
+module _ (laws : Laws) where
   -- ---- what the device does by itself, and accesses of the adapter's own registers
 
   pub steps_same : (old new : Device) → Steps old new → SameAdapter old new

@@ -127,7 +127,7 @@ module _ (laws : Laws) where
       at_other q other less =
           let P : Found → Type 0 = λ f. StandsBehind (wanted_of wanted q) f q new in
           subst P (sym (other_is q other))
-          (stands_on laws q old new (alone q other) (same_over laws (IsOfBoot port) old new driven) (wanted_of wanted q) (found_of ports q)
+          (stands_on laws.found q old new (alone q other) (same_over laws (IsOfBoot port) old new driven) (wanted_of wanted q) (found_of ports q)
           (λ alive. quiet (port_at q) other (λ own. elim (u.left q 0) [
             | inl free ↦ absurd (let e : Own Identify ≡ Free = sym own ∙ free in cc)
             | inr (head, is, dead) ↦ alive dead
@@ -167,7 +167,7 @@ module _ (laws : Laws) where
             subst P (sym e) (subst Q (sym here_is) (since_start found reset))
         | inr other ↦
             let Q : Found → Type 0 = λ f. WroteControl f q (length start.tape) new in
-            subst Q (sym (other_is q other)) (reset_on laws q old new (alone q other) (found_of ports q) (length start.tape) (u.reset q (omega (arith, less, other))))
+            subst Q (sym (other_is q other)) (reset_on q old new (alone q other) (found_of ports q) (length start.tape) (u.reset q (omega (arith, less, other))))
       ]
 
       pub later_idle : (q : ℕ) → port.0 + 1 ≤ q → IsIdlePort (new.port q)
@@ -391,10 +391,10 @@ module _ (laws : Laws) where
         queued = queued;
         stands = λ port less.
             let P : List Found → Type 0 = λ ps. StandsBehind (wanted_of wanted port) (found_of ps port) port new in
-            subst P (sym is) (stands_on laws port d new (leaves port) (same_over laws IsOfHost d new f.driven) (wanted_of wanted port) (found_of ports port) (silent port) (u.stands port less));
+            subst P (sym is) (stands_on laws.found port d new (leaves port) (same_over laws IsOfHost d new f.driven) (wanted_of wanted port) (found_of ports port) (silent port) (u.stands port less));
         reset = λ port less.
             let P : List Found → Type 0 = λ ps. WroteControl (found_of ps port) port (length start.tape) new in
-            subst P (sym is) (reset_on laws port d new (leaves port) (found_of ports port) (length start.tape) (u.reset port less));
+            subst P (sym is) (reset_on port d new (leaves port) (found_of ports port) (length start.tape) (u.reset port less));
         way = let P : List Found → Type 0 = λ ps. GoesOver ps start new in subst P (sym is) way;
         uses = u.uses;
         left = λ port slot. let P : List Found → Type 0 = λ ps. IsLeft ps u.uses port slot in subst P (sym is) (u.left port slot);

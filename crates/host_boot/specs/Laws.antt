@@ -64,7 +64,14 @@ fits_of (Taking wanted fitting) = uses_of fitting
 
 -- ---- laws
 
+-- of what was found of a port: it goes on as long as the port isn't booted anew
+pub record FoundLaws : Type 0 where
+  pub disk_on : (wanted : Option (List ℕ)) (port : ℕ) (old new : Device) (info : DiskInfo) → SendsNone port Identify old new → (new.port port).sctl_det ≡ (old.port port).sctl_det → (new.port port).ie ≡ (old.port port).ie → (new.port port).notes.sctl_written_at ≡ (old.port port).notes.sctl_written_at → HasFitDisk wanted port old info → HasFitDisk wanted port new info
+  pub ready_on : (wanted : Option (List ℕ)) (port : ℕ) (old new : Device) (info : DiskInfo) → LeavesPort (old.port port) (new.port port) → SendsNone port Identify old new → IsReady wanted port old info → IsReady wanted port new info
+  pub ends_on : (wanted : Option (List ℕ)) (state : ShownState) (port : ℕ) (old new : Device) → LeavesPort (old.port port) (new.port port) → (state ≢ Dead → SendsNone port Identify old new) → EndsAs wanted state port old → EndsAs wanted state port new
+
 pub record Laws : Type 0 where
+  pub found : FoundLaws
   -- one access
   pub steps_keep : (old new : Device) → Steps old new → Keeps old new
   pub access_on : (access : Access) (old new : Device) → IsOn old → ((v : ℕ) → access ≡ Writing Ghc v → (bit v 31 ≡ true) × (bit v 0 ≡ false)) → Does access old new → IsOn new
@@ -104,9 +111,6 @@ pub record Laws : Type 0 where
   pub runs_over : (port : Port) (access : Access) (old new : Device) → IsOn old → SparesRegister (Px port Sctl) access → SparesRegister (Px port Cmd) access → Does access old new → RunsOn port.0 old new
   pub runs_on : (port : Port) (accesses : List Access) (old new : Device) → IsOn old → DoesAll accesses old new → All (SparesRegister Ghc) accesses → All (SparesRegister (Px port Sctl)) accesses → All (SparesRegister (Px port Cmd)) accesses → RunsOn port.0 old new
   pub well_on : (port : ℕ) (old new : Device) → RunsOn port old new → Undisturbed port old new → RunsWell (old.port port) → RunsWell (new.port port)
-  pub disk_on : (wanted : Option (List ℕ)) (port : ℕ) (old new : Device) (info : DiskInfo) → SendsNone port Identify old new → (new.port port).sctl_det ≡ (old.port port).sctl_det → (new.port port).ie ≡ (old.port port).ie → (new.port port).notes.sctl_written_at ≡ (old.port port).notes.sctl_written_at → HasFitDisk wanted port old info → HasFitDisk wanted port new info
-  pub ready_on : (wanted : Option (List ℕ)) (port : ℕ) (old new : Device) (info : DiskInfo) → LeavesPort (old.port port) (new.port port) → SendsNone port Identify old new → IsReady wanted port old info → IsReady wanted port new info
-  pub ends_on : (wanted : Option (List ℕ)) (state : ShownState) (port : ℕ) (old new : Device) → LeavesPort (old.port port) (new.port port) → (state ≢ Dead → SendsNone port Identify old new) → EndsAs wanted state port old → EndsAs wanted state port new
   -- this crate's kinds of accesses
   pub reads : (kind : Stretch) (r : Reg) (v : ℕ) (old new : Device) → may_of kind (Reading r v) → Reads r v old new → IsTold (λ made. made ≡ Reading r v ∷ []) (may_of kind) (fits_of kind) old new
   pub writes : (kind : Stretch) (r : Reg) (v : ℕ) (old new : Device) → may_of kind (Writing r v) → Stays (MayWrite r v) old → ((uses : Uses) → fits_of kind uses → LeavesUses uses r v old) → Writes r v old new → IsTold (λ made. made ≡ Writing r v ∷ []) (may_of kind) (fits_of kind) old new

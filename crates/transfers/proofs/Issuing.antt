@@ -48,8 +48,11 @@ use Rattle.agreement.proofs.Witness.{bit_one_other}
 use Rattle.command_table.specs.Places.{place_of, places_of}
 use Rattle.command_table.specs.Written.{IsTableFor, IsTableStore, IsUnused}
 use Rattle.disk_page.specs.Asking.{IsAsking, LeavesRunning}
-use Rattle.disk_page.proofs.Leaving.{asking_leaves_running}
 use Rattle.transfers.specs.Transfers.{IsTransfer, Transfer, operation_of, meaning_of, IsTransferOf, MayTransfer, IsIssuing, IssuesTransfer}
+
+-- what the law on asking says of such accesses
+abbrev pub AskingLeaves : Type 0
+AskingLeaves = (port : Port) (old new : Device) → IsOn old → IsDrivenBy (IsAsking port) old new → LeavesRunning port.0 old new
 
 -- ---- the plain commands
 
@@ -266,8 +269,8 @@ module _ (port : Port) (r : Transfer) (old mid : Device) (transfers : IsTransfer
         kind (Writing reg v) here = absurd here
         kind (Loading at bytes) here = absurd here
 
-    pub issued_leaves : LeavesRunning port.0 old new
-    issued_leaves = asking_leaves_running port old new on (driven_as (IsIssuing port) (IsAsking port) old new kind driven)
+    pub issued_leaves : AskingLeaves → LeavesRunning port.0 old new
+    issued_leaves leaves = leaves port old new on (driven_as (IsIssuing port) (IsAsking port) old new kind driven)
       where
         kind : (access : Access) → IsIssuing port access → IsAsking port access
         kind (Storing at bytes) here = here

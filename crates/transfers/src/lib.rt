@@ -17,6 +17,7 @@ ghost use Rattle.transfers.specs.Transfers.{IsTransfer, operation_of, meaning_of
 use adapter::{Adapter, Command};
 use ata_types::{DRIVER_BYTES, DRIVER_FRAMES, Frame, Op, Port, Sector, Slot};
 use command_table::{prds, write_table};
+use disk_page::laws::asking_is_of_one_port;
 use hba_regs::{PortInterrupts, PortReg, Reg, SataStatus, is_set, with_bit};
 
 pub mod laws;
@@ -100,6 +101,7 @@ pub fn issue<A: Adapter>(
     ensures set { ((A.device adapter.new).port port.0).ci 0 ≡ true }
     ensures leaves { LeavesRunning port.0 (A.device adapter.old) (A.device adapter.new) }
 {
+    asking_is_of_one_port();
     let prds = prds(frames, SECTOR_BYTES * count);
     write_table(
         adapter,

@@ -71,4 +71,4 @@ returns-clause-leaves g c =
     let told : Told (g.A.Adapter.device c.write_table.new.adapter).memory (list_of c.args.port.0) c.args.port.0 0 (meaning_of t) (places_of t.frames t.count) =
     transfer_is_told t (record { transfers = r.transfers; some = r.some; few = r.few; first = r.first }) _ c.prds-prds.result.items _ c.args.port.0 _ c.command.ensures
     (c.prds-prds.ensures.whole (omega arith)) places c.as_slice.ensures.value w.says in
-    issued_leaves c.args.port t _ _ r.transfers r.on w.on r.there r.may r.agreed.0 r.agreed.1 r.agreed.2 w.followed told _ c.write.ensures
+    issued_leaves c.args.port t _ _ r.transfers r.on w.on r.there r.may r.agreed.0 r.agreed.1 r.agreed.2 w.followed told _ c.write.ensures c.asking_is_of_one_port.ensures.leaves

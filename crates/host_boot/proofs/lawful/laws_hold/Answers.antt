@@ -2,6 +2,7 @@ use Rattle.host_boot.proofs.lawful.laws_hold.Goals as goal
 
 pub returns : goal.returns
 returns c = record {
+  found = record { disk_on = c.what_was_found_goes_on.ensures.disk; ready_on = c.what_was_found_goes_on.ensures.ready; ends_on = c.what_was_found_goes_on.ensures.ends };
   steps_keep = c.steps_keep.ensures;
   access_on = c.adapter_stays.ensures.on;
   access_same = c.adapter_stays.ensures.same;
@@ -38,9 +39,6 @@ returns c = record {
   runs_over = c.a_port_runs_on.ensures.over;
   runs_on = c.a_port_runs_on.ensures.runs;
   well_on = c.a_port_runs_on.ensures.well;
-  disk_on = c.what_was_found_goes_on.ensures.disk;
-  ready_on = c.what_was_found_goes_on.ensures.ready;
-  ends_on = c.what_was_found_goes_on.ensures.ends;
   reads = c.accesses_are_followed.ensures.reads;
   writes = c.accesses_are_followed.ensures.writes;
   both = c.stretches_are_followed.ensures.both;
