@@ -16,6 +16,7 @@ use host_boot::{Found, PORTS, take_over};
 use identify::Wanted;
 use plan::Plan;
 use request_book::{Accepted, Book};
+use server_history::laws::a_new_server_has_begun;
 use std::alloc::Global;
 use std::marker::Model;
 use transfers::{Look, is_done, issue, look_at};
@@ -120,6 +121,7 @@ impl<A: Adapter> Server<A> {
         };
         let wanted = *plan.wanted();
         let ports = take_over(&mut adapter, &wanted).ports;
+        a_new_server_has_begun();
         Ok(Server {
             adapter,
             grants,
