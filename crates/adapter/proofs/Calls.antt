@@ -1,5 +1,5 @@
 -- What one access leaves, in the terms of the state after it.
-use Rattle.std.proofs.Common.{ℕ, ◌≡◌, ◌≢◌, false, refl, subst, sym, ◌∙◌, ap, length, List, [], ◌∷◌, ◌++◌}
+use Rattle.std.proofs.Common.{ℕ, ◌≡◌, ◌≢◌, false, refl, subst, sym, ◌∙◌, ap, List, [], ◌∷◌, ◌++◌}
 use Rattle.hba_regs.specs.declared.reg.Reg.TheVariants.{Px}
 use Rattle.hba_regs.specs.declared.reg.PortReg.{PortReg}
 use Rattle.hba_regs.specs.declared.reg.PortReg.TheVariants.{Clb, Clbu, Fb, Fbu, Is, Ie, Cmd, Tfd, Sig, Ssts, Sctl, Serr, Sact, Ci}
@@ -7,8 +7,9 @@ use Rattle.ata_types.specs.declared.Port.{Port}
 use Rattle.adapter.specs.Device.{Notes, PortState, Device}
 use Rattle.adapter.specs.Kept.{Keeps, KeepsOn, KeepsPort, KeepsControls}
 use Rattle.adapter.specs.Rules.{IsOn}
+pub use Rattle.adapter.specs.Seen.{KeepsAll, SeenAt, PutAt}
 use Rattle.adapter.specs.Steps.{Steps, with_port}
-use Rattle.adapter.specs.Access.{PortShows, note, Reads, Writes, port_written, Access, Does, DoesAll, IsDriven}
+use Rattle.adapter.specs.Access.{PortShows, note, Reads, Writes, Access, Does, DoesAll, IsDriven}
 use Rattle.adapter.proofs.Changed.{changed_same, changed_other, changed_each}
 use Rattle.adapter.proofs.KeptLemmas.{steps_keep, same_engine, still, same_controls, calm, KeepsPort-refl, KeepsPort-trans, KeepsControls-refl, KeepsControls-trans}
 
@@ -54,14 +55,6 @@ shows_noted Serr v p n h = h
 shows_noted Sact v p n h = h
 shows_noted Ci v p n h = h
 
--- What a call leaves of the adapter, while no reset is pending: all that steps do, but for notes.
-pub record KeepsAll (old new : Device) : Type 0 where
-  pub size : new.size ≡ old.size
-  pub cap : new.cap ≡ old.cap
-  pub pi : new.pi ≡ old.pi
-  pub on : KeepsOn old new
-  pub port : (q : ℕ) → KeepsPort (old.port q) (new.port q)
-
 pub KeepsAll-trans : {old mid new : Device} → KeepsAll old mid → KeepsAll mid new → KeepsAll old new
 KeepsAll-trans a b = record {
   size = b.size ∙ a.size;
@@ -78,13 +71,6 @@ KeepsAll-trans a b = record {
 
 pub steps_keep_all : {old new : Device} → old.hr ≡ false → Steps old new → KeepsAll old new
 steps_keep_all h steps = let k = steps_keep steps in record { size = k.size; cap = k.cap; pi = k.pi; on = k.on h; port = k.port }
-
--- a register of a port was read: the state after the call shows the value, and the port's notes have it
-pub record SeenAt (port : ℕ) (r : PortReg) (v : ℕ) (old new : Device) : Type 0 where
-  pub keeps : KeepsAll old new
-  pub shows : PortShows r v (new.port port)
-  pub notes : (new.port port).notes ≡ note r v (record (new.port port) { notes = (old.port port).notes })
-  pub others : (q : ℕ) → q ≢ port → (new.port q).notes ≡ (old.port q).notes
 
 module _ (port : Port) (r : PortReg) (v : ℕ) (old new : Device) (call : Reads (Px port r) v old new) (h : old.hr ≡ false) where
   kept : Keeps old call.mid
@@ -142,22 +128,6 @@ module _ (port : Port) (r : PortReg) (v : ℕ) (old new : Device) (call : Reads 
   seen = record { keeps = seen_keeps; shows = seen_shows; notes = seen_notes; others = seen_others }
 
 -- ---- a register of a port is written: the port has it, after what the device did first; the others have what that left
-
-pub record PutAt (port : ℕ) (r : PortReg) (v : ℕ) (old new : Device) : Type 0 where
-  pub mid : Device
-  pub steps : Steps old mid
-  pub keeps : KeepsAll old mid
-  pub notes : (q : ℕ) → (mid.port q).notes ≡ (old.port q).notes
-  pub hr : new.hr ≡ false
-  pub ae : new.ae ≡ old.ae
-  pub ie : new.ie ≡ old.ie
-  pub size : new.size ≡ old.size
-  pub cap : new.cap ≡ old.cap
-  pub pi : new.pi ≡ old.pi
-  pub memory : new.memory ≡ mid.memory
-  pub tape : new.tape ≡ mid.tape
-  pub here : new.port port ≡ port_written r v (length mid.tape) (mid.port port)
-  pub others : (q : ℕ) → q ≢ port → new.port q ≡ mid.port q
 
 pub put : (port : Port) (r : PortReg) (v : ℕ) (old new : Device) → Writes (Px port r) v old new → old.hr ≡ false → PutAt port.0 r v old new
 put port r v old new call h =

@@ -8,6 +8,7 @@ pub mod Steps
 pub mod Access
 pub mod Rules
 pub mod Kept
+pub mod Seen
 pub mod Guarded
 pub mod Idle
 pub mod Asked

@@ -1,20 +1,24 @@
 // Laws of the definitions, for the crates above: the clause is the theorem. Nothing calls these functions.
-ghost use Rattle.std.specs.Prelude.{◌≡◌, ◌+◌, ◌≤◌, ℕ, Bool, true, false, List};
+ghost use Rattle.std.specs.Prelude.{◌≡◌, ◌+◌, ◌≤◌, ◌++◌, ℕ, Bool, true, false, List};
+ghost use Rattle.ata_types.specs.declared.Port.{Port};
 ghost use Rattle.ata_types.specs.declared.memory.TheConstants.{FRAME_BYTES, RECEIVED_BYTES};
+ghost use Rattle.hba_regs.specs.declared.reg.PortReg.{PortReg};
 ghost use Rattle.hba_regs.specs.declared.reg.Reg.{Reg};
+ghost use Rattle.hba_regs.specs.declared.reg.Reg.TheVariants.{Px};
 ghost use Rattle.adapter.specs.declared.access.DeviceStep.{DeviceStep};
-ghost use Rattle.adapter.specs.Access.{Access, Does, IsDriven, Reads};
+ghost use Rattle.adapter.specs.Access.{Access, Does, DoesAll, IsDriven, Reads, Writes};
 ghost use Rattle.adapter.specs.Asked.{Asked};
 ghost use Rattle.adapter.specs.Commands.{Meaning};
-ghost use Rattle.adapter.specs.Device.{Device};
+ghost use Rattle.adapter.specs.Device.{Device, PortState};
 ghost use Rattle.adapter.specs.FirstRead.{first_read, sector_of};
 ghost use Rattle.adapter.specs.Guarded.{Passing, Spares, IsGuarded, IsApart};
 ghost use Rattle.adapter.specs.Idle.{IsIdle, IsSane};
-ghost use Rattle.adapter.specs.Kept.{Keeps};
+ghost use Rattle.adapter.specs.Kept.{Keeps, KeepsControls};
 ghost use Rattle.adapter.specs.OneCommand.{HasNoCommand, HasOneCommand, IsElsewhere, is_read_alone, is_unwritten, standing};
 ghost use Rattle.adapter.specs.ReadDone.{IsRead, MayBeRead, read_of};
 ghost use Rattle.adapter.specs.Rules.{IsOn, IsFree, Stays};
 ghost use Rattle.adapter.specs.Says.{Says, cut};
+ghost use Rattle.adapter.specs.Seen.{PutAt, SeenAt};
 ghost use Rattle.adapter.specs.Steps.{Steps};
 
 /// The device may do nothing, and what it does goes on.
@@ -58,11 +62,28 @@ pub fn kept_bytes_stay_over_readings()
         → IsGuarded (Passing tables) (Passing kept) new × ((at : ℕ) → Passing kept at → new.memory at ≡ old.memory at) }
 {}
 
-/// Accesses go on one after another.
+/// Accesses go on one after another, and so do lists of them.
 pub fn accesses_compose()
     ensures none { (d : Device) → IsDriven d d }
     ensures one { (access : Access) (old new : Device) → Does access old new → IsDriven old new }
     ensures more { (old mid new : Device) → IsDriven old mid → IsDriven mid new → IsDriven old new }
+    ensures all { (early late : List Access) (old mid new : Device) → DoesAll early old mid → DoesAll late mid new
+        → DoesAll (early ++ late) old new }
+{}
+
+/// While no reset is pending, a reading of a port's register leaves the adapter as steps of the device do, and the port shows the value and
+/// has it noted. A write is steps of the device, and then the port alone has what was written.
+pub fn port_registers_are_accessed()
+    ensures seen { (port : Port) (r : PortReg) (v : ℕ) (old new : Device) → Reads (Px port r) v old new → old.hr ≡ false
+        → SeenAt port.0 r v old new }
+    ensures put { (port : Port) (r : PortReg) (v : ℕ) (old new : Device) → Writes (Px port r) v old new → old.hr ≡ false
+        → PutAt port.0 r v old new }
+{}
+
+/// What each of two stretches keeps of a port's controls, both keep; and so does nothing.
+pub fn controls_are_kept()
+    ensures none { (p : PortState) → KeepsControls p p }
+    ensures more { (old mid new : PortState) → KeepsControls old mid → KeepsControls mid new → KeepsControls old new }
 {}
 
 /// Where no slot has a command, any bytes that are not of a received FIS area in use are guarded, and no table is needed.

@@ -1,10 +1,11 @@
 -- What accesses of one port's registers leave.
 use Rattle.std.proofs.Common.{ℕ, ◌≡◌, ◌≢◌, ◌⊎◌, ◌++◌, false, List, [], inl, inr, refl, sym, ap, ◌∙◌, subst, append_assoc, append-nil}
+use Rattle.std.specs.List.{All}
 use Rattle.ata_types.specs.declared.Port.{Port}
 use Rattle.hba_regs.specs.declared.reg.PortReg.{PortReg}
 use Rattle.hba_regs.specs.declared.reg.Reg.{Reg}
 use Rattle.hba_regs.specs.declared.reg.Reg.TheVariants.{Cap, Ghc, Is, Pi, Vs, Cap2, Bohc, Px}
-use Rattle.adapter.specs.Access.{Access, Does, Reads, Writes}
+use Rattle.adapter.specs.Access.{Access, Does, DoesAll, Reads, Writes}
 use Rattle.adapter.specs.Access.Access.{Reading, Writing, Loading, Storing}
 use Rattle.adapter.specs.Device.{PortState, Device}
 use Rattle.adapter.specs.Kept.{Keeps, KeepsOn}
@@ -13,7 +14,8 @@ use Rattle.adapter.specs.declared.tape.Entry.{Entry}
 use Rattle.adapter.proofs.KeptLemmas.{steps_keep, KeepsPort-refl, KeepsPort-trans, KeepsControls-refl, KeepsControls-trans}
 use Rattle.block_machine.proofs.HistoryLemmas.{reached_more}
 use Rattle.block_machine.specs.Left.{after}
-use Rattle.agreement.specs.Driven.{IsAgreed, IsControl, IsDrivenBy, IsFollowed, IsOf, LeavesPort, NoneWrites}
+pub use Rattle.agreement.specs.Driven.{Grows}
+use Rattle.agreement.specs.Driven.{IsAgreed, IsControl, IsDrivenBy, IsFollowed, IsFollowedTo, IsOf, LeavesPort, NoneWrites}
 use Rattle.agreement.specs.Facts.{IsRecorded}
 use Rattle.agreement.specs.Links.{SparesRegister, SameAdapter}
 use Rattle.agreement.specs.Slots.{Uses}
@@ -135,9 +137,6 @@ leaves_more old mid new a b = record { keeps = KeepsPort-trans a.keeps b.keeps; 
 
 -- ---- the tape
 
-abbrev pub Grows : Device → Device → Type 0
-Grows old new = (gained : List Entry) × (new.tape ≡ old.tape ++ gained)
-
 pub grows_none : (d : Device) → Grows d d
 grows_none d = ([], sym (append-nil d.tape))
 
@@ -148,6 +147,11 @@ pub access_grows : (access : Access) (old new : Device) → Does access old new 
 access_grows access old new does = let s = access_steps access old new does in let k : Keeps old s.0 = steps_keep s.1 in (k.gained, s.2 ∙ k.tape)
 
 -- ---- stretches
+
+-- the adapter stays on where GHC isn't written
+pub on_all : (accesses : List Access) (old new : Device) → IsOn old → All (SparesRegister Ghc) accesses → DoesAll accesses old new → IsOn new
+on_all accesses old new on spares all =
+    (over (λ a b. Unit {0}) (λ d. tt) (λ a b c x y. tt) (SparesRegister Ghc) (λ access is. is) (λ access a b here may does. tt) accesses old new on spares all).1
 
 module _ (May : Access → Type 0) (old new : Device) (driven : IsDrivenBy May old new) where
   pub same_over : SameAdapter old new
@@ -189,10 +193,9 @@ module _ (Written : PortReg → Type 0) (port : Port) (old new : Device) (driven
 
 -- ---- a machine that agrees
 
--- over accesses that write no PxSACT
-pub agreed_on : (May : Access → Type 0) (Fits : Uses → Type 0) (uses : Uses) (old new : Device) → Fits uses →
-    IsFollowed May Fits old new → IsAgreed uses old → IsAgreed uses new
-agreed_on May Fits uses old new fits followed a =
+pub agreed_to : (May : Access → Type 0) (Fits : Uses → Type 0) (next : Uses → Uses) (uses : Uses) (old new : Device) → Fits uses →
+    IsFollowedTo May Fits next old new → IsAgreed uses old → IsAgreed (next uses) new
+agreed_to May Fits next uses old new fits followed a =
     let x = (followed_adds followed uses a.parked fits).adds a.machine a.reached a.knows in
     record {
       machine = after a.machine x.0;
@@ -200,6 +203,11 @@ agreed_on May Fits uses old new fits followed a =
       reached = reached_more a.machine x.0 a.reached x.1;
       knows = x.2;
     }
+
+-- over accesses that put no slot to use
+pub agreed_on : (May : Access → Type 0) (Fits : Uses → Type 0) (uses : Uses) (old new : Device) → Fits uses →
+    IsFollowed May Fits old new → IsAgreed uses old → IsAgreed uses new
+agreed_on May Fits uses old new = agreed_to May Fits (λ uses. uses) uses old new
 
 pub agreeing_goes_on : (Written : PortReg → Type 0) (Fits : Uses → Type 0) (port : Port) (uses : Uses) (old new : Device) → Fits uses →
     IsFollowed (IsControl Written port) Fits old new → IsAgreed uses old → IsAgreed uses new

@@ -192,6 +192,17 @@ module _ (Tells : List Access → Type 0) (May More : Access → Type 0) (Fits L
   unfolding followed_to_as driven_as
   told_as next old new kind fits a = record { followed = followed_to_as May More Fits Less next old new kind fits a.followed; tells = a.tells }
 
+-- which accesses they are: those of the one, and then those of the other
+module _ (May More : Access → Type 0) (Fits Less : Uses → Type 0) (first second : Uses → Uses) where
+  pub told_joined : ((access : Access) → More access → May access) → ((uses : Uses) → Fits uses → Less (first uses)) → (old mid new : Device) →
+      (a : IsFollowedTo May Fits first old mid) → (b : IsFollowedTo More Less second mid new) →
+      IsToldTo (λ made. made ≡ a.driven.accesses ++ b.driven.accesses) May Fits (λ uses. second (first uses)) old new
+  told_joined kind on old mid new a b =
+      told_both (λ made. made ≡ a.driven.accesses) (λ made. made ≡ b.driven.accesses) (λ made. made ≡ a.driven.accesses ++ b.driven.accesses)
+      (λ early late e f. ap (λ (x : List Access). x ++ late) e ∙ ap (λ (x : List Access). a.driven.accesses ++ x) f) May Fits Less first second on old mid new
+      (record { followed = a; tells = refl })
+      (told_as (λ made. made ≡ b.driven.accesses) More May Less Less second mid new kind (λ uses is. is) (record { followed = b; tells = refl }))
+
 -- the driver knows then of the same device that its slots are used so
 module _ (May : Access → Type 0) (Fits : Uses → Type 0) (next later : Uses → Uses) (old new : Device) where
   pub followed_known : ((uses : Uses) (parked : ℕ → List RequestId) (m : Machine) → Fits uses → Knows m (known (next uses) parked new) → Knows m (known (later uses) parked new)) →
@@ -290,7 +301,12 @@ pub followed_write : (May : Access → Type 0) (Fits : Uses → Type 0) (r : Reg
 followed_write May Fits r v old new kind may leaves call =
     followed_by May Fits (λ uses. uses) (Writing r v) old new kind call (λ uses parked is. write_adds (known uses parked old) r v new may (leaves uses is) call) (λ uses q issues arms. refl)
 
--- the list of one reading, or of one write
+-- the list of one reading, of one write, or of one load
+module _ (May : Access → Type 0) (at : ℕ) (bytes : List ℕ) (old new : Device) where
+  pub told_load : May (Loading at bytes) → Loads at bytes old new → IsTold (λ accesses. accesses ≡ Loading at bytes ∷ []) May AnyUse old new
+  unfolding followed_load followed_by by_one
+  told_load kind call = record { followed = followed_load May at bytes old new kind call; tells = refl }
+
 module _ (May : Access → Type 0) (Fits : Uses → Type 0) (r : Reg) (v : ℕ) (old new : Device) where
   pub told_read : May (Reading r v) → Reads r v old new → IsTold (λ accesses. accesses ≡ Reading r v ∷ []) May AnyUse old new
   unfolding followed_read followed_by by_one

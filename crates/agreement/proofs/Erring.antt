@@ -19,6 +19,7 @@ use Rattle.adapter.specs.declared.tape.Entry.TheVariants as entry
 use Rattle.adapter.proofs.Absurd.{true-false}
 use Rattle.adapter.proofs.Changed.{changed_same, changed_other}
 use Rattle.adapter.proofs.KeptLemmas.{step_keeps, steps_keep}
+use Rattle.agreement.specs.Driven.{Grows}
 use Rattle.agreement.specs.Errors.{KeepsErrors, IsComing, NoneComes, ChangesByDisks}
 use Rattle.agreement.specs.Links.{SparesRegister, IsPlugging, PlugsNone}
 use Rattle.agreement.proofs.Crossing.{access_steps, effect_keeps}
@@ -52,6 +53,22 @@ plugs_come port old new p = record { gained = p.gained; tape = p.tape; none = no
     narrower (entry.Done done) x = absurd x
     narrower (entry.Fault fault) x = absurd x
     narrower (entry.Fatal at) x = absurd x
+
+-- ---- what changes by disks
+
+pub change_none : (port : ℕ) (d : Device) → ChangesByDisks port d d
+change_none port d = record { serr_n = λ none h. h; serr_x = λ none h. h; det = λ none up. (up, plugs_nothing port d) }
+
+pub change_more : (port : ℕ) (old mid new : Device) → Grows old mid → Grows mid new → ChangesByDisks port old mid → ChangesByDisks port mid new → ChangesByDisks port old new
+change_more port old mid new early late a b = record {
+  serr_n = λ none h. let parts = plugs_parts port old mid new early.0 late.0 early.1 late.1 none in b.serr_n parts.1 (a.serr_n parts.0 h);
+  serr_x = λ none h. let parts = comes_parts port old mid new early.0 late.0 early.1 late.1 none in b.serr_x parts.1 (a.serr_x parts.0 h);
+  det = λ none up.
+      let parts = comes_parts port old mid new early.0 late.0 early.1 late.1 none in
+      let last = b.det parts.1 up in
+      let first = a.det parts.0 last.0 in
+      (first.0, plugs_more port old mid new first.1 last.1);
+}
 
 -- before the effect of an access the tape has what it has after it
 pub comes_before : (port : ℕ) (old mid new : Device) → new.tape ≡ mid.tape → NoneComes port old new → NoneComes port old mid
@@ -139,15 +156,7 @@ leads_turn port (step ∷ steps) old new off undue (can, lead) =
     let a = step_turns port old off undue step can in
     let b = leads_turn port steps (after step old) new (k.on off).no_reset a.0 lead in (
       b.0,
-      record {
-        serr_n = λ none h. let parts = plugs_parts port old (after step old) new k.gained l.gained k.tape l.tape none in b.1.serr_n parts.1 (a.1.serr_n parts.0 h);
-        serr_x = λ none h. let parts = comes_parts port old (after step old) new k.gained l.gained k.tape l.tape none in b.1.serr_x parts.1 (a.1.serr_x parts.0 h);
-        det = λ none up.
-            let parts = comes_parts port old (after step old) new k.gained l.gained k.tape l.tape none in
-            let late = b.1.det parts.1 up in
-            let early = a.1.det parts.0 late.0 in
-            (early.0, plugs_more port old (after step old) new early.1 late.1);
-      },
+      change_more port old (after step old) new (k.gained, k.tape) (l.gained, l.tape) a.1 b.1,
     )
 
 -- ---- steps

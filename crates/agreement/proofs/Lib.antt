@@ -76,6 +76,7 @@ pub mod Failing
 pub mod Parts
 pub mod Driven
 pub mod Controlled
+mod Released
 pub mod Causing
 pub mod Unmoving
 pub mod Sustaining

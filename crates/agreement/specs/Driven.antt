@@ -111,6 +111,10 @@ IsTold Tells May Fits old new = IsToldTo Tells May Fits (λ uses. uses) old new
 
 -- ---- what they leave
 
+-- the tape has only gained
+abbrev pub Grows : Device → Device → Type 0
+Grows old new = (gained : List Entry) × (new.tape ≡ old.tape ++ gained)
+
 -- no slot of the port has a command, neither issued nor taken
 abbrev pub HasNoCommand : PortState → Type 0
 HasNoCommand p = (slot : ℕ) → IsOver p slot

@@ -9,7 +9,7 @@ ghost use Rattle.hba_regs.specs.declared.reg.Reg.{Reg};
 ghost use Rattle.hba_regs.specs.declared.reg.Reg.TheVariants.{Ghc, Px};
 ghost use Rattle.hba_regs.specs.declared.reg.PortReg.TheVariants.{Is, Ie, Cmd, Tfd, Sig, Ssts, Sctl, Serr, Ci, Sact, Clb, Clbu, Fb, Fbu};
 ghost use Rattle.hba_regs.specs.declared.reg.PortReg.{PortReg};
-ghost use Rattle.adapter.specs.Access.{Reads, Writes, Loads, Stores, Access, Does, PortShows, note};
+ghost use Rattle.adapter.specs.Access.{Reads, Writes, Loads, Stores, Access, Does, DoesAll, PortShows, note};
 ghost use Rattle.adapter.specs.Access.Access.{Writing};
 ghost use Rattle.adapter.specs.Device.{Device, PortState};
 ghost use Rattle.adapter.specs.Device.Halt.{HaltedPlain};
@@ -27,6 +27,7 @@ ghost use Rattle.block_machine.specs.Steps.{Step, Release, MayMove, NoneKept, af
 ghost use Rattle.agreement.specs.Agrees.{Agrees};
 ghost use Rattle.agreement.specs.Awaits.{AwaitsPage};
 ghost use Rattle.agreement.specs.Booted.{BootIsFound};
+ghost use Rattle.agreement.specs.Driven.{Grows};
 ghost use Rattle.agreement.specs.Driver.{Known, Knows, IsOwnPrepared};
 ghost use Rattle.agreement.specs.Errors.{KeepsErrors, NoneComes, ChangesByDisks, StaysClear, NoneFatal, NoneFails, ChangesByErrors, IsLeftByReset, IsCleared, IsWork};
 ghost use Rattle.agreement.specs.Facts.{IsHalted, IsAfterReset, Finds, FindsPage, AreStepsOf, IsStill, AreOver, RunsWell, Undisturbed, ShowsNoTrouble, TellsNoTrouble, ClearsNoTrouble, IsFaulted, ShowsFault, HasFaults, IsRecorded, IsAwaited, IsUnflagged, IsQuiet, KeepsRecord, EndedIn, IsClear};
@@ -309,12 +310,17 @@ pub fn calm_composes()
         → new.tape ≡ mid.tape ++ late → Undisturbed port old new → Undisturbed port old mid × Undisturbed port mid new }
 {}
 
-/// What the adapter is stays over each access: its memory's size, its capabilities and its ports. One that is switched on, with no reset
-/// pending, stays so over each access but a write of GHC that clears AE or sets HR.
+/// What the adapter is stays over each access: its memory's size, its capabilities and its ports; and so over one stretch after another. One
+/// that is switched on, with no reset pending, stays so over each access but a write of GHC that clears AE or sets HR, and over any that
+/// don't write it.
 pub fn adapter_stays()
     ensures same { (access : Access) (old new : Device) → Does access old new → SameAdapter old new }
+    ensures same_none { (d : Device) → SameAdapter d d }
+    ensures same_more { (old mid new : Device) → SameAdapter old mid → SameAdapter mid new → SameAdapter old new }
     ensures on { (access : Access) (old new : Device) → IsOn old
         → ((v : ℕ) → access ≡ Writing Ghc v → (bit v 31 ≡ true) × (bit v 0 ≡ false)) → Does access old new → IsOn new }
+    ensures on_all { (accesses : List Access) (old new : Device) → IsOn old → All (SparesRegister Ghc) accesses
+        → DoesAll accesses old new → IsOn new }
 {}
 
 /// While no reset is pending, a write of GHC with AE and without HR switches the adapter on.
@@ -411,7 +417,8 @@ pub fn device_or_none_stays()
 
 /// The faults of a port since its ST was set stand on the tape, and the task file shows the last one: so it stays, whatever the
 /// device does, over readings, and over each write that may be made, where ST is set on a quiet port alone: what is asked of the
-/// write stays so until it is made, and nothing is asked where commands are issued. So it is while ST is 0, on a port that runs, and on one
+/// write stays so until it is made, and nothing is asked where commands are issued. Nor is it of any access that writes neither PxCMD nor
+/// PxSCTL of the port. So it is while ST is 0, on a port that runs, and on one
 /// that has failed.
 pub fn faults_are_recorded()
     ensures steps { (port : ℕ) (old new : Device) → Steps old new → IsRecorded old.tape (old.port port) port
@@ -422,6 +429,9 @@ pub fn faults_are_recorded()
         → Writes r v old new → IsRecorded old.tape (old.port port) port → IsRecorded new.tape (new.port port) port }
     ensures issues { (port : ℕ) (at : Port) (v : ℕ) (old new : Device) → Writes (Px at Ci) v old new
         → IsRecorded old.tape (old.port port) port → IsRecorded new.tape (new.port port) port }
+    ensures access { (port : Port) (access : Access) (old new : Device) → SparesRegister (Px port Cmd) access
+        → SparesRegister (Px port Sctl) access → Does access old new → IsRecorded old.tape (old.port port.0) port.0
+        → IsRecorded new.tape (new.port port.0) port.0 }
     ensures asked { (r : Reg) (v : ℕ) (d : Device) → d.hr ≡ false → KeepsRecord r v d → Stays (KeepsRecord r v) d }
     ensures idle { (tape : List Entry) (p : PortState) (port : ℕ) → p.st ≡ false → IsRecorded tape p port }
     ensures runs { HasFaults first_read.tape (first_read.port 0) 0 }
@@ -429,8 +439,8 @@ pub fn faults_are_recorded()
 {}
 
 /// From COMRESET until the link comes up the engine stands, and the task file shows DRQ: COMRESET begins it, and so does a reset of the
-/// adapter; and so it stays, whatever the device does, over readings, and over each write that may be made and keeps the record of
-/// faults. So it is where no link is due and PxSCTL.DET isn't 1, as on a port that runs.
+/// adapter; and so it stays, whatever the device does, over readings, over each write that may be made and keeps the record of faults, and
+/// over each access that writes neither PxCMD nor PxSCTL of the port. So it is where no link is due and PxSCTL.DET isn't 1, as on a port that runs.
 pub fn link_is_awaited()
     ensures begins { (port : Port) (v : ℕ) (old new : Device) → (old.port port.0).cr ≡ false → v % 16 ≡ 1
         → Writes (Px port Sctl) v old new → IsAwaited (new.port port.0) }
@@ -439,6 +449,8 @@ pub fn link_is_awaited()
         → IsAwaited (new.port port) }
     ensures writes { (port : ℕ) (r : Reg) (v : ℕ) (old new : Device) → Stays (MayWrite r v) old → Stays (KeepsRecord r v) old
         → Writes r v old new → IsAwaited (old.port port) → IsAwaited (new.port port) }
+    ensures access { (port : Port) (access : Access) (old new : Device) → SparesRegister (Px port Cmd) access
+        → SparesRegister (Px port Sctl) access → Does access old new → IsAwaited (old.port port.0) → IsAwaited (new.port port.0) }
     ensures reset { (v : ℕ) (old new : Device) → old.hr ≡ true → Reads Ghc v old new → bit v 0 ≡ false
         → (port : ℕ) → IsAwaited (new.port port) }
     ensures undue { (p : PortState) → p.link_due ≡ false → p.sctl_det ≢ 1 → IsAwaited p }
@@ -504,12 +516,15 @@ pub fn errors_are_kept()
 
 /// While no reset is pending and no link of the port is due, N of PxSERR rises only for a disk that goes or comes, and X only for one
 /// that comes; and where PxSSTS.DET is 3 and no disk has come, it was 3 before, and none has gone: whatever the device does, and over
-/// each access. No link is due then either, but after a write of PxSCTL.
+/// each access, and over one stretch after another. No link is due then either, but after a write of PxSCTL.
 pub fn errors_rise_by_disks()
     ensures steps { (port : ℕ) (old new : Device) → old.hr ≡ false → (old.port port).link_due ≡ false → Steps old new
         → ChangesByDisks port old new }
     ensures access { (port : Port) (access : Access) (old new : Device) → old.hr ≡ false → (old.port port.0).link_due ≡ false
         → Does access old new → ChangesByDisks port.0 old new }
+    ensures none { (port : ℕ) (d : Device) → ChangesByDisks port d d }
+    ensures more { (port : ℕ) (old mid new : Device) → Grows old mid → Grows mid new → ChangesByDisks port old mid
+        → ChangesByDisks port mid new → ChangesByDisks port old new }
     ensures due { (port : ℕ) (old new : Device) → old.hr ≡ false → (old.port port).link_due ≡ false → Steps old new
         → (new.port port).link_due ≡ false }
     ensures due_access { (port : Port) (access : Access) (old new : Device) → old.hr ≡ false → (old.port port.0).link_due ≡ false

@@ -5,6 +5,7 @@ pub mod acts;
 pub mod disks;
 pub mod facts;
 pub mod giving_up;
+pub mod kinds;
 pub mod laws;
 pub mod limits;
 pub mod readying;

@@ -4,7 +4,7 @@ ghost use Rattle.ata_types.specs.declared.Port.{Port};
 ghost use Rattle.hba_regs.specs.Bits.{bit};
 ghost use Rattle.hba_regs.specs.declared.reg.PortReg.{PortReg};
 ghost use Rattle.hba_regs.specs.declared.reg.PortReg.TheVariants.{Cmd, Is, Sctl, Sact, Ci};
-ghost use Rattle.hba_regs.specs.declared.reg.Reg.TheVariants.{Px};
+ghost use Rattle.hba_regs.specs.declared.reg.Reg.TheVariants.{Ghc, Px};
 ghost use Rattle.adapter.specs.Access.{Access, Does, Reads, Writes, Loads, Stores};
 ghost use Rattle.adapter.specs.Device.{PortState, Device};
 ghost use Rattle.adapter.specs.Idle.{IsIdle, TellsDisks};
@@ -12,11 +12,11 @@ ghost use Rattle.adapter.specs.Rules.{IsOn, MayWrite, Stays};
 ghost use Rattle.adapter.specs.Steps.{Steps};
 ghost use Rattle.adapter.specs.declared.command.Operation.{Operation};
 ghost use Rattle.adapter.specs.declared.tape.Entry.{Entry};
-ghost use Rattle.agreement.specs.Driven.{AnyAccess, AnyUse, IsUse, IsAgreed, IsDrivenBy, IsControl, IsFollowed, IsFollowedTo, IsOf, LeavesPort, HasNoCommand, SendsNone};
+ghost use Rattle.agreement.specs.Driven.{AnyAccess, Grows, AnyUse, IsUse, IsAgreed, IsDrivenBy, IsControl, IsFollowed, IsFollowedTo, IsOf, LeavesPort, HasNoCommand, SendsNone};
 ghost use Rattle.agreement.specs.Driver.{LeavesUses, MayStore};
 ghost use Rattle.agreement.specs.Facts.{IsRecorded};
 ghost use Rattle.agreement.specs.Links.{SameAdapter, SparesRegister};
-ghost use Rattle.agreement.specs.Slots.{Uses, Free, Own, op_of};
+ghost use Rattle.agreement.specs.Slots.{Uses, Free, IsOver, Own, op_of, put};
 
 /// Stretches of accesses of one port, which write some of its registers: none, one access, and one stretch after
 /// another. So it is with stretches that are followed: any reading is, and so is a write that is permitted and leaves
@@ -62,8 +62,8 @@ pub fn stretches_compose()
 /// Accesses that touch no register of another port, nor another port's bit of IS (`IsOf`), leave every other port to the device, with what
 /// readings noted of it, and with the record of its faults; and where they are followed, its disk sends no page for which its slot 0 has
 /// no command.
-/// What is left so in two stretches is left in both. An adapter that is on stays on. Any accesses leave the adapter what it is,
-/// and the tape only gains.
+/// What is left so in two stretches is left in both. They write neither GHC nor a register of another port, and an adapter that is on stays
+/// on. Any accesses leave the adapter what it is, and the tape only gains.
 pub fn other_ports_are_left()
     ensures left { (port : Port) (q : ℕ) (old new : Device) → q ≢ port.0 → IsOn old → IsDrivenBy (IsOf port) old new
         → LeavesPort (old.port q) (new.port q) }
@@ -74,18 +74,30 @@ pub fn other_ports_are_left()
         → (uses q.0 0 ≡ Own o → ⊥) → SendsNone q.0 o old new }
     ensures none { (p : PortState) → LeavesPort p p }
     ensures more { (old mid new : PortState) → LeavesPort old mid → LeavesPort mid new → LeavesPort old new }
+    ensures spares { (port q : Port) (r : PortReg) → q.0 ≢ port.0 → (access : Access) → IsOf port access
+        → SparesRegister (Px q r) access }
+    ensures spares_host { (port : Port) (access : Access) → IsOf port access → SparesRegister Ghc access }
     ensures on { (port : Port) (old new : Device) → IsOn old → IsDrivenBy (IsOf port) old new → IsOn new }
     ensures adapter { (old new : Device) → IsDrivenBy AnyAccess old new → SameAdapter old new }
     ensures tape { (old new : Device) → IsDrivenBy AnyAccess old new → (gained : List Entry) × (new.tape ≡ old.tape ++ gained) }
 {}
 
-/// Over accesses that are followed some machine goes on agreeing with the same uses. And with an idle
-/// device, whose disks tell their sectors if the adapter is one that tells, some machine agrees where no slot is used.
+/// Over accesses that are followed some machine goes on agreeing with the same uses. So it does once a command of the driver's own that is
+/// over has left its slot. And with an idle device, whose disks tell their sectors if the adapter is one that tells, some machine agrees where no slot is used.
 pub fn agreeing_goes_on()
     ensures followed { (uses : Uses) (old new : Device)
         → IsFollowed AnyAccess (IsUse uses) old new
         → IsAgreed uses old → IsAgreed uses new }
+    ensures released { (uses : Uses) (port : ℕ) (o : Operation) (d : Device) → uses port 0 ≡ Free → IsOver (d.port port) 0
+        → IsAgreed (put uses port 0 (Own o)) d → IsAgreed uses d }
     ensures idle { (d : Device) → IsIdle d → TellsDisks d → IsAgreed (λ port slot. Free) d }
+{}
+
+/// The tape only gains: over none, over each access, and over one stretch after another.
+pub fn tapes_grow()
+    ensures none { (d : Device) → Grows d d }
+    ensures access { (access : Access) (old new : Device) → Does access old new → Grows old new }
+    ensures more { (old mid new : Device) → Grows old mid → Grows mid new → Grows old new }
 {}
 
 /// A write of a register of the port but PxSCTL and PxIS leaves all that is noted of the port: but when ST was set,

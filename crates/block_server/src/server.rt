@@ -22,8 +22,8 @@ use plan::Plan;
 use request_queue::laws::an_id_is_one_request;
 use request_queue::{Book, Entry};
 use server_history::laws::{
-    a_finished_port_settles, a_port_is_served, a_used_slot_has_its_request, acceptances_add,
-    looks_keep, requests_keep, services_add,
+    a_finished_port_settles, a_new_server_has_begun, a_port_is_served, a_used_slot_has_its_request,
+    acceptances_add, looks_keep, requests_keep, services_add,
 };
 use slots::Slots;
 use std::alloc::Global;
@@ -148,6 +148,7 @@ impl<A: Adapter> Server<A> {
         };
         let wanted = *plan.wanted();
         let ports = take_over(&mut adapter, &wanted).ports;
+        a_new_server_has_begun();
         Ok(Server {
             adapter,
             grants,

@@ -46,11 +46,11 @@ store_free uses d port slot at bytes a room below small free here =
     (may_store uses port slot at bytes below small free here)
 
 -- no such access is of a register
-pub table_is_of : (port : Port) (slot : ℕ) (access : Access) → IsTableStore port.0 slot access → IsOf port access
-table_is_of port slot (Storing at bytes) here = tt
-table_is_of port slot (Loading at bytes) here = tt
-table_is_of port slot (Reading r v) here = absurd here
-table_is_of port slot (Writing r v) here = absurd here
+pub table_is_of : (port : Port) (at slot : ℕ) (access : Access) → IsTableStore at slot access → IsOf port access
+table_is_of port at slot (Storing place bytes) here = tt
+table_is_of port at slot (Loading place bytes) here = tt
+table_is_of port at slot (Reading r v) here = absurd here
+table_is_of port at slot (Writing r v) here = absurd here
 
 pub table_spares : (port slot : ℕ) (r : Reg) → NoneWrites (IsTableStore port slot) r
 table_spares port slot r (Storing at bytes) here = tt

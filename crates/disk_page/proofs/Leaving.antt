@@ -1,10 +1,10 @@
 -- What asking for a page leaves of a port.
-use Rattle.std.proofs.Common.{ℕ, ◌≡◌, ◌≢◌, ◌≤◌, false, List, length, None, refl, sym, ◌∙◌, ap, subst, le_refl, le_trans}
+use Rattle.std.proofs.Common.{ℕ, ◌≡◌, ◌≢◌, ◌≤◌, false, List, [], ◌∷◌, length, None, refl, sym, ◌∙◌, ap, subst, le_refl, le_trans}
 use Rattle.ata_types.specs.declared.Port.{Port}
 use Rattle.hba_regs.specs.declared.reg.Reg.{Reg}
-use Rattle.hba_regs.specs.declared.reg.Reg.TheVariants.{Px}
+use Rattle.hba_regs.specs.declared.reg.Reg.TheVariants.{Px, Ghc}
 use Rattle.hba_regs.specs.declared.reg.PortReg.TheVariants.{Ci}
-use Rattle.adapter.specs.Access.{Access, Does, Reads, Writes, note, port_written}
+use Rattle.adapter.specs.Access.{Access, Does, Reads, Writes, note, port_written, DoesAll}
 use Rattle.adapter.specs.Access.Access.{Reading, Writing, Loading, Storing}
 use Rattle.adapter.specs.Device.{Notes, PortState, Device}
 use Rattle.adapter.specs.Kept.{Keeps, KeepsPort, KeepsControls}
@@ -12,69 +12,15 @@ use Rattle.adapter.specs.Memory.{patched}
 use Rattle.adapter.specs.Rules.{IsOn}
 use Rattle.adapter.specs.Steps.{Steps}
 use Rattle.adapter.specs.declared.tape.Entry.{Entry}
-use Rattle.adapter.proofs.Calls.{seen, SeenAt, put, PutAt}
-use Rattle.adapter.proofs.KeptLemmas.{steps_keep, KeepsControls-refl, KeepsControls-trans}
+use Rattle.adapter.specs.Seen.{SeenAt}
+use Rattle.adapter.specs.Seen.{PutAt}
 use Rattle.agreement.specs.Driven.{IsDrivenBy}
-use Rattle.agreement.proofs.Driven.{over}
-use Rattle.agreement.proofs.Recording.{steps_recorded}
-use Rattle.agreement.proofs.Rewriting.{issues_recorded, reads_recorded}
-use Rattle.agreement.proofs.Witness.{bit_one_other}
 use Rattle.disk_page.specs.Asking.{IsAsking, LeavesRunning, SameButIssued}
-use Rattle.disk_page.proofs.Asking.{reading_leaves, grown, asking_spares_ghc}
-
--- readings of PxCI, one after another
-same_more : (a b c : Notes) → SameButIssued a b → SameButIssued b c → SameButIssued a c
-same_more a b c p q =
-    let P : Notes → Type 0 = λ n. c ≡ record n { last_ci = c.last_ci; command_count = c.command_count } in
-    subst P p q
-
-same_notes : (old new : Notes) → new ≡ old → SameButIssued old new
-same_notes old new is = let P : Notes → Type 0 = λ n. SameButIssued old n in subst P (sym is) refl
-
-pub running_none : (port : ℕ) (d : Device) → LeavesRunning port d d
-running_none port d = record {
-  controls = KeepsControls-refl (d.port port);
-  bases = refl;
-  ci = λ slot other clear. clear;
-  taken = λ slot other clear free. free;
-  sact = λ slot clear. clear;
-  notes = refl;
-  later = le_refl (length d.tape);
-  recorded = λ h. h;
-}
-
-pub running_more : (port : ℕ) (a b c : Device) → LeavesRunning port a b → LeavesRunning port b c → LeavesRunning port a c
-running_more port a b c p q = record {
-  controls = KeepsControls-trans p.controls q.controls;
-  bases = q.bases ∙ p.bases;
-  ci = λ slot other clear. q.ci slot other (p.ci slot other clear);
-  taken = λ slot other clear free. q.taken slot other (p.ci slot other clear) (p.taken slot other clear free);
-  sact = λ slot clear. q.sact slot (p.sact slot clear);
-  notes = same_more (a.port port).notes (b.port port).notes (c.port port).notes p.notes q.notes;
-  later = le_trans p.later q.later;
-  recorded = λ h. q.recorded (p.recorded h);
-}
-
--- what the device alone leaves
-by_device : (port : ℕ) (old new : Device) → old.hr ≡ false → Steps old new → LeavesRunning port old new
-by_device port old new off steps =
-    let k : Keeps old new = steps_keep steps in
-    let p : KeepsPort (old.port port) (new.port port) = k.port port in
-    record {
-      controls = (k.on off).controls port;
-      bases = p.bases;
-      ci = λ slot other. p.ci slot;
-      taken = λ slot other. p.free slot;
-      sact = p.sact;
-      notes = same_notes (old.port port).notes (new.port port).notes (k.notes port);
-      later = grown old.tape new.tape k.gained k.tape;
-      recorded = steps_recorded port old new steps;
-    }
-
--- a port that has as many of these words as another
-with_memory : (port at : ℕ) (bytes : List ℕ) (old mid : Device) → LeavesRunning port old mid → LeavesRunning port old (record mid { memory = patched mid.memory at bytes })
-with_memory port at bytes old mid l =
-    record { controls = l.controls; bases = l.bases; ci = l.ci; taken = l.taken; sact = l.sact; notes = l.notes; later = l.later; recorded = l.recorded }
+use Rattle.disk_page.proofs.Asking.{reading_leaves, grown, asking_spares_ghc, bit_one_other}
+use Rattle.disk_page.specs.Laws.{Laws}
+use Rattle.std.specs.List.{All}
+use Rattle.std.proofs.lemmas.List.Elements.{All-head, All-tail}
+use Rattle.agreement.specs.Links.{SparesRegister}
 
 -- the same of one port's state
 record HasAfter (port : ℕ) (old : Device) (p : PortState) : Type 0 where
@@ -85,16 +31,19 @@ record HasAfter (port : ℕ) (old : Device) (p : PortState) : Type 0 where
   sact : (slot : ℕ) → (old.port port).sact slot ≡ false → p.sact slot ≡ false
   notes : SameButIssued (old.port port).notes p.notes
 
--- bit 0 of PxCI was written
-issued_leaves : (port : ℕ) (old mid : Device) → LeavesRunning port old mid → HasAfter port old (port_written Ci 1 (length mid.tape) (mid.port port))
-issued_leaves port old mid l = record {
-  controls = record { st = l.controls.st; fre = l.controls.fre; sctl_det = l.controls.sctl_det; ie = l.controls.ie; is = l.controls.is; serr_n = l.controls.serr_n; serr_x = l.controls.serr_x; runs = l.controls.runs };
-  bases = l.bases;
-  ci = λ slot other clear. rw (l.ci slot other clear, bit_one_other slot other) refl;
-  taken = l.taken;
-  sact = l.sact;
-  notes = l.notes;
-}
+-- readings of PxCI, one after another
+same_more : (a b c : Notes) → SameButIssued a b → SameButIssued b c → SameButIssued a c
+same_more a b c p q =
+    let P : Notes → Type 0 = λ n. c ≡ record n { last_ci = c.last_ci; command_count = c.command_count } in
+    subst P p q
+
+same_notes : (old new : Notes) → new ≡ old → SameButIssued old new
+same_notes old new is = let P : Notes → Type 0 = λ n. SameButIssued old n in subst P (sym is) refl
+
+-- a port that has as many of these words as another
+with_memory : (port at : ℕ) (bytes : List ℕ) (old mid : Device) → LeavesRunning port old mid → LeavesRunning port old (record mid { memory = patched mid.memory at bytes })
+with_memory port at bytes old mid l =
+    record { controls = l.controls; bases = l.bases; ci = l.ci; taken = l.taken; sact = l.sact; notes = l.notes; later = l.later; recorded = l.recorded }
 
 -- a reading of PxCI noted its value alone
 same_read : (v : ℕ) (old : Notes) (p : PortState) → p.notes ≡ note Ci v (record p { notes = old }) → SameButIssued old p.notes
@@ -102,44 +51,102 @@ same_read v old p is =
     let P : Notes → Type 0 = λ n. SameButIssued old n in
     subst P (sym is) refl
 
-asking_leaves : (port : Port) (access : Access) (old new : Device) → IsOn old → IsAsking port access → Does access old new → LeavesRunning port.0 old new
-asking_leaves port (Loading at bytes) old new on here x = by_device port.0 old new on.no_reset x.steps
-asking_leaves port (Storing at bytes) old new on here x =
-    let P : Device → Type 0 = λ d. LeavesRunning port.0 old d in subst P (sym x.effect) (with_memory port.0 at bytes old x.mid (by_device port.0 old x.mid on.no_reset x.steps))
-asking_leaves port (Reading r v) old new on here x =
-    let R : Reg → Type 0 = λ q. Reads q v old new in
-    let call : Reads (Px port Ci) v old new = subst R here x in
-    let s : SeenAt port.0 Ci v old new = seen port Ci v old new call on.no_reset in
-    record {
-      controls = s.keeps.on.controls port.0;
-      bases = (s.keeps.port port.0).bases;
-      ci = λ slot other. (s.keeps.port port.0).ci slot;
-      taken = λ slot other. (s.keeps.port port.0).free slot;
-      sact = (s.keeps.port port.0).sact;
-      notes = same_read v (old.port port.0).notes (new.port port.0) s.notes;
-      later = (reading_leaves port v old new on call).later;
-      recorded = reads_recorded port.0 (Px port Ci) v old new call;
-    }
-asking_leaves port (Writing r v) old new on here x =
-    let R : Reg → Type 0 = λ q. Writes q v old new in
-    let V : ℕ → Type 0 = λ n. Writes (Px port Ci) n old new in
-    let call : Writes (Px port Ci) 1 old new = subst V here.1 (subst R here.0 x) in
-    let w : PutAt port.0 Ci 1 old new = put port Ci 1 old new call on.no_reset in
-    let d : LeavesRunning port.0 old w.mid = by_device port.0 old w.mid on.no_reset w.steps in
-    let P : PortState → Type 0 = λ p. HasAfter port.0 old p in
-    let h : HasAfter port.0 old (new.port port.0) = subst P (sym w.here) (issued_leaves port.0 old w.mid d) in
-    record {
-      controls = h.controls;
-      bases = h.bases;
-      ci = h.ci;
-      taken = h.taken;
-      sact = h.sact;
-      notes = h.notes;
-      later = let same : length w.mid.tape ≡ length new.tape = ap (λ (es : List Entry). length es) (sym w.tape) in subst (λ (n : ℕ). length old.tape ≤ n) same d.later;
-      recorded = issues_recorded port.0 port 1 old new call;
-    }
+module _ (laws : Laws) where
+  pub running_none : (port : ℕ) (d : Device) → LeavesRunning port d d
+  running_none port d = record {
+    controls = laws.controls_none (d.port port);
+    bases = refl;
+    ci = λ slot other clear. clear;
+    taken = λ slot other clear free. free;
+    sact = λ slot clear. clear;
+    notes = refl;
+    later = le_refl (length d.tape);
+    recorded = λ h. h;
+  }
 
-pub asking_leaves_running : (port : Port) (old new : Device) → IsOn old → IsDrivenBy (IsAsking port) old new → LeavesRunning port.0 old new
-asking_leaves_running port old new on a =
-    (over (LeavesRunning port.0) (running_none port.0) (running_more port.0) (IsAsking port) (asking_spares_ghc port) (λ access x y ready here does. asking_leaves port access x y ready here does)
-    a.accesses old new on a.only a.all).0
+  pub running_more : (port : ℕ) (a b c : Device) → LeavesRunning port a b → LeavesRunning port b c → LeavesRunning port a c
+  running_more port a b c p q = record {
+    controls = laws.controls_more _ _ _ p.controls q.controls;
+    bases = q.bases ∙ p.bases;
+    ci = λ slot other clear. q.ci slot other (p.ci slot other clear);
+    taken = λ slot other clear free. q.taken slot other (p.ci slot other clear) (p.taken slot other clear free);
+    sact = λ slot clear. q.sact slot (p.sact slot clear);
+    notes = same_more (a.port port).notes (b.port port).notes (c.port port).notes p.notes q.notes;
+    later = le_trans p.later q.later;
+    recorded = λ h. q.recorded (p.recorded h);
+  }
+
+  -- what the device alone leaves
+  by_device : (port : ℕ) (old new : Device) → old.hr ≡ false → Steps old new → LeavesRunning port old new
+  by_device port old new off steps =
+      let k : Keeps old new = laws.steps_keep _ _ steps in
+      let p : KeepsPort (old.port port) (new.port port) = k.port port in
+      record {
+        controls = (k.on off).controls port;
+        bases = p.bases;
+        ci = λ slot other. p.ci slot;
+        taken = λ slot other. p.free slot;
+        sact = p.sact;
+        notes = same_notes (old.port port).notes (new.port port).notes (k.notes port);
+        later = grown old.tape new.tape k.gained k.tape;
+        recorded = laws.steps_recorded port old new steps;
+      }
+
+  -- bit 0 of PxCI was written
+  issued_leaves : (port : ℕ) (old mid : Device) → LeavesRunning port old mid → HasAfter port old (port_written Ci 1 (length mid.tape) (mid.port port))
+  issued_leaves port old mid l = record {
+    controls = record { st = l.controls.st; fre = l.controls.fre; sctl_det = l.controls.sctl_det; ie = l.controls.ie; is = l.controls.is; serr_n = l.controls.serr_n; serr_x = l.controls.serr_x; runs = l.controls.runs };
+    bases = l.bases;
+    ci = λ slot other clear. rw (l.ci slot other clear, bit_one_other slot other) refl;
+    taken = l.taken;
+    sact = l.sact;
+    notes = l.notes;
+  }
+
+  asking_leaves : (port : Port) (access : Access) (old new : Device) → IsOn old → IsAsking port access → Does access old new → LeavesRunning port.0 old new
+  asking_leaves port (Loading at bytes) old new on here x = by_device port.0 old new on.no_reset x.steps
+  asking_leaves port (Storing at bytes) old new on here x =
+      let P : Device → Type 0 = λ d. LeavesRunning port.0 old d in subst P (sym x.effect) (with_memory port.0 at bytes old x.mid (by_device port.0 old x.mid on.no_reset x.steps))
+  asking_leaves port (Reading r v) old new on here x =
+      let R : Reg → Type 0 = λ q. Reads q v old new in
+      let call : Reads (Px port Ci) v old new = subst R here x in
+      let s : SeenAt port.0 Ci v old new = laws.seen_at port Ci v old new call on.no_reset in
+      record {
+        controls = s.keeps.on.controls port.0;
+        bases = (s.keeps.port port.0).bases;
+        ci = λ slot other. (s.keeps.port port.0).ci slot;
+        taken = λ slot other. (s.keeps.port port.0).free slot;
+        sact = (s.keeps.port port.0).sact;
+        notes = same_read v (old.port port.0).notes (new.port port.0) s.notes;
+        later = (reading_leaves laws port v old new on call).later;
+        recorded = laws.reads_recorded port.0 (Px port Ci) v old new call;
+      }
+  asking_leaves port (Writing r v) old new on here x =
+      let R : Reg → Type 0 = λ q. Writes q v old new in
+      let V : ℕ → Type 0 = λ n. Writes (Px port Ci) n old new in
+      let call : Writes (Px port Ci) 1 old new = subst V here.1 (subst R here.0 x) in
+      let w : PutAt port.0 Ci 1 old new = laws.put_at port Ci 1 old new call on.no_reset in
+      let d : LeavesRunning port.0 old w.mid = by_device port.0 old w.mid on.no_reset w.steps in
+      let P : PortState → Type 0 = λ p. HasAfter port.0 old p in
+      let h : HasAfter port.0 old (new.port port.0) = subst P (sym w.here) (issued_leaves port.0 old w.mid d) in
+      record {
+        controls = h.controls;
+        bases = h.bases;
+        ci = h.ci;
+        taken = h.taken;
+        sact = h.sact;
+        notes = h.notes;
+        later = let same : length w.mid.tape ≡ length new.tape = ap (λ (es : List Entry). length es) (sym w.tape) in subst (λ (n : ℕ). length old.tape ≤ n) same d.later;
+        recorded = laws.issues_recorded port.0 port 1 old new call;
+      }
+
+  leaves_over : (port : Port) (accesses : List Access) (old new : Device) → IsOn old → All (IsAsking port) accesses → DoesAll accesses old new → LeavesRunning port.0 old new
+  leaves_over port [] old new on all is = subst (LeavesRunning port.0 old) (sym is) (running_none port.0 old)
+  leaves_over port (access ∷ accesses) old new on all (mid, does, rest) =
+      let here = All-head (IsAsking port) access accesses all in
+      let host = asking_spares_ghc laws port access here in
+      let later = laws.access_on access old mid on (λ v is. absurd (subst (SparesRegister Ghc) is host refl)) does in
+      running_more port.0 old mid new (asking_leaves port access old mid on here does) (leaves_over port accesses mid new later (All-tail (IsAsking port) access accesses all) rest)
+
+  pub asking_leaves_running : (port : Port) (old new : Device) → IsOn old → IsDrivenBy (IsAsking port) old new → LeavesRunning port.0 old new
+  asking_leaves_running port old new on a = leaves_over port a.accesses old new on a.only a.all

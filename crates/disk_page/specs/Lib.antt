@@ -1,2 +1,3 @@
 pub mod Asking
+pub mod Laws
 pub mod Waiting

@@ -12,12 +12,14 @@ ghost use Rattle.command_table.specs.Written.{IsUnused};
 ghost use Rattle.disk_page.specs.Asking.{operation_of, MayAsk, IsAsking, LeavesRunning, Reads, AgreesAfter};
 ghost use Rattle.disk_page.specs.Waiting.{IsWaiting};
 
+mod lawful;
 pub mod laws;
 
 use adapter::{Adapter, Command};
 use ata_types::{DRIVER_BYTES, FRAME_BYTES, Frame, PORT_FRAMES, Port, SCRATCH_FRAME, Slot};
 use command_table::{prds, write_table};
 use hba_regs::{PortReg, Reg, is_set};
+use lawful::laws_hold;
 
 /// Readings of PxCI in one wait.
 const READINGS: u32 = 64;
@@ -74,6 +76,7 @@ fn ask<A: Adapter>(adapter: &mut A, port: Port, page: Page)
     ensures later { length (A.device adapter.old).tape ≤ length (A.device adapter.new).tape }
     ensures det { ((A.device adapter.new).port port.0).sctl_det ≡ 0 }
 {
+    laws_hold();
     let scratch = Frame(PORT_FRAMES * u16::from(port.0) + SCRATCH_FRAME);
     let prds = prds(&[scratch], PAGE_BYTES);
     write_table(adapter, port, Slot(0), &command(page), prds.as_slice());
@@ -91,6 +94,7 @@ fn wait<A: Adapter>(adapter: &mut A, port: Port) -> bool
     ensures over { result ≡ true → (o : Operation) (since : ℕ) (uses : Uses) → IsWaiting port o since uses (A.device adapter.old) → IsClear ((A.device adapter.new).port port.0) 0 }
     ensures still { result ≡ false → ((A.device adapter.new).port port.0).notes.command_count ≡ 64 }
 {
+    laws_hold();
     for _reading in 0..READINGS {
         let issued = adapter.read(Reg::Px(port, PortReg::Ci));
         if !is_set(issued, 0) {
@@ -114,6 +118,7 @@ pub fn read_page<A: Adapter>(adapter: &mut A, port: Port, page: Page) -> Option<
         → AgreesAfter port (operation_of page) result uses (A.device adapter.new) }
     ensures reads { Reads port (operation_of page) result (A.device adapter.old) (A.device adapter.new) }
 {
+    laws_hold();
     ask(adapter, port, page);
     if !wait(adapter, port) {
         return None;

@@ -15,7 +15,7 @@ use Rattle.driver_history.specs.Claims.{GoesWellFor, IsHealthyFor, IsSpared}
 use Rattle.driver_history.specs.Histories.{IsHistory, Ties}
 use Rattle.driver_history.specs.Trace.{LeavesEngine}
 use Rattle.driver_history.proofs.Calm.{EntryIsTold, engine_left, restarts_of, spared, tick_spares}
-use Rattle.driver_history.proofs.Lasting.{StepsKeepWell}
+use Rattle.driver_history.proofs.Lasting.{KeepsWell}
 use Rattle.driver_history.proofs.Leaving.{left_well}
 use Rattle.driver_history.proofs.Resting.{belongs_of}
 
@@ -65,7 +65,7 @@ kind_of (LoadAt client frame offset count) =
 kind_of (State at) = other (λ e. let z : State at ≡ Service = e in absurd cc) (λ e. let z : State at ≡ Tick = e in absurd cc) (λ e. let z : State at ≡ Reset = e in absurd cc)
 kind_of (Told step) = other (λ e. let z : Told step ≡ Service = e in absurd cc) (λ e. let z : Told step ≡ Tick = e in absurd cc) (λ e. let z : Told step ≡ Reset = e in absurd cc)
 
-module _ (told : EntryIsTold) (steps : StepsKeepWell) (wanted : List Wanted) (first : Instant Device) (port : Port) where
+module _ (told : EntryIsTold) (steps : KeepsWell) (wanted : List Wanted) (first : Instant Device) (port : Port) where
   module _ (past : List (Happening Device DeviceStep)) (h : Happening Device DeviceStep) (history : IsHistory wanted first (h ∷ past)) (healthy : IsHealthyFor (now first past) h port) where
     abbrev old : Instant Device
     old = now first past

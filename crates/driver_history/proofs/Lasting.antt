@@ -1,7 +1,7 @@
 -- A port that stays healthy in a call runs well after it.
 use Rattle.std.proofs.Common.{ℕ, ◌≡◌, ◌≢◌, ◌⊎◌, ◌*◌, ◌+◌, true, false, List, [], ◌∷◌, None, Ok, refl, sym, ◌∙◌, inl, inr, subst}
 use Rattle.std.specs.List.{All}
-use Rattle.std.proofs.lemmas.List.Elements.{All-cons, All-nil}
+use Rattle.std.proofs.lemmas.List.Elements.{All-cons, All-nil, All-weaker}
 use Rattle.ata_types.specs.declared.Port.{Port}
 use Rattle.ata_types.specs.declared.memory.TheConstants.{FRAME_BYTES}
 use Rattle.hba_regs.specs.declared.reg.Reg.TheVariants.{Ghc, Px}
@@ -16,10 +16,9 @@ use Rattle.adapter.proofs.Going.{asked_steps}
 use Rattle.agreement.specs.Facts.{RunsWell, Undisturbed}
 use Rattle.agreement.specs.Links.{SparesRegister}
 use Rattle.block_machine.specs.Events.{Ask, Submit, StoreAt, LoadAt, Service, Tick, Reset, Device as Told, Said, Submitted, Stored, Loaded, Served, Stepped, IsHung, Moment}
-use Rattle.host_boot.proofs.Running.{well_on}
-use Rattle.port_boot.proofs.Enduring.{lasts}
 use Rattle.driver_history.specs.Histories.{CameBy, IssuesOn, TendsPort}
 use Rattle.driver_history.specs.Trace.{IsServing, LeavesEngine}
+use Rattle.port_boot.specs.States.{RunsOn}
 
 -- it writes neither GHC, nor PxCMD or PxSCTL of the port
 abbrev pub LeavesRunning : Port → Access → Type 0
@@ -68,11 +67,17 @@ module _ (port : Port) (m : Moment) (accesses : List Access) (old new : Device) 
   came_calmly Reset said c other leaves = absurd (other refl)
   came_calmly ask said c other leaves = none c.0 c.1
 
--- what the law on healthy ports says of the device's steps
-abbrev pub StepsKeepWell : Type 0
-StepsKeepWell = (port : ℕ) (old new : Device) → old.hr ≡ false → Steps old new → Undisturbed port old new → RunsWell (old.port port) → RunsWell (new.port port)
+-- what laws say of a port that runs well
+pub record KeepsWell : Type 0 where
+  -- over the device's steps
+  pub steps : (port : ℕ) (old new : Device) → old.hr ≡ false → Steps old new → Undisturbed port old new → RunsWell (old.port port) → RunsWell (new.port port)
+  -- and over accesses
+  pub runs : (port : Port) (accesses : List Access) (old new : Device) → IsOn old → DoesAll accesses old new → All (SparesRegister Ghc) accesses → All (SparesRegister (Px port Sctl)) accesses
+      → All (SparesRegister (Px port Cmd)) accesses → RunsOn port.0 old new
+  pub well : (port : ℕ) (old new : Device) → RunsOn port old new → Undisturbed port old new → RunsWell (old.port port) → RunsWell (new.port port)
 
-pub runs_well : StepsKeepWell → (port : Port) (accesses : List Access) (old new : Device) → IsOn old → IsCalm port accesses old new → Undisturbed port.0 old new → RunsWell (old.port port.0) → RunsWell (new.port port.0)
-runs_well steps port accesses old new on (inr moves) calm well = steps port.0 old new on.no_reset moves calm well
-runs_well steps port accesses old new on (inl (only, does)) calm well =
-    well_on port.0 old new (lasts port (LeavesRunning port) (λ access is. is.0) (λ access is. is.1.1) old new on (record { accesses = accesses; all = does; only = only }) (λ access is. is.1.0)).runs calm well
+pub runs_well : KeepsWell → (port : Port) (accesses : List Access) (old new : Device) → IsOn old → IsCalm port accesses old new → Undisturbed port.0 old new → RunsWell (old.port port.0) → RunsWell (new.port port.0)
+runs_well laws port accesses old new on (inr moves) calm well = laws.steps port.0 old new on.no_reset moves calm well
+runs_well laws port accesses old new on (inl (only, does)) calm well =
+    laws.well port.0 old new (laws.runs port accesses old new on does (All-weaker (LeavesRunning port) (SparesRegister Ghc) (λ access is. is.0) accesses only)
+    (All-weaker (LeavesRunning port) (SparesRegister (Px port Sctl)) (λ access is. is.1.1) accesses only) (All-weaker (LeavesRunning port) (SparesRegister (Px port Cmd)) (λ access is. is.1.0) accesses only)) calm well

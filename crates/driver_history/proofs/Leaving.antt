@@ -12,9 +12,9 @@ use Rattle.driver_history.specs.Evidence.{StaysHealthy}
 use Rattle.driver_history.specs.Histories.{IsHistory, Ties}
 use Rattle.driver_history.proofs.Calm.{EntryIsTold, engine_left, tick_spares}
 use Rattle.driver_history.proofs.Instants.{fit_at, holds_at, ready_at}
-use Rattle.driver_history.proofs.Lasting.{StepsKeepWell, came_calmly, runs_well}
+use Rattle.driver_history.proofs.Lasting.{KeepsWell, came_calmly, runs_well}
 
-pub left_well : EntryIsTold → StepsKeepWell → (wanted : List Wanted) (first : Instant Device) (past : List (Happening Device DeviceStep)) (h : Happening Device DeviceStep)
+pub left_well : EntryIsTold → KeepsWell → (wanted : List Wanted) (first : Instant Device) (past : List (Happening Device DeviceStep)) (h : Happening Device DeviceStep)
     (port : Port) → IsHistory wanted first (h ∷ past) → (now first past).moment.ports.state port ≡ Ready → h.event.ask ≢ Reset
     → (h.event.ask ≡ Tick → IsHung (now first past).moment port → ⊥) → StaysHealthy port.0 (now first past).device h.device → RunsWell (h.device.port port.0)
 left_well told steps wanted first past h port history ready other young healthy =

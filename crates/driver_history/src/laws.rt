@@ -27,6 +27,7 @@ ghost use Rattle.driver_history.specs.Moves.{KeepsMoves};
 
 use agreement::facts::{frames_are_still, healthy_stays};
 use agreement::laws::disks_are_told;
+use port_boot::laws::a_port_runs_on;
 
 /// The calls of a history are a run of the block machine. So its laws on runs hold of them: each request that is
 /// issued was accepted and broke no rule, each touch is of an accepted request's own sector at a frame that is lent to it, and
@@ -93,6 +94,7 @@ pub fn calls_leave_ports_well()
 {
     disks_are_told();
     healthy_stays();
+    a_port_runs_on();
 }
 
 /// Each answer of a history rests on what the device did and showed.
@@ -148,6 +150,7 @@ pub fn healthy_calls_go_well()
 {
     disks_are_told();
     healthy_stays();
+    a_port_runs_on();
 }
 
 /// On a port that is ready at the end of a submit, a service, a tick or a reset, exactly what is due was issued.

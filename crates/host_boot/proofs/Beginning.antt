@@ -15,6 +15,7 @@ use Rattle.host_boot.specs.declared.Found.TheVariants.{Unserved, Ready}
 use Rattle.host_boot.specs.declared.Host.{Host}
 use Rattle.host_boot.proofs.Leaving.{is_served}
 use Rattle.host_boot.proofs.Running.{taken_recorded, taken_well}
+use Rattle.host_boot.specs.Laws.{Laws}
 
 module _ (wanted : Wanted) (port : ℕ) (d : Device) where
   still_has : (found : Found) → port < 4 → found ≢ Unserved → StandsBehind wanted found port d → HasPort d port
@@ -32,8 +33,9 @@ module _ (wanted : List Wanted) (host : Host) (port : ℕ) (old new : Device) (t
       let may = may_begin (wanted_of wanted port) port new info (subst (λ (f : Found). StandsBehind (wanted_of wanted port) f port new) is (taken.stands port below)) in
       (may.0, may.1, taken_there below (λ e. absurd (let k : Ready info ≡ Unserved = sym is ∙ e in cc)))
 
+module _ (laws : Laws) (wanted : List Wanted) (host : Host) (port : ℕ) (old new : Device) (taken : TakesOver wanted host old new) where
   pub taken_runs : (info : DiskInfo) → IsIdle old → found_of host.ports port ≡ Ready info → Undisturbed port old new → RunsWell (new.port port)
-  taken_runs info idle is = taken_well (port_at port) info host.ports old new idle is taken.way
+  taken_runs info idle is = taken_well laws (port_at port) info host.ports old new idle is taken.way
 
   pub taken_faults : (info : DiskInfo) → IsIdle old → found_of host.ports port ≡ Ready info → IsRecorded new.tape (new.port port) port
-  taken_faults info idle is = taken_recorded (port_at port) info host.ports old new idle is taken.way
+  taken_faults info idle is = taken_recorded laws (port_at port) info host.ports old new idle is taken.way

@@ -10,17 +10,14 @@ use Rattle.adapter.specs.Idle.{IsIdlePort}
 use Rattle.adapter.specs.Kept.{Keeps, KeepsOn}
 use Rattle.adapter.specs.Steps.{Steps}
 use Rattle.adapter.specs.declared.command.Operation.TheVariants.{Identify}
-use Rattle.adapter.proofs.KeptLemmas.{steps_keep}
 use Rattle.agreement.specs.Driven.{LeavesPort, SendsNone}
 use Rattle.agreement.specs.Links.{SameAdapter}
 use Rattle.identify.specs.Wanted.{serial_of}
 use Rattle.identify.specs.declared.wanted.Wanted.{Wanted}
-use Rattle.port_boot.proofs.Staying.{disk_on, ends_on, noted_on, ready_on}
 use Rattle.host_boot.specs.Taken.{IsServed, LeavesFound, StandsBehind, StillStandsBehind, WroteControl}
 use Rattle.host_boot.specs.declared.Found.{Found}
 use Rattle.host_boot.specs.declared.Found.TheVariants.{Unserved, Ready, Unready}
-
--- ---- a port that is left to the device
+use Rattle.host_boot.specs.Laws.{FoundLaws, Laws}
 
 module _ (old new : device.PortState) (l : LeavesPort old new) where
   pub idle_on : IsIdlePort old → IsIdlePort new
@@ -33,8 +30,6 @@ module _ (old new : device.PortState) (l : LeavesPort old new) where
     sact = λ slot. l.keeps.sact slot (i.sact slot);
     taken = l.keeps.idle i.cr i.taken;
   }
-
--- ---- a port that is served
 
 module _ (port : ℕ) (old new : Device) (same : SameAdapter old new) (wanted : Wanted) where
   served_on : IsServed wanted port old → IsServed wanted port new
@@ -49,56 +44,57 @@ is_served wanted port d Unserved other h = absurd (other refl)
 is_served wanted port d (Ready info) other h = h.0
 is_served wanted port d (Unready state) other h = h.0
 
--- ---- what stands behind it
-
-module _ (port : ℕ) (old new : Device) (l : LeavesPort (old.port port) (new.port port)) where
-  pub stands_on : SameAdapter old new → (wanted : Wanted) (found : Found) → (found ≢ Unready Dead → SendsNone port Identify old new)
-      → StandsBehind wanted found port old → StandsBehind wanted found port new
-  stands_on same wanted Unserved silent (not, idle) = (λ is. not (served_back port old new same wanted is), idle_on (old.port port) (new.port port) l idle)
-  stands_on same wanted (Ready info) silent (is, ready) = (served_on port old new same wanted is, ready_on port old new l (serial_of wanted) info (silent (λ e. absurd cc)) ready)
-  stands_on same wanted (Unready state) silent (is, ends) =
-      (served_on port old new same wanted is, ends_on port old new l (serial_of wanted) state (λ other. silent (λ e. other (let k : Unready state ≡ Unready Dead = e in cc))) ends)
-
-  pub reset_on : (found : Found) (since : ℕ) → WroteControl found port since old → WroteControl found port since new
-  reset_on Unserved since is = is
-  reset_on (Ready info) since is = noted_on (old.port port) (new.port port) l (λ k. since ≤ k.sctl_written_at) is
-  reset_on (Unready Absent) since is = noted_on (old.port port) (new.port port) l (λ k. since ≤ k.sctl_written_at) is
-  reset_on (Unready ReadyState) since is = noted_on (old.port port) (new.port port) l (λ k. since ≤ k.sctl_written_at) is
-  reset_on (Unready Foreign) since is = noted_on (old.port port) (new.port port) l (λ k. since ≤ k.sctl_written_at) is
-  reset_on (Unready (Unfit n)) since is = noted_on (old.port port) (new.port port) l (λ k. since ≤ k.sctl_written_at) is
-  reset_on (Unready Dead) since is = is
-
--- ---- and still stands, as long as the port isn't booted anew
-
 pub boots_begin : (wanted : Wanted) (found : Found) (port : ℕ) (d : Device) → StandsBehind wanted found port d → StillStandsBehind wanted found port d
 boots_begin wanted Unserved port d h = h
 boots_begin wanted (Ready info) port d (is, ready) = (is, ready.disk)
 boots_begin wanted (Unready state) port d h = h
 
-pub still_on : (wanted : Wanted) (found : Found) (port : ℕ) (old new : Device) → SameAdapter old new → LeavesFound found (old.port port) (new.port port) →
-    (found ≢ Unready Dead → SendsNone port Identify old new) → StillStandsBehind wanted found port old → StillStandsBehind wanted found port new
-still_on wanted Unserved port old new same left silent h = stands_on port old new left same wanted Unserved silent h
-still_on wanted (Ready info) port old new same left silent (is, disk) =
-    (served_on port old new same wanted is, disk_on (serial_of wanted) port old new info (silent (λ e. absurd cc)) left.0 left.1 left.2 disk)
-still_on wanted (Unready state) port old new same left silent h = stands_on port old new left same wanted (Unready state) silent h
+module _ (port : ℕ) (old new : Device) (l : LeavesPort (old.port port) (new.port port)) where
+  pub reset_on : (found : Found) (since : ℕ) → WroteControl found port since old → WroteControl found port since new
+  reset_on Unserved since is = is
+  reset_on (Ready info) since is = subst (λ (k : Notes). since ≤ k.sctl_written_at) (sym l.notes) is
+  reset_on (Unready Absent) since is = subst (λ (k : Notes). since ≤ k.sctl_written_at) (sym l.notes) is
+  reset_on (Unready ReadyState) since is = subst (λ (k : Notes). since ≤ k.sctl_written_at) (sym l.notes) is
+  reset_on (Unready Foreign) since is = subst (λ (k : Notes). since ≤ k.sctl_written_at) (sym l.notes) is
+  reset_on (Unready (Unfit n)) since is = subst (λ (k : Notes). since ≤ k.sctl_written_at) (sym l.notes) is
+  reset_on (Unready Dead) since is = is
 
--- ---- what the device does by itself, and accesses of the adapter's own registers
+module _ (laws : FoundLaws) where
+  -- ---- what stands behind it
 
-pub steps_same : (old new : Device) → Steps old new → SameAdapter old new
-steps_same old new s = let k : Keeps old new = steps_keep s in record { telling = k.telling; size = k.size; cap = k.cap; pi = k.pi }
+  module _ (port : ℕ) (old new : Device) (l : LeavesPort (old.port port) (new.port port)) where
+    pub stands_on : SameAdapter old new → (wanted : Wanted) (found : Found) → (found ≢ Unready Dead → SendsNone port Identify old new)
+        → StandsBehind wanted found port old → StandsBehind wanted found port new
+    stands_on same wanted Unserved silent (not, idle) = (λ is. not (served_back port old new same wanted is), idle_on (old.port port) (new.port port) l idle)
+    stands_on same wanted (Ready info) silent (is, ready) = (served_on port old new same wanted is, laws.ready_on (serial_of wanted) port old new info l (silent (λ e. absurd cc)) ready)
+    stands_on same wanted (Unready state) silent (is, ends) =
+        (served_on port old new same wanted is, laws.ends_on (serial_of wanted) state port old new l (λ other. silent (λ e. other (let k : Unready state ≡ Unready Dead = e in cc))) ends)
 
-module _ (old : Device) (off : old.hr ≡ false) (port : ℕ) where
-  pub steps_leave : (mid : Device) → Steps old mid → LeavesPort (old.port port) (mid.port port)
-  steps_leave mid s =
-      let k : Keeps old mid = steps_keep s in
-      let c : KeepsOn old mid = k.on off in
-      record { keeps = k.port port; controls = c.controls port; notes = k.notes port }
+  pub still_on : (wanted : Wanted) (found : Found) (port : ℕ) (old new : Device) → SameAdapter old new → LeavesFound found (old.port port) (new.port port) →
+      (found ≢ Unready Dead → SendsNone port Identify old new) → StillStandsBehind wanted found port old → StillStandsBehind wanted found port new
+  still_on wanted Unserved port old new same left silent h = stands_on port old new left same wanted Unserved silent h
+  still_on wanted (Ready info) port old new same left silent (is, disk) =
+      (served_on port old new same wanted is, laws.disk_on (serial_of wanted) port old new info (silent (λ e. absurd cc)) left.0 left.1 left.2 disk)
+  still_on wanted (Unready state) port old new same left silent h = stands_on port old new left same wanted (Unready state) silent h
 
-  pub cap_leaves : (v : ℕ) (new : Device) → Reads Cap v old new → LeavesPort (old.port port) (new.port port)
-  cap_leaves v new call = subst (λ (d : Device). LeavesPort (old.port port) (d.port port)) (sym call.effect) (steps_leave call.mid call.steps)
+module _ (laws : Laws) where
+  -- ---- what the device does by itself, and accesses of the adapter's own registers
 
-  pub pi_leaves : (v : ℕ) (new : Device) → Reads Pi v old new → LeavesPort (old.port port) (new.port port)
-  pi_leaves v new call = subst (λ (d : Device). LeavesPort (old.port port) (d.port port)) (sym call.effect) (steps_leave call.mid call.steps)
+  pub steps_same : (old new : Device) → Steps old new → SameAdapter old new
+  steps_same old new s = let k : Keeps old new = laws.steps_keep _ _ s in record { telling = k.telling; size = k.size; cap = k.cap; pi = k.pi }
 
-  pub ghc_leaves : (v : ℕ) (new : Device) → Writes Ghc v old new → LeavesPort (old.port port) (new.port port)
-  ghc_leaves v new call = subst (λ (d : Device). LeavesPort (old.port port) (d.port port)) (sym call.effect) (steps_leave call.mid call.steps)
+  module _ (old : Device) (off : old.hr ≡ false) (port : ℕ) where
+    pub steps_leave : (mid : Device) → Steps old mid → LeavesPort (old.port port) (mid.port port)
+    steps_leave mid s =
+        let k : Keeps old mid = laws.steps_keep _ _ s in
+        let c : KeepsOn old mid = k.on off in
+        record { keeps = k.port port; controls = c.controls port; notes = k.notes port }
+
+    pub cap_leaves : (v : ℕ) (new : Device) → Reads Cap v old new → LeavesPort (old.port port) (new.port port)
+    cap_leaves v new call = subst (λ (d : Device). LeavesPort (old.port port) (d.port port)) (sym call.effect) (steps_leave call.mid call.steps)
+
+    pub pi_leaves : (v : ℕ) (new : Device) → Reads Pi v old new → LeavesPort (old.port port) (new.port port)
+    pi_leaves v new call = subst (λ (d : Device). LeavesPort (old.port port) (d.port port)) (sym call.effect) (steps_leave call.mid call.steps)
+
+    pub ghc_leaves : (v : ℕ) (new : Device) → Writes Ghc v old new → LeavesPort (old.port port) (new.port port)
+    ghc_leaves v new call = subst (λ (d : Device). LeavesPort (old.port port) (d.port port)) (sym call.effect) (steps_leave call.mid call.steps)

@@ -1,3 +1,4 @@
+pub mod Stretching
 pub mod Leaving
 pub mod Hosting
 pub mod Stopping

@@ -1,7 +1,6 @@
 -- A port that runs well goes on so while others are booted: so each that was found ready runs well, where nothing goes wrong on it.
-use Rattle.std.proofs.Common.{ℕ, zero, suc, false, ◌≡◌, ◌≢◌, ◌≤◌, ◌+◌, List, [], ◌∷◌, inl, inr, refl, sym, ◌∙◌, ap, subst, arith}
+use Rattle.std.proofs.Common.{ℕ, zero, suc, ◌≡◌, ◌≢◌, ◌≤◌, ◌+◌, List, [], ◌∷◌, refl, sym, ◌∙◌, ap, subst, arith}
 use Rattle.std.specs.Prelude.{slice_index_or}
-use Rattle.std.proofs.lemmas.Bool.{cases_eq}
 use Rattle.ata_types.specs.declared.Port.{Port}
 use Rattle.hba_regs.specs.declared.reg.Reg.TheVariants.{Ghc, Px}
 use Rattle.hba_regs.specs.declared.reg.PortReg.{PortReg}
@@ -14,41 +13,17 @@ use Rattle.adapter.specs.Rules.{IsOn}
 use Rattle.agreement.specs.Agrees.{port_at}
 use Rattle.agreement.specs.Driven.{IsDrivenBy, IsOf, NoneWrites}
 use Rattle.agreement.specs.Facts.{IsRecorded, RunsWell, Undisturbed}
-use Rattle.agreement.proofs.Controlled.{Grows, access_grows, driven_of, grows_more, of_spares_ghc, of_spares_others, on_over, tape_over}
-use Rattle.agreement.proofs.Driven.{by_none, by_then, driven_as}
-use Rattle.agreement.proofs.Erring.{plugs_come}
-use Rattle.agreement.proofs.Failing.{undisturbed_fatal, undisturbed_fails}
-use Rattle.agreement.proofs.Linking.{undisturbed_plugs}
-use Rattle.agreement.proofs.Running.{started_well, well_of}
+use Rattle.agreement.specs.Driven.{Grows}
 use Rattle.identify.specs.declared.DiskInfo.{DiskInfo}
-use Rattle.port_control.specs.Ports.{WritesCommand}
 use Rattle.port_boot.specs.States.{IsOfBoot, RunsOn}
-use Rattle.port_boot.proofs.Enduring.{Lasts, calm_in_parts, lasts, lasts_access}
-use Rattle.port_boot.proofs.Staying.{of_boot}
 use Rattle.host_boot.specs.Taken.{GoesOver, GoesThrough, GoThrough, IsSurvey, found_of}
 use Rattle.host_boot.specs.declared.Found.{Found}
 use Rattle.host_boot.specs.declared.Found.TheVariants.{Unserved, Ready, Unready}
-use Rattle.host_boot.proofs.Hosting.{switches_on}
-
--- ---- a port that runs well
-
--- where it runs on, and nothing goes wrong on it, no bit tells of trouble either
-pub well_on : (port : ℕ) (old new : Device) → RunsOn port old new → Undisturbed port old new → RunsWell (old.port port) → RunsWell (new.port port)
-well_on port old new runs calm well =
-    let none = undisturbed_plugs port old new calm in
-    let disks = runs.goes.disks well.linked in
-    well_of (new.port port) (runs.started calm (started_well (old.port port) well)) (record {
-      serr_n = disks.serr_n none well.quiet.serr_n;
-      serr_x = disks.serr_x (plugs_come port old new none) well.quiet.serr_x;
-      quiet = λ place low high. elim (cases_eq place 30) [
-        | inl e ↦
-            let P : ℕ → Type 0 = λ k. (new.port port).is k ≡ false in
-            subst P (sym e) (runs.goes.errors.fault (undisturbed_fails port old new calm) (well.quiet.quiet 30 (omega arith) (omega arith)))
-        | inr other ↦ runs.goes.errors.fatal (undisturbed_fatal port old new calm) place low (omega (arith, high, other)) (well.quiet.quiet place low high)
-      ];
-    })
-
--- ---- accesses of other ports
+use Rattle.host_boot.specs.Laws.{Laws}
+use Rattle.host_boot.proofs.Stretching.{by_none, by_then, calm_in_parts, driven_as, on_over, stop_driven, tape_over}
+use Rattle.std.proofs.lemmas.List.Elements.{All-weaker}
+use Rattle.hba_regs.specs.declared.reg.Reg.{Reg}
+use Rattle.agreement.specs.Links.{SparesRegister}
 
 -- it is of a port with this number, or one above it
 abbrev IsOfFrom : ℕ → Access → Type 0
@@ -58,115 +33,116 @@ IsOfFrom n access = (port : Port) × (n ≤ port.0) × IsOf port access
 abbrev pub IsOfOther : ℕ → Access → Type 0
 IsOfOther q access = (port : Port) × (q ≢ port.0) × IsOf port access
 
-pub other_spares : (port : Port) (r : PortReg) → NoneWrites (IsOfOther port.0) (Px port r)
-other_spares port r access (at, other, is) = of_spares_others at port r other access is
-
-others_last : (port : Port) (old new : Device) → IsOn old → IsDrivenBy (IsOfOther port.0) old new → Lasts port.0 old new
-others_last port old new on driven =
-    lasts port (IsOfOther port.0) (λ access (at, other, is). of_spares_ghc at access is) (other_spares port Sctl) old new on driven (other_spares port Cmd)
-
-pub others_well : (port : Port) (old new : Device) → IsOn old → IsDrivenBy (IsOfOther port.0) old new → Undisturbed port.0 old new → RunsWell (old.port port.0) → RunsWell (new.port port.0)
-others_well port old new on driven = well_on port.0 old new (others_last port old new on driven).runs
-
-pub other_well : (port at : Port) (old new : Device) → port.0 ≢ at.0 → IsOn old → IsDrivenBy (IsOf at) old new → Undisturbed port.0 old new → RunsWell (old.port port.0) → RunsWell (new.port port.0)
-other_well port at old new other on driven = others_well port old new on (driven_as (IsOf at) (IsOfOther port.0) old new (λ access is. (at, other, is)) driven)
-
--- ---- the way of a port
-
-through_driven : (port : Port) (found : Found) (old new : Device) → GoesThrough port found old new → IsDrivenBy (IsOf port) old new
-through_driven port Unserved old new same = subst (λ (d : Device). IsDrivenBy (IsOf port) old d) (sym same) (by_none (IsOf port) old)
-through_driven port (Ready info) old new (stopped, stop, boot, ready, news) =
-    by_then (driven_of WritesCommand port old stopped stop) (driven_as (IsOfBoot port) (IsOf port) stopped new (of_boot port) boot)
-through_driven port (Unready state) old new (stopped, stop, boot, early, late) =
-    by_then (driven_of WritesCommand port old stopped stop) (driven_as (IsOfBoot port) (IsOf port) stopped new (of_boot port) boot)
-
-through_well : (port : Port) (info : DiskInfo) (old new : Device) → GoesThrough port (Ready info) old new → Undisturbed port.0 old new → RunsWell (new.port port.0)
-through_well port info old new (stopped, stop, boot, ready, news) calm =
-    news.well (calm_in_parts port.0 old stopped new (tape_over (IsOf port) old stopped (driven_of WritesCommand port old stopped stop)) (tape_over (IsOfBoot port) stopped new boot) calm).1
-
--- of ports one after another
-go_driven : (n first : ℕ) (ports : List Found) (old new : Device) → n ≤ first → GoThrough first ports old new → IsDrivenBy (IsOfFrom n) old new
-go_driven n first [] old new less same = subst (λ (d : Device). IsDrivenBy (IsOfFrom n) old d) (sym same) (by_none (IsOfFrom n) old)
-go_driven n first (found ∷ rest) old new less (mid, way, more) =
-    by_then (driven_as (IsOf (port_at first)) (IsOfFrom n) old mid (λ access is. (port_at first, less, is)) (through_driven (port_at first) found old mid way))
-    (go_driven n (first + 1) rest mid new (omega (arith, less)) more)
-
-from_spares_ghc : (n : ℕ) → NoneWrites (IsOfFrom n) Ghc
-from_spares_ghc n access (at, less, is) = of_spares_ghc at access is
-
--- the one that was found ready runs well once it was booted, and after the others were
-go_well : (port : Port) (info : DiskInfo) (first : ℕ) (ports : List Found) (k : ℕ) (old new : Device) → port.0 ≡ first + k → slice_index_or ports k Unserved ≡ Ready info → IsOn old → GoThrough first ports old new →
-    Undisturbed port.0 old new → RunsWell (new.port port.0)
-go_well port info first [] k old new at is on way calm = absurd (let e : Unserved ≡ Ready info = is in cc)
-go_well port info first (found ∷ rest) zero old new at is on (mid, way, more) calm =
-    let same : port_at first ≡ port = ap port_at (sym (at ∙ (omega arith))) in
-    let its : GoesThrough port (Ready info) old mid = subst (λ (p : Port). GoesThrough p (Ready info) old mid) same (subst (λ (f : Found). GoesThrough (port_at first) f old mid) is way) in
-    let early = through_driven (port_at first) found old mid way in
-    let late = go_driven (first + 1) (first + 1) rest mid new (omega arith) more in
-    let parts = calm_in_parts port.0 old mid new (tape_over (IsOf (port_at first)) old mid early) (tape_over (IsOfFrom (first + 1)) mid new late) calm in
-    others_well port mid new (on_over (IsOf (port_at first)) old mid early (of_spares_ghc (port_at first)) on)
-    (driven_as (IsOfFrom (first + 1)) (IsOfOther port.0) mid new (λ access (q, above, its). (q, λ (e : port.0 ≡ q.0). absurd (omega (arith, at, above, e)), its)) late)
-    parts.1 (through_well port info old mid its parts.0)
-go_well port info first (found ∷ rest) (suc k) old new at is on (mid, way, more) calm =
-    let early = through_driven (port_at first) found old mid way in
-    let late = go_driven (first + 1) (first + 1) rest mid new (omega arith) more in
-    let parts = calm_in_parts port.0 old mid new (tape_over (IsOf (port_at first)) old mid early) (tape_over (IsOfFrom (first + 1)) mid new late) calm in
-    go_well port info (first + 1) rest k mid new (omega (arith, at)) is (on_over (IsOf (port_at first)) old mid early (of_spares_ghc (port_at first)) on) more parts.1
-
--- ---- what lasts, whatever goes wrong
-
--- What holds once a port went its way, and lasts over accesses of other ports, holds once they all went theirs.
-go_last : (P : Device → Type 0) (port : Port) (its : Found) → its ≢ Unserved → ((old new : Device) → IsOn old → GoesThrough port its old new → P new)
-    → ((old new : Device) → IsOn old → IsDrivenBy (IsOfOther port.0) old new → P old → P new)
-    → (first : ℕ) (ports : List Found) (k : ℕ) (old new : Device) → port.0 ≡ first + k → slice_index_or ports k Unserved ≡ its → IsOn old → GoThrough first ports old new → P new
-go_last P port its served through lasting first [] k old new at is on way = absurd (served (sym is))
-go_last P port its served through lasting first (found ∷ rest) zero old new at is on (mid, way, more) =
-    let same : port_at first ≡ port = ap port_at (sym (at ∙ (omega arith))) in
-    let own : GoesThrough port its old mid = subst (λ (p : Port). GoesThrough p its old mid) same (subst (λ (f : Found). GoesThrough (port_at first) f old mid) is way) in
-    let early = through_driven (port_at first) found old mid way in
-    let late = go_driven (first + 1) (first + 1) rest mid new (omega arith) more in
-    lasting mid new (on_over (IsOf (port_at first)) old mid early (of_spares_ghc (port_at first)) on)
-    (driven_as (IsOfFrom (first + 1)) (IsOfOther port.0) mid new (λ access (q, above, of_q). (q, λ (e : port.0 ≡ q.0). absurd (omega (arith, at, above, e)), of_q)) late)
-    (through old mid on own)
-go_last P port its served through lasting first (found ∷ rest) (suc k) old new at is on (mid, way, more) =
-    let early = through_driven (port_at first) found old mid way in
-    go_last P port its served through lasting (first + 1) rest k mid new (omega (arith, at)) is (on_over (IsOf (port_at first)) old mid early (of_spares_ghc (port_at first)) on) more
-
--- ---- the whole taking over
-
 survey_spares_ghc : NoneWrites IsSurvey Ghc
 survey_spares_ghc (Reading r v) is = tt
 survey_spares_ghc (Writing r v) is = absurd is
 survey_spares_ghc (Loading at bytes) is = absurd is
 survey_spares_ghc (Storing at bytes) is = absurd is
 
-pub taken_well : (port : Port) (info : DiskInfo) (ports : List Found) (old new : Device) → IsIdle old → found_of ports port.0 ≡ Ready info → GoesOver ports old new → Undisturbed port.0 old new → RunsWell (new.port port.0)
-taken_well port info ports old new idle is way calm =
-    let on : IsOn way.switched = switches_on 0x80000000 old way.switched idle.no_reset refl refl way.switches in
-    let surveyed : IsOn way.surveyed = on_over IsSurvey way.switched way.surveyed way.surveys survey_spares_ghc on in
-    let driven = go_driven 0 0 ports way.surveyed way.booted (omega arith) way.boots in
-    let booted : IsOn way.booted = on_over (IsOfFrom 0) way.surveyed way.booted driven (from_spares_ghc 0) surveyed in
-    let before : Grows old way.surveyed = grows_more old way.switched way.surveyed (access_grows (Writing Ghc 0x80000000) old way.switched way.switches) (tape_over IsSurvey way.switched way.surveyed way.surveys) in
-    let boots : Grows way.surveyed way.booted = tape_over (IsOfFrom 0) way.surveyed way.booted driven in
-    let last : Lasts port.0 way.booted new = lasts_access port (Writing Ghc 0x80000002) way.booted new booted (λ (e : Ghc ≡ Px port Sctl). absurd cc) way.enables (λ (e : Ghc ≡ Px port Cmd). absurd cc) in
-    let parts = calm_in_parts port.0 old way.booted new (grows_more old way.surveyed way.booted before boots) last.grows calm in
-    let within = calm_in_parts port.0 old way.surveyed way.booted before boots parts.0 in
-    well_on port.0 way.booted new last.runs parts.1 (go_well port info 0 ports port.0 way.surveyed way.booted (omega arith) is surveyed way.boots within.1)
+module _ (laws : Laws) where
+  pub other_spares : (port : Port) (r : PortReg) → NoneWrites (IsOfOther port.0) (Px port r)
+  other_spares port r access (at, other, is) = laws.of_spares at port r other access is
 
--- and once the adapter was let interrupt, if that leaves it
-pub taken_last : (P : Device → Type 0) (port : Port) (its : Found) → its ≢ Unserved → ((old new : Device) → IsOn old → GoesThrough port its old new → P new)
-    → ((old new : Device) → IsOn old → IsDrivenBy (IsOfOther port.0) old new → P old → P new) → ((old new : Device) → IsOn old → Writes Ghc 0x80000002 old new → P old → P new)
-    → (ports : List Found) (old new : Device) → IsIdle old → found_of ports port.0 ≡ its → GoesOver ports old new → P new
-taken_last P port its served through lasting enabling ports old new idle is way =
-    let on : IsOn way.switched = switches_on 0x80000000 old way.switched idle.no_reset refl refl way.switches in
-    let surveyed : IsOn way.surveyed = on_over IsSurvey way.switched way.surveyed way.surveys survey_spares_ghc on in
-    let driven = go_driven 0 0 ports way.surveyed way.booted (omega arith) way.boots in
-    let booted : IsOn way.booted = on_over (IsOfFrom 0) way.surveyed way.booted driven (from_spares_ghc 0) surveyed in
-    enabling way.booted new booted way.enables (go_last P port its served through lasting 0 ports port.0 way.surveyed way.booted (omega arith) is surveyed way.boots)
+  others_run : (port : Port) (old new : Device) → IsOn old → IsDrivenBy (IsOfOther port.0) old new → RunsOn port.0 old new
+  others_run port old new on driven =
+      let spares = λ (r : Reg) (each : NoneWrites (IsOfOther port.0) r). All-weaker (IsOfOther port.0) (SparesRegister r) each driven.accesses driven.only in
+      laws.runs_on port driven.accesses old new on driven.all (spares Ghc (λ access (at, other, is). laws.of_spares_ghc at access is)) (spares (Px port Sctl) (other_spares port Sctl)) (spares (Px port Cmd) (other_spares port Cmd))
 
-pub taken_recorded : (port : Port) (info : DiskInfo) (ports : List Found) (old new : Device) → IsIdle old → found_of ports port.0 ≡ Ready info → GoesOver ports old new → IsRecorded new.tape (new.port port.0) port.0
-taken_recorded port info =
-    taken_last (λ d. IsRecorded d.tape (d.port port.0) port.0) port (Ready info) (λ e. absurd (let z : Ready info ≡ Unserved = e in cc))
-    (λ old new on its. its.4.recorded)
-    (λ old new on driven h. (others_last port old new on driven).runs.recorded h)
-    (λ old new on does h. (lasts_access port (Writing Ghc 0x80000002) old new on (λ (e : Ghc ≡ Px port Sctl). absurd cc) does (λ (e : Ghc ≡ Px port Cmd). absurd cc)).runs.recorded h)
+  pub others_well : (port : Port) (old new : Device) → IsOn old → IsDrivenBy (IsOfOther port.0) old new → Undisturbed port.0 old new → RunsWell (old.port port.0) → RunsWell (new.port port.0)
+  others_well port old new on driven = laws.well_on port.0 old new (others_run port old new on driven)
+
+  pub other_well : (port at : Port) (old new : Device) → port.0 ≢ at.0 → IsOn old → IsDrivenBy (IsOf at) old new → Undisturbed port.0 old new → RunsWell (old.port port.0) → RunsWell (new.port port.0)
+  other_well port at old new other on driven = others_well port old new on (driven_as (IsOf at) (IsOfOther port.0) old new (λ access is. (at, other, is)) driven)
+
+  -- ---- the way of a port
+
+  through_driven : (port : Port) (found : Found) (old new : Device) → GoesThrough port found old new → IsDrivenBy (IsOf port) old new
+  through_driven port Unserved old new same = subst (λ (d : Device). IsDrivenBy (IsOf port) old d) (sym same) (by_none (IsOf port) old)
+  through_driven port (Ready info) old new (stopped, stop, boot, ready, news) =
+      by_then laws (stop_driven laws port old stopped stop) (driven_as (IsOfBoot port) (IsOf port) stopped new (laws.of_boot port) boot)
+  through_driven port (Unready state) old new (stopped, stop, boot, early, late) =
+      by_then laws (stop_driven laws port old stopped stop) (driven_as (IsOfBoot port) (IsOf port) stopped new (laws.of_boot port) boot)
+
+  through_well : (port : Port) (info : DiskInfo) (old new : Device) → GoesThrough port (Ready info) old new → Undisturbed port.0 old new → RunsWell (new.port port.0)
+  through_well port info old new (stopped, stop, boot, ready, news) calm =
+      news.well (calm_in_parts laws port.0 old stopped new (tape_over laws (IsOf port) old stopped (stop_driven laws port old stopped stop)) (tape_over laws (IsOfBoot port) stopped new boot) calm).1
+
+  -- of ports one after another
+  go_driven : (n first : ℕ) (ports : List Found) (old new : Device) → n ≤ first → GoThrough first ports old new → IsDrivenBy (IsOfFrom n) old new
+  go_driven n first [] old new less same = subst (λ (d : Device). IsDrivenBy (IsOfFrom n) old d) (sym same) (by_none (IsOfFrom n) old)
+  go_driven n first (found ∷ rest) old new less (mid, way, more) =
+      by_then laws (driven_as (IsOf (port_at first)) (IsOfFrom n) old mid (λ access is. (port_at first, less, is)) (through_driven (port_at first) found old mid way))
+      (go_driven n (first + 1) rest mid new (omega (arith, less)) more)
+
+  from_spares_ghc : (n : ℕ) → NoneWrites (IsOfFrom n) Ghc
+  from_spares_ghc n access (at, less, is) = laws.of_spares_ghc at access is
+
+  -- the one that was found ready runs well once it was booted, and after the others were
+  go_well : (port : Port) (info : DiskInfo) (first : ℕ) (ports : List Found) (k : ℕ) (old new : Device) → port.0 ≡ first + k → slice_index_or ports k Unserved ≡ Ready info → IsOn old → GoThrough first ports old new →
+      Undisturbed port.0 old new → RunsWell (new.port port.0)
+  go_well port info first [] k old new at is on way calm = absurd (let e : Unserved ≡ Ready info = is in cc)
+  go_well port info first (found ∷ rest) zero old new at is on (mid, way, more) calm =
+      let same : port_at first ≡ port = ap port_at (sym (at ∙ (omega arith))) in
+      let its : GoesThrough port (Ready info) old mid = subst (λ (p : Port). GoesThrough p (Ready info) old mid) same (subst (λ (f : Found). GoesThrough (port_at first) f old mid) is way) in
+      let early = through_driven (port_at first) found old mid way in
+      let late = go_driven (first + 1) (first + 1) rest mid new (omega arith) more in
+      let parts = calm_in_parts laws port.0 old mid new (tape_over laws (IsOf (port_at first)) old mid early) (tape_over laws (IsOfFrom (first + 1)) mid new late) calm in
+      others_well port mid new (on_over laws (IsOf (port_at first)) old mid early (laws.of_spares_ghc (port_at first)) on)
+      (driven_as (IsOfFrom (first + 1)) (IsOfOther port.0) mid new (λ access (q, above, its). (q, λ (e : port.0 ≡ q.0). absurd (omega (arith, at, above, e)), its)) late)
+      parts.1 (through_well port info old mid its parts.0)
+  go_well port info first (found ∷ rest) (suc k) old new at is on (mid, way, more) calm =
+      let early = through_driven (port_at first) found old mid way in
+      let late = go_driven (first + 1) (first + 1) rest mid new (omega arith) more in
+      let parts = calm_in_parts laws port.0 old mid new (tape_over laws (IsOf (port_at first)) old mid early) (tape_over laws (IsOfFrom (first + 1)) mid new late) calm in
+      go_well port info (first + 1) rest k mid new (omega (arith, at)) is (on_over laws (IsOf (port_at first)) old mid early (laws.of_spares_ghc (port_at first)) on) more parts.1
+
+  -- ---- what lasts, whatever goes wrong
+
+  -- What holds once a port went its way, and lasts over accesses of other ports, holds once they all went theirs.
+  go_last : (P : Device → Type 0) (port : Port) (its : Found) → its ≢ Unserved → ((old new : Device) → IsOn old → GoesThrough port its old new → P new)
+      → ((old new : Device) → IsOn old → IsDrivenBy (IsOfOther port.0) old new → P old → P new)
+      → (first : ℕ) (ports : List Found) (k : ℕ) (old new : Device) → port.0 ≡ first + k → slice_index_or ports k Unserved ≡ its → IsOn old → GoThrough first ports old new → P new
+  go_last P port its served through lasting first [] k old new at is on way = absurd (served (sym is))
+  go_last P port its served through lasting first (found ∷ rest) zero old new at is on (mid, way, more) =
+      let same : port_at first ≡ port = ap port_at (sym (at ∙ (omega arith))) in
+      let own : GoesThrough port its old mid = subst (λ (p : Port). GoesThrough p its old mid) same (subst (λ (f : Found). GoesThrough (port_at first) f old mid) is way) in
+      let early = through_driven (port_at first) found old mid way in
+      let late = go_driven (first + 1) (first + 1) rest mid new (omega arith) more in
+      lasting mid new (on_over laws (IsOf (port_at first)) old mid early (laws.of_spares_ghc (port_at first)) on)
+      (driven_as (IsOfFrom (first + 1)) (IsOfOther port.0) mid new (λ access (q, above, of_q). (q, λ (e : port.0 ≡ q.0). absurd (omega (arith, at, above, e)), of_q)) late)
+      (through old mid on own)
+  go_last P port its served through lasting first (found ∷ rest) (suc k) old new at is on (mid, way, more) =
+      let early = through_driven (port_at first) found old mid way in
+      go_last P port its served through lasting (first + 1) rest k mid new (omega (arith, at)) is (on_over laws (IsOf (port_at first)) old mid early (laws.of_spares_ghc (port_at first)) on) more
+
+  pub taken_well : (port : Port) (info : DiskInfo) (ports : List Found) (old new : Device) → IsIdle old → found_of ports port.0 ≡ Ready info → GoesOver ports old new → Undisturbed port.0 old new → RunsWell (new.port port.0)
+  taken_well port info ports old new idle is way calm =
+      let on : IsOn way.switched = laws.switches_on 0x80000000 old way.switched idle.no_reset refl refl way.switches in
+      let surveyed : IsOn way.surveyed = on_over laws IsSurvey way.switched way.surveyed way.surveys survey_spares_ghc on in
+      let driven = go_driven 0 0 ports way.surveyed way.booted (omega arith) way.boots in
+      let booted : IsOn way.booted = on_over laws (IsOfFrom 0) way.surveyed way.booted driven (from_spares_ghc 0) surveyed in
+      let before : Grows old way.surveyed = laws.grows_more old way.switched way.surveyed (laws.access_grows (Writing Ghc 0x80000000) old way.switched way.switches) (tape_over laws IsSurvey way.switched way.surveyed way.surveys) in
+      let boots : Grows way.surveyed way.booted = tape_over laws (IsOfFrom 0) way.surveyed way.booted driven in
+      let last : RunsOn port.0 way.booted new = laws.runs_over port (Writing Ghc 0x80000002) way.booted new booted (λ (e : Ghc ≡ Px port Sctl). absurd cc) (λ (e : Ghc ≡ Px port Cmd). absurd cc) way.enables in
+      let ending : Grows way.booted new = laws.access_grows (Writing Ghc 0x80000002) way.booted new way.enables in
+      let parts = calm_in_parts laws port.0 old way.booted new (laws.grows_more old way.surveyed way.booted before boots) ending calm in
+      let within = calm_in_parts laws port.0 old way.surveyed way.booted before boots parts.0 in
+      laws.well_on port.0 way.booted new last parts.1 (go_well port info 0 ports port.0 way.surveyed way.booted (omega arith) is surveyed way.boots within.1)
+
+  -- and once the adapter was let interrupt, if that leaves it
+  pub taken_last : (P : Device → Type 0) (port : Port) (its : Found) → its ≢ Unserved → ((old new : Device) → IsOn old → GoesThrough port its old new → P new)
+      → ((old new : Device) → IsOn old → IsDrivenBy (IsOfOther port.0) old new → P old → P new) → ((old new : Device) → IsOn old → Writes Ghc 0x80000002 old new → P old → P new)
+      → (ports : List Found) (old new : Device) → IsIdle old → found_of ports port.0 ≡ its → GoesOver ports old new → P new
+  taken_last P port its served through lasting enabling ports old new idle is way =
+      let on : IsOn way.switched = laws.switches_on 0x80000000 old way.switched idle.no_reset refl refl way.switches in
+      let surveyed : IsOn way.surveyed = on_over laws IsSurvey way.switched way.surveyed way.surveys survey_spares_ghc on in
+      let driven = go_driven 0 0 ports way.surveyed way.booted (omega arith) way.boots in
+      let booted : IsOn way.booted = on_over laws (IsOfFrom 0) way.surveyed way.booted driven (from_spares_ghc 0) surveyed in
+      enabling way.booted new booted way.enables (go_last P port its served through lasting 0 ports port.0 way.surveyed way.booted (omega arith) is surveyed way.boots)
+
+  pub taken_recorded : (port : Port) (info : DiskInfo) (ports : List Found) (old new : Device) → IsIdle old → found_of ports port.0 ≡ Ready info → GoesOver ports old new → IsRecorded new.tape (new.port port.0) port.0
+  taken_recorded port info =
+      taken_last (λ d. IsRecorded d.tape (d.port port.0) port.0) port (Ready info) (λ e. absurd (let z : Ready info ≡ Unserved = e in cc))
+      (λ old new on its. its.4.recorded)
+      (λ old new on driven h. (others_run port old new on driven).recorded h)
+      (λ old new on does h. (laws.runs_over port (Writing Ghc 0x80000002) old new on (λ (e : Ghc ≡ Px port Sctl). absurd cc) (λ (e : Ghc ≡ Px port Cmd). absurd cc) does).recorded h)

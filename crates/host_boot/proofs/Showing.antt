@@ -1,21 +1,19 @@
 -- A port in which a disk was found that isn't served shows a device once all ports were booted, or has none in.
-use Rattle.std.proofs.Common.{ℕ, ◌≡◌, ◌≢◌, ◌%◌, false, List, inl, inr, refl, sym, ◌∙◌, subst, ⊎_elim}
+use Rattle.std.proofs.Common.{ℕ, ◌≡◌, ◌≢◌, List, [], ◌∷◌, inl, inr, refl, sym, ◌∙◌, subst, ⊎_elim}
 use Rattle.std.proofs.lemmas.Bool.{cases_eq}
 use Rattle.ata_types.specs.declared.Port.{Port}
 use Rattle.ata_types.specs.declared.PortState.{PortState}
 use Rattle.ata_types.specs.declared.PortState.TheVariants.{Absent, Ready, Foreign, Unfit, Dead}
 use Rattle.hba_regs.specs.declared.reg.Reg.TheVariants.{Ghc, Px}
 use Rattle.hba_regs.specs.declared.reg.PortReg.{PortReg}
-use Rattle.hba_regs.specs.declared.reg.PortReg.TheVariants.{Ci, Cmd, Is, Sctl, Serr, Sig, Ssts, Tfd}
-use Rattle.adapter.specs.Access.{Access, Does, Reads}
+use Rattle.hba_regs.specs.declared.reg.PortReg.TheVariants.{Ci, Is, Sctl, Serr, Sig, Ssts, Tfd}
+use Rattle.adapter.specs.Access.{Access, Reads, DoesAll}
 use Rattle.adapter.specs.Access.Access.{Reading, Writing, Loading, Storing}
 use Rattle.adapter.specs.Device.{Device}
 use Rattle.adapter.specs.Idle.{IsIdle}
 use Rattle.adapter.specs.Rules.{IsOn}
 use Rattle.agreement.specs.Driven.{IsControl, IsDrivenBy, IsOf}
 use Rattle.agreement.specs.Links.{HasDeviceOrNone, SparesRegister}
-use Rattle.agreement.proofs.Controlled.{control_is_of, control_spares, driven_of, of_spares_ghc, on_over}
-use Rattle.agreement.proofs.Driven.{by_one, by_then, driven_as, over}
 use Rattle.disk_page.specs.Asking.{IsAsking}
 use Rattle.port_control.specs.Ports.{FindsLink, FindsSignature, HasLink, IsPlacing, Looks, ReadsNot, ReadsUntil, ReadsWithout, ShowsIdle, WasReset, WritesCommand}
 use Rattle.port_control.specs.declared.PortFault.{PortFault}
@@ -25,19 +23,18 @@ use Rattle.host_boot.specs.Taken.{FoundBadDisk, GoesOver, GoesThrough, found_of}
 use Rattle.host_boot.specs.declared.Found.{Found}
 use Rattle.host_boot.specs.declared.Found.TheVariants.{Unserved, Unready}
 use Rattle.host_boot.proofs.Running.{IsOfOther, other_spares, taken_last}
-
--- what the law says of one access
-abbrev pub KeepsDevice : Type 0
-KeepsDevice = (port : Port) (access : Access) (old new : Device) → old.hr ≡ false → SparesRegister (Px port Sctl) access → Does access old new
-    → HasDeviceOrNone (old.port port.0) → HasDeviceOrNone (new.port port.0)
-
--- and of a reading that shows a device
-abbrev pub ShowsDevice : Type 0
-ShowsDevice = (port : Port) (v : ℕ) (old new : Device) → Reads (Px port Ssts) v old new → v % 16 ≡ 3 → HasDeviceOrNone (new.port port.0)
+use Rattle.host_boot.specs.Laws.{Laws}
+use Rattle.host_boot.proofs.Stretching.{by_one, by_then, driven_as, on_over, placing_driven, stop_driven}
+use Rattle.std.specs.List.{All}
+use Rattle.std.proofs.lemmas.List.Elements.{All-head, All-tail}
 
 -- it resets neither the adapter nor the link
 abbrev IsGentle : Port → Access → Type 0
 IsGentle port access = SparesRegister Ghc access × SparesRegister (Px port Sctl) access
+
+written_gentle : (port : Port) (r : PortReg) (v : ℕ) → r ≢ Sctl → IsGentle port (Writing (Px port r) v)
+written_gentle port r v other =
+    ((λ e. absurd (let z : Px port r ≡ Ghc = e in cc)), (λ e. other (let z : Px port r ≡ Px port Sctl = e in cc)))
 
 reading_gentle : (port at : Port) (r : PortReg) (Shown : ℕ → Type 0) (access : Access) → ReadsNot at r Shown access → IsGentle port access
 reading_gentle port at r Shown (Reading q v) is = (tt, tt)
@@ -45,126 +42,128 @@ reading_gentle port at r Shown (Writing q v) is = absurd is
 reading_gentle port at r Shown (Loading place bytes) is = absurd is
 reading_gentle port at r Shown (Storing place bytes) is = absurd is
 
-written_gentle : (port : Port) (r : PortReg) (v : ℕ) → r ≢ Sctl → IsGentle port (Writing (Px port r) v)
-written_gentle port r v other =
-    ((λ e. absurd (let z : Px port r ≡ Ghc = e in cc)), (λ e. other (let z : Px port r ≡ Px port Sctl = e in cc)))
-
 without_gentle : (port : Port) (r : PortReg) (Shown : ℕ → Type 0) (count : ℕ) (old new : Device) → ReadsWithout port r Shown count old new → IsDrivenBy (IsGentle port) old new
 without_gentle port r Shown count old new w = driven_as (ReadsNot port r Shown) (IsGentle port) old new (reading_gentle port port r Shown) w.reads
 
 read_gentle : (port : Port) (r : PortReg) (v : ℕ) (old new : Device) → Reads (Px port r) v old new → IsDrivenBy (IsGentle port) old new
 read_gentle port r v old new does = by_one (IsGentle port) (Reading (Px port r) v) old new (tt, tt) does
 
-until_gentle : (port : Port) (r : PortReg) (Shown : ℕ → Type 0) (old new : Device) → ReadsUntil port r Shown old new → IsDrivenBy (IsGentle port) old new
-until_gentle port r Shown old new u = by_then (without_gentle port r Shown u.count old u.waited u.waits) (read_gentle port r u.value u.waited new u.reads)
+module _ (laws : Laws) where
+  until_gentle : (port : Port) (r : PortReg) (Shown : ℕ → Type 0) (old new : Device) → ReadsUntil port r Shown old new → IsDrivenBy (IsGentle port) old new
+  until_gentle port r Shown old new u = by_then laws (without_gentle port r Shown u.count old u.waited u.waits) (read_gentle port r u.value u.waited new u.reads)
 
-module _ (keeps : KeepsDevice) (shows : ShowsDevice) (port : Port) where
-  abbrev Shown : Device → Type 0
-  Shown d = HasDeviceOrNone (d.port port.0)
+  module _ (port : Port) where
+    abbrev Shown : Device → Type 0
+    Shown d = HasDeviceOrNone (d.port port.0)
 
-  pub gently : (old new : Device) → IsOn old → IsDrivenBy (IsGentle port) old new → Shown old → Shown new
-  gently old new on driven =
-      (over (λ a b. Shown a → Shown b) (λ d h. h) (λ a b c x y h. y (x h)) (IsGentle port) (λ access is. is.0)
-      (λ access a b here is does. keeps port access a b here.no_reset is.1 does) driven.accesses old new on driven.only driven.all).0
+    gently_over : (accesses : List Access) (old new : Device) → IsOn old → All (IsGentle port) accesses → DoesAll accesses old new → Shown old → Shown new
+    gently_over [] old new on all is h = subst Shown (sym is) h
+    gently_over (access ∷ accesses) old new on all (mid, does, rest) h =
+        let gentle = All-head (IsGentle port) access accesses all in
+        let later = laws.access_on access old mid on (λ v is. absurd (subst (SparesRegister Ghc) is gentle.0 refl)) does in
+        gently_over accesses mid new later (All-tail (IsGentle port) access accesses all) rest (laws.keeps_device port access old mid on.no_reset gentle.1 does h)
 
-  still_on : (old new : Device) → IsOn old → IsDrivenBy (IsGentle port) old new → IsOn new
-  still_on old new on driven = on_over (IsGentle port) old new driven (λ access is. is.0) on
+    pub gently : (old new : Device) → IsOn old → IsDrivenBy (IsGentle port) old new → Shown old → Shown new
+    gently old new on driven = gently_over driven.accesses old new on driven.only driven.all
 
-  -- PxSSTS showed it, and it was left so
-  link_shown : (old new : Device) → IsOn old → FindsLink port old new → Shown new
-  link_shown old new on l =
-      let before : IsDrivenBy (IsGentle port) old l.seen = until_gentle port Ssts HasLink old l.seen l.sees in
-      let clears : IsDrivenBy (IsGentle port) l.seen new = by_then
-      (by_one (IsGentle port) (Writing (Px port Serr) 0xffffffff) l.seen l.clears.between (written_gentle port Serr 0xffffffff (λ e. absurd (let z : Serr ≡ Sctl = e in cc))) l.clears.errors)
-      (by_one (IsGentle port) (Writing (Px port Is) 0xffffffff) l.clears.between new (written_gentle port Is 0xffffffff (λ e. absurd (let z : Is ≡ Sctl = e in cc))) l.clears.causes) in
-      gently l.seen new (still_on old l.seen on before) clears (shows port l.sees.value l.sees.waited l.seen l.sees.reads l.sees.shown)
+    still_on : (old new : Device) → IsOn old → IsDrivenBy (IsGentle port) old new → IsOn new
+    still_on old new on driven = on_over laws (IsGentle port) old new driven (λ access is. is.0) on
 
-  link_on : (old new : Device) → IsOn old → FindsLink port old new → IsOn new
-  link_on old new on l =
-      still_on old new on (by_then (until_gentle port Ssts HasLink old l.seen l.sees) (by_then
-      (by_one (IsGentle port) (Writing (Px port Serr) 0xffffffff) l.seen l.clears.between (written_gentle port Serr 0xffffffff (λ e. absurd (let z : Serr ≡ Sctl = e in cc))) l.clears.errors)
-      (by_one (IsGentle port) (Writing (Px port Is) 0xffffffff) l.clears.between new (written_gentle port Is 0xffffffff (λ e. absurd (let z : Is ≡ Sctl = e in cc))) l.clears.causes)))
+    -- PxSSTS showed it, and it was left so
+    link_shown : (old new : Device) → IsOn old → FindsLink port old new → Shown new
+    link_shown old new on l =
+        let before : IsDrivenBy (IsGentle port) old l.seen = until_gentle port Ssts HasLink old l.seen l.sees in
+        let clears : IsDrivenBy (IsGentle port) l.seen new = by_then laws
+        (by_one (IsGentle port) (Writing (Px port Serr) 0xffffffff) l.seen l.clears.between (written_gentle port Serr 0xffffffff (λ e. absurd (let z : Serr ≡ Sctl = e in cc))) l.clears.errors)
+        (by_one (IsGentle port) (Writing (Px port Is) 0xffffffff) l.clears.between new (written_gentle port Is 0xffffffff (λ e. absurd (let z : Is ≡ Sctl = e in cc))) l.clears.causes) in
+        gently l.seen new (still_on old l.seen on before) clears (laws.shows_device port l.sees.value l.sees.waited l.seen l.sees.reads l.sees.shown)
 
-  signature_shown : (signature : ℕ) (old new : Device) → IsOn old → FindsSignature port signature old new → Shown new
-  signature_shown signature old new on f =
-      gently f.linked new (link_on old f.linked on f.links)
-      (by_then (until_gentle port Tfd ShowsIdle f.linked f.idle f.waits) (read_gentle port Sig signature f.idle new f.reads))
-      (link_shown old f.linked on f.links)
+    link_on : (old new : Device) → IsOn old → FindsLink port old new → IsOn new
+    link_on old new on l =
+        still_on old new on (by_then laws (until_gentle port Ssts HasLink old l.seen l.sees) (by_then laws
+        (by_one (IsGentle port) (Writing (Px port Serr) 0xffffffff) l.seen l.clears.between (written_gentle port Serr 0xffffffff (λ e. absurd (let z : Serr ≡ Sctl = e in cc))) l.clears.errors)
+        (by_one (IsGentle port) (Writing (Px port Is) 0xffffffff) l.clears.between new (written_gentle port Is 0xffffffff (λ e. absurd (let z : Is ≡ Sctl = e in cc))) l.clears.causes)))
 
-  looks_shown : (fault : PortFault) (old new : Device) → fault ≢ NoDevice → IsOn old → Looks port fault old new → Shown new
-  looks_shown NoDevice old new other on l = absurd (other refl)
-  looks_shown Busy old new other on l =
-      gently l.linked new (link_on old l.linked on l.links) (without_gentle port Tfd ShowsIdle 64 l.linked new l.waits) (link_shown old l.linked on l.links)
-  looks_shown (NotAta signature) old new other on l = signature_shown signature old new on l
-  looks_shown EngineStuck old new other on l = absurd l
+    signature_shown : (signature : ℕ) (old new : Device) → IsOn old → FindsSignature port signature old new → Shown new
+    signature_shown signature old new on f =
+        gently f.linked new (link_on old f.linked on f.links)
+        (by_then laws (until_gentle port Tfd ShowsIdle f.linked f.idle f.waits) (read_gentle port Sig signature f.idle new f.reads))
+        (link_shown old f.linked on f.links)
 
-  -- COMRESET itself resets no adapter
-  reset_on : (Then : Device → Device → Type 0) (old new : Device) → IsOn old → (w : WasReset port Then old new) → IsOn w.ended
-  reset_on Then old new on w =
-      on_over (IsOf port) old w.ended
-      (by_then (by_one (IsOf port) (Writing (Px port Sctl) 1) old w.sent refl w.sends) (by_one (IsOf port) (Writing (Px port Sctl) 0) w.sent w.ended refl w.ends))
-      (of_spares_ghc port) on
+    looks_shown : (fault : PortFault) (old new : Device) → fault ≢ NoDevice → IsOn old → Looks port fault old new → Shown new
+    looks_shown NoDevice old new other on l = absurd (other refl)
+    looks_shown Busy old new other on l =
+        gently l.linked new (link_on old l.linked on l.links) (without_gentle port Tfd ShowsIdle 64 l.linked new l.waits) (link_shown old l.linked on l.links)
+    looks_shown (NotAta signature) old new other on l = signature_shown signature old new on l
+    looks_shown EngineStuck old new other on l = absurd l
 
-  placing_on : (old new : Device) → IsOn old → IsDrivenBy (IsControl IsPlacing port) old new → IsOn new
-  placing_on old new on driven = on_over (IsOf port) old new (driven_of IsPlacing port old new driven) (of_spares_ghc port) on
+    -- COMRESET itself resets no adapter
+    reset_on : (Then : Device → Device → Type 0) (old new : Device) → IsOn old → (w : WasReset port Then old new) → IsOn w.ended
+    reset_on Then old new on w =
+        on_over laws (IsOf port) old w.ended
+        (by_then laws (by_one (IsOf port) (Writing (Px port Sctl) 1) old w.sent refl w.sends) (by_one (IsOf port) (Writing (Px port Sctl) 0) w.sent w.ended refl w.ends))
+        (laws.of_spares_ghc port) on
 
-  early_shown : (state : PortState) (old new : Device) → state ≢ Absent → IsOn old → EndsEarly port state old new → Shown new
-  early_shown state old new other on e =
-      looks_shown e.fault e.resets.ended new (λ none. other (subst (TellsFault state) none e.told))
-      (reset_on (Looks port e.fault) e.placed new (placing_on old e.placed on e.places) e.resets) e.resets.rest
+    placing_on : (old new : Device) → IsOn old → IsDrivenBy (IsControl IsPlacing port) old new → IsOn new
+    placing_on old new on driven = on_over laws (IsOf port) old new (placing_driven laws port old new driven) (laws.of_spares_ghc port) on
 
-  stop_gentle : (old new : Device) → IsDrivenBy (IsControl WritesCommand port) old new → IsDrivenBy (IsGentle port) old new
-  stop_gentle old new driven =
-      driven_as (IsControl WritesCommand port) (IsGentle port) old new
-      (λ access is. (of_spares_ghc port access (control_is_of WritesCommand port access is), control_spares WritesCommand port Sctl (λ e. absurd (let z : Sctl ≡ Cmd = e in cc)) access is)) driven
+    early_shown : (state : PortState) (old new : Device) → state ≢ Absent → IsOn old → EndsEarly port state old new → Shown new
+    early_shown state old new other on e =
+        looks_shown e.fault e.resets.ended new (λ none. other (subst (TellsFault state) none e.told))
+        (reset_on (Looks port e.fault) e.placed new (placing_on old e.placed on e.places) e.resets) e.resets.rest
 
-  asking_gentle : (access : Access) → IsAsking port access → IsGentle port access
-  asking_gentle (Reading r v) is = (tt, tt)
-  asking_gentle (Writing r v) is =
-      ((λ e. absurd (let z : Px port Ci ≡ Ghc = sym is.0 ∙ e in cc)), (λ e. absurd (let z : Px port Ci ≡ Px port Sctl = sym is.0 ∙ e in cc)))
-  asking_gentle (Loading at bytes) is = (tt, tt)
-  asking_gentle (Storing at bytes) is = (tt, tt)
+    stop_gentle : (old new : Device) → IsDrivenBy (IsControl WritesCommand port) old new → IsDrivenBy (IsGentle port) old new
+    stop_gentle old new driven =
+        driven_as (IsControl WritesCommand port) (IsGentle port) old new
+        (λ access is. let c = laws.commanding port access is in (laws.of_spares_ghc port access c.0, c.1)) driven
 
-  late_shown : (old new : Device) → IsOn old → EndsLate port old new → Shown new
-  late_shown old new on e =
-      let up = e.first in
-      let ended : IsOn up.resets.ended = reset_on (FindsSignature port 0x101) up.placed up.found (placing_on old up.placed on up.places) up.resets in
-      let found : IsOn up.found = signature_on up.resets.ended up.found ended up.resets.rest in
-      gently up.found new found
-      (by_then (stop_gentle up.found e.up up.starts)
-      (by_then (driven_as (IsAsking port) (IsGentle port) e.up e.then.asked asking_gentle e.then.asks) (stop_gentle e.then.asked new e.then.stops)))
-      (signature_shown 0x101 up.resets.ended up.found ended up.resets.rest)
-    where
-      signature_on : (a b : Device) → IsOn a → FindsSignature port 0x101 a b → IsOn b
-      signature_on a b on_a f =
-          still_on f.linked b (link_on a f.linked on_a f.links)
-          (by_then (until_gentle port Tfd ShowsIdle f.linked f.idle f.waits) (read_gentle port Sig 0x101 f.idle b f.reads))
+    asking_gentle : (access : Access) → IsAsking port access → IsGentle port access
+    asking_gentle (Reading r v) is = (tt, tt)
+    asking_gentle (Writing r v) is =
+        ((λ e. absurd (let z : Px port Ci ≡ Ghc = sym is.0 ∙ e in cc)), (λ e. absurd (let z : Px port Ci ≡ Px port Sctl = sym is.0 ∙ e in cc)))
+    asking_gentle (Loading at bytes) is = (tt, tt)
+    asking_gentle (Storing at bytes) is = (tt, tt)
 
-  -- where a disk was found that isn't served, its way ends so
-  way_shown : (state : PortState) (old new : Device) → FoundBadDisk state → IsOn old → GoesThrough port (Unready state) old new → Shown new
-  way_shown Foreign old new bad on (stopped, stop, boot, early, late) =
-      late_shown stopped new (on_over (IsOf port) old stopped (driven_of WritesCommand port old stopped stop) (of_spares_ghc port) on) (late tt)
-  way_shown (Unfit n) old new bad on (stopped, stop, boot, early, late) = ⊎_elim
-      (λ (seven : n ≡ 7). early_shown (Unfit n) stopped new (λ e. let z : Unfit n ≡ Absent = e in absurd cc) begun (early (inl seven)))
-      (λ (a : n ≢ 7). ⊎_elim
-      (λ (eight : n ≡ 8). early_shown (Unfit n) stopped new (λ e. let z : Unfit n ≡ Absent = e in absurd cc) begun (early (inr eight)))
-      (λ (b : n ≢ 8). late_shown stopped new begun (late (a, b)))
-      (cases_eq n 8))
-      (cases_eq n 7)
-    where
-      begun : IsOn stopped
-      begun = on_over (IsOf port) old stopped (driven_of WritesCommand port old stopped stop) (of_spares_ghc port) on
-  way_shown Absent old new bad on way = absurd bad
-  way_shown Ready old new bad on way = absurd bad
-  way_shown Dead old new bad on way = absurd bad
+    late_shown : (old new : Device) → IsOn old → EndsLate port old new → Shown new
+    late_shown old new on e =
+        let up = e.first in
+        let ended : IsOn up.resets.ended = reset_on (FindsSignature port 0x101) up.placed up.found (placing_on old up.placed on up.places) up.resets in
+        let found : IsOn up.found = signature_on up.resets.ended up.found ended up.resets.rest in
+        gently up.found new found
+        (by_then laws (stop_gentle up.found e.up up.starts)
+        (by_then laws (driven_as (IsAsking port) (IsGentle port) e.up e.then.asked asking_gentle e.then.asks) (stop_gentle e.then.asked new e.then.stops)))
+        (signature_shown 0x101 up.resets.ended up.found ended up.resets.rest)
+      where
+        signature_on : (a b : Device) → IsOn a → FindsSignature port 0x101 a b → IsOn b
+        signature_on a b on_a f =
+            still_on f.linked b (link_on a f.linked on_a f.links)
+            (by_then laws (until_gentle port Tfd ShowsIdle f.linked f.idle f.waits) (read_gentle port Sig 0x101 f.idle b f.reads))
 
--- and so it is once all were booted
-pub taken_shown : KeepsDevice → ShowsDevice → (port : Port) (state : PortState) (ports : List Found) (old new : Device) → IsIdle old → FoundBadDisk state → found_of ports port.0 ≡ Unready state
-    → GoesOver ports old new → HasDeviceOrNone (new.port port.0)
-taken_shown keeps shows port state ports old new idle bad is way =
-    taken_last (λ d. HasDeviceOrNone (d.port port.0)) port (Unready state) (λ e. absurd (let z : Unready state ≡ Unserved = e in cc))
-    (λ a b on through. way_shown keeps shows port state a b bad on through)
-    (λ a b on driven h. gently keeps shows port a b on
-    (driven_as (IsOfOther port.0) (IsGentle port) a b (λ access is. (of_spares_ghc is.0 access is.2, other_spares port Sctl access is)) driven) h)
-    (λ a b on does h. keeps port (Writing Ghc 0x80000002) a b on.no_reset (λ (e : Ghc ≡ Px port Sctl). absurd cc) does h)
-    ports old new idle is way
+    -- where a disk was found that isn't served, its way ends so
+    way_shown : (state : PortState) (old new : Device) → FoundBadDisk state → IsOn old → GoesThrough port (Unready state) old new → Shown new
+    way_shown Foreign old new bad on (stopped, stop, boot, early, late) =
+        late_shown stopped new (on_over laws (IsOf port) old stopped (stop_driven laws port old stopped stop) (laws.of_spares_ghc port) on) (late tt)
+    way_shown (Unfit n) old new bad on (stopped, stop, boot, early, late) = ⊎_elim
+        (λ (seven : n ≡ 7). early_shown (Unfit n) stopped new (λ e. let z : Unfit n ≡ Absent = e in absurd cc) begun (early (inl seven)))
+        (λ (a : n ≢ 7). ⊎_elim
+        (λ (eight : n ≡ 8). early_shown (Unfit n) stopped new (λ e. let z : Unfit n ≡ Absent = e in absurd cc) begun (early (inr eight)))
+        (λ (b : n ≢ 8). late_shown stopped new begun (late (a, b)))
+        (cases_eq n 8))
+        (cases_eq n 7)
+      where
+        begun : IsOn stopped
+        begun = on_over laws (IsOf port) old stopped (stop_driven laws port old stopped stop) (laws.of_spares_ghc port) on
+    way_shown Absent old new bad on way = absurd bad
+    way_shown Ready old new bad on way = absurd bad
+    way_shown Dead old new bad on way = absurd bad
+
+  -- and so it is once all were booted
+  pub taken_shown : (port : Port) (state : PortState) (ports : List Found) (old new : Device) → IsIdle old → FoundBadDisk state → found_of ports port.0 ≡ Unready state
+      → GoesOver ports old new → HasDeviceOrNone (new.port port.0)
+  taken_shown port state ports old new idle bad is way =
+      taken_last laws (λ d. HasDeviceOrNone (d.port port.0)) port (Unready state) (λ e. absurd (let z : Unready state ≡ Unserved = e in cc))
+      (λ a b on through. way_shown port state a b bad on through)
+      (λ a b on driven h. gently port a b on
+      (driven_as (IsOfOther port.0) (IsGentle port) a b (λ access is. (laws.of_spares_ghc is.0 access is.2, other_spares laws port Sctl access is)) driven) h)
+      (λ a b on does h. laws.keeps_device port (Writing Ghc 0x80000002) a b on.no_reset (λ (e : Ghc ≡ Px port Sctl). absurd cc) does h)
+      ports old new idle is way

@@ -4,7 +4,7 @@ use Rattle.std.proofs.lemmas.List.{length-append}
 use Rattle.ata_types.specs.declared.Port.{Port}
 use Rattle.ata_types.specs.declared.PortState.{PortState}
 use Rattle.ata_types.specs.declared.PortState.TheVariants.{Absent, Ready as ReadyState, Foreign, Unfit, Dead}
-use Rattle.hba_regs.specs.declared.reg.PortReg.{PortReg}
+use Rattle.hba_regs.specs.Bits.{bit}
 use Rattle.adapter.specs.Access.{Access}
 use Rattle.adapter.specs.Device.{Device}
 use Rattle.adapter.specs.Rules.{IsOn, HasPort}
@@ -13,95 +13,92 @@ use Rattle.agreement.specs.Driven.{AgreesWith, AnyUse, IsControl, IsTold, IsTold
 use Rattle.agreement.specs.Driver.{AllFree}
 use Rattle.agreement.specs.Slots.{Own, Uses, put}
 use Rattle.agreement.specs.Links.{SameAdapter}
-use Rattle.agreement.proofs.Controlled.{agreeing_goes_on, control_wider, same_adapter, tape_gains}
-use Rattle.agreement.proofs.Driven.{told_as, told_both, told_more, told_since}
 use Rattle.port_control.specs.Engines.{FailsToStop, Stops, StopsBoth, StopsReceiving, Sticks}
 use Rattle.port_control.specs.Ports.{WritesCommand}
-use Rattle.port_control.proofs.Using.{there_after, failing_sticks, falls_then, falls_since, sticks_then, sticks_since}
-use Rattle.port_boot.specs.States.{IsBoot, IsBooting, IsBootTo, IsBootable, IsOfBoot, StopsOnWay}
+use Rattle.port_boot.specs.States.{IsBoot, IsBootTo, IsBootable, IsOfBoot, StopsOnWay}
 use Rattle.host_boot.specs.Taken.{TellsEngines, WroteControl}
 use Rattle.host_boot.specs.declared.Found.{Found}
 use Rattle.host_boot.specs.declared.Found.TheVariants.{Unserved, Ready, Unready}
-
-starting : (r : PortReg) → WritesCommand r → IsBooting r
-starting r is = inl (inl is)
-
-stop_boots : (Tells : List Access → Type 0) (port : Port) (old mid : Device) → IsTold Tells (IsControl WritesCommand port) AnyUse old mid → IsBoot Tells port old mid
-stop_boots Tells port old mid stops = told_as Tells (IsControl WritesCommand port) (IsOfBoot port) AnyUse (λ uses. AllFree uses port.0) (λ uses. uses) old mid
-    (λ access may. inl (control_wider WritesCommand port IsBooting starting access may)) (λ uses free. tt) stops
-
--- where it didn't stop, its engine is stuck
-pub stuck_boots : (port : Port) (old mid : Device) → IsTold (FailsToStop port) (IsControl WritesCommand port) AnyUse old mid → IsBoot (Sticks port) port old mid
-stuck_boots port old mid f = told_more (FailsToStop port) (Sticks port) (IsOfBoot port) (λ uses. AllFree uses port.0) (λ uses. uses) old mid (failing_sticks port) (stop_boots (FailsToStop port) port old mid f)
-
-module _ (port : Port) (old mid : Device) (stops : IsTold (Stops port) (IsControl WritesCommand port) AnyUse old mid) where
-  pub bootable : HasPort old port.0 → 163840 ≤ old.size → AgreesWith (λ uses. AllFree uses port.0) old → IsOn mid → IsBootable port mid
-  bootable there room a on = record {
-    on = on;
-    there = there_after (same_adapter WritesCommand port old mid stops.followed.driven) there;
-    room = let same = (same_adapter WritesCommand port old mid stops.followed.driven).size in omega (arith, same, room);
-    agreed = (a.0, a.1, agreeing_goes_on WritesCommand AnyUse port a.0 old mid tt stops.followed a.2);
-  }
-
-  pub since_stop : (since : ℕ) → length mid.tape ≤ since → length old.tape ≤ since
-  since_stop since is =
-      let g = tape_gains WritesCommand port old mid stops.followed.driven in
-      let n : length mid.tape ≡ length old.tape + length g.0 = ap (λ es. length es) g.1 ∙ length-append old.tape g.0 in
-      omega (arith, n, is)
-
-  module _ (new : Device) where
-    -- both engines fell: the one before the boot, and the other in it
-    both : (Tells : List Access → Type 0) → ((accesses : List Access) → Tells accesses → StopsReceiving port accesses) → IsBoot Tells port mid new → IsBoot (StopsBoth port) port old new
-    both Tells tells f = told_both (Stops port) Tells (StopsBoth port) (λ early late first then. (falls_then early late 0 15 port first, falls_since early late 4 14 port (tells late then)))
-        (IsOfBoot port) (λ uses. AllFree uses port.0) (λ uses. AllFree uses port.0) (λ uses. uses) (λ uses. uses) (λ uses free. free) old mid new (stop_boots (Stops port) port old mid stops) f
-
-    -- or one is stuck
-    dies : (next : Uses → Uses) → IsToldTo (Sticks port) (IsOfBoot port) (λ uses. AllFree uses port.0) next mid new → IsToldTo (Sticks port) (IsOfBoot port) (λ uses. AllFree uses port.0) next old new
-    dies next f = told_since (Sticks port) (IsOfBoot port) (λ uses. AllFree uses port.0) (λ early late. sticks_since early late port) next old mid new (stop_boots (Stops port) port old mid stops).followed f
-
-    pub then_boot : IsBoot (StopsReceiving port) port mid new → IsBoot (StopsBoth port) port old new
-    then_boot f = both (StopsReceiving port) (λ accesses is. is) f
-
-    pub then_boot_to : (state : PortState) → IsBootTo (StopsOnWay port state) port state mid new → IsBootTo (StopsBoth port) port state old new
-    then_boot_to Dead (inl f) = inl (dies (λ uses. uses) f)
-    then_boot_to Dead (inr f) = inr (dies (λ uses. put uses port.0 0 (Own Identify)) f)
-    then_boot_to Absent f = both (StopsOnWay port Absent) (λ accesses is. is.0) f
-    then_boot_to ReadyState f = both (StopsOnWay port ReadyState) (λ accesses is. is.0) f
-    then_boot_to Foreign f = both (StopsOnWay port Foreign) (λ accesses is. is.0) f
-    then_boot_to (Unfit n) f = both (StopsOnWay port (Unfit n)) (λ accesses is. is.0) f
-
-    pub ended_since : (state : PortState) → (state ≢ Dead → length mid.tape ≤ (new.port port.0).notes.sctl_written_at) → WroteControl (Unready state) port.0 (length old.tape) new
-    ended_since Dead is = tt
-    ended_since Absent is = since_stop _ (is (λ e. absurd cc))
-    ended_since ReadyState is = since_stop _ (is (λ e. absurd cc))
-    ended_since Foreign is = since_stop _ (is (λ e. absurd cc))
-    ended_since (Unfit n) is = since_stop _ (is (λ e. absurd cc))
-
--- ---- the port is there after it
+use Rattle.host_boot.specs.Laws.{Laws}
+use Rattle.agreement.specs.Tape.{Tells}
+use Rattle.host_boot.proofs.Stretching.{told_both, told_more, same_over, tape_over, told_wider}
+use Rattle.host_boot.specs.Laws.Stretch.{Booting, Commanding}
 
 pub still_there : (port : Port) (old new : Device) → SameAdapter old new → HasPort old port.0 → HasPort new port.0
-still_there port old new = there_after
+still_there port old new same there = (there.0, ap (λ (pi : ℕ). bit pi port.0) same.pi ∙ there.1)
 
--- ---- what accesses tell of engines
+module _ (laws : Laws) where
+  stop_boots : (Tells : List Access → Type 0) (port : Port) (old mid : Device) → IsTold Tells (IsControl WritesCommand port) AnyUse old mid → IsBoot Tells port old mid
+  stop_boots Tells port old mid stops = told_wider laws Tells (Commanding port) (Booting port) (λ uses. uses) old mid (laws.command_of_boot port) (λ uses free. tt) stops
 
-both_then : (port : Port) (early late : List Access) → StopsBoth port early → StopsBoth port (early ++ late)
-both_then port early late is = (falls_then early late 0 15 port is.0, falls_then early late 4 14 port is.1)
+  -- where it didn't stop, its engine is stuck
+  pub stuck_boots : (port : Port) (old mid : Device) → IsTold (FailsToStop port) (IsControl WritesCommand port) AnyUse old mid → IsBoot (Sticks port) port old mid
+  stuck_boots port old mid f = told_more (FailsToStop port) (Sticks port) (IsOfBoot port) (λ uses. AllFree uses port.0) (λ uses. uses) old mid (laws.failing_sticks port) (stop_boots (FailsToStop port) port old mid f)
 
-both_since : (port : Port) (early late : List Access) → StopsBoth port late → StopsBoth port (early ++ late)
-both_since port early late is = (falls_since early late 0 15 port is.0, falls_since early late 4 14 port is.1)
+  module _ (port : Port) (old mid : Device) (stops : IsTold (Stops port) (IsControl WritesCommand port) AnyUse old mid) where
+    pub bootable : HasPort old port.0 → 163840 ≤ old.size → AgreesWith (λ uses. AllFree uses port.0) old → IsOn mid → IsBootable port mid
+    bootable there room a on = record {
+      on = on;
+      there = still_there port old mid (same_over laws (IsControl WritesCommand port) old mid stops.followed.driven) there;
+      room = let same = (same_over laws (IsControl WritesCommand port) old mid stops.followed.driven).size in omega (arith, same, room);
+      agreed = (a.0, a.1, laws.agreed (Commanding port) (λ uses. uses) a.0 old mid tt stops.followed a.2);
+    }
 
--- what one property goes on with, and the other, they tell of each port
-tells_on : (port : Port) (found : Found) (a b : List Access) → (StopsBoth port a → StopsBoth port b) → (Sticks port a → Sticks port b) → TellsEngines port found a → TellsEngines port found b
-tells_on port Unserved a b both stick is = tt
-tells_on port (Ready info) a b both stick is = both is
-tells_on port (Unready Dead) a b both stick is = stick is
-tells_on port (Unready Absent) a b both stick is = both is
-tells_on port (Unready ReadyState) a b both stick is = both is
-tells_on port (Unready Foreign) a b both stick is = both is
-tells_on port (Unready (Unfit n)) a b both stick is = both is
+    pub since_stop : (since : ℕ) → length mid.tape ≤ since → length old.tape ≤ since
+    since_stop since is =
+        let g = tape_over laws (IsControl WritesCommand port) old mid stops.followed.driven in
+        let n : length mid.tape ≡ length old.tape + length g.0 = ap (λ es. length es) g.1 ∙ length-append old.tape g.0 in
+        omega (arith, n, is)
 
-pub tells_then : (port : Port) (found : Found) (early late : List Access) → TellsEngines port found early → TellsEngines port found (early ++ late)
-tells_then port found early late = tells_on port found early (early ++ late) (both_then port early late) (sticks_then early late port)
+    module _ (new : Device) where
+      -- both engines fell: the one before the boot, and the other in it
+      both : (Tells : List Access → Type 0) → ((accesses : List Access) → Tells accesses → StopsReceiving port accesses) → IsBoot Tells port mid new → IsBoot (StopsBoth port) port old new
+      both Tells tells f = told_both laws (Stops port) Tells (StopsBoth port) (λ early late first then. (laws.falls_then early late 0 15 port first, laws.falls_since early late 4 14 port (tells late then)))
+          (Booting port) (Booting port) (λ uses. uses) (λ uses. uses) (λ access may. may) (λ uses free. free) old mid new (stop_boots (Stops port) port old mid stops) f
 
-pub tells_since : (port : Port) (found : Found) (early late : List Access) → TellsEngines port found late → TellsEngines port found (early ++ late)
-tells_since port found early late = tells_on port found late (early ++ late) (both_since port early late) (sticks_since early late port)
+      -- or one is stuck
+      dies : (next : Uses → Uses) → IsToldTo (Sticks port) (IsOfBoot port) (λ uses. AllFree uses port.0) next mid new → IsToldTo (Sticks port) (IsOfBoot port) (λ uses. AllFree uses port.0) next old new
+      dies next f = told_both laws (Stops port) (Sticks port) (Sticks port) (λ early late any is. laws.sticks_since early late port is) (Booting port) (Booting port) (λ uses. uses) next
+          (λ access may. may) (λ uses free. free) old mid new (stop_boots (Stops port) port old mid stops) f
+
+      pub then_boot : IsBoot (StopsReceiving port) port mid new → IsBoot (StopsBoth port) port old new
+      then_boot f = both (StopsReceiving port) (λ accesses is. is) f
+
+      pub then_boot_to : (state : PortState) → IsBootTo (StopsOnWay port state) port state mid new → IsBootTo (StopsBoth port) port state old new
+      then_boot_to Dead (inl f) = inl (dies (λ uses. uses) f)
+      then_boot_to Dead (inr f) = inr (dies (λ uses. put uses port.0 0 (Own Identify)) f)
+      then_boot_to Absent f = both (StopsOnWay port Absent) (λ accesses is. is.0) f
+      then_boot_to ReadyState f = both (StopsOnWay port ReadyState) (λ accesses is. is.0) f
+      then_boot_to Foreign f = both (StopsOnWay port Foreign) (λ accesses is. is.0) f
+      then_boot_to (Unfit n) f = both (StopsOnWay port (Unfit n)) (λ accesses is. is.0) f
+
+      pub ended_since : (state : PortState) → (state ≢ Dead → length mid.tape ≤ (new.port port.0).notes.sctl_written_at) → WroteControl (Unready state) port.0 (length old.tape) new
+      ended_since Dead is = tt
+      ended_since Absent is = since_stop _ (is (λ e. absurd cc))
+      ended_since ReadyState is = since_stop _ (is (λ e. absurd cc))
+      ended_since Foreign is = since_stop _ (is (λ e. absurd cc))
+      ended_since (Unfit n) is = since_stop _ (is (λ e. absurd cc))
+
+  -- ---- what accesses tell of engines
+
+  both_then : (port : Port) (early late : List Access) → StopsBoth port early → StopsBoth port (early ++ late)
+  both_then port early late is = (laws.falls_then early late 0 15 port is.0, laws.falls_then early late 4 14 port is.1)
+
+  both_since : (port : Port) (early late : List Access) → StopsBoth port late → StopsBoth port (early ++ late)
+  both_since port early late is = (laws.falls_since early late 0 15 port is.0, laws.falls_since early late 4 14 port is.1)
+
+  -- what one property goes on with, and the other, they tell of each port
+  tells_on : (port : Port) (found : Found) (a b : List Access) → (StopsBoth port a → StopsBoth port b) → (Sticks port a → Sticks port b) → TellsEngines port found a → TellsEngines port found b
+  tells_on port Unserved a b both stick is = tt
+  tells_on port (Ready info) a b both stick is = both is
+  tells_on port (Unready Dead) a b both stick is = stick is
+  tells_on port (Unready Absent) a b both stick is = both is
+  tells_on port (Unready ReadyState) a b both stick is = both is
+  tells_on port (Unready Foreign) a b both stick is = both is
+  tells_on port (Unready (Unfit n)) a b both stick is = both is
+
+  pub tells_then : (port : Port) (found : Found) (early late : List Access) → TellsEngines port found early → TellsEngines port found (early ++ late)
+  tells_then port found early late = tells_on port found early (early ++ late) (both_then port early late) (laws.sticks_then early late port)
+
+  pub tells_since : (port : Port) (found : Found) (early late : List Access) → TellsEngines port found late → TellsEngines port found (early ++ late)
+  tells_since port found early late = tells_on port found late (early ++ late) (both_since port early late) (laws.sticks_since early late port)

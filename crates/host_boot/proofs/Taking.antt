@@ -17,22 +17,15 @@ use Rattle.adapter.specs.Idle.{IsIdle, IsIdlePort}
 use Rattle.adapter.specs.Rules.{IsOn}
 use Rattle.adapter.specs.declared.command.Operation.{Operation}
 use Rattle.adapter.specs.declared.command.Operation.TheVariants.{Identify}
-use Rattle.block_machine.specs.Left.{after}
-use Rattle.block_machine.proofs.HistoryLemmas.{reached_more}
 use Rattle.agreement.specs.Agrees.{port_at}
 use Rattle.agreement.specs.Driven.{AnyUse, IsAgreed, IsDrivenBy, IsFollowed, IsFollowedTo, IsOf, IsToldTo, IsUse, LeavesPort, NoneWrites, SendsNone, AreDevices}
 use Rattle.agreement.specs.Driver.{AllFree}
 use Rattle.agreement.specs.Links.{SameAdapter}
 use Rattle.agreement.specs.Slots.{Free, Own, Uses, put}
-use Rattle.agreement.proofs.Controlled.{agreed_on, of_spares_others, other_left, same_over, tape_over}
-use Rattle.agreement.proofs.Driven.{driven_as, followed_as, followed_adds, followed_silent, told_as, told_both, told_more}
-use Rattle.agreement.proofs.Lasting.{same_more, same_refl}
-use Rattle.agreement.proofs.Putting.{put_same, put_other}
 use Rattle.identify.specs.declared.wanted.Wanted.{Wanted}
 use Rattle.identify.specs.declared.wanted.Wanted.TheVariants.{Nothing}
 use Rattle.port_control.specs.Engines.{StopsBoth}
 use Rattle.port_boot.specs.States.{IsBoot, IsBootTo, IsOfBoot}
-use Rattle.port_boot.proofs.Staying.{boot_driven, of_boot}
 use Rattle.host_boot.specs.Taken.{Boots, GoesOver, IsLeft, IsOfHost, IsOfTaking, LeavesPorts, StandsBehind, TakesOver, TellsEngines, WroteControl, found_of, unused, wanted_of}
 use Rattle.host_boot.specs.declared.Host.{Host}
 use Rattle.host_boot.specs.declared.Found.{Found}
@@ -40,34 +33,20 @@ use Rattle.host_boot.specs.declared.Found.TheVariants.{Unserved, Ready, Unready}
 use Rattle.host_boot.proofs.Stopping.{tells_then, tells_since}
 use Rattle.host_boot.proofs.Leaving.{idle_on, is_served, stands_on, reset_on}
 use Rattle.agreement.specs.Acts.{Comes, at}
-
--- ---- stretches that put slots to a fixed use
+use Rattle.host_boot.specs.Laws.{Laws, Fitting, uses_of}
+use Rattle.block_machine.specs.Steps.{May}
+use Rattle.agreement.specs.Tape.{Tells}
+use Rattle.host_boot.proofs.Stretching.{driven_as, same_over, tape_over, told_both, told_more, told_wider}
+use Rattle.host_boot.specs.Laws.Fitting.{AnyUses, PortUnused, Only}
+use Rattle.host_boot.specs.Laws.Stretch.{Booting, Hosting, Taking}
 
 -- the uses are these at last
 abbrev GoesTo : (Access → Type 0) → Uses → Uses → Device → Device → Type 0
 GoesTo May first uses old new = IsFollowedTo May (IsUse first) (λ _. uses) old new
 
-module _ (May : Access → Type 0) (first : Uses) where
-  -- nothing is put to use
-  pub goes_on : (old new : Device) → IsFollowed May AnyUse old new → GoesTo May first first old new
-  goes_on old new a = record {
-    driven = a.driven;
-    comes = λ s m reached x is.
-        subst (λ (u : Uses). Comes a.driven.accesses (at s old) m (at (record s { uses = u }) new) (AreDevices May s.uses)) is (a.comes s m reached x tt);
-  }
-
-  -- and then others, with what is told of both
-  pub then_told : (Before Here Tells : List Access → Type 0) → ((early late : List Access) → Before early → Here late → Tells (early ++ late)) → (Fits : Uses → Type 0) (next : Uses → Uses) (uses : Uses)
-      (old mid new : Device) → Fits uses → IsToldTo Before May (IsUse first) (λ _. uses) old mid → IsToldTo Here May Fits next mid new → IsToldTo Tells May (IsUse first) (λ _. next uses) old new
-  then_told Before Here Tells join Fits next uses old mid new fits a b = told_both Before Here Tells join May (IsUse first) Fits (λ _. uses) next (λ were is. fits) old mid new a b
-
--- ---- what accesses tell of engines
-
 -- what they tell of the first ports
 abbrev TellsFirst : List Found → ℕ → List Access → Type 0
 TellsFirst ports n accesses = (port : ℕ) → port < n → TellsEngines (port_at port) (found_of ports port) accesses
-
--- ---- on the way
 
 -- So many ports were booted, as they were found, and the others are idle still.
 pub record IsUnderway (wanted : List Wanted) (ports : List Found) (n : ℕ) (start d : Device) : Type 0 where
@@ -83,267 +62,6 @@ pub record IsUnderway (wanted : List Wanted) (ports : List Found) (n : ℕ) (sta
   pub reset : (port : ℕ) → port < n → WroteControl (found_of ports port) port (length start.tape) d
   pub idle : (port : ℕ) → n ≤ port → IsIdlePort (d.port port)
 
-module _ (wanted : List Wanted) (ports : List Found) (port : Port) (below : port.0 < 4) (start old new : Device) (found : Found)
-    (u : IsUnderway wanted ports port.0 start old) (on : IsOn new) (stands : StandsBehind (wanted_of wanted port.0) found port.0 new)
-    (reset : WroteControl found port.0 (length old.tape) new) where
-  abbrev Later : Type 0
-  Later = IsUnderway wanted (slice_set ports port.0 found) (port.0 + 1) start new
-
-  here_is : found_of (slice_set ports port.0 found) port.0 ≡ found
-  here_is = get_or-set_same ports port.0 found Unserved (let l = u.long in omega (arith, l, below))
-
-  other_is : (q : ℕ) → q ≢ port.0 → found_of (slice_set ports port.0 found) q ≡ found_of ports q
-  other_is q other = get_or-set_other ports port.0 q found Unserved other
-
-  -- what was used before it, is
-  was_left : (q slot : ℕ) → q ≢ port.0 → IsLeft (slice_set ports port.0 found) u.uses q slot
-  was_left q slot other = elim (u.left q slot) [
-    | inl free ↦ inl free
-    | inr (head, own, dead) ↦ inr (head, own, other_is q other ∙ dead)
-  ]
-
-  -- a disk is wanted there
-  wants : found ≢ Unserved → wanted_of wanted port.0 ≢ Nothing
-  wants other = (is_served (wanted_of wanted port.0) port.0 new found other stands).0
-
-  module _ (driven : IsDrivenBy (IsOfBoot port) old new)
-      (quiet : (q : Port) → q.0 ≢ port.0 → (u.uses q.0 0 ≡ Own Identify → ⊥) → SendsNone q.0 Identify old new) where
-    alone : (q : ℕ) → q ≢ port.0 → LeavesPort (old.port q) (new.port q)
-    alone q other = other_left port old new (driven_as (IsOfBoot port) (IsOf port) old new (of_boot port) driven) q other u.on
-
-    pub later_same : SameAdapter start new
-    later_same = same_more start old new u.same (same_over (IsOfBoot port) old new driven)
-
-    at_other : (q : ℕ) → q ≢ port.0 → q < port.0 → StandsBehind (wanted_of wanted q) (found_of (slice_set ports port.0 found) q) q new
-    at_other q other less =
-        let P : Found → Type 0 = λ f. StandsBehind (wanted_of wanted q) f q new in
-        subst P (sym (other_is q other))
-        (stands_on q old new (alone q other) (same_over (IsOfBoot port) old new driven) (wanted_of wanted q) (found_of ports q)
-        (λ alive. quiet (port_at q) other (λ own. elim (u.left q 0) [
-          | inl free ↦ absurd (let e : Own Identify ≡ Free = sym own ∙ free in cc)
-          | inr (head, is, dead) ↦ alive dead
-        ]))
-        (u.stands q less))
-
-    pub later_stands : (q : ℕ) → q < port.0 + 1 → StandsBehind (wanted_of wanted q) (found_of (slice_set ports port.0 found) q) q new
-    later_stands q less = elim (cases_eq q port.0) [
-      | inl e ↦
-          let P : ℕ → Type 0 = λ k. StandsBehind (wanted_of wanted k) (found_of (slice_set ports port.0 found) k) k new in
-          let Q : Found → Type 0 = λ f. StandsBehind (wanted_of wanted port.0) f port.0 new in
-          subst P (sym e) (subst Q (sym here_is) stands)
-      | inr other ↦ at_other q other (omega (arith, less, other))
-    ]
-
-    -- the tape only grew before it
-    longer : length start.tape ≤ length old.tape
-    longer =
-        let g = tape_over (IsOfTaking wanted) start old u.told.followed.driven in
-        let n : length old.tape ≡ length start.tape + length g.0 = ap (λ es. length es) g.1 ∙ length-append start.tape g.0 in
-        omega (arith, n)
-
-    since_start : (f : Found) → WroteControl f port.0 (length old.tape) new → WroteControl f port.0 (length start.tape) new
-    since_start Unserved is = is
-    since_start (Ready info) is = le_trans longer is
-    since_start (Unready Absent) is = le_trans longer is
-    since_start (Unready ReadyState) is = le_trans longer is
-    since_start (Unready Foreign) is = le_trans longer is
-    since_start (Unready (Unfit n)) is = le_trans longer is
-    since_start (Unready Dead) is = is
-
-    pub later_reset : (q : ℕ) → q < port.0 + 1 → WroteControl (found_of (slice_set ports port.0 found) q) q (length start.tape) new
-    later_reset q less = elim (cases_eq q port.0) [
-      | inl e ↦
-          let P : ℕ → Type 0 = λ k. WroteControl (found_of (slice_set ports port.0 found) k) k (length start.tape) new in
-          let Q : Found → Type 0 = λ f. WroteControl f port.0 (length start.tape) new in
-          subst P (sym e) (subst Q (sym here_is) (since_start found reset))
-      | inr other ↦
-          let Q : Found → Type 0 = λ f. WroteControl f q (length start.tape) new in
-          subst Q (sym (other_is q other)) (reset_on q old new (alone q other) (found_of ports q) (length start.tape) (u.reset q (omega (arith, less, other))))
-    ]
-
-    pub later_idle : (q : ℕ) → port.0 + 1 ≤ q → IsIdlePort (new.port q)
-    later_idle q more =
-        let other : q ≢ port.0 = λ (e : q ≡ port.0). absurd (omega (arith, e, more)) in
-        idle_on (old.port q) (new.port q) (alone q other) (u.idle q (omega (arith, more)))
-
-    taking : found ≢ Unserved → (access : Access) → IsOfBoot port access → IsOfTaking wanted access
-    taking served access is = inr (port, wants served, is)
-
-  -- ---- what is told of engines
-
-  -- of those before it, and of its own
-  later_engines : (early late : List Access) → TellsFirst ports port.0 early → TellsEngines port found late → TellsFirst (slice_set ports port.0 found) (port.0 + 1) (early ++ late)
-  later_engines early late before here q less = elim (cases_eq q port.0) [
-    | inl e ↦
-        let P : ℕ → Type 0 = λ k. TellsEngines (port_at k) (found_of (slice_set ports port.0 found) k) (early ++ late) in
-        let Q : Found → Type 0 = λ f. TellsEngines port f (early ++ late) in
-        subst P (sym e) (subst Q (sym here_is) (tells_since port found early late here))
-    | inr other ↦
-        let Q : Found → Type 0 = λ f. TellsEngines (port_at q) f (early ++ late) in
-        subst Q (sym (other_is q other)) (tells_then (port_at q) (found_of ports q) early late (before q (omega (arith, less, other))))
-  ]
-
-  -- and where nothing was done
-  same_engines : found ≡ Unserved → (accesses : List Access) → TellsFirst ports port.0 accesses → TellsFirst (slice_set ports port.0 found) (port.0 + 1) accesses
-  same_engines is accesses before q less = elim (cases_eq q port.0) [
-    | inl e ↦
-        let P : ℕ → Type 0 = λ k. TellsEngines (port_at k) (found_of (slice_set ports port.0 found) k) accesses in
-        let Q : Found → Type 0 = λ f. TellsEngines port f accesses in
-        subst P (sym e) (subst Q (sym (here_is ∙ is)) tt)
-    | inr other ↦
-        let Q : Found → Type 0 = λ f. TellsEngines (port_at q) f accesses in
-        subst Q (sym (other_is q other)) (before q (omega (arith, less, other)))
-  ]
-
-  -- ---- its slots are not used afterwards
-
-  unused_here : AllFree u.uses port.0
-  unused_here slot = u.free port.0 slot (omega arith)
-
-  pub booted : found ≢ Unserved → IsBoot (TellsEngines port found) port old new → Later
-  booted served told =
-      let f : IsFollowed (IsOfBoot port) (λ uses. AllFree uses port.0) old new = told.followed in
-      let quiet : (q : Port) → q.0 ≢ port.0 → (u.uses q.0 0 ≡ Own Identify → ⊥) → SendsNone q.0 Identify old new =
-      λ (q : Port) (other : q.0 ≢ port.0) (not : u.uses q.0 0 ≡ Own Identify → ⊥).
-      followed_silent f u.uses u.agreed.parked u.agreed.machine unused_here u.agreed.reached u.agreed.knows q Identify refl (λ access may. of_spares_others port q Ci other access (of_boot port access may))
-      (λ access may. of_spares_others port q Sact other access (of_boot port access may)) not in
-      record {
-        on = on;
-        same = later_same f.driven quiet;
-        long = length-set ports port.0 found ∙ u.long;
-        uses = u.uses;
-        left = λ q slot. elim (cases_eq q port.0) [
-          | inl e ↦ inl (u.free q slot (omega (arith, e)))
-          | inr other ↦ was_left q slot other
-        ];
-        free = λ q slot more. u.free q slot (omega (arith, more));
-        told = then_told (IsOfTaking wanted) unused (TellsFirst ports port.0) (TellsEngines port found) (TellsFirst (slice_set ports port.0 found) (port.0 + 1)) later_engines (λ uses. AllFree uses port.0) (λ uses. uses)
-            u.uses start old new unused_here u.told
-            (told_as (TellsEngines port found) (IsOfBoot port) (IsOfTaking wanted) (λ uses. AllFree uses port.0) (λ uses. AllFree uses port.0) (λ uses. uses) old new (taking f.driven quiet served) (λ uses free. free) told);
-        agreed = agreed_on (IsOfBoot port) (λ uses. AllFree uses port.0) u.uses old new unused_here f u.agreed;
-        stands = later_stands f.driven quiet;
-        reset = later_reset f.driven quiet;
-        idle = later_idle f.driven quiet;
-      }
-
-  -- ---- or it is dead, and its disk may yet send its page
-
-  abbrev Asked : Uses → Uses
-  Asked uses = put uses port.0 0 (Own Identify)
-
-  pub died : found ≡ Unready Dead → IsToldTo (TellsEngines port found) (IsOfBoot port) (λ uses. AllFree uses port.0) Asked old new → Later
-  died dead told =
-      let f : IsFollowedTo (IsOfBoot port) (λ uses. AllFree uses port.0) Asked old new = told.followed in
-      let served : found ≢ Unserved = λ (e : found ≡ Unserved). absurd (let k : Unready Dead ≡ Unserved = sym dead ∙ e in cc) in
-      let quiet : (q : Port) → q.0 ≢ port.0 → (u.uses q.0 0 ≡ Own Identify → ⊥) → SendsNone q.0 Identify old new =
-      λ (q : Port) (other : q.0 ≢ port.0) (not : u.uses q.0 0 ≡ Own Identify → ⊥).
-      followed_silent f u.uses u.agreed.parked u.agreed.machine unused_here u.agreed.reached u.agreed.knows q Identify refl (λ access may. of_spares_others port q Ci other access (of_boot port access may))
-      (λ access may. of_spares_others port q Sact other access (of_boot port access may)) not in
-      let stays : (q : ℕ) (o : Operation) → u.uses q 0 ≡ Own o → Asked u.uses q 0 ≡ Own o =
-      λ (q : ℕ) (o : Operation) (e : u.uses q 0 ≡ Own o).
-      put_other u.uses port.0 0 (Own Identify) q 0 (λ at head. absurd (let k : Own o ≡ Free = sym e ∙ u.free q 0 (omega (arith, at)) in cc)) ∙ e in
-      let x = (followed_adds f u.uses u.agreed.parked unused_here).adds u.agreed.machine u.agreed.reached u.agreed.knows in
-      record {
-        on = on;
-        same = later_same f.driven quiet;
-        long = length-set ports port.0 found ∙ u.long;
-        uses = Asked u.uses;
-        left = λ q slot. elim (cases_eq q port.0) [
-          | inl e ↦ elim (cases_eq slot 0) [
-            | inl head ↦ inr (
-              head,
-              let P : ℕ → Type 0 = λ k. Asked u.uses k 0 ≡ Own Identify in subst P (sym e) (put_same u.uses port.0 0 (Own Identify)),
-              let P : ℕ → Type 0 = λ k. found_of (slice_set ports port.0 found) k ≡ Unready Dead in subst P (sym e) (here_is ∙ dead),
-            )
-            | inr tail ↦ inl (put_other u.uses port.0 0 (Own Identify) q slot (λ at head. tail head) ∙ u.free q slot (omega (arith, e)))
-          ]
-          | inr other ↦ elim (was_left q slot other) [
-            | inl free ↦ inl (put_other u.uses port.0 0 (Own Identify) q slot (λ at head. other at) ∙ free)
-            | inr (head, own, is) ↦ inr (head, stays q Identify own, is)
-          ]
-        ];
-        free = λ q slot more. put_other u.uses port.0 0 (Own Identify) q slot (λ at head. absurd (omega (arith, at, more))) ∙ u.free q slot (omega (arith, more));
-        told = then_told (IsOfTaking wanted) unused (TellsFirst ports port.0) (TellsEngines port found) (TellsFirst (slice_set ports port.0 found) (port.0 + 1)) later_engines (λ uses. AllFree uses port.0) Asked
-            u.uses start old new unused_here u.told
-            (told_as (TellsEngines port found) (IsOfBoot port) (IsOfTaking wanted) (λ uses. AllFree uses port.0) (λ uses. AllFree uses port.0) Asked old new (taking f.driven quiet served) (λ uses free. free) told);
-        agreed = record {
-          machine = after u.agreed.machine x.0;
-          parked = u.agreed.parked;
-          reached = reached_more u.agreed.machine x.0 u.agreed.reached x.1;
-          knows = x.2;
-        };
-        stands = later_stands f.driven quiet;
-        reset = later_reset f.driven quiet;
-        idle = later_idle f.driven quiet;
-      }
-
-  -- ---- or it isn't served
-
-  pub passed : found ≡ Unserved → new ≡ old → Later
-  passed is same =
-      let P : Device → Type 0 = λ d. IsUnderway wanted (slice_set ports port.0 found) (port.0 + 1) start d in
-      subst P (sym same) (record {
-        on = u.on;
-        same = u.same;
-        long = length-set ports port.0 found ∙ u.long;
-        uses = u.uses;
-        left = λ q slot. elim (cases_eq q port.0) [
-          | inl e ↦ inl (u.free q slot (omega (arith, e)))
-          | inr other ↦ was_left q slot other
-        ];
-        free = λ q slot more. u.free q slot (omega (arith, more));
-        told = told_more (TellsFirst ports port.0) (TellsFirst (slice_set ports port.0 found) (port.0 + 1)) (IsOfTaking wanted) (IsUse unused) (λ _. u.uses) start old (same_engines is) u.told;
-        agreed = u.agreed;
-        stands = λ q less. elim (cases_eq q port.0) [
-          | inl e ↦
-              let R : ℕ → Type 0 = λ k. StandsBehind (wanted_of wanted k) (found_of (slice_set ports port.0 found) k) k old in
-              let Q : Found → Type 0 = λ f. StandsBehind (wanted_of wanted port.0) f port.0 old in
-              let D : Device → Type 0 = λ d. StandsBehind (wanted_of wanted port.0) found port.0 d in
-              subst R (sym e) (subst Q (sym here_is) (subst D same stands))
-          | inr other ↦
-              let Q : Found → Type 0 = λ f. StandsBehind (wanted_of wanted q) f q old in
-              subst Q (sym (other_is q other)) (u.stands q (omega (arith, less, other)))
-        ];
-        reset = λ q less. elim (cases_eq q port.0) [
-          | inl e ↦
-              let R : ℕ → Type 0 = λ k. WroteControl (found_of (slice_set ports port.0 found) k) k (length start.tape) old in
-              let Q : Found → Type 0 = λ f. WroteControl f port.0 (length start.tape) old in
-              subst R (sym e) (subst Q (sym (here_is ∙ is)) tt)
-          | inr other ↦
-              let Q : Found → Type 0 = λ f. WroteControl f q (length start.tape) old in
-              subst Q (sym (other_is q other)) (u.reset q (omega (arith, less, other)))
-        ];
-        idle = λ q more. u.idle q (omega (arith, more));
-      })
-
-  -- whatever it was found to be
-  pub next : Boots port found old new → Later
-  next boots = by found refl boots
-    where
-      booted_as : (f : Found) → found ≡ f → f ≢ Unserved → IsBoot (TellsEngines port f) port old new → Later
-      booted_as f is served b = booted (λ e. served (sym is ∙ e)) (subst (λ (x : Found). IsBoot (TellsEngines port x) port old new) (sym is) b)
-
-      by_state : (state : PortState) → found ≡ Unready state → IsBootTo (StopsBoth port) port state old new → Later
-      by_state Dead is (inl b) = booted_as (Unready Dead) is (λ e. absurd cc) b
-      by_state Dead is (inr b) = died is (subst (λ (x : Found). IsToldTo (TellsEngines port x) (IsOfBoot port) (λ uses. AllFree uses port.0) Asked old new) (sym is) b)
-      by_state Absent is b = booted_as (Unready Absent) is (λ e. absurd cc) b
-      by_state ReadyState is b = booted_as (Unready ReadyState) is (λ e. absurd cc) b
-      by_state Foreign is b = booted_as (Unready Foreign) is (λ e. absurd cc) b
-      by_state (Unfit n) is b = booted_as (Unready (Unfit n)) is (λ e. absurd cc) b
-
-      by : (f : Found) → found ≡ f → Boots port f old new → Later
-      by Unserved is same = passed is same
-      by (Ready info) is b = booted_as (Ready info) is (λ e. absurd cc) b
-      by (Unready state) is b = by_state state is b
-
--- the adapter is what it was
-pub boots_same : (port : Port) (old new : Device) (found : Found) → Boots port found old new → SameAdapter old new
-boots_same port old new Unserved is = subst (SameAdapter old) (sym is) (same_refl old)
-boots_same port old new (Ready info) f = same_over (IsOfBoot port) old new f.followed.driven
-boots_same port old new (Unready state) f = same_over (IsOfBoot port) old new (boot_driven (StopsBoth port) port old new state f)
-
--- ---- accesses of the adapter's own registers
-
 host_spares : (q : Port) (r : PortReg) → NoneWrites IsOfHost (Px q r)
 host_spares q r (Reading x v) is = tt
 host_spares q r (Loading at bytes) is = absurd is
@@ -357,60 +75,330 @@ host_spares q r (Writing Cap2 v) is = absurd is
 host_spares q r (Writing Bohc v) is = absurd is
 host_spares q r (Writing (Px p x) v) is = absurd is
 
-hosting : (wanted : List Wanted) (old new : Device) → IsFollowed IsOfHost AnyUse old new → IsFollowed (IsOfTaking wanted) AnyUse old new
-hosting wanted old new f = followed_as IsOfHost (IsOfTaking wanted) AnyUse AnyUse old new (λ access may. inl may) (λ uses is. is) f
-
-module _ (wanted : List Wanted) (start : Device) where
-  -- no port was booted yet
-  pub begins : (ports : List Found) (d : Device) → length ports ≡ 4 → IsIdle start → IsAgreed unused start → IsOn d → LeavesPorts start d → IsFollowed IsOfHost AnyUse start d →
-      IsUnderway wanted ports 0 start d
-  begins ports d long idle agreed on leaves f = record {
-    on = on;
-    same = same_over IsOfHost start d f.driven;
-    long = long;
-    uses = unused;
-    left = λ port slot. inl refl;
-    free = λ port slot more. refl;
-    told = record { followed = goes_on (IsOfTaking wanted) unused start d (hosting wanted start d f); tells = λ port less. absurd (omega (arith, less)) };
-    agreed = agreed_on IsOfHost AnyUse unused start d tt f agreed;
-    stands = λ port less. absurd (omega (arith, less));
-    reset = λ port less. absurd (omega (arith, less));
-    idle = λ port more. idle_on (start.port port) (d.port port) (leaves port) (idle.port port);
-  }
-
-  -- all were
-  module _ (ports : List Found) (d new : Device) (u : IsUnderway wanted ports 4 start d) (leaves : LeavesPorts d new) (f : IsFollowed IsOfHost AnyUse d new) where
-    abbrev Silent : ℕ → Type 0
-    Silent port = SendsNone port Identify d new
-
-    silent : (port : ℕ) → found_of ports port ≢ Unready Dead → Silent port
-    silent port alive = followed_silent f u.uses u.agreed.parked u.agreed.machine tt u.agreed.reached u.agreed.knows (port_at port) Identify refl (host_spares (port_at port) Ci) (host_spares (port_at port) Sact)
-        (λ own. elim (u.left port 0) [
-          | inl free ↦ absurd (let e : Own Identify ≡ Free = sym own ∙ free in cc)
-          | inr (head, is, dead) ↦ alive dead
-        ])
-
-    all_told : IsToldTo (TellsFirst ports 4) (IsOfTaking wanted) (IsUse unused) (λ _. u.uses) start new
-    all_told = then_told (IsOfTaking wanted) unused (TellsFirst ports 4) (λ late. Unit {0}) (TellsFirst ports 4) (λ early late is any port less. tells_then (port_at port) (found_of ports port) early late (is port less))
-        AnyUse (λ uses. uses) u.uses start d new tt u.told (record { followed = hosting wanted d new f; tells = tt })
-
-    pub ends : (host : Host) → host.ports ≡ ports → host.slots ≡ new.cap / 256 % 32 + 1 → host.queued ≡ bit new.cap 30 → IsOn new → new.ie ≡ true → GoesOver ports start new → TakesOver wanted host start new
-    ends host is slots queued on tells way = record {
-      on = on;
-      interrupts = tells;
-      same = same_more start d new u.same (same_over IsOfHost d new f.driven);
-      slots = slots;
-      queued = queued;
-      stands = λ port less.
-          let P : List Found → Type 0 = λ ps. StandsBehind (wanted_of wanted port) (found_of ps port) port new in
-          subst P (sym is) (stands_on port d new (leaves port) (same_over IsOfHost d new f.driven) (wanted_of wanted port) (found_of ports port) (silent port) (u.stands port less));
-      reset = λ port less.
-          let P : List Found → Type 0 = λ ps. WroteControl (found_of ps port) port (length start.tape) new in
-          subst P (sym is) (reset_on port d new (leaves port) (found_of ports port) (length start.tape) (u.reset port less));
-      way = let P : List Found → Type 0 = λ ps. GoesOver ps start new in subst P (sym is) way;
-      uses = u.uses;
-      left = λ port slot. let P : List Found → Type 0 = λ ps. IsLeft ps u.uses port slot in subst P (sym is) (u.left port slot);
-      followed = all_told.followed;
-      engines = let P : List Found → Type 0 = λ ps. TellsFirst ps 4 all_told.followed.driven.accesses in subst P (sym is) all_told.tells;
-      agreed = agreed_on IsOfHost AnyUse u.uses d new tt f u.agreed;
+module _ (laws : Laws) where
+  module _ (wanted : List Wanted) (first : Uses) where
+    -- nothing is put to use
+    pub goes_on : (old new : Device) → IsFollowed (IsOfTaking wanted) AnyUse old new → GoesTo (IsOfTaking wanted) first first old new
+    goes_on old new a = record {
+      driven = a.driven;
+      comes = λ s m reached x is.
+          subst (λ (u : Uses). Comes a.driven.accesses (at s old) m (at (record s { uses = u }) new) (AreDevices (IsOfTaking wanted) s.uses)) is (a.comes s m reached x tt);
     }
+
+    -- and then others, with what is told of both
+    pub then_told : (Before Here Tells : List Access → Type 0) → ((early late : List Access) → Before early → Here late → Tells (early ++ late)) → (fitting : Fitting) (next : Uses → Uses) (uses : Uses)
+        (old mid new : Device) → uses_of fitting uses → IsToldTo Before (IsOfTaking wanted) (IsUse first) (λ _. uses) old mid → IsToldTo Here (IsOfTaking wanted) (uses_of fitting) next mid new →
+        IsToldTo Tells (IsOfTaking wanted) (IsUse first) (λ _. next uses) old new
+    then_told Before Here Tells join fitting next uses old mid new fits a b =
+        told_both laws Before Here Tells join (Taking wanted (Only first)) (Taking wanted fitting) (λ _. uses) next (λ access may. may) (λ were is. fits) old mid new a b
+
+  module _ (wanted : List Wanted) (ports : List Found) (port : Port) (below : port.0 < 4) (start old new : Device) (found : Found)
+      (u : IsUnderway wanted ports port.0 start old) (on : IsOn new) (stands : StandsBehind (wanted_of wanted port.0) found port.0 new)
+      (reset : WroteControl found port.0 (length old.tape) new) where
+    abbrev Later : Type 0
+    Later = IsUnderway wanted (slice_set ports port.0 found) (port.0 + 1) start new
+
+    here_is : found_of (slice_set ports port.0 found) port.0 ≡ found
+    here_is = get_or-set_same ports port.0 found Unserved (let l = u.long in omega (arith, l, below))
+
+    other_is : (q : ℕ) → q ≢ port.0 → found_of (slice_set ports port.0 found) q ≡ found_of ports q
+    other_is q other = get_or-set_other ports port.0 q found Unserved other
+
+    -- what was used before it, is
+    was_left : (q slot : ℕ) → q ≢ port.0 → IsLeft (slice_set ports port.0 found) u.uses q slot
+    was_left q slot other = elim (u.left q slot) [
+      | inl free ↦ inl free
+      | inr (head, own, dead) ↦ inr (head, own, other_is q other ∙ dead)
+    ]
+
+    -- a disk is wanted there
+    wants : found ≢ Unserved → wanted_of wanted port.0 ≢ Nothing
+    wants other = (is_served (wanted_of wanted port.0) port.0 new found other stands).0
+
+    module _ (driven : IsDrivenBy (IsOfBoot port) old new)
+        (quiet : (q : Port) → q.0 ≢ port.0 → (u.uses q.0 0 ≡ Own Identify → ⊥) → SendsNone q.0 Identify old new) where
+      alone : (q : ℕ) → q ≢ port.0 → LeavesPort (old.port q) (new.port q)
+      alone q other = laws.left port q old new other u.on (driven_as (IsOfBoot port) (IsOf port) old new (laws.of_boot port) driven)
+
+      pub later_same : SameAdapter start new
+      later_same = laws.same_more start old new u.same (same_over laws (IsOfBoot port) old new driven)
+
+      at_other : (q : ℕ) → q ≢ port.0 → q < port.0 → StandsBehind (wanted_of wanted q) (found_of (slice_set ports port.0 found) q) q new
+      at_other q other less =
+          let P : Found → Type 0 = λ f. StandsBehind (wanted_of wanted q) f q new in
+          subst P (sym (other_is q other))
+          (stands_on laws.found q old new (alone q other) (same_over laws (IsOfBoot port) old new driven) (wanted_of wanted q) (found_of ports q)
+          (λ alive. quiet (port_at q) other (λ own. elim (u.left q 0) [
+            | inl free ↦ absurd (let e : Own Identify ≡ Free = sym own ∙ free in cc)
+            | inr (head, is, dead) ↦ alive dead
+          ]))
+          (u.stands q less))
+
+      pub later_stands : (q : ℕ) → q < port.0 + 1 → StandsBehind (wanted_of wanted q) (found_of (slice_set ports port.0 found) q) q new
+      later_stands q less = elim (cases_eq q port.0) [
+        | inl e ↦
+            let P : ℕ → Type 0 = λ k. StandsBehind (wanted_of wanted k) (found_of (slice_set ports port.0 found) k) k new in
+            let Q : Found → Type 0 = λ f. StandsBehind (wanted_of wanted port.0) f port.0 new in
+            subst P (sym e) (subst Q (sym here_is) stands)
+        | inr other ↦ at_other q other (omega (arith, less, other))
+      ]
+
+      -- the tape only grew before it
+      longer : length start.tape ≤ length old.tape
+      longer =
+          let g = tape_over laws (IsOfTaking wanted) start old u.told.followed.driven in
+          let n : length old.tape ≡ length start.tape + length g.0 = ap (λ es. length es) g.1 ∙ length-append start.tape g.0 in
+          omega (arith, n)
+
+      since_start : (f : Found) → WroteControl f port.0 (length old.tape) new → WroteControl f port.0 (length start.tape) new
+      since_start Unserved is = is
+      since_start (Ready info) is = le_trans longer is
+      since_start (Unready Absent) is = le_trans longer is
+      since_start (Unready ReadyState) is = le_trans longer is
+      since_start (Unready Foreign) is = le_trans longer is
+      since_start (Unready (Unfit n)) is = le_trans longer is
+      since_start (Unready Dead) is = is
+
+      pub later_reset : (q : ℕ) → q < port.0 + 1 → WroteControl (found_of (slice_set ports port.0 found) q) q (length start.tape) new
+      later_reset q less = elim (cases_eq q port.0) [
+        | inl e ↦
+            let P : ℕ → Type 0 = λ k. WroteControl (found_of (slice_set ports port.0 found) k) k (length start.tape) new in
+            let Q : Found → Type 0 = λ f. WroteControl f port.0 (length start.tape) new in
+            subst P (sym e) (subst Q (sym here_is) (since_start found reset))
+        | inr other ↦
+            let Q : Found → Type 0 = λ f. WroteControl f q (length start.tape) new in
+            subst Q (sym (other_is q other)) (reset_on q old new (alone q other) (found_of ports q) (length start.tape) (u.reset q (omega (arith, less, other))))
+      ]
+
+      pub later_idle : (q : ℕ) → port.0 + 1 ≤ q → IsIdlePort (new.port q)
+      later_idle q more =
+          let other : q ≢ port.0 = λ (e : q ≡ port.0). absurd (omega (arith, e, more)) in
+          idle_on (old.port q) (new.port q) (alone q other) (u.idle q (omega (arith, more)))
+
+      taking : found ≢ Unserved → (access : Access) → IsOfBoot port access → IsOfTaking wanted access
+      taking served access is = inr (port, wants served, is)
+
+    -- ---- what is told of engines
+
+    -- of those before it, and of its own
+    later_engines : (early late : List Access) → TellsFirst ports port.0 early → TellsEngines port found late → TellsFirst (slice_set ports port.0 found) (port.0 + 1) (early ++ late)
+    later_engines early late before here q less = elim (cases_eq q port.0) [
+      | inl e ↦
+          let P : ℕ → Type 0 = λ k. TellsEngines (port_at k) (found_of (slice_set ports port.0 found) k) (early ++ late) in
+          let Q : Found → Type 0 = λ f. TellsEngines port f (early ++ late) in
+          subst P (sym e) (subst Q (sym here_is) (tells_since laws port found early late here))
+      | inr other ↦
+          let Q : Found → Type 0 = λ f. TellsEngines (port_at q) f (early ++ late) in
+          subst Q (sym (other_is q other)) (tells_then laws (port_at q) (found_of ports q) early late (before q (omega (arith, less, other))))
+    ]
+
+    -- and where nothing was done
+    same_engines : found ≡ Unserved → (accesses : List Access) → TellsFirst ports port.0 accesses → TellsFirst (slice_set ports port.0 found) (port.0 + 1) accesses
+    same_engines is accesses before q less = elim (cases_eq q port.0) [
+      | inl e ↦
+          let P : ℕ → Type 0 = λ k. TellsEngines (port_at k) (found_of (slice_set ports port.0 found) k) accesses in
+          let Q : Found → Type 0 = λ f. TellsEngines port f accesses in
+          subst P (sym e) (subst Q (sym (here_is ∙ is)) tt)
+      | inr other ↦
+          let Q : Found → Type 0 = λ f. TellsEngines (port_at q) f accesses in
+          subst Q (sym (other_is q other)) (before q (omega (arith, less, other)))
+    ]
+
+    -- ---- its slots are not used afterwards
+
+    unused_here : AllFree u.uses port.0
+    unused_here slot = u.free port.0 slot (omega arith)
+
+    pub booted : found ≢ Unserved → IsBoot (TellsEngines port found) port old new → Later
+    booted served told =
+        let f : IsFollowed (IsOfBoot port) (λ uses. AllFree uses port.0) old new = told.followed in
+        let quiet : (q : Port) → q.0 ≢ port.0 → (u.uses q.0 0 ≡ Own Identify → ⊥) → SendsNone q.0 Identify old new =
+        λ (q : Port) (other : q.0 ≢ port.0) (not : u.uses q.0 0 ≡ Own Identify → ⊥).
+        laws.silent (Booting port) (λ uses. uses) u.uses q Identify old new unused_here (λ access may. laws.of_spares port q Ci other access (laws.of_boot port access may))
+        (λ access may. laws.of_spares port q Sact other access (laws.of_boot port access may)) refl not f u.agreed in
+        record {
+          on = on;
+          same = later_same f.driven quiet;
+          long = length-set ports port.0 found ∙ u.long;
+          uses = u.uses;
+          left = λ q slot. elim (cases_eq q port.0) [
+            | inl e ↦ inl (u.free q slot (omega (arith, e)))
+            | inr other ↦ was_left q slot other
+          ];
+          free = λ q slot more. u.free q slot (omega (arith, more));
+          told = then_told wanted unused (TellsFirst ports port.0) (TellsEngines port found) (TellsFirst (slice_set ports port.0 found) (port.0 + 1)) later_engines (PortUnused port) (λ uses. uses)
+              u.uses start old new unused_here u.told
+              (told_wider laws (TellsEngines port found) (Booting port) (Taking wanted (PortUnused port)) (λ uses. uses) old new (taking f.driven quiet served) (λ uses free. free) told);
+          agreed = laws.agreed (Booting port) (λ uses. uses) u.uses old new unused_here f u.agreed;
+          stands = later_stands f.driven quiet;
+          reset = later_reset f.driven quiet;
+          idle = later_idle f.driven quiet;
+        }
+
+    -- ---- or it is dead, and its disk may yet send its page
+
+    abbrev Asked : Uses → Uses
+    Asked uses = put uses port.0 0 (Own Identify)
+
+    pub died : found ≡ Unready Dead → IsToldTo (TellsEngines port found) (IsOfBoot port) (λ uses. AllFree uses port.0) Asked old new → Later
+    died dead told =
+        let f : IsFollowedTo (IsOfBoot port) (λ uses. AllFree uses port.0) Asked old new = told.followed in
+        let served : found ≢ Unserved = λ (e : found ≡ Unserved). absurd (let k : Unready Dead ≡ Unserved = sym dead ∙ e in cc) in
+        let quiet : (q : Port) → q.0 ≢ port.0 → (u.uses q.0 0 ≡ Own Identify → ⊥) → SendsNone q.0 Identify old new =
+        λ (q : Port) (other : q.0 ≢ port.0) (not : u.uses q.0 0 ≡ Own Identify → ⊥).
+        laws.silent (Booting port) Asked u.uses q Identify old new unused_here (λ access may. laws.of_spares port q Ci other access (laws.of_boot port access may))
+        (λ access may. laws.of_spares port q Sact other access (laws.of_boot port access may)) refl not f u.agreed in
+        let stays : (q : ℕ) (o : Operation) → u.uses q 0 ≡ Own o → Asked u.uses q 0 ≡ Own o =
+        λ (q : ℕ) (o : Operation) (e : u.uses q 0 ≡ Own o).
+        laws.put_other u.uses port.0 0 (Own Identify) q 0 (λ at head. absurd (let k : Own o ≡ Free = sym e ∙ u.free q 0 (omega (arith, at)) in cc)) ∙ e in
+        record {
+          on = on;
+          same = later_same f.driven quiet;
+          long = length-set ports port.0 found ∙ u.long;
+          uses = Asked u.uses;
+          left = λ q slot. elim (cases_eq q port.0) [
+            | inl e ↦ elim (cases_eq slot 0) [
+              | inl head ↦ inr (
+                head,
+                let P : ℕ → Type 0 = λ k. Asked u.uses k 0 ≡ Own Identify in subst P (sym e) (laws.put_same u.uses port.0 0 (Own Identify)),
+                let P : ℕ → Type 0 = λ k. found_of (slice_set ports port.0 found) k ≡ Unready Dead in subst P (sym e) (here_is ∙ dead),
+              )
+              | inr tail ↦ inl (laws.put_other u.uses port.0 0 (Own Identify) q slot (λ at head. tail head) ∙ u.free q slot (omega (arith, e)))
+            ]
+            | inr other ↦ elim (was_left q slot other) [
+              | inl free ↦ inl (laws.put_other u.uses port.0 0 (Own Identify) q slot (λ at head. other at) ∙ free)
+              | inr (head, own, is) ↦ inr (head, stays q Identify own, is)
+            ]
+          ];
+          free = λ q slot more. laws.put_other u.uses port.0 0 (Own Identify) q slot (λ at head. absurd (omega (arith, at, more))) ∙ u.free q slot (omega (arith, more));
+          told = then_told wanted unused (TellsFirst ports port.0) (TellsEngines port found) (TellsFirst (slice_set ports port.0 found) (port.0 + 1)) later_engines (PortUnused port) Asked
+              u.uses start old new unused_here u.told
+              (told_wider laws (TellsEngines port found) (Booting port) (Taking wanted (PortUnused port)) Asked old new (taking f.driven quiet served) (λ uses free. free) told);
+          agreed = laws.agreed (Booting port) Asked u.uses old new unused_here f u.agreed;
+          stands = later_stands f.driven quiet;
+          reset = later_reset f.driven quiet;
+          idle = later_idle f.driven quiet;
+        }
+
+    -- ---- or it isn't served
+
+    pub passed : found ≡ Unserved → new ≡ old → Later
+    passed is same =
+        let P : Device → Type 0 = λ d. IsUnderway wanted (slice_set ports port.0 found) (port.0 + 1) start d in
+        subst P (sym same) (record {
+          on = u.on;
+          same = u.same;
+          long = length-set ports port.0 found ∙ u.long;
+          uses = u.uses;
+          left = λ q slot. elim (cases_eq q port.0) [
+            | inl e ↦ inl (u.free q slot (omega (arith, e)))
+            | inr other ↦ was_left q slot other
+          ];
+          free = λ q slot more. u.free q slot (omega (arith, more));
+          told = told_more (TellsFirst ports port.0) (TellsFirst (slice_set ports port.0 found) (port.0 + 1)) (IsOfTaking wanted) (IsUse unused) (λ _. u.uses) start old (same_engines is) u.told;
+          agreed = u.agreed;
+          stands = λ q less. elim (cases_eq q port.0) [
+            | inl e ↦
+                let R : ℕ → Type 0 = λ k. StandsBehind (wanted_of wanted k) (found_of (slice_set ports port.0 found) k) k old in
+                let Q : Found → Type 0 = λ f. StandsBehind (wanted_of wanted port.0) f port.0 old in
+                let D : Device → Type 0 = λ d. StandsBehind (wanted_of wanted port.0) found port.0 d in
+                subst R (sym e) (subst Q (sym here_is) (subst D same stands))
+            | inr other ↦
+                let Q : Found → Type 0 = λ f. StandsBehind (wanted_of wanted q) f q old in
+                subst Q (sym (other_is q other)) (u.stands q (omega (arith, less, other)))
+          ];
+          reset = λ q less. elim (cases_eq q port.0) [
+            | inl e ↦
+                let R : ℕ → Type 0 = λ k. WroteControl (found_of (slice_set ports port.0 found) k) k (length start.tape) old in
+                let Q : Found → Type 0 = λ f. WroteControl f port.0 (length start.tape) old in
+                subst R (sym e) (subst Q (sym (here_is ∙ is)) tt)
+            | inr other ↦
+                let Q : Found → Type 0 = λ f. WroteControl f q (length start.tape) old in
+                subst Q (sym (other_is q other)) (u.reset q (omega (arith, less, other)))
+          ];
+          idle = λ q more. u.idle q (omega (arith, more));
+        })
+
+    -- whatever it was found to be
+    pub next : Boots port found old new → Later
+    next boots = by found refl boots
+      where
+        booted_as : (f : Found) → found ≡ f → f ≢ Unserved → IsBoot (TellsEngines port f) port old new → Later
+        booted_as f is served b = booted (λ e. served (sym is ∙ e)) (subst (λ (x : Found). IsBoot (TellsEngines port x) port old new) (sym is) b)
+
+        by_state : (state : PortState) → found ≡ Unready state → IsBootTo (StopsBoth port) port state old new → Later
+        by_state Dead is (inl b) = booted_as (Unready Dead) is (λ e. absurd cc) b
+        by_state Dead is (inr b) = died is (subst (λ (x : Found). IsToldTo (TellsEngines port x) (IsOfBoot port) (λ uses. AllFree uses port.0) Asked old new) (sym is) b)
+        by_state Absent is b = booted_as (Unready Absent) is (λ e. absurd cc) b
+        by_state ReadyState is b = booted_as (Unready ReadyState) is (λ e. absurd cc) b
+        by_state Foreign is b = booted_as (Unready Foreign) is (λ e. absurd cc) b
+        by_state (Unfit n) is b = booted_as (Unready (Unfit n)) is (λ e. absurd cc) b
+
+        by : (f : Found) → found ≡ f → Boots port f old new → Later
+        by Unserved is same = passed is same
+        by (Ready info) is b = booted_as (Ready info) is (λ e. absurd cc) b
+        by (Unready state) is b = by_state state is b
+
+  -- the adapter is what it was
+  pub boots_same : (port : Port) (old new : Device) (found : Found) → Boots port found old new → SameAdapter old new
+  boots_same port old new Unserved is = subst (SameAdapter old) (sym is) (laws.same_refl old)
+  boots_same port old new (Ready info) f = same_over laws (IsOfBoot port) old new f.followed.driven
+  boots_same port old new (Unready state) f = same_over laws (IsOfBoot port) old new (laws.stops_driven port state old new f)
+
+  hosting : (wanted : List Wanted) (old new : Device) → IsFollowed IsOfHost AnyUse old new → IsFollowed (IsOfTaking wanted) AnyUse old new
+  hosting wanted old new f = (laws.wider Hosting (Taking wanted AnyUses) (λ uses. uses) (λ access may. inl may) (λ uses is. is) old new f).followed
+
+  module _ (wanted : List Wanted) (start : Device) where
+    -- no port was booted yet
+    pub begins : (ports : List Found) (d : Device) → length ports ≡ 4 → IsIdle start → IsAgreed unused start → IsOn d → LeavesPorts start d → IsFollowed IsOfHost AnyUse start d →
+        IsUnderway wanted ports 0 start d
+    begins ports d long idle agreed on leaves f = record {
+      on = on;
+      same = same_over laws IsOfHost start d f.driven;
+      long = long;
+      uses = unused;
+      left = λ port slot. inl refl;
+      free = λ port slot more. refl;
+      told = record { followed = goes_on wanted unused start d (hosting wanted start d f); tells = λ port less. absurd (omega (arith, less)) };
+      agreed = laws.agreed Hosting (λ uses. uses) unused start d tt f agreed;
+      stands = λ port less. absurd (omega (arith, less));
+      reset = λ port less. absurd (omega (arith, less));
+      idle = λ port more. idle_on (start.port port) (d.port port) (leaves port) (idle.port port);
+    }
+
+    -- all were
+    module _ (ports : List Found) (d new : Device) (u : IsUnderway wanted ports 4 start d) (leaves : LeavesPorts d new) (f : IsFollowed IsOfHost AnyUse d new) where
+      abbrev Silent : ℕ → Type 0
+      Silent port = SendsNone port Identify d new
+
+      silent : (port : ℕ) → found_of ports port ≢ Unready Dead → Silent port
+      silent port alive = laws.silent Hosting (λ uses. uses) u.uses (port_at port) Identify d new tt (host_spares (port_at port) Ci) (host_spares (port_at port) Sact) refl
+          (λ own. elim (u.left port 0) [
+            | inl free ↦ absurd (let e : Own Identify ≡ Free = sym own ∙ free in cc)
+            | inr (head, is, dead) ↦ alive dead
+          ]) f u.agreed
+
+      all_told : IsToldTo (TellsFirst ports 4) (IsOfTaking wanted) (IsUse unused) (λ _. u.uses) start new
+      all_told = then_told wanted unused (TellsFirst ports 4) (λ late. Unit {0}) (TellsFirst ports 4) (λ early late is any port less. tells_then laws (port_at port) (found_of ports port) early late (is port less))
+          AnyUses (λ uses. uses) u.uses start d new tt u.told (record { followed = hosting wanted d new f; tells = tt })
+
+      pub ends : (host : Host) → host.ports ≡ ports → host.slots ≡ new.cap / 256 % 32 + 1 → host.queued ≡ bit new.cap 30 → IsOn new → new.ie ≡ true → GoesOver ports start new → TakesOver wanted host start new
+      ends host is slots queued on tells way = record {
+        on = on;
+        interrupts = tells;
+        same = laws.same_more start d new u.same (same_over laws IsOfHost d new f.driven);
+        slots = slots;
+        queued = queued;
+        stands = λ port less.
+            let P : List Found → Type 0 = λ ps. StandsBehind (wanted_of wanted port) (found_of ps port) port new in
+            subst P (sym is) (stands_on laws.found port d new (leaves port) (same_over laws IsOfHost d new f.driven) (wanted_of wanted port) (found_of ports port) (silent port) (u.stands port less));
+        reset = λ port less.
+            let P : List Found → Type 0 = λ ps. WroteControl (found_of ps port) port (length start.tape) new in
+            subst P (sym is) (reset_on port d new (leaves port) (found_of ports port) (length start.tape) (u.reset port less));
+        way = let P : List Found → Type 0 = λ ps. GoesOver ps start new in subst P (sym is) way;
+        uses = u.uses;
+        left = λ port slot. let P : List Found → Type 0 = λ ps. IsLeft ps u.uses port slot in subst P (sym is) (u.left port slot);
+        followed = all_told.followed;
+        engines = let P : List Found → Type 0 = λ ps. TellsFirst ps 4 all_told.followed.driven.accesses in subst P (sym is) all_told.tells;
+        agreed = laws.agreed Hosting (λ uses. uses) u.uses d new tt f u.agreed;
+      }

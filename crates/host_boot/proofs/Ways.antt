@@ -10,6 +10,14 @@ use Rattle.agreement.specs.Driven.{IsDrivenBy}
 use Rattle.host_boot.specs.Taken.{GoesThrough, GoThrough, GoesOver, IsSurvey}
 use Rattle.host_boot.specs.declared.Found.{Found}
 
+-- the adapter was switched on and surveyed, and so many ports have gone their way
+pub record IsOnWay (ports : List Found) (n : ℕ) (old d : Device) : Type 0 where
+  pub switched : Device
+  pub switches : Writes Ghc 0x80000000 old switched
+  pub surveyed : Device
+  pub surveys : IsDrivenBy IsSurvey switched surveyed
+  pub boots : GoThrough 0 (take n ports) surveyed d
+
 -- one more port goes its way
 pub go_more : (ports : List Found) (first next : ℕ) (found : Found) (old mid new : Device) → next ≡ first + length ports → GoThrough first ports old mid →
     GoesThrough (port_at next) found mid new → GoThrough first (ports ++ found ∷ []) old new
@@ -18,14 +26,6 @@ go_more [] first next found old mid new at so way =
     let is : next ≡ first = omega (arith, at) in
     (new, subst (λ n. P n old) is (subst (λ d. P next d) so way), refl)
 go_more (one ∷ rest) first next found old mid new at (after, here, so) way = (after, here, go_more rest (first + 1) next found after mid new (omega (arith, at)) so way)
-
--- the adapter was switched on and surveyed, and so many ports have gone their way
-pub record IsOnWay (ports : List Found) (n : ℕ) (old d : Device) : Type 0 where
-  pub switched : Device
-  pub switches : Writes Ghc 0x80000000 old switched
-  pub surveyed : Device
-  pub surveys : IsDrivenBy IsSurvey switched surveyed
-  pub boots : GoThrough 0 (take n ports) surveyed d
 
 pub way_more : (ports : List Found) (n : ℕ) (found : Found) (old d new : Device) → length ports ≡ 4 → n < 4 → IsOnWay ports n old d → GoesThrough (port_at n) found d new →
     IsOnWay (slice_set ports n found) (n + 1) old new

@@ -19,8 +19,7 @@ ghost use Rattle.host_boot.specs.declared.Found.{Found};
 ghost use Rattle.host_boot.specs.declared.Found.TheVariants.{Unserved, Ready, Unready};
 ghost use Rattle.host_boot.specs.declared.Host.{Host};
 
-use agreement::disks::none_comes_in;
-use agreement::facts::device_or_none_stays;
+use super::lawful::laws_hold;
 
 /// What stands behind what a port was found to be still stands as long as the port isn't booted anew. A boot begins it. It goes on where
 /// the adapter is the same, enough is left of the port, and its disk sends no page of IDENTIFY DEVICE, which a dead port's may.
@@ -30,13 +29,17 @@ pub fn what_was_found_still_stands()
     ensures goes_on { (wanted : Wanted) (found : Found) (port : ℕ) (old new : Device) → SameAdapter old new
         → LeavesFound found (old.port port) (new.port port) → (found ≢ Unready Dead → SendsNone port Identify old new)
         → StillStandsBehind wanted found port old → StillStandsBehind wanted found port new }
-{}
+{
+    laws_hold();
+}
 
 /// What the device does by itself leaves every port to it, while no reset is pending; and the adapter is what it was.
 pub fn the_device_leaves_ports()
     ensures ports { (old new : Device) → old.hr ≡ false → Steps old new → LeavesPorts old new }
     ensures adapter { (old new : Device) → Steps old new → SameAdapter old new }
-{}
+{
+    laws_hold();
+}
 
 /// A server may begin with what was taken over. The adapter has each port that is served. A port that was found ready has its command
 /// list in its place, with ST set; where nothing went wrong on it in the whole taking over, it runs well; and whatever went wrong, its
@@ -56,12 +59,13 @@ pub fn what_was_taken_over_may_be_served()
         → TakesOver wanted host old new → FoundBadDisk state → found_of host.ports port ≡ Unready state
         → HasDeviceOrNone (new.port port) }
 {
-    device_or_none_stays();
-    none_comes_in();
+    laws_hold();
 }
 
 /// A port that runs well does so still after accesses of another port, where nothing goes wrong on it meanwhile.
 pub fn other_ports_run_well()
     ensures { (port other : Port) (old new : Device) → port.0 ≢ other.0 → IsOn old → IsDrivenBy (IsOf other) old new
         → Undisturbed port.0 old new → RunsWell (old.port port.0) → RunsWell (new.port port.0) }
-{}
+{
+    laws_hold();
+}

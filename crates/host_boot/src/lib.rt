@@ -18,9 +18,11 @@ use adapter::Adapter;
 use ata_types::{DRIVER_BYTES, Port, PortState};
 use hba_regs::{Capabilities, GlobalControl, Reg, is_set};
 use identify::{DiskInfo, Wanted};
+use lawful::laws_hold;
 use port_boot::boot;
 use port_control::stop;
 
+mod lawful;
 pub mod laws;
 
 /// How many ports the driver has memory for.
@@ -56,6 +58,7 @@ fn power_on<A: Adapter>(adapter: &mut A)
     ensures leaves { LeavesPorts (A.device adapter.old) (A.device adapter.new) }
     ensures followed { IsFollowed IsOfHost AnyUse (A.device adapter.old) (A.device adapter.new) }
 {
+    laws_hold();
     adapter.write(Reg::Ghc, GlobalControl::AE.0);
 }
 
@@ -69,6 +72,7 @@ fn survey<A: Adapter>(adapter: &mut A) -> (Capabilities, u32)
     ensures capable { result.0.0 ≡ (A.device adapter.new).cap }
     ensures there { result.1 ≡ (A.device adapter.new).pi }
 {
+    laws_hold();
     let capabilities = Capabilities(adapter.read(Reg::Cap));
     let implemented = adapter.read(Reg::Pi);
     (capabilities, implemented)
@@ -88,6 +92,7 @@ fn boot_port<A: Adapter>(adapter: &mut A, port: Port, implemented: u32, wanted: 
     ensures boots { Boots port result (A.device adapter.old) (A.device adapter.new) }
     ensures way { GoesThrough port result (A.device adapter.old) (A.device adapter.new) }
 {
+    laws_hold();
     if *wanted == Wanted::Nothing || !is_set(implemented, u32::from(port.0)) {
         return Found::Unserved;
     }
@@ -109,6 +114,7 @@ fn enable_interrupts<A: Adapter>(adapter: &mut A)
     ensures leaves { LeavesPorts (A.device adapter.old) (A.device adapter.new) }
     ensures followed { IsFollowed IsOfHost AnyUse (A.device adapter.old) (A.device adapter.new) }
 {
+    laws_hold();
     adapter.write(Reg::Ghc, GlobalControl::AE.0 | GlobalControl::IE.0);
 }
 
@@ -120,6 +126,7 @@ pub fn take_over<A: Adapter>(adapter: &mut A, wanted: &[Wanted; PORTS]) -> Host
     ensures taken { TakesOver wanted.now result (A.device adapter.old) (A.device adapter.new) }
     ensures four { length result.ports ≡ 4 }
 {
+    laws_hold();
     power_on(adapter);
     let (capabilities, implemented) = survey(adapter);
     let mut ports = [Found::Unserved; PORTS];

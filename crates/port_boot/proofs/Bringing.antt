@@ -1,5 +1,5 @@
 -- The parts of a boot, one after another.
-use Rattle.std.proofs.Common.{ℕ, ◌≡◌, ◌≢◌, ◌≤◌, ◌+◌, ◌%◌, ◌||◌, Bool, true, false, inl, inr, List, length, ◌∙◌, ap, arith, le_trans}
+use Rattle.std.proofs.Common.{ℕ, ◌≡◌, ◌≢◌, ◌≤◌, ◌+◌, ◌%◌, ◌||◌, Bool, true, false, inl, inr, Option, List, length, refl, sym, ◌∙◌, ap, subst, arith, le_trans}
 use Rattle.std.proofs.lemmas.Bool.{true≢false}
 use Rattle.std.proofs.lemmas.List.{length-append}
 use Rattle.ata_types.specs.declared.Port.{Port}
@@ -15,17 +15,18 @@ use Rattle.agreement.specs.Facts.{IsQuiet, IsRecorded}
 use Rattle.agreement.specs.Links.{PlugsNone}
 use Rattle.agreement.specs.Slots.{Uses}
 use Rattle.agreement.specs.Started.{IsUp, IsComingUp, IsStarted}
-use Rattle.agreement.proofs.Controlled.{Grows, grows_more, same_adapter, stays_on, tape_gains, agreeing_goes_on, control_wider}
-use Rattle.agreement.proofs.Driven.{followed_as, told_as, told_then}
+use Rattle.agreement.specs.Driven.{Grows}
 use Rattle.port_control.specs.Engines.{StopsReceiving}
-use Rattle.port_control.specs.Ports.{WritesCommand, IsPlacing, IsResetting, IsRunning, SameButStart, SawDevice, SawIdle, FindsSignature, Looks, WasReset, IsFound}
+use Rattle.port_control.specs.Ports.{WritesCommand, IsPlacing, IsResetting, IsRunning, ReceivesFises, Shows, SameButStart, SawDevice, SawIdle, FindsSignature, Looks, WasReset, IsFound}
 use Rattle.port_control.specs.declared.PortFault.{PortFault}
-use Rattle.port_control.specs.declared.PortFault.TheVariants.{NoDevice}
-use Rattle.port_control.proofs.Settling.{comes_in_parts, plugs_in_parts}
-use Rattle.port_control.proofs.Using.{there_after, falls_then, followed_wider}
-use Rattle.port_boot.specs.States.{IsBooting, IsBootable, IsBroughtUp, EndsEarly, TellsFault}
-
--- ---- what the calls of `port_control` say, of one port
+use Rattle.port_control.specs.declared.PortFault.TheVariants.{NoDevice, Busy, EngineStuck, NotAta}
+use Rattle.port_boot.specs.States.{EndsAs, IsBooting, IsBootable, IsBroughtUp, EndsEarly, TellsFault}
+use Rattle.port_boot.specs.Laws.Fitting.{AnyUses, PortUnused}
+use Rattle.port_boot.specs.Laws.RegisterSet.{BootRegisters, Commanding, Placing, Resetting}
+use Rattle.port_boot.specs.Laws.Stretch.{Controlling}
+use Rattle.port_boot.specs.Laws.{Laws, Fitting, RegisterSet, registers_of, uses_of}
+use Rattle.agreement.specs.Tape.{Tells}
+use Rattle.port_boot.proofs.Stretching.{driven_grows, stays_on, there_after, told_then, comes_in_parts, plugs_in_parts, same_over, told_wider}
 
 -- a device was found, and is idle
 pub record HasFound (port : Port) (old new : Device) : Type 0 where
@@ -55,33 +56,16 @@ neither_second : (a b : Bool) → a || b ≡ false → b ≡ false
 neither_second false b e = e
 neither_second true b e = absurd (true≢false e)
 
--- ---- stretches of accesses
-
-module _ (Written : PortReg → Type 0) (Fits : Uses → Type 0) (port : Port) (old new : Device) (f : IsFollowed (IsControl Written port) Fits old new) where
-  pub later : length old.tape ≤ length new.tape
-  later =
-      let g = tape_gains Written port old new f.driven in
-      let n : length new.tape ≡ length old.tape + length g.0 = ap (λ (es : List Entry). length es) g.1 ∙ length-append old.tape g.0 in
-      omega (arith, n)
-
-  pub bootable_after : ((uses : Uses) → AllFree uses port.0 → Fits uses) → IsBootable port old → IsBootable port new
-  bootable_after fits b = record {
-    on = stays_on Written port old new f.driven b.on;
-    there = there_after (same_adapter Written port old new f.driven) b.there;
-    room = let same = (same_adapter Written port old new f.driven).size in let room = b.room in omega (arith, same, room);
-    agreed = (b.agreed.0, b.agreed.1, agreeing_goes_on Written Fits port b.agreed.0 old new (fits b.agreed.0 b.agreed.1) f b.agreed.2);
-  }
-
-  -- it is a part of the boot
-  pub boots : ((r : PortReg) → Written r → IsBooting r) → ((uses : Uses) → AllFree uses port.0 → Fits uses) → IsFollowed (IsControl IsBooting port) (λ uses. AllFree uses port.0) old new
-  boots wider fits = followed_wider Written IsBooting (λ uses. AllFree uses port.0) port old new wider
-      (followed_as (IsControl Written port) (IsControl Written port) Fits (λ uses. AllFree uses port.0) old new (λ access may. may) fits f)
-
--- so it is, and as much is told of it
-pub told_boots : (Tells : List Access → Type 0) (Written : PortReg → Type 0) (Fits : Uses → Type 0) (port : Port) (old new : Device) → ((r : PortReg) → Written r → IsBooting r) →
-    ((uses : Uses) → AllFree uses port.0 → Fits uses) → IsTold Tells (IsControl Written port) Fits old new → IsTold Tells (IsControl IsBooting port) (λ uses. AllFree uses port.0) old new
-told_boots Tells Written Fits port old new wider fits f =
-    told_as Tells (IsControl Written port) (IsControl IsBooting port) Fits (λ uses. AllFree uses port.0) (λ uses. uses) old new (control_wider Written port IsBooting wider) fits f
+-- what stands behind the state of a port whose device showed a fault
+pub fault_ends : (port : ℕ) (new : Device) (state : PortState) (fault : PortFault) → TellsFault state fault → fault ≢ EngineStuck → ReceivesFises port (new.port port) → Shows fault (new.port port).notes →
+    (wanted : Option (List ℕ)) → EndsAs wanted state port new
+fault_ends port new state fault told other receives shown wanted = by fault told other shown
+  where
+    by : (f : PortFault) → TellsFault state f → f ≢ EngineStuck → Shows f (new.port port).notes → EndsAs wanted state port new
+    by NoDevice is not shown = subst (λ (s : PortState). EndsAs wanted s port new) (sym is) (receives.stopped, shown)
+    by Busy is not shown = subst (λ (s : PortState). EndsAs wanted s port new) (sym is) (receives.stopped, inl (refl, shown))
+    by EngineStuck is not shown = absurd (not refl)
+    by (NotAta signature) is not shown = subst (λ (s : PortState). EndsAs wanted s port new) (sym is) (receives.stopped, inr (inl (refl, (signature, shown))))
 
 -- placing, resetting and starting are of a boot
 pub placing : (r : PortReg) → IsPlacing r → IsBooting r
@@ -93,84 +77,115 @@ resetting r is = inr (inl is)
 pub starting : (r : PortReg) → WritesCommand r → IsBooting r
 starting r is = inl (inl is)
 
-pub placed_bootable : (port : Port) (old mid : Device) → IsBootable port old → IsFollowed (IsControl IsPlacing port) AnyUse old mid → IsBootable port mid
-placed_bootable port old mid b first = bootable_after IsPlacing AnyUse port old mid first (λ uses free. tt) b
+module _ (laws : Laws) where
+  -- ---- stretches of accesses
 
-module _ (port : Port) (old mid reset : Device) (b : IsBootable port old) (first : IsTold (StopsReceiving port) (IsControl IsPlacing port) AnyUse old mid)
-    (second : IsFollowed (IsControl IsResetting port) AnyUse mid reset) where
-  pub reset_bootable : IsBootable port reset
-  reset_bootable = bootable_after IsResetting AnyUse port mid reset second (λ uses free. tt) (placed_bootable port old mid b first.followed)
+  module _ (set : RegisterSet) (fitting : Fitting) (port : Port) (old new : Device) (f : IsFollowed (IsControl (registers_of set) port) (uses_of fitting port) old new) where
+    pub later : length old.tape ≤ length new.tape
+    later =
+        let g = driven_grows laws (IsControl (registers_of set) port) old new f.driven in
+        let n : length new.tape ≡ length old.tape + length g.0 = ap (λ (es : List Entry). length es) g.1 ∙ length-append old.tape g.0 in
+        omega (arith, n)
 
-  pub reset_boots : IsTold (StopsReceiving port) (IsControl IsBooting port) (λ uses. AllFree uses port.0) old reset
-  reset_boots = told_then (StopsReceiving port) (IsControl IsBooting port) (λ uses. AllFree uses port.0) (λ early late. falls_then early late 4 14 port) old mid reset
-      (told_boots (StopsReceiving port) IsPlacing AnyUse port old mid placing (λ uses free. tt) first) (boots IsResetting AnyUse port mid reset second resetting (λ uses free. tt))
-
-  early : Grows old mid
-  early = tape_gains IsPlacing port old mid first.followed.driven
-
-  late : Grows mid reset
-  late = tape_gains IsResetting port mid reset second.driven
-
-  pub reset_since : {Then : Device → Device → Type 0} → WasReset port Then mid reset → length old.tape ≤ (reset.port port.0).notes.sctl_written_at
-  reset_since was = le_trans (later IsPlacing AnyUse port old mid first.followed) was.since
-
-  -- what was found is so of the whole
-  found_before : IsFound port.0 mid reset → IsFound port.0 old reset
-  found_before found = record {
-    calm = found.calm;
-    clear = record {
-      serr_n = λ none. found.clear.serr_n (plugs_in_parts port.0 old mid reset early late none).1;
-      serr_x = λ none. found.clear.serr_x (comes_in_parts port.0 old mid reset early late none).1;
-    };
-    undue = λ none. found.undue (comes_in_parts port.0 old mid reset early late none).1;
-    up = λ none. found.up (plugs_in_parts port.0 old mid reset early late none).1;
-    quiet = found.quiet;
-  }
-
-  pub ends_early : (state : PortState) (fault : PortFault) → TellsFault state fault → FoundFault port fault mid reset → EndsEarly port state old reset
-  ends_early state fault told f = record {
-    fault = fault;
-    told = told;
-    placed = mid;
-    places = first.followed.driven;
-    resets = f.resets;
-    coming = λ none. f.coming (comes_in_parts port.0 old mid reset early late none).1;
-    found = λ other. found_before (f.found other);
-  }
-
-  module _ (new : Device) (third : IsFollowed (IsControl WritesCommand port) (λ uses. AllFree uses port.0) reset new) where
-    pub up_boots : IsTold (StopsReceiving port) (IsControl IsBooting port) (λ uses. AllFree uses port.0) old new
-    up_boots = told_then (StopsReceiving port) (IsControl IsBooting port) (λ uses. AllFree uses port.0) (λ early late. falls_then early late 4 14 port) old reset new reset_boots
-        (boots WritesCommand (λ uses. AllFree uses port.0) port reset new third starting (λ uses free. free))
-
-    last : Grows reset new
-    last = tape_gains WritesCommand port reset new third.driven
-
-    pub brought_up : HasFound port mid reset → HasStarted port reset new → IsBroughtUp port old new
-    brought_up f s =
-        let written = ap (λ (n : Notes). n.sctl_written_at) s.same.1 in
-        let l = later WritesCommand (λ uses. AllFree uses port.0) port reset new third in
-        let marked = f.resets.marked in
-        let since = reset_since f.resets in
-        let still : (new.port port.0).notes.sctl_written_at ≤ length new.tape = omega (arith, written, l, marked) in
-        let later_still : length old.tape ≤ (new.port port.0).notes.sctl_written_at = omega (arith, since, written) in
-        let found = found_before f.found in
-        let quiet = found.quiet (neither_second _ _ f.idle) in
-        let changes = s.changes quiet.linked in
+    pub bootable_after : ((uses : Uses) → AllFree uses port.0 → uses_of fitting port uses) → IsBootable port old → IsBootable port new
+    bootable_after fits b =
+        let s = same_over laws (IsControl (registers_of set) port) old new f.driven in
         record {
-          bootable = bootable_after WritesCommand (λ uses. AllFree uses port.0) port reset new third (λ uses free. free) reset_bootable;
-          runs = s.runs;
-          det = s.same.0 ∙ f.resets.det;
-          saw = (ap (λ (n : Notes). n.last_ssts % 16) s.same.1 ∙ f.saw.0, ap (λ (n : Notes). n.link_count) s.same.1 ∙ f.saw.1);
-          known = s.set;
-          since = later_still;
-          marked = still;
-          way = record { placed = mid; places = first.followed.driven; found = reset; resets = f.resets; starts = third.driven };
-          calm = λ place small. s.calm place (found.calm place small);
-          clear = record {
-            serr_n = λ none. let parts = plugs_in_parts port.0 old reset new (grows_more old mid reset early late) last none in changes.serr_n parts.1 (found.clear.serr_n parts.0);
-            serr_x = λ none. let parts = comes_in_parts port.0 old reset new (grows_more old mid reset early late) last none in changes.serr_x parts.1 (found.clear.serr_x parts.0);
-          };
-          recorded = s.recorded quiet;
-          well = λ none. let parts = plugs_in_parts port.0 old reset new (grows_more old mid reset early late) last none in s.well (found.up parts.0) parts.1;
+          on = stays_on laws set port old new f.driven b.on;
+          there = there_after s b.there;
+          room = let same = s.size in let room = b.room in omega (arith, same, room);
+          agreed = (b.agreed.0, b.agreed.1, laws.agreed (Controlling set fitting port) (λ uses. uses) b.agreed.0 old new (fits b.agreed.0 b.agreed.1) f b.agreed.2);
         }
+
+  -- it is a part of the boot, and as much is told of it
+  pub told_boots : (Tells : List Access → Type 0) (set : RegisterSet) (fitting : Fitting) (port : Port) (old new : Device) → ((r : PortReg) → registers_of set r → IsBooting r) →
+      ((uses : Uses) → AllFree uses port.0 → uses_of fitting port uses) → IsTold Tells (IsControl (registers_of set) port) (uses_of fitting port) old new →
+      IsTold Tells (IsControl IsBooting port) (λ uses. AllFree uses port.0) old new
+  told_boots Tells set fitting port old new wider fits f =
+      told_wider laws Tells (Controlling set fitting port) (Controlling BootRegisters PortUnused port) (λ uses. uses) old new (laws.control_wider set BootRegisters port wider) fits f
+
+  pub boots : (set : RegisterSet) (fitting : Fitting) (port : Port) (old new : Device) → IsFollowed (IsControl (registers_of set) port) (uses_of fitting port) old new →
+      ((r : PortReg) → registers_of set r → IsBooting r) → ((uses : Uses) → AllFree uses port.0 → uses_of fitting port uses) → IsFollowed (IsControl IsBooting port) (λ uses. AllFree uses port.0) old new
+  boots set fitting port old new f wider fits = (told_boots (λ made. Unit {0}) set fitting port old new wider fits (record { followed = f; tells = tt })).followed
+
+  pub placed_bootable : (port : Port) (old mid : Device) → IsBootable port old → IsFollowed (IsControl IsPlacing port) AnyUse old mid → IsBootable port mid
+  placed_bootable port old mid b first = bootable_after Placing AnyUses port old mid first (λ uses free. tt) b
+
+  module _ (port : Port) (old mid reset : Device) (b : IsBootable port old) (first : IsTold (StopsReceiving port) (IsControl IsPlacing port) AnyUse old mid)
+      (second : IsFollowed (IsControl IsResetting port) AnyUse mid reset) where
+    pub reset_bootable : IsBootable port reset
+    reset_bootable = bootable_after Resetting AnyUses port mid reset second (λ uses free. tt) (placed_bootable port old mid b first.followed)
+
+    pub reset_boots : IsTold (StopsReceiving port) (IsControl IsBooting port) (λ uses. AllFree uses port.0) old reset
+    reset_boots = told_then laws (StopsReceiving port) (Controlling BootRegisters PortUnused port) (λ early late. laws.falls_then early late 4 14 port) old mid reset
+        (told_boots (StopsReceiving port) Placing AnyUses port old mid placing (λ uses free. tt) first) (boots Resetting AnyUses port mid reset second resetting (λ uses free. tt))
+
+    early : Grows old mid
+    early = driven_grows laws (IsControl IsPlacing port) old mid first.followed.driven
+
+    late : Grows mid reset
+    late = driven_grows laws (IsControl IsResetting port) mid reset second.driven
+
+    pub reset_since : {Then : Device → Device → Type 0} → WasReset port Then mid reset → length old.tape ≤ (reset.port port.0).notes.sctl_written_at
+    reset_since was = le_trans (later Placing AnyUses port old mid first.followed) was.since
+
+    -- what was found is so of the whole
+    found_before : IsFound port.0 mid reset → IsFound port.0 old reset
+    found_before found = record {
+      calm = found.calm;
+      clear = record {
+        serr_n = λ none. found.clear.serr_n (plugs_in_parts laws port.0 old mid reset early late none).1;
+        serr_x = λ none. found.clear.serr_x (comes_in_parts laws port.0 old mid reset early late none).1;
+      };
+      undue = λ none. found.undue (comes_in_parts laws port.0 old mid reset early late none).1;
+      up = λ none. found.up (plugs_in_parts laws port.0 old mid reset early late none).1;
+      quiet = found.quiet;
+    }
+
+    pub ends_early : (state : PortState) (fault : PortFault) → TellsFault state fault → FoundFault port fault mid reset → EndsEarly port state old reset
+    ends_early state fault told f = record {
+      fault = fault;
+      told = told;
+      placed = mid;
+      places = first.followed.driven;
+      resets = f.resets;
+      coming = λ none. f.coming (comes_in_parts laws port.0 old mid reset early late none).1;
+      found = λ other. found_before (f.found other);
+    }
+
+    module _ (new : Device) (third : IsFollowed (IsControl WritesCommand port) (λ uses. AllFree uses port.0) reset new) where
+      pub up_boots : IsTold (StopsReceiving port) (IsControl IsBooting port) (λ uses. AllFree uses port.0) old new
+      up_boots = told_then laws (StopsReceiving port) (Controlling BootRegisters PortUnused port) (λ early late. laws.falls_then early late 4 14 port) old reset new reset_boots
+          (boots Commanding PortUnused port reset new third starting (λ uses free. free))
+
+      last : Grows reset new
+      last = driven_grows laws (IsControl WritesCommand port) reset new third.driven
+
+      pub brought_up : HasFound port mid reset → HasStarted port reset new → IsBroughtUp port old new
+      brought_up f s =
+          let written = ap (λ (n : Notes). n.sctl_written_at) s.same.1 in
+          let l = later Commanding PortUnused port reset new third in
+          let marked = f.resets.marked in
+          let since = reset_since f.resets in
+          let still : (new.port port.0).notes.sctl_written_at ≤ length new.tape = omega (arith, written, l, marked) in
+          let later_still : length old.tape ≤ (new.port port.0).notes.sctl_written_at = omega (arith, since, written) in
+          let found = found_before f.found in
+          let quiet = found.quiet (neither_second _ _ f.idle) in
+          let changes = s.changes quiet.linked in
+          record {
+            bootable = bootable_after Commanding PortUnused port reset new third (λ uses free. free) reset_bootable;
+            runs = s.runs;
+            det = s.same.0 ∙ f.resets.det;
+            saw = (ap (λ (n : Notes). n.last_ssts % 16) s.same.1 ∙ f.saw.0, ap (λ (n : Notes). n.link_count) s.same.1 ∙ f.saw.1);
+            known = s.set;
+            since = later_still;
+            marked = still;
+            way = record { placed = mid; places = first.followed.driven; found = reset; resets = f.resets; starts = third.driven };
+            calm = λ place small. s.calm place (found.calm place small);
+            clear = record {
+              serr_n = λ none. let parts = plugs_in_parts laws port.0 old reset new (laws.grows_more old mid reset early late) last none in changes.serr_n parts.1 (found.clear.serr_n parts.0);
+              serr_x = λ none. let parts = comes_in_parts laws port.0 old reset new (laws.grows_more old mid reset early late) last none in changes.serr_x parts.1 (found.clear.serr_x parts.0);
+            };
+            recorded = s.recorded quiet;
+            well = λ none. let parts = plugs_in_parts laws port.0 old reset new (laws.grows_more old mid reset early late) last none in s.well (found.up parts.0) parts.1;
+          }

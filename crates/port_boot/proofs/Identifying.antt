@@ -16,32 +16,36 @@ use Rattle.adapter.specs.Rules.{IsOn, HasPort, MayWrite, Stays}
 use Rattle.adapter.specs.declared.command.Operation.TheVariants.{Identify}
 use Rattle.adapter.specs.declared.tape.Entry.{Entry}
 use Rattle.adapter.specs.declared.tape.Entry.TheVariants as entry
-use Rattle.adapter.proofs.Calls.{put, PutAt}
-use Rattle.agreement.specs.Driven.{AgreesWith, AnyUse, IsAgreed, IsControl, IsDrivenBy, IsFollowed, IsTold, IsToldTo}
+use Rattle.adapter.specs.Seen.{PutAt}
+use Rattle.agreement.specs.Driven.{AgreesWith, AnyUse, IsAgreed, IsControl, IsDrivenBy, IsFollowed, IsTold, IsToldTo, SendsNone}
 use Rattle.agreement.specs.Links.{SameAdapter}
 use Rattle.agreement.specs.Driver.{AllFree}
 use Rattle.agreement.specs.Slots.{Own, Uses, put as used, IsMove, IsOver}
-use Rattle.agreement.proofs.Allowing.{write_stays}
-use Rattle.agreement.proofs.Controlled.{control_wider, same_over}
-use Rattle.agreement.proofs.Driven.{followed_as, followed_then, followed_to_as, followed_write, told_as, told_both, told_more, told_since, told_then}
-use Rattle.agreement.proofs.Lasting.{access_on}
-use Rattle.agreement.proofs.Gaining.{GainsNone}
-use Rattle.agreement.proofs.Unmoving.{access_unmoving, controls_unmoving}
 use Rattle.command_table.specs.Written.{IsUnused}
 use Rattle.disk_page.specs.Asking.{IsAsking, LeavesRunning, Brings, Reads, MayAsk}
-use Rattle.disk_page.proofs.Asking.{told_back}
 use Rattle.identify.specs.declared.DiskInfo.{DiskInfo}
 use Rattle.port_control.specs.Engines.{FailsToStop, FailsToStopReceiving, Stops, StopsReceiving, Sticks}
 use Rattle.port_control.specs.Ports.{WritesCommand, IsPlacing, IsRunning, HasStopped, SawDevice}
 use Rattle.port_boot.specs.States.{told_causes, HasPage, IsFit, Judges, EndsAs, IsReady, IsBooting, IsOfBoot, IsBoot, IsBootTo, IsBootable, IsBroughtUp, IsHaltedAs, IsLate, StopsOnWay, TellsFault}
 use Rattle.port_control.specs.declared.PortFault.{PortFault}
 use Rattle.port_control.specs.declared.PortFault.TheVariants.{NoDevice, Busy, EngineStuck, NotAta}
-use Rattle.port_control.proofs.Using.{there_after, failing_sticks, failing_receiving_sticks, falls_then, falls_since, sticks_since}
 use Rattle.port_boot.proofs.Bringing.{placing, starting, told_boots}
+use Rattle.port_boot.specs.Laws.Fitting.{AnyUses, HeadUnused, PortUnused}
+use Rattle.port_boot.specs.Laws.Stretch.{Asking, Booting, Controlling}
+use Rattle.port_boot.specs.Laws.RegisterSet.{BootRegisters, Commanding, Placing, ButIssued}
+use Rattle.port_boot.specs.Laws.{Laws}
+use Rattle.agreement.specs.Tape.{Tells}
+use Rattle.port_boot.proofs.Stretching.{followed_then, followed_wider, same_over, there_after, told_both, told_more, told_since, told_then, told_wider, driven_as}
 
--- ---- the page stays the last
+-- the port runs, and has this page
+pub record IsIdentified (port : Port) (d : Device) (page : List ℕ) : Type 0 where
+  pub bootable : IsBootable port d
+  pub runs : IsRunning port.0 (d.port port.0)
+  pub det : (d.port port.0).sctl_det ≡ 0
+  pub saw : SawDevice (d.port port.0).notes
+  pub has : HasPage port.0 d page
 
-pub page_on : (port : ℕ) (old new : Device) (page : List ℕ) → GainsNone (IsMove port Identify) old new → (new.port port).notes.sctl_written_at ≡ (old.port port).notes.sctl_written_at →
+pub page_on : (port : ℕ) (old new : Device) (page : List ℕ) → SendsNone port Identify old new → (new.port port).notes.sctl_written_at ≡ (old.port port).notes.sctl_written_at →
     HasPage port old page → HasPage port new page
 page_on port old new page g same h = record {
   before = h.before;
@@ -53,16 +57,6 @@ page_on port old new page g same h = record {
   last = All-append (λ e. IsMove port Identify e → ⊥) h.later g.0 h.last g.2;
   bytes = h.bytes;
 }
-
--- ---- what was asked brought a page
-
--- the port runs, and has this page
-pub record IsIdentified (port : Port) (d : Device) (page : List ℕ) : Type 0 where
-  pub bootable : IsBootable port d
-  pub runs : IsRunning port.0 (d.port port.0)
-  pub det : (d.port port.0).sctl_det ≡ 0
-  pub saw : SawDevice (d.port port.0).notes
-  pub has : HasPage port.0 d page
 
 module _ (port : Port) (start old mid : Device) (up : IsBroughtUp port start old) (l : LeavesRunning port.0 old mid) where
   noted : (mid.port port.0).notes.sctl_written_at ≡ (old.port port.0).notes.sctl_written_at
@@ -113,18 +107,8 @@ may_ask port start old up = record {
   known = up.known;
 }
 
--- ---- kinds of accesses
-
--- no access changes what the adapter is
-pub asking_adapter : (port : Port) (old new : Device) → IsDrivenBy (IsAsking port) old new → SameAdapter old new
-asking_adapter port = same_over (IsAsking port)
-
 command_quiet : WritesCommand Ci → ⊥
 command_quiet e = absurd (let k : Ci ≡ Cmd = e in cc)
-
--- PxIE may be written
-pub enabling : (port : Port) (v : ℕ) (d : Device) → IsBootable port d → Stays (MayWrite (Px port Ie) v) d
-enabling port v d b = write_stays (Px port Ie) v d (λ p e. absurd cc) (b.on, b.there, tt)
 
 asking : (port : Port) (access : Access) → IsAsking port access → IsOfBoot port access
 asking port access is = inr is
@@ -135,27 +119,10 @@ controlling port access is = inl is
 unused : (port : Port) (uses : Uses) → AllFree uses port.0 → IsUnused port.0 0 uses
 unused port uses free = free 0
 
--- a stop is a part of the boot
-stop_boots : (Tells : List Access → Type 0) (port : Port) (mid new : Device) → IsTold Tells (IsControl WritesCommand port) AnyUse mid new → IsTold Tells (IsOfBoot port) AnyUse mid new
-stop_boots Tells port mid new f = told_as Tells (IsControl WritesCommand port) (IsOfBoot port) AnyUse AnyUse (λ uses. uses) mid new
-    (λ access may. inl (control_wider WritesCommand port IsBooting starting access may)) (λ uses is. is) f
-
-module _ (port : Port) (start old mid : Device) (up : IsBroughtUp port start old) (on : IsOn mid) (l : LeavesRunning port.0 old mid) where
-  module _ (driven : IsDrivenBy (IsAsking port) old mid) where
-    pub asked_there : HasPort mid port.0
-    asked_there = there_after (asking_adapter port old mid driven) up.bootable.there
-
-    pub asked_room : 163840 ≤ mid.size
-    asked_room = let same = (asking_adapter port old mid driven).size in let room = up.bootable.room in omega (arith, same, room)
-
 -- a port that was to stop was driven so, however it ended
 pub halt_driven : (port : Port) (wanted state : PortState) (old new : Device) → IsHaltedAs port wanted state old new → IsDrivenBy (IsControl WritesCommand port) old new
 halt_driven port wanted state old new (inl x) = x.1.told.followed.driven
 halt_driven port wanted state old new (inr x) = x.2.told.followed.driven
-
--- where it didn't stop, its engine is stuck
-halting_sticks : (port : Port) (old new : Device) → IsTold (FailsToStop port) (IsControl WritesCommand port) AnyUse old new → IsTold (Sticks port) (IsControl WritesCommand port) AnyUse old new
-halting_sticks port old new f = told_more (FailsToStop port) (Sticks port) (IsControl WritesCommand port) AnyUse (λ uses. uses) old new (failing_sticks port) f
 
 -- a boot to any state but Dead
 pub boots_to : (Tells : List Access → Type 0) (port : Port) (old new : Device) (state : PortState) → state ≢ Dead → IsBoot Tells port old new → IsBootTo Tells port state old new
@@ -165,195 +132,229 @@ boots_to Tells port old new Ready alive b = b
 boots_to Tells port old new Foreign alive b = b
 boots_to Tells port old new (Unfit n) alive b = b
 
--- ---- no page came
+module _ (laws : Laws) where
+  -- ---- kinds of accesses
 
-module _ (port : Port) (start old mid : Device) (up : IsBroughtUp port start old) (on : IsOn mid) (l : LeavesRunning port.0 old mid)
-    (reads : Reads port Identify None old mid) (agrees : (uses : Uses) → IsUnused port.0 0 uses → IsAgreed uses old → IsAgreed (used uses port.0 0 (Own Identify)) mid) where
-  pub unasked_there : HasPort mid port.0
-  unasked_there = asked_there port start old mid up on l reads.1.driven
+  -- no access changes what the adapter is
+  pub asking_adapter : (port : Port) (old new : Device) → IsDrivenBy (IsAsking port) old new → SameAdapter old new
+  asking_adapter port = same_over laws (IsAsking port)
 
-  pub unasked_agreed : AgreesWith AnyUse mid
-  unasked_agreed = let a = up.bootable.agreed in (used a.0 port.0 0 (Own Identify), tt, agrees a.0 (a.1 0) a.2)
+  -- PxIE may be written
+  pub enabling : (port : Port) (v : ℕ) (d : Device) → IsBootable port d → Stays (MayWrite (Px port Ie) v) d
+  enabling port v d b = laws.write_stays (Px port Ie) v d (λ p e. absurd cc) (b.on, b.there, tt)
 
-  module _ (new : Device) (has : HasStopped (mid.port port.0) (new.port port.0)) where
-    -- asked, and then stopped, of which so much is told
-    module _ (Tells : List Access → Type 0) (since : (early late : List Access) → Tells late → Tells (early ++ late)) (stops : IsTold Tells (IsControl WritesCommand port) AnyUse mid new) where
-      given : IsToldTo Tells (IsOfBoot port) (IsUnused port.0 0) (λ uses. used uses port.0 0 (Own Identify)) old new
-      given = told_both (λ early. Unit {0}) Tells Tells (λ early late any is. since early late is) (IsOfBoot port) (IsUnused port.0 0) AnyUse (λ uses. used uses port.0 0 (Own Identify)) (λ uses. uses)
-          (λ uses free. tt) old mid new
-          (record { followed = followed_to_as (IsAsking port) (IsOfBoot port) (IsUnused port.0 0) (IsUnused port.0 0) (λ uses. used uses port.0 0 (Own Identify)) old mid (asking port) (λ uses free. free) reads.1; tells = tt })
-          (stop_boots Tells port mid new stops)
+  -- a stop is a part of the boot
+  stop_boots : (Tells : List Access → Type 0) (port : Port) (mid new : Device) → IsTold Tells (IsControl WritesCommand port) AnyUse mid new → IsTold Tells (IsOfBoot port) AnyUse mid new
+  stop_boots Tells port mid new f = told_wider laws Tells (Controlling Commanding AnyUses port) (Booting AnyUses port) (λ uses. uses) mid new
+      (λ access may. inl (laws.control_wider Commanding BootRegisters port starting access may)) (λ uses is. is) f
 
-      given_boots : IsToldTo Tells (IsOfBoot port) (λ uses. AllFree uses port.0) (λ uses. used uses port.0 0 (Own Identify)) old new
-      given_boots = told_as Tells (IsOfBoot port) (IsOfBoot port) (IsUnused port.0 0) (λ uses. AllFree uses port.0) (λ uses. used uses port.0 0 (Own Identify)) old new (λ access may. may) (unused port) given
+  module _ (port : Port) (start old mid : Device) (up : IsBroughtUp port start old) (on : IsOn mid) (l : LeavesRunning port.0 old mid) where
+    module _ (driven : IsDrivenBy (IsAsking port) old mid) where
+      pub asked_there : HasPort mid port.0
+      asked_there = there_after (asking_adapter port old mid driven) up.bootable.there
 
-      stopped_boots : IsOver (new.port port.0) 0 → IsBoot Tells port old new
-      stopped_boots over = told_as Tells (IsOfBoot port) (IsOfBoot port) (IsUnused port.0 0) (λ uses. AllFree uses port.0) (λ uses. uses) old new (λ access may. may) (unused port)
-          (told_back Tells (IsOfBoot port) port Identify 1 old new (inr (refl, refl)) over given)
+      pub asked_room : 163840 ≤ mid.size
+      asked_room = let same = (asking_adapter port old mid driven).size in let room = up.bootable.room in omega (arith, same, room)
 
-    pub unasked_ends : (wanted : Option (List ℕ)) (result : PortState) → IsHaltedAs port (Unfit 9) result mid new → EndsAs wanted result port.0 new
-    unasked_ends wanted result (inl x) = let P : PortState → Type 0 = λ s. EndsAs wanted s port.0 new in
-        subst P (sym x.0) (
-          x.1.stopped,
-          inr (inr (inl (
-            refl,
-            (ap (λ (n : Notes). n.last_ssts % 16) has.notes ∙ (asked_saw port start old mid up l).0, ap (λ (n : Notes). n.link_count) has.notes ∙ (asked_saw port start old mid up l).1),
-            ap (λ (n : Notes). n.command_count) has.notes ∙ reads.0,
-          ))),
-        )
-    unasked_ends wanted result (inr x) = let P : PortState → Type 0 = λ s. EndsAs wanted s port.0 new in subst P (sym x.0) (x.1, x.2.stuck)
+  -- where it didn't stop, its engine is stuck
+  halting_sticks : (port : Port) (old new : Device) → IsTold (FailsToStop port) (IsControl WritesCommand port) AnyUse old new → IsTold (Sticks port) (IsControl WritesCommand port) AnyUse old new
+  halting_sticks port old new f = told_more (FailsToStop port) (Sticks port) (IsControl WritesCommand port) AnyUse (λ uses. uses) old new (laws.failing_sticks port) f
 
-    pub unasked_boots : (result : PortState) → IsHaltedAs port (Unfit 9) result mid new → IsBootTo (Stops port) port result old new
-    unasked_boots result (inl x) =
-        let P : PortState → Type 0 = λ s. IsBootTo (Stops port) port s old new in
-        subst P (sym x.0) (stopped_boots (Stops port) (λ early late. falls_since early late 0 15 port) x.1.told (record { issued = x.1.stopped.halted.ci 0; free = x.1.stopped.halted.taken 0 }))
-    unasked_boots result (inr x) =
-        let P : PortState → Type 0 = λ s. IsBootTo (Stops port) port s old new in
-        subst P (sym x.0) (inr (given_boots (Sticks port) (λ early late. sticks_since early late port) (halting_sticks port mid new x.2.told)))
+  -- ---- no page came
 
--- ---- a page came
+  module _ (port : Port) (start old mid : Device) (up : IsBroughtUp port start old) (on : IsOn mid) (l : LeavesRunning port.0 old mid)
+      (reads : Reads port Identify None old mid) (agrees : (uses : Uses) → IsUnused port.0 0 uses → IsAgreed uses old → IsAgreed (used uses port.0 0 (Own Identify)) mid) where
+    pub unasked_there : HasPort mid port.0
+    unasked_there = asked_there port start old mid up on l reads.1.driven
 
-module _ (port : Port) (start old mid : Device) (page : List ℕ) (up : IsBroughtUp port start old) (on : IsOn mid) (l : LeavesRunning port.0 old mid)
-    (reads : Reads port Identify (Some page) old mid) (agrees : (uses : Uses) → IsUnused port.0 0 uses → IsAgreed uses old → IsAgreed uses mid) where
-  pub identified : IsIdentified port mid page
-  identified =
-      let a = up.bootable.agreed in
-      record {
-        bootable = record {
-          on = on;
-          there = asked_there port start old mid up on l reads.1.driven;
-          room = asked_room port start old mid up on l reads.1.driven;
-          agreed = (a.0, a.1, agrees a.0 (a.1 0) a.2);
-        };
-        runs = asked_running port start old mid up l reads.0.clear.over;
-        det = l.controls.sctl_det ∙ up.det;
-        saw = asked_saw port start old mid up l;
-        has = asked_page port start old mid up l page reads.0;
-      }
+    pub unasked_agreed : AgreesWith AnyUse mid
+    unasked_agreed = let a = up.bootable.agreed in (used a.0 port.0 0 (Own Identify), tt, agrees a.0 (a.1 0) a.2)
 
-  asked_boots : IsFollowed (IsOfBoot port) (λ uses. AllFree uses port.0) old mid
-  asked_boots = followed_as (IsAsking port) (IsOfBoot port) (IsUnused port.0 0) (λ uses. AllFree uses port.0) old mid (asking port) (unused port) reads.1
+    module _ (new : Device) (has : HasStopped (mid.port port.0) (new.port port.0)) where
+      -- asked, and then stopped, of which so much is told
+      module _ (Tells : List Access → Type 0) (since : (early late : List Access) → Tells late → Tells (early ++ late)) (stops : IsTold Tells (IsControl WritesCommand port) AnyUse mid new) where
+        given : IsToldTo Tells (IsOfBoot port) (IsUnused port.0 0) (λ uses. used uses port.0 0 (Own Identify)) old new
+        given = told_both laws (λ early. Unit {0}) Tells Tells (λ early late any is. since early late is) (Booting HeadUnused port) (Booting AnyUses port) (λ uses. used uses port.0 0 (Own Identify)) (λ uses. uses)
+            (λ access may. may)
+            (λ uses free. tt) old mid new
+            (record { followed = followed_wider laws (Asking port) (Booting HeadUnused port) (λ uses. used uses port.0 0 (Own Identify)) old mid (asking port) (λ uses free. free) reads.1; tells = tt })
+            (stop_boots Tells port mid new stops)
 
-  -- and then PxIE is written
-  module _ (v : ℕ) (new : Device) (call : Writes (Px port Ie) v mid new) where
-    w : PutAt port.0 Ie v mid new
-    w = put port Ie v mid new call identified.bootable.on.no_reset
+        given_boots : IsToldTo Tells (IsOfBoot port) (λ uses. AllFree uses port.0) (λ uses. used uses port.0 0 (Own Identify)) old new
+        given_boots = told_wider laws Tells (Booting HeadUnused port) (Booting PortUnused port) (λ uses. used uses port.0 0 (Own Identify)) old new (λ access may. may) (unused port) given
 
-    pub enabled_on : IsOn new
-    enabled_on = access_on (Writing (Px port Ie) v) mid new on (λ k e. absurd cc) call
+        stopped_boots : IsOver (new.port port.0) 0 → IsBoot Tells port old new
+        stopped_boots over = told_wider laws Tells (Booting HeadUnused port) (Booting PortUnused port) (λ uses. uses) old new (λ access may. may) (unused port)
+            (let f = laws.over (Booting HeadUnused port) port Identify 1 old new (inr (refl, refl)) (λ uses free. free) over given.followed in
+            record { followed = f.followed; tells = subst Tells (sym f.tells) given.tells })
 
-    pub enabled_written : (new.port port.0).notes.sctl_written_at ≡ (mid.port port.0).notes.sctl_written_at
-    enabled_written = ap (λ (p : device.PortState). p.notes.sctl_written_at) w.here ∙ ap (λ (n : Notes). n.sctl_written_at) (w.notes port.0)
+      pub unasked_ends : (wanted : Option (List ℕ)) (result : PortState) → IsHaltedAs port (Unfit 9) result mid new → EndsAs wanted result port.0 new
+      unasked_ends wanted result (inl x) = let P : PortState → Type 0 = λ s. EndsAs wanted s port.0 new in
+          subst P (sym x.0) (
+            x.1.stopped,
+            inr (inr (inl (
+              refl,
+              (ap (λ (n : Notes). n.last_ssts % 16) has.notes ∙ (asked_saw port start old mid up l).0, ap (λ (n : Notes). n.link_count) has.notes ∙ (asked_saw port start old mid up l).1),
+              ap (λ (n : Notes). n.command_count) has.notes ∙ reads.0,
+            ))),
+          )
+      unasked_ends wanted result (inr x) = let P : PortState → Type 0 = λ s. EndsAs wanted s port.0 new in subst P (sym x.0) (x.1, x.2.stuck)
 
-    pub enabled_ready : (wanted : Option (List ℕ)) (info : DiskInfo) → v ≡ told_causes → IsFit wanted page info → IsReady wanted port.0 new info
-    enabled_ready wanted info told fit =
-        let h = identified in
-        let r = h.runs in
-        let k = w.keeps.port port.0 in
-        let c = w.keeps.on.controls port.0 in
-        let P : device.PortState → Type 0 = λ p. IsRunning port.0 p in
-        let runs : IsRunning port.0 (port_written Ie v (length w.mid.tape) (w.mid.port port.0)) = record {
-          st = c.st ∙ r.st;
-          cr = c.runs r.st r.cr;
-          fre = c.fre ∙ r.fre;
-          bases = k.bases ∙ r.bases;
-          ci = λ slot. k.ci slot (r.ci slot);
-          sact = λ slot. k.sact slot (r.sact slot);
-          taken = λ slot. k.free slot (r.ci slot) (r.taken slot);
-        } in
-        let noted : (new.port port.0).notes ≡ (mid.port port.0).notes = ap (λ (p : device.PortState). p.notes) w.here ∙ w.notes port.0 in
+      pub unasked_boots : (result : PortState) → IsHaltedAs port (Unfit 9) result mid new → IsBootTo (Stops port) port result old new
+      unasked_boots result (inl x) =
+          let P : PortState → Type 0 = λ s. IsBootTo (Stops port) port s old new in
+          subst P (sym x.0) (stopped_boots (Stops port) (λ early late. laws.falls_since early late 0 15 port) x.1.told (record { issued = x.1.stopped.halted.ci 0; free = x.1.stopped.halted.taken 0 }))
+      unasked_boots result (inr x) =
+          let P : PortState → Type 0 = λ s. IsBootTo (Stops port) port s old new in
+          subst P (sym x.0) (inr (given_boots (Sticks port) (λ early late. laws.sticks_since early late port) (halting_sticks port mid new x.2.told)))
+
+  -- ---- a page came
+
+  module _ (port : Port) (start old mid : Device) (page : List ℕ) (up : IsBroughtUp port start old) (on : IsOn mid) (l : LeavesRunning port.0 old mid)
+      (reads : Reads port Identify (Some page) old mid) (agrees : (uses : Uses) → IsUnused port.0 0 uses → IsAgreed uses old → IsAgreed uses mid) where
+    pub identified : IsIdentified port mid page
+    identified =
+        let a = up.bootable.agreed in
         record {
-          runs = subst P (sym w.here) runs;
-          saw = (ap (λ (n : Notes). n.last_ssts % 16) noted ∙ h.saw.0, ap (λ (n : Notes). n.link_count) noted ∙ h.saw.1);
-          disk = record {
-            det = ap (λ (p : device.PortState). p.sctl_det) w.here ∙ c.sctl_det ∙ h.det;
-            tells = ap (λ (p : device.PortState). p.ie) w.here ∙ told;
-            page = page;
-            has = page_on port.0 mid new page (access_unmoving port.0 Identify (Writing (Px port Ie) v) mid new (λ slot. record { issued = r.ci slot; free = r.taken slot }) call) enabled_written h.has;
-            fit = fit;
+          bootable = record {
+            on = on;
+            there = asked_there port start old mid up on l reads.1.driven;
+            room = asked_room port start old mid up on l reads.1.driven;
+            agreed = (a.0, a.1, agrees a.0 (a.1 0) a.2);
           };
+          runs = asked_running port start old mid up l reads.0.clear.over;
+          det = l.controls.sctl_det ∙ up.det;
+          saw = asked_saw port start old mid up l;
+          has = asked_page port start old mid up l page reads.0;
         }
 
-    pub enabled_boots : IsFollowed (IsOfBoot port) (λ uses. AllFree uses port.0) old new
-    enabled_boots = followed_then (IsOfBoot port) (λ uses. AllFree uses port.0) old mid new asked_boots
-        (followed_write (IsOfBoot port) (λ uses. AllFree uses port.0) (Px port Ie) v mid new (inl (refl, inr (inr refl))) (enabling port v mid identified.bootable) (λ uses free. tt) call)
+    asked_boots : IsFollowed (IsOfBoot port) (λ uses. AllFree uses port.0) old mid
+    asked_boots = followed_wider laws (Asking port) (Booting PortUnused port) (λ uses. uses) old mid (asking port) (unused port) reads.1
 
-  -- or the port is stopped, of which so much is told
-  halted_as : (Tells : List Access → Type 0) → ((early late : List Access) → Tells late → Tells (early ++ late)) → (new : Device) → IsTold Tells (IsControl WritesCommand port) AnyUse mid new → IsBoot Tells port old new
-  halted_as Tells since new stops = told_since Tells (IsOfBoot port) (λ uses. AllFree uses port.0) since (λ uses. uses) old mid new asked_boots
-      (told_as Tells (IsOfBoot port) (IsOfBoot port) AnyUse (λ uses. AllFree uses port.0) (λ uses. uses) mid new (λ access may. may) (λ uses free. tt) (stop_boots Tells port mid new stops))
+    -- and then PxIE is written
+    module _ (v : ℕ) (new : Device) (call : Writes (Px port Ie) v mid new) where
+      w : PutAt port.0 Ie v mid new
+      w = laws.put_at port Ie v mid new call identified.bootable.on.no_reset
 
-  pub halted_boots : (wanted : Option (List ℕ)) (state result : PortState) (new : Device) → Judges wanted state page → IsHaltedAs port state result mid new → IsBootTo (Stops port) port result old new
-  halted_boots wanted state result new judged (inl x) =
-      let P : PortState → Type 0 = λ s. IsBootTo (Stops port) port s old new in
-      let alive : state ≢ Dead = λ (dead : state ≡ Dead). absurd (subst (λ (s : PortState). Judges wanted s page) dead judged) in
-      subst P (sym x.0) (boots_to (Stops port) port old new state alive (halted_as (Stops port) (λ early late. falls_since early late 0 15 port) new x.1.told))
-  halted_boots wanted state result new judged (inr x) =
-      let P : PortState → Type 0 = λ s. IsBootTo (Stops port) port s old new in
-      subst P (sym x.0) (inl (halted_as (Sticks port) (λ early late. sticks_since early late port) new (halting_sticks port mid new x.2.told)))
+      pub enabled_on : IsOn new
+      enabled_on = laws.access_on (Writing (Px port Ie) v) mid new on (λ k e. absurd cc) call
 
-  module _ (new : Device) (stops : IsDrivenBy (IsControl WritesCommand port) mid new) (has : HasStopped (mid.port port.0) (new.port port.0)) where
-    halted_page : HasPage port.0 new page
-    halted_page =
-        let h = identified in
-        let silent = controls_unmoving WritesCommand command_quiet port Identify mid new stops (λ slot. record { issued = h.runs.ci slot; free = h.runs.taken slot }) in
-        page_on port.0 mid new page silent.0 (ap (λ (n : Notes). n.sctl_written_at) has.notes) h.has
+      pub enabled_written : (new.port port.0).notes.sctl_written_at ≡ (mid.port port.0).notes.sctl_written_at
+      enabled_written = ap (λ (p : device.PortState). p.notes.sctl_written_at) w.here ∙ ap (λ (n : Notes). n.sctl_written_at) (w.notes port.0)
 
-    pub halted_ends : (wanted : Option (List ℕ)) (state result : PortState) → Judges wanted state page → IsHaltedAs port state result mid new → EndsAs wanted result port.0 new
-    halted_ends wanted (Unfit n) result judged (inl x) = let P : PortState → Type 0 = λ s. EndsAs wanted s port.0 new in subst P (sym x.0) (x.1.stopped, inr (inr (inr (page, halted_page, judged))))
-    halted_ends wanted Foreign result judged (inl x) = let P : PortState → Type 0 = λ s. EndsAs wanted s port.0 new in subst P (sym x.0) (x.1.stopped, (page, halted_page, judged))
-    halted_ends wanted Absent result judged (inl x) = absurd judged
-    halted_ends wanted Ready result judged (inl x) = absurd judged
-    halted_ends wanted Dead result judged (inl x) = absurd judged
-    halted_ends wanted state result judged (inr x) = let P : PortState → Type 0 = λ s. EndsAs wanted s port.0 new in subst P (sym x.0) (x.1, x.2.stuck)
+      pub enabled_since : (new.port port.0).notes.sctl_written_at ≡ (old.port port.0).notes.sctl_written_at
+      enabled_since = enabled_written ∙ ap (λ (n : Notes). n.sctl_written_at) l.notes
 
--- ---- the whole boot
+      pub enabled_ready : (wanted : Option (List ℕ)) (info : DiskInfo) → v ≡ told_causes → IsFit wanted page info → IsReady wanted port.0 new info
+      enabled_ready wanted info told fit =
+          let h = identified in
+          let r = h.runs in
+          let k = w.keeps.port port.0 in
+          let c = w.keeps.on.controls port.0 in
+          let P : device.PortState → Type 0 = λ p. IsRunning port.0 p in
+          let runs : IsRunning port.0 (port_written Ie v (length w.mid.tape) (w.mid.port port.0)) = record {
+            st = c.st ∙ r.st;
+            cr = c.runs r.st r.cr;
+            fre = c.fre ∙ r.fre;
+            bases = k.bases ∙ r.bases;
+            ci = λ slot. k.ci slot (r.ci slot);
+            sact = λ slot. k.sact slot (r.sact slot);
+            taken = λ slot. k.free slot (r.ci slot) (r.taken slot);
+          } in
+          let noted : (new.port port.0).notes ≡ (mid.port port.0).notes = ap (λ (p : device.PortState). p.notes) w.here ∙ w.notes port.0 in
+          record {
+            runs = subst P (sym w.here) runs;
+            saw = (ap (λ (n : Notes). n.last_ssts % 16) noted ∙ h.saw.0, ap (λ (n : Notes). n.link_count) noted ∙ h.saw.1);
+            disk = record {
+              det = ap (λ (p : device.PortState). p.sctl_det) w.here ∙ c.sctl_det ∙ h.det;
+              tells = ap (λ (p : device.PortState). p.ie) w.here ∙ told;
+              page = page;
+              has = page_on port.0 mid new page (laws.access_unmoving port.0 Identify (Writing (Px port Ie) v) mid new (λ slot. record { issued = r.ci slot; free = r.taken slot }) call) enabled_written h.has;
+              fit = fit;
+            };
+          }
 
-pub up_boots : (Tells : List Access → Type 0) (port : Port) (old mid : Device) → IsTold Tells (IsControl IsBooting port) (λ uses. AllFree uses port.0) old mid → IsBoot Tells port old mid
-up_boots Tells port old mid f = told_as Tells (IsControl IsBooting port) (IsOfBoot port) (λ uses. AllFree uses port.0) (λ uses. AllFree uses port.0) (λ uses. uses) old mid (controlling port) (λ uses free. free) f
+      pub enabled_boots : IsFollowed (IsOfBoot port) (λ uses. AllFree uses port.0) old new
+      enabled_boots = followed_then laws (Booting PortUnused port) old mid new asked_boots
+          (laws.writes (Booting PortUnused port) (Px port Ie) v mid new (inl (refl, inr (inr refl))) (enabling port v mid identified.bootable) (λ uses free. tt) call).followed
 
--- no part came after it, since FR didn't fall
-pub stuck_boots : (port : Port) (old mid : Device) → IsTold (FailsToStopReceiving port) (IsControl IsPlacing port) AnyUse old mid → IsBoot (Sticks port) port old mid
-stuck_boots port old mid f = told_more (FailsToStopReceiving port) (Sticks port) (IsOfBoot port) (λ uses. AllFree uses port.0) (λ uses. uses) old mid (failing_receiving_sticks port)
-    (up_boots (FailsToStopReceiving port) port old mid (told_boots (FailsToStopReceiving port) IsPlacing AnyUse port old mid placing (λ uses free. tt) f))
+    -- or the port is stopped, of which so much is told
+    halted_as : (Tells : List Access → Type 0) → ((early late : List Access) → Tells late → Tells (early ++ late)) → (new : Device) → IsTold Tells (IsControl WritesCommand port) AnyUse mid new → IsBoot Tells port old new
+    halted_as Tells since new stops = told_since laws Tells (Booting PortUnused port) since (λ uses. uses) old mid new asked_boots
+        (told_wider laws Tells (Booting AnyUses port) (Booting PortUnused port) (λ uses. uses) mid new (λ access may. may) (λ uses free. tt) (stop_boots Tells port mid new stops))
 
--- no part came after it, since there was a fault
-pub faulty_boots : (port : Port) (old mid : Device) (fault : PortFault) → fault ≢ EngineStuck → (state : PortState) → TellsFault state fault →
-    IsTold (StopsReceiving port) (IsControl IsBooting port) (λ uses. AllFree uses port.0) old mid → IsBootTo (StopsOnWay port state) port state old mid
-faulty_boots port old mid fault other state told first = by fault other told
-  where
-    early : (s : PortState) → state ≡ s → s ≢ Dead → (IsLate s → ⊥) → IsBootTo (StopsOnWay port state) port state old mid
-    early s is alive late =
-        let P : PortState → Type 0 = λ x. IsBootTo (StopsOnWay port x) port x old mid in
-        subst P (sym is) (boots_to (StopsOnWay port s) port old mid s alive
-        (told_more (StopsReceiving port) (StopsOnWay port s) (IsOfBoot port) (λ uses. AllFree uses port.0) (λ uses. uses) old mid (λ accesses here. (here, λ is. absurd (late is))) (up_boots (StopsReceiving port) port old mid first)))
+    pub halted_boots : (wanted : Option (List ℕ)) (state result : PortState) (new : Device) → Judges wanted state page → IsHaltedAs port state result mid new → IsBootTo (Stops port) port result old new
+    halted_boots wanted state result new judged (inl x) =
+        let P : PortState → Type 0 = λ s. IsBootTo (Stops port) port s old new in
+        let alive : state ≢ Dead = λ (dead : state ≡ Dead). absurd (subst (λ (s : PortState). Judges wanted s page) dead judged) in
+        subst P (sym x.0) (boots_to (Stops port) port old new state alive (halted_as (Stops port) (λ early late. laws.falls_since early late 0 15 port) new x.1.told))
+    halted_boots wanted state result new judged (inr x) =
+        let P : PortState → Type 0 = λ s. IsBootTo (Stops port) port s old new in
+        subst P (sym x.0) (inl (halted_as (Sticks port) (λ early late. laws.sticks_since early late port) new (halting_sticks port mid new x.2.told)))
 
-    by : (fault : PortFault) → fault ≢ EngineStuck → TellsFault state fault → IsBootTo (StopsOnWay port state) port state old mid
-    by NoDevice other told = early Absent told (λ e. absurd cc) (λ late. late)
-    by Busy other told = early (Unfit 7) told (λ e. absurd cc) (λ late. absurd (late.0 refl))
-    by EngineStuck other told = absurd (other refl)
-    by (NotAta signature) other told = early (Unfit 8) told (λ e. absurd cc) (λ late. absurd (late.1 refl))
+    module _ (new : Device) (stops : IsDrivenBy (IsControl WritesCommand port) mid new) (has : HasStopped (mid.port port.0) (new.port port.0)) where
+      halted_page : HasPage port.0 new page
+      halted_page =
+          let h = identified in
+          let silent = laws.controls_unmoving port Identify mid new
+          (driven_as (IsControl WritesCommand port) (IsControl (λ r. r ≢ Ci) port) mid new (laws.control_wider Commanding ButIssued port (λ r is same. command_quiet (subst WritesCommand same is))) stops) (λ slot. record { issued = h.runs.ci slot; free = h.runs.taken slot }) in
+          page_on port.0 mid new page silent.0 (ap (λ (n : Notes). n.sctl_written_at) has.notes) h.has
 
--- what was proved of one part is so of the whole
-module _ (port : Port) (old mid new : Device) (first : IsTold (StopsReceiving port) (IsControl IsBooting port) (λ uses. AllFree uses port.0) old mid) where
-  pub whole_ready : (result : Result DiskInfo PortState) → OnOk result (IsFollowed (IsOfBoot port) (λ uses. AllFree uses port.0) mid new) → OnOk result (IsBoot (StopsReceiving port) port old new)
-  whole_ready (Ok info) then = told_then (StopsReceiving port) (IsOfBoot port) (λ uses. AllFree uses port.0) (λ early late. falls_then early late 4 14 port) old mid new (up_boots (StopsReceiving port) port old mid first) then
-  whole_ready (Err state) then = then
+      pub halted_ends : (wanted : Option (List ℕ)) (state result : PortState) → Judges wanted state page → IsHaltedAs port state result mid new → EndsAs wanted result port.0 new
+      halted_ends wanted (Unfit n) result judged (inl x) = let P : PortState → Type 0 = λ s. EndsAs wanted s port.0 new in subst P (sym x.0) (x.1.stopped, inr (inr (inr (page, halted_page, judged))))
+      halted_ends wanted Foreign result judged (inl x) = let P : PortState → Type 0 = λ s. EndsAs wanted s port.0 new in subst P (sym x.0) (x.1.stopped, (page, halted_page, judged))
+      halted_ends wanted Absent result judged (inl x) = absurd judged
+      halted_ends wanted Ready result judged (inl x) = absurd judged
+      halted_ends wanted Dead result judged (inl x) = absurd judged
+      halted_ends wanted state result judged (inr x) = let P : PortState → Type 0 = λ s. EndsAs wanted s port.0 new in subst P (sym x.0) (x.1, x.2.stuck)
 
-  -- both engines fell
-  whole : (state : PortState) → IsBoot (Stops port) port mid new → IsBoot (StopsOnWay port state) port old new
-  whole state then = told_both (StopsReceiving port) (Stops port) (StopsOnWay port state) (λ early late here is. (falls_then early late 4 14 port here, λ _. falls_since early late 0 15 port is)) (IsOfBoot port)
-      (λ uses. AllFree uses port.0) (λ uses. AllFree uses port.0) (λ uses. uses) (λ uses. uses) (λ uses free. free) old mid new (up_boots (StopsReceiving port) port old mid first) then
+  -- ---- the whole boot
 
-  -- or one is stuck
-  dies : (next : Uses → Uses) → IsToldTo (Sticks port) (IsOfBoot port) (λ uses. AllFree uses port.0) next mid new → IsToldTo (Sticks port) (IsOfBoot port) (λ uses. AllFree uses port.0) next old new
-  dies next then = told_since (Sticks port) (IsOfBoot port) (λ uses. AllFree uses port.0) (λ early late. sticks_since early late port) next old mid new (up_boots (StopsReceiving port) port old mid first).followed then
+  pub up_boots : (Tells : List Access → Type 0) (port : Port) (old mid : Device) → IsTold Tells (IsControl IsBooting port) (λ uses. AllFree uses port.0) old mid → IsBoot Tells port old mid
+  up_boots Tells port old mid f = told_wider laws Tells (Controlling BootRegisters PortUnused port) (Booting PortUnused port) (λ uses. uses) old mid (controlling port) (λ uses free. free) f
 
-  pub whole_ended : (result : Result DiskInfo PortState) → IfErr result (λ state. IsBootTo (Stops port) port state mid new) → IfErr result (λ state. IsBootTo (StopsOnWay port state) port state old new)
-  whole_ended (Ok info) then = then
-  whole_ended (Err Dead) (inl then) = inl (dies (λ uses. uses) then)
-  whole_ended (Err Dead) (inr then) = inr (dies (λ uses. used uses port.0 0 (Own Identify)) then)
-  whole_ended (Err Absent) then = whole Absent then
-  whole_ended (Err Ready) then = whole Ready then
-  whole_ended (Err Foreign) then = whole Foreign then
-  whole_ended (Err (Unfit n)) then = whole (Unfit n) then
+  -- no part came after it, since FR didn't fall
+  pub stuck_boots : (port : Port) (old mid : Device) → IsTold (FailsToStopReceiving port) (IsControl IsPlacing port) AnyUse old mid → IsBoot (Sticks port) port old mid
+  stuck_boots port old mid f = told_more (FailsToStopReceiving port) (Sticks port) (IsOfBoot port) (λ uses. AllFree uses port.0) (λ uses. uses) old mid (laws.failing_receiving_sticks port)
+      (up_boots (FailsToStopReceiving port) port old mid (told_boots laws (FailsToStopReceiving port) Placing AnyUses port old mid placing (λ uses free. tt) f))
+
+  -- no part came after it, since there was a fault
+  pub faulty_boots : (port : Port) (old mid : Device) (fault : PortFault) → fault ≢ EngineStuck → (state : PortState) → TellsFault state fault →
+      IsTold (StopsReceiving port) (IsControl IsBooting port) (λ uses. AllFree uses port.0) old mid → IsBootTo (StopsOnWay port state) port state old mid
+  faulty_boots port old mid fault other state told first = by fault other told
+    where
+      early : (s : PortState) → state ≡ s → s ≢ Dead → (IsLate s → ⊥) → IsBootTo (StopsOnWay port state) port state old mid
+      early s is alive late =
+          let P : PortState → Type 0 = λ x. IsBootTo (StopsOnWay port x) port x old mid in
+          subst P (sym is) (boots_to (StopsOnWay port s) port old mid s alive
+          (told_more (StopsReceiving port) (StopsOnWay port s) (IsOfBoot port) (λ uses. AllFree uses port.0) (λ uses. uses) old mid (λ accesses here. (here, λ is. absurd (late is))) (up_boots (StopsReceiving port) port old mid first)))
+
+      by : (fault : PortFault) → fault ≢ EngineStuck → TellsFault state fault → IsBootTo (StopsOnWay port state) port state old mid
+      by NoDevice other told = early Absent told (λ e. absurd cc) (λ late. late)
+      by Busy other told = early (Unfit 7) told (λ e. absurd cc) (λ late. absurd (late.0 refl))
+      by EngineStuck other told = absurd (other refl)
+      by (NotAta signature) other told = early (Unfit 8) told (λ e. absurd cc) (λ late. absurd (late.1 refl))
+
+  -- what was proved of one part is so of the whole
+  module _ (port : Port) (old mid new : Device) (first : IsTold (StopsReceiving port) (IsControl IsBooting port) (λ uses. AllFree uses port.0) old mid) where
+    pub whole_ready : (result : Result DiskInfo PortState) → OnOk result (IsFollowed (IsOfBoot port) (λ uses. AllFree uses port.0) mid new) → OnOk result (IsBoot (StopsReceiving port) port old new)
+    whole_ready (Ok info) then = told_then laws (StopsReceiving port) (Booting PortUnused port) (λ early late. laws.falls_then early late 4 14 port) old mid new (up_boots (StopsReceiving port) port old mid first) then
+    whole_ready (Err state) then = then
+
+    -- both engines fell
+    whole : (state : PortState) → IsBoot (Stops port) port mid new → IsBoot (StopsOnWay port state) port old new
+    whole state then = told_both laws (StopsReceiving port) (Stops port) (StopsOnWay port state) (λ early late here is. (laws.falls_then early late 4 14 port here, λ _. laws.falls_since early late 0 15 port is)) (Booting PortUnused port) (Booting PortUnused port)
+        (λ uses. uses) (λ uses. uses) (λ access may. may) (λ uses free. free) old mid new (up_boots (StopsReceiving port) port old mid first) then
+
+    -- or one is stuck
+    dies : (next : Uses → Uses) → IsToldTo (Sticks port) (IsOfBoot port) (λ uses. AllFree uses port.0) next mid new → IsToldTo (Sticks port) (IsOfBoot port) (λ uses. AllFree uses port.0) next old new
+    dies next then = told_since laws (Sticks port) (Booting PortUnused port) (λ early late. laws.sticks_since early late port) next old mid new (up_boots (StopsReceiving port) port old mid first).followed then
+
+    pub whole_ended : (result : Result DiskInfo PortState) → IfErr result (λ state. IsBootTo (Stops port) port state mid new) → IfErr result (λ state. IsBootTo (StopsOnWay port state) port state old new)
+    whole_ended (Ok info) then = then
+    whole_ended (Err Dead) (inl then) = inl (dies (λ uses. uses) then)
+    whole_ended (Err Dead) (inr then) = inr (dies (λ uses. used uses port.0 0 (Own Identify)) then)
+    whole_ended (Err Absent) then = whole Absent then
+    whole_ended (Err Ready) then = whole Ready then
+    whole_ended (Err Foreign) then = whole Foreign then
+    whole_ended (Err (Unfit n)) then = whole (Unfit n) then

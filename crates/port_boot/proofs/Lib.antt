@@ -1,3 +1,4 @@
+pub mod Stretching
 pub mod Bringing
 pub mod Identifying
 pub mod Enduring

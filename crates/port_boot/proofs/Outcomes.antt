@@ -19,24 +19,19 @@ use Rattle.agreement.specs.Errors.{NoneFatal, NoneFails}
 use Rattle.agreement.specs.Facts.{Undisturbed, ShowsNoTrouble}
 use Rattle.agreement.specs.Links.{SparesRegister}
 use Rattle.agreement.specs.Started.{IsStarted}
-use Rattle.agreement.proofs.Controlled.{Grows, grows_none, grows_more, access_grows, control_spares, control_spares_ghc}
-use Rattle.agreement.proofs.Driven.{along}
-use Rattle.agreement.proofs.Erring.{plugs_come}
-use Rattle.agreement.proofs.Failing.{fatal_parts, fails_parts, undisturbed_fatal, undisturbed_fails}
-use Rattle.agreement.proofs.Linking.{undisturbed_plugs}
-use Rattle.agreement.proofs.Restarting.{started_up}
-use Rattle.agreement.proofs.Running.{well_of}
+use Rattle.agreement.specs.Driven.{Grows}
 use Rattle.disk_page.specs.Asking.{IsAsking, LeavesRunning}
 use Rattle.port_control.specs.Engines.{Stops}
 use Rattle.port_control.specs.Ports.{WritesCommand, HasClearErrors}
 use Rattle.port_control.specs.declared.PortFault.{PortFault}
 use Rattle.port_control.specs.declared.PortFault.TheVariants.{NoDevice, Busy, EngineStuck, NotAta}
-use Rattle.port_control.proofs.Settling.{comes_in_parts, plugs_in_parts}
 use Rattle.port_boot.specs.States.{TellsFault, IsOfBoot, IsBootTo, IsBroughtUp, GetsAsked, GetsReady, EndsEarly, EndsLate, IsLate, ShowsNews, HasCauses, RunsOn, StopsThen}
 use Rattle.port_boot.proofs.Staying.{boot_driven}
-use Rattle.port_boot.proofs.Enduring.{calm_in_parts, Endures, Lasts, endures, lasts, lasts_access, lasts_more, goes_more}
-
--- ---- the registers that are left alone
+use Rattle.port_boot.proofs.Enduring.{Endures, Lasts, endures, lasts, lasts_access, lasts_more, goes_more}
+use Rattle.port_boot.specs.Laws.{Laws}
+use Rattle.port_boot.proofs.Stretching.{driven_grows, calm_in_parts, comes_in_parts, plugs_in_parts}
+use Rattle.std.proofs.lemmas.List.Elements.{All-weaker}
+use Rattle.port_boot.specs.Laws.RegisterSet.{Commanding}
 
 asking_spares : (port : Port) (spared : Reg) → Px port Ci ≢ spared → (access : Access) → IsAsking port access → SparesRegister spared access
 asking_spares port spared other (Reading r v) is = tt
@@ -46,97 +41,6 @@ asking_spares port spared other (Storing at bytes) is = tt
 
 no_control : WritesCommand Sctl → ⊥
 no_control e = absurd (let k : Sctl ≡ Cmd = e in cc)
-
--- ---- while the disk is asked for its page
-
-module _ (port : Port) (start old mid : Device) (up : IsBroughtUp port start old) (driven : IsDrivenBy (IsAsking port) old mid) where
-  asked : Lasts port.0 old mid
-  asked = lasts port (IsAsking port)
-      (asking_spares port Ghc (λ (e : Px port Ci ≡ Ghc). absurd (cc)))
-      (asking_spares port (Px port Sctl) (λ (e : Px port Ci ≡ Px port Sctl). absurd (cc))) old mid up.bootable.on driven
-      (asking_spares port (Px port Cmd) (λ (e : Px port Ci ≡ Px port Cmd). absurd (cc)))
-
-  -- and then PxIE is written
-  pub told_runs_on : (v : ℕ) (new : Device) → IsOn mid → Writes (Px port Ie) v mid new → RunsOn port.0 old new
-  told_runs_on v new on call =
-      (lasts_more port.0 old mid new asked
-      (lasts_access port (Writing (Px port Ie) v) mid new on
-      (λ (e : Px port Ie ≡ Px port Sctl). absurd (cc)) call (λ (e : Px port Ie ≡ Px port Cmd). absurd (cc)))).runs
-
-  -- or the port is stopped
-  pub stops_then : (new : Device) → IsOn mid → LeavesRunning port.0 old mid → IsDrivenBy (IsControl WritesCommand port) mid new → StopsThen port old new
-  stops_then new on l stop =
-      let late : Endures port.0 mid new = endures port (IsControl WritesCommand port) (control_spares_ghc WritesCommand port) (control_spares WritesCommand port Sctl no_control) mid new on stop in
-      let det : (mid.port port.0).sctl_det ≡ 0 = l.controls.sctl_det ∙ up.det in
-      record {
-        way = record { asked = mid; asks = driven; stops = stop };
-        goes = goes_more port.0 old mid new asked.grows late.grows asked.runs.goes late.goes;
-        up = λ calm h.
-            let parts = calm_in_parts port.0 old mid new asked.grows late.grows calm in
-            late.up parts.1 (started_up (mid.port port.0) (asked.runs.started parts.0 h) (λ e. absurd (omega (arith, det, e))));
-      }
-
--- ---- the whole boot
-
--- the tape gains
-pub driven_grows : (May : Access → Type 0) (old new : Device) → IsDrivenBy May old new → Grows old new
-driven_grows May old new driven = along Grows grows_none grows_more May (λ access a b may does. access_grows access a b does) driven.accesses old new driven.only driven.all
-
-module _ (port : Port) (start old new : Device) (up : IsBroughtUp port start old) (early : Grows start old) (late : Grows old new) where
-  linked : (old.port port.0).link_due ≡ false
-  linked = (up.recorded up.runs.st).linked
-
-  clear_since : HasCauses port.0 old new → HasClearErrors port.0 start new
-  clear_since goes =
-      let disks = goes.disks linked in
-      record {
-        serr_n = λ none. let parts = plugs_in_parts port.0 start old new early late none in disks.serr_n parts.1 (up.clear.serr_n parts.0);
-        serr_x = λ none. let parts = comes_in_parts port.0 start old new early late none in disks.serr_x parts.1 (up.clear.serr_x parts.0);
-      }
-
-  fatal_since : HasCauses port.0 old new → NoneFatal port.0 start new → (place : ℕ) → 27 ≤ place → place ≤ 29 → (new.port port.0).is place ≡ false
-  fatal_since goes none place low high =
-      goes.errors.fatal (fatal_parts port.0 start old new early.0 late.0 early.1 late.1 none).1 place low high (up.calm place (omega (arith, high)))
-
-  fault_since : HasCauses port.0 old new → NoneFails port.0 start new → (new.port port.0).is 30 ≡ false
-  fault_since goes none = goes.errors.fault (fails_parts port.0 start old new early.0 late.0 early.1 late.1 none).1 (up.calm 30 (omega arith))
-
-  no_trouble : HasCauses port.0 old new → Undisturbed port.0 start new → ShowsNoTrouble (new.port port.0)
-  no_trouble goes calm =
-      let plugs = undisturbed_plugs port.0 start new calm in
-      let clear = clear_since goes in
-      record {
-        serr_n = clear.serr_n plugs;
-        serr_x = clear.serr_x (plugs_come port.0 start new plugs);
-        quiet = λ place low high. elim (cases_eq place 30) [
-          | inl e ↦ let P : ℕ → Type 0 = λ k. (new.port port.0).is k ≡ false in subst P (sym e) (fault_since goes (undisturbed_fails port.0 start new calm))
-          | inr ne ↦ fatal_since goes (undisturbed_fatal port.0 start new calm) place low (omega (arith, high, ne))
-        ];
-      }
-
-  -- the port was started where none went or came
-  started_then : Undisturbed port.0 start new → Undisturbed port.0 old new × IsStarted (old.port port.0)
-  started_then calm =
-      let parts = calm_in_parts port.0 start old new early late calm in
-      (parts.1, up.well (undisturbed_plugs port.0 start old parts.0))
-
-  pub shows_news : RunsOn port.0 old new → ShowsNews port.0 start new
-  shows_news runs = record {
-    clear = clear_since runs.goes;
-    fatal = fatal_since runs.goes;
-    fault = fault_since runs.goes;
-    recorded = runs.recorded up.recorded;
-    well = λ calm. let s = started_then calm in well_of (new.port port.0) (runs.started s.0 s.1) (no_trouble runs.goes calm);
-  }
-
-  pub ends_late : StopsThen port old new → EndsLate port start new
-  ends_late stops = record {
-    up = old;
-    first = up.way;
-    then = stops.way;
-    clear = clear_since stops.goes;
-    linked = λ calm. let s = started_then calm in stops.up s.0 s.1;
-  }
 
 -- a port that wasn't started isn't in a late state
 pub early_is_not_late : (port : Port) (state : PortState) (old new : Device) → (state ≡ Dead) ⊎ EndsEarly port state old new → IsLate state → EndsLate port old new
@@ -149,23 +53,113 @@ early_is_not_late port state old new (inr e) late = absurd (by e.fault e.told)
     by EngineStuck told = subst IsLate told late
     by (NotAta signature) told = let l : IsLate (Unfit 8) = subst IsLate told late in l.1 refl
 
--- ---- by what is answered
-
-module _ {T : Type 0} (port : Port) (start old new : Device) (early : Grows start old) where
-  pub whole_way : (result : Result T PortState) → IsBroughtUp port start old → OnOk result (GetsAsked port old new) → OnOk result (GetsReady port start new)
-  whole_way (Ok x) up then = record { up = old; first = up.way; then = then }
-  whole_way (Err state) up then = then
-
-  pub whole_news : (result : Result T PortState) → IsBroughtUp port start old → OnOk result (IsFollowed (IsOfBoot port) (λ uses. AllFree uses port.0) old new) → OnOk result (RunsOn port.0 old new) → OnOk result (ShowsNews port.0 start new)
-  whole_news (Ok x) up boots runs = shows_news port start old new up early (driven_grows (IsOfBoot port) old new boots.driven) runs
-  whole_news (Err state) up boots runs = runs
-
-  pub whole_late : (result : Result T PortState) → IsBroughtUp port start old → IfErr result (λ state. IsBootTo (Stops port) port state old new) → IfErr result (λ state. StopsThen port old new) →
-      IfErr result (λ state. IsLate state → EndsLate port start new)
-  whole_late (Ok x) up boots stops = stops
-  whole_late (Err state) up boots stops = λ late. ends_late port start old new up early (driven_grows (IsOfBoot port) old new (boot_driven (Stops port) port old new state boots)) stops
-
 -- what is said of a state that was handed on
 pub handed_on : {T : Type 0} (P : PortState → Type 0) (result : Result T PortState) (state : PortState) → IsErrAnd result (λ s. s ≡ state) → P state → IfErr result P
 handed_on P (Ok x) state is h = tt
 handed_on P (Err s) state is h = subst P (sym is) h
+
+module _ (laws : Laws) where
+  -- ---- while the disk is asked for its page
+
+  module _ (port : Port) (start old mid : Device) (up : IsBroughtUp port start old) (driven : IsDrivenBy (IsAsking port) old mid) where
+    asked : Lasts port.0 old mid
+    asked =
+        let spares = λ (r : Reg) (other : Px port Ci ≢ r). All-weaker (IsAsking port) (SparesRegister r) (asking_spares port r other) driven.accesses driven.only in
+        lasts laws port driven.accesses old mid up.bootable.on driven.all (spares Ghc (λ (e : Px port Ci ≡ Ghc). absurd (cc)))
+        (spares (Px port Sctl) (λ (e : Px port Ci ≡ Px port Sctl). absurd (cc))) (spares (Px port Cmd) (λ (e : Px port Ci ≡ Px port Cmd). absurd (cc)))
+
+    -- and then PxIE is written
+    pub told_runs_on : (v : ℕ) (new : Device) → IsOn mid → Writes (Px port Ie) v mid new → RunsOn port.0 old new
+    told_runs_on v new on call =
+        (lasts_more laws port.0 old mid new asked
+        (lasts_access laws port (Writing (Px port Ie) v) mid new on
+        (λ (e : Px port Ie ≡ Px port Sctl). absurd (cc)) call (λ (e : Px port Ie ≡ Px port Cmd). absurd (cc)))).runs
+
+    -- or the port is stopped
+    pub stops_then : (new : Device) → IsOn mid → LeavesRunning port.0 old mid → IsDrivenBy (IsControl WritesCommand port) mid new → StopsThen port old new
+    stops_then new on l stop =
+        let late : Endures port.0 mid new = endures laws port stop.accesses mid new on stop.all
+        (All-weaker (IsControl WritesCommand port) (SparesRegister Ghc) (λ access is. laws.of_spares_ghc port access (laws.control_of Commanding port access is)) stop.accesses stop.only)
+        (All-weaker (IsControl WritesCommand port) (SparesRegister (Px port Sctl)) (laws.control_spares Commanding port Sctl no_control) stop.accesses stop.only) in
+        let det : (mid.port port.0).sctl_det ≡ 0 = l.controls.sctl_det ∙ up.det in
+        record {
+          way = record { asked = mid; asks = driven; stops = stop };
+          goes = goes_more laws port.0 old mid new asked.grows late.grows asked.runs.goes late.goes;
+          up = λ calm h.
+              let parts = calm_in_parts laws port.0 old mid new asked.grows late.grows calm in
+              late.up parts.1 (laws.started_up (mid.port port.0) (asked.runs.started parts.0 h) (λ e. absurd (omega (arith, det, e))));
+        }
+
+  -- ---- the whole boot
+
+  module _ (port : Port) (start old new : Device) (up : IsBroughtUp port start old) (early : Grows start old) (late : Grows old new) where
+    linked : (old.port port.0).link_due ≡ false
+    linked = (up.recorded up.runs.st).linked
+
+    clear_since : HasCauses port.0 old new → HasClearErrors port.0 start new
+    clear_since goes =
+        let disks = goes.disks linked in
+        record {
+          serr_n = λ none. let parts = plugs_in_parts laws port.0 start old new early late none in disks.serr_n parts.1 (up.clear.serr_n parts.0);
+          serr_x = λ none. let parts = comes_in_parts laws port.0 start old new early late none in disks.serr_x parts.1 (up.clear.serr_x parts.0);
+        }
+
+    fatal_since : HasCauses port.0 old new → NoneFatal port.0 start new → (place : ℕ) → 27 ≤ place → place ≤ 29 → (new.port port.0).is place ≡ false
+    fatal_since goes none place low high =
+        goes.errors.fatal (laws.fatal_parts port.0 start old new early.0 late.0 early.1 late.1 none).1 place low high (up.calm place (omega (arith, high)))
+
+    fault_since : HasCauses port.0 old new → NoneFails port.0 start new → (new.port port.0).is 30 ≡ false
+    fault_since goes none = goes.errors.fault (laws.fails_parts port.0 start old new early.0 late.0 early.1 late.1 none).1 (up.calm 30 (omega arith))
+
+    no_trouble : HasCauses port.0 old new → Undisturbed port.0 start new → ShowsNoTrouble (new.port port.0)
+    no_trouble goes calm =
+        let plugs = laws.undisturbed_plugs port.0 start new calm in
+        let clear = clear_since goes in
+        record {
+          serr_n = clear.serr_n plugs;
+          serr_x = clear.serr_x (laws.plugs_come port.0 start new plugs);
+          quiet = λ place low high. elim (cases_eq place 30) [
+            | inl e ↦ let P : ℕ → Type 0 = λ k. (new.port port.0).is k ≡ false in subst P (sym e) (fault_since goes (laws.undisturbed_fails port.0 start new calm))
+            | inr ne ↦ fatal_since goes (laws.undisturbed_fatal port.0 start new calm) place low (omega (arith, high, ne))
+          ];
+        }
+
+    -- the port was started where none went or came
+    started_then : Undisturbed port.0 start new → Undisturbed port.0 old new × IsStarted (old.port port.0)
+    started_then calm =
+        let parts = calm_in_parts laws port.0 start old new early late calm in
+        (parts.1, up.well (laws.undisturbed_plugs port.0 start old parts.0))
+
+    pub shows_news : RunsOn port.0 old new → ShowsNews port.0 start new
+    shows_news runs = record {
+      clear = clear_since runs.goes;
+      fatal = fatal_since runs.goes;
+      fault = fault_since runs.goes;
+      recorded = runs.recorded up.recorded;
+      well = λ calm. let s = started_then calm in laws.well_of (new.port port.0) (runs.started s.0 s.1) (no_trouble runs.goes calm);
+    }
+
+    pub ends_late : StopsThen port old new → EndsLate port start new
+    ends_late stops = record {
+      up = old;
+      first = up.way;
+      then = stops.way;
+      clear = clear_since stops.goes;
+      linked = λ calm. let s = started_then calm in stops.up s.0 s.1;
+    }
+
+  -- ---- by what is answered
+
+  module _ {T : Type 0} (port : Port) (start old new : Device) (early : Grows start old) where
+    pub whole_way : (result : Result T PortState) → IsBroughtUp port start old → OnOk result (GetsAsked port old new) → OnOk result (GetsReady port start new)
+    whole_way (Ok x) up then = record { up = old; first = up.way; then = then }
+    whole_way (Err state) up then = then
+
+    pub whole_news : (result : Result T PortState) → IsBroughtUp port start old → OnOk result (IsFollowed (IsOfBoot port) (λ uses. AllFree uses port.0) old new) → OnOk result (RunsOn port.0 old new) → OnOk result (ShowsNews port.0 start new)
+    whole_news (Ok x) up boots runs = shows_news port start old new up early (driven_grows laws (IsOfBoot port) old new boots.driven) runs
+    whole_news (Err state) up boots runs = runs
+
+    pub whole_late : (result : Result T PortState) → IsBroughtUp port start old → IfErr result (λ state. IsBootTo (Stops port) port state old new) → IfErr result (λ state. StopsThen port old new) →
+        IfErr result (λ state. IsLate state → EndsLate port start new)
+    whole_late (Ok x) up boots stops = stops
+    whole_late (Err state) up boots stops = λ late. ends_late port start old new up early (driven_grows laws (IsOfBoot port) old new (boot_driven (Stops port) port old new state boots)) stops

@@ -8,21 +8,18 @@ use Rattle.adapter.specs.Device.{Notes, Device}
 use Rattle.adapter.specs.Device as device
 use Rattle.adapter.specs.declared.command.Operation.TheVariants.{Identify}
 use Rattle.agreement.specs.Driven.{IsDrivenBy, IsOf, LeavesPort, SendsNone}
-use Rattle.agreement.proofs.Controlled.{control_is_of}
-use Rattle.disk_page.proofs.Asking.{asking_is_of}
 use Rattle.identify.specs.declared.DiskInfo.{DiskInfo}
 use Rattle.port_control.specs.Ports.{IsStopped, IsRunning, SawDevice, Shows}
 use Rattle.port_control.specs.declared.PortFault.{PortFault}
-use Rattle.port_boot.specs.States.{EndsAs, HasFitDisk, HasPage, IsBooting, IsBootTo, IsOfBoot, IsReady, IsUnfit}
+use Rattle.port_boot.specs.States.{EndsAs, HasFitDisk, HasPage, IsBootTo, IsOfBoot, IsReady, IsUnfit}
 use Rattle.port_boot.proofs.Identifying.{page_on}
-
--- ---- the disk
+use Rattle.port_boot.specs.Laws.{Laws}
+use Rattle.agreement.specs.Tape.{Tells}
+use Rattle.port_boot.specs.Laws.RegisterSet.{BootRegisters}
 
 pub disk_on : (wanted : Option (List ℕ)) (port : ℕ) (old new : Device) (info : DiskInfo) → SendsNone port Identify old new → (new.port port).sctl_det ≡ (old.port port).sctl_det → (new.port port).ie ≡ (old.port port).ie →
     (new.port port).notes.sctl_written_at ≡ (old.port port).notes.sctl_written_at → HasFitDisk wanted port old info → HasFitDisk wanted port new info
 disk_on wanted port old new info silent det ie same h = record { det = det ∙ h.det; tells = ie ∙ h.tells; page = h.page; has = page_on port old new h.page silent same h.has; fit = h.fit }
-
--- ---- a port that is left to the device
 
 module _ (old new : device.PortState) (l : LeavesPort old new) where
   stopped_on : IsStopped old → IsStopped new
@@ -79,14 +76,6 @@ module _ (port : ℕ) (old new : Device) (l : LeavesPort (old.port port) (new.po
     disk = disk_on wanted port old new info silent l.controls.sctl_det l.controls.ie written_on r.disk;
   }
 
--- ---- what the accesses of a boot are
-
-pub of_boot : (port : Port) (access : Access) → IsOfBoot port access → IsOf port access
-of_boot port access (inl control) = control_is_of IsBooting port access control
-of_boot port access (inr asking) = asking_is_of port access asking
-
--- ---- accesses of a boot, to any state
-
 pub boot_driven : (Tells : List Access → Type 0) (port : Port) (old new : Device) (state : PortState) → IsBootTo Tells port state old new → IsDrivenBy (IsOfBoot port) old new
 boot_driven Tells port old new Dead (inl b) = b.followed.driven
 boot_driven Tells port old new Dead (inr b) = b.followed.driven
@@ -94,3 +83,10 @@ boot_driven Tells port old new Absent b = b.followed.driven
 boot_driven Tells port old new Ready b = b.followed.driven
 boot_driven Tells port old new Foreign b = b.followed.driven
 boot_driven Tells port old new (Unfit n) b = b.followed.driven
+
+module _ (laws : Laws) where
+  -- ---- what the accesses of a boot are
+
+  pub of_boot : (port : Port) (access : Access) → IsOfBoot port access → IsOf port access
+  of_boot port access (inl control) = laws.control_of BootRegisters port access control
+  of_boot port access (inr asking) = laws.asking_is_of port access asking

@@ -1,14 +1,23 @@
 // Laws of the definitions, for callers: the clause is the theorem. Nothing calls these functions.
-ghost use Rattle.std.specs.Prelude.{ℕ, ◌≡◌, ◌≢◌, List, Option};
+ghost use Rattle.std.specs.Prelude.{ℕ, ◌≡◌, ◌≢◌, All, List, Option};
 ghost use Rattle.ata_types.specs.declared.Port.{Port};
 ghost use Rattle.ata_types.specs.declared.PortState.{PortState};
 ghost use Rattle.ata_types.specs.declared.PortState.TheVariants.{Dead};
-ghost use Rattle.adapter.specs.Access.{Access};
+ghost use Rattle.hba_regs.specs.declared.reg.PortReg.TheVariants.{Cmd, Sctl};
+ghost use Rattle.hba_regs.specs.declared.reg.Reg.TheVariants.{Ghc, Px};
+ghost use Rattle.adapter.specs.Access.{Access, Does, DoesAll};
 ghost use Rattle.adapter.specs.Device.{Device};
+ghost use Rattle.adapter.specs.Rules.{IsOn};
 ghost use Rattle.adapter.specs.declared.command.Operation.TheVariants.{Identify};
-ghost use Rattle.agreement.specs.Driven.{IsOf, LeavesPort, SendsNone};
+ghost use Rattle.agreement.specs.Driven.{IsControl, IsDrivenBy, IsOf, LeavesPort, SendsNone};
+ghost use Rattle.agreement.specs.Facts.{RunsWell, Undisturbed};
+ghost use Rattle.agreement.specs.Links.{SparesRegister};
 ghost use Rattle.identify.specs.declared.DiskInfo.{DiskInfo};
-ghost use Rattle.port_boot.specs.States.{EndsAs, HasFitDisk, HasPage, IsOfBoot, IsReady};
+ghost use Rattle.port_boot.specs.States.{EndsAs, HasFitDisk, HasPage, IsBootTo, IsOfBoot, IsReady, RunsOn, StopsOnWay};
+ghost use Rattle.port_control.specs.Engines.{StopsBoth};
+ghost use Rattle.port_control.specs.Ports.{WritesCommand};
+
+use super::lawful::laws_hold;
 
 /// What a boot found of a port goes on as long as the port isn't booted anew. The last page is the last one still where the disk has sent
 /// none since, and PxSCTL wasn't written; so the disk that fits is still there where DET of PxSCTL and PxIE are as they were, too. A port that is left
@@ -32,4 +41,31 @@ pub fn what_was_found_goes_on()
 /// A boot touches no register of another port: its accesses are of its port.
 pub fn a_boot_is_of_its_port()
     ensures { (port : Port) (access : Access) → IsOfBoot port access → IsOf port access }
-{}
+{
+    laws_hold();
+}
+
+/// A boot, to whatever state, was made by its accesses; and those of a stop are among them.
+pub fn boots_are_driven()
+    ensures boots { (port : Port) (state : PortState) (old new : Device) → IsBootTo (StopsOnWay port state) port state old new
+        → IsDrivenBy (IsOfBoot port) old new }
+    ensures stops { (port : Port) (state : PortState) (old new : Device) → IsBootTo (StopsBoth port) port state old new
+        → IsDrivenBy (IsOfBoot port) old new }
+    ensures commanding { (port : Port) (access : Access) → IsControl WritesCommand port access → IsOfBoot port access }
+{
+    laws_hold();
+}
+
+/// A port that runs does so still after an access that writes neither its PxCMD nor its PxSCTL, and after several that don't write GHC
+/// either. Where it ran well, and nothing went wrong on it, it runs well.
+pub fn a_port_runs_on()
+    ensures over { (port : Port) (access : Access) (old new : Device) → IsOn old → SparesRegister (Px port Sctl) access
+        → SparesRegister (Px port Cmd) access → Does access old new → RunsOn port.0 old new }
+    ensures runs { (port : Port) (accesses : List Access) (old new : Device) → IsOn old → DoesAll accesses old new
+        → All (SparesRegister Ghc) accesses → All (SparesRegister (Px port Sctl)) accesses
+        → All (SparesRegister (Px port Cmd)) accesses → RunsOn port.0 old new }
+    ensures well { (port : ℕ) (old new : Device) → RunsOn port old new → Undisturbed port old new → RunsWell (old.port port)
+        → RunsWell (new.port port) }
+{
+    laws_hold();
+}

@@ -16,8 +16,10 @@ use ata_types::{Port, PortState};
 use disk_page::{Page, read_page};
 use hba_regs::{PortReg, Reg};
 use identify::{DiskInfo, parse};
+use lawful::laws_hold;
 use port_control::{PortFault, Running, Stopped, comreset, receive, start, stop};
 
+mod lawful;
 pub mod laws;
 
 /// A device that stayed busy after COMRESET.
@@ -81,6 +83,7 @@ fn bring_up<A: Adapter>(adapter: &mut A, stopped: Stopped) -> Result<Running, Po
     ensures since { IfErr result (λ state. state ≢ PortState.Dead → length (A.device adapter.old).tape ≤ ((A.device adapter.new).port stopped.port.0).notes.sctl_written_at) }
     ensures early { IfErr result (λ state. (state ≡ PortState.Dead) ⊎ EndsEarly stopped.port state (A.device adapter.old) (A.device adapter.new)) }
 {
+    laws_hold();
     let Ok(receiving) = receive(adapter, stopped) else {
         return Err(PortState::Dead);
     };
@@ -134,6 +137,7 @@ fn identify_disk<A: Adapter>(
     ensures stops { IfErr result (λ state. StopsThen port (A.device adapter.old) (A.device adapter.new)) }
     ensures late { IfErr result (λ state. IsEarly state → ⊥) }
 {
+    laws_hold();
     let Some(page) = read_page(adapter, port, Page::Identity) else {
         return Err(halt(adapter, port, PortState::Unfit(NOT_IDENTIFIED)));
     };
@@ -170,6 +174,7 @@ pub fn boot<A: Adapter>(
     ensures early { IfErr result (λ state. IsEarly state → EndsEarly stopped.port state (A.device adapter.old) (A.device adapter.new)) }
     ensures late { IfErr result (λ state. IsLate state → EndsLate stopped.port (A.device adapter.old) (A.device adapter.new)) }
 {
+    laws_hold();
     let running = bring_up(adapter, stopped)?;
     identify_disk(adapter, running.port(), wanted)
 }

@@ -9,194 +9,23 @@ use Rattle.adapter.specs.Access.{Access, Reads, Writes, counted}
 use Rattle.adapter.specs.Access.Access.{Reading, Writing}
 use Rattle.adapter.specs.Device.{Bases, Notes, PortState, Device}
 use Rattle.adapter.specs.Rules.{MayWrite, Stays}
-use Rattle.adapter.proofs.Calls.{SeenAt, seen}
+use Rattle.adapter.specs.Seen.{SeenAt}
 use Rattle.agreement.specs.Driven.{AnyUse, IsControl, IsFollowed, IsTold}
 use Rattle.agreement.specs.Driver.{LeavesUses}
 use Rattle.agreement.specs.Facts.{IsAfterReset}
 use Rattle.agreement.specs.Slots.{Uses}
-use Rattle.agreement.proofs.Allowing.{stopping_may, no_receiving_may, receiving_may}
-use Rattle.agreement.proofs.Driven.{followed_then, followed_read, followed_write, told_both, told_read, told_write}
-use Rattle.agreement.proofs.Halting.{stop_is_found}
-use Rattle.agreement.proofs.Noting.{command_noted, notes_read, shown_after}
-use Rattle.agreement.proofs.Setting.{command_set}
 use Rattle.port_control.specs.Engines.{Awaits, Falls, Hangs}
 use Rattle.port_control.specs.Ports.{WritesCommand, IsUsable, IsStopped, ReceivesFises, SameBeside, HasStopped, programmed}
 use Rattle.port_control.proofs.Awaiting.{awaits_none, awaits_more, awaits_falls}
-use Rattle.port_control.proofs.Using.{usable_after, usable_read, cleared_bits, beside_then, beside_read, beside_command, bases_command, stopped_on, stopped_read, stopped_command}
-
--- ---- counts of readings
-
--- one more reading that the wait goes on for
-pub counted_again : (again : Bool) (n count : ℕ) → again ≡ true → n ≤ count → n < 64 → (n + 1 ≤ counted again count) × (counted again count ≤ 64)
-counted_again again n count on low small = rw on (omega arith, omega arith)
-
-or_true : (a b : Bool) → b ≡ true → a || b ≡ true
-or_true true b h = refl
-or_true false b h = h
-
--- ---- PxCMD, as it was read but for one bit
+use Rattle.port_control.proofs.Using.{usable_after, usable_read, beside_then, beside_read, beside_command, bases_command, stopped_on, stopped_read, stopped_command}
+use Rattle.port_control.specs.Laws.RegisterSet.{Commanding}
+use Rattle.port_control.specs.Laws.Stretch.{Controlling}
+use Rattle.port_control.specs.Laws.{Laws}
+use Rattle.port_control.proofs.Stretching.{followed_read, followed_then, followed_write, told_both}
 
 -- beside what the value's bits are, it is the reading's
 abbrev pub IsButAt : ℕ → ℕ → ℕ → Type 0
 IsButAt at was v = (k : ℕ) → k < 32 → k ≢ at → bit v k ≡ bit was k
-
-pub bit_four : (was v : ℕ) → IsButAt 0 was v → bit v 4 ≡ bit was 4
-bit_four was v others = others 4 (lit< tt) (λ e. absurd (omega (arith, e)))
-
-bit_zero : (was v : ℕ) → IsButAt 4 was v → bit v 0 ≡ bit was 0
-bit_zero was v others = others 0 (lit< tt) (λ e. absurd (omega (arith, e)))
-
-pub reading : (port : Port) (v : ℕ) (old new : Device) → Reads (Px port Cmd) v old new → IsFollowed (IsControl WritesCommand port) AnyUse old new
-reading port v old new call = followed_read (IsControl WritesCommand port) (Px port Cmd) v old new refl call
-
--- ---- what is told of the accesses
-
-module _ (start running : ℕ) (port : Port) where
-  -- PxCMD was read, and written with the bit of an engine 0
-  pub told_clears : (was v : ℕ) (old mid new : Device) → bit v start ≡ false → Reads (Px port Cmd) was old mid → Stays (MayWrite (Px port Cmd) v) mid →
-      ((uses : Uses) → AnyUse uses → LeavesUses uses (Px port Cmd) v mid) → Writes (Px port Cmd) v mid new → IsTold (Awaits start running port 0) (IsControl WritesCommand port) AnyUse old new
-  told_clears was v old mid new zero read may leaves write =
-      told_both (λ accesses. accesses ≡ Reading (Px port Cmd) was ∷ []) (λ accesses. accesses ≡ Writing (Px port Cmd) v ∷ []) (Awaits start running port 0)
-      (λ early late is then. awaits_none start running port v zero early late then) (IsControl WritesCommand port) AnyUse AnyUse (λ uses. uses) (λ uses. uses) (λ uses is. is) old mid new
-      (told_read (IsControl WritesCommand port) AnyUse (Px port Cmd) was old mid refl read)
-      (told_write (IsControl WritesCommand port) AnyUse (Px port Cmd) v mid new (refl, refl) may leaves write)
-
-  module _ (n v : ℕ) (old mid new : Device) (a : IsTold (Awaits start running port n) (IsControl WritesCommand port) AnyUse old mid) (call : Reads (Px port Cmd) v mid new) where
-    -- what is told of them, and of one more reading
-    with_reading : (Tells : List Access → Type 0) → ((early late : List Access) → Awaits start running port n early → late ≡ Reading (Px port Cmd) v ∷ [] → Tells (early ++ late)) →
-        IsTold Tells (IsControl WritesCommand port) AnyUse old new
-    with_reading Tells join =
-        told_both (Awaits start running port n) (λ accesses. accesses ≡ Reading (Px port Cmd) v ∷ []) Tells join
-        (IsControl WritesCommand port) AnyUse AnyUse (λ uses. uses) (λ uses. uses) (λ uses is. is) old mid new a
-        (told_read (IsControl WritesCommand port) AnyUse (Px port Cmd) v mid new refl call)
-
-    pub told_stuck : Hangs start running v → IsTold (Awaits start running port (n + 1)) (IsControl WritesCommand port) AnyUse old new
-    told_stuck shows = with_reading (Awaits start running port (n + 1)) (λ early late a is. awaits_more start running port n v early late a is shows)
-
-    pub told_falls : bit v running ≡ false → IsTold (Falls start running port) (IsControl WritesCommand port) AnyUse old new
-    told_falls zero = with_reading (Falls start running port) (λ early late a is. awaits_falls start running port n v early late a is zero)
-
-  -- after 64 of them
-  pub told_awaits : (n : ℕ) → n ≡ 64 → (old new : Device) → IsTold (Awaits start running port n) (IsControl WritesCommand port) AnyUse old new →
-      IsTold (Awaits start running port 64) (IsControl WritesCommand port) AnyUse old new
-  told_awaits n all old new a = subst (λ (k : ℕ). IsTold (Awaits start running port k) (IsControl WritesCommand port) AnyUse old new) all a
-
--- PxCMD is read, and written
-module _ (port : Port) (was v : ℕ) (old mid : Device) (u : IsUsable AnyUse port old) (read : Reads (Px port Cmd) was old mid) where
-  p : PortState
-  p = mid.port port.0
-
-  here : IsUsable AnyUse port mid
-  here = usable_read AnyUse port Cmd was old mid u read
-
-  s : SeenAt port.0 Cmd was old mid
-  s = seen port Cmd was old mid read u.on.no_reset
-
-  last : (mid.port port.0).notes.last_cmd ≡ was
-  last = command_noted port was old mid read
-
-  shown_st : bit was 0 ≡ (mid.port port.0).st
-  shown_st = (shown_after port Cmd was old mid u.on.no_reset read).0
-
-  shown_fre : bit was 4 ≡ (mid.port port.0).fre
-  shown_fre = (shown_after port Cmd was old mid u.on.no_reset read).1
-
-  -- ---- ST is cleared
-
-  module _ (zero : bit v 0 ≡ false) (others : IsButAt 0 was v) where
-    fre_same : bit v 4 ≡ (mid.port port.0).fre
-    fre_same = bit_four was v others ∙ shown_fre
-
-    pub stop_may : Stays (MayWrite (Px port Cmd) v) mid
-    stop_may = stopping_may port was v mid here.on here.there last (record { start = zero; receive = fre_same; others = λ k small st fre. others k small st })
-
-    stop_leaves : (uses : Uses) → AnyUse uses → LeavesUses uses (Px port Cmd) v mid
-    stop_leaves uses is = record {
-      start = λ on. absurd (true≢false (sym on ∙ zero));
-      receive = λ on. let r = here.agreed.2.knows.agrees.received port.0 (sym fre_same ∙ on) in (r.below, r.area);
-    }
-
-    module _ (new : Device) (write : Writes (Px port Cmd) v mid new) where
-      pub stop_told : IsTold (Awaits 0 15 port 0) (IsControl WritesCommand port) AnyUse old new
-      stop_told = told_clears 0 15 port was v old mid new zero read stop_may stop_leaves write
-
-      pub stop_has : HasStopped (old.port port.0) (new.port port.0)
-      stop_has =
-          let after : IsUsable AnyUse port new = usable_after WritesCommand AnyUse port old new u stop_told.followed in
-          let set = command_set port v mid new write in
-          let same = beside_then (old.port port.0) (mid.port port.0) (new.port port.0) (beside_read port was old mid u.on.no_reset read) (beside_command port v mid new here.on.no_reset zero write) in
-          let bits = cleared_bits after.agreed.0 new port.0 after.agreed.2 (set.0 ∙ zero) in
-          record {
-            st = set.0 ∙ zero;
-            ci = λ slot. (bits slot).0;
-            sact = λ slot. (bits slot).1;
-            fre = set.1 ∙ fre_same ∙ (s.keeps.on.controls port.0).fre;
-            bases = bases_command port v mid new here.on.no_reset zero write ∙ (s.keeps.port port.0).bases;
-            sctl_det = same.0;
-            notes = same.1;
-          }
-
-  -- ---- FRE is cleared
-
-  module _ (stopped : IsStopped (old.port port.0)) (zero : bit v 4 ≡ false) (others : IsButAt 4 was v) where
-    still : IsStopped (mid.port port.0)
-    still = stopped_read port Cmd was old mid u.on.no_reset read stopped
-
-    st_zero : bit v 0 ≡ false
-    st_zero = bit_zero was v others ∙ shown_st ∙ still.halted.st
-
-    pub empty_may : Stays (MayWrite (Px port Cmd) v) mid
-    empty_may = no_receiving_may port was v mid here.on here.there last (record { stopped = still.halted.st; fallen = still.halted.cr }) (record { start = st_zero; receive = zero; others = λ k small st fre. others k small fre })
-
-    empty_leaves : (uses : Uses) → AnyUse uses → LeavesUses uses (Px port Cmd) v mid
-    empty_leaves uses is = record { start = λ on. absurd (true≢false (sym on ∙ st_zero)); receive = λ on. absurd (true≢false (sym on ∙ zero)) }
-
-    module _ (new : Device) (write : Writes (Px port Cmd) v mid new) where
-      pub empty_begins : IsTold (Awaits 4 14 port 0) (IsControl WritesCommand port) AnyUse old new × IsStopped (new.port port.0) × ((new.port port.0).fre ≡ false)
-          × ((new.port port.0).bases ≡ (old.port port.0).bases) × SameBeside (old.port port.0) (new.port port.0)
-      empty_begins = (
-        told_clears 4 14 port was v old mid new zero read empty_may empty_leaves write,
-        stopped_command port v mid new empty_may st_zero write still,
-        (command_set port v mid new write).1 ∙ zero,
-        bases_command port v mid new here.on.no_reset st_zero write ∙ (s.keeps.port port.0).bases,
-        beside_then (old.port port.0) (mid.port port.0) (new.port port.0) (beside_read port was old mid u.on.no_reset read) (beside_command port v mid new here.on.no_reset st_zero write),
-      )
-
-  -- ---- FRE is set
-
-  module _ (quiet : IsAfterReset (old.port port.0)) (placed : (old.port port.0).bases ≡ programmed port.0) (one : bit v 4 ≡ true) (others : IsButAt 4 was v) where
-    stands : IsStopped (mid.port port.0)
-    stands = stopped_read port Cmd was old mid u.on.no_reset read (record { halted = quiet.halted; sact = quiet.sact })
-
-    in_place : (mid.port port.0).bases ≡ programmed port.0
-    in_place = (s.keeps.port port.0).bases ∙ placed
-
-    st_same : bit v 0 ≡ (mid.port port.0).st
-    st_same = bit_zero was v others ∙ shown_st
-
-    pub receive_may : Stays (MayWrite (Px port Cmd) v) mid
-    receive_may = receiving_may port was v mid here.on here.there last
-        (record { fallen = (s.keeps.port port.0).fr quiet.fr; fb = ap (λ (b : Bases). b.fb_set) in_place; fbu = ap (λ (b : Bases). b.fbu_set) in_place })
-        (record { start = st_same; receive = one; others = λ k small st fre. others k small fre })
-
-    receive_leaves : (uses : Uses) → AnyUse uses → LeavesUses uses (Px port Cmd) v mid
-    receive_leaves uses is = record { start = λ on. absurd (true≢false (sym on ∙ (st_same ∙ stands.halted.st))); receive = λ on. (here.there.0, ap (λ (b : Bases). b.fb) in_place) }
-
-    module _ (new : Device) (write : Writes (Px port Cmd) v mid new) where
-      pub receive_done : IsFollowed (IsControl WritesCommand port) AnyUse old new × ReceivesFises port.0 (new.port port.0) × SameBeside (old.port port.0) (new.port port.0)
-      receive_done = (
-        followed_then (IsControl WritesCommand port) AnyUse old mid new (reading port was old mid read)
-            (followed_write (IsControl WritesCommand port) AnyUse (Px port Cmd) v mid new (refl, refl) receive_may receive_leaves write),
-        record {
-          stopped = stopped_command port v mid new receive_may (st_same ∙ stands.halted.st) write stands;
-          fre = (command_set port v mid new write).1 ∙ one;
-          bases = bases_command port v mid new here.on.no_reset (st_same ∙ stands.halted.st) write ∙ in_place;
-        },
-        beside_then (old.port port.0) (mid.port port.0) (new.port port.0) (beside_read port was old mid u.on.no_reset read)
-            (beside_command port v mid new here.on.no_reset (st_same ∙ stands.halted.st) write),
-      )
-
--- ---- CR is awaited
 
 -- ST was cleared, and so many readings found CR set
 pub record IsFalling (port : Port) (start : Device) (n : ℕ) (d : Device) : Type 0 where
@@ -205,55 +34,6 @@ pub record IsFalling (port : Port) (start : Device) (n : ℕ) (d : Device) : Typ
   pub has : HasStopped (start.port port.0) (d.port port.0)
   pub low : n ≤ (d.port port.0).notes.engine_count
   pub high : 0 < n → (d.port port.0).notes.engine_count ≤ 64
-
-module _ (port : Port) (start d e : Device) (v n : ℕ) (w : IsFalling port start n d) (call : Reads (Px port Cmd) v d e) where
-  off : d.hr ≡ false
-  off = w.usable.on.no_reset
-
-  pub falls : bit v 15 ≡ false → IsTold (Falls 0 15 port) (IsControl WritesCommand port) AnyUse start e
-  falls clear = told_falls 0 15 port n v start d e w.told call clear
-
-  pub falling_on : IsUsable AnyUse port e
-  falling_on = usable_read AnyUse port Cmd v d e w.usable call
-
-  pub has_still : HasStopped (start.port port.0) (e.port port.0)
-  has_still =
-      let s : SeenAt port.0 Cmd v d e = seen port Cmd v d e call off in
-      let k = s.keeps.port port.0 in
-      let c = s.keeps.on.controls port.0 in
-      let same = beside_then (start.port port.0) (d.port port.0) (e.port port.0) (w.has.sctl_det, w.has.notes) (beside_read port v d e off call) in
-      record {
-        st = k.st w.has.st;
-        ci = λ slot. k.ci slot (w.has.ci slot);
-        sact = λ slot. k.sact slot (w.has.sact slot);
-        fre = c.fre ∙ w.has.fre;
-        bases = k.bases ∙ w.has.bases;
-        sctl_det = same.0;
-        notes = same.1;
-      }
-
-  pub fallen : bit v 15 ≡ false → IsStopped (e.port port.0)
-  fallen clear = record {
-    halted = stop_is_found w.usable.agreed.0 w.usable.agreed.2.machine port v d e w.usable.agreed.2.reached w.usable.agreed.2.knows.agrees w.has.st call clear;
-    sact = has_still.sact;
-  }
-
-  awaited : bit v 15 ≡ true → not (d.port port.0).st && bit v 15 || not (d.port port.0).fre && bit v 14 ≡ true
-  awaited set = ap (λ (st : Bool). not st && bit v 15 || not (d.port port.0).fre && bit v 14) w.has.st ∙ ap (λ (b : Bool). b || not (d.port port.0).fre && bit v 14) set
-
-  pub falls_still : n < 64 → bit v 15 ≡ true → IsFalling port start (n + 1) e
-  falls_still small set =
-      let count = ap (λ (k : Notes). k.engine_count) (notes_read port Cmd v d e off call) in
-      let one = counted_again _ n (d.port port.0).notes.engine_count (awaited set) w.low small in
-      record {
-        told = told_stuck 0 15 port n v start d e w.told call ((shown_after port Cmd v d e off call).0 ∙ has_still.st, set);
-        usable = falling_on;
-        has = has_still;
-        low = rw count one.0;
-        high = λ _. rw count one.1;
-      }
-
--- ---- FR is awaited
 
 -- the port is stopped still, FRE is 0, and all else is as it was
 pub record HasEmptied (port : Port) (start d : Device) : Type 0 where
@@ -270,38 +50,251 @@ pub record IsEmptying (port : Port) (start : Device) (n : ℕ) (d : Device) : Ty
   pub low : n ≤ (d.port port.0).notes.engine_count
   pub high : 0 < n → (d.port port.0).notes.engine_count ≤ 64
 
-module _ (port : Port) (start d e : Device) (v n : ℕ) (w : IsEmptying port start n d) (call : Reads (Px port Cmd) v d e) where
-  quiet : d.hr ≡ false
-  quiet = w.has.usable.on.no_reset
+-- one more reading that the wait goes on for
+pub counted_again : (again : Bool) (n count : ℕ) → again ≡ true → n ≤ count → n < 64 → (n + 1 ≤ counted again count) × (counted again count ≤ 64)
+counted_again again n count on low small = rw on (omega arith, omega arith)
 
-  -- what goes on, whatever was read
-  pub empties : HasEmptied port start e
-  empties =
-      let s : SeenAt port.0 Cmd v d e = seen port Cmd v d e call quiet in
-      record {
-        usable = usable_read AnyUse port Cmd v d e w.has.usable call;
-        stopped = stopped_on (s.keeps.port port.0) w.has.stopped;
-        fre = (s.keeps.on.controls port.0).fre ∙ w.has.fre;
-        bases = (s.keeps.port port.0).bases ∙ w.has.bases;
-        same = beside_then (start.port port.0) (d.port port.0) (e.port port.0) w.has.same (beside_read port v d e quiet call);
+or_true : (a b : Bool) → b ≡ true → a || b ≡ true
+or_true true b h = refl
+or_true false b h = h
+
+pub bit_four : (was v : ℕ) → IsButAt 0 was v → bit v 4 ≡ bit was 4
+bit_four was v others = others 4 (lit< tt) (λ e. absurd (omega (arith, e)))
+
+bit_zero : (was v : ℕ) → IsButAt 4 was v → bit v 0 ≡ bit was 0
+bit_zero was v others = others 0 (lit< tt) (λ e. absurd (omega (arith, e)))
+
+module _ (laws : Laws) where
+  pub reading : (port : Port) (v : ℕ) (old new : Device) → Reads (Px port Cmd) v old new → IsFollowed (IsControl WritesCommand port) AnyUse old new
+  reading port v old new call = followed_read laws (Controlling Commanding port) (Px port Cmd) v old new refl call
+
+  -- ---- what is told of the accesses
+
+  module _ (start running : ℕ) (port : Port) where
+    -- PxCMD was read, and written with the bit of an engine 0
+    pub told_clears : (was v : ℕ) (old mid new : Device) → bit v start ≡ false → Reads (Px port Cmd) was old mid → Stays (MayWrite (Px port Cmd) v) mid →
+        ((uses : Uses) → AnyUse uses → LeavesUses uses (Px port Cmd) v mid) → Writes (Px port Cmd) v mid new → IsTold (Awaits start running port 0) (IsControl WritesCommand port) AnyUse old new
+    told_clears was v old mid new zero read may leaves write =
+        told_both laws (λ accesses. accesses ≡ Reading (Px port Cmd) was ∷ []) (λ accesses. accesses ≡ Writing (Px port Cmd) v ∷ []) (Awaits start running port 0)
+        (λ early late is then. awaits_none start running port v zero early late then) (Controlling Commanding port) old mid new
+        (laws.reads (Controlling Commanding port) (Px port Cmd) was old mid refl read)
+        (laws.writes (Controlling Commanding port) (Px port Cmd) v mid new (refl, refl) may leaves write)
+
+    module _ (n v : ℕ) (old mid new : Device) (a : IsTold (Awaits start running port n) (IsControl WritesCommand port) AnyUse old mid) (call : Reads (Px port Cmd) v mid new) where
+      -- what is told of them, and of one more reading
+      with_reading : (Tells : List Access → Type 0) → ((early late : List Access) → Awaits start running port n early → late ≡ Reading (Px port Cmd) v ∷ [] → Tells (early ++ late)) →
+          IsTold Tells (IsControl WritesCommand port) AnyUse old new
+      with_reading Tells join =
+          told_both laws (Awaits start running port n) (λ accesses. accesses ≡ Reading (Px port Cmd) v ∷ []) Tells join
+          (Controlling Commanding port) old mid new a
+          (laws.reads (Controlling Commanding port) (Px port Cmd) v mid new refl call)
+
+      pub told_stuck : Hangs start running v → IsTold (Awaits start running port (n + 1)) (IsControl WritesCommand port) AnyUse old new
+      told_stuck shows = with_reading (Awaits start running port (n + 1)) (λ early late a is. awaits_more start running port n v early late a is shows)
+
+      pub told_falls : bit v running ≡ false → IsTold (Falls start running port) (IsControl WritesCommand port) AnyUse old new
+      told_falls zero = with_reading (Falls start running port) (λ early late a is. awaits_falls start running port n v early late a is zero)
+
+    -- after 64 of them
+    pub told_awaits : (n : ℕ) → n ≡ 64 → (old new : Device) → IsTold (Awaits start running port n) (IsControl WritesCommand port) AnyUse old new →
+        IsTold (Awaits start running port 64) (IsControl WritesCommand port) AnyUse old new
+    told_awaits n all old new a = subst (λ (k : ℕ). IsTold (Awaits start running port k) (IsControl WritesCommand port) AnyUse old new) all a
+
+  -- PxCMD is read, and written
+  module _ (port : Port) (was v : ℕ) (old mid : Device) (u : IsUsable AnyUse port old) (read : Reads (Px port Cmd) was old mid) where
+    p : PortState
+    p = mid.port port.0
+
+    here : IsUsable AnyUse port mid
+    here = usable_read laws AnyUse port Cmd was old mid u read
+
+    s : SeenAt port.0 Cmd was old mid
+    s = laws.seen port Cmd was old mid read u.on.no_reset
+
+    last : (mid.port port.0).notes.last_cmd ≡ was
+    last = laws.command_noted port was old mid read
+
+    shown_st : bit was 0 ≡ (mid.port port.0).st
+    shown_st = (laws.shown_after port Cmd was old mid u.on.no_reset read).0
+
+    shown_fre : bit was 4 ≡ (mid.port port.0).fre
+    shown_fre = (laws.shown_after port Cmd was old mid u.on.no_reset read).1
+
+    -- ---- ST is cleared
+
+    module _ (zero : bit v 0 ≡ false) (others : IsButAt 0 was v) where
+      fre_same : bit v 4 ≡ (mid.port port.0).fre
+      fre_same = bit_four was v others ∙ shown_fre
+
+      pub stop_may : Stays (MayWrite (Px port Cmd) v) mid
+      stop_may = laws.stopping_may port was v mid here.on here.there last (record { start = zero; receive = fre_same; others = λ k small st fre. others k small st })
+
+      stop_leaves : (uses : Uses) → AnyUse uses → LeavesUses uses (Px port Cmd) v mid
+      stop_leaves uses is = record {
+        start = λ on. absurd (true≢false (sym on ∙ zero));
+        receive = λ on. let r = here.agreed.2.knows.agrees.received port.0 (sym fre_same ∙ on) in (r.below, r.area);
       }
 
-  pub emptied : bit v 14 ≡ false → (e.port port.0).fr ≡ false
-  emptied clear = sym (shown_after port Cmd v d e quiet call).2 ∙ clear
+      module _ (new : Device) (write : Writes (Px port Cmd) v mid new) where
+        pub stop_told : IsTold (Awaits 0 15 port 0) (IsControl WritesCommand port) AnyUse old new
+        stop_told = told_clears 0 15 port was v old mid new zero read stop_may stop_leaves write
 
-  pub empties_told : bit v 14 ≡ false → IsTold (Falls 4 14 port) (IsControl WritesCommand port) AnyUse start e
-  empties_told clear = told_falls 4 14 port n v start d e w.told call clear
+        pub stop_has : HasStopped (old.port port.0) (new.port port.0)
+        stop_has =
+            let after : IsUsable AnyUse port new = usable_after laws Commanding port old new u stop_told.followed in
+            let set = laws.command_set port v mid new write in
+            let same = beside_then (old.port port.0) (mid.port port.0) (new.port port.0) (beside_read laws port was old mid u.on.no_reset read) (beside_command laws port v mid new here.on.no_reset zero write) in
+            let bits : (slot : ℕ) → ((new.port port.0).ci slot ≡ false) × ((new.port port.0).sact slot ≡ false) =
+            λ slot. laws.bits_clear after.agreed.0 after.agreed.2.machine new port.0 slot after.agreed.2.knows.agrees (set.0 ∙ zero) in
+            record {
+              st = set.0 ∙ zero;
+              ci = λ slot. (bits slot).0;
+              sact = λ slot. (bits slot).1;
+              fre = set.1 ∙ fre_same ∙ (s.keeps.on.controls port.0).fre;
+              bases = bases_command laws port v mid new here.on.no_reset zero write ∙ (s.keeps.port port.0).bases;
+              sctl_det = same.0;
+              notes = same.1;
+            }
 
-  held : bit v 14 ≡ true → not (d.port port.0).st && bit v 15 || not (d.port port.0).fre && bit v 14 ≡ true
-  held set = or_true _ _ (ap (λ (fre : Bool). not fre && bit v 14) w.has.fre ∙ set)
+    -- ---- FRE is cleared
 
-  pub empties_still : n < 64 → bit v 14 ≡ true → IsEmptying port start (n + 1) e
-  empties_still small set =
-      let count = ap (λ (k : Notes). k.engine_count) (notes_read port Cmd v d e quiet call) in
-      let one = counted_again _ n (d.port port.0).notes.engine_count (held set) w.low small in
-      record {
-        told = told_stuck 4 14 port n v start d e w.told call ((shown_after port Cmd v d e quiet call).1 ∙ empties.fre, set);
-        has = empties;
-        low = rw count one.0;
-        high = λ _. rw count one.1;
-      }
+    module _ (stopped : IsStopped (old.port port.0)) (zero : bit v 4 ≡ false) (others : IsButAt 4 was v) where
+      still : IsStopped (mid.port port.0)
+      still = stopped_read laws port Cmd was old mid u.on.no_reset read stopped
+
+      st_zero : bit v 0 ≡ false
+      st_zero = bit_zero was v others ∙ shown_st ∙ still.halted.st
+
+      pub empty_may : Stays (MayWrite (Px port Cmd) v) mid
+      empty_may = laws.no_receiving_may port was v mid here.on here.there last (record { stopped = still.halted.st; fallen = still.halted.cr }) (record { start = st_zero; receive = zero; others = λ k small st fre. others k small fre })
+
+      empty_leaves : (uses : Uses) → AnyUse uses → LeavesUses uses (Px port Cmd) v mid
+      empty_leaves uses is = record { start = λ on. absurd (true≢false (sym on ∙ st_zero)); receive = λ on. absurd (true≢false (sym on ∙ zero)) }
+
+      module _ (new : Device) (write : Writes (Px port Cmd) v mid new) where
+        pub empty_begins : IsTold (Awaits 4 14 port 0) (IsControl WritesCommand port) AnyUse old new × IsStopped (new.port port.0) × ((new.port port.0).fre ≡ false)
+            × ((new.port port.0).bases ≡ (old.port port.0).bases) × SameBeside (old.port port.0) (new.port port.0)
+        empty_begins = (
+          told_clears 4 14 port was v old mid new zero read empty_may empty_leaves write,
+          stopped_command laws port v mid new empty_may st_zero write still,
+          (laws.command_set port v mid new write).1 ∙ zero,
+          bases_command laws port v mid new here.on.no_reset st_zero write ∙ (s.keeps.port port.0).bases,
+          beside_then (old.port port.0) (mid.port port.0) (new.port port.0) (beside_read laws port was old mid u.on.no_reset read) (beside_command laws port v mid new here.on.no_reset st_zero write),
+        )
+
+    -- ---- FRE is set
+
+    module _ (quiet : IsAfterReset (old.port port.0)) (placed : (old.port port.0).bases ≡ programmed port.0) (one : bit v 4 ≡ true) (others : IsButAt 4 was v) where
+      stands : IsStopped (mid.port port.0)
+      stands = stopped_read laws port Cmd was old mid u.on.no_reset read (record { halted = quiet.halted; sact = quiet.sact })
+
+      in_place : (mid.port port.0).bases ≡ programmed port.0
+      in_place = (s.keeps.port port.0).bases ∙ placed
+
+      st_same : bit v 0 ≡ (mid.port port.0).st
+      st_same = bit_zero was v others ∙ shown_st
+
+      pub receive_may : Stays (MayWrite (Px port Cmd) v) mid
+      receive_may = laws.receiving_may port was v mid here.on here.there last
+          (record { fallen = (s.keeps.port port.0).fr quiet.fr; fb = ap (λ (b : Bases). b.fb_set) in_place; fbu = ap (λ (b : Bases). b.fbu_set) in_place })
+          (record { start = st_same; receive = one; others = λ k small st fre. others k small fre })
+
+      receive_leaves : (uses : Uses) → AnyUse uses → LeavesUses uses (Px port Cmd) v mid
+      receive_leaves uses is = record { start = λ on. absurd (true≢false (sym on ∙ (st_same ∙ stands.halted.st))); receive = λ on. (here.there.0, ap (λ (b : Bases). b.fb) in_place) }
+
+      module _ (new : Device) (write : Writes (Px port Cmd) v mid new) where
+        pub receive_done : IsFollowed (IsControl WritesCommand port) AnyUse old new × ReceivesFises port.0 (new.port port.0) × SameBeside (old.port port.0) (new.port port.0)
+        receive_done = (
+          followed_then laws (Controlling Commanding port) old mid new (reading port was old mid read)
+              (followed_write laws (Controlling Commanding port) (Px port Cmd) v mid new (refl, refl) receive_may receive_leaves write),
+          record {
+            stopped = stopped_command laws port v mid new receive_may (st_same ∙ stands.halted.st) write stands;
+            fre = (laws.command_set port v mid new write).1 ∙ one;
+            bases = bases_command laws port v mid new here.on.no_reset (st_same ∙ stands.halted.st) write ∙ in_place;
+          },
+          beside_then (old.port port.0) (mid.port port.0) (new.port port.0) (beside_read laws port was old mid u.on.no_reset read)
+              (beside_command laws port v mid new here.on.no_reset (st_same ∙ stands.halted.st) write),
+        )
+
+  module _ (port : Port) (start d e : Device) (v n : ℕ) (w : IsFalling port start n d) (call : Reads (Px port Cmd) v d e) where
+    off : d.hr ≡ false
+    off = w.usable.on.no_reset
+
+    pub falls : bit v 15 ≡ false → IsTold (Falls 0 15 port) (IsControl WritesCommand port) AnyUse start e
+    falls clear = told_falls 0 15 port n v start d e w.told call clear
+
+    pub falling_on : IsUsable AnyUse port e
+    falling_on = usable_read laws AnyUse port Cmd v d e w.usable call
+
+    pub has_still : HasStopped (start.port port.0) (e.port port.0)
+    has_still =
+        let s : SeenAt port.0 Cmd v d e = laws.seen port Cmd v d e call off in
+        let k = s.keeps.port port.0 in
+        let c = s.keeps.on.controls port.0 in
+        let same = beside_then (start.port port.0) (d.port port.0) (e.port port.0) (w.has.sctl_det, w.has.notes) (beside_read laws port v d e off call) in
+        record {
+          st = k.st w.has.st;
+          ci = λ slot. k.ci slot (w.has.ci slot);
+          sact = λ slot. k.sact slot (w.has.sact slot);
+          fre = c.fre ∙ w.has.fre;
+          bases = k.bases ∙ w.has.bases;
+          sctl_det = same.0;
+          notes = same.1;
+        }
+
+    pub fallen : bit v 15 ≡ false → IsStopped (e.port port.0)
+    fallen clear = record {
+      halted = laws.stop_is_found w.usable.agreed.0 w.usable.agreed.2.machine port v d e w.usable.agreed.2.reached w.usable.agreed.2.knows.agrees w.has.st call clear;
+      sact = has_still.sact;
+    }
+
+    awaited : bit v 15 ≡ true → not (d.port port.0).st && bit v 15 || not (d.port port.0).fre && bit v 14 ≡ true
+    awaited set = ap (λ (st : Bool). not st && bit v 15 || not (d.port port.0).fre && bit v 14) w.has.st ∙ ap (λ (b : Bool). b || not (d.port port.0).fre && bit v 14) set
+
+    pub falls_still : n < 64 → bit v 15 ≡ true → IsFalling port start (n + 1) e
+    falls_still small set =
+        let count = ap (λ (k : Notes). k.engine_count) (laws.notes_read port Cmd v d e off call) in
+        let one = counted_again _ n (d.port port.0).notes.engine_count (awaited set) w.low small in
+        record {
+          told = told_stuck 0 15 port n v start d e w.told call ((laws.shown_after port Cmd v d e off call).0 ∙ has_still.st, set);
+          usable = falling_on;
+          has = has_still;
+          low = rw count one.0;
+          high = λ _. rw count one.1;
+        }
+
+  module _ (port : Port) (start d e : Device) (v n : ℕ) (w : IsEmptying port start n d) (call : Reads (Px port Cmd) v d e) where
+    quiet : d.hr ≡ false
+    quiet = w.has.usable.on.no_reset
+
+    -- what goes on, whatever was read
+    pub empties : HasEmptied port start e
+    empties =
+        let s : SeenAt port.0 Cmd v d e = laws.seen port Cmd v d e call quiet in
+        record {
+          usable = usable_read laws AnyUse port Cmd v d e w.has.usable call;
+          stopped = stopped_on (s.keeps.port port.0) w.has.stopped;
+          fre = (s.keeps.on.controls port.0).fre ∙ w.has.fre;
+          bases = (s.keeps.port port.0).bases ∙ w.has.bases;
+          same = beside_then (start.port port.0) (d.port port.0) (e.port port.0) w.has.same (beside_read laws port v d e quiet call);
+        }
+
+    pub emptied : bit v 14 ≡ false → (e.port port.0).fr ≡ false
+    emptied clear = sym (laws.shown_after port Cmd v d e quiet call).2 ∙ clear
+
+    pub empties_told : bit v 14 ≡ false → IsTold (Falls 4 14 port) (IsControl WritesCommand port) AnyUse start e
+    empties_told clear = told_falls 4 14 port n v start d e w.told call clear
+
+    held : bit v 14 ≡ true → not (d.port port.0).st && bit v 15 || not (d.port port.0).fre && bit v 14 ≡ true
+    held set = or_true _ _ (ap (λ (fre : Bool). not fre && bit v 14) w.has.fre ∙ set)
+
+    pub empties_still : n < 64 → bit v 14 ≡ true → IsEmptying port start (n + 1) e
+    empties_still small set =
+        let count = ap (λ (k : Notes). k.engine_count) (laws.notes_read port Cmd v d e quiet call) in
+        let one = counted_again _ n (d.port port.0).notes.engine_count (held set) w.low small in
+        record {
+          told = told_stuck 4 14 port n v start d e w.told call ((laws.shown_after port Cmd v d e quiet call).1 ∙ empties.fre, set);
+          has = empties;
+          low = rw count one.0;
+          high = λ _. rw count one.1;
+        }

@@ -1,3 +1,4 @@
+pub mod Stretching
 pub mod Using
 pub mod Awaiting
 pub mod Ceasing

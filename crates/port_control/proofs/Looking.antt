@@ -11,50 +11,19 @@ use Rattle.hba_regs.specs.declared.reg.PortReg.TheVariants.{Tfd, Sig, Ssts}
 use Rattle.hba_regs.specs.declared.reg.Reg.TheVariants.{Px}
 use Rattle.adapter.specs.Access.{Reads, counted, link_counted}
 use Rattle.adapter.specs.Access.Access.{Reading}
-use Rattle.adapter.proofs.Calls.{does_append}
 use Rattle.adapter.specs.Device.{Notes, PortState, Device}
 use Rattle.agreement.specs.Driven.{AnyUse, IsControl, IsFollowed}
 use Rattle.agreement.specs.Errors.{NoneComes}
 use Rattle.agreement.specs.Facts.{IsAwaited, IsQuiet, IsUnflagged}
 use Rattle.agreement.specs.Started.{IsUp, IsComingUp}
-use Rattle.agreement.proofs.Awaiting.{reads_awaited}
-use Rattle.agreement.proofs.ComingUp.{up_is_found}
-use Rattle.agreement.proofs.Driven.{followed_then, followed_read}
-use Rattle.agreement.proofs.Noting.{notes_read, shown_after}
-use Rattle.agreement.proofs.Starting.{quiet_is_found, reads_quiet, reads_unflagged}
 use Rattle.port_control.specs.Ports.{IsClearing, IsUsable, HasLink, ShowsIdle, SawDevice, SawIdle, ReadsNot, ReadsWithout, ReadsUntil, ShowsSignature}
 use Rattle.port_control.proofs.Using.{usable_read}
 use Rattle.port_control.proofs.Ceasing.{counted_again}
 use Rattle.port_control.proofs.Settling.{comes_in_parts, Settles, settles}
-
-pub looks : (port : Port) (r : PortReg) (v : ℕ) (old new : Device) → Reads (Px port r) v old new → IsFollowed (IsControl IsClearing port) AnyUse old new
-looks port r v old new call = followed_read (IsControl IsClearing port) (Px port r) v old new refl call
-
-looks_more : (port : Port) (r : PortReg) (v : ℕ) (start d e : Device) → IsFollowed (IsControl IsClearing port) AnyUse start d → Reads (Px port r) v d e → IsFollowed (IsControl IsClearing port) AnyUse start e
-looks_more port r v start d e f call = followed_then (IsControl IsClearing port) AnyUse start d e f (looks port r v d e call)
-
--- ---- readings until something shows
-
-module _ (port : Port) (r : PortReg) (Shown : ℕ → Type 0) where
-  pub without_none : (d : Device) → ReadsWithout port r Shown 0 d d
-  without_none d = record { reads = record { accesses = []; all = refl; only = All-nil (ReadsNot port r Shown) }; number = refl }
-
-  module _ {v : ℕ} {start d e : Device} (n : ℕ) where
-    pub without_more : ReadsWithout port r Shown n start d → Reads (Px port r) v d e → (Shown v → ⊥) → ReadsWithout port r Shown (n + 1) start e
-    without_more w call not = record {
-      reads = record {
-        accesses = w.reads.accesses ++ Reading (Px port r) v ∷ [];
-        all = does_append w.reads.accesses (Reading (Px port r) v ∷ []) start d e w.reads.all (e, call, refl);
-        only = All-append (ReadsNot port r Shown) w.reads.accesses (Reading (Px port r) v ∷ []) w.reads.only
-            (All-cons (ReadsNot port r Shown) (Reading (Px port r) v) [] (refl, not) (All-nil (ReadsNot port r Shown)));
-      };
-      number = length-append w.reads.accesses (Reading (Px port r) v ∷ []) ∙ ap (λ (k : ℕ). k + 1) w.number;
-    }
-
-    pub until_shown : n < 64 → ReadsWithout port r Shown n start d → Reads (Px port r) v d e → Shown v → ReadsUntil port r Shown start e
-    until_shown small w call is = record { count = n; few = small; waited = d; waits = w; value = v; shown = is; reads = call }
-
--- ---- a device is awaited
+use Rattle.port_control.specs.Laws.RegisterSet.{Clearing}
+use Rattle.port_control.specs.Laws.Stretch.{Controlling}
+use Rattle.port_control.specs.Laws.{Laws}
+use Rattle.port_control.proofs.Stretching.{followed_read, followed_then}
 
 -- so many readings of PxSSTS showed no device with a link
 pub record IsMissing (port : Port) (start : Device) (n : ℕ) (d : Device) : Type 0 where
@@ -66,58 +35,6 @@ pub record IsMissing (port : Port) (start : Device) (n : ℕ) (d : Device) : Typ
   pub high : 0 < n → (d.port port.0).notes.link_count ≤ 64
   pub far : 0 < n → (d.port port.0).notes.last_ssts % 16 ≢ 3
   pub misses : ReadsWithout port Ssts HasLink n start d
-
-counted_far : (det n count : ℕ) → det ≢ 3 → n ≤ count → n < 64 → (n + 1 ≤ link_counted det count) × (link_counted det count ≤ 64)
-counted_far det n count far low small =
-    elim (eqb_tells det 3) [
-      | inl both ↦ absurd (far both.1)
-      | inr both ↦ rw both.0 (omega arith, omega arith)
-    ]
-
-module _ (port : Port) (start d e : Device) (v n : ℕ) (w : IsMissing port start n d) (call : Reads (Px port Ssts) v d e) where
-  off : d.hr ≡ false
-  off = w.usable.on.no_reset
-
-  pub missing_followed : IsFollowed (IsControl IsClearing port) AnyUse start e
-  missing_followed = looks_more port Ssts v start d e w.followed call
-
-  missing_count : (e.port port.0).notes.link_count ≡ link_counted (v % 16) (d.port port.0).notes.link_count
-  missing_count =
-      ap (λ (k : Notes). k.link_count) (notes_read port Ssts v d e off call)
-      ∙ ap (λ (det : ℕ). if nat_eq det 0 then link_counted (v % 16) (d.port port.0).notes.link_count else (d.port port.0).notes.link_count) w.det
-
-  missing_last : (e.port port.0).notes.last_ssts ≡ v
-  missing_last = ap (λ (k : Notes). k.last_ssts) (notes_read port Ssts v d e off call)
-
-  pub device_seen : v % 16 ≡ 3 → SawDevice (e.port port.0).notes
-  device_seen three = (ap (λ (k : ℕ). k % 16) missing_last ∙ three, missing_count ∙ ap (λ (k : ℕ). link_counted k (d.port port.0).notes.link_count) three)
-
-  pub device_up : v % 16 ≡ 3 → NoneComes port.0 start e → IsComingUp (start.port port.0) → IsUp (e.port port.0)
-  device_up three none coming =
-      let s : Settles port start d = settles port start d w.on.on w.followed.driven in
-      let t : Settles port d e = settles port d e w.usable.on (looks port Ssts v d e call).driven in
-      let parts = comes_in_parts port.0 start d e s.grows t.grows none in
-      up_is_found port v d e parts.1 call three (s.coming parts.0 coming)
-
-  pub sees_device : n < 64 → v % 16 ≡ 3 → ReadsUntil port Ssts HasLink start e
-  sees_device small three = until_shown port Ssts HasLink n small w.misses call three
-
-  pub missing_still : n < 64 → v % 16 ≢ 3 → IsMissing port start (n + 1) e
-  missing_still small far =
-      let one = counted_far (v % 16) n (d.port port.0).notes.link_count far w.low small in
-      let count = missing_count in
-      record {
-        followed = missing_followed;
-        usable = usable_read AnyUse port Ssts v d e w.usable call;
-        on = w.on;
-        det = (settles port d e w.usable.on (looks port Ssts v d e call).driven).det ∙ w.det;
-        low = rw count one.0;
-        high = λ _. rw count one.1;
-        far = λ _ three. far (sym (ap (λ (k : ℕ). k % 16) missing_last) ∙ three);
-        misses = without_more port Ssts HasLink n w.misses call far;
-      }
-
--- ---- what it is doing is awaited
 
 -- a link is awaited on a port whose TFES is clear
 abbrev Awaits : PortState → Type 0
@@ -135,65 +52,143 @@ pub record IsBusyStill (port : Port) (start : Device) (n : ℕ) (d : Device) : T
   pub awaits : Awaits (start.port port.0) → Awaits (d.port port.0)
   pub quiet : 0 < n → Awaits (start.port port.0) → bit (d.port port.0).notes.last_tfd 3 ≡ false → IsQuiet (d.port port.0)
 
-module _ (port : Port) (start d e : Device) (v n : ℕ) (w : IsBusyStill port start n d) (call : Reads (Px port Tfd) v d e) where
-  quiet : d.hr ≡ false
-  quiet = w.usable.on.no_reset
+counted_far : (det n count : ℕ) → det ≢ 3 → n ≤ count → n < 64 → (n + 1 ≤ link_counted det count) × (link_counted det count ≤ 64)
+counted_far det n count far low small =
+    elim (eqb_tells det 3) [
+      | inl both ↦ absurd (far both.1)
+      | inr both ↦ rw both.0 (omega arith, omega arith)
+    ]
 
-  pub busy_followed : IsFollowed (IsControl IsClearing port) AnyUse start e
-  busy_followed = looks_more port Tfd v start d e w.followed call
+module _ (laws : Laws) where
+  pub looks : (port : Port) (r : PortReg) (v : ℕ) (old new : Device) → Reads (Px port r) v old new → IsFollowed (IsControl IsClearing port) AnyUse old new
+  looks port r v old new call = followed_read laws (Controlling Clearing port) (Px port r) v old new refl call
 
-  pub busy_saw : SawDevice (e.port port.0).notes
-  busy_saw = let same = notes_read port Tfd v d e quiet call in (ap (λ (k : Notes). k.last_ssts % 16) same ∙ w.saw.0, ap (λ (k : Notes). k.link_count) same ∙ w.saw.1)
+  looks_more : (port : Port) (r : PortReg) (v : ℕ) (start d e : Device) → IsFollowed (IsControl IsClearing port) AnyUse start d → Reads (Px port r) v d e → IsFollowed (IsControl IsClearing port) AnyUse start e
+  looks_more port r v start d e f call = followed_then laws (Controlling Clearing port) start d e f (looks port r v d e call)
 
-  pub idle_seen : bit v 7 || bit v 3 ≡ false → SawIdle (e.port port.0).notes
-  idle_seen neither = ap (λ (k : Notes). bit k.last_tfd 7 || bit k.last_tfd 3) (notes_read port Tfd v d e quiet call) ∙ neither
+  -- ---- readings until something shows
 
-  pub busy_waits : n < 64 → bit v 7 || bit v 3 ≡ false → ReadsUntil port Tfd ShowsIdle start e
-  busy_waits small neither = until_shown port Tfd ShowsIdle n small w.stays call neither
+  module _ (port : Port) (r : PortReg) (Shown : ℕ → Type 0) where
+    pub without_none : (d : Device) → ReadsWithout port r Shown 0 d d
+    without_none d = record { reads = record { accesses = []; all = refl; only = All-nil (ReadsNot port r Shown) }; number = refl }
 
-  -- without DRQ the link isn't due
-  pub busy_quiet : Awaits (start.port port.0) → bit (e.port port.0).notes.last_tfd 3 ≡ false → IsQuiet (e.port port.0)
-  busy_quiet awaits clear =
-      let h = w.awaits awaits in
-      let last : (e.port port.0).notes.last_tfd ≡ v = ap (λ (k : Notes). k.last_tfd) (notes_read port Tfd v d e quiet call) in
-      quiet_is_found port v d e h.0 h.1 call (ap (λ (k : ℕ). bit k 3) (sym last) ∙ clear)
-
-  pub busy_still : n < 64 → bit v 7 || bit v 3 ≡ true → IsBusyStill port start (n + 1) e
-  busy_still small busy =
-      let one = counted_again (bit v 7 || bit v 3) n (d.port port.0).notes.busy_count busy w.low small in
-      let count =
-      ap (λ (k : Notes). k.busy_count) (notes_read port Tfd v d e quiet call)
-      ∙ ap (λ (det : ℕ). if nat_eq det 0 then counted (bit v 7 || bit v 3) (d.port port.0).notes.busy_count else (d.port port.0).notes.busy_count) w.det in
-      record {
-        followed = busy_followed;
-        usable = usable_read AnyUse port Tfd v d e w.usable call;
-        det = (settles port d e w.usable.on (looks port Tfd v d e call).driven).det ∙ w.det;
-        saw = busy_saw;
-        low = rw count one.0;
-        high = λ _. rw count one.1;
-        stays = without_more port Tfd ShowsIdle n w.stays call (λ neither. absurd (true≢false (sym busy ∙ neither)));
-        awaits = λ h. let a = w.awaits h in (reads_awaited port.0 (Px port Tfd) v d e call a.0, reads_unflagged port.0 (Px port Tfd) v d e call a.1);
-        quiet = λ _. busy_quiet;
+    module _ {v : ℕ} {start d e : Device} (n : ℕ) where
+      pub without_more : ReadsWithout port r Shown n start d → Reads (Px port r) v d e → (Shown v → ⊥) → ReadsWithout port r Shown (n + 1) start e
+      without_more w call not = record {
+        reads = record {
+          accesses = w.reads.accesses ++ Reading (Px port r) v ∷ [];
+          all = laws.does_append w.reads.accesses (Reading (Px port r) v ∷ []) start d e w.reads.all (e, call, refl);
+          only = All-append (ReadsNot port r Shown) w.reads.accesses (Reading (Px port r) v ∷ []) w.reads.only
+              (All-cons (ReadsNot port r Shown) (Reading (Px port r) v) [] (refl, not) (All-nil (ReadsNot port r Shown)));
+        };
+        number = length-append w.reads.accesses (Reading (Px port r) v ∷ []) ∙ ap (λ (k : ℕ). k + 1) w.number;
       }
 
--- ---- the signature is read
+      pub until_shown : n < 64 → ReadsWithout port r Shown n start d → Reads (Px port r) v d e → Shown v → ReadsUntil port r Shown start e
+      until_shown small w call is = record { count = n; few = small; waited = d; waits = w; value = v; shown = is; reads = call }
 
-module _ (port : Port) (d e : Device) (v : ℕ) (u : IsUsable AnyUse port d) (call : Reads (Px port Sig) v d e) where
-  signed : (e.port port.0).notes ≡ record (d.port port.0).notes { last_sig = v }
-  signed = notes_read port Sig v d e u.on.no_reset call
+  module _ (port : Port) (start d e : Device) (v n : ℕ) (w : IsMissing port start n d) (call : Reads (Px port Ssts) v d e) where
+    off : d.hr ≡ false
+    off = w.usable.on.no_reset
 
-  pub sig_saw : SawDevice (d.port port.0).notes → SawDevice (e.port port.0).notes
-  sig_saw saw = (ap (λ (k : Notes). k.last_ssts % 16) signed ∙ saw.0, ap (λ (k : Notes). k.link_count) signed ∙ saw.1)
+    pub missing_followed : IsFollowed (IsControl IsClearing port) AnyUse start e
+    missing_followed = looks_more port Ssts v start d e w.followed call
 
-  pub sig_idle : SawIdle (d.port port.0).notes → SawIdle (e.port port.0).notes
-  sig_idle idle = ap (λ (k : Notes). bit k.last_tfd 7 || bit k.last_tfd 3) signed ∙ idle
+    missing_count : (e.port port.0).notes.link_count ≡ link_counted (v % 16) (d.port port.0).notes.link_count
+    missing_count =
+        ap (λ (k : Notes). k.link_count) (laws.notes_read port Ssts v d e off call)
+        ∙ ap (λ (det : ℕ). if nat_eq det 0 then link_counted (v % 16) (d.port port.0).notes.link_count else (d.port port.0).notes.link_count) w.det
 
-  pub sig_last : (e.port port.0).notes.last_sig ≡ v
-  sig_last = ap (λ (k : Notes). k.last_sig) signed
+    missing_last : (e.port port.0).notes.last_ssts ≡ v
+    missing_last = ap (λ (k : Notes). k.last_ssts) (laws.notes_read port Ssts v d e off call)
 
-  -- what PxTFD was read as stays, and so what it showed
-  pub sig_quiet : (bit (d.port port.0).notes.last_tfd 3 ≡ false → IsQuiet (d.port port.0)) → bit (e.port port.0).notes.last_tfd 3 ≡ false → IsQuiet (e.port port.0)
-  sig_quiet was clear = reads_quiet port.0 (Px port Sig) v d e call (was (ap (λ (k : Notes). bit k.last_tfd 3) (sym signed) ∙ clear))
+    pub device_seen : v % 16 ≡ 3 → SawDevice (e.port port.0).notes
+    device_seen three = (ap (λ (k : ℕ). k % 16) missing_last ∙ three, missing_count ∙ ap (λ (k : ℕ). link_counted k (d.port port.0).notes.link_count) three)
 
-  pub sig_shown : ShowsSignature (e.port port.0)
-  sig_shown = sig_last ∙ shown_after port Sig v d e u.on.no_reset call
+    pub device_up : v % 16 ≡ 3 → NoneComes port.0 start e → IsComingUp (start.port port.0) → IsUp (e.port port.0)
+    device_up three none coming =
+        let s : Settles port start d = settles laws port start d w.on.on w.followed.driven in
+        let t : Settles port d e = settles laws port d e w.usable.on (looks port Ssts v d e call).driven in
+        let parts = comes_in_parts laws port.0 start d e s.grows t.grows none in
+        laws.up_is_found port v d e parts.1 call three (s.coming parts.0 coming)
+
+    pub sees_device : n < 64 → v % 16 ≡ 3 → ReadsUntil port Ssts HasLink start e
+    sees_device small three = until_shown port Ssts HasLink n small w.misses call three
+
+    pub missing_still : n < 64 → v % 16 ≢ 3 → IsMissing port start (n + 1) e
+    missing_still small far =
+        let one = counted_far (v % 16) n (d.port port.0).notes.link_count far w.low small in
+        let count = missing_count in
+        record {
+          followed = missing_followed;
+          usable = usable_read laws AnyUse port Ssts v d e w.usable call;
+          on = w.on;
+          det = (settles laws port d e w.usable.on (looks port Ssts v d e call).driven).det ∙ w.det;
+          low = rw count one.0;
+          high = λ _. rw count one.1;
+          far = λ _ three. far (sym (ap (λ (k : ℕ). k % 16) missing_last) ∙ three);
+          misses = without_more port Ssts HasLink n w.misses call far;
+        }
+
+  module _ (port : Port) (start d e : Device) (v n : ℕ) (w : IsBusyStill port start n d) (call : Reads (Px port Tfd) v d e) where
+    quiet : d.hr ≡ false
+    quiet = w.usable.on.no_reset
+
+    pub busy_followed : IsFollowed (IsControl IsClearing port) AnyUse start e
+    busy_followed = looks_more port Tfd v start d e w.followed call
+
+    pub busy_saw : SawDevice (e.port port.0).notes
+    busy_saw = let same = laws.notes_read port Tfd v d e quiet call in (ap (λ (k : Notes). k.last_ssts % 16) same ∙ w.saw.0, ap (λ (k : Notes). k.link_count) same ∙ w.saw.1)
+
+    pub idle_seen : bit v 7 || bit v 3 ≡ false → SawIdle (e.port port.0).notes
+    idle_seen neither = ap (λ (k : Notes). bit k.last_tfd 7 || bit k.last_tfd 3) (laws.notes_read port Tfd v d e quiet call) ∙ neither
+
+    pub busy_waits : n < 64 → bit v 7 || bit v 3 ≡ false → ReadsUntil port Tfd ShowsIdle start e
+    busy_waits small neither = until_shown port Tfd ShowsIdle n small w.stays call neither
+
+    -- without DRQ the link isn't due
+    pub busy_quiet : Awaits (start.port port.0) → bit (e.port port.0).notes.last_tfd 3 ≡ false → IsQuiet (e.port port.0)
+    busy_quiet awaits clear =
+        let h = w.awaits awaits in
+        let last : (e.port port.0).notes.last_tfd ≡ v = ap (λ (k : Notes). k.last_tfd) (laws.notes_read port Tfd v d e quiet call) in
+        laws.quiet_is_found port v d e h.0 h.1 call (ap (λ (k : ℕ). bit k 3) (sym last) ∙ clear)
+
+    pub busy_still : n < 64 → bit v 7 || bit v 3 ≡ true → IsBusyStill port start (n + 1) e
+    busy_still small busy =
+        let one = counted_again (bit v 7 || bit v 3) n (d.port port.0).notes.busy_count busy w.low small in
+        let count =
+        ap (λ (k : Notes). k.busy_count) (laws.notes_read port Tfd v d e quiet call)
+        ∙ ap (λ (det : ℕ). if nat_eq det 0 then counted (bit v 7 || bit v 3) (d.port port.0).notes.busy_count else (d.port port.0).notes.busy_count) w.det in
+        record {
+          followed = busy_followed;
+          usable = usable_read laws AnyUse port Tfd v d e w.usable call;
+          det = (settles laws port d e w.usable.on (looks port Tfd v d e call).driven).det ∙ w.det;
+          saw = busy_saw;
+          low = rw count one.0;
+          high = λ _. rw count one.1;
+          stays = without_more port Tfd ShowsIdle n w.stays call (λ neither. absurd (true≢false (sym busy ∙ neither)));
+          awaits = λ h. let a = w.awaits h in (laws.reads_awaited port.0 (Px port Tfd) v d e call a.0, laws.reads_unflagged port.0 (Px port Tfd) v d e call a.1);
+          quiet = λ _. busy_quiet;
+        }
+
+  -- ---- the signature is read
+
+  module _ (port : Port) (d e : Device) (v : ℕ) (u : IsUsable AnyUse port d) (call : Reads (Px port Sig) v d e) where
+    signed : (e.port port.0).notes ≡ record (d.port port.0).notes { last_sig = v }
+    signed = laws.notes_read port Sig v d e u.on.no_reset call
+
+    pub sig_saw : SawDevice (d.port port.0).notes → SawDevice (e.port port.0).notes
+    sig_saw saw = (ap (λ (k : Notes). k.last_ssts % 16) signed ∙ saw.0, ap (λ (k : Notes). k.link_count) signed ∙ saw.1)
+
+    pub sig_idle : SawIdle (d.port port.0).notes → SawIdle (e.port port.0).notes
+    sig_idle idle = ap (λ (k : Notes). bit k.last_tfd 7 || bit k.last_tfd 3) signed ∙ idle
+
+    pub sig_last : (e.port port.0).notes.last_sig ≡ v
+    sig_last = ap (λ (k : Notes). k.last_sig) signed
+
+    -- what PxTFD was read as stays, and so what it showed
+    pub sig_quiet : (bit (d.port port.0).notes.last_tfd 3 ≡ false → IsQuiet (d.port port.0)) → bit (e.port port.0).notes.last_tfd 3 ≡ false → IsQuiet (e.port port.0)
+    sig_quiet was clear = laws.reads_quiet port.0 (Px port Sig) v d e call (was (ap (λ (k : Notes). bit k.last_tfd 3) (sym signed) ∙ clear))
+
+    pub sig_shown : ShowsSignature (e.port port.0)
+    sig_shown = sig_last ∙ laws.shown_after port Sig v d e u.on.no_reset call

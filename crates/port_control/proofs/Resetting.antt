@@ -9,86 +9,23 @@ use Rattle.adapter.specs.Access.{Reads, Writes}
 use Rattle.adapter.specs.Access.Access.{Writing}
 use Rattle.adapter.specs.Device.{Device}
 use Rattle.adapter.specs.Rules.{IsOn, MayWrite, Stays}
-use Rattle.adapter.proofs.KeptLemmas.{steps_keep}
 use Rattle.agreement.specs.Driven.{AnyUse, IsControl, IsFollowed}
 use Rattle.agreement.specs.Errors.{NoneComes}
 use Rattle.agreement.specs.Facts.{IsAwaited, IsQuiet, IsUnflagged}
 use Rattle.agreement.specs.Started.{IsUp, IsComingUp}
-use Rattle.agreement.proofs.Allowing.{write_stays}
-use Rattle.agreement.proofs.Awaiting.{comreset_begins, writes_awaited}
-use Rattle.agreement.proofs.ComingUp.{comreset_comes, access_coming}
-use Rattle.agreement.proofs.Controlled.{stays_on, tape_gains, Grows, grows_more, access_grows}
-use Rattle.agreement.proofs.Driven.{followed_then, followed_write}
-use Rattle.agreement.proofs.Erring.{plugs_come}
-use Rattle.agreement.proofs.Setting.{control_set}
+use Rattle.agreement.specs.Driven.{Grows}
 use Rattle.port_control.specs.Ports.{IsClearing, IsResetting, IsUsable, ReceivesFises, HasLink, ShowsIdle, ReadsWithout, ReadsUntil, ClearsErrors, FindsLink, FindsSignature, FindsBusy, WasReset, HasClearErrors, FindsDevice, IsFound}
-use Rattle.port_control.proofs.Using.{usable_after, followed_wider, receiving_write}
+use Rattle.port_control.proofs.Using.{usable_after, receiving_write, stays_on, tape_gains}
 use Rattle.port_control.proofs.Settling.{comes_in_parts, plugs_in_parts, no_start, Settles, settles}
+use Rattle.port_control.specs.Laws.RegisterSet.{Clearing, Resetting}
+use Rattle.port_control.specs.Laws.Stretch.{Controlling}
+use Rattle.port_control.specs.Laws.{Laws}
+use Rattle.port_control.proofs.Stretching.{followed_then, followed_wider, followed_write}
 
 pub grows_longer : (old new : Device) → Grows old new → length old.tape ≤ length new.tape
 grows_longer old new g =
     let sum : length new.tape ≡ length old.tape + length g.0 = ap length g.1 ∙ length-append old.tape g.0 in
     omega (arith, sum)
-
-pub sctl_may : (port : Port) (v : ℕ) (d : Device) → IsUsable AnyUse port d → ReceivesFises port.0 (d.port port.0) → (v % 16 ≡ 0) ⊎ (v % 16 ≡ 1) → Stays (MayWrite (Px port Sctl) v) d
-sctl_may port v d u r det = write_stays (Px port Sctl) v d (λ p e. cc) (u.on, u.there, (r.stopped.halted.st, det))
-
-module _ (port : Port) (old sent : Device) (u : IsUsable AnyUse port old) (receives : ReceivesFises port.0 (old.port port.0)) (one : Writes (Px port Sctl) 1 old sent) where
-  first : IsFollowed (IsControl IsResetting port) AnyUse old sent
-  first = followed_write (IsControl IsResetting port) AnyUse (Px port Sctl) 1 old sent (refl, inl refl) (sctl_may port 1 old u receives (inr refl)) (λ uses is. tt) one
-
-  sending : IsUsable AnyUse port sent
-  sending = usable_after IsResetting AnyUse port old sent u first
-
-  receives_still : ReceivesFises port.0 (sent.port port.0)
-  receives_still = receiving_write port Sctl 1 old sent u.on.no_reset (inl refl) one receives
-
-  pub ending_may : Stays (MayWrite (Px port Sctl) 0) sent
-  ending_may = sctl_may port 0 sent sending receives_still (inl refl)
-
-  module _ (new : Device) (zero : Writes (Px port Sctl) 0 sent new) where
-    pub reset_followed : IsFollowed (IsControl IsResetting port) AnyUse old new
-    reset_followed = followed_then (IsControl IsResetting port) AnyUse old sent new first
-        (followed_write (IsControl IsResetting port) AnyUse (Px port Sctl) 0 sent new (refl, inl refl) ending_may (λ uses is. tt) zero)
-
-    pub reset_receives : ReceivesFises port.0 (new.port port.0)
-    reset_receives = receiving_write port Sctl 0 sent new sending.on.no_reset (inl refl) zero receives_still
-
-    early : Grows old sent
-    early = access_grows (Writing (Px port Sctl) 1) old sent one
-
-    late : Grows sent new
-    late = access_grows (Writing (Px port Sctl) 0) sent new zero
-
-    pub was_reset : WasReset port (λ ended now. now ≡ ended) old new
-    was_reset =
-        let set = control_set port 0 sent new zero in
-        let longer = grows_longer old new (grows_more old sent new early late) in
-        let at = set.1 in
-        record {
-          sent = sent;
-          sends = one;
-          ended = new;
-          ends = zero;
-          rest = refl;
-          det = set.0;
-          since = rw at longer;
-          marked = omega (arith, at);
-        }
-
-    pub reset_awaited : IsAwaited (new.port port.0)
-    reset_awaited = writes_awaited port.0 (Px port Sctl) 0 sent new ending_may
-        (λ d steps. ((steps_keep steps).port port.0).cr receives_still.stopped.halted.cr) zero
-        (comreset_begins port 1 old sent receives.stopped.halted.cr refl one)
-
-    pub reset_coming : NoneComes port.0 old new → IsComingUp (new.port port.0)
-    reset_coming none =
-        let parts = comes_in_parts port.0 old sent new early late none in
-        access_coming port (Writing (Px port Sctl) 0) sent new
-        (no_start port (Writing (Px port Sctl) 0) (λ (e : Px port Sctl ≡ Px port Cmd). absurd (cc))) zero parts.1
-        (comreset_comes port 1 old sent receives.stopped.halted.cr refl one)
-
--- ---- and what was done since
 
 module _ (port : Port) (Then : Device → Device → Type 0) (old mid new : Device) (reset : WasReset port (λ ended now. now ≡ ended) old mid) (then : Then mid new) (s : Settles port mid new) where
   pub reset_on : WasReset port Then old new
@@ -108,96 +45,6 @@ module _ (port : Port) (Then : Device → Device → Type 0) (old mid new : Devi
         marked = omega (arith, same, marked, longer);
       }
 
--- what was found since, where the link was coming up
-pub found_on : (port : ℕ) (old mid new : Device) → Grows old mid → Grows mid new → (NoneComes port old mid → IsComingUp (mid.port port)) → IsAwaited (mid.port port) → FindsDevice port mid new → IsFound port old new
-found_on port old mid new early late coming awaited finds = record {
-  calm = finds.calm;
-  clear = record {
-    serr_n = λ none. let parts = plugs_in_parts port old mid new early late none in (finds.clear (coming (plugs_come port old mid parts.0))).serr_n parts.1;
-    serr_x = λ none. let parts = comes_in_parts port old mid new early late none in (finds.clear (coming parts.0)).serr_x parts.1;
-  };
-  undue = λ none. let parts = comes_in_parts port old mid new early late none in finds.undue parts.1 (coming parts.0);
-  up = λ none. let parts = plugs_in_parts port old mid new early late none in finds.up parts.1 (coming (plugs_come port old mid parts.0));
-  quiet = finds.quiet awaited;
-}
-
--- the two together
-module _ (port : Port) (old mid new : Device) (u : IsUsable AnyUse port old) (sends : IsFollowed (IsControl IsResetting port) AnyUse old mid) (looks : IsFollowed (IsControl IsClearing port) AnyUse mid new) where
-  pub looking : IsUsable AnyUse port mid
-  looking = usable_after IsResetting AnyUse port old mid u sends
-
-  pub looked : Settles port mid new
-  looked = settles port mid new looking.on looks.driven
-
-  pub both_followed : IsFollowed (IsControl IsResetting port) AnyUse old new
-  both_followed = followed_then (IsControl IsResetting port) AnyUse old mid new sends (followed_wider IsClearing IsResetting AnyUse port mid new (λ r is. inr is) looks)
-
-  pub both_on : IsOn new
-  both_on = stays_on IsResetting port old new both_followed.driven u.on
-
-  sent_grows : Grows old mid
-  sent_grows = tape_gains IsResetting port old mid sends.driven
-
-  module _ (coming : NoneComes port.0 old mid → IsComingUp (mid.port port.0)) where
-    pub both_coming : NoneComes port.0 old new → IsComingUp (new.port port.0)
-    both_coming none = let parts = comes_in_parts port.0 old mid new sent_grows looked.grows none in looked.coming parts.1 (coming parts.0)
-
-    pub both_found : IsAwaited (mid.port port.0) → FindsDevice port.0 mid new → IsFound port.0 old new
-    both_found awaited finds = found_on port.0 old mid new sent_grows looked.grows coming awaited finds
-
--- ---- looking for the device
-
-module _ (port : Port) (old seen cleared new : Device) (receives : ReceivesFises port.0 (old.port port.0)) (a : Settles port old seen) (b : Settles port seen cleared) (c : Settles port cleared new)
-    (up : NoneComes port.0 old seen → IsComingUp (old.port port.0) → IsUp (seen.port port.0))
-    (calm : (place : ℕ) → place < 32 → (cleared.port port.0).is place ≡ false)
-    (clear : (seen.port port.0).link_due ≡ false → HasClearErrors port.0 seen cleared)
-    (quiet : IsAwaited (cleared.port port.0) → IsUnflagged (cleared.port port.0) → bit (new.port port.0).notes.last_tfd 3 ≡ false → IsQuiet (new.port port.0)) where
-  early_half : Grows old cleared
-  early_half = grows_more old seen cleared a.grows b.grows
-
-  late_half : Grows seen new
-  late_half = grows_more seen cleared new b.grows c.grows
-
-  receives_seen : ReceivesFises port.0 (seen.port port.0)
-  receives_seen = a.receiving receives
-
-  receives_cleared : ReceivesFises port.0 (cleared.port port.0)
-  receives_cleared = b.receiving receives_seen
-
-  -- where no disk came until the device was seen, no link is due from then on
-  undue_seen : NoneComes port.0 old seen → IsComingUp (old.port port.0) → (seen.port port.0).link_due ≡ false
-  undue_seen none coming = (up none coming).linked
-
-  -- and what shows then came since
-  clear_since : (seen.port port.0).link_due ≡ false → HasClearErrors port.0 seen new
-  clear_since undue =
-      let change = c.change (b.undue undue) in
-      record {
-        serr_n = λ none. let parts = plugs_in_parts port.0 seen cleared new b.grows c.grows none in change.serr_n parts.1 ((clear undue).serr_n parts.0);
-        serr_x = λ none. let parts = comes_in_parts port.0 seen cleared new b.grows c.grows none in change.serr_x parts.1 ((clear undue).serr_x parts.0);
-      }
-
-  pub finds_device : FindsDevice port.0 old new
-  finds_device = record {
-    calm = λ place small. c.calm receives_cleared place (calm place small);
-    clear = λ coming. record {
-      serr_n = λ none.
-          let parts = plugs_in_parts port.0 old seen new a.grows late_half none in
-          (clear_since (undue_seen (plugs_come port.0 old seen parts.0) coming)).serr_n parts.1;
-      serr_x = λ none.
-          let parts = comes_in_parts port.0 old seen new a.grows late_half none in
-          (clear_since (undue_seen parts.0 coming)).serr_x parts.1;
-    };
-    undue = λ none coming.
-        let parts = comes_in_parts port.0 old seen new a.grows late_half none in
-        c.undue (b.undue (undue_seen parts.0 coming));
-    up = λ none coming.
-        let parts = plugs_in_parts port.0 old cleared new early_half c.grows none in
-        let first = plugs_in_parts port.0 old seen cleared a.grows b.grows parts.0 in
-        c.up parts.1 receives_cleared (b.up first.1 receives_seen (up (plugs_come port.0 old seen first.0) coming));
-    quiet = λ awaited. quiet (b.awaited (a.awaited awaited)) (receives_cleared.stopped.halted.cr, calm 30 (omega arith));
-  }
-
 -- and how it was found
 pub finds_link : (port : Port) {old seen new : Device} → ReadsUntil port Ssts HasLink old seen → ClearsErrors port seen new → FindsLink port old new
 finds_link port {old} {seen} {new} sees clears = record { seen = seen; sees = sees; clears = clears }
@@ -208,3 +55,152 @@ finds_busy port {old} {linked} {new} links waits = record { linked = linked; lin
 pub finds_signature : (port : Port) (signature : ℕ) {old linked idle new : Device} → FindsLink port old linked → ReadsUntil port Tfd ShowsIdle linked idle →
     Reads (Px port Sig) signature idle new → FindsSignature port signature old new
 finds_signature port signature {old} {linked} {idle} {new} links waits reads = record { linked = linked; links = links; idle = idle; waits = waits; reads = reads }
+
+module _ (laws : Laws) where
+  pub sctl_may : (port : Port) (v : ℕ) (d : Device) → IsUsable AnyUse port d → ReceivesFises port.0 (d.port port.0) → (v % 16 ≡ 0) ⊎ (v % 16 ≡ 1) → Stays (MayWrite (Px port Sctl) v) d
+  sctl_may port v d u r det = laws.write_stays (Px port Sctl) v d (λ p e. cc) (u.on, u.there, (r.stopped.halted.st, det))
+
+  module _ (port : Port) (old sent : Device) (u : IsUsable AnyUse port old) (receives : ReceivesFises port.0 (old.port port.0)) (one : Writes (Px port Sctl) 1 old sent) where
+    first : IsFollowed (IsControl IsResetting port) AnyUse old sent
+    first = followed_write laws (Controlling Resetting port) (Px port Sctl) 1 old sent (refl, inl refl) (sctl_may port 1 old u receives (inr refl)) (λ uses is. tt) one
+
+    sending : IsUsable AnyUse port sent
+    sending = usable_after laws Resetting port old sent u first
+
+    receives_still : ReceivesFises port.0 (sent.port port.0)
+    receives_still = receiving_write laws port Sctl 1 old sent u.on.no_reset (inl refl) one receives
+
+    pub ending_may : Stays (MayWrite (Px port Sctl) 0) sent
+    ending_may = sctl_may port 0 sent sending receives_still (inl refl)
+
+    module _ (new : Device) (zero : Writes (Px port Sctl) 0 sent new) where
+      pub reset_followed : IsFollowed (IsControl IsResetting port) AnyUse old new
+      reset_followed = followed_then laws (Controlling Resetting port) old sent new first
+          (followed_write laws (Controlling Resetting port) (Px port Sctl) 0 sent new (refl, inl refl) ending_may (λ uses is. tt) zero)
+
+      pub reset_receives : ReceivesFises port.0 (new.port port.0)
+      reset_receives = receiving_write laws port Sctl 0 sent new sending.on.no_reset (inl refl) zero receives_still
+
+      early : Grows old sent
+      early = laws.access_grows (Writing (Px port Sctl) 1) old sent one
+
+      late : Grows sent new
+      late = laws.access_grows (Writing (Px port Sctl) 0) sent new zero
+
+      pub was_reset : WasReset port (λ ended now. now ≡ ended) old new
+      was_reset =
+          let set = laws.control_set port 0 sent new zero in
+          let longer = grows_longer old new (laws.grows_more old sent new early late) in
+          let at = set.1 in
+          record {
+            sent = sent;
+            sends = one;
+            ended = new;
+            ends = zero;
+            rest = refl;
+            det = set.0;
+            since = rw at longer;
+            marked = omega (arith, at);
+          }
+
+      pub reset_awaited : IsAwaited (new.port port.0)
+      reset_awaited = laws.writes_awaited port.0 (Px port Sctl) 0 sent new ending_may
+          (λ d steps. ((laws.steps_keep _ _ steps).port port.0).cr receives_still.stopped.halted.cr) zero
+          (laws.comreset_begins port 1 old sent receives.stopped.halted.cr refl one)
+
+      pub reset_coming : NoneComes port.0 old new → IsComingUp (new.port port.0)
+      reset_coming none =
+          let parts = comes_in_parts laws port.0 old sent new early late none in
+          laws.access_coming port (Writing (Px port Sctl) 0) sent new
+          (no_start port (Writing (Px port Sctl) 0) (λ (e : Px port Sctl ≡ Px port Cmd). absurd (cc))) zero parts.1
+          (laws.comreset_comes port 1 old sent receives.stopped.halted.cr refl one)
+
+  -- what was found since, where the link was coming up
+  pub found_on : (port : ℕ) (old mid new : Device) → Grows old mid → Grows mid new → (NoneComes port old mid → IsComingUp (mid.port port)) → IsAwaited (mid.port port) → FindsDevice port mid new → IsFound port old new
+  found_on port old mid new early late coming awaited finds = record {
+    calm = finds.calm;
+    clear = record {
+      serr_n = λ none. let parts = plugs_in_parts laws port old mid new early late none in (finds.clear (coming (laws.plugs_come port old mid parts.0))).serr_n parts.1;
+      serr_x = λ none. let parts = comes_in_parts laws port old mid new early late none in (finds.clear (coming parts.0)).serr_x parts.1;
+    };
+    undue = λ none. let parts = comes_in_parts laws port old mid new early late none in finds.undue parts.1 (coming parts.0);
+    up = λ none. let parts = plugs_in_parts laws port old mid new early late none in finds.up parts.1 (coming (laws.plugs_come port old mid parts.0));
+    quiet = finds.quiet awaited;
+  }
+
+  -- the two together
+  module _ (port : Port) (old mid new : Device) (u : IsUsable AnyUse port old) (sends : IsFollowed (IsControl IsResetting port) AnyUse old mid) (looks : IsFollowed (IsControl IsClearing port) AnyUse mid new) where
+    pub looking : IsUsable AnyUse port mid
+    looking = usable_after laws Resetting port old mid u sends
+
+    pub looked : Settles port mid new
+    looked = settles laws port mid new looking.on looks.driven
+
+    pub both_followed : IsFollowed (IsControl IsResetting port) AnyUse old new
+    both_followed = followed_then laws (Controlling Resetting port) old mid new sends (followed_wider laws Clearing Resetting port mid new (λ r is. inr is) looks)
+
+    pub both_on : IsOn new
+    both_on = stays_on laws Resetting port old new both_followed.driven u.on
+
+    sent_grows : Grows old mid
+    sent_grows = tape_gains laws Resetting port old mid sends.driven
+
+    module _ (coming : NoneComes port.0 old mid → IsComingUp (mid.port port.0)) where
+      pub both_coming : NoneComes port.0 old new → IsComingUp (new.port port.0)
+      both_coming none = let parts = comes_in_parts laws port.0 old mid new sent_grows looked.grows none in looked.coming parts.1 (coming parts.0)
+
+      pub both_found : IsAwaited (mid.port port.0) → FindsDevice port.0 mid new → IsFound port.0 old new
+      both_found awaited finds = found_on port.0 old mid new sent_grows looked.grows coming awaited finds
+
+  -- ---- looking for the device
+
+  module _ (port : Port) (old seen cleared new : Device) (receives : ReceivesFises port.0 (old.port port.0)) (a : Settles port old seen) (b : Settles port seen cleared) (c : Settles port cleared new)
+      (up : NoneComes port.0 old seen → IsComingUp (old.port port.0) → IsUp (seen.port port.0))
+      (calm : (place : ℕ) → place < 32 → (cleared.port port.0).is place ≡ false)
+      (clear : (seen.port port.0).link_due ≡ false → HasClearErrors port.0 seen cleared)
+      (quiet : IsAwaited (cleared.port port.0) → IsUnflagged (cleared.port port.0) → bit (new.port port.0).notes.last_tfd 3 ≡ false → IsQuiet (new.port port.0)) where
+    early_half : Grows old cleared
+    early_half = laws.grows_more old seen cleared a.grows b.grows
+
+    late_half : Grows seen new
+    late_half = laws.grows_more seen cleared new b.grows c.grows
+
+    receives_seen : ReceivesFises port.0 (seen.port port.0)
+    receives_seen = a.receiving receives
+
+    receives_cleared : ReceivesFises port.0 (cleared.port port.0)
+    receives_cleared = b.receiving receives_seen
+
+    -- where no disk came until the device was seen, no link is due from then on
+    undue_seen : NoneComes port.0 old seen → IsComingUp (old.port port.0) → (seen.port port.0).link_due ≡ false
+    undue_seen none coming = (up none coming).linked
+
+    -- and what shows then came since
+    clear_since : (seen.port port.0).link_due ≡ false → HasClearErrors port.0 seen new
+    clear_since undue =
+        let change = c.change (b.undue undue) in
+        record {
+          serr_n = λ none. let parts = plugs_in_parts laws port.0 seen cleared new b.grows c.grows none in change.serr_n parts.1 ((clear undue).serr_n parts.0);
+          serr_x = λ none. let parts = comes_in_parts laws port.0 seen cleared new b.grows c.grows none in change.serr_x parts.1 ((clear undue).serr_x parts.0);
+        }
+
+    pub finds_device : FindsDevice port.0 old new
+    finds_device = record {
+      calm = λ place small. c.calm receives_cleared place (calm place small);
+      clear = λ coming. record {
+        serr_n = λ none.
+            let parts = plugs_in_parts laws port.0 old seen new a.grows late_half none in
+            (clear_since (undue_seen (laws.plugs_come port.0 old seen parts.0) coming)).serr_n parts.1;
+        serr_x = λ none.
+            let parts = comes_in_parts laws port.0 old seen new a.grows late_half none in
+            (clear_since (undue_seen parts.0 coming)).serr_x parts.1;
+      };
+      undue = λ none coming.
+          let parts = comes_in_parts laws port.0 old seen new a.grows late_half none in
+          c.undue (b.undue (undue_seen parts.0 coming));
+      up = λ none coming.
+          let parts = plugs_in_parts laws port.0 old cleared new early_half c.grows none in
+          let first = plugs_in_parts laws port.0 old seen cleared a.grows b.grows parts.0 in
+          c.up parts.1 receives_cleared (b.up first.1 receives_seen (up (laws.plugs_come port.0 old seen first.0) coming));
+      quiet = λ awaited. quiet (b.awaited (a.awaited awaited)) (receives_cleared.stopped.halted.cr, calm 30 (omega arith));
+    }

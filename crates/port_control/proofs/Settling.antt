@@ -1,9 +1,9 @@
 -- What is left of a port that receives FISes while PxSERR and PxIS alone are written.
-use Rattle.std.proofs.Common.{ℕ, ◌≡◌, false, inl, inr, refl, ◌∙◌, subst}
+use Rattle.std.proofs.Common.{ℕ, ◌≡◌, false, [], ◌∷◌, inl, inr, refl, sym, ◌∙◌, subst}
 use Rattle.ata_types.specs.declared.Port.{Port}
 use Rattle.hba_regs.specs.declared.reg.PortReg.TheVariants.{Is, Cmd, Sctl, Serr}
-use Rattle.hba_regs.specs.declared.reg.Reg.TheVariants.{Px}
-use Rattle.adapter.specs.Access.{Access, Does}
+use Rattle.hba_regs.specs.declared.reg.Reg.TheVariants.{Px, Ghc}
+use Rattle.adapter.specs.Access.{Access, Does, DoesAll}
 use Rattle.adapter.specs.Device.{Device}
 use Rattle.adapter.specs.Rules.{IsOn}
 use Rattle.agreement.specs.Driven.{IsControl, IsDrivenBy}
@@ -11,42 +11,13 @@ use Rattle.agreement.specs.Errors.{NoneComes, ChangesByDisks}
 use Rattle.agreement.specs.Facts.{IsAwaited, IsQuiet}
 use Rattle.agreement.specs.Links.{SparesRegister, PlugsNone}
 use Rattle.agreement.specs.Started.{IsUp, IsComingUp, SetsNoStart}
-use Rattle.agreement.proofs.Causing.{access_clear}
-use Rattle.agreement.proofs.ComingUp.{access_coming, access_up}
-use Rattle.agreement.proofs.Controlled.{by_kind, control_spares, control_spares_ghc, Grows, grows_none, grows_more, access_grows}
-use Rattle.agreement.proofs.Driven.{over}
-use Rattle.agreement.proofs.Erring.{comes_parts, access_change, access_undue}
-use Rattle.agreement.proofs.Linking.{plugs_nothing, plugs_parts, plugs_more, access_controls}
-use Rattle.agreement.proofs.Starting.{reads_quiet, writes_quiet}
-use Rattle.agreement.proofs.Sustaining.{access_awaited}
+use Rattle.agreement.specs.Driven.{Grows}
 use Rattle.port_control.specs.Ports.{IsClearing, ReceivesFises}
 use Rattle.port_control.proofs.Using.{receiving_read, receiving_write}
-
--- ---- parts of a stretch
-
-module _ (port : ℕ) (old mid new : Device) (early : Grows old mid) (late : Grows mid new) where
-  pub comes_in_parts : NoneComes port old new → NoneComes port old mid × NoneComes port mid new
-  comes_in_parts none = comes_parts port old mid new early.0 late.0 early.1 late.1 none
-
-  pub plugs_in_parts : PlugsNone port old new → PlugsNone port old mid × PlugsNone port mid new
-  plugs_in_parts none = plugs_parts port old mid new early.0 late.0 early.1 late.1 none
-
-  pub change_more : ChangesByDisks port old mid → ChangesByDisks port mid new → ChangesByDisks port old new
-  change_more a b = record {
-    serr_n = λ none h. let parts = plugs_in_parts none in b.serr_n parts.1 (a.serr_n parts.0 h);
-    serr_x = λ none h. let parts = comes_in_parts none in b.serr_x parts.1 (a.serr_x parts.0 h);
-    det = λ none three.
-        let parts = comes_in_parts none in
-        let y = b.det parts.1 three in
-        let x = a.det parts.0 y.0 in
-        (x.0, plugs_more port old mid new x.1 y.1);
-  }
-
--- what isn't written isn't ST
-pub no_start : (port : Port) (access : Access) → SparesRegister (Px port Cmd) access → SetsNoStart port access
-no_start port access spares v is = absurd (subst (SparesRegister (Px port Cmd)) is spares refl)
-
--- ---- what is left
+use Rattle.std.specs.Prelude.{All, List}
+use Rattle.std.proofs.lemmas.List.Elements.{All-head, All-tail}
+use Rattle.port_control.specs.Laws.RegisterSet.{Clearing}
+use Rattle.port_control.specs.Laws.{Laws}
 
 pub record Settles (port : Port) (old new : Device) : Type 0 where
   pub grows : Grows old new
@@ -61,35 +32,9 @@ pub record Settles (port : Port) (old new : Device) : Type 0 where
   pub undue : (old.port port.0).link_due ≡ false → (new.port port.0).link_due ≡ false
   pub change : (old.port port.0).link_due ≡ false → ChangesByDisks port.0 old new
 
-settles_none : (port : Port) (d : Device) → Settles port d d
-settles_none port d = record {
-  grows = grows_none d;
-  receiving = λ h. h;
-  det = refl;
-  written = refl;
-  coming = λ none h. h;
-  up = λ none r h. h;
-  calm = λ r place h. h;
-  awaited = λ h. h;
-  quiet = λ h. h;
-  undue = λ h. h;
-  change = λ h. record { serr_n = λ none n. n; serr_x = λ none n. n; det = λ none n. (n, plugs_nothing port.0 d) };
-}
-
-pub settles_more : (port : Port) (a b c : Device) → Settles port a b → Settles port b c → Settles port a c
-settles_more port a b c x y = record {
-  grows = grows_more a b c x.grows y.grows;
-  receiving = λ h. y.receiving (x.receiving h);
-  det = y.det ∙ x.det;
-  written = y.written ∙ x.written;
-  coming = λ none h. let n = comes_in_parts port.0 a b c x.grows y.grows none in y.coming n.1 (x.coming n.0 h);
-  up = λ none r h. let n = plugs_in_parts port.0 a b c x.grows y.grows none in y.up n.1 (x.receiving r) (x.up n.0 r h);
-  calm = λ r place h. y.calm (x.receiving r) place (x.calm r place h);
-  awaited = λ h. y.awaited (x.awaited h);
-  quiet = λ h. y.quiet (x.quiet h);
-  undue = λ h. y.undue (x.undue h);
-  change = λ h. change_more port.0 a b c x.grows y.grows (x.change h) (y.change (x.undue h));
-}
+-- what isn't written isn't ST
+pub no_start : (port : Port) (access : Access) → SparesRegister (Px port Cmd) access → SetsNoStart port access
+no_start port access spares v is = absurd (subst (SparesRegister (Px port Cmd)) is spares refl)
 
 -- PxSCTL and PxCMD aren't written
 spares_control : IsClearing Sctl → ⊥
@@ -100,48 +45,94 @@ spares_command : IsClearing Cmd → ⊥
 spares_command (inl e) = absurd (let k : Cmd ≡ Serr = e in cc)
 spares_command (inr e) = absurd (let k : Cmd ≡ Is = e in cc)
 
-module _ (port : Port) (access : Access) (old new : Device) (on : IsOn old) (kind : IsControl IsClearing port access) (does : Does access old new) where
-  control : SparesRegister (Px port Sctl) access
-  control = control_spares IsClearing port Sctl spares_control access kind
+module _ (laws : Laws) where
+  -- ---- parts of a stretch
 
-  command : SetsNoStart port access
-  command = no_start port access (control_spares IsClearing port Cmd spares_command access kind)
+  module _ (port : ℕ) (old mid new : Device) (early : Grows old mid) (late : Grows mid new) where
+    pub comes_in_parts : NoneComes port old new → NoneComes port old mid × NoneComes port mid new
+    comes_in_parts none = laws.comes_parts port old mid new early.0 late.0 early.1 late.1 none
 
-  receives : ReceivesFises port.0 (old.port port.0) → ReceivesFises port.0 (new.port port.0)
-  receives h =
-      by_kind IsClearing port (λ a b. IsOn a → ReceivesFises port.0 (a.port port.0) → ReceivesFises port.0 (b.port port.0)) access old new kind does
-      (λ r v call on h. receiving_read port r v old new on.no_reset call h)
-      (λ r v w call on h. receiving_write port r v old new on.no_reset (inr w) call h) on h
+    pub plugs_in_parts : PlugsNone port old new → PlugsNone port old mid × PlugsNone port mid new
+    plugs_in_parts none = laws.plugs_parts port old mid new early.0 late.0 early.1 late.1 none
 
-  quiets : IsQuiet (old.port port.0) → IsQuiet (new.port port.0)
-  quiets q =
-      by_kind IsClearing port (λ a b. IsQuiet (a.port port.0) → IsQuiet (b.port port.0)) access old new kind does
-      (λ r v call q. reads_quiet port.0 (Px port r) v old new call q)
-      (λ r v w call q. writes_quiet port (Px port r) v old new
-      (λ (e : Px port r ≡ Px port Cmd). let same : r ≡ Cmd = cc in absurd (spares_command (subst IsClearing same w)))
-      (λ (e : Px port r ≡ Px port Sctl). let same : r ≡ Sctl = cc in absurd (spares_control (subst IsClearing same w))) call q) q
+  settles_none : (port : Port) (d : Device) → Settles port d d
+  settles_none port d = record {
+    grows = laws.grows_none d;
+    receiving = λ h. h;
+    det = refl;
+    written = refl;
+    coming = λ none h. h;
+    up = λ none r h. h;
+    calm = λ r place h. h;
+    awaited = λ h. h;
+    quiet = λ h. h;
+    undue = λ h. h;
+    change = λ h. laws.change_none port.0 d;
+  }
 
-  access_settles : Settles port old new
-  access_settles =
-      let c = access_controls port access old new on.no_reset does in
-      let up : PlugsNone port.0 old new → ReceivesFises port.0 (old.port port.0) → IsUp (old.port port.0) → IsUp (new.port port.0) =
-      λ none r h. access_up port access old new on.no_reset r.stopped.halted.cr command control none does h in
-      record {
-        grows = access_grows access old new does;
-        receiving = receives;
-        det = (c.control control).0;
-        written = (c.control control).1;
-        coming = λ none h. access_coming port access old new command does none h;
-        up = up;
-        calm = λ r place h. access_clear place port access old new r.stopped.halted.cr does h;
-        awaited = λ h. access_awaited port access old new (control_spares IsClearing port Cmd spares_command access kind) control does h;
-        quiet = quiets;
-        undue = λ h. access_undue port access old new on.no_reset h control does;
-        change = λ h. access_change port access old new on.no_reset h does;
-      }
+  pub settles_more : (port : Port) (a b c : Device) → Settles port a b → Settles port b c → Settles port a c
+  settles_more port a b c x y = record {
+    grows = laws.grows_more a b c x.grows y.grows;
+    receiving = λ h. y.receiving (x.receiving h);
+    det = y.det ∙ x.det;
+    written = y.written ∙ x.written;
+    coming = λ none h. let n = comes_in_parts port.0 a b c x.grows y.grows none in y.coming n.1 (x.coming n.0 h);
+    up = λ none r h. let n = plugs_in_parts port.0 a b c x.grows y.grows none in y.up n.1 (x.receiving r) (x.up n.0 r h);
+    calm = λ r place h. y.calm (x.receiving r) place (x.calm r place h);
+    awaited = λ h. y.awaited (x.awaited h);
+    quiet = λ h. y.quiet (x.quiet h);
+    undue = λ h. y.undue (x.undue h);
+    change = λ h. laws.change_more port.0 a b c x.grows y.grows (x.change h) (y.change (x.undue h));
+  }
 
--- over a stretch
-pub settles : (port : Port) (old new : Device) → IsOn old → IsDrivenBy (IsControl IsClearing port) old new → Settles port old new
-settles port old new on driven =
-    (over (Settles port) (settles_none port) (settles_more port) (IsControl IsClearing port) (control_spares_ghc IsClearing port)
-    (λ access a b here kind does. access_settles port access a b here kind does) driven.accesses old new on driven.only driven.all).0
+  module _ (port : Port) (access : Access) (old new : Device) (on : IsOn old) (kind : IsControl IsClearing port access) (does : Does access old new) where
+    control : SparesRegister (Px port Sctl) access
+    control = laws.control_spares Clearing port Sctl spares_control access kind
+
+    command : SetsNoStart port access
+    command = no_start port access (laws.control_spares Clearing port Cmd spares_command access kind)
+
+    receives : ReceivesFises port.0 (old.port port.0) → ReceivesFises port.0 (new.port port.0)
+    receives h = elim (laws.control_either Clearing port access kind) [
+      | inl (r, v, e) ↦ receiving_read laws port r v old new on.no_reset (subst (λ (a : Access). Does a old new) e does) h
+      | inr (r, v, e, w) ↦ receiving_write laws port r v old new on.no_reset (inr w) (subst (λ (a : Access). Does a old new) e does) h
+    ]
+
+    quiets : IsQuiet (old.port port.0) → IsQuiet (new.port port.0)
+    quiets q = elim (laws.control_either Clearing port access kind) [
+      | inl (r, v, e) ↦ laws.reads_quiet port.0 (Px port r) v old new (subst (λ (a : Access). Does a old new) e does) q
+      | inr (r, v, e, w) ↦ laws.writes_quiet port (Px port r) v old new
+          (λ (e : Px port r ≡ Px port Cmd). let same : r ≡ Cmd = cc in absurd (spares_command (subst IsClearing same w)))
+          (λ (e : Px port r ≡ Px port Sctl). let same : r ≡ Sctl = cc in absurd (spares_control (subst IsClearing same w))) (subst (λ (a : Access). Does a old new) e does) q
+    ]
+
+    access_settles : Settles port old new
+    access_settles =
+        let c = laws.access_controls port access old new on.no_reset does in
+        let up : PlugsNone port.0 old new → ReceivesFises port.0 (old.port port.0) → IsUp (old.port port.0) → IsUp (new.port port.0) =
+        λ none r h. laws.access_up port access old new on.no_reset r.stopped.halted.cr command control none does h in
+        record {
+          grows = laws.access_grows access old new does;
+          receiving = receives;
+          det = (c.control control).0;
+          written = (c.control control).1;
+          coming = λ none h. laws.access_coming port access old new command does none h;
+          up = up;
+          calm = λ r place h. laws.access_clear port place access old new r.stopped.halted.cr does h;
+          awaited = λ h. laws.access_awaited port access old new (laws.control_spares Clearing port Cmd spares_command access kind) control does h;
+          quiet = quiets;
+          undue = λ h. laws.access_undue port access old new on.no_reset h control does;
+          change = λ h. laws.access_change port access old new on.no_reset h does;
+        }
+
+  -- over a stretch
+  settles_over : (port : Port) (accesses : List Access) (old new : Device) → IsOn old → All (IsControl IsClearing port) accesses → DoesAll accesses old new → Settles port old new
+  settles_over port [] old new on all is = subst (Settles port old) (sym is) (settles_none port old)
+  settles_over port (access ∷ accesses) old new on all (mid, does, rest) =
+      let kind = All-head (IsControl IsClearing port) access accesses all in
+      let host = laws.of_spares_ghc port access (laws.control_of Clearing port access kind) in
+      let later = laws.access_on access old mid on (λ v is. absurd (subst (SparesRegister Ghc) is host refl)) does in
+      settles_more port old mid new (access_settles port access old mid on kind does) (settles_over port accesses mid new later (All-tail (IsControl IsClearing port) access accesses all) rest)
+
+  pub settles : (port : Port) (old new : Device) → IsOn old → IsDrivenBy (IsControl IsClearing port) old new → Settles port old new
+  settles port old new on driven = settles_over port driven.accesses old new on driven.only driven.all

@@ -9,36 +9,31 @@ use Rattle.adapter.specs.Access.{Reads, Writes, port_written, with_st, with_fre}
 use Rattle.adapter.specs.Access.Access.{Reading, Writing}
 use Rattle.adapter.specs.Device.{Bases, Notes, PortState, Device}
 use Rattle.adapter.specs.Rules.{MayWrite, Stays}
-use Rattle.adapter.proofs.Calls.{SeenAt, seen, PutAt, put}
-use Rattle.agreement.specs.Driven.{AnyUse, IsControl, IsFollowed}
+use Rattle.adapter.specs.Seen.{SeenAt, PutAt}
+use Rattle.agreement.specs.Driven.{IsControl, IsFollowed}
 use Rattle.agreement.specs.Driver.{AllFree, LeavesUses}
 use Rattle.agreement.specs.Errors.{ChangesByDisks}
 use Rattle.agreement.specs.Facts.{IsQuiet, IsRecorded}
 use Rattle.agreement.specs.Links.{PlugsNone}
 use Rattle.agreement.specs.Slots.{Use, Free, Uses, IsOver, IsServed, IsFree}
 use Rattle.agreement.specs.Started.{IsUp, IsStarted}
-use Rattle.agreement.proofs.Unarmed.{free_unarmed}
-use Rattle.agreement.proofs.Allowing.{starting_may}
-use Rattle.agreement.proofs.Booting.{start_is_made}
-use Rattle.agreement.proofs.Causing.{access_clear, command_written_notes}
-use Rattle.agreement.proofs.ComingUp.{access_up}
-use Rattle.agreement.proofs.Controlled.{Grows, access_grows, grows_more}
-use Rattle.agreement.proofs.Driven.{followed_as, followed_then, followed_write}
-use Rattle.agreement.proofs.Erring.{access_change, access_undue}
-use Rattle.agreement.proofs.Noting.{command_noted, notes_read, shown_after}
-use Rattle.agreement.proofs.Recording.{stopped_recorded}
-use Rattle.agreement.proofs.Rewriting.{writes_recorded}
-use Rattle.agreement.proofs.Setting.{command_set, start_set}
-use Rattle.agreement.proofs.Starting.{reads_quiet, steps_quiet}
+use Rattle.agreement.specs.Driven.{Grows}
 use Rattle.port_control.specs.Ports.{WritesCommand, IsUsable, ReceivesFises, IsRunning, SawIdle, SameButStart}
-use Rattle.port_control.proofs.Using.{usable_after, usable_read, receiving_read}
-use Rattle.port_control.proofs.Ceasing.{IsButAt, bit_four, reading}
+use Rattle.port_control.proofs.Using.{usable_read, receiving_read, usable_by}
+use Rattle.port_control.proofs.Ceasing.{IsButAt, bit_four}
 use Rattle.port_control.proofs.Resetting.{grows_longer}
-use Rattle.port_control.proofs.Settling.{change_more, plugs_in_parts}
+use Rattle.port_control.proofs.Settling.{plugs_in_parts}
+use Rattle.port_control.specs.Laws.RegisterSet.{Commanding}
+use Rattle.port_control.specs.Laws.{Laws}
+use Rattle.port_control.specs.Laws.Stretch.{Starting}
+use Rattle.port_control.proofs.Stretching.{followed_read, followed_then, followed_write}
 
 -- a write of PxCMD leaves the addresses and PxSCTL.DET
 abbrev SameBases : PortState → PortState → Type 0
 SameBases p q = (q.bases ≡ p.bases) × (q.sctl_det ≡ p.sctl_det)
+
+abbrev NoneUsed : Port → Uses → Type 0
+NoneUsed port uses = AllFree uses port.0
 
 command_bases : (v tape : ℕ) (p : PortState) → SameBases p (port_written Cmd v tape p)
 command_bases v tape p = by (bit v 0) p.st refl
@@ -59,126 +54,123 @@ start_notes old mid new last count at read set =
 over_free : (P : Use → Type 0) (u : Use) → u ≡ Free → P u → P Free
 over_free P u is h = subst P is h
 
-abbrev NoneUsed : Port → Uses → Type 0
-NoneUsed port uses = AllFree uses port.0
+module _ (laws : Laws) where
+  module _ (port : Port) (was v : ℕ) (old mid : Device) (u : IsUsable (NoneUsed port) port old) (read : Reads (Px port Cmd) was old mid) (receives : ReceivesFises port.0 (old.port port.0))
+      (linked : (old.port port.0).notes.last_ssts % 16 ≡ 3) (idle : SawIdle (old.port port.0).notes) (one : bit v 0 ≡ true) (others : IsButAt 0 was v) where
+    here : IsUsable (NoneUsed port) port mid
+    here = usable_read laws (NoneUsed port) port Cmd was old mid u read
 
-module _ (port : Port) (was v : ℕ) (old mid : Device) (u : IsUsable (NoneUsed port) port old) (read : Reads (Px port Cmd) was old mid) (receives : ReceivesFises port.0 (old.port port.0))
-    (linked : (old.port port.0).notes.last_ssts % 16 ≡ 3) (idle : SawIdle (old.port port.0).notes) (one : bit v 0 ≡ true) (others : IsButAt 0 was v) where
-  here : IsUsable (NoneUsed port) port mid
-  here = usable_read (NoneUsed port) port Cmd was old mid u read
+    still : ReceivesFises port.0 (mid.port port.0)
+    still = receiving_read laws port Cmd was old mid u.on.no_reset read receives
 
-  still : ReceivesFises port.0 (mid.port port.0)
-  still = receiving_read port Cmd was old mid u.on.no_reset read receives
+    fre : bit v 4 ≡ true
+    fre = bit_four was v others ∙ (laws.shown_after port Cmd was old mid u.on.no_reset read).1 ∙ still.fre
 
-  fre : bit v 4 ≡ true
-  fre = bit_four was v others ∙ (shown_after port Cmd was old mid u.on.no_reset read).1 ∙ still.fre
+    same : (mid.port port.0).notes ≡ record (old.port port.0).notes { last_cmd = was; engine_count = (mid.port port.0).notes.engine_count }
+    same = let n = laws.notes_read port Cmd was old mid u.on.no_reset read in
+        subst (λ (k : Notes). k ≡ record (old.port port.0).notes { last_cmd = was; engine_count = k.engine_count }) (sym n) refl
 
-  same : (mid.port port.0).notes ≡ record (old.port port.0).notes { last_cmd = was; engine_count = (mid.port port.0).notes.engine_count }
-  same = let n = notes_read port Cmd was old mid u.on.no_reset read in
-      subst (λ (k : Notes). k ≡ record (old.port port.0).notes { last_cmd = was; engine_count = k.engine_count }) (sym n) refl
+    pub start_may : Stays (MayWrite (Px port Cmd) v) mid
+    start_may = laws.starting_may port was v mid here.on here.there (laws.command_noted port was old mid read)
+        (record {
+          fallen = still.stopped.halted.cr;
+          receives = still.fre;
+          programmed = record {
+            clb = ap (λ (b : Bases). b.clb_set) still.bases;
+            clbu = ap (λ (b : Bases). b.clbu_set) still.bases;
+            fb = ap (λ (b : Bases). b.fb_set) still.bases;
+            fbu = ap (λ (b : Bases). b.fbu_set) still.bases;
+          };
+          link = ap (λ (n : Notes). n.last_ssts % 16) same ∙ linked;
+          not_busy = ap (λ (n : Notes). bit n.last_tfd 7 || bit n.last_tfd 3) same ∙ idle;
+        })
+        (record { start = one; receive = fre; others = λ k small st fre. others k small st })
 
-  pub start_may : Stays (MayWrite (Px port Cmd) v) mid
-  start_may = starting_may port was v mid here.on here.there (command_noted port was old mid read)
-      (record {
-        fallen = still.stopped.halted.cr;
-        receives = still.fre;
-        programmed = record {
-          clb = ap (λ (b : Bases). b.clb_set) still.bases;
-          clbu = ap (λ (b : Bases). b.clbu_set) still.bases;
-          fb = ap (λ (b : Bases). b.fb_set) still.bases;
-          fbu = ap (λ (b : Bases). b.fbu_set) still.bases;
-        };
-        link = ap (λ (n : Notes). n.last_ssts % 16) same ∙ linked;
-        not_busy = ap (λ (n : Notes). bit n.last_tfd 7 || bit n.last_tfd 3) same ∙ idle;
-      })
-      (record { start = one; receive = fre; others = λ k small st fre. others k small st })
+    start_leaves : (uses : Uses) → NoneUsed port uses → LeavesUses uses (Px port Cmd) v mid
+    start_leaves uses free = record { start = λ on. inr free; receive = λ on. (here.there.0, ap (λ (b : Bases). b.fb) still.bases) }
 
-  start_leaves : (uses : Uses) → NoneUsed port uses → LeavesUses uses (Px port Cmd) v mid
-  start_leaves uses free = record { start = λ on. inr free; receive = λ on. (here.there.0, ap (λ (b : Bases). b.fb) still.bases) }
+    module _ (new : Device) (write : Writes (Px port Cmd) v mid new) where
+      pub start_followed : IsFollowed (IsControl WritesCommand port) (NoneUsed port) old new
+      start_followed = followed_then laws (Starting port) old mid new (followed_read laws (Starting port) (Px port Cmd) was old mid refl read)
+          (followed_write laws (Starting port) (Px port Cmd) v mid new (refl, refl) start_may start_leaves write)
 
-  module _ (new : Device) (write : Writes (Px port Cmd) v mid new) where
-    pub start_followed : IsFollowed (IsControl WritesCommand port) (NoneUsed port) old new
-    start_followed = followed_then (IsControl WritesCommand port) (NoneUsed port) old mid new
-        (followed_as (IsControl WritesCommand port) (IsControl WritesCommand port) AnyUse (NoneUsed port) old mid (λ access is. is) (λ uses is. tt) (reading port was old mid read))
-        (followed_write (IsControl WritesCommand port) (NoneUsed port) (Px port Cmd) v mid new (refl, refl) start_may start_leaves write)
+      pub start_usable : IsUsable (NoneUsed port) port new
+      start_usable = usable_by laws Commanding port old new (NoneUsed port) start_followed.driven (λ uses free. laws.agreed (Starting port) (λ uses. uses) uses old new free start_followed) u
 
-    pub start_usable : IsUsable (NoneUsed port) port new
-    start_usable = usable_after WritesCommand (NoneUsed port) port old new u start_followed
+      started : ((new.port port.0).cr ≡ true) × ((new.port port.0).notes.st_set_at ≡ length new.tape)
+      started = laws.start_set port v mid new still.stopped.halted.st one write
 
-    started : ((new.port port.0).cr ≡ true) × ((new.port port.0).notes.st_set_at ≡ length new.tape)
-    started = start_set port v mid new still.stopped.halted.st one write
+      w : PutAt port.0 Cmd v mid new
+      w = laws.put port Cmd v mid new write here.on.no_reset
 
-    w : PutAt port.0 Cmd v mid new
-    w = put port Cmd v mid new write here.on.no_reset
+      pub start_runs : IsRunning port.0 (new.port port.0)
+      start_runs =
+          let a = start_usable.agreed in
+          let over : (slot : ℕ) → IsOver (new.port port.0) slot =
+          λ slot.
+          let h : IsFree (new.port port.0) slot = over_free (IsServed a.2.machine new.memory new.tape (new.port port.0) port.0 slot) (a.0 port.0 slot) (a.1 slot) (a.2.knows.agrees.slot port.0 slot) in
+          record { issued = h.issued; free = h.free } in
+          let set = laws.command_set port v mid new write in
+          record {
+            st = set.0 ∙ one;
+            cr = started.0;
+            fre = set.1 ∙ fre;
+            bases = ap (λ (p : PortState). p.bases) w.here ∙ (command_bases v _ (w.mid.port port.0)).0 ∙ (w.keeps.port port.0).bases ∙ still.bases;
+            ci = λ slot. (over slot).issued;
+            sact = λ slot. laws.free_unarmed a.0 a.2.machine new a.2.knows.agrees port.0 slot (a.1 slot);
+            taken = λ slot. (over slot).free;
+          }
 
-    pub start_runs : IsRunning port.0 (new.port port.0)
-    start_runs =
-        let a = start_usable.agreed in
-        let over : (slot : ℕ) → IsOver (new.port port.0) slot =
-        λ slot.
-        let h : IsFree (new.port port.0) slot = over_free (IsServed a.2.machine new.memory new.tape (new.port port.0) port.0 slot) (a.0 port.0 slot) (a.1 slot) (a.2.knows.agrees.slot port.0 slot) in
-        record { issued = h.issued; free = h.free } in
-        let set = command_set port v mid new write in
-        record {
-          st = set.0 ∙ one;
-          cr = started.0;
-          fre = set.1 ∙ fre;
-          bases = ap (λ (p : PortState). p.bases) w.here ∙ (command_bases v _ (w.mid.port port.0)).0 ∙ (w.keeps.port port.0).bases ∙ still.bases;
-          ci = λ slot. (over slot).issued;
-          sact = λ slot. free_unarmed a.0 a.2.machine new a.2.knows.agrees port.0 slot (a.1 slot);
-          taken = λ slot. (over slot).free;
-        }
+      pub start_same : SameButStart (old.port port.0) (new.port port.0)
+      start_same =
+          let s : SeenAt port.0 Cmd was old mid = laws.seen port Cmd was old mid read u.on.no_reset in (
+            ap (λ (p : PortState). p.sctl_det) w.here ∙ (command_bases v _ (w.mid.port port.0)).1 ∙ (w.keeps.on.controls port.0).sctl_det ∙ (s.keeps.on.controls port.0).sctl_det,
+            start_notes (old.port port.0).notes (mid.port port.0).notes (new.port port.0).notes _ _ _ same (laws.command_written_notes port v mid new write),
+          )
 
-    pub start_same : SameButStart (old.port port.0) (new.port port.0)
-    start_same =
-        let s : SeenAt port.0 Cmd was old mid = seen port Cmd was old mid read u.on.no_reset in (
-          ap (λ (p : PortState). p.sctl_det) w.here ∙ (command_bases v _ (w.mid.port port.0)).1 ∙ (w.keeps.on.controls port.0).sctl_det ∙ (s.keeps.on.controls port.0).sctl_det,
-          start_notes (old.port port.0).notes (mid.port port.0).notes (new.port port.0).notes _ _ _ same (command_written_notes port v mid new write),
-        )
+      pub start_set_at : (new.port port.0).notes.st_set_at ≤ length new.tape
+      start_set_at = let at = started.1 in omega (arith, at)
 
-    pub start_set_at : (new.port port.0).notes.st_set_at ≤ length new.tape
-    start_set_at = let at = started.1 in omega (arith, at)
+      early : Grows old mid
+      early = laws.access_grows (Reading (Px port Cmd) was) old mid read
 
-    early : Grows old mid
-    early = access_grows (Reading (Px port Cmd) was) old mid read
+      late : Grows mid new
+      late = laws.access_grows (Writing (Px port Cmd) v) mid new write
 
-    late : Grows mid new
-    late = access_grows (Writing (Px port Cmd) v) mid new write
+      pub start_marked : (old.port port.0).notes.sctl_written_at ≤ length old.tape → (new.port port.0).notes.sctl_written_at ≤ length new.tape
+      start_marked low =
+          let at = ap (λ (n : Notes). n.sctl_written_at) start_same.1 in
+          let longer = grows_longer old new (laws.grows_more old mid new early late) in
+          omega (arith, low, at, longer)
 
-    pub start_marked : (old.port port.0).notes.sctl_written_at ≤ length old.tape → (new.port port.0).notes.sctl_written_at ≤ length new.tape
-    start_marked low =
-        let at = ap (λ (n : Notes). n.sctl_written_at) start_same.1 in
-        let longer = grows_longer old new (grows_more old mid new early late) in
-        omega (arith, low, at, longer)
+      pub start_well : IsUp (old.port port.0) → PlugsNone port.0 old new → IsStarted (new.port port.0)
+      start_well up none =
+          let parts = plugs_in_parts laws port.0 old mid new early late none in
+          laws.start_is_made port v mid new here.on.no_reset still.stopped.halted.st still.stopped.halted.cr one write
+          (laws.access_up port (Reading (Px port Cmd) was) old mid u.on.no_reset receives.stopped.halted.cr (λ n (e : Reading (Px port Cmd) was ≡ Writing (Px port Cmd) n). absurd (cc)) tt parts.0 read up)
+          parts.1
 
-    pub start_well : IsUp (old.port port.0) → PlugsNone port.0 old new → IsStarted (new.port port.0)
-    start_well up none =
-        let parts = plugs_in_parts port.0 old mid new early late none in
-        start_is_made port v mid new here.on.no_reset still.stopped.halted.st still.stopped.halted.cr one write
-        (access_up port (Reading (Px port Cmd) was) old mid u.on.no_reset receives.stopped.halted.cr (λ n (e : Reading (Px port Cmd) was ≡ Writing (Px port Cmd) n). absurd (cc)) tt parts.0 read up)
-        parts.1
+      -- ---- what was there before: nothing new comes while ST is set
 
-    -- ---- what was there before: nothing new comes while ST is set
+      pub start_calm : (place : ℕ) → (old.port port.0).is place ≡ false → (new.port port.0).is place ≡ false
+      start_calm place clear =
+          laws.access_clear port place (Writing (Px port Cmd) v) mid new still.stopped.halted.cr write
+          (laws.access_clear port place (Reading (Px port Cmd) was) old mid receives.stopped.halted.cr read clear)
 
-    pub start_calm : (place : ℕ) → (old.port port.0).is place ≡ false → (new.port port.0).is place ≡ false
-    start_calm place clear =
-        access_clear place port (Writing (Px port Cmd) v) mid new still.stopped.halted.cr write
-        (access_clear place port (Reading (Px port Cmd) was) old mid receives.stopped.halted.cr read clear)
+      undue_mid : (old.port port.0).link_due ≡ false → (mid.port port.0).link_due ≡ false
+      undue_mid undue = laws.access_undue port (Reading (Px port Cmd) was) old mid u.on.no_reset undue tt read
 
-    undue_mid : (old.port port.0).link_due ≡ false → (mid.port port.0).link_due ≡ false
-    undue_mid undue = access_undue port (Reading (Px port Cmd) was) old mid u.on.no_reset undue tt read
+      pub start_undue : (old.port port.0).link_due ≡ false → (new.port port.0).link_due ≡ false
+      start_undue undue = laws.access_undue port (Writing (Px port Cmd) v) mid new here.on.no_reset (undue_mid undue) (λ (e : Px port Cmd ≡ Px port Sctl). absurd (cc)) write
 
-    pub start_undue : (old.port port.0).link_due ≡ false → (new.port port.0).link_due ≡ false
-    start_undue undue = access_undue port (Writing (Px port Cmd) v) mid new here.on.no_reset (undue_mid undue) (λ (e : Px port Cmd ≡ Px port Sctl). absurd (cc)) write
+      pub start_changes : (old.port port.0).link_due ≡ false → ChangesByDisks port.0 old new
+      start_changes undue = laws.change_more port.0 old mid new early late
+          (laws.access_change port (Reading (Px port Cmd) was) old mid u.on.no_reset undue read)
+          (laws.access_change port (Writing (Px port Cmd) v) mid new here.on.no_reset (undue_mid undue) write)
 
-    pub start_changes : (old.port port.0).link_due ≡ false → ChangesByDisks port.0 old new
-    start_changes undue = change_more port.0 old mid new early late
-        (access_change port (Reading (Px port Cmd) was) old mid u.on.no_reset undue read)
-        (access_change port (Writing (Px port Cmd) v) mid new here.on.no_reset (undue_mid undue) write)
-
-    -- ST is set on a quiet port
-    pub start_recorded : IsQuiet (old.port port.0) → IsRecorded new.tape (new.port port.0) port.0
-    start_recorded quiet =
-        writes_recorded port.0 (Px port Cmd) v mid new start_may
-        (λ d steps set. inr (steps_quiet port.0 mid d steps (reads_quiet port.0 (Px port Cmd) was old mid read quiet))) write
-        (stopped_recorded mid.tape (mid.port port.0) port.0 still.stopped.halted.st)
+      -- ST is set on a quiet port
+      pub start_recorded : IsQuiet (old.port port.0) → IsRecorded new.tape (new.port port.0) port.0
+      start_recorded quiet =
+          laws.writes_recorded port.0 (Px port Cmd) v mid new start_may
+          (λ d steps set. inr (laws.steps_quiet port.0 mid d steps (laws.reads_quiet port.0 (Px port Cmd) was old mid read quiet))) write
+          (laws.stopped_recorded mid.tape (mid.port port.0) port.0 still.stopped.halted.st)

@@ -1,6 +1,5 @@
 -- What an access of a port needs, and what goes on over accesses.
-use Rattle.std.proofs.Common.{ℕ, ◌≡◌, ◌⊎◌, ◌&&◌, ◌++◌, Bool, List, [], ◌∷◌, false, inl, inr, refl, sym, ◌∙◌, ap, subst, append_assoc, append-nil}
-use Rattle.std.proofs.lemmas.Bool.{true≢false}
+use Rattle.std.proofs.Common.{ℕ, ◌≡◌, ◌++◌, Bool, List, [], ◌∷◌, false, inl, inr, refl, sym, ◌∙◌, ap, subst, append_assoc, append-nil}
 use Rattle.std.proofs.lemmas.List.Elements.{All-weaker}
 use Rattle.ata_types.specs.declared.Port.{Port}
 use Rattle.hba_regs.specs.Bits.{bit}
@@ -11,80 +10,20 @@ use Rattle.adapter.specs.Access.{Access, Reads, Writes, port_written, with_st, w
 use Rattle.adapter.specs.Access.Access.{Reading, Writing, Loading, Storing}
 use Rattle.adapter.specs.Device.{Notes, PortState, Device}
 use Rattle.adapter.specs.Kept.{KeepsPort, KeepsControls}
-use Rattle.adapter.specs.Rules.{HasPort, MayWrite, Stays}
-use Rattle.adapter.proofs.Calls.{SeenAt, seen, PutAt, put}
-use Rattle.agreement.specs.Driven.{AnyUse, IsAgreed, IsControl, IsFollowed, IsTold}
+use Rattle.adapter.specs.Rules.{HasPort, MayWrite, Stays, IsOn}
+use Rattle.adapter.specs.Seen.{SeenAt, PutAt}
+use Rattle.agreement.specs.Driven.{AnyUse, IsAgreed, IsControl, IsFollowed, AnyAccess, Grows, IsDrivenBy, IsOf}
 use Rattle.agreement.specs.Links.{SameAdapter}
-use Rattle.agreement.specs.Slots.{Use, Free, Own, Serves, Uses, IsServed, Stage, OwnWaits, OwnTaken, OwnOver, Armed}
-use Rattle.agreement.proofs.Causing.{written_notes}
-use Rattle.agreement.proofs.Controlled.{control_wider, stays_on, same_adapter, agreeing_goes_on}
-use Rattle.agreement.proofs.Driven.{followed_as, followed_read, told_as}
-use Rattle.agreement.proofs.Halting.{halted_on, halted_writes}
-use Rattle.agreement.proofs.Noting.{notes_read}
-use Rattle.agreement.proofs.Unarmed.{writes_clear}
+use Rattle.agreement.specs.Slots.{Uses}
 use Rattle.port_control.specs.Engines.{Awaits, FailsToStop, FailsToStopReceiving, Falls, Hangs, ReadsCommand, ShowsStuck, Sticks}
-use Rattle.port_control.specs.Ports.{WritesCommand, IsResetting, IsUsable, IsStopped, ReceivesFises, SameButCommand, SameBeside}
-
--- ---- the port may be used on
+use Rattle.port_control.specs.Ports.{IsResetting, IsUsable, IsStopped, ReceivesFises, SameButCommand, SameBeside}
+use Rattle.port_control.specs.Laws.RegisterSet.{Commanding}
+use Rattle.port_control.specs.Laws.Stretch.{Controlling}
+use Rattle.port_control.specs.Laws.{Laws, RegisterSet, registers_of}
+use Rattle.port_control.proofs.Stretching.{followed_read}
 
 pub there_after : {old new : Device} {port : ℕ} → SameAdapter old new → HasPort old port → HasPort new port
 there_after {old} {new} {port} s h = (h.0, ap (λ (pi : ℕ). bit pi port) s.pi ∙ h.1)
-
-pub usable_after : (Written : PortReg → Type 0) (Fits : Uses → Type 0) (port : Port) (old new : Device) → IsUsable Fits port old →
-    IsFollowed (IsControl Written port) Fits old new → IsUsable Fits port new
-usable_after Written Fits port old new u f = record {
-  on = stays_on Written port old new f.driven u.on;
-  there = there_after (same_adapter Written port old new f.driven) u.there;
-  agreed = (u.agreed.0, u.agreed.1, agreeing_goes_on Written Fits port u.agreed.0 old new u.agreed.1 f u.agreed.2);
-}
-
--- where more registers may be written
-pub followed_wider : (Written More : PortReg → Type 0) (Fits : Uses → Type 0) (port : Port) (old new : Device) → ((r : PortReg) → Written r → More r) →
-    IsFollowed (IsControl Written port) Fits old new → IsFollowed (IsControl More port) Fits old new
-followed_wider Written More Fits port old new wider f =
-    followed_as (IsControl Written port) (IsControl More port) Fits Fits old new (control_wider Written port More wider) (λ uses is. is) f
-
-pub told_wider : (Tells : List Access → Type 0) (Written More : PortReg → Type 0) (Fits : Uses → Type 0) (port : Port) (old new : Device) → ((r : PortReg) → Written r → More r) →
-    IsTold Tells (IsControl Written port) Fits old new → IsTold Tells (IsControl More port) Fits old new
-told_wider Tells Written More Fits port old new wider f =
-    told_as Tells (IsControl Written port) (IsControl More port) Fits Fits (λ uses. uses) old new (control_wider Written port More wider) (λ uses is. is) f
-
--- over a reading, of any kind
-pub usable_read : (Fits : Uses → Type 0) (port : Port) (r : PortReg) (v : ℕ) (old new : Device) → IsUsable Fits port old → Reads (Px port r) v old new → IsUsable Fits port new
-usable_read Fits port r v old new u call =
-    usable_after WritesCommand Fits port old new u (followed_as (IsControl WritesCommand port) (IsControl WritesCommand port) AnyUse Fits old new (λ access may. may) (λ uses is. tt)
-    (followed_read (IsControl WritesCommand port) (Px port r) v old new refl call))
-
--- ---- bits of CI and SACT, where ST is 0
-
-module _ (uses : Uses) (d : Device) (port : ℕ) (a : IsAgreed uses d) (st : (d.port port).st ≡ false) (slot : ℕ) where
-  abbrev Cleared : Type 0
-  Cleared = ((d.port port).ci slot ≡ false) × ((d.port port).sact slot ≡ false)
-
-  masked : (b c : Bool) → b ≡ (d.port port).st && c → b ≡ false
-  masked b c is = is ∙ ap (λ (x : Bool). x && c) st
-
-  cleared_by : (u : Use) → uses port slot ≡ u → IsServed a.machine d.memory d.tape (d.port port) port slot u → Cleared
-  cleared_by Free is h = (h.issued, h.unarmed)
-  cleared_by Armed is h = (h.issued, h.armed ∙ st)
-  cleared_by (Own o) is h = (of h.stage, h.unqueued)
-    where
-      of : OwnWaits (d.port port) slot ⊎ (OwnTaken d.memory d.tape (d.port port) port slot h.command ⊎ OwnOver d.memory d.tape (d.port port) port slot h.command) → (d.port port).ci slot ≡ false
-      of (inl w) = absurd (true≢false (sym w.started ∙ st))
-      of (inr (inl t)) = t.issued ∙ st
-      of (inr (inr x)) = x.over.issued
-  cleared_by (Serves id) is h = of h.stage
-    where
-      of : Stage d.memory (d.port port) port slot h.pending h.command h.places → Cleared
-      of (inl w) = absurd (true≢false (sym w.started ∙ st))
-      of (inr (inl t)) = (masked _ _ t.issued, masked _ _ t.sact)
-      of (inr (inr (inl x))) = (x.issued, x.sact)
-      of (inr (inr (inr x))) = (x.issued, x.sact)
-
-  pub cleared_bits : Cleared
-  cleared_bits = cleared_by (uses port slot) refl (a.knows.agrees.slot port slot)
-
--- ---- notes of PxCMD
 
 pub beside_none : (p : PortState) → SameBeside p p
 beside_none p = (refl, refl)
@@ -93,50 +32,20 @@ pub beside_then : (a b c : PortState) → SameBeside a b → SameBeside b c → 
 beside_then a b c x y =
     (y.0 ∙ x.0, subst (λ (n : Notes). c.notes ≡ record n { last_cmd = c.notes.last_cmd; engine_count = c.notes.engine_count }) x.1 y.1)
 
--- PxCMD is read
-pub beside_read : (port : Port) (v : ℕ) (old new : Device) → old.hr ≡ false → Reads (Px port Cmd) v old new → SameBeside (old.port port.0) (new.port port.0)
-beside_read port v old new off call =
-    let s : SeenAt port.0 Cmd v old new = seen port Cmd v old new call off in
-    ((s.keeps.on.controls port.0).sctl_det, subst (SameButCommand (old.port port.0).notes) (sym (notes_read port Cmd v old new off call)) refl)
-
--- a write with ST 0 leaves PxSCTL.DET and the addresses
-pub command_off : (v tape : ℕ) (p : PortState) → bit v 0 ≡ false → ((port_written Cmd v tape p).sctl_det ≡ p.sctl_det) × ((port_written Cmd v tape p).bases ≡ p.bases)
-command_off v tape p off = (ap (λ (b : Bool). (with_fre (bit v 4) (with_st b tape p)).sctl_det) off, ap (λ (b : Bool). (with_fre (bit v 4) (with_st b tape p)).bases) off)
-
-module _ (port : Port) (v : ℕ) (old new : Device) (off : old.hr ≡ false) (zero : bit v 0 ≡ false) (call : Writes (Px port Cmd) v old new) where
-  pub beside_command : SameBeside (old.port port.0) (new.port port.0)
-  beside_command =
-      let w : PutAt port.0 Cmd v old new = put port Cmd v old new call off in
-      let same = written_notes port Cmd v old new (λ (e : Cmd ≡ Sctl). absurd (cc)) (λ (e : Cmd ≡ Is). absurd (cc)) (λ _. zero) call in (
-        ap (λ (p : PortState). p.sctl_det) w.here ∙ (command_off v _ (w.mid.port port.0) zero).0 ∙ (w.keeps.on.controls port.0).sctl_det,
-        subst (SameButCommand (old.port port.0).notes) (sym same) refl,
-      )
-
-  pub bases_command : (new.port port.0).bases ≡ (old.port port.0).bases
-  bases_command =
-      let w : PutAt port.0 Cmd v old new = put port Cmd v old new call off in
-      ap (λ (p : PortState). p.bases) w.here ∙ (command_off v _ (w.mid.port port.0) zero).1 ∙ (w.keeps.port port.0).bases
-
 -- ---- a stopped port stays stopped
 
 pub stopped_on : {p q : PortState} → KeepsPort p q → IsStopped p → IsStopped q
-stopped_on k h = record { halted = halted_on k h.halted; sact = λ slot. k.sact slot (h.sact slot) }
+stopped_on k h = record {
+  halted = record { st = k.st h.halted.st; cr = k.cr h.halted.cr; ci = λ slot. k.ci slot (h.halted.ci slot); taken = k.idle h.halted.cr h.halted.taken };
+  sact = λ slot. k.sact slot (h.sact slot);
+}
 
 pub receiving_on : {port : ℕ} {p q : PortState} → KeepsPort p q → KeepsControls p q → ReceivesFises port p → ReceivesFises port q
 receiving_on k c h = record { stopped = stopped_on k h.stopped; fre = c.fre ∙ h.fre; bases = k.bases ∙ h.bases }
 
-pub stopped_read : (port : Port) (r : PortReg) (v : ℕ) (old new : Device) → old.hr ≡ false → Reads (Px port r) v old new → IsStopped (old.port port.0) → IsStopped (new.port port.0)
-stopped_read port r v old new off call h = stopped_on ((seen port r v old new call off).keeps.port port.0) h
-
-pub receiving_read : (port : Port) (r : PortReg) (v : ℕ) (old new : Device) → old.hr ≡ false → Reads (Px port r) v old new → ReceivesFises port.0 (old.port port.0) → ReceivesFises port.0 (new.port port.0)
-receiving_read port r v old new off call h = let s = seen port r v old new call off in receiving_on (s.keeps.port port.0) (s.keeps.on.controls port.0) h
-
-pub stopped_command : (port : Port) (v : ℕ) (old new : Device) → Stays (MayWrite (Px port Cmd) v) old → bit v 0 ≡ false → Writes (Px port Cmd) v old new →
-    IsStopped (old.port port.0) → IsStopped (new.port port.0)
-stopped_command port v old new may zero call h = record {
-  halted = halted_writes port (Px port Cmd) v old new may (λ _. zero) call h.halted;
-  sact = λ slot. writes_clear port slot (Px port Cmd) v old new (λ (e : Px port Cmd ≡ Px port Sact). absurd (cc)) call (h.sact slot);
-}
+-- a write with ST 0 leaves PxSCTL.DET and the addresses
+pub command_off : (v tape : ℕ) (p : PortState) → bit v 0 ≡ false → ((port_written Cmd v tape p).sctl_det ≡ p.sctl_det) × ((port_written Cmd v tape p).bases ≡ p.bases)
+command_off v tape p off = (ap (λ (b : Bool). (with_fre (bit v 4) (with_st b tape p)).sctl_det) off, ap (λ (b : Bool). (with_fre (bit v 4) (with_st b tape p)).bases) off)
 
 -- PxSCTL, PxSERR or PxIS is written
 module _ (port : ℕ) (v tape : ℕ) (p : PortState) (h : ReceivesFises port p) where
@@ -159,13 +68,6 @@ module _ (port : ℕ) (v tape : ℕ) (p : PortState) (h : ReceivesFises port p) 
   written_receiving r (inl e) = subst (λ (z : PortReg). ReceivesFises port (port_written z v tape p)) (sym e) (same_receiving _ refl refl refl refl refl refl refl)
   written_receiving r (inr (inl e)) = subst (λ (z : PortReg). ReceivesFises port (port_written z v tape p)) (sym e) (same_receiving _ refl refl refl refl refl refl refl)
   written_receiving r (inr (inr e)) = subst (λ (z : PortReg). ReceivesFises port (port_written z v tape p)) (sym e) (same_receiving _ refl refl refl refl refl refl refl)
-
-pub receiving_write : (port : Port) (r : PortReg) (v : ℕ) (old new : Device) → old.hr ≡ false → IsResetting r → Writes (Px port r) v old new → ReceivesFises port.0 (old.port port.0) → ReceivesFises port.0 (new.port port.0)
-receiving_write port r v old new off kind call h =
-    let w : PutAt port.0 r v old new = put port r v old new call off in
-    subst (ReceivesFises port.0) (sym w.here) (written_receiving port.0 v _ (w.mid.port port.0) (receiving_on (w.keeps.port port.0) (w.keeps.on.controls port.0) h) r kind)
-
--- ---- what is told of accesses
 
 -- an engine that was awaited for 64 readings is stuck
 awaits_sticks : (start running : ℕ) → ((v : ℕ) → Hangs start running v → ShowsStuck v) → (port : Port) (accesses : List Access) → Awaits start running port 64 accesses → Sticks port accesses
@@ -243,3 +145,74 @@ module _ (early late : List Access) where
     number = s.number;
     all = s.all;
   }
+
+module _ (laws : Laws) where
+  -- ---- what goes on
+
+  module _ (set : RegisterSet) (port : Port) (old new : Device) where
+    pub stays_on : IsDrivenBy (IsControl (registers_of set) port) old new → IsOn old → IsOn new
+    stays_on driven on = laws.of_on port old new on
+        (record { accesses = driven.accesses; all = driven.all; only = All-weaker (IsControl (registers_of set) port) (IsOf port) (laws.control_of set port) driven.accesses driven.only })
+
+    any : IsDrivenBy (IsControl (registers_of set) port) old new → IsDrivenBy AnyAccess old new
+    any driven = record { accesses = driven.accesses; all = driven.all; only = All-weaker (IsControl (registers_of set) port) AnyAccess (λ access may. tt) driven.accesses driven.only }
+
+    pub same_adapter : IsDrivenBy (IsControl (registers_of set) port) old new → SameAdapter old new
+    same_adapter driven = laws.same_over old new (any driven)
+
+    pub tape_gains : IsDrivenBy (IsControl (registers_of set) port) old new → Grows old new
+    tape_gains driven = laws.tape_over old new (any driven)
+
+    pub usable_by : (Fits : Uses → Type 0) → IsDrivenBy (IsControl (registers_of set) port) old new → ((uses : Uses) → Fits uses → IsAgreed uses old → IsAgreed uses new) → IsUsable Fits port old → IsUsable Fits port new
+    usable_by Fits driven agrees u = record {
+      on = stays_on driven u.on;
+      there = there_after (same_adapter driven) u.there;
+      agreed = (u.agreed.0, u.agreed.1, agrees u.agreed.0 u.agreed.1 u.agreed.2);
+    }
+
+    pub usable_after : IsUsable AnyUse port old → IsFollowed (IsControl (registers_of set) port) AnyUse old new → IsUsable AnyUse port new
+    usable_after u f = usable_by AnyUse f.driven (λ uses fits. laws.agreed (Controlling set port) (λ uses. uses) uses old new fits f) u
+
+  -- over a reading, whatever uses fit
+  pub usable_read : (Fits : Uses → Type 0) (port : Port) (r : PortReg) (v : ℕ) (old new : Device) → IsUsable Fits port old → Reads (Px port r) v old new → IsUsable Fits port new
+  usable_read Fits port r v old new u call =
+      let f = followed_read laws (Controlling Commanding port) (Px port r) v old new refl call in
+      usable_by Commanding port old new Fits f.driven (λ uses fits. laws.agreed (Controlling Commanding port) (λ uses. uses) uses old new tt f) u
+
+  -- PxCMD is read
+  pub beside_read : (port : Port) (v : ℕ) (old new : Device) → old.hr ≡ false → Reads (Px port Cmd) v old new → SameBeside (old.port port.0) (new.port port.0)
+  beside_read port v old new off call =
+      let s : SeenAt port.0 Cmd v old new = laws.seen port Cmd v old new call off in
+      ((s.keeps.on.controls port.0).sctl_det, subst (SameButCommand (old.port port.0).notes) (sym (laws.notes_read port Cmd v old new off call)) refl)
+
+  module _ (port : Port) (v : ℕ) (old new : Device) (off : old.hr ≡ false) (zero : bit v 0 ≡ false) (call : Writes (Px port Cmd) v old new) where
+    pub beside_command : SameBeside (old.port port.0) (new.port port.0)
+    beside_command =
+        let w : PutAt port.0 Cmd v old new = laws.put port Cmd v old new call off in
+        let same = laws.written_notes port Cmd v old new (λ (e : Cmd ≡ Sctl). absurd (cc)) (λ (e : Cmd ≡ Is). absurd (cc)) (λ _. zero) call in (
+          ap (λ (p : PortState). p.sctl_det) w.here ∙ (command_off v _ (w.mid.port port.0) zero).0 ∙ (w.keeps.on.controls port.0).sctl_det,
+          subst (SameButCommand (old.port port.0).notes) (sym same) refl,
+        )
+
+    pub bases_command : (new.port port.0).bases ≡ (old.port port.0).bases
+    bases_command =
+        let w : PutAt port.0 Cmd v old new = laws.put port Cmd v old new call off in
+        ap (λ (p : PortState). p.bases) w.here ∙ (command_off v _ (w.mid.port port.0) zero).1 ∙ (w.keeps.port port.0).bases
+
+  pub stopped_read : (port : Port) (r : PortReg) (v : ℕ) (old new : Device) → old.hr ≡ false → Reads (Px port r) v old new → IsStopped (old.port port.0) → IsStopped (new.port port.0)
+  stopped_read port r v old new off call h = stopped_on ((laws.seen port r v old new call off).keeps.port port.0) h
+
+  pub receiving_read : (port : Port) (r : PortReg) (v : ℕ) (old new : Device) → old.hr ≡ false → Reads (Px port r) v old new → ReceivesFises port.0 (old.port port.0) → ReceivesFises port.0 (new.port port.0)
+  receiving_read port r v old new off call h = let s = laws.seen port r v old new call off in receiving_on (s.keeps.port port.0) (s.keeps.on.controls port.0) h
+
+  pub stopped_command : (port : Port) (v : ℕ) (old new : Device) → Stays (MayWrite (Px port Cmd) v) old → bit v 0 ≡ false → Writes (Px port Cmd) v old new →
+      IsStopped (old.port port.0) → IsStopped (new.port port.0)
+  stopped_command port v old new may zero call h = record {
+    halted = laws.halted_writes port (Px port Cmd) v old new may (λ _. zero) call h.halted;
+    sact = λ slot. laws.writes_clear port slot (Px port Cmd) v old new (λ (e : Px port Cmd ≡ Px port Sact). absurd (cc)) call (h.sact slot);
+  }
+
+  pub receiving_write : (port : Port) (r : PortReg) (v : ℕ) (old new : Device) → old.hr ≡ false → IsResetting r → Writes (Px port r) v old new → ReceivesFises port.0 (old.port port.0) → ReceivesFises port.0 (new.port port.0)
+  receiving_write port r v old new off kind call h =
+      let w : PutAt port.0 r v old new = laws.put port r v old new call off in
+      subst (ReceivesFises port.0) (sym w.here) (written_receiving port.0 v _ (w.mid.port port.0) (receiving_on (w.keeps.port port.0) (w.keeps.on.controls port.0) h) r kind)

@@ -2,7 +2,14 @@
 ghost use Rattle.std.specs.Prelude.{ℕ, ◌++◌, List};
 ghost use Rattle.ata_types.specs.declared.Port.{Port};
 ghost use Rattle.adapter.specs.Access.{Access};
+ghost use Rattle.agreement.specs.Driven.{IsControl, IsOf};
+ghost use Rattle.agreement.specs.Links.{SparesRegister};
+ghost use Rattle.hba_regs.specs.declared.reg.PortReg.TheVariants.{Sctl};
+ghost use Rattle.hba_regs.specs.declared.reg.Reg.TheVariants.{Px};
 ghost use Rattle.port_control.specs.Engines.{FailsToStop, FailsToStopReceiving, Falls, Sticks};
+ghost use Rattle.port_control.specs.Ports.{IsPlacing, IsResetting, WritesCommand};
+
+use super::lawful::laws_hold;
 
 /// What accesses tell of a port's engines, they tell with others after them, and with others before them. Those of a call that failed to
 /// stop one show that it is stuck.
@@ -16,3 +23,15 @@ pub fn what_is_told_of_engines_stays()
     ensures sticks_then { (early late : List Access) (port : Port) → Sticks port early → Sticks port (early ++ late) }
     ensures sticks_since { (early late : List Access) (port : Port) → Sticks port late → Sticks port (early ++ late) }
 {}
+
+/// No call touches a register of another port, nor another port's bit of IS: so what is said of such accesses (`IsOf`) is so of each. Those
+/// that stop and start, and those that receive FISes, don't write PxSCTL.
+pub fn calls_are_of_one_port()
+    ensures commanding { (port : Port) (access : Access) → IsControl WritesCommand port access
+        → IsOf port access × SparesRegister (Px port Sctl) access }
+    ensures placing { (port : Port) (access : Access) → IsControl IsPlacing port access
+        → IsOf port access × SparesRegister (Px port Sctl) access }
+    ensures resetting { (port : Port) (access : Access) → IsControl IsResetting port access → IsOf port access }
+{
+    laws_hold();
+}

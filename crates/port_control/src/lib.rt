@@ -18,7 +18,9 @@ ghost use Rattle.port_control.specs.Ports.{FailsToHalt, FailsToReceive, Halts, R
 use adapter::Adapter;
 use ata_types::{DRIVER_BYTES, PORT_BYTES, Port, RECEIVED};
 use hba_regs::{ATA_SIGNATURE, PortCommand, PortReg, Reg, SataControl, SataStatus, TaskFile};
+use lawful::laws_hold;
 
+mod lawful;
 pub mod laws;
 
 /// Readings of a register in one wait.
@@ -106,6 +108,7 @@ pub fn stop<A: Adapter>(adapter: &mut A, port: Port) -> Result<Stopped, PortFaul
     ensures fault { IfErr result (λ fault. fault ≡ PortFault.EngineStuck) }
     ensures fails { OnErr result (FailsToHalt port (A.device adapter.old) (A.device adapter.new)) }
 {
+    laws_hold();
     let command = PortCommand(adapter.read(Reg::Px(port, PortReg::Cmd)));
     adapter.write(Reg::Px(port, PortReg::Cmd), command.without_start().0);
     for _reading in 0..READINGS {
@@ -132,6 +135,7 @@ fn stop_receiving<A: Adapter>(adapter: &mut A, port: Port) -> bool
     ensures fallen { result ≡ true → ((A.device adapter.new).port port.0).fr ≡ false }
     ensures stuck { result ≡ false → Shows PortFault.EngineStuck ((A.device adapter.new).port port.0).notes }
 {
+    laws_hold();
     let command = PortCommand(adapter.read(Reg::Px(port, PortReg::Cmd)));
     adapter.write(Reg::Px(port, PortReg::Cmd), command.without_receive().0);
     for _reading in 0..READINGS {
@@ -153,6 +157,7 @@ fn place<A: Adapter>(adapter: &mut A, port: Port)
     ensures bases { ((A.device adapter.new).port port.0).bases ≡ programmed port.0 }
     ensures same { SameBeside ((A.device adapter.old).port port.0) ((A.device adapter.new).port port.0) }
 {
+    laws_hold();
     let list = PORT_BYTES * u32::from(port.0);
     adapter.write(Reg::Px(port, PortReg::Clb), list);
     adapter.write(Reg::Px(port, PortReg::Clbu), 0);
@@ -169,6 +174,7 @@ fn start_receiving<A: Adapter>(adapter: &mut A, port: Port)
     ensures receives { ReceivesFises port.0 ((A.device adapter.new).port port.0) }
     ensures same { SameBeside ((A.device adapter.old).port port.0) ((A.device adapter.new).port port.0) }
 {
+    laws_hold();
     let command = PortCommand(adapter.read(Reg::Px(port, PortReg::Cmd)));
     adapter.write(Reg::Px(port, PortReg::Cmd), command.with_receive().0);
 }
@@ -196,6 +202,7 @@ pub fn receive<A: Adapter>(
     ensures fault { IfErr result (λ fault. (fault.0 ≡ PortFault.EngineStuck) × (fault.1 ≡ stopped)) }
     ensures fails { OnErr result (FailsToReceive stopped.port (A.device adapter.old) (A.device adapter.new)) }
 {
+    laws_hold();
     let port = stopped.port;
     if !stop_receiving(adapter, port) {
         return Err((PortFault::EngineStuck, stopped));
@@ -216,6 +223,7 @@ fn send_comreset<A: Adapter>(adapter: &mut A, port: Port)
     ensures coming { NoneComes port.0 (A.device adapter.old) (A.device adapter.new) → IsComingUp
         ((A.device adapter.new).port port.0) }
 {
+    laws_hold();
     adapter.write(Reg::Px(port, PortReg::Sctl), SataControl::SEND_COMRESET);
     adapter.write(Reg::Px(port, PortReg::Sctl), SataControl::NO_ACTION);
 }
@@ -233,6 +241,7 @@ fn wait_for_device<A: Adapter>(adapter: &mut A, port: Port) -> bool
     ensures up { result ≡ true → NoneComes port.0 (A.device adapter.old) (A.device adapter.new)
         → IsComingUp ((A.device adapter.old).port port.0) → IsUp ((A.device adapter.new).port port.0) }
 {
+    laws_hold();
     for _reading in 0..READINGS {
         let status = SataStatus(adapter.read(Reg::Px(port, PortReg::Ssts)));
         if status.detection() == SataStatus::DEVICE_WITH_LINK {
@@ -254,6 +263,7 @@ fn clear_errors<A: Adapter>(adapter: &mut A, port: Port)
     ensures clear { ((A.device adapter.old).port port.0).link_due ≡ false → HasClearErrors port.0
         (A.device adapter.old) (A.device adapter.new) }
 {
+    laws_hold();
     adapter.write(Reg::Px(port, PortReg::Serr), ALL_ONES);
     adapter.write(Reg::Px(port, PortReg::Is), ALL_ONES);
 }
@@ -274,6 +284,7 @@ fn wait_until_idle<A: Adapter>(adapter: &mut A, port: Port) -> bool
         → bit ((A.device adapter.new).port port.0).notes.last_tfd 3 ≡ false
         → IsQuiet ((A.device adapter.new).port port.0) }
 {
+    laws_hold();
     for _reading in 0..READINGS {
         let task_file = TaskFile(adapter.read(Reg::Px(port, PortReg::Tfd)));
         if !is_occupied(task_file) {
@@ -302,6 +313,7 @@ fn look<A: Adapter>(adapter: &mut A, port: Port) -> Result<(), PortFault>
     ensures signature_at_fault { IfErr result (λ fault. (signature : ℕ) → fault ≡ PortFault.NotAta signature
         → ShowsSignature ((A.device adapter.new).port port.0)) }
 {
+    laws_hold();
     if !wait_for_device(adapter, port) {
         return Err(PortFault::NoDevice);
     }
@@ -363,6 +375,7 @@ pub fn comreset<A: Adapter>(
     ensures signature_at_fault { IfErr result (λ fault. (signature : ℕ) → fault.0 ≡ PortFault.NotAta signature
         → ShowsSignature ((A.device adapter.new).port receiving.port.0)) }
 {
+    laws_hold();
     let port = receiving.port;
     send_comreset(adapter, port);
     match look(adapter, port) {
@@ -410,6 +423,7 @@ pub fn start<A: Adapter>(
     ensures changes { ((A.device adapter.old).port receiving.port.0).link_due ≡ false → ChangesByDisks
         receiving.port.0 (A.device adapter.old) (A.device adapter.new) }
 {
+    laws_hold();
     let port = receiving.port;
     let command = PortCommand(adapter.read(Reg::Px(port, PortReg::Cmd)));
     adapter.write(Reg::Px(port, PortReg::Cmd), command.with_start().0);

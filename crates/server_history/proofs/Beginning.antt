@@ -40,10 +40,6 @@ use Rattle.identify.specs.declared.wanted.Wanted.{Wanted}
 use Rattle.port_boot.specs.States.{EndsAs, IsUnfit}
 use Rattle.driver_history.specs.Holds.{Runs}
 use Rattle.agreement.specs.Facts.{IsRecorded, RunsWell, Undisturbed}
-use Rattle.agreement.proofs.Present.{access_shown}
-use Rattle.agreement.proofs.Vacated.{device_shown}
-use Rattle.host_boot.proofs.Beginning.{taken_faults, taken_runs}
-use Rattle.host_boot.proofs.Showing.{taken_shown}
 use Rattle.server_history.proofs.Slots.{ready_found}
 use Rattle.identify.specs.declared.DiskInfo.{DiskInfo}
 use Rattle.server_history.proofs.Standing.{holds_with, slots}
@@ -176,7 +172,13 @@ none_in_order = record {
 
 -- ---- the whole
 
-module _ (s : Server) (host : Host) (d : Device) (is : IsIdle d) (told : TellsDisks d) (taken : TakesOver s.wanted host d s.device) (n : IsNewServer host s) where
+-- what a law says of an adapter that was taken over
+pub record TakenLaws : Type 0 where
+  pub well : (wanted : List Wanted) (host : Host) (port : ℕ) (info : DiskInfo) (old new : Device) → IsIdle old → TakesOver wanted host old new → found_of host.ports port ≡ Ready info → Undisturbed port old new → RunsWell (new.port port)
+  pub recorded : (wanted : List Wanted) (host : Host) (port : ℕ) (info : DiskInfo) (old new : Device) → IsIdle old → TakesOver wanted host old new → found_of host.ports port ≡ Ready info → IsRecorded new.tape (new.port port) port
+  pub shown : (wanted : List Wanted) (host : Host) (port : ℕ) (state : PortState) (old new : Device) → IsIdle old → TakesOver wanted host old new → FoundBadDisk state → found_of host.ports port ≡ Unready state → HasDeviceOrNone (new.port port)
+
+module _ (laws : TakenLaws) (s : Server) (host : Host) (d : Device) (is : IsIdle d) (told : TellsDisks d) (taken : TakesOver s.wanted host d s.device) (n : IsNewServer host s) where
   abbrev first_machine : Machine
   first_machine = machine_of d s.grants (owner_of s.table)
 
@@ -210,11 +212,11 @@ module _ (s : Server) (host : Host) (d : Device) (is : IsIdle d) (told : TellsDi
   shown_as : (port : ℕ) (f : Found) → found_of s.ports port ≡ f → FoundBadDisk (state_of f) → HasDeviceOrNone (s.device.port port)
   shown_as port Unserved e bad = absurd bad
   shown_as port (Ready info) e bad = absurd bad
-  shown_as port (Unready state) e bad = taken_shown access_shown device_shown (port_at port) state host.ports d s.device is bad (sym (found_is port) ∙ e) taken.way
+  shown_as port (Unready state) e bad = laws.shown s.wanted host port state d s.device is taken bad (sym (found_is port) ∙ e)
 
   running : (port : ℕ) → port < 4 → state_of (found_of s.ports port) ≡ ReadyState → Runs port s.device × ((slot : ℕ) → (s.device.port port).sact slot ≡ false)
   running port below =
-      ready_runs (wanted_of s.wanted port) (found_of s.ports port) port s.device (behind port below) (λ info found. taken_faults s.wanted host port d s.device taken info is (sym (found_is port) ∙ found))
+      ready_runs (wanted_of s.wanted port) (found_of s.ports port) port s.device (behind port below) (λ info found. laws.recorded s.wanted host port info d s.device is taken (sym (found_is port) ∙ found))
 
   ports_on : (port : ℕ) → port < 4 → IsPortOf s.wanted s.ports port s.device
   ports_on port below = record {
@@ -300,8 +302,8 @@ module _ (s : Server) (host : Host) (d : Device) (is : IsIdle d) (told : TellsDi
 
 -- ---- a new server
 
-pub new_well : (s : Server) (host : Host) (idle : Device) (port : Port) → IsKept s → IsIdle idle → TakesOver s.wanted host idle s.device → s.ports ≡ host.ports
+pub new_well : TakenLaws → (s : Server) (host : Host) (idle : Device) (port : Port) → IsKept s → IsIdle idle → TakesOver s.wanted host idle s.device → s.ports ≡ host.ports
     → state_of (found_of s.ports port.0) ≡ ReadyState → Undisturbed port.0 idle s.device → RunsWell (s.device.port port.0)
-new_well s host idle port k rest taken same ready calm =
+new_well laws s host idle port k rest taken same ready calm =
     let found = (ready_found s port.0 k ready).1 in
-    taken_runs s.wanted host port.0 idle s.device taken found.0 rest (ap (λ (ports : List Found). found_of ports port.0) (sym same) ∙ found.1) calm
+    laws.well s.wanted host port.0 found.0 idle s.device rest taken (ap (λ (ports : List Found). found_of ports port.0) (sym same) ∙ found.1) calm

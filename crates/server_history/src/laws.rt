@@ -41,6 +41,7 @@ ghost use Rattle.port_look.specs.Looks.{IsLooking, LooksAt};
 ghost use Rattle.port_look.specs.declared.Look.{Look};
 ghost use Rattle.port_look.specs.declared.Look.TheVariants.{Undisturbed as Calm};
 
+use host_boot::laws::what_was_taken_over_may_be_served;
 use block_machine::laws::{due_in_turn, due_is_exact, other_ports_stay, own_requests_count};
 use ncq::laws::{calls_are_of_one_port, finding_is_followed, issuing_performs};
 use request_queue::laws::{
@@ -72,13 +73,17 @@ pub fn new_ready_ports_run_well()
     ensures { (s : Server) (host : Host) (idle : Device) (port : Port) → IsKept s → IsIdle idle → TakesOver s.wanted host idle s.device
         → s.ports ≡ host.ports → state_of (found_of s.ports port.0) ≡ ReadyState → Undisturbed port.0 idle s.device
         → RunsWell (s.device.port port.0) }
-{}
+{
+    what_was_taken_over_may_be_served();
+}
 
 /// A server of an adapter that was taken over holds what a server keeps, and a history without calls leads to it.
 pub fn a_new_server_has_begun()
     ensures { (s : Server) (host : Host) (idle : Device) → IsIdle idle → TellsDisks idle → TakesOver s.wanted host idle s.device
         → IsNewServer host s → IsSettled s × HasBegun s }
-{}
+{
+    what_was_taken_over_may_be_served();
+}
 
 /// A device that does what it is told adds an event, and so does one that can't.
 pub fn device_steps_add()

@@ -1,9 +1,7 @@
 use Rattle.std.proofs.Common.{refl, le_trans}
 use Rattle.agreement.specs.Slots.{Own, put}
-use Rattle.agreement.proofs.Driven.{followed_to_then}
-use Rattle.command_table.specs.Written.{IsUnused}
-use Rattle.disk_page.specs.Asking.{operation_of, IsAsking}
-use Rattle.disk_page.proofs.Asking.{page_is_told, may_after, ask_permitted, asked_to, asked_det, asked_on, asked_there, asked_later, asked_waits, stores_leave, stores_asking, stores_agree, stores_there, stores_room}
+use Rattle.disk_page.specs.Asking.{operation_of}
+use Rattle.disk_page.proofs.Asking.{page_is_told, stored_then, may_after, ask_permitted, asked_to, asked_det, asked_on, asked_there, asked_later, asked_waits, stores_leave, stores_asking, stores_agree, stores_there, stores_room}
 use Rattle.disk_page.proofs.ask.Goals as goal
 
 pub write-requires : goal.write-requires
@@ -11,55 +9,55 @@ write-requires g c =
     let r = c.requires in
     let w = c.write_table.ensures in
     let told = page_is_told c.args.page c.command.result c.prds-prds.result.items c.as_slice.result.now c.args.port.0 c.from.result _ c.from.ensures c.command.ensures (c.prds-prds.ensures.whole refl) (c.prds-prds.ensures.places refl) c.as_slice.ensures.value w.says in
-    ask_permitted c.args.port c.args.page _ (g.A.Adapter.device c.write_table.new.adapter) w.on (stores_there c.args.port _ _ r.on w.followed r.there) (stores_room c.args.port _ _ r.on w.followed r.room)
-    (may_after c.args.port.0 _ _ (stores_leave c.args.port _ _ r.on w.followed) r.may) told r.agreed.0 r.agreed.1 (stores_agree c.args.port _ _ r.on w.followed r.agreed.0 r.agreed.1 r.agreed.2)
+    ask_permitted c.laws_hold.ensures c.args.port c.args.page _ (g.A.Adapter.device c.write_table.new.adapter) w.on (stores_there c.laws_hold.ensures c.args.port _ _ r.on w.followed r.there) (stores_room c.laws_hold.ensures c.args.port _ _ r.on w.followed r.room)
+    (may_after c.args.port.0 _ _ (stores_leave c.laws_hold.ensures c.args.port _ _ r.on w.followed) r.may) told r.agreed.0 r.agreed.1 (stores_agree c.laws_hold.ensures c.args.port _ _ r.on w.followed r.agreed.0 r.agreed.1 r.agreed.2)
 
 pub returns-clause-followed : goal.returns-clause-followed
 returns-clause-followed g c =
     let r = c.requires in
     let w = c.write_table.ensures in
     let told = page_is_told c.args.page c.command.result c.prds-prds.result.items c.as_slice.result.now c.args.port.0 c.from.result _ c.from.ensures c.command.ensures (c.prds-prds.ensures.whole refl) (c.prds-prds.ensures.places refl) c.as_slice.ensures.value w.says in
-    followed_to_then (IsAsking c.args.port) (IsUnused c.args.port.0 0) (λ uses. put uses c.args.port.0 0 (Own (operation_of c.args.page))) _ _ _ (stores_asking c.args.port _ _ r.on w.followed)
-    (asked_to c.args.port c.args.page _ _ w.on (stores_there c.args.port _ _ r.on w.followed r.there) (stores_room c.args.port _ _ r.on w.followed r.room)
-    (may_after c.args.port.0 _ _ (stores_leave c.args.port _ _ r.on w.followed) r.may) told c.write.ensures)
+    stored_then c.laws_hold.ensures c.args.port (λ uses. put uses c.args.port.0 0 (Own (operation_of c.args.page))) _ _ _ (stores_asking c.laws_hold.ensures c.args.port _ _ r.on w.followed)
+    (asked_to c.laws_hold.ensures c.args.port c.args.page _ _ w.on (stores_there c.laws_hold.ensures c.args.port _ _ r.on w.followed r.there) (stores_room c.laws_hold.ensures c.args.port _ _ r.on w.followed r.room)
+    (may_after c.args.port.0 _ _ (stores_leave c.laws_hold.ensures c.args.port _ _ r.on w.followed) r.may) told c.write.ensures)
 
 pub returns-clause-waiting : goal.returns-clause-waiting
 returns-clause-waiting g c = λ uses free a.
     let r = c.requires in
     let w = c.write_table.ensures in
     let told = page_is_told c.args.page c.command.result c.prds-prds.result.items c.as_slice.result.now c.args.port.0 c.from.result _ c.from.ensures c.command.ensures (c.prds-prds.ensures.whole refl) (c.prds-prds.ensures.places refl) c.as_slice.ensures.value w.says in
-    asked_waits c.args.port c.args.page _ _ w.on (stores_there c.args.port _ _ r.on w.followed r.there) (stores_room c.args.port _ _ r.on w.followed r.room)
-    (may_after c.args.port.0 _ _ (stores_leave c.args.port _ _ r.on w.followed) r.may) told c.write.ensures uses free (stores_agree c.args.port _ _ r.on w.followed uses free a)
+    asked_waits c.laws_hold.ensures c.args.port c.args.page _ _ w.on (stores_there c.laws_hold.ensures c.args.port _ _ r.on w.followed r.there) (stores_room c.laws_hold.ensures c.args.port _ _ r.on w.followed r.room)
+    (may_after c.args.port.0 _ _ (stores_leave c.laws_hold.ensures c.args.port _ _ r.on w.followed) r.may) told c.write.ensures uses free (stores_agree c.laws_hold.ensures c.args.port _ _ r.on w.followed uses free a)
 
 pub returns-clause-later : goal.returns-clause-later
 returns-clause-later g c =
     let r = c.requires in
     let w = c.write_table.ensures in
     let told = page_is_told c.args.page c.command.result c.prds-prds.result.items c.as_slice.result.now c.args.port.0 c.from.result _ c.from.ensures c.command.ensures (c.prds-prds.ensures.whole refl) (c.prds-prds.ensures.places refl) c.as_slice.ensures.value w.says in
-    le_trans (stores_leave c.args.port _ _ r.on w.followed).later
-    (asked_later c.args.port c.args.page _ _ w.on (stores_there c.args.port _ _ r.on w.followed r.there) (stores_room c.args.port _ _ r.on w.followed r.room)
-    (may_after c.args.port.0 _ _ (stores_leave c.args.port _ _ r.on w.followed) r.may) told c.write.ensures)
+    le_trans (stores_leave c.laws_hold.ensures c.args.port _ _ r.on w.followed).later
+    (asked_later c.laws_hold.ensures c.args.port c.args.page _ _ w.on (stores_there c.laws_hold.ensures c.args.port _ _ r.on w.followed r.there) (stores_room c.laws_hold.ensures c.args.port _ _ r.on w.followed r.room)
+    (may_after c.args.port.0 _ _ (stores_leave c.laws_hold.ensures c.args.port _ _ r.on w.followed) r.may) told c.write.ensures)
 
 pub returns-clause-det : goal.returns-clause-det
 returns-clause-det g c =
     let r = c.requires in
     let w = c.write_table.ensures in
     let told = page_is_told c.args.page c.command.result c.prds-prds.result.items c.as_slice.result.now c.args.port.0 c.from.result _ c.from.ensures c.command.ensures (c.prds-prds.ensures.whole refl) (c.prds-prds.ensures.places refl) c.as_slice.ensures.value w.says in
-    asked_det c.args.port c.args.page _ _ w.on (stores_there c.args.port _ _ r.on w.followed r.there) (stores_room c.args.port _ _ r.on w.followed r.room)
-    (may_after c.args.port.0 _ _ (stores_leave c.args.port _ _ r.on w.followed) r.may) told c.write.ensures
+    asked_det c.laws_hold.ensures c.args.port c.args.page _ _ w.on (stores_there c.laws_hold.ensures c.args.port _ _ r.on w.followed r.there) (stores_room c.laws_hold.ensures c.args.port _ _ r.on w.followed r.room)
+    (may_after c.args.port.0 _ _ (stores_leave c.laws_hold.ensures c.args.port _ _ r.on w.followed) r.may) told c.write.ensures
 
 pub returns-clause-on : goal.returns-clause-on
 returns-clause-on g c =
     let r = c.requires in
     let w = c.write_table.ensures in
     let told = page_is_told c.args.page c.command.result c.prds-prds.result.items c.as_slice.result.now c.args.port.0 c.from.result _ c.from.ensures c.command.ensures (c.prds-prds.ensures.whole refl) (c.prds-prds.ensures.places refl) c.as_slice.ensures.value w.says in
-    asked_on c.args.port c.args.page _ _ w.on (stores_there c.args.port _ _ r.on w.followed r.there) (stores_room c.args.port _ _ r.on w.followed r.room)
-    (may_after c.args.port.0 _ _ (stores_leave c.args.port _ _ r.on w.followed) r.may) told c.write.ensures
+    asked_on c.laws_hold.ensures c.args.port c.args.page _ _ w.on (stores_there c.laws_hold.ensures c.args.port _ _ r.on w.followed r.there) (stores_room c.laws_hold.ensures c.args.port _ _ r.on w.followed r.room)
+    (may_after c.args.port.0 _ _ (stores_leave c.laws_hold.ensures c.args.port _ _ r.on w.followed) r.may) told c.write.ensures
 
 pub returns-clause-there : goal.returns-clause-there
 returns-clause-there g c =
     let r = c.requires in
     let w = c.write_table.ensures in
     let told = page_is_told c.args.page c.command.result c.prds-prds.result.items c.as_slice.result.now c.args.port.0 c.from.result _ c.from.ensures c.command.ensures (c.prds-prds.ensures.whole refl) (c.prds-prds.ensures.places refl) c.as_slice.ensures.value w.says in
-    asked_there c.args.port c.args.page _ _ w.on (stores_there c.args.port _ _ r.on w.followed r.there) (stores_room c.args.port _ _ r.on w.followed r.room)
-    (may_after c.args.port.0 _ _ (stores_leave c.args.port _ _ r.on w.followed) r.may) told c.write.ensures
+    asked_there c.laws_hold.ensures c.args.port c.args.page _ _ w.on (stores_there c.laws_hold.ensures c.args.port _ _ r.on w.followed r.there) (stores_room c.laws_hold.ensures c.args.port _ _ r.on w.followed r.room)
+    (may_after c.args.port.0 _ _ (stores_leave c.laws_hold.ensures c.args.port _ _ r.on w.followed) r.may) told c.write.ensures

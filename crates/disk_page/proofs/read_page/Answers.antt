@@ -1,19 +1,17 @@
-use Rattle.std.proofs.Common.{ℕ, ◌≡◌, ◌*◌, refl, sym, subst, arith}
+use Rattle.std.proofs.Common.{ℕ, ◌≡◌, ◌*◌, sym, subst, arith}
 use Rattle.adapter.specs.Access.{Loads}
 use Rattle.adapter.specs.Rules.{IsFree, Stays}
 use Rattle.agreement.specs.Places.{scratch_of}
 use Rattle.agreement.specs.Slots.{Own, put}
-use Rattle.agreement.proofs.Driven.{followed_to_more}
-use Rattle.command_table.specs.Written.{IsUnused}
-use Rattle.disk_page.specs.Asking.{operation_of, IsAsking}
-use Rattle.disk_page.proofs.Asking.{followed_back, page_free, load_on, load_clear, load_agrees, agrees_released, load_followed, load_brings}
+use Rattle.disk_page.specs.Asking.{operation_of}
+use Rattle.disk_page.proofs.Asking.{asked_back, asked_then, page_free, load_on, load_clear, load_agrees, load_followed, load_brings}
 use Rattle.disk_page.proofs.Leaving.{asking_leaves_running}
 use Rattle.disk_page.proofs.read_page.Goals as goal
 
 pub returns-then-not-wait-clause-reads : goal.returns-then-not-wait-clause-reads
 returns-then-not-wait-clause-reads g c = (
   c.wait.ensures.still c.if-not-wait.true,
-  followed_to_more (IsAsking c.args.port) (IsUnused c.args.port.0 0) (λ uses. put uses c.args.port.0 0 (Own (operation_of c.args.page))) _ _ _ c.ask.ensures.followed c.wait.ensures.followed,
+  asked_then c.laws_hold.ensures c.args.port (λ uses. put uses c.args.port.0 0 (Own (operation_of c.args.page))) _ _ _ c.ask.ensures.followed c.wait.ensures.followed,
 )
 
 pub load-requires : goal.load-requires
@@ -24,7 +22,7 @@ load-requires g c =
     let waiting = c.wait.ensures.waiting _ _ _ asked in
     let clear = c.wait.ensures.over c.if-not-wait.false _ _ _ asked in
     let F : ℕ → Type 0 = λ place. Stays (IsFree place 512) (g.A.Adapter.device c.wait.new.adapter) in
-    subst F (sym at) (page_free c.args.port _ _ _ _ r.there.0 waiting clear)
+    subst F (sym at) (page_free c.laws_hold.ensures c.args.port _ _ _ _ r.there.0 waiting clear)
 
 pub returns-clause-on : goal.returns-clause-on
 returns-clause-on g c =
@@ -36,7 +34,7 @@ returns-clause-on g c =
     let L : ℕ → Type 0 = λ place. Loads place c.load.new.out (g.A.Adapter.device c.wait.new.adapter) (g.A.Adapter.device c.load.new.self) in
     let load : Loads (scratch_of c.args.port.0) c.load.new.out (g.A.Adapter.device c.wait.new.adapter) (g.A.Adapter.device c.load.new.self) = subst L at c.load.ensures in
     let size = c.load.auto.out in
-    load_on c.args.port _ _ _ _ r.there.0 waiting clear _ _ load size
+    load_on c.laws_hold.ensures c.args.port _ _ _ _ r.there.0 waiting clear _ _ load size
 
 pub returns-clause-reads : goal.returns-clause-reads
 returns-clause-reads g c =
@@ -49,18 +47,18 @@ returns-clause-reads g c =
     let load : Loads (scratch_of c.args.port.0) c.load.new.out (g.A.Adapter.device c.wait.new.adapter) (g.A.Adapter.device c.load.new.self) = subst L at c.load.ensures in
     let size = c.load.auto.out in
     let followed =
-    followed_to_more (IsAsking c.args.port) (IsUnused c.args.port.0 0) (λ uses. put uses c.args.port.0 0 (Own (operation_of c.args.page))) _ _ _
-    (followed_to_more (IsAsking c.args.port) (IsUnused c.args.port.0 0) (λ uses. put uses c.args.port.0 0 (Own (operation_of c.args.page))) _ _ _ c.ask.ensures.followed c.wait.ensures.followed)
-    (load_followed c.args.port _ _ _ _ r.there.0 waiting clear _ _ load size) in (
-      load_brings c.args.port _ _ _ _ r.there.0 waiting clear _ _ load size _ c.ask.ensures.later,
-      followed_back (IsAsking c.args.port) c.args.port (operation_of c.args.page) 1 _ _ (refl, refl) (load_clear c.args.port _ _ _ _ r.there.0 waiting clear _ _ load size).over followed,
+    asked_then c.laws_hold.ensures c.args.port (λ uses. put uses c.args.port.0 0 (Own (operation_of c.args.page))) _ _ _
+    (asked_then c.laws_hold.ensures c.args.port (λ uses. put uses c.args.port.0 0 (Own (operation_of c.args.page))) _ _ _ c.ask.ensures.followed c.wait.ensures.followed)
+    (load_followed c.laws_hold.ensures c.args.port _ _ _ _ r.there.0 waiting clear _ _ load size) in (
+      load_brings c.laws_hold.ensures c.args.port _ _ _ _ r.there.0 waiting clear _ _ load size _ c.ask.ensures.later,
+      asked_back c.laws_hold.ensures c.args.port (operation_of c.args.page) _ _ (load_clear c.laws_hold.ensures c.args.port _ _ _ _ r.there.0 waiting clear _ _ load size).over followed,
     )
 
 pub returns-then-not-wait-clause-leaves : goal.returns-then-not-wait-clause-leaves
-returns-then-not-wait-clause-leaves g c = asking_leaves_running c.args.port _ _ c.requires.on (returns-then-not-wait-clause-reads g c).1.driven
+returns-then-not-wait-clause-leaves g c = asking_leaves_running c.laws_hold.ensures c.args.port _ _ c.requires.on (returns-then-not-wait-clause-reads g c).1.driven
 
 pub returns-clause-leaves : goal.returns-clause-leaves
-returns-clause-leaves g c = asking_leaves_running c.args.port _ _ c.requires.on (returns-clause-reads g c).1.driven
+returns-clause-leaves g c = asking_leaves_running c.laws_hold.ensures c.args.port _ _ c.requires.on (returns-clause-reads g c).1.driven
 
 pub returns-then-not-wait-clause-agrees : goal.returns-then-not-wait-clause-agrees
 returns-then-not-wait-clause-agrees g c = λ uses free agreed. (c.wait.ensures.waiting _ _ _ (c.ask.ensures.waiting uses free agreed)).agreed
@@ -75,4 +73,5 @@ returns-clause-agrees g c = λ uses free agreed.
     let L : ℕ → Type 0 = λ place. Loads place c.load.new.out (g.A.Adapter.device c.wait.new.adapter) (g.A.Adapter.device c.load.new.self) in
     let load : Loads (scratch_of c.args.port.0) c.load.new.out (g.A.Adapter.device c.wait.new.adapter) (g.A.Adapter.device c.load.new.self) = subst L at c.load.ensures in
     let size = c.load.auto.out in
-    agrees_released uses c.args.port.0 (operation_of c.args.page) _ free (load_clear c.args.port _ _ _ _ r.there.0 waiting clear _ _ load size) (load_agrees c.args.port _ _ _ _ r.there.0 waiting clear _ _ load size)
+    c.laws_hold.ensures.agrees_released uses c.args.port.0 (operation_of c.args.page) _ free (load_clear c.laws_hold.ensures c.args.port _ _ _ _ r.there.0 waiting clear _ _ load size).over
+    (load_agrees c.laws_hold.ensures c.args.port _ _ _ _ r.there.0 waiting clear _ _ load size)

@@ -2,46 +2,46 @@ use Rattle.std.proofs.Common.{◌≢◌, ◌≤◌, length, ◌∙◌, subst}
 use Rattle.std.specs.Prelude.{OnOk, IfErr}
 use Rattle.ata_types.specs.declared.Port.{Port}
 use Rattle.ata_types.specs.declared.PortState.TheVariants.{Dead}
-use Rattle.agreement.specs.Driven.{IsFollowed}
+use Rattle.agreement.specs.Driven.{IsFollowed, IsControl}
 use Rattle.agreement.specs.Driver.{AllFree}
 use Rattle.port_control.specs.Engines.{Stops}
 use Rattle.port_boot.specs.States.{IsBooting, IsBootTo, IsOfBoot, GetsAsked, EndsLate, IsLate, RunsOn, StopsOnWay, StopsThen}
 use Rattle.port_boot.proofs.Identifying.{whole_ready, whole_ended}
-use Rattle.agreement.proofs.Controlled.{tape_gains}
 use Rattle.port_boot.proofs.Outcomes.{whole_way, whole_news, whole_late, early_is_not_late, handed_on}
 use Rattle.port_boot.proofs.boot.Goals as goal
+use Rattle.port_boot.proofs.Stretching.{driven_grows}
 
 pub returns-clause-boots : goal.returns-clause-boots
 returns-clause-boots g c =
     let P : Port → Type 0 = λ p. OnOk c.identify_disk.result (IsFollowed (IsOfBoot p) (λ uses. AllFree uses p.0) (g.A.Adapter.device c.bring_up.new.adapter) (g.A.Adapter.device c.identify_disk.new.adapter)) in
-    whole_ready c.args.stopped.port _ _ _ c.in_ok-running.ensures.boots _ (subst P (c.port.ensures ∙ c.in_ok-running.ensures.names) c.identify_disk.ensures.boots)
+    whole_ready c.laws_hold.ensures c.args.stopped.port _ _ _ c.in_ok-running.ensures.boots _ (subst P (c.port.ensures ∙ c.in_ok-running.ensures.names) c.identify_disk.ensures.boots)
 
 pub returns-clause-boots_to : goal.returns-clause-boots_to
 returns-clause-boots_to g c =
     let P : Port → Type 0 = λ p. IfErr c.identify_disk.result (λ state. IsBootTo (Stops p) p state (g.A.Adapter.device c.bring_up.new.adapter) (g.A.Adapter.device c.identify_disk.new.adapter)) in
-    whole_ended c.args.stopped.port _ _ _ c.in_ok-running.ensures.boots _ (subst P (c.port.ensures ∙ c.in_ok-running.ensures.names) c.identify_disk.ensures.boots_to)
+    whole_ended c.laws_hold.ensures c.args.stopped.port _ _ _ c.in_ok-running.ensures.boots _ (subst P (c.port.ensures ∙ c.in_ok-running.ensures.names) c.identify_disk.ensures.boots_to)
 
 pub returns-clause-way : goal.returns-clause-way
 returns-clause-way g c =
     let P : Port → Type 0 = λ p. OnOk c.identify_disk.result (GetsAsked p (g.A.Adapter.device c.bring_up.new.adapter) (g.A.Adapter.device c.identify_disk.new.adapter)) in
-    let early = tape_gains IsBooting c.args.stopped.port _ _ c.in_ok-running.ensures.boots.followed.driven in
-    whole_way c.args.stopped.port _ _ _ early c.identify_disk.result c.in_ok-running.ensures.up (subst P (c.port.ensures ∙ c.in_ok-running.ensures.names) c.identify_disk.ensures.asked)
+    let early = driven_grows c.laws_hold.ensures (IsControl IsBooting c.args.stopped.port) _ _ c.in_ok-running.ensures.boots.followed.driven in
+    whole_way c.laws_hold.ensures c.args.stopped.port _ _ _ early c.identify_disk.result c.in_ok-running.ensures.up (subst P (c.port.ensures ∙ c.in_ok-running.ensures.names) c.identify_disk.ensures.asked)
 
 pub returns-clause-news : goal.returns-clause-news
 returns-clause-news g c =
     let at = c.port.ensures ∙ c.in_ok-running.ensures.names in
     let P : Port → Type 0 = λ p. OnOk c.identify_disk.result (IsFollowed (IsOfBoot p) (λ uses. AllFree uses p.0) (g.A.Adapter.device c.bring_up.new.adapter) (g.A.Adapter.device c.identify_disk.new.adapter)) in
     let R : Port → Type 0 = λ p. OnOk c.identify_disk.result (RunsOn p.0 (g.A.Adapter.device c.bring_up.new.adapter) (g.A.Adapter.device c.identify_disk.new.adapter)) in
-    let early = tape_gains IsBooting c.args.stopped.port _ _ c.in_ok-running.ensures.boots.followed.driven in
-    whole_news c.args.stopped.port _ _ _ early c.identify_disk.result c.in_ok-running.ensures.up (subst P at c.identify_disk.ensures.boots) (subst R at c.identify_disk.ensures.runs_on)
+    let early = driven_grows c.laws_hold.ensures (IsControl IsBooting c.args.stopped.port) _ _ c.in_ok-running.ensures.boots.followed.driven in
+    whole_news c.laws_hold.ensures c.args.stopped.port _ _ _ early c.identify_disk.result c.in_ok-running.ensures.up (subst P at c.identify_disk.ensures.boots) (subst R at c.identify_disk.ensures.runs_on)
 
 pub returns-clause-late : goal.returns-clause-late
 returns-clause-late g c =
     let at = c.port.ensures ∙ c.in_ok-running.ensures.names in
     let P : Port → Type 0 = λ p. IfErr c.identify_disk.result (λ state. IsBootTo (Stops p) p state (g.A.Adapter.device c.bring_up.new.adapter) (g.A.Adapter.device c.identify_disk.new.adapter)) in
     let R : Port → Type 0 = λ p. IfErr c.identify_disk.result (λ state. StopsThen p (g.A.Adapter.device c.bring_up.new.adapter) (g.A.Adapter.device c.identify_disk.new.adapter)) in
-    let early = tape_gains IsBooting c.args.stopped.port _ _ c.in_ok-running.ensures.boots.followed.driven in
-    whole_late c.args.stopped.port _ _ _ early c.identify_disk.result c.in_ok-running.ensures.up (subst P at c.identify_disk.ensures.boots_to) (subst R at c.identify_disk.ensures.stops)
+    let early = driven_grows c.laws_hold.ensures (IsControl IsBooting c.args.stopped.port) _ _ c.in_ok-running.ensures.boots.followed.driven in
+    whole_late c.laws_hold.ensures c.args.stopped.port _ _ _ early c.identify_disk.result c.in_ok-running.ensures.up (subst P at c.identify_disk.ensures.boots_to) (subst R at c.identify_disk.ensures.stops)
 
 pub returns-in_err-running-clause-since_ended : goal.returns-in_err-running-clause-since_ended
 returns-in_err-running-clause-since_ended g c =

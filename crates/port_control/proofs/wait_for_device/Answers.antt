@@ -1,37 +1,37 @@
 use Rattle.std.proofs.Common.{ℕ, ◌≡◌, subst, arith}
 use Rattle.hba_regs.specs.declared.reg.PortReg.TheVariants.{Ssts}
-use Rattle.agreement.specs.Driven.{AnyUse, IsControl}
-use Rattle.agreement.proofs.Driven.{followed_none}
 use Rattle.port_control.proofs.Looking.{missing_followed, device_seen, device_up, sees_device, without_none, missing_still}
-use Rattle.port_control.specs.Ports.{IsClearing, HasLink, ReadsWithout}
+use Rattle.port_control.specs.Ports.{HasLink, ReadsWithout}
 use Rattle.port_control.proofs.wait_for_device.Goals as goal
+use Rattle.port_control.specs.Laws.RegisterSet.{Clearing}
+use Rattle.port_control.specs.Laws.Stretch.{Controlling}
 
 pub loop-reading-init : goal.loop-reading-init
 loop-reading-init g c = record {
-  followed = followed_none (IsControl IsClearing c.args.port) AnyUse _;
+  followed = c.laws_hold.ensures.none (Controlling Clearing c.args.port) _;
   usable = c.requires.usable;
   on = c.requires.usable;
   det = c.requires.det;
   low = omega arith;
   high = λ h. absurd (omega (arith, h));
   far = λ h. absurd (omega (arith, h));
-  misses = without_none c.args.port Ssts HasLink _;
+  misses = without_none c.laws_hold.ensures c.args.port Ssts HasLink _;
 }
 
 pub returns-then-detection-eq-DEVICE_WITH_LINK-clause-followed : goal.returns-then-detection-eq-DEVICE_WITH_LINK-clause-followed
-returns-then-detection-eq-DEVICE_WITH_LINK-clause-followed g c = missing_followed _ _ _ _ _ _ c.loop-reading.invariant c.read.ensures
+returns-then-detection-eq-DEVICE_WITH_LINK-clause-followed g c = missing_followed c.laws_hold.ensures _ _ _ _ _ _ c.loop-reading.invariant c.read.ensures
 
 pub returns-then-detection-eq-DEVICE_WITH_LINK-clause-saw : goal.returns-then-detection-eq-DEVICE_WITH_LINK-clause-saw
-returns-then-detection-eq-DEVICE_WITH_LINK-clause-saw g c = λ _. device_seen _ _ _ _ _ _ c.loop-reading.invariant c.read.ensures (omega arith)
+returns-then-detection-eq-DEVICE_WITH_LINK-clause-saw g c = λ _. device_seen c.laws_hold.ensures _ _ _ _ _ _ c.loop-reading.invariant c.read.ensures (omega arith)
 
 pub returns-then-detection-eq-DEVICE_WITH_LINK-clause-up : goal.returns-then-detection-eq-DEVICE_WITH_LINK-clause-up
-returns-then-detection-eq-DEVICE_WITH_LINK-clause-up g c = λ _. device_up _ _ _ _ _ _ c.loop-reading.invariant c.read.ensures (omega arith)
+returns-then-detection-eq-DEVICE_WITH_LINK-clause-up g c = λ _. device_up c.laws_hold.ensures _ _ _ _ _ _ c.loop-reading.invariant c.read.ensures (omega arith)
 
 pub returns-then-detection-eq-DEVICE_WITH_LINK-clause-sees : goal.returns-then-detection-eq-DEVICE_WITH_LINK-clause-sees
-returns-then-detection-eq-DEVICE_WITH_LINK-clause-sees g c = λ _. sees_device _ _ _ _ _ _ c.loop-reading.invariant c.read.ensures (omega arith) (omega arith)
+returns-then-detection-eq-DEVICE_WITH_LINK-clause-sees g c = λ _. sees_device c.laws_hold.ensures _ _ _ _ _ _ c.loop-reading.invariant c.read.ensures (omega arith) (omega arith)
 
 pub loop-reading-preserved : goal.loop-reading-preserved
-loop-reading-preserved g c = missing_still _ _ _ _ _ _ c.loop-reading.invariant c.read.ensures (omega arith) (λ three. absurd (omega arith))
+loop-reading-preserved g c = missing_still c.laws_hold.ensures _ _ _ _ _ _ c.loop-reading.invariant c.read.ensures (omega arith) (λ three. absurd (omega arith))
 
 pub returns-clause-misses : goal.returns-clause-misses
 returns-clause-misses g c = λ _.

@@ -1,35 +1,35 @@
 use Rattle.std.proofs.Common.{ℕ, ◌≡◌, sym, ◌∙◌, subst, arith}
 use Rattle.hba_regs.specs.declared.reg.PortReg.TheVariants.{Tfd}
-use Rattle.agreement.specs.Driven.{AnyUse, IsControl}
-use Rattle.agreement.proofs.Driven.{followed_none}
 use Rattle.port_control.proofs.Looking.{busy_followed, busy_saw, busy_waits, busy_quiet, idle_seen, busy_still, without_none}
-use Rattle.port_control.specs.Ports.{IsClearing, ShowsIdle, ReadsWithout}
+use Rattle.port_control.specs.Ports.{ShowsIdle, ReadsWithout}
 use Rattle.port_control.proofs.wait_until_idle.Goals as goal
+use Rattle.port_control.specs.Laws.RegisterSet.{Clearing}
+use Rattle.port_control.specs.Laws.Stretch.{Controlling}
 
 pub loop-reading-init : goal.loop-reading-init
 loop-reading-init g c = record {
-  followed = followed_none (IsControl IsClearing c.args.port) AnyUse _;
+  followed = c.laws_hold.ensures.none (Controlling Clearing c.args.port) _;
   usable = c.requires.usable;
   det = c.requires.det;
   saw = c.requires.saw;
   low = omega arith;
   high = λ h. absurd (omega (arith, h));
-  stays = without_none c.args.port Tfd ShowsIdle _;
+  stays = without_none c.laws_hold.ensures c.args.port Tfd ShowsIdle _;
   awaits = λ h. h;
   quiet = λ h. absurd (omega (arith, h));
 }
 
 pub returns-then-not-is_occupied-clause-followed : goal.returns-then-not-is_occupied-clause-followed
-returns-then-not-is_occupied-clause-followed g c = busy_followed _ _ _ _ _ _ c.loop-reading.invariant c.read.ensures
+returns-then-not-is_occupied-clause-followed g c = busy_followed c.laws_hold.ensures _ _ _ _ _ _ c.loop-reading.invariant c.read.ensures
 
 pub returns-then-not-is_occupied-clause-saw : goal.returns-then-not-is_occupied-clause-saw
-returns-then-not-is_occupied-clause-saw g c = busy_saw _ _ _ _ _ _ c.loop-reading.invariant c.read.ensures
+returns-then-not-is_occupied-clause-saw g c = busy_saw c.laws_hold.ensures _ _ _ _ _ _ c.loop-reading.invariant c.read.ensures
 
 pub returns-then-not-is_occupied-clause-idle : goal.returns-then-not-is_occupied-clause-idle
-returns-then-not-is_occupied-clause-idle g c = λ _. idle_seen _ _ _ _ _ _ c.loop-reading.invariant c.read.ensures (sym c.is_occupied.ensures ∙ c.if-not-is_occupied.true)
+returns-then-not-is_occupied-clause-idle g c = λ _. idle_seen c.laws_hold.ensures _ _ _ _ _ _ c.loop-reading.invariant c.read.ensures (sym c.is_occupied.ensures ∙ c.if-not-is_occupied.true)
 
 pub returns-then-not-is_occupied-clause-waits : goal.returns-then-not-is_occupied-clause-waits
-returns-then-not-is_occupied-clause-waits g c = λ _. busy_waits _ _ _ _ _ _ c.loop-reading.invariant c.read.ensures (omega arith) (sym c.is_occupied.ensures ∙ c.if-not-is_occupied.true)
+returns-then-not-is_occupied-clause-waits g c = λ _. busy_waits c.laws_hold.ensures _ _ _ _ _ _ c.loop-reading.invariant c.read.ensures (omega arith) (sym c.is_occupied.ensures ∙ c.if-not-is_occupied.true)
 
 pub returns-clause-stays : goal.returns-clause-stays
 returns-clause-stays g c = λ _.
@@ -37,7 +37,7 @@ returns-clause-stays g c = λ _.
     subst (λ (n : ℕ). ReadsWithout c.args.port Tfd ShowsIdle n (g.A.Adapter.device c.args.adapter.now) (g.A.Adapter.device c.loop-reading.adapter)) all c.loop-reading.invariant.stays
 
 pub returns-then-not-is_occupied-clause-quiet : goal.returns-then-not-is_occupied-clause-quiet
-returns-then-not-is_occupied-clause-quiet g c = λ awaited unflagged. busy_quiet _ _ _ _ _ _ c.loop-reading.invariant c.read.ensures (awaited, unflagged)
+returns-then-not-is_occupied-clause-quiet g c = λ awaited unflagged. busy_quiet c.laws_hold.ensures _ _ _ _ _ _ c.loop-reading.invariant c.read.ensures (awaited, unflagged)
 
 pub loop-reading-preserved : goal.loop-reading-preserved
-loop-reading-preserved g c = busy_still _ _ _ _ _ _ c.loop-reading.invariant c.read.ensures (omega arith) (sym c.is_occupied.ensures ∙ c.if-not-is_occupied.false)
+loop-reading-preserved g c = busy_still c.laws_hold.ensures _ _ _ _ _ _ c.loop-reading.invariant c.read.ensures (omega arith) (sym c.is_occupied.ensures ∙ c.if-not-is_occupied.false)

@@ -1,4 +1,4 @@
-use Rattle.adapter.proofs.Calls.{driven_none, driven_one, driven_then}
+use Rattle.adapter.proofs.Calls.{does_append, driven_none, driven_one, driven_then}
 use Rattle.adapter.proofs.laws.accesses_compose.Goals as goal
 
 pub returns-clause-none : goal.returns-clause-none
@@ -9,3 +9,6 @@ returns-clause-one c = driven_one
 
 pub returns-clause-more : goal.returns-clause-more
 returns-clause-more c = λ old mid new a b. driven_then a b
+
+pub returns-clause-all : goal.returns-clause-all
+returns-clause-all c = does_append

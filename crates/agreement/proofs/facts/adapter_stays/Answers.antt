@@ -1,4 +1,5 @@
-use Rattle.agreement.proofs.Lasting.{access_same, access_on}
+use Rattle.agreement.proofs.Lasting.{access_same, access_on, same_more, same_refl}
+use Rattle.agreement.proofs.Controlled.{on_all}
 use Rattle.agreement.proofs.facts.adapter_stays.Goals as goal
 
 pub returns-clause-same : goal.returns-clause-same
@@ -6,3 +7,12 @@ returns-clause-same c = access_same
 
 pub returns-clause-on : goal.returns-clause-on
 returns-clause-on c = access_on
+
+pub returns-clause-on_all : goal.returns-clause-on_all
+returns-clause-on_all c = on_all
+
+pub returns-clause-same_none : goal.returns-clause-same_none
+returns-clause-same_none c = same_refl
+
+pub returns-clause-same_more : goal.returns-clause-same_more
+returns-clause-same_more c = same_more

@@ -1,4 +1,5 @@
 use Rattle.agreement.proofs.Erring.{steps_change, access_change, steps_undue, access_undue}
+use Rattle.agreement.proofs.Erring.{change_more, change_none}
 use Rattle.agreement.proofs.facts.errors_rise_by_disks.Goals as goal
 
 pub returns-clause-steps : goal.returns-clause-steps
@@ -12,3 +13,9 @@ returns-clause-due c = steps_undue
 
 pub returns-clause-due_access : goal.returns-clause-due_access
 returns-clause-due_access c = access_undue
+
+pub returns-clause-none : goal.returns-clause-none
+returns-clause-none c = change_none
+
+pub returns-clause-more : goal.returns-clause-more
+returns-clause-more c = change_more

@@ -2,6 +2,7 @@ use Rattle.agreement.proofs.Allowing.{record_stays}
 use Rattle.agreement.proofs.Recording.{steps_recorded, stopped_recorded}
 use Rattle.agreement.proofs.Rewriting.{issues_recorded, reads_recorded, writes_recorded}
 use Rattle.agreement.proofs.Witnesses.{first_recorded, first_failed}
+use Rattle.agreement.proofs.Sustaining.{access_recorded}
 use Rattle.agreement.proofs.facts.faults_are_recorded.Goals as goal
 
 pub returns-clause-steps : goal.returns-clause-steps
@@ -27,3 +28,6 @@ returns-clause-asked c = record_stays
 
 pub returns-clause-issues : goal.returns-clause-issues
 returns-clause-issues c = issues_recorded
+
+pub returns-clause-access : goal.returns-clause-access
+returns-clause-access c = access_recorded

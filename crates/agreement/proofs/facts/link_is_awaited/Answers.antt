@@ -1,5 +1,6 @@
 use Rattle.agreement.proofs.Resetting.{reset_awaits, undue_awaited, first_awaited}
 use Rattle.agreement.proofs.Awaiting.{comreset_begins, steps_awaited, reads_awaited, writes_awaited}
+use Rattle.agreement.proofs.Sustaining.{access_awaited}
 use Rattle.agreement.proofs.facts.link_is_awaited.Goals as goal
 
 pub returns-clause-begins : goal.returns-clause-begins
@@ -22,3 +23,6 @@ returns-clause-undue c = undue_awaited
 
 pub returns-clause-runs : goal.returns-clause-runs
 returns-clause-runs c = first_awaited
+
+pub returns-clause-access : goal.returns-clause-access
+returns-clause-access c = access_awaited

@@ -6,4 +6,4 @@ pub returns-clause-of : goal.returns-clause-of
 returns-clause-of c = asking_is_of
 
 pub returns-clause-leaves : goal.returns-clause-leaves
-returns-clause-leaves c = asking_leaves_running
+returns-clause-leaves c = asking_leaves_running c.laws_hold.ensures

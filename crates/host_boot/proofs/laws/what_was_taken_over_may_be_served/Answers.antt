@@ -10,10 +10,10 @@ pub returns-clause-ready : goal.returns-clause-ready
 returns-clause-ready c = λ wanted host port info old new taken. taken_ready wanted host port old new taken info
 
 pub returns-clause-well : goal.returns-clause-well
-returns-clause-well c = λ wanted host port info old new idle taken. taken_runs wanted host port old new taken info idle
+returns-clause-well c = λ wanted host port info old new idle taken. taken_runs c.laws_hold.ensures wanted host port old new taken info idle
 
 pub returns-clause-recorded : goal.returns-clause-recorded
-returns-clause-recorded c = λ wanted host port info old new idle taken. taken_faults wanted host port old new taken info idle
+returns-clause-recorded c = λ wanted host port info old new idle taken. taken_faults c.laws_hold.ensures wanted host port old new taken info idle
 
 pub returns-clause-shown : goal.returns-clause-shown
-returns-clause-shown c = λ wanted host port state old new idle taken bad is. taken_shown c.device_or_none_stays.ensures.access c.none_comes_in.ensures.shown (port_at port) state host.ports old new idle bad is taken.way
+returns-clause-shown c = λ wanted host port state old new idle taken bad is. taken_shown c.laws_hold.ensures (port_at port) state host.ports old new idle bad is taken.way

@@ -6,7 +6,6 @@ use Rattle.block_machine.specs.Rules.{DifferInName}
 use Rattle.dma_frames.specs.Table.{AreApart}
 use Rattle.grants.specs.Rows.{SameRows}
 use Rattle.block_server.specs.Made.{transfer_row}
-use Rattle.server_history.proofs.Beginning.{new_server}
 use Rattle.server_history.specs.Server.{Server}
 use Rattle.block_server.proofs.Making.{named_apart, new_fits}
 use Rattle.block_server.proofs.server.Server.new.Goals as goal
@@ -26,7 +25,7 @@ invariant_of-result g c =
     let s : Server = record { device = device c.take_over.new.adapter; grants = c.in-Ok-from_rows.grants; table = c.in-Ok-boxed.table.value; wanted = c.wanted.result.now; ports = c.take_over.result.ports; slots = c.unused_slots.result; book = c.in-Ok-new.book; last = 0 } in
     let rows_are : c.as_slice.result.now ≡ map transfer_row plan.grants = c.as_slice.ensures.value ∙ c.transfer_rows.ensures ∙ ap (map transfer_row) c.grants.ensures.grants in
     let room : 4096 * plan.frames ≤ s.device.size = let f = c.in-Ok.ensures.made.frames in let r = c.requires.ready.room c.in-Ok.ensures.sound in let z = c.take_over.ensures.taken.same.size in omega (arith, f, r, z) in
-    (new_server s c.take_over.result (device c.args.adapter) c.requires.ready.idle (g.met.A.Adapter.tells c.args.adapter) c.take_over.ensures.taken
+    (c.a_new_server_has_begun.ensures s c.take_over.result (device c.args.adapter) c.requires.ready.idle (g.met.A.Adapter.tells c.args.adapter) c.take_over.ensures.taken
     (new_fits s c.take_over.result plan c.in-Ok.ensures.fits (subst (λ (rows : List GrantRow). SameRows rows c.in-Ok-from_rows.grants) rows_are c.in-Ok-from_rows.ensures.rows)
     (rw c.owners.ensures.owners at c.in-Ok-boxed.ensures.only) room c.in-Ok-from_rows.ensures.names c.in-Ok-from_rows.ensures.few c.in-Ok-boxed.ensures.free refl c.take_over.ensures.four (search rules) c.unused_slots.ensures.places c.unused_slots.ensures.usable c.unused_slots.ensures.unused c.in-Ok-new.ensures refl)).0
 
@@ -38,7 +37,7 @@ returns-clause-made g c =
     let rows_are : c.as_slice.result.now ≡ map transfer_row plan.grants = c.as_slice.ensures.value ∙ c.transfer_rows.ensures ∙ ap (map transfer_row) c.grants.ensures.grants in
     let rows = subst (λ (rows : List GrantRow). SameRows rows c.in-Ok-from_rows.grants) rows_are c.in-Ok-from_rows.ensures.rows in
     let room : 4096 * plan.frames ≤ s.device.size = let f = c.in-Ok.ensures.made.frames in let r = c.requires.ready.room c.in-Ok.ensures.sound in let z = c.take_over.ensures.taken.same.size in omega (arith, f, r, z) in
-    let begun = new_server s c.take_over.result (device c.args.adapter) c.requires.ready.idle (g.met.A.Adapter.tells c.args.adapter) c.take_over.ensures.taken
+    let begun = c.a_new_server_has_begun.ensures s c.take_over.result (device c.args.adapter) c.requires.ready.idle (g.met.A.Adapter.tells c.args.adapter) c.take_over.ensures.taken
     (new_fits s c.take_over.result plan c.in-Ok.ensures.fits rows
     (rw c.owners.ensures.owners at c.in-Ok-boxed.ensures.only) room c.in-Ok-from_rows.ensures.names c.in-Ok-from_rows.ensures.few c.in-Ok-boxed.ensures.free refl c.take_over.ensures.four (search rules) c.unused_slots.ensures.places c.unused_slots.ensures.usable c.unused_slots.ensures.unused c.in-Ok-new.ensures refl) in
     record {

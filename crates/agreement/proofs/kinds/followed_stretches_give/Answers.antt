@@ -1,0 +1,10 @@
+use Rattle.agreement.proofs.Controlled.{agreed_to}
+use Rattle.agreement.proofs.Driven.{followed_silent}
+use Rattle.agreement.proofs.kinds.followed_stretches_give.Goals as goal
+
+pub returns-clause-agreed : goal.returns-clause-agreed
+returns-clause-agreed g c = λ kind. agreed_to (g.K.Kinds.may kind) (g.K.Kinds.fits kind)
+
+pub returns-clause-silent : goal.returns-clause-silent
+returns-clause-silent g c = λ kind next uses port o old new fits issues arms own none followed a.
+    followed_silent followed uses a.parked a.machine fits a.reached a.knows port o own issues arms none

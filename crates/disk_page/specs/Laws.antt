@@ -1,0 +1,89 @@
+-- What laws of the crates below say of accesses, with the kinds of accesses of this crate: its proofs rest on them.
+use Rattle.std.specs.Prelude.{ℕ, true, false, ◌≡◌, ◌≢◌, ◌+◌, ◌≤◌, ◌<◌, ◌++◌, List, [], ◌∷◌, length}
+use Rattle.ata_types.specs.declared.Port.{Port}
+use Rattle.adapter.specs.Access.{Access, Does, Loads, Reads, Writes}
+use Rattle.agreement.specs.Agrees.{Agrees}
+use Rattle.agreement.specs.Driven.{AnyAccess, AnyUse, IsAgreed, IsDrivenBy, IsFollowed, IsFollowedTo, IsOf, IsTold, IsToldTo, LeavesPort, NoneWrites}
+use Rattle.agreement.specs.Awaits.{AwaitsPage}
+use Rattle.agreement.specs.Slots.{Brought, Free, IsOver, Own, Uses, put}
+use Rattle.hba_regs.specs.declared.reg.PortReg.TheVariants.{Ci, Sact}
+use Rattle.agreement.specs.Started.{ClearsNoStart}
+use Rattle.adapter.specs.Device.{Device, PortState}
+use Rattle.adapter.specs.declared.tape.Entry.{Entry}
+use Rattle.agreement.specs.Facts.{FindsPage, IsClear, IsRecorded}
+use Rattle.hba_regs.specs.declared.reg.Reg.TheVariants.{Ghc, Px}
+use Rattle.adapter.specs.Rules.{HasPort, IsFree, IsOn, MayWrite, Stays}
+use Rattle.disk_page.specs.Asking.{IsAsking}
+use Rattle.agreement.specs.Driver.{IsOwnPrepared}
+use Rattle.block_machine.specs.Histories.{IsReached}
+use Rattle.command_table.specs.Written.{IsTableStore, IsUnused}
+use Rattle.adapter.specs.Kept.{Keeps, KeepsControls}
+use Rattle.adapter.specs.Access.Access.{Loading, Reading, Writing}
+use Rattle.block_machine.specs.State.{Machine}
+use Rattle.adapter.specs.declared.command.Operation.{Operation}
+use Rattle.hba_regs.specs.declared.reg.PortReg.{PortReg}
+use Rattle.adapter.specs.Seen.{PutAt, SeenAt}
+use Rattle.hba_regs.specs.declared.reg.Reg.{Reg}
+use Rattle.agreement.specs.Links.{SameAdapter, SparesRegister}
+use Rattle.adapter.specs.Steps.{Steps}
+use Rattle.hba_regs.specs.Bits.{bit}
+use Rattle.agreement.specs.Places.{scratch_of}
+
+-- ---- kinds of accesses
+
+-- A page is asked for in slot 0, which isn't used; or it is awaited and loaded, whatever the slots are used for; or header and table of slot 0
+-- are stored first.
+pub data Stretch : Type 0 where
+  Asking : Port → Stretch
+  Awaiting : Port → Stretch
+  Storing : Port → Stretch
+
+abbrev pub may_of : Stretch → Access → Type 0
+may_of (Asking port) = IsAsking port
+may_of (Awaiting port) = IsAsking port
+may_of (Storing port) = IsTableStore port.0 0
+
+abbrev pub fits_of : Stretch → Uses → Type 0
+fits_of (Asking port) = IsUnused port.0 0
+fits_of (Awaiting port) = AnyUse
+fits_of (Storing port) = IsUnused port.0 0
+
+-- ---- laws
+
+pub record Laws : Type 0 where
+  -- accesses
+  pub seen_at : (port : Port) (r : PortReg) (v : ℕ) (old new : Device) → Reads (Px port r) v old new → old.hr ≡ false → SeenAt port.0 r v old new
+  pub put_at : (port : Port) (r : PortReg) (v : ℕ) (old new : Device) → Writes (Px port r) v old new → old.hr ≡ false → PutAt port.0 r v old new
+  pub steps_keep : (old new : Device) → Steps old new → Keeps old new
+  pub controls_none : (p : PortState) → KeepsControls p p
+  pub controls_more : (old mid new : PortState) → KeepsControls old mid → KeepsControls mid new → KeepsControls old new
+  pub access_on : (access : Access) (old new : Device) → IsOn old → ((v : ℕ) → access ≡ Writing Ghc v → (bit v 31 ≡ true) × (bit v 0 ≡ false)) → Does access old new → IsOn new
+  pub access_same : (access : Access) (old new : Device) → Does access old new → SameAdapter old new
+  pub access_clear : (port : Port) (slot : ℕ) (access : Access) (old new : Device) → ((v : ℕ) → access ≡ Writing (Px port Ci) v → bit v slot ≡ false) → ((v : ℕ) → access ≡ Writing (Px port Sact) v → bit v slot ≡ false) → Does access old new → IsClear (old.port port.0) slot → IsClear (new.port port.0) slot
+  pub steps_recorded : (port : ℕ) (old new : Device) → Steps old new → IsRecorded old.tape (old.port port) port → IsRecorded new.tape (new.port port) port
+  pub reads_recorded : (port : ℕ) (r : Reg) (v : ℕ) (old new : Device) → Reads r v old new → IsRecorded old.tape (old.port port) port → IsRecorded new.tape (new.port port) port
+  pub issues_recorded : (port : ℕ) (at : Port) (v : ℕ) (old new : Device) → Writes (Px at Ci) v old new → IsRecorded old.tape (old.port port) port → IsRecorded new.tape (new.port port) port
+  -- stores
+  pub stores_any : (port : Port) (at slot : ℕ) (access : Access) → IsTableStore at slot access → IsOf port access
+  pub stores_spare : (port slot : ℕ) (r : Reg) → NoneWrites (IsTableStore port slot) r
+  pub left : (port : Port) (q : ℕ) (old new : Device) → q ≢ port.0 → IsOn old → IsDrivenBy (IsOf port) old new → LeavesPort (old.port q) (new.port q)
+  pub same_over : (old new : Device) → IsDrivenBy AnyAccess old new → SameAdapter old new
+  pub tape_over : (old new : Device) → IsDrivenBy AnyAccess old new → (gained : List Entry) × (new.tape ≡ old.tape ++ gained)
+  pub of_spares_ghc : (port : Port) (access : Access) → IsOf port access → SparesRegister Ghc access
+  -- the page
+  pub own_is_permitted : (uses : Uses) (m : Machine) (d : Device) → IsReached m → Agrees uses m d → (port : Port) (o : Operation) (v : ℕ) → IsOn d → HasPort d port.0 → IsOwnPrepared uses d port.0 o v → Stays (MayWrite (Px port Ci) v) d
+  pub page_is_issued : (uses : Uses) (m : Machine) (port : Port) (o : Operation) (v : ℕ) (old new : Device) → IsReached m → Agrees uses m old → old.hr ≡ false → IsOwnPrepared uses old port.0 o v → Writes (Px port Ci) v old new → AwaitsPage (put uses port.0 0 (Own o)) port.0 o (length new.tape) new
+  pub access_waits : (uses : Uses) (m : Machine) (port : Port) (o : Operation) (since : ℕ) (access : Access) (old new : Device) → IsReached m → Agrees uses m old → ClearsNoStart port access → new.hr ≡ false → Does access old new → AwaitsPage uses port.0 o since old → AwaitsPage uses port.0 o since new
+  pub page_is_found : (uses : Uses) (m : Machine) (port : Port) (o : Operation) (since v : ℕ) (old new : Device) → IsReached m → Agrees uses m old → AwaitsPage uses port.0 o since old → Reads (Px port Ci) v old new → bit v 0 ≡ false → FindsPage uses m port.0 o old new × Brought new.memory new.tape port.0 o since
+  pub awaited_is_loaded : (uses : Uses) (m : Machine) (port : ℕ) (o : Operation) (since : ℕ) (bytes : List ℕ) (old new : Device) → IsReached m → Agrees uses m old → AwaitsPage uses port o since old → IsOver (old.port port) 0 → Loads (scratch_of port) bytes old new → length bytes ≡ 512 → (b : Brought new.memory new.tape port o since) × (bytes ≡ b.move.bytes.value)
+  pub page_is_free : (uses : Uses) (m : Machine) (d : Device) → IsReached m → Agrees uses m d → (port : ℕ) → port < 4 → scratch_of port + 512 ≤ d.size → IsOver (d.port port) 0 → Stays (IsFree (scratch_of port) 512) d
+  pub agrees_released : (uses : Uses) (port : ℕ) (o : Operation) (d : Device) → uses port 0 ≡ Free → IsOver (d.port port) 0 → IsAgreed (put uses port 0 (Own o)) d → IsAgreed uses d
+  -- this crate's kinds of accesses
+  pub none : (kind : Stretch) (d : Device) → IsFollowed (may_of kind) (fits_of kind) d d
+  pub reads : (kind : Stretch) (r : Reg) (v : ℕ) (old new : Device) → may_of kind (Reading r v) → Reads r v old new → IsTold (λ made. made ≡ Reading r v ∷ []) (may_of kind) (fits_of kind) old new
+  pub loads : (kind : Stretch) (at : ℕ) (bytes : List ℕ) (old new : Device) → may_of kind (Loading at bytes) → Loads at bytes old new → IsTold (λ made. made ≡ Loading at bytes ∷ []) (may_of kind) (fits_of kind) old new
+  pub asks : (kind : Stretch) (port : Port) (o : Operation) (v : ℕ) (old new : Device) → may_of kind (Writing (Px port Ci) v) → old.hr ≡ false → ((uses : Uses) → fits_of kind uses → IsOwnPrepared uses old port.0 o v) → Writes (Px port Ci) v old new → IsFollowedTo (may_of kind) (fits_of kind) (λ uses. put uses port.0 0 (Own o)) old new
+  pub both : (kind then : Stretch) (first second : Uses → Uses) → ((access : Access) → may_of then access → may_of kind access) → ((uses : Uses) → fits_of kind uses → fits_of then (first uses)) → (old mid new : Device) → (a : IsFollowedTo (may_of kind) (fits_of kind) first old mid) → (b : IsFollowedTo (may_of then) (fits_of then) second mid new) → IsToldTo (λ made. made ≡ a.driven.accesses ++ b.driven.accesses) (may_of kind) (fits_of kind) (λ uses. second (first uses)) old new
+  pub wider : (kind more : Stretch) (next : Uses → Uses) → ((access : Access) → may_of kind access → may_of more access) → ((uses : Uses) → fits_of more uses → fits_of kind uses) → (old new : Device) → (a : IsFollowedTo (may_of kind) (fits_of kind) next old new) → IsToldTo (λ made. made ≡ a.driven.accesses) (may_of more) (fits_of more) next old new
+  pub over : (kind : Stretch) (port : Port) (o : Operation) (v : ℕ) (old new : Device) → may_of kind (Writing (Px port Ci) v) → ((uses : Uses) → fits_of kind uses → uses port.0 0 ≡ Free) → IsOver (new.port port.0) 0 → (a : IsFollowedTo (may_of kind) (fits_of kind) (λ uses. put uses port.0 0 (Own o)) old new) → IsTold (λ made. made ≡ a.driven.accesses) (may_of kind) (fits_of kind) old new
+  pub agreed : (kind : Stretch) (next : Uses → Uses) (uses : Uses) (old new : Device) → fits_of kind uses → IsFollowedTo (may_of kind) (fits_of kind) next old new → IsAgreed uses old → IsAgreed (next uses) new

@@ -1,0 +1,83 @@
+-- Stretches of this crate's kinds: one after another, of wider kinds, and what they leave.
+use Rattle.std.proofs.Common.{ℕ, ◌++◌, List, [], ◌∷◌, refl, sym, subst}
+use Rattle.std.proofs.lemmas.List.Elements.{All-append, All-cons, All-nil, All-weaker}
+use Rattle.ata_types.specs.declared.Port.{Port}
+use Rattle.hba_regs.specs.declared.reg.Reg.TheVariants.{Ghc}
+use Rattle.adapter.specs.Access.{Access, Does}
+use Rattle.adapter.specs.Device.{Device}
+use Rattle.adapter.specs.Rules.{IsOn}
+use Rattle.agreement.specs.Driven.{AnyAccess, Grows, IsControl, IsDrivenBy, IsOf, IsToldTo, NoneWrites}
+use Rattle.agreement.specs.Facts.{Undisturbed}
+use Rattle.agreement.specs.Links.{SameAdapter, SparesRegister}
+use Rattle.agreement.specs.Slots.{Uses}
+use Rattle.port_control.specs.Ports.{IsPlacing, WritesCommand}
+use Rattle.host_boot.specs.Laws.{Laws, Stretch, fits_of, may_of}
+
+-- ---- accesses of one kind
+
+pub by_none : (May : Access → Type 0) (d : Device) → IsDrivenBy May d d
+by_none May d = record { accesses = []; all = refl; only = All-nil May }
+
+pub by_one : (May : Access → Type 0) (access : Access) (old new : Device) → May access → Does access old new → IsDrivenBy May old new
+by_one May access old new may does = record { accesses = access ∷ []; all = (new, does, refl); only = All-cons May access [] may (All-nil May) }
+
+-- that are of another kind, too
+pub driven_as : (May More : Access → Type 0) (old new : Device) → ((access : Access) → May access → More access) → IsDrivenBy May old new → IsDrivenBy More old new
+driven_as May More old new kind a = record { accesses = a.accesses; all = a.all; only = All-weaker May More kind a.accesses a.only }
+
+-- more is told of a list
+pub told_more : (Tells More : List Access → Type 0) (May : Access → Type 0) (Fits : Uses → Type 0) (next : Uses → Uses) (old new : Device) → ((accesses : List Access) → Tells accesses → More accesses) →
+    IsToldTo Tells May Fits next old new → IsToldTo More May Fits next old new
+told_more Tells More May Fits next old new more a = record { followed = a.followed; tells = more a.followed.driven.accesses a.tells }
+
+module _ (laws : Laws) where
+  -- one after another
+  pub by_then : {May : Access → Type 0} {old mid new : Device} → IsDrivenBy May old mid → IsDrivenBy May mid new → IsDrivenBy May old new
+  by_then {May} {old} {mid} {new} a b = record {
+    accesses = a.accesses ++ b.accesses;
+    all = laws.does_append a.accesses b.accesses old mid new a.all b.all;
+    only = All-append May a.accesses b.accesses a.only b.only;
+  }
+
+  -- ---- what accesses of any kind leave
+
+  module _ (May : Access → Type 0) (old new : Device) (driven : IsDrivenBy May old new) where
+    any : IsDrivenBy AnyAccess old new
+    any = driven_as May AnyAccess old new (λ access may. tt) driven
+
+    pub same_over : SameAdapter old new
+    same_over = laws.same_any old new any
+
+    pub tape_over : Grows old new
+    tape_over = laws.tape_any old new any
+
+    pub on_over : NoneWrites May Ghc → IsOn old → IsOn new
+    on_over spares on = laws.on_all driven.accesses old new on (All-weaker May (SparesRegister Ghc) spares driven.accesses driven.only) driven.all
+
+  pub calm_in_parts : (port : ℕ) (old mid new : Device) → Grows old mid → Grows mid new → Undisturbed port old new → Undisturbed port old mid × Undisturbed port mid new
+  calm_in_parts port old mid new early late calm = laws.undisturbed_parts port old mid new early.0 late.0 early.1 late.1 calm
+
+  -- those that stop a port, or put its areas into their places, are of the port
+  pub stop_driven : (port : Port) (old new : Device) → IsDrivenBy (IsControl WritesCommand port) old new → IsDrivenBy (IsOf port) old new
+  stop_driven port old new = driven_as (IsControl WritesCommand port) (IsOf port) old new (λ access is. (laws.commanding port access is).0)
+
+  pub placing_driven : (port : Port) (old new : Device) → IsDrivenBy (IsControl IsPlacing port) old new → IsDrivenBy (IsOf port) old new
+  placing_driven port old new = driven_as (IsControl IsPlacing port) (IsOf port) old new (λ access is. (laws.placing port access is).0)
+
+  -- ---- stretches that are followed
+
+  -- what is told of a stretch, also where it is of a wider kind
+  pub told_wider : (Tells : List Access → Type 0) (kind more : Stretch) (next : Uses → Uses) (old new : Device) → ((access : Access) → may_of kind access → may_of more access) →
+      ((uses : Uses) → fits_of more uses → fits_of kind uses) → IsToldTo Tells (may_of kind) (fits_of kind) next old new → IsToldTo Tells (may_of more) (fits_of more) next old new
+  told_wider Tells kind more next old new wider fits a =
+      let f = laws.wider kind more next wider fits old new a.followed in
+      record { followed = f.followed; tells = subst Tells (sym f.tells) a.tells }
+
+  -- of two, one after another
+  module _ (First Second Tells : List Access → Type 0) (join : (early late : List Access) → First early → Second late → Tells (early ++ late)) where
+    pub told_both : (kind then : Stretch) (first second : Uses → Uses) → ((access : Access) → may_of then access → may_of kind access) → ((uses : Uses) → fits_of kind uses → fits_of then (first uses)) →
+        (old mid new : Device) → IsToldTo First (may_of kind) (fits_of kind) first old mid → IsToldTo Second (may_of then) (fits_of then) second mid new →
+        IsToldTo Tells (may_of kind) (fits_of kind) (λ uses. second (first uses)) old new
+    told_both kind then first second wider on old mid new a b =
+        let f = laws.both kind then first second wider on old mid new a.followed b.followed in
+        record { followed = f.followed; tells = subst Tells (sym f.tells) (join a.followed.driven.accesses b.followed.driven.accesses a.tells b.tells) }

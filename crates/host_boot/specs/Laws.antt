@@ -1,0 +1,120 @@
+-- What laws of the crates below say of accesses, with the kinds of accesses of this crate: its proofs rest on them.
+use Rattle.std.specs.Prelude.{ℕ, true, false, ◌≡◌, ◌≢◌, ◌%◌, ◌++◌, List, [], ◌∷◌, None, All, Option}
+use Rattle.ata_types.specs.declared.Port.{Port}
+use Rattle.ata_types.specs.declared.PortState.{PortState as ShownState}
+use Rattle.adapter.specs.Access.{Access, Does, DoesAll, Reads, Writes}
+use Rattle.agreement.specs.Driver.{AllFree, LeavesUses}
+use Rattle.agreement.specs.Driven.{AnyAccess, AnyUse, Grows, IsAgreed, IsControl, IsDrivenBy, IsFollowedTo, IsOf, IsTold, IsToldTo, IsUse, LeavesPort, NoneWrites, SendsNone}
+use Rattle.hba_regs.specs.declared.reg.PortReg.TheVariants.{Ci, Cmd, Sact, Sctl, Ssts}
+use Rattle.ata_types.specs.declared.PortState.TheVariants.{Dead}
+use Rattle.adapter.specs.Device.{Device, PortState}
+use Rattle.identify.specs.declared.DiskInfo.{DiskInfo}
+use Rattle.port_boot.specs.States.{EndsAs, HasFitDisk, IsBootTo, IsOfBoot, IsReady, RunsOn, StopsOnWay}
+use Rattle.adapter.specs.declared.tape.Entry.{Entry}
+use Rattle.port_control.specs.Engines.{FailsToStop, Falls, Sticks, StopsBoth}
+use Rattle.agreement.specs.Slots.{Free, Own, Use, Uses, op_of, put}
+use Rattle.hba_regs.specs.declared.reg.Reg.TheVariants.{Ghc, Px}
+use Rattle.agreement.specs.Links.{HasDeviceOrNone, SameAdapter, SparesRegister}
+use Rattle.adapter.specs.declared.command.Operation.TheVariants.{Identify}
+use Rattle.adapter.specs.Idle.{IsIdle, TellsDisks}
+use Rattle.host_boot.specs.Taken.{IsOfHost, IsOfTaking}
+use Rattle.adapter.specs.Rules.{IsOn, MayWrite, Stays}
+use Rattle.port_control.specs.Ports.{IsPlacing, WritesCommand}
+use Rattle.adapter.specs.Kept.{Keeps}
+use Rattle.adapter.specs.declared.command.Operation.{Operation}
+use Rattle.hba_regs.specs.declared.reg.PortReg.{PortReg}
+use Rattle.adapter.specs.Access.Access.{Reading, Writing}
+use Rattle.hba_regs.specs.declared.reg.Reg.{Reg}
+use Rattle.agreement.specs.Facts.{RunsWell, Undisturbed}
+use Rattle.adapter.specs.Steps.{Steps}
+use Rattle.identify.specs.declared.wanted.Wanted.{Wanted}
+use Rattle.hba_regs.specs.Bits.{bit}
+
+-- ---- kinds of accesses
+
+-- the uses of slots that fit: any, with none of a port's slots used, or these alone
+pub data Fitting : Type 0 where
+  AnyUses : Fitting
+  PortUnused : Port → Fitting
+  Only : Uses → Fitting
+
+abbrev pub uses_of : Fitting → Uses → Type 0
+uses_of AnyUses = AnyUse
+uses_of (PortUnused port) = λ uses. AllFree uses port.0
+uses_of (Only uses) = IsUse uses
+
+-- a port is stopped, or booted, with none of its slots used; registers of the adapter's own are read and written; or all of these
+pub data Stretch : Type 0 where
+  Commanding : Port → Stretch
+  Booting : Port → Stretch
+  Hosting : Stretch
+  Taking : List Wanted → Fitting → Stretch
+
+abbrev pub may_of : Stretch → Access → Type 0
+may_of (Commanding port) = IsControl WritesCommand port
+may_of (Booting port) = IsOfBoot port
+may_of Hosting = IsOfHost
+may_of (Taking wanted fitting) = IsOfTaking wanted
+
+abbrev pub fits_of : Stretch → Uses → Type 0
+fits_of (Commanding port) = AnyUse
+fits_of (Booting port) = λ uses. AllFree uses port.0
+fits_of Hosting = AnyUse
+fits_of (Taking wanted fitting) = uses_of fitting
+
+-- ---- laws
+
+-- of what was found of a port: it goes on as long as the port isn't booted anew
+pub record FoundLaws : Type 0 where
+  pub disk_on : (wanted : Option (List ℕ)) (port : ℕ) (old new : Device) (info : DiskInfo) → SendsNone port Identify old new → (new.port port).sctl_det ≡ (old.port port).sctl_det → (new.port port).ie ≡ (old.port port).ie → (new.port port).notes.sctl_written_at ≡ (old.port port).notes.sctl_written_at → HasFitDisk wanted port old info → HasFitDisk wanted port new info
+  pub ready_on : (wanted : Option (List ℕ)) (port : ℕ) (old new : Device) (info : DiskInfo) → LeavesPort (old.port port) (new.port port) → SendsNone port Identify old new → IsReady wanted port old info → IsReady wanted port new info
+  pub ends_on : (wanted : Option (List ℕ)) (state : ShownState) (port : ℕ) (old new : Device) → LeavesPort (old.port port) (new.port port) → (state ≢ Dead → SendsNone port Identify old new) → EndsAs wanted state port old → EndsAs wanted state port new
+
+pub record Laws : Type 0 where
+  pub found : FoundLaws
+  -- one access
+  pub steps_keep : (old new : Device) → Steps old new → Keeps old new
+  pub access_on : (access : Access) (old new : Device) → IsOn old → ((v : ℕ) → access ≡ Writing Ghc v → (bit v 31 ≡ true) × (bit v 0 ≡ false)) → Does access old new → IsOn new
+  pub access_same : (access : Access) (old new : Device) → Does access old new → SameAdapter old new
+  pub access_grows : (access : Access) (old new : Device) → Does access old new → Grows old new
+  pub switches_on : (v : ℕ) (old new : Device) → old.hr ≡ false → bit v 31 ≡ true → bit v 0 ≡ false → Writes Ghc v old new → IsOn new
+  pub keeps_device : (port : Port) (access : Access) (old new : Device) → old.hr ≡ false → SparesRegister (Px port Sctl) access → Does access old new → HasDeviceOrNone (old.port port.0) → HasDeviceOrNone (new.port port.0)
+  pub shows_device : (port : Port) (v : ℕ) (old new : Device) → Reads (Px port Ssts) v old new → v % 16 ≡ 3 → HasDeviceOrNone (new.port port.0)
+  -- stretches
+  pub does_append : (early late : List Access) (old mid new : Device) → DoesAll early old mid → DoesAll late mid new → DoesAll (early ++ late) old new
+  pub grows_more : (old mid new : Device) → Grows old mid → Grows mid new → Grows old new
+  pub undisturbed_parts : (port : ℕ) (old mid new : Device) (early late : List Entry) → mid.tape ≡ old.tape ++ early → new.tape ≡ mid.tape ++ late → Undisturbed port old new → Undisturbed port old mid × Undisturbed port mid new
+  pub same_refl : (d : Device) → SameAdapter d d
+  pub same_more : (old mid new : Device) → SameAdapter old mid → SameAdapter mid new → SameAdapter old new
+  pub on_all : (accesses : List Access) (old new : Device) → IsOn old → All (SparesRegister Ghc) accesses → DoesAll accesses old new → IsOn new
+  pub left : (port : Port) (q : ℕ) (old new : Device) → q ≢ port.0 → IsOn old → IsDrivenBy (IsOf port) old new → LeavesPort (old.port q) (new.port q)
+  pub leaves_more : (old mid new : PortState) → LeavesPort old mid → LeavesPort mid new → LeavesPort old new
+  pub of_spares : (port q : Port) (r : PortReg) → q.0 ≢ port.0 → (access : Access) → IsOf port access → SparesRegister (Px q r) access
+  pub of_spares_ghc : (port : Port) (access : Access) → IsOf port access → SparesRegister Ghc access
+  pub same_any : (old new : Device) → IsDrivenBy AnyAccess old new → SameAdapter old new
+  pub tape_any : (old new : Device) → IsDrivenBy AnyAccess old new → (gained : List Entry) × (new.tape ≡ old.tape ++ gained)
+  pub idle_agrees : (d : Device) → IsIdle d → TellsDisks d → IsAgreed (λ port slot. Free) d
+  pub put_same : (uses : Uses) (port slot : ℕ) (u : Use) → put uses port slot u port slot ≡ u
+  pub put_other : (uses : Uses) (port slot : ℕ) (u : Use) (other_port other_slot : ℕ) → (other_port ≡ port → other_slot ≡ slot → ⊥) → put uses port slot u other_port other_slot ≡ uses other_port other_slot
+  -- a port
+  pub commanding : (port : Port) (access : Access) → IsControl WritesCommand port access → IsOf port access × SparesRegister (Px port Sctl) access
+  pub placing : (port : Port) (access : Access) → IsControl IsPlacing port access → IsOf port access × SparesRegister (Px port Sctl) access
+  pub failing_sticks : (port : Port) (accesses : List Access) → FailsToStop port accesses → Sticks port accesses
+  pub falls_then : (early late : List Access) (start running : ℕ) (port : Port) → Falls start running port early → Falls start running port (early ++ late)
+  pub falls_since : (early late : List Access) (start running : ℕ) (port : Port) → Falls start running port late → Falls start running port (early ++ late)
+  pub sticks_then : (early late : List Access) (port : Port) → Sticks port early → Sticks port (early ++ late)
+  pub sticks_since : (early late : List Access) (port : Port) → Sticks port late → Sticks port (early ++ late)
+  pub of_boot : (port : Port) (access : Access) → IsOfBoot port access → IsOf port access
+  pub boots_driven : (port : Port) (state : ShownState) (old new : Device) → IsBootTo (StopsOnWay port state) port state old new → IsDrivenBy (IsOfBoot port) old new
+  pub stops_driven : (port : Port) (state : ShownState) (old new : Device) → IsBootTo (StopsBoth port) port state old new → IsDrivenBy (IsOfBoot port) old new
+  pub command_of_boot : (port : Port) (access : Access) → IsControl WritesCommand port access → IsOfBoot port access
+  pub runs_over : (port : Port) (access : Access) (old new : Device) → IsOn old → SparesRegister (Px port Sctl) access → SparesRegister (Px port Cmd) access → Does access old new → RunsOn port.0 old new
+  pub runs_on : (port : Port) (accesses : List Access) (old new : Device) → IsOn old → DoesAll accesses old new → All (SparesRegister Ghc) accesses → All (SparesRegister (Px port Sctl)) accesses → All (SparesRegister (Px port Cmd)) accesses → RunsOn port.0 old new
+  pub well_on : (port : ℕ) (old new : Device) → RunsOn port old new → Undisturbed port old new → RunsWell (old.port port) → RunsWell (new.port port)
+  -- this crate's kinds of accesses
+  pub reads : (kind : Stretch) (r : Reg) (v : ℕ) (old new : Device) → may_of kind (Reading r v) → Reads r v old new → IsTold (λ made. made ≡ Reading r v ∷ []) (may_of kind) (fits_of kind) old new
+  pub writes : (kind : Stretch) (r : Reg) (v : ℕ) (old new : Device) → may_of kind (Writing r v) → Stays (MayWrite r v) old → ((uses : Uses) → fits_of kind uses → LeavesUses uses r v old) → Writes r v old new → IsTold (λ made. made ≡ Writing r v ∷ []) (may_of kind) (fits_of kind) old new
+  pub both : (kind then : Stretch) (first second : Uses → Uses) → ((access : Access) → may_of then access → may_of kind access) → ((uses : Uses) → fits_of kind uses → fits_of then (first uses)) → (old mid new : Device) → (a : IsFollowedTo (may_of kind) (fits_of kind) first old mid) → (b : IsFollowedTo (may_of then) (fits_of then) second mid new) → IsToldTo (λ made. made ≡ a.driven.accesses ++ b.driven.accesses) (may_of kind) (fits_of kind) (λ uses. second (first uses)) old new
+  pub wider : (kind more : Stretch) (next : Uses → Uses) → ((access : Access) → may_of kind access → may_of more access) → ((uses : Uses) → fits_of more uses → fits_of kind uses) → (old new : Device) → (a : IsFollowedTo (may_of kind) (fits_of kind) next old new) → IsToldTo (λ made. made ≡ a.driven.accesses) (may_of more) (fits_of more) next old new
+  pub agreed : (kind : Stretch) (next : Uses → Uses) (uses : Uses) (old new : Device) → fits_of kind uses → IsFollowedTo (may_of kind) (fits_of kind) next old new → IsAgreed uses old → IsAgreed (next uses) new
+  pub silent : (kind : Stretch) (next : Uses → Uses) (uses : Uses) (port : Port) (o : Operation) (old new : Device) → fits_of kind uses → NoneWrites (may_of kind) (Px port Ci) → NoneWrites (may_of kind) (Px port Sact) → op_of o ≡ None → (uses port.0 0 ≡ Own o → ⊥) → IsFollowedTo (may_of kind) (fits_of kind) next old new → IsAgreed uses old → SendsNone port.0 o old new
