@@ -8,10 +8,11 @@ pub returns : goal.returns
 returns c = λ o.
     let said = rw c.deref.ensures.value at c.in_ok-command.ensures.found in
     let kind = c.in_ok-command.ensures.kind in
+    let beside = λ (m : Media). subst (λ (k : Transfer). IsAlone (port_of (slice_index_or c.args.self.now.ports 0 blank) m) (operation_of k)) (sym kind) (c.is_alone.ensures.alone c.if-is_alone.true m) in
     finds (device_of c.args.self.now o) c.args.slot c.can_end.result
-    (λ e. identify_said c.args.self.now c.args.slot c.len.result c.len.ensures c.in_ok-command.command said.0 said.1 kind c.requires.may (c.can_end.ensures.ends e) o)
+    (λ e. identify_said c.args.self.now c.args.slot c.len.result c.len.ensures c.in_ok-command.command said.0 said.1 kind c.requires.may beside (c.can_end.ensures.ends e) o)
     (λ e. (
-      may_identify c.args.self.now c.args.slot c.in_ok-command.command said.1 kind c.requires.may o,
+      may_identify c.args.self.now c.args.slot c.in_ok-command.command said.1 kind c.requires.may beside o,
       identify_endless c.args.self.now c.args.slot c.len.result c.len.ensures c.in_ok-command.command said.0 said.1 c.requires.may (c.can_end.ensures.only e) o,
     ))
 
