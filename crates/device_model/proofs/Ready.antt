@@ -19,7 +19,7 @@ use Rattle.adapter.proofs.SaysLemmas.{says_meaning, says_places, cut_length, cut
 use Rattle.device_model.specs.Finishing.{HasIdentify, Identifies, IsInside, AreInside, IsCovered, MayFinish, MayIdentify}
 use Rattle.device_model.specs.Fetched.{bytes_of}
 use Rattle.device_model.specs.Slots.{MayTake, MayTakeSome, HoldsAt}
-use Rattle.device_model.specs.View.{Media, Takes, operation_of, port_of, taken_of, blank}
+use Rattle.device_model.specs.View.{Media, operation_of, port_of, taken_of, blank}
 use Rattle.device_model.specs.Whole.{Outside, device_of}
 use Rattle.device_model.specs.declared.port.PortModel.{PortModel}
 use Rattle.device_model.specs.declared.port.TakenCommand.{TakenCommand}
@@ -112,6 +112,11 @@ MayTakeNone p slot = (m : Media) (operation : Operation) → MayTake (port_of p 
 -- this command may be taken beside those that are
 abbrev pub IsBeside : PortModel → TakenCommand → Type 0
 IsBeside p r = (m : Media) → IsAlone (port_of p m) (operation_of r.transfer)
+
+pub may_be_taken : (p : PortModel) (slot : ℕ) (r : TakenCommand) → MayTakeSome p slot → IsBeside p r → (m : Media) →
+    MayTake (port_of p m) slot (operation_of r.transfer)
+may_be_taken p slot r may beside m =
+    let w = may m (operation_of r.transfer) in record { fetchable = w.0; working = w.1; alone = beside m }
 
 module _ (h : Hardware) (o : Outside) (p port slot sectors left : ℕ) (e : p ≡ port) (ready : MayFinish (device_of h o) port slot sectors left) where
   abbrev state : PortModel
@@ -313,7 +318,16 @@ module _ (h : Hardware) (slot : ℕ) where
         can = record { fetchable = m.0; working = m.1; alone = beside (o.media 0); says = says };
       }
 
-  -- nor beside others that are taken
+  -- and so may one that can be done to its end, where one may be
+  pub ready_may : MayTakeSome first slot → (o : Outside) → HasIdentify (device_of h o) slot → MayIdentify (device_of h o) slot
+  ready_may may o has = record {
+    meaning = has.ready.t.meaning;
+    places = has.ready.t.places;
+    identifies = has.identifies;
+    can = (ready_fetch h o 0 0 slot 0 has.left refl has.ready may).0;
+  }
+
+  -- none may be beside others that are taken
   pub identify_crowded : (k : Transfer) → k ≡ transfer.Identify → ((m : Media) → IsAlone (port_of first m) (operation_of k) → ⊥) → (o : Outside) → MayIdentify (device_of h o) slot → ⊥
   identify_crowded k kind crowded o may =
       crowded (o.media 0) (subst (λ (x : Operation). IsAlone (port_of first (o.media 0)) x) (may.identifies ∙ ap operation_of (sym kind)) may.can.alone)

@@ -1,10 +1,10 @@
 -- Queued commands go on side by side: one that is taken, or that ends, leaves the others as they were.
-use Rattle.std.proofs.Common.{ℕ, Bool, true, false, ◌≡◌, ◌≢◌, ◌∙◌, ◌&&◌, List, None, Some, refl, sym, ap, subst, inl, inr}
-use Rattle.adapter.specs.Asked.{DoesDone, DoesFetch, Ends}
+use Rattle.std.proofs.Common.{ℕ, Bool, true, ◌≡◌, ◌≢◌, ◌∙◌, ◌&&◌, List, None, Some, refl, sym, ap, subst}
+use Rattle.adapter.specs.Asked.{DoesFetch, Ends}
 use Rattle.adapter.specs.Commands.{Meaning, is_queued}
 use Rattle.adapter.specs.Device.{Taken, PortState, Device}
-use Rattle.adapter.specs.Steps.{Can, IsAlone, IsFetchable, IsFinished, IsWorking, WorksOn, begun, with_done, with_fetch}
-use Rattle.adapter.specs.Steps.Step.{Fetch, Done}
+use Rattle.adapter.specs.Steps.{Can, IsAlone, IsFetchable, IsWorking, WorksOn, begun, with_fetch}
+use Rattle.adapter.specs.Steps.Step.{Fetch}
 use Rattle.adapter.specs.Says.{Says}
 use Rattle.adapter.specs.declared.command.Operation.{Operation}
 use Rattle.adapter.proofs.Absurd.{some_one}

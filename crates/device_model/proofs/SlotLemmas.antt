@@ -1,11 +1,12 @@
 -- The slots of a port, as its commands change.
-use Rattle.std.proofs.Common.{ℕ, ◌≡◌, ◌<◌, List, Option, None, Some, length, refl, sym, ◌∙◌, ap, inl, inr, get_or-set_same, get_or-set_other}
+use Rattle.std.proofs.Common.{ℕ, zero, suc, ◌≡◌, ◌<◌, List, Option, None, Some, length, replicate, refl, sym, ◌∙◌, ap, inl, inr, get_or-set_same, get_or-set_other}
 use Rattle.std.specs.Prelude.{option_map, slice_index_or, slice_set}
 use Rattle.std.proofs.lemmas.Bool.Decides.{eqb_tells}
 use Rattle.adapter.specs.Device.{Taken}
 use Rattle.adapter.specs.Memory.{changed}
+use Rattle.adapter.specs.Steps.{begun}
 use Rattle.adapter.proofs.Changed.{fun_ext, changed_same, changed_other}
-use Rattle.device_model.specs.View.{slots_of, taken_of}
+use Rattle.device_model.specs.View.{held_in, slots_of, taken_of}
 use Rattle.device_model.specs.declared.port.TakenCommand.{TakenCommand}
 
 -- what is in a slot of the list is what was put there
@@ -32,6 +33,12 @@ slots_changed taken slot new =
           ∙ sym (changed_other (slots_of taken) slot (option_map taken_of new) k there.1)
     ])
 
+-- what is taken in a slot of which nothing was moved yet has just begun
+pub slots_begun : (taken : ℕ → Option TakenCommand) (slot : ℕ) (r : TakenCommand) → r.moved ≡ 0 →
+    slots_of (changed taken slot (Some r)) ≡ changed (slots_of taken) slot (Some (begun (taken_of r).meaning (taken_of r).places))
+slots_begun taken slot r unmoved =
+    slots_changed taken slot (Some r) ∙ ap (λ (n : ℕ). changed (slots_of taken) slot (Some (record (taken_of r) { moved = n }))) unmoved
+
 -- the command that is taken in a slot
 pub slot_taken : (taken : ℕ → Option TakenCommand) (t : TakenCommand) (slot : ℕ) → taken slot ≡ Some t → slots_of taken slot ≡ Some (taken_of t)
 slot_taken taken t slot is = ap (option_map taken_of) is
@@ -49,3 +56,12 @@ taken_slot taken slot t is = by (taken slot) refl
 pub none_slot : (o : Option TakenCommand) → option_map taken_of o ≡ None → o ≡ None
 none_slot None e = refl
 none_slot (Some r) e = absurd (cc e)
+
+-- no command is in empty slots
+pub none_held : (n : ℕ) → held_in (replicate n None) ≡ (λ slot. None)
+none_held n = fun_ext (by n)
+  where
+    by : (m k : ℕ) → held_in (replicate m None) k ≡ None
+    by zero k = refl
+    by (suc m) zero = refl
+    by (suc m) (suc k) = by m k

@@ -1,5 +1,5 @@
 -- What the commands that the model takes have in common: they are no trims.
-use Rattle.std.proofs.Common.{ℕ, false, ◌≡◌, ◌&&◌, List, Option, None, Some, refl, ◌∙◌, ap, inl, inr}
+use Rattle.std.proofs.Common.{ℕ, false, ◌≡◌, ◌&&◌, List, Option, None, Some, refl, ap, inl, inr}
 use Rattle.std.specs.Prelude.{is_some, option_map}
 use Rattle.sector_store.specs.Stores.{replaced}
 use Rattle.adapter.specs.Commands.{is_queued, is_ranged}

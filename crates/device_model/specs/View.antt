@@ -116,7 +116,7 @@ port_of p m =
       link_due = p.link_due;
       halt = NotHalted;
       broken = false;
-      taken = slots_of (held_in p.taken);
+      taken = slots_of (held_in p.taken.slots);
       notes = notes_of p.readings;
     }
 
@@ -146,7 +146,7 @@ blank =
       present = false;
       fresh = false;
       link_due = false;
-      taken = [];
+      taken = record { slots = [] };
       readings = record {
         st_set_at = 0;
         sctl_written_at = 0;

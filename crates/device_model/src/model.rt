@@ -91,10 +91,10 @@ impl<S: SectorStore> Model<S> {
         let hardware = Hardware {
             memory: vec![in alloc; 0u8; FRAME_BYTES as usize * usize::from(config.frames)]?,
             ports: [
-                PortModel::new(alloc, true)?,
-                PortModel::new(alloc, false)?,
-                PortModel::new(alloc, false)?,
-                PortModel::new(alloc, false)?,
+                PortModel::new(true),
+                PortModel::new(false),
+                PortModel::new(false),
+                PortModel::new(false),
             ],
             cap: capabilities(config.pi, config.slots, config.ncq),
             pi: u32::from(config.pi),

@@ -8,7 +8,9 @@ ghost use Rattle.device_model.specs.Whole.{Outside, device_of};
 use crate::hardware::{Hardware, put};
 use crate::port::{PortModel, Transfer};
 use ata_types::RECEIVED_BYTES;
-use fis::{DeviceToHost, PioSetup, SetDeviceBits, encode_d2h, encode_pio_setup, encode_set_device_bits};
+use fis::{
+    DeviceToHost, PioSetup, SetDeviceBits, encode_d2h, encode_pio_setup, encode_set_device_bits,
+};
 
 /// Where a PIO Setup FIS stands in the received FIS area (AHCI 1.3.1, 4.2.1).
 const SETUP: usize = 0x20;

@@ -1,6 +1,13 @@
-use Rattle.std.proofs.Common.{Some, ◌≡◌, ◌∙◌, refl, sym, ap, slice_index_or}
-use Rattle.adapter.proofs.Absurd.{some-none, true-false}
-use Rattle.device_model.specs.View.{blank}
+use Rattle.adapter.proofs.Absurd.{true-false}
 use Rattle.device_model.specs.Whole.{no_media}
-use Rattle.device_model.proofs.SlotLemmas.{slot_taken}
 use Rattle.device_model.proofs.slots.working_on.Goals as goal
+use Rattle.device_model.proofs.slots.working_on.Goals.{else-ports-port-via-then-ports-port+then-ports-port-2+else-ports-port-3, else-ports-port-via-then-ports-port+else-ports-port-2, else-ports-port-via-else-ports-port}
+
+pub returns-else-ports-port-clause-none : goal.returns-else-ports-port-clause-none
+returns-else-ports-port-clause-none c = λ _ t holds.
+    let w = (holds.works no_media).working in
+    elim c.else-ports-port.branch [
+      | else-ports-port-via-then-ports-port+then-ports-port-2+else-ports-port-3 b ↦ true-false w.fresh b.if-ports-port-3.false
+      | else-ports-port-via-then-ports-port+else-ports-port-2 b ↦ true-false w.present b.if-ports-port-2.false
+      | else-ports-port-via-else-ports-port b ↦ true-false w.running b.if-ports-port.false
+    ]

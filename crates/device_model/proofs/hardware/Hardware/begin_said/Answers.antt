@@ -10,7 +10,7 @@ use Rattle.device_model.specs.View.{blank}
 use Rattle.device_model.specs.Whole.{Outside, device_of}
 use Rattle.device_model.specs.declared.hardware.Hardware.{Hardware}
 use Rattle.device_model.proofs.Finishing.{fetched_goes}
-use Rattle.device_model.proofs.Ready.{ready_beside, ready_said, ready_to_take, ready_is_said}
+use Rattle.device_model.proofs.Ready.{may_be_taken, ready_beside, ready_said, ready_to_take, ready_is_said}
 use Rattle.device_model.proofs.Stepping.{port_takes}
 use Rattle.device_model.proofs.hardware.Hardware.begin_said.Goals as goal
 
@@ -76,7 +76,7 @@ returns-clause-begun c =
     ready_to_take h c.from-place.result c.args.port c.args.slot c.args.sectors c.len.result c.in_ok-command.command c.from-place.ensures c.len.ensures
     (Some left) c.in_ok-left.ensures.covered c.in_ok-command.ensures.found.0 may (c.is_alone.ensures.alone c.if-not-is_alone.false) says in
     let new : Hardware = record held { ports = slice_set h.ports c.from-place.result c.take.new.self } in
-    let taken = λ (m : Media). record { fetchable = (may m Identify).0; working = (may m (operation_of c.in_ok-command.command.transfer)).1; alone = c.is_alone.ensures.alone c.if-not-is_alone.false m } in
+    let taken = may_be_taken (slice_index_or h.ports c.from-place.result blank) c.args.slot c.in_ok-command.command may (c.is_alone.ensures.alone c.if-not-is_alone.false) in
     let did : (o : Outside) → DoesFetch c.args.port c.args.slot (device_of h o) (device_of new o) = λ o.
     let Q : Device → Type 0 = λ d. DoesFetch c.args.port c.args.slot d (device_of new o) in
     subst Q (kept o)

@@ -1,7 +1,12 @@
 use Rattle.std.proofs.Common.{rules, ◌<◌, ℕ, length, subst, sym, slice_index_or}
 use Rattle.device_model.specs.Slots.{MayTakeSome}
-use Rattle.device_model.specs.View.{blank}
-use Rattle.device_model.proofs.Stepping.{port_takes, fetch_says}
+use Rattle.adapter.specs.Commands.{Meaning}
+use Rattle.adapter.specs.Steps.{IsAlone}
+use Rattle.adapter.proofs.SaysLemmas.{says_meaning}
+use Rattle.device_model.specs.Fetched.{bytes_of}
+use Rattle.device_model.specs.View.{port_of, taken_of, blank}
+use Rattle.device_model.proofs.Stepping.{port_takes, fetch_says, fetch_takes}
+use Rattle.device_model.proofs.Ready.{may_be_taken}
 use Rattle.device_model.proofs.hardware.Hardware.fetch_said.Goals as goal
 
 pub returns-clause-did : goal.returns-clause-did
@@ -11,7 +16,7 @@ returns-clause-did c = λ _ o.
     let small : c.from-place.result < length h.ports = search rules in
     let P : ℕ → Type 0 = λ q. MayTakeSome (slice_index_or h.ports q blank) c.args.slot in
     let may = subst P (sym c.from-place.ensures) c.requires.may in
-    let taken = λ (m : Media). record { fetchable = (may m Identify).0; working = (may m (operation_of c.in-Some.command.transfer)).1; alone = c.is_alone.ensures.alone c.if-not-is_alone.false m } in
+    let taken = may_be_taken (slice_index_or h.ports c.from-place.result blank) c.args.slot c.in-Some.command may (c.is_alone.ensures.alone c.if-not-is_alone.false) in
     port_takes h o c.from-place.result c.args.port c.args.slot _ c.in-Some.command c.from-place.ensures small (taken m)
     (rw c.deref.ensures.value at c.in-Some.ensures.found.1) (c.take.ensures m)
 
