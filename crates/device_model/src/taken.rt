@@ -52,7 +52,8 @@ impl TakenCommands {
         count_move(&mut self.slots[usize::from(slot)]);
     }
 
-    /// A slot's command is taken no more.
+    /// A slot's command is taken no more. A function of its own, since its caller's frame would have room for a command else; `clear` too.
+    #[inline(never)]
     pub fn remove(&mut self, slot: u8)
         requires { slot < 32 }
         ensures { held_in self.new.slots ≡ changed (held_in self.old.slots) slot None }
@@ -61,6 +62,7 @@ impl TakenCommands {
     }
 
     /// No command is taken any more.
+    #[inline(never)]
     pub fn clear(&mut self)
         ensures { held_in self.new.slots ≡ (λ slot. None) }
     {
