@@ -129,7 +129,7 @@ module _ {S : Type 0} (size : S → ℕ) (told : S → Option (ℕ → List ℕ)
 
   -- A Finish came to a move that was left, for which there was room, and which was possible. So a call failed on its sector, or it has no address.
   pub cut_short : (p : Port) (slot : Slot) (did : Bool) (old mid new : Model S) → Possible (asked.Finish p slot) (device_at size told old) →
-      (did ≡ true → GoesOn SendsEnd p.0 slot.0 (device_at size told old) (device_at size told mid)) → (did ≡ false → device_at size told mid ≡ device_at size told old) →
+      (did ≡ true → GoesOn (SendsEnd slot.0) p.0 slot.0 (device_at size told old) (device_at size told mid)) → (did ≡ false → device_at size told mid ≡ device_at size told old) →
       (device_at size told mid).size ≡ (device_at size told old).size → Meanwhile size old mid →
       (MovesSector (asked.Move p slot) (device_at size told mid) → MovesSector (asked.Finish p slot) (device_at size told old)) →
       ((MovesSector (asked.Finish p slot) (device_at size told old) → ⊥) → (which : Which) → store_of mid which ≡ store_of old which) →
@@ -170,13 +170,13 @@ module _ {S : Type 0} (size : S → ℕ) (told : S → Option (ℕ → List ℕ)
         starved = same_flag mid.hardware.starved new.hardware.starved step.starved_on told_before;
       })
 
-      by : (b : Bool) → (b ≡ true → GoesOn SendsEnd p.0 slot.0 (device_at size told old) (device_at size told mid)) →
+      by : (b : Bool) → (b ≡ true → GoesOn (SendsEnd slot.0) p.0 slot.0 (device_at size told old) (device_at size told mid)) →
           (b ≡ false → device_at size told mid ≡ device_at size told old) → (b ≡ false → (which : Which) → store_of mid which ≡ store_of old which) →
           AnswersStep size told failures (asked.Finish p slot) b old new
       by true on same first = (
         may,
         record {
-          asked = subst (λ (d : Device). GoesOn SendsEnd p.0 slot.0 (device_at size told old) d) (sym step.device) (on refl);
+          asked = subst (λ (d : Device). GoesOn (SendsEnd slot.0) p.0 slot.0 (device_at size told old) d) (sym step.device) (on refl);
           ends = elim step.why [
             | inl f ↦ inl (failed f)
             | inr left ↦ inr ((λ which. ap failures (left.0 which) ∙ none which), λ small_enough. absurd (unserved left.1 small_enough))

@@ -14,10 +14,11 @@ use Rattle.adapter.specs.declared.command.Operation.{Operation}
 use Rattle.adapter.proofs.Absurd.{some-none, some_one, true-false}
 use Rattle.adapter.proofs.Changed.{fun_ext, changed_same, changed_other}
 use Rattle.adapter.proofs.SaysLemmas.{says_meaning, says_places}
+use Rattle.device_model.specs.Does.{HasEnded}
 use Rattle.device_model.specs.Finishing.{HasDisk, HasMove, IsCovered, IsGoing, MayFinish}
 use Rattle.device_model.specs.Sent.{SendsEnd}
 use Rattle.device_model.specs.Slots.{HoldsAt, IsNext}
-use Rattle.device_model.specs.View.{Media, Takes, media_after, operation_of, taken_of, blank}
+use Rattle.device_model.specs.View.{Media, Takes, held_in, media_after, operation_of, taken_of, blank}
 use Rattle.device_model.specs.Whole.{Outside, device_of, no_media, outside_of, outside_after, outside_plugged}
 use Rattle.device_model.specs.declared.port.PortModel.{PortModel}
 use Rattle.device_model.specs.declared.hardware.Hardware.{Hardware}
@@ -27,7 +28,12 @@ use Rattle.device_model.specs.declared.port.Transfer.TheVariants as transfer
 use Rattle.device_model.specs.declared.steps.NextMove.{NextMove}
 use Rattle.device_model.proofs.Posting.{end_rest}
 use Rattle.device_model.proofs.SlotLemmas.{slot_taken, taken_slot}
-use Rattle.device_model.proofs.Transfers.{is_taken, no_trim, plain, still_tells, transfer_of}
+use Rattle.device_model.proofs.Transfers.{is_taken, no_trim, still_tells, transfer_of}
+
+cleared : (queued : Bool) (p : PortState) (slot : ℕ) →
+    (if queued then (if queued then changed p.sact slot false else p.sact) slot else (if queued then p.ci else changed p.ci slot false) slot) ≡ false
+cleared true p slot = changed_same p.sact slot false
+cleared false p slot = changed_same p.ci slot false
 
 -- ---- a command goes on
 
@@ -111,21 +117,41 @@ module _ (port slot sectors : ℕ) where
       }
 
   -- and it has ended
-  pub done_frees : (old new : Device) → IsGoing old port slot sectors 0 → Ends SendsEnd port slot old new → IsFreeSlot (new.port port) slot
-  done_frees old new going e =
+  pub done_port : (old new : Device) (e : Ends (SendsEnd slot) port slot old new) → new.port port ≡ with_done (old.port port) slot e.done.flag e.done.t.meaning.operation
+  done_port old new e =
+      let f : DoesDone port slot old e.mid = e.done in
+      ap (λ (d : Device). d.port port) (end_rest port slot f.flag f.t.meaning.operation e.mid new e.posts)
+      ∙ (ap (λ (d : Device). d.port port) f.effect ∙ changed_same old.port port (with_done (old.port port) slot f.flag f.t.meaning.operation))
+
+  done_gone : (old new : Device) → Ends (SendsEnd slot) port slot old new → (new.port port).taken slot ≡ None
+  done_gone old new e = ap (λ (p : PortState). p.taken slot) (done_port old new e) ∙ changed_same (old.port port).taken slot None
+
+  pub done_ended : (old new : Device) → Ends (SendsEnd slot) port slot old new → HasEnded new port slot
+  done_ended old new e =
+      let f : DoesDone port slot old e.mid = e.done in
+      let o : Operation = f.t.meaning.operation in
+      record {
+        operation = o;
+        before = old.tape;
+        last = ap (λ (d : Device). d.tape) (end_rest port slot f.flag o e.mid new e.posts) ∙ ap (λ (d : Device). d.tape) f.effect;
+        taken = done_gone old new e;
+        clear = ap (λ (p : PortState). if is_queued o then p.sact slot else p.ci slot) (done_port old new e) ∙ cleared (is_queued o) (old.port port) slot;
+      }
+
+  -- a plain one is issued no more
+  pub done_frees : (old new : Device) (going : IsGoing old port slot sectors 0) → is_queued going.t.meaning.operation ≡ false → Ends (SendsEnd slot) port slot old new →
+      IsFreeSlot (new.port port) slot
+  done_frees old new going plain e =
       let f : DoesDone port slot old e.mid = e.done in
       let p : PortState = old.port port in
       let state : PortState = with_done p slot f.flag f.t.meaning.operation in
       let same : f.t ≡ going.t = some_one (sym f.can.works.taken ∙ going.works.taken) in
-      let kind = transfer_of f.t.meaning.operation (subst (λ (x : Taken). Takes x.meaning.operation) (sym same) going.takes) in
       let issued : state.ci ≡ changed p.ci slot false =
-      ap (λ b. if b then p.ci else changed p.ci slot false) (ap is_queued kind.1 ∙ plain kind.0) in
-      let there : new.port port ≡ state =
-      ap (λ (d : Device). d.port port) (end_rest port f.flag f.t.meaning.operation e.mid new e.posts)
-      ∙ (ap (λ (d : Device). d.port port) f.effect ∙ changed_same old.port port state) in
-      let P : PortState → Type 0 = λ x. IsFreeSlot x slot in
-      subst P (sym there)
-      (record { ci = ap (λ (f : ℕ → Bool). f slot) issued ∙ changed_same p.ci slot false; taken = changed_same p.taken slot None })
+      ap (λ b. if b then p.ci else changed p.ci slot false) (ap (λ (x : Taken). is_queued x.meaning.operation) same ∙ plain) in
+      record {
+        ci = ap (λ (x : PortState). x.ci slot) (done_port old new e) ∙ (ap (λ (f : ℕ → Bool). f slot) issued ∙ changed_same p.ci slot false);
+        taken = done_gone old new e;
+      }
 
   -- when nothing is left, it may end
   pub going_may_end : (d : Device) (going : IsGoing d port slot sectors 0) → Can (Done port slot 0 going.t) d
@@ -146,13 +172,12 @@ pub holds : (h : Hardware) (o : Outside) (port slot : ℕ) (t : Taken) (operatio
     (r : TakenCommand) × HoldsAt (slice_index_or h.ports port blank) slot r × (t ≡ taken_of r)
 holds h o port slot t operation works =
     let p : PortModel = slice_index_or h.ports port blank in
-    let w = taken_slot p.taken slot t works.taken in (
+    let w = taken_slot (held_in p.taken.slots) slot t works.taken in (
       w.0,
       record {
         held = w.1;
-        slot_is = w.2;
         works = λ m. record {
-          taken = slot_taken p.taken w.0 slot w.1 w.2;
+          taken = slot_taken (held_in p.taken.slots) w.0 slot w.1;
           working = record {
             running = works.working.running;
             present = works.working.present;
@@ -162,7 +187,7 @@ holds h o port slot t operation works =
           };
         };
       },
-      w.3,
+      w.2,
     )
 
 -- what a move of port 0 that is possible says of the command
@@ -247,6 +272,8 @@ has_move d port slot t bytes takes disk can =
         is_ranged t.meaning.operation ≡ true → next_sector t < (d.port port).disk.size
     by transfer.Read e brings ranged = brings.0
     by transfer.Write e brings ranged = brings.0
+    by transfer.ReadQueued e brings ranged = brings.0
+    by transfer.WriteQueued e brings ranged = brings.0
     by transfer.Identify e brings ranged = true-false ranged (ap is_ranged e)
 
 -- a command that the model's port works on is one that it takes

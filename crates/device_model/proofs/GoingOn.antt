@@ -132,7 +132,7 @@ abbrev same : (p new : PortState) → new.st ≡ p.st → new.cr ≡ p.cr → ne
     new.sctl_det ≡ p.sctl_det → new.link_due ≡ p.link_due → SameControls p new
 same p new st cr fre fr present det due = record { st = st; cr = cr; fre = fre; fr = fr; present = present; det = det; due = due }
 
-one_settled : (port slot : ℕ) (old new : Device) → DoesOne SendsEnd port slot old new → (held : List Bool) → IsSettled held old → IsSettled held new
+one_settled : (port slot : ℕ) (old new : Device) → DoesOne (SendsEnd slot) port slot old new → (held : List Bool) → IsSettled held old → IsSettled held new
 one_settled port slot old new (inl f) =
     settled_with old new port (with_fetch (old.port port) slot f.meaning f.places) (ap (λ (d : Device). d.hr) f.effect) (ap (λ (d : Device). d.port) f.effect)
     (same _ _ refl refl refl refl refl refl refl)
@@ -140,17 +140,17 @@ one_settled port slot old new (inr (inl m)) =
     settled_with old new port (with_move (old.port port) slot m.t m.bytes) (ap (λ (d : Device). d.hr) m.effect) (ap (λ (d : Device). d.port) m.effect)
     (same _ _ refl refl refl refl refl refl refl)
 one_settled port slot old new (inr (inr e)) =
-    let rest = end_rest port e.done.flag e.done.t.meaning.operation e.mid new e.posts in
+    let rest = end_rest port slot e.done.flag e.done.t.meaning.operation e.mid new e.posts in
     settled_with old new port (with_done (old.port port) slot e.done.flag e.done.t.meaning.operation)
     (ap (λ (d : Device). d.hr) rest ∙ ap (λ (d : Device). d.hr) e.done.effect)
     (ap (λ (d : Device). d.port) rest ∙ ap (λ (d : Device). d.port) e.done.effect) (same _ _ refl refl refl refl refl refl refl)
 
-some_settled : (n port slot : ℕ) (old new : Device) → DoesSome SendsEnd n port slot old new → (held : List Bool) → IsSettled held old → IsSettled held new
+some_settled : (n port slot : ℕ) (old new : Device) → DoesSome (SendsEnd slot) n port slot old new → (held : List Bool) → IsSettled held old → IsSettled held new
 some_settled zero port slot old new e held settled = let P : Device → Type 0 = λ d. IsSettled held d in subst P (sym e) settled
 some_settled (suc n) port slot old new s held settled = one_settled port slot s.0 new s.2 held (some_settled n port slot old s.0 s.1 held settled)
 
 -- a command went on, or didn't
-pub gone_settled : (port slot : ℕ) (did : Bool) (old new : Device) → (did ≡ true → GoesOn SendsEnd port slot old new) → (did ≡ false → new ≡ old) →
+pub gone_settled : (port slot : ℕ) (did : Bool) (old new : Device) → (did ≡ true → GoesOn (SendsEnd slot) port slot old new) → (did ≡ false → new ≡ old) →
     (held : List Bool) → IsSettled held old → IsSettled held new
 gone_settled port slot true old new went stayed held settled = let g = went refl in some_settled (suc g.0) port slot old new g.1 held settled
 gone_settled port slot false old new went stayed held settled = let P : Device → Type 0 = λ d. IsSettled held d in subst P (sym (stayed refl)) settled

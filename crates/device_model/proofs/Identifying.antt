@@ -92,14 +92,14 @@ has_only d slot has = only_of IsPage d 0 slot 0 has.left has.ready (has.identifi
 
 -- nor afterwards
 only_taken : (P : Operation → List ℕ → Type 0) → ((o : Operation) (places : List ℕ) → P o places → o ≡ Identify) → (port slot : ℕ) (did : Bool)
-    (old new : Device) → port ≡ 0 → (did ≡ true → GoesOn SendsEnd port slot old new) → (did ≡ false → new ≡ old) → IsOnly P old 0 slot →
+    (old new : Device) → port ≡ 0 → (did ≡ true → GoesOn (SendsEnd slot) port slot old new) → (did ≡ false → new ≡ old) → IsOnly P old 0 slot →
     (t : Taken) → (new.port port).taken slot ≡ Some t → P t.meaning.operation t.places
 only_taken P is_page port slot did old new here went same only t is =
-    let Q : ℕ → Type 0 = λ q. GoesOn SendsEnd q slot old new in
+    let Q : ℕ → Type 0 = λ q. GoesOn (SendsEnd slot) q slot old new in
     let R : ℕ → Type 0 = λ q. (new.port q).taken slot ≡ Some t in
     (own_gone P is_page none_held 0 slot refl did old new (λ e. subst Q here (went e)) same only).1.taken t (subst R here is)
 
-pub page_taken : (port slot : ℕ) (did : Bool) (old new : Device) → port ≡ 0 → (did ≡ true → GoesOn SendsEnd port slot old new) → (did ≡ false → new ≡ old) →
+pub page_taken : (port slot : ℕ) (did : Bool) (old new : Device) → port ≡ 0 → (did ≡ true → GoesOn (SendsEnd slot) port slot old new) → (did ≡ false → new ≡ old) →
     HasIdentify old slot → (t : Taken) → (new.port port).taken slot ≡ Some t → IsPage t.meaning.operation t.places
 page_taken port slot did old new here went same has = only_taken IsPage is_page port slot did old new here went same (has_only old slot has)
 
@@ -136,7 +136,7 @@ finish_keeps size told failures old new slot false a has =
 
 -- a Move of what a Finish has begun moves one only where the Finish does
 pub finish_moves : (p : Port) (s : Slot) (did : Bool) (old new : Device) (sectors left : ℕ) → p.0 ≡ 0 → sectors ≡ (old.port 0).disk.size → 1 ≤ left →
-    (did ≡ true → GoesOn SendsEnd p.0 s.0 old new) → (did ≡ false → new ≡ old) → MayFinish old p.0 s.0 sectors left →
+    (did ≡ true → GoesOn (SendsEnd s.0) p.0 s.0 old new) → (did ≡ false → new ≡ old) → MayFinish old p.0 s.0 sectors left →
     MovesSector (asked.Move p s) new → MovesSector (asked.Finish p s) old
 finish_moves p s did old new sectors left here same some went stayed ready moves = by (is_ranged may.t.meaning.operation) refl
   where
@@ -214,7 +214,7 @@ found_stuck d slot false e found = found
 
 -- where a command is taken, no IDENTIFY DEVICE may be
 pub taken_bars : (d : Device) (slot k : ℕ) (t : Taken) → (d.port 0).taken slot ≡ Some t → MayIdentify d k → ⊥
-taken_bars d slot k t is may = some-none is (alone_none (d.port 0) may.meaning.operation (inr (inr may.identifies)) may.can.alone slot)
+taken_bars d slot k t is may = some-none is (alone_none (d.port 0) may.meaning.operation (ap is_queued may.identifies) may.can.alone slot)
 
 fetched_is : (slot : ℕ) (old new : Device) (f : DoesFetch 0 slot old new) → (new.port 0).taken ≡ changed (old.port 0).taken slot (Some (begun f.meaning f.places))
 fetched_is slot old new f =
@@ -229,7 +229,7 @@ pub fetched_bars : (slot k : ℕ) (did : Bool) (old new : Device) → (did ≡ t
     (did ≡ false → (m : Meaning) (places : List ℕ) → Takes m.operation → Can (Fetch 0 slot m places) old → ⊥) → (did ≡ false → new ≡ old) →
     MayIdentify old slot ⊎ HasIdentify old slot → MayIdentify new k → ⊥
 fetched_bars slot k true old new went never same there = let f = went refl in taken_bars new slot k (begun f.meaning f.places) (fetched_taken slot old new f)
-fetched_bars slot k false old new went never same (inl may) = absurd (never refl may.meaning may.places (inr (inr may.identifies)) may.can)
+fetched_bars slot k false old new went never same (inl may) = absurd (never refl may.meaning may.places (inr (inr (inl may.identifies))) may.can)
 fetched_bars slot k false old new went never same (inr has) = by has.ready.begins
   where
     t : Taken
@@ -284,7 +284,7 @@ pub fetched_has : (slot k : ℕ) (did : Bool) (old new : Device) → (did ≡ tr
     (did ≡ false → (m : Meaning) (places : List ℕ) → Takes m.operation → Can (Fetch 0 slot m places) old → ⊥) →
     MayIdentify old slot → HasIdentify new k → HasIdentify old slot
 fetched_has slot k true old new went never may has = taken_has slot k old new (went refl) has
-fetched_has slot k false old new went never may has = absurd (never refl may.meaning may.places (inr (inr may.identifies)) may.can)
+fetched_has slot k false old new went never may has = absurd (never refl may.meaning may.places (inr (inr (inl may.identifies))) may.can)
 
 -- one that can be done to its end still can be once it is taken
 pub fetched_left : (slot : ℕ) (did : Bool) (old new : Device) (has : HasIdentify old slot) → (did ≡ true → DoesFetch 0 slot old new) →
@@ -292,7 +292,7 @@ pub fetched_left : (slot : ℕ) (did : Bool) (old new : Device) (has : HasIdenti
     (now : HasIdentify new slot) × (now.left ≡ has.left)
 fetched_left slot did old new has went same never =
     let going = fetched_goes 0 slot 0 has.left did old new has.ready went same never in
-    let page = page_taken 0 slot did old new refl (λ e. goes_one SendsEnd 0 slot old new (inl (went e))) same has going.t going.works.taken in (
+    let page = page_taken 0 slot did old new refl (λ e. goes_one (SendsEnd slot) 0 slot old new (inl (went e))) same has going.t going.works.taken in (
       record {
         left = has.left;
         ready = record { t = going.t; takes = going.takes; covered = going.covered; begins = inl going.works };
@@ -343,7 +343,7 @@ weight_with old new p slot k there ci taken =
     ap (λ (x : PortState). (if x.ci k then 1 else 0) + (if is_some (x.taken k) then 1 else 0)) there
     ∙ (λ i. (if ci i then 1 else 0) + (if is_some (taken i) then 1 else 0))
 
-cleared_other : (b : Bool) (f : ℕ → Bool) (slot k : ℕ) → k ≢ slot → (if b then changed f slot false else f) k ≡ f k
+pub cleared_other : (b : Bool) (f : ℕ → Bool) (slot k : ℕ) → k ≢ slot → (if b then changed f slot false else f) k ≡ f k
 cleared_other true f slot k ne = changed_other f slot false k ne
 cleared_other false f slot k ne = refl
 
@@ -351,7 +351,7 @@ kept_other : (b : Bool) (f : ℕ → Bool) (slot k : ℕ) → k ≢ slot → (if
 kept_other true f slot k ne = refl
 kept_other false f slot k ne = changed_other f slot false k ne
 
-one_elsewhere : (slot : ℕ) (old new : Device) → DoesOne SendsEnd 0 slot old new → (k : ℕ) → k ≢ slot → weight new k ≡ weight old k
+one_elsewhere : (slot : ℕ) (old new : Device) → DoesOne (SendsEnd slot) 0 slot old new → (k : ℕ) → k ≢ slot → weight new k ≡ weight old k
 one_elsewhere slot old new (inl f) k ne =
     let p : PortState = with_fetch (old.port 0) slot f.meaning f.places in
     weight_with old new p slot k (ap (λ (d : Device). d.port 0) f.effect ∙ changed_same old.port 0 p)
@@ -362,16 +362,16 @@ one_elsewhere slot old new (inr (inl m)) k ne =
 one_elsewhere slot old new (inr (inr e)) k ne =
     let p : PortState = with_done (old.port 0) slot e.done.flag e.done.t.meaning.operation in
     weight_with old new p slot k
-    (ap (λ (d : Device). d.port 0) (end_rest 0 e.done.flag e.done.t.meaning.operation e.mid new e.posts)
+    (ap (λ (d : Device). d.port 0) (end_rest 0 slot e.done.flag e.done.t.meaning.operation e.mid new e.posts)
     ∙ (ap (λ (d : Device). d.port 0) e.done.effect ∙ changed_same old.port 0 p))
     (kept_other (is_queued e.done.t.meaning.operation) (old.port 0).ci slot k ne) (changed_other (old.port 0).taken slot None k ne)
 
-some_elsewhere : (n slot : ℕ) (old new : Device) → DoesSome SendsEnd n 0 slot old new → (k : ℕ) → k ≢ slot → weight new k ≡ weight old k
+some_elsewhere : (n slot : ℕ) (old new : Device) → DoesSome (SendsEnd slot) n 0 slot old new → (k : ℕ) → k ≢ slot → weight new k ≡ weight old k
 some_elsewhere zero slot old new e k ne = ap (λ (d : Device). weight d k) e
 some_elsewhere (suc n) slot old new s k ne = one_elsewhere slot s.0 new s.2 k ne ∙ some_elsewhere n slot old s.0 s.1 k ne
 
 -- one that was done is neither issued nor taken
-pub fewer_left : (slot : ℕ) (old new : Device) → slot < 32 → HasIdentify old slot → GoesOn SendsEnd 0 slot old new → IsFreeSlot (new.port 0) slot →
+pub fewer_left : (slot : ℕ) (old new : Device) → slot < 32 → HasIdentify old slot → GoesOn (SendsEnd slot) 0 slot old new → IsFreeSlot (new.port 0) slot →
     total (weight new) 32 < total (weight old) 32
 fewer_left slot old new small has went free =
     total_less (weight new) (weight old) slot 32 small (some_elsewhere (suc went.0) slot old new went.1) (less has.ready.begins)

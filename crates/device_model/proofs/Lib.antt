@@ -19,3 +19,4 @@ pub mod Doing
 pub mod Told
 pub mod Identifying
 pub mod Waiting
+pub mod SideBySide

@@ -64,16 +64,16 @@ present_with f port p same =
       | inr there ↦ ap (λ (x : PortState). x.present) (changed_other f port p 0 there.1)
     ]
 
-pub one_keeps_present : (port slot : ℕ) (old new : Device) → DoesOne SendsEnd port slot old new → (new.port 0).present ≡ (old.port 0).present
+pub one_keeps_present : (port slot : ℕ) (old new : Device) → DoesOne (SendsEnd slot) port slot old new → (new.port 0).present ≡ (old.port 0).present
 one_keeps_present port slot old new (inl f) =
     ap (λ (d : Device). (d.port 0).present) f.effect ∙ present_with old.port port (with_fetch (old.port port) slot f.meaning f.places) refl
 one_keeps_present port slot old new (inr (inl m)) =
     ap (λ (d : Device). (d.port 0).present) m.effect ∙ present_with old.port port (with_move (old.port port) slot m.t m.bytes) refl
 one_keeps_present port slot old new (inr (inr e)) =
-    ap (λ (d : Device). (d.port 0).present) (end_rest port e.done.flag e.done.t.meaning.operation e.mid new e.posts)
+    ap (λ (d : Device). (d.port 0).present) (end_rest port slot e.done.flag e.done.t.meaning.operation e.mid new e.posts)
     ∙ (ap (λ (d : Device). (d.port 0).present) e.done.effect ∙ present_with old.port port (with_done (old.port port) slot e.done.flag e.done.t.meaning.operation) refl)
 
-pub some_keep_present : (n port slot : ℕ) (old new : Device) → DoesSome SendsEnd n port slot old new → (new.port 0).present ≡ (old.port 0).present
+pub some_keep_present : (n port slot : ℕ) (old new : Device) → DoesSome (SendsEnd slot) n port slot old new → (new.port 0).present ≡ (old.port 0).present
 some_keep_present zero port slot old new same = ap (λ (d : Device). (d.port 0).present) same
 some_keep_present (suc n) port slot old new s = one_keeps_present port slot s.0 new s.2 ∙ some_keep_present n port slot old s.0 s.1
 
@@ -95,7 +95,7 @@ module _ (P : Operation → List ℕ → Type 0) (is_page : (o : Operation) (pla
         fetched = λ m places can. some-none stands can.fetchable.free;
       }
 
-  own_by_one : (old new : Device) → DoesOne SendsEnd port slot old new → IsOnly P old port slot → LeadsOwn (Identifies held) old new × IsOnly P new port slot
+  own_by_one : (old new : Device) → DoesOne (SendsEnd slot) port slot old new → IsOnly P old port slot → LeadsOwn (Identifies held) old new × IsOnly P new port slot
   own_by_one old new (inl f) only =
       let holds = only.fetched f.meaning f.places f.can in
       let p : PortState = with_fetch (old.port port) slot f.meaning f.places in (
@@ -115,20 +115,20 @@ module _ (P : Operation → List ℕ → Type 0) (is_page : (o : Operation) (pla
       let holds = only.taken t e.done.can.works.taken in
       let identifies : t.meaning.operation ≡ Identify = is_page _ _ holds in
       let p : PortState = with_done (old.port port) slot e.done.flag t.meaning.operation in
-      let Sends : Device → Type 0 = λ d. SendsEnd port e.done.flag t.meaning.operation d new in
+      let Sent : Device → Type 0 = λ d. SendsEnd slot port e.done.flag t.meaning.operation d new in
       let there : new.port port ≡ p =
-      ap (λ (d : Device). d.port port) (end_rest port e.done.flag t.meaning.operation e.mid new e.posts)
+      ap (λ (d : Device). d.port port) (end_rest port slot e.done.flag t.meaning.operation e.mid new e.posts)
       ∙ (ap (λ (d : Device). d.port port) e.done.effect ∙ changed_same old.port port p) in
       let none : (new.port port).taken slot ≡ None = ap (λ (x : PortState). x.taken slot) there ∙ changed_same (old.port port).taken slot None in
       let clear : (new.port port).ci slot ≡ false =
       ap (λ (x : PortState). x.ci slot) there
       ∙ (ap (λ (b : Bool). (if b then (old.port port).ci else changed (old.port port).ci slot false) slot) (ap is_queued identifies)
       ∙ changed_same (old.port port).ci slot false) in (
-        own_one (Identifies held) (Done port slot e.done.flag t) old new ((loose, identifies), tt) e.done.can (subst Sends e.done.effect e.posts),
+        own_one (Identifies held) (Done port slot e.done.flag t) old new ((loose, identifies), tt) e.done.can (subst Sent e.done.effect e.posts),
         record { taken = λ t is. some-none is none; fetched = λ m places can. true-false can.fetchable.issued clear },
       )
 
-  pub own_by_some : (n : ℕ) (old new : Device) → DoesSome SendsEnd n port slot old new → IsOnly P old port slot → LeadsOwn (Identifies held) old new × IsOnly P new port slot
+  pub own_by_some : (n : ℕ) (old new : Device) → DoesSome (SendsEnd slot) n port slot old new → IsOnly P old port slot → LeadsOwn (Identifies held) old new × IsOnly P new port slot
   own_by_some zero old new e only =
       let Q : Device → Type 0 = λ d. LeadsOwn (Identifies held) old d × IsOnly P d port slot in
       subst Q (sym e) (own_none (Identifies held) old, only)
@@ -138,7 +138,7 @@ module _ (P : Operation → List ℕ → Type 0) (is_page : (o : Operation) (pla
       (own_on (Identifies held) old s.0 new first.0 last.0, last.1)
 
   -- a command went on, or didn't
-  pub own_gone : (did : Bool) (old new : Device) → (did ≡ true → GoesOn SendsEnd port slot old new) → (did ≡ false → new ≡ old) → IsOnly P old port slot →
+  pub own_gone : (did : Bool) (old new : Device) → (did ≡ true → GoesOn (SendsEnd slot) port slot old new) → (did ≡ false → new ≡ old) → IsOnly P old port slot →
       LeadsOwn (Identifies held) old new × IsOnly P new port slot
   own_gone true old new went same only = let g = went refl in own_by_some (suc g.0) old new g.1 only
   own_gone false old new went same only = own_by_some zero old new (same refl) only

@@ -10,7 +10,7 @@ use Rattle.adapter.specs.declared.access.DeviceStep.TheVariants as asked
 use Rattle.adapter.specs.declared.command.Operation.{Operation}
 use Rattle.adapter.specs.declared.command.Operation.TheVariants as operation
 use Rattle.adapter.proofs.Going.{post_steps}
-use Rattle.device_model.specs.Sent.{IsSent, SendsAfter, SendsEnd, is_received}
+use Rattle.device_model.specs.Sent.{IsSent, Sends, SendsAfter, SendsEnd, is_received}
 
 pub received_there : (p : PortState) (size : ℕ) → p.fre ≡ true → p.bases.fb + 256 ≤ size → is_received p size ≡ true
 received_there p size fre inside =
@@ -27,18 +27,18 @@ sent_may port place bytes old new s = by (is_received (old.port port) old.size) 
     by true e = inr ((old.port port).bases.fb + place, bytes, s.posted e)
     by false e = inl (s.lost e)
 
-pub end_may : (port flag : ℕ) (o : Operation) (old new : Device) → SendsEnd port flag o old new → MayPost port flag o old new
-end_may port flag operation.Identify old new s = sent_may port 0x20 s.1.0 old new s.1.2
-end_may port flag operation.Read old new s = sent_may port 0x40 s.1.0 old new s.1.2
-end_may port flag operation.Write old new s = sent_may port 0x40 s.1.0 old new s.1.2
-end_may port flag operation.ReadQueued old new s = sent_may port 0x40 s.1.0 old new s.1.2
-end_may port flag operation.WriteQueued old new s = sent_may port 0x40 s.1.0 old new s.1.2
-end_may port flag operation.Flush old new s = sent_may port 0x40 s.1.0 old new s.1.2
-end_may port flag operation.Trim old new s = sent_may port 0x40 s.1.0 old new s.1.2
-end_may port flag operation.ReadLog old new s = sent_may port 0x40 s.1.0 old new s.1.2
+pub end_may : (port slot flag : ℕ) (o : Operation) (old new : Device) → SendsEnd slot port flag o old new → MayPost port flag o old new
+end_may port slot flag operation.Identify old new s = sent_may port 0x20 s.1.0 old new s.1.2
+end_may port slot flag operation.Read old new s = sent_may port 0x40 s.1.0 old new s.1.2
+end_may port slot flag operation.Write old new s = sent_may port 0x40 s.1.0 old new s.1.2
+end_may port slot flag operation.ReadQueued old new s = sent_may port 0x58 s.1.0 old new s.1.2
+end_may port slot flag operation.WriteQueued old new s = sent_may port 0x58 s.1.0 old new s.1.2
+end_may port slot flag operation.Flush old new s = sent_may port 0x40 s.1.0 old new s.1.2
+end_may port slot flag operation.Trim old new s = sent_may port 0x40 s.1.0 old new s.1.2
+end_may port slot flag operation.ReadLog old new s = sent_may port 0x40 s.1.0 old new s.1.2
 
 after_may : (step : Step) (old new : Device) → SendsAfter step old new → (port : ℕ) × MayPost port 0 operation.Read old new
-after_may (Done port slot flag t) old new s = (port, end_may port flag t.meaning.operation old new s)
+after_may (Done port slot flag t) old new s = (port, end_may port slot flag t.meaning.operation old new s)
 after_may (LinkUp port sig n) old new s = (port, sent_may port 0x40 s.0 old new s.2)
 after_may (Fetch port slot meaning places) old new e = (0, inl e)
 after_may (FetchFault port slot queued kept_bits) old new e = (0, inl e)
@@ -62,8 +62,8 @@ may_rest : (port flag : ℕ) (o : Operation) (old new : Device) → MayPost port
 may_rest port flag o old new (inl same) = with_memory old new old.memory same
 may_rest port flag o old new (inr post) = with_memory old new _ post.2.effect
 
-pub end_rest : (port flag : ℕ) (o : Operation) (old new : Device) → SendsEnd port flag o old new → new ≡ record old { memory = new.memory }
-end_rest port flag o old new s = may_rest port flag o old new (end_may port flag o old new s)
+pub end_rest : (port slot flag : ℕ) (o : Operation) (old new : Device) → SendsEnd slot port flag o old new → new ≡ record old { memory = new.memory }
+end_rest port slot flag o old new s = may_rest port flag o old new (end_may port slot flag o old new s)
 
 pub after_rest : (step : Step) (old new : Device) → SendsAfter step old new → new ≡ record old { memory = new.memory }
 after_rest step old new s = let m = after_may step old new s in may_rest m.0 0 operation.Read old new m.1
@@ -75,19 +75,19 @@ after_steps step old new s = let m = after_may step old new s in post_steps m.0 
 
 -- ---- what was asked of the model was asked of an adapter
 
-ends_may : (port slot : ℕ) (old new : Device) → Ends SendsEnd port slot old new → Ends MayPost port slot old new
-ends_may port slot old new e = record { mid = e.mid; done = e.done; posts = end_may port e.done.flag e.done.t.meaning.operation e.mid new e.posts }
+ends_may : (port slot : ℕ) (old new : Device) → Ends (SendsEnd slot) port slot old new → Ends MayPost port slot old new
+ends_may port slot old new e = record { mid = e.mid; done = e.done; posts = end_may port slot e.done.flag e.done.t.meaning.operation e.mid new e.posts }
 
-one_may : (port slot : ℕ) (old new : Device) → DoesOne SendsEnd port slot old new → DoesOne MayPost port slot old new
+one_may : (port slot : ℕ) (old new : Device) → DoesOne (SendsEnd slot) port slot old new → DoesOne MayPost port slot old new
 one_may port slot old new (inl f) = inl f
 one_may port slot old new (inr (inl m)) = inr (inl m)
 one_may port slot old new (inr (inr e)) = inr (inr (ends_may port slot old new e))
 
-some_may : (n port slot : ℕ) (old new : Device) → DoesSome SendsEnd n port slot old new → DoesSome MayPost n port slot old new
+some_may : (n port slot : ℕ) (old new : Device) → DoesSome (SendsEnd slot) n port slot old new → DoesSome MayPost n port slot old new
 some_may zero port slot old new e = e
 some_may (suc n) port slot old new s = (s.0, some_may n port slot old s.0 s.1, one_may port slot s.0 new s.2)
 
-pub asked_may : (s : DeviceStep) (old new : Device) → AskedOf SendsEnd s old new → Asked s old new
+pub asked_may : (s : DeviceStep) (old new : Device) → AskedOf (Sends s) s old new → Asked s old new
 asked_may (asked.Fetch p slot) old new did = did
 asked_may (asked.Move p slot) old new did = did
 asked_may (asked.Done p slot) old new did = ends_may p.0 slot.0 old new did

@@ -9,7 +9,7 @@ use Rattle.adapter.specs.Commands.{is_ranged}
 use Rattle.adapter.specs.Commands.{Meaning}
 use Rattle.adapter.specs.Device.{Device, Taken}
 use Rattle.adapter.specs.Says.{Says, pieces, cut}
-use Rattle.adapter.specs.Steps.{Can, WorksOn, begun}
+use Rattle.adapter.specs.Steps.{Can, IsAlone, WorksOn, begun}
 use Rattle.adapter.specs.Steps.Step.{Fetch}
 use Rattle.adapter.specs.declared.command.Operation.{Operation}
 use Rattle.adapter.specs.declared.command.Operation.TheVariants.{Identify}
@@ -18,14 +18,15 @@ use Rattle.adapter.proofs.Absurd.{some-none, some_one}
 use Rattle.adapter.proofs.SaysLemmas.{says_meaning, says_places, cut_length, cut_index}
 use Rattle.device_model.specs.Finishing.{HasIdentify, Identifies, IsInside, AreInside, IsCovered, MayFinish, MayIdentify}
 use Rattle.device_model.specs.Fetched.{bytes_of}
-use Rattle.device_model.specs.Slots.{MayTake, MayTakeAny, HoldsAt}
-use Rattle.device_model.specs.View.{Media, Takes, operation_of, port_of, taken_of, blank}
+use Rattle.device_model.specs.Slots.{MayTake, MayTakeSome, HoldsAt}
+use Rattle.device_model.specs.View.{Media, operation_of, port_of, taken_of, blank}
 use Rattle.device_model.specs.Whole.{Outside, device_of}
 use Rattle.device_model.specs.declared.port.PortModel.{PortModel}
 use Rattle.device_model.specs.declared.port.TakenCommand.{TakenCommand}
 use Rattle.device_model.specs.declared.hardware.Hardware.{Hardware}
 use Rattle.device_model.proofs.Finishing.{holds}
 use Rattle.device_model.proofs.Stepping.{fetch_takes, fetch_says}
+use Rattle.device_model.specs.declared.port.Transfer.{Transfer}
 use Rattle.device_model.specs.declared.port.Transfer.TheVariants as transfer
 use Rattle.device_model.proofs.Transfers.{is_identify, is_taken}
 
@@ -104,25 +105,34 @@ left_is moved n left (Some x) is some = let same : x ≡ left = omega (arith, is
 
 -- ---- what is ready: a command that may be taken, or one that is
 
--- none of the commands that the model takes may be taken in this slot
+-- no command may be taken in this slot
 abbrev pub MayTakeNone : PortModel → ℕ → Type 0
-MayTakeNone p slot = (m : Media) (operation : Operation) → Takes operation → MayTake (port_of p m) slot operation → ⊥
+MayTakeNone p slot = (m : Media) (operation : Operation) → MayTake (port_of p m) slot operation → ⊥
+
+-- this command may be taken beside those that are
+abbrev pub IsBeside : PortModel → TakenCommand → Type 0
+IsBeside p r = (m : Media) → IsAlone (port_of p m) (operation_of r.transfer)
+
+pub may_be_taken : (p : PortModel) (slot : ℕ) (r : TakenCommand) → MayTakeSome p slot → IsBeside p r → (m : Media) →
+    MayTake (port_of p m) slot (operation_of r.transfer)
+may_be_taken p slot r may beside m =
+    let w = may m (operation_of r.transfer) in record { fetchable = w.0; working = w.1; alone = beside m }
 
 module _ (h : Hardware) (o : Outside) (p port slot sectors left : ℕ) (e : p ≡ port) (ready : MayFinish (device_of h o) port slot sectors left) where
   abbrev state : PortModel
   state = slice_index_or h.ports p blank
 
-  pub ready_fetch : MayTakeAny state slot →
+  pub ready_fetch : MayTakeSome state slot →
       Can (Fetch port slot ready.t.meaning ready.t.places) (device_of h o) × (ready.t ≡ begun ready.t.meaning ready.t.places)
   ready_fetch may = by ready.begins
     where
       by : WorksOn ((device_of h o).port port) slot ready.t ready.t.meaning.operation
           ⊎ (Can (Fetch port slot ready.t.meaning ready.t.places) (device_of h o) × (ready.t ≡ begun ready.t.meaning ready.t.places)) →
           Can (Fetch port slot ready.t.meaning ready.t.places) (device_of h o) × (ready.t ≡ begun ready.t.meaning ready.t.places)
-      by (inl works) = some-none (ap (λ (q : ℕ). ((device_of h o).port q).taken slot) e ∙ works.taken) (may (o.media p) ready.t.meaning.operation ready.takes).fetchable.free
+      by (inl works) = some-none (ap (λ (q : ℕ). ((device_of h o).port q).taken slot) e ∙ works.taken) (may (o.media p) ready.t.meaning.operation).0.free
       by (inr begins) = begins
 
-  pub ready_said : MayTakeAny state slot → Says (bytes_of h.memory.items) state.addresses.clb slot ready.t.meaning ready.t.places
+  pub ready_said : MayTakeSome state slot → Says (bytes_of h.memory.items) state.addresses.clb slot ready.t.meaning ready.t.places
   ready_said may = fetch_says h o p port slot ready.t.meaning ready.t.places e (ready_fetch may).0
 
   pub ready_held : MayTakeNone state slot → (r : TakenCommand) × HoldsAt state slot r × (ready.t ≡ taken_of r)
@@ -134,7 +144,7 @@ module _ (h : Hardware) (o : Outside) (p port slot sectors left : ℕ) (e : p �
       by (inl works) =
           let P : ℕ → Type 0 = λ q. (r : TakenCommand) × HoldsAt (slice_index_or h.ports q blank) slot r × (ready.t ≡ taken_of r) in
           subst P (sym e) (holds h o port slot ready.t ready.t.meaning.operation works)
-      by (inr begins) = absurd (never (o.media p) ready.t.meaning.operation ready.takes (fetch_takes h o p port slot ready.t.meaning ready.t.places e begins.0))
+      by (inr begins) = absurd (never (o.media p) ready.t.meaning.operation (fetch_takes h o p port slot ready.t.meaning ready.t.places e begins.0))
 
 module _ (h : Hardware) (p port slot sectors size : ℕ) (r : TakenCommand) (e : p ≡ port) (sized : size ≡ vec_len h.memory) where
   memory_size : size ≡ length h.memory.items
@@ -147,21 +157,21 @@ module _ (h : Hardware) (p port slot sectors size : ℕ) (r : TakenCommand) (e :
 
   -- a command that may be taken is ready
   pub ready_to_take : (result : Option ℕ) → IfSome result (λ left. IsCovered (taken_of r) size sectors left) → r.moved ≡ 0 →
-      MayTakeAny (slice_index_or h.ports p blank) slot →
+      MayTakeSome (slice_index_or h.ports p blank) slot → IsBeside (slice_index_or h.ports p blank) r →
       Says (bytes_of h.memory.items) (slice_index_or h.ports p blank).addresses.clb slot (taken_of r).meaning (taken_of r).places →
       IfSome result (λ left. (o : Outside) → MayFinish (device_of h o) port slot sectors left)
-  ready_to_take None covered unmoved may says = tt
-  ready_to_take (Some left) covered unmoved may says =
+  ready_to_take None covered unmoved may beside says = tt
+  ready_to_take (Some left) covered unmoved may beside says =
       λ (o : Outside).
       let P : ℕ → Type 0 = λ q. MayFinish (device_of h o) q slot sectors left in
-      let m = may (o.media p) (operation_of r.transfer) (is_taken r.transfer) in
+      let m = may (o.media p) (operation_of r.transfer) in
       subst P e
       (record {
         t = taken_of r;
         takes = is_taken r.transfer;
         covered = covers left covered;
         begins = inr (
-          record { fetchable = m.fetchable; working = m.working; alone = m.alone; says = says },
+          record { fetchable = m.0; working = m.1; alone = beside (o.media p); says = says },
           ap (λ n. record (begun (taken_of r).meaning (taken_of r).places) { moved = n }) unmoved,
         );
       })
@@ -183,7 +193,7 @@ module _ (h : Hardware) (p port slot sectors size : ℕ) (r : TakenCommand) (e :
       subst P (sym memory_size) (subst Q same ready.covered)
 
   -- where a command may be taken, one that is ready is the one that its slot's bytes say
-  ready_is_one : MayTakeAny (slice_index_or h.ports p blank) slot → r.moved ≡ 0 →
+  ready_is_one : MayTakeSome (slice_index_or h.ports p blank) slot → r.moved ≡ 0 →
       Says (bytes_of h.memory.items) (slice_index_or h.ports p blank).addresses.clb slot (taken_of r).meaning (taken_of r).places →
       (o : Outside) (left : ℕ) (ready : MayFinish (device_of h o) port slot sectors left) → ready.t ≡ taken_of r
   ready_is_one may unmoved says o left ready =
@@ -196,11 +206,21 @@ module _ (h : Hardware) (p port slot sectors size : ℕ) (r : TakenCommand) (e :
       (ready_fetch h o p port slot sectors left e ready may).1
       ∙ ((λ i. begun (meaning i) (places i)) ∙ ap (λ n. record (begun (taken_of r).meaning (taken_of r).places) { moved = n }) (sym unmoved))
 
-  pub ready_is_said : MayTakeAny (slice_index_or h.ports p blank) slot → r.moved ≡ 0 →
+  pub ready_is_said : MayTakeSome (slice_index_or h.ports p blank) slot → r.moved ≡ 0 →
       Says (bytes_of h.memory.items) (slice_index_or h.ports p blank).addresses.clb slot (taken_of r).meaning (taken_of r).places →
       (o : Outside) (left : ℕ) → MayFinish (device_of h o) port slot sectors left → IsCovered (taken_of r) size sectors left
   ready_is_said may unmoved says o left ready =
       covers_back left o ready (ready_is_one may unmoved says o left ready)
+
+  -- one that may not be taken beside those that are isn't ready
+  pub ready_beside : MayTakeSome (slice_index_or h.ports p blank) slot → r.moved ≡ 0 →
+      Says (bytes_of h.memory.items) (slice_index_or h.ports p blank).addresses.clb slot (taken_of r).meaning (taken_of r).places →
+      (o : Outside) (left : ℕ) → MayFinish (device_of h o) port slot sectors left → IsAlone (port_of (slice_index_or h.ports p blank) (o.media p)) (operation_of r.transfer)
+  ready_beside may unmoved says o left ready =
+      let same = ready_is_one may unmoved says o left ready in
+      let P : ℕ → Type 0 = λ q. IsAlone ((device_of h o).port q) ready.t.meaning.operation in
+      let alone = subst P (sym e) (ready_fetch h o p port slot sectors left e ready may).0.alone in
+      subst (λ (t : Taken). IsAlone (port_of (slice_index_or h.ports p blank) (o.media p)) t.meaning.operation) same alone
 
   -- where it is taken, the one that its slot holds
   pub ready_is_held : HoldsAt (slice_index_or h.ports p blank) slot r → MayTakeNone (slice_index_or h.ports p blank) slot →
@@ -222,9 +242,9 @@ module _ (h : Hardware) (slot size : ℕ) (sized : size ≡ vec_len h.memory) wh
 
   -- one that may be taken
   pub identify_said : (r : TakenCommand) → r.moved ≡ 0 → Says (bytes_of h.memory.items) port0.addresses.clb slot (taken_of r).meaning (taken_of r).places →
-      r.transfer ≡ transfer.Identify → MayTakeAny port0 slot → Ends r → (o : Outside) → HasIdentify (device_of h o) slot
-  identify_said r unmoved says kind may ends o =
-      let m = may (o.media 0) (operation_of r.transfer) (is_taken r.transfer) in
+      r.transfer ≡ transfer.Identify → MayTakeSome port0 slot → IsBeside port0 r → Ends r → (o : Outside) → HasIdentify (device_of h o) slot
+  identify_said r unmoved says kind may beside ends o =
+      let m = may (o.media 0) (operation_of r.transfer) in
       record {
         left = ends.0;
         ready = record {
@@ -232,7 +252,7 @@ module _ (h : Hardware) (slot size : ℕ) (sized : size ≡ vec_len h.memory) wh
           takes = is_taken r.transfer;
           covered = covers h 0 0 slot 0 size r refl sized ends.0 ends.1;
           begins = inr (
-            record { fetchable = m.fetchable; working = m.working; alone = m.alone; says = says },
+            record { fetchable = m.0; working = m.1; alone = beside (o.media 0); says = says },
             ap (λ n. record (begun (taken_of r).meaning (taken_of r).places) { moved = n }) unmoved,
           );
         };
@@ -242,13 +262,13 @@ module _ (h : Hardware) (slot size : ℕ) (sized : size ≡ vec_len h.memory) wh
 
   -- no other one may be
   pub identify_unsaid : ((m : Meaning) (places : List ℕ) → m.operation ≡ Identify → Says (bytes_of h.memory.items) port0.addresses.clb slot m places → ⊥) →
-      MayTakeAny port0 slot → (o : Outside) → HasIdentify (device_of h o) slot → ⊥
+      MayTakeSome port0 slot → (o : Outside) → HasIdentify (device_of h o) slot → ⊥
   identify_unsaid none may o has =
       none has.ready.t.meaning has.ready.t.places has.identifies (ready_said h o 0 0 slot 0 has.left refl has.ready may)
 
   -- and where one may be taken, it is the one that is ready
   pub identify_endless : (r : TakenCommand) → r.moved ≡ 0 → Says (bytes_of h.memory.items) port0.addresses.clb slot (taken_of r).meaning (taken_of r).places →
-      MayTakeAny port0 slot → ((left : ℕ) → IsCovered (taken_of r) size 0 left → AreInside (2 ^ 32) (pieces r.prds) → ⊥) → (o : Outside) →
+      MayTakeSome port0 slot → ((left : ℕ) → IsCovered (taken_of r) size 0 left → AreInside (2 ^ 32) (pieces r.prds) → ⊥) → (o : Outside) →
       HasIdentify (device_of h o) slot → ⊥
   identify_endless r unmoved says may never o has =
       let same = ready_is_one h 0 0 slot 0 size r refl sized may unmoved says o has.left has.ready in
@@ -288,15 +308,29 @@ module _ (h : Hardware) (slot : ℕ) where
 
   -- one that its slot's bytes say may be taken
   pub may_identify : (r : TakenCommand) → Says (bytes_of h.memory.items) first.addresses.clb slot (taken_of r).meaning (taken_of r).places →
-      r.transfer ≡ transfer.Identify → MayTakeAny first slot → (o : Outside) → MayIdentify (device_of h o) slot
-  may_identify r says kind may o =
-      let m = may (o.media 0) (operation_of r.transfer) (is_taken r.transfer) in
+      r.transfer ≡ transfer.Identify → MayTakeSome first slot → IsBeside first r → (o : Outside) → MayIdentify (device_of h o) slot
+  may_identify r says kind may beside o =
+      let m = may (o.media 0) (operation_of r.transfer) in
       record {
         meaning = (taken_of r).meaning;
         places = (taken_of r).places;
         identifies = ap operation_of kind;
-        can = record { fetchable = m.fetchable; working = m.working; alone = m.alone; says = says };
+        can = record { fetchable = m.0; working = m.1; alone = beside (o.media 0); says = says };
       }
+
+  -- and so may one that can be done to its end, where one may be
+  pub ready_may : MayTakeSome first slot → (o : Outside) → HasIdentify (device_of h o) slot → MayIdentify (device_of h o) slot
+  ready_may may o has = record {
+    meaning = has.ready.t.meaning;
+    places = has.ready.t.places;
+    identifies = has.identifies;
+    can = (ready_fetch h o 0 0 slot 0 has.left refl has.ready may).0;
+  }
+
+  -- none may be beside others that are taken
+  pub identify_crowded : (k : Transfer) → k ≡ transfer.Identify → ((m : Media) → IsAlone (port_of first m) (operation_of k) → ⊥) → (o : Outside) → MayIdentify (device_of h o) slot → ⊥
+  identify_crowded k kind crowded o may =
+      crowded (o.media 0) (subst (λ (x : Operation). IsAlone (port_of first (o.media 0)) x) (may.identifies ∙ ap operation_of (sym kind)) may.can.alone)
 
   -- none is said
   pub identify_unmeant : ((m : Meaning) (places : List ℕ) → m.operation ≡ Identify → Says (bytes_of h.memory.items) first.addresses.clb slot m places → ⊥) →
@@ -306,4 +340,4 @@ module _ (h : Hardware) (slot : ℕ) where
   -- none may be taken
   pub identify_barred : MayTakeNone first slot → (o : Outside) → MayIdentify (device_of h o) slot → ⊥
   identify_barred never o may =
-      never (o.media 0) may.meaning.operation (inr (inr may.identifies)) (fetch_takes h o 0 0 slot may.meaning may.places refl may.can)
+      never (o.media 0) may.meaning.operation (fetch_takes h o 0 0 slot may.meaning may.places refl may.can)

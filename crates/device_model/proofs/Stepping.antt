@@ -88,6 +88,8 @@ is_cause : (k : Transfer) → (cause_of k ≡ 0) ⊎ (cause_of k ≡ 1) ⊎ (cau
 is_cause transfer.Identify = inr (inl refl)
 is_cause transfer.Read = inl refl
 is_cause transfer.Write = inl refl
+is_cause transfer.ReadQueued = inr (inr refl)
+is_cause transfer.WriteQueued = inr (inr refl)
 
 -- a command of which all was moved may end
 pub may_end : (h : Hardware) (o : Outside) (port slot : ℕ) (t : TakenCommand) → HoldsAt (slice_index_or h.ports port blank) slot t →
@@ -103,10 +105,10 @@ pub port_ends : (h : Hardware) (o : Outside) (p port slot : ℕ) (new : PortMode
     p < length h.ports → HoldsAt (slice_index_or h.ports p blank) slot t → t.moved ≡ length (pieces t.prds) →
     port_of new (o.media p) ≡ with_done (port_of (slice_index_or h.ports p blank) (o.media p)) slot (cause_of t.transfer) (operation_of t.transfer) →
     tape.items ≡ h.tape.items ++ done_entry port slot (operation_of t.transfer) ∷ [] →
-    SendsEnd p (cause_of t.transfer) (operation_of t.transfer) (device_of (record h { ports = slice_set h.ports p new; tape = tape }) o) last →
-    Ends SendsEnd port slot (device_of h o) last
+    SendsEnd slot p (cause_of t.transfer) (operation_of t.transfer) (device_of (record h { ports = slice_set h.ports p new; tape = tape }) o) last →
+    Ends (SendsEnd slot) port slot (device_of h o) last
 port_ends h o p port slot new t tape last e small holds all is more sends =
-    subst (λ q. Ends SendsEnd q slot (device_of h o) last) e
+    subst (λ q. Ends (SendsEnd slot) q slot (device_of h o) last) e
     (record {
       mid = device_of (record h { ports = slice_set h.ports p new; tape = tape }) o;
       done = record {
@@ -149,8 +151,8 @@ port_moves h o p port slot next new t tape memory bytes operation direction e sm
 -- what the disk gave or took may be moved
 pub may_move : (h : Hardware) (o : Outside) (port slot : ℕ) (next : NextMove) (t : TakenCommand) (bytes : List ℕ) → IsNext h port slot next t →
     IsSector bytes → (is_ranged (operation_of next.transfer) ≡ true → next.sector < (o.media port).disk.size) →
-    (next.transfer ≡ transfer.Read → IfSome (o.media port).disk.sectors (λ f. bytes ≡ f next.sector)) →
-    (next.transfer ≡ transfer.Write → bytes ≡ bytes_at (bytes_of h.memory.items) next.address 512) → MayMove (device_of h o) port slot (taken_of t) bytes
+    (is_ranged (operation_of next.transfer) ≡ true → reads_memory (operation_of next.transfer) ≡ false → IfSome (o.media port).disk.sectors (λ f. bytes ≡ f next.sector)) →
+    (reads_memory (operation_of next.transfer) ≡ true → bytes ≡ bytes_at (bytes_of h.memory.items) next.address 512) → MayMove (device_of h o) port slot (taken_of t) bytes
 may_move h o port slot next t bytes is sized small gives takes =
     let place : next.address ≡ next_place (taken_of t) = is.address_is in
     let inside : next.address + 512 ≤ length h.memory.items = is.inside in
@@ -163,12 +165,22 @@ may_move h o port slot next t bytes is sized small gives takes =
           (by next.transfer refl);
     }
   where
-    by : (k : Transfer) → next.transfer ≡ k → Brings (o.media port).disk (bytes_of h.memory.items) (taken_of t) (operation_of k) bytes
-    by transfer.Read e =
+    given : is_ranged (operation_of next.transfer) ≡ true → reads_memory (operation_of next.transfer) ≡ false →
+        (next_sector (taken_of t) < (o.media port).disk.size) × IfSome (o.media port).disk.sectors (λ f. bytes ≡ f (next_sector (taken_of t)))
+    given ranged reads =
         let sector : next.sector ≡ next_sector (taken_of t) = is.sector_is in
-        (rw sector at (small (ap (λ (k : Transfer). is_ranged (operation_of k)) e)), rw sector at (gives e))
-    by transfer.Write e =
+        (rw sector at (small ranged), rw sector at (gives ranged reads))
+
+    taken : is_ranged (operation_of next.transfer) ≡ true → reads_memory (operation_of next.transfer) ≡ true →
+        (next_sector (taken_of t) < (o.media port).disk.size) × (bytes ≡ bytes_at (bytes_of h.memory.items) (next_place (taken_of t)) 512)
+    taken ranged reads =
         let sector : next.sector ≡ next_sector (taken_of t) = is.sector_is in
         let place : next.address ≡ next_place (taken_of t) = is.address_is in
-        (rw sector at (small (ap (λ (k : Transfer). is_ranged (operation_of k)) e)), rw place at (takes e))
+        (rw sector at (small ranged), rw place at (takes reads))
+
+    by : (k : Transfer) → next.transfer ≡ k → Brings (o.media port).disk (bytes_of h.memory.items) (taken_of t) (operation_of k) bytes
+    by transfer.Read e = given (ap (λ (k : Transfer). is_ranged (operation_of k)) e) (ap (λ (k : Transfer). reads_memory (operation_of k)) e)
+    by transfer.Write e = taken (ap (λ (k : Transfer). is_ranged (operation_of k)) e) (ap (λ (k : Transfer). reads_memory (operation_of k)) e)
+    by transfer.ReadQueued e = given (ap (λ (k : Transfer). is_ranged (operation_of k)) e) (ap (λ (k : Transfer). reads_memory (operation_of k)) e)
+    by transfer.WriteQueued e = taken (ap (λ (k : Transfer). is_ranged (operation_of k)) e) (ap (λ (k : Transfer). reads_memory (operation_of k)) e)
     by transfer.Identify e = tt

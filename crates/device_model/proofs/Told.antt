@@ -18,7 +18,7 @@ use Rattle.device_model.specs.Does.{AnswersStep, IsLeftOut, StepKeeps, LacksMemo
 use Rattle.device_model.specs.Finishing.{HasRoom, IsPassed}
 use Rattle.device_model.specs.Modelled.{device_at, outside_at}
 use Rattle.device_model.specs.Sent.{SendsEnd}
-use Rattle.device_model.specs.View.{Takes, blank}
+use Rattle.device_model.specs.View.{Takes, held_in, blank}
 use Rattle.device_model.specs.Whole.{Outside, device_of}
 use Rattle.device_model.specs.declared.hardware.Hardware.{Hardware}
 use Rattle.device_model.specs.declared.model.Model.{Model}
@@ -35,9 +35,9 @@ fetched_takes old h o port slot f =
     ap (λ (d : Device). (d.port port).taken slot) f.effect
     ∙ (ap (λ p. p.taken slot) (changed_same old.port port (with_fetch (old.port port) slot f.meaning f.places))
     ∙ changed_same (old.port port).taken slot (Some t)) in
-    let w = taken_slot (slice_index_or h.ports port blank).taken slot t taken in
+    let w = taken_slot (held_in (slice_index_or h.ports port blank).taken.slots) slot t taken in
     let P : Taken → Type 0 = λ x. Takes x.meaning.operation in
-    subst P (sym w.3) (is_taken w.0.transfer)
+    subst P (sym w.2) (is_taken w.0.transfer)
 
 module _ {S : Type 0} (size : S → ℕ) (told : S → Option (ℕ → List ℕ)) (failures : S → Option Failures) (m : Model S) (h : Hardware) where
   abbrev new : Model S
@@ -105,7 +105,7 @@ module _ {S : Type 0} (size : S → ℕ) (told : S → Option (ℕ → List ℕ)
   }
 
   pub done_answers : (p : Port) (s : Slot) (did : Bool) → p.0 < 4 → s.0 < 32 →
-      (did ≡ true → Ends SendsEnd p.0 s.0 (device_of m.hardware behind) (device_of h behind)) → (did ≡ false → device_of h behind ≡ device_of m.hardware behind) →
+      (did ≡ true → Ends (SendsEnd s.0) p.0 s.0 (device_of m.hardware behind) (device_of h behind)) → (did ≡ false → device_of h behind ≡ device_of m.hardware behind) →
       (did ≡ false → IsPassed m.hardware h ((flag : ℕ) × (t : Taken) × Can (Done p.0 s.0 flag t) (device_of m.hardware behind))) →
       (did ≡ true → h.starved ≡ m.hardware.starved) → AnswersStep size told failures (asked.Done p s) did m new
   done_answers p s true port slot done same passed starved =

@@ -15,7 +15,7 @@ use Rattle.device_model.specs.Does.{AnswersStep, MovesSector, Possible, PutsIn, 
 use Rattle.device_model.specs.Finishing.{HasMove}
 use Rattle.device_model.specs.Modelled.{device_at}
 use Rattle.device_model.specs.Queue.{DoesEach}
-use Rattle.device_model.specs.Sent.{SendsEnd}
+use Rattle.device_model.specs.Sent.{Sends}
 use Rattle.device_model.specs.declared.disks.Which.{Which}
 use Rattle.device_model.specs.declared.disks.Which.TheVariants.{Disk0, Disk1}
 use Rattle.device_model.specs.declared.model.Model.{Model}
@@ -41,7 +41,7 @@ still_out (asked.Unplug p) d w v out never may = out
 
 -- where port 0 has no disk, nothing that is asked puts one in, but a Plug
 still_empty : (s : DeviceStep) (old new : Device) (w v : Which) → w ≡ v → (old.port 0).present ≡ false → (PutsIn w s → ⊥) → Possible s old →
-    AskedOf SendsEnd s old new → w ≡ which_after s v → (new.port 0).present ≡ false
+    AskedOf (Sends s) s old new → w ≡ which_after s v → (new.port 0).present ≡ false
 still_empty (asked.Fetch p s) old new w v is empty never may did same = one_keeps_present p.0 s.0 old new (inl did) ∙ empty
 still_empty (asked.Move p s) old new w v is empty never may did same = one_keeps_present p.0 s.0 old new (inr (inl did)) ∙ empty
 still_empty (asked.Done p s) old new w v is empty never may did same = one_keeps_present p.0 s.0 old new (inr (inr did)) ∙ empty

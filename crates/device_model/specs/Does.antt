@@ -1,16 +1,17 @@
 -- What a model makes of a step that it is told: when the step is possible, what it changes where it is done, and what stays where it is left
 -- (this project's own).
-use Rattle.std.specs.Prelude.{ℕ, Bool, true, false, ◌≡◌, ◌≢◌, ◌+◌, ◌^◌, ◌<◌, ◌≤◌, ◌⊎◌, List, Option, Some, if◌then◌else◌, nat_eq}
+use Rattle.std.specs.Prelude.{ℕ, Bool, true, false, ◌≡◌, ◌≢◌, ◌+◌, ◌^◌, ◌<◌, ◌≤◌, ◌⊎◌, List, [], ◌∷◌, ◌++◌, Option, None, Some, if◌then◌else◌, nat_eq}
 use Rattle.std.specs.Global.{Vec}
 use Rattle.std.specs.Vec.{vec_len, vec_capacity}
 use Rattle.adapter.specs.Asked.{AskedOf}
-use Rattle.adapter.specs.Commands.{Meaning, is_ranged, reads_memory}
+use Rattle.adapter.specs.Commands.{Meaning, is_queued, is_ranged, reads_memory}
 use Rattle.adapter.specs.Device.{Device, Taken}
-use Rattle.adapter.specs.OneCommand.{IsFreeSlot}
-use Rattle.adapter.specs.Steps.{Can, next_sector}
+use Rattle.adapter.specs.Steps.{Can, done_entry, next_sector}
 use Rattle.adapter.specs.Steps.Step.{Fetch, Done, Unplug}
 use Rattle.adapter.specs.declared.access.DeviceStep.{DeviceStep}
 use Rattle.adapter.specs.declared.access.DeviceStep.TheVariants as asked
+use Rattle.adapter.specs.declared.command.Operation.{Operation}
+use Rattle.adapter.specs.declared.tape.Entry.{Entry}
 use Rattle.sector_store.specs.Stores.{FailsOn}
 use Rattle.sector_store.specs.declared.store.Failures.{Failures}
 use Rattle.device_model.specs.Disks.{disk_number, store_of}
@@ -18,7 +19,7 @@ use Rattle.device_model.specs.Finishing.{HasMove, HasRoom, MayFinish}
 use Rattle.device_model.specs.Held.{held_after}
 use Rattle.device_model.specs.Modelled.{device_at}
 use Rattle.device_model.specs.Paged.{GainsPages, lying, no_lies}
-use Rattle.device_model.specs.Sent.{SendsEnd}
+use Rattle.device_model.specs.Sent.{Sends}
 use Rattle.device_model.specs.View.{Takes}
 use Rattle.device_model.specs.declared.disks.Inserted.{Inserted}
 use Rattle.device_model.specs.declared.disks.Which.{Which}
@@ -117,9 +118,18 @@ StoreCuts step was now d = ⊥
 abbrev pub NoneFails : {S : Type 0} → (S → Option Failures) → Model S → Model S → Type 0
 NoneFails failures old new = (which : Which) → failures (store_of new which) ≡ failures (store_of old which)
 
+-- The slot's command has ended just now, as the tape tells last: it is taken no more, and its bit is clear, of PxSACT if it was queued, and else of
+-- PxCI.
+pub record HasEnded (d : Device) (port slot : ℕ) : Type 0 where
+  pub operation : Operation
+  pub before : List Entry
+  pub last : d.tape ≡ before ++ done_entry port slot operation ∷ []
+  pub taken : (d.port port).taken slot ≡ None
+  pub clear : (if is_queued operation then (d.port port).sact slot else (d.port port).ci slot) ≡ false
+
 -- a Finish ends its command
 abbrev pub EndsIt : DeviceStep → Device → Type 0
-EndsIt (asked.Finish p s) d = IsFreeSlot (d.port p.0) s.0
+EndsIt (asked.Finish p s) d = HasEnded d p.0 s.0
 EndsIt step d = Unit {0}
 
 -- A step that is done: the device did what it was asked, and sent the FIS of a command that ended. No call on a store has failed, and a Finish ended its
@@ -128,7 +138,7 @@ EndsIt step d = Unit {0}
 -- they say after it, and each page that the tape has gained is as the one that was in said before; and that nothing was left out for want of memory is
 -- told as it was.
 pub record Did {S : Type 0} (size : S → ℕ) (told : S → Option (ℕ → List ℕ)) (failures : S → Option Failures) (s : DeviceStep) (old new : Model S) : Type 0 where
-  pub asked : AskedOf SendsEnd s (device_at size told old) (device_at size told new)
+  pub asked : AskedOf (Sends s) s (device_at size told old) (device_at size told new)
   pub ends : StoreCuts s (failures old.disk) (failures new.disk) (device_at size told new)
       ⊎ (NoneFails failures old new × ((device_at size told old).size ≤ 2 ^ 32 → EndsIt s (device_at size told new)))
   pub held : new.held ≡ held_after s old.held

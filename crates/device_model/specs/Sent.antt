@@ -1,15 +1,18 @@
 -- The FISes that the model sends, in the received FIS area of a port (Serial ATA; AHCI 1.3.1, 4.2.1).
-use Rattle.std.specs.Prelude.{ℕ, Bool, true, false, ◌≡◌, ◌+◌, ◌/◌, ◌%◌, ◌&&◌, List, bit_or, nat_le}
+use Rattle.std.specs.Prelude.{ℕ, Bool, true, false, ◌≡◌, ◌+◌, ◌/◌, ◌%◌, ◌^◌, ◌&&◌, List, bit_and, bit_or, nat_le}
 use Rattle.ata_types.specs.declared.memory.TheConstants.{RECEIVED_BYTES}
-use Rattle.adapter.specs.Asked.{IsPosted}
+use Rattle.adapter.specs.Asked.{IsPosted, PostsNone}
 use Rattle.adapter.specs.Device.{PortState, Device}
 use Rattle.adapter.specs.Steps.{Step}
 use Rattle.adapter.specs.Steps.Step.{Done, LinkUp}
+use Rattle.adapter.specs.declared.access.DeviceStep.{DeviceStep}
+use Rattle.adapter.specs.declared.access.DeviceStep.TheVariants as asked
 use Rattle.adapter.specs.declared.command.Operation.{Operation}
-use Rattle.adapter.specs.declared.command.Operation.TheVariants.{Identify}
-use Rattle.fis.specs.Spelling.{SpellsDeviceToHost, SpellsPioSetup}
+use Rattle.adapter.specs.declared.command.Operation.TheVariants.{Identify, ReadQueued, WriteQueued}
+use Rattle.fis.specs.Spelling.{SpellsDeviceToHost, SpellsPioSetup, SpellsSetDeviceBits}
 use Rattle.fis.specs.declared.DeviceToHost.{DeviceToHost}
 use Rattle.fis.specs.declared.PioSetup.{PioSetup}
+use Rattle.fis.specs.declared.SetDeviceBits.{SetDeviceBits}
 
 -- ---- what is sent: status and error are those of PxTFD
 
@@ -32,6 +35,10 @@ page_setup p =
 abbrev pub end_of : PortState → DeviceToHost
 end_of p = record { interrupt = true; status = p.tfd % 256; error = p.tfd / 256; lba = 0; device = 0; count = 0 }
 
+-- the queued command of a slot ended without error: its tag, and the status without BSY and DRQ, which this FIS doesn't set
+abbrev pub tag_of : ℕ → PortState → SetDeviceBits
+tag_of slot p = record { interrupt = true; status = bit_and (p.tfd % 256) 0x77; error = p.tfd / 256; tags = 2 ^ slot }
+
 -- the first FIS of an ATA disk: its signature has LBA 1 and count 1 (ACS-3), as PxSIG shows it; it asks for no interrupt
 abbrev pub signature_of : PortState → DeviceToHost
 signature_of p = record { interrupt = false; status = p.tfd % 256; error = p.tfd / 256; lba = 1; device = 0; count = 1 }
@@ -47,23 +54,34 @@ pub record IsSent (port place : ℕ) (bytes : List ℕ) (old new : Device) : Typ
   pub posted : is_received (old.port port) old.size ≡ true → IsPosted port ((old.port port).bases.fb + place) bytes old new
   pub lost : is_received (old.port port) old.size ≡ false → new ≡ old
 
--- where a PIO Setup FIS and a Register FIS stand in the area (AHCI 1.3.1, 4.2.1)
+-- where a PIO Setup FIS, a Register FIS and a Set Device Bits FIS stand in the area (AHCI 1.3.1, 4.2.1)
 abbrev pub SendsSetup : ℕ → PioSetup → Device → Device → Type 0
 SendsSetup port fis old new = (bytes : List ℕ) × SpellsPioSetup bytes fis × IsSent port 0x20 bytes old new
 
 abbrev pub SendsRegisters : ℕ → DeviceToHost → Device → Device → Type 0
 SendsRegisters port fis old new = (bytes : List ℕ) × SpellsDeviceToHost bytes fis × IsSent port 0x40 bytes old new
 
+abbrev pub SendsBits : ℕ → SetDeviceBits → Device → Device → Type 0
+SendsBits port fis old new = (bytes : List ℕ) × SpellsSetDeviceBits bytes fis × IsSent port 0x58 bytes old new
+
 -- ---- when it is sent
 
--- As a command ends: of IDENTIFY DEVICE a PIO Setup FIS, which PSS of PxIS tells, and of the others that the model takes a Register FIS, which DHRS
--- tells (AHCI 1.3.1, 3.3.5).
-abbrev pub SendsEnd : (port flag : ℕ) → Operation → Device → Device → Type 0
-SendsEnd port flag Identify old new = (flag ≡ 1) × SendsSetup port (page_setup (old.port port)) old new
-SendsEnd port flag _ old new = (flag ≡ 0) × SendsRegisters port (end_of (old.port port)) old new
+-- As a slot's command ends: of IDENTIFY DEVICE a PIO Setup FIS, which PSS of PxIS tells; of a queued one a Set Device Bits FIS, which SDBS tells; and of
+-- the others that the model takes a Register FIS, which DHRS tells (AHCI 1.3.1, 3.3.5).
+abbrev pub SendsEnd : (slot port flag : ℕ) → Operation → Device → Device → Type 0
+SendsEnd slot port flag Identify old new = (flag ≡ 1) × SendsSetup port (page_setup (old.port port)) old new
+SendsEnd slot port flag ReadQueued old new = (flag ≡ 3) × SendsBits port (tag_of slot (old.port port)) old new
+SendsEnd slot port flag WriteQueued old new = (flag ≡ 3) × SendsBits port (tag_of slot (old.port port)) old new
+SendsEnd slot port flag _ old new = (flag ≡ 0) × SendsRegisters port (end_of (old.port port)) old new
+
+-- as the command of the slot that a step names ends
+abbrev pub Sends : DeviceStep → (port flag : ℕ) → Operation → Device → Device → Type 0
+Sends (asked.Done p s) = SendsEnd s.0
+Sends (asked.Finish p s) = SendsEnd s.0
+Sends step = PostsNone
 
 -- after a step that the model does by itself: as a command ends, and as the link comes up
 abbrev pub SendsAfter : Step → Device → Device → Type 0
-SendsAfter (Done port slot flag t) old new = SendsEnd port flag t.meaning.operation old new
+SendsAfter (Done port slot flag t) old new = SendsEnd slot port flag t.meaning.operation old new
 SendsAfter (LinkUp port sig n) old new = SendsRegisters port (signature_of (old.port port)) old new
 SendsAfter step old new = new ≡ old

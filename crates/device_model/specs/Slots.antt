@@ -4,7 +4,7 @@ use Rattle.adapter.specs.Device.{PortState}
 use Rattle.adapter.specs.Says.{pieces}
 use Rattle.adapter.specs.Steps.{IsFetchable, IsWorking, IsAlone, WorksOn, next_sector}
 use Rattle.adapter.specs.declared.command.Operation.{Operation}
-use Rattle.device_model.specs.View.{Media, Takes, port_of, operation_of, taken_of, blank}
+use Rattle.device_model.specs.View.{Media, held_in, port_of, operation_of, taken_of, blank}
 use Rattle.device_model.specs.declared.port.TakenCommand.{TakenCommand}
 use Rattle.device_model.specs.declared.port.PortModel.{PortModel}
 use Rattle.device_model.specs.declared.hardware.Hardware.{Hardware}
@@ -16,14 +16,13 @@ pub record MayTake (p : PortState) (slot : ℕ) (operation : Operation) : Type 0
   pub working : IsWorking p operation
   pub alone : IsAlone p operation
 
--- the commands that the model takes may be taken in this slot, if its bytes say one
-abbrev pub MayTakeAny : PortModel → ℕ → Type 0
-MayTakeAny p slot = (m : Media) (operation : Operation) → Takes operation → MayTake (port_of p m) slot operation
+-- a command may be taken in this slot, if its bytes say one that may be taken beside those that are
+abbrev pub MayTakeSome : PortModel → ℕ → Type 0
+MayTakeSome p slot = (m : Media) (operation : Operation) → IsFetchable (port_of p m) slot × IsWorking (port_of p m) operation
 
 -- the port works on this command, which it has taken in this slot
 pub record HoldsAt (p : PortModel) (slot : ℕ) (t : TakenCommand) : Type 0 where
-  pub held : p.taken ≡ Some t
-  pub slot_is : t.slot ≡ slot
+  pub held : held_in p.taken.slots slot ≡ Some t
   pub works : (m : Media) → WorksOn (port_of p m) slot (taken_of t) (operation_of t.transfer)
 
 -- the next piece of this command goes to or from this address, and is this sector, if it is one

@@ -1,14 +1,13 @@
 -- The state that a model stands for.
-use Rattle.std.specs.Prelude.{ℕ, false, ◌≡◌, ◌%◌, ◌⊎◌, List, [], Option, None, Some, unwrap_or, if◌then◌else◌}
+use Rattle.std.specs.Prelude.{ℕ, false, ◌≡◌, ◌%◌, ◌⊎◌, List, [], Option, None, option_map, unwrap_or, slice_index_or, if◌then◌else◌}
 use Rattle.adapter.specs.Device.{Disk, Taken, Bases, Notes, PortState}
 use Rattle.adapter.specs.Device.Halt.{NotHalted}
 use Rattle.adapter.specs.Says.{pieces}
 use Rattle.adapter.specs.Access.{unacknowledged}
-use Rattle.adapter.specs.Memory.{changed}
 use Rattle.adapter.specs.Steps.{next_sector, disk_after}
 use Rattle.hba_regs.specs.Bits.{bit}
 use Rattle.adapter.specs.declared.command.Operation.{Operation}
-use Rattle.adapter.specs.declared.command.Operation.TheVariants.{Identify, Read, Write}
+use Rattle.adapter.specs.declared.command.Operation.TheVariants.{Identify, Read, ReadQueued, Write, WriteQueued}
 use Rattle.device_model.specs.Bits.{bits_of}
 use Rattle.device_model.specs.declared.port.Addresses.{Addresses}
 use Rattle.device_model.specs.declared.port.Readings.{Readings}
@@ -46,18 +45,23 @@ notes_of r =
       acknowledged = r.acknowledged;
     }
 
--- the model takes READ DMA EXT, WRITE DMA EXT and IDENTIFY DEVICE
+-- the model takes READ DMA EXT, WRITE DMA EXT, IDENTIFY DEVICE, READ FPDMA QUEUED and WRITE FPDMA QUEUED
 abbrev pub Takes : Operation → Type 0
-Takes operation = (operation ≡ Read) ⊎ (operation ≡ Write) ⊎ (operation ≡ Identify)
+Takes operation =
+    (operation ≡ Read) ⊎ (operation ≡ Write) ⊎ (operation ≡ Identify) ⊎ (operation ≡ ReadQueued) ⊎ (operation ≡ WriteQueued)
 
 abbrev pub operation_of : Transfer → Operation
 operation_of transfer.Read = Read
 operation_of transfer.Write = Write
+operation_of transfer.ReadQueued = ReadQueued
+operation_of transfer.WriteQueued = WriteQueued
 operation_of transfer.Identify = Identify
 
--- the cause in PxIS that its end sets: PSS where its data go by PIO, and else DHRS (AHCI 1.3.1, 3.3.5)
+-- the cause in PxIS that its end sets: PSS where its data go by PIO, SDBS where it was queued, and else DHRS (AHCI 1.3.1, 3.3.5)
 abbrev pub cause_of : Transfer → ℕ
 cause_of transfer.Identify = 1
+cause_of transfer.ReadQueued = 3
+cause_of transfer.WriteQueued = 3
 cause_of _ = 0
 
 abbrev pub taken_of : TakenCommand → Taken
@@ -70,10 +74,13 @@ taken_of t =
       cleared = 0;
     }
 
--- by slot, where one command is taken, or none
-abbrev pub slots_of : Option TakenCommand → ℕ → Option Taken
-slots_of None = λ slot. None
-slots_of (Some t) = changed (λ slot. None) t.slot (Some (taken_of t))
+-- what is in each slot of a list of them
+abbrev pub held_in : List (Option TakenCommand) → ℕ → Option TakenCommand
+held_in slots = λ slot. slice_index_or slots slot None
+
+-- the command that is taken in each slot
+abbrev pub slots_of : (ℕ → Option TakenCommand) → ℕ → Option Taken
+slots_of taken = λ slot. option_map taken_of (taken slot)
 
 -- what is behind a port: its disk, and those that were plugged in
 pub record Media : Type 0 where
@@ -109,7 +116,7 @@ port_of p m =
       link_due = p.link_due;
       halt = NotHalted;
       broken = false;
-      taken = slots_of p.taken;
+      taken = slots_of (held_in p.taken.slots);
       notes = notes_of p.readings;
     }
 
@@ -139,7 +146,7 @@ blank =
       present = false;
       fresh = false;
       link_due = false;
-      taken = None;
+      taken = record { slots = [] };
       readings = record {
         st_set_at = 0;
         sctl_written_at = 0;

@@ -114,22 +114,49 @@ fn sectors_of(register: u16) -> u32
     }
 }
 
-/// The sectors that the bytes name, if they are the FIS of a command with this code that names sectors in this way.
+/// Whether the bytes are a FIS with this code whose LBA is that of a sector: kind and C bit, code and device are right, and its last bytes zero.
+fn is_ranged_fis(bytes: &[u8], code: u8) -> bool
+    requires { length bytes.now ≡ 20 }
+    ensures { IsTrue result ↔ ((slice_index bytes.now 0 ≡ 0x27) × (slice_index bytes.now 1 ≡ 0x80) × (slice_index bytes.now 2 ≡ code)
+        × (slice_index bytes.now 7 ≡ 0x40) × AreZero bytes.now 14 20) }
+{
+    bytes[0] == 0x27
+        && bytes[1] == 0x80
+        && bytes[2] == code
+        && bytes[7] == 0x40
+        && are_zero(bytes, 14, 20)
+}
+
+/// The sectors that the bytes name, if they are the FIS of a plain command with this code that names some.
 fn decode_range(bytes: &[u8], code: u8) -> Option<Sectors>
     requires { length bytes.now ≡ 20 }
     ensures found { IfSome result (λ s. SpellsCommand bytes.now (with_fields code 0 (s.count % 65536) s.first 0x40)) }
     ensures range { IfSome result (λ s. (1 ≤ s.count) × (s.count ≤ 65536) × (s.first < 2 ^ 48)) }
     ensures only { (s : Sectors) → 1 ≤ s.count → s.count ≤ 65536 → SpellsCommand bytes.now (with_fields code 0 (s.count % 65536) s.first 0x40) → result ≡ Some s }
 {
-    if bytes[0] != 0x27 || bytes[1] != 0x80 || bytes[2] != code {
-        return None;
-    }
-    if bytes[3] != 0 || bytes[11] != 0 || bytes[7] != 0x40 || !are_zero(bytes, 14, 20) {
+    if !is_ranged_fis(bytes, code) || bytes[3] != 0 || bytes[11] != 0 {
         return None;
     }
     Some(Sectors {
         first: lba_of(bytes),
         count: sectors_of(LittleEndian::read_u16(&bytes[12..])),
+    })
+}
+
+/// The sectors that the bytes name, if they are the FIS of a queued command with this code and this tag: the features count its sectors.
+fn decode_queued(bytes: &[u8], code: u8, tag: u8) -> Option<Sectors>
+    requires size { length bytes.now ≡ 20 }
+    requires tag { tag < 32 }
+    ensures found { IfSome result (λ s. SpellsCommand bytes.now (with_fields code (s.count % 65536) (8 * tag) s.first 0x40)) }
+    ensures range { IfSome result (λ s. (1 ≤ s.count) × (s.count ≤ 65536) × (s.first < 2 ^ 48)) }
+    ensures only { (s : Sectors) → 1 ≤ s.count → s.count ≤ 65536 → SpellsCommand bytes.now (with_fields code (s.count % 65536) (8 * tag) s.first 0x40) → result ≡ Some s }
+{
+    if !is_ranged_fis(bytes, code) || bytes[12] != 8 * tag || bytes[13] != 0 {
+        return None;
+    }
+    Some(Sectors {
+        first: lba_of(bytes),
+        count: sectors_of(u16::from(bytes[3]) + 256 * u16::from(bytes[11])),
     })
 }
 
@@ -141,17 +168,20 @@ fn is_identify(bytes: &[u8]) -> bool
     bytes[0] == 0x27 && bytes[1] == 0x80 && bytes[2] == 0xec && are_zero(bytes, 3, 20)
 }
 
-/// The sectors that the bytes name, if they are the FIS of such a command; none where it names none.
-fn decode_sectors(bytes: &[u8], transfer: Transfer) -> Option<Sectors>
-    requires { length bytes.now ≡ 20 }
-    ensures found { IfSome result (λ s. (slot : ℕ) → SpellsCommand bytes.now (command_of (operation_of transfer) slot s.first s.count)) }
+/// The sectors that the bytes name, if they are the FIS of such a command in this slot; none where it names none.
+fn decode_sectors(bytes: &[u8], slot: u8, transfer: Transfer) -> Option<Sectors>
+    requires size { length bytes.now ≡ 20 }
+    requires slot { slot < 32 }
+    ensures found { IfSome result (λ s. SpellsCommand bytes.now (command_of (operation_of transfer) slot s.first s.count)) }
     ensures meant { IfSome result (λ s. IsMeaning (record { operation = operation_of transfer; first = s.first; count = s.count })) }
-    ensures only { (slot : ℕ) (s : Sectors) → IsMeaning (record { operation = operation_of transfer; first = s.first; count = s.count }) →
+    ensures only { (s : Sectors) → IsMeaning (record { operation = operation_of transfer; first = s.first; count = s.count }) →
         SpellsCommand bytes.now (command_of (operation_of transfer) slot s.first s.count) → result ≡ Some s }
 {
     match transfer {
         Transfer::Read => decode_range(bytes, 0x25),
         Transfer::Write => decode_range(bytes, 0x35),
+        Transfer::ReadQueued => decode_queued(bytes, 0x60, slot),
+        Transfer::WriteQueued => decode_queued(bytes, 0x61, slot),
         Transfer::Identify => {
             if is_identify(bytes) {
                 Some(Sectors { first: 0, count: 0 })
@@ -193,17 +223,18 @@ fn header_at(memory: &[u8], at: usize, writes: bool) -> Option<Header>
     decode_header(&bytes, writes)
 }
 
-/// The sectors that the FIS at an address names, if it is one of such a command.
-fn sectors_at(memory: &[u8], at: usize, transfer: Transfer) -> Option<Sectors>
-    requires { at < 2 ^ 33 }
-    ensures found { IfSome result (λ s. (slot : ℕ) → SpellsCommand (bytes_at (bytes_of memory.now) at 20) (command_of (operation_of transfer) slot s.first s.count)) }
+/// The sectors that the FIS at an address names, if it is one of such a command in this slot.
+fn sectors_at(memory: &[u8], at: usize, slot: u8, transfer: Transfer) -> Option<Sectors>
+    requires low { at < 2 ^ 33 }
+    requires slot { slot < 32 }
+    ensures found { IfSome result (λ s. SpellsCommand (bytes_at (bytes_of memory.now) at 20) (command_of (operation_of transfer) slot s.first s.count)) }
     ensures meant { IfSome result (λ s. IsMeaning (record { operation = operation_of transfer; first = s.first; count = s.count })) }
-    ensures only { (slot : ℕ) (s : Sectors) → IsMeaning (record { operation = operation_of transfer; first = s.first; count = s.count }) →
+    ensures only { (s : Sectors) → IsMeaning (record { operation = operation_of transfer; first = s.first; count = s.count }) →
         SpellsCommand (bytes_at (bytes_of memory.now) at 20) (command_of (operation_of transfer) slot s.first s.count) → result ≡ Some s }
 {
     let mut bytes = [0; 20];
     copy_bytes(memory, at, &mut bytes);
-    decode_sectors(&bytes, transfer)
+    decode_sectors(&bytes, slot, transfer)
 }
 
 /// The PRD at an address, if there is one of a whole number of pieces.
@@ -267,7 +298,6 @@ pub fn read_as(memory: &[u8], list: u32, slot: u8, transfer: Transfer) -> Option
     requires { slot < 32 }
     ensures found { IfSome result (λ t. (t.moved ≡ 0) × Says (bytes_of memory.now) list slot (taken_of t).meaning (taken_of t).places) }
     ensures kind { IfSome result (λ t. t.transfer ≡ transfer) }
-    ensures placed { IfSome result (λ t. t.slot ≡ slot) }
     ensures only { result ≡ None → (m : Meaning) (places : List ℕ) → m.operation ≡ operation_of transfer → Says (bytes_of memory.now) list slot m places → ⊥ }
 {
     let writes = transfer.reads_memory();
@@ -280,7 +310,7 @@ pub fn read_as(memory: &[u8], list: u32, slot: u8, transfer: Transfer) -> Option
     };
     let table = header.table as usize;
     let entries = usize::from(header.entries);
-    let Some(sectors) = sectors_at(memory, table, transfer) else {
+    let Some(sectors) = sectors_at(memory, table, slot, transfer) else {
         return None;
     };
     let mut prds = [NO_PRD; 128];
@@ -292,7 +322,6 @@ pub fn read_as(memory: &[u8], list: u32, slot: u8, transfer: Transfer) -> Option
         return None;
     }
     Some(TakenCommand {
-        slot,
         transfer,
         first: sectors.first,
         count: sectors.count,
@@ -305,13 +334,18 @@ pub fn read_as(memory: &[u8], list: u32, slot: u8, transfer: Transfer) -> Option
 pub fn read_command(memory: &[u8], list: u32, slot: u8) -> Option<TakenCommand>
     requires { slot < 32 }
     ensures found { IfSome result (λ t. (t.moved ≡ 0) × Says (bytes_of memory.now) list slot (taken_of t).meaning (taken_of t).places) }
-    ensures placed { IfSome result (λ t. t.slot ≡ slot) }
     ensures only { result ≡ None → (m : Meaning) (places : List ℕ) → Takes m.operation → Says (bytes_of memory.now) list slot m places → ⊥ }
 {
     if let Some(command) = read_as(memory, list, slot, Transfer::Read) {
         return Some(command);
     }
     if let Some(command) = read_as(memory, list, slot, Transfer::Write) {
+        return Some(command);
+    }
+    if let Some(command) = read_as(memory, list, slot, Transfer::ReadQueued) {
+        return Some(command);
+    }
+    if let Some(command) = read_as(memory, list, slot, Transfer::WriteQueued) {
         return Some(command);
     }
     read_as(memory, list, slot, Transfer::Identify)

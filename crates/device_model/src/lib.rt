@@ -1,6 +1,7 @@
 //! A modelled AHCI adapter: registers, memory, and two disks for port 0, each over a store of sectors. Its device does what it is told,
 //! and by itself ends a reset, lets engines fall, brings the link up, and does IDENTIFY DEVICE, but not on a port that is
-//! held. For now it takes READ DMA EXT, WRITE DMA EXT and IDENTIFY DEVICE alone.
+//! held. For now it takes READ DMA EXT, WRITE DMA EXT, READ FPDMA QUEUED, WRITE FPDMA QUEUED and IDENTIFY
+//! DEVICE alone.
 #![tactic(auto)]
 
 mod bits;
@@ -16,6 +17,7 @@ mod sending;
 mod settling;
 mod slots;
 mod steps;
+mod taken;
 
 pub use config::{ModelConfig, NoMemory};
 pub use model::Model;

@@ -55,8 +55,8 @@ pub struct Description {
 }
 
 /// A modelled adapter. Port 0 has disk 0 at first, over the first store; it can be taken out, and put in again, or disk 1 in its place, over the
-/// second one. The others of ports 0 to 3 that there are have no device. Of all commands it takes READ DMA EXT, WRITE DMA EXT and IDENTIFY
-/// DEVICE alone: a step on another one answers `false`.
+/// second one. The others of ports 0 to 3 that there are have no device. Of all commands it takes READ DMA EXT, WRITE DMA EXT, READ FPDMA
+/// QUEUED, WRITE FPDMA QUEUED and IDENTIFY DEVICE alone: a step on another one answers `false`.
 #[derive(Drop)]
 pub struct Model<S> {
     hardware: Hardware,
@@ -441,8 +441,8 @@ fn exchange<S: SectorStore>(
     requires { next.address + 512 ≤ length hardware.now.memory.items }
     ensures inside { result ≡ true → is_ranged (operation_of next.transfer) ≡ true → next.sector < S.size disk.old }
     ensures sector { result ≡ true → IsSector bytes.new }
-    ensures gives { result ≡ true → next.transfer ≡ Transfer.Read → IfSome (S.told disk.old) (λ told. bytes.new ≡ told next.sector) }
-    ensures takes { result ≡ true → next.transfer ≡ Transfer.Write → bytes.new ≡ bytes_at (bytes_of hardware.now.memory.items) next.address 512 }
+    ensures gives { result ≡ true → is_ranged (operation_of next.transfer) ≡ true → reads_memory (operation_of next.transfer) ≡ false → IfSome (S.told disk.old) (λ told. bytes.new ≡ told next.sector) }
+    ensures takes { result ≡ true → reads_memory (operation_of next.transfer) ≡ true → bytes.new ≡ bytes_at (bytes_of hardware.now.memory.items) next.address 512 }
     ensures same { next.transfer ≡ Transfer.Identify → disk.new ≡ disk.old }
     ensures page { result ≡ true → next.transfer ≡ Transfer.Identify → IsItsPage which (S.size disk.old) says.now bytes.new }
     ensures disk { result ≡ true → disk_over which (S.size disk.new) (S.told disk.new)
@@ -454,8 +454,8 @@ fn exchange<S: SectorStore>(
     ensures fails { result ≡ false → next.sector < S.size disk.old → FailsOn (reads_memory (operation_of next.transfer)) next.sector (S.failures disk.old) (S.failures disk.new) }
 {
     match next.transfer {
-        Transfer::Read => disk.read(next.sector, bytes),
-        Transfer::Write => {
+        Transfer::Read | Transfer::ReadQueued => disk.read(next.sector, bytes),
+        Transfer::Write | Transfer::WriteQueued => {
             hardware.load(next.address as usize, bytes);
             disk.write(next.sector, bytes)
         }
@@ -529,8 +529,8 @@ impl<S: SectorStore> Adapter for Model<S> {
 
 impl<S: SectorStore> Stepped for Model<S> {
     /// Beside what every such adapter says: it is done if it is possible, no call on a store fails, and there is memory to note it; and
-    /// nothing but what it asks is another. READ DMA EXT, WRITE DMA EXT and IDENTIFY DEVICE alone are taken, port 0 alone has disks, and
-    /// disks 0 and 1 alone are put in.
+    /// nothing but what it asks is another. READ DMA EXT, WRITE DMA EXT, READ FPDMA QUEUED, WRITE FPDMA QUEUED and IDENTIFY DEVICE alone are
+    /// taken, port 0 alone has disks, and disks 0 and 1 alone are put in.
     fn step(&mut self, s: &DeviceStep) -> bool
         ensures steps { Steps (device_at S.size S.told self.old) (device_at S.size S.told self.new) }
         ensures refused { result ≡ false → device_at S.size S.told self.new ≡ device_at S.size S.told self.old }

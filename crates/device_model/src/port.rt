@@ -1,10 +1,11 @@
 // One port of the model.
 ghost use Rattle.std.specs.Prelude.{◌≡◌, unwrap_or};
-ghost use Rattle.adapter.specs.Commands.{direction_of, pieces_moved, reads_memory};
+ghost use Rattle.adapter.specs.Commands.{direction_of, is_queued, pieces_moved, reads_memory};
 ghost use Rattle.adapter.specs.Idle.{IsIdlePort};
 ghost use Rattle.device_model.specs.Modelled.{IsReset};
 ghost use Rattle.device_model.specs.View.{Media, cause_of, operation_of, port_of};
 
+use crate::taken::TakenCommands;
 use adapter::{Direction, Operation, Prd};
 
 /// Where the driver has put the command list and the received FIS area, and which of these registers it has written.
@@ -43,6 +44,10 @@ pub enum Transfer {
     Read,
     /// WRITE DMA EXT.
     Write,
+    /// READ FPDMA QUEUED.
+    ReadQueued,
+    /// WRITE FPDMA QUEUED.
+    WriteQueued,
     /// IDENTIFY DEVICE.
     Identify,
 }
@@ -55,6 +60,8 @@ impl Transfer {
         match self {
             Transfer::Read => Operation::Read,
             Transfer::Write => Operation::Write,
+            Transfer::ReadQueued => Operation::ReadQueued,
+            Transfer::WriteQueued => Operation::WriteQueued,
             Transfer::Identify => Operation::Identify,
         }
     }
@@ -64,8 +71,18 @@ impl Transfer {
         ensures { result ≡ reads_memory (operation_of self) }
     {
         match self {
-            Transfer::Write => true,
-            Transfer::Read | Transfer::Identify => false,
+            Transfer::Write | Transfer::WriteQueued => true,
+            Transfer::Read | Transfer::ReadQueued | Transfer::Identify => false,
+        }
+    }
+
+    /// Whether it is one of several in flight.
+    pub fn is_queued(self) -> bool
+        ensures { result ≡ is_queued (operation_of self) }
+    {
+        match self {
+            Transfer::ReadQueued | Transfer::WriteQueued => true,
+            Transfer::Read | Transfer::Write | Transfer::Identify => false,
         }
     }
 
@@ -74,17 +91,18 @@ impl Transfer {
         ensures { result ≡ pieces_moved (operation_of self) count }
     {
         match self {
-            Transfer::Read | Transfer::Write => count,
             Transfer::Identify => 1,
+            _ => count,
         }
     }
 
-    /// The bit of PxIS that its end sets: PSS where its data go by PIO, and else DHRS (AHCI 1.3.1, 3.3.5).
+    /// The bit of PxIS that its end sets: PSS where its data go by PIO, SDBS where it was queued, and else DHRS (AHCI 1.3.1, 3.3.5).
     pub fn cause(self) -> u32
         ensures { result ≡ cause_of self }
     {
         match self {
             Transfer::Identify => 1,
+            Transfer::ReadQueued | Transfer::WriteQueued => 3,
             Transfer::Read | Transfer::Write => 0,
         }
     }
@@ -94,8 +112,8 @@ impl Transfer {
         ensures { result ≡ direction_of (operation_of self) }
     {
         match self {
-            Transfer::Read | Transfer::Identify => Direction::ToMemory,
-            Transfer::Write => Direction::FromMemory,
+            Transfer::Read | Transfer::ReadQueued | Transfer::Identify => Direction::ToMemory,
+            Transfer::Write | Transfer::WriteQueued => Direction::FromMemory,
         }
     }
 }
@@ -103,7 +121,6 @@ impl Transfer {
 /// A command that the device has taken.
 #[derive(Clone, Copy, Debug)]
 pub struct TakenCommand {
-    pub slot: u8,
     pub transfer: Transfer,
     pub first: u64,
     pub count: u32,
@@ -138,8 +155,7 @@ pub struct PortModel {
     pub present: bool,
     pub fresh: bool,
     pub link_due: bool,
-    /// The command that is taken: no more than one at a time.
-    pub taken: Option<TakenCommand>,
+    pub taken: TakenCommands,
     pub readings: Readings,
 }
 
@@ -169,7 +185,7 @@ impl PortModel {
             present,
             fresh: false,
             link_due: false,
-            taken: None,
+            taken: TakenCommands::new(),
             readings: Readings::default(),
         }
     }

@@ -1,20 +1,28 @@
 // The FISes that the model sends, in the received FIS area of a port (Serial ATA; AHCI 1.3.1, 4.2.1).
-ghost use Rattle.std.specs.Prelude.{◌≡◌, ◌+◌, ◌<◌, ◌≤◌, ◌/◌, ◌%◌, true, false};
+ghost use Rattle.std.specs.Prelude.{◌≡◌, ◌+◌, ◌<◌, ◌≤◌, ◌/◌, ◌%◌, true, false, length};
 ghost use Rattle.ata_types.specs.declared.memory.TheConstants.{RECEIVED_BYTES};
-ghost use Rattle.device_model.specs.Sent.{IsSent, SendsEnd, SendsRegisters, end_of, page_setup, signature_of};
+ghost use Rattle.device_model.specs.Sent.{IsSent, SendsEnd, SendsRegisters, end_of, page_setup, signature_of, tag_of};
 ghost use Rattle.device_model.specs.View.{Media, cause_of, operation_of, port_of};
 ghost use Rattle.device_model.specs.Whole.{Outside, device_of};
 
 use crate::hardware::{Hardware, put};
 use crate::port::{PortModel, Transfer};
 use ata_types::RECEIVED_BYTES;
-use fis::{DeviceToHost, PioSetup, encode_d2h, encode_pio_setup};
+use fis::{
+    DeviceToHost, PioSetup, SetDeviceBits, encode_d2h, encode_pio_setup, encode_set_device_bits,
+};
 
 /// Where a PIO Setup FIS stands in the received FIS area (AHCI 1.3.1, 4.2.1).
 const SETUP: usize = 0x20;
 
 /// Where a Register FIS stands there.
 const REGISTERS: usize = 0x40;
+
+/// Where a Set Device Bits FIS stands there.
+const DEVICE_BITS: usize = 0x58;
+
+/// The bits of a status that a Set Device Bits FIS sets: all but BSY and DRQ.
+const SET_STATUS: u8 = 0x77;
 
 /// DRQ, a bit of the status.
 const DATA_REQUEST: u8 = 0x08;
@@ -61,6 +69,20 @@ impl PortModel {
         }
     }
 
+    /// What a Set Device Bits FIS tells of the queued command of a slot, which has ended.
+    fn ended_tag(&self, slot: u8) -> SetDeviceBits
+        requires { slot < 32 }
+        ensures { (m : Media) → result ≡ tag_of slot (port_of self.now m) }
+    {
+        let (status, error) = self.status_and_error();
+        SetDeviceBits {
+            interrupt: true,
+            status: status & SET_STATUS,
+            error,
+            tags: 1 << slot,
+        }
+    }
+
     /// What the first FIS of an ATA disk tells: its signature.
     fn signature(&self) -> DeviceToHost
         ensures { (m : Media) → result ≡ signature_of (port_of self.now m) }
@@ -79,9 +101,9 @@ impl PortModel {
 
 impl Hardware {
     /// Puts a FIS into the received FIS area of a port, at a place there, if the port receives FISes and its area is in the memory.
-    fn send(&mut self, port: usize, place: usize, fis: &[u8; 20])
+    fn send(&mut self, port: usize, place: usize, fis: &[u8])
         requires port { port < 4 }
-        requires place { place + 20 ≤ RECEIVED_BYTES }
+        requires place { place + length fis.now ≤ RECEIVED_BYTES }
         ensures sent { (o : Outside) → IsSent port place fis.now (device_of self.old o) (device_of self.new o) }
         ensures rest { self.new ≡ record self.old { memory = self.new.memory } }
     {
@@ -91,16 +113,22 @@ impl Hardware {
         }
     }
 
-    /// Sends the FIS of a command that has ended: of IDENTIFY DEVICE, whose page goes by PIO, a PIO Setup FIS, and of the others a Register FIS.
-    pub fn send_end(&mut self, port: usize, transfer: Transfer)
-        requires { port < 4 }
-        ensures sent { (o : Outside) → SendsEnd port (cause_of transfer) (operation_of transfer) (device_of self.old o) (device_of self.new o) }
+    /// Sends the FIS of a slot's command that has ended: of IDENTIFY DEVICE, whose page goes by PIO, a PIO Setup FIS; of a queued one a Set Device Bits
+    /// FIS; and of the others a Register FIS.
+    pub fn send_end(&mut self, port: usize, slot: u8, transfer: Transfer)
+        requires port { port < 4 }
+        requires slot { slot < 32 }
+        ensures sent { (o : Outside) → SendsEnd slot port (cause_of transfer) (operation_of transfer) (device_of self.old o) (device_of self.new o) }
         ensures rest { self.new ≡ record self.old { memory = self.new.memory } }
     {
         match transfer {
             Transfer::Identify => {
                 let fis = encode_pio_setup(&self.ports[port].page_setup());
                 self.send(port, SETUP, &fis);
+            }
+            Transfer::ReadQueued | Transfer::WriteQueued => {
+                let fis = encode_set_device_bits(&self.ports[port].ended_tag(slot));
+                self.send(port, DEVICE_BITS, &fis);
             }
             Transfer::Read | Transfer::Write => {
                 let fis = encode_d2h(&self.ports[port].end_registers());

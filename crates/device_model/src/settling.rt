@@ -5,7 +5,6 @@ ghost use Rattle.device_model.specs.Settled.{GoesTo};
 ghost use Rattle.device_model.specs.View.{Media, port_of};
 
 use crate::port::PortModel;
-use crate::slots::forget;
 
 impl PortModel {
     /// PxCMD.CR falls where ST is zero (AHCI 1.3.1, 3.3.7): no command is taken any more.
@@ -15,7 +14,7 @@ impl PortModel {
     {
         if !self.st && self.cr {
             self.cr = false;
-            forget(&mut self.taken);
+            self.taken.clear();
         }
     }
 
@@ -96,7 +95,7 @@ impl PortModel {
         self.detected = false;
         self.tfd = None;
         self.sig = None;
-        forget(&mut self.taken);
+        self.taken.clear();
         self.fresh = false;
     }
 }

@@ -11,7 +11,7 @@ ghost use Rattle.adapter.specs.Asked.{DoesFetch, Ends};
 ghost use Rattle.device_model.specs.Fetched.{bytes_of};
 ghost use Rattle.device_model.specs.Finishing.{HasRoom, Identifies, IsInside, AreInside, IsBegun, IsCovered, IsPassed, IsUnbegun};
 ghost use Rattle.device_model.specs.Sent.{SendsEnd};
-ghost use Rattle.device_model.specs.Slots.{HoldsAt, IsNext, MayTakeAny};
+ghost use Rattle.device_model.specs.Slots.{HoldsAt, IsNext, MayTakeSome};
 ghost use Rattle.device_model.specs.View.{Takes, operation_of, taken_of, blank};
 ghost use Rattle.device_model.specs.Whole.{Outside, device_of, outside_after, outside_plugged};
 ghost use Rattle.device_model.specs.declared.port.TakenCommand.{TakenCommand};
@@ -56,7 +56,7 @@ impl NextMove {
     {
         match self.transfer {
             Transfer::Identify => true,
-            Transfer::Read | Transfer::Write => self.sector < sectors,
+            _ => self.sector < sectors,
         }
     }
 }
@@ -105,7 +105,7 @@ fn is_on_disk(command: &TakenCommand, pieces: u32, sectors: u64) -> bool
 {
     match command.transfer {
         Transfer::Identify => true,
-        Transfer::Read | Transfer::Write => {
+        _ => {
             let end = command.first.checked_add(u64::from(pieces));
             end.is_some_and(|end| end <= sectors)
         }
@@ -144,7 +144,7 @@ fn sector_of(command: &TakenCommand) -> Option<u64>
 {
     match command.transfer {
         Transfer::Identify => Some(0),
-        Transfer::Read | Transfer::Write => command.first.checked_add(u64::from(command.moved)),
+        _ => command.first.checked_add(u64::from(command.moved)),
     }
 }
 
@@ -179,8 +179,7 @@ impl Hardware {
     fn fetch_said(&mut self, port: u8, slot: u8) -> bool
         requires port { port < 4 }
         requires slot { slot < 32 }
-        requires may { MayTakeAny (slice_index_or self.old.ports port blank) slot }
-        requires free { (slice_index_or self.old.ports port blank).taken ≡ None }
+        requires may { MayTakeSome (slice_index_or self.old.ports port blank) slot }
         ensures did { result ≡ true → (o : Outside) → DoesFetch port slot (device_of self.old o) (device_of self.new o) }
         ensures refused { result ≡ false → (o : Outside) → device_of self.new o ≡ device_of self.old o }
         ensures only { result ≡ false → (o : Outside) (m : Meaning) (places : List ℕ) → Takes m.operation → Can (FetchStep port slot m places) (device_of self.old o) → ⊥ }
@@ -192,20 +191,28 @@ impl Hardware {
         let Some(command) = read_command(&self.memory, list, slot) else {
             return false;
         };
-        self.ports[place].take(command);
+        if !self.ports[place].is_alone(command.transfer) {
+            return false;
+        }
+        self.ports[place].take(slot, command);
         true
     }
 
-    /// Whether the IDENTIFY DEVICE that the bytes of a slot of port 0 say, which may be taken, can be done to its end; `None` where they say none.
+    /// Whether the IDENTIFY DEVICE that the bytes of a slot of port 0 say, which may be taken, can be done to its end; `None` where they say none, or
+    /// another command is taken.
     #[inline(never)]
     fn says_identify(&self, slot: u8) -> Option<bool>
         requires slot { slot < 32 }
-        requires may { MayTakeAny (slice_index_or self.now.ports 0 blank) slot }
+        requires may { MayTakeSome (slice_index_or self.now.ports 0 blank) slot }
         ensures { (o : Outside) → Identifies (device_of self.now o) slot result }
     {
         let list = self.ports[0].addresses.clb;
         let command = read_as(&self.memory, list, slot, Transfer::Identify)?;
-        Some(can_end(&command, self.memory.len()))
+        if self.ports[0].is_alone(Transfer::Identify) {
+            Some(can_end(&command, self.memory.len()))
+        } else {
+            None
+        }
     }
 
     /// Whether the IDENTIFY DEVICE of a slot of port 0 can be done to its end; `None` where the slot has none that may be taken, and none that is taken
@@ -226,7 +233,7 @@ impl Hardware {
                     None
                 }
             }
-            Transfer::Read | Transfer::Write => None,
+            _ => None,
         }
     }
 
@@ -236,7 +243,7 @@ impl Hardware {
         ensures found { IfSome result (λ found. (o : Outside) → Identifies (device_of self.now o) found.slot (Some found.ends)) }
         ensures none { result ≡ None → (o : Outside) (slot : ℕ) → slot < 32 → Identifies (device_of self.now o) slot None }
     {
-        if self.ports[0].ci == 0 && self.ports[0].taken.is_none() {
+        if self.ports[0].ci == 0 && self.ports[0].taken.is_empty() {
             return None;
         }
         for slot in 0..32 {
@@ -293,14 +300,14 @@ impl Hardware {
         });
         let _recorded = record(&mut self.tape, &mut self.starved, entry);
         put_piece(&mut self.memory, next, bytes);
-        self.ports[usize::from(port)].advance();
+        self.ports[usize::from(port)].advance(slot);
     }
 
     /// Ends a slot's command, all of which was moved, and sends its FIS; `false` says that there is none, or that the tape found no memory.
     pub fn done(&mut self, port: u8, slot: u8) -> bool
         requires port { port < 4 }
         requires slot { slot < 32 }
-        ensures did { result ≡ true → (o : Outside) → Ends SendsEnd port slot (device_of self.old o) (device_of self.new o) }
+        ensures did { result ≡ true → (o : Outside) → Ends (SendsEnd slot) port slot (device_of self.old o) (device_of self.new o) }
         ensures refused { result ≡ false → (o : Outside) → device_of self.new o ≡ device_of self.old o }
         ensures left { result ≡ false → (o : Outside) → IsPassed self.old self.new ((flag : ℕ) × (t : Taken) × Can (DoneStep port slot flag t) (device_of self.old o)) }
         ensures fed { result ≡ true → self.new.starved ≡ self.old.starved }
@@ -322,7 +329,7 @@ impl Hardware {
         }
         let place = usize::from(port);
         self.ports[place].end(slot, transfer);
-        self.send_end(place, transfer);
+        self.send_end(place, slot, transfer);
         true
     }
 
@@ -332,20 +339,22 @@ impl Hardware {
     fn begin_said(&mut self, port: u8, slot: u8, sectors: u64) -> Option<Begun>
         requires port { port < 4 }
         requires slot { slot < 32 }
-        requires may { MayTakeAny (slice_index_or self.old.ports port blank) slot }
-        requires free { (slice_index_or self.old.ports port blank).taken ≡ None }
+        requires may { MayTakeSome (slice_index_or self.old.ports port blank) slot }
         ensures begun { IfSome result (λ b. IsBegun port slot sectors b.left b.was_taken self.old self.new) }
         ensures left { result ≡ None → IsUnbegun port slot sectors self.old self.new }
     {
         let place = usize::from(port);
         let list = self.ports[place].addresses.clb;
         let command = read_command(&self.memory, list, slot)?;
+        if !self.ports[place].is_alone(command.transfer) {
+            return None;
+        }
         let left = left_of(&command, self.memory.len(), sectors)?;
         if self.tape.reserve(left as usize + 1).is_err() {
             self.starved = true;
             return None;
         }
-        self.ports[place].take(command);
+        self.ports[place].take(slot, command);
         Some(Begun {
             left,
             was_taken: true,

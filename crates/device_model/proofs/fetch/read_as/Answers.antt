@@ -26,7 +26,7 @@ returns-in_default-sectors_at-clause-only c = λ _ m places is s.
     let header : Some c.in-Some.header ≡ Some (record { entries = length s.prds; table = s.table }) =
     c.in-Some.ensures.only (record { entries = length s.prds; table = s.table }) (rw (place, ← writes) at (said_header k memory c.args.list c.args.slot m places is s)) in
     let table : s.table ≡ c.in-Some.header.table = cc in
-    let said = c.in_default-sectors_at.ensures.only c.args.slot (record { first = m.first; count = m.count })
+    let said = c.in_default-sectors_at.ensures.only (record { first = m.first; count = m.count })
     (said_meaning k memory c.args.list c.args.slot m places is s) (rw table at (said_command k memory c.args.list c.args.slot m places is s)) in
     absurd (cc (said))
 
@@ -44,7 +44,7 @@ returns-then-count_pieces-pieces-clause-only c = λ _ m places is s.
     let table : s.table ≡ c.in-Some.header.table = cc in
     let entries : c.in-Some.header.entries ≡ length s.prds = cc in
     let sectors : Some c.in-Some-sectors_at.sectors ≡ Some (record { first = m.first; count = m.count }) =
-    c.in-Some-sectors_at.ensures.only c.args.slot (record { first = m.first; count = m.count })
+    c.in-Some-sectors_at.ensures.only (record { first = m.first; count = m.count })
     (said_meaning k memory c.args.list c.args.slot m places is s) (rw table at (said_command k memory c.args.list c.args.slot m places is s)) in
     let count : c.in-Some-sectors_at.sectors.count ≡ m.count = cc in
     let are = c.read_prds.ensures.found c.if-not-read_prds.false in
@@ -65,7 +65,7 @@ returns-clause-found c =
     rw (place, writes) at c.in-Some.ensures.found in (
       refl,
       says_command k memory c.args.list c.args.slot c.in-Some.header.table c.from-entries.result c.in-Some-sectors_at.sectors.first c.in-Some-sectors_at.sectors.count
-          c.read_prds.new.prds (rw (sym c.from-entries.ensures) at header) (c.in-Some-sectors_at.ensures.found c.args.slot) c.in-Some-sectors_at.ensures.meant
+          c.read_prds.new.prds (rw (sym c.from-entries.ensures) at header) c.in-Some-sectors_at.ensures.found c.in-Some-sectors_at.ensures.meant
           (omega arith) (c.read_prds.ensures.found c.if-not-read_prds.false)
           (sym c.count_pieces.ensures ∙ (c.if-count_pieces-pieces.false ∙ c.pieces-pieces.ensures)),
     )

@@ -1,4 +1,4 @@
-use Rattle.std.proofs.Common.{ℕ, true, ◌∙◌, ap}
+use Rattle.std.proofs.Common.{ℕ, true, ◌∙◌, ap, inl, inr}
 use Rattle.adapter.specs.Memory.{bytes_at}
 use Rattle.device_model.specs.Fetched.{bytes_of}
 use Rattle.device_model.specs.Disks.{disk_over}
@@ -18,4 +18,7 @@ returns-in-Write-clause-takes g c = λ _ _.
 pub returns-in-Write-clause-disk : goal.returns-in-Write-clause-disk
 returns-in-Write-clause-disk g c = λ done.
     let told = c.write.ensures.puts done ∙ replaced_is (g.S.SectorStore.told c.args.disk.now) c.args.next.sector c.load.new.out in
-    rw c.in-Write.is (λ i. disk_over c.args.which (c.write.ensures.size i) (told i))
+    elim c.in-Write.is [
+      | inl plain ↦ rw plain (λ i. disk_over c.args.which (c.write.ensures.size i) (told i))
+      | inr queued ↦ rw queued (λ i. disk_over c.args.which (c.write.ensures.size i) (told i))
+    ]

@@ -3,7 +3,7 @@ use Rattle.std.specs.Vec.{vec_len, vec_capacity}
 use Rattle.adapter.specs.declared.tape.Entry.{Entry}
 use Rattle.adapter.proofs.Absurd.{some-none, some_one, true-false}
 use Rattle.device_model.specs.Finishing.{MayFinish}
-use Rattle.device_model.specs.Slots.{MayTakeAny}
+use Rattle.device_model.specs.Slots.{MayTakeSome}
 use Rattle.device_model.specs.View.{blank}
 use Rattle.device_model.specs.Whole.{Outside, device_of}
 use Rattle.device_model.specs.declared.hardware.Hardware.{Hardware}
@@ -14,7 +14,7 @@ use Rattle.device_model.proofs.hardware.Hardware.begin.Goals as goal
 
 pub begin_said-requires-clause-may : goal.begin_said-requires-clause-may
 begin_said-requires-clause-may c =
-    let P : ℕ → Type 0 = λ q. MayTakeAny (slice_index_or c.args.self.now.ports q blank) c.args.slot in
+    let P : ℕ → Type 0 = λ q. MayTakeSome (slice_index_or c.args.self.now.ports q blank) c.args.slot in
     subst P c.from-place.ensures (c.may_take.ensures.may c.if-may_take.true)
 
 pub returns-in_err-command-clause-left : goal.returns-in_err-command-clause-left
@@ -72,7 +72,7 @@ returns-clause-begun c =
       going = λ o.
           fetched_goes c.args.port c.args.slot c.args.sectors left false (device_of h o) (device_of new o) (ready o) (λ never. true-false never refl) (λ _. kept o)
           (λ _ m places takes may.
-          c.may_take.ensures.only c.if-may_take.false (o.media c.from-place.result) m.operation takes
+          c.may_take.ensures.only c.if-may_take.false (o.media c.from-place.result) m.operation
           (fetch_takes h o c.from-place.result c.args.port c.args.slot m places c.from-place.ensures may));
       room = room;
       did = λ never. true-false never refl;

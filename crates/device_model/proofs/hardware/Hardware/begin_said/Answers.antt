@@ -5,21 +5,20 @@ use Rattle.adapter.specs.Device.{Device}
 use Rattle.adapter.specs.declared.tape.Entry.{Entry}
 use Rattle.adapter.proofs.Absurd.{some-none, some_one, true-false}
 use Rattle.device_model.specs.Finishing.{MayFinish}
-use Rattle.device_model.specs.Slots.{MayTakeAny}
+use Rattle.device_model.specs.Slots.{MayTakeSome}
 use Rattle.device_model.specs.View.{blank}
 use Rattle.device_model.specs.Whole.{Outside, device_of}
 use Rattle.device_model.specs.declared.hardware.Hardware.{Hardware}
 use Rattle.device_model.proofs.Finishing.{fetched_goes}
-use Rattle.device_model.proofs.Ready.{ready_said, ready_to_take, ready_is_said}
+use Rattle.device_model.proofs.Ready.{may_be_taken, ready_beside, ready_said, ready_to_take, ready_is_said}
 use Rattle.device_model.proofs.Stepping.{port_takes}
-use Rattle.device_model.proofs.Transfers.{is_taken}
 use Rattle.device_model.proofs.hardware.Hardware.begin_said.Goals as goal
 
 pub returns-in_err-command-clause-left : goal.returns-in_err-command-clause-left
 returns-in_err-command-clause-left c = λ _.
     inl (
       λ o left ready.
-          let P : ℕ → Type 0 = λ q. MayTakeAny (slice_index_or c.args.self.now.ports q blank) c.args.slot in
+          let P : ℕ → Type 0 = λ q. MayTakeSome (slice_index_or c.args.self.now.ports q blank) c.args.slot in
           let may = subst P (sym c.from-place.ensures) c.requires.may in
           let says = ready_said c.args.self.now o c.from-place.result c.args.port c.args.slot c.args.sectors left c.from-place.ensures ready may in
           c.read_command.ensures.only c.in_err-command.was ready.t.meaning ready.t.places ready.takes (rw (← c.deref.ensures.value) at says),
@@ -30,7 +29,7 @@ pub returns-in_err-left-clause-left : goal.returns-in_err-left-clause-left
 returns-in_err-left-clause-left c = λ _.
     inl (
       λ o left ready.
-          let P : ℕ → Type 0 = λ q. MayTakeAny (slice_index_or c.args.self.now.ports q blank) c.args.slot in
+          let P : ℕ → Type 0 = λ q. MayTakeSome (slice_index_or c.args.self.now.ports q blank) c.args.slot in
           let may = subst P (sym c.from-place.ensures) c.requires.may in
           let covered = ready_is_said c.args.self.now c.from-place.result c.args.port c.args.slot c.args.sectors c.len.result c.in_ok-command.command
           c.from-place.ensures c.len.ensures may c.in_ok-command.ensures.found.0 (rw c.deref.ensures.value at c.in_ok-command.ensures.found.1) o left ready in
@@ -42,7 +41,7 @@ pub returns-then-is_err-clause-left : goal.returns-then-is_err-clause-left
 returns-then-is_err-clause-left c = λ _.
     let h = c.args.self.now in
     let left = c.in_ok-left.left in
-    let P : ℕ → Type 0 = λ q. MayTakeAny (slice_index_or h.ports q blank) c.args.slot in
+    let P : ℕ → Type 0 = λ q. MayTakeSome (slice_index_or h.ports q blank) c.args.slot in
     let may = subst P (sym c.from-place.ensures) c.requires.may in
     let says = rw c.deref.ensures.value at c.in_ok-command.ensures.found.1 in
     let over : vec_capacity h.tape < vec_len h.tape + (left + 1) = search rules in
@@ -51,7 +50,7 @@ returns-then-is_err-clause-left c = λ _.
     inr (record {
       left = left;
       ready = ready_to_take h c.from-place.result c.args.port c.args.slot c.args.sectors c.len.result c.in_ok-command.command c.from-place.ensures c.len.ensures
-          (Some left) c.in_ok-left.ensures.covered c.in_ok-command.ensures.found.0 may says;
+          (Some left) c.in_ok-left.ensures.covered c.in_ok-command.ensures.found.0 may (c.is_alone.ensures.alone c.if-not-is_alone.false) says;
       only = λ o n ready.
           some_one (sym (c.left_of.ensures.only n
           (ready_is_said h c.from-place.result c.args.port c.args.slot c.args.sectors c.len.result c.in_ok-command.command c.from-place.ensures c.len.ensures
@@ -67,7 +66,7 @@ returns-clause-begun c =
     let h = c.args.self.now in
     let left = c.in_ok-left.left in
     let held : Hardware = record h { tape = c.reserve.new.self } in
-    let P : ℕ → Type 0 = λ q. MayTakeAny (slice_index_or h.ports q blank) c.args.slot in
+    let P : ℕ → Type 0 = λ q. MayTakeSome (slice_index_or h.ports q blank) c.args.slot in
     let may = subst P (sym c.from-place.ensures) c.requires.may in
     let says = rw c.deref.ensures.value at c.in_ok-command.ensures.found.1 in
     let small : c.from-place.result < length h.ports = search rules in
@@ -75,13 +74,14 @@ returns-clause-begun c =
     let kept : (o : Outside) → device_of held o ≡ device_of h o = λ o. ap (λ (items : List Entry). record (device_of h o) { tape = items }) c.reserve.ensures.items in
     let ready : (o : Outside) → MayFinish (device_of h o) c.args.port c.args.slot c.args.sectors left =
     ready_to_take h c.from-place.result c.args.port c.args.slot c.args.sectors c.len.result c.in_ok-command.command c.from-place.ensures c.len.ensures
-    (Some left) c.in_ok-left.ensures.covered c.in_ok-command.ensures.found.0 may says in
+    (Some left) c.in_ok-left.ensures.covered c.in_ok-command.ensures.found.0 may (c.is_alone.ensures.alone c.if-not-is_alone.false) says in
     let new : Hardware = record held { ports = slice_set h.ports c.from-place.result c.take.new.self } in
+    let taken = may_be_taken (slice_index_or h.ports c.from-place.result blank) c.args.slot c.in_ok-command.command may (c.is_alone.ensures.alone c.if-not-is_alone.false) in
     let did : (o : Outside) → DoesFetch c.args.port c.args.slot (device_of h o) (device_of new o) = λ o.
     let Q : Device → Type 0 = λ d. DoesFetch c.args.port c.args.slot d (device_of new o) in
     subst Q (kept o)
     (port_takes held o c.from-place.result c.args.port c.args.slot c.take.new.self c.in_ok-command.command c.from-place.ensures small
-    (may (o.media c.from-place.result) _ (is_taken c.in_ok-command.command.transfer)) says (rw c.in_ok-command.ensures.placed at (c.take.ensures (o.media c.from-place.result)))) in
+    (taken (o.media c.from-place.result)) says (c.take.ensures (o.media c.from-place.result))) in
     record {
       ready = ready;
       going = λ o. fetched_goes c.args.port c.args.slot c.args.sectors left true (device_of h o) (device_of new o) (ready o) (λ _. did o) (λ never. true-false refl never) (λ never. true-false refl never);
@@ -91,3 +91,16 @@ returns-clause-begun c =
       tape = c.reserve.ensures.items;
       starved = refl;
     }
+
+-- another command is taken
+pub returns-then-not-is_alone-clause-left : goal.returns-then-not-is_alone-clause-left
+returns-then-not-is_alone-clause-left c = λ _.
+    inl (
+      λ o left ready.
+          let P : ℕ → Type 0 = λ q. MayTakeSome (slice_index_or c.args.self.now.ports q blank) c.args.slot in
+          let may = subst P (sym c.from-place.ensures) c.requires.may in
+          c.is_alone.ensures.only c.if-not-is_alone.true (o.media c.from-place.result)
+          (ready_beside c.args.self.now c.from-place.result c.args.port c.args.slot c.args.sectors _ c.in_ok-command.command c.from-place.ensures refl may
+          c.in_ok-command.ensures.found.0 (rw c.deref.ensures.value at c.in_ok-command.ensures.found.1) o left ready),
+      refl,
+    )

@@ -1,8 +1,12 @@
 use Rattle.std.proofs.Common.{rules, ◌<◌, ℕ, length, subst, sym, slice_index_or}
-use Rattle.device_model.specs.Slots.{MayTakeAny}
-use Rattle.device_model.specs.View.{blank}
-use Rattle.device_model.proofs.Stepping.{port_takes, fetch_says}
-use Rattle.device_model.proofs.Transfers.{is_taken}
+use Rattle.device_model.specs.Slots.{MayTakeSome}
+use Rattle.adapter.specs.Commands.{Meaning}
+use Rattle.adapter.specs.Steps.{IsAlone}
+use Rattle.adapter.proofs.SaysLemmas.{says_meaning}
+use Rattle.device_model.specs.Fetched.{bytes_of}
+use Rattle.device_model.specs.View.{port_of, taken_of, blank}
+use Rattle.device_model.proofs.Stepping.{port_takes, fetch_says, fetch_takes}
+use Rattle.device_model.proofs.Ready.{may_be_taken}
 use Rattle.device_model.proofs.hardware.Hardware.fetch_said.Goals as goal
 
 pub returns-clause-did : goal.returns-clause-did
@@ -10,12 +14,24 @@ returns-clause-did c = λ _ o.
     let h = c.args.self.now in
     let m = o.media c.from-place.result in
     let small : c.from-place.result < length h.ports = search rules in
-    let P : ℕ → Type 0 = λ q. MayTakeAny (slice_index_or h.ports q blank) c.args.slot in
+    let P : ℕ → Type 0 = λ q. MayTakeSome (slice_index_or h.ports q blank) c.args.slot in
     let may = subst P (sym c.from-place.ensures) c.requires.may in
-    port_takes h o c.from-place.result c.args.port c.args.slot _ c.in-Some.command c.from-place.ensures small (may m _ (is_taken c.in-Some.command.transfer))
-    (rw c.deref.ensures.value at c.in-Some.ensures.found.1) (rw c.in-Some.ensures.placed at (c.take.ensures m))
+    let taken = may_be_taken (slice_index_or h.ports c.from-place.result blank) c.args.slot c.in-Some.command may (c.is_alone.ensures.alone c.if-not-is_alone.false) in
+    port_takes h o c.from-place.result c.args.port c.args.slot _ c.in-Some.command c.from-place.ensures small (taken m)
+    (rw c.deref.ensures.value at c.in-Some.ensures.found.1) (c.take.ensures m)
 
 pub returns-in_default-clause-only : goal.returns-in_default-clause-only
 returns-in_default-clause-only c = λ _ o m places takes may.
     let says = fetch_says c.args.self.now o c.from-place.result c.args.port c.args.slot m places c.from-place.ensures may in
     c.read_command.ensures.only c.in_default.is m places takes (rw (← c.deref.ensures.value) at says)
+
+-- another command is taken
+pub returns-then-not-is_alone-clause-only : goal.returns-then-not-is_alone-clause-only
+returns-then-not-is_alone-clause-only c = λ _ o m places takes may.
+    let h = c.args.self.now in
+    let says = fetch_says h o c.from-place.result c.args.port c.args.slot m places c.from-place.ensures may in
+    let said = rw c.deref.ensures.value at c.in-Some.ensures.found.1 in
+    let one = says_meaning (bytes_of h.memory.items) _ c.args.slot m (taken_of c.in-Some.command).meaning places _ says said in
+    let alone = (fetch_takes h o c.from-place.result c.args.port c.args.slot m places c.from-place.ensures may).alone in
+    c.is_alone.ensures.only c.if-not-is_alone.true (o.media c.from-place.result)
+    (subst (λ (x : Meaning). IsAlone (port_of (slice_index_or h.ports c.from-place.result blank) (o.media c.from-place.result)) x.operation) one alone)

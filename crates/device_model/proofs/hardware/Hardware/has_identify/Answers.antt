@@ -1,4 +1,4 @@
-use Rattle.std.proofs.Common.{Bool, Option, ◌≡◌, ◌∙◌, refl, sym, ap, subst, inl, inr}
+use Rattle.std.proofs.Common.{Bool, Option, ◌≡◌, ◌∙◌, refl, sym, ap, subst}
 use Rattle.adapter.proofs.Absurd.{some_one}
 use Rattle.device_model.specs.Finishing.{Identifies}
 use Rattle.device_model.specs.Whole.{device_of}
@@ -36,14 +36,14 @@ returns-in_err-command c = λ o.
       identify_unheld c.args.self.now c.args.slot _ refl (λ r held kind ends. c.working_on.ensures.none c.in_err-command.was r held) never o,
     )
 
-pub returns-in-Read : goal.returns-in-Read
-returns-in-Read c = λ o.
+pub returns-in_default : goal.returns-in_default
+returns-in_default c = λ o.
     let never = c.may_take.ensures.only c.if-may_take.false in (
       identify_barred c.args.self.now c.args.slot never o,
       identify_unheld c.args.self.now c.args.slot _ refl
           (λ r held kind ends.
           let same : r ≡ c.in_ok-command.command.now = some_one (sym held.held ∙ c.in_ok-command.ensures.found.held) in
           let is : c.in_ok-command.command.now.transfer ≡ transfer.Identify = ap (λ (x : TakenCommand). x.transfer) (sym same) ∙ kind in
-          elim c.in-Read.is [ inl read ↦ cc | inr write ↦ cc ])
+          c.in_default.not-Identify is)
           never o,
     )

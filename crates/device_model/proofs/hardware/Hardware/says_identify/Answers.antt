@@ -1,19 +1,33 @@
-use Rattle.std.proofs.Common.{Bool, Option, refl, subst, sym}
-use Rattle.device_model.proofs.Ready.{finds, identify_said, identify_unmeant, identify_unsaid, identify_endless, may_identify}
+use Rattle.std.proofs.Common.{Bool, Option, refl, slice_index_or, subst, sym}
+use Rattle.adapter.specs.Steps.{IsAlone}
 use Rattle.device_model.specs.Finishing.{Identifies}
+use Rattle.device_model.specs.View.{Media, operation_of, port_of, blank}
 use Rattle.device_model.specs.Whole.{device_of}
+use Rattle.device_model.specs.declared.port.Transfer.{Transfer}
+use Rattle.device_model.specs.declared.port.Transfer.TheVariants as transfer
+use Rattle.device_model.proofs.Ready.{finds, identify_crowded, identify_said, identify_unmeant, identify_unsaid, identify_endless, may_identify, ready_may}
 use Rattle.device_model.proofs.hardware.Hardware.says_identify.Goals as goal
 
-pub returns : goal.returns
-returns c = λ o.
+pub returns-then-is_alone : goal.returns-then-is_alone
+returns-then-is_alone c = λ o.
+    let h = c.args.self.now in
     let said = rw c.deref.ensures.value at c.in_ok-command.ensures.found in
     let kind = c.in_ok-command.ensures.kind in
-    finds (device_of c.args.self.now o) c.args.slot c.can_end.result
-    (λ e. identify_said c.args.self.now c.args.slot c.len.result c.len.ensures c.in_ok-command.command said.0 said.1 kind c.requires.may (c.can_end.ensures.ends e) o)
+    let beside = λ (m : Media).
+    subst (λ (k : Transfer). IsAlone (port_of (slice_index_or h.ports 0 blank) m) (operation_of k)) (sym kind) (c.is_alone.ensures.alone c.if-is_alone.true m) in
+    finds (device_of h o) c.args.slot c.can_end.result
+    (λ e. identify_said h c.args.slot c.len.result c.len.ensures c.in_ok-command.command said.0 said.1 kind c.requires.may beside (c.can_end.ensures.ends e) o)
     (λ e. (
-      may_identify c.args.self.now c.args.slot c.in_ok-command.command said.1 kind c.requires.may o,
-      identify_endless c.args.self.now c.args.slot c.len.result c.len.ensures c.in_ok-command.command said.0 said.1 c.requires.may (c.can_end.ensures.only e) o,
+      may_identify h c.args.slot c.in_ok-command.command said.1 kind c.requires.may beside o,
+      identify_endless h c.args.slot c.len.result c.len.ensures c.in_ok-command.command said.0 said.1 c.requires.may (c.can_end.ensures.only e) o,
     ))
+
+-- another command is taken
+pub returns-else-is_alone : goal.returns-else-is_alone
+returns-else-is_alone c = λ o.
+    let h = c.args.self.now in
+    let never = identify_crowded h c.args.slot transfer.Identify refl (c.is_alone.ensures.only c.if-is_alone.false) o in
+    (never, λ has. never (ready_may h c.args.slot c.requires.may o has))
 
 pub returns-in_err-command : goal.returns-in_err-command
 returns-in_err-command c = λ o.

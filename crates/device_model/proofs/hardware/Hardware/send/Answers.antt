@@ -1,4 +1,4 @@
-use Rattle.std.proofs.Common.{rules, ℕ, ◌≡◌, ◌<◌, ◌≤◌, ◌+◌, ◌∙◌, length, slice_index_or, sym, subst, arith}
+use Rattle.std.proofs.Common.{rules, ℕ, ◌≡◌, ◌<◌, ◌≤◌, ◌+◌, ◌∙◌, length, slice_index, slice_index_or, sym, subst, arith}
 use Rattle.std.proofs.lemmas.Grind.{get_or_default_zero}
 use Rattle.std.specs.Vec.{with_items}
 use Rattle.std.proofs.lemmas.List.{with_items_is}
@@ -16,12 +16,14 @@ returns-then-area-len-clause-sent c = λ o.
     let size : length c.put.new.memory ≡ h.memory.len = c.put.auto.memory ∙ c.deref_mut.ensures.len in
     let inside : fb + 256 ≤ length h.memory.items = search rules in
     let fits : (fb + c.args.place) + length c.args.fis.now ≤ length h.memory.items = search rules in
+    let fits_8 = c.type_inv.fis in
+    let byte : (k : ℕ) → slice_index c.args.fis.now k < 256 = λ k. search (fits_8, rules) in
     record {
       posted = λ _. record {
         receives = c.if-self-port.true;
         from = omega arith;
         to = search rules;
-        are_bytes = λ k d small. let P : ℕ → Type 0 = λ n. n < 256 in subst P (sym (get_or_default_zero c.args.fis.now k d small)) (c.fits-fis k);
+        are_bytes = λ k d small. let P : ℕ → Type 0 = λ n. n < 256 in subst P (sym (get_or_default_zero c.args.fis.now k d small)) (byte k);
         effect = memory_put (device_of h o) h.memory.items c.args.fis.now (with_items h.memory c.put.new.memory).items (fb + c.args.place) fits
             (with_items_is h.memory c.put.new.memory size ∙ rw c.deref_mut.ensures.value at c.put.ensures);
       };

@@ -1,9 +1,14 @@
-use Rattle.std.proofs.Common.{ap, refl, subst, arith, inl, inr}
-use Rattle.fis.specs.Spelling.{SpellsDeviceToHost, SpellsPioSetup}
+use Rattle.std.proofs.Common.{ℕ, ◌%◌, ◌∙◌, ap, refl, slice_index_or, subst, arith, inl, inr}
+use Rattle.std.specs.Prelude.{bit_and}
+use Rattle.std.specs.Int.Bits.{and_zero_r}
+use Rattle.std.proofs.lemmas.Nat.{and_assoc}
+use Rattle.fis.specs.Spelling.{SpellsDeviceToHost, SpellsPioSetup, SpellsSetDeviceBits}
 use Rattle.fis.specs.declared.DeviceToHost.{DeviceToHost}
 use Rattle.fis.specs.declared.PioSetup.{PioSetup}
+use Rattle.fis.specs.declared.SetDeviceBits.{SetDeviceBits}
 use Rattle.adapter.specs.Device.{Device}
-use Rattle.device_model.specs.Sent.{SendsRegisters, end_of}
+use Rattle.device_model.specs.Sent.{SendsBits, SendsRegisters, end_of, tag_of}
+use Rattle.device_model.specs.View.{port_of, blank}
 use Rattle.device_model.specs.Whole.{device_of, no_media}
 use Rattle.device_model.proofs.hardware.Hardware.send_end.Goals as goal
 
@@ -29,3 +34,16 @@ returns-in-Read c = record {
       elim c.in-Read.is [ inl read ↦ rw read (refl, sent) | inr write ↦ rw write (refl, sent) ];
   rest = c.send-in-Read.ensures.rest;
 }
+
+pub encode_set_device_bits-fis-requires : goal.encode_set_device_bits-fis-requires
+encode_set_device_bits-fis-requires c =
+    let status : ℕ = ((port_of (slice_index_or c.args.self.now.ports c.args.port blank) no_media).tfd) % 256 in
+    ap (λ (f : SetDeviceBits). bit_and f.status 0x88) (c.ended_tag.ensures no_media) ∙ (and_assoc 0x88 status 0x77 ∙ and_zero_r status)
+
+pub returns-in-ReadQueued-clause-sent : goal.returns-in-ReadQueued-clause-sent
+returns-in-ReadQueued-clause-sent c = λ o.
+    let P : SetDeviceBits → Type 0 = λ f. SpellsSetDeviceBits c.encode_set_device_bits-fis.result f in
+    let d : Device = device_of c.args.self.now o in
+    let sent : SendsBits c.args.port (tag_of c.args.slot (d.port c.args.port)) d (device_of c.send-in-ReadQueued.new.self o) =
+    (c.encode_set_device_bits-fis.result, subst P (c.ended_tag.ensures (o.media c.args.port)) c.encode_set_device_bits-fis.ensures, c.send-in-ReadQueued.ensures.sent o) in
+    elim c.in-ReadQueued.is [ inl read ↦ rw read (refl, sent) | inr write ↦ rw write (refl, sent) ]

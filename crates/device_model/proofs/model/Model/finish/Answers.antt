@@ -1,4 +1,5 @@
 use Rattle.std.proofs.Common.{ℕ, suc, ◌≡◌, ◌<◌, ◌+◌, ◌-◌, ◌∙◌, true, false, inl, inr, refl, sym, ap, subst, arith}
+use Rattle.adapter.specs.Commands.{is_queued}
 use Rattle.adapter.specs.Device.{Device, Taken}
 use Rattle.adapter.specs.declared.access.DeviceStep.TheVariants as asked
 use Rattle.device_model.specs.Finishing.{HasMove, HasRoom, IsGoing, MayFinish}
@@ -13,7 +14,7 @@ use Rattle.device_model.proofs.TwoDisks.{in_kept}
 use Rattle.device_model.proofs.Doing.{answered_true, cut_short, did_it, left_it, left_same, meanwhile_on}
 use Rattle.adapter.specs.OneCommand.{IsFreeSlot}
 use Rattle.device_model.proofs.Identifying.{finish_moves, has_ready, page_taken}
-use Rattle.device_model.proofs.Finishing.{fetched_size, moved_goes, going_has_move, going_may_end, done_frees}
+use Rattle.device_model.proofs.Finishing.{fetched_size, moved_goes, going_has_move, going_may_end, done_ended, done_frees}
 use Rattle.device_model.proofs.Telling.{gains_none, gains_done}
 use Rattle.device_model.proofs.Told.{on_hardware}
 use Rattle.device_model.proofs.model.Model.finish.Given.{Over}
@@ -27,7 +28,7 @@ loop-piece-init g c =
     let new : Device = device_of c.begin.new.self o in
     let is = c.in-Some.ensures.begun in
     record {
-      did = λ e. goes_one SendsEnd c.args.port.0 c.args.slot.0 old new (inl (is.did e o));
+      did = λ e. goes_one (SendsEnd c.args.slot.0) c.args.port.0 c.args.slot.0 old new (inl (is.did e o));
       refused = λ e. is.same e o;
       size = fetched_size c.args.port.0 c.args.slot.0 c.in-Some.field-0.was_taken old new (λ e. is.did e o) (λ e. is.same e o);
       disk = sym c.sectors-sectors.ensures;
@@ -55,7 +56,7 @@ loop-piece-preserved g c =
     c.move_piece.ensures.answers c.if-not-move_piece.false in
     let moved = step.asked in
     record {
-      did = λ _. goes_next SendsEnd c.args.port.0 c.args.slot.0 _ _ _ c.loop-piece.did c.loop-piece.invariant.did c.loop-piece.invariant.refused (inr (inl moved));
+      did = λ _. goes_next (SendsEnd c.args.slot.0) c.args.port.0 c.args.slot.0 _ _ _ c.loop-piece.did c.loop-piece.invariant.did c.loop-piece.invariant.refused (inr (inl moved));
       refused = λ never. absurd (let e : true ≡ false = never in cc);
       size = ap (λ (d : Device). d.size) moved.effect ∙ c.loop-piece.invariant.size;
       disk = in_kept g.S.SectorStore.size c.loop-piece.self c.move_piece.new.self step.which step.keeps.sectors ∙ c.loop-piece.invariant.disk;
@@ -118,8 +119,6 @@ returns-then-done-clause-answers g c =
     let o : Outside = outside_at g.S.SectorStore.size g.S.SectorStore.told m in
     let start : Outside = outside_at g.S.SectorStore.size g.S.SectorStore.told first in
     let is = c.loop-piece.invariant in
-    let P : ℕ → Type 0 = λ n. IsGoing (device_at g.S.SectorStore.size g.S.SectorStore.told m) c.args.port.0 c.args.slot.0 c.sectors-sectors.result n in
-    let none : c.in-Some.field-0.left - c.loop-piece._piece ≡ 0 = omega (arith, c.loop-piece-test.false) in
     let done = c.done.ensures.did c.if-done.true o in
     let sectors : c.sectors-sectors.result ≡ g.S.SectorStore.size first.disk = c.sectors-sectors.ensures in
     let all = meanwhile_on g.S.SectorStore.size g.S.SectorStore.told g.S.SectorStore.failures first m (record m { hardware = c.done.new.self }) is.meanwhile
@@ -135,8 +134,8 @@ returns-then-done-clause-answers g c =
       may_finish (g.S.SectorStore.size first.disk) _ c.args.port.0 c.args.slot.0 c.sectors-sectors.result c.in-Some.field-0.left c.if-port-ne0.false c.requires sectors
           (c.in-Some.ensures.begun.ready start),
       record {
-        asked = goes_next SendsEnd c.args.port.0 c.args.slot.0 _ _ _ c.loop-piece.did is.did is.refused (inr (inr done));
-        ends = inr (is.fine, λ _. done_frees c.args.port.0 c.args.slot.0 c.sectors-sectors.result _ _ (subst P none is.going) done);
+        asked = goes_next (SendsEnd c.args.slot.0) c.args.port.0 c.args.slot.0 _ _ _ c.loop-piece.did is.did is.refused (inr (inr done));
+        ends = inr (is.fine, λ _. done_ended c.args.port.0 c.args.slot.0 c.sectors-sectors.result _ _ done);
         held = all.held;
         says = all.says;
         which = all.which;
@@ -227,9 +226,11 @@ returns-then-done-clause-identifies g c = λ zero has.
     let o : Outside = outside_at g.S.SectorStore.size g.S.SectorStore.told m in
     let P : ℕ → Type 0 = λ n. IsGoing (device_at g.S.SectorStore.size g.S.SectorStore.told m) c.args.port.0 c.args.slot.0 c.sectors-sectors.result n in
     let Q : ℕ → Type 0 = λ q. IsFreeSlot ((device_of c.done.new.self o).port q) c.args.slot.0 in
-    let none : c.in-Some.field-0.left - c.loop-piece._piece ≡ 0 = omega (arith, c.loop-piece-test.false) in (
+    let none : c.in-Some.field-0.left - c.loop-piece._piece ≡ 0 = omega (arith, c.loop-piece-test.false) in
+    let going = subst P none c.loop-piece.invariant.going in
+    let page = page_taken c.args.port.0 c.args.slot.0 c.loop-piece.did _ _ zero c.loop-piece.invariant.did c.loop-piece.invariant.refused has going.t going.works.taken in (
       λ _. subst Q zero
-          (done_frees c.args.port.0 c.args.slot.0 c.sectors-sectors.result _ _ (subst P none c.loop-piece.invariant.going) (c.done.ensures.did c.if-done.true o)),
+          (done_frees c.args.port.0 c.args.slot.0 c.sectors-sectors.result _ _ going (ap is_queued page.0) (c.done.ensures.did c.if-done.true o)),
       λ never. true-false c.if-done.true never,
     )
 

@@ -12,7 +12,7 @@ use Rattle.device_model.proofs.model.Model.finish.Given as goal
 
 abbrev pub invariant-loop-piece : goal.invariant-loop-piece
 invariant-loop-piece g l = record {
-  did : l.did ≡ true → GoesOn SendsEnd l.port.0 l.slot.0
+  did : l.did ≡ true → GoesOn (SendsEnd l.slot.0) l.port.0 l.slot.0
       (device_at g.S.SectorStore.size g.S.SectorStore.told l.fn.self) (device_at g.S.SectorStore.size g.S.SectorStore.told l.self);
   refused : l.did ≡ false →
       device_at g.S.SectorStore.size g.S.SectorStore.told l.self ≡ device_at g.S.SectorStore.size g.S.SectorStore.told l.fn.self;

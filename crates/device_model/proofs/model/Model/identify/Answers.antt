@@ -53,7 +53,7 @@ loop-found-preserved g c =
     let old : Device = device_at g.S.SectorStore.size g.S.SectorStore.told m in
     let new : Device = device_at g.S.SectorStore.size g.S.SectorStore.told c.finish.new.self in
     let step = asked.Finish (record { 0 = 0 }) (record { 0 = c.in-Some.found.slot }) in
-    let went : c.finish.result ≡ true → GoesOn SendsEnd 0 c.in-Some.found.slot old new =
+    let went : c.finish.result ≡ true → GoesOn (SendsEnd c.in-Some.found.slot) 0 c.in-Some.found.slot old new =
     λ (e : c.finish.result ≡ true). (did_it g.S.SectorStore.size g.S.SectorStore.told g.S.SectorStore.failures step m c.finish.new.self c.finish.result c.finish.ensures.answers e).asked in
     let same : c.finish.result ≡ false → new ≡ old =
     λ (e : c.finish.result ≡ false). (left_it g.S.SectorStore.size g.S.SectorStore.told g.S.SectorStore.failures step m c.finish.new.self c.finish.result c.finish.ensures.answers e).device in
@@ -108,7 +108,7 @@ returns-then-not-finish g c =
     let old : Device = device_at g.S.SectorStore.size g.S.SectorStore.told m in
     let new : Device = device_at g.S.SectorStore.size g.S.SectorStore.told c.finish.new.self in
     let step = asked.Finish (record { 0 = 0 }) (record { 0 = c.in-Some.found.slot }) in
-    let went : c.finish.result ≡ true → GoesOn SendsEnd 0 c.in-Some.found.slot old new =
+    let went : c.finish.result ≡ true → GoesOn (SendsEnd c.in-Some.found.slot) 0 c.in-Some.found.slot old new =
     λ (e : c.finish.result ≡ true). (did_it g.S.SectorStore.size g.S.SectorStore.told g.S.SectorStore.failures step m c.finish.new.self c.finish.result c.finish.ensures.answers e).asked in
     let same : c.finish.result ≡ false → new ≡ old =
     λ (e : c.finish.result ≡ false). (left_it g.S.SectorStore.size g.S.SectorStore.told g.S.SectorStore.failures step m c.finish.new.self c.finish.result c.finish.ensures.answers e).device in

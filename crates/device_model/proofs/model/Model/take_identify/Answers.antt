@@ -30,7 +30,7 @@ returns g c =
     let same : did ≡ false → new ≡ old = λ (e : did ≡ false). c.fetch-taken.ensures.refused e o in
     let never : did ≡ false → (m : Meaning) (places : List ℕ) → Takes m.operation → Can (Fetch 0 slot m places) old → ⊥ =
     λ (e : did ≡ false). c.fetch-taken.ensures.only e o in
-    let went : did ≡ true → GoesOn SendsEnd 0 slot old new = λ (e : did ≡ true). goes_one SendsEnd 0 slot old new (inl (fetched e)) in
+    let went : did ≡ true → GoesOn (SendsEnd slot) 0 slot old new = λ (e : did ≡ true). goes_one (SendsEnd slot) 0 slot old new (inl (fetched e)) in
     record {
       own = λ held loose. (own_gone IsIdentify (λ o places is. is) held 0 slot loose did old new went same (found_only old slot c.requires.there)).0;
       settled = gone_settled 0 slot did old new went same;

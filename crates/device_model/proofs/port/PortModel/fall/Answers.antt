@@ -6,7 +6,7 @@ use Rattle.device_model.proofs.port.PortModel.fall.Goals as goal
 pub returns-then-self-clause-does : goal.returns-then-self-clause-does
 returns-then-self-clause-does c = λ m.
     let p = c.args.self.now in
-    goes_fallen (port_of p m) _ c.if-not-self.true c.if-self.true (λ i. record (port_of p m) { cr = false; taken = slots_of (c.forget.ensures i) })
+    goes_fallen (port_of p m) _ c.if-not-self.true c.if-self.true (λ i. record (port_of p m) { cr = false; taken = slots_of (c.clear.ensures i) })
 
 pub returns-else-not-self-clause-does : goal.returns-else-not-self-clause-does
 returns-else-not-self-clause-does c = λ m. goes_nowhere _

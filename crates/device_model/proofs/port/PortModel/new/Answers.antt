@@ -1,4 +1,7 @@
-use Rattle.std.proofs.Common.{refl}
+use Rattle.std.proofs.Common.{ℕ, Option, ap, refl}
+use Rattle.std.specs.Prelude.{option_map}
+use Rattle.device_model.specs.View.{taken_of}
+use Rattle.device_model.specs.declared.port.TakenCommand.{TakenCommand}
 use Rattle.device_model.proofs.NewModel.{zero_bit}
 use Rattle.device_model.proofs.port.PortModel.new.Goals as goal
 
@@ -10,7 +13,7 @@ returns-clause-idle c = λ m. record {
   fr = refl;
   ci = zero_bit;
   sact = zero_bit;
-  taken = λ slot. refl;
+  taken = λ slot. ap (λ (f : ℕ → Option TakenCommand). option_map taken_of (f slot)) c.new.ensures;
 }
 
 pub returns-clause-reset : goal.returns-clause-reset

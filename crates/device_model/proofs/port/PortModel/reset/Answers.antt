@@ -14,4 +14,4 @@ returns c = λ m.
       | then-self w ↦ rw w.if-self.true (w.self-is ∙ w.if-self.true)
       | else-self w ↦ rw w.if-self.false w.self-is
     ] in
-    λ i. record (with_reset (port_of p m)) { ci = no_bits i; sact = no_bits i; is = no_bits i; taken = slots_of (c.forget.ensures i); link_due = due i }
+    λ i. record (with_reset (port_of p m)) { ci = no_bits i; sact = no_bits i; is = no_bits i; taken = slots_of (c.clear.ensures i); link_due = due i }

@@ -1,0 +1,9 @@
+use Rattle.std.proofs.Common.{rules, true, ◌≡◌, ◌*◌, ◌%◌, ◌^◌}
+use Rattle.std.specs.Prelude.{bit_and}
+use Rattle.device_model.proofs.port.PortModel.ended_tag.Goals as goal
+
+pub returns : goal.returns
+returns c = λ m.
+    let e = c.status_and_error-status.ensures m in
+    let tag : 1 * 2 ^ c.args.slot % 4294967296 ≡ 2 ^ c.args.slot = search rules in
+    λ i. record { interrupt = true; status = bit_and (e.0 i) 0x77; error = e.1 i; tags = tag i }

@@ -1,0 +1,123 @@
+// The commands that a port has taken.
+ghost use Rattle.std.specs.Prelude.{◌≡◌, ◌<◌, ◌+◌, ◌^◌, ◌↔◌, ℕ, IsTrue, IfSome, None, Some, true, length};
+ghost use Rattle.adapter.specs.Commands.{is_queued};
+ghost use Rattle.adapter.specs.Memory.{changed};
+ghost use Rattle.device_model.specs.View.{held_in, operation_of};
+ghost use Rattle.device_model.specs.declared.port.TakenCommand.{TakenCommand};
+
+use crate::port::TakenCommand;
+
+/// How many slots a command list has at the most (AHCI 1.3.1, 4.2.2).
+const SLOTS: usize = 32;
+
+/// The commands that a port has taken, each in its slot.
+#[derive(Debug, Drop)]
+pub struct TakenCommands {
+    slots: [Option<TakenCommand>; SLOTS],
+}
+
+impl TakenCommands {
+    /// None is taken.
+    pub fn new() -> TakenCommands
+        ensures { held_in result.slots ≡ (λ slot. None) }
+    {
+        TakenCommands {
+            slots: [None; SLOTS],
+        }
+    }
+
+    /// The command that is taken in a slot.
+    pub fn get(&self, slot: u8) -> Option<&TakenCommand>
+        requires { slot < 32 }
+        ensures found { IfSome result (λ command. held_in self.now.slots slot ≡ Some command.now) }
+        ensures none { result ≡ None → held_in self.now.slots slot ≡ None }
+    {
+        self.slots[usize::from(slot)].as_ref()
+    }
+
+    /// A command is taken in a slot.
+    pub fn put(&mut self, slot: u8, command: TakenCommand)
+        requires { slot < 32 }
+        ensures { held_in self.new.slots ≡ changed (held_in self.old.slots) slot (Some command) }
+    {
+        self.slots[usize::from(slot)] = Some(command);
+    }
+
+    /// One more piece of a slot's command was moved.
+    pub fn add_moved(&mut self, slot: u8)
+        requires slot { slot < 32 }
+        requires room { IfSome (held_in self.old.slots slot) (λ t. t.moved + 1 < 2 ^ 32) }
+        ensures { (t : TakenCommand) → held_in self.old.slots slot ≡ Some t → held_in self.new.slots ≡ changed (held_in self.old.slots) slot (Some (record t { moved = t.moved + 1 })) }
+    {
+        count_move(&mut self.slots[usize::from(slot)]);
+    }
+
+    /// A slot's command is taken no more. A function of its own, since its caller's frame would have room for a command else; `clear` too.
+    #[inline(never)]
+    pub fn remove(&mut self, slot: u8)
+        requires { slot < 32 }
+        ensures { held_in self.new.slots ≡ changed (held_in self.old.slots) slot None }
+    {
+        self.slots[usize::from(slot)] = None;
+    }
+
+    /// No command is taken any more.
+    #[inline(never)]
+    pub fn clear(&mut self)
+        ensures { held_in self.new.slots ≡ (λ slot. None) }
+    {
+        for slot in 0..SLOTS {
+            self.slots[slot] = None;
+        }
+    }
+
+    /// Whether none is taken.
+    pub fn is_empty(&self) -> bool
+        ensures { IsTrue result ↔ ((slot : ℕ) → held_in self.now.slots slot ≡ None) }
+    {
+        are_empty(&self.slots)
+    }
+
+    /// Whether each that is taken is queued.
+    pub fn are_queued(&self) -> bool
+        ensures { IsTrue result ↔ ((slot : ℕ) (t : TakenCommand) → held_in self.now.slots slot ≡ Some t → is_queued (operation_of t.transfer) ≡ true) }
+    {
+        hold_queued(&self.slots)
+    }
+}
+
+/// One more piece of a command was moved.
+fn count_move(taken: &mut Option<TakenCommand>)
+    requires { IfSome taken.old (λ t. t.moved + 1 < 2 ^ 32) }
+    ensures { (t : TakenCommand) → taken.old ≡ Some t → taken.new ≡ Some (record t { moved = t.moved + 1 }) }
+{
+    if let Some(command) = taken {
+        command.moved += 1;
+    }
+}
+
+/// Whether no command is in these slots.
+fn are_empty(slots: &[Option<TakenCommand>]) -> bool
+    ensures { IsTrue result ↔ ((slot : ℕ) → held_in slots.now slot ≡ None) }
+{
+    for slot in slots {
+        if slot.is_some() {
+            return false;
+        }
+    }
+    true
+}
+
+/// Whether each command in these slots is queued.
+fn hold_queued(slots: &[Option<TakenCommand>]) -> bool
+    ensures { IsTrue result ↔ ((slot : ℕ) (t : TakenCommand) → held_in slots.now slot ≡ Some t → is_queued (operation_of t.transfer) ≡ true) }
+{
+    for slot in slots {
+        if let Some(command) = slot
+            && !command.transfer.is_queued()
+        {
+            return false;
+        }
+    }
+    true
+}
