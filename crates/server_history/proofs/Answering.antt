@@ -1,4 +1,4 @@
--- The request of a ready port's slot 0, whose command is over, is answered.
+-- The request of a ready port's slot, whose command is over, is answered.
 use Rattle.std.proofs.Common.{ℕ, ◌≡◌, ◌<◌, ◌≤◌, ◌==◌, Bool, true, false, cond, List, [], ◌∷◌, get_or, Option, Some, None, inl, refl, sym, ap, ◌∙◌, subst, ⊎_elim, arith, eqb-true, eq-eqb}
 use Rattle.std.specs.List.{All, Contains}
 use Rattle.std.proofs.lemmas.Bool.{cond-true, false≢true}
@@ -28,12 +28,12 @@ use Rattle.dma_frames.specs.Table.{Table, lent_to, LendsOnly}
 use Rattle.host_boot.specs.Taken.{found_of}
 use Rattle.request_queue.specs.Entries.{Held, IsAccepted, without}
 use Rattle.request_queue.specs.Machine.{IsBook, IsEntry}
-use Rattle.server_history.specs.Served.{AnswersOne}
+use Rattle.server_history.specs.Served.{AnswersOne, HasEnded}
 use Rattle.server_history.specs.Server.{Server, IsKept, IsMachineOf, none_parked, state_of, usable_of, with_slot}
 use Rattle.server_history.specs.Below.{LawsBelow}
 use Rattle.server_history.proofs.Going.{kept_then}
 use Rattle.server_history.proofs.Placing.{placed_four, placed_has, placed_uses}
-use Rattle.server_history.proofs.Slots.{IsServedBy, parked_first, ready_found, served_request, serves_used, stage_over}
+use Rattle.server_history.proofs.Slots.{IsServedBy, used_low, parked_at, ready_found, served_request, serves_used, stage_over}
 
 -- ---- loans
 
@@ -66,10 +66,10 @@ given_back m e x old new reached lives entry same lent lends f = by (m.lent f) r
             false≢true (sym q ∙ eq-eqb o.0 x.request.id.0 (ap (λ (i : RequestId). i.0) (sym w ∙ sym entry.id)))))
 
 -- what is parked alone is forgotten
-forgets_one : (uses : Uses) (d : Device) (port : ℕ) (id : RequestId) → Forgets id (parking (known uses none_parked d) port 0 id).parked none_parked
-forgets_one uses d port id q other here ne = absurd (ne (only q other here))
+forgets_one : (uses : Uses) (d : Device) (port slot : ℕ) (id : RequestId) → Forgets id (parking (known uses none_parked d) port slot id).parked none_parked
+forgets_one uses d port slot id q other here ne = absurd (ne (only q other here))
   where
-    only : (q : ℕ) (other : RequestId) → Contains ((parking (known uses none_parked d) port 0 id).parked q) other → other ≡ id
+    only : (q : ℕ) (other : RequestId) → Contains ((parking (known uses none_parked d) port slot id).parked q) other → other ≡ id
     only = changed_each none_parked port (id ∷ []) (λ q ids. (other : RequestId) → Contains ids other → other ≡ id)
         (λ other h. ⊎_elim (λ e. e) (λ i. absurd (contains_none other i)) (contains_cases id [] other h))
         (λ q other h. absurd (contains_none other h))
@@ -80,20 +80,20 @@ forgets_one uses d port id q other here ne = absurd (ne (only q other here))
 pub record IsAnswer (port : Port) (request : Held) (old new : Server) (m : Machine) : Type 0 where
   pub done : Pending
   pub here : Contains m.book done
-  pub entry : IsEntry request done
-  pub issued : done.issued ≡ true
-  pub ended : done.ended ≡ true
-  pub touched : AllTouched done
-  pub port_is : request.entry.port ≡ port
+  pub has : HasEnded port request done
   pub stands : IsMachineOf new (after_step m (Answer done outcome.Ok))
 
-module _ (laws : LawsBelow) (s new : Server) (port : Port) (e : Held) (k : IsKept s) (ready : state_of (found_of s.ports port.0) ≡ ReadyState) (over : IsOver (s.device.port port.0) 0) (one : AnswersOne port e s new) where
+module _ (laws : LawsBelow) (s new : Server) (port : Port) (e : Held) (k : IsKept s) (ready : state_of (found_of s.ports port.0) ≡ ReadyState)
+    (one : AnswersOne port e s new) (over : IsOver (s.device.port port.0) one.slot) where
   abbrev id : RequestId
   id = e.entry.id
 
+  abbrev slot : ℕ
+  slot = one.slot
+
   -- the server then
   abbrev left : Server
-  left = record s { table = new.table; slots = with_slot s.slots port.0 0 None; book = without e.entry.id s.book }
+  left = record s { table = new.table; slots = with_slot s.slots port.0 slot None; book = without e.entry.id s.book }
 
   low : port.0 < 4
   low = (ready_found s port.0 k ready).0
@@ -105,24 +105,24 @@ module _ (laws : LawsBelow) (s new : Server) (port : Port) (e : Held) (k : IsKep
   was_accepted = All-contains (IsAccepted s.grants s.table) s.book e k.accepted one.here
 
   module _ (m : Machine) (reached : IsReached m) (is : IsMachineOf s m) where
-    serves : is.uses port.0 0 ≡ Serves id
-    serves = serves_used s m port.0 is ready 0 one.used one.served ∙ ap Serves one.id_is
+    serves : is.uses port.0 slot ≡ Serves id
+    serves = serves_used s m port.0 is ready slot one.used one.served ∙ ap Serves one.id_is
 
-    abbrev r : IsServedBy s m port.0 0 id
-    r = served_request s m port.0 0 is id serves
+    abbrev r : IsServedBy s m port.0 slot id
+    r = served_request s m port.0 slot is id serves
 
-    abbrev x : ServesRequest m s.device.memory (s.device.port port.0) port.0 0 id
+    abbrev x : ServesRequest m s.device.memory (s.device.port port.0) port.0 slot id
     x = r.serves
 
     abbrev done : Pending
     done = x.pending
 
     -- it has ended, since the port runs
-    ended : IsEnded (s.device.port port.0) 0 done
+    ended : IsEnded (s.device.port port.0) slot done
     ended = ⊎_elim
-        (λ (y : IsEnded (s.device.port port.0) 0 done). y)
-        (λ (d : IsDropped (s.device.port port.0) 0 done). absurd (false≢true (sym d.stopped ∙ started)))
-        (stage_over s.device.memory (s.device.port port.0) port.0 0 done x.command x.places x.stage over)
+        (λ (y : IsEnded (s.device.port port.0) slot done). y)
+        (λ (d : IsDropped (s.device.port port.0) slot done). absurd (false≢true (sym d.stopped ∙ started)))
+        (stage_over s.device.memory (s.device.port port.0) port.0 slot done x.command x.places x.stage over)
 
     same : r.request ≡ e
     same = laws.one s.book r.request e k.ordered r.there one.here r.id_is
@@ -134,19 +134,19 @@ module _ (laws : LawsBelow) (s new : Server) (port : Port) (e : Held) (k : IsKep
     answered = after_step m (Answer done outcome.Ok)
 
     abbrev taken : Known
-    taken = parking (known is.uses none_parked s.device) port.0 0 id
+    taken = parking (known is.uses none_parked s.device) port.0 slot id
 
     no_slot : HasNoSlot taken.uses done.request.id
-    no_slot = subst (HasNoSlot taken.uses) (sym x.id_is) (parking_frees (known is.uses none_parked s.device) port.0 0 id is.knows.agrees.apart serves)
+    no_slot = subst (HasNoSlot taken.uses) (sym x.id_is) (parking_frees (known is.uses none_parked s.device) port.0 slot id is.knows.agrees.apart serves)
 
     forgets : Forgets done.request.id taken.parked none_parked
-    forgets = subst (λ (i : RequestId). Forgets i taken.parked none_parked) (sym x.id_is) (forgets_one is.uses s.device port.0 id)
+    forgets = subst (λ (i : RequestId). Forgets i taken.parked none_parked) (sym x.id_is) (forgets_one is.uses s.device port.0 slot id)
 
     stands : IsMachineOf left answered
     stands = record {
-      uses = put is.uses port.0 0 Free;
-      used = placed_uses s.slots port.0 0 None (let l = low in let f = k.four in omega (arith, l, f)) (let h = (k.slots port.0 low).places in omega (arith, h)) s.ports is.uses is.used;
-      knows = answer_knows taken m done outcome.Ok none_parked reached (parked_first s m port is id serves over) r.here refl no_slot forgets;
+      uses = put is.uses port.0 slot Free;
+      used = placed_uses s.slots port.0 slot None (let l = low in let f = k.four in omega (arith, l, f)) (let h = (k.slots port.0 low).places in let small = one.small in omega (arith, h, small)) s.ports is.uses is.used;
+      knows = answer_knows taken m done outcome.Ok none_parked reached (parked_at s m port slot is id serves over) r.here refl no_slot forgets;
       book = subst (λ (i : RequestId). IsBook (without i s.book) answered.book) x.id_is (laws.answers s.book m done outcome.Ok is.book);
       kept = is.kept;
       rows = is.rows;
@@ -159,11 +159,13 @@ module _ (laws : LawsBelow) (s new : Server) (port : Port) (e : Held) (k : IsKep
     answer_one = record {
       done = done;
       here = r.here;
-      entry = entry;
-      issued = r.issued;
-      ended = ended.ended;
-      touched = ended.touched;
-      port_is = ap (λ (n : ℕ). record { 0 = n }) (ap (λ (y : Held). y.entry.port.0) (sym same) ∙ r.port_is);
+      has = record {
+        port_is = ap (λ (n : ℕ). record { 0 = n }) (ap (λ (y : Held). y.entry.port.0) (sym same) ∙ r.port_is);
+        entry = entry;
+        issued = r.issued;
+        ended = ended.ended;
+        touched = ended.touched;
+      };
       stands = subst (λ (n : Server). IsMachineOf n answered) (sym one.server) stands;
     }
 
@@ -179,10 +181,10 @@ module _ (laws : LawsBelow) (s new : Server) (port : Port) (e : Held) (k : IsKep
   answer_kept =
       let a = answer_one k.machine k.reached k.stands in
       subst IsKept (sym one.server)
-      (kept_then s s.device new.table (with_slot s.slots port.0 0 None) (without id s.book) s.last k
+      (kept_then s s.device new.table (with_slot s.slots port.0 slot None) (without id s.book) s.last k
       k.on (same_refl s.device) k.behind one.lent.owners
-      (placed_four s.ports s.slots port.0 0 None k.four low slot_low few k.slots)
-      (placed_has s.ports s.slots port.0 0 None k.four low slot_low few k.slots)
+      (placed_four s.ports s.slots port.0 slot None k.four low slot_low few k.slots)
+      (placed_has s.ports s.slots port.0 slot None k.four low slot_low few k.slots)
       (laws.still_answered s.grants s.table new.table s.book e one.here one.lent k.accepted)
       (laws.fewer s.book id k.ordered)
       (left_each (λ y. y.entry.id.0 ≤ s.last) k.handed_out)
@@ -193,8 +195,8 @@ module _ (laws : LawsBelow) (s new : Server) (port : Port) (e : Held) (k : IsKep
       usable : usable_of (found_of s.ports port.0) ≡ 1
       usable = ap usable_of (ready_found s port.0 k ready).1.1
 
-      slot_low : 0 < usable_of (found_of s.ports port.0)
-      slot_low = let u = usable in omega (arith, u)
+      slot_low : slot < usable_of (found_of s.ports port.0)
+      slot_low = used_low s port.0 slot one.used k low one.served
 
       few : usable_of (found_of s.ports port.0) ≤ 32
       few = let u = usable in omega (arith, u)

@@ -1,7 +1,8 @@
 -- What the accesses of calls are: those of a port's turn in a service one by one, and of what kind they are.
-use Rattle.std.proofs.Common.{ℕ, ◌≡◌, ◌≢◌, ◌⊎◌, ◌+◌, ◌≤◌, ◌<◌, ◌++◌, Bool, true, false, List, [], ◌∷◌, Option, length, refl, sym, ◌∙◌, subst, inl, inr, arith, ⊎_elim}
+use Rattle.std.proofs.Common.{ℕ, ◌≡◌, ◌≢◌, ◌⊎◌, ◌+◌, ◌≤◌, ◌<◌, ◌++◌, ◌==◌, ap, Bool, true, false, List, [], ◌∷◌, Option, length, refl, sym, ◌∙◌, subst, inl, inr, arith, ⊎_elim}
 use Rattle.std.specs.List.{All}
-use Rattle.std.proofs.lemmas.Bool.{cases_Bool}
+use Rattle.std.proofs.lemmas.Bool.{cases_eq, false≢true}
+use Rattle.std.proofs.lemmas.Nat.Bits.{bit_at-zero}
 use Rattle.std.proofs.lemmas.List.Elements.{All-append, All-cons, All-nil}
 use Rattle.ata_types.specs.declared.Port.{Port}
 use Rattle.ata_types.specs.declared.request.Reply.{Reply}
@@ -23,7 +24,8 @@ use Rattle.agreement.proofs.Driven.{by_none}
 use Rattle.command_table.specs.Written.{IsTableStore}
 use Rattle.driver_history.specs.Histories.{IssuesOn}
 use Rattle.driver_history.specs.Trace.{IsDriversOwn, IsOfPorts, IsServing, LeavesCommand, LeavesEngine, ReadsMasks}
-use Rattle.server_history.specs.Served.{Checks, HasTurn, IsPlainIssuing}
+use Rattle.server_history.specs.Served.{Checks, HasTurn, IsMaskOf, IsPlainIssuing, is_used}
+use Rattle.slots.specs.Uses.{Uses as PortSlots, use_at}
 use Rattle.server_history.proofs.Plain.{both_read, plain_serves}
 use Rattle.port_look.specs.Looks.{LooksAt}
 use Rattle.port_look.specs.Services.{IsService}
@@ -77,6 +79,17 @@ turn_serving Such access here = (here.1.0, spares_ghc access here.0, here.1.1)
 
 -- ---- a port's turn
 
+-- some slot is used
+abbrev pub IsBusy : PortSlots → Type 0
+IsBusy slots = (slot : ℕ) × (slot < 32) × (is_used (use_at slots slot) ≡ true)
+
+pub bit_zero : (k : ℕ) → bit 0 k ≡ false
+bit_zero k = ap (λ (n : ℕ). n == 1) (bit_at-zero k)
+
+-- so the mask isn't 0
+pub unmasked : (slots : PortSlots) (mask : ℕ) → IsMaskOf slots mask → mask ≡ 0 → IsBusy slots → ⊥
+unmasked slots mask its none busy = false≢true (sym (bit_zero busy.0) ∙ ap (λ (m : ℕ). bit m busy.0) (sym none) ∙ its busy.0 busy.1 ∙ busy.2)
+
 module _ (Such : Port → Type 0) (port : Port) (such : Such port) where
   -- a look, access by access
   abbrev look_list : (causes own status : ℕ) → List Access
@@ -93,62 +106,61 @@ module _ (Such : Port → Type 0) (port : Port) (such : Such port) where
   look_does : (look : Look) (old new : Device) → (l : LooksAt port look old new) → DoesAll (look_list l.causes l.own l.status) old new
   look_does look old new l = (l.seen, l.reads, (l.cleared, l.clears, (l.acknowledged, l.acknowledges, (new, l.shows, refl))))
 
-  -- The accesses of a turn. Where the port goes well, the look tells nothing; and where the port's first request was checked, they read the
-  -- masks.
-  pub record TurnList (busy : Bool) (reply : Option Reply) (old new : Device) (t : HasTurn port busy reply old new) : Type 0 where
+  -- The accesses of a turn. Where the port goes well, the look tells nothing; and where slots were checked, they read the masks.
+  pub record TurnList (slots : PortSlots) (replies : List Reply) (old new : Device) (t : HasTurn port slots replies old new) : Type 0 where
     pub driven : IsDrivenBy (IsTurn Such) old new
     pub calm : IsOn old → RunsWell (old.port port.0) → Undisturbed port.0 old new → t.look ≡ Calm
-    pub masks : t.look ≡ Calm → busy ≡ true → (c : Checks port reply t.seen new) × ReadsMasks port c.reads.issued c.reads.active driven.accesses
+    pub masks : t.look ≡ Calm → IsBusy slots → (mask : ℕ) × IsMaskOf slots mask × ((c : Checks port slots mask replies t.seen new) × ReadsMasks port c.reads.issued c.reads.active driven.accesses)
 
-  module _ (low : port.0 < 4) (busy : Bool) (reply : Option Reply) (old new : Device) (t : HasTurn port busy reply old new) where
-    looked : (t.look ≢ Calm) ⊎ (busy ≡ false) → TurnList busy reply old new t
-    looked why = record {
-      driven = subst (IsDrivenBy (IsTurn Such) old) (sym (t.only why).1) (record {
+  module _ (low : port.0 < 4) (slots : PortSlots) (replies : List Reply) (old new : Device) (t : HasTurn port slots replies old new) where
+    -- it was looked at, and that was all
+    looked : (replies ≡ []) × (new ≡ t.seen) → (t.look ≡ Calm → IsBusy slots → ⊥) → TurnList slots replies old new t
+    looked stop never = record {
+      driven = subst (IsDrivenBy (IsTurn Such) old) (sym stop.1) (record {
         accesses = look_list t.looks.causes t.looks.own t.looks.status;
         all = look_does t.look old t.seen t.looks;
         only = look_turns t.looks.causes t.looks.own t.looks.status;
       });
-      calm = λ on well undisturbed. (seen_well port t.look old t.seen t.looks on well (subst (Undisturbed port.0 old) (t.only why).1 undisturbed)).0;
-      masks = λ calm has. absurd (⊎_elim (λ told. told calm) (λ none. let z : true ≡ false = sym has ∙ none in cc) why);
+      calm = λ on well undisturbed. (seen_well port t.look old t.seen t.looks on well (subst (Undisturbed port.0 old) stop.1 undisturbed)).0;
+      masks = λ is busy. absurd (never is busy);
     }
 
-    -- the accesses that come after the masks
-    rest : (c : Checks port reply t.seen new) → IsDrivenBy (IsTurn Such) c.read new
-    rest c = ⊎_elim
-        (λ (done : bit c.done 0 ≡ true).
-        let d = (c.over done).1 in
-        record { accesses = d.accesses; all = d.all; only = λ i e small. issuing_turns Such port such low _ (d.only i e small) })
-        (λ (running : bit c.done 0 ≡ false). subst (IsDrivenBy (IsTurn Such) c.read) (sym (c.running running).1) (by_none (IsTurn Such) c.read))
-        (cases_Bool (bit c.done 0))
+    module _ (calm : t.look ≡ Calm) (some : (t.calm calm).mask ≢ 0) where
+      abbrev c : Checks port slots (t.calm calm).mask replies t.seen new
+      c = (t.calm calm).checks some
 
-    checked : t.look ≡ Calm → busy ≡ true → TurnList busy reply old new t
-    checked calm has =
-        let c : Checks port reply t.seen new = t.checks calm has in
-        let more : IsDrivenBy (IsTurn Such) c.read new = rest c in
-        let early : List Access = look_list t.looks.causes t.looks.own t.looks.status in
-        let late : List Access = Reading (Px port Ci) c.reads.issued ∷ Reading (Px port Sact) c.reads.active ∷ more.accesses in
-        record {
-          driven = record {
-            accesses = early ++ late;
-            all = does_append early late old t.seen new (look_does t.look old t.seen t.looks) (let r = both_read port 1 c.done t.seen c.read c.reads in (r.0, r.1, (c.read, r.2, more.all)));
-            only = All-append (IsTurn Such) early late (look_turns t.looks.causes t.looks.own t.looks.status)
-                (All-cons (IsTurn Such) (Reading (Px port Ci) c.reads.issued) (Reading (Px port Sact) c.reads.active ∷ more.accesses) (tt, (tt, such))
-                (All-cons (IsTurn Such) (Reading (Px port Sact) c.reads.active) more.accesses (tt, (tt, such)) more.only));
-          };
-          calm = λ _ _ _. calm;
-          masks = λ _ _. (
-            c,
-            record {
-              before = early;
-              later = more.accesses;
-              here = refl;
-              running = leaves;
-            },
-          );
-        }
-      where
-        leaves : All (LeavesCommand port) (look_list t.looks.causes t.looks.own t.looks.status)
-        leaves i e small = (turn_leaves Such port _ (look_turns t.looks.causes t.looks.own t.looks.status i e small)).0
+      -- the accesses that come after the masks
+      more : IsDrivenBy (IsTurn Such) c.read new
+      more = record { accesses = c.over.accesses; all = c.over.all; only = λ i e small. issuing_turns Such port such low _ (c.over.only i e small) }
+
+      abbrev early : List Access
+      early = look_list t.looks.causes t.looks.own t.looks.status
+
+      abbrev late : List Access
+      late = Reading (Px port Ci) c.reads.issued ∷ Reading (Px port Sact) c.reads.active ∷ more.accesses
+
+      leaves : All (LeavesCommand port) early
+      leaves i e small = (turn_leaves Such port _ (look_turns t.looks.causes t.looks.own t.looks.status i e small)).0
+
+      checked_driven : IsDrivenBy (IsTurn Such) old new
+      checked_driven = record {
+        accesses = early ++ late;
+        all = does_append early late old t.seen new (look_does t.look old t.seen t.looks) (let r = both_read port (t.calm calm).mask c.done t.seen c.read c.reads in (r.0, r.1, (c.read, r.2, more.all)));
+        only = All-append (IsTurn Such) early late (look_turns t.looks.causes t.looks.own t.looks.status)
+            (All-cons (IsTurn Such) (Reading (Px port Ci) c.reads.issued) (Reading (Px port Sact) c.reads.active ∷ more.accesses) (tt, (tt, such))
+            (All-cons (IsTurn Such) (Reading (Px port Sact) c.reads.active) more.accesses (tt, (tt, such)) more.only));
+      }
+
+      masks_there : ReadsMasks port c.reads.issued c.reads.active checked_driven.accesses
+      unfolding checked_driven
+      masks_there = record { before = early; later = more.accesses; here = refl; running = leaves }
+
+    checked : (calm : t.look ≡ Calm) → (t.calm calm).mask ≢ 0 → TurnList slots replies old new t
+    checked calm some = record {
+      driven = checked_driven calm some;
+      calm = λ _ _ _. calm;
+      masks = λ _ _. ((t.calm calm).mask, (t.calm calm).its, (c calm some, masks_there calm some));
+    }
 
     calm_or_not : (look : Look) → (look ≡ Calm) ⊎ (look ≢ Calm)
     calm_or_not Calm = inl refl
@@ -156,11 +168,11 @@ module _ (Such : Port → Type 0) (port : Port) (such : Such port) where
     calm_or_not Broken = inr (λ e. let z : Broken ≡ Calm = e in absurd cc)
     calm_or_not Failed = inr (λ e. let z : Failed ≡ Calm = e in absurd cc)
 
-    pub turn_list : TurnList busy reply old new t
+    pub turn_list : TurnList slots replies old new t
     turn_list = ⊎_elim
         (λ (calm : t.look ≡ Calm). ⊎_elim
-        (λ (has : busy ≡ true). checked calm has)
-        (λ (none : busy ≡ false). looked (inr none))
-        (cases_Bool busy))
-        (λ (told : t.look ≢ Calm). looked (inl told))
+        (λ (none : (t.calm calm).mask ≡ 0). looked ((t.calm calm).idle none) (λ _ busy. unmasked slots (t.calm calm).mask (t.calm calm).its none busy))
+        (λ (some : (t.calm calm).mask ≢ 0). checked calm some)
+        (cases_eq (t.calm calm).mask 0))
+        (λ (told : t.look ≢ Calm). looked (t.told told) (λ is _. told is))
         (calm_or_not t.look)

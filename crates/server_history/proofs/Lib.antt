@@ -5,7 +5,6 @@ pub mod Behind
 pub mod Going
 pub mod Ports
 pub mod Devices
-pub mod Coming
 pub mod Calls
 pub mod Beginning
 pub mod Turns
@@ -23,5 +22,6 @@ pub mod Accepting
 pub mod Answering
 pub mod Settling
 pub mod Services
-pub mod Serving
 pub mod Origins
+pub mod Coming
+pub mod Serving

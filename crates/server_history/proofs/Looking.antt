@@ -1,5 +1,6 @@
 -- A server goes on while a ready port is looked at, and while its transfer is looked for.
 use Rattle.std.proofs.Common.{ℕ, ◌≡◌, ◌≢◌, ◌<◌, true, Some, inl, inr, refl, sym, ap, ◌∙◌}
+use Rattle.std.proofs.lemmas.Bool.{and_parts}
 use Rattle.ata_types.specs.declared.Port.{Port}
 use Rattle.ata_types.specs.declared.PortState.TheVariants.{Dead, Ready as ReadyState}
 use Rattle.hba_regs.specs.declared.reg.Reg.TheVariants.{Px}
@@ -16,11 +17,11 @@ use Rattle.slots.specs.declared.Use.{Use as SlotUse}
 use Rattle.agreement.proofs.Driven.{driven_as, followed_adds, followed_silent}
 use Rattle.host_boot.specs.Taken.{found_of}
 use Rattle.host_boot.specs.declared.Found.TheVariants.{Unready}
-use Rattle.server_history.specs.Served.{is_busy}
-use Rattle.server_history.specs.Server.{Server, IsKept, IsPortOf, none_parked, state_of, used_for}
+use Rattle.server_history.specs.Served.{IsMaskOf}
+use Rattle.server_history.specs.Server.{Server, IsKept, IsPortOf, none_parked, slots_at, state_of, used_for}
 use Rattle.server_history.proofs.Going.{machine_on, kept_on}
 use Rattle.server_history.proofs.Ports.{port_on}
-use Rattle.server_history.proofs.Slots.{not_own, ready_found, serves_used}
+use Rattle.server_history.proofs.Slots.{AreOver, busy_used, not_own, ready_found, serves_used}
 use Rattle.port_look.specs.Looks.{IsLooking}
 use Rattle.port_look.specs.Services.{IsService}
 use Rattle.ncq.specs.Masks.{FindsDone, IsFinding}
@@ -82,11 +83,13 @@ module _ (s : Server) (new : Device) (port : Port) (k : IsKept s) (ready : state
         kept_over (IsFinding port) (finding_serves port) (λ q. (finding_spares q Ci, finding_spares q Sact))
         (λ q low other. apart port (IsFinding port) (laws.finding_of port) q other s.device new k.on followed.driven) followed
 
-    -- the command of a slot that was found done is over
-    pub found_over : (slot : ℕ) (used : SlotUse) → used_for s.slots port.0 slot ≡ Some used → slot < 32 → bit done slot ≡ true → IsOver (new.port port.0) slot
-    found_over slot used its small found =
+    -- the command of a slot that was found done is over, where only used slots were asked for
+    pub found_over : IsMaskOf (slots_at s.slots port.0) mask → AreOver port done new
+    found_over its slot small found =
+        let asked : bit mask slot ≡ true = (and_parts (bit mask slot) _ (and_parts _ _ (sym (finds.tells slot small) ∙ found)).0).0 in
+        let used = busy_used (used_for s.slots port.0 slot) (sym (its slot small) ∙ asked) in
         let x = finds.comes (record { uses = k.stands.uses; parked = none_parked }) k.machine k.reached k.stands.knows tt in
-        (x.tells.ended started slot used.id small found (serves_used s k.machine port.0 k.stands ready slot used its)).0
+        (x.tells.ended started slot used.0.id small found (serves_used s k.machine port.0 k.stands ready slot used.0 used.1)).0
       where
         started : (s.device.port port.0).st ≡ true
         started = ((k.behind port.0 (ready_found s port.0 k ready).0).runs ready).st

@@ -1,5 +1,5 @@
 -- Steps of a port's turn: which requests they leave, and which they issue.
-use Rattle.std.proofs.Common.{◌≡◌, ◌==◌, true, List, [], ◌∷◌, ◌++◌, Option, Some, None, refl, sym, ap, ◌∙◌, subst, ⊎_elim, eqb-true}
+use Rattle.std.proofs.Common.{◌≡◌, ◌==◌, true, List, [], ◌∷◌, ◌++◌, append_assoc, refl, sym, ap, ◌∙◌, subst, ⊎_elim, eqb-true}
 use Rattle.std.specs.List.{Contains, list_any}
 use Rattle.std.proofs.lemmas.Bool.{false≢true, or_cases}
 use Rattle.ata_types.specs.declared.Port.{Port}
@@ -13,8 +13,7 @@ use Rattle.block_machine.specs.Left.{after}
 use Rattle.block_machine.specs.State.{Machine, Pending}
 use Rattle.block_machine.specs.Steps.{Step, Answer, Issue, after_step, at, issue}
 use Rattle.block_machine.proofs.Members.{at_cases, map_in, without_in}
-use Rattle.server_history.specs.Served.{AnswersBy, IssuesOnly}
-use Rattle.server_history.specs.Server.{Server}
+use Rattle.server_history.specs.Served.{AnswersBy, IssuesOnly, answers_in}
 
 -- each is the device's, or answers a request, or issues one of the port
 abbrev pub TurnSteps : Port → List Step → Type 0
@@ -35,10 +34,14 @@ issues_turn port (Issue mode e ∷ late) early only turn = (only.1, issues_turn 
 issues_turn port (Answer e o ∷ late) early only turn = absurd only.0
 issues_turn port (step ∷ late) early only turn = (only.0, issues_turn port late early only.1 turn)
 
-pub answers_turn : (port : Port) (reply : Option Reply) (old : Server) (steps : List Step) → AnswersBy port reply old steps → TurnSteps port steps
-answers_turn port None old steps by = devices_turn port steps by
-answers_turn port (Some reply) old steps by =
-    subst (TurnSteps port) (sym by.steps_are) (issues_turn port by.later (Answer by.done Ok ∷ by.before) by.last (devices_turn port by.before by.first))
+answered_turn : (port : Port) (ended : List Pending) (early : List Step) → TurnSteps port early → TurnSteps port (answers_in ended ++ early)
+answered_turn port [] early turn = turn
+answered_turn port (e ∷ ended) early turn =
+    subst (TurnSteps port) (sym (append_assoc (answers_in ended) (Answer e Ok ∷ []) early)) (answered_turn port ended (Answer e Ok ∷ early) turn)
+
+pub answers_turn : (port : Port) (replies : List Reply) (steps : List Step) → AnswersBy port replies steps → TurnSteps port steps
+answers_turn port replies steps by =
+    subst (TurnSteps port) (sym by.steps_are) (issues_turn port by.later (answers_in by.ended ++ by.before) by.last (answered_turn port by.ended by.before (devices_turn port by.before by.first)))
 
 -- the same request stands in a book, perhaps not as far
 pub record StandsIn (book : List Pending) (e : Pending) : Type 0 where

@@ -1,11 +1,11 @@
 -- Ready ports that are served one after another add an event.
-use Rattle.std.proofs.Common.{◌&&◌, ℕ, suc, ◌≡◌, ◌≢◌, ◌≤◌, ◌<◌, ◌+◌, ◌-◌, ◌||◌, not, Bool, true, false, List, [], ◌∷◌, ◌++◌, map, Option, Some, None, refl, sym, ap, ◌∙◌, subst, inl, inr, ⊎_elim, arith, append_assoc, append-nil}
-use Rattle.std.specs.List.{All, AllPairs, Contains, list_any}
+use Rattle.std.proofs.Common.{◌⊎◌, ◌&&◌, ℕ, suc, ◌≡◌, ◌≢◌, ◌≤◌, ◌<◌, ◌+◌, ◌-◌, ◌||◌, not, Bool, true, false, List, [], ◌∷◌, ◌++◌, map, Option, Some, None, refl, sym, ap, ◌∙◌, subst, inl, inr, ⊎_elim, arith, append_assoc, append-nil}
+use Rattle.std.specs.List.{All, AllPairs, AllZip, Contains, list_any}
 use Rattle.std.specs.List.Sorted.{IsPermutation}
 use Rattle.std.specs.Prelude.{◌↔◌}
 use Rattle.std.proofs.lemmas.Bool.{and_from, and_parts, cases_Bool, cases_eq, false≢true, cases_lt, or_from}
 use Rattle.std.proofs.lemmas.List.{map-append}
-use Rattle.std.proofs.lemmas.List.Elements.{All-nil, All-append, All-push, Contains-append_cases, Contains-append_right}
+use Rattle.std.proofs.lemmas.List.Elements.{All-nil, All-append, All-push, Contains-append_cases, Contains-append_left, Contains-append_right}
 use Rattle.std.proofs.lemmas.List.Quantifiers.{all_pairs_push}
 use Rattle.std.proofs.lemmas.List.Sorted.{IsPermutation-push_more, IsPermutation-refl}
 use Rattle.ata_types.specs.declared.Port.{Port}
@@ -42,11 +42,11 @@ use Rattle.block_machine.specs.Ports.{Ports, IsServiced}
 use Rattle.block_machine.specs.Due.{of_port}
 use Rattle.block_machine.specs.State.{Pending, Machine, unanswered}
 use Rattle.block_machine.specs.declared.due.Unanswered.{Unanswered}
-use Rattle.block_machine.specs.Steps.{Step, Issue, Answer, May}
+use Rattle.block_machine.specs.Steps.{Step, Issue, Answer, May, after_step}
 use Rattle.block_machine.proofs.Calm.{calmly, is_refused}
 use Rattle.block_machine.proofs.EventLemmas.{after-append}
 use Rattle.block_machine.proofs.HistoryLemmas.{history_reaches, reached_more}
-use Rattle.block_machine.proofs.Members.{contains_cases, contains_here, contains_none, contains_there, map_in}
+use Rattle.block_machine.proofs.Members.{contains_cases, contains_here, contains_none, contains_there, into_map, map_in, without_in}
 use Rattle.block_machine.proofs.Standing.{standing}
 use Rattle.block_machine.proofs.Started.{ended_issued}
 use Rattle.host_boot.specs.Taken.{found_of}
@@ -56,28 +56,28 @@ use Rattle.identify.specs.declared.DiskInfo.{DiskInfo}
 use Rattle.driver_history.specs.Evidence.{StaysHealthy}
 use Rattle.driver_history.specs.Histories.{Begins, FindsDone, HasBadDisk, IsAnsweredOk, IsIssuedOn, IssuesDue, TendsPort, Ties, TiesPort}
 use Rattle.dma_frames.specs.Table.{Table}
-use Rattle.request_queue.specs.Entries.{IsInOrder, asks_of, due_ids}
+use Rattle.request_queue.specs.Entries.{Held, IsEarlier, IsInOrder, asks_of, due_ids}
 use Rattle.request_queue.specs.Machine.{IsEntry}
 use Rattle.slots.specs.declared.Use.{Use as SlotUse}
 use Rattle.driver_history.specs.Trace.{IsServing, LeavesCommand, ReadsMasks}
 use Rattle.driver_history.proofs.Calm.{untroubled}
 use Rattle.server_history.specs.Histories.{Adds, Leads}
 use Rattle.server_history.specs.Below.{LawsBelow}
-use Rattle.server_history.specs.Served.{AddsTurn, AnswersBy, AnswersFirst, AnswersStep, Checks, IssuesOnly, SameSettings, ServePorts, ServesPort, is_busy, is_used, reply_list}
-use Rattle.server_history.specs.Server.{Server, IsKept, IsMachineOf, IsSettled, is_served, plain_mode, ports_of, state_of, used_for}
-use Rattle.server_history.proofs.Coming.{IsTurn, TurnList, turn_leaves, turn_list, turn_serving}
+use Rattle.server_history.specs.Served.{AddsTurn, AnswersBy, AnswersTurn, Checks, HasEnded, IsMaskOf, IsTold, IssuesOnly, SameSettings, ServePorts, ServesPort, answers_in, done_reply, is_used}
+use Rattle.server_history.specs.Server.{Server, IsKept, IsMachineOf, IsSettled, is_served, plain_mode, ports_of, slots_at, state_of, used_for}
+use Rattle.server_history.proofs.Coming.{IsBusy, IsTurn, TurnList, turn_leaves, turn_list, turn_serving}
 use Rattle.server_history.proofs.Asks.{none_due, none_issued, same_book}
 use Rattle.server_history.proofs.Going.{happening, lead_by, ports_same, with_device}
 use Rattle.server_history.proofs.Origins.{TurnSteps, answers_turn, issued_before, stood}
-use Rattle.server_history.proofs.Settling.{answer_apart}
+use Rattle.server_history.proofs.Settling.{answers_apart, answers_order, answers_settings}
 use Rattle.server_history.proofs.Rounds.{any_append, dues_carried, each_apart, each_settings, or_none}
 use Rattle.server_history.proofs.Serving.{still_over}
 use Rattle.server_history.proofs.Standing.{not_running}
 use Rattle.server_history.proofs.Told.{fatal_shows, grounded_told, loss_shows, no_evidence, no_fatal, no_loss, serves_told, told_by, uninterrupted}
-use Rattle.server_history.proofs.Slots.{free_unused, issued_in_first, of_ready, only_first, ready_found, serves_used}
-use Rattle.server_history.proofs.Zips.{at_right}
+use Rattle.server_history.proofs.Slots.{HasSlot, first_used, free_unused, issued_has, of_ready, only_first, ready_found, serves_used}
+use Rattle.server_history.proofs.Zips.{at_left, at_right}
 use Rattle.server_history.proofs.Turns.{AreTurns, IsSame, answer_on, devices_answer, devices_on, issues_on, no_turns, turns_more}
-use Rattle.server_history.proofs.Plain.{both_read, first_told}
+use Rattle.server_history.proofs.Plain.{both_read}
 use Rattle.port_look.specs.Services.{IsService}
 use Rattle.port_look.specs.Looks.{IsLooking}
 use Rattle.port_look.specs.declared.Look.TheVariants.{Undisturbed as Calm}
@@ -134,6 +134,47 @@ no_answer_issuing port (step ∷ steps) only e o here = ⊎_elim
     (λ (there : Contains steps (Answer e o)). no_answer_issuing port steps only.1 e o there)
     (contains_cases step steps (Answer e o) here)
 
+-- the answers of these alone
+answered_in : (ended : List Pending) (e : Pending) (o : Outcome) → Contains (answers_in ended) (Answer e o) → Contains ended e × (o ≡ Ok)
+answered_in [] e o here = absurd (contains_none (Answer e o) here)
+answered_in (x ∷ ended) e o here = ⊎_elim
+    (λ (rest : Contains (answers_in ended) (Answer e o)). let r = answered_in ended e o rest in (contains_there x ended e r.0, r.1))
+    (λ (last : Contains (Answer x Ok ∷ []) (Answer e o)). ⊎_elim
+    (λ (is : Answer e o ≡ Answer x Ok). let a : e ≡ x = cc in let b : o ≡ Ok = cc in (contains_here x ended e a, b))
+    (λ none. absurd (contains_none (Answer e o) none))
+    (contains_cases (Answer x Ok) [] (Answer e o) last))
+    (Contains-append_cases (answers_in ended) (Answer x Ok ∷ []) (Answer e o) here)
+
+in_answered : (ended : List Pending) (e : Pending) → Contains ended e → Contains (answers_in ended) (Answer e Ok)
+in_answered [] e here = absurd (contains_none e here)
+in_answered (x ∷ ended) e here = ⊎_elim
+    (λ (is : e ≡ x). Contains-append_right (answers_in ended) (Answer x Ok ∷ []) (Answer e Ok) (contains_here (Answer x Ok) [] (Answer e Ok) (ap (λ (y : Pending). Answer y Ok) is)))
+    (λ (there : Contains ended e). Contains-append_left (answers_in ended) (Answer x Ok ∷ []) (Answer e Ok) (in_answered ended e there))
+    (contains_cases x ended e here)
+
+-- as they are told
+abbrev with_ok : Pending → Pending × Outcome
+with_ok e = (e, Ok)
+
+told_so : (port : Port) (requests : List Held) (ended : List Pending) → AllZip (HasEnded port) requests ended → map done_reply requests ≡ map reply_of (map with_ok ended)
+told_so port [] [] each = refl
+told_so port [] (p ∷ ended) each = absurd each
+told_so port (e ∷ requests) [] each = absurd each
+told_so port (e ∷ requests) (p ∷ ended) each =
+    (λ i. record { id = sym each.0.entry.id i; client = sym each.0.entry.client i; outcome = Ok } ∷ map done_reply requests)
+    ∙ ap (λ (replies : List Reply). reply_of (p, Ok) ∷ replies) (told_so port requests ended each.1)
+
+-- who is answered was unanswered before
+ended_stood : (m : Machine) (ended : List Pending) → AllMay m (answers_in ended) → (p : Pending) → Contains ended p → Contains m.book p
+ended_stood m [] may p here = absurd (contains_none p here)
+ended_stood m (x ∷ ended) may p here = ⊎_elim
+    (λ (is : p ≡ x). subst (Contains m.book) (sym is) parts.0.1)
+    (λ (there : Contains ended p). (without_in x.request.id m.book p (ended_stood (after_step m (Answer x Ok)) ended parts.1 p there)).0)
+    (contains_cases x ended p here)
+  where
+    parts : AllMay m (Answer x Ok ∷ []) × AllMay (after_step m (Answer x Ok)) (answers_in ended)
+    parts = may_parts m (answers_in ended) (Answer x Ok ∷ []) may
+
 -- nor do steps that issue requests
 issuing_answers : (port : Port) (late base : List Step) → IssuesOnly port late → answers_of (late ++ base) ≡ answers_of base
 issuing_answers port [] base only = refl
@@ -161,23 +202,23 @@ same_more : (a b c : Server) → SameSettings a b → SameSettings b c → SameS
 same_more a b c first then = then ∙ ap (λ (x : Server). record x { device = c.device; table = c.table; slots = c.slots; book = c.book }) first
 
 -- what a turn leaves of the server
-answers_settings : LawsBelow → (port : Port) (reply : Option Reply) (old new : Server) → AnswersFirst port reply old new → SameSettings old new
-answers_settings laws port None old new is = is ∙ ap (λ (n : Server). record old { device = n.device; table = n.table; slots = n.slots; book = n.book }) (sym is)
-answers_settings laws port (Some reply) old new (found, e, told, (mid, one, issues)) =
-    each_settings laws port (due_ids plain_mode port (asks_of mid.book)) mid new issues
-    ∙ ap (λ (n : Server). record n { device = new.device; slots = new.slots; book = new.book }) one.server
+turn_settings : LawsBelow → (port : Port) (replies : List Reply) (old new : Server) → AnswersTurn port replies old new → SameSettings old new
+turn_settings laws port replies old new (inl (none, is)) = is ∙ ap (λ (n : Server). record old { device = n.device; table = n.table; slots = n.slots; book = n.book }) (sym is)
+turn_settings laws port replies old new (inr (found, done, a)) =
+    each_settings laws port (due_ids plain_mode port (asks_of a.mid.book)) a.mid new a.issued
+    ∙ ap (λ (n : Server). record n { device = new.device; slots = new.slots; book = new.book }) (answers_settings laws port done a.requests (record old { device = found }) a.mid a.each)
     ∙ ap (λ (table : Table). record old { device = new.device; table = table; slots = new.slots; book = new.book }) (sym table_is)
   where
-    table_is : new.table ≡ mid.table
-    table_is = ap (λ (n : Server). n.table) (each_settings laws port (due_ids plain_mode port (asks_of mid.book)) mid new issues)
+    table_is : new.table ≡ a.mid.table
+    table_is = ap (λ (n : Server). n.table) (each_settings laws port (due_ids plain_mode port (asks_of a.mid.book)) a.mid new a.issued)
 
 -- and of the requests of another port
-answers_apart : LawsBelow → (port : Port) (reply : Option Reply) (old new : Server) → IsInOrder old.book → AnswersFirst port reply old new → (other : Port) → other ≢ port
+turn_apart : LawsBelow → (port : Port) (replies : List Reply) (old new : Server) → IsInOrder old.book → AnswersTurn port replies old new → (other : Port) → other ≢ port
     → of_port other (asks_of new.book) ≡ of_port other (asks_of old.book)
-answers_apart laws port None old new order is other ne = ap (λ (n : Server). of_port other (asks_of n.book)) is
-answers_apart laws port (Some reply) old new order (found, e, told, (mid, one, issues)) other ne =
-    each_apart laws port (due_ids plain_mode port (asks_of mid.book)) mid new (subst (λ (n : Server). IsInOrder n.book) (sym one.server) (laws.fewer old.book e.entry.id order)) issues other ne
-    ∙ answer_apart laws port e (record old { device = found }) mid order one other ne
+turn_apart laws port replies old new order (inl (none, is)) other ne = ap (λ (n : Server). of_port other (asks_of n.book)) is
+turn_apart laws port replies old new order (inr (found, done, a)) other ne =
+    each_apart laws port (due_ids plain_mode port (asks_of a.mid.book)) a.mid new (answers_order laws port done a.requests (record old { device = found }) a.mid order a.each) a.issued other ne
+    ∙ answers_apart laws port done a.requests (record old { device = found }) a.mid order a.each other ne
 
 -- ---- what was done so far
 
@@ -302,49 +343,50 @@ module _ (laws : LawsBelow) (s : Server) (start : IsSettled s) (old : Moment) (r
     ready_c : state_of (found_of c.ports n) ≡ ReadyState
     ready_c = ap (λ (found : List Found). state_of (found_of found n)) ports_is ∙ ready
 
-    -- a request that was issued on the port is in its slot 0
+    -- a request that was issued on the port has a slot
     record IsLeading (e : Pending) : Type 0 where
       now_is : Pending
       here : Contains m.book now_is
       same_as : IsSame e now_is
       issued_now : now_is.issued ≡ true
-      used : SlotUse
-      used_is : used_for c.slots n 0 ≡ Some used
-      id_is : used.id ≡ now_is.request.id
+      has : HasSlot c (port_at n) now_is.request.id
 
     leading : (e : Pending) → IsIssuedOn (port_at n) old.machine e → IsLeading e
     leading e its =
         let w = p.turns.further e its.here (let q = ap (λ (x : Port). x.0) its.port_is in omega (arith, q)) in
         let issued : w.0.issued ≡ true = w.2.issued ∙ its.issued in
-        let u = issued_in_first c m (port_at n) p.stands p.settled.kept ready_c w.0 w.1 (ap (λ r. r.port) w.2.request ∙ its.port_is) issued in
-        record { now_is = w.0; here = w.1; same_as = w.2; issued_now = issued; used = u.0; used_is = u.1; id_is = u.2 }
+        record { now_is = w.0; here = w.1; same_as = w.2; issued_now = issued; has = issued_has c m (port_at n) p.stands p.settled.kept ready_c w.0 w.1 (ap (λ r. r.port) w.2.request ∙ its.port_is) issued }
 
     -- one that had ended was issued
     ended_on : (e : Pending) → Contains old.machine.book e → e.request.port ≡ port_at n → e.ended ≡ true → IsIssuedOn (port_at n) old.machine e
     ended_on e there own ended = record { here = there; port_is = own; issued = ended_issued old.machine e reached there ended }
 
     -- and its command's bits are clear
-    ended_clear : (e : Pending) → IsLeading e → e.ended ≡ true → ((c.device.port n).ci 0 ≡ false) × ((c.device.port n).sact 0 ≡ false)
+    ended_clear : (e : Pending) → (h : IsLeading e) → e.ended ≡ true → ((c.device.port n).ci h.has.slot ≡ false) × ((c.device.port n).sact h.has.slot ≡ false)
     ended_clear e h ended =
         let done : h.now_is.ended ≡ true = h.same_as.ended ended in
-        let slot : p.stands.uses n 0 ≡ Serves h.now_is.request.id = serves_used c m n p.stands ready_c 0 h.used h.used_is ∙ ap Serves h.id_is in
-        let clear = ended_is_clear p.stands.uses m c.device (port_at n) 0 h.now_is m_reached p.stands.knows.agrees (inl (h.here, ended_issued m h.now_is m_reached h.here done)) done slot in
+        let slot : p.stands.uses n h.has.slot ≡ Serves h.now_is.request.id = serves_used c m n p.stands ready_c h.has.slot h.has.used h.has.used_is ∙ ap Serves h.has.id_is in
+        let clear = ended_is_clear p.stands.uses m c.device (port_at n) h.has.slot h.now_is m_reached p.stands.knows.agrees (inl (h.here, ended_issued m h.now_is m_reached h.here done)) done slot in
         (clear.0.over.issued, clear.0.sact)
 
-    -- who is answered in the turn is of the port
-    turn_answers : (reply : Option Reply) (late : List Step) → AnswersBy (port_at n) reply c late → (e : Pending) (o : Outcome) → Contains late (Answer e o) → e.request.port ≡ port_at n
-    turn_answers None late only e o here = absurd (no_answer late only e o here)
-    turn_answers (Some reply) late b e o here = ⊎_elim
+    -- who is answered in the turn is one of these, which are of the port
+    turn_ended : (replies : List Reply) (late : List Step) (b : AnswersBy (port_at n) replies late) → (e : Pending) (o : Outcome) → Contains late (Answer e o) → Contains b.ended e
+    turn_ended replies late b e o here = ⊎_elim
         (λ later. absurd (no_answer_issuing (port_at n) b.later b.last e o later))
         (λ rest. ⊎_elim
-        (λ (is : Answer e o ≡ Answer b.done Ok). let same : e ≡ b.done = cc in ap (λ (x : Pending). x.request.port) same ∙ b.entry.port ∙ b.port_is)
+        (λ answered. (answered_in b.ended e o answered).0)
         (λ early. absurd (no_answer b.before b.first e o early))
-        (contains_cases (Answer b.done Ok) b.before (Answer e o) rest))
-        (Contains-append_cases b.later (Answer b.done Ok ∷ b.before) (Answer e o) (subst (λ (steps : List Step). Contains steps (Answer e o)) b.steps_are here))
+        (Contains-append_cases (answers_in b.ended) b.before (Answer e o) rest))
+        (Contains-append_cases b.later (answers_in b.ended ++ b.before) (Answer e o) (subst (λ (steps : List Step). Contains steps (Answer e o)) b.steps_are here))
 
-    module _ (reply : Option Reply) (serves : ServesPort (port_at n) reply c mid) where
-      turn_is : TurnList (TendsPort (ports_of s.ports)) (port_at n) its_served (is_busy (port_at n) c) reply c.device mid.device serves.turn
-      turn_is = turn_list (TendsPort (ports_of s.ports)) (port_at n) its_served low (is_busy (port_at n) c) reply c.device mid.device serves.turn
+    turn_answers : (replies : List Reply) (late : List Step) → AnswersBy (port_at n) replies late → (e : Pending) (o : Outcome) → Contains late (Answer e o) → e.request.port ≡ port_at n
+    turn_answers replies late b e o here =
+        let x = at_right (HasEnded (port_at n)) b.requests b.ended b.each e (turn_ended replies late b e o here) in
+        x.2.entry.port ∙ x.2.port_is
+
+    module _ (replies : List Reply) (serves : ServesPort (port_at n) replies c mid) where
+      turn_is : TurnList (TendsPort (ports_of s.ports)) (port_at n) its_served (slots_at c.slots n) replies c.device mid.device serves.turn
+      turn_is = turn_list (TendsPort (ports_of s.ports)) (port_at n) its_served low (slots_at c.slots n) replies c.device mid.device serves.turn
 
       through : IsDrivenBy IsService c.device mid.device
       through = driven_as (IsTurn (TendsPort (ports_of s.ports))) IsService c.device mid.device (λ access is. is.0) turn_is.driven
@@ -358,21 +400,21 @@ module _ (laws : LawsBelow) (s : Server) (start : IsSettled s) (old : Moment) (r
           let parts = calm_parts q.0 s.device c.device mid.device (tape_over IsService s.device c.device so_far) (tape_over IsService c.device mid.device through) well.undisturbed in
           (record { well = well.well; undisturbed = parts.0 }, (services_well q s.device c.device kept.on so_far parts.0 well.well, parts.1))
 
-      -- where the port goes well, a request that had ended is answered
-      never_none : StaysHealthy n s.device mid.device → (e : Pending) → IsLeading e → e.ended ≡ true → reply ≢ None
-      never_none well e h ended =
+      -- where the port goes well, a request that had ended is told
+      ended_told : StaysHealthy n s.device mid.device → (e : Pending) → (h : IsLeading e) → e.ended ≡ true → IsTold h.has.used.id replies
+      ended_told well e h ended =
           let w = (well_parts (port_at n) well).1 in
           let clear = ended_clear e h ended in
-          serves.answered w.0 w.1 clear.0 clear.1 (ap is_used h.used_is)
+          serves.answered w.0 w.1 h.has.slot h.has.used h.has.small h.has.used_is clear.0 clear.1
 
-      abbrev x : AddsTurn (port_at n) reply c mid m
+      abbrev x : AddsTurn (port_at n) replies c mid m
       x = serves.adds m m_reached p.stands
 
       abbrev all : List Step
       all = x.steps ++ p.steps
 
       turn_steps : TurnSteps (port_at n) x.steps
-      turn_steps = answers_turn (port_at n) reply c x.steps x.answers
+      turn_steps = answers_turn (port_at n) replies x.steps x.answers
 
       whole_is : after old.machine all ≡ after m x.steps
       whole_is = after-append old.machine x.steps p.steps
@@ -414,19 +456,19 @@ module _ (laws : LawsBelow) (s : Server) (start : IsSettled s) (old : Moment) (r
           (λ (ne : q.0 ≢ n).
           let apart : q ≢ port_at n = λ same. ne (ap (λ (p : Port). p.0) same) in
           dues_carried laws p.steps all m (after m x.steps) q
-          (ap (of_port q) (same_book c.book m.book p.stands.book) ∙ sym (answers_apart laws (port_at n) reply c mid p.settled.kept.ordered serves.answers q apart) ∙ ap (of_port q) (sym (same_book mid.book (after m x.steps).book x.stands.book)))
+          (ap (of_port q) (same_book c.book m.book p.stands.book) ∙ sym (turn_apart laws (port_at n) replies c mid p.settled.kept.ordered serves.answers q apart) ∙ ap (of_port q) (sym (same_book mid.book (after m x.steps).book x.stands.book)))
           (other_alike q apart) (p.due q))
           (cases_eq q.0 n))
 
       -- the port had its turn, and these requests were answered
       had_turn : AreTurns old (ports_of s.ports) (n + 1) (n + 1) all → (answers : List (Pending × Outcome)) → IsPermutation answers (answers_of all) → AllPairs IsToldBefore answers
-          → All (λ a. a.0.request.port.0 < n + 1) answers → before ++ reply_list reply ≡ map reply_of answers
+          → All (λ a. a.0.request.port.0 < n + 1) answers → before ++ replies ≡ map reply_of answers
           → (StaysHealthy n s.device mid.device → (e : Pending) → Contains old.machine.book e → e.request.port ≡ port_at n → e.ended ≡ true → (done : Pending) × (done.request ≡ e.request) × Contains all (Answer done Ok))
           → (StaysHealthy n s.device mid.device → (e : Pending) → IsIssuedOn (port_at n) old.machine e → FindsDone (port_at n) (p.driven.accesses ++ turn_is.driven.accesses) began all)
-          → Progress (n + 1) mid (before ++ reply_list reply)
+          → Progress (n + 1) mid (before ++ replies)
       had_turn turns answers permuted ordered low told heeds here_finds = record {
         settled = next;
-        same = same_more s c mid p.same (answers_settings laws (port_at n) reply c mid serves.answers);
+        same = same_more s c mid p.same (turn_settings laws (port_at n) replies c mid serves.answers);
         driven = record {
           accesses = p.driven.accesses ++ turn_is.driven.accesses;
           all = does_append p.driven.accesses turn_is.driven.accesses s.device c.device mid.device p.driven.all turn_is.driven.all;
@@ -451,7 +493,7 @@ module _ (laws : LawsBelow) (s : Server) (start : IsSettled s) (old : Moment) (r
             (cases_lt q.0 n);
         finds = λ q lt is_ready well e its. ⊎_elim
             (λ (less : q.0 < n).
-            finds_more n c before p q turn_is.driven.accesses x.steps (λ done o there. let own = turn_answers reply x.steps x.answers done o there in let k = ap (λ (r : Port). r.0) own in λ same. omega (arith, less, k, ap (λ (r : Port). r.0) same))
+            finds_more n c before p q turn_is.driven.accesses x.steps (λ done o there. let own = turn_answers replies x.steps x.answers done o there in let k = ap (λ (r : Port). r.0) own in λ same. omega (arith, less, k, ap (λ (r : Port). r.0) same))
             (p.finds q less is_ready (well_parts q well).0 e its))
             (λ (most : n ≤ q.0).
             let q_is : port_at n ≡ q = ap port_at (omega (arith, lt, most)) in
@@ -461,65 +503,101 @@ module _ (laws : LawsBelow) (s : Server) (start : IsSettled s) (old : Moment) (r
         due = due_now;
       }
 
+      -- who is told is answered, and who is answered is told
+      module _ (e : Pending) (h : IsLeading e) where
+        its_id : h.has.used.id ≡ e.request.id
+        its_id = h.has.id_is ∙ ap (λ r. r.id) h.same_as.request
+
+        told_answered : IsTold h.has.used.id replies → IsAnsweredOk e all
+        told_answered told =
+            let b = x.answers in
+            let r = map_in done_reply b.requests told.0 (subst (λ (list : List Reply). Contains list told.0) b.told told.1) in
+            let d = at_left (HasEnded (port_at n)) b.requests b.ended b.each r.0 r.1 in
+            let id_is : d.0.request.id ≡ h.now_is.request.id = d.2.entry.id ∙ sym (ap (λ (y : Reply). y.id) r.2) ∙ told.2 ∙ h.has.id_is in
+            let w = ended_stood (after m b.before) b.ended (early_may b).1 d.0 d.1 in
+            let l = found_before m.book (after m b.before).book d.0 (steps_spare m b.before b.first).book w in
+            let one = one_of h.now_is l.0 h.here l.1 (ap (λ (i : RequestId). i.0) (sym id_is ∙ ap (λ r. r.id) l.2.request)) in (
+              d.0,
+              l.2.request ∙ ap (λ (y : Pending). y.request) (sym one) ∙ h.same_as.request,
+              Contains-append_left x.steps p.steps (Answer d.0 Ok) (subst (λ (steps : List Step). Contains steps (Answer d.0 Ok)) (sym b.steps_are)
+                  (Contains-append_right b.later (answers_in b.ended ++ b.before) (Answer d.0 Ok) (Contains-append_left (answers_in b.ended) b.before (Answer d.0 Ok) (in_answered b.ended d.0 d.1)))),
+            )
+          where
+            early_may : (b : AnswersBy (port_at n) replies x.steps) → AllMay m b.before × AllMay (after m b.before) (answers_in b.ended)
+            early_may b = may_parts m (answers_in b.ended) b.before (may_parts m b.later (answers_in b.ended ++ b.before) (subst (AllMay m) b.steps_are x.may)).0
+
+        answered_told : e.request.port ≡ port_at n → IsAnsweredOk e all → IsTold h.has.used.id replies
+        answered_told own ok = ⊎_elim
+            (λ late.
+            let b = x.answers in
+            let r = at_right (HasEnded (port_at n)) b.requests b.ended b.each ok.0 (turn_ended replies x.steps b ok.0 Ok late) in (
+              done_reply r.0,
+              subst (λ (list : List Reply). Contains list (done_reply r.0)) (sym b.told) (into_map done_reply b.requests r.0 r.1),
+              sym r.2.entry.id ∙ ap (λ q. q.id) ok.1 ∙ sym its_id,
+            ))
+            (λ early.
+            let small = (p.turns.told ok.0 Ok early).2 in
+            let there = ap (λ (q : Port). q.0) (ap (λ r. r.port) ok.1 ∙ own) in
+            absurd (omega (arith, small, there)))
+            (Contains-append_cases x.steps p.steps (Answer ok.0 Ok) ok.2)
+
     -- ---- what is found done in it
 
-    module _ (reply : Option Reply) (serves : ServesPort (port_at n) reply c mid)
-        (answers : reply ≢ None → (e : Pending) → IsLeading e → IsAnsweredOk e (all reply serves))
-        (answers_none : reply ≡ None → (done : Pending) → Contains (all reply serves) (Answer done Ok) → done.request.port.0 < n)
-        (healthy : StaysHealthy n s.device mid.device) (e : Pending) (its : IsIssuedOn (port_at n) old.machine e) where
+    module _ (replies : List Reply) (serves : ServesPort (port_at n) replies c mid) (healthy : StaysHealthy n s.device mid.device) (e : Pending) (its : IsIssuedOn (port_at n) old.machine e) where
       w : RunsWell (c.device.port n) × Undisturbed n c.device mid.device
-      w = (well_parts reply serves (port_at n) healthy).1
+      w = (well_parts replies serves (port_at n) healthy).1
 
       calm : serves.turn.look ≡ Calm
-      calm = (turn_is reply serves).calm p.settled.kept.on w.0 w.1
+      calm = (turn_is replies serves).calm p.settled.kept.on w.0 w.1
 
-      has : is_busy (port_at n) c ≡ true
-      has = ap is_used (leading e its).used_is
+      busy : IsBusy (slots_at c.slots n)
+      busy = let h = (leading e its).has in (h.slot, h.small, ap is_used h.used_is)
 
-      checks : (k : Checks (port_at n) reply serves.turn.seen mid.device) × ReadsMasks (port_at n) k.reads.issued k.reads.active (turn_is reply serves).driven.accesses
-      checks = (turn_is reply serves).masks calm has
+      checks : (mask : ℕ) × IsMaskOf (slots_at c.slots n) mask
+          × ((k : Checks (port_at n) (slots_at c.slots n) mask replies serves.turn.seen mid.device) × ReadsMasks (port_at n) k.reads.issued k.reads.active (turn_is replies serves).driven.accesses)
+      checks = (turn_is replies serves).masks calm busy
 
-      abbrev k : Checks (port_at n) reply serves.turn.seen mid.device
-      k = checks.0
-
-      tells : bit k.done 0 ≡ (not (bit k.reads.issued 0) && not (bit k.reads.active 0))
-      tells = first_told (port_at n) k.done serves.turn.seen k.read k.reads
+      abbrev k : Checks (port_at n) (slots_at c.slots n) checks.0 replies serves.turn.seen mid.device
+      k = checks.2.0
 
       masks_read : (read : Device) × Reads (Px (port_at n) Ci) k.reads.issued serves.turn.seen read × Reads (Px (port_at n) Sact) k.reads.active read k.read
-      masks_read = both_read (port_at n) 1 k.done serves.turn.seen k.read k.reads
+      masks_read = both_read (port_at n) checks.0 k.done serves.turn.seen k.read k.reads
 
       abbrev AreClear : ℕ → Type 0
       AreClear slot = (bit k.reads.issued slot ≡ false) × (bit k.reads.active slot ≡ false)
 
-      -- slot 0's bits tell whether the first was answered
+      -- a request's slot tells whether it was answered
       module _ (other : Pending) (own : IsIssuedOn (port_at n) old.machine other) where
-        when_done : bit k.done 0 ≡ true → IsAnsweredOk other (all reply serves) × AreClear 0
-        when_done done =
-            let both = and_parts (not (bit k.reads.issued 0)) (not (bit k.reads.active 0)) (sym tells ∙ done) in
-            (answers (k.over done).0 other (leading other own), (not_true (bit k.reads.issued 0) both.0, not_true (bit k.reads.active 0) both.1))
+        abbrev h : HasSlot c (port_at n) (leading other own).now_is.request.id
+        h = (leading other own).has
 
-        when_not : bit k.done 0 ≡ false → (IsAnsweredOk other (all reply serves) → ⊥) × (AreClear 0 → ⊥)
-        when_not running = (
+        asked : bit checks.0 h.slot ≡ true
+        asked = checks.1 h.slot h.small ∙ ap is_used h.used_is
+
+        tells : bit k.done h.slot ≡ (not (bit k.reads.issued h.slot) && not (bit k.reads.active h.slot))
+        tells = k.reads.tells h.slot h.small ∙ ap (λ (b : Bool). b && not (bit k.reads.issued h.slot) && not (bit k.reads.active h.slot)) asked
+
+        at_slot : IsAnsweredOk other (all replies serves) ↔ AreClear h.slot
+        at_slot = (
           (λ ok.
-              let small = answers_none (k.running running).0 ok.0 ok.2 in
-              let at = ap (λ (r : Port). r.0) (ap (λ r. r.port) ok.1 ∙ own.port_is) in
-              omega (arith, small, at)),
-          (λ clear. false≢true (sym running ∙ tells ∙ and_from (not (bit k.reads.issued 0)) (not (bit k.reads.active 0)) (ap not clear.0) (ap not clear.1))),
+              let done = (k.exact h.slot h.used h.small h.used_is).1 (answered_told replies serves other (leading other own) own.port_is ok) in
+              let both = and_parts (not (bit k.reads.issued h.slot)) (not (bit k.reads.active h.slot)) (sym tells ∙ done) in
+              (not_true (bit k.reads.issued h.slot) both.0, not_true (bit k.reads.active h.slot) both.1)),
+          (λ clear.
+              told_answered replies serves other (leading other own) ((k.exact h.slot h.used h.small h.used_is).0
+              (tells ∙ and_from (not (bit k.reads.issued h.slot)) (not (bit k.reads.active h.slot)) (ap not clear.0) (ap not clear.1)))),
         )
 
-        at_head : IsAnsweredOk other (all reply serves) ↔ AreClear 0
-        at_head = ⊎_elim
-            (λ (done : bit k.done 0 ≡ true). ((λ _. (when_done done).1), (λ _. (when_done done).0)))
-            (λ (running : bit k.done 0 ≡ false). ((λ ok. absurd ((when_not running).0 ok)), (λ clear. absurd ((when_not running).1 clear))))
-            (cases_Bool (bit k.done 0))
-
         -- bytes of another slot may say its command still: then it has ended, and that slot isn't used
-        module _ (slot : ℕ) (apart : slot ≢ 0) (says : ServesRequest old.machine s.device.memory (s.device.port n) n slot other.request.id) where
+        module _ (slot : ℕ) (apart : slot ≢ h.slot) (says : ServesRequest old.machine s.device.memory (s.device.port n) n slot other.request.id) where
+          not_first : slot ≢ 0
+          not_first first = apart (first ∙ sym (first_used c n h.slot h.used p.settled.kept ready_c h.used_is))
+
           has_ended : other.ended ≡ true
           has_ended = ap (λ (x : Pending). x.ended) (sym same) ∙ by says.stage
             where
               free : IsFree (s.device.port n) slot
-              free = subst (λ (u : Use). IsServed old.machine s.device.memory s.device.tape (s.device.port n) n slot u) (free_unused s old.machine n at ready slot (only_first s n slot kept ready apart)) (at.knows.agrees.slot n slot)
+              free = subst (λ (u : Use). IsServed old.machine s.device.memory s.device.tape (s.device.port n) n slot u) (free_unused s old.machine n at ready slot (only_first s n slot kept ready not_first)) (at.knows.agrees.slot n slot)
 
               same : says.pending ≡ other
               same = ⊎_elim
@@ -543,126 +621,136 @@ module _ (laws : LawsBelow) (s : Server) (start : IsSettled s) (old : Moment) (r
           )
             where
               free : IsFree (c.device.port n) slot
-              free = subst (λ (u : Use). IsServed m c.device.memory c.device.tape (c.device.port n) n slot u) (free_unused c m n p.stands ready_c slot (only_first c n slot p.settled.kept ready_c apart)) (p.stands.knows.agrees.slot n slot)
+              free = subst (λ (u : Use). IsServed m c.device.memory c.device.tape (c.device.port n) n slot u) (free_unused c m n p.stands ready_c slot (only_first c n slot p.settled.kept ready_c not_first)) (p.stands.knows.agrees.slot n slot)
 
               looks : IsDrivenBy (IsLooking (port_at n)) c.device serves.turn.seen
               looks = look_driven (port_at n) serves.turn.look c.device serves.turn.seen serves.turn.looks
 
-          apart_too : IsAnsweredOk other (all reply serves) ↔ AreClear slot
-          apart_too = ((λ _. clear_there), (λ _. answers (never_none reply serves healthy other (leading other own) has_ended) other (leading other own)))
+          apart_too : IsAnsweredOk other (all replies serves) ↔ AreClear slot
+          apart_too = (
+            (λ _. clear_there),
+            (λ _. told_answered replies serves other (leading other own) (ended_told replies serves healthy other (leading other own) has_ended)),
+          )
 
-      finding : FindsDone (port_at n) (p.driven.accesses ++ (turn_is reply serves).driven.accesses) began (all reply serves)
+      finding : FindsDone (port_at n) (p.driven.accesses ++ (turn_is replies serves).driven.accesses) began (all replies serves)
       finding = record {
         ci = k.reads.issued;
         sact = k.reads.active;
         reads = record {
-          before = p.driven.accesses ++ checks.1.before;
-          later = checks.1.later;
-          here = ap (λ (late : List Access). p.driven.accesses ++ late) checks.1.here
-              ∙ sym (append_assoc p.driven.accesses checks.1.before (Reading (Px (port_at n) Ci) k.reads.issued ∷ Reading (Px (port_at n) Sact) k.reads.active ∷ checks.1.later));
-          running = All-append (LeavesCommand (port_at n)) p.driven.accesses checks.1.before
-              (λ i d small. (turn_leaves (TendsPort (ports_of s.ports)) (port_at n) _ (p.driven.only i d small)).0) checks.1.running;
+          before = p.driven.accesses ++ checks.2.1.before;
+          later = checks.2.1.later;
+          here = ap (λ (late : List Access). p.driven.accesses ++ late) checks.2.1.here
+              ∙ sym (append_assoc p.driven.accesses checks.2.1.before (Reading (Px (port_at n) Ci) k.reads.issued ∷ Reading (Px (port_at n) Sact) k.reads.active ∷ checks.2.1.later));
+          running = All-append (LeavesCommand (port_at n)) p.driven.accesses checks.2.1.before
+              (λ i d small. (turn_leaves (TendsPort (ports_of s.ports)) (port_at n) _ (p.driven.only i d small)).0) checks.2.1.running;
         };
         exact = λ other slot own says. ⊎_elim
-            (λ (zero_is : slot ≡ 0). subst (λ (i : ℕ). IsAnsweredOk other (all reply serves) ↔ AreClear i) (sym zero_is) (at_head other own))
-            (λ (apart : slot ≢ 0). apart_too other own slot apart says)
-            (cases_eq slot 0);
+            (λ (same : slot ≡ (leading other own).has.slot). subst (λ (i : ℕ). IsAnsweredOk other (all replies serves) ↔ AreClear i) (sym same) (at_slot other own))
+            (λ (apart : slot ≢ (leading other own).has.slot). apart_too other own slot apart says)
+            (cases_eq slot (leading other own).has.slot);
       }
 
-    -- nobody is answered
-    turn_none : ServesPort (port_at n) None c mid → Progress (n + 1) mid (before ++ [])
-    turn_none serves =
-        let y : AddsTurn (port_at n) None c mid m = serves.adds m m_reached p.stands in
-        let same : answers_of (y.steps ++ p.steps) ≡ answers_of p.steps = devices_answer y.steps p.steps y.answers in
-        had_turn None serves
-        (turns_more old (ports_of s.ports) n n (n + 1) (n + 1) (y.steps ++ p.steps) (omega arith) (omega arith) (devices_on old (ports_of s.ports) n n y.steps p.steps y.answers y.may p.turns))
-        p.answers
-        (subst (λ (answers : List (Pending × Outcome)). IsPermutation p.answers answers) (sym same) p.permuted)
-        p.ordered
-        (λ i d small. let lt = p.low i d small in omega (arith, lt))
-        (append-nil before ∙ p.told)
-        (λ well e there own ended. absurd (never_none None serves well e (leading e (ended_on e there own ended)) ended refl))
-        (λ well e its. finding None serves (λ some. absurd (some refl))
-        (λ _ done there. ⊎_elim (λ late. absurd (no_answer y.steps y.answers done Ok late)) (λ early. (p.turns.told done Ok early).2) (Contains-append_cases y.steps p.steps (Answer done Ok) there))
-        well e its)
+    -- ---- who is answered in it
 
-    module _ (reply : Reply) (late : List Step) (may : AllMay m late) (b : AnswersStep (port_at n) reply c late) where
-      both : (AllMay m b.before × May (after m b.before) (Answer b.done Ok)) × AllMay (after m (Answer b.done Ok ∷ b.before)) b.later
-      both = may_parts m b.later (Answer b.done Ok ∷ b.before) (subst (AllMay m) b.steps_are may)
+    -- These steps answered these; those of these requests that are left come later by id.
+    record SoFar (left : List Held) (steps : List Step) (answers : List (Pending × Outcome)) : Type 0 where
+      turns : AreTurns old (ports_of s.ports) n (suc n) steps
+      permuted : IsPermutation answers (answers_of steps)
+      ordered : AllPairs IsToldBefore answers
+      low : All (λ a. a.0.request.port.0 < n + 1) answers
+      earlier : All (λ a. (a.0.request.port.0 < n) ⊎ ((a.0.request.port ≡ port_at n) × All (λ (e : Held). a.0.request.id.0 < e.entry.id.0) left)) answers
+
+    one_more : (e : Held) (left : List Held) (done : Pending) (steps : List Step) (answers : List (Pending × Outcome)) → AllPairs IsEarlier (e ∷ left) → HasEnded (port_at n) e done
+        → Contains (after old.machine steps).book done → SoFar (e ∷ left) steps answers → SoFar left (Answer done Ok ∷ steps) (answers ++ (done, Ok) ∷ [])
+    one_more e left done steps answers order has here f = record {
+      turns = answer_on old (ports_of s.ports) reached n steps done (ap (λ (q : Port). q.0) own) here (suc n) (omega arith) has.issued has.touched has.ended
+          (ap (λ (q : Port). state_of (found_of s.ports q.0)) own ∙ ready) f.turns;
+      permuted = IsPermutation-push_more answers (answers_of steps) ((done, Ok) ∷ answers_of steps) (done, Ok) f.permuted (IsPermutation-refl _);
+      ordered = all_pairs_push IsToldBefore answers (done, Ok) f.ordered (λ k d small. ⊎_elim
+          (λ less. inl (let q = ap (λ (r : Port). r.0) own in omega (arith, less, q)))
+          (λ same. inr (same.0 ∙ sym own, let lt = same.1 0 e (omega arith) in let id = ap (λ (i : RequestId). i.0) has.entry.id in omega (arith, lt, id)))
+          (f.earlier k d small));
+      low = All-push (λ a. a.0.request.port.0 < n + 1) answers (done, Ok) f.low (let q = ap (λ (r : Port). r.0) own in omega (arith, q));
+      earlier = All-push (λ a. (a.0.request.port.0 < n) ⊎ ((a.0.request.port ≡ port_at n) × All (λ (y : Held). a.0.request.id.0 < y.entry.id.0) left)) answers (done, Ok)
+          (λ k d small. ⊎_elim (λ less. inl less) (λ same. inr (same.0, λ i y below. same.1 (suc i) y (omega (arith, below)))) (f.earlier k d small))
+          (inr (own, λ i y below. let lt = order 0 (suc i) y (omega arith) (omega (arith, below)) in let id = ap (λ (j : RequestId). j.0) has.entry.id in omega (arith, lt, id)));
+    }
+      where
+        own : done.request.port ≡ port_at n
+        own = has.entry.port ∙ has.port_is
+
+    all_more : (requests : List Held) (ended : List Pending) (steps : List Step) (answers : List (Pending × Outcome)) → AllZip (HasEnded (port_at n)) requests ended → AllPairs IsEarlier requests
+        → AllMay (after old.machine steps) (answers_in ended) → SoFar requests steps answers → SoFar [] (answers_in ended ++ steps) (answers ++ map with_ok ended)
+    all_more [] [] steps answers each order may f = subst (SoFar [] steps) (sym (append-nil answers)) f
+    all_more [] (done ∷ ended) steps answers each order may f = absurd each
+    all_more (e ∷ requests) [] steps answers each order may f = absurd each
+    all_more (e ∷ requests) (done ∷ ended) steps answers each order may f =
+        let parts = may_parts (after old.machine steps) (answers_in ended) (Answer done Ok ∷ []) may in
+        let rest = all_more requests ended (Answer done Ok ∷ steps) (answers ++ (done, Ok) ∷ []) each.1 (λ i j d lt below. order (suc i) (suc j) d (omega (arith, lt)) (omega (arith, below))) parts.1
+            (one_more e requests done steps answers order each.0 parts.0.1 f) in
+        subst (λ (list : List (Pending × Outcome)). SoFar [] ((answers_in ended ++ Answer done Ok ∷ []) ++ steps) list) (append_assoc answers ((done, Ok) ∷ []) (map with_ok ended))
+        (subst (λ (list : List Step). SoFar [] list ((answers ++ (done, Ok) ∷ []) ++ map with_ok ended)) (sym (append_assoc (answers_in ended) (Answer done Ok ∷ []) steps)) rest)
+
+    module _ (replies : List Reply) (late : List Step) (may : AllMay m late) (b : AnswersBy (port_at n) replies late) where
+      both : AllMay m (answers_in b.ended ++ b.before) × AllMay (after m (answers_in b.ended ++ b.before)) b.later
+      both = may_parts m b.later (answers_in b.ended ++ b.before) (subst (AllMay m) b.steps_are may)
+
+      first : AllMay m b.before × AllMay (after m b.before) (answers_in b.ended)
+      first = may_parts m (answers_in b.ended) b.before both.0
+
+      abbrev early : List Step
+      early = b.before ++ p.steps
 
       abbrev base : List Step
-      base = Answer b.done Ok ∷ (b.before ++ p.steps)
+      base = answers_in b.ended ++ early
 
-      own : b.done.request.port ≡ port_at n
-      own = b.entry.port ∙ b.port_is
+      begins : SoFar b.requests early p.answers
+      begins = record {
+        turns = turns_more old (ports_of s.ports) n n n (suc n) early (omega arith) (omega arith) (devices_on old (ports_of s.ports) n n b.before p.steps b.first first.0 p.turns);
+        permuted = subst (IsPermutation p.answers) (sym (devices_answer b.before p.steps b.first)) p.permuted;
+        ordered = p.ordered;
+        low = λ i d small. let lt = p.low i d small in omega (arith, lt);
+        earlier = λ i d small. inl (p.low i d small);
+      }
 
-      answered : AreTurns old (ports_of s.ports) n (suc n) base
-      answered = answer_on old (ports_of s.ports) reached n (b.before ++ p.steps) b.done (ap (λ (q : Port). q.0) own)
-          (subst (λ (k : Machine). Contains k.book b.done) (sym (after-append old.machine b.before p.steps)) both.0.1) b.issued b.touched b.ended
-          (ap (λ (q : Port). state_of (found_of s.ports q.0)) own ∙ ready)
-          (devices_on old (ports_of s.ports) n n b.before p.steps b.first both.0.0 p.turns)
+      answered : SoFar [] base (p.answers ++ map with_ok b.ended)
+      answered = all_more b.requests b.ended early p.answers b.each b.ordered (subst (λ (k : Machine). AllMay k (answers_in b.ended)) (sym (after-append old.machine b.before p.steps)) first.1) begins
+
+      base_is : after old.machine base ≡ after m (answers_in b.ended ++ b.before)
+      base_is = ap (after old.machine) (sym (append_assoc (answers_in b.ended) b.before p.steps)) ∙ after-append old.machine (answers_in b.ended ++ b.before) p.steps
 
       then_on : AreTurns old (ports_of s.ports) (suc n) (suc n) (b.later ++ base)
       then_on = issues_on old (ports_of s.ports) reached n (port_at n) refl ready refl b.later base b.last
-          (subst (λ (k : Machine). AllMay k b.later) (sym (after-append old.machine (Answer b.done Ok ∷ b.before) p.steps)) both.1)
-          (turns_more old (ports_of s.ports) n (suc n) (suc n) (suc n) base (omega arith) (omega arith) answered)
+          (subst (λ (k : Machine). AllMay k b.later) (sym base_is) both.1)
+          (turns_more old (ports_of s.ports) n (suc n) (suc n) (suc n) base (omega arith) (omega arith) answered.turns)
 
       whole : late ++ p.steps ≡ b.later ++ base
-      whole = ap (λ (steps : List Step). steps ++ p.steps) b.steps_are ∙ append_assoc b.later (Answer b.done Ok ∷ b.before) p.steps
+      whole = ap (λ (steps : List Step). steps ++ p.steps) b.steps_are ∙ append_assoc b.later (answers_in b.ended ++ b.before) p.steps ∙ ap (λ (steps : List Step). b.later ++ steps) (append_assoc (answers_in b.ended) b.before p.steps)
 
       its_turns : AreTurns old (ports_of s.ports) (n + 1) (n + 1) (late ++ p.steps)
       its_turns = turns_more old (ports_of s.ports) (suc n) (suc n) (n + 1) (n + 1) (late ++ p.steps) (omega arith) (omega arith) (subst (AreTurns old (ports_of s.ports) (suc n) (suc n)) (sym whole) then_on)
 
-      its_answers : answers_of (late ++ p.steps) ≡ (b.done, Ok) ∷ answers_of p.steps
-      its_answers = ap answers_of whole ∙ issuing_answers (port_at n) b.later base b.last ∙ ap (λ (answers : List (Pending × Outcome)). (b.done, Ok) ∷ answers) (devices_answer b.before p.steps b.first)
+      its_answers : answers_of (late ++ p.steps) ≡ answers_of base
+      its_answers = ap answers_of whole ∙ issuing_answers (port_at n) b.later base b.last
 
-      -- a request that was issued is the one that is answered: both are in slot 0
-      is_done : (e : Pending) → IsLeading e → b.done.request ≡ e.request
-      is_done e h =
-          let l = found_before m.book (after m b.before).book b.done (steps_spare m b.before b.first).book both.0.1 in
-          let u = issued_in_first c m (port_at n) p.stands p.settled.kept ready_c l.0 l.1 (ap (λ r. r.port) (sym l.2.request) ∙ own) (sym l.2.issued ∙ b.issued) in
-          let slot : h.used ≡ u.0 = same_some (sym h.used_is ∙ u.1) in
-          let one : h.now_is ≡ l.0 = (standing m m_reached).sound.one h.now_is l.0 h.here l.1 (ap (λ (i : RequestId). i.0) (sym h.id_is ∙ ap (λ (x : SlotUse). x.id) slot ∙ u.2)) in
-          l.2.request ∙ ap (λ (y : Pending). y.request) (sym one) ∙ h.same_as.request
-
-      is_answered : (e : Pending) → IsLeading e → IsAnsweredOk e (late ++ p.steps)
-      is_answered e h = (
-        b.done,
-        is_done e h,
-        subst (λ (steps : List Step). Contains steps (Answer b.done Ok)) (sym whole)
-            (Contains-append_right b.later base (Answer b.done Ok) (contains_here (Answer b.done Ok) (b.before ++ p.steps) (Answer b.done Ok) refl)),
-      )
-
-      told : before ++ reply ∷ [] ≡ map reply_of (p.answers ++ (b.done, Ok) ∷ [])
+      told : before ++ replies ≡ map reply_of (p.answers ++ map with_ok b.ended)
       told =
-          let its : reply ≡ reply_of (b.done, Ok) = b.told ∙ (λ i. record { id = sym b.entry.id i; client = sym b.entry.client i; outcome = Ok }) in
-          ap (λ (replies : List Reply). replies ++ reply ∷ []) p.told ∙ ap (λ (r : Reply). map reply_of p.answers ++ r ∷ []) its ∙ sym (map-append reply_of p.answers ((b.done, Ok) ∷ []))
+          ap (λ (list : List Reply). list ++ replies) p.told ∙ ap (λ (list : List Reply). map reply_of p.answers ++ list) (b.told ∙ told_so (port_at n) b.requests b.ended b.each)
+          ∙ sym (map-append reply_of p.answers (map with_ok b.ended))
 
-      its_order : AllPairs IsToldBefore (p.answers ++ (b.done, Ok) ∷ [])
-      its_order = all_pairs_push IsToldBefore p.answers (b.done, Ok) p.ordered (λ k d small. inl (let lt = p.low k d small in let q = ap (λ (r : Port). r.0) own in omega (arith, lt, q)))
-
-      its_low : All (λ a. a.0.request.port.0 < n + 1) (p.answers ++ (b.done, Ok) ∷ [])
-      its_low = All-push (λ a. a.0.request.port.0 < n + 1) p.answers (b.done, Ok) (λ i d small. let lt = p.low i d small in omega (arith, lt)) (let q = ap (λ (r : Port). r.0) own in omega (arith, q))
-
-    -- what the port had issued is answered
-    turn_some : (reply : Reply) → ServesPort (port_at n) (Some reply) c mid → Progress (n + 1) mid (before ++ reply ∷ [])
-    turn_some reply serves =
-        let y : AddsTurn (port_at n) (Some reply) c mid m = serves.adds m m_reached p.stands in
-        let b = y.answers in
-        had_turn (Some reply) serves
-        (its_turns reply y.steps y.may b)
-        (p.answers ++ (b.done, Ok) ∷ [])
-        (subst (λ (answers : List (Pending × Outcome)). IsPermutation (p.answers ++ (b.done, Ok) ∷ []) answers) (sym (its_answers reply y.steps y.may b))
-        (IsPermutation-push_more p.answers (answers_of p.steps) ((b.done, Ok) ∷ answers_of p.steps) (b.done, Ok) p.permuted (IsPermutation-refl _)))
-        (its_order reply y.steps y.may b)
-        (its_low reply y.steps y.may b)
-        (told reply y.steps y.may b)
-        (λ well e there own ended. is_answered reply y.steps y.may b e (leading e (ended_on e there own ended)))
-        (λ well e its. finding (Some reply) serves (λ _ other h. is_answered reply y.steps y.may b other h) (λ none. let z : Some reply ≡ None = none in absurd cc) well e its)
-
-    turn : (reply : Option Reply) → ServesPort (port_at n) reply c mid → Progress (n + 1) mid (before ++ reply_list reply)
-    turn None serves = turn_none serves
-    turn (Some reply) serves = turn_some reply serves
+    turn : (replies : List Reply) → ServesPort (port_at n) replies c mid → Progress (n + 1) mid (before ++ replies)
+    turn replies serves =
+        let y : AddsTurn (port_at n) replies c mid m = serves.adds m m_reached p.stands in
+        let a = answered replies y.steps y.may y.answers in
+        had_turn replies serves
+        (its_turns replies y.steps y.may y.answers)
+        (p.answers ++ map with_ok y.answers.ended)
+        (subst (IsPermutation (p.answers ++ map with_ok y.answers.ended)) (sym (its_answers replies y.steps y.may y.answers)) a.permuted)
+        a.ordered
+        a.low
+        (told replies y.steps y.may y.answers)
+        (λ well e there own ended. let h = leading e (ended_on e there own ended) in told_answered replies serves e h (ended_told replies serves well e h ended))
+        (λ well e its. finding replies serves well e its)
 
   -- ---- all ports
 
@@ -691,10 +779,10 @@ module _ (laws : LawsBelow) (s : Server) (start : IsSettled s) (old : Moment) (r
         let z : Absent ≡ ReadyState = sym (ap state_of none) ∙ is_ready in absurd cc;
     progress = subst (λ (x : Server). Progress n x (before ++ replies)) (sym serves.1) (subst (Progress n c) (sym (append-nil before) ∙ ap (λ (r : List Reply). before ++ r) (sym serves.0)) p);
   }
-  go (Ready info ∷ found) n here c new before replies p (mid, reply, later, is, next, serves, more) =
-      subst (Whole new) (append_assoc before (reply_list reply) later ∙ ap (λ (r : List Reply). before ++ r) (sym is))
-      (go found (n + 1) (on (Ready info) found n here) mid new (before ++ reply_list reply) later
-      (turn n c mid before info (head_is (Ready info) found n here) p next reply serves) more)
+  go (Ready info ∷ found) n here c new before replies p (mid, its, later, is, next, serves, more) =
+      subst (Whole new) (append_assoc before its later ∙ ap (λ (r : List Reply). before ++ r) (sym is))
+      (go found (n + 1) (on (Ready info) found n here) mid new (before ++ its) later
+      (turn n c mid before info (head_is (Ready info) found n here) p next its serves) more)
   go (Unserved ∷ found) n here c new before replies p serves =
       go found (n + 1) (on Unserved found n here) c new before replies
       (skipped n c before (λ is_ready. let z : Absent ≡ ReadyState = sym (ap state_of (head_is Unserved found n here)) ∙ is_ready in cc) p) serves
@@ -823,7 +911,7 @@ module _ (laws : LawsBelow) (s new : Server) (replies : List Reply) (start : IsS
 -- a server that served ports keeps what it keeps
 served_kept : (found : List Found) (n : ℕ) (s new : Server) (replies : List Reply) → IsSettled s → ServePorts n found replies s new → IsSettled new
 served_kept [] n s new replies kept serves = subst IsSettled (sym serves.1) kept
-served_kept (Ready info ∷ found) n s new replies kept (mid, reply, later, is, next, serves, more) = served_kept found (n + 1) mid new later next more
+served_kept (Ready info ∷ found) n s new replies kept (mid, its, later, is, next, serves, more) = served_kept found (n + 1) mid new later next more
 served_kept (Unserved ∷ found) n s new replies kept serves = served_kept found (n + 1) s new replies kept serves
 served_kept (Unready state ∷ found) n s new replies kept serves = served_kept found (n + 1) s new replies kept serves
 

@@ -1,11 +1,14 @@
--- How a ready port is served: where nobody is answered, and where its first request is.
-use Rattle.std.proofs.Common.{ℕ, arith, ◌≡◌, ◌≢◌, ◌⊎◌, ◌<◌, ◌∷◌, ◌++◌, ◌||◌, Bool, true, false, not, ◌&&◌, List, [], Some, None, refl, sym, ap, ◌∙◌, subst, inl, inr, ⊎_elim}
-use Rattle.std.proofs.lemmas.Bool.{false≢true}
+-- How a ready port is served: where nobody is answered, and where what it has issued is.
+use Rattle.std.proofs.Common.{ℕ, arith, ◌≡◌, ◌≢◌, ◌⊎◌, ◌<◌, ◌∷◌, ◌++◌, ◌||◌, Bool, true, false, not, ◌&&◌, List, [], length, Option, Some, None, refl, sym, ap, ◌∙◌, subst, inl, inr, ⊎_elim}
+use Rattle.std.specs.Prelude.{◌↔◌}
+use Rattle.std.proofs.lemmas.Bool.{cases_eq, false≢true}
+use Rattle.std.specs.List.{Contains, list_any}
 use Rattle.ata_types.specs.declared.Port.{Port}
 use Rattle.ata_types.specs.declared.PortState.TheVariants.{Ready as ReadyState}
 use Rattle.ata_types.specs.declared.request.Outcome.TheVariants.{Ok}
+use Rattle.ata_types.specs.declared.request.Reply.{Reply}
 use Rattle.ata_types.specs.declared.request.RequestId.{RequestId}
-use Rattle.std.specs.List.{list_any}
+use Rattle.hba_regs.specs.Bits.{bit}
 use Rattle.hba_regs.specs.declared.reg.Reg.TheVariants.{Px}
 use Rattle.hba_regs.specs.declared.reg.PortReg.TheVariants.{Ci, Is}
 use Rattle.adapter.specs.Access.{Access}
@@ -15,42 +18,45 @@ use Rattle.adapter.specs.Device.{Device}
 use Rattle.agreement.specs.Driven.{AnyUse, IsDrivenBy, IsFollowed}
 use Rattle.agreement.specs.Driver.{IsBacked}
 use Rattle.agreement.specs.Facts.{RunsWell, Undisturbed}
-use Rattle.agreement.specs.Slots.{IsOver, ServesRequest, Stage}
+use Rattle.agreement.specs.Slots.{IsOver, Serves, ServesRequest, Stage}
 use Rattle.agreement.proofs.Adding.{backed_then}
-use Rattle.agreement.proofs.Calling.{own_backed}
-use Rattle.agreement.proofs.Driven.{along, driven_as, followed_as, followed_then, followed_adds}
+use Rattle.agreement.proofs.Driven.{along, by_none, driven_as, followed_as, followed_then, followed_adds}
 use Rattle.agreement.proofs.Finished.{access_over}
 use Rattle.block_machine.specs.Events.{AllDevices, AllMay, issues_it}
 use Rattle.block_machine.specs.Histories.{IsReached}
 use Rattle.block_machine.specs.Left.{after}
-use Rattle.block_machine.specs.State.{Machine}
+use Rattle.block_machine.specs.State.{Machine, Pending}
 use Rattle.block_machine.specs.Steps.{Step, Answer}
 use Rattle.block_machine.proofs.EventLemmas.{after-append}
 use Rattle.block_machine.proofs.HistoryLemmas.{may-append, reached_more}
+use Rattle.block_machine.proofs.Members.{contains_cases, contains_here, contains_none, contains_there, into_map, map_in}
 use Rattle.host_boot.specs.Taken.{found_of}
 use Rattle.host_boot.specs.declared.Found.TheVariants.{Ready}
 use Rattle.driver_history.specs.Histories.{IssuesDue}
-use Rattle.request_queue.specs.Entries.{Held, asks_of, due_ids}
-use Rattle.slots.specs.declared.Use.{Use as SlotUse}
 use Rattle.identify.specs.declared.DiskInfo.{DiskInfo}
-use Rattle.server_history.specs.Below.{LawsBelow}
-use Rattle.server_history.specs.Served.{AddsTurn, AnswersOne, Finishes, HasTurn, IsPlainIssuing, ServesPort, done_reply, is_busy, is_used}
-use Rattle.server_history.specs.Server.{Server, IsKept, IsMachineOf, IsSettled, none_parked, plain_mode, state_of, used_for}
-use Rattle.server_history.proofs.Answering.{IsAnswer, answer_kept, answer_one}
-use Rattle.server_history.proofs.Asks.{none_issued}
-use Rattle.server_history.proofs.Going.{machine_on}
-use Rattle.server_history.proofs.Looking.{finding_kept, looking_kept}
-use Rattle.server_history.proofs.Rounds.{AreIssued, any_append, devices_issue_none, dues, dues_carried, each_driven, each_issued, or_none}
-use Rattle.server_history.proofs.Slots.{busy_used, ready_found, served_by, serves_used}
+use Rattle.ncq.specs.Masks.{FindsDone, IsFinding, SeesClear}
 use Rattle.port_look.specs.Looks.{IsLooking, LooksAt}
 use Rattle.port_look.specs.Services.{IsService}
-use Rattle.ncq.specs.Masks.{FindsDone, IsFinding, SeesClear}
-use Rattle.hba_regs.specs.Bits.{bit}
-use Rattle.server_history.proofs.Plain.{finding_serves}
 use Rattle.port_look.specs.declared.Look.{Look}
 use Rattle.port_look.specs.declared.Look.TheVariants.{Undisturbed as Calm}
 use Rattle.port_look.proofs.Seeing.{seen_well}
 use Rattle.port_look.proofs.Serving.{looking_service, services_inactive}
+use Rattle.request_queue.specs.Entries.{Held, asks_of, due_ids}
+use Rattle.slots.specs.Uses.{Uses as PortSlots}
+use Rattle.slots.specs.declared.Use.{Use as SlotUse}
+use Rattle.server_history.specs.Below.{LawsBelow}
+use Rattle.server_history.specs.Served.{AddsTurn, AnswersDone, AnswersEach, AnswersOne, HasTurn, IsMaskOf, IsPlainIssuing, IsTold, ServesPort, answers_in, done_reply, is_used}
+use Rattle.server_history.specs.Server.{Server, IsKept, IsMachineOf, IsSettled, none_parked, plain_mode, slots_at, state_of, used_for, with_slot}
+use Rattle.server_history.proofs.Answering.{answer_kept}
+use Rattle.server_history.proofs.Asks.{none_issued}
+use Rattle.server_history.proofs.Coming.{bit_zero}
+use Rattle.server_history.proofs.Going.{machine_on}
+use Rattle.server_history.proofs.Looking.{finding_kept, found_over, looking_kept}
+use Rattle.server_history.proofs.Placing.{placed_other, placed_same}
+use Rattle.server_history.proofs.Plain.{finding_serves}
+use Rattle.server_history.proofs.Rounds.{AreIssued, any_append, devices_issue_none, dues, dues_carried, each_driven, each_issued, or_none}
+use Rattle.server_history.proofs.Settling.{AreAnswered, answers_kept, answers_settings, each_answered, over_on, ready_on}
+use Rattle.server_history.proofs.Slots.{AreOver, ready_found, served_by, serves_used}
 
 -- accesses of a look, and of finding a transfer done, serve ports
 looks_serve : (port : Port) (old new : Device) → IsFollowed (IsLooking port) AnyUse old new → IsFollowed IsService AnyUse old new
@@ -59,6 +65,11 @@ looks_serve port old new followed = followed_as (IsLooking port) IsService AnyUs
 finds_serve : LawsBelow → (port : Port) (mask done : ℕ) (old new : Device) → FindsDone port mask done old new → IsFollowed IsService AnyUse old new
 finds_serve laws port mask done old new finds = followed_as (IsFinding port) IsService AnyUse AnyUse old new (finding_serves port) (λ uses any. any) (laws.finding_followed port mask done old new finds)
 
+-- answers issue nothing
+answers_issue_none : (id : RequestId) (ended : List Pending) → list_any (issues_it id) (answers_in ended) ≡ false
+answers_issue_none id [] = refl
+answers_issue_none id (e ∷ ended) = any_append (issues_it id) (answers_in ended) (Answer e Ok ∷ []) ∙ ap (λ (b : Bool). b || false) (answers_issue_none id ended)
+
 -- the steps of a stretch in which nobody is answered
 followed_steps : (s : Server) (new : Device) → IsFollowed IsService AnyUse s.device new → (m : Machine) → IsReached m → IsMachineOf s m
     → (steps : List Step) × AllMay m steps × IsMachineOf (record s { device = new }) (after m steps) × IsBacked s.device new m steps × AllDevices steps
@@ -66,12 +77,13 @@ followed_steps s new followed m reached is =
     let x = (followed_adds followed is.uses none_parked tt).adds m reached is.knows in
     (x.0, x.1, machine_on s new m x.0 is x.3.only x.2, x.3.backed, x.3.only)
 
-nobody_answered : (s : Server) (new : Device) (port : Port) → IsSettled s → HasTurn port (is_busy port s) None s.device new → IsFollowed IsService AnyUse s.device new
-    → (RunsWell (s.device.port port.0) → Undisturbed port.0 s.device new → (s.device.port port.0).ci 0 ≡ false → (s.device.port port.0).sact 0 ≡ false → is_busy port s ≡ true → ⊥)
-    → ServesPort port None s (record s { device = new })
+nobody_answered : (s : Server) (new : Device) (port : Port) → IsSettled s → HasTurn port (slots_at s.slots port.0) [] s.device new → IsFollowed IsService AnyUse s.device new
+    → (RunsWell (s.device.port port.0) → Undisturbed port.0 s.device new → (slot : ℕ) (used : SlotUse) → slot < 32 → used_for s.slots port.0 slot ≡ Some used
+    → (s.device.port port.0).ci slot ≡ false → (s.device.port port.0).sact slot ≡ false → ⊥)
+    → ServesPort port [] s (record s { device = new })
 nobody_answered s new port settled turn followed never = record {
   turn = turn;
-  answers = refl;
+  answers = inl (refl, refl);
   adds = λ m reached is.
       let x = followed_steps s new followed m reached is in
       record {
@@ -79,10 +91,21 @@ nobody_answered s new port settled turn followed never = record {
         may = x.1;
         stands = x.2;
         backed = x.3;
-        answers = x.4;
+        answers = record {
+          requests = [];
+          told = refl;
+          ordered = λ i j d lt below. absurd (omega (arith, lt, below));
+          ended = [];
+          each = tt;
+          later = [];
+          before = x.0;
+          steps_are = refl;
+          first = x.4;
+          last = tt;
+        };
         issues = none_issued (record s { device = new }) (after m x.0) x.2 x.0 (λ id. devices_issue_none id x.0 x.4) port (settled.issued port);
       };
-  answered = λ well calm ci sact busy. absurd (never well calm ci sact busy);
+  answered = λ well calm slot used small its ci sact. absurd (never well calm slot used small its ci sact);
 }
 
 -- ---- bits that are clear
@@ -106,31 +129,84 @@ never_both false queued ci sact on a b c d = false≢true on
 never_both true true ci sact on a b c d = false≢true (sym d ∙ b)
 never_both true false ci sact on a b c d = false≢true (sym c ∙ a)
 
-module _ (s : Server) (port : Port) (k : IsKept s) (ready : state_of (found_of s.ports port.0) ≡ ReadyState) where
+module _ (s : Server) (port : Port) (k : IsKept s) (ready : state_of (found_of s.ports port.0) ≡ ReadyState) (slot : ℕ) where
   -- where both bits of what is issued are clear, its command is over
-  clear_over : (used : SlotUse) → used_for s.slots port.0 0 ≡ Some used → (s.device.port port.0).ci 0 ≡ false → (s.device.port port.0).sact 0 ≡ false → IsOver (s.device.port port.0) 0
+  clear_over : (used : SlotUse) → used_for s.slots port.0 slot ≡ Some used → (s.device.port port.0).ci slot ≡ false → (s.device.port port.0).sact slot ≡ false → IsOver (s.device.port port.0) slot
   clear_over used its ci sact = by x.stage
     where
       found : (port.0 < 4) × ((info : DiskInfo) × (found_of s.ports port.0 ≡ Ready info))
       found = ready_found s port.0 k ready
 
-      x : ServesRequest k.machine s.device.memory (s.device.port port.0) port.0 0 used.id
-      x = served_by s k.machine port.0 0 k.stands used.id (serves_used s k.machine port.0 k.stands ready 0 used its)
+      x : ServesRequest k.machine s.device.memory (s.device.port port.0) port.0 slot used.id
+      x = served_by s k.machine port.0 slot k.stands used.id (serves_used s k.machine port.0 k.stands ready slot used its)
 
-      by : Stage s.device.memory (s.device.port port.0) port.0 0 x.pending x.command x.places → IsOver (s.device.port port.0) 0
+      by : Stage s.device.memory (s.device.port port.0) port.0 slot x.pending x.command x.places → IsOver (s.device.port port.0) slot
       by (inl w) = absurd (false≢true (sym ci ∙ w.issued))
       by (inr (inl t)) = absurd (never_both (s.device.port port.0).st (is_queued x.command.operation) _ _ ((k.behind port.0 found.0).runs ready).st t.issued t.sact ci sact)
       by (inr (inr (inl e))) = record { issued = e.issued; free = e.free }
       by (inr (inr (inr d))) = record { issued = d.issued; free = d.free }
 
   -- and they are clear after a look
-  still_clear : (seen : Device) → IsDrivenBy (IsLooking port) s.device seen → (s.device.port port.0).ci 0 ≡ false → (s.device.port port.0).sact 0 ≡ false → is_busy port s ≡ true
-      → ((seen.port port.0).ci 0 ≡ false) × ((seen.port port.0).sact 0 ≡ false)
-  still_clear seen driven ci sact busy =
-      let used = busy_used (used_for s.slots port.0 0) busy in (
-        (still_over port 0 s.device seen driven (clear_over used.0 used.1 ci sact)).issued,
-        services_inactive port.0 0 s.device seen (driven_as (IsLooking port) IsService s.device seen (looking_service port) driven) sact,
-      )
+  still_clear : (seen : Device) → IsDrivenBy (IsLooking port) s.device seen → (used : SlotUse) → used_for s.slots port.0 slot ≡ Some used → (s.device.port port.0).ci slot ≡ false
+      → (s.device.port port.0).sact slot ≡ false → ((seen.port port.0).ci slot ≡ false) × ((seen.port port.0).sact slot ≡ false)
+  still_clear seen driven used its ci sact = (
+    (still_over port slot s.device seen driven (clear_over used its ci sact)).issued,
+    services_inactive port.0 slot s.device seen (driven_as (IsLooking port) IsService s.device seen (looking_service port) driven) sact,
+  )
+
+-- ---- who is told
+
+same_some : {X : Type 0} {a b : X} → Some a ≡ Some b → a ≡ b
+same_some is = cc
+
+-- an answer that frees a slot, or leaves it
+module _ (port : Port) (e : Held) (old mid : Server) (one : AnswersOne port e old mid) (k : IsKept old) (low : port.0 < 4) where
+  in_list : port.0 < length old.slots
+  in_list = let f = k.four in omega (arith, low, f)
+
+  in_places : one.slot < length (slots_at old.slots port.0).places
+  in_places = let p = (k.slots port.0 low).places in let small = one.small in omega (arith, p, small)
+
+  slots_are : mid.slots ≡ with_slot old.slots port.0 one.slot None
+  slots_are = ap (λ (n : Server). n.slots) one.server
+
+  -- what another slot is used for
+  left_used : (slot : ℕ) → slot ≢ one.slot → used_for mid.slots port.0 slot ≡ used_for old.slots port.0 slot
+  left_used slot other = ap (λ (list : List PortSlots). used_for list port.0 slot) slots_are ∙ placed_other old.slots port.0 one.slot None in_list in_places port.0 slot (λ _ same. other same)
+
+  now_free : used_for mid.slots port.0 one.slot ≡ None
+  now_free = ap (λ (list : List PortSlots). used_for list port.0 one.slot) slots_are ∙ placed_same old.slots port.0 one.slot None in_list in_places
+
+module _ (laws : LawsBelow) (port : Port) (low : port.0 < 4) (done : ℕ) where
+  -- each slot that was found done, and is free in the end, has its request among these
+  done_told : (requests : List Held) (old new : Server) → IsKept old → state_of (found_of old.ports port.0) ≡ ReadyState → AreOver port done old.device → AnswersEach port done requests old new
+      → ((slot : ℕ) → slot < 32 → bit done slot ≡ true → used_for new.slots port.0 slot ≡ None) → (slot : ℕ) (used : SlotUse) → slot < 32 → bit done slot ≡ true → used_for old.slots port.0 slot ≡ Some used
+      → (e : Held) × Contains requests e × (e.entry.id ≡ used.id)
+  done_told [] old new k ready over none free slot used small is its =
+      let z : None ≡ Some used = sym (free slot small is) ∙ ap (λ (n : Server). used_for n.slots port.0 slot) none ∙ its in absurd cc
+  done_told (e ∷ requests) old new k ready over (mid, one, clear, more) free slot used small is its = ⊎_elim
+      (λ (same : slot ≡ one.slot).
+      let one_is : Some used ≡ Some one.used = sym its ∙ ap (used_for old.slots port.0) same ∙ one.served in
+      (e, contains_here e requests e refl, sym one.id_is ∙ sym (ap (λ (u : SlotUse). u.id) (same_some one_is))))
+      (λ (other : slot ≢ one.slot).
+      let rest = done_told requests mid new (answer_kept laws old mid port e k ready one (over one.slot one.small clear)) (ready_on laws port done e old mid one ready) (over_on laws port done e old mid one over) more free
+          slot used small is (left_used port e old mid one k low slot other ∙ its) in
+      (rest.0, contains_there e requests rest.0 rest.1, rest.2))
+      (cases_eq slot one.slot)
+
+  -- and each of these has a slot that was found done
+  told_done : (requests : List Held) (old new : Server) → IsKept old → state_of (found_of old.ports port.0) ≡ ReadyState → AreOver port done old.device → AnswersEach port done requests old new
+      → (e : Held) → Contains requests e → (slot : ℕ) × (slot < 32) × (bit done slot ≡ true) × ((used : SlotUse) × (used_for old.slots port.0 slot ≡ Some used) × (used.id ≡ e.entry.id))
+  told_done [] old new k ready over none e here = absurd (contains_none e here)
+  told_done (first ∷ requests) old new k ready over (mid, one, clear, more) e here = ⊎_elim
+      (λ (same : e ≡ first). (one.slot, one.small, clear, (one.used, one.served, one.id_is ∙ ap (λ (x : Held). x.entry.id) (sym same))))
+      (λ (there : Contains requests e).
+      let rest = told_done requests mid new (answer_kept laws old mid port first k ready one (over one.slot one.small clear)) (ready_on laws port done first old mid one ready) (over_on laws port done first old mid one over) more e there in
+      ⊎_elim
+      (λ (same : rest.0 ≡ one.slot). let z : None ≡ Some rest.3.0 = sym (now_free port first old mid one k low) ∙ ap (used_for mid.slots port.0) (sym same) ∙ rest.3.1 in absurd cc)
+      (λ (other : rest.0 ≢ one.slot). (rest.0, rest.1, rest.2, (rest.3.0, sym (left_used port first old mid one k low rest.0 other) ∙ rest.3.1, rest.3.2)))
+      (cases_eq rest.0 one.slot))
+      (contains_cases first requests e here)
 
 -- ---- the whole
 
@@ -138,127 +214,193 @@ module _ (s : Server) (seen : Device) (port : Port) (t : IsSettled s) (ready : s
   abbrev k : IsKept s
   k = t.kept
 
-  -- it was looked at, and that is all
-  pub looked : (look : Look) → LooksAt port look s.device seen → (look ≢ Calm) ⊎ (is_busy port s ≡ false) → ServesPort port None s (record s { device = seen })
-  looked look l why =
+  low : port.0 < 4
+  low = (ready_found s port.0 k ready).0
+
+  -- it was looked at, and that told of something
+  pub told_trouble : (look : Look) → LooksAt port look s.device seen → look ≢ Calm → ServesPort port [] s (record s { device = seen })
+  told_trouble look l told =
       nobody_answered s seen port t
-      (record { look = look; seen = seen; looks = l; only = λ _. (refl, refl); checks = λ calm busy. absurd (⊎_elim (λ told. told calm) (λ none. false≢true (sym none ∙ busy)) why) })
+      (record { look = look; seen = seen; looks = l; told = λ _. (refl, refl); calm = λ calm. absurd (told calm) })
       (looks_serve port s.device seen looks)
-      (λ well calm ci sact busy. ⊎_elim
-      (λ (told : look ≢ Calm). told (seen_well port look s.device seen l k.on well calm).0)
-      (λ (none : is_busy port s ≡ false). false≢true (sym none ∙ busy))
-      why)
+      (λ well calm slot used small its ci sact. told (seen_well port look s.device seen l k.on well calm).0)
 
   module _ (l : LooksAt port Calm s.device seen) where
-    -- what it has issued wasn't found done
-    pub unfinished : LawsBelow → (new : Device) → is_busy port s ≡ true → (done : ℕ) → FindsDone port 1 done seen new → SeesClear port 1 done seen → bit done 0 ≡ false → ServesPort port None s (record s { device = new })
-    unfinished laws new has done reads sees running =
-        nobody_answered s new port t
+    -- no slot is used
+    pub idle : IsMaskOf (slots_at s.slots port.0) 0 → ServesPort port [] s (record s { device = seen })
+    idle its =
+        nobody_answered s seen port t
         (record {
           look = Calm;
           seen = seen;
           looks = l;
-          only = λ why. absurd (⊎_elim (λ told. told refl) (λ none. false≢true (sym none ∙ has)) why);
-          checks = λ calm busy. record { done = done; read = new; reads = reads; running = λ _. (refl, refl); over = λ found. absurd (false≢true (sym running ∙ found)) };
+          told = λ trouble. absurd (trouble refl);
+          calm = λ _. record { mask = 0; its = its; idle = λ _. (refl, refl); checks = λ some. absurd (some refl) };
         })
-        (followed_then IsService AnyUse s.device seen new (looks_serve port s.device seen looks) (finds_serve laws port 1 done seen new reads))
-        (λ well calm ci sact busy. let c = still_clear s port k ready seen looks.driven ci sact busy in false≢true (sym running ∙ sees 0 (omega arith) refl c.0 c.1))
+        (looks_serve port s.device seen looks)
+        (λ well calm slot used small is ci sact. false≢true (sym (bit_zero slot) ∙ its slot small ∙ ap is_used is))
 
-    -- it was found done, and answered
-    module _ (laws : LawsBelow) (new : Server) (found : Device) (e : Held) (done : ℕ) (reads : FindsDone port 1 done seen found) (was_done : bit done 0 ≡ true) (over : IsOver (found.port port.0) 0)
-        (finishes : Finishes port e (record s { device = found }) new) where
-      served : IsFollowed IsService AnyUse s.device found
-      served = followed_then IsService AnyUse s.device seen found (looks_serve port s.device seen looks) (finds_serve laws port 1 done seen found reads)
+    module _ (laws : LawsBelow) (mask : ℕ) (its : IsMaskOf (slots_at s.slots port.0) mask) (some : mask ≢ 0) where
+      -- a used slot is asked for
+      asked : (slot : ℕ) (used : SlotUse) → slot < 32 → used_for s.slots port.0 slot ≡ Some used → bit mask slot ≡ true
+      asked slot used small is = its slot small ∙ ap is_used is
 
-      found_kept : IsKept (record s { device = found })
-      found_kept = finding_kept (record s { device = seen }) found port (looking_kept s seen port k ready looks) ready laws 1 done reads
+      -- none of what it has issued was found done
+      pub unfinished : (new : Device) → FindsDone port mask 0 seen new → SeesClear port mask 0 seen → ServesPort port [] s (record s { device = new })
+      unfinished new reads sees =
+          nobody_answered s new port t
+          (record {
+            look = Calm;
+            seen = seen;
+            looks = l;
+            told = λ trouble. absurd (trouble refl);
+            calm = λ _. record {
+              mask = mask;
+              its = its;
+              idle = λ none. absurd (some none);
+              checks = λ _. record {
+                done = 0;
+                read = new;
+                reads = reads;
+                exact = λ slot used small is. ((λ found. absurd (false≢true (sym (bit_zero slot) ∙ found))), (λ w. absurd (contains_none w.0 w.1)));
+                running = λ _. (refl, refl);
+                over = by_none (IsPlainIssuing port) new;
+              };
+            };
+          })
+          (followed_then IsService AnyUse s.device seen new (looks_serve port s.device seen looks) (finds_serve laws port mask 0 seen new reads))
+          (λ well calm slot used small is ci sact.
+          let c = still_clear s port k ready slot seen looks.driven used is ci sact in
+          false≢true (sym (bit_zero slot) ∙ sees slot small (asked slot used small is) c.0 c.1))
 
-      abbrev mid : Server
-      mid = finishes.0
+      -- what was found done was answered
+      module _ (new : Server) (found : Device) (done : ℕ) (replies : List Reply) (reads : FindsDone port mask done seen found) (sees : SeesClear port mask done seen) (was_done : done ≢ 0)
+          (a : AnswersDone port done replies (record s { device = found }) new) where
+        abbrev from : Server
+        from = record s { device = found }
 
-      abbrev one : AnswersOne port e (record s { device = found }) mid
-      one = finishes.1
+        served : IsFollowed IsService AnyUse s.device found
+        served = followed_then IsService AnyUse s.device seen found (looks_serve port s.device seen looks) (finds_serve laws port mask done seen found reads)
 
-      mid_kept : IsKept mid
-      mid_kept = answer_kept laws (record s { device = found }) mid port e found_kept ready over one
+        seen_kept : IsKept (record s { device = seen })
+        seen_kept = looking_kept s seen port k ready looks
 
-      mid_device : mid.device ≡ found
-      mid_device = ap (λ (n : Server). n.device) one.server
+        found_kept : IsKept from
+        found_kept = finding_kept (record s { device = seen }) found port seen_kept ready laws mask done reads
 
-      abbrev ids : List RequestId
-      ids = due_ids plain_mode port (asks_of mid.book)
+        over : AreOver port done found
+        over = found_over (record s { device = seen }) found port seen_kept ready laws mask done reads its
 
-      turn_adds : (m : Machine) → IsReached m → IsMachineOf s m → AddsTurn port (Some (done_reply e)) s new m
-      turn_adds m reached is = record {
-        steps = z.steps ++ base;
-        may = may-append m z.steps base base_may z.may;
-        stands = subst (IsMachineOf new) (sym (after-append m z.steps base)) z.stands;
-        backed = backed_then s.device mid.device new.device m base z.steps base_backed z.backed;
-        answers = record {
-          request = e;
-          told = refl;
-          port_is = y.port_is;
-          done = y.done;
-          entry = y.entry;
-          issued = y.issued;
-          ended = y.ended;
-          touched = y.touched;
-          later = z.steps;
-          before = x.0;
-          steps_are = refl;
-          first = x.4;
-          last = z.only;
-        };
-        issues = subst (λ (n : Machine). IssuesDue plain_mode (z.steps ++ base) n port) (sym (after-append m z.steps base))
-            (dues_carried laws z.steps (z.steps ++ base) (after (after m base) z.steps) (after (after m base) z.steps) port refl
-            (λ u here own. sym (any_append (issues_it u.id) z.steps base ∙ ap (λ (b : Bool). list_any (issues_it u.id) z.steps || b) (devices_issue_none u.id x.0 x.4) ∙ or_none (list_any (issues_it u.id) z.steps)))
-            (dues laws port mid new mid_kept finishes.2 (after m base) z port (λ ne. absurd (ne refl))));
-      }
-        where
-          x : (steps : List Step) × AllMay m steps × IsMachineOf (record s { device = found }) (after m steps) × IsBacked s.device found m steps × AllDevices steps
-          x = followed_steps s found served m reached is
+        mid_kept : IsKept a.mid
+        mid_kept = answers_kept laws port done a.requests from a.mid found_kept ready over a.each
 
-          reached_x : IsReached (after m x.0)
-          reached_x = reached_more m x.0 reached x.1
+        mid_device : a.mid.device ≡ found
+        mid_device = ap (λ (n : Server). n.device) (answers_settings laws port done a.requests from a.mid a.each)
 
-          y : IsAnswer port e (record s { device = found }) mid (after m x.0)
-          y = answer_one laws (record s { device = found }) mid port e found_kept ready over one (after m x.0) reached_x x.2
+        abbrev ids : List RequestId
+        ids = due_ids plain_mode port (asks_of a.mid.book)
 
-          base : List Step
-          base = Answer y.done Ok ∷ x.0
-
-          base_may : AllMay m base
-          base_may = (x.1, y.here)
-
-          base_backed : IsBacked s.device mid.device m base
-          base_backed = subst (λ (d : Device). IsBacked s.device d m base) (sym mid_device)
-              (backed_then s.device found found m x.0 (Answer y.done Ok ∷ []) x.3 (own_backed found (after m x.0) (Answer y.done Ok) (λ none. none)))
-
-          z : AreIssued port ids mid new (after m base)
-          z = each_issued laws port ids mid new mid_kept finishes.2 (after m base) (reached_more m base reached base_may) y.stands
-
-      has : is_busy port s ≡ true
-      has = ap is_used one.served
-
-      last_issues : IsDrivenBy (IsPlainIssuing port) found new.device
-      last_issues = subst (λ (d : Device). IsDrivenBy (IsPlainIssuing port) d new.device) mid_device (each_driven laws port ids mid new finishes.2)
-
-      pub finished : ServesPort port (Some (done_reply e)) s new
-      finished = record {
-        turn = record {
-          look = Calm;
-          seen = seen;
-          looks = l;
-          only = λ why. absurd (⊎_elim (λ told. told refl) (λ none. false≢true (sym none ∙ has)) why);
-          checks = λ calm busy. record {
-            done = done;
-            read = found;
-            reads = reads;
-            running = λ still. absurd (false≢true (sym still ∙ was_done));
-            over = λ _. ((λ none. let w : Some (done_reply e) ≡ None = none in absurd cc), last_issues);
+        turn_adds : (m : Machine) → IsReached m → IsMachineOf s m → AddsTurn port replies s new m
+        turn_adds m reached is = record {
+          steps = z.steps ++ base;
+          may = may-append m z.steps base base_may z.may;
+          stands = subst (IsMachineOf new) (sym (after-append m z.steps base)) z.stands;
+          backed = backed_then s.device a.mid.device new.device m base z.steps base_backed z.backed;
+          answers = record {
+            requests = a.requests;
+            told = a.told;
+            ordered = a.ordered;
+            ended = y.ended;
+            each = y.each;
+            later = z.steps;
+            before = x.0;
+            steps_are = refl;
+            first = x.4;
+            last = z.only;
           };
-        };
-        answers = (found, e, refl, finishes);
-        adds = turn_adds;
-        answered = λ well calm ci sact busy none. let w : Some (done_reply e) ≡ None = none in absurd cc;
-      }
+          issues = subst (λ (n : Machine). IssuesDue plain_mode (z.steps ++ base) n port) (sym (after-append m z.steps base))
+              (dues_carried laws z.steps (z.steps ++ base) (after (after m base) z.steps) (after (after m base) z.steps) port refl
+              (λ u here own. sym (any_append (issues_it u.id) z.steps base ∙ ap (λ (b : Bool). list_any (issues_it u.id) z.steps || b) (none_in_base u.id) ∙ or_none (list_any (issues_it u.id) z.steps)))
+              (dues laws port a.mid new mid_kept a.issued (after m base) z port (λ ne. absurd (ne refl))));
+        }
+          where
+            x : (steps : List Step) × AllMay m steps × IsMachineOf from (after m steps) × IsBacked s.device found m steps × AllDevices steps
+            x = followed_steps s found served m reached is
+
+            reached_x : IsReached (after m x.0)
+            reached_x = reached_more m x.0 reached x.1
+
+            y : AreAnswered port a.requests from a.mid (after m x.0)
+            y = each_answered laws port done a.requests from a.mid found_kept ready over a.each (after m x.0) reached_x x.2
+
+            base : List Step
+            base = answers_in y.ended ++ x.0
+
+            base_is : after m base ≡ after (after m x.0) (answers_in y.ended)
+            base_is = after-append m (answers_in y.ended) x.0
+
+            base_may : AllMay m base
+            base_may = may-append m (answers_in y.ended) x.0 x.1 y.may
+
+            base_backed : IsBacked s.device a.mid.device m base
+            base_backed = backed_then s.device found a.mid.device m x.0 (answers_in y.ended) x.3 y.backed
+
+            none_in_base : (id : RequestId) → list_any (issues_it id) base ≡ false
+            none_in_base id = any_append (issues_it id) (answers_in y.ended) x.0 ∙ ap (λ (b : Bool). b || list_any (issues_it id) x.0) (answers_issue_none id y.ended) ∙ devices_issue_none id x.0 x.4
+
+            z : AreIssued port ids a.mid new (after m base)
+            z = each_issued laws port ids a.mid new mid_kept a.issued (after m base) (reached_more m base reached base_may) (subst (IsMachineOf a.mid) (sym base_is) y.stands)
+
+        last_issues : IsDrivenBy (IsPlainIssuing port) found new.device
+        last_issues = subst (λ (d : Device). IsDrivenBy (IsPlainIssuing port) d new.device) mid_device (each_driven laws port ids a.mid new a.issued)
+
+        -- a request is told exactly if its slot was found done
+        told_of : (e : Held) → Contains a.requests e → IsTold e.entry.id replies
+        told_of e here = (done_reply e, subst (λ (list : List Reply). Contains list (done_reply e)) (sym a.told) (into_map done_reply a.requests e here), refl)
+
+        exactly : (slot : ℕ) (used : SlotUse) → slot < 32 → used_for s.slots port.0 slot ≡ Some used → bit done slot ≡ true ↔ IsTold used.id replies
+        exactly slot used small is = (
+          (λ found_done.
+              let e = done_told laws port low done a.requests from a.mid found_kept ready over a.each a.free slot used small found_done is in
+              let w = told_of e.0 e.1 in
+              (w.0, w.1, w.2 ∙ e.2)),
+          (λ w.
+              let r = map_in done_reply a.requests w.0 (subst (λ (list : List Reply). Contains list w.0) a.told w.1) in
+              let d = told_done laws port low done a.requests from a.mid found_kept ready over a.each r.0 r.1 in
+              let same : d.0 ≡ slot = one_slot d.0 d.3.0 d.3.1 slot used is (d.3.2 ∙ sym (ap (λ (x : Reply). x.id) r.2) ∙ w.2) in
+              subst (λ (n : ℕ). bit done n ≡ true) same d.2),
+        )
+          where
+            -- a request has one slot
+            one_slot : (a : ℕ) (x : SlotUse) → used_for s.slots port.0 a ≡ Some x → (b : ℕ) (y : SlotUse) → used_for s.slots port.0 b ≡ Some y → x.id ≡ y.id → a ≡ b
+            one_slot a x ax b y by same =
+                (k.stands.knows.agrees.apart port.0 a port.0 b x.id
+                (serves_used s k.machine port.0 k.stands ready a x ax) (serves_used s k.machine port.0 k.stands ready b y by ∙ ap Serves (sym same))).1
+
+        pub finished : ServesPort port replies s new
+        finished = record {
+          turn = record {
+            look = Calm;
+            seen = seen;
+            looks = l;
+            told = λ trouble. absurd (trouble refl);
+            calm = λ _. record {
+              mask = mask;
+              its = its;
+              idle = λ none. absurd (some none);
+              checks = λ _. record {
+                done = done;
+                read = found;
+                reads = reads;
+                exact = exactly;
+                running = λ none. absurd (was_done none);
+                over = last_issues;
+              };
+            };
+          };
+          answers = inr (found, done, a);
+          adds = turn_adds;
+          answered = λ well calm slot used small is ci sact.
+              let c = still_clear s port k ready slot seen looks.driven used is ci sact in
+              (exactly slot used small is).0 (sees slot small (asked slot used small is) c.0 c.1);
+        }

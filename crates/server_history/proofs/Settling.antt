@@ -1,27 +1,106 @@
--- A port whose request was answered, and its due requests issued, leaves nothing due.
-use Rattle.std.proofs.Common.{◌≡◌, ◌≢◌, sym, ap, ◌∙◌}
+-- Requests of a port whose slots were found done are answered, one after another; and then its due requests are issued.
+use Rattle.std.proofs.Common.{ℕ, ◌≡◌, ◌≢◌, ◌<◌, true, List, [], ◌∷◌, ◌++◌, refl, sym, ap, ◌∙◌, subst}
+use Rattle.std.specs.List.{AllZip}
 use Rattle.ata_types.specs.declared.Port.{Port}
 use Rattle.ata_types.specs.declared.PortState.TheVariants.{Ready}
-use Rattle.agreement.specs.Slots.{IsOver}
+use Rattle.ata_types.specs.declared.request.Outcome.TheVariants.{Ok}
+use Rattle.ata_types.specs.declared.request.Reply.{Reply}
+use Rattle.hba_regs.specs.Bits.{bit}
+use Rattle.adapter.specs.Device.{Device}
+use Rattle.agreement.specs.Driver.{IsBacked}
+use Rattle.agreement.proofs.Adding.{backed_then, nothing_backed}
+use Rattle.agreement.proofs.Calling.{own_backed}
 use Rattle.block_machine.specs.Due.{NoneDue, of_port}
+use Rattle.block_machine.specs.Events.{AllMay}
+use Rattle.block_machine.specs.Histories.{IsReached}
+use Rattle.block_machine.specs.Left.{after}
+use Rattle.block_machine.specs.State.{Machine, Pending}
+use Rattle.block_machine.specs.Steps.{Step, Answer}
+use Rattle.block_machine.proofs.EventLemmas.{after-append}
+use Rattle.block_machine.proofs.HistoryLemmas.{may-append, reached_more}
 use Rattle.block_machine.proofs.Members.{into_map}
 use Rattle.host_boot.specs.Taken.{found_of}
+use Rattle.host_boot.specs.declared.Found.{Found}
 use Rattle.request_queue.specs.Entries.{Held, IsInOrder, asks, asks_of}
 use Rattle.server_history.specs.Below.{LawsBelow}
-use Rattle.server_history.specs.Served.{AnswersOne, Finishes}
-use Rattle.server_history.specs.Server.{Server, IsSettled, plain_mode, state_of}
-use Rattle.server_history.proofs.Answering.{answer_kept}
+use Rattle.server_history.specs.Served.{AnswersDone, AnswersEach, AnswersOne, HasEnded, answers_in}
+use Rattle.server_history.specs.Server.{Server, IsKept, IsMachineOf, IsSettled, plain_mode, state_of}
+use Rattle.server_history.proofs.Answering.{IsAnswer, answer_kept, answer_one}
 use Rattle.server_history.proofs.Rounds.{settled}
+use Rattle.server_history.proofs.Slots.{AreOver}
 
 -- an answer leaves the requests of other ports
-pub answer_apart : LawsBelow → (port : Port) (e : Held) (old new : Server) → IsInOrder old.book → AnswersOne port e old new → (other : Port) → other ≢ port → of_port other (asks_of new.book) ≡ of_port other (asks_of old.book)
+answer_apart : LawsBelow → (port : Port) (e : Held) (old new : Server) → IsInOrder old.book → AnswersOne port e old new → (other : Port) → other ≢ port → of_port other (asks_of new.book) ≡ of_port other (asks_of old.book)
 answer_apart laws port e old new order one other ne =
     ap (of_port other) (ap (λ (n : Server). asks_of n.book) one.server ∙ laws.asks_answered old.book e.entry.id)
     ∙ laws.answered_apart other (asks_of old.book) (asks e.entry) (laws.asked old.book order) (into_map (λ (y : Held). asks y.entry) old.book e one.here) (λ same. ne (sym same ∙ one.port_is))
 
-pub finish_settles : LawsBelow → (s new : Server) (port : Port) (e : Held) → IsSettled s → state_of (found_of s.ports port.0) ≡ Ready → IsOver (s.device.port port.0) 0 → Finishes port e s new → IsSettled new
-finish_settles laws s new port e t ready over (mid, one, issues) = settled laws port mid new (answer_kept laws s mid port e t.kept ready over one) none_other issues
-  where
-    none_other : (other : Port) → other ≢ port → NoneDue plain_mode (asks_of mid.book) other
-    none_other other ne r own due =
-        t.issued other r own ((laws.same_due plain_mode other (asks_of mid.book) (asks_of s.book) r (answer_apart laws port e s mid t.kept.ordered one other ne) own).0 due)
+answer_order : LawsBelow → (port : Port) (e : Held) (old new : Server) → IsInOrder old.book → AnswersOne port e old new → IsInOrder new.book
+answer_order laws port e old new order one = subst (λ (n : Server). IsInOrder n.book) (sym one.server) (laws.fewer old.book e.entry.id order)
+
+-- These requests are answered by a machine's steps, after which the machine stands for the new server.
+pub record AreAnswered (port : Port) (requests : List Held) (old new : Server) (m : Machine) : Type 0 where
+  pub ended : List Pending
+  pub each : AllZip (HasEnded port) requests ended
+  pub may : AllMay m (answers_in ended)
+  pub backed : IsBacked old.device new.device m (answers_in ended)
+  pub stands : IsMachineOf new (after m (answers_in ended))
+
+module _ (laws : LawsBelow) (port : Port) (done : ℕ) where
+  pub answers_apart : (requests : List Held) (old new : Server) → IsInOrder old.book → AnswersEach port done requests old new → (other : Port) → other ≢ port
+      → of_port other (asks_of new.book) ≡ of_port other (asks_of old.book)
+  answers_apart [] old new order none other ne = ap (λ (n : Server). of_port other (asks_of n.book)) none
+  answers_apart (e ∷ requests) old new order (mid, one, its, more) other ne =
+      answers_apart requests mid new (answer_order laws port e old mid order one) more other ne ∙ answer_apart laws port e old mid order one other ne
+
+  pub answers_order : (requests : List Held) (old new : Server) → IsInOrder old.book → AnswersEach port done requests old new → IsInOrder new.book
+  answers_order [] old new order none = subst (λ (n : Server). IsInOrder n.book) (sym none) order
+  answers_order (e ∷ requests) old new order (mid, one, its, more) = answers_order requests mid new (answer_order laws port e old mid order one) more
+
+  -- but for the loans, the slots and the book, the server is as it was
+  pub answers_settings : (requests : List Held) (old new : Server) → AnswersEach port done requests old new → new ≡ record old { table = new.table; slots = new.slots; book = new.book }
+  answers_settings [] old new none = none ∙ ap (λ (n : Server). record old { table = n.table; slots = n.slots; book = n.book }) (sym none)
+  answers_settings (e ∷ requests) old new (mid, one, its, more) =
+      answers_settings requests mid new more ∙ ap (λ (n : Server). record n { table = new.table; slots = new.slots; book = new.book }) one.server
+
+  -- what is over and ready stays so
+  pub over_on : (e : Held) (old mid : Server) → AnswersOne port e old mid → AreOver port done old.device → AreOver port done mid.device
+  over_on e old mid one over = subst (AreOver port done) (sym (ap (λ (n : Server). n.device) one.server)) over
+
+  pub ready_on : (e : Held) (old mid : Server) → AnswersOne port e old mid → state_of (found_of old.ports port.0) ≡ Ready → state_of (found_of mid.ports port.0) ≡ Ready
+  ready_on e old mid one ready = subst (λ (found : List Found). state_of (found_of found port.0) ≡ Ready) (sym (ap (λ (n : Server). n.ports) one.server)) ready
+
+  pub answers_kept : (requests : List Held) (old new : Server) → IsKept old → state_of (found_of old.ports port.0) ≡ Ready → AreOver port done old.device → AnswersEach port done requests old new → IsKept new
+  answers_kept [] old new k ready over none = subst IsKept (sym none) k
+  answers_kept (e ∷ requests) old new k ready over (mid, one, its, more) =
+      answers_kept requests mid new (answer_kept laws old mid port e k ready one (over one.slot one.small its)) (ready_on e old mid one ready) (over_on e old mid one over) more
+
+  pub each_answered : (requests : List Held) (old new : Server) → IsKept old → state_of (found_of old.ports port.0) ≡ Ready → AreOver port done old.device → AnswersEach port done requests old new
+      → (m : Machine) → IsReached m → IsMachineOf old m → AreAnswered port requests old new m
+  each_answered [] old new k ready over none m reached is = record {
+    ended = [];
+    each = tt;
+    may = tt;
+    backed = subst (λ (n : Server). IsBacked old.device n.device m []) (sym none) (nothing_backed old.device m);
+    stands = subst (λ (n : Server). IsMachineOf n m) (sym none) is;
+  }
+  each_answered (e ∷ requests) old new k ready over (mid, one, its, more) m reached is =
+      let y : IsAnswer port e old mid m = answer_one laws old mid port e k ready one (over one.slot one.small its) m reached is in
+      let first : List Step = Answer y.done Ok ∷ [] in
+      let z : AreAnswered port requests mid new (after m first) = each_answered requests mid new (answer_kept laws old mid port e k ready one (over one.slot one.small its))
+          (ready_on e old mid one ready) (over_on e old mid one over) more (after m first) (reached_more m first reached (tt, y.here)) y.stands in
+      record {
+        ended = y.done ∷ z.ended;
+        each = (y.has, z.each);
+        may = may-append m (answers_in z.ended) first (tt, y.here) z.may;
+        backed = backed_then old.device mid.device new.device m first (answers_in z.ended)
+            (subst (λ (d : Device). IsBacked old.device d m first) (sym (ap (λ (n : Server). n.device) one.server)) (own_backed old.device m (Answer y.done Ok) (λ none. none))) z.backed;
+        stands = subst (IsMachineOf new) (sym (after-append m (answers_in z.ended) first)) z.stands;
+      }
+
+  pub answers_settle : (replies : List Reply) (s new : Server) → IsSettled s → state_of (found_of s.ports port.0) ≡ Ready → AreOver port done s.device → AnswersDone port done replies s new → IsSettled new
+  answers_settle replies s new t ready over a = settled laws port a.mid new (answers_kept a.requests s a.mid t.kept ready over a.each) none_other a.issued
+    where
+      none_other : (other : Port) → other ≢ port → NoneDue plain_mode (asks_of a.mid.book) other
+      none_other other ne r own due =
+          t.issued other r own ((laws.same_due plain_mode other (asks_of a.mid.book) (asks_of s.book) r (answers_apart a.requests s a.mid t.kept.ordered a.each other ne) own).0 due)

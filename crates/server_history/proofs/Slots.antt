@@ -1,7 +1,7 @@
 -- What the slots of ports are used for, and how that of a ready port is given up.
 use Rattle.std.proofs.Common.{ℕ, ◌≡◌, ◌≢◌, ◌≤◌, ◌<◌, ◌⊎◌, true, List, Option, None, Some, inl, inr, refl, sym, ap, ◌∙◌, subst, ⊎_elim, arith, eq-eqb}
 use Rattle.std.specs.List.{Contains}
-use Rattle.std.proofs.lemmas.Bool.{and_from, cases_eq, cond-true, false≢true, or_left}
+use Rattle.std.proofs.lemmas.Bool.{and_from, cases_eq, cases_lt, cond-true, false≢true, or_left}
 use Rattle.std.proofs.lemmas.List.Elements.{All-contains}
 use Rattle.ata_types.specs.declared.Port.{Port}
 use Rattle.ata_types.specs.declared.PortState.TheVariants.{Absent, Dead, Ready as ReadyState}
@@ -9,7 +9,8 @@ use Rattle.ata_types.specs.declared.request.Op.{Op}
 use Rattle.ata_types.specs.declared.request.Op.TheVariants.{Read, Write, Trim, Flush}
 use Rattle.ata_types.specs.declared.request.RequestId.{RequestId}
 use Rattle.adapter.specs.Commands.{Meaning}
-use Rattle.adapter.specs.Device.{PortState}
+use Rattle.hba_regs.specs.Bits.{bit}
+use Rattle.adapter.specs.Device.{Device, PortState}
 use Rattle.adapter.specs.declared.command.Operation.TheVariants.{Identify}
 use Rattle.block_machine.specs.Due.{IsDue, is_plain}
 use Rattle.block_machine.specs.State.{Machine, Pending}
@@ -80,6 +81,13 @@ pub used_or_not : (used : Option SlotUse) → ((u : SlotUse) × (used ≡ Some u
 used_or_not None = inr refl
 used_or_not (Some u) = inl (u, refl)
 
+-- a used slot is one that the port may use
+pub used_low : (s : Server) (port slot : ℕ) (u : SlotUse) → IsKept s → port < 4 → used_for s.slots port slot ≡ Some u → slot < usable_of (found_of s.ports port)
+used_low s port slot u k low used = ⊎_elim
+    (λ (less : slot < usable_of (found_of s.ports port)). less)
+    (λ (high : usable_of (found_of s.ports port) ≤ slot). let z : None ≡ Some u = sym ((k.slots port low).unused slot high) ∙ used in absurd cc)
+    (cases_lt slot (usable_of (found_of s.ports port)))
+
 pub busy_used : (used : Option SlotUse) → is_used used ≡ true → (u : SlotUse) × (used ≡ Some u)
 busy_used None busy = absurd (false≢true busy)
 busy_used (Some u) busy = (u, refl)
@@ -146,17 +154,29 @@ only_first s port slot k ready other =
     let found = ready_found s port k ready in
     (k.slots port found.0).unused slot (subst (λ (f : Found). usable_of f ≤ slot) (sym found.1.1) (omega (arith, other)))
 
--- a request of a ready port that is issued is in its slot 0
-pub issued_in_first : (s : Server) (m : Machine) (port : Port) → (is : IsMachineOf s m) → IsKept s → state_of (found_of s.ports port.0) ≡ ReadyState → (e : Pending) → Contains m.book e
-    → e.request.port ≡ port → e.issued ≡ true → (u : SlotUse) × (used_for s.slots port.0 0 ≡ Some u) × (u.id ≡ e.request.id)
-issued_in_first s m port is k ready e here own issued = ⊎_elim
+-- a slot that a ready port uses is slot 0
+pub first_used : (s : Server) (port slot : ℕ) (u : SlotUse) → IsKept s → state_of (found_of s.ports port) ≡ ReadyState → used_for s.slots port slot ≡ Some u → slot ≡ 0
+first_used s port slot u k ready used = ⊎_elim
+    (λ (head : slot ≡ 0). head)
+    (λ (other : slot ≢ 0). let z : None ≡ Some u = sym (only_first s port slot k ready other) ∙ used in absurd cc)
+    (cases_eq slot 0)
+
+-- A request of a ready port that is issued has a slot.
+pub record HasSlot (s : Server) (port : Port) (id : RequestId) : Type 0 where
+  pub slot : ℕ
+  pub small : slot < 32
+  pub used : SlotUse
+  pub used_is : used_for s.slots port.0 slot ≡ Some used
+  pub id_is : used.id ≡ id
+
+pub issued_has : (s : Server) (m : Machine) (port : Port) → (is : IsMachineOf s m) → IsKept s → state_of (found_of s.ports port.0) ≡ ReadyState → (e : Pending) → Contains m.book e
+    → e.request.port ≡ port → e.issued ≡ true → HasSlot s port e.request.id
+issued_has s m port is k ready e here own issued = ⊎_elim
     (λ (parked : Contains (none_parked port.0) e.request.id). absurd (contains_none e.request.id parked))
     (λ (w : (slot : ℕ) × (is.uses port.0 slot ≡ Serves e.request.id)).
     let x = used_serves s m port.0 is ready w.0 e.request.id w.1 in
-    ⊎_elim
-    (λ (head : w.0 ≡ 0). (x.0, subst (λ (slot : ℕ). used_for s.slots port.0 slot ≡ Some x.0) head x.1, x.2))
-    (λ (other : w.0 ≢ 0). let z : None ≡ Some x.0 = sym (only_first s port.0 w.0 k ready other) ∙ x.1 in absurd cc)
-    (cases_eq w.0 0))
+    let head = first_used s port.0 w.0 x.0 k ready x.1 in
+    record { slot = w.0; small = omega (arith, head); used = x.0; used_is = x.1; id_is = x.2 })
     (is.knows.have port.0 e (inl (here, issued)) (ap (λ (p : Port). p.0) own))
 
 -- where a request of the port is due, nothing of it is issued, so that slot 0 is free
@@ -182,15 +202,19 @@ due_unused s e k here due = ⊎_elim
 
 -- ---- a slot is given up
 
+-- the commands of these slots are over
+abbrev pub AreOver : Port → ℕ → Device → Type 0
+AreOver port done d = (slot : ℕ) → slot < 32 → bit done slot ≡ true → IsOver (d.port port.0) slot
+
 -- a command that is over has ended, or was dropped
 pub stage_over : (memory : ℕ → ℕ) (p : PortState) (port slot : ℕ) (e : Pending) (c : Meaning) (places : List ℕ) → Stage memory p port slot e c places → IsOver p slot → IsEnded p slot e ⊎ IsDropped p slot e
 stage_over memory p port slot e c places (inl w) over = absurd (false≢true (sym over.issued ∙ w.issued))
 stage_over memory p port slot e c places (inr (inl t)) over = let x : None ≡ Some t.command = sym over.free ∙ t.taken in absurd cc
 stage_over memory p port slot e c places (inr (inr left)) over = left
 
-pub parked_first : (s : Server) (m : Machine) (port : Port) → (is : IsMachineOf s m) → (id : RequestId) → is.uses port.0 0 ≡ Serves id → IsOver (s.device.port port.0) 0
-    → Knows m (parking (known is.uses none_parked s.device) port.0 0 id)
-parked_first s m port is id serves over = park_knows (known is.uses none_parked s.device) m is.knows port.0 0 over id serves
+pub parked_at : (s : Server) (m : Machine) (port : Port) (slot : ℕ) → (is : IsMachineOf s m) → (id : RequestId) → is.uses port.0 slot ≡ Serves id → IsOver (s.device.port port.0) slot
+    → Knows m (parking (known is.uses none_parked s.device) port.0 slot id)
+parked_at s m port slot is id serves over = park_knows (known is.uses none_parked s.device) m is.knows port.0 slot over id serves
 
 -- ---- a machine agrees where it is free
 

@@ -172,11 +172,11 @@ module _ (old : Moment) (ports : Ports) where
         let it : w.0 ≡ e = (standing (after old.machine base) (reached_more old.machine base reached t.may)).sound.one w.0 e w.1 here (w.2 ∙ sym same) in
         false≢true (sym waits ∙ ap (λ (y : Pending). y.issued) (sym it) ∙ w.4)
 
-    pub answer_on : e.issued ≡ true → AllTouched e → e.ended ≡ true → ports.state e.request.port ≡ Ready → AreTurns old ports n n base → AreTurns old ports n (suc n) (Answer e Ok ∷ base)
-    answer_on issued touched ended ready x = record {
+    pub answer_on : (from : ℕ) → from ≤ suc n → e.issued ≡ true → AllTouched e → e.ended ≡ true → ports.state e.request.port ≡ Ready → AreTurns old ports n from base → AreTurns old ports n (suc n) (Answer e Ok ∷ base)
+    answer_on from few issued touched ended ready x = record {
       may = (x.may, here);
       belong = (x.belong, inr tt);
-      last = (x.last, λ id h i. fresh n x id (eqb-true e.request.id.0 id.0 h) i);
+      last = (x.last, λ id h i. fresh from x id (eqb-true e.request.id.0 id.0 h) i);
       lawful = (
         x.lawful,
         (record { pending = was.0; here = was.1; id_is = ap (λ r. r.id) (sym was.2.request); issued = sym was.2.issued ∙ issued }, issued, touched, ended),
@@ -187,14 +187,14 @@ module _ (old : Moment) (ports : Ports) where
           let a : y ≡ e = cc in
           let b : o ≡ Ok = cc in
           (b, subst (λ (z : Pending). ports.state z.request.port ≡ Ready) (sym a) ready, subst (λ (z : Pending). z.request.port.0 < suc n) (sym a) (omega (arith, its))))
-          (λ (i : Contains base (Answer y o)). let w = x.told y o i in let small = w.2 in (w.0, w.1, omega (arith, small)))
+          (λ (i : Contains base (Answer y o)). let w = x.told y o i in let small = w.2 in (w.0, w.1, omega (arith, small, few)))
           (contains_cases (Answer e Ok) base (Answer y o) h);
       issued = λ id i.
           let w = x.issued id i in
           let small = w.3 in
           (w.0, stays w.0 w.1 (λ own. omega (arith, small, own)), w.2, w.3, w.4);
       further = λ y h far.
-          let w = x.further y h (omega (arith, far)) in
+          let w = x.further y h (omega (arith, far, few)) in
           let port : w.0.request.port.0 ≡ y.request.port.0 = ap (λ r. r.port.0) w.2.request in
           (w.0, stays w.0 w.1 (λ own. omega (arith, far, port, own)), w.2);
       origin = λ z h far.
@@ -210,7 +210,7 @@ module _ (old : Moment) (ports : Ports) where
 
         -- a request of another port stays
         stays : (y : Pending) → Contains before.book y → (y.request.port.0 ≡ n → ⊥) → Contains (without e.request.id before.book) y
-        stays y there other = without_into e.request.id before.book y (λ same. other (one n n x y there (ap (λ (i : RequestId). i.0) same))) there
+        stays y there other = without_into e.request.id before.book y (λ same. other (one n from x y there (ap (λ (i : RequestId). i.0) same))) there
 
     pub issue_on : (mode : Mode) → May (after old.machine base) (Issue mode e) → e.issued ≡ false → ports.state e.request.port ≡ Ready → ports.mode e.request.port ≡ mode → AreTurns old ports (suc n) (suc n) base → AreTurns old ports (suc n) (suc n) (Issue mode e ∷ base)
     issue_on mode may waits ready takes x = record {

@@ -1,5 +1,6 @@
 -- How a port is served, as the block machine has it (this project's own).
-use Rattle.std.specs.Prelude.{ℕ, Bool, true, false, ◌≡◌, ◌≢◌, ◌⊎◌, ◌+◌, ◌++◌, List, [], ◌∷◌, map, Option, Some, None, Contains}
+use Rattle.std.specs.Prelude.{ℕ, Bool, true, false, ◌≡◌, ◌≢◌, ◌⊎◌, ◌↔◌, ◌<◌, ◌+◌, ◌++◌, List, [], ◌∷◌, map, Option, Some, None, AllPairs, Contains}
+use Rattle.std.specs.List.{AllZip}
 use Rattle.ata_types.specs.declared.Port.{Port}
 use Rattle.ata_types.specs.declared.request.Outcome.TheVariants as outcome
 use Rattle.ata_types.specs.declared.grant.GrantRow.{GrantRow}
@@ -32,9 +33,10 @@ use Rattle.hba_regs.specs.declared.reg.Reg.TheVariants.{Px}
 use Rattle.ncq.specs.Masks.{FindsDone}
 use Rattle.ncq.specs.Transfers.{IssuesTransfer}
 use Rattle.ncq.specs.declared.Transfer.{Transfer}
-use Rattle.request_queue.specs.Entries.{Held, asks, asks_of, at, due_ids, issue, without}
+use Rattle.request_queue.specs.Entries.{Held, IsEarlier, asks, asks_of, at, due_ids, issue, without}
 use Rattle.request_queue.specs.Machine.{IsEntry}
-use Rattle.server_history.specs.Server.{Server, IsSettled, IsMachineOf, plain_mode, used_for, with_slot}
+use Rattle.server_history.specs.Server.{Server, IsSettled, IsMachineOf, plain_mode, slots_at, used_for, with_slot}
+use Rattle.slots.specs.Uses.{Uses as PortSlots, use_at}
 use Rattle.slots.specs.declared.Use.{Use as SlotUse}
 use Rattle.port_look.specs.Looks.{LooksAt}
 use Rattle.port_look.specs.declared.Look.{Look}
@@ -42,10 +44,14 @@ use Rattle.port_look.specs.declared.Look.TheVariants.{Undisturbed as Calm}
 
 -- ---- a port's turn
 
--- as a list
-abbrev pub reply_list : Option Reply → List Reply
-reply_list None = []
-reply_list (Some reply) = reply ∷ []
+-- whether something is issued in a slot
+abbrev pub is_used : Option SlotUse → Bool
+is_used None = false
+is_used (Some used) = true
+
+-- it has the bits of the slots that are used, and no other
+abbrev pub IsMaskOf : PortSlots → ℕ → Type 0
+IsMaskOf slots mask = (slot : ℕ) → slot < 32 → bit mask slot ≡ is_used (use_at slots slot)
 
 -- It stores header or table of slot 0, or writes PxCI with bit 0 alone.
 abbrev pub IsPlainIssuing : Port → Access → Type 0
@@ -53,23 +59,35 @@ IsPlainIssuing port (Writing r v) = (r ≡ Px port Ci) × IsBitOf 0 v
 IsPlainIssuing port (Storing at bytes) = IsTableStore port.0 0 (Storing at bytes)
 IsPlainIssuing port access = ⊥
 
--- PxCI and PxSACT were read. Where slot 0's bit was set in one of them, nobody was answered, and that was all. Where it was clear in both,
--- a request was answered; of accesses, only those followed that issue a request of the port's, if any.
-pub record Checks (port : Port) (reply : Option Reply) (old new : Device) : Type 0 where
+-- a reply names the request
+abbrev pub IsTold : RequestId → List Reply → Type 0
+IsTold id replies = (reply : Reply) × Contains replies reply × (reply.id ≡ id)
+
+-- PxCI and PxSACT were read, which tell which slots of the mask are done. A used slot's request was answered exactly if its slot was found done;
+-- where none was, nobody was answered, and that was all. Of accesses, only those followed that issue requests of the port's, if any.
+pub record Checks (port : Port) (slots : PortSlots) (mask : ℕ) (replies : List Reply) (old new : Device) : Type 0 where
   pub done : ℕ
   pub read : Device
-  pub reads : FindsDone port 1 done old read
-  pub running : bit done 0 ≡ false → (reply ≡ None) × (new ≡ read)
-  pub over : bit done 0 ≡ true → (reply ≢ None) × IsDrivenBy (IsPlainIssuing port) read new
+  pub reads : FindsDone port mask done old read
+  pub exact : (slot : ℕ) (used : SlotUse) → slot < 32 → use_at slots slot ≡ Some used → bit done slot ≡ true ↔ IsTold used.id replies
+  pub running : done ≡ 0 → (replies ≡ []) × (new ≡ read)
+  pub over : IsDrivenBy (IsPlainIssuing port) read new
 
--- A port's turn in a service. The port was looked at. Where that told of something, or the port had nothing issued, that was all, and nobody
--- was answered; else what it had issued was checked.
-pub record HasTurn (port : Port) (busy : Bool) (reply : Option Reply) (old new : Device) : Type 0 where
+-- The slots that are used were checked. Where none is, nobody was answered, and that was all.
+pub record ChecksUsed (port : Port) (slots : PortSlots) (replies : List Reply) (old new : Device) : Type 0 where
+  pub mask : ℕ
+  pub its : IsMaskOf slots mask
+  pub idle : mask ≡ 0 → (replies ≡ []) × (new ≡ old)
+  pub checks : mask ≢ 0 → Checks port slots mask replies old new
+
+-- A port's turn in a service. The port was looked at. Where that told of something, that was all, and nobody was answered; else the slots that it
+-- uses were checked.
+pub record HasTurn (port : Port) (slots : PortSlots) (replies : List Reply) (old new : Device) : Type 0 where
   pub look : Look
   pub seen : Device
   pub looks : LooksAt port look old seen
-  pub only : (look ≢ Calm) ⊎ (busy ≡ false) → (reply ≡ None) × (new ≡ seen)
-  pub checks : look ≡ Calm → busy ≡ true → Checks port reply seen new
+  pub told : look ≢ Calm → (replies ≡ []) × (new ≡ seen)
+  pub calm : look ≡ Calm → ChecksUsed port slots replies seen new
 
 -- ---- requests are issued
 
@@ -141,36 +159,45 @@ pub record Accepts (port : Port) (r : Request) (id : RequestId) (old new : Serve
 abbrev pub SameSettings : Server → Server → Type 0
 SameSettings old new = new ≡ record old { device = new.device; table = new.table; slots = new.slots; book = new.book }
 
--- whether something is issued on the port
-abbrev pub is_used : Option SlotUse → Bool
-is_used None = false
-is_used (Some used) = true
-
-abbrev pub is_busy : Port → Server → Bool
-is_busy port s = is_used (used_for s.slots port.0 0)
-
 -- the reply that says that a request was done
 abbrev pub done_reply : Held → Reply
 done_reply e = record { id = e.entry.id; client = e.entry.client; outcome = outcome.Ok }
 
--- The request of the port's slot 0 was answered: it left slot and book, and its frames were given back.
+-- The request of a slot of the port was answered: it left slot and book, and its frames were given back.
 pub record AnswersOne (port : Port) (request : Held) (old new : Server) : Type 0 where
   pub here : Contains old.book request
   pub port_is : request.entry.port ≡ port
+  pub slot : ℕ
+  pub small : slot < 32
   pub used : SlotUse
-  pub served : used_for old.slots port.0 0 ≡ Some used
+  pub served : used_for old.slots port.0 slot ≡ Some used
   pub id_is : used.id ≡ request.entry.id
   pub lent : LendsOnly old.table new.table request.frames None
-  pub server : new ≡ record old { table = new.table; slots = with_slot old.slots port.0 0 None; book = without request.entry.id old.book }
+  pub server : new ≡ record old { table = new.table; slots = with_slot old.slots port.0 slot None; book = without request.entry.id old.book }
 
--- it was answered, and then what is due on the port was issued
-abbrev pub Finishes : Port → Held → Server → Server → Type 0
-Finishes port request old new = (mid : Server) × AnswersOne port request old mid × IssuesAll port mid new
+-- these requests, whose slots have their bits set here, were answered one after another
+abbrev pub AnswersEach : Port → ℕ → List Held → Server → Server → Type 0
+AnswersEach port done [] old new = new ≡ old
+AnswersEach port done (request ∷ requests) old new =
+    (mid : Server) × (one : AnswersOne port request old mid) × (bit done one.slot ≡ true) × AnswersEach port done requests mid new
 
--- Nobody was answered, and nothing but the device changed; or the request of the port's slot 0 was, at this moment of the device.
-abbrev pub AnswersFirst : Port → Option Reply → Server → Server → Type 0
-AnswersFirst port None old new = new ≡ record old { device = new.device }
-AnswersFirst port (Some reply) old new = (found : Device) × (request : Held) × (reply ≡ done_reply request) × Finishes port request (record old { device = found }) new
+-- What was found done on the port was answered, in order of acceptance, and no slot of it is in use any more. Then what is due on the port was
+-- issued.
+pub record AnswersDone (port : Port) (done : ℕ) (replies : List Reply) (old new : Server) : Type 0 where
+  pub requests : List Held
+  pub told : replies ≡ map done_reply requests
+  pub ordered : AllPairs IsEarlier requests
+  pub mid : Server
+  pub each : AnswersEach port done requests old mid
+  pub free : (slot : ℕ) → slot < 32 → bit done slot ≡ true → used_for mid.slots port.0 slot ≡ None
+  pub issued : IssuesAll port mid new
+
+-- Nobody was answered, and nothing but the device changed; or what was found done was, at this moment of the device.
+abbrev pub AnswersTurn : Port → List Reply → Server → Server → Type 0
+AnswersTurn port replies old new = ((replies ≡ []) × (new ≡ record old { device = new.device }))
+    ⊎ ((found : Device) × (done : ℕ) × AnswersDone port done replies (record old { device = found }) new)
+
+-- ---- as the machine has it
 
 -- the steps are the device's, but for those that issue requests of the port
 abbrev pub IssuesOnly : Port → List Step → Type 0
@@ -178,51 +205,55 @@ IssuesOnly port [] = Unit {0}
 IssuesOnly port (Issue mode e ∷ steps) = (mode ≡ plain_mode) × (e.request.port ≡ port) × IssuesOnly port steps
 IssuesOnly port (step ∷ steps) = IsDevices step × IssuesOnly port steps
 
--- The steps are the device's, then the answer of this request, which was issued and had ended with all its sectors touched, and then the device's
--- but for the issues of others of the port.
-pub record AnswersStep (port : Port) (reply : Reply) (old : Server) (steps : List Step) : Type 0 where
-  pub request : Held
-  pub told : reply ≡ done_reply request
+-- the answers of these requests, one after another, the last first
+abbrev pub answers_in : List Pending → List Step
+answers_in [] = []
+answers_in (e ∷ rest) = answers_in rest ++ Answer e outcome.Ok ∷ []
+
+-- The machine's request is this one of the port; it was issued, and it had ended with all its sectors touched.
+pub record HasEnded (port : Port) (request : Held) (done : Pending) : Type 0 where
   pub port_is : request.entry.port ≡ port
-  pub done : Pending
   pub entry : IsEntry request done
   pub issued : done.issued ≡ true
   pub ended : done.ended ≡ true
   pub touched : AllTouched done
+
+-- The steps are the device's, then the answers of these requests, which had ended, and then the device's but for the issues of others of the
+-- port.
+pub record AnswersBy (port : Port) (replies : List Reply) (steps : List Step) : Type 0 where
+  pub requests : List Held
+  pub told : replies ≡ map done_reply requests
+  pub ordered : AllPairs IsEarlier requests
+  pub ended : List Pending
+  pub each : AllZip (HasEnded port) requests ended
   pub later : List Step
   pub before : List Step
-  pub steps_are : steps ≡ later ++ Answer done outcome.Ok ∷ before
+  pub steps_are : steps ≡ later ++ (answers_in ended ++ before)
   pub first : AllDevices before
   pub last : IssuesOnly port later
 
--- Where nobody is answered, the steps are the device's.
-abbrev pub AnswersBy : Port → Option Reply → Server → List Step → Type 0
-AnswersBy port None old steps = AllDevices steps
-AnswersBy port (Some reply) old steps = AnswersStep port reply old steps
-
 -- What a port's turn adds to a machine that stands for the server.
-pub record AddsTurn (port : Port) (reply : Option Reply) (old new : Server) (m : Machine) : Type 0 where
+pub record AddsTurn (port : Port) (replies : List Reply) (old new : Server) (m : Machine) : Type 0 where
   pub steps : List Step
   pub may : AllMay m steps
   pub stands : IsMachineOf new (after m steps)
   pub backed : IsBacked old.device new.device m steps
-  pub answers : AnswersBy port reply old steps
+  pub answers : AnswersBy port replies steps
   pub issues : IssuesDue plain_mode steps (after m steps) port
 
--- What serving a port does: the port has its turn, in which the request of its slot 0 is answered, or nobody is; and from each machine that
--- stands for the old server such steps lead to one that stands for the new. On a port that goes well, a request is answered whose command's
--- bits were clear when the turn began.
-pub record ServesPort (port : Port) (reply : Option Reply) (old new : Server) : Type 0 where
-  pub turn : HasTurn port (is_busy port old) reply old.device new.device
-  pub answers : AnswersFirst port reply old new
-  pub adds : (m : Machine) → IsReached m → IsMachineOf old m → AddsTurn port reply old new m
-  pub answered : RunsWell (old.device.port port.0) → Undisturbed port.0 old.device new.device
-      → (old.device.port port.0).ci 0 ≡ false → (old.device.port port.0).sact 0 ≡ false → is_busy port old ≡ true → reply ≢ None
+-- What serving a port does: the port has its turn, in which those of its requests are answered that are found done; and from each machine that
+-- stands for the old server such steps lead to one that stands for the new. On a port that goes well, each is whose command's bits were clear when the turn began.
+pub record ServesPort (port : Port) (replies : List Reply) (old new : Server) : Type 0 where
+  pub turn : HasTurn port (slots_at old.slots port.0) replies old.device new.device
+  pub answers : AnswersTurn port replies old new
+  pub adds : (m : Machine) → IsReached m → IsMachineOf old m → AddsTurn port replies old new m
+  pub answered : RunsWell (old.device.port port.0) → Undisturbed port.0 old.device new.device → (slot : ℕ) (used : SlotUse) → slot < 32
+      → used_for old.slots port.0 slot ≡ Some used → (old.device.port port.0).ci slot ≡ false → (old.device.port port.0).sact slot ≡ false → IsTold used.id replies
 
 -- so it was with each of these ports that was found ready, one after another, of which the first has this number
 abbrev pub ServePorts : ℕ → List Found → List Reply → Server → Server → Type 0
 ServePorts port [] replies old new = (replies ≡ []) × (new ≡ old)
 ServePorts port (Ready info ∷ rest) replies old new =
-    (mid : Server) × (reply : Option Reply) × (later : List Reply) × (replies ≡ reply_list reply ++ later)
-    × IsSettled mid × ServesPort (port_at port) reply old mid × ServePorts (port + 1) rest later mid new
+    (mid : Server) × (its later : List Reply) × (replies ≡ its ++ later)
+    × IsSettled mid × ServesPort (port_at port) its old mid × ServePorts (port + 1) rest later mid new
 ServePorts port (found ∷ rest) replies old new = ServePorts (port + 1) rest replies old new

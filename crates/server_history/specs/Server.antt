@@ -112,9 +112,13 @@ none_parked = λ port. []
 abbrev pub no_slots : PortSlots
 no_slots = record { usable = 0; places = [] }
 
+-- the slots of the port
+abbrev pub slots_at : List PortSlots → ℕ → PortSlots
+slots_at slots port = slice_index_or slots port no_slots
+
 -- what the slot of the port is used for
 abbrev pub used_for : List PortSlots → ℕ → ℕ → Option SlotUse
-used_for slots port slot = use_at (slice_index_or slots port no_slots) slot
+used_for slots port slot = use_at (slots_at slots port) slot
 
 -- the slots, with this one of the port used for this
 abbrev pub with_slot : List PortSlots → ℕ → ℕ → Option SlotUse → List PortSlots

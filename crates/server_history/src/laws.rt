@@ -1,5 +1,5 @@
 // Laws of the definitions, for callers: the clause is the theorem. These functions do nothing.
-ghost use Rattle.std.specs.Prelude.{ℕ, true, false, ◌≡◌, ◌≢◌, ◌⊎◌, ◌<◌, ◌+◌, ◌*◌, List, ◌∷◌, Some, None, Ok, Err, length, Contains};
+ghost use Rattle.std.specs.Prelude.{ℕ, true, false, ◌≡◌, ◌≢◌, ◌⊎◌, ◌<◌, ◌+◌, ◌*◌, List, [], ◌∷◌, Some, None, Ok, Err, length, Contains};
 ghost use Rattle.ata_types.specs.declared.Port.{Port};
 ghost use Rattle.ata_types.specs.declared.PortState.TheVariants.{Ready as ReadyState};
 ghost use Rattle.ata_types.specs.declared.grant.GrantRow.{GrantRow};
@@ -34,8 +34,8 @@ ghost use Rattle.ncq.specs.Masks.{FindsDone, SeesClear};
 ghost use Rattle.request_queue.specs.Entries.{Held, asks, asks_of};
 ghost use Rattle.server_history.specs.Below.{LawsBelow};
 ghost use Rattle.server_history.specs.Histories.{Adds, HasBegun, load_said, store_said};
-ghost use Rattle.server_history.specs.Served.{Accepts, AnswersOne, Finishes, IssuesAll, IssuesOne, ServePorts, ServesPort, accepting, done_reply, is_busy};
-ghost use Rattle.server_history.specs.Server.{Server, IsKept, IsNewServer, IsSettled, plain_mode, ports_of, situation_of, state_of, used_for};
+ghost use Rattle.server_history.specs.Served.{Accepts, AnswersDone, AnswersOne, IsMaskOf, IssuesAll, IssuesOne, ServePorts, ServesPort, accepting};
+ghost use Rattle.server_history.specs.Server.{Server, IsKept, IsNewServer, IsSettled, plain_mode, ports_of, situation_of, slots_at, state_of, used_for};
 ghost use Rattle.slots.specs.declared.Use.{Use as SlotUse};
 ghost use Rattle.port_look.specs.Looks.{IsLooking, LooksAt};
 ghost use Rattle.port_look.specs.declared.Look.{Look};
@@ -143,51 +143,54 @@ pub fn requests_keep()
         → IsNamed s.grants r row → row.port ≡ port → id.0 ≡ s.last + 1 → LendsOnly s.table table r.frames.items (Some id)
         → IsKept (accepting port r id table s) }
     ensures answered { (s new : Server) (port : Port) (request : Held) → IsKept s → state_of (found_of s.ports port.0) ≡ ReadyState
-        → IsOver (s.device.port port.0) 0 → AnswersOne port request s new → IsKept new }
+        → (one : AnswersOne port request s new) → IsOver (s.device.port port.0) one.slot → IsKept new }
     ensures issued { (s new : Server) (port : Port) (id : RequestId) → IsKept s → IssuesOne port id s new → IsKept new }
 {
     the_laws_below_hold();
 }
 
-/// Once a request is answered whose command is over, and then what is due on its port is issued, nothing is due.
+/// Once requests are answered whose commands are over, and then what is due on their port is issued, nothing is due.
 pub fn a_finished_port_settles()
-    ensures { (s new : Server) (port : Port) (request : Held) → IsSettled s → state_of (found_of s.ports port.0) ≡ ReadyState
-        → IsOver (s.device.port port.0) 0 → Finishes port request s new → IsSettled new }
+    ensures { (s new : Server) (port : Port) (done : ℕ) (replies : List Reply) → IsSettled s → state_of (found_of s.ports port.0) ≡ ReadyState
+        → ((slot : ℕ) → slot < 32 → bit done slot ≡ true → IsOver (s.device.port port.0) slot) → AnswersDone port done replies s new
+        → IsSettled new }
 {
     the_laws_below_hold();
 }
 
-/// A server goes on while its port is looked at, and while what the port has issued is looked for. Where that was found done, its command is
-/// over.
+/// A server goes on while its port is looked at, and while what the port has issued is looked for. The commands of slots that were found done
+/// are over, where only used slots were asked for.
 pub fn looks_keep()
     ensures looking { (s : Server) (new : Device) (port : Port) → IsKept s → state_of (found_of s.ports port.0) ≡ ReadyState
         → IsFollowed (IsLooking port) AnyUse s.device new
         → IsKept (record s { device = new }) }
     ensures finding { (s : Server) (new : Device) (port : Port) (mask done : ℕ) → IsKept s → state_of (found_of s.ports port.0) ≡ ReadyState
         → FindsDone port mask done s.device new → IsKept (record s { device = new }) }
-    ensures found { (s : Server) (new : Device) (port : Port) (mask done slot : ℕ) (used : SlotUse) → IsKept s
-        → state_of (found_of s.ports port.0) ≡ ReadyState → used_for s.slots port.0 slot ≡ Some used → slot < 32
+    ensures found { (s : Server) (new : Device) (port : Port) (mask done slot : ℕ) → IsKept s
+        → state_of (found_of s.ports port.0) ≡ ReadyState → IsMaskOf (slots_at s.slots port.0) mask → slot < 32
         → FindsDone port mask done s.device new → bit done slot ≡ true → IsOver (new.port port.0) slot }
 {
     the_laws_below_hold();
 }
 
-/// How a ready port is served: it is looked at, and that is all where it told of something, or has nothing issued; else that is looked
-/// for; where it is found done, it is answered, and what is due then is issued.
+/// How a ready port is served: it is looked at, and that is all where it told of something, or uses no slot; else the slots that it uses are
+/// checked; those that are found done are answered, and what is due then is issued.
 pub fn a_port_is_served()
-    ensures looked { (s : Server) (seen : Device) (port : Port) (look : Look) → IsSettled s → state_of (found_of s.ports port.0) ≡ ReadyState
-        → LooksAt port look s.device seen → IsFollowed (IsLooking port) AnyUse s.device seen
-        → (look ≢ Calm) ⊎ (is_busy port s ≡ false)
-        → ServesPort port None s (record s { device = seen }) }
-    ensures unfinished { (s : Server) (seen new : Device) (port : Port) → IsSettled s → state_of (found_of s.ports port.0) ≡ ReadyState
-        → LooksAt port Calm s.device seen → IsFollowed (IsLooking port) AnyUse s.device seen
-        → is_busy port s ≡ true → (done : ℕ) → FindsDone port 1 done seen new → SeesClear port 1 done seen → bit done 0 ≡ false
-        → ServesPort port None s (record s { device = new }) }
-    ensures finished { (s new : Server) (seen found : Device) (port : Port) (request : Held) → IsSettled s
+    ensures told { (s : Server) (seen : Device) (port : Port) (look : Look) → IsSettled s → state_of (found_of s.ports port.0) ≡ ReadyState
+        → LooksAt port look s.device seen → IsFollowed (IsLooking port) AnyUse s.device seen → look ≢ Calm
+        → ServesPort port [] s (record s { device = seen }) }
+    ensures idle { (s : Server) (seen : Device) (port : Port) → IsSettled s → state_of (found_of s.ports port.0) ≡ ReadyState
+        → LooksAt port Calm s.device seen → IsFollowed (IsLooking port) AnyUse s.device seen → IsMaskOf (slots_at s.slots port.0) 0
+        → ServesPort port [] s (record s { device = seen }) }
+    ensures unfinished { (s : Server) (seen new : Device) (port : Port) (mask : ℕ) → IsSettled s → state_of (found_of s.ports port.0) ≡ ReadyState
+        → LooksAt port Calm s.device seen → IsFollowed (IsLooking port) AnyUse s.device seen → IsMaskOf (slots_at s.slots port.0) mask
+        → mask ≢ 0 → FindsDone port mask 0 seen new → SeesClear port mask 0 seen
+        → ServesPort port [] s (record s { device = new }) }
+    ensures finished { (s new : Server) (seen found : Device) (port : Port) (mask done : ℕ) (replies : List Reply) → IsSettled s
         → state_of (found_of s.ports port.0) ≡ ReadyState
-        → LooksAt port Calm s.device seen → IsFollowed (IsLooking port) AnyUse s.device seen
-        → (done : ℕ) → FindsDone port 1 done seen found → bit done 0 ≡ true → IsOver (found.port port.0) 0
-        → Finishes port request (record s { device = found }) new → ServesPort port (Some (done_reply request)) s new }
+        → LooksAt port Calm s.device seen → IsFollowed (IsLooking port) AnyUse s.device seen → IsMaskOf (slots_at s.slots port.0) mask
+        → mask ≢ 0 → FindsDone port mask done seen found → SeesClear port mask done seen → done ≢ 0
+        → AnswersDone port done replies (record s { device = found }) new → ServesPort port replies s new }
 {
     the_laws_below_hold();
 }

@@ -1,12 +1,15 @@
-use Rattle.server_history.proofs.Serving.{finished, looked, unfinished}
+use Rattle.server_history.proofs.Serving.{finished, idle, told_trouble, unfinished}
 use Rattle.server_history.proofs.laws.a_port_is_served.Goals as goal
 
-pub returns-clause-looked : goal.returns-clause-looked
-returns-clause-looked c s seen port look t ready l looks why = looked s seen port t ready looks look l why
+pub returns-clause-told : goal.returns-clause-told
+returns-clause-told c s seen port look t ready l looks told = told_trouble s seen port t ready looks look l told
+
+pub returns-clause-idle : goal.returns-clause-idle
+returns-clause-idle c s seen port t ready l looks its = idle s seen port t ready looks l its
 
 pub returns-clause-unfinished : goal.returns-clause-unfinished
-returns-clause-unfinished c s seen new port t ready l looks has done reads sees running = unfinished s seen port t ready looks l c.the_laws_below_hold.ensures new has done reads sees running
+returns-clause-unfinished c s seen new port mask t ready l looks its some reads sees = unfinished s seen port t ready looks l c.the_laws_below_hold.ensures mask its some new reads sees
 
 pub returns-clause-finished : goal.returns-clause-finished
-returns-clause-finished c s new seen found port request t ready l looks done reads was_done over finishes =
-    finished s seen port t ready looks l c.the_laws_below_hold.ensures new found request done reads was_done over finishes
+returns-clause-finished c s new seen found port mask done replies t ready l looks its some reads sees was_done answers =
+    finished s seen port t ready looks l c.the_laws_below_hold.ensures mask its some new found done replies reads sees was_done answers

@@ -8,4 +8,4 @@ pub returns-clause-finding : goal.returns-clause-finding
 returns-clause-finding c s new port mask done k ready finds = finding_kept s new port k ready c.the_laws_below_hold.ensures mask done finds
 
 pub returns-clause-found : goal.returns-clause-found
-returns-clause-found c s new port mask done slot used k ready its small finds found = found_over s new port k ready c.the_laws_below_hold.ensures mask done finds slot used its small found
+returns-clause-found c s new port mask done slot k ready its small finds found = found_over s new port k ready c.the_laws_below_hold.ensures mask done finds its slot small found

@@ -7,7 +7,7 @@ pub returns-clause-accepted : goal.returns-clause-accepted
 returns-clause-accepted c s port r row id table k acc named port_is id_is lends = accept_kept c.the_laws_below_hold.ensures s k r acc row named port port_is id id_is table lends
 
 pub returns-clause-answered : goal.returns-clause-answered
-returns-clause-answered c s new port request k ready over one = answer_kept c.the_laws_below_hold.ensures s new port request k ready over one
+returns-clause-answered c s new port request k ready one over = answer_kept c.the_laws_below_hold.ensures s new port request k ready one over
 
 pub returns-clause-issued : goal.returns-clause-issued
 returns-clause-issued c s new port id k one = issue_kept c.the_laws_below_hold.ensures s new port id k one
