@@ -1,6 +1,9 @@
 -- The request of a ready port's slot 0 is answered, and what is due then is issued: what the server is after each.
-use Rattle.std.proofs.Common.{ℕ, true, ◌≡◌, ◌<◌, List, None, Some, refl, sym, ◌∙◌, ap, subst, arith, get_or, set, length}
+use Rattle.std.proofs.Common.{zero, suc, [], ◌∷◌, ◌==◌, ℕ, true, ◌≡◌, ◌<◌, List, None, Some, refl, sym, ◌∙◌, ap, subst, arith, get_or, set, length}
 use Rattle.std.specs.List.{Contains}
+use Rattle.std.proofs.lemmas.Bool.{false≢true}
+use Rattle.std.proofs.lemmas.Nat.Bits.{bit_at_above}
+use Rattle.hba_regs.specs.Bits.{bit}
 use Rattle.std.proofs.lemmas.List.{get_or-set_same, set-set}
 use Rattle.ata_types.specs.declared.Port.{Port}
 use Rattle.ata_types.specs.declared.PortState.TheVariants.{Ready}
@@ -11,9 +14,10 @@ use Rattle.block_server.specs.Ports.{Lends, with_part}
 use Rattle.dma_frames.specs.Table.{LendsOnly, Table}
 use Rattle.host_boot.specs.Taken.{found_of}
 use Rattle.request_queue.specs.Entries.{Held, IsInOrder, without}
-use Rattle.server_history.specs.Served.{AnswersOne, Finishes, IssuesAll}
+use Rattle.server_history.specs.Served.{AnswersDone, AnswersOne, IssuesAll, done_reply}
+use Rattle.block_server.specs.Ports.{IsFirst}
 use Rattle.server_history.specs.Server.{Server, IsKept, no_slots, state_of, used_for, with_slot}
-use Rattle.slots.specs.Uses.{Uses as PortSlots, with_use}
+use Rattle.slots.specs.Uses.{Uses as PortSlots, use_at, with_use}
 use Rattle.slots.specs.declared.Use.{Use as SlotUse}
 use Rattle.block_server.proofs.Sending.{served_ready, slots_at}
 
@@ -52,12 +56,19 @@ module _ (s : Server) (port : Port) (k : IsKept s) (ready : state_of (found_of s
     answers = record {
       here = here;
       port_is = subst (λ (x : Held). x.entry.port ≡ port) (one s.book its.0 e k.ordered its.1 here (its.2 ∙ sym id_is)) its.3;
+      slot = 0;
+      small = omega arith;
       used = used.0;
       served = used.1;
       id_is = used.2 ∙ sym id_is;
       lent = lent;
       server = refl;
     }
+
+    -- what holds of slot 0 holds of its slot
+    pub at_first : (P : ℕ → Type 0) → P 0 → P answers.slot
+    unfolding answers
+    at_first P first = first
 
     module _ (kept : IsKept mid) (book : List Held) (book_is : book ≡ without id s.book) (old slots : PortSlots) (old_is : get_or s.slots port.0 no_slots ≡ old)
         (freed : slots ≡ with_use old 0 None) where
@@ -70,8 +81,30 @@ module _ (s : Server) (port : Port) (k : IsKept s) (ready : state_of (found_of s
         slots_are = get_or-set_same s.slots port.0 (with_use (get_or s.slots port.0 no_slots) 0 None) no_slots in_list ∙ ap (λ (u : PortSlots). with_use u 0 None) old_is ∙ sym freed;
       }
 
-      pub finishes : (device : Device) (later : List Held) (u : PortSlots) → IssuesAll port mid (with_part mid device later u port) → (number : ℕ) → number ≡ port.0
-          → Finishes port e s (record s { device = device; table = table; slots = set s.slots number u; book = later })
-      finishes device later u issues number is =
-          subst (λ (n : ℕ). Finishes port e s (record s { device = device; table = table; slots = set s.slots n u; book = later })) (sym is)
-          (mid, answers, subst (λ (list : List PortSlots). IssuesAll port mid (record s { device = device; table = table; slots = list; book = later })) (set-set s.slots port.0 _ u) issues)
+      -- slot 0 is free then
+      freed_first : used_for mid.slots port.0 0 ≡ None
+      freed_first =
+          ap (λ (u : PortSlots). use_at u 0) (get_or-set_same s.slots port.0 (with_use (get_or s.slots port.0 no_slots) 0 None) no_slots in_list)
+          ∙ get_or-set_same (get_or s.slots port.0 no_slots).places 0 None None (let p = (k.slots port.0 there.0).places in omega (arith, p))
+
+      pub finishes : (device : Device) (later : List Held) (u : PortSlots) → IssuesAll port mid (with_part mid device later u port) → (number : ℕ) → number ≡ port.0 → (done : ℕ) → IsFirst done
+          → AnswersDone port done (done_reply e ∷ []) s (record s { device = device; table = table; slots = set s.slots number u; book = later })
+      unfolding answers
+      finishes device later u issues number is done first = record {
+        requests = e ∷ [];
+        told = refl;
+        ordered = λ i j d lt below. absurd (omega (arith, lt, below));
+        mid = mid;
+        each = (mid, answers, first.first, refl);
+        free = λ slot small found. subst (λ (n : ℕ). used_for mid.slots port.0 n ≡ None) (sym (first.alone slot small found)) freed_first;
+        issued = subst (λ (n : ℕ). IssuesAll port mid (record s { device = device; table = table; slots = set s.slots n u; book = later })) (sym is)
+            (subst (λ (list : List PortSlots). IssuesAll port mid (record s { device = device; table = table; slots = list; book = later })) (set-set s.slots port.0 _ u) issues);
+      }
+
+-- the number 1 has the bit of slot 0 alone
+pub one_is_first : IsFirst 1
+one_is_first = record { first = refl; alone = λ slot small found. by slot found }
+  where
+    by : (slot : ℕ) → bit 1 slot ≡ true → slot ≡ 0
+    by zero found = refl
+    by (suc k) found = absurd (false≢true (sym (ap (λ (n : ℕ). n == 1) (bit_at_above 1 1 (suc k) (omega arith) (omega arith))) ∙ found))

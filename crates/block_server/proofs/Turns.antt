@@ -7,16 +7,16 @@ use Rattle.host_boot.specs.Taken.{found_of}
 use Rattle.host_boot.specs.declared.Found.{Found}
 use Rattle.host_boot.specs.declared.Found.TheVariants.{Ready, Unserved}
 use Rattle.identify.specs.declared.DiskInfo.{DiskInfo}
-use Rattle.server_history.specs.Served.{ServePorts, ServesPort, reply_list}
+use Rattle.server_history.specs.Served.{ServePorts, ServesPort}
 use Rattle.server_history.specs.Server.{Server, IsSettled}
 
 -- a ready port is served, and then those after it
-pub one_served : (ports : List Found) (number : ℕ) (info : DiskInfo) (s mid new : Server) (reply : Option Reply) (later : List Reply) → number < length ports
-    → found_of ports number ≡ Ready info → IsSettled mid → ServesPort (port_at number) reply s mid → ServePorts (number + 1) (drop (number + 1) ports) later mid new
-    → ServePorts number (drop number ports) (reply_list reply ++ later) s new
-one_served ports number info s mid new reply later low found kept serves rest =
-    let F : List Found → Type 0 = λ left. ServePorts number left (reply_list reply ++ later) s new in
-    subst F (sym (drop_more ports number Unserved low ∙ ap (λ (f : Found). f ∷ drop (number + 1) ports) found)) (mid, reply, later, refl, kept, serves, rest)
+pub one_served : (ports : List Found) (number : ℕ) (info : DiskInfo) (s mid new : Server) (told later : List Reply) → number < length ports
+    → found_of ports number ≡ Ready info → IsSettled mid → ServesPort (port_at number) told s mid → ServePorts (number + 1) (drop (number + 1) ports) later mid new
+    → ServePorts number (drop number ports) (told ++ later) s new
+one_served ports number info s mid new told later low found kept serves rest =
+    let F : List Found → Type 0 = λ left. ServePorts number left (told ++ later) s new in
+    subst F (sym (drop_more ports number Unserved low ∙ ap (λ (f : Found). f ∷ drop (number + 1) ports) found)) (mid, told, later, refl, kept, serves, rest)
 
 -- after the last there is none, so what was served of the others is all
 pub all_served : (ports found : List Found) (number : ℕ) (replies : List Reply) (old new : Server) → length ports ≤ number

@@ -26,7 +26,7 @@ pub(crate) const PLAIN: Mode = Mode {
 };
 
 /// The slot of plain commands.
-const FIRST: Slot = Slot(0);
+pub(crate) const FIRST: Slot = Slot(0);
 
 /// Issues a due request of a port, in slot 0.
 fn issue_one<A: Adapter>(

@@ -1,15 +1,15 @@
 // The server.
 ghost use Rattle.block_server.specs.Made.{transfer_row};
 ghost use Rattle.server_history.specs.Server.{no_slots, used_for};
-ghost use Rattle.std.specs.Prelude.{◌≡◌, ◌≢◌, ◌<◌, ◌≤◌, ◌+◌, ◌↔◌, ◌*◌, ℕ, IsTrue, IfOk, IfErr, OnOk, MatchOption, None, Ok, Some, length, map, option_map, slice_index_or, true};
+ghost use Rattle.std.specs.Prelude.{◌≡◌, ◌≢◌, ◌<◌, ◌≤◌, ◌+◌, ◌↔◌, ◌*◌, ◌∷◌, [], ℕ, IsTrue, IfOk, IfErr, OnOk, MatchOption, None, Ok, Some, length, map, option_map, slice_index_or, true};
 
 use crate::ServerError;
-use crate::port::{PLAIN, issue_due};
+use crate::port::{FIRST, PLAIN, issue_due};
 use adapter::{Adapter, DeviceStep, Stepped};
 use arrayvec::ArrayVec;
 use ata_types::{
     ClientId, FRAME_BYTES, Frame, GrantRow, MemFault, Op, Outcome, Port, PortState, Range, Refusal,
-    Replies, Reply, Request, RequestId, Rights, Slot,
+    Replies, Reply, Request, RequestId, Rights,
 };
 use configuration::Config;
 use dma_frames::FrameTable;
@@ -34,9 +34,6 @@ use port_look::{Look, look_at};
 const CLIENT_PLACES: usize = 16;
 
 const MOST_GRANTS: usize = 64;
-
-/// The bit of slot 0, in PxCI and PxSACT.
-const FIRST_BIT: u32 = 1;
 
 /// A server of reads and writes on up to four ports of an adapter. It can't be dropped: `close` ends it.
 pub struct Server<A: Adapter> {
@@ -114,7 +111,8 @@ impl<A: Adapter> Server<A> {
     ghost use Rattle.host_boot.specs.Taken.{found_of};
     ghost use Rattle.request_queue.specs.Entries.{Held};
     ghost use Rattle.server_history.specs.Histories.{Adds, store_said, load_said};
-    ghost use Rattle.server_history.specs.Served.{Finishes, ServesPort, done_reply};
+    ghost use Rattle.block_server.specs.Ports.{IsFirst, reply_list};
+    ghost use Rattle.server_history.specs.Served.{AnswersDone, ServesPort};
     ghost use Rattle.server_history.specs.Server.{IsSettled, ports_of, situation_of, state_of, sectors_of, used_for};
     ghost use Rattle.slots.specs.declared.Use.{Use as SlotUse};
     ghost use Rattle.agreement.specs.Slots.{IsOver};
@@ -276,7 +274,7 @@ impl<A: Adapter> Server<A> {
         requires ready { state_of (found_of self.old.ports port.0) ≡ Ready }
         requires used { (used : SlotUse) × (used_for self.old.slots port.0 0 ≡ Some used) × (used.id ≡ id) }
         requires over { IsOver ((A.device self.old.adapter).port port.0) 0 }
-        ensures finishes { (request : Held) × (result ≡ done_reply request) × Finishes port request (server_of A.device self.old) (server_of A.device self.new) }
+        ensures finishes { (done : ℕ) → IsFirst done → AnswersDone port done (result ∷ []) (server_of A.device self.old) (server_of A.device self.new) }
         ensures settled { IsSettled (server_of A.device self.new) }
         ensures ports { self.new.ports ≡ self.old.ports }
     {
@@ -285,7 +283,7 @@ impl<A: Adapter> Server<A> {
         requests_keep();
         a_finished_port_settles();
         let slots = &mut self.slots[usize::from(port.0)];
-        let _ = slots.free(Slot(0));
+        let _ = slots.free(FIRST);
         let (entry, loan) = self.book.answer(id);
         self.table.give_back(loan);
         issue_due(&mut self.adapter, &mut self.book, slots, port);
@@ -300,7 +298,7 @@ impl<A: Adapter> Server<A> {
     /// the look tells of anything, nobody is answered.
     fn serve_port(&mut self, port: Port) -> Option<Reply>
         requires ready { state_of (found_of self.old.ports port.0) ≡ Ready }
-        ensures serves { ServesPort port result (server_of A.device self.old) (server_of A.device self.new) }
+        ensures serves { ServesPort port (reply_list result) (server_of A.device self.old) (server_of A.device self.new) }
         ensures settled { IsSettled (server_of A.device self.new) }
         ensures ports { self.new.ports ≡ self.old.ports }
     {
@@ -309,11 +307,12 @@ impl<A: Adapter> Server<A> {
         let Look::Undisturbed = look_at(&mut self.adapter, port) else {
             return None;
         };
-        let used = self.slots[usize::from(port.0)].used_for(Slot(0))?;
-        if !is_set(done(&mut self.adapter, port, FIRST_BIT), 0) {
+        let first = self.slots[usize::from(port.0)].used_for(FIRST)?;
+        let used = self.slots[usize::from(port.0)].taken();
+        if !is_set(done(&mut self.adapter, port, used), 0) {
             return None;
         }
-        Some(self.finish(port, used.id))
+        Some(self.finish(port, first.id))
     }
 
     /// Serves each ready port, in rising number: where its transfer is done, that is answered, its frames are given back, and the port's

@@ -45,7 +45,7 @@ use Rattle.request_queue.specs.Entries.{Held, asks_of, due_ids}
 use Rattle.slots.specs.Uses.{Uses as PortSlots}
 use Rattle.slots.specs.declared.Use.{Use as SlotUse}
 use Rattle.server_history.specs.Below.{LawsBelow}
-use Rattle.server_history.specs.Served.{AddsTurn, AnswersDone, AnswersEach, AnswersOne, HasTurn, IsMaskOf, IsPlainIssuing, IsTold, ServesPort, answers_in, done_reply, is_used}
+use Rattle.server_history.specs.Served.{AddsTurn, AnswersDone, AnswersEach, AnswersOne, HasNone, HasTurn, IsMaskOf, IsPlainIssuing, IsTold, ServesPort, answers_in, done_reply, is_used}
 use Rattle.server_history.specs.Server.{Server, IsKept, IsMachineOf, IsSettled, none_parked, plain_mode, slots_at, state_of, used_for, with_slot}
 use Rattle.server_history.proofs.Answering.{answer_kept}
 use Rattle.server_history.proofs.Asks.{none_issued}
@@ -246,8 +246,8 @@ module _ (s : Server) (seen : Device) (port : Port) (t : IsSettled s) (ready : s
       asked slot used small is = its slot small ∙ ap is_used is
 
       -- none of what it has issued was found done
-      pub unfinished : (new : Device) → FindsDone port mask 0 seen new → SeesClear port mask 0 seen → ServesPort port [] s (record s { device = new })
-      unfinished new reads sees =
+      pub unfinished : (new : Device) (done : ℕ) → FindsDone port mask done seen new → SeesClear port mask done seen → HasNone done → ServesPort port [] s (record s { device = new })
+      unfinished new done reads sees none =
           nobody_answered s new port t
           (record {
             look = Calm;
@@ -259,22 +259,22 @@ module _ (s : Server) (seen : Device) (port : Port) (t : IsSettled s) (ready : s
               its = its;
               idle = λ none. absurd (some none);
               checks = λ _. record {
-                done = 0;
+                done = done;
                 read = new;
                 reads = reads;
-                exact = λ slot used small is. ((λ found. absurd (false≢true (sym (bit_zero slot) ∙ found))), (λ w. absurd (contains_none w.0 w.1)));
+                exact = λ slot used small is. ((λ found. absurd (false≢true (sym (none slot small) ∙ found))), (λ w. absurd (contains_none w.0 w.1)));
                 running = λ _. (refl, refl);
                 over = by_none (IsPlainIssuing port) new;
               };
             };
           })
-          (followed_then IsService AnyUse s.device seen new (looks_serve port s.device seen looks) (finds_serve laws port mask 0 seen new reads))
+          (followed_then IsService AnyUse s.device seen new (looks_serve port s.device seen looks) (finds_serve laws port mask done seen new reads))
           (λ well calm slot used small is ci sact.
           let c = still_clear s port k ready slot seen looks.driven used is ci sact in
-          false≢true (sym (bit_zero slot) ∙ sees slot small (asked slot used small is) c.0 c.1))
+          false≢true (sym (none slot small) ∙ sees slot small (asked slot used small is) c.0 c.1))
 
       -- what was found done was answered
-      module _ (new : Server) (found : Device) (done : ℕ) (replies : List Reply) (reads : FindsDone port mask done seen found) (sees : SeesClear port mask done seen) (was_done : done ≢ 0)
+      module _ (new : Server) (found : Device) (done : ℕ) (replies : List Reply) (reads : FindsDone port mask done seen found) (sees : SeesClear port mask done seen) (was_done : HasNone done → ⊥)
           (a : AnswersDone port done replies (record s { device = found }) new) where
         abbrev from : Server
         from = record s { device = found }

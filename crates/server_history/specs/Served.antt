@@ -59,6 +59,10 @@ IsPlainIssuing port (Writing r v) = (r ≡ Px port Ci) × IsBitOf 0 v
 IsPlainIssuing port (Storing at bytes) = IsTableStore port.0 0 (Storing at bytes)
 IsPlainIssuing port access = ⊥
 
+-- no slot has its bit
+abbrev pub HasNone : ℕ → Type 0
+HasNone mask = (slot : ℕ) → slot < 32 → bit mask slot ≡ false
+
 -- a reply names the request
 abbrev pub IsTold : RequestId → List Reply → Type 0
 IsTold id replies = (reply : Reply) × Contains replies reply × (reply.id ≡ id)
@@ -70,7 +74,7 @@ pub record Checks (port : Port) (slots : PortSlots) (mask : ℕ) (replies : List
   pub read : Device
   pub reads : FindsDone port mask done old read
   pub exact : (slot : ℕ) (used : SlotUse) → slot < 32 → use_at slots slot ≡ Some used → bit done slot ≡ true ↔ IsTold used.id replies
-  pub running : done ≡ 0 → (replies ≡ []) × (new ≡ read)
+  pub running : HasNone done → (replies ≡ []) × (new ≡ read)
   pub over : IsDrivenBy (IsPlainIssuing port) read new
 
 -- The slots that are used were checked. Where none is, nobody was answered, and that was all.

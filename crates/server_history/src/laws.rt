@@ -34,7 +34,7 @@ ghost use Rattle.ncq.specs.Masks.{FindsDone, SeesClear};
 ghost use Rattle.request_queue.specs.Entries.{Held, asks, asks_of};
 ghost use Rattle.server_history.specs.Below.{LawsBelow};
 ghost use Rattle.server_history.specs.Histories.{Adds, HasBegun, load_said, store_said};
-ghost use Rattle.server_history.specs.Served.{Accepts, AnswersDone, AnswersOne, IsMaskOf, IssuesAll, IssuesOne, ServePorts, ServesPort, accepting};
+ghost use Rattle.server_history.specs.Served.{Accepts, AnswersDone, AnswersOne, HasNone, IsMaskOf, IssuesAll, IssuesOne, ServePorts, ServesPort, accepting};
 ghost use Rattle.server_history.specs.Server.{Server, IsKept, IsNewServer, IsSettled, plain_mode, ports_of, situation_of, slots_at, state_of, used_for};
 ghost use Rattle.slots.specs.declared.Use.{Use as SlotUse};
 ghost use Rattle.port_look.specs.Looks.{IsLooking, LooksAt};
@@ -184,12 +184,12 @@ pub fn a_port_is_served()
         → ServesPort port [] s (record s { device = seen }) }
     ensures unfinished { (s : Server) (seen new : Device) (port : Port) (mask : ℕ) → IsSettled s → state_of (found_of s.ports port.0) ≡ ReadyState
         → LooksAt port Calm s.device seen → IsFollowed (IsLooking port) AnyUse s.device seen → IsMaskOf (slots_at s.slots port.0) mask
-        → mask ≢ 0 → FindsDone port mask 0 seen new → SeesClear port mask 0 seen
+        → mask ≢ 0 → (done : ℕ) → FindsDone port mask done seen new → SeesClear port mask done seen → HasNone done
         → ServesPort port [] s (record s { device = new }) }
     ensures finished { (s new : Server) (seen found : Device) (port : Port) (mask done : ℕ) (replies : List Reply) → IsSettled s
         → state_of (found_of s.ports port.0) ≡ ReadyState
         → LooksAt port Calm s.device seen → IsFollowed (IsLooking port) AnyUse s.device seen → IsMaskOf (slots_at s.slots port.0) mask
-        → mask ≢ 0 → FindsDone port mask done seen found → SeesClear port mask done seen → done ≢ 0
+        → mask ≢ 0 → FindsDone port mask done seen found → SeesClear port mask done seen → (HasNone done → ⊥)
         → AnswersDone port done replies (record s { device = found }) new → ServesPort port replies s new }
 {
     the_laws_below_hold();

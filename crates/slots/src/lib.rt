@@ -2,7 +2,7 @@
 #![tactic(auto)]
 
 ghost use Rattle.std.specs.Prelude.{◌≡◌, ◌↔◌, ℕ, ◌<◌, ◌≤◌, length, IfSome, IfNone, Some, None, IsSome, true, slice_index_or};
-ghost use Rattle.slots.specs.Uses.{IsTaken, IsLowestFree, has_kind, use_at, with_use};
+ghost use Rattle.slots.specs.Uses.{IsTaken, IsLowestFree, use_at, with_use};
 ghost use Rattle.std.specs.Int.{bit_at};
 
 use ata_types::{RequestId, Slot};
@@ -83,11 +83,11 @@ impl Slots {
         }
     }
 
-    /// The slots with commands of this kind, queued or plain: bit k stands for slot k, as in PxCI and PxSACT.
-    pub fn mask(&self, queued: bool) -> u32
-        ensures { (slot : ℕ) → slot < 32 → (bit_at result slot ≡ 1) ↔ (has_kind queued (use_at self.now slot) ≡ true) }
+    /// The slots that are taken: bit k stands for slot k, as in PxCI and PxSACT.
+    pub fn taken(&self) -> u32
+        ensures { (slot : ℕ) → slot < 32 → (bit_at result slot ≡ 1) ↔ IsTaken self.now slot }
     {
-        mask_of(&self.places, queued)
+        mask_of(&self.places)
     }
 
     /// How many slots may be used.
@@ -105,26 +105,17 @@ fn no_uses() -> [Option<Use>; SLOTS]
     [None; SLOTS]
 }
 
-fn mask_of(places: &[Option<Use>], queued: bool) -> u32
+fn mask_of(places: &[Option<Use>]) -> u32
     requires { length places.now ≡ 32 }
-    ensures { (slot : ℕ) → slot < 32 → (bit_at result slot ≡ 1) ↔ (has_kind queued (slice_index_or places.now slot None) ≡ true) }
+    ensures { (slot : ℕ) → slot < 32 → (bit_at result slot ≡ 1) ↔ IsSome (slice_index_or places.now slot None) }
 {
     let mut mask = 0u32;
     for place in 0..32u8 {
-        if has_kind(places[place as usize], queued) {
+        if places[place as usize].is_some() {
             mask |= 1u32 << place;
         }
     }
     mask
-}
-
-fn has_kind(used: Option<Use>, queued: bool) -> bool
-    ensures { result ≡ has_kind queued used }
-{
-    match used {
-        Some(used) => used.queued == queued,
-        None => false,
-    }
 }
 
 /// The lowest free place below `usable`.

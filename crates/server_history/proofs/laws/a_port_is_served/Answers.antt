@@ -8,7 +8,7 @@ pub returns-clause-idle : goal.returns-clause-idle
 returns-clause-idle c s seen port t ready l looks its = idle s seen port t ready looks l its
 
 pub returns-clause-unfinished : goal.returns-clause-unfinished
-returns-clause-unfinished c s seen new port mask t ready l looks its some reads sees = unfinished s seen port t ready looks l c.the_laws_below_hold.ensures mask its some new reads sees
+returns-clause-unfinished c s seen new port mask t ready l looks its some done reads sees none = unfinished s seen port t ready looks l c.the_laws_below_hold.ensures mask its some new done reads sees none
 
 pub returns-clause-finished : goal.returns-clause-finished
 returns-clause-finished c s new seen found port mask done replies t ready l looks its some reads sees was_done answers =

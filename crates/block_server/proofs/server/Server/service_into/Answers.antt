@@ -3,6 +3,7 @@ use Rattle.std.proofs.lemmas.Grind.{common_steps}
 use Rattle.ata_types.specs.declared.request.Reply.{Reply}
 use Rattle.agreement.specs.Agrees.{port_at}
 use Rattle.block_server.specs.View.{ServerView, server_of}
+use Rattle.block_server.specs.Ports.{reply_list}
 use Rattle.server_history.specs.Served.{ServePorts, ServesPort}
 use Rattle.server_history.specs.Server.{IsSettled}
 use Rattle.block_server.proofs.Turns.{all_served, one_served}
@@ -17,7 +18,7 @@ loop-number-preserved g c =
     let s = server_of device c.loop-number.self in
     let mid = server_of device c.serve_port.new.self in
     let four : length ports ≡ 4 = search rules in
-    let S : Option Reply → Type 0 = λ reply. ServesPort (port_at c.loop-number.number) reply s mid in
+    let S : Option Reply → Type 0 = λ reply. ServesPort (port_at c.loop-number.number) (reply_list reply) s mid in
     let kept_ports : c.serve_port.new.self.ports ≡ ports = c.serve_port.ensures.ports ∙ so_far.ports in
     elim c.match-serve_port.branch [
       | in-Some w ↦ record {
@@ -25,7 +26,7 @@ loop-number-preserved g c =
             let W : List Reply → Type 0 = λ told. ServePorts 0 c.args.self.now.ports told (server_of device c.args.self.now) new in
             subst W (sym (ap (λ (told : List Reply). told ++ later) (ap (λ r. r.items) w.replies-is ∙ w.push.ensures.items) ∙ append_assoc c.loop-number.replies.items (w.in-Some.reply ∷ []) later))
             (so_far.rest (w.in-Some.reply ∷ later) new
-            (one_served ports c.loop-number.number c.in-Ready.field-0 s mid new (Some w.in-Some.reply) later (omega (arith, four, c.loop-number-test.true)) c.in-Ready.is c.serve_port.ensures.settled
+            (one_served ports c.loop-number.number c.in-Ready.field-0 s mid new (w.in-Some.reply ∷ []) later (omega (arith, four, c.loop-number-test.true)) c.in-Ready.is c.serve_port.ensures.settled
             (subst S w.in-Some.is c.serve_port.ensures.serves) more));
         ports = kept_ports;
         few = let told = ap (λ r. length r.items) w.replies-is in omega (arith, told, w.push.ensures.len, so_far.few);
@@ -35,7 +36,7 @@ loop-number-preserved g c =
             let W : List Reply → Type 0 = λ told. ServePorts 0 c.args.self.now.ports told (server_of device c.args.self.now) new in
             subst W (sym (ap (λ (told : List Reply). told ++ later) (ap (λ r. r.items) w.replies-is)))
             (so_far.rest later new
-            (one_served ports c.loop-number.number c.in-Ready.field-0 s mid new None later (omega (arith, four, c.loop-number-test.true)) c.in-Ready.is c.serve_port.ensures.settled
+            (one_served ports c.loop-number.number c.in-Ready.field-0 s mid new [] later (omega (arith, four, c.loop-number-test.true)) c.in-Ready.is c.serve_port.ensures.settled
             (subst S w.in_default-serve_port.is c.serve_port.ensures.serves) more));
         ports = kept_ports;
         few = let told = ap (λ r. length r.items) w.replies-is in omega (arith, told, so_far.few);
