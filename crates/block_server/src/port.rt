@@ -11,12 +11,12 @@ use adapter::Adapter;
 use ata_types::{Port, RequestId, Slot};
 use block_machine::Mode;
 use block_machine::laws::due_in_turn;
+use ncq::{Transfer, issue};
 use request_queue::Book;
 use request_queue::laws::{
     an_id_is_one_request, operations_change_what_is_due, the_book_stays_in_order,
 };
 use server_history::laws::{a_due_request_may_issue, requests_keep};
-use ncq::{Transfer, issue};
 use slots::Slots;
 
 /// How ports take commands: one plain command at a time.

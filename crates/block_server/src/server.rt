@@ -14,11 +14,12 @@ use ata_types::{
 use configuration::Config;
 use dma_frames::FrameTable;
 use grants::{Grants, decide};
-use host_boot::{Found, PORTS, take_over};
 use hba_regs::is_set;
+use host_boot::{Found, PORTS, take_over};
 use identify::Wanted;
 use ncq::done;
 use plan::Plan;
+use port_look::{Look, look_at};
 use request_queue::laws::an_id_is_one_request;
 use request_queue::{Book, Entry};
 use server_history::laws::{
@@ -28,7 +29,6 @@ use server_history::laws::{
 use slots::Slots;
 use std::alloc::Global;
 use std::marker::Model;
-use port_look::{Look, look_at};
 
 /// Unanswered requests of one client at most.
 const CLIENT_PLACES: usize = 16;

@@ -14,7 +14,7 @@ use Rattle.adapter.specs.Device.{Device}
 use Rattle.adapter.proofs.Changed.{changed_each}
 use Rattle.block_machine.specs.Histories.{IsReached}
 use Rattle.block_machine.specs.State.{Machine, Pending}
-use Rattle.block_machine.specs.Steps.{Answer, AllTouched, IsLiving, after_step, is_lent_to, unlend}
+use Rattle.block_machine.specs.Steps.{Answer, IsLiving, after_step, is_lent_to, unlend}
 use Rattle.block_machine.proofs.HistoryLemmas.{reached_more}
 use Rattle.block_machine.proofs.Lending.{lent_own}
 use Rattle.block_machine.proofs.Members.{contains_none, contains_cases}

@@ -13,7 +13,7 @@ use Rattle.ata_types.specs.declared.request.RequestId.{RequestId}
 use Rattle.hba_regs.specs.Bits.{bit}
 use Rattle.adapter.specs.Device.{Device}
 use Rattle.adapter.specs.Idle.{IsIdle, TellsDisks}
-use Rattle.agreement.specs.Agrees.{SameSectors, port_at}
+use Rattle.agreement.specs.Agrees.{SameSectors}
 use Rattle.agreement.specs.Driven.{known}
 use Rattle.agreement.specs.Driver.{Knows, idle}
 use Rattle.agreement.specs.Slots.{Free, Uses}

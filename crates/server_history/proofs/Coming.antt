@@ -1,5 +1,5 @@
 -- What the accesses of calls are: those of a port's turn in a service one by one, and of what kind they are.
-use Rattle.std.proofs.Common.{ℕ, ◌≡◌, ◌≢◌, ◌⊎◌, ◌+◌, ◌≤◌, ◌<◌, ◌++◌, ◌==◌, ap, Bool, true, false, List, [], ◌∷◌, Option, length, refl, sym, ◌∙◌, subst, inl, inr, arith, ⊎_elim}
+use Rattle.std.proofs.Common.{ℕ, ◌≡◌, ◌≢◌, ◌⊎◌, ◌+◌, ◌≤◌, ◌<◌, ◌++◌, ◌==◌, ap, true, false, List, [], ◌∷◌, length, refl, sym, ◌∙◌, subst, inl, inr, arith, ⊎_elim}
 use Rattle.std.specs.List.{All}
 use Rattle.std.proofs.lemmas.Bool.{cases_eq, false≢true}
 use Rattle.std.proofs.lemmas.Nat.Bits.{bit_at-zero}
@@ -20,7 +20,6 @@ use Rattle.adapter.specs.Steps.{Steps}
 use Rattle.adapter.proofs.Calls.{does_append}
 use Rattle.agreement.specs.Driven.{IsDrivenBy}
 use Rattle.agreement.specs.Facts.{RunsWell, Undisturbed}
-use Rattle.agreement.proofs.Driven.{by_none}
 use Rattle.command_table.specs.Written.{IsTableStore}
 use Rattle.driver_history.specs.Histories.{IssuesOn}
 use Rattle.driver_history.specs.Trace.{IsDriversOwn, IsOfPorts, IsServing, LeavesCommand, LeavesEngine, ReadsMasks}

@@ -16,7 +16,6 @@ use Rattle.block_machine.specs.Steps.{Step, Issue, May}
 use Rattle.block_machine.specs.declared.due.Unanswered.{Unanswered}
 use Rattle.block_machine.proofs.HistoryLemmas.{reached_more}
 use Rattle.block_machine.proofs.Members.{contains_none}
-use Rattle.agreement.specs.Agrees.{port_at}
 use Rattle.agreement.specs.Driven.{known, IsDrivenBy}
 use Rattle.agreement.specs.Driver.{EndsWith, IsBacked, serving}
 use Rattle.agreement.specs.Slots.{Free, Serves, Use, put}

@@ -21,6 +21,7 @@ pub mod Granting
 pub mod Accepting
 pub mod Answering
 pub mod Settling
+pub mod Answered
 pub mod Services
 pub mod Origins
 pub mod Coming

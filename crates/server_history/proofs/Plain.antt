@@ -1,5 +1,5 @@
 -- How plain transfers are issued in slot 0 and found done, access by access.
-use Rattle.std.proofs.Common.{ℕ, ◌≡◌, List, [], ◌∷◌, ◌&&◌, not, false, refl, sym, inl, inr, subst, arith}
+use Rattle.std.proofs.Common.{ℕ, ◌≡◌, List, [], ◌∷◌, ◌&&◌, not, refl, sym, inr, subst, arith}
 use Rattle.std.specs.List.{All}
 use Rattle.std.proofs.lemmas.List.Elements.{All-append, All-cons, All-nil}
 use Rattle.ata_types.specs.declared.Port.{Port}

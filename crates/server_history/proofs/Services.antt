@@ -1,9 +1,9 @@
 -- Ready ports that are served one after another add an event.
-use Rattle.std.proofs.Common.{◌⊎◌, ◌&&◌, ℕ, suc, ◌≡◌, ◌≢◌, ◌≤◌, ◌<◌, ◌+◌, ◌-◌, ◌||◌, not, Bool, true, false, List, [], ◌∷◌, ◌++◌, map, Option, Some, None, refl, sym, ap, ◌∙◌, subst, inl, inr, ⊎_elim, arith, append_assoc, append-nil}
+use Rattle.std.proofs.Common.{◌⊎◌, ◌&&◌, ℕ, suc, ◌≡◌, ◌≢◌, ◌≤◌, ◌<◌, ◌+◌, ◌-◌, ◌||◌, not, Bool, true, false, List, [], ◌∷◌, ◌++◌, map, Some, None, refl, sym, ap, ◌∙◌, subst, inl, inr, ⊎_elim, arith, append_assoc, append-nil}
 use Rattle.std.specs.List.{All, AllPairs, AllZip, Contains, list_any}
 use Rattle.std.specs.List.Sorted.{IsPermutation}
 use Rattle.std.specs.Prelude.{◌↔◌}
-use Rattle.std.proofs.lemmas.Bool.{and_from, and_parts, cases_Bool, cases_eq, false≢true, cases_lt, or_from}
+use Rattle.std.proofs.lemmas.Bool.{and_from, and_parts, cases_Bool, cases_eq, false≢true, cases_lt}
 use Rattle.std.proofs.lemmas.List.{map-append}
 use Rattle.std.proofs.lemmas.List.Elements.{All-nil, All-append, All-push, Contains-append_cases, Contains-append_left, Contains-append_right}
 use Rattle.std.proofs.lemmas.List.Quantifiers.{all_pairs_push}
@@ -35,18 +35,18 @@ use Rattle.agreement.proofs.Finished.{steps_over}
 use Rattle.agreement.proofs.Unarmed.{reads_clear, steps_clear}
 use Rattle.agreement.proofs.Finding.{ended_is_clear}
 use Rattle.agreement.proofs.Sparing.{found_before, steps_spare}
-use Rattle.block_machine.specs.Events.{Moment, Service, Served, AllDevices, AllMay, AnswersEnded, IsDevices, IsIssuedIn, AnswersService, IsToldBefore, ServesReady, answers_of, issues_it, reply_of}
+use Rattle.block_machine.specs.Events.{Moment, Service, Served, AllMay, AnswersEnded, IsIssuedIn, AnswersService, IsToldBefore, ServesReady, answers_of, issues_it, reply_of}
 use Rattle.block_machine.specs.Histories.{Instant, Happening, IsReached, now}
 use Rattle.block_machine.specs.Left.{after}
-use Rattle.block_machine.specs.Ports.{Ports, IsServiced}
+use Rattle.block_machine.specs.Ports.{Ports}
 use Rattle.block_machine.specs.Due.{of_port}
 use Rattle.block_machine.specs.State.{Pending, Machine, unanswered}
 use Rattle.block_machine.specs.declared.due.Unanswered.{Unanswered}
-use Rattle.block_machine.specs.Steps.{Step, Issue, Answer, May, after_step}
-use Rattle.block_machine.proofs.Calm.{calmly, is_refused}
+use Rattle.block_machine.specs.Steps.{Step, Answer}
+use Rattle.block_machine.proofs.Calm.{calmly}
 use Rattle.block_machine.proofs.EventLemmas.{after-append}
 use Rattle.block_machine.proofs.HistoryLemmas.{history_reaches, reached_more}
-use Rattle.block_machine.proofs.Members.{contains_cases, contains_here, contains_none, contains_there, into_map, map_in, without_in}
+use Rattle.block_machine.proofs.Members.{contains_none, into_map, map_in}
 use Rattle.block_machine.proofs.Standing.{standing}
 use Rattle.block_machine.proofs.Started.{ended_issued}
 use Rattle.host_boot.specs.Taken.{found_of}
@@ -55,23 +55,22 @@ use Rattle.host_boot.specs.declared.Found.TheVariants.{Unserved, Ready, Unready}
 use Rattle.identify.specs.declared.DiskInfo.{DiskInfo}
 use Rattle.driver_history.specs.Evidence.{StaysHealthy}
 use Rattle.driver_history.specs.Histories.{Begins, FindsDone, HasBadDisk, IsAnsweredOk, IsIssuedOn, IssuesDue, TendsPort, Ties, TiesPort}
-use Rattle.dma_frames.specs.Table.{Table}
-use Rattle.request_queue.specs.Entries.{Held, IsEarlier, IsInOrder, asks_of, due_ids}
+use Rattle.request_queue.specs.Entries.{Held, IsEarlier}
 use Rattle.request_queue.specs.Machine.{IsEntry}
-use Rattle.slots.specs.declared.Use.{Use as SlotUse}
 use Rattle.driver_history.specs.Trace.{IsServing, LeavesCommand, ReadsMasks}
 use Rattle.driver_history.proofs.Calm.{untroubled}
 use Rattle.server_history.specs.Histories.{Adds, Leads}
 use Rattle.server_history.specs.Below.{LawsBelow}
-use Rattle.server_history.specs.Served.{AddsTurn, AnswersBy, AnswersTurn, Checks, HasEnded, IsMaskOf, IsTold, IssuesOnly, SameSettings, ServePorts, ServesPort, answers_in, done_reply, is_used}
-use Rattle.server_history.specs.Server.{Server, IsKept, IsMachineOf, IsSettled, is_served, plain_mode, ports_of, slots_at, state_of, used_for}
+use Rattle.server_history.specs.Served.{AddsTurn, AnswersBy, Checks, HasEnded, IsMaskOf, IsTold, SameSettings, ServePorts, ServesPort, answers_in, done_reply, is_used}
+use Rattle.server_history.specs.Server.{Server, IsKept, IsMachineOf, IsSettled, is_served, plain_mode, ports_of, slots_at, state_of}
 use Rattle.server_history.proofs.Coming.{IsBusy, IsTurn, TurnList, turn_leaves, turn_list, turn_serving}
 use Rattle.server_history.proofs.Asks.{none_due, none_issued, same_book}
 use Rattle.server_history.proofs.Going.{happening, lead_by, ports_same, with_device}
 use Rattle.server_history.proofs.Origins.{TurnSteps, answers_turn, issued_before, stood}
-use Rattle.server_history.proofs.Settling.{answers_apart, answers_order, answers_settings}
-use Rattle.server_history.proofs.Rounds.{any_append, dues_carried, each_apart, each_settings, or_none}
+use Rattle.server_history.proofs.Settling.{same_more, turn_apart, turn_settings}
+use Rattle.server_history.proofs.Rounds.{any_append, dues_carried, or_none}
 use Rattle.server_history.proofs.Serving.{still_over}
+use Rattle.server_history.proofs.Answered.{answered_in, ended_stood, in_answered, issuing_answers, may_parts, no_answer, no_answer_issuing, none_refused, serviced_same, told_so, with_ok}
 use Rattle.server_history.proofs.Standing.{not_running}
 use Rattle.server_history.proofs.Told.{fatal_shows, grounded_told, loss_shows, no_evidence, no_fatal, no_loss, serves_told, told_by, uninterrupted}
 use Rattle.server_history.proofs.Slots.{HasSlot, first_used, free_unused, issued_has, of_ready, only_first, ready_found, serves_used}
@@ -87,101 +86,6 @@ use Rattle.port_look.proofs.Serving.{calm_parts, looking_service, services_inact
 same_some : {X : Type 0} {a b : X} → Some a ≡ Some b → a ≡ b
 same_some is = cc
 
--- ---- steps
-
--- steps that may come may come in two parts
-may_parts : (m : Machine) (late early : List Step) → AllMay m (late ++ early) → AllMay m early × AllMay (after m early) late
-may_parts m [] early may = (may, tt)
-may_parts m (step ∷ late) early may =
-    let x = may_parts m late early may.0 in
-    (x.0, (x.1, subst (λ (n : Machine). May n step) (after-append m late early) may.1))
-
-none_refused : (steps : List Step) → ((e : Pending) (o : Outcome) → Contains steps (Answer e o) → o ≡ Ok) → list_any is_refused steps ≡ false
-none_refused [] ok = refl
-none_refused (Answer e o ∷ before) ok =
-    or_from _ _ (ap (λ (x : Outcome). is_refused (Answer e x)) (ok e o (contains_here (Answer e o) before (Answer e o) refl)))
-    (none_refused before (λ x y h. ok x y (contains_there (Answer e o) before (Answer x y) h)))
-none_refused (step ∷ before) ok = none_refused before (λ x y h. ok x y (contains_there step before (Answer x y) h))
-
--- ports that stay what they are are as a service may leave them, where the evidence names none that is stuck
-serviced_same : (d : Device) (was old new : Ports) → old ≡ new → (port : Port) → IsServiced old (told_by d was) new port
-serviced_same d was old new is port = subst (λ (ports : Ports). IsServiced old (told_by d was) ports port) is (
-  λ dead. (refl, refl, refl, refl, refl, refl),
-  λ lives. (
-    record { served = refl; stuck = λ dead. absurd (lives dead); dies = λ h. absurd (contains_none port h); keeps = λ _. (refl, refl) },
-    inl (refl, refl, refl, refl, refl, refl),
-  ),
-)
-
--- ---- answers
-
--- the device answers nobody
-no_answer : (steps : List Step) → AllDevices steps → (e : Pending) (o : Outcome) → Contains steps (Answer e o) → ⊥
-no_answer [] only e o here = contains_none (Answer e o) here
-no_answer (step ∷ steps) only e o here = ⊎_elim
-    (λ (is : Answer e o ≡ step). subst IsDevices (sym is) only.1)
-    (λ (there : Contains steps (Answer e o)). no_answer steps only.0 e o there)
-    (contains_cases step steps (Answer e o) here)
-
-no_answer_issuing : (port : Port) (steps : List Step) → IssuesOnly port steps → (e : Pending) (o : Outcome) → Contains steps (Answer e o) → ⊥
-no_answer_issuing port [] only e o here = contains_none (Answer e o) here
-no_answer_issuing port (Issue mode x ∷ steps) only e o here = ⊎_elim
-    (λ (is : Answer e o ≡ Issue mode x). absurd (let z : Answer e o ≡ Issue mode x = is in cc))
-    (λ (there : Contains steps (Answer e o)). no_answer_issuing port steps only.2 e o there)
-    (contains_cases (Issue mode x) steps (Answer e o) here)
-no_answer_issuing port (step ∷ steps) only e o here = ⊎_elim
-    (λ (is : Answer e o ≡ step). subst IsDevices (sym is) only.0)
-    (λ (there : Contains steps (Answer e o)). no_answer_issuing port steps only.1 e o there)
-    (contains_cases step steps (Answer e o) here)
-
--- the answers of these alone
-answered_in : (ended : List Pending) (e : Pending) (o : Outcome) → Contains (answers_in ended) (Answer e o) → Contains ended e × (o ≡ Ok)
-answered_in [] e o here = absurd (contains_none (Answer e o) here)
-answered_in (x ∷ ended) e o here = ⊎_elim
-    (λ (rest : Contains (answers_in ended) (Answer e o)). let r = answered_in ended e o rest in (contains_there x ended e r.0, r.1))
-    (λ (last : Contains (Answer x Ok ∷ []) (Answer e o)). ⊎_elim
-    (λ (is : Answer e o ≡ Answer x Ok). let a : e ≡ x = cc in let b : o ≡ Ok = cc in (contains_here x ended e a, b))
-    (λ none. absurd (contains_none (Answer e o) none))
-    (contains_cases (Answer x Ok) [] (Answer e o) last))
-    (Contains-append_cases (answers_in ended) (Answer x Ok ∷ []) (Answer e o) here)
-
-in_answered : (ended : List Pending) (e : Pending) → Contains ended e → Contains (answers_in ended) (Answer e Ok)
-in_answered [] e here = absurd (contains_none e here)
-in_answered (x ∷ ended) e here = ⊎_elim
-    (λ (is : e ≡ x). Contains-append_right (answers_in ended) (Answer x Ok ∷ []) (Answer e Ok) (contains_here (Answer x Ok) [] (Answer e Ok) (ap (λ (y : Pending). Answer y Ok) is)))
-    (λ (there : Contains ended e). Contains-append_left (answers_in ended) (Answer x Ok ∷ []) (Answer e Ok) (in_answered ended e there))
-    (contains_cases x ended e here)
-
--- as they are told
-abbrev with_ok : Pending → Pending × Outcome
-with_ok e = (e, Ok)
-
-told_so : (port : Port) (requests : List Held) (ended : List Pending) → AllZip (HasEnded port) requests ended → map done_reply requests ≡ map reply_of (map with_ok ended)
-told_so port [] [] each = refl
-told_so port [] (p ∷ ended) each = absurd each
-told_so port (e ∷ requests) [] each = absurd each
-told_so port (e ∷ requests) (p ∷ ended) each =
-    (λ i. record { id = sym each.0.entry.id i; client = sym each.0.entry.client i; outcome = Ok } ∷ map done_reply requests)
-    ∙ ap (λ (replies : List Reply). reply_of (p, Ok) ∷ replies) (told_so port requests ended each.1)
-
--- who is answered was unanswered before
-ended_stood : (m : Machine) (ended : List Pending) → AllMay m (answers_in ended) → (p : Pending) → Contains ended p → Contains m.book p
-ended_stood m [] may p here = absurd (contains_none p here)
-ended_stood m (x ∷ ended) may p here = ⊎_elim
-    (λ (is : p ≡ x). subst (Contains m.book) (sym is) parts.0.1)
-    (λ (there : Contains ended p). (without_in x.request.id m.book p (ended_stood (after_step m (Answer x Ok)) ended parts.1 p there)).0)
-    (contains_cases x ended p here)
-  where
-    parts : AllMay m (Answer x Ok ∷ []) × AllMay (after_step m (Answer x Ok)) (answers_in ended)
-    parts = may_parts m (answers_in ended) (Answer x Ok ∷ []) may
-
--- nor do steps that issue requests
-issuing_answers : (port : Port) (late base : List Step) → IssuesOnly port late → answers_of (late ++ base) ≡ answers_of base
-issuing_answers port [] base only = refl
-issuing_answers port (Issue mode e ∷ late) base only = issuing_answers port late base only.2
-issuing_answers port (Answer e o ∷ late) base only = absurd only.0
-issuing_answers port (step ∷ late) base only = issuing_answers port late base only.1
-
 -- ---- bits that are read
 
 not_true : (b : Bool) → not b ≡ true → b ≡ false
@@ -195,30 +99,6 @@ issued_clear port slot v old new small r over = r.shows slot small ∙ (steps_ov
 -- and PxSACT one that is clear
 active_clear : (port : Port) (slot v : ℕ) (old new : Device) → slot < 32 → Reads (Px port Sact) v old new → (old.port port.0).sact slot ≡ false → bit v slot ≡ false
 active_clear port slot v old new small r clear = r.shows slot small ∙ steps_clear port.0 slot old r.mid r.steps clear
-
--- ---- settings
-
-same_more : (a b c : Server) → SameSettings a b → SameSettings b c → SameSettings a c
-same_more a b c first then = then ∙ ap (λ (x : Server). record x { device = c.device; table = c.table; slots = c.slots; book = c.book }) first
-
--- what a turn leaves of the server
-turn_settings : LawsBelow → (port : Port) (replies : List Reply) (old new : Server) → AnswersTurn port replies old new → SameSettings old new
-turn_settings laws port replies old new (inl (none, is)) = is ∙ ap (λ (n : Server). record old { device = n.device; table = n.table; slots = n.slots; book = n.book }) (sym is)
-turn_settings laws port replies old new (inr (found, done, a)) =
-    each_settings laws port (due_ids plain_mode port (asks_of a.mid.book)) a.mid new a.issued
-    ∙ ap (λ (n : Server). record n { device = new.device; slots = new.slots; book = new.book }) (answers_settings laws port done a.requests (record old { device = found }) a.mid a.each)
-    ∙ ap (λ (table : Table). record old { device = new.device; table = table; slots = new.slots; book = new.book }) (sym table_is)
-  where
-    table_is : new.table ≡ a.mid.table
-    table_is = ap (λ (n : Server). n.table) (each_settings laws port (due_ids plain_mode port (asks_of a.mid.book)) a.mid new a.issued)
-
--- and of the requests of another port
-turn_apart : LawsBelow → (port : Port) (replies : List Reply) (old new : Server) → IsInOrder old.book → AnswersTurn port replies old new → (other : Port) → other ≢ port
-    → of_port other (asks_of new.book) ≡ of_port other (asks_of old.book)
-turn_apart laws port replies old new order (inl (none, is)) other ne = ap (λ (n : Server). of_port other (asks_of n.book)) is
-turn_apart laws port replies old new order (inr (found, done, a)) other ne =
-    each_apart laws port (due_ids plain_mode port (asks_of a.mid.book)) a.mid new (answers_order laws port done a.requests (record old { device = found }) a.mid order a.each) a.issued other ne
-    ∙ answers_apart laws port done a.requests (record old { device = found }) a.mid order a.each other ne
 
 -- ---- what was done so far
 
@@ -687,7 +567,7 @@ module _ (laws : LawsBelow) (s : Server) (start : IsSettled s) (old : Moment) (r
     all_more (e ∷ requests) (done ∷ ended) steps answers each order may f =
         let parts = may_parts (after old.machine steps) (answers_in ended) (Answer done Ok ∷ []) may in
         let rest = all_more requests ended (Answer done Ok ∷ steps) (answers ++ (done, Ok) ∷ []) each.1 (λ i j d lt below. order (suc i) (suc j) d (omega (arith, lt)) (omega (arith, below))) parts.1
-            (one_more e requests done steps answers order each.0 parts.0.1 f) in
+        (one_more e requests done steps answers order each.0 parts.0.1 f) in
         subst (λ (list : List (Pending × Outcome)). SoFar [] ((answers_in ended ++ Answer done Ok ∷ []) ++ steps) list) (append_assoc answers ((done, Ok) ∷ []) (map with_ok ended))
         (subst (λ (list : List Step). SoFar [] list ((answers ++ (done, Ok) ∷ []) ++ map with_ok ended)) (sym (append_assoc (answers_in ended) (Answer done Ok ∷ []) steps)) rest)
 

@@ -1,5 +1,5 @@
 -- How a ready port is served: where nobody is answered, and where what it has issued is.
-use Rattle.std.proofs.Common.{ℕ, arith, ◌≡◌, ◌≢◌, ◌⊎◌, ◌<◌, ◌∷◌, ◌++◌, ◌||◌, Bool, true, false, not, ◌&&◌, List, [], length, Option, Some, None, refl, sym, ap, ◌∙◌, subst, inl, inr, ⊎_elim}
+use Rattle.std.proofs.Common.{ℕ, arith, ◌≡◌, ◌≢◌, ◌<◌, ◌∷◌, ◌++◌, ◌||◌, Bool, true, false, not, ◌&&◌, List, [], length, Some, None, refl, sym, ap, ◌∙◌, subst, inl, inr, ⊎_elim}
 use Rattle.std.specs.Prelude.{◌↔◌}
 use Rattle.std.proofs.lemmas.Bool.{cases_eq, false≢true}
 use Rattle.std.specs.List.{Contains, list_any}
@@ -190,7 +190,7 @@ module _ (laws : LawsBelow) (port : Port) (low : port.0 < 4) (done : ℕ) where
       (e, contains_here e requests e refl, sym one.id_is ∙ sym (ap (λ (u : SlotUse). u.id) (same_some one_is))))
       (λ (other : slot ≢ one.slot).
       let rest = done_told requests mid new (answer_kept laws old mid port e k ready one (over one.slot one.small clear)) (ready_on laws port done e old mid one ready) (over_on laws port done e old mid one over) more free
-          slot used small is (left_used port e old mid one k low slot other ∙ its) in
+      slot used small is (left_used port e old mid one k low slot other ∙ its) in
       (rest.0, contains_there e requests rest.0 rest.1, rest.2))
       (cases_eq slot one.slot)
 

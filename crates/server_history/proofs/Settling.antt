@@ -1,11 +1,10 @@
 -- Requests of a port whose slots were found done are answered, one after another; and then its due requests are issued.
-use Rattle.std.proofs.Common.{ℕ, ◌≡◌, ◌≢◌, ◌<◌, true, List, [], ◌∷◌, ◌++◌, refl, sym, ap, ◌∙◌, subst}
+use Rattle.std.proofs.Common.{ℕ, ◌≡◌, ◌≢◌, List, [], ◌∷◌, inl, inr, sym, ap, ◌∙◌, subst}
 use Rattle.std.specs.List.{AllZip}
 use Rattle.ata_types.specs.declared.Port.{Port}
 use Rattle.ata_types.specs.declared.PortState.TheVariants.{Ready}
 use Rattle.ata_types.specs.declared.request.Outcome.TheVariants.{Ok}
 use Rattle.ata_types.specs.declared.request.Reply.{Reply}
-use Rattle.hba_regs.specs.Bits.{bit}
 use Rattle.adapter.specs.Device.{Device}
 use Rattle.agreement.specs.Driver.{IsBacked}
 use Rattle.agreement.proofs.Adding.{backed_then, nothing_backed}
@@ -21,12 +20,13 @@ use Rattle.block_machine.proofs.HistoryLemmas.{may-append, reached_more}
 use Rattle.block_machine.proofs.Members.{into_map}
 use Rattle.host_boot.specs.Taken.{found_of}
 use Rattle.host_boot.specs.declared.Found.{Found}
-use Rattle.request_queue.specs.Entries.{Held, IsInOrder, asks, asks_of}
+use Rattle.request_queue.specs.Entries.{Held, IsInOrder, asks, asks_of, due_ids}
 use Rattle.server_history.specs.Below.{LawsBelow}
-use Rattle.server_history.specs.Served.{AnswersDone, AnswersEach, AnswersOne, HasEnded, answers_in}
+use Rattle.server_history.specs.Served.{AnswersDone, AnswersEach, AnswersOne, AnswersTurn, HasEnded, SameSettings, answers_in}
 use Rattle.server_history.specs.Server.{Server, IsKept, IsMachineOf, IsSettled, plain_mode, state_of}
 use Rattle.server_history.proofs.Answering.{IsAnswer, answer_kept, answer_one}
-use Rattle.server_history.proofs.Rounds.{settled}
+use Rattle.server_history.proofs.Rounds.{each_apart, each_settings, settled}
+use Rattle.dma_frames.specs.Table.{Table}
 use Rattle.server_history.proofs.Slots.{AreOver}
 
 -- an answer leaves the requests of other ports
@@ -88,7 +88,7 @@ module _ (laws : LawsBelow) (port : Port) (done : ℕ) where
       let y : IsAnswer port e old mid m = answer_one laws old mid port e k ready one (over one.slot one.small its) m reached is in
       let first : List Step = Answer y.done Ok ∷ [] in
       let z : AreAnswered port requests mid new (after m first) = each_answered requests mid new (answer_kept laws old mid port e k ready one (over one.slot one.small its))
-          (ready_on e old mid one ready) (over_on e old mid one over) more (after m first) (reached_more m first reached (tt, y.here)) y.stands in
+      (ready_on e old mid one ready) (over_on e old mid one over) more (after m first) (reached_more m first reached (tt, y.here)) y.stands in
       record {
         ended = y.done ∷ z.ended;
         each = (y.has, z.each);
@@ -104,3 +104,27 @@ module _ (laws : LawsBelow) (port : Port) (done : ℕ) where
       none_other : (other : Port) → other ≢ port → NoneDue plain_mode (asks_of a.mid.book) other
       none_other other ne r own due =
           t.issued other r own ((laws.same_due plain_mode other (asks_of a.mid.book) (asks_of s.book) r (answers_apart a.requests s a.mid t.kept.ordered a.each other ne) own).0 due)
+
+-- ---- a port's turn
+
+pub same_more : (a b c : Server) → SameSettings a b → SameSettings b c → SameSettings a c
+same_more a b c first then = then ∙ ap (λ (x : Server). record x { device = c.device; table = c.table; slots = c.slots; book = c.book }) first
+
+-- what a turn leaves of the server
+pub turn_settings : LawsBelow → (port : Port) (replies : List Reply) (old new : Server) → AnswersTurn port replies old new → SameSettings old new
+turn_settings laws port replies old new (inl (none, is)) = is ∙ ap (λ (n : Server). record old { device = n.device; table = n.table; slots = n.slots; book = n.book }) (sym is)
+turn_settings laws port replies old new (inr (found, done, a)) =
+    each_settings laws port (due_ids plain_mode port (asks_of a.mid.book)) a.mid new a.issued
+    ∙ ap (λ (n : Server). record n { device = new.device; slots = new.slots; book = new.book }) (answers_settings laws port done a.requests (record old { device = found }) a.mid a.each)
+    ∙ ap (λ (table : Table). record old { device = new.device; table = table; slots = new.slots; book = new.book }) (sym table_is)
+  where
+    table_is : new.table ≡ a.mid.table
+    table_is = ap (λ (n : Server). n.table) (each_settings laws port (due_ids plain_mode port (asks_of a.mid.book)) a.mid new a.issued)
+
+-- and of the requests of another port
+pub turn_apart : LawsBelow → (port : Port) (replies : List Reply) (old new : Server) → IsInOrder old.book → AnswersTurn port replies old new → (other : Port) → other ≢ port
+    → of_port other (asks_of new.book) ≡ of_port other (asks_of old.book)
+turn_apart laws port replies old new order (inl (none, is)) other ne = ap (λ (n : Server). of_port other (asks_of n.book)) is
+turn_apart laws port replies old new order (inr (found, done, a)) other ne =
+    each_apart laws port (due_ids plain_mode port (asks_of a.mid.book)) a.mid new (answers_order laws port done a.requests (record old { device = found }) a.mid order a.each) a.issued other ne
+    ∙ answers_apart laws port done a.requests (record old { device = found }) a.mid order a.each other ne

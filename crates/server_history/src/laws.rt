@@ -41,8 +41,8 @@ ghost use Rattle.port_look.specs.Looks.{IsLooking, LooksAt};
 ghost use Rattle.port_look.specs.declared.Look.{Look};
 ghost use Rattle.port_look.specs.declared.Look.TheVariants.{Undisturbed as Calm};
 
-use host_boot::laws::what_was_taken_over_may_be_served;
 use block_machine::laws::{due_in_turn, due_is_exact, other_ports_stay, own_requests_count};
+use host_boot::laws::what_was_taken_over_may_be_served;
 use ncq::laws::{calls_are_of_one_port, finding_is_followed, issuing_performs};
 use request_queue::laws::{
     accepted_requests_stay, an_id_is_one_request, operations_change_one_request,

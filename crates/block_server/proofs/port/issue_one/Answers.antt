@@ -1,4 +1,4 @@
-use Rattle.std.proofs.Common.{false, List, length, sym, ap, ◌∙◌, subst}
+use Rattle.std.proofs.Common.{false, List, ◌∙◌, subst}
 use Rattle.ata_types.specs.declared.request.Frame.{Frame}
 use Rattle.request_queue.specs.declared.Entry.{Entry}
 use Rattle.ncq.specs.Transfers.{IssuesTransfer}

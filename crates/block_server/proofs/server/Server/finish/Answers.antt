@@ -24,37 +24,41 @@ answer-loan-requires g c =
 pub issue_due-requires : goal.issue_due-requires
 issue_due-requires g c =
     let kept = c.requests_keep.ensures.answered (server_of g.A.Adapter.device (seen c.self.inside))
-        (finishing.mid (server_of g.A.Adapter.device (seen c.self.inside)) c.args.port c.self.invariant.kept
+    (finishing.mid (server_of g.A.Adapter.device (seen c.self.inside)) c.args.port c.self.invariant.kept
     (subst (λ (v : ServerView g.row.A.Denot). state_of (found_of v.ports c.args.port.0) ≡ Ready) (sym c.self.view_is) c.requires.ready)
     c.args.id (subst (λ (v : ServerView g.row.A.Denot). finishing.IsUsedBy (server_of g.A.Adapter.device v) c.args.port c.args.id) (sym c.self.view_is) c.requires.used)
     c.a_used_slot_has_its_request.ensures
     c.an_id_is_one_request.ensures.one (record { entry = c.answer-loan.result.0; frames = c.answer-loan.result.1.frames }) c.answer-loan.ensures.entry c.answer-loan.ensures.id.0 c.give_back.new.self (rw c.deref_mut.ensures.value at c.give_back.ensures))
-        c.args.port (record { entry = c.answer-loan.result.0; frames = c.answer-loan.result.1.frames }) c.self.invariant.kept (subst (λ (v : ServerView g.row.A.Denot). state_of (found_of v.ports c.args.port.0) ≡ Ready) (sym c.self.view_is) c.requires.ready)
-        (finishing.answers (server_of g.A.Adapter.device (seen c.self.inside)) c.args.port c.self.invariant.kept
+    c.args.port (record { entry = c.answer-loan.result.0; frames = c.answer-loan.result.1.frames }) c.self.invariant.kept (subst (λ (v : ServerView g.row.A.Denot). state_of (found_of v.ports c.args.port.0) ≡ Ready) (sym c.self.view_is) c.requires.ready)
+    (finishing.answers (server_of g.A.Adapter.device (seen c.self.inside)) c.args.port c.self.invariant.kept
     (subst (λ (v : ServerView g.row.A.Denot). state_of (found_of v.ports c.args.port.0) ≡ Ready) (sym c.self.view_is) c.requires.ready)
     c.args.id (subst (λ (v : ServerView g.row.A.Denot). finishing.IsUsedBy (server_of g.A.Adapter.device v) c.args.port c.args.id) (sym c.self.view_is) c.requires.used)
     c.a_used_slot_has_its_request.ensures
     c.an_id_is_one_request.ensures.one (record { entry = c.answer-loan.result.0; frames = c.answer-loan.result.1.frames }) c.answer-loan.ensures.entry c.answer-loan.ensures.id.0 c.give_back.new.self (rw c.deref_mut.ensures.value at c.give_back.ensures))
-        (finishing.at_first (server_of g.A.Adapter.device (seen c.self.inside)) c.args.port c.self.invariant.kept
+    (finishing.at_first (server_of g.A.Adapter.device (seen c.self.inside)) c.args.port c.self.invariant.kept
     (subst (λ (v : ServerView g.row.A.Denot). state_of (found_of v.ports c.args.port.0) ≡ Ready) (sym c.self.view_is) c.requires.ready)
     c.args.id (subst (λ (v : ServerView g.row.A.Denot). finishing.IsUsedBy (server_of g.A.Adapter.device v) c.args.port c.args.id) (sym c.self.view_is) c.requires.used)
     c.a_used_slot_has_its_request.ensures
     c.an_id_is_one_request.ensures.one (record { entry = c.answer-loan.result.0; frames = c.answer-loan.result.1.frames }) c.answer-loan.ensures.entry c.answer-loan.ensures.id.0 c.give_back.new.self (rw c.deref_mut.ensures.value at c.give_back.ensures) (IsOver ((g.A.Adapter.device c.self.inside.adapter).port c.args.port.0)) (subst (λ (v : ServerView g.row.A.Denot). IsOver ((g.A.Adapter.device v.adapter).port c.args.port.0) 0) (sym c.self.view_is) c.requires.over)) in
-    record { lends = (finishing.mid (server_of g.A.Adapter.device (seen c.self.inside)) c.args.port c.self.invariant.kept
-    (subst (λ (v : ServerView g.row.A.Denot). state_of (found_of v.ports c.args.port.0) ≡ Ready) (sym c.self.view_is) c.requires.ready)
-    c.args.id (subst (λ (v : ServerView g.row.A.Denot). finishing.IsUsedBy (server_of g.A.Adapter.device v) c.args.port c.args.id) (sym c.self.view_is) c.requires.used)
-    c.a_used_slot_has_its_request.ensures
-    c.an_id_is_one_request.ensures.one (record { entry = c.answer-loan.result.0; frames = c.answer-loan.result.1.frames }) c.answer-loan.ensures.entry c.answer-loan.ensures.id.0 c.give_back.new.self (rw c.deref_mut.ensures.value at c.give_back.ensures),
-    finishing.lends (server_of g.A.Adapter.device (seen c.self.inside)) c.args.port c.self.invariant.kept
-    (subst (λ (v : ServerView g.row.A.Denot). state_of (found_of v.ports c.args.port.0) ≡ Ready) (sym c.self.view_is) c.requires.ready)
-    c.args.id (subst (λ (v : ServerView g.row.A.Denot). finishing.IsUsedBy (server_of g.A.Adapter.device v) c.args.port c.args.id) (sym c.self.view_is) c.requires.used)
-    c.a_used_slot_has_its_request.ensures
-    c.an_id_is_one_request.ensures.one (record { entry = c.answer-loan.result.0; frames = c.answer-loan.result.1.frames }) c.answer-loan.ensures.entry c.answer-loan.ensures.id.0 c.give_back.new.self (rw c.deref_mut.ensures.value at c.give_back.ensures)
-    kept c.answer-loan.new.self c.answer-loan.ensures.rest (slice_index_or c.self.inside.slots c.from.result c.index-self-from.result) c.free.new.self
-    (finishing.its_slots (server_of g.A.Adapter.device (seen c.self.inside)) c.args.port c.self.invariant.kept
-    (subst (λ (v : ServerView g.row.A.Denot). state_of (found_of v.ports c.args.port.0) ≡ Ready) (sym c.self.view_is) c.requires.ready)
-    c.args.id (subst (λ (v : ServerView g.row.A.Denot). finishing.IsUsedBy (server_of g.A.Adapter.device v) c.args.port c.args.id) (sym c.self.view_is) c.requires.used)
-    c.a_used_slot_has_its_request.ensures c.from.result c.from.ensures c.index-self-from.result) c.free.ensures.freed) }
+    record {
+      lends = (
+        finishing.mid (server_of g.A.Adapter.device (seen c.self.inside)) c.args.port c.self.invariant.kept
+            (subst (λ (v : ServerView g.row.A.Denot). state_of (found_of v.ports c.args.port.0) ≡ Ready) (sym c.self.view_is) c.requires.ready)
+            c.args.id (subst (λ (v : ServerView g.row.A.Denot). finishing.IsUsedBy (server_of g.A.Adapter.device v) c.args.port c.args.id) (sym c.self.view_is) c.requires.used)
+            c.a_used_slot_has_its_request.ensures
+            c.an_id_is_one_request.ensures.one (record { entry = c.answer-loan.result.0; frames = c.answer-loan.result.1.frames }) c.answer-loan.ensures.entry c.answer-loan.ensures.id.0 c.give_back.new.self (rw c.deref_mut.ensures.value at c.give_back.ensures),
+        finishing.lends (server_of g.A.Adapter.device (seen c.self.inside)) c.args.port c.self.invariant.kept
+            (subst (λ (v : ServerView g.row.A.Denot). state_of (found_of v.ports c.args.port.0) ≡ Ready) (sym c.self.view_is) c.requires.ready)
+            c.args.id (subst (λ (v : ServerView g.row.A.Denot). finishing.IsUsedBy (server_of g.A.Adapter.device v) c.args.port c.args.id) (sym c.self.view_is) c.requires.used)
+            c.a_used_slot_has_its_request.ensures
+            c.an_id_is_one_request.ensures.one (record { entry = c.answer-loan.result.0; frames = c.answer-loan.result.1.frames }) c.answer-loan.ensures.entry c.answer-loan.ensures.id.0 c.give_back.new.self (rw c.deref_mut.ensures.value at c.give_back.ensures)
+            kept c.answer-loan.new.self c.answer-loan.ensures.rest (slice_index_or c.self.inside.slots c.from.result c.index-self-from.result) c.free.new.self
+            (finishing.its_slots (server_of g.A.Adapter.device (seen c.self.inside)) c.args.port c.self.invariant.kept
+            (subst (λ (v : ServerView g.row.A.Denot). state_of (found_of v.ports c.args.port.0) ≡ Ready) (sym c.self.view_is) c.requires.ready)
+            c.args.id (subst (λ (v : ServerView g.row.A.Denot). finishing.IsUsedBy (server_of g.A.Adapter.device v) c.args.port c.args.id) (sym c.self.view_is) c.requires.used)
+            c.a_used_slot_has_its_request.ensures c.from.result c.from.ensures c.index-self-from.result) c.free.ensures.freed,
+      );
+    }
 
 -- the server then
 abbrev after : (g : Over) (c : After-result-1 g) → ServerView g.row.A.Denot
@@ -68,18 +72,18 @@ after g c = record (seen c.self.inside) {
 finished : (g : Over) (c : After-result-1 g) → (done : ℕ) → IsFirst done → AnswersDone c.args.port done (done_reply (record { entry = c.answer-loan.result.0; frames = c.answer-loan.result.1.frames }) ∷ []) (server_of g.A.Adapter.device (seen c.self.inside)) (server_of g.A.Adapter.device (after g c))
 finished g c done first =
     let kept = c.requests_keep.ensures.answered (server_of g.A.Adapter.device (seen c.self.inside))
-        (finishing.mid (server_of g.A.Adapter.device (seen c.self.inside)) c.args.port c.self.invariant.kept
+    (finishing.mid (server_of g.A.Adapter.device (seen c.self.inside)) c.args.port c.self.invariant.kept
     (subst (λ (v : ServerView g.row.A.Denot). state_of (found_of v.ports c.args.port.0) ≡ Ready) (sym c.self.view_is) c.requires.ready)
     c.args.id (subst (λ (v : ServerView g.row.A.Denot). finishing.IsUsedBy (server_of g.A.Adapter.device v) c.args.port c.args.id) (sym c.self.view_is) c.requires.used)
     c.a_used_slot_has_its_request.ensures
     c.an_id_is_one_request.ensures.one (record { entry = c.answer-loan.result.0; frames = c.answer-loan.result.1.frames }) c.answer-loan.ensures.entry c.answer-loan.ensures.id.0 c.give_back.new.self (rw c.deref_mut.ensures.value at c.give_back.ensures))
-        c.args.port (record { entry = c.answer-loan.result.0; frames = c.answer-loan.result.1.frames }) c.self.invariant.kept (subst (λ (v : ServerView g.row.A.Denot). state_of (found_of v.ports c.args.port.0) ≡ Ready) (sym c.self.view_is) c.requires.ready)
-        (finishing.answers (server_of g.A.Adapter.device (seen c.self.inside)) c.args.port c.self.invariant.kept
+    c.args.port (record { entry = c.answer-loan.result.0; frames = c.answer-loan.result.1.frames }) c.self.invariant.kept (subst (λ (v : ServerView g.row.A.Denot). state_of (found_of v.ports c.args.port.0) ≡ Ready) (sym c.self.view_is) c.requires.ready)
+    (finishing.answers (server_of g.A.Adapter.device (seen c.self.inside)) c.args.port c.self.invariant.kept
     (subst (λ (v : ServerView g.row.A.Denot). state_of (found_of v.ports c.args.port.0) ≡ Ready) (sym c.self.view_is) c.requires.ready)
     c.args.id (subst (λ (v : ServerView g.row.A.Denot). finishing.IsUsedBy (server_of g.A.Adapter.device v) c.args.port c.args.id) (sym c.self.view_is) c.requires.used)
     c.a_used_slot_has_its_request.ensures
     c.an_id_is_one_request.ensures.one (record { entry = c.answer-loan.result.0; frames = c.answer-loan.result.1.frames }) c.answer-loan.ensures.entry c.answer-loan.ensures.id.0 c.give_back.new.self (rw c.deref_mut.ensures.value at c.give_back.ensures))
-        (finishing.at_first (server_of g.A.Adapter.device (seen c.self.inside)) c.args.port c.self.invariant.kept
+    (finishing.at_first (server_of g.A.Adapter.device (seen c.self.inside)) c.args.port c.self.invariant.kept
     (subst (λ (v : ServerView g.row.A.Denot). state_of (found_of v.ports c.args.port.0) ≡ Ready) (sym c.self.view_is) c.requires.ready)
     c.args.id (subst (λ (v : ServerView g.row.A.Denot). finishing.IsUsedBy (server_of g.A.Adapter.device v) c.args.port c.args.id) (sym c.self.view_is) c.requires.used)
     c.a_used_slot_has_its_request.ensures

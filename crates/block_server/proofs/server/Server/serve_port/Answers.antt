@@ -1,8 +1,8 @@
-use Rattle.std.proofs.Common.{arith, ◌≡◌, [], true, List, Option, Some, None, refl, sym, ap, ◌∙◌, subst, inl, inr}
+use Rattle.std.proofs.Common.{arith, ◌≡◌, [], Option, Some, None, refl, sym, ap, ◌∙◌, subst}
 use Rattle.ata_types.specs.declared.PortState.TheVariants.{Ready}
 use Rattle.ata_types.specs.declared.request.Reply.{Reply}
 use Rattle.host_boot.specs.Taken.{found_of}
-use Rattle.block_server.specs.Ports.{IsFirst, reply_list}
+use Rattle.block_server.specs.Ports.{reply_list}
 use Rattle.block_server.specs.Seen.{seen}
 use Rattle.block_server.specs.View.{ServerView, server_of}
 use Rattle.server_history.specs.Served.{ServesPort}

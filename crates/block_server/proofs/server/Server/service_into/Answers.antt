@@ -1,4 +1,4 @@
-use Rattle.std.proofs.Common.{◌≡◌, ◌++◌, List, [], ◌∷◌, Option, None, Some, append_assoc, arith, length, sym, ap, ◌∙◌, subst, rules}
+use Rattle.std.proofs.Common.{◌≡◌, ◌++◌, List, [], ◌∷◌, Option, append_assoc, arith, length, sym, ap, ◌∙◌, subst, rules}
 use Rattle.std.proofs.lemmas.Grind.{common_steps}
 use Rattle.ata_types.specs.declared.request.Reply.{Reply}
 use Rattle.agreement.specs.Agrees.{port_at}

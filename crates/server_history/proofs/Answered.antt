@@ -1,0 +1,116 @@
+-- Steps that answer requests, and that answer none.
+use Rattle.std.proofs.Common.{◌≡◌, false, List, [], ◌∷◌, ◌++◌, map, refl, sym, ap, ◌∙◌, subst, inl, ⊎_elim}
+use Rattle.std.specs.List.{AllZip, Contains, list_any}
+use Rattle.std.proofs.lemmas.Bool.{or_from}
+use Rattle.std.proofs.lemmas.List.Elements.{Contains-append_cases, Contains-append_left, Contains-append_right}
+use Rattle.ata_types.specs.declared.Port.{Port}
+use Rattle.ata_types.specs.declared.request.Outcome.{Outcome}
+use Rattle.ata_types.specs.declared.request.Outcome.TheVariants.{Ok}
+use Rattle.ata_types.specs.declared.request.Reply.{Reply}
+use Rattle.adapter.specs.Device.{Device}
+use Rattle.block_machine.specs.Events.{AllDevices, AllMay, IsDevices, answers_of, reply_of}
+use Rattle.block_machine.specs.Left.{after}
+use Rattle.block_machine.specs.Ports.{Ports, IsServiced}
+use Rattle.block_machine.specs.State.{Pending, Machine}
+use Rattle.block_machine.specs.Steps.{Step, Issue, Answer, May, after_step}
+use Rattle.block_machine.proofs.Calm.{is_refused}
+use Rattle.block_machine.proofs.EventLemmas.{after-append}
+use Rattle.block_machine.proofs.Members.{contains_cases, contains_here, contains_none, contains_there, without_in}
+use Rattle.server_history.proofs.Told.{told_by}
+use Rattle.request_queue.specs.Entries.{Held}
+use Rattle.server_history.specs.Served.{HasEnded, IssuesOnly, answers_in, done_reply}
+
+-- ---- steps
+
+-- steps that may come may come in two parts
+pub may_parts : (m : Machine) (late early : List Step) → AllMay m (late ++ early) → AllMay m early × AllMay (after m early) late
+may_parts m [] early may = (may, tt)
+may_parts m (step ∷ late) early may =
+    let x = may_parts m late early may.0 in
+    (x.0, (x.1, subst (λ (n : Machine). May n step) (after-append m late early) may.1))
+
+pub none_refused : (steps : List Step) → ((e : Pending) (o : Outcome) → Contains steps (Answer e o) → o ≡ Ok) → list_any is_refused steps ≡ false
+none_refused [] ok = refl
+none_refused (Answer e o ∷ before) ok =
+    or_from _ _ (ap (λ (x : Outcome). is_refused (Answer e x)) (ok e o (contains_here (Answer e o) before (Answer e o) refl)))
+    (none_refused before (λ x y h. ok x y (contains_there (Answer e o) before (Answer x y) h)))
+none_refused (step ∷ before) ok = none_refused before (λ x y h. ok x y (contains_there step before (Answer x y) h))
+
+-- ports that stay what they are are as a service may leave them, where the evidence names none that is stuck
+pub serviced_same : (d : Device) (was old new : Ports) → old ≡ new → (port : Port) → IsServiced old (told_by d was) new port
+serviced_same d was old new is port = subst (λ (ports : Ports). IsServiced old (told_by d was) ports port) is (
+  λ dead. (refl, refl, refl, refl, refl, refl),
+  λ lives. (
+    record { served = refl; stuck = λ dead. absurd (lives dead); dies = λ h. absurd (contains_none port h); keeps = λ _. (refl, refl) },
+    inl (refl, refl, refl, refl, refl, refl),
+  ),
+)
+
+-- ---- answers
+
+-- the device answers nobody
+pub no_answer : (steps : List Step) → AllDevices steps → (e : Pending) (o : Outcome) → Contains steps (Answer e o) → ⊥
+no_answer [] only e o here = contains_none (Answer e o) here
+no_answer (step ∷ steps) only e o here = ⊎_elim
+    (λ (is : Answer e o ≡ step). subst IsDevices (sym is) only.1)
+    (λ (there : Contains steps (Answer e o)). no_answer steps only.0 e o there)
+    (contains_cases step steps (Answer e o) here)
+
+pub no_answer_issuing : (port : Port) (steps : List Step) → IssuesOnly port steps → (e : Pending) (o : Outcome) → Contains steps (Answer e o) → ⊥
+no_answer_issuing port [] only e o here = contains_none (Answer e o) here
+no_answer_issuing port (Issue mode x ∷ steps) only e o here = ⊎_elim
+    (λ (is : Answer e o ≡ Issue mode x). absurd (let z : Answer e o ≡ Issue mode x = is in cc))
+    (λ (there : Contains steps (Answer e o)). no_answer_issuing port steps only.2 e o there)
+    (contains_cases (Issue mode x) steps (Answer e o) here)
+no_answer_issuing port (step ∷ steps) only e o here = ⊎_elim
+    (λ (is : Answer e o ≡ step). subst IsDevices (sym is) only.0)
+    (λ (there : Contains steps (Answer e o)). no_answer_issuing port steps only.1 e o there)
+    (contains_cases step steps (Answer e o) here)
+
+-- the answers of these alone
+pub answered_in : (ended : List Pending) (e : Pending) (o : Outcome) → Contains (answers_in ended) (Answer e o) → Contains ended e × (o ≡ Ok)
+answered_in [] e o here = absurd (contains_none (Answer e o) here)
+answered_in (x ∷ ended) e o here = ⊎_elim
+    (λ (rest : Contains (answers_in ended) (Answer e o)). let r = answered_in ended e o rest in (contains_there x ended e r.0, r.1))
+    (λ (last : Contains (Answer x Ok ∷ []) (Answer e o)). ⊎_elim
+    (λ (is : Answer e o ≡ Answer x Ok). let a : e ≡ x = cc in let b : o ≡ Ok = cc in (contains_here x ended e a, b))
+    (λ none. absurd (contains_none (Answer e o) none))
+    (contains_cases (Answer x Ok) [] (Answer e o) last))
+    (Contains-append_cases (answers_in ended) (Answer x Ok ∷ []) (Answer e o) here)
+
+pub in_answered : (ended : List Pending) (e : Pending) → Contains ended e → Contains (answers_in ended) (Answer e Ok)
+in_answered [] e here = absurd (contains_none e here)
+in_answered (x ∷ ended) e here = ⊎_elim
+    (λ (is : e ≡ x). Contains-append_right (answers_in ended) (Answer x Ok ∷ []) (Answer e Ok) (contains_here (Answer x Ok) [] (Answer e Ok) (ap (λ (y : Pending). Answer y Ok) is)))
+    (λ (there : Contains ended e). Contains-append_left (answers_in ended) (Answer x Ok ∷ []) (Answer e Ok) (in_answered ended e there))
+    (contains_cases x ended e here)
+
+-- as they are told
+abbrev pub with_ok : Pending → Pending × Outcome
+with_ok e = (e, Ok)
+
+pub told_so : (port : Port) (requests : List Held) (ended : List Pending) → AllZip (HasEnded port) requests ended → map done_reply requests ≡ map reply_of (map with_ok ended)
+told_so port [] [] each = refl
+told_so port [] (p ∷ ended) each = absurd each
+told_so port (e ∷ requests) [] each = absurd each
+told_so port (e ∷ requests) (p ∷ ended) each =
+    (λ i. record { id = sym each.0.entry.id i; client = sym each.0.entry.client i; outcome = Ok } ∷ map done_reply requests)
+    ∙ ap (λ (replies : List Reply). reply_of (p, Ok) ∷ replies) (told_so port requests ended each.1)
+
+-- who is answered was unanswered before
+pub ended_stood : (m : Machine) (ended : List Pending) → AllMay m (answers_in ended) → (p : Pending) → Contains ended p → Contains m.book p
+ended_stood m [] may p here = absurd (contains_none p here)
+ended_stood m (x ∷ ended) may p here = ⊎_elim
+    (λ (is : p ≡ x). subst (Contains m.book) (sym is) parts.0.1)
+    (λ (there : Contains ended p). (without_in x.request.id m.book p (ended_stood (after_step m (Answer x Ok)) ended parts.1 p there)).0)
+    (contains_cases x ended p here)
+  where
+    parts : AllMay m (Answer x Ok ∷ []) × AllMay (after_step m (Answer x Ok)) (answers_in ended)
+    parts = may_parts m (answers_in ended) (Answer x Ok ∷ []) may
+
+-- nor do steps that issue requests
+pub issuing_answers : (port : Port) (late base : List Step) → IssuesOnly port late → answers_of (late ++ base) ≡ answers_of base
+issuing_answers port [] base only = refl
+issuing_answers port (Issue mode e ∷ late) base only = issuing_answers port late base only.2
+issuing_answers port (Answer e o ∷ late) base only = absurd only.0
+issuing_answers port (step ∷ late) base only = issuing_answers port late base only.1
