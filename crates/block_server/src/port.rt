@@ -51,7 +51,7 @@ fn issue_one<A: Adapter>(
         queued: PLAIN.queued,
     };
     issue(adapter, port, FIRST, &transfer, book.loan(id).frames());
-    let _ = slots.take(id, false);
+    let _ = slots.take(id, PLAIN.queued);
     book.issue(id);
 }
 

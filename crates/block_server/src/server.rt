@@ -269,7 +269,8 @@ impl<A: Adapter> Server<A> {
         Ok(self.accept(r, port))
     }
 
-    /// Answers the request of a port's slot 0, whose command is over: its frames are given back, and what is due then is issued.
+    /// Answers the request of a port's slot 0, whose command is over: its frames are given back, and what is due then is issued. It is what was
+    /// found done, if that is slot 0 alone.
     fn finish(&mut self, port: Port, id: RequestId) -> Reply
         requires ready { state_of (found_of self.old.ports port.0) ≡ Ready }
         requires used { (used : SlotUse) × (used_for self.old.slots port.0 0 ≡ Some used) × (used.id ≡ id) }
@@ -315,8 +316,8 @@ impl<A: Adapter> Server<A> {
         Some(self.finish(port, first.id))
     }
 
-    /// Serves each ready port, in rising number: where its transfer is done, that is answered, its frames are given back, and the port's
-    /// next is issued. Of a port that is disturbed nobody is answered.
+    /// Serves each ready port, in rising number: where its transfer is done, that is answered, its frames are given back, and what is due
+    /// then is issued. Where the look at a port tells of something, nobody is answered there.
     pub fn service(&mut self) -> Replies
         ensures services { Services A.device self.old self.new result.items }
         ensures adds { Adds (server_of A.device self.old) (server_of A.device self.new) Service (Served result.items) }
