@@ -1,6 +1,6 @@
 -- The read is accepted and issued: the machine, and what holds before and after it.
-use Rattle.std.proofs.Common.{ℕ, zero, suc, ◌≡◌, ◌+◌, ◌*◌, ◌<◌, ◌≤◌, ◌↔◌, ◌∙◌, true, false, List, [], ◌∷◌, slice_index, slice_index_or, Some, inl, inr, ⊎_elim, refl, sym, ap, subst, arith, ◌++◌}
-use Rattle.std.proofs.lemmas.Bool.{true≢false}
+use Rattle.std.proofs.Common.{ℕ, zero, suc, ◌≡◌, ◌<◌, ◌↔◌, ◌∙◌, true, false, List, [], ◌∷◌, slice_index, slice_index_or, Some, inl, inr, ⊎_elim, refl, sym, ap, subst, arith, ◌++◌}
+use Rattle.std.proofs.lemmas.Bool.{le-ltb, true≢false}
 use Rattle.std.specs.List.{All, Contains}
 use Rattle.std.proofs.lemmas.List.Elements.{All-nil, All-cons}
 use Rattle.ata_types.specs.declared.Port.{Port}
@@ -13,20 +13,16 @@ use Rattle.ata_types.specs.declared.request.Request.{Request}
 use Rattle.adapter.specs.Commands.{is_queued}
 use Rattle.adapter.specs.Device.{Bases, Disk, PortState, Device}
 use Rattle.adapter.specs.FirstRead.{first_disk, header_bytes, sector_of}
-use Rattle.adapter.specs.Memory.{patched}
 use Rattle.adapter.specs.ReadDone.{read_of}
 use Rattle.adapter.specs.Says.{cut}
 use Rattle.adapter.specs.declared.command.Operation.TheVariants.{Identify}
 use Rattle.adapter.specs.declared.tape.Entry.{Entry}
-use Rattle.adapter.proofs.MemoryLemmas.{patched_past}
 use Rattle.agreement.specs.Acts.{InSlots, at}
 use Rattle.agreement.specs.Agrees.{AreApart, HaveSlots, IsReceiving, SameMemory, SameSectors, port_at}
 use Rattle.agreement.specs.Driver.{Knows, IsBacked}
 use Rattle.agreement.specs.Places.{place_in}
 use Rattle.agreement.specs.Slots.{Free, Serves, IsFree, IsMove, IsServed as IsServedAs, ServesRequest}
 use Rattle.agreement.specs.Witness.{first_id}
-use Rattle.agreement.proofs.Putting.{none_below}
-use Rattle.agreement.proofs.Witness.{plain, tells}
 use Rattle.block_machine.specs.Histories.{Instant, Happening}
 use Rattle.block_machine.specs.Events.{IsIssuedIn, situation_of, Happens, Submit, Submitted}
 use Rattle.block_machine.specs.Left.{IsStart, after}
@@ -35,13 +31,12 @@ use Rattle.block_machine.specs.Ports.{Ports, AreFit, Evidence}
 use Rattle.block_machine.specs.Refusals.{IsAcceptable}
 use Rattle.block_machine.specs.State.{Accepted, Machine, Pending, block_of, unanswered}
 use Rattle.block_machine.specs.Steps.{Step, Accept, Issue, IsNew, May, issue, newly_accepted}
-use Rattle.block_machine.proofs.Members.{contains_none, contains_here, contains_cases}
 use Rattle.block_machine.proofs.Setting.{acceptable, client, empty, empty_starts, frame, its_row, request, row}
 use Rattle.host_boot.specs.Taken.{IsServed, wanted_of}
 use Rattle.identify.specs.declared.wanted.Wanted.TheVariants.{Any, Nothing}
 use Rattle.port_control.specs.Ports.{programmed}
 use Rattle.driver_history.specs.Holds.{HoldsOf, HoldsWith, IsOfKind, IsReadyAt}
-use Rattle.history_witnesses.specs.Scene.{device_with, having, page_entry, running_port, showing}
+use Rattle.history_witnesses.specs.Scene.{device_with, having, page_entry, plain, running_port, showing}
 use Rattle.std.specs.Prelude.{Ok}
 use Rattle.hba_regs.specs.declared.reg.Reg.TheVariants.{Px}
 use Rattle.hba_regs.specs.declared.reg.PortReg.TheVariants.{Ci}
@@ -52,10 +47,12 @@ use Rattle.driver_history.specs.Evidence.{IsEvidencedOf, ShowsFailure, ShowsLoss
 use Rattle.driver_history.specs.Histories.{IssuesDue, IssuesOn, Ties, TiesPort, Begins}
 use Rattle.history_witnesses.specs.Begun.{ReadyPortHasBegun}
 use Rattle.history_witnesses.proofs.Holding.{first_slots, fit_disk, have_first, no_slots, requests_first, requests_none, runs_on, serves_first, unfailing, unlost, unnamed_evidenced, unserved_at, uses_first, IsCalm, no_trouble}
+use Rattle.history_witnesses.proofs.Memory.{past_driver, tells}
 use Rattle.history_witnesses.proofs.Pages.{info}
 use Rattle.history_witnesses.proofs.Command.{place_bytes, read_bytes, read_memory, told, zeros}
 use Rattle.history_witnesses.proofs.Devices.{leaves}
 use Rattle.history_witnesses.proofs.Submitting.{booted, issued, others_clear, pages, second, submit_accesses, submits, submitted}
+use Rattle.history_witnesses.proofs.Members.{nowhere, only}
 
 -- ---- the machine
 
@@ -88,7 +85,7 @@ accepted = record { id = first_id; port = port_at 0; asked = asked; held = block
 pub is_acceptable : IsAcceptable (situation_of first.moment) asked
 is_acceptable = acceptable 0 (situation_of first.moment) asked (record {
   rows = refl;
-  mine = contains_here (row 0) (row 1 ∷ []) (row 0) refl;
+  mine = (0, omega arith, refl);
   client_is = refl;
   grant = refl;
   allowed = refl;
@@ -122,7 +119,7 @@ abbrev pub submit_steps : List Step
 submit_steps = Issue plain waits ∷ Accept accepted ∷ []
 
 pub may_issue : May (after start (Accept accepted ∷ [])) (Issue plain waits)
-may_issue = (contains_here waits [] waits refl, record { here = contains_here _ [] _ refl; clear = refl; slot = λ h. absurd (true≢false h) }, λ e h. absurd (contains_none e h))
+may_issue = ((0, omega arith, refl), record { here = (0, omega arith, refl); clear = refl; slot = λ h. absurd (true≢false h) }, λ e h. absurd (nowhere e h))
 
 abbrev pub issuing : Machine
 issuing = after start submit_steps
@@ -131,18 +128,10 @@ abbrev pub waiting : Pending
 waiting = issue waits
 
 pub in_book : (e : Pending) → Contains issuing.book e → e ≡ waiting
-in_book e here = ⊎_elim (λ same. same) (λ none. absurd (contains_none e none)) (contains_cases waiting [] e here)
+in_book e here = only waiting e here
 
 abbrev pub submitted_at : Instant Device
 submitted_at = record { device = submitted; moment = record { machine = issuing; ports = both } }
-
--- ---- memory
-
-pub past_driver : (f : Frame) (b : ℕ) → 40 ≤ f.0 → read_memory (4096 * f.0 + b) ≡ 0
-unfolding read_memory
-past_driver f b from =
-    patched_past (patched (patched zeros 0 header_bytes) 0x1000 read_bytes) 0x1080 place_bytes (4096 * f.0 + b) (omega (arith, from))
-    ∙ (patched_past (patched zeros 0 header_bytes) 0x1000 read_bytes (4096 * f.0 + b) (omega (arith, from)) ∙ patched_past zeros 0 header_bytes (4096 * f.0 + b) (omega (arith, from)))
 
 -- ---- device and machine agree
 
@@ -219,7 +208,7 @@ submitted_in (suc (suc n)) = refl
 pub serves : ServesRequest issuing read_memory issued 0 0 first_id
 serves = record {
   pending = waiting;
-  moves = inl (contains_here waiting [] waiting refl, refl);
+  moves = inl ((0, omega arith, refl), refl);
   id_is = refl;
   port_is = refl;
   placed = record { port_below = omega arith; slot_below = omega arith; list = refl };
@@ -227,7 +216,7 @@ serves = record {
   places = cut 0x28000 1;
   told = told;
   means = record { op = refl; first = λ _. refl; places_are = (refl, places); head = λ e. absurd (let x : Read ≡ Trim = e in cc) };
-  stage = inl (record { started = refl; issued = refl; free = refl; sact = refl; block = tt; untouched = λ i. sym (none_below i); unended = refl });
+  stage = inl (record { started = refl; issued = refl; free = refl; sact = refl; block = tt; untouched = λ i. sym (le-ltb i 0 (omega arith)); unended = refl });
 }
   where
     places : (i : ℕ) → i < 1 → slice_index (cut 0x28000 1) i ≡ place_in (frame 40 ∷ []) i
@@ -247,7 +236,7 @@ submitted_slot (suc (suc n)) k = record { issued = refl; free = refl; unarmed = 
 knows_first : Knows start (at no_slots booted)
 knows_first = agreeing start no_slots pages zeros (running_port 0) second
     (record { own_first = refl; own_second = refl; disks = (refl, refl); present = both_in; ids = refl; sizes = refl; bytes = refl })
-    ready_free free_apart (λ f b from small. refl) (λ n e may at_port. ⊎_elim (λ z. absurd (contains_none e z.0)) (λ z. absurd (contains_none e z)) may)
+    ready_free free_apart (λ f b from small. refl) (λ n e may at_port. ⊎_elim (λ z. absurd (nowhere e z.0)) (λ z. absurd (nowhere e z)) may)
 
 knows_submitted : Knows issuing (at first_slots submitted)
 knows_submitted = agreeing issuing first_slots pages read_memory issued second
@@ -255,7 +244,7 @@ knows_submitted = agreeing issuing first_slots pages read_memory issued second
     submitted_slot first_apart (λ f b from small. past_driver f b from)
     (λ n e may at_port. inr (⊎_elim
     (λ here. have_first e n (ap (λ (x : Pending). x.request.port.0) (in_book e here.0)) (ap (λ (x : Pending). x.request.id) (in_book e here.0)) at_port)
-    (λ kept. absurd (contains_none e kept)) may))
+    (λ kept. absurd (nowhere e kept)) may))
 
 -- ---- what holds
 
@@ -276,7 +265,7 @@ second_ready s m more p memory unpaged free unparked unkept = record {
   disk = fit_disk 1 (device_with (pages ++ more) memory (p ∷ second ∷ [])) (page_entry 0 ∷ []) more refl refl refl refl unpaged;
   shows = record { serial = refl; sectors = refl; trims = refl; mode = refl };
   slots = requests_none s (record { device = device_with (pages ++ more) memory (p ∷ second ∷ []); moment = record { machine = m; ports = both } }) (port_at 1) plain free unparked;
-  kept = λ e k. absurd (contains_none e (subst (λ (es : List Pending). Contains es e) unkept k));
+  kept = λ e k. absurd (nowhere e (subst (λ (es : List Pending). Contains es e) unkept k));
 }
 
 first_ready : IsReadyAt Any no_slots first (port_at 0)
@@ -287,7 +276,7 @@ first_ready = record {
   disk = fit_disk 0 booted [] (page_entry 1 ∷ []) refl refl refl refl (other_page [] (no_page 0));
   shows = record { serial = refl; sectors = refl; trims = refl; mode = refl };
   slots = requests_none no_slots first (port_at 0) plain (λ slot. refl) refl;
-  kept = λ e k. absurd (contains_none e k);
+  kept = λ e k. absurd (nowhere e k);
 }
 
 kind_of : (e : Pending) → e ≡ waiting → IsOfKind plain submitted 0 0 e
@@ -301,20 +290,20 @@ submitted_ready = record {
   disk = fit_disk 0 submitted [] (page_entry 1 ∷ []) refl refl refl refl (other_page [] (no_page 0));
   shows = record { serial = refl; sectors = refl; trims = refl; mode = refl };
   slots = requests_first submitted_at plain (omega arith) (λ e here. kind_of e (in_book e here));
-  kept = λ e k. absurd (contains_none e k);
+  kept = λ e k. absurd (nowhere e k);
 }
 
 port_first : (n : ℕ) → HoldsOf (wanted_of (Any ∷ Any ∷ []) n) no_slots first (port_at n) (both.served (port_at n)) (both.state (port_at n))
 port_first zero = first_ready
 port_first (suc zero) = second_ready no_slots start [] (running_port 0) zeros (no_page 1) (λ slot. refl) refl refl
-port_first (suc (suc n)) = unserved_at no_slots first (suc (suc n)) refl refl (record { free = λ slot. refl; unparked = refl }) (λ e here. absurd (contains_none e here)) (λ e kept. absurd (contains_none e kept))
+port_first (suc (suc n)) = unserved_at no_slots first (suc (suc n)) refl refl (record { free = λ slot. refl; unparked = refl }) (λ e here. absurd (nowhere e here)) (λ e kept. absurd (nowhere e kept))
 
 port_submitted : (n : ℕ) → HoldsOf (wanted_of (Any ∷ Any ∷ []) n) first_slots submitted_at (port_at n) (both.served (port_at n)) (both.state (port_at n))
 port_submitted zero = submitted_ready
 port_submitted (suc zero) = second_ready first_slots issuing [] issued read_memory (no_page 1) (λ slot. refl) refl refl
 port_submitted (suc (suc n)) = unserved_at first_slots submitted_at (suc (suc n)) refl refl (record { free = λ slot. refl; unparked = refl })
     (λ e here is. let z : 0 ≡ suc (suc n) = sym (ap (λ (x : Pending). x.request.port.0) (in_book e here)) ∙ ap (λ (p : Port). p.0) is in omega (arith, z))
-    (λ e kept. absurd (contains_none e kept))
+    (λ e kept. absurd (nowhere e kept))
 
 pub served_of : (tape : List Entry) (memory : ℕ → ℕ) (ports : List PortState) (n : ℕ) → (both.served (port_at n) ≡ true) ↔ IsServed (wanted_of (Any ∷ Any ∷ []) n) n (device_with tape memory ports)
 served_of tape memory ports zero = (λ _. ((λ e. let x : Any ≡ Nothing = e in absurd cc), refl), λ _. refl)
@@ -396,10 +385,10 @@ submit = record {
 }
 
 pub none_due : (port : Port) → NoneDue plain (unanswered waiting ∷ []) port
-none_due port r at_port due = ⊎_elim
-    (λ (same : r ≡ unanswered waiting). let waits : false ≡ true = sym (ap (is_clear plain (unanswered waiting ∷ [])) same) ∙ due.clear in absurd (true≢false (sym waits)))
-    (λ none. contains_none r none)
-    (contains_cases (unanswered waiting) [] r due.here)
+none_due port r at_port due =
+    let same = only (unanswered waiting) r due.here in
+    let waits : false ≡ true = sym (ap (is_clear plain (unanswered waiting ∷ [])) same) ∙ due.clear in
+    absurd (true≢false (sym waits))
 
 pub submit_happens : Happens first.moment submit.event
 submit_happens = record {
@@ -444,12 +433,12 @@ calm memory p n x there quiet new (suc (suc k)) is = absurd (let z : Absent ≡ 
 submit_evidenced : (n : ℕ) → IsEvidencedOf (Submit asked) (Submitted (Ok first_id)) submit_accesses first both submitted nothing (port_at n)
 submit_evidenced n = unnamed_evidenced (Submit asked) (Submitted (Ok first_id)) submit_accesses first both submitted nothing (port_at n)
     (record {
-      lost = contains_none (port_at n);
-      gone = contains_none (port_at n);
-      failed = contains_none (port_at n);
-      fatal = contains_none (port_at n);
-      stopped = contains_none (port_at n);
-      stuck = contains_none (port_at n);
+      lost = nowhere (port_at n);
+      gone = nowhere (port_at n);
+      failed = nowhere (port_at n);
+      fatal = nowhere (port_at n);
+      stopped = nowhere (port_at n);
+      stuck = nowhere (port_at n);
     })
     (calm zeros (running_port 0) refl refl refl (λ place. refl) submitted n)
     (leaves (λ r. r ≡ Px (port_at 0) Ci) (port_at n) (λ is. cc) (λ is. cc) submit_accesses (omega arith, (omega arith, (omega arith, (refl, tt)))))
@@ -461,23 +450,21 @@ submit_part n = record {
   tries = tt;
   boots = tt;
   trouble = no_trouble nothing first both submitted (port_at n) [] refl (All-nil (IsCalm n)) (served_ready n) (calm zeros (running_port 0) refl refl refl (λ place. refl) submitted n);
-  well = λ why. absurd (⊎_elim (contains_none (port_at n)) (contains_none (port_at n)) why);
-  heeds = λ why. ⊎_elim (λ h. contains_none (port_at n) h) (λ h. contains_none (port_at n) h) why;
+  well = λ why. absurd (⊎_elim (nowhere (port_at n)) (nowhere (port_at n)) why);
+  heeds = λ why. ⊎_elim (λ h. nowhere (port_at n) h) (λ h. nowhere (port_at n) h) why;
 }
 
 -- the read was due, and is issued
 issues_due : (port : Port) → IssuesDue plain submit_steps issuing port
-issues_due port r here at_port = ⊎_elim
-    (λ (same : r ≡ unanswered waits). subst (λ (x : Unanswered). IsIssuedIn x.id submit_steps ↔ IsDue plain (unanswered waits ∷ []) x) (sym same) (λ _. may_issue.1, λ _. refl))
-    (λ none. absurd (contains_none r none))
-    (contains_cases (unanswered waits) [] r here)
+issues_due port r here at_port =
+    subst (λ (x : Unanswered). IsIssuedIn x.id submit_steps ↔ IsDue plain (unanswered waits ∷ []) x) (sym (only (unanswered waits) r here)) (λ _. may_issue.1, λ _. refl)
 
 pub submit_ties : Ties (Any ∷ Any ∷ []) first submit
 submit_ties = record {
   accesses = submit_accesses;
-  came = (submits, (row 0, (contains_here (row 0) (row 1 ∷ []) (row 0) refl, (refl, refl)), issues));
+  came = (submits, (row 0, ((0, omega arith, refl), (refl, refl)), issues));
   backed = submit_backed;
-  evidenced = record { faults = λ f here. absurd (contains_none f here); port = λ port. submit_evidenced port.0 };
+  evidenced = record { faults = λ f here. absurd (nowhere f here); port = λ port. submit_evidenced port.0 };
   issues = λ port is. issues_due port;
   port = λ port healthy. submit_part port.0;
   holds = (first_slots, holds_submitted);

@@ -5,7 +5,7 @@ use Rattle.adapter.specs.Steps.{move_of, done_entry}
 use Rattle.std.proofs.Common.{ℕ, zero, suc, ◌≡◌, ◌≢◌, ◌∙◌, true, false, List, [], ◌∷◌, inl, inr, ⊎_elim, refl, sym, ap, arith, ◌⊎◌, ◌++◌}
 use Rattle.std.proofs.lemmas.Bool.{true≢false}
 use Rattle.std.specs.List.{Contains, All}
-use Rattle.std.proofs.lemmas.List.Elements.{All-nil, All-cons}
+use Rattle.std.proofs.lemmas.List.Elements.{All-nil, All-cons, All-contains}
 use Rattle.ata_types.specs.declared.Port.{Port}
 use Rattle.ata_types.specs.declared.PortState.TheVariants.{Absent, Ready, Unfit, Dead}
 use Rattle.ata_types.specs.declared.request.Op.TheVariants.{Read, Write}
@@ -15,14 +15,11 @@ use Rattle.adapter.specs.declared.tape.Entry.TheVariants as entry
 use Rattle.agreement.specs.Agrees.{port_at}
 use Rattle.agreement.specs.Driver.{IsBacked}
 use Rattle.agreement.specs.Witness.{first_id}
-use Rattle.agreement.proofs.Witness.{tells}
 use Rattle.block_machine.specs.Histories.{Happening}
 use Rattle.block_machine.specs.Events.{HadDisk, Happens, Service, Served, ServesReady}
 use Rattle.block_machine.specs.Ports.{AreFit, IsInterrupted, IsServiced, SamePort}
 use Rattle.block_machine.specs.State.{Pending}
-use Rattle.block_machine.specs.Steps.{End, Answer, Unplug}
-use Rattle.block_machine.proofs.Members.{contains_none, contains_here, contains_cases, contains_there}
-use Rattle.block_machine.proofs.Setting.{client}
+use Rattle.block_machine.specs.Steps.{Step, End, Answer, Unplug}
 use Rattle.identify.specs.declared.wanted.Wanted.TheVariants.{Any}
 use Rattle.std.proofs.lemmas.List.Sorted.{IsPermutation-refl}
 use Rattle.ata_types.specs.declared.request.Outcome.{Outcome}
@@ -44,7 +41,9 @@ use Rattle.history_witnesses.proofs.Devices.{does_append, IsOf, leaves, no_bit, 
 use Rattle.history_witnesses.proofs.Submitting.{issued, submitted, command}
 use Rattle.history_witnesses.proofs.Accepting.{asked, both, calm, first, fit_both, in_book, issuing, not_dead, served_ready, starts, submit, submit_happens, submit_parts, submit_ties, submitted_at, waiting, begins}
 use Rattle.history_witnesses.proofs.Losing.{finding_allowed, losing_allowed, between, finds, loses, lost}
+use Rattle.history_witnesses.proofs.Memory.{tells}
 use Rattle.history_witnesses.proofs.Lost.{all_touched, ended, gained, holds_lost, lost_at, one, service_steps, touched, touching}
+use Rattle.history_witnesses.proofs.Members.{nowhere}
 
 -- ---- ports
 
@@ -74,7 +73,7 @@ not_dead_then (suc (suc n)) is = let x : Absent ≡ Dead = is in cc
 -- ---- the service
 
 abbrev reply : Reply
-reply = record { id = first_id; client = client; outcome = outcome.Ok }
+reply = record { id = first_id; client = asked.client; outcome = outcome.Ok }
 
 abbrev service : Happening Device DeviceStep
 service = record {
@@ -86,18 +85,20 @@ abbrev turns : List Access
 turns = finding_turn ++ losing_turn
 
 answer_here : Contains service_steps (Answer ended outcome.Ok)
-answer_here = contains_there (Unplug (port_at 1)) (Answer ended outcome.Ok ∷ End touched ∷ touching ∷ []) (Answer ended outcome.Ok)
-    (contains_here (Answer ended outcome.Ok) (End touched ∷ touching ∷ []) (Answer ended outcome.Ok) refl)
+answer_here = (1, omega arith, refl)
 
 -- it is the one answer
 only_ok : (e : Pending) (o : Outcome) → Contains service_steps (Answer e o) → o ≡ outcome.Ok
-only_ok e o here = ⊎_elim (λ (same : Answer e o ≡ Unplug (port_at 1)). absurd cc)
-    (λ rest. ⊎_elim (λ (same : Answer e o ≡ Answer ended outcome.Ok). cc)
-    (λ rest. ⊎_elim (λ (same : Answer e o ≡ End touched). absurd cc)
-    (λ rest. ⊎_elim (λ (same : Answer e o ≡ touching). absurd cc) (λ none. absurd (contains_none _ none)) (contains_cases touching [] (Answer e o) rest))
-    (contains_cases (End touched) (touching ∷ []) (Answer e o) rest))
-    (contains_cases (Answer ended outcome.Ok) (End touched ∷ touching ∷ []) (Answer e o) rest))
-    (contains_cases (Unplug (port_at 1)) (Answer ended outcome.Ok ∷ End touched ∷ touching ∷ []) (Answer e o) here)
+only_ok e o here =
+    All-contains IsOk service_steps (Answer e o)
+    (All-cons IsOk (Unplug (port_at 1)) (Answer ended outcome.Ok ∷ End touched ∷ touching ∷ []) (λ e o same. absurd cc)
+    (All-cons IsOk (Answer ended outcome.Ok) (End touched ∷ touching ∷ []) (λ e o same. cc)
+    (All-cons IsOk (End touched) (touching ∷ []) (λ e o same. absurd cc)
+    (All-cons IsOk touching [] (λ e o same. absurd cc) (All-nil IsOk)))))
+    here e o refl
+  where
+    IsOk : Step → Type 0
+    IsOk step = (e : Pending) (o : Outcome) → step ≡ Answer e o → o ≡ outcome.Ok
 
 not_unplugged : (e : Pending) → Contains service_steps (Answer e outcome.Unplugged) → ⊥
 not_unplugged e here = let x : outcome.Unplugged ≡ outcome.Ok = only_ok e outcome.Unplugged here in cc
@@ -109,7 +110,7 @@ becomes n = (
     record {
       served = refl;
       stuck = λ is. absurd (not_dead_then n is);
-      dies = λ h. absurd (contains_none (port_at n) h);
+      dies = λ h. absurd (nowhere (port_at n) h);
       keeps = λ is. (refl, refl);
     },
     changes n,
@@ -131,25 +132,25 @@ service_happens = record {
   may = (
     (
       (
-        (tt, (inl (contains_here waiting [] waiting refl, refl), omega arith, refl, omega arith, λ e. absurd (let x : Read ≡ Write = e in cc))),
-        (inl (contains_here touched [] touched refl, refl), all_touched, refl),
+        (tt, (inl ((0, omega arith, refl), refl), omega arith, refl, omega arith, λ e. absurd (let x : Read ≡ Write = e in cc))),
+        (inl ((0, omega arith, refl), refl), all_touched, refl),
       ),
-      contains_here ended [] ended refl,
+      (0, omega arith, refl),
     ),
     refl,
   );
   belong = ((((tt, inl tt), inl tt), inr tt), inl tt);
   last = ((((tt, λ id h is. absurd (true≢false (sym is))), λ id h is. absurd (true≢false (sym is))), λ id h is. absurd (true≢false (sym is))), λ id h is. absurd (true≢false (sym is)));
-  lawful = (tt, (record { pending = waiting; here = contains_here waiting [] waiting refl; id_is = refl; issued = refl }, refl, all_touched, refl));
+  lawful = (tt, (record { pending = waiting; here = (0, omega arith, refl); id_is = refl; issued = refl }, refl, all_touched, refl));
   fit = fit_one;
-  disks = λ e o here. absurd (contains_none e here);
+  disks = λ e o here. absurd (nowhere e here);
   answered = record {
     tells = record { answers = (ended, outcome.Ok) ∷ []; same = IsPermutation-refl _; ordered = λ i j d less low. absurd (omega (arith, less, low)); told = refl };
     dead = λ e o here is. absurd (not_dead e.request.port.0 is);
     grounded = tt;
     unplugs = record { emptied = λ e other here. absurd (not_unplugged e here); alike = λ e other here. absurd (not_unplugged e here) };
-    issues = λ port is r at_port due. absurd (contains_none r due.here);
-    emptied = λ port other e here. absurd (contains_none e here);
+    issues = λ port is r at_port due. absurd (nowhere r due.here);
+    emptied = λ port other e here. absurd (nowhere e here);
     becomes = λ port. becomes port.0;
     disk = λ port. had_disk port.0;
   };
@@ -167,7 +168,7 @@ service_backed = record {
     tt,
     record {
       pending = waiting;
-      moves = inl (contains_here waiting [] waiting refl, refl);
+      moves = inl ((0, omega arith, refl), refl);
       port_is = refl;
       op_is = refl;
       number = 0;
@@ -183,7 +184,7 @@ service_backed = record {
       End touched ∷ [],
       Unplug (port_at 1) ∷ Answer ended outcome.Ok ∷ [],
       tt,
-      record { pending = touched; moves = inl (contains_here touched [] touched refl, refl); port_is = refl; op_is = refl; step = refl },
+      record { pending = touched; moves = inl ((0, omega arith, refl), refl); port_is = refl; op_is = refl; step = refl },
       (Answer ended outcome.Ok ∷ [], Unplug (port_at 1) ∷ [], [], (tt, λ d. d), refl, tt, refl),
       refl,
     ),
@@ -236,10 +237,10 @@ unnamed : (n : ℕ) → n ≢ 1 → IsUnnamed loss_evidence (port_at n)
 unnamed n ne = record {
   lost = λ h. ne (named_is 1 n h);
   gone = λ h. ne (named_is 1 n h);
-  failed = contains_none (port_at n);
-  fatal = contains_none (port_at n);
+  failed = nowhere (port_at n);
+  fatal = nowhere (port_at n);
   stopped = λ h. ne (named_is 1 n h);
-  stuck = contains_none (port_at n);
+  stuck = nowhere (port_at n);
 }
 
 apart_evidenced : (n : ℕ) → n ≢ 1 → IsEvidencedOf Service (Served (reply ∷ [])) turns submitted_at one lost loss_evidence (port_at n)
@@ -256,12 +257,12 @@ service_evidenced (suc zero) =
       gone_all = λ is loss. named 1;
       gone_only = λ h. (refl, inr (inr gains));
       failed_all = λ is f. absurd (quiet.1 f);
-      failed_only = λ h. absurd (contains_none (port_at 1) h);
+      failed_only = λ h. absurd (nowhere (port_at 1) h);
       fatal_all = λ is f. absurd (quiet.1 (inl f));
-      fatal_only = λ h. absurd (contains_none (port_at 1) h);
+      fatal_only = λ h. absurd (nowhere (port_at 1) h);
       stopped_all = inr (inl (named 1));
       stopped_only = λ h. inl stops;
-      stuck_only = λ h. absurd (contains_none (port_at 1) h);
+      stuck_only = λ h. absurd (nowhere (port_at 1) h);
     }
 service_evidenced (suc (suc n)) = apart_evidenced (suc (suc n)) (omega arith)
 
@@ -285,27 +286,27 @@ not_ended e here is = absurd (true≢false (sym is ∙ (ap (λ (x : Pending). x.
 heeds : (n : ℕ) → both.state (port_at n) ≡ Ready → ServesReady submitted_at.moment loss_evidence service_steps lost_at.moment (port_at n)
 heeds zero is = record {
   ended = λ e here at_port done. absurd (not_ended e here done);
-  emptied = λ g e here. absurd (contains_none e here);
+  emptied = λ g e here. absurd (nowhere e here);
   told = λ g. absurd ((unnamed 0 (omega arith)).gone g);
-  interrupts = λ why. absurd (⊎_elim (contains_none (port_at 0)) (unnamed 0 (omega arith)).gone why);
-  anew = λ why e here. absurd (contains_none e here);
+  interrupts = λ why. absurd (⊎_elim (nowhere (port_at 0)) (unnamed 0 (omega arith)).gone why);
+  anew = λ why e here. absurd (nowhere e here);
   single = omega arith;
-  fatal = λ h. absurd (contains_none (port_at 0) h);
+  fatal = λ h. absurd (nowhere (port_at 0) h);
   disk = λ shows. inl refl;
   calm = inr (record {
     same = (refl, refl, refl, refl, refl, refl);
     told = λ e o here at_port. inl (only_ok e o here);
-    uninterrupted = λ why. ⊎_elim (unnamed 0 (omega arith)).stopped (contains_none (port_at 0)) why;
+    uninterrupted = λ why. ⊎_elim (unnamed 0 (omega arith)).stopped (nowhere (port_at 0)) why;
   });
 }
 heeds (suc zero) is = record {
   ended = λ e here at_port done. absurd (not_ended e here done);
-  emptied = λ g e here. absurd (contains_none e here);
+  emptied = λ g e here. absurd (nowhere e here);
   told = λ g. inl (λ e o here at_port. inl (only_ok e o here));
   interrupts = λ why. inl (named 1);
-  anew = λ why e here. absurd (contains_none e here);
+  anew = λ why e here. absurd (nowhere e here);
   single = omega arith;
-  fatal = λ h. absurd (contains_none (port_at 1) h);
+  fatal = λ h. absurd (nowhere (port_at 1) h);
   disk = λ shows. absurd shows;
   calm = inl (inr (inl (named 1)));
 }
@@ -367,8 +368,8 @@ service_ties = record {
   accesses = turns;
   came = (does_append finding_turn losing_turn submitted between lost finds loses, serving (TendsPort both) turns of_served);
   backed = service_backed;
-  evidenced = record { faults = λ f here. absurd (contains_none f here); port = λ port. service_evidenced port.0 };
-  issues = λ port is r here. absurd (contains_none r here);
+  evidenced = record { faults = λ f here. absurd (nowhere f here); port = λ port. service_evidenced port.0 };
+  issues = λ port is r here. absurd (nowhere r here);
   port = λ port healthy. service_part port.0;
   holds = (no_slots, holds_lost);
 }

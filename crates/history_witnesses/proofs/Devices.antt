@@ -1,7 +1,7 @@
 -- One port of a device is changed, by an access or by a step of the device; and what accesses leave.
-use Rattle.std.proofs.Common.{ℕ, zero, suc, inl, inr, ◌/◌, ◌≡◌, ◌≢◌, ◌+◌, ◌≤◌, ◌++◌, ◌==◌, true, false, List, [], ◌∷◌, length, None, refl, sym, ◌∙◌, ap, subst, ⊎_elim}
+use Rattle.std.proofs.Common.{ℕ, zero, suc, inl, inr, ◌/◌, ◌≡◌, ◌≢◌, ◌+◌, ◌≤◌, ◌++◌, ◌==◌, true, false, List, [], ◌∷◌, length, None, arith, refl, sym, ◌∙◌, ap, subst, ⊎_elim}
 use Rattle.std.specs.List.{All}
-use Rattle.std.proofs.lemmas.Bool.{cases_eq, true≢false}
+use Rattle.std.proofs.lemmas.Bool.{cases_eq, cond-false, cond-true, eq-eqb, ne_eqb, true≢false}
 use Rattle.std.proofs.lemmas.List.Elements.{All-nil, All-cons}
 use Rattle.std.proofs.lemmas.Nat.Bits.{bit_at-suc, bit_at-zero}
 use Rattle.std.specs.Int.{bit_at}
@@ -17,9 +17,9 @@ use Rattle.adapter.specs.Access.Access.{Reading, Writing, Loading, Storing}
 use Rattle.adapter.specs.Device.{PortState, Device}
 use Rattle.adapter.specs.Memory.{changed}
 use Rattle.adapter.specs.Rules.{MayCommand, MayStart}
+use Rattle.adapter.specs.Steps.{Can, Leads, Step, Steps, after}
 use Rattle.adapter.specs.Steps.Step.{Fall}
 use Rattle.adapter.specs.declared.tape.Entry.{Entry}
-use Rattle.adapter.proofs.Changed.{changed_same, changed_other, fun_ext}
 use Rattle.agreement.specs.Agrees.{port_at}
 use Rattle.driver_history.specs.Trace.{LeavesEngine, IsServing, IsOfPorts}
 use Rattle.history_witnesses.specs.Scene.{device_with, having}
@@ -27,10 +27,19 @@ use Rattle.history_witnesses.specs.Scene.{device_with, having}
 -- ---- one port is changed
 
 put : (k : ℕ) (f g : ℕ → PortState) (x : PortState) → g k ≡ x → ((n : ℕ) → n ≢ k → g n ≡ f n) → g ≡ changed f k x
-put k f g x here others = fun_ext (λ n. ⊎_elim
-    (λ (same : n ≡ k). subst (λ (m : ℕ). g m ≡ changed f k x m) (sym same) (here ∙ sym (changed_same f k x)))
-    (λ (ne : n ≢ k). others n ne ∙ sym (changed_other f k x n ne))
-    (cases_eq n k))
+unfolding changed
+put k f g x here others = λ i n. each n i
+  where
+    each : (n : ℕ) → g n ≡ changed f k x n
+    each n = ⊎_elim
+        (λ (same : n ≡ k). ap g same ∙ here ∙ sym (cond-true (n == k) x (f n) (eq-eqb n k same)))
+        (λ (ne : n ≢ k). others n ne ∙ sym (cond-false (n == k) x (f n) (ne_eqb n k ne)))
+        (cases_eq n k)
+
+-- what a change of its first place leaves of a function
+pub past_first : {A : Type 0} (f : ℕ → A) (new : A) (k : ℕ) → changed f 0 new (suc k) ≡ f (suc k)
+unfolding changed
+past_first f new k = cond-false (suc k == 0) new (f (suc k)) (ne_eqb (suc k) 0 (omega arith))
 
 -- these ports differ from those at one place at most
 abbrev pub AlikeBut : ℕ → List PortState → List PortState → Type 0
@@ -87,12 +96,20 @@ falls_reads tape memory k v old mid new first then st cr fallen shows here = rec
 pub no_bit : (k : ℕ) → bit 0 k ≡ false
 no_bit k = ap (λ (b : ℕ). b == 1) (bit_at-zero k)
 
+-- a step of the device's, and what it does then
+pub step_first : (step : Step) (old mid new : Device) → Can step old → mid ≡ after step old → Steps mid new → Steps old new
+step_first step old mid new can is rest = record { steps = step ∷ rest.steps; lead = (can, subst (λ (d : Device). Leads rest.steps d new) is rest.lead) }
+
 -- ---- PxCMD
 
 -- values that differ in bit 0 at most
 same_above : (v w : ℕ) → v / 2 ≡ w / 2 → (place : ℕ) → place ≢ 0 → bit v place ≡ bit w place
 same_above v w half zero ne = absurd (ne refl)
 same_above v w half (suc k) ne = ap (λ (b : ℕ). b == 1) (bit_at-suc v k ∙ ap (λ (x : ℕ). bit_at x k) half ∙ sym (bit_at-suc w k))
+
+-- 1 has no other bit than the first
+pub other_bit : (k : ℕ) → k ≢ 0 → bit 1 k ≡ false
+other_bit k ne = same_above 1 0 refl k ne ∙ no_bit k
 
 -- ST may be cleared where FRE is set, and where the value is as it was read but for ST
 pub may_stop : (p : PortState) (v was : ℕ) → bit v 0 ≡ false → bit v 4 ≡ true → p.fre ≡ true → p.notes.last_cmd ≡ was → v / 2 ≡ was / 2 → MayCommand p v

@@ -22,7 +22,6 @@ use Rattle.block_machine.specs.Ports.{IsServiced, Ports, AreFit}
 use Rattle.block_machine.specs.Left.{after}
 use Rattle.block_machine.specs.State.{Pending, Machine}
 use Rattle.block_machine.specs.Steps.{Step, Answer, NoneKept}
-use Rattle.block_machine.proofs.Members.{contains_none, contains_here, contains_cases}
 use Rattle.host_boot.specs.Taken.{wanted_of}
 use Rattle.identify.specs.declared.wanted.Wanted.TheVariants.{Any}
 use Rattle.driver_history.specs.Evidence.{IsEvidencedOf}
@@ -44,6 +43,7 @@ use Rattle.history_witnesses.proofs.Devices.{leaves}
 use Rattle.history_witnesses.proofs.Holding.{first_slots, have_first, unnamed_evidenced, unserved_at, uses_first, IsCalm, no_trouble}
 use Rattle.history_witnesses.proofs.Submitting.{issued, pages, second, submitted}
 use Rattle.history_witnesses.proofs.Accepting.{asked, both, calm, first, fit_both, holds_submitted, in_book, issuing, served_of, starts, submit, submit_happens, submit_ties, submitted_at, waiting, serves, begins, served_ready}
+use Rattle.history_witnesses.proofs.Members.{nowhere, only, either}
 
 -- ---- the reset
 
@@ -158,22 +158,22 @@ named_served zero h = refl
 named_served (suc zero) h = refl
 named_served (suc (suc n)) h = absurd (⊎_elim
     (λ (same : port_at (suc (suc n)) ≡ port_at 0). let z : suc (suc n) ≡ 0 = ap (λ (p : Port). p.0) same in omega (arith, z))
-    (λ rest. ⊎_elim (λ (same : port_at (suc (suc n)) ≡ port_at 1). let z : suc (suc n) ≡ 1 = ap (λ (p : Port). p.0) same in omega (arith, z)) (λ none. contains_none _ none) (contains_cases (port_at 1) [] (port_at (suc (suc n))) rest))
-    (contains_cases (port_at 0) (port_at 1 ∷ []) (port_at (suc (suc n))) h))
+    (λ (same : port_at (suc (suc n)) ≡ port_at 1). let z : suc (suc n) ≡ 1 = ap (λ (p : Port). p.0) same in omega (arith, z))
+    (either (port_at 0) (port_at 1) (port_at (suc (suc n))) h))
 
 reset_evidenced : (n : ℕ) → IsEvidencedOf Reset (WasReset None) reset_accesses submitted_at dead pending stuck_evidence (port_at n)
 reset_evidenced n =
     let quiet = calm read_memory issued refl refl refl (λ place. refl) pending n in
     record {
-      lost = λ h. absurd (contains_none (port_at n) h);
+      lost = λ h. absurd (nowhere (port_at n) h);
       gone_all = λ is loss. absurd ((quiet is).0 loss);
-      gone_only = λ h. absurd (contains_none (port_at n) h);
+      gone_only = λ h. absurd (nowhere (port_at n) h);
       failed_all = λ is f. absurd ((quiet is).1 f);
-      failed_only = λ h. absurd (contains_none (port_at n) h);
+      failed_only = λ h. absurd (nowhere (port_at n) h);
       fatal_all = λ is f. absurd ((quiet is).1 (inl f));
-      fatal_only = λ h. absurd (contains_none (port_at n) h);
+      fatal_only = λ h. absurd (nowhere (port_at n) h);
       stopped_all = inl (leaves (λ r. r ≡ Ghc) (port_at n) (λ is. cc) (λ is. cc) reset_accesses (refl, tt));
-      stopped_only = λ h. absurd (contains_none (port_at n) h);
+      stopped_only = λ h. absurd (nowhere (port_at n) h);
       stuck_only = λ h. inr (tt, named_served n h);
     }
 
@@ -193,10 +193,10 @@ reset_ties = record {
   accesses = reset_accesses;
   came = (resets, record { asked = []; shown = 0x80000001; here = refl; only = All-nil AsksReset; pending = refl });
   backed = reset_backed;
-  evidenced = record { faults = λ f here. absurd (contains_none f here); port = λ port. reset_evidenced port.0 };
+  evidenced = record { faults = λ f here. absurd (nowhere f here); port = λ port. reset_evidenced port.0 };
   issues = λ port is. absurd (not_ready port.0 is);
   port = λ port healthy. reset_part port.0;
-  holds = (first_slots, holds_dead issuing (still_knows issuing holds_submitted.knows) waits_first (λ n ne e kept. absurd (contains_none e kept)));
+  holds = (first_slots, holds_dead issuing (still_knows issuing holds_submitted.knows) waits_first (λ n ne e kept. absurd (nowhere e kept)));
 }
 
 -- ---- the service
@@ -220,7 +220,7 @@ service = record {
 }
 
 is_kept : (e : Pending) → Contains answered.kept e → e ≡ waiting
-is_kept e here = ⊎_elim (λ same. same) (λ none. absurd (contains_none e none)) (contains_cases waiting [] e here)
+is_kept e here = only waiting e here
 
 -- the slot serves the kept request as it served it before
 serves_kept : ServesRequest answered read_memory issued 0 0 first_id
@@ -228,7 +228,7 @@ serves_kept =
     let s = serves in
     record {
       pending = s.pending;
-      moves = inr (contains_here waiting [] s.pending (⊎_elim (λ here. in_book s.pending here.0) (λ kept. absurd (contains_none s.pending kept)) s.moves));
+      moves = inr (0, omega arith, sym (⊎_elim (λ here. in_book s.pending here.0) (λ kept. absurd (nowhere s.pending kept)) s.moves));
       id_is = s.id_is;
       port_is = s.port_is;
       placed = s.placed;
@@ -257,7 +257,7 @@ knows_kept =
         sectors = λ telling n. let d = k.agrees.sectors telling n in record { told = d.told; tells = d.tells; same = d.same };
       };
       have = λ n e may at_port. inr (⊎_elim
-          (λ here. absurd (contains_none e here.0))
+          (λ here. absurd (nowhere e here.0))
           (λ kept. have_first e n (ap (λ (x : Pending). x.request.port.0) (is_kept e kept)) (ap (λ (x : Pending). x.request.id) (is_kept e kept)) at_port) may);
     }
 
@@ -265,10 +265,10 @@ kept_first : (n : ℕ) → n ≢ 0 → NoneKept answered (port_at n)
 kept_first n ne e here is = ne (sym (sym (ap (λ (x : Pending). x.request.port.0) (is_kept e here)) ∙ ap (λ (p : Port). p.0) is))
 
 only_dead : (e : Pending) (o : Outcome) → Contains (answer ∷ []) (Answer e o) → o ≡ outcome.PortDead
-only_dead e o here = ⊎_elim (λ (same : Answer e o ≡ answer). cc) (λ none. absurd (contains_none _ none)) (contains_cases answer [] (Answer e o) here)
+only_dead e o here = let same = only answer (Answer e o) here in cc
 
 only_one : (e : Pending) (o : Outcome) → Contains (answer ∷ []) (Answer e o) → e ≡ waiting
-only_one e o here = ⊎_elim (λ (same : Answer e o ≡ answer). cc) (λ none. absurd (contains_none _ none)) (contains_cases answer [] (Answer e o) here)
+only_one e o here = let same = only answer (Answer e o) here in cc
 
 not_unplugged : (e : Pending) → Contains (answer ∷ []) (Answer e outcome.Unplugged) → ⊥
 not_unplugged e here = let x : outcome.Unplugged ≡ outcome.PortDead = only_dead e outcome.Unplugged here in cc
@@ -282,7 +282,7 @@ becomes (suc (suc n)) = (
     record {
       served = refl;
       stuck = λ is. absurd (let x : Absent ≡ Dead = is in cc);
-      dies = λ h. absurd (contains_none (port_at (suc (suc n))) h);
+      dies = λ h. absurd (nowhere (port_at (suc (suc n))) h);
       keeps = λ is. (refl, refl);
     },
     inl (refl, refl, refl, refl, refl, refl),
@@ -291,19 +291,19 @@ becomes (suc (suc n)) = (
 
 service_happens : Happens pending_at.moment service.event
 service_happens = record {
-  may = (tt, contains_here waiting [] waiting refl);
+  may = (tt, (0, omega arith, refl));
   belong = (tt, inr tt);
   last = (tt, λ id handled issued_in. absurd (true≢false (sym issued_in)));
   lawful = (tt, refl);
   fit = fit_dead;
-  disks = λ e o here. absurd (contains_none e here);
+  disks = λ e o here. absurd (nowhere e here);
   answered = record {
     tells = record { answers = (waiting, outcome.PortDead) ∷ []; same = IsPermutation-refl _; ordered = λ i j d less low. absurd (omega (arith, less, low)); told = refl };
     dead = λ e o here is. only_dead e o here;
     grounded = tt;
     unplugs = record { emptied = λ e other here. absurd (not_unplugged e here); alike = λ e other here. absurd (not_unplugged e here) };
-    issues = λ port is r at_port due. absurd (contains_none r due.here);
-    emptied = λ port other e here. absurd (contains_none e here);
+    issues = λ port is r at_port due. absurd (nowhere r due.here);
+    emptied = λ port other e here. absurd (nowhere e here);
     becomes = λ port. becomes port.0;
     disk = λ port. inl (refl, refl, refl, refl, refl, refl);
   };
@@ -312,12 +312,12 @@ service_happens = record {
 service_evidenced : (n : ℕ) → IsEvidencedOf Service (Served replies) [] pending_at dead pending nothing (port_at n)
 service_evidenced n = unnamed_evidenced Service (Served replies) [] pending_at dead pending nothing (port_at n)
     (record {
-      lost = contains_none (port_at n);
-      gone = contains_none (port_at n);
-      failed = contains_none (port_at n);
-      fatal = contains_none (port_at n);
-      stopped = contains_none (port_at n);
-      stuck = contains_none (port_at n);
+      lost = nowhere (port_at n);
+      gone = nowhere (port_at n);
+      failed = nowhere (port_at n);
+      fatal = nowhere (port_at n);
+      stopped = nowhere (port_at n);
+      stuck = nowhere (port_at n);
     })
     (λ is. absurd (not_ready n is))
     (All-nil (LeavesEngine (port_at n)))
@@ -366,10 +366,10 @@ service_ties = record {
   accesses = [];
   came = (refl, All-nil (IsServing (TendsPort dead)));
   backed = service_backed;
-  evidenced = record { faults = λ f here. absurd (contains_none f here); port = λ port. service_evidenced port.0 };
+  evidenced = record { faults = λ f here. absurd (nowhere f here); port = λ port. service_evidenced port.0 };
   issues = λ port is. absurd (not_ready port.0 is);
   port = λ port healthy. service_part port.0;
-  holds = (first_slots, holds_dead answered knows_kept (λ n ne e here. absurd (contains_none e here)) kept_first);
+  holds = (first_slots, holds_dead answered knows_kept (λ n ne e here. absurd (nowhere e here)) kept_first);
 }
 
 pub death_is_a_history : DeathIsAHistory
@@ -386,7 +386,7 @@ death_is_a_history = record {
   serves = (refl, refl);
   history = (((((starts, fit_both), begins), submit_happens, submit_ties), reset_happens, reset_ties), service_happens, service_ties);
   kept = waiting;
-  keeps = (contains_here waiting [] waiting refl, refl);
+  keeps = ((0, omega arith, refl), refl);
   accesses = (refl, refl);
   reset_parts = λ port. reset_part port.0;
   service_parts = λ port. service_part port.0;

@@ -1,7 +1,7 @@
 -- What holds between two calls, of ports of these devices; and the evidence of ports that aren't named.
 use Rattle.agreement.specs.Links.{IsPlugging}
 use Rattle.agreement.specs.Errors.{IsFatalOf}
-use Rattle.std.proofs.lemmas.List.Elements.{All-contains}
+use Rattle.std.proofs.lemmas.List.Elements.{All-contains, Contains-append_right}
 use Rattle.std.proofs.lemmas.List.{append_cancel_left}
 use Rattle.std.proofs.Common.{ℕ, zero, suc, ◌≡◌, ◌≢◌, ◌≤◌, ◌∙◌, ◌++◌, true, false, List, [], ◌∷◌, length, None, inl, inr, ⊎_elim, refl, sym, ap, subst, arith}
 use Rattle.std.proofs.lemmas.Bool.{true≢false}
@@ -28,16 +28,15 @@ use Rattle.block_machine.specs.Ports.{Ports, Evidence}
 use Rattle.block_machine.specs.State.{Pending}
 use Rattle.block_machine.specs.Steps.{NoneKept}
 use Rattle.block_machine.specs.declared.due.Mode.{Mode}
-use Rattle.block_machine.proofs.Members.{contains_none, contains_here, contains_cases}
 use Rattle.port_boot.specs.States.{told_causes, HasFitDisk}
 use Rattle.port_control.specs.Ports.{programmed}
-use Rattle.driver_history.proofs.Calm.{gains_of}
-use Rattle.driver_history.specs.Evidence.{IsEvidencedOf, ShowsFailure, ShowsLoss, Gains}
+use Rattle.driver_history.specs.Evidence.{IsEvidencedOf, ShowsFailure, ShowsLoss, Gains, GainsRunning}
 use Rattle.driver_history.specs.Histories.{HasBadDisk, TriesDisk, LosesNoTrouble}
 use Rattle.driver_history.specs.Holds.{HasNothing, HasRequests, IsClients, IsOfKind, IsUnservedAt, NoneWaits, Runs}
 use Rattle.driver_history.specs.Trace.{LeavesEngine}
 use Rattle.history_witnesses.specs.Scene.{fit_page, page_entry, page_move}
 use Rattle.history_witnesses.proofs.Pages.{info, page_fits}
+use Rattle.history_witnesses.proofs.Members.{only}
 
 -- ---- slots
 
@@ -155,10 +154,10 @@ have_first e q zero_is id_is at_port = (0, subst (λ (n : ℕ). uses_first n 0 �
 
 -- a port is named alone
 pub named : (port : ℕ) → Contains (port_at port ∷ []) (port_at port)
-named port = contains_here (port_at port) [] (port_at port) refl
+named port = (0, omega arith, refl)
 
 pub named_is : (port n : ℕ) → Contains (port_at port ∷ []) (port_at n) → n ≡ port
-named_is port n here = ⊎_elim (λ (same : port_at n ≡ port_at port). ap (λ (p : Port). p.0) same) (λ none. absurd (contains_none (port_at n) none)) (contains_cases (port_at port) [] (port_at n) here)
+named_is port n here = ap (λ (p : Port). p.0) (only (port_at port) (port_at n) here)
 
 -- the evidence names the port nowhere
 pub record IsUnnamed (evidence : Evidence) (port : Port) : Type 0 where
@@ -220,6 +219,16 @@ gained_none Is old new gained is none g =
     let same : g.gained ≡ gained = append_cancel_left old.tape g.gained gained (sym g.tape ∙ is) in
     All-contains (λ e. Is e → ⊥) gained g.entry none (subst (λ (es : List Entry). Contains es g.entry) same g.here) g.is
 
+-- so it was not while ST was one either
+pub ran_none : (Is : Entry → Type 0) (port : ℕ) (old new : Device) → (Gains Is old new → ⊥) → GainsRunning Is port old new → ⊥
+ran_none Is port old new none g = none (record {
+  gained = g.before ++ (g.entry ∷ g.later);
+  tape = g.tape;
+  entry = g.entry;
+  here = Contains-append_right g.before (g.entry ∷ g.later) g.entry (0, omega arith, refl);
+  is = g.is;
+})
+
 -- neither a fault, nor a fatal error, nor a disk of the port that goes or comes
 abbrev pub IsCalm : ℕ → Entry → Type 0
 IsCalm port e = (IsFaultOf port e → ⊥) × (IsFatalOf port e → ⊥) × (IsPlugging port e → ⊥)
@@ -234,9 +243,9 @@ pub no_trouble : (evidence : Evidence) (old : Instant Device) (ports : Ports) (n
 no_trouble evidence old ports new port gained is none served calm = record {
   errors = λ ready why. absurd (⊎_elim (calm ready).1 (λ came. ⊎_elim faults fatals came) why);
   changes = λ tends why. absurd (⊎_elim (λ change. (calm (served tends.0)).0 (inl change)) plugs why);
-  fault = λ ready g. absurd (faults (gains_of port.0 (IsFaultOf port.0) old.device new g));
-  fatal = λ ready g. absurd (fatals (gains_of port.0 (IsFatalOf port.0) old.device new g));
-  disk = λ ready g. absurd (plugs (gains_of port.0 (IsPlugging port.0) old.device new g));
+  fault = λ ready g. absurd (ran_none (IsFaultOf port.0) port.0 old.device new faults g);
+  fatal = λ ready g. absurd (ran_none (IsFatalOf port.0) port.0 old.device new fatals g);
+  disk = λ ready g. absurd (ran_none (IsPlugging port.0) port.0 old.device new plugs g);
 }
   where
     faults : Gains (IsFaultOf port.0) old.device new → ⊥

@@ -1,12 +1,14 @@
 mod Pages
+mod Members
 mod Devices
 mod Holding
 mod Command
 mod Submitting
+mod Losing
+mod Memory
 mod Accepting
 mod Recovering
 mod Recovered
-mod Losing
 mod Lost
 mod Answering
 mod Dying

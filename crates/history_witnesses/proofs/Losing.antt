@@ -1,5 +1,7 @@
 -- The read is done when a service looks at its port; then the disk of the next port is taken out. This is the way of the device.
-use Rattle.std.proofs.Common.{ℕ, zero, suc, ◌≡◌, true, false, List, [], ◌∷◌, ◌++◌, None, Some, refl, sym, ◌∙◌, arith, inl}
+use Rattle.std.proofs.Common.{ℕ, zero, suc, ◌≡◌, ◌<◌, true, false, List, [], ◌∷◌, ◌++◌, None, Some, refl, sym, ◌∙◌, arith, inl}
+use Rattle.std.proofs.lemmas.List.{length-replicate}
+use Rattle.std.proofs.lemmas.List.Elements.{All-replicate}
 use Rattle.hba_regs.specs.declared.reg.Reg.TheVariants.{Px}
 use Rattle.hba_regs.specs.declared.reg.PortReg.{PortReg}
 use Rattle.hba_regs.specs.declared.reg.PortReg.TheVariants.{Cmd, Ssts, Serr, Sact, Ci}
@@ -13,16 +15,13 @@ use Rattle.adapter.specs.Steps.Step.{Move, Done, Unplug}
 use Rattle.adapter.specs.declared.command.Operation.TheVariants.{Read, Trim}
 use Rattle.adapter.specs.declared.tape.Entry.{Entry}
 use Rattle.adapter.specs.declared.tape.Entry.TheVariants as entry
-use Rattle.adapter.proofs.Changed.{changed_same, changed_other}
-use Rattle.adapter.proofs.FirstRead.{first_sane}
-use Rattle.adapter.proofs.Runs.{Steps-one, Steps-trans}
 use Rattle.agreement.specs.Agrees.{port_at}
 use Rattle.agreement.specs.Slots.{IsFree}
 use Rattle.history_witnesses.specs.Loss.{finding_turn, losing_turn}
 use Rattle.history_witnesses.specs.Scene.{device_with}
 use Rattle.history_witnesses.proofs.Command.{read_memory}
 use Rattle.history_witnesses.proofs.Submitting.{command, fetches, issued, others_clear, pages, second, submitted, taken}
-use Rattle.history_witnesses.proofs.Devices.{may_stop, but_first, but_second, fall, falls_reads, no_bit, put_device, reads, writes}
+use Rattle.history_witnesses.proofs.Devices.{may_stop, but_first, but_second, fall, falls_reads, no_bit, past_first, put_device, reads, step_first, writes}
 
 -- ---- the read is done
 
@@ -42,12 +41,12 @@ unfoldable pub memory_done : ℕ → ℕ
 memory_done = patched read_memory 0x28000 (sector_of 100)
 
 pub is_sector : IsSector (sector_of 100)
-unfolding changed
-is_sector = first_sane.disk 0 sector_of refl 100 (omega arith)
+unfolding sector_of
+is_sector = (length-replicate {A = ℕ} 512 100, All-replicate (λ b. b < 256) 512 100 (omega arith))
 
-moves : Steps (device_with pages read_memory (taken ∷ second ∷ [])) (device_with tape_moved memory_done (moved ∷ second ∷ []))
+moves : (new : Device) → Steps (device_with tape_moved memory_done (moved ∷ second ∷ [])) new → Steps (device_with pages read_memory (taken ∷ second ∷ [])) new
 unfolding changed memory_done
-moves = Steps-one (Move 0 0 command (sector_of 100)) (device_with pages read_memory (taken ∷ second ∷ [])) (device_with tape_moved memory_done (moved ∷ second ∷ []))
+moves new = step_first (Move 0 0 command (sector_of 100)) (device_with pages read_memory (taken ∷ second ∷ [])) (device_with tape_moved memory_done (moved ∷ second ∷ [])) new
     (record {
       works = record { taken = refl; working = record { running = refl; present = refl; fresh = refl; admitted = refl; whole = refl } };
       left = omega arith;
@@ -59,18 +58,23 @@ moves = Steps-one (Move 0 0 command (sector_of 100)) (device_with pages read_mem
 
 ends : Steps (device_with tape_moved memory_done (moved ∷ second ∷ [])) (device_with tape_done memory_done (done ∷ second ∷ []))
 unfolding changed
-ends = Steps-one (Done 0 0 0 (record command { moved = 1 })) (device_with tape_moved memory_done (moved ∷ second ∷ [])) (device_with tape_done memory_done (done ∷ second ∷ []))
-    (record {
+ends = record {
+  steps = Done 0 0 0 (record command { moved = 1 }) ∷ [];
+  lead = (
+    record {
       works = record { taken = refl; working = record { running = refl; present = refl; fresh = refl; admitted = refl; whole = refl } };
       finished = record { moved = refl; cleared = λ e. absurd (let x : Read ≡ Trim = e in cc) };
       shown = inl refl;
-    })
-    (put_device tape_done memory_done 0 (moved ∷ second ∷ []) (done ∷ second ∷ []) done refl (but_first moved done (second ∷ [])))
+    },
+    put_device tape_done memory_done 0 (moved ∷ second ∷ []) (done ∷ second ∷ []) done refl (but_first moved done (second ∷ [])),
+  );
+}
 
 -- no command is left
 done_clear : (k : ℕ) → done.ci k ≡ false
-done_clear zero = changed_same issued.ci 0 false
-done_clear (suc k) = changed_other issued.ci 0 false (suc k) (omega arith) ∙ others_clear k
+unfolding changed
+done_clear zero = refl
+done_clear (suc k) = past_first issued.ci false k ∙ others_clear k
 
 abbrev seen : PortState
 seen = record done { notes = note Ci 0 done }
@@ -86,7 +90,7 @@ finds = (
   device_with tape_done memory_done (seen ∷ second ∷ []),
   record {
     mid = device_with tape_done memory_done (done ∷ second ∷ []);
-    steps = Steps-trans fetches (Steps-trans moves ends);
+    steps = fetches (device_with tape_done memory_done (done ∷ second ∷ [])) (moves (device_with tape_done memory_done (done ∷ second ∷ [])) ends);
     shows = λ k low. no_bit k ∙ sym (done_clear k);
     effect = put_device tape_done memory_done 0 (done ∷ second ∷ []) (seen ∷ second ∷ []) seen refl (but_first done seen (second ∷ []));
   },
@@ -94,12 +98,12 @@ finds = (
 )
 
 pub found_free : (k : ℕ) → IsFree found k
+unfolding changed
 found_free k = record { issued = done_clear k; free = free k; unarmed = refl }
   where
     free : (k : ℕ) → done.taken k ≡ None
-    free zero = changed_same moved.taken 0 None
-    free (suc k) = changed_other moved.taken 0 None (suc k) (omega arith) ∙ changed_other taken.taken 0 (Some (record command { moved = 1 })) (suc k) (omega arith)
-        ∙ changed_other issued.taken 0 (Some command) (suc k) (omega arith)
+    free zero = refl
+    free (suc k) = past_first moved.taken None k ∙ past_first taken.taken (Some (record command { moved = 1 })) k ∙ past_first issued.taken (Some command) k
 
 -- ---- the disk of the other port goes
 
@@ -134,7 +138,7 @@ abbrev pub lost : Device
 lost = lost_with gone
 
 goes : Steps between (lost_with out)
-goes = Steps-one (Unplug 1) between (lost_with out) refl (put_device tape_lost memory_done 1 (found ∷ second ∷ []) (found ∷ out ∷ []) out refl (but_second found second out []))
+goes = record { steps = Unplug 1 ∷ []; lead = (refl, put_device tape_lost memory_done 1 (found ∷ second ∷ []) (found ∷ out ∷ []) out refl (but_second found second out [])) }
 
 -- an access of port 1
 reads_there : (r : PortReg) (v : ℕ) (p : PortState) → PortShows r v p → Reads (Px (port_at 1) r) v (lost_with p) (lost_with (record p { notes = note r v p }))

@@ -1,44 +1,38 @@
 -- The machine after a service that answered the read and lost the other disk, and what holds then.
-use Rattle.std.proofs.Common.{ℕ, zero, suc, length, ne_eqb, ◌==◌, ◌≡◌, ◌≢◌, ◌+◌, ◌*◌, ◌<◌, ◌≤◌, ◌∙◌, true, false, List, [], ◌∷◌, slice_index, inl, ⊎_elim, refl, sym, ap, arith}
+use Rattle.std.proofs.Common.{ℕ, zero, suc, ne_eqb, ◌==◌, ◌≡◌, true, false, List, [], ◌∷◌, slice_index, inl, ⊎_elim, refl, arith}
 use Rattle.std.specs.List.{All}
-use Rattle.std.proofs.lemmas.Bool.{cases_eq, cases_lt, cond-false}
+use Rattle.std.proofs.lemmas.Bool.{cond-false}
 use Rattle.std.proofs.lemmas.List.Elements.{All-nil, All-cons}
 use Rattle.ata_types.specs.declared.PortState.TheVariants.{Absent, Ready}
-use Rattle.ata_types.specs.declared.request.Frame.{Frame}
 use Rattle.ata_types.specs.declared.request.Outcome.TheVariants as outcome
 use Rattle.adapter.specs.Device.{Device}
 use Rattle.adapter.specs.FirstRead.{sector_of}
-use Rattle.adapter.specs.Memory.{bytes_at, changed, patched}
+use Rattle.adapter.specs.Memory.{changed}
 use Rattle.adapter.specs.Steps.{done_entry, move_of}
 use Rattle.adapter.specs.declared.command.Operation.TheVariants as operation
 use Rattle.adapter.specs.declared.command.Operation.TheVariants.{Identify}
 use Rattle.adapter.specs.declared.tape.Entry.{Entry}
 use Rattle.adapter.specs.declared.tape.Entry.TheVariants as entry
-use Rattle.adapter.proofs.MemoryLemmas.{bytes_index, patched_apart, patched_bytes}
 use Rattle.agreement.specs.Acts.{at}
-use Rattle.agreement.specs.Agrees.{SameMemory, port_at}
+use Rattle.agreement.specs.Agrees.{port_at}
 use Rattle.agreement.specs.Driver.{Knows}
 use Rattle.agreement.specs.Slots.{IsFree, IsMove}
-use Rattle.agreement.proofs.Witness.{plain}
 use Rattle.block_machine.specs.Histories.{Instant}
 use Rattle.block_machine.specs.Left.{after}
 use Rattle.block_machine.specs.Ports.{Ports}
 use Rattle.block_machine.specs.State.{Machine, Pending}
-use Rattle.block_machine.specs.Steps.{Step, Touch, End, Answer, Unplug, AllTouched, mark_ended, put_bytes, touch}
-use Rattle.block_machine.proofs.Keeps.{same_frame}
-use Rattle.block_machine.proofs.Members.{contains_none}
-use Rattle.block_machine.proofs.Reading.{put_other, put_same}
-use Rattle.block_machine.proofs.Setting.{empty, frame}
+use Rattle.block_machine.specs.Steps.{Step, Touch, End, Answer, Unplug, AllTouched, mark_ended, touch}
 use Rattle.host_boot.specs.Taken.{wanted_of}
 use Rattle.identify.specs.declared.wanted.Wanted.TheVariants.{Any}
 use Rattle.driver_history.specs.Holds.{HoldsOf, HoldsWith, IsReadyAt, IsStoppedAt}
-use Rattle.history_witnesses.specs.Scene.{having, page_entry, showing}
+use Rattle.history_witnesses.specs.Scene.{having, page_entry, plain, showing}
 use Rattle.history_witnesses.proofs.Holding.{fit_disk, no_slots, requests_none, runs_on, unserved_at}
 use Rattle.history_witnesses.proofs.Pages.{info}
-use Rattle.history_witnesses.proofs.Command.{read_memory}
 use Rattle.history_witnesses.proofs.Submitting.{command}
-use Rattle.history_witnesses.proofs.Accepting.{agreeing, free_apart, issuing, other_page, past_driver, served_of, waiting}
-use Rattle.history_witnesses.proofs.Losing.{found, found_free, gone, is_sector, lost, memory_done, tape_lost}
+use Rattle.history_witnesses.proofs.Accepting.{agreeing, free_apart, issuing, other_page, served_of, waiting}
+use Rattle.history_witnesses.proofs.Losing.{found, found_free, gone, lost, memory_done, tape_lost}
+use Rattle.history_witnesses.proofs.Memory.{moved_in_place}
+use Rattle.history_witnesses.proofs.Members.{nowhere}
 
 -- ---- the machine
 
@@ -67,48 +61,6 @@ all_touched (suc i) low = absurd (omega (arith, low))
 abbrev pub lost_at : Instant Device
 lost_at = record { device = lost; moment = record { machine = served; ports = one } }
 
--- ---- memory
-
-long : length (sector_of 100) ≡ 512
-long = is_sector.0
-
--- a byte of the sector that was moved
-in_sector : (b : ℕ) → b < 512 → memory_done (0x28000 + b) ≡ slice_index (sector_of 100) b
-unfolding memory_done
-in_sector b low =
-    sym (bytes_index (patched read_memory 0x28000 (sector_of 100)) 0x28000 512 b low)
-    ∙ ap (λ (bytes : List ℕ). slice_index bytes b)
-    (ap (bytes_at (patched read_memory 0x28000 (sector_of 100)) 0x28000) (sym long) ∙ patched_bytes read_memory 0x28000 (sector_of 100))
-
--- what the machine's frames hold then
-abbrev moved_into : Frame → ℕ → ℕ
-moved_into = put_bytes (frame 40) 0 512 (slice_index (sector_of 100)) empty.memory
-
-moved_memory : SameMemory served memory_done
-unfolding memory_done
-moved_memory f b from small = ⊎_elim
-    (λ (e : f.0 ≡ 40). ⊎_elim
-    (λ (low : b < 512). inside e low)
-    (λ (high : 512 ≤ b). outside (λ _ low. omega (arith, low, high)))
-    (cases_lt b 512))
-    (λ (ne : f.0 ≢ 40). outside (λ e low. ne e))
-    (cases_eq f.0 40)
-  where
-    inside : f.0 ≡ 40 → b < 512 → memory_done (4096 * f.0 + b) ≡ moved_into f b
-    inside e low =
-        ap memory_done (let same : 4096 * f.0 + b ≡ 0x28000 + b = omega (arith, e) in same)
-        ∙ in_sector b low
-        ∙ sym (put_same (frame 40) 0 512 b (slice_index (sector_of 100)) empty.memory low)
-        ∙ ap (moved_into (frame 40)) (let same : 0 + b ≡ b = omega arith in same)
-        ∙ ap (λ (g : Frame). moved_into g b) (sym (same_frame f (frame 40) e))
-
-    outside : (f.0 ≡ 40 → b < 512 → ⊥) → memory_done (4096 * f.0 + b) ≡ moved_into f b
-    outside out =
-        patched_apart read_memory 0x28000 (sector_of 100) (4096 * f.0 + b)
-        (λ low high. let n = long in out (omega (arith, n, low, high, from, small)) (omega (arith, n, low, high, from, small)))
-        ∙ past_driver f b from
-        ∙ sym (put_other (frame 40) f 0 b 512 (slice_index (sector_of 100)) empty.memory (λ same low high. out (sym (ap (λ (x : Frame). x.0) same)) high))
-
 -- ---- what holds
 
 lost_free : (n k : ℕ) → IsFree (having (found ∷ gone ∷ []) n) k
@@ -125,7 +77,7 @@ knows_lost : Knows served (at no_slots lost)
 unfolding changed
 knows_lost = agreeing served no_slots tape_lost memory_done found gone
     (record { own_first = refl; own_second = refl; disks = (refl, refl); present = one_in; ids = refl; sizes = refl; bytes = refl })
-    lost_free free_apart moved_memory (λ n e may at_port. ⊎_elim (λ z. absurd (contains_none e z.0)) (λ z. absurd (contains_none e z)) may)
+    lost_free free_apart moved_in_place (λ n e may at_port. ⊎_elim (λ z. absurd (nowhere e z.0)) (λ z. absurd (nowhere e z)) may)
 
 -- what the tape gains in the service
 abbrev pub gained : List Entry
@@ -148,7 +100,7 @@ lost_ready = record {
   disk = fit_disk 0 lost [] (page_entry 1 ∷ gained) refl refl refl refl (other_page gained (unpaged 0));
   shows = record { serial = refl; sectors = refl; trims = refl; mode = refl };
   slots = requests_none no_slots lost_at (port_at 0) plain (λ slot. refl) refl;
-  kept = λ e k. absurd (contains_none e k);
+  kept = λ e k. absurd (nowhere e k);
 }
 
 lost_absent : IsStoppedAt Any no_slots lost_at (port_at 1) Absent
@@ -160,14 +112,14 @@ lost_absent = record {
     ((λ e. let x : 0 ≡ 3 = e in omega (arith, x)), refl),
   );
   slots = record { free = λ k. refl; unparked = refl };
-  waits = λ e here. absurd (contains_none e here);
-  kept = λ e k. absurd (contains_none e k);
+  waits = λ e here. absurd (nowhere e here);
+  kept = λ e k. absurd (nowhere e k);
 }
 
 port_lost : (n : ℕ) → HoldsOf (wanted_of (Any ∷ Any ∷ []) n) no_slots lost_at (port_at n) (one.served (port_at n)) (one.state (port_at n))
 port_lost zero = lost_ready
 port_lost (suc zero) = lost_absent
-port_lost (suc (suc n)) = unserved_at no_slots lost_at (suc (suc n)) refl refl (record { free = λ slot. refl; unparked = refl }) (λ e here. absurd (contains_none e here)) (λ e kept. absurd (contains_none e kept))
+port_lost (suc (suc n)) = unserved_at no_slots lost_at (suc (suc n)) refl refl (record { free = λ slot. refl; unparked = refl }) (λ e here. absurd (nowhere e here)) (λ e kept. absurd (nowhere e kept))
 
 pub holds_lost : HoldsWith (Any ∷ Any ∷ []) no_slots lost_at
 holds_lost = record {

@@ -1,9 +1,8 @@
 -- What holds after that service, which tells the fault; and it meets all that is asked of it.
-use Rattle.adapter.proofs.Changed.{changed_other}
-use Rattle.std.proofs.lemmas.Bool.{cases_eq, true≢false}
+use Rattle.std.proofs.lemmas.Bool.{cases_eq, cond-false, ne_eqb, true≢false}
 use Rattle.adapter.specs.declared.tape.Entry.{Entry}
 use Rattle.std.proofs.lemmas.List.{append_cancel_left}
-use Rattle.std.proofs.Common.{length, length-append, true, subst, Some, ◌∙◌, ℕ, zero, suc, ◌≡◌, false, List, [], ◌∷◌, ◌++◌, None, inl, inr, ⊎_elim, refl, sym, ap, arith, ◌≢◌, Bool, not, ◌&&◌}
+use Rattle.std.proofs.Common.{length, length-append, true, subst, Some, ◌∙◌, ℕ, zero, suc, ◌≡◌, false, List, [], ◌∷◌, ◌++◌, None, inl, inr, ⊎_elim, refl, sym, ap, arith, ◌≢◌, Bool, not, ◌&&◌, ◌==◌}
 use Rattle.std.specs.List.{Contains, All}
 use Rattle.std.proofs.lemmas.List.Elements.{All-nil, All-cons, All-contains}
 use Rattle.std.proofs.lemmas.List.Sorted.{IsPermutation-refl}
@@ -35,10 +34,8 @@ use Rattle.block_machine.specs.Ports.{IsServiced}
 use Rattle.block_machine.specs.Left.{after}
 use Rattle.block_machine.specs.State.{Pending, Machine}
 use Rattle.block_machine.specs.Steps.{Step, Answer}
-use Rattle.block_machine.proofs.Members.{contains_none, contains_here, contains_cases}
 use Rattle.host_boot.specs.Taken.{wanted_of}
 use Rattle.identify.specs.declared.wanted.Wanted.TheVariants.{Any}
-use Rattle.driver_history.proofs.Calm.{gains_of}
 use Rattle.driver_history.specs.Evidence.{Gains, GainsRunning, IsEvidencedOf, ShowsLoss, ShowsFailure}
 use Rattle.driver_history.specs.Histories.{Ties, TiesPort, FindsDone, IsAnsweredOk, IsIssuedOn, LosesNoTrouble, RunsWellAnew, TendsPort}
 use Rattle.driver_history.specs.Holds.{HoldsOf, HoldsWith, IsReadyAt}
@@ -48,11 +45,13 @@ use Rattle.history_witnesses.specs.Recovery.{fault_evidence, recovery_accesses, 
 use Rattle.history_witnesses.specs.Scene.{having, page_entry}
 use Rattle.history_witnesses.proofs.Command.{read_memory}
 use Rattle.history_witnesses.proofs.Devices.{IsOf, WritesOf, leaves, serving, AreServing}
-use Rattle.history_witnesses.proofs.Holding.{IsUnnamed, fit_disk, named, named_is, no_slots, requests_none, runs_on, tries_ready, unnamed_evidenced, unserved_at, IsCalm, gained_none, no_trouble}
+use Rattle.history_witnesses.proofs.Holding.{IsUnnamed, fit_disk, named, named_is, no_slots, requests_none, runs_on, tries_ready, unnamed_evidenced, unserved_at, IsCalm, gained_none, no_trouble, ran_none}
+use Rattle.history_witnesses.proofs.Memory.{past_driver}
 use Rattle.history_witnesses.proofs.Pages.{info}
 use Rattle.history_witnesses.proofs.Submitting.{issued, second, submitted, pages}
-use Rattle.history_witnesses.proofs.Accepting.{agreeing, asked, both, calm, first, fit_both, free_apart, in_book, issuing, no_page, not_dead, other_page, past_driver, second_ready, served_of, served_ready, starts, submit, submit_happens, submit_parts, submit_ties, submitted_at, waiting, begins}
+use Rattle.history_witnesses.proofs.Accepting.{agreeing, asked, both, calm, first, fit_both, free_apart, in_book, issuing, no_page, not_dead, other_page, second_ready, served_of, served_ready, starts, submit, submit_happens, submit_parts, submit_ties, submitted_at, waiting, begins}
 use Rattle.history_witnesses.proofs.Recovering.{allowed, does, fault, from_fall, from_stop, recovered, started, tape_failed, told, until_stop}
+use Rattle.history_witnesses.proofs.Members.{nowhere, only}
 
 -- ---- the machine, and what holds
 
@@ -78,7 +77,7 @@ present (suc (suc n)) = refl
 knows : Knows answered (at no_slots recovered)
 knows = agreeing answered no_slots tape_failed read_memory started second
     (record { own_first = refl; own_second = refl; disks = (refl, refl); present = present; ids = refl; sizes = refl; bytes = refl })
-    free free_apart (λ f b from small. past_driver f b from) (λ n e may at_port. ⊎_elim (λ z. absurd (contains_none e z.0)) (λ z. absurd (contains_none e z)) may)
+    free free_apart (λ f b from small. past_driver f b from) (λ n e may at_port. ⊎_elim (λ z. absurd (nowhere e z.0)) (λ z. absurd (nowhere e z)) may)
 
 -- no page came after those of the two ports
 unpaged : (port : ℕ) → All (λ e. IsMove port Identify e → ⊥) (entry.Fault fault ∷ [])
@@ -93,13 +92,13 @@ ready = record {
   disk = fit_disk 0 recovered [] (page_entry 1 ∷ entry.Fault fault ∷ []) refl refl refl refl (other_page (entry.Fault fault ∷ []) (unpaged 0));
   shows = record { serial = refl; sectors = refl; trims = refl; mode = refl };
   slots = requests_none no_slots recovered_at (port_at 0) (both.mode (port_at 0)) (λ slot. refl) refl;
-  kept = λ e k. absurd (contains_none e k);
+  kept = λ e k. absurd (nowhere e k);
 }
 
 port_recovered : (n : ℕ) → HoldsOf (wanted_of (Any ∷ Any ∷ []) n) no_slots recovered_at (port_at n) (both.served (port_at n)) (both.state (port_at n))
 port_recovered zero = ready
 port_recovered (suc zero) = second_ready no_slots answered (entry.Fault fault ∷ []) started read_memory (unpaged 1) (λ slot. refl) refl refl
-port_recovered (suc (suc n)) = unserved_at no_slots recovered_at (suc (suc n)) refl refl (record { free = λ slot. refl; unparked = refl }) (λ e here. absurd (contains_none e here)) (λ e kept. absurd (contains_none e kept))
+port_recovered (suc (suc n)) = unserved_at no_slots recovered_at (suc (suc n)) refl refl (record { free = λ slot. refl; unparked = refl }) (λ e here. absurd (nowhere e here)) (λ e kept. absurd (nowhere e kept))
 
 holds_recovered : HoldsWith (Any ∷ Any ∷ []) no_slots recovered_at
 holds_recovered = record {
@@ -141,18 +140,18 @@ gains = record {
   gained = entry.Fault fault ∷ [];
   tape = refl;
   entry = entry.Fault fault;
-  here = contains_here (entry.Fault fault) [] (entry.Fault fault) refl;
+  here = (0, omega arith, refl);
   is = refl;
 }
 
 unnamed : (n : ℕ) → IsUnnamed fault_evidence (port_at (suc n))
 unnamed n = record {
-  lost = contains_none (port_at (suc n));
-  gone = contains_none (port_at (suc n));
+  lost = nowhere (port_at (suc n));
+  gone = nowhere (port_at (suc n));
   failed = λ h. let same = named_is 0 (suc n) h in omega (arith, same);
-  fatal = contains_none (port_at (suc n));
+  fatal = nowhere (port_at (suc n));
   stopped = λ h. let same = named_is 0 (suc n) h in omega (arith, same);
-  stuck = contains_none (port_at (suc n));
+  stuck = nowhere (port_at (suc n));
 }
 
 of_served : AreServing (TendsPort both) recovery_accesses
@@ -166,16 +165,16 @@ quiet = calm read_memory issued refl refl refl (λ place. refl) recovered
 
 evidenced_of : (n : ℕ) → IsEvidencedOf Service (Served replies) recovery_accesses submitted_at both recovered fault_evidence (port_at n)
 evidenced_of zero = record {
-  lost = λ h. absurd (contains_none (port_at 0) h);
+  lost = λ h. absurd (nowhere (port_at 0) h);
   gone_all = λ is loss. absurd ((quiet 0 is).0 loss);
-  gone_only = λ h. absurd (contains_none (port_at 0) h);
+  gone_only = λ h. absurd (nowhere (port_at 0) h);
   failed_all = λ is f. named 0;
   failed_only = λ h. (refl, inr (inl gains));
   fatal_all = λ is f. absurd ((quiet 0 is).1 (inl f));
-  fatal_only = λ h. absurd (contains_none (port_at 0) h);
+  fatal_only = λ h. absurd (nowhere (port_at 0) h);
   stopped_all = inr (inl (named 0));
   stopped_only = λ h. inl stops;
-  stuck_only = λ h. absurd (contains_none (port_at 0) h);
+  stuck_only = λ h. absurd (nowhere (port_at 0) h);
 }
 evidenced_of (suc n) = unnamed_evidenced Service (Served replies) recovery_accesses submitted_at both recovered fault_evidence (port_at (suc n)) (unnamed n) (quiet (suc n))
     (leaves (IsOf (port_at 0)) (port_at (suc n)) (λ is. apart (ap (λ (p : Port). p.0) is)) (λ is. apart (ap (λ (p : Port). p.0) is)) recovery_accesses of_first)
@@ -185,7 +184,7 @@ evidenced_of (suc n) = unnamed_evidenced Service (Served replies) recovery_acces
 
 -- no answer is Ok
 none_ok : (e : Pending) → IsAnsweredOk e (answer ∷ []) → ⊥
-none_ok e a = ⊎_elim (λ (same : Answer a.0 outcome.Ok ≡ answer). cc) (λ none. contains_none _ none) (contains_cases answer [] (Answer a.0 outcome.Ok) a.2)
+none_ok e a = let same : Answer a.0 outcome.Ok ≡ answer = only answer (Answer a.0 outcome.Ok) a.2 in cc
 
 -- a slot whose bit of PxCI is clear serves no request then
 bits_set : (e : Pending) (k : ℕ) → ServesRequest issuing read_memory issued 0 k e.request.id → bit 1 k ≡ false → ⊥
@@ -194,7 +193,7 @@ bits_set e k s ci = ⊎_elim
     (λ r. ⊎_elim
     (λ (w : IsTaken read_memory issued 0 k s.pending s.command s.places). let x : None ≡ Some w.command = w.taken in cc)
     (λ r. ⊎_elim
-    (λ (w : IsEnded issued k s.pending). absurd (true≢false (sym w.ended ∙ (ap (λ (p : Pending). p.ended) (⊎_elim (λ m. in_book s.pending m.0) (λ m. absurd (contains_none s.pending m)) s.moves)))))
+    (λ (w : IsEnded issued k s.pending). absurd (true≢false (sym w.ended ∙ (ap (λ (p : Pending). p.ended) (⊎_elim (λ m. in_book s.pending m.0) (λ m. absurd (nowhere s.pending m)) s.moves)))))
     (λ (w : IsDropped issued k s.pending). absurd (true≢false w.stopped)) r) r)
     s.stage
 
@@ -216,20 +215,20 @@ no_flags (suc zero) place = refl
 no_flags (suc (suc n)) place = refl
 
 only_fault : (e : Pending) (o : Outcome) → Contains (answer ∷ []) (Answer e o) → o ≡ outcome.DeviceError 0x41 0x40
-only_fault e o here = ⊎_elim (λ (same : Answer e o ≡ answer). cc) (λ none. absurd (contains_none _ none)) (contains_cases answer [] (Answer e o) here)
+only_fault e o here = let same : Answer e o ≡ answer = only answer (Answer e o) here in cc
 
 only_one : (e : Pending) (o : Outcome) → Contains (answer ∷ []) (Answer e o) → e ≡ waiting
-only_one e o here = ⊎_elim (λ (same : Answer e o ≡ answer). cc) (λ none. absurd (contains_none _ none)) (contains_cases answer [] (Answer e o) here)
+only_one e o here = let same : Answer e o ≡ answer = only answer (Answer e o) here in cc
 
 heeds : (n : ℕ) → both.state (port_at n) ≡ Ready → ServesReady submitted_at.moment fault_evidence (answer ∷ []) recovered_at.moment (port_at n)
 heeds zero is = record {
   ended = λ e here at_port ended. absurd (true≢false (sym ended ∙ (ap (λ (p : Pending). p.ended) (in_book e here))));
-  emptied = λ g. absurd (contains_none (port_at 0) g);
-  told = λ g. absurd (contains_none (port_at 0) g);
+  emptied = λ g. absurd (nowhere (port_at 0) g);
+  told = λ g. absurd (nowhere (port_at 0) g);
   interrupts = λ why. inl (named 0);
-  anew = λ why e here. absurd (contains_none e here);
+  anew = λ why e here. absurd (nowhere e here);
   single = omega arith;
-  fatal = λ h. absurd (contains_none (port_at 0) h);
+  fatal = λ h. absurd (nowhere (port_at 0) h);
   disk = λ shows. inl refl;
   calm = inl (inl (named 0));
 }
@@ -238,7 +237,7 @@ heeds (suc zero) is = record {
   emptied = λ g. absurd ((unnamed 0).gone g);
   told = λ g. absurd ((unnamed 0).gone g);
   interrupts = λ why. absurd (⊎_elim (unnamed 0).failed (unnamed 0).gone why);
-  anew = λ why e here. absurd (contains_none e here);
+  anew = λ why e here. absurd (nowhere e here);
   single = omega arith;
   fatal = λ h. absurd ((unnamed 0).fatal h);
   disk = λ shows. inl refl;
@@ -268,8 +267,8 @@ trouble zero = record {
   errors = λ ready why. inl (inl (named 0));
   changes = λ tends why. inl (inl (named 0));
   fault = λ ready g. absurd (too_early g);
-  fatal = λ ready g. absurd (gained_none (IsFatalOf 0) submitted recovered (entry.Fault fault ∷ []) refl (All-cons (λ e. IsFatalOf 0 e → ⊥) (entry.Fault fault) [] (λ x. x) (All-nil (λ e. IsFatalOf 0 e → ⊥))) (gains_of 0 (IsFatalOf 0) submitted recovered g));
-  disk = λ ready g. absurd (gained_none (IsPlugging 0) submitted recovered (entry.Fault fault ∷ []) refl (All-cons (λ e. IsPlugging 0 e → ⊥) (entry.Fault fault) [] (λ x. x) (All-nil (λ e. IsPlugging 0 e → ⊥))) (gains_of 0 (IsPlugging 0) submitted recovered g));
+  fatal = λ ready g. absurd (ran_none (IsFatalOf 0) 0 submitted recovered (gained_none (IsFatalOf 0) submitted recovered (entry.Fault fault ∷ []) refl (All-cons (λ e. IsFatalOf 0 e → ⊥) (entry.Fault fault) [] (λ x. x) (All-nil (λ e. IsFatalOf 0 e → ⊥)))) g);
+  disk = λ ready g. absurd (ran_none (IsPlugging 0) 0 submitted recovered (gained_none (IsPlugging 0) submitted recovered (entry.Fault fault ∷ []) refl (All-cons (λ e. IsPlugging 0 e → ⊥) (entry.Fault fault) [] (λ x. x) (All-nil (λ e. IsPlugging 0 e → ⊥)))) g);
 }
 trouble (suc n) = no_trouble fault_evidence submitted_at both recovered (port_at (suc n)) (entry.Fault fault ∷ []) refl (fault_alone (suc n) (omega arith)) (served_ready (suc n)) (quiet (suc n))
 
@@ -278,7 +277,7 @@ well : (n : ℕ) → RunsWellAnew fault_evidence recovery_accesses submitted_at 
 well zero = λ why ready calm. absurd (
     let same : calm.gained ≡ entry.Fault fault ∷ [] = append_cancel_left pages calm.gained (entry.Fault fault ∷ []) (sym calm.tape) in
     All-contains (λ e. IsDisturbance 0 e → ⊥) calm.gained (entry.Fault fault) calm.calm
-    (subst (λ (es : List Entry). Contains es (entry.Fault fault)) (sym same) (contains_here (entry.Fault fault) [] (entry.Fault fault) refl)) refl)
+    (subst (λ (es : List Entry). Contains es (entry.Fault fault)) (sym same) (0, omega arith, refl)) refl)
 well (suc n) = λ why. absurd (⊎_elim (unnamed n).stopped (unnamed n).stuck why)
 
 part_of : (n : ℕ) → TiesPort submitted_at service recovery_accesses (port_at n)
@@ -314,7 +313,7 @@ becomes n = (
     record {
       served = refl;
       stuck = λ is. absurd (not_dead n is);
-      dies = λ h. absurd (contains_none (port_at n) h);
+      dies = λ h. absurd (nowhere (port_at n) h);
       keeps = λ is. (refl, refl);
     },
     inl (refl, refl, refl, refl, refl, refl),
@@ -326,27 +325,27 @@ unplugged_not e here = let x : outcome.Unplugged ≡ outcome.DeviceError 0x41 0x
 
 happens : Happens submitted_at.moment service.event
 happens = record {
-  may = (tt, contains_here waiting [] waiting refl);
+  may = (tt, (0, omega arith, refl));
   belong = (tt, inr tt);
   last = (tt, λ id is none. absurd (true≢false (sym none)));
   lawful = (
     tt,
     (
-      record { pending = waiting; here = contains_here waiting [] waiting refl; id_is = refl; issued = refl },
+      record { pending = waiting; here = (0, omega arith, refl); id_is = refl; issued = refl },
       refl,
-      contains_here told_fault [] told_fault refl,
+      (0, omega arith, refl),
       named 0,
     ),
   );
   fit = fit_both;
-  disks = λ e o here. absurd (contains_none e here);
+  disks = λ e o here. absurd (nowhere e here);
   answered = record {
     tells = record { answers = (waiting, outcome.DeviceError 0x41 0x40) ∷ []; same = IsPermutation-refl _; ordered = λ i j d less low. absurd (omega (arith, less, low)); told = refl };
     dead = λ e o here is. absurd (not_dead e.request.port.0 is);
     grounded = (tt, named 0);
     unplugs = record { emptied = λ e other here. absurd (unplugged_not e here); alike = λ e other here. absurd (unplugged_not e here) };
-    issues = λ port is r at_port due. absurd (contains_none r due.here);
-    emptied = λ port other e here. absurd (contains_none e here);
+    issues = λ port is r at_port due. absurd (nowhere r due.here);
+    emptied = λ port other e here. absurd (nowhere e here);
     becomes = λ port. becomes port.0;
     disk = λ port. inl (refl, refl, refl, refl, refl, refl);
   };
@@ -358,10 +357,10 @@ ties = record {
   came = (does, serving (TendsPort both) recovery_accesses of_served);
   backed = backed;
   evidenced = record {
-    faults = λ f here. ⊎_elim (λ same. told f same) (λ none. absurd (contains_none f none)) (contains_cases told_fault [] f here);
+    faults = λ f here. told f (only told_fault f here);
     port = λ port. evidenced_of port.0;
   };
-  issues = λ port is r here. absurd (contains_none r here);
+  issues = λ port is r here. absurd (nowhere r here);
   port = λ port healthy. part_of port.0;
   holds = (no_slots, holds_recovered);
 }
@@ -371,7 +370,7 @@ quiet_again : (place : ℕ) → started.is place ≡ false
 unfolding changed
 quiet_again place = ⊎_elim
     (λ (same : place ≡ 30). subst (λ (k : ℕ). started.is k ≡ false) (sym same) refl)
-    (λ (ne : place ≢ 30). ap (λ (b : Bool). b && not (bit 0xffffffff place)) (changed_other (λ _. false) 30 true place ne))
+    (λ (ne : place ≢ 30). ap (λ (b : Bool). b && not (bit 0xffffffff place)) (cond-false (place == 30) true false (ne_eqb place 30 ne)))
     (cases_eq place 30)
 
 runs_well : RunsWell started

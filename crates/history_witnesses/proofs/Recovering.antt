@@ -19,12 +19,10 @@ use Rattle.adapter.specs.declared.tape.Fault as tape_fault
 use Rattle.agreement.specs.Agrees.{port_at}
 use Rattle.block_machine.specs.Ports.{Fault}
 use Rattle.block_machine.specs.State.{Pending}
-use Rattle.block_machine.proofs.Members.{contains_here}
 use Rattle.driver_history.specs.Evidence.{HasFailed, IsFaultTold}
 use Rattle.driver_history.specs.Trace.{LeavesCommand}
 use Rattle.history_witnesses.specs.Recovery.{recovery_accesses, told_fault}
 use Rattle.history_witnesses.specs.Scene.{device_with}
-use Rattle.adapter.proofs.Runs.{Steps-one, Steps-trans}
 use Rattle.history_witnesses.proofs.Command.{read_memory}
 use Rattle.history_witnesses.proofs.Devices.{may_start, may_stop, but_first, fall, falls_reads, no_bit, put_device, reads, writes}
 use Rattle.history_witnesses.proofs.Submitting.{command, fetches, pages, second, submitted, taken}
@@ -79,14 +77,18 @@ started = port_written Cmd 0x4011 3 asked_again
 
 fails : Steps (device_with pages read_memory (taken ∷ second ∷ [])) (dev failed)
 unfolding changed
-fails = Steps-one (FaultStep 0 0 0x40 0 command) (device_with pages read_memory (taken ∷ second ∷ [])) (dev failed)
-    (record { taken = refl; running = refl; is_byte = omega arith; kept = refl })
-    (put_device tape_failed read_memory 0 (taken ∷ second ∷ []) (failed ∷ second ∷ []) failed refl (but_first taken failed (second ∷ [])))
+fails = record {
+  steps = FaultStep 0 0 0x40 0 command ∷ [];
+  lead = (
+    record { taken = refl; running = refl; is_byte = omega arith; kept = refl },
+    put_device tape_failed read_memory 0 (taken ∷ second ∷ []) (failed ∷ second ∷ []) failed refl (but_first taken failed (second ∷ [])),
+  );
+}
 
 reads_masks : Reads (Px (port_at 0) Ci) 1 submitted (dev seen_ci)
 reads_masks = record {
   mid = dev failed;
-  steps = Steps-trans fetches fails;
+  steps = fetches (dev failed) fails;
   shows = λ k low. refl;
   effect = put_device tape_failed read_memory 0 (failed ∷ second ∷ []) (seen_ci ∷ second ∷ []) seen_ci refl (but_first failed seen_ci (second ∷ []));
 }
@@ -231,7 +233,7 @@ has_failed = record {
 pub told : (t : Fault) → t ≡ told_fault → IsFaultTold submitted_at recovered recovery_accesses t
 told t is = subst (IsFaultTold submitted_at recovered recovery_accesses) (sym is) (record {
   pending = waiting;
-  here = contains_here waiting [] waiting refl;
+  here = (0, omega arith, refl);
   issued = refl;
   id_is = refl;
   slot = 0;

@@ -12,12 +12,10 @@ use Rattle.adapter.specs.Says.{cut}
 use Rattle.adapter.specs.Steps.{Steps, begun, with_fetch}
 use Rattle.adapter.specs.Steps.Step.{Fetch}
 use Rattle.adapter.specs.declared.tape.Entry.{Entry}
-use Rattle.adapter.proofs.Runs.{Steps-one}
 use Rattle.agreement.specs.Agrees.{port_at}
-use Rattle.agreement.proofs.Witness.{bit_one_other}
 use Rattle.history_witnesses.specs.Scene.{device_with, page_entry, running_port}
 use Rattle.history_witnesses.proofs.Command.{place_bytes, read_bytes, read_memory, told, zeros}
-use Rattle.history_witnesses.proofs.Devices.{but_first, put_device, writes}
+use Rattle.history_witnesses.proofs.Devices.{but_first, other_bit, put_device, step_first, writes}
 
 -- ---- it is issued
 
@@ -60,7 +58,7 @@ submits = (
 
 -- slot 0 alone has a bit
 pub others_clear : (k : ℕ) → issued.ci (suc k) ≡ false
-others_clear k = bit_one_other (suc k) (omega arith)
+others_clear k = other_bit (suc k) (omega arith)
 
 -- ---- and taken by the device
 
@@ -70,9 +68,10 @@ command = begun (read_of 100 1) (cut 0x28000 1)
 abbrev pub taken : PortState
 taken = with_fetch issued 0 (read_of 100 1) (cut 0x28000 1)
 
-pub fetches : Steps submitted (device_with pages read_memory (taken ∷ second ∷ []))
+-- and then the device does more
+pub fetches : (new : Device) → Steps (device_with pages read_memory (taken ∷ second ∷ [])) new → Steps submitted new
 unfolding changed
-fetches = Steps-one (Fetch 0 0 (read_of 100 1) (cut 0x28000 1)) submitted (device_with pages read_memory (taken ∷ second ∷ []))
+fetches new = step_first (Fetch 0 0 (read_of 100 1) (cut 0x28000 1)) submitted (device_with pages read_memory (taken ∷ second ∷ [])) new
     (record {
       fetchable = record { st = refl; issued = refl; free = refl };
       working = record { running = refl; present = refl; fresh = refl; admitted = refl; whole = refl };

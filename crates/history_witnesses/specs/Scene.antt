@@ -12,6 +12,7 @@ use Rattle.adapter.specs.declared.tape.Entry.TheVariants as entry
 use Rattle.adapter.specs.declared.tape.Move as tape_move
 use Rattle.agreement.specs.Places.{scratch_of}
 use Rattle.block_machine.specs.Ports.{Ports}
+use Rattle.block_machine.specs.declared.due.Mode.{Mode}
 use Rattle.port_boot.specs.States.{told_causes}
 use Rattle.port_control.specs.Ports.{programmed}
 
@@ -60,6 +61,10 @@ device_with tape memory ports = record first_read { ie = true; tape = tape; memo
 
 -- ---- what clients see
 
+-- commands are plain, one at a time
+abbrev pub plain : Mode
+plain = record { queued = false; usable = 1 }
+
 -- These ports are served, and in these states; their disks are alike.
 abbrev pub showing : List Bool → List shown.PortState → Ports
 showing served states = record {
@@ -68,5 +73,5 @@ showing served states = record {
   serial = λ port. replicate 20 0;
   sectors = λ port. 256;
   trims = λ port. false;
-  mode = λ port. record { queued = false; usable = 1 };
+  mode = λ port. plain;
 }

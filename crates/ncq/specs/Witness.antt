@@ -1,18 +1,20 @@
 -- An adapter on which a transfer may be issued (this project's own).
-use Rattle.std.specs.Prelude.{true, ◌≡◌, ◌<◌, ◌≤◌}
+use Rattle.std.specs.Prelude.{false, ◌≡◌, ◌≤◌, List}
 use Rattle.ata_types.specs.declared.memory.TheConstants.{DRIVER_BYTES}
+use Rattle.ata_types.specs.declared.request.Frame.{Frame}
 use Rattle.adapter.specs.Rules.{IsOn, HasPort}
-use Rattle.block_machine.specs.Due.{is_plain}
 use Rattle.block_machine.specs.State.{Pending}
 use Rattle.block_machine.specs.Steps.{Issue, May}
 use Rattle.block_machine.specs.declared.due.Mode.{Mode}
+use Rattle.agreement.specs.Agrees.{port_at}
 use Rattle.agreement.specs.Driven.{IsAgreed}
 use Rattle.agreement.specs.Slots.{Free}
 use Rattle.agreement.specs.Witness.{prepared_read}
-use Rattle.ncq.specs.Transfers.{IsTransfer, MayTransfer}
+use Rattle.ncq.specs.Transfers.{IsFit, IsTransferOf, MayTransfer}
+use Rattle.ncq.specs.declared.Transfer.{Transfer}
 
 -- What is asked of the adapter before a transfer is issued holds of port 0 of the first read's, before its bit of PxCI was written: with
--- a machine that agrees where no slot is used, and on which a plain request for a transfer is due.
+-- a machine that agrees where no slot is used, and on which a request of that port is due that is a plain transfer, which slot 0 may take.
 pub record FirstMayBeIssued : Type 0 where
   pub on : IsOn prepared_read
   pub there : HasPort prepared_read 0
@@ -22,6 +24,8 @@ pub record FirstMayBeIssued : Type 0 where
   pub mode : Mode
   pub request : Pending
   pub due : May agreed.machine (Issue mode request)
-  pub transfers : IsTransfer request.request.asked.op
-  pub plain : is_plain mode request.request.asked.op ≡ true
-  pub usable : 0 < mode.usable
+  pub transfer : Transfer
+  pub frames : List Frame
+  pub fits : IsFit transfer frames
+  pub plain : transfer.queued ≡ false
+  pub is : IsTransferOf (port_at 0) 0 transfer frames mode request

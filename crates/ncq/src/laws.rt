@@ -21,6 +21,7 @@ ghost use Rattle.ncq.specs.declared.Transfer.{Transfer};
 use adapter::laws::{a_first_read_exists, saying_is_one};
 use agreement::acts::acts_give;
 use agreement::laws::{a_prepared_read_agrees, going_composes};
+use block_machine::laws::issue_was_accepted;
 use command_table::laws::stores_are_of_one_port;
 
 /// No call touches a register of another port, nor another port's bit of IS: so what is said of such accesses (`IsOf`) is so of each.
@@ -68,4 +69,5 @@ pub fn a_transfer_may_be_issued()
     a_prepared_read_agrees();
     saying_is_one();
     a_first_read_exists();
+    issue_was_accepted();
 }

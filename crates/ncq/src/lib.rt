@@ -2,15 +2,13 @@
 //! (AHCI 1.3.1, 5.5; ACS-3). Each call is of one port, whatever the others do.
 #![tactic(auto)]
 
-ghost use Rattle.std.specs.Prelude.{◌≡◌, ◌≤◌, ◌<◌, ◌+◌, ◌*◌, ◌/◌, ◌%◌, ◌^◌, ◌&&◌, not, ℕ, true, false, length, All};
-ghost use Rattle.adapter.specs.Access.{Writes};
+ghost use Rattle.std.specs.Prelude.{◌≡◌, ◌≤◌, ◌<◌, ◌*◌, ◌/◌, ◌%◌, true, false};
 ghost use Rattle.adapter.specs.Commands.{command_of};
 ghost use Rattle.adapter.specs.Rules.{IsOn, HasPort};
 ghost use Rattle.agreement.specs.Driven.{AgreesWith, IsBitOf};
 ghost use Rattle.agreement.specs.Readying.{IsStored};
 ghost use Rattle.command_table.specs.Places.{places_of};
 ghost use Rattle.command_table.specs.Written.{IsUnused};
-ghost use Rattle.hba_regs.specs.Bits.{bit};
 ghost use Rattle.hba_regs.specs.declared.reg.PortReg.TheVariants.{Ci, Sact};
 ghost use Rattle.hba_regs.specs.declared.reg.Reg.TheVariants.{Px};
 ghost use Rattle.ncq.specs.Issuing.{IsArmedFor};
@@ -178,8 +176,8 @@ fn clear_in_both(mask: u32, issued: u32, active: u32) -> u32
     mask & !(issued | active)
 }
 
-/// The slots of the mask whose commands are done: their bits are clear in PxCI and in PxSACT, which are read in this order, once each. Bit k is
-/// slot k. While ST is one, the device alone clears these bits; a queued command leaves PxCI when it is taken, and PxSACT when it ends.
+/// The slots of the mask whose bits are clear in both PxCI and PxSACT, which are read in this order, once each; where one has a command, that is
+/// done. Bit k is slot k. While ST is one, the device alone clears these bits; a queued command leaves PxCI when it is taken, and PxSACT when it ends.
 pub fn done<A: Adapter>(adapter: &mut A, port: Port, mask: u32) -> u32
     requires on { IsOn (A.device adapter.old) }
     requires there { HasPort (A.device adapter.old) port.0 }

@@ -9,9 +9,9 @@ use Rattle.adapter.specs.Access.Access.{Reading, Writing, Loading, Storing}
 use Rattle.adapter.specs.Device.{Device}
 use Rattle.adapter.specs.Rules.{IsOn}
 use Rattle.agreement.specs.Driven.{IsDrivenBy, IsOf, LeavesPort}
-use Rattle.agreement.proofs.Controlled.{other_left}
-use Rattle.agreement.proofs.Driven.{driven_as}
+use Rattle.port_look.specs.Laws.{Laws}
 use Rattle.port_look.specs.Looks.{IsLooking}
+use Rattle.port_look.proofs.Stretching.{driven_as}
 
 module _ (port : Port) where
   -- a register of the port is read, or written
@@ -30,5 +30,5 @@ module _ (port : Port) where
   looking_of (Loading at bytes) here = absurd here
 
   -- so they leave another port to the device
-  pub apart : (May : Access → Type 0) → ((access : Access) → May access → IsOf port access) → (q : ℕ) → q ≢ port.0 → (old new : Device) → IsOn old → IsDrivenBy May old new → LeavesPort (old.port q) (new.port q)
-  apart May of q other old new on a = other_left port old new (driven_as May (IsOf port) old new of a) q other on
+  pub apart : (laws : Laws) (May : Access → Type 0) → ((access : Access) → May access → IsOf port access) → (q : ℕ) → q ≢ port.0 → (old new : Device) → IsOn old → IsDrivenBy May old new → LeavesPort (old.port q) (new.port q)
+  apart laws May of q other old new on a = laws.other_left port q old new other on (driven_as May (IsOf port) old new of a)

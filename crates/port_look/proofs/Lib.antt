@@ -4,3 +4,4 @@ pub mod Serving
 pub mod Telling
 pub mod Recording
 pub mod Seeing
+pub mod Stretching

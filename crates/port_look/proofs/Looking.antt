@@ -8,20 +8,20 @@ use Rattle.hba_regs.specs.declared.reg.Reg.TheVariants as reg
 use Rattle.hba_regs.specs.declared.reg.Reg.TheVariants.{Px}
 use Rattle.hba_regs.specs.declared.reg.PortReg.TheVariants.{Is, Ssts}
 use Rattle.adapter.specs.Access.{Reads, Writes}
-use Rattle.adapter.specs.Access.Access.{Writing}
-use Rattle.adapter.specs.Device.{Notes, PortState, Device}
+use Rattle.adapter.specs.Access.Access.{Reading, Writing}
+use Rattle.adapter.specs.Device.{Device}
 use Rattle.adapter.specs.Rules.{IsOn, HasPort, MayWrite, Stays}
-use Rattle.adapter.proofs.Calls.{KeepsAll, SeenAt, seen, PutAt, put, on_after, steps_keep_all}
 use Rattle.agreement.specs.Driven.{AnyUse, IsBitOf, IsFollowed}
-use Rattle.agreement.proofs.Driven.{followed_then, followed_read, followed_write}
-use Rattle.agreement.proofs.Lasting.{access_on, access_same}
-use Rattle.agreement.proofs.Noting.{notes_stay}
+use Rattle.agreement.specs.Links.{SameAdapter}
+use Rattle.port_look.specs.Laws.{Laws}
+use Rattle.port_look.specs.Laws.Stretch.{Looking}
 use Rattle.port_look.specs.Looks.{look_of, IsLooking, LooksAt}
 use Rattle.port_look.specs.declared.Look.{Look}
+use Rattle.port_look.proofs.Stretching.{spared_on}
 
 -- the adapter has the port still
-there_after : (port : ℕ) (old new : Device) → KeepsAll old new → HasPort old port → HasPort new port
-there_after port old new k there = (there.0, ap (λ (pi : ℕ). bit pi port) k.pi ∙ there.1)
+there_after : (port : ℕ) (old new : Device) → SameAdapter old new → HasPort old port → HasPort new port
+there_after port old new s there = (there.0, ap (λ (pi : ℕ). bit pi port) s.pi ∙ there.1)
 
 -- a bit that was set in no other bits
 pub bit_alone : (port place v : ℕ) → place ≡ port → v < 2 ^ 32 → bit v place ≡ true → ((k : ℕ) → k < 32 → k ≢ place → bit v k ≡ bit 0 k) → IsBitOf port v
@@ -35,59 +35,52 @@ bit_alone port place v same fits set others =
       | inr above ↦ ap (λ (n : ℕ). n == 1) (bit_at_above v 32 k fits above)
     ]
 
-module _ (port : Port) (d0 d1 : Device) (causes : ℕ) (on : IsOn d0) (there : HasPort d0 port.0) (first : Reads (Px port Is) causes d0 d1) where
-  one : SeenAt port.0 Is causes d0 d1
-  one = seen port Is causes d0 d1 first on.no_reset
+module _ (laws : Laws) (port : Port) (d0 d1 : Device) (causes : ℕ) (on : IsOn d0) (there : HasPort d0 port.0) (first : Reads (Px port Is) causes d0 d1) where
+  -- one stretch of the look after another
+  then : (old mid new : Device) → IsFollowed (IsLooking port) AnyUse old mid → IsFollowed (IsLooking port) AnyUse mid new → IsFollowed (IsLooking port) AnyUse old new
+  then old mid new a b = (laws.both (Looking port) (Looking port) (λ uses. uses) (λ uses. uses) (λ access may. may) (λ uses fits. fits) old mid new a b).followed
 
   one_on : IsOn d1
-  one_on = on_after on one.keeps.on
+  one_on = spared_on laws (Reading (Px port Is) causes) d0 d1 tt first on
 
   one_there : HasPort d1 port.0
-  one_there = there_after port.0 d0 d1 one.keeps there
+  one_there = there_after port.0 d0 d1 (laws.access_same (Reading (Px port Is) causes) d0 d1 first) there
 
   pub clearing_may : (v : ℕ) → Stays (MayWrite (Px port Is) v) d1
-  clearing_may v mid steps = let k = steps_keep_all one_on.no_reset steps in (on_after one_on k.on, there_after port.0 d1 mid k one_there, tt)
+  clearing_may v = laws.write_stays (Px port Is) v d1 (λ p e. cc) (one_on, one_there, tt)
 
   module _ (v : ℕ) (d2 : Device) (second : Writes (Px port Is) v d1 d2) where
-    two : PutAt port.0 Is v d1 d2
-    two = put port Is v d1 d2 second one_on.no_reset
-
     two_on : IsOn d2
-    two_on = record { ae = two.ae ∙ one_on.ae; no_reset = two.hr }
+    two_on = spared_on laws (Writing (Px port Is) v) d1 d2 (λ e. cc) second one_on
 
     -- PxIS was written, so the port's bit of IS may be
     pub acknowledging_may : (own : ℕ) → IsBitOf port.0 own → Stays (MayWrite reg.Is own) d2
-    acknowledging_may own alone mid steps = (
-      on_after two_on (steps_keep_all two_on.no_reset steps).on,
-      λ q small set.
-          elim (cases_eq q port.0) [
-            | inl e ↦
-                let P : ℕ → Type 0 = λ p. (mid.port p).notes.acknowledged ≡ true in
-                subst P (sym e) (ap (λ (n : Notes). n.acknowledged) (notes_stay port.0 d2 mid steps) ∙ ap (λ (p : PortState). p.notes.acknowledged) two.here)
-            | inr other ↦ absurd (true≢false (sym set ∙ (alone.alone q other)))
-          ],
-    )
+    acknowledging_may own alone = laws.acknowledging_may port v d1 d2 one_on second own (λ q small set. elim (cases_eq q port.0) [
+      | inl e ↦ inl e
+      | inr other ↦ absurd (true≢false (sym set ∙ alone.alone q other))
+    ])
 
     module _ (own : ℕ) (alone : IsBitOf port.0 own) (d3 : Device) (third : Writes reg.Is own d2 d3) where
       three_on : IsOn d3
-      three_on = access_on (Writing reg.Is own) d2 d3 two_on (λ w e. absurd cc) third
+      three_on = spared_on laws (Writing reg.Is own) d2 d3 (λ e. cc) third two_on
 
       pub showing_may : IsOn d3 × HasPort d3 port.0
       showing_may = (
         three_on,
-        (there.0, ap (λ (pi : ℕ). bit pi port.0) ((access_same (Writing reg.Is own) d2 d3 third).pi ∙ two.pi) ∙ one_there.1),
+        there_after port.0 d2 d3 (laws.access_same (Writing reg.Is own) d2 d3 third)
+            (there_after port.0 d1 d2 (laws.access_same (Writing (Px port Is) v) d1 d2 second) one_there),
       )
 
       module _ (status : ℕ) (d4 : Device) (fourth : Reads (Px port Ssts) status d3 d4) where
         pub looking_on : IsOn d4
-        looking_on = on_after three_on (seen port Ssts status d3 d4 fourth three_on.no_reset).keeps.on
+        looking_on = spared_on laws (Reading (Px port Ssts) status) d3 d4 tt fourth three_on
 
         pub looking_followed : IsFollowed (IsLooking port) AnyUse d0 d4
         looking_followed =
-            followed_then (IsLooking port) AnyUse d0 d1 d4 (followed_read (IsLooking port) (Px port Is) causes d0 d1 (inl refl) first)
-            (followed_then (IsLooking port) AnyUse d1 d2 d4 (followed_write (IsLooking port) AnyUse (Px port Is) v d1 d2 (inl refl) (clearing_may v) (λ uses is. tt) second)
-            (followed_then (IsLooking port) AnyUse d2 d3 d4 (followed_write (IsLooking port) AnyUse reg.Is own d2 d3 (inr (refl, alone)) (acknowledging_may own alone) (λ uses is. tt) third)
-            (followed_read (IsLooking port) (Px port Ssts) status d3 d4 (inr refl) fourth)))
+            then d0 d1 d4 (laws.reads (Looking port) (Px port Is) causes d0 d1 (inl refl) first).followed
+            (then d1 d2 d4 (laws.writes (Looking port) (Px port Is) v d1 d2 (inl refl) (clearing_may v) (λ uses is. tt) second).followed
+            (then d2 d3 d4 (laws.writes (Looking port) reg.Is own d2 d3 (inr (refl, alone)) (acknowledging_may own alone) (λ uses is. tt) third).followed
+            (laws.reads (Looking port) (Px port Ssts) status d3 d4 (inr refl) fourth).followed))
 
 -- where what was read is written back, it was a look
 pub looked : (port : Port) (result : Look) (d0 d1 d2 d3 d4 : Device) (causes own status : ℕ) → IsBitOf port.0 own → Reads (Px port Is) causes d0 d1 → Writes (Px port Is) causes d1 d2 →

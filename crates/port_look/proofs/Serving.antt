@@ -10,24 +10,17 @@ use Rattle.adapter.specs.Access.{Access, Does}
 use Rattle.adapter.specs.Access.Access.{Reading, Writing, Loading, Storing}
 use Rattle.adapter.specs.Device.{PortState, Device}
 use Rattle.adapter.specs.Rules.{IsOn}
-use Rattle.block_machine.specs.Left.{after}
-use Rattle.block_machine.proofs.HistoryLemmas.{reached_more}
 use Rattle.agreement.specs.Agrees.{port_at}
-use Rattle.agreement.specs.Driven.{IsUse, IsAgreed, IsDrivenBy, IsFollowed}
+use Rattle.agreement.specs.Driven.{AnyAccess, Grows, IsUse, IsAgreed, IsDrivenBy, IsFollowed}
 use Rattle.agreement.specs.Errors.{KeepsErrors}
-use Rattle.agreement.specs.Facts.{IsDisturbance, RunsWell, Undisturbed}
+use Rattle.agreement.specs.Facts.{RunsWell, Undisturbed}
 use Rattle.agreement.specs.Links.{SparesRegister, SameAdapter, LeavesControls}
 use Rattle.agreement.specs.Slots.{Uses}
-use Rattle.agreement.proofs.Controlled.{Grows, grows_none, grows_more, access_grows}
-use Rattle.agreement.proofs.Driven.{along, over, followed_adds}
-use Rattle.agreement.proofs.Erring.{access_news, access_causes}
-use Rattle.agreement.proofs.Gaining.{gains_parts}
-use Rattle.agreement.proofs.Lasting.{access_same, same_more, same_refl, store_leaves}
-use Rattle.agreement.proofs.Linking.{access_controls}
-use Rattle.agreement.proofs.Running.{access_clear, access_started, started_well, shows_still, well_of}
-use Rattle.agreement.proofs.Unarmed.{steps_clear, reads_clear, writes_clear}
+use Rattle.port_look.specs.Laws.{Laws}
+use Rattle.port_look.specs.Laws.Stretch.{Serving}
 use Rattle.port_look.specs.Looks.{IsLooking}
 use Rattle.port_look.specs.Services.{IsService, IsOrdinary}
+use Rattle.port_look.proofs.Stretching.{driven_as, kept, kept_on}
 
 -- ---- kinds of accesses
 
@@ -63,104 +56,96 @@ spares_port port r one two = spares_other (Px port r) (λ e. cc) (λ q e. one (l
 
 -- ---- what they leave
 
--- over accesses of which each keeps so much of an adapter that is on
-pub services_keep : (Keeps : Device → Device → Type 0) → ((d : Device) → Keeps d d) → ((a b c : Device) → Keeps a b → Keeps b c → Keeps a c) →
-    ((access : Access) (old new : Device) → IsOn old → IsService access → Does access old new → Keeps old new) → (old new : Device) → IsOn old → IsDrivenBy IsService old new → Keeps old new × IsOn new
-services_keep Keeps none more each old new on a = over Keeps none more IsService spares_ghc each a.accesses old new on a.only a.all
-
-pub services_on : (old new : Device) → IsOn old → IsDrivenBy IsService old new → IsOn new
-services_on old new on a = (services_keep (λ x y. Unit {0}) (λ d. tt) (λ x y z p q. tt) (λ access x y ready is does. tt) old new on a).1
-
-pub services_same : (old new : Device) → IsDrivenBy IsService old new → SameAdapter old new
-services_same old new a = along SameAdapter same_refl same_more IsService (λ access x y is does. access_same access x y does) a.accesses old new a.only a.all
-
 -- ST and the command list of a port are as they were
 abbrev LeavesStarted : PortState → PortState → Type 0
 LeavesStarted old new = (new.st ≡ old.st) × (new.bases.clb ≡ old.bases.clb)
-
-pub services_port : (port : Port) (old new : Device) → IsOn old → IsDrivenBy IsService old new → LeavesStarted (old.port port.0) (new.port port.0)
-services_port port old new on a =
-    (services_keep (λ x y. LeavesStarted (x.port port.0) (y.port port.0)) (λ d. (refl, refl)) (λ x y z p q. (q.0 ∙ p.0, q.1 ∙ p.1))
-    (λ access x y ready is does.
-    let left : LeavesControls access port (x.port port.0) (y.port port.0) = access_controls port access x y ready.no_reset does in
-    ((left.command (spares_port port Cmd (λ e. cc) (λ e. cc) access is)).0, (left.list (spares_port port Clb (λ e. cc) (λ e. cc) access is)).0))
-    old new on a).0
 
 -- DET of PxSCTL, PxIE, and when PxSCTL was written and ST set, are as they were
 abbrev LeavesNoted : PortState → PortState → Type 0
 LeavesNoted old new =
     (new.sctl_det ≡ old.sctl_det) × (new.ie ≡ old.ie) × (new.notes.sctl_written_at ≡ old.notes.sctl_written_at) × (new.notes.st_set_at ≡ old.notes.st_set_at)
 
-pub services_controls : (port : ℕ) (old new : Device) → IsOn old → IsDrivenBy IsService old new → LeavesNoted (old.port port) (new.port port)
-services_controls port old new on a =
-    (services_keep (λ x y. LeavesNoted (x.port port) (y.port port)) (λ d. (refl, refl, refl, refl))
-    (λ x y z p q. (q.0 ∙ p.0, q.1 ∙ p.1, q.2 ∙ p.2, q.3 ∙ p.3))
-    (λ access x y ready is does.
-    let left : LeavesControls access (port_at port) (x.port port) (y.port port) = access_controls (port_at port) access x y ready.no_reset does in
-    let control = left.control (spares_port (port_at port) Sctl (λ e. cc) (λ e. cc) access is) in
-    (control.0, left.interrupts (spares_port (port_at port) Ie (λ e. cc) (λ e. cc) access is), control.1, (left.command (spares_port (port_at port) Cmd (λ e. cc) (λ e. cc) access is)).2))
-    old new on a).0
-
--- bits of PxSACT that are clear stay so
-service_inactive : (port slot : ℕ) (access : Access) (old new : Device) → IsService access → Does access old new → (old.port port).sact slot ≡ false → (new.port port).sact slot ≡ false
-service_inactive port slot (Reading r v) old new is does u = reads_clear port slot r v old new does u
-service_inactive port slot (Writing r v) old new is does u =
-    writes_clear (port_at port) slot r v old new (λ e. absurd (spares_port (port_at port) Sact (λ e. cc) (λ e. cc) (Writing r v) is e)) does u
-service_inactive port slot (Loading at bytes) old new is does u = steps_clear port slot old new does.steps u
-service_inactive port slot (Storing at bytes) old new is does u =
-    let s = store_leaves at bytes old new does in
-    subst (λ (p : PortState). p.sact slot ≡ false) (sym (s.2 port)) (steps_clear port slot old s.0 s.1 u)
-
-pub services_inactive : (port slot : ℕ) (old new : Device) → IsDrivenBy IsService old new → (old.port port).sact slot ≡ false → (new.port port).sact slot ≡ false
-services_inactive port slot old new a =
-    along (λ x y. (x.port port).sact slot ≡ false → (y.port port).sact slot ≡ false) (λ d h. h) (λ x y z p q h. q (p h)) IsService
-    (λ access x y is does. service_inactive port slot access x y is does) a.accesses old new a.only a.all
-
--- ---- a port that runs well
-
--- where nothing goes wrong in the whole, nothing does in the parts
-pub calm_parts : (port : ℕ) (a b c : Device) → Grows a b → Grows b c → Undisturbed port a c → Undisturbed port a b × Undisturbed port b c
-calm_parts port a b c p q u =
-    let x = gains_parts (IsDisturbance port) a b c p.0 q.0 p.1 q.1 (u.gained, u.tape, u.calm) in
-    (record { gained = x.0.0; tape = x.0.1; calm = x.0.2 }, record { gained = x.1.0; tape = x.1.1; calm = x.1.2 })
-
-service_well : (port : Port) (access : Access) (old new : Device) → IsOn old → IsService access → Does access old new → Undisturbed port.0 old new → RunsWell (old.port port.0) → RunsWell (new.port port.0)
-service_well port access old new on is does calm well =
-    well_of (new.port port.0)
-    (access_started port access old new on.no_reset (λ v e. absurd (subst (SparesRegister (Px port Cmd)) e (spares_port port Cmd (λ e. cc) (λ e. cc) access is) refl))
-    (spares_port port Sctl (λ e. cc) (λ e. cc) access is) calm does (started_well (old.port port.0) well))
-    (shows_still (old.port port.0) (new.port port.0) (access_clear port access old new on.no_reset well.linked calm does) well.quiet)
-
+-- a port that runs well does so still, where nothing goes wrong
 abbrev StaysWell : ℕ → Device → Device → Type 0
 StaysWell port old new = Grows old new × (Undisturbed port old new → RunsWell (old.port port) → RunsWell (new.port port))
 
-pub services_well : (port : Port) (old new : Device) → IsOn old → IsDrivenBy IsService old new → Undisturbed port.0 old new → RunsWell (old.port port.0) → RunsWell (new.port port.0)
-services_well port old new on a =
-    (services_keep (StaysWell port.0) (λ d. (grows_none d, λ calm well. well))
-    (λ x y z p q. (grows_more x y z p.0 q.0, λ calm well. let parts = calm_parts port.0 x y z p.0 q.0 calm in q.1 parts.1 (p.1 parts.0 well)))
-    (λ access x y ready is does. (access_grows access x y does, λ calm well. service_well port access x y ready is does calm well))
-    old new on a).0.1
+module _ (laws : Laws) where
+  -- over accesses of which each keeps so much of an adapter that is on
+  pub services_keep : (Keeps : Device → Device → Type 0) → ((d : Device) → Keeps d d) → ((a b c : Device) → Keeps a b → Keeps b c → Keeps a c) →
+      ((access : Access) (old new : Device) → IsOn old → IsService access → Does access old new → Keeps old new) → (old new : Device) → IsOn old → IsDrivenBy IsService old new → Keeps old new × IsOn new
+  services_keep Keeps none more each = kept_on laws Keeps none more IsService spares_ghc each
 
--- ---- a machine agrees on
+  pub services_on : (old new : Device) → IsOn old → IsDrivenBy IsService old new → IsOn new
+  services_on old new on a = (services_keep (λ x y. Unit {0}) (λ d. tt) (λ x y z p q. tt) (λ access x y ready is does. tt) old new on a).1
 
-pub services_agree : (uses : Uses) (old new : Device) → IsFollowed IsService (IsUse uses) old new → IsAgreed uses old → IsAgreed uses new
-services_agree uses old new followed a =
-    let x = (followed_adds followed uses a.parked refl).adds a.machine a.reached a.knows in
-    record {
-      machine = after a.machine x.0;
-      parked = a.parked;
-      reached = reached_more a.machine x.0 a.reached x.1;
-      knows = x.2;
-    }
+  pub services_same : (old new : Device) → IsDrivenBy IsService old new → SameAdapter old new
+  services_same old new a = laws.same_over old new (driven_as IsService AnyAccess old new (λ access is. tt) a)
 
--- ---- what tells of trouble
+  pub services_port : (port : Port) (old new : Device) → IsOn old → IsDrivenBy IsService old new → LeavesStarted (old.port port.0) (new.port port.0)
+  services_port port old new on a =
+      (services_keep (λ x y. LeavesStarted (x.port port.0) (y.port port.0)) (λ d. (refl, refl)) (λ x y z p q. (q.0 ∙ p.0, q.1 ∙ p.1))
+      (λ access x y ready is does.
+      let left : LeavesControls access port (x.port port.0) (y.port port.0) = laws.access_controls port access x y ready.no_reset does in
+      ((left.command (spares_port port Cmd (λ e. cc) (λ e. cc) access is)).0, (left.list (spares_port port Clb (λ e. cc) (λ e. cc) access is)).0))
+      old new on a).0
 
-pub errors_stay : (port : Port) (old new : Device) → IsOn old → IsDrivenBy (IsOrdinary port) old new → KeepsErrors (old.port port.0) (new.port port.0)
-errors_stay port old new on a =
-    (over (λ x y. KeepsErrors (x.port port.0) (y.port port.0)) (λ d. record { is = λ place h. h; serr_n = λ h. h; serr_x = λ h. h })
-    (λ x y z p q. record { is = λ place h. q.is place (p.is place h); serr_n = λ h. q.serr_n (p.serr_n h); serr_x = λ h. q.serr_x (p.serr_x h) })
-    (IsOrdinary port) (λ access is. spares_ghc access is.0)
-    (λ access x y ready is does.
-    let news = access_news port access x y ready.no_reset (spares_port port Serr (λ e. cc) (λ e. cc) access is.0) does in
-    record { is = access_causes port access x y ready.no_reset is.1 does; serr_n = news.0; serr_x = news.1 })
-    a.accesses old new on a.only a.all).0
+  pub services_controls : (port : ℕ) (old new : Device) → IsOn old → IsDrivenBy IsService old new → LeavesNoted (old.port port) (new.port port)
+  services_controls port old new on a =
+      (services_keep (λ x y. LeavesNoted (x.port port) (y.port port)) (λ d. (refl, refl, refl, refl))
+      (λ x y z p q. (q.0 ∙ p.0, q.1 ∙ p.1, q.2 ∙ p.2, q.3 ∙ p.3))
+      (λ access x y ready is does.
+      let left : LeavesControls access (port_at port) (x.port port) (y.port port) = laws.access_controls (port_at port) access x y ready.no_reset does in
+      let control = left.control (spares_port (port_at port) Sctl (λ e. cc) (λ e. cc) access is) in
+      (control.0, left.interrupts (spares_port (port_at port) Ie (λ e. cc) (λ e. cc) access is), control.1, (left.command (spares_port (port_at port) Cmd (λ e. cc) (λ e. cc) access is)).2))
+      old new on a).0
+
+  -- bits of PxSACT that are clear stay so
+  service_inactive : (port slot : ℕ) (access : Access) (old new : Device) → IsService access → Does access old new → (old.port port).sact slot ≡ false → (new.port port).sact slot ≡ false
+  service_inactive port slot (Reading r v) old new is does u = laws.reads_clear port slot r v old new does u
+  service_inactive port slot (Writing r v) old new is does u =
+      laws.writes_clear (port_at port) slot r v old new (λ e. absurd (spares_port (port_at port) Sact (λ e. cc) (λ e. cc) (Writing r v) is e)) does u
+  service_inactive port slot (Loading at bytes) old new is does u = laws.steps_clear port slot old new does.steps u
+  service_inactive port slot (Storing at bytes) old new is does u =
+      let s = laws.store_leaves at bytes old new does in
+      subst (λ (p : PortState). p.sact slot ≡ false) (sym (s.2 port)) (laws.steps_clear port slot old s.0 s.1 u)
+
+  pub services_inactive : (port slot : ℕ) (old new : Device) → IsDrivenBy IsService old new → (old.port port).sact slot ≡ false → (new.port port).sact slot ≡ false
+  services_inactive port slot =
+      kept (λ x y. (x.port port).sact slot ≡ false → (y.port port).sact slot ≡ false) (λ d h. h) (λ x y z p q h. q (p h)) IsService (service_inactive port slot)
+
+  -- ---- a port that runs well
+
+  -- where nothing goes wrong in the whole, nothing does in the parts
+  pub calm_parts : (port : ℕ) (a b c : Device) → Grows a b → Grows b c → Undisturbed port a c → Undisturbed port a b × Undisturbed port b c
+  calm_parts port a b c p q u = laws.calm_parts port a b c p.0 q.0 p.1 q.1 u
+
+  service_well : (port : Port) (access : Access) (old new : Device) → IsOn old → IsService access → Does access old new → Undisturbed port.0 old new → RunsWell (old.port port.0) → RunsWell (new.port port.0)
+  service_well port access old new on is does calm well =
+      laws.well_of (new.port port.0)
+      (laws.access_started port access old new on.no_reset (λ v e. absurd (subst (SparesRegister (Px port Cmd)) e (spares_port port Cmd (λ e. cc) (λ e. cc) access is) refl))
+      (spares_port port Sctl (λ e. cc) (λ e. cc) access is) calm does (laws.started_well (old.port port.0) well))
+      (laws.shows_still (old.port port.0) (new.port port.0) (laws.access_clear port access old new on.no_reset well.linked calm does) well.quiet)
+
+  pub services_well : (port : Port) (old new : Device) → IsOn old → IsDrivenBy IsService old new → Undisturbed port.0 old new → RunsWell (old.port port.0) → RunsWell (new.port port.0)
+  services_well port old new on a =
+      (services_keep (StaysWell port.0) (λ d. (laws.grows_none d, λ calm well. well))
+      (λ x y z p q. (laws.grows_more x y z p.0 q.0, λ calm well. let parts = calm_parts port.0 x y z p.0 q.0 calm in q.1 parts.1 (p.1 parts.0 well)))
+      (λ access x y ready is does. (laws.access_grows access x y does, λ calm well. service_well port access x y ready is does calm well))
+      old new on a).0.1
+
+  -- ---- a machine agrees on
+
+  pub services_agree : (uses : Uses) (old new : Device) → IsFollowed IsService (IsUse uses) old new → IsAgreed uses old → IsAgreed uses new
+  services_agree uses old new followed a = laws.agreed (Serving uses) (λ uses. uses) uses old new refl followed a
+
+  -- ---- what tells of trouble
+
+  pub errors_stay : (port : Port) (old new : Device) → IsOn old → IsDrivenBy (IsOrdinary port) old new → KeepsErrors (old.port port.0) (new.port port.0)
+  errors_stay port old new on a =
+      (kept_on laws (λ x y. KeepsErrors (x.port port.0) (y.port port.0)) (λ d. record { is = λ place h. h; serr_n = λ h. h; serr_x = λ h. h })
+      (λ x y z p q. record { is = λ place h. q.is place (p.is place h); serr_n = λ h. q.serr_n (p.serr_n h); serr_x = λ h. q.serr_x (p.serr_x h) })
+      (IsOrdinary port) (λ access is. spares_ghc access is.0)
+      (λ access x y ready is does.
+      let news = laws.access_news port access x y ready.no_reset (spares_port port Serr (λ e. cc) (λ e. cc) access is.0) does in
+      record { is = laws.access_causes port access x y ready.no_reset is.1 does; serr_n = news.0; serr_x = news.1 })
+      old new on a).0

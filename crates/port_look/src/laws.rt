@@ -1,23 +1,21 @@
 // Laws of the definitions, for callers: the clause is the theorem. Nothing calls these functions.
-ghost use Rattle.std.specs.Prelude.{ℕ, Bool, true, false, ◌≡◌, ◌≢◌, ◌<◌, ◌≤◌, ◌%◌, ◌⊎◌};
+ghost use Rattle.std.specs.Prelude.{ℕ, true, false, ◌≡◌, ◌≢◌, ◌≤◌, ◌%◌, ◌⊎◌};
 ghost use Rattle.ata_types.specs.declared.Port.{Port};
 ghost use Rattle.hba_regs.specs.Bits.{bit};
 ghost use Rattle.adapter.specs.Access.{Access};
 ghost use Rattle.adapter.specs.Device.{Device};
 ghost use Rattle.adapter.specs.Rules.{IsOn};
-ghost use Rattle.block_machine.specs.Due.{is_plain};
-ghost use Rattle.block_machine.specs.State.{Pending};
-ghost use Rattle.block_machine.specs.Steps.{Issue, May};
-ghost use Rattle.block_machine.specs.declared.due.Mode.{Mode};
 ghost use Rattle.agreement.specs.Driven.{IsUse, IsAgreed, IsDrivenBy, IsFollowed, IsOf};
 ghost use Rattle.agreement.specs.Errors.{KeepsErrors, NoneComes};
 ghost use Rattle.agreement.specs.Facts.{IsRecorded, RunsWell, ShowsNoTrouble, TellsNoTrouble, Undisturbed};
 ghost use Rattle.agreement.specs.Links.{SameAdapter};
-ghost use Rattle.agreement.specs.Slots.{Free, Serves, Uses, put};
+ghost use Rattle.agreement.specs.Slots.{Uses};
 ghost use Rattle.port_look.specs.Looks.{look_of, IsLooking, LooksAt};
 ghost use Rattle.port_look.specs.Services.{IsService, IsOrdinary, KeepsChanges};
 ghost use Rattle.port_look.specs.declared.Look.{Look};
 ghost use Rattle.port_look.specs.declared.Look.TheVariants as look;
+
+use super::lawful::laws_hold;
 
 /// The accesses of a look serve ports, and are ordinary for each other port.
 pub fn looks_are_services()
@@ -34,7 +32,7 @@ pub fn looks_are_of_one_port()
 
 /// What serving ports leaves: the adapter, which stays on; ST and the command list of each port; DET of each port's PxSCTL, its PxIE,
 /// and when PxSCTL was written and ST set; each port that runs well, where nothing goes wrong on it; the record of each port's faults; and bits
-/// of PxSACT that are clear. So a machine that agrees goes on to, where the stretch is followed.
+/// of PxSACT that are clear. So a machine that agrees goes on, too, where the stretch is followed.
 pub fn services_leave()
     ensures on { (old new : Device) → IsOn old → IsDrivenBy IsService old new → IsOn new }
     ensures adapter { (old new : Device) → IsDrivenBy IsService old new → SameAdapter old new }
@@ -52,7 +50,9 @@ pub fn services_leave()
         → (old.port port).sact slot ≡ false → (new.port port).sact slot ≡ false }
     ensures agrees { (uses : Uses) (old new : Device) → IsFollowed IsService (IsUse uses) old new → IsAgreed uses old
         → IsAgreed uses new }
-{}
+{
+    laws_hold();
+}
 
 /// What each answer of a look says of what was read.
 pub fn answers_tell()
@@ -81,7 +81,9 @@ pub fn trouble_is_seen()
         → (old.port port.0).ssts_det ≢ 3 → (old.port port.0).link_due ≡ false → NoneComes port.0 old new → result ≡ look.Lost }
     ensures well { (port : Port) (result : Look) (old new : Device) → IsOn old → LooksAt port result old new
         → RunsWell (old.port port.0) → Undisturbed port.0 old new → (result ≡ look.Undisturbed) × RunsWell (new.port port.0) }
-{}
+{
+    laws_hold();
+}
 
 /// What tells of trouble isn't hidden. Ordinary accesses leave each bit of the port's PxIS, and N and X of its PxSERR, set where they are
 /// set. So does a look with N and X; and with each bit of PxIS that it hasn't read, also one that is set between the reading and the write.
@@ -92,4 +94,6 @@ pub fn trouble_stays_told()
         → KeepsChanges (old.port port.0) (new.port port.0) }
     ensures causes { (port : Port) (result : Look) (old new : Device) → IsOn old → (l : LooksAt port result old new) → (place : ℕ)
         → (l.clears.mid.port port.0).is place ≡ true → bit l.causes place ≡ false → (new.port port.0).is place ≡ true }
-{}
+{
+    laws_hold();
+}

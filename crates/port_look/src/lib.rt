@@ -10,7 +10,9 @@ ghost use Rattle.port_look.specs.Looks.{look_of, IsLooking, LooksAt};
 use adapter::Adapter;
 use ata_types::Port;
 use hba_regs::{PortInterrupts, PortReg, Reg, SataStatus, with_bit};
+use lawful::laws_hold;
 
+pub mod lawful;
 pub mod laws;
 
 /// What a look at a port told.
@@ -53,6 +55,7 @@ pub fn look_at<A: Adapter>(adapter: &mut A, port: Port) -> Look
     ensures looks { LooksAt port result (A.device adapter.old) (A.device adapter.new) }
     ensures followed { IsFollowed (IsLooking port) AnyUse (A.device adapter.old) (A.device adapter.new) }
 {
+    laws_hold();
     let interrupts = PortInterrupts(adapter.read(Reg::Px(port, PortReg::Is)));
     adapter.write(Reg::Px(port, PortReg::Is), interrupts.0);
     adapter.write(Reg::Is, with_bit(0, u32::from(port.0)));

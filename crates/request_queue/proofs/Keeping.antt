@@ -143,8 +143,18 @@ module _ (s : Slab Entry) (loans : List (Option Lending)) (order : List ℕ) (ke
   pub frames_there : (loan : Lending) → get_or loans key None ≡ Some loan → slice_get (map (λ (e : Held). e.frames) (entries s loans order)) place ≡ Some loan.frames
   frames_there loan there = slice_get-map (λ (e : Held). e.frames) (entries s loans order) place ∙ rw (stands_at, there) refl
 
+  kept_there : IsSound s loans order → IsKept s loans key
+  kept_there sound = subst (IsKept s loans) (is_key 0) (sound.held place 0 within)
+
   pub key_there : IsSound s loans order → key < length loans
-  key_there sound = (subst (IsKept s loans) (is_key 0) (sound.held place 0 within)).in_place
+  key_there sound = (kept_there sound).in_place
+
+  -- the loan beside a request is that request's
+  pub lent_there : IsSound s loans order → (loan : Lending) → get_or loans key None ≡ Some loan → slice_get (map (λ (e : Held). e.entry.id) (entries s loans order)) place ≡ Some loan.request
+  lent_there sound loan there =
+      let k = kept_there sound in
+      slice_get-map (λ (e : Held). e.entry.id) (entries s loans order) place
+      ∙ (rw (stands_at, k.has_request) refl ∙ ap Some (sym k.same_id ∙ ap (λ (l : Lending). l.request) (same_Some k.loan loan (sym k.has_loan ∙ there))))
 
 -- ---- another state of one request
 

@@ -45,13 +45,6 @@ impl Book {
         }
     }
 
-    /// What always holds of a book.
-    pub fn is_in_order(&self)
-        ensures { IsInOrder self.now }
-    {
-        let _ = &self.store;
-    }
-
     /// How many of the requests are the client's.
     pub fn unanswered(&self, client: ClientId) -> usize
         ensures { result ≡ unanswered_of self.now client.0 }
@@ -96,7 +89,8 @@ impl Book {
     /// What is lent to an unanswered request.
     pub fn loan(&self, id: RequestId) -> &Loan
         requires { IsUnanswered id self.now }
-        ensures { (e : Held) × Contains self.now e × (e.entry.id ≡ id) × (e.frames ≡ result.now.frames) }
+        ensures held { (e : Held) × Contains self.now e × (e.entry.id ≡ id) × (e.frames ≡ result.now.frames) }
+        ensures id { result.now.request ≡ id }
     {
         self.store.loan(place_of(&self.store, id))
     }
@@ -108,7 +102,8 @@ impl Book {
         ids_of(&self.store, port)
     }
 
-    /// The ids of the requests that wait, and were accepted under this grant of the client.
+    /// The ids of the requests that wait, and were accepted under this grant of the client: those that are to be answered once the grant is
+    /// taken back, which no call does yet.
     pub fn waiting_of(&self, client: ClientId, grant: u8) -> ArrayVec<RequestId, 128>
         ensures { result.items ≡ ids_where (waits_under client grant) self.now }
     {

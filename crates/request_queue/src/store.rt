@@ -65,7 +65,8 @@ impl Store {
     /// What is lent to the request at this place.
     pub fn loan(&self, place: usize) -> &Loan
         requires { place < length self.now }
-        ensures { slice_get (map (λ e. e.frames) self.now) place ≡ Some result.now.frames }
+        ensures frames { slice_get (map (λ e. e.frames) self.now) place ≡ Some result.now.frames }
+        ensures id { slice_get (map (λ e. e.entry.id) self.now) place ≡ Some result.now.request }
     {
         match &self.loans[self.order[place]] {
             Some(loan) => loan,

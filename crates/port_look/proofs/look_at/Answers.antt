@@ -2,21 +2,21 @@ use Rattle.port_look.proofs.Looking.{bit_alone, clearing_may, acknowledging_may,
 use Rattle.port_look.proofs.look_at.Goals as goal
 
 pub write-requires : goal.write-requires
-write-requires g c = clearing_may c.args.port _ _ _ c.requires.on c.requires.there c.read.ensures c.read.result
+write-requires g c = clearing_may c.laws_hold.ensures c.args.port _ _ _ c.requires.on c.requires.there c.read.ensures c.read.result
 
 pub write-requires-2 : goal.write-requires-2
 write-requires-2 g c =
-    acknowledging_may c.args.port _ _ _ c.requires.on c.requires.there c.read.ensures _ _ c.write.ensures _
+    acknowledging_may c.laws_hold.ensures c.args.port _ _ _ c.requires.on c.requires.there c.read.ensures _ _ c.write.ensures _
     (bit_alone c.args.port.0 _ _ c.from.ensures c.with_bit.type_inv c.with_bit.ensures.set c.with_bit.ensures.others)
 
 pub read-requires-2 : goal.read-requires-2
 read-requires-2 g c =
-    showing_may c.args.port _ _ _ c.requires.on c.requires.there c.read.ensures _ _ c.write.ensures _
+    showing_may c.laws_hold.ensures c.args.port _ _ _ c.requires.on c.requires.there c.read.ensures _ _ c.write.ensures _
     (bit_alone c.args.port.0 _ _ c.from.ensures c.with_bit.type_inv c.with_bit.ensures.set c.with_bit.ensures.others) _ c.write-2.ensures
 
 pub returns-clause-on : goal.returns-clause-on
 returns-clause-on g c =
-    looking_on c.args.port _ _ _ c.requires.on c.requires.there c.read.ensures _ _ c.write.ensures _
+    looking_on c.laws_hold.ensures c.args.port _ _ _ c.requires.on c.requires.there c.read.ensures _ _ c.write.ensures _
     (bit_alone c.args.port.0 _ _ c.from.ensures c.with_bit.type_inv c.with_bit.ensures.set c.with_bit.ensures.others) _ c.write-2.ensures _ _ c.read-2.ensures
 
 pub returns-clause-looks : goal.returns-clause-looks
@@ -26,5 +26,5 @@ returns-clause-looks g c =
 
 pub returns-clause-followed : goal.returns-clause-followed
 returns-clause-followed g c =
-    looking_followed c.args.port _ _ _ c.requires.on c.requires.there c.read.ensures _ _ c.write.ensures _
+    looking_followed c.laws_hold.ensures c.args.port _ _ _ c.requires.on c.requires.there c.read.ensures _ _ c.write.ensures _
     (bit_alone c.args.port.0 _ _ c.from.ensures c.with_bit.type_inv c.with_bit.ensures.set c.with_bit.ensures.others) _ c.write-2.ensures _ _ c.read-2.ensures

@@ -3,25 +3,25 @@ use Rattle.port_look.proofs.Serving.{services_on, services_same, services_port, 
 use Rattle.port_look.proofs.laws.services_leave.Goals as goal
 
 pub returns-clause-on : goal.returns-clause-on
-returns-clause-on c = services_on
+returns-clause-on c = services_on c.laws_hold.ensures
 
 pub returns-clause-adapter : goal.returns-clause-adapter
-returns-clause-adapter c = services_same
+returns-clause-adapter c = services_same c.laws_hold.ensures
 
 pub returns-clause-port : goal.returns-clause-port
-returns-clause-port c = services_port
+returns-clause-port c = services_port c.laws_hold.ensures
 
 pub returns-clause-controls : goal.returns-clause-controls
-returns-clause-controls c = services_controls
+returns-clause-controls c = services_controls c.laws_hold.ensures
 
 pub returns-clause-inactive : goal.returns-clause-inactive
-returns-clause-inactive c = services_inactive
+returns-clause-inactive c = services_inactive c.laws_hold.ensures
 
 pub returns-clause-agrees : goal.returns-clause-agrees
-returns-clause-agrees c = services_agree
+returns-clause-agrees c = services_agree c.laws_hold.ensures
 
 pub returns-clause-well : goal.returns-clause-well
-returns-clause-well c = services_well
+returns-clause-well c = services_well c.laws_hold.ensures
 
 pub returns-clause-recorded : goal.returns-clause-recorded
-returns-clause-recorded c = services_recorded
+returns-clause-recorded c = services_recorded c.laws_hold.ensures

@@ -2,13 +2,13 @@ use Rattle.port_look.proofs.Seeing.{seen_calm, seen_changed, seen_unlinked, seen
 use Rattle.port_look.proofs.laws.trouble_is_seen.Goals as goal
 
 pub returns-clause-calm : goal.returns-clause-calm
-returns-clause-calm c = λ port result old new on l. seen_calm port result old new l on
+returns-clause-calm c = λ port result old new on l. seen_calm c.laws_hold.ensures port result old new l on
 
 pub returns-clause-changed : goal.returns-clause-changed
-returns-clause-changed c = λ port result old new on l. seen_changed port result old new l on
+returns-clause-changed c = λ port result old new on l. seen_changed c.laws_hold.ensures port result old new l on
 
 pub returns-clause-unlinked : goal.returns-clause-unlinked
-returns-clause-unlinked c = λ port result old new on l. seen_unlinked port result old new l on
+returns-clause-unlinked c = λ port result old new on l. seen_unlinked c.laws_hold.ensures port result old new l on
 
 pub returns-clause-well : goal.returns-clause-well
-returns-clause-well c = λ port result old new on l. seen_well port result old new l on
+returns-clause-well c = λ port result old new on l. seen_well c.laws_hold.ensures port result old new l on

@@ -3,10 +3,10 @@ use Rattle.port_look.proofs.Serving.{errors_stay}
 use Rattle.port_look.proofs.laws.trouble_stays_told.Goals as goal
 
 pub returns-clause-errors : goal.returns-clause-errors
-returns-clause-errors c = errors_stay
+returns-clause-errors c = errors_stay c.laws_hold.ensures
 
 pub returns-clause-changes : goal.returns-clause-changes
-returns-clause-changes c = λ port result old new on l. looking_changes port result old new l on
+returns-clause-changes c = λ port result old new on l. looking_changes c.laws_hold.ensures port result old new l on
 
 pub returns-clause-causes : goal.returns-clause-causes
-returns-clause-causes c = λ port result old new on l. looking_causes port result old new l on
+returns-clause-causes c = λ port result old new on l. looking_causes c.laws_hold.ensures port result old new l on

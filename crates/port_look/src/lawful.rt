@@ -1,0 +1,57 @@
+// What laws of the crates below say of this crate's accesses, for its proofs and those above. Nothing comes of calling it.
+ghost use Rattle.port_look.specs.Laws.{Laws, Stretch, fits_of, may_of};
+
+use adapter::laws::{port_registers_are_accessed, steps_compose, steps_keep};
+use agreement::disks::look_tells;
+use agreement::facts::{
+    adapter_stays, calm_composes, cleared_stays, coming_composes, controls_stay, errors_are_kept,
+    errors_rise_by_disks, faults_are_recorded, healthy_stays, loads_and_stores_leave_ports,
+    notes_are_set, running_well_is_found, trouble_is_shown,
+};
+use agreement::kinds::{
+    Kinds, accesses_are_followed, followed_stretches_give, stretches_are_followed,
+};
+use agreement::laws::{acknowledging_is_permitted, clear_bits_stay, writing_is_permitted};
+use agreement::stretches::{other_ports_are_left, tapes_grow};
+
+/// This crate's kinds of accesses.
+enum Looks {}
+
+impl Kinds for Looks {
+    ghost Kind = { Stretch };
+
+    ghost may = { may_of };
+
+    ghost fits = { fits_of };
+}
+
+/// The laws that the proofs of this crate rest on.
+pub fn laws_hold()
+    ensures { Laws }
+{
+    port_registers_are_accessed();
+    steps_compose();
+    steps_keep();
+    look_tells();
+    adapter_stays();
+    calm_composes();
+    cleared_stays();
+    coming_composes();
+    controls_stay();
+    errors_are_kept();
+    errors_rise_by_disks();
+    faults_are_recorded();
+    healthy_stays();
+    loads_and_stores_leave_ports();
+    notes_are_set();
+    running_well_is_found();
+    trouble_is_shown();
+    accesses_are_followed::<Looks>();
+    followed_stretches_give::<Looks>();
+    stretches_are_followed::<Looks>();
+    acknowledging_is_permitted();
+    clear_bits_stay();
+    writing_is_permitted();
+    other_ports_are_left();
+    tapes_grow();
+}
