@@ -10,7 +10,7 @@ import sys
 sys.dont_write_bytecode = True
 import toolchain
 
-BORROWED = re.compile(r"^(?:ghost )?use Rattle\.(\w+)\.proofs\.([\w+]+(?:\.[\w+]+)*)", re.M)
+BORROWED = re.compile(r"^(?:(?:ghost|pub) )?use Rattle\.(\w+)\.proofs\.([\w+]+(?:\.[\w+]+)*)", re.M)
 
 
 def borrowed(crate, names):

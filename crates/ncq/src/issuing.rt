@@ -1,5 +1,5 @@
 // Laws of a transfer that is being issued, for this crate's own use: the clause is the theorem. Nothing comes of calling them.
-ghost use Rattle.std.specs.Prelude.{ℕ, true, ◌≡◌, List};
+ghost use Rattle.std.specs.Prelude.{ℕ, List};
 ghost use Rattle.ata_types.specs.declared.Port.{Port};
 ghost use Rattle.ata_types.specs.declared.request.Frame.{Frame};
 ghost use Rattle.hba_regs.specs.declared.reg.Reg.TheVariants.{Px};

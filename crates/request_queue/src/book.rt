@@ -1,7 +1,7 @@
 // The book.
-ghost use Rattle.std.specs.Prelude.{◌≡◌, ◌<◌, ◌≤◌, ◌≢◌, ◌++◌, ◌∷◌, [], false, true, length, map, All, AllPairs, Contains, IfOk, Some, slice_get, slice_set};
+ghost use Rattle.std.specs.Prelude.{◌≡◌, ◌<◌, ◌≤◌, ◌++◌, ◌∷◌, [], false, true, length, map, All, AllPairs, Contains, IfOk, Some, slice_get};
 ghost use Rattle.request_queue.specs.Entries.{due_ids};
-ghost use Rattle.request_queue.specs.Entries.{Held, GivesBack, IsEarlier, IsFresh, IsInOrder, IsUnanswered, IsWaiting, MayGoAgain, Stands, aged, asks_of, at, has_id, ids_where, is_among, is_of, issue, older, requeued, unanswered_of, waits_under, without, AreYoung};
+ghost use Rattle.request_queue.specs.Entries.{Held, GivesBack, IsEarlier, IsFresh, IsInOrder, IsUnanswered, IsWaiting, MayGoAgain, Stands, aged, asks_of, at, ids_where, is_among, is_of, issue, older, requeued, unanswered_of, waits_under, without, AreYoung};
 
 use crate::Entry;
 use crate::due::due;
