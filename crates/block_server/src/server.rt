@@ -24,7 +24,8 @@ use request_queue::laws::an_id_is_one_request;
 use request_queue::{Book, Entry};
 use server_history::laws::{
     a_finished_port_settles, a_new_server_has_begun, a_port_is_served, a_used_slot_has_its_request,
-    acceptances_add, looks_keep, requests_keep, services_add,
+    acceptances_add, client_bytes_add, device_steps_add, looks_keep, open_bytes_are_free,
+    refusals_add, requests_keep, services_add,
 };
 use slots::Slots;
 use std::alloc::Global;
@@ -181,6 +182,7 @@ impl<A: Adapter> Server<A> {
         ensures state { result ≡ (ports_of self.now.ports).state port }
         ensures adds { Adds (server_of A.device self.now) (server_of A.device self.now) (State port) (Shown result) }
     {
+        refusals_add();
         let _ = &self.adapter;
         match self.found(port) {
             Found::Unserved => PortState::Absent,
@@ -264,6 +266,7 @@ impl<A: Adapter> Server<A> {
         ensures submits { Submits A.device self.old self.new r.now result }
         ensures adds { Adds (server_of A.device self.old) (server_of A.device self.new) (Submit r.now) (Submitted result) }
     {
+        refusals_add();
         let _ = &self.adapter;
         let port = self.admit(r)?;
         Ok(self.accept(r, port))
@@ -383,6 +386,9 @@ impl<A: Adapter> Server<A> {
         ensures stores { StoresFrame A.device self.old self.new client frame offset bytes.now result }
         ensures adds { Adds (server_of A.device self.old) (server_of A.device self.new) (StoreAt client frame offset bytes.now) (store_said result) }
     {
+        refusals_add();
+        open_bytes_are_free();
+        client_bytes_add();
         let address = self.open(client, frame, offset, bytes.len())?;
         self.adapter.store(address, bytes);
         Ok(())
@@ -399,6 +405,9 @@ impl<A: Adapter> Server<A> {
         ensures loads { LoadsFrame A.device self.old self.new client frame offset out.old out.new result }
         ensures adds { Adds (server_of A.device self.old) (server_of A.device self.new) (LoadAt client frame offset (length out.old)) (load_said result out.new) }
     {
+        refusals_add();
+        open_bytes_are_free();
+        client_bytes_add();
         let address = self.open(client, frame, offset, out.len())?;
         self.adapter.load(address, out);
         Ok(())
@@ -435,6 +444,7 @@ impl<A: Stepped> Server<A> {
         ensures steps { StepsDevice A.device self.old self.new step.now result }
         ensures adds { Adds (server_of A.device self.old) (server_of A.device self.new) (Told step.now) (Stepped result) }
     {
+        device_steps_add();
         self.adapter.step(step)
     }
 }

@@ -98,7 +98,7 @@ module _ (laws : LawsBelow) (s : Server) (k : IsKept s) (r : Request) (acc : IsA
   ready = on_ready s r acc row named port port_is
 
   its : IsAccepted s.grants table e
-  its = is_accepted s r acc row named port port_is id id_is k table lends
+  its = is_accepted s r acc row named port port_is id id_is laws k table lends
 
   earlier : All (λ x. IsEarlier x e) s.book
   earlier i d small = let h = k.handed_out i d small in omega (arith, h, id_is)
@@ -113,7 +113,7 @@ module _ (laws : LawsBelow) (s : Server) (k : IsKept s) (r : Request) (acc : IsA
     request = request_in s r acc row named port port_is id id_is m
 
     fresh : IsNew m request
-    fresh = is_new s r acc row named port port_is id id_is m was is
+    fresh = is_new s r acc row named port port_is id id_is laws m was is
 
     abbrev next : Machine
     next = after_step m (Accept request)
@@ -211,7 +211,7 @@ module _ (laws : LawsBelow) (s : Server) (k : IsKept s) (r : Request) (acc : IsA
         its_ready p own = ap (λ (q : Port). state_of (found_of new.ports q.0)) own ∙ ap (λ (found : List Found). state_of (found_of found port.0)) ports_same_too ∙ ready
 
         allowed : IsAcceptable (events.situation_of old.moment) r
-        allowed = subst (λ (y : Situation). IsAcceptable y r) (sym (situation_is s old leads.stands)) acc
+        allowed = subst (λ (y : Situation). IsAcceptable y r) (sym (situation_is laws s old leads.stands)) acc
 
         its_row : IsNamed m.rows r row
         its_row = subst (λ (rows : List GrantRow). IsNamed rows r row) (sym is.rows) named

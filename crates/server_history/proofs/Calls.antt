@@ -44,8 +44,8 @@ use Rattle.dma_frames.specs.Table.{owner_of, lent_to}
 use Rattle.host_boot.specs.Taken.{found_of}
 use Rattle.host_boot.specs.declared.Found.TheVariants.{Unready}
 use Rattle.ata_types.specs.declared.PortState.TheVariants.{Dead}
-use Rattle.request_queue.proofs.Stepping.{as_many}
 use Rattle.port_look.specs.Services.{IsService}
+use Rattle.server_history.specs.Below.{LawsBelow}
 use Rattle.port_look.proofs.Serving.{services_on}
 use Rattle.driver_history.specs.Histories.{Begins, CameBy, Issues, Ties, TiesPort}
 use Rattle.driver_history.specs.Evidence.{StaysHealthy}
@@ -71,215 +71,216 @@ module _ (first : Instant Device) (past : List (Happening Device DeviceStep)) (s
 pub as_told : (s : Server) (m : Machine) → IsMachineOf s m → (P : (Frame → Option ClientId) → (Frame → Option RequestId) → Type 0) → P (owner_of s.table) (lent_to s.table) → P m.owner m.lent
 as_told s m is P holds = subst (λ owner. P owner m.lent) (sym (fun_ext is.owner)) (subst (λ lent. P (owner_of s.table) lent) (sym (fun_ext is.lent)) holds)
 
--- ---- accesses of bytes
+module _ (laws : LawsBelow) where
+  -- ---- accesses of bytes
 
-module _ (s : Server) (k : IsKept s) (new : Device) (access : Access) (is : IsOfBytes access) (does : Does access s.device new) where
-  served : IsDrivenBy IsService s.device new
-  served = by_one IsService access s.device new (bytes_serve access is) does
+  module _ (s : Server) (k : IsKept s) (new : Device) (access : Access) (is : IsOfBytes access) (does : Does access s.device new) where
+    served : IsDrivenBy IsService s.device new
+    served = by_one IsService access s.device new (bytes_serve access is) does
 
-  same : SameAdapter s.device new
-  same = access_same access s.device new does
+    same : SameAdapter s.device new
+    same = access_same access s.device new does
 
-  silent : (port : ℕ) → found_of s.ports port ≢ Unready Dead → SendsNone port Identify s.device new
-  silent port other =
-      access_sends_none k.stands.uses k.machine access s.device new port Identify k.reached k.stands.knows.agrees does refl
-      (not_own (found_of s.ports port) 0 (used_for s.slots port 0) (k.stands.uses port 0) other (k.stands.used port 0))
+    silent : (port : ℕ) → found_of s.ports port ≢ Unready Dead → SendsNone port Identify s.device new
+    silent port other =
+        access_sends_none k.stands.uses k.machine access s.device new port Identify k.reached k.stands.knows.agrees does refl
+        (not_own (found_of s.ports port) 0 (used_for s.slots port 0) (k.stands.uses port 0) other (k.stands.used port 0))
 
-  ports_on : (port : ℕ) → port < 4 → IsPortOf s.wanted s.ports port new
-  ports_on port below =
-      port_on s.wanted s.ports port s.device new same k.on served (λ unready. bytes_leave access s.device new is k.on does port) (silent port) (k.behind port below)
+    ports_on : (port : ℕ) → port < 4 → IsPortOf s.wanted s.ports port new
+    ports_on port below =
+        port_on laws.looks s.wanted s.ports port s.device new same k.on served (λ unready. bytes_leave access s.device new is k.on does port) (silent port) (k.behind port below)
 
-  -- a machine that spares the book
-  kept_with : (steps : List Step) → AllMay k.machine steps → IsMachineOf (record s { device = new }) (after k.machine steps) → IsKept (record s { device = new })
-  kept_with steps may stands = kept_on s new k (services_on s.device new k.on served) same ports_on steps may stands
+    -- a machine that spares the book
+    kept_with : (steps : List Step) → AllMay k.machine steps → IsMachineOf (record s { device = new }) (after k.machine steps) → IsKept (record s { device = new })
+    kept_with steps may stands = kept_on s new k (services_on laws.looks s.device new k.on served) same ports_on steps may stands
 
--- ---- the device's steps
+  -- ---- the device's steps
 
-pub device_kept : (s : Server) (new : Device) → IsKept s → Steps s.device new → IsKept (record s { device = new })
-device_kept s new k steps =
-    let x = (device_adds (known k.stands.uses none_parked s.device) new steps).adds k.machine k.reached k.stands.knows in
-    kept_with s k new (Loading 0 []) tt (none_loaded s.device new steps) x.0 x.1
-    (machine_on s new k.machine x.0 k.stands x.3.only x.2)
+  pub device_kept : (s : Server) (new : Device) → IsKept s → Steps s.device new → IsKept (record s { device = new })
+  device_kept s new k steps =
+      let x = (device_adds (known k.stands.uses none_parked s.device) new steps).adds k.machine k.reached k.stands.knows in
+      kept_with s k new (Loading 0 []) tt (none_loaded s.device new steps) x.0 x.1
+      (machine_on s new k.machine x.0 k.stands x.3.only x.2)
 
-pub device_adds_event : (s : Server) (new : Device) (step : DeviceStep) → IsSettled s → Asked step s.device new → Steps s.device new
-    → Adds s (record s { device = new }) (Told step) (Stepped true)
-device_adds_event s new step k asked moves = record { settled = record { kept = device_kept s new k.kept moves; issued = k.issued }; adds = adds }
-  where
-    adds : (first : Instant Device) (past : List (Happening Device DeviceStep)) → Leads first past s
-        → (h : Happening Device DeviceStep) × (h.event.ask ≡ Told step) × (h.event.said ≡ Stepped true) × Leads first (h ∷ past) (record s { device = new })
-    adds first past leads =
-        let old : Instant Device = now first past in
-        let at : Stands old s = leads.stands in
-        let m = at.machine in
-        let x = (device_adds (known m.uses none_parked s.device) new moves).adds old.moment.machine (reached first past s leads) m.knows in
-        let steps : List Step = x.0 in
-        lead_by first past s (record s { device = new }) (Told step) (Stepped true) steps refl refl leads (device_kept s new k.kept moves) x.1 (devices_belong (Told step) (ports_of s.ports) steps x.3.only) (devices_last steps x.3.only)
-        (devices_lawful old.moment no_evidence (ports_of s.ports) steps x.3.only)
-        (x.3.only, ports_same old.moment.ports (ports_of s.ports) at.ports_are)
-        []
-        (refl, asked)
-        (λ port. All-nil (LeavesEngine port))
-        (λ port. tt)
-        (λ port healthy. record { finds = tt; faults = tt; tries = tt; boots = tt; trouble = untroubled (told_by s.device old.moment.ports) (with_device s.device old) (ports_of s.ports) new port healthy; well = λ i. absurd (uninterrupted s.device old.moment.ports port i); heeds = uninterrupted s.device old.moment.ports port })
-        x.3.backed
-        (machine_on s new old.moment.machine steps m x.3.only x.2)
-
--- ---- calls that do nothing
-
-nothing_adds : (s : Server) (ask : Ask DeviceStep) (said : Said) → IsSettled s → ((m : Moment) → CameBy m ask said [] s.device s.device)
-    → ((old : Instant Device) → Stands old s → (evidence : Evidence) → IsAnswered ask said old.moment evidence [] (record { machine = old.moment.machine; ports = ports_of s.ports }))
-    → ((old : Instant Device) → IsReached old.moment.machine → Stands old s → (port : Port) → Issues ask [] old.moment.machine (ports_of s.ports) port)
-    → ((old : Instant Device) (port : Port) → StaysHealthy port.0 old.device s.device → TiesPort old (happening old s.device ask said [] (ports_of s.ports)) [] port)
-    → Adds s s ask said
-nothing_adds s ask said k came answered issues parts = record { settled = k; adds = adds }
-  where
-    adds : (first : Instant Device) (past : List (Happening Device DeviceStep)) → Leads first past s
-        → (h : Happening Device DeviceStep) × (h.event.ask ≡ ask) × (h.event.said ≡ said) × Leads first (h ∷ past) s
-    adds first past leads =
-        let old : Instant Device = now first past in
-        lead_by first past s s ask said [] refl refl leads k.kept tt tt tt tt (answered old leads.stands (told_by s.device old.moment.ports)) [] (came old.moment)
-        (λ port. All-nil (LeavesEngine port)) (issues old (reached first past s leads) leads.stands) (λ port healthy. parts (with_device s.device old) port healthy) (nothing_backed s.device old.moment.machine) leads.stands.machine
-
-pub undone_adds : (s : Server) (step : DeviceStep) → IsSettled s → Adds s s (Told step) (Stepped false)
-undone_adds s step k =
-    nothing_adds s (Told step) (Stepped false) k (λ m. (refl, refl))
-    (λ old at evidence. (refl, ports_same old.moment.ports (ports_of s.ports) at.ports_are)) (λ old was at port. tt)
-    (λ old port healthy. record { finds = tt; faults = tt; tries = tt; boots = tt; trouble = untroubled (told_by old.device old.moment.ports) old (ports_of s.ports) s.device port healthy; well = λ i. absurd (uninterrupted old.device old.moment.ports port i); heeds = uninterrupted old.device old.moment.ports port })
-
-pub state_adds : (s : Server) (port : Port) → IsSettled s → Adds s s (State port) (Shown ((ports_of s.ports).state port))
-state_adds s port k =
-    nothing_adds s (State port) (Shown ((ports_of s.ports).state port)) k (λ m. (refl, refl))
-    (λ old at evidence. (ap (λ (ports : Ports). ports.state port) (sym at.ports_are), refl, ports_same old.moment.ports (ports_of s.ports) at.ports_are)) (λ old was at port. tt)
-    (λ old port healthy. record { finds = tt; faults = tt; tries = tt; boots = tt; trouble = untroubled (told_by old.device old.moment.ports) old (ports_of s.ports) s.device port healthy; well = λ i. absurd (uninterrupted old.device old.moment.ports port i); heeds = uninterrupted old.device old.moment.ports port })
-
-pub store_refused : (s : Server) (client : ClientId) (frame : Frame) (offset : ℕ) (bytes : List ℕ) (fault : MemFault) → IsSettled s
-    → IsFirstMemFault (owner_of s.table) (lent_to s.table) client frame offset (length bytes) fault → Adds s s (StoreAt client frame offset bytes) (store_said (Err fault))
-store_refused s client frame offset bytes fault k is =
-    nothing_adds s (StoreAt client frame offset bytes) (store_said (Err fault)) k (λ m. (refl, refl))
-    (λ old at evidence. (as_told s old.moment.machine at.machine (λ owner lent. IsFirstMemFault owner lent client frame offset (length bytes) fault) is, refl, ports_same old.moment.ports (ports_of s.ports) at.ports_are))
-    (λ old was at port. tt)
-    (λ old port healthy. record { finds = tt; faults = tt; tries = tt; boots = tt; trouble = untroubled (told_by old.device old.moment.ports) old (ports_of s.ports) s.device port healthy; well = λ i. absurd (uninterrupted old.device old.moment.ports port i); heeds = uninterrupted old.device old.moment.ports port })
-
-pub load_refused : (s : Server) (client : ClientId) (frame : Frame) (offset count : ℕ) (bytes : List ℕ) (fault : MemFault) → IsSettled s
-    → IsFirstMemFault (owner_of s.table) (lent_to s.table) client frame offset count fault → Adds s s (LoadAt client frame offset count) (load_said (Err fault) bytes)
-load_refused s client frame offset count bytes fault k is =
-    nothing_adds s (LoadAt client frame offset count) (load_said (Err fault) bytes) k (λ m. (refl, refl))
-    (λ old at evidence. (as_told s old.moment.machine at.machine (λ owner lent. IsFirstMemFault owner lent client frame offset count fault) is, refl, ports_same old.moment.ports (ports_of s.ports) at.ports_are))
-    (λ old was at port. tt)
-    (λ old port healthy. record { finds = tt; faults = tt; tries = tt; boots = tt; trouble = untroubled (told_by old.device old.moment.ports) old (ports_of s.ports) s.device port healthy; well = λ i. absurd (uninterrupted old.device old.moment.ports port i); heeds = uninterrupted old.device old.moment.ports port })
-
--- ---- what a request meets
-
-pub situation_is : (s : Server) (old : Instant Device) → Stands old s → events.situation_of old.moment ≡ situation_of s
-situation_is s old at = λ i. record {
-  rows = at.machine.rows i;
-  owner = fun_ext at.machine.owner i;
-  lent = fun_ext at.machine.lent i;
-  state = ap (λ (ports : Ports). ports.state) at.ports_are i;
-  sectors = ap (λ (ports : Ports). ports.sectors) at.ports_are i;
-  trims = ap (λ (ports : Ports). ports.trims) at.ports_are i;
-  unanswered = fun_ext (λ (client : ClientId). as_many s.book old.moment.machine.book client at.machine.book) i;
-  next = at.machine.next i;
-}
-
-pub submit_refused : (s : Server) (r : Request) (refusal : Refusal) → IsSettled s → IsFirstRefusal (situation_of s) r refusal → Adds s s (Submit r) (Submitted (Err refusal))
-submit_refused s r refusal k is =
-    nothing_adds s (Submit r) (Submitted (Err refusal)) k (λ m. (refl, refl))
-    (λ old at evidence. (subst (λ (x : Situation). IsFirstRefusal x r refusal) (sym (situation_is s old at)) is, refl, ports_same old.moment.ports (ports_of s.ports) at.ports_are))
-    (λ old was at port ready. none_issued s old.moment.machine at.machine [] (λ id. refl) port (k.issued port))
-    (λ old port healthy. record { finds = tt; faults = tt; tries = tt; boots = tt; trouble = untroubled (told_by old.device old.moment.ports) old (ports_of s.ports) s.device port healthy; well = λ i. absurd (uninterrupted old.device old.moment.ports port i); heeds = uninterrupted old.device old.moment.ports port })
-
--- ---- clients' bytes
-
--- a frame that is open is its client's
-open_owned : (owner : Frame → Option ClientId) (lent : Frame → Option RequestId) (client : ClientId) (frame : Frame) (offset count : ℕ) → IsOpen owner lent client frame offset count → owner frame ≡ Some client
-open_owned owner lent client frame offset count opens = owned (owner frame) client (opens FrameForeign)
-
-pub open_free : (s : Server) (client : ClientId) (frame : Frame) (offset count : ℕ) → IsKept s → IsOpen (owner_of s.table) (lent_to s.table) client frame offset count
-    → Stays (IsFree (4096 * frame.0 + offset) count) s.device
-open_free s client frame offset count k opens =
-    clients_are_free k.stands.uses k.machine s.device k.reached k.stands.knows.agrees client frame offset count (k.owners frame client (open_owned (owner_of s.table) (lent_to s.table) client frame offset count opens)).1
-    (as_told s k.machine k.stands (λ owner lent. IsOpen owner lent client frame offset count) opens)
-
--- the machine of a load is that of the device's steps
-load_ends : (s : Server) (new : Device) (client : ClientId) (frame : Frame) (offset : ℕ) (bytes : List ℕ) → IsKept s → IsOpen (owner_of s.table) (lent_to s.table) client frame offset (length bytes)
-    → Loads (4096 * frame.0 + offset) bytes s.device new → (m : Machine) → IsReached m → (is : IsMachineOf s m)
-    → (x : EndsWith (known is.uses none_parked s.device) m (Load client frame offset bytes) (known is.uses none_parked new)) × IsMachineOf (record s { device = new }) (after m (Load client frame offset bytes ∷ x.steps))
-load_ends s new client frame offset bytes k opens loads m r is =
-    let x : EndsWith (known is.uses none_parked s.device) m (Load client frame offset bytes) (known is.uses none_parked new) =
-    client_loads (known is.uses none_parked s.device) m client frame offset bytes new r is.knows (as_told s m is (λ owner lent. IsOpen owner lent client frame offset (length bytes)) opens) loads in
-    (x, machine_with s new m (after m (Load client frame offset bytes ∷ x.steps)) is (steps_spare m x.steps x.only) x.knows)
-
-store_ends : (s : Server) (new : Device) (client : ClientId) (frame : Frame) (offset : ℕ) (bytes : List ℕ) → IsKept s → IsOpen (owner_of s.table) (lent_to s.table) client frame offset (length bytes)
-    → Stores (4096 * frame.0 + offset) bytes s.device new → (m : Machine) → IsReached m → (is : IsMachineOf s m)
-    → (x : EndsWith (known is.uses none_parked s.device) m (Store client frame offset bytes) (known is.uses none_parked new)) × IsMachineOf (record s { device = new }) (after m (Store client frame offset bytes ∷ x.steps))
-store_ends s new client frame offset bytes k opens stores m r is =
-    let x : EndsWith (known is.uses none_parked s.device) m (Store client frame offset bytes) (known is.uses none_parked new) =
-    client_stores (known is.uses none_parked s.device) m client frame offset bytes new r is.knows (as_told s m is (λ owner lent. IsOpen owner lent client frame offset (length bytes)) opens) stores in
-    let spares : SparesBook m (after m x.steps) = steps_spare m x.steps x.only in (
-      x,
-      machine_with s new m (after m (Store client frame offset bytes ∷ x.steps)) is
-          (record { rows = spares.rows; owner = spares.owner; lent = spares.lent; next = spares.next; book = spares.book; kept = spares.kept }) x.knows,
-    )
-
-module _ (s : Server) (new : Device) (client : ClientId) (frame : Frame) (offset : ℕ) (bytes : List ℕ) (t : IsSettled s) (opens : IsOpen (owner_of s.table) (lent_to s.table) client frame offset (length bytes)) where
-  abbrev k : IsKept s
-  k = t.kept
-
-  pub load_kept : Loads (4096 * frame.0 + offset) bytes s.device new → IsKept (record s { device = new })
-  load_kept loads =
-      let x = load_ends s new client frame offset bytes k opens loads k.machine k.reached k.stands in
-      kept_with s k new (Loading (4096 * frame.0 + offset) bytes) tt loads (Load client frame offset bytes ∷ x.0.steps) x.0.may x.1
-
-  pub store_kept : Stores (4096 * frame.0 + offset) bytes s.device new → IsKept (record s { device = new })
-  store_kept stores =
-      let x = store_ends s new client frame offset bytes k opens stores k.machine k.reached k.stands in
-      kept_with s k new (Storing (4096 * frame.0 + offset) bytes) tt stores (Store client frame offset bytes ∷ x.0.steps) x.0.may x.1
-
-  pub load_adds : Loads (4096 * frame.0 + offset) bytes s.device new → Adds s (record s { device = new }) (LoadAt client frame offset (length bytes)) (load_said (Ok tt) bytes)
-  load_adds loads = record { settled = record { kept = load_kept loads; issued = t.issued }; adds = adds }
+  pub device_adds_event : (s : Server) (new : Device) (step : DeviceStep) → IsSettled s → Asked step s.device new → Steps s.device new
+      → Adds s (record s { device = new }) (Told step) (Stepped true)
+  device_adds_event s new step k asked moves = record { settled = record { kept = device_kept s new k.kept moves; issued = k.issued }; adds = adds }
     where
       adds : (first : Instant Device) (past : List (Happening Device DeviceStep)) → Leads first past s
-          → (h : Happening Device DeviceStep) × (h.event.ask ≡ LoadAt client frame offset (length bytes)) × (h.event.said ≡ load_said (Ok tt) bytes) × Leads first (h ∷ past) (record s { device = new })
+          → (h : Happening Device DeviceStep) × (h.event.ask ≡ Told step) × (h.event.said ≡ Stepped true) × Leads first (h ∷ past) (record s { device = new })
       adds first past leads =
           let old : Instant Device = now first past in
           let at : Stands old s = leads.stands in
-          let x = load_ends s new client frame offset bytes k opens loads old.moment.machine (reached first past s leads) at.machine in
-          lead_by first past s (record s { device = new }) (LoadAt client frame offset (length bytes)) (load_said (Ok tt) bytes) (Load client frame offset bytes ∷ x.0.steps) refl refl leads (load_kept loads) x.0.may (devices_belong {D = DeviceStep} (LoadAt client frame offset (length bytes)) (ports_of s.ports) x.0.steps x.0.only, inr (refl, refl, refl, refl))
-          (devices_last x.0.steps x.0.only, λ id h i. false≢true h)
-          (devices_lawful old.moment no_evidence (ports_of s.ports) x.0.steps x.0.only)
-          (as_told s old.moment.machine at.machine (λ owner lent. IsOpen owner lent client frame offset (length bytes)) opens, ap (λ (rest : List (List ℕ)). bytes ∷ rest) (devices_transfer x.0.steps x.0.only), ports_same old.moment.ports (ports_of s.ports) at.ports_are)
-          (Loading (4096 * frame.0 + offset) bytes ∷ [])
-          ((new, loads, refl), refl)
-          (λ port. All-cons (LeavesEngine port) (Loading (4096 * frame.0 + offset) bytes) [] (tt, tt) (All-nil (LeavesEngine port)))
+          let m = at.machine in
+          let x = (device_adds (known m.uses none_parked s.device) new moves).adds old.moment.machine (reached first past s leads) m.knows in
+          let steps : List Step = x.0 in
+          lead_by first past s (record s { device = new }) (Told step) (Stepped true) steps refl refl leads (device_kept s new k.kept moves) x.1 (devices_belong (Told step) (ports_of s.ports) steps x.3.only) (devices_last steps x.3.only)
+          (devices_lawful old.moment no_evidence (ports_of s.ports) steps x.3.only)
+          (x.3.only, ports_same old.moment.ports (ports_of s.ports) at.ports_are)
+          []
+          (refl, asked)
+          (λ port. All-nil (LeavesEngine port))
           (λ port. tt)
           (λ port healthy. record { finds = tt; faults = tt; tries = tt; boots = tt; trouble = untroubled (told_by s.device old.moment.ports) (with_device s.device old) (ports_of s.ports) new port healthy; well = λ i. absurd (uninterrupted s.device old.moment.ports port i); heeds = uninterrupted s.device old.moment.ports port })
-          x.0.backed x.1
+          x.3.backed
+          (machine_on s new old.moment.machine steps m x.3.only x.2)
 
-  pub store_adds : Stores (4096 * frame.0 + offset) bytes s.device new → Adds s (record s { device = new }) (StoreAt client frame offset bytes) (store_said (Ok tt))
-  store_adds stores = record { settled = record { kept = store_kept stores; issued = t.issued }; adds = adds }
+  -- ---- calls that do nothing
+
+  nothing_adds : (s : Server) (ask : Ask DeviceStep) (said : Said) → IsSettled s → ((m : Moment) → CameBy m ask said [] s.device s.device)
+      → ((old : Instant Device) → Stands old s → (evidence : Evidence) → IsAnswered ask said old.moment evidence [] (record { machine = old.moment.machine; ports = ports_of s.ports }))
+      → ((old : Instant Device) → IsReached old.moment.machine → Stands old s → (port : Port) → Issues ask [] old.moment.machine (ports_of s.ports) port)
+      → ((old : Instant Device) (port : Port) → StaysHealthy port.0 old.device s.device → TiesPort old (happening old s.device ask said [] (ports_of s.ports)) [] port)
+      → Adds s s ask said
+  nothing_adds s ask said k came answered issues parts = record { settled = k; adds = adds }
     where
       adds : (first : Instant Device) (past : List (Happening Device DeviceStep)) → Leads first past s
-          → (h : Happening Device DeviceStep) × (h.event.ask ≡ StoreAt client frame offset bytes) × (h.event.said ≡ store_said (Ok tt)) × Leads first (h ∷ past) (record s { device = new })
+          → (h : Happening Device DeviceStep) × (h.event.ask ≡ ask) × (h.event.said ≡ said) × Leads first (h ∷ past) s
       adds first past leads =
           let old : Instant Device = now first past in
-          let at : Stands old s = leads.stands in
-          let x = store_ends s new client frame offset bytes k opens stores old.moment.machine (reached first past s leads) at.machine in
-          lead_by first past s (record s { device = new }) (StoreAt client frame offset bytes) (store_said (Ok tt)) (Store client frame offset bytes ∷ x.0.steps) refl refl leads (store_kept stores) x.0.may (devices_belong {D = DeviceStep} (StoreAt client frame offset bytes) (ports_of s.ports) x.0.steps x.0.only, inr (refl, refl, refl, refl))
-          (devices_last x.0.steps x.0.only, λ id h i. false≢true h)
-          (devices_lawful old.moment no_evidence (ports_of s.ports) x.0.steps x.0.only)
-          (as_told s old.moment.machine at.machine (λ owner lent. IsOpen owner lent client frame offset (length bytes)) opens, ap (λ (rest : List (List ℕ)). bytes ∷ rest) (devices_transfer x.0.steps x.0.only), ports_same old.moment.ports (ports_of s.ports) at.ports_are)
-          (Storing (4096 * frame.0 + offset) bytes ∷ [])
-          ((new, stores, refl), refl)
-          (λ port. All-cons (LeavesEngine port) (Storing (4096 * frame.0 + offset) bytes) [] (tt, tt) (All-nil (LeavesEngine port)))
-          (λ port. tt)
-          (λ port healthy. record { finds = tt; faults = tt; tries = tt; boots = tt; trouble = untroubled (told_by s.device old.moment.ports) (with_device s.device old) (ports_of s.ports) new port healthy; well = λ i. absurd (uninterrupted s.device old.moment.ports port i); heeds = uninterrupted s.device old.moment.ports port })
-          x.0.backed x.1
+          lead_by first past s s ask said [] refl refl leads k.kept tt tt tt tt (answered old leads.stands (told_by s.device old.moment.ports)) [] (came old.moment)
+          (λ port. All-nil (LeavesEngine port)) (issues old (reached first past s leads) leads.stands) (λ port healthy. parts (with_device s.device old) port healthy) (nothing_backed s.device old.moment.machine) leads.stands.machine
 
--- of so many bytes
-pub load_of : (s : Server) (new : Device) (client : ClientId) (frame : Frame) (offset count : ℕ) (bytes : List ℕ) → IsSettled s → length bytes ≡ count
-    → IsOpen (owner_of s.table) (lent_to s.table) client frame offset count → Loads (4096 * frame.0 + offset) bytes s.device new
-    → Adds s (record s { device = new }) (LoadAt client frame offset count) (load_said (Ok tt) bytes)
-load_of s new client frame offset count bytes k long opens loads =
-    let here : IsOpen (owner_of s.table) (lent_to s.table) client frame offset (length bytes) = subst (λ (n : ℕ). IsOpen (owner_of s.table) (lent_to s.table) client frame offset n) (sym long) opens in
-    subst (λ (n : ℕ). Adds s (record s { device = new }) (LoadAt client frame offset n) (load_said (Ok tt) bytes)) long (load_adds s new client frame offset bytes k here loads)
+  pub undone_adds : (s : Server) (step : DeviceStep) → IsSettled s → Adds s s (Told step) (Stepped false)
+  undone_adds s step k =
+      nothing_adds s (Told step) (Stepped false) k (λ m. (refl, refl))
+      (λ old at evidence. (refl, ports_same old.moment.ports (ports_of s.ports) at.ports_are)) (λ old was at port. tt)
+      (λ old port healthy. record { finds = tt; faults = tt; tries = tt; boots = tt; trouble = untroubled (told_by old.device old.moment.ports) old (ports_of s.ports) s.device port healthy; well = λ i. absurd (uninterrupted old.device old.moment.ports port i); heeds = uninterrupted old.device old.moment.ports port })
+
+  pub state_adds : (s : Server) (port : Port) → IsSettled s → Adds s s (State port) (Shown ((ports_of s.ports).state port))
+  state_adds s port k =
+      nothing_adds s (State port) (Shown ((ports_of s.ports).state port)) k (λ m. (refl, refl))
+      (λ old at evidence. (ap (λ (ports : Ports). ports.state port) (sym at.ports_are), refl, ports_same old.moment.ports (ports_of s.ports) at.ports_are)) (λ old was at port. tt)
+      (λ old port healthy. record { finds = tt; faults = tt; tries = tt; boots = tt; trouble = untroubled (told_by old.device old.moment.ports) old (ports_of s.ports) s.device port healthy; well = λ i. absurd (uninterrupted old.device old.moment.ports port i); heeds = uninterrupted old.device old.moment.ports port })
+
+  pub store_refused : (s : Server) (client : ClientId) (frame : Frame) (offset : ℕ) (bytes : List ℕ) (fault : MemFault) → IsSettled s
+      → IsFirstMemFault (owner_of s.table) (lent_to s.table) client frame offset (length bytes) fault → Adds s s (StoreAt client frame offset bytes) (store_said (Err fault))
+  store_refused s client frame offset bytes fault k is =
+      nothing_adds s (StoreAt client frame offset bytes) (store_said (Err fault)) k (λ m. (refl, refl))
+      (λ old at evidence. (as_told s old.moment.machine at.machine (λ owner lent. IsFirstMemFault owner lent client frame offset (length bytes) fault) is, refl, ports_same old.moment.ports (ports_of s.ports) at.ports_are))
+      (λ old was at port. tt)
+      (λ old port healthy. record { finds = tt; faults = tt; tries = tt; boots = tt; trouble = untroubled (told_by old.device old.moment.ports) old (ports_of s.ports) s.device port healthy; well = λ i. absurd (uninterrupted old.device old.moment.ports port i); heeds = uninterrupted old.device old.moment.ports port })
+
+  pub load_refused : (s : Server) (client : ClientId) (frame : Frame) (offset count : ℕ) (bytes : List ℕ) (fault : MemFault) → IsSettled s
+      → IsFirstMemFault (owner_of s.table) (lent_to s.table) client frame offset count fault → Adds s s (LoadAt client frame offset count) (load_said (Err fault) bytes)
+  load_refused s client frame offset count bytes fault k is =
+      nothing_adds s (LoadAt client frame offset count) (load_said (Err fault) bytes) k (λ m. (refl, refl))
+      (λ old at evidence. (as_told s old.moment.machine at.machine (λ owner lent. IsFirstMemFault owner lent client frame offset count fault) is, refl, ports_same old.moment.ports (ports_of s.ports) at.ports_are))
+      (λ old was at port. tt)
+      (λ old port healthy. record { finds = tt; faults = tt; tries = tt; boots = tt; trouble = untroubled (told_by old.device old.moment.ports) old (ports_of s.ports) s.device port healthy; well = λ i. absurd (uninterrupted old.device old.moment.ports port i); heeds = uninterrupted old.device old.moment.ports port })
+
+  -- ---- what a request meets
+
+  pub situation_is : (s : Server) (old : Instant Device) → Stands old s → events.situation_of old.moment ≡ situation_of s
+  situation_is s old at = λ i. record {
+    rows = at.machine.rows i;
+    owner = fun_ext at.machine.owner i;
+    lent = fun_ext at.machine.lent i;
+    state = ap (λ (ports : Ports). ports.state) at.ports_are i;
+    sectors = ap (λ (ports : Ports). ports.sectors) at.ports_are i;
+    trims = ap (λ (ports : Ports). ports.trims) at.ports_are i;
+    unanswered = fun_ext (λ (client : ClientId). laws.counts s.book old.moment.machine.book client at.machine.book) i;
+    next = at.machine.next i;
+  }
+
+  pub submit_refused : (s : Server) (r : Request) (refusal : Refusal) → IsSettled s → IsFirstRefusal (situation_of s) r refusal → Adds s s (Submit r) (Submitted (Err refusal))
+  submit_refused s r refusal k is =
+      nothing_adds s (Submit r) (Submitted (Err refusal)) k (λ m. (refl, refl))
+      (λ old at evidence. (subst (λ (x : Situation). IsFirstRefusal x r refusal) (sym (situation_is s old at)) is, refl, ports_same old.moment.ports (ports_of s.ports) at.ports_are))
+      (λ old was at port ready. none_issued s old.moment.machine at.machine [] (λ id. refl) port (k.issued port))
+      (λ old port healthy. record { finds = tt; faults = tt; tries = tt; boots = tt; trouble = untroubled (told_by old.device old.moment.ports) old (ports_of s.ports) s.device port healthy; well = λ i. absurd (uninterrupted old.device old.moment.ports port i); heeds = uninterrupted old.device old.moment.ports port })
+
+  -- ---- clients' bytes
+
+  -- a frame that is open is its client's
+  open_owned : (owner : Frame → Option ClientId) (lent : Frame → Option RequestId) (client : ClientId) (frame : Frame) (offset count : ℕ) → IsOpen owner lent client frame offset count → owner frame ≡ Some client
+  open_owned owner lent client frame offset count opens = owned (owner frame) client (opens FrameForeign)
+
+  pub open_free : (s : Server) (client : ClientId) (frame : Frame) (offset count : ℕ) → IsKept s → IsOpen (owner_of s.table) (lent_to s.table) client frame offset count
+      → Stays (IsFree (4096 * frame.0 + offset) count) s.device
+  open_free s client frame offset count k opens =
+      clients_are_free k.stands.uses k.machine s.device k.reached k.stands.knows.agrees client frame offset count (k.owners frame client (open_owned (owner_of s.table) (lent_to s.table) client frame offset count opens)).1
+      (as_told s k.machine k.stands (λ owner lent. IsOpen owner lent client frame offset count) opens)
+
+  -- the machine of a load is that of the device's steps
+  load_ends : (s : Server) (new : Device) (client : ClientId) (frame : Frame) (offset : ℕ) (bytes : List ℕ) → IsKept s → IsOpen (owner_of s.table) (lent_to s.table) client frame offset (length bytes)
+      → Loads (4096 * frame.0 + offset) bytes s.device new → (m : Machine) → IsReached m → (is : IsMachineOf s m)
+      → (x : EndsWith (known is.uses none_parked s.device) m (Load client frame offset bytes) (known is.uses none_parked new)) × IsMachineOf (record s { device = new }) (after m (Load client frame offset bytes ∷ x.steps))
+  load_ends s new client frame offset bytes k opens loads m r is =
+      let x : EndsWith (known is.uses none_parked s.device) m (Load client frame offset bytes) (known is.uses none_parked new) =
+      client_loads (known is.uses none_parked s.device) m client frame offset bytes new r is.knows (as_told s m is (λ owner lent. IsOpen owner lent client frame offset (length bytes)) opens) loads in
+      (x, machine_with s new m (after m (Load client frame offset bytes ∷ x.steps)) is (steps_spare m x.steps x.only) x.knows)
+
+  store_ends : (s : Server) (new : Device) (client : ClientId) (frame : Frame) (offset : ℕ) (bytes : List ℕ) → IsKept s → IsOpen (owner_of s.table) (lent_to s.table) client frame offset (length bytes)
+      → Stores (4096 * frame.0 + offset) bytes s.device new → (m : Machine) → IsReached m → (is : IsMachineOf s m)
+      → (x : EndsWith (known is.uses none_parked s.device) m (Store client frame offset bytes) (known is.uses none_parked new)) × IsMachineOf (record s { device = new }) (after m (Store client frame offset bytes ∷ x.steps))
+  store_ends s new client frame offset bytes k opens stores m r is =
+      let x : EndsWith (known is.uses none_parked s.device) m (Store client frame offset bytes) (known is.uses none_parked new) =
+      client_stores (known is.uses none_parked s.device) m client frame offset bytes new r is.knows (as_told s m is (λ owner lent. IsOpen owner lent client frame offset (length bytes)) opens) stores in
+      let spares : SparesBook m (after m x.steps) = steps_spare m x.steps x.only in (
+        x,
+        machine_with s new m (after m (Store client frame offset bytes ∷ x.steps)) is
+            (record { rows = spares.rows; owner = spares.owner; lent = spares.lent; next = spares.next; book = spares.book; kept = spares.kept }) x.knows,
+      )
+
+  module _ (s : Server) (new : Device) (client : ClientId) (frame : Frame) (offset : ℕ) (bytes : List ℕ) (t : IsSettled s) (opens : IsOpen (owner_of s.table) (lent_to s.table) client frame offset (length bytes)) where
+    abbrev k : IsKept s
+    k = t.kept
+
+    pub load_kept : Loads (4096 * frame.0 + offset) bytes s.device new → IsKept (record s { device = new })
+    load_kept loads =
+        let x = load_ends s new client frame offset bytes k opens loads k.machine k.reached k.stands in
+        kept_with s k new (Loading (4096 * frame.0 + offset) bytes) tt loads (Load client frame offset bytes ∷ x.0.steps) x.0.may x.1
+
+    pub store_kept : Stores (4096 * frame.0 + offset) bytes s.device new → IsKept (record s { device = new })
+    store_kept stores =
+        let x = store_ends s new client frame offset bytes k opens stores k.machine k.reached k.stands in
+        kept_with s k new (Storing (4096 * frame.0 + offset) bytes) tt stores (Store client frame offset bytes ∷ x.0.steps) x.0.may x.1
+
+    pub load_adds : Loads (4096 * frame.0 + offset) bytes s.device new → Adds s (record s { device = new }) (LoadAt client frame offset (length bytes)) (load_said (Ok tt) bytes)
+    load_adds loads = record { settled = record { kept = load_kept loads; issued = t.issued }; adds = adds }
+      where
+        adds : (first : Instant Device) (past : List (Happening Device DeviceStep)) → Leads first past s
+            → (h : Happening Device DeviceStep) × (h.event.ask ≡ LoadAt client frame offset (length bytes)) × (h.event.said ≡ load_said (Ok tt) bytes) × Leads first (h ∷ past) (record s { device = new })
+        adds first past leads =
+            let old : Instant Device = now first past in
+            let at : Stands old s = leads.stands in
+            let x = load_ends s new client frame offset bytes k opens loads old.moment.machine (reached first past s leads) at.machine in
+            lead_by first past s (record s { device = new }) (LoadAt client frame offset (length bytes)) (load_said (Ok tt) bytes) (Load client frame offset bytes ∷ x.0.steps) refl refl leads (load_kept loads) x.0.may (devices_belong {D = DeviceStep} (LoadAt client frame offset (length bytes)) (ports_of s.ports) x.0.steps x.0.only, inr (refl, refl, refl, refl))
+            (devices_last x.0.steps x.0.only, λ id h i. false≢true h)
+            (devices_lawful old.moment no_evidence (ports_of s.ports) x.0.steps x.0.only)
+            (as_told s old.moment.machine at.machine (λ owner lent. IsOpen owner lent client frame offset (length bytes)) opens, ap (λ (rest : List (List ℕ)). bytes ∷ rest) (devices_transfer x.0.steps x.0.only), ports_same old.moment.ports (ports_of s.ports) at.ports_are)
+            (Loading (4096 * frame.0 + offset) bytes ∷ [])
+            ((new, loads, refl), refl)
+            (λ port. All-cons (LeavesEngine port) (Loading (4096 * frame.0 + offset) bytes) [] (tt, tt) (All-nil (LeavesEngine port)))
+            (λ port. tt)
+            (λ port healthy. record { finds = tt; faults = tt; tries = tt; boots = tt; trouble = untroubled (told_by s.device old.moment.ports) (with_device s.device old) (ports_of s.ports) new port healthy; well = λ i. absurd (uninterrupted s.device old.moment.ports port i); heeds = uninterrupted s.device old.moment.ports port })
+            x.0.backed x.1
+
+    pub store_adds : Stores (4096 * frame.0 + offset) bytes s.device new → Adds s (record s { device = new }) (StoreAt client frame offset bytes) (store_said (Ok tt))
+    store_adds stores = record { settled = record { kept = store_kept stores; issued = t.issued }; adds = adds }
+      where
+        adds : (first : Instant Device) (past : List (Happening Device DeviceStep)) → Leads first past s
+            → (h : Happening Device DeviceStep) × (h.event.ask ≡ StoreAt client frame offset bytes) × (h.event.said ≡ store_said (Ok tt)) × Leads first (h ∷ past) (record s { device = new })
+        adds first past leads =
+            let old : Instant Device = now first past in
+            let at : Stands old s = leads.stands in
+            let x = store_ends s new client frame offset bytes k opens stores old.moment.machine (reached first past s leads) at.machine in
+            lead_by first past s (record s { device = new }) (StoreAt client frame offset bytes) (store_said (Ok tt)) (Store client frame offset bytes ∷ x.0.steps) refl refl leads (store_kept stores) x.0.may (devices_belong {D = DeviceStep} (StoreAt client frame offset bytes) (ports_of s.ports) x.0.steps x.0.only, inr (refl, refl, refl, refl))
+            (devices_last x.0.steps x.0.only, λ id h i. false≢true h)
+            (devices_lawful old.moment no_evidence (ports_of s.ports) x.0.steps x.0.only)
+            (as_told s old.moment.machine at.machine (λ owner lent. IsOpen owner lent client frame offset (length bytes)) opens, ap (λ (rest : List (List ℕ)). bytes ∷ rest) (devices_transfer x.0.steps x.0.only), ports_same old.moment.ports (ports_of s.ports) at.ports_are)
+            (Storing (4096 * frame.0 + offset) bytes ∷ [])
+            ((new, stores, refl), refl)
+            (λ port. All-cons (LeavesEngine port) (Storing (4096 * frame.0 + offset) bytes) [] (tt, tt) (All-nil (LeavesEngine port)))
+            (λ port. tt)
+            (λ port healthy. record { finds = tt; faults = tt; tries = tt; boots = tt; trouble = untroubled (told_by s.device old.moment.ports) (with_device s.device old) (ports_of s.ports) new port healthy; well = λ i. absurd (uninterrupted s.device old.moment.ports port i); heeds = uninterrupted s.device old.moment.ports port })
+            x.0.backed x.1
+
+  -- of so many bytes
+  pub load_of : (s : Server) (new : Device) (client : ClientId) (frame : Frame) (offset count : ℕ) (bytes : List ℕ) → IsSettled s → length bytes ≡ count
+      → IsOpen (owner_of s.table) (lent_to s.table) client frame offset count → Loads (4096 * frame.0 + offset) bytes s.device new
+      → Adds s (record s { device = new }) (LoadAt client frame offset count) (load_said (Ok tt) bytes)
+  load_of s new client frame offset count bytes k long opens loads =
+      let here : IsOpen (owner_of s.table) (lent_to s.table) client frame offset (length bytes) = subst (λ (n : ℕ). IsOpen (owner_of s.table) (lent_to s.table) client frame offset n) (sym long) opens in
+      subst (λ (n : ℕ). Adds s (record s { device = new }) (LoadAt client frame offset n) (load_said (Ok tt) bytes)) long (load_adds s new client frame offset bytes k here loads)

@@ -27,6 +27,7 @@ use Rattle.server_history.specs.Served.{Checks, HasTurn, IsMaskOf, IsPlainIssuin
 use Rattle.slots.specs.Uses.{Uses as PortSlots, use_at}
 use Rattle.server_history.proofs.Plain.{both_read, plain_serves}
 use Rattle.port_look.specs.Looks.{LooksAt}
+use Rattle.port_look.specs.Laws.{Laws}
 use Rattle.port_look.specs.Services.{IsService}
 use Rattle.port_look.specs.declared.Look.{Look}
 use Rattle.port_look.specs.declared.Look.TheVariants.{Lost, Broken, Failed, Undisturbed as Calm}
@@ -111,7 +112,7 @@ module _ (Such : Port → Type 0) (port : Port) (such : Such port) where
     pub calm : IsOn old → RunsWell (old.port port.0) → Undisturbed port.0 old new → t.look ≡ Calm
     pub masks : t.look ≡ Calm → IsBusy slots → (mask : ℕ) × IsMaskOf slots mask × ((c : Checks port slots mask replies t.seen new) × ReadsMasks port c.reads.issued c.reads.active driven.accesses)
 
-  module _ (low : port.0 < 4) (slots : PortSlots) (replies : List Reply) (old new : Device) (t : HasTurn port slots replies old new) where
+  module _ (laws : Laws) (low : port.0 < 4) (slots : PortSlots) (replies : List Reply) (old new : Device) (t : HasTurn port slots replies old new) where
     -- it was looked at, and that was all
     looked : (replies ≡ []) × (new ≡ t.seen) → (t.look ≡ Calm → IsBusy slots → ⊥) → TurnList slots replies old new t
     looked stop never = record {
@@ -120,7 +121,7 @@ module _ (Such : Port → Type 0) (port : Port) (such : Such port) where
         all = look_does t.look old t.seen t.looks;
         only = look_turns t.looks.causes t.looks.own t.looks.status;
       });
-      calm = λ on well undisturbed. (seen_well port t.look old t.seen t.looks on well (subst (Undisturbed port.0 old) stop.1 undisturbed)).0;
+      calm = λ on well undisturbed. (seen_well laws port t.look old t.seen t.looks on well (subst (Undisturbed port.0 old) stop.1 undisturbed)).0;
       masks = λ is busy. absurd (never is busy);
     }
 

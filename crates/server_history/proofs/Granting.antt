@@ -37,6 +37,7 @@ use Rattle.request_queue.specs.Entries.{IsAccepted, unanswered_of}
 use Rattle.request_queue.specs.Machine.{IsEntry}
 use Rattle.server_history.specs.Served.{accepted_as}
 use Rattle.server_history.specs.Server.{Server, IsKept, IsMachineOf, IsTransferRow, ports_of, situation_of, state_of}
+use Rattle.server_history.specs.Below.{LawsBelow}
 use Rattle.server_history.proofs.Calls.{situation_is}
 
 -- ---- what isn't refused holds
@@ -103,12 +104,12 @@ module _ (s : Server) (r : Request) (acc : IsAcceptable (situation_of s) r) (row
     pub entry_in : (m : Machine) → IsEntry (accepted_as port r id) (newly_accepted (request_in m))
     entry_in m = record { id = refl; client = refl; grant = refl; port = refl; op = refl; range = refl; frames = refl; issued = refl; issues = refl; age = refl }
 
-    module _ (m : Machine) (reached : IsReached m) (is : IsMachineOf s m) where
+    module _ (laws : LawsBelow) (m : Machine) (reached : IsReached m) (is : IsMachineOf s m) where
       abbrev at : Instant Device
       at = record { device = s.device; moment = record { machine = m; ports = ports_of s.ports } }
 
       allowed : IsAcceptable (events.situation_of at.moment) r
-      allowed = subst (λ (x : Situation). IsAcceptable x r) (sym (situation_is s at (record { device_is = refl; ports_are = refl; machine = is }))) acc
+      allowed = subst (λ (x : Situation). IsAcceptable x r) (sym (situation_is laws s at (record { device_is = refl; ports_are = refl; machine = is }))) acc
 
       pub is_new : IsNew m (request_in m)
       is_new = record {
@@ -124,9 +125,9 @@ module _ (s : Server) (r : Request) (acc : IsAcceptable (situation_of s) r) (row
 
     -- ---- it is as the book has it
 
-    module _ (k : IsKept s) where
+    module _ (laws : LawsBelow) (k : IsKept s) where
       granted : IsGranted k.machine.rows (request_in k.machine)
-      granted = accepted_is_granted k.machine (request_in k.machine) (is_new k.machine k.reached k.stands)
+      granted = accepted_is_granted k.machine (request_in k.machine) (is_new laws k.machine k.reached k.stands)
 
       there : Contains s.grants granted.row
       there = subst (λ (rows : List GrantRow). Contains rows granted.row) k.stands.rows granted.named.0

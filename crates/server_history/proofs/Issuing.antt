@@ -69,7 +69,7 @@ behind_issued : LawsBelow → (s : Server) (new : Device) (port : Port) (e : Hel
     → IssuesTransfer port 0 (transfer_of e) e.frames s.device new → IsTransferOf port 0 (transfer_of e) e.frames plain_mode p
     → MayServe port 0 plain_mode p (record { uses = k.stands.uses; parked = none_parked }) k.machine → (q : ℕ) → q < 4 → IsPortOf s.wanted s.ports q new
 behind_issued laws s new port e p k ready issues its may =
-    behind_served s new port k ready (issued_serves port e s.device new issues) (λ q low other. apart port (IsIssuing port 0) (laws.issuing_of port 0) q other s.device new k.on issues.driven)
+    behind_served laws.looks s new port k ready (issued_serves port e s.device new issues) (λ q low other. apart port laws.looks (IsIssuing port 0) (laws.issuing_of port 0) q other s.device new k.on issues.driven)
     (λ q other. laws.issuing_silent port 0 (transfer_of e) e.frames plain_mode p s.device new (record { uses = k.stands.uses; parked = none_parked }) k.machine issues its k.reached k.stands.knows may q Identify refl
     (not_own (found_of s.ports q) 0 (used_for s.slots q 0) (k.stands.uses q 0) other (k.stands.used q 0)))
 
@@ -177,7 +177,7 @@ module _ (laws : LawsBelow) (s new : Server) (port : Port) (id : RequestId) (k :
       let i = issue_one k.machine k.reached k.stands in
       subst IsKept (sym one.server)
       (kept_then s new.device s.table (with_slot s.slots port.0 0 its_use) (map (at id issue) s.book) s.last k
-      (services_on s.device new.device k.on driven) (services_same s.device new.device driven)
+      (services_on laws.looks s.device new.device k.on driven) (services_same laws.looks s.device new.device driven)
       (behind_issued laws s new.device port e (p k.machine k.reached k.stands) k issued_ready one.issues (its_transfer k.machine k.reached k.stands)
       (free k.machine k.reached k.stands, may k.machine k.reached k.stands))
       refl

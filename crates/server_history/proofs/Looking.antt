@@ -22,6 +22,7 @@ use Rattle.server_history.proofs.Going.{machine_on, kept_on}
 use Rattle.server_history.proofs.Ports.{port_on}
 use Rattle.server_history.proofs.Slots.{AreOver, busy_used, not_own, ready_found, serves_used}
 use Rattle.port_look.specs.Looks.{IsLooking}
+use Rattle.port_look.specs.Laws.{Laws}
 use Rattle.port_look.specs.Services.{IsService}
 use Rattle.ncq.specs.Masks.{FindsDone, IsFinding}
 use Rattle.hba_regs.specs.Bits.{bit}
@@ -34,25 +35,25 @@ use Rattle.port_look.proofs.Serving.{looking_service, services_on, services_same
 
 -- Accesses that serve a ready port leave what stands behind each, where the others are left to the device, and no page comes but on
 -- dead ones.
-pub behind_served : (s : Server) (new : Device) (port : Port) → IsKept s → state_of (found_of s.ports port.0) ≡ ReadyState → IsDrivenBy IsService s.device new
+pub behind_served : Laws → (s : Server) (new : Device) (port : Port) → IsKept s → state_of (found_of s.ports port.0) ≡ ReadyState → IsDrivenBy IsService s.device new
     → ((q : ℕ) → q < 4 → q ≢ port.0 → LeavesPort (s.device.port q) (new.port q)) → ((q : ℕ) → found_of s.ports q ≢ Unready Dead → SendsNone q Identify s.device new)
     → (q : ℕ) → q < 4 → IsPortOf s.wanted s.ports q new
-behind_served s new port k ready driven left silent q low =
-    port_on s.wanted s.ports q s.device new (services_same s.device new driven) k.on driven
+behind_served laws s new port k ready driven left silent q low =
+    port_on laws s.wanted s.ports q s.device new (services_same laws s.device new driven) k.on driven
     (λ unready. left q low (λ same. unready (ap (λ (n : ℕ). state_of (found_of s.ports n)) same ∙ ready))) (silent q) (k.behind q low)
 
 -- ---- the server
 
 module _ (s : Server) (new : Device) (port : Port) (k : IsKept s) (ready : state_of (found_of s.ports port.0) ≡ ReadyState) where
   -- followed accesses that serve the port, and write no PxCI
-  kept_over : (May : Access → Type 0) → ((access : Access) → May access → IsService access) → ((q : Port) → NoneWrites May (Px q Ci) × NoneWrites May (Px q Sact))
+  kept_over : Laws → (May : Access → Type 0) → ((access : Access) → May access → IsService access) → ((q : Port) → NoneWrites May (Px q Ci) × NoneWrites May (Px q Sact))
       → ((q : ℕ) → q < 4 → q ≢ port.0 → LeavesPort (s.device.port q) (new.port q)) → IsFollowed May AnyUse s.device new → IsKept (record s { device = new })
-  kept_over May service none left followed =
+  kept_over laws May service none left followed =
       let uses : Uses = k.stands.uses in
       let driven : IsDrivenBy IsService s.device new = driven_as May IsService s.device new service followed.driven in
       let x = (followed_adds followed uses none_parked tt).adds k.machine k.reached k.stands.knows in
-      kept_on s new k (services_on s.device new k.on driven) (services_same s.device new driven)
-      (behind_served s new port k ready driven left
+      kept_on s new k (services_on laws s.device new k.on driven) (services_same laws s.device new driven)
+      (behind_served laws s new port k ready driven left
       (λ q other. followed_silent followed uses none_parked k.machine tt k.reached k.stands.knows (port_at q) Identify refl (none (port_at q)).0 (none (port_at q)).1
       (not_own (found_of s.ports q) 0 (used_for s.slots q 0) (uses q 0) other (k.stands.used q 0))))
       x.0 x.1
@@ -71,16 +72,16 @@ module _ (s : Server) (new : Device) (port : Port) (k : IsKept s) (ready : state
   finding_spares q r (Loading at bytes) here = tt
   finding_spares q r (Storing at bytes) here = tt
 
-  pub looking_kept : IsFollowed (IsLooking port) AnyUse s.device new → IsKept (record s { device = new })
-  looking_kept followed =
-      kept_over (IsLooking port) (looking_service port) (λ q. (looking_spares q Ci (λ e. absurd cc), looking_spares q Sact (λ e. absurd cc))) (λ q low other. apart port (IsLooking port) (looking_of port) q other s.device new k.on followed.driven) followed
+  pub looking_kept : Laws → IsFollowed (IsLooking port) AnyUse s.device new → IsKept (record s { device = new })
+  looking_kept laws followed =
+      kept_over laws (IsLooking port) (looking_service port) (λ q. (looking_spares q Ci (λ e. absurd cc), looking_spares q Sact (λ e. absurd cc))) (λ q low other. apart port laws (IsLooking port) (looking_of port) q other s.device new k.on followed.driven) followed
 
   module _ (laws : LawsBelow) (mask done : ℕ) (finds : FindsDone port mask done s.device new) where
     pub finding_kept : IsKept (record s { device = new })
     finding_kept =
         let followed = laws.finding_followed port mask done s.device new finds in
-        kept_over (IsFinding port) (finding_serves port) (λ q. (finding_spares q Ci, finding_spares q Sact))
-        (λ q low other. apart port (IsFinding port) (laws.finding_of port) q other s.device new k.on followed.driven) followed
+        kept_over laws.looks (IsFinding port) (finding_serves port) (λ q. (finding_spares q Ci, finding_spares q Sact))
+        (λ q low other. apart port laws.looks (IsFinding port) (laws.finding_of port) q other s.device new k.on followed.driven) followed
 
     -- the command of a slot that was found done is over, where only used slots were asked for
     pub found_over : IsMaskOf (slots_at s.slots port.0) mask → AreOver port done new

@@ -18,6 +18,7 @@ use Rattle.agreement.proofs.Noting.{access_notes, notes_read}
 use Rattle.agreement.proofs.Present.{access_shown}
 use Rattle.agreement.specs.Noted.{SparesReading}
 use Rattle.port_control.specs.Ports.{programmed}
+use Rattle.port_look.specs.Laws.{Laws}
 use Rattle.port_look.specs.Services.{IsService}
 use Rattle.port_look.proofs.Recording.{services_recorded}
 use Rattle.port_look.proofs.Serving.{services_keep, spares_port}
@@ -78,21 +79,21 @@ each port access old new on is does h =
     }
 
 -- a device shows still, or none is in
-pub shown_on : (port : Port) (old new : Device) → IsOn old → IsDrivenBy IsService old new → HasDeviceOrNone (old.port port.0) → HasDeviceOrNone (new.port port.0)
-shown_on port old new on driven =
-    (services_keep (λ x y. HasDeviceOrNone (x.port port.0) → HasDeviceOrNone (y.port port.0)) (λ d h. h) (λ x y z p q h. q (p h))
+pub shown_on : Laws → (port : Port) (old new : Device) → IsOn old → IsDrivenBy IsService old new → HasDeviceOrNone (old.port port.0) → HasDeviceOrNone (new.port port.0)
+shown_on laws port old new on driven =
+    (services_keep laws (λ x y. HasDeviceOrNone (x.port port.0) → HasDeviceOrNone (y.port port.0)) (λ d h. h) (λ x y z p q h. q (p h))
     (λ access x y ready is does. access_shown port access x y ready.no_reset (spares_port port Sctl (λ e. cc) (λ e. cc) access is) does) old new on driven).0
 
-pub runs_on : (port : Port) (old new : Device) → IsOn old → IsDrivenBy IsService old new → Runs port.0 old → Runs port.0 new
-runs_on port old new on driven r = record {
+pub runs_on : Laws → (port : Port) (old new : Device) → IsOn old → IsDrivenBy IsService old new → Runs port.0 old → Runs port.0 new
+runs_on laws port old new on driven r = record {
   st = h.st;
   cr = h.cr;
   fre = h.fre;
   bases = h.bases;
   saw = h.saw;
-  recorded = services_recorded port.0 old new driven (λ _. r.recorded) h.st;
+  recorded = services_recorded laws port.0 old new driven (λ _. r.recorded) h.st;
 }
   where
     h : Holds port.0 new
-    h = (services_keep (λ x y. Holds port.0 x → Holds port.0 y) (λ d x. x) (λ x y z p q k. q (p k)) (λ access x y ready is does. each port access x y ready is does) old new on driven).0
+    h = (services_keep laws (λ x y. Holds port.0 x → Holds port.0 y) (λ d x. x) (λ x y z p q k. q (p k)) (λ access x y ready is does. each port access x y ready is does) old new on driven).0
         (record { st = r.st; cr = r.cr; fre = r.fre; bases = r.bases; saw = r.saw })

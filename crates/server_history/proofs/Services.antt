@@ -266,7 +266,7 @@ module _ (laws : LawsBelow) (s : Server) (start : IsSettled s) (old : Moment) (r
 
     module _ (replies : List Reply) (serves : ServesPort (port_at n) replies c mid) where
       turn_is : TurnList (TendsPort (ports_of s.ports)) (port_at n) its_served (slots_at c.slots n) replies c.device mid.device serves.turn
-      turn_is = turn_list (TendsPort (ports_of s.ports)) (port_at n) its_served low (slots_at c.slots n) replies c.device mid.device serves.turn
+      turn_is = turn_list (TendsPort (ports_of s.ports)) (port_at n) its_served laws.looks low (slots_at c.slots n) replies c.device mid.device serves.turn
 
       through : IsDrivenBy IsService c.device mid.device
       through = driven_as (IsTurn (TendsPort (ports_of s.ports))) IsService c.device mid.device (λ access is. is.0) turn_is.driven
@@ -277,8 +277,8 @@ module _ (laws : LawsBelow) (s : Server) (start : IsSettled s) (old : Moment) (r
       -- what goes well in both went well so far, and since
       well_parts : (q : Port) → StaysHealthy q.0 s.device mid.device → StaysHealthy q.0 s.device c.device × (RunsWell (c.device.port q.0) × Undisturbed q.0 c.device mid.device)
       well_parts q well =
-          let parts = calm_parts q.0 s.device c.device mid.device (tape_over IsService s.device c.device so_far) (tape_over IsService c.device mid.device through) well.undisturbed in
-          (record { well = well.well; undisturbed = parts.0 }, (services_well q s.device c.device kept.on so_far parts.0 well.well, parts.1))
+          let parts = calm_parts laws.looks q.0 s.device c.device mid.device (tape_over IsService s.device c.device so_far) (tape_over IsService c.device mid.device through) well.undisturbed in
+          (record { well = well.well; undisturbed = parts.0 }, (services_well laws.looks q s.device c.device kept.on so_far parts.0 well.well, parts.1))
 
       -- where the port goes well, a request that had ended is told
       ended_told : StaysHealthy n s.device mid.device → (e : Pending) → (h : IsLeading e) → e.ended ≡ true → IsTold h.has.used.id replies
@@ -497,7 +497,7 @@ module _ (laws : LawsBelow) (s : Server) (start : IsSettled s) (old : Moment) (r
                 (still_over (port_at n) slot c.device serves.turn.seen looks (record { issued = free.issued; free = free.free })),
             active_clear (port_at n) slot k.reads.active masks_read.0 k.read says.placed.slot_below masks_read.2
                 (reads_clear n slot (Px (port_at n) Ci) k.reads.issued serves.turn.seen masks_read.0 masks_read.1
-                (services_inactive n slot c.device serves.turn.seen (driven_as (IsLooking (port_at n)) IsService c.device serves.turn.seen (looking_service (port_at n)) looks) free.unarmed)),
+                (services_inactive laws.looks n slot c.device serves.turn.seen (driven_as (IsLooking (port_at n)) IsService c.device serves.turn.seen (looking_service (port_at n)) looks) free.unarmed)),
           )
             where
               free : IsFree (c.device.port n) slot

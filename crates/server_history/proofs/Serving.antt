@@ -36,6 +36,7 @@ use Rattle.driver_history.specs.Histories.{IssuesDue}
 use Rattle.identify.specs.declared.DiskInfo.{DiskInfo}
 use Rattle.ncq.specs.Masks.{FindsDone, IsFinding, SeesClear}
 use Rattle.port_look.specs.Looks.{IsLooking, LooksAt}
+use Rattle.port_look.specs.Laws.{Laws}
 use Rattle.port_look.specs.Services.{IsService}
 use Rattle.port_look.specs.declared.Look.{Look}
 use Rattle.port_look.specs.declared.Look.TheVariants.{Undisturbed as Calm}
@@ -147,11 +148,11 @@ module _ (s : Server) (port : Port) (k : IsKept s) (ready : state_of (found_of s
       by (inr (inr (inr d))) = record { issued = d.issued; free = d.free }
 
   -- and they are clear after a look
-  still_clear : (seen : Device) → IsDrivenBy (IsLooking port) s.device seen → (used : SlotUse) → used_for s.slots port.0 slot ≡ Some used → (s.device.port port.0).ci slot ≡ false
+  still_clear : Laws → (seen : Device) → IsDrivenBy (IsLooking port) s.device seen → (used : SlotUse) → used_for s.slots port.0 slot ≡ Some used → (s.device.port port.0).ci slot ≡ false
       → (s.device.port port.0).sact slot ≡ false → ((seen.port port.0).ci slot ≡ false) × ((seen.port port.0).sact slot ≡ false)
-  still_clear seen driven used its ci sact = (
+  still_clear laws seen driven used its ci sact = (
     (still_over port slot s.device seen driven (clear_over used its ci sact)).issued,
-    services_inactive port.0 slot s.device seen (driven_as (IsLooking port) IsService s.device seen (looking_service port) driven) sact,
+    services_inactive laws port.0 slot s.device seen (driven_as (IsLooking port) IsService s.device seen (looking_service port) driven) sact,
   )
 
 -- ---- who is told
@@ -218,12 +219,12 @@ module _ (s : Server) (seen : Device) (port : Port) (t : IsSettled s) (ready : s
   low = (ready_found s port.0 k ready).0
 
   -- it was looked at, and that told of something
-  pub told_trouble : (look : Look) → LooksAt port look s.device seen → look ≢ Calm → ServesPort port [] s (record s { device = seen })
-  told_trouble look l told =
+  pub told_trouble : Laws → (look : Look) → LooksAt port look s.device seen → look ≢ Calm → ServesPort port [] s (record s { device = seen })
+  told_trouble laws look l told =
       nobody_answered s seen port t
       (record { look = look; seen = seen; looks = l; told = λ _. (refl, refl); calm = λ calm. absurd (told calm) })
       (looks_serve port s.device seen looks)
-      (λ well calm slot used small its ci sact. told (seen_well port look s.device seen l k.on well calm).0)
+      (λ well calm slot used small its ci sact. told (seen_well laws port look s.device seen l k.on well calm).0)
 
   module _ (l : LooksAt port Calm s.device seen) where
     -- no slot is used
@@ -270,7 +271,7 @@ module _ (s : Server) (seen : Device) (port : Port) (t : IsSettled s) (ready : s
           })
           (followed_then IsService AnyUse s.device seen new (looks_serve port s.device seen looks) (finds_serve laws port mask done seen new reads))
           (λ well calm slot used small is ci sact.
-          let c = still_clear s port k ready slot seen looks.driven used is ci sact in
+          let c = still_clear s port k ready slot laws.looks seen looks.driven used is ci sact in
           false≢true (sym (none slot small) ∙ sees slot small (asked slot used small is) c.0 c.1))
 
       -- what was found done was answered
@@ -283,7 +284,7 @@ module _ (s : Server) (seen : Device) (port : Port) (t : IsSettled s) (ready : s
         served = followed_then IsService AnyUse s.device seen found (looks_serve port s.device seen looks) (finds_serve laws port mask done seen found reads)
 
         seen_kept : IsKept (record s { device = seen })
-        seen_kept = looking_kept s seen port k ready looks
+        seen_kept = looking_kept s seen port k ready laws.looks looks
 
         found_kept : IsKept from
         found_kept = finding_kept (record s { device = seen }) found port seen_kept ready laws mask done reads
@@ -401,6 +402,6 @@ module _ (s : Server) (seen : Device) (port : Port) (t : IsSettled s) (ready : s
           answers = inr (found, done, a);
           adds = turn_adds;
           answered = λ well calm slot used small is ci sact.
-              let c = still_clear s port k ready slot seen looks.driven used is ci sact in
+              let c = still_clear s port k ready slot laws.looks seen looks.driven used is ci sact in
               (exactly slot used small is).0 (sees slot small (asked slot used small is) c.0 c.1);
         }

@@ -17,6 +17,8 @@ use Rattle.block_machine.specs.Due.{AreDueInTurn, IsDue, IsInOrder as machine_in
 use Rattle.block_machine.specs.State.{Machine, Pending, unanswered}
 use Rattle.block_machine.specs.Steps.{Accept, Issue, Answer, after_step, newly_accepted}
 use Rattle.block_machine.specs.State as machine
+use Rattle.block_machine.specs.Steps as steps
+use Rattle.ata_types.specs.declared.request.ClientId.{ClientId}
 use Rattle.block_machine.specs.declared.due.Mode.{Mode}
 use Rattle.block_machine.specs.declared.due.Unanswered.{Unanswered}
 use Rattle.dma_frames.specs.Table.{Table, LendsOnly, lent_to}
@@ -24,6 +26,7 @@ use Rattle.block_machine.specs.Histories.{IsReached}
 use Rattle.ncq.specs.Masks.{FindsDone, IsFinding}
 use Rattle.ncq.specs.Transfers.{IsIssuing, IsTransferOf, IssuesTransfer, MayServe, with_serving}
 use Rattle.ncq.specs.declared.Transfer.{Transfer}
+use Rattle.port_look.specs.Laws.{Laws}
 use Rattle.request_queue.specs.Entries.{Held, IsAccepted, IsEarlier, IsFresh, IsInOrder, IsWaiting, asks_of, at, issue, unanswered_of, without}
 use Rattle.request_queue.specs.Machine.{IsBook, IsEntry}
 
@@ -32,6 +35,7 @@ pub record LawsBelow : Type 0 where
   pub accepts : (entries : List Held) (m : Machine) (e : Held) (r : machine.Accepted) → IsBook entries m.book → IsEntry e (newly_accepted r) → IsBook (entries ++ e ∷ []) (after_step m (Accept r)).book
   pub issues : (entries : List Held) (m : Machine) (mode : Mode) (p : Pending) → IsBook entries m.book → IsBook (map (at p.request.id issue) entries) (after_step m (Issue mode p)).book
   pub answers : (entries : List Held) (m : Machine) (p : Pending) (outcome : Outcome) → IsBook entries m.book → IsBook (without p.request.id entries) (after_step m (Answer p outcome)).book
+  pub counts : (entries : List Held) (book : List Pending) (client : ClientId) → IsBook entries book → steps.unanswered_of book client ≡ unanswered_of entries client.0
   -- its order
   pub one : (entries : List Held) (a b : Held) → IsInOrder entries → Contains entries a → Contains entries b → a.entry.id ≡ b.entry.id → a ≡ b
   pub longer : (entries : List Held) (e : Held) → IsInOrder entries → All (λ x. IsEarlier x e) entries → IsFresh e.entry → 1 ≤ e.entry.client.0 → e.entry.client.0 ≤ 8
@@ -56,6 +60,8 @@ pub record LawsBelow : Type 0 where
   pub same_due : (mode : Mode) (port : Port) (book other : List Unanswered) (r : Unanswered) → of_port port book ≡ of_port port other → r.port ≡ port → IsDue mode book r ↔ IsDue mode other r
   pub issued_apart : (port : Port) (book : List Unanswered) (r : Unanswered) → machine_in_order book → Contains book r → r.port ≢ port → of_port port (with_issued r.id book) ≡ of_port port book
   pub answered_apart : (port : Port) (book : List Unanswered) (r : Unanswered) → machine_in_order book → Contains book r → r.port ≢ port → of_port port (with_none r.id book) ≡ of_port port book
+  -- accesses that serve ports
+  pub looks : Laws
   -- a transfer is issued
   pub issuing_ends : (port : Port) (slot : ℕ) (r : Transfer) (frames : List Frame) (mode : Mode) (e : Pending) (old new : Device) (s : InSlots) (m : Machine)
       → IssuesTransfer port slot r frames old new → IsTransferOf port slot r frames mode e → IsReached m → Knows m (at_slots s old) → MayServe port slot mode e s m

@@ -44,9 +44,11 @@ ghost use Rattle.port_look.specs.declared.Look.TheVariants.{Undisturbed as Calm}
 use block_machine::laws::{due_in_turn, due_is_exact, other_ports_stay, own_requests_count};
 use host_boot::laws::what_was_taken_over_may_be_served;
 use ncq::laws::{calls_are_of_one_port, finding_is_followed, issuing_performs};
+use port_look::lawful::laws_hold;
 use request_queue::laws::{
-    accepted_requests_stay, an_id_is_one_request, operations_change_one_request,
-    operations_change_what_is_due, steps_change_the_book, the_book_stays_in_order,
+    accepted_requests_stay, an_id_is_one_request, clients_have_as_many,
+    operations_change_one_request, operations_change_what_is_due, steps_change_the_book,
+    the_book_stays_in_order,
 };
 
 /// What requests and transfers do, as the laws of the crates below have it.
@@ -54,6 +56,7 @@ fn the_laws_below_hold()
     ensures { LawsBelow }
 {
     steps_change_the_book();
+    clients_have_as_many();
     an_id_is_one_request();
     operations_change_one_request();
     operations_change_what_is_due();
@@ -63,6 +66,7 @@ fn the_laws_below_hold()
     due_in_turn();
     own_requests_count();
     other_ports_stay();
+    laws_hold();
     issuing_performs();
     calls_are_of_one_port();
     finding_is_followed();
@@ -90,7 +94,9 @@ pub fn device_steps_add()
     ensures done { (s : Server) (new : Device) (step : DeviceStep) → IsSettled s → Asked step s.device new → Steps s.device new
         → Adds s (record s { device = new }) (Told step) (Stepped true) }
     ensures refused { (s : Server) (step : DeviceStep) → IsSettled s → Adds s s (Told step) (Stepped false) }
-{}
+{
+    the_laws_below_hold();
+}
 
 /// A call that is refused adds an event, and so does asking for a port's state: nothing changes.
 pub fn refusals_add()
@@ -103,14 +109,18 @@ pub fn refusals_add()
         → IsFirstMemFault (owner_of s.table) (lent_to s.table) client frame offset count fault
         → Adds s s (LoadAt client frame offset count) (load_said (Err fault) bytes) }
     ensures state { (s : Server) (port : Port) → IsSettled s → Adds s s (State port) (Shown ((ports_of s.ports).state port)) }
-{}
+{
+    the_laws_below_hold();
+}
 
 /// Bytes of an open frame may be loaded and stored, whatever the device does first.
 pub fn open_bytes_are_free()
     ensures { (s : Server) (client : ClientId) (frame : Frame) (offset count : ℕ) → IsKept s
         → IsOpen (owner_of s.table) (lent_to s.table) client frame offset count
         → Stays (IsFree (FRAME_BYTES * frame.0 + offset) count) s.device }
-{}
+{
+    the_laws_below_hold();
+}
 
 /// Bytes of an open frame that a client stores or loads add an event.
 pub fn client_bytes_add()
@@ -122,7 +132,9 @@ pub fn client_bytes_add()
         → length bytes ≡ count → IsOpen (owner_of s.table) (lent_to s.table) client frame offset count
         → Loads (FRAME_BYTES * frame.0 + offset) bytes s.device new
         → Adds s (record s { device = new }) (LoadAt client frame offset count) (load_said (Ok tt) bytes) }
-{}
+{
+    the_laws_below_hold();
+}
 
 /// A due request of a server may be issued: its port's slot 0 is free, and some machine agrees with a driver that doesn't use it.
 pub fn a_due_request_may_issue()

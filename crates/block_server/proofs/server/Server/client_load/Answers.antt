@@ -8,7 +8,6 @@ use Rattle.dma_frames.specs.Table.{owner_of, lent_to}
 use Rattle.block_server.specs.Seen.{seen}
 use Rattle.block_server.specs.View.{ServerView, server_of}
 use Rattle.server_history.specs.Histories.{Adds, load_said}
-use Rattle.server_history.proofs.Calls.{device_kept, load_of, load_refused, open_free}
 use Rattle.block_server.proofs.server.Server.client_load.Goals as goal
 
 pub returns-in_err-address-clause-adds : goal.returns-in_err-address-clause-adds
@@ -20,18 +19,24 @@ returns-in_err-address-clause-adds g c =
     let Q : ServerView g.row.A.Denot → Type 0 = λ v. IsFirstMemFault (owner_of v.table) (lent_to v.table) c.args.client c.args.frame c.args.offset (length c.args.out.now) c.in_err-address.field-0.0 in
     subst P c.self.view_is (
     subst (λ r. Adds s s (LoadAt c.args.client c.args.frame c.args.offset (length c.args.out.now)) (load_said r c.args.out.now)) (sym (told.1 ∙ ap Err told.2))
-    (load_refused s c.args.client c.args.frame c.args.offset (length c.args.out.now) c.args.out.now c.in_err-address.field-0.0 c.self.invariant
+    (c.refusals_add.ensures.load s c.args.client c.args.frame c.args.offset (length c.args.out.now) c.args.out.now c.in_err-address.field-0.0 c.self.invariant
     (subst Q (sym c.self.view_is) c.in_err-address.ensures.err)))
 
 pub load-requires : goal.load-requires
 load-requires g c =
     let P : ServerView g.row.A.Denot → Type 0 = λ v. IsOpen (owner_of v.table) (lent_to v.table) c.args.client c.args.frame c.args.offset (length c.args.out.now) in
     subst (λ (at : ℕ). Stays (IsFree at (length c.args.out.now)) (g.A.Adapter.device c.self.inside.adapter)) (sym c.in_ok-address.ensures.ok.1)
-    (open_free (server_of g.A.Adapter.device (seen c.self.inside)) c.args.client c.args.frame c.args.offset (length c.args.out.now) c.self.invariant.kept
+    (c.open_bytes_are_free.ensures (server_of g.A.Adapter.device (seen c.self.inside)) c.args.client c.args.frame c.args.offset (length c.args.out.now) c.self.invariant.kept
     (subst P (sym c.self.view_is) c.in_ok-address.ensures.ok.0))
 
 pub invariant_of-self : goal.invariant_of-self
-invariant_of-self g c = record { kept = device_kept (server_of g.A.Adapter.device (seen c.self.inside)) (g.A.Adapter.device c.load.new.self) c.self.invariant.kept c.load.ensures.steps; issued = c.self.invariant.issued }
+invariant_of-self g c =
+    let device = g.A.Adapter.device in
+    let s = seen c.self.inside in
+    let Q : ServerView g.row.A.Denot → Type 0 = λ v. IsOpen (owner_of v.table) (lent_to v.table) c.args.client c.args.frame c.args.offset (length c.args.out.now) in
+    (c.client_bytes_add.ensures.load (server_of device s) (device c.load.new.self) c.args.client c.args.frame c.args.offset (length c.args.out.now) c.load.new.out c.self.invariant c.load.auto.out
+    (subst Q (sym c.self.view_is) c.in_ok-address.ensures.ok.0)
+    (subst (λ (at : ℕ). Loads at c.load.new.out (device s.adapter) (device c.load.new.self)) c.in_ok-address.ensures.ok.1 c.load.ensures)).settled
 
 pub returns-clause-adds : goal.returns-clause-adds
 returns-clause-adds g c =
@@ -39,6 +44,6 @@ returns-clause-adds g c =
     let s = seen c.self.inside in
     let P : ServerView g.row.A.Denot → Type 0 = λ v. Adds (server_of device v) (server_of device (record s { adapter = c.load.new.self })) (LoadAt c.args.client c.args.frame c.args.offset (length c.args.out.now)) (load_said (Ok tt) c.load.new.out) in
     let Q : ServerView g.row.A.Denot → Type 0 = λ v. IsOpen (owner_of v.table) (lent_to v.table) c.args.client c.args.frame c.args.offset (length c.args.out.now) in
-    subst P c.self.view_is (load_of (server_of device s) (device c.load.new.self) c.args.client c.args.frame c.args.offset (length c.args.out.now) c.load.new.out c.self.invariant c.load.auto.out
+    subst P c.self.view_is (c.client_bytes_add.ensures.load (server_of device s) (device c.load.new.self) c.args.client c.args.frame c.args.offset (length c.args.out.now) c.load.new.out c.self.invariant c.load.auto.out
     (subst Q (sym c.self.view_is) c.in_ok-address.ensures.ok.0)
     (subst (λ (at : ℕ). Loads at c.load.new.out (device s.adapter) (device c.load.new.self)) c.in_ok-address.ensures.ok.1 c.load.ensures))

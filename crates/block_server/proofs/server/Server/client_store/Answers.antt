@@ -8,7 +8,6 @@ use Rattle.dma_frames.specs.Table.{owner_of, lent_to}
 use Rattle.block_server.specs.Seen.{seen}
 use Rattle.block_server.specs.View.{ServerView, server_of}
 use Rattle.server_history.specs.Histories.{Adds, store_said}
-use Rattle.server_history.proofs.Calls.{open_free, store_adds, store_kept, store_refused}
 use Rattle.block_server.proofs.server.Server.client_store.Goals as goal
 
 pub returns-in_err-address-clause-adds : goal.returns-in_err-address-clause-adds
@@ -20,25 +19,22 @@ returns-in_err-address-clause-adds g c =
     let Q : ServerView g.row.A.Denot → Type 0 = λ v. IsFirstMemFault (owner_of v.table) (lent_to v.table) c.args.client c.args.frame c.args.offset (length c.args.bytes.now) c.in_err-address.field-0.0 in
     subst P c.self.view_is (
     subst (λ r. Adds s s (StoreAt c.args.client c.args.frame c.args.offset c.args.bytes.now) (store_said r)) (sym (told.1 ∙ ap Err told.2))
-    (store_refused s c.args.client c.args.frame c.args.offset c.args.bytes.now c.in_err-address.field-0.0 c.self.invariant
+    (c.refusals_add.ensures.store s c.args.client c.args.frame c.args.offset c.args.bytes.now c.in_err-address.field-0.0 c.self.invariant
     (subst Q (sym c.self.view_is) c.in_err-address.ensures.err)))
 
 pub store-requires : goal.store-requires
 store-requires g c =
     let P : ServerView g.row.A.Denot → Type 0 = λ v. IsOpen (owner_of v.table) (lent_to v.table) c.args.client c.args.frame c.args.offset (length c.args.bytes.now) in
     subst (λ (at : ℕ). Stays (IsFree at (length c.args.bytes.now)) (g.A.Adapter.device c.self.inside.adapter)) (sym c.in_ok-address.ensures.ok.1)
-    (open_free (server_of g.A.Adapter.device (seen c.self.inside)) c.args.client c.args.frame c.args.offset (length c.args.bytes.now) c.self.invariant.kept
+    (c.open_bytes_are_free.ensures (server_of g.A.Adapter.device (seen c.self.inside)) c.args.client c.args.frame c.args.offset (length c.args.bytes.now) c.self.invariant.kept
     (subst P (sym c.self.view_is) c.in_ok-address.ensures.ok.0))
 
 pub invariant_of-self : goal.invariant_of-self
 invariant_of-self g c =
     let P : ServerView g.row.A.Denot → Type 0 = λ v. IsOpen (owner_of v.table) (lent_to v.table) c.args.client c.args.frame c.args.offset (length c.args.bytes.now) in
-    record {
-      kept = store_kept (server_of g.A.Adapter.device (seen c.self.inside)) (g.A.Adapter.device c.store.new.self) c.args.client c.args.frame c.args.offset c.args.bytes.now c.self.invariant
-          (subst P (sym c.self.view_is) c.in_ok-address.ensures.ok.0)
-          (subst (λ (at : ℕ). Stores at c.args.bytes.now (g.A.Adapter.device c.self.inside.adapter) (g.A.Adapter.device c.store.new.self)) c.in_ok-address.ensures.ok.1 c.store.ensures);
-      issued = c.self.invariant.issued;
-    }
+    (c.client_bytes_add.ensures.store (server_of g.A.Adapter.device (seen c.self.inside)) (g.A.Adapter.device c.store.new.self) c.args.client c.args.frame c.args.offset c.args.bytes.now c.self.invariant
+    (subst P (sym c.self.view_is) c.in_ok-address.ensures.ok.0)
+    (subst (λ (at : ℕ). Stores at c.args.bytes.now (g.A.Adapter.device c.self.inside.adapter) (g.A.Adapter.device c.store.new.self)) c.in_ok-address.ensures.ok.1 c.store.ensures)).settled
 
 pub returns-clause-adds : goal.returns-clause-adds
 returns-clause-adds g c =
@@ -46,6 +42,6 @@ returns-clause-adds g c =
     let s = seen c.self.inside in
     let P : ServerView g.row.A.Denot → Type 0 = λ v. Adds (server_of device v) (server_of device (record s { adapter = c.store.new.self })) (StoreAt c.args.client c.args.frame c.args.offset c.args.bytes.now) (store_said (Ok tt)) in
     let Q : ServerView g.row.A.Denot → Type 0 = λ v. IsOpen (owner_of v.table) (lent_to v.table) c.args.client c.args.frame c.args.offset (length c.args.bytes.now) in
-    subst P c.self.view_is (store_adds (server_of device s) (device c.store.new.self) c.args.client c.args.frame c.args.offset c.args.bytes.now c.self.invariant
+    subst P c.self.view_is (c.client_bytes_add.ensures.store (server_of device s) (device c.store.new.self) c.args.client c.args.frame c.args.offset c.args.bytes.now c.self.invariant
     (subst Q (sym c.self.view_is) c.in_ok-address.ensures.ok.0)
     (subst (λ (at : ℕ). Stores at c.args.bytes.now (device s.adapter) (device c.store.new.self)) c.in_ok-address.ensures.ok.1 c.store.ensures))

@@ -3,12 +3,14 @@ use Rattle.block_machine.specs.Events.{Device as Told, Stepped}
 use Rattle.block_server.specs.Seen.{seen}
 use Rattle.block_server.specs.View.{ServerView, server_of}
 use Rattle.server_history.specs.Histories.{Adds}
-use Rattle.server_history.proofs.Calls.{device_kept}
 use Rattle.block_server.proofs.Stepping.{step_adds}
 use Rattle.block_server.proofs.server.Server.device.Goals as goal
 
 pub invariant_of-self : goal.invariant_of-self
-invariant_of-self g c = record { kept = device_kept (server_of g.A.Adapter.device (seen c.self.inside)) (g.A.Adapter.device c.step.new.self) c.self.invariant.kept c.step.ensures.steps; issued = c.self.invariant.issued }
+invariant_of-self g c =
+    let device = g.A.Adapter.device in
+    (step_adds c.device_steps_add.ensures.done c.device_steps_add.ensures.refused (server_of device (seen c.self.inside)) (device c.step.new.self) c.args.step.now c.step.result c.self.invariant c.step.ensures.asked
+    c.step.ensures.steps c.step.ensures.refused).settled
 
 pub returns-clause-adds : goal.returns-clause-adds
 returns-clause-adds g c =
@@ -16,4 +18,5 @@ returns-clause-adds g c =
     let s = seen c.self.inside in
     let P : ServerView g.row.A.Denot → Type 0 = λ v. Adds (server_of device v) (server_of device (record s { adapter = c.step.new.self })) (Told c.args.step.now) (Stepped c.step.result) in
     subst P c.self.view_is
-    (step_adds (server_of device s) (device c.step.new.self) c.args.step.now c.step.result c.self.invariant c.step.ensures.asked c.step.ensures.steps c.step.ensures.refused)
+    (step_adds c.device_steps_add.ensures.done c.device_steps_add.ensures.refused (server_of device s) (device c.step.new.self) c.args.step.now c.step.result c.self.invariant c.step.ensures.asked c.step.ensures.steps
+    c.step.ensures.refused)

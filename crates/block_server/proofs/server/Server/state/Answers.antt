@@ -7,18 +7,18 @@ use Rattle.block_server.proofs.server.Server.state.Goals as goal
 
 pub returns-in-Unserved-clause-adds : goal.returns-in-Unserved-clause-adds
 returns-in-Unserved-clause-adds g c =
-    shown_adds g.A.Adapter.device c.args.self.now c.args.port Absent
+    shown_adds g.A.Adapter.device c.refusals_add.ensures.state c.args.self.now c.args.port Absent
     (subst (λ (v : ServerView g.row.A.Denot). IsSettled (server_of g.A.Adapter.device v)) c.self.view_is c.self.invariant)
     (ap state_of (sym c.in-Unserved.is ∙ c.found.ensures))
 
 pub returns-in-Ready-clause-adds : goal.returns-in-Ready-clause-adds
 returns-in-Ready-clause-adds g c =
-    shown_adds g.A.Adapter.device c.args.self.now c.args.port Ready
+    shown_adds g.A.Adapter.device c.refusals_add.ensures.state c.args.self.now c.args.port Ready
     (subst (λ (v : ServerView g.row.A.Denot). IsSettled (server_of g.A.Adapter.device v)) c.self.view_is c.self.invariant)
     (ap state_of (sym c.in-Ready.is ∙ c.found.ensures))
 
 pub returns-in-Unready-clause-adds : goal.returns-in-Unready-clause-adds
 returns-in-Unready-clause-adds g c =
-    shown_adds g.A.Adapter.device c.args.self.now c.args.port c.in-Unready.state
+    shown_adds g.A.Adapter.device c.refusals_add.ensures.state c.args.self.now c.args.port c.in-Unready.state
     (subst (λ (v : ServerView g.row.A.Denot). IsSettled (server_of g.A.Adapter.device v)) c.self.view_is c.self.invariant)
     (ap state_of (sym c.in-Unready.is ∙ c.found.ensures))
