@@ -29,6 +29,6 @@ module _ (port : Port) where
   looking_of (Storing at bytes) here = absurd here
   looking_of (Loading at bytes) here = absurd here
 
-  -- so they leave another port to the device
-  pub apart : (laws : Laws) (May : Access → Type 0) → ((access : Access) → May access → IsOf port access) → (q : ℕ) → q ≢ port.0 → (old new : Device) → IsOn old → IsDrivenBy May old new → LeavesPort (old.port q) (new.port q)
-  apart laws May of q other old new on a = laws.other_left port q old new other on (driven_as May (IsOf port) old new of a)
+-- so they leave another port to the device
+pub apart : (laws : Laws) (port : Port) (May : Access → Type 0) → ((access : Access) → May access → IsOf port access) → (q : ℕ) → q ≢ port.0 → (old new : Device) → IsOn old → IsDrivenBy May old new → LeavesPort (old.port q) (new.port q)
+apart laws port May of q other old new on a = laws.other_left port q old new other on (driven_as May (IsOf port) old new of a)
