@@ -69,7 +69,7 @@ behind_issued : LawsBelow → (s : Server) (new : Device) (port : Port) (e : Hel
     → IssuesTransfer port 0 (transfer_of e) e.frames s.device new → IsTransferOf port 0 (transfer_of e) e.frames plain_mode p
     → MayServe port 0 plain_mode p (record { uses = k.stands.uses; parked = none_parked }) k.machine → (q : ℕ) → q < 4 → IsPortOf s.wanted s.ports q new
 behind_issued laws s new port e p k ready issues its may =
-    behind_served laws.looks s new port k ready (issued_serves port e s.device new issues) (λ q low other. apart port laws.looks (IsIssuing port 0) (laws.issuing_of port 0) q other s.device new k.on issues.driven)
+    behind_served laws.looks s new port k ready (issued_serves port e s.device new issues) (λ q low other. apart laws.looks port (IsIssuing port 0) (laws.issuing_of port 0) q other s.device new k.on issues.driven)
     (λ q other. laws.issuing_silent port 0 (transfer_of e) e.frames plain_mode p s.device new (record { uses = k.stands.uses; parked = none_parked }) k.machine issues its k.reached k.stands.knows may q Identify refl
     (not_own (found_of s.ports q) 0 (used_for s.slots q 0) (k.stands.uses q 0) other (k.stands.used q 0)))
 

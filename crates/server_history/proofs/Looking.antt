@@ -74,14 +74,14 @@ module _ (s : Server) (new : Device) (port : Port) (k : IsKept s) (ready : state
 
   pub looking_kept : Laws → IsFollowed (IsLooking port) AnyUse s.device new → IsKept (record s { device = new })
   looking_kept laws followed =
-      kept_over laws (IsLooking port) (looking_service port) (λ q. (looking_spares q Ci (λ e. absurd cc), looking_spares q Sact (λ e. absurd cc))) (λ q low other. apart port laws (IsLooking port) (looking_of port) q other s.device new k.on followed.driven) followed
+      kept_over laws (IsLooking port) (looking_service port) (λ q. (looking_spares q Ci (λ e. absurd cc), looking_spares q Sact (λ e. absurd cc))) (λ q low other. apart laws port (IsLooking port) (looking_of port) q other s.device new k.on followed.driven) followed
 
   module _ (laws : LawsBelow) (mask done : ℕ) (finds : FindsDone port mask done s.device new) where
     pub finding_kept : IsKept (record s { device = new })
     finding_kept =
         let followed = laws.finding_followed port mask done s.device new finds in
         kept_over laws.looks (IsFinding port) (finding_serves port) (λ q. (finding_spares q Ci, finding_spares q Sact))
-        (λ q low other. apart port laws.looks (IsFinding port) (laws.finding_of port) q other s.device new k.on followed.driven) followed
+        (λ q low other. apart laws.looks port (IsFinding port) (laws.finding_of port) q other s.device new k.on followed.driven) followed
 
     -- the command of a slot that was found done is over, where only used slots were asked for
     pub found_over : IsMaskOf (slots_at s.slots port.0) mask → AreOver port done new
