@@ -76,10 +76,9 @@ module _ (s : Server) (port : Port) (k : IsKept s) (ready : state_of (found_of s
         by false is = is
         by true is = absurd (false≢true (sym none ∙ ap (bit done) (sym (alone slot small is)) ∙ is))
 
--- a mask of used slots isn't 0
-pub some_used : (s : Server) (port : Port) (mask : ℕ) → IsMaskOf (slots_at s.slots port.0) mask → (u : SlotUse) → used_for s.slots port.0 0 ≡ Some u → mask ≢ 0
-some_used s port mask its u used none =
-    false≢true (sym (ap (λ (n : ℕ). n == 1) (bit_at-zero 0)) ∙ ap (λ (m : ℕ). bit m 0) (sym none) ∙ its 0 (omega arith) ∙ ap is_used used)
+-- a mask of used slots has a bit
+pub some_used : (s : Server) (port : Port) (mask : ℕ) → IsMaskOf (slots_at s.slots port.0) mask → (u : SlotUse) → used_for s.slots port.0 0 ≡ Some u → HasNone mask → ⊥
+some_used s port mask its u used none = false≢true (sym (none 0 (omega arith)) ∙ its 0 (omega arith) ∙ ap is_used used)
 
 pub not_none : (done : ℕ) → bit done 0 ≡ true → HasNone done → ⊥
 not_none done found none = false≢true (sym (none 0 (omega arith)) ∙ found)

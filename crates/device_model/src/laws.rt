@@ -50,17 +50,19 @@ pub fn held_ports_stay()
     ensures { (held : List Bool) (old new : Device) (port : ℕ) → IsPortHeld held port → DoesOwn held old new → new.port port ≡ old.port port }
 {}
 
-/// Queued commands go on side by side. One that may be taken beside those that are may be taken still once another one was; and one of which nothing
-/// is left may end still once another one has ended, whichever of them does first.
+/// Queued commands go on side by side. One that may be taken beside those that are may be taken still, the same one, once another one was; and one
+/// of which nothing is left is taken still, and may end, once another one has ended, whichever of them does first.
 pub fn queued_commands_go_on_side_by_side<S: SectorStore>()
     ensures taken { (old new : Model S) (p : Port) (slot other : Slot) (m n : Meaning) (xs ys : List ℕ) → slot.0 < 32 → other.0 < 32 → other.0 ≢ slot.0 →
         p.0 < 4 → Takes m.operation → Takes n.operation → is_queued m.operation ≡ true → is_queued n.operation ≡ true →
         Can (Fetch p.0 slot.0 m xs) (device_at S.size S.told old) → Can (Fetch p.0 other.0 n ys) (device_at S.size S.told old) →
         Possible (asked.Fetch p slot) (device_at S.size S.told old)
-        × (Did S.size S.told S.failures (asked.Fetch p slot) old new → Possible (asked.Fetch p other) (device_at S.size S.told new)) }
+        × (Did S.size S.told S.failures (asked.Fetch p slot) old new → Can (Fetch p.0 other.0 n ys) (device_at S.size S.told new)
+        × Possible (asked.Fetch p other) (device_at S.size S.told new)) }
     ensures ended { (old new : Model S) (p : Port) (slot other : Slot) (t u : Taken) → slot.0 < 32 → other.0 < 32 → other.0 ≢ slot.0 → p.0 < 4 →
         WorksOn ((device_at S.size S.told old).port p.0) slot.0 t t.meaning.operation →
         WorksOn ((device_at S.size S.told old).port p.0) other.0 u u.meaning.operation → IsFinished t → IsFinished u →
         Possible (asked.Done p slot) (device_at S.size S.told old)
-        × (Did S.size S.told S.failures (asked.Done p slot) old new → Possible (asked.Done p other) (device_at S.size S.told new)) }
+        × (Did S.size S.told S.failures (asked.Done p slot) old new → WorksOn ((device_at S.size S.told new).port p.0) other.0 u u.meaning.operation
+        × Possible (asked.Done p other) (device_at S.size S.told new)) }
 {}

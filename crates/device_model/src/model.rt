@@ -309,8 +309,8 @@ impl<S: SectorStore> Model<S> {
     }
 
     /// Does each IDENTIFY DEVICE of port 0 that can be done to its end, the lowest slot's first, unless the port is held. The page that one sends may
-    /// stand where another's bytes are, so they are looked for anew after each. One that can't be done to its end, or for which the tape has no memory,
-    /// is taken, and no more; the others wait for it.
+    /// stand where another's bytes are, so they are looked for anew after each. One that may be taken, and can't be done to its end, or for which the tape
+    /// has no memory, is taken, and no more; the others wait for it. Beside another command none is taken.
     fn identify(&mut self)
         ensures own { LeadsOwn (Identifies self.old.held) (device_at S.size S.told self.old) (device_at S.size S.told self.new) }
         ensures settled { (held : List Bool) → IsSettled held (device_at S.size S.told self.old) → IsSettled held (device_at S.size S.told self.new) }
@@ -481,7 +481,8 @@ impl<S: SectorStore> Adapter for Model<S> {
 
     /// Before the value is read, a pending reset ends unless all four ports are held, and ends all holds; and on each port that isn't
     /// held, CR and FR fall if they may, and the link comes up if it may. Then each IDENTIFY DEVICE of port 0 is done that can be done to
-    /// its end, and one that can't is taken, unless that port is held. A held port does nothing by itself.
+    /// its end, and one that can't, but may be taken, is taken, unless that port is held. A held port does nothing by itself until a reset
+    /// ends.
     fn read(&mut self, r: Reg) -> u32
         requires { MayRead r (device_at S.size S.told self.old) }
         ensures reads { Reads r result (device_at S.size S.told self.old) (device_at S.size S.told self.new) }

@@ -1,7 +1,7 @@
 -- What the accesses of calls are: those of a port's turn in a service one by one, and of what kind they are.
-use Rattle.std.proofs.Common.{ℕ, ◌≡◌, ◌≢◌, ◌⊎◌, ◌+◌, ◌≤◌, ◌<◌, ◌++◌, ◌==◌, ap, true, false, List, [], ◌∷◌, length, refl, sym, ◌∙◌, subst, inl, inr, arith, ⊎_elim}
+use Rattle.std.proofs.Common.{zero, suc, ℕ, ◌≡◌, ◌≢◌, ◌⊎◌, ◌+◌, ◌≤◌, ◌<◌, ◌++◌, ◌==◌, ap, true, false, List, [], ◌∷◌, length, refl, sym, ◌∙◌, subst, inl, inr, arith, ⊎_elim}
 use Rattle.std.specs.List.{All}
-use Rattle.std.proofs.lemmas.Bool.{cases_eq, false≢true}
+use Rattle.std.proofs.lemmas.Bool.{cases_Bool, cases_eq, false≢true}
 use Rattle.std.proofs.lemmas.Nat.Bits.{bit_at-zero}
 use Rattle.std.proofs.lemmas.List.Elements.{All-append, All-cons, All-nil}
 use Rattle.ata_types.specs.declared.Port.{Port}
@@ -23,7 +23,7 @@ use Rattle.agreement.specs.Facts.{RunsWell, Undisturbed}
 use Rattle.command_table.specs.Written.{IsTableStore}
 use Rattle.driver_history.specs.Histories.{IssuesOn}
 use Rattle.driver_history.specs.Trace.{IsDriversOwn, IsOfPorts, IsServing, LeavesCommand, LeavesEngine, ReadsMasks}
-use Rattle.server_history.specs.Served.{Checks, HasTurn, IsMaskOf, IsPlainIssuing, is_used}
+use Rattle.server_history.specs.Served.{Checks, HasNone, HasTurn, IsMaskOf, IsPlainIssuing, is_used}
 use Rattle.slots.specs.Uses.{Uses as PortSlots, use_at}
 use Rattle.server_history.proofs.Plain.{both_read, plain_serves}
 use Rattle.port_look.specs.Looks.{LooksAt}
@@ -86,9 +86,23 @@ IsBusy slots = (slot : ℕ) × (slot < 32) × (is_used (use_at slots slot) ≡ t
 pub bit_zero : (k : ℕ) → bit 0 k ≡ false
 bit_zero k = ap (λ (n : ℕ). n == 1) (bit_at-zero k)
 
--- so the mask isn't 0
-pub unmasked : (slots : PortSlots) (mask : ℕ) → IsMaskOf slots mask → mask ≡ 0 → IsBusy slots → ⊥
-unmasked slots mask its none busy = false≢true (sym (bit_zero busy.0) ∙ ap (λ (m : ℕ). bit m busy.0) (sym none) ∙ its busy.0 busy.1 ∙ busy.2)
+-- so the mask has its bit
+unmasked : (slots : PortSlots) (mask : ℕ) → IsMaskOf slots mask → HasNone mask → IsBusy slots → ⊥
+unmasked slots mask its none busy = false≢true (sym (none busy.0 busy.1) ∙ its busy.0 busy.1 ∙ busy.2)
+
+-- a mask has a bit of these, or it has none
+none_or_some : (n mask : ℕ) → ((slot : ℕ) → slot < n → bit mask slot ≡ false) ⊎ ((slot : ℕ) × (slot < n) × (bit mask slot ≡ true))
+none_or_some zero mask = inl (λ slot small. absurd (omega (arith, small)))
+none_or_some (suc n) mask = ⊎_elim
+    (λ (none : (slot : ℕ) → slot < n → bit mask slot ≡ false). ⊎_elim
+    (λ (here : bit mask n ≡ true). inr (n, omega arith, here))
+    (λ (clear : bit mask n ≡ false). inl (λ slot small. ⊎_elim
+    (λ (same : slot ≡ n). ap (bit mask) same ∙ clear)
+    (λ (other : slot ≢ n). none slot (omega (arith, small, other)))
+    (cases_eq slot n)))
+    (cases_Bool (bit mask n)))
+    (λ (some : (slot : ℕ) × (slot < n) × (bit mask slot ≡ true)). let small = some.1 in inr (some.0, omega (arith, small), some.2))
+    (none_or_some n mask)
 
 module _ (Such : Port → Type 0) (port : Port) (such : Such port) where
   -- a look, access by access
@@ -125,7 +139,7 @@ module _ (Such : Port → Type 0) (port : Port) (such : Such port) where
       masks = λ is busy. absurd (never is busy);
     }
 
-    module _ (calm : t.look ≡ Calm) (some : (t.calm calm).mask ≢ 0) where
+    module _ (calm : t.look ≡ Calm) (some : HasNone (t.calm calm).mask → ⊥) where
       abbrev c : Checks port slots (t.calm calm).mask replies t.seen new
       c = (t.calm calm).checks some
 
@@ -155,7 +169,7 @@ module _ (Such : Port → Type 0) (port : Port) (such : Such port) where
       unfolding checked_driven
       masks_there = record { before = early; later = more.accesses; here = refl; running = leaves }
 
-    checked : (calm : t.look ≡ Calm) → (t.calm calm).mask ≢ 0 → TurnList slots replies old new t
+    checked : (calm : t.look ≡ Calm) → (HasNone (t.calm calm).mask → ⊥) → TurnList slots replies old new t
     checked calm some = record {
       driven = checked_driven calm some;
       calm = λ _ _ _. calm;
@@ -171,8 +185,8 @@ module _ (Such : Port → Type 0) (port : Port) (such : Such port) where
     pub turn_list : TurnList slots replies old new t
     turn_list = ⊎_elim
         (λ (calm : t.look ≡ Calm). ⊎_elim
-        (λ (none : (t.calm calm).mask ≡ 0). looked ((t.calm calm).idle none) (λ _ busy. unmasked slots (t.calm calm).mask (t.calm calm).its none busy))
-        (λ (some : (t.calm calm).mask ≢ 0). checked calm some)
-        (cases_eq (t.calm calm).mask 0))
+        (λ (none : HasNone (t.calm calm).mask). looked ((t.calm calm).idle none) (λ _ busy. unmasked slots (t.calm calm).mask (t.calm calm).its none busy))
+        (λ some. checked calm (λ none. false≢true (sym (none some.0 some.1) ∙ some.2)))
+        (none_or_some 32 (t.calm calm).mask))
         (λ (told : t.look ≢ Calm). looked (t.told told) (λ is _. told is))
         (calm_or_not t.look)

@@ -61,7 +61,7 @@ use Rattle.driver_history.specs.Trace.{IsServing, LeavesCommand, ReadsMasks}
 use Rattle.driver_history.proofs.Calm.{untroubled}
 use Rattle.server_history.specs.Histories.{Adds, Leads}
 use Rattle.server_history.specs.Below.{LawsBelow}
-use Rattle.server_history.specs.Served.{AddsTurn, AnswersBy, Checks, HasEnded, IsMaskOf, IsTold, SameSettings, ServePorts, ServesPort, answers_in, done_reply, is_used}
+use Rattle.server_history.specs.Served.{AddsTurn, AnswersBy, Checks, HasEnded, IsMaskOf, IsAnsweredIn, SameSettings, ServePorts, ServesPort, answers_in, done_reply, is_used}
 use Rattle.server_history.specs.Server.{Server, IsKept, IsMachineOf, IsSettled, is_served, plain_mode, ports_of, slots_at, state_of}
 use Rattle.server_history.proofs.Coming.{IsBusy, IsTurn, TurnList, turn_leaves, turn_list, turn_serving}
 use Rattle.server_history.proofs.Asks.{none_due, none_issued, same_book}
@@ -281,7 +281,7 @@ module _ (laws : LawsBelow) (s : Server) (start : IsSettled s) (old : Moment) (r
           (record { well = well.well; undisturbed = parts.0 }, (services_well laws.looks q s.device c.device kept.on so_far parts.0 well.well, parts.1))
 
       -- where the port goes well, a request that had ended is told
-      ended_told : StaysHealthy n s.device mid.device → (e : Pending) → (h : IsLeading e) → e.ended ≡ true → IsTold h.has.used.id replies
+      ended_told : StaysHealthy n s.device mid.device → (e : Pending) → (h : IsLeading e) → e.ended ≡ true → IsAnsweredIn h.has.used.id replies
       ended_told well e h ended =
           let w = (well_parts (port_at n) well).1 in
           let clear = ended_clear e h ended in
@@ -336,7 +336,7 @@ module _ (laws : LawsBelow) (s : Server) (start : IsSettled s) (old : Moment) (r
           (λ (ne : q.0 ≢ n).
           let apart : q ≢ port_at n = λ same. ne (ap (λ (p : Port). p.0) same) in
           dues_carried laws p.steps all m (after m x.steps) q
-          (ap (of_port q) (same_book c.book m.book p.stands.book) ∙ sym (turn_apart laws (port_at n) replies c mid p.settled.kept.ordered serves.answers q apart) ∙ ap (of_port q) (sym (same_book mid.book (after m x.steps).book x.stands.book)))
+          (ap (of_port q) (same_book c.book m.book p.stands.book) ∙ sym (turn_apart laws (port_at n) replies c mid serves.turn p.settled.kept.ordered serves.answers q apart) ∙ ap (of_port q) (sym (same_book mid.book (after m x.steps).book x.stands.book)))
           (other_alike q apart) (p.due q))
           (cases_eq q.0 n))
 
@@ -348,7 +348,7 @@ module _ (laws : LawsBelow) (s : Server) (start : IsSettled s) (old : Moment) (r
           → Progress (n + 1) mid (before ++ replies)
       had_turn turns answers permuted ordered low told heeds here_finds = record {
         settled = next;
-        same = same_more s c mid p.same (turn_settings laws (port_at n) replies c mid serves.answers);
+        same = same_more s c mid p.same (turn_settings laws (port_at n) replies c mid serves.turn serves.answers);
         driven = record {
           accesses = p.driven.accesses ++ turn_is.driven.accesses;
           all = does_append p.driven.accesses turn_is.driven.accesses s.device c.device mid.device p.driven.all turn_is.driven.all;
@@ -388,7 +388,7 @@ module _ (laws : LawsBelow) (s : Server) (start : IsSettled s) (old : Moment) (r
         its_id : h.has.used.id ≡ e.request.id
         its_id = h.has.id_is ∙ ap (λ r. r.id) h.same_as.request
 
-        told_answered : IsTold h.has.used.id replies → IsAnsweredOk e all
+        told_answered : IsAnsweredIn h.has.used.id replies → IsAnsweredOk e all
         told_answered told =
             let b = x.answers in
             let r = map_in done_reply b.requests told.0 (subst (λ (list : List Reply). Contains list told.0) b.told told.1) in
@@ -406,7 +406,7 @@ module _ (laws : LawsBelow) (s : Server) (start : IsSettled s) (old : Moment) (r
             early_may : (b : AnswersBy (port_at n) replies x.steps) → AllMay m b.before × AllMay (after m b.before) (answers_in b.ended)
             early_may b = may_parts m (answers_in b.ended) b.before (may_parts m b.later (answers_in b.ended ++ b.before) (subst (AllMay m) b.steps_are x.may)).0
 
-        answered_told : e.request.port ≡ port_at n → IsAnsweredOk e all → IsTold h.has.used.id replies
+        answered_told : e.request.port ≡ port_at n → IsAnsweredOk e all → IsAnsweredIn h.has.used.id replies
         answered_told own ok = ⊎_elim
             (λ late.
             let b = x.answers in

@@ -46,7 +46,7 @@ use Rattle.request_queue.specs.Entries.{Held, asks_of, due_ids}
 use Rattle.slots.specs.Uses.{Uses as PortSlots}
 use Rattle.slots.specs.declared.Use.{Use as SlotUse}
 use Rattle.server_history.specs.Below.{LawsBelow}
-use Rattle.server_history.specs.Served.{AddsTurn, AnswersDone, AnswersEach, AnswersOne, HasNone, HasTurn, IsMaskOf, IsPlainIssuing, IsTold, ServesPort, answers_in, done_reply, is_used}
+use Rattle.server_history.specs.Served.{AddsTurn, AnswersDone, AnswersEach, AnswersOne, HasNone, HasTurn, IsMaskOf, IsPlainIssuing, IsAnsweredIn, ServesPort, answers_in, done_reply, is_used}
 use Rattle.server_history.specs.Server.{Server, IsKept, IsMachineOf, IsSettled, none_parked, plain_mode, slots_at, state_of, used_for, with_slot}
 use Rattle.server_history.proofs.Answering.{answer_kept}
 use Rattle.server_history.proofs.Asks.{none_issued}
@@ -236,12 +236,12 @@ module _ (s : Server) (seen : Device) (port : Port) (t : IsSettled s) (ready : s
           seen = seen;
           looks = l;
           told = λ trouble. absurd (trouble refl);
-          calm = λ _. record { mask = 0; its = its; idle = λ _. (refl, refl); checks = λ some. absurd (some refl) };
+          calm = λ _. record { mask = 0; its = its; idle = λ _. (refl, refl); checks = λ some. absurd (some (λ slot small. bit_zero slot)) };
         })
         (looks_serve port s.device seen looks)
         (λ well calm slot used small is ci sact. false≢true (sym (bit_zero slot) ∙ its slot small ∙ ap is_used is))
 
-    module _ (laws : LawsBelow) (mask : ℕ) (its : IsMaskOf (slots_at s.slots port.0) mask) (some : mask ≢ 0) where
+    module _ (laws : LawsBelow) (mask : ℕ) (its : IsMaskOf (slots_at s.slots port.0) mask) (some : HasNone mask → ⊥) where
       -- a used slot is asked for
       asked : (slot : ℕ) (used : SlotUse) → slot < 32 → used_for s.slots port.0 slot ≡ Some used → bit mask slot ≡ true
       asked slot used small is = its slot small ∙ ap is_used is
@@ -356,10 +356,10 @@ module _ (s : Server) (seen : Device) (port : Port) (t : IsSettled s) (ready : s
         last_issues = subst (λ (d : Device). IsDrivenBy (IsPlainIssuing port) d new.device) mid_device (each_driven laws port ids a.mid new a.issued)
 
         -- a request is told exactly if its slot was found done
-        told_of : (e : Held) → Contains a.requests e → IsTold e.entry.id replies
+        told_of : (e : Held) → Contains a.requests e → IsAnsweredIn e.entry.id replies
         told_of e here = (done_reply e, subst (λ (list : List Reply). Contains list (done_reply e)) (sym a.told) (into_map done_reply a.requests e here), refl)
 
-        exactly : (slot : ℕ) (used : SlotUse) → slot < 32 → used_for s.slots port.0 slot ≡ Some used → bit done slot ≡ true ↔ IsTold used.id replies
+        exactly : (slot : ℕ) (used : SlotUse) → slot < 32 → used_for s.slots port.0 slot ≡ Some used → bit done slot ≡ true ↔ IsAnsweredIn used.id replies
         exactly slot used small is = (
           (λ found_done.
               let e = done_told laws port low done a.requests from a.mid found_kept ready over a.each a.free slot used small found_done is in
@@ -399,7 +399,7 @@ module _ (s : Server) (seen : Device) (port : Port) (t : IsSettled s) (ready : s
               };
             };
           };
-          answers = inr (found, done, a);
+          answers = inr (refl, some, a);
           adds = turn_adds;
           answered = λ well calm slot used small is ci sact.
               let c = still_clear s port k ready slot laws.looks seen looks.driven used is ci sact in

@@ -22,8 +22,8 @@ use Rattle.host_boot.specs.Taken.{found_of}
 use Rattle.host_boot.specs.declared.Found.{Found}
 use Rattle.request_queue.specs.Entries.{Held, IsInOrder, asks, asks_of, due_ids}
 use Rattle.server_history.specs.Below.{LawsBelow}
-use Rattle.server_history.specs.Served.{AnswersDone, AnswersEach, AnswersOne, AnswersTurn, HasEnded, SameSettings, answers_in}
-use Rattle.server_history.specs.Server.{Server, IsKept, IsMachineOf, IsSettled, plain_mode, state_of}
+use Rattle.server_history.specs.Served.{AnswersDone, AnswersEach, AnswersOne, AnswersTurn, HasEnded, HasTurn, SameSettings, answers_in}
+use Rattle.server_history.specs.Server.{Server, IsKept, IsMachineOf, IsSettled, plain_mode, slots_at, state_of}
 use Rattle.server_history.proofs.Answering.{IsAnswer, answer_kept, answer_one}
 use Rattle.server_history.proofs.Rounds.{each_apart, each_settings, settled}
 use Rattle.dma_frames.specs.Table.{Table}
@@ -111,20 +111,23 @@ pub same_more : (a b c : Server) → SameSettings a b → SameSettings b c → S
 same_more a b c first then = then ∙ ap (λ (x : Server). record x { device = c.device; table = c.table; slots = c.slots; book = c.book }) first
 
 -- what a turn leaves of the server
-pub turn_settings : LawsBelow → (port : Port) (replies : List Reply) (old new : Server) → AnswersTurn port replies old new → SameSettings old new
-turn_settings laws port replies old new (inl (none, is)) = is ∙ ap (λ (n : Server). record old { device = n.device; table = n.table; slots = n.slots; book = n.book }) (sym is)
-turn_settings laws port replies old new (inr (found, done, a)) =
+pub turn_settings : LawsBelow → (port : Port) (replies : List Reply) (old new : Server) (turn : HasTurn port (slots_at old.slots port.0) replies old.device new.device) → AnswersTurn port replies old new turn
+    → SameSettings old new
+turn_settings laws port replies old new turn (inl (none, is)) = is ∙ ap (λ (n : Server). record old { device = n.device; table = n.table; slots = n.slots; book = n.book }) (sym is)
+turn_settings laws port replies old new turn (inr (calm, some, a)) =
+    let c = (turn.calm calm).checks some in
     each_settings laws port (due_ids plain_mode port (asks_of a.mid.book)) a.mid new a.issued
-    ∙ ap (λ (n : Server). record n { device = new.device; slots = new.slots; book = new.book }) (answers_settings laws port done a.requests (record old { device = found }) a.mid a.each)
+    ∙ ap (λ (n : Server). record n { device = new.device; slots = new.slots; book = new.book }) (answers_settings laws port c.done a.requests (record old { device = c.read }) a.mid a.each)
     ∙ ap (λ (table : Table). record old { device = new.device; table = table; slots = new.slots; book = new.book }) (sym table_is)
   where
     table_is : new.table ≡ a.mid.table
     table_is = ap (λ (n : Server). n.table) (each_settings laws port (due_ids plain_mode port (asks_of a.mid.book)) a.mid new a.issued)
 
 -- and of the requests of another port
-pub turn_apart : LawsBelow → (port : Port) (replies : List Reply) (old new : Server) → IsInOrder old.book → AnswersTurn port replies old new → (other : Port) → other ≢ port
-    → of_port other (asks_of new.book) ≡ of_port other (asks_of old.book)
-turn_apart laws port replies old new order (inl (none, is)) other ne = ap (λ (n : Server). of_port other (asks_of n.book)) is
-turn_apart laws port replies old new order (inr (found, done, a)) other ne =
-    each_apart laws port (due_ids plain_mode port (asks_of a.mid.book)) a.mid new (answers_order laws port done a.requests (record old { device = found }) a.mid order a.each) a.issued other ne
-    ∙ answers_apart laws port done a.requests (record old { device = found }) a.mid order a.each other ne
+pub turn_apart : LawsBelow → (port : Port) (replies : List Reply) (old new : Server) (turn : HasTurn port (slots_at old.slots port.0) replies old.device new.device) → IsInOrder old.book
+    → AnswersTurn port replies old new turn → (other : Port) → other ≢ port → of_port other (asks_of new.book) ≡ of_port other (asks_of old.book)
+turn_apart laws port replies old new turn order (inl (none, is)) other ne = ap (λ (n : Server). of_port other (asks_of n.book)) is
+turn_apart laws port replies old new turn order (inr (calm, some, a)) other ne =
+    let c = (turn.calm calm).checks some in
+    each_apart laws port (due_ids plain_mode port (asks_of a.mid.book)) a.mid new (answers_order laws port c.done a.requests (record old { device = c.read }) a.mid order a.each) a.issued other ne
+    ∙ answers_apart laws port c.done a.requests (record old { device = c.read }) a.mid order a.each other ne

@@ -1,4 +1,4 @@
--- What the laws of the crates below say of requests and of transfers: the laws of this crate rest on them.
+-- What laws of the crates below say of requests, of transfers, and of accesses that serve ports: the laws of this crate rest on them.
 use Rattle.std.specs.Prelude.{ℕ, ◌≡◌, ◌≢◌, ◌≤◌, ◌<◌, ◌↔◌, List, [], ◌∷◌, ◌++◌, map, Option, None, All, Contains}
 use Rattle.ata_types.specs.declared.Port.{Port}
 use Rattle.ata_types.specs.declared.grant.GrantRow.{GrantRow}

@@ -64,8 +64,8 @@ abbrev pub HasNone : ℕ → Type 0
 HasNone mask = (slot : ℕ) → slot < 32 → bit mask slot ≡ false
 
 -- a reply names the request
-abbrev pub IsTold : RequestId → List Reply → Type 0
-IsTold id replies = (reply : Reply) × Contains replies reply × (reply.id ≡ id)
+abbrev pub IsAnsweredIn : RequestId → List Reply → Type 0
+IsAnsweredIn id replies = (reply : Reply) × Contains replies reply × (reply.id ≡ id)
 
 -- PxCI and PxSACT were read, which tell which slots of the mask are done. A used slot's request was answered exactly if its slot was found done;
 -- where none was, nobody was answered, and that was all. Of accesses, only those followed that issue requests of the port's, if any.
@@ -73,16 +73,16 @@ pub record Checks (port : Port) (slots : PortSlots) (mask : ℕ) (replies : List
   pub done : ℕ
   pub read : Device
   pub reads : FindsDone port mask done old read
-  pub exact : (slot : ℕ) (used : SlotUse) → slot < 32 → use_at slots slot ≡ Some used → bit done slot ≡ true ↔ IsTold used.id replies
+  pub exact : (slot : ℕ) (used : SlotUse) → slot < 32 → use_at slots slot ≡ Some used → bit done slot ≡ true ↔ IsAnsweredIn used.id replies
   pub running : HasNone done → (replies ≡ []) × (new ≡ read)
   pub over : IsDrivenBy (IsPlainIssuing port) read new
 
--- The slots that are used were checked. Where none is, nobody was answered, and that was all.
+-- The slots that are used were checked. Where none is, nothing was read, nobody was answered, and that was all.
 pub record ChecksUsed (port : Port) (slots : PortSlots) (replies : List Reply) (old new : Device) : Type 0 where
   pub mask : ℕ
   pub its : IsMaskOf slots mask
-  pub idle : mask ≡ 0 → (replies ≡ []) × (new ≡ old)
-  pub checks : mask ≢ 0 → Checks port slots mask replies old new
+  pub idle : HasNone mask → (replies ≡ []) × (new ≡ old)
+  pub checks : (HasNone mask → ⊥) → Checks port slots mask replies old new
 
 -- A port's turn in a service. The port was looked at. Where that told of something, that was all, and nobody was answered; else the slots that it
 -- uses were checked.
@@ -196,10 +196,13 @@ pub record AnswersDone (port : Port) (done : ℕ) (replies : List Reply) (old ne
   pub free : (slot : ℕ) → slot < 32 → bit done slot ≡ true → used_for mid.slots port.0 slot ≡ None
   pub issued : IssuesAll port mid new
 
--- Nobody was answered, and nothing but the device changed; or what was found done was, at this moment of the device.
-abbrev pub AnswersTurn : Port → List Reply → Server → Server → Type 0
-AnswersTurn port replies old new = ((replies ≡ []) × (new ≡ record old { device = new.device }))
-    ⊎ ((found : Device) × (done : ℕ) × AnswersDone port done replies (record old { device = found }) new)
+-- Nobody was answered in the turn, and nothing but the device changed; or what was found done in it was, from the moment on when the masks
+-- had been read.
+abbrev pub AnswersTurn : (port : Port) (replies : List Reply) (old new : Server) → HasTurn port (slots_at old.slots port.0) replies old.device new.device → Type 0
+AnswersTurn port replies old new turn =
+    ((replies ≡ []) × (new ≡ record old { device = new.device }))
+    ⊎ ((calm : turn.look ≡ Calm) × (some : HasNone (turn.calm calm).mask → ⊥)
+    × AnswersDone port ((turn.calm calm).checks some).done replies (record old { device = ((turn.calm calm).checks some).read }) new)
 
 -- ---- as the machine has it
 
@@ -222,7 +225,7 @@ pub record HasEnded (port : Port) (request : Held) (done : Pending) : Type 0 whe
   pub ended : done.ended ≡ true
   pub touched : AllTouched done
 
--- The steps are the device's, then the answers of these requests, which had ended, and then the device's but for the issues of others of the
+-- The steps are the device's, then the answers of these requests, which had ended, and then the device's but for the issues of requests of the
 -- port.
 pub record AnswersBy (port : Port) (replies : List Reply) (steps : List Step) : Type 0 where
   pub requests : List Held
@@ -249,10 +252,10 @@ pub record AddsTurn (port : Port) (replies : List Reply) (old new : Server) (m :
 -- stands for the old server such steps lead to one that stands for the new. On a port that goes well, each is whose command's bits were clear when the turn began.
 pub record ServesPort (port : Port) (replies : List Reply) (old new : Server) : Type 0 where
   pub turn : HasTurn port (slots_at old.slots port.0) replies old.device new.device
-  pub answers : AnswersTurn port replies old new
+  pub answers : AnswersTurn port replies old new turn
   pub adds : (m : Machine) → IsReached m → IsMachineOf old m → AddsTurn port replies old new m
   pub answered : RunsWell (old.device.port port.0) → Undisturbed port.0 old.device new.device → (slot : ℕ) (used : SlotUse) → slot < 32
-      → used_for old.slots port.0 slot ≡ Some used → (old.device.port port.0).ci slot ≡ false → (old.device.port port.0).sact slot ≡ false → IsTold used.id replies
+      → used_for old.slots port.0 slot ≡ Some used → (old.device.port port.0).ci slot ≡ false → (old.device.port port.0).sact slot ≡ false → IsAnsweredIn used.id replies
 
 -- so it was with each of these ports that was found ready, one after another, of which the first has this number
 abbrev pub ServePorts : ℕ → List Found → List Reply → Server → Server → Type 0

@@ -1,4 +1,4 @@
-// Laws of the definitions, for callers: the clause is the theorem. These functions do nothing.
+// Laws of the definitions, for callers: the clause is the theorem. Nothing comes of calling these functions.
 ghost use Rattle.std.specs.Prelude.{ℕ, true, false, ◌≡◌, ◌≢◌, ◌⊎◌, ◌<◌, ◌+◌, ◌*◌, List, [], ◌∷◌, Some, None, Ok, Err, length, Contains};
 ghost use Rattle.ata_types.specs.declared.Port.{Port};
 ghost use Rattle.ata_types.specs.declared.PortState.TheVariants.{Ready as ReadyState};
@@ -171,7 +171,7 @@ pub fn a_finished_port_settles()
 }
 
 /// A server goes on while its port is looked at, and while what the port has issued is looked for. The commands of slots that were found done
-/// are over, where only used slots were asked for.
+/// are over, where the used slots were asked for, and no other.
 pub fn looks_keep()
     ensures looking { (s : Server) (new : Device) (port : Port) → IsKept s → state_of (found_of s.ports port.0) ≡ ReadyState
         → IsFollowed (IsLooking port) AnyUse s.device new
@@ -196,12 +196,12 @@ pub fn a_port_is_served()
         → ServesPort port [] s (record s { device = seen }) }
     ensures unfinished { (s : Server) (seen new : Device) (port : Port) (mask : ℕ) → IsSettled s → state_of (found_of s.ports port.0) ≡ ReadyState
         → LooksAt port Calm s.device seen → IsFollowed (IsLooking port) AnyUse s.device seen → IsMaskOf (slots_at s.slots port.0) mask
-        → mask ≢ 0 → (done : ℕ) → FindsDone port mask done seen new → SeesClear port mask done seen → HasNone done
+        → (HasNone mask → ⊥) → (done : ℕ) → FindsDone port mask done seen new → SeesClear port mask done seen → HasNone done
         → ServesPort port [] s (record s { device = new }) }
     ensures finished { (s new : Server) (seen found : Device) (port : Port) (mask done : ℕ) (replies : List Reply) → IsSettled s
         → state_of (found_of s.ports port.0) ≡ ReadyState
         → LooksAt port Calm s.device seen → IsFollowed (IsLooking port) AnyUse s.device seen → IsMaskOf (slots_at s.slots port.0) mask
-        → mask ≢ 0 → FindsDone port mask done seen found → SeesClear port mask done seen → (HasNone done → ⊥)
+        → (HasNone mask → ⊥) → FindsDone port mask done seen found → SeesClear port mask done seen → (HasNone done → ⊥)
         → AnswersDone port done replies (record s { device = found }) new → ServesPort port replies s new }
 {
     the_laws_below_hold();
