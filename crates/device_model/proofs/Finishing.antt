@@ -172,12 +172,12 @@ pub holds : (h : Hardware) (o : Outside) (port slot : ℕ) (t : Taken) (operatio
     (r : TakenCommand) × HoldsAt (slice_index_or h.ports port blank) slot r × (t ≡ taken_of r)
 holds h o port slot t operation works =
     let p : PortModel = slice_index_or h.ports port blank in
-    let w = taken_slot (held_in p.taken.slots) slot t works.taken in (
+    let w = taken_slot (held_in p.taken) slot t works.taken in (
       w.0,
       record {
         held = w.1;
         works = λ m. record {
-          taken = slot_taken (held_in p.taken.slots) w.0 slot w.1;
+          taken = slot_taken (held_in p.taken) w.0 slot w.1;
           working = record {
             running = works.working.running;
             present = works.working.present;

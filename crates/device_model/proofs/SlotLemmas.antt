@@ -2,18 +2,20 @@
 use Rattle.std.proofs.Common.{ℕ, zero, suc, ◌≡◌, ◌<◌, List, Option, None, Some, length, replicate, refl, sym, ◌∙◌, ap, inl, inr, get_or-set_same, get_or-set_other}
 use Rattle.std.specs.Prelude.{option_map, slice_index_or, slice_set}
 use Rattle.std.proofs.lemmas.Bool.Decides.{eqb_tells}
+use Rattle.std.proofs.lemmas.List.{get_or_default}
 use Rattle.adapter.specs.Device.{Taken}
 use Rattle.adapter.specs.Memory.{changed}
 use Rattle.adapter.specs.Steps.{begun}
 use Rattle.adapter.proofs.Changed.{fun_ext, changed_same, changed_other}
-use Rattle.device_model.specs.View.{held_in, slots_of, taken_of}
+use Rattle.device_model.specs.View.{held_in, slots_of, taken_of, blank}
+use Rattle.device_model.specs.declared.port.PortModel.{PortModel}
 use Rattle.device_model.specs.declared.port.TakenCommand.{TakenCommand}
 
 -- what is in a slot of the list is what was put there
 pub set_slot : (items : List (Option TakenCommand)) (slot : ℕ) (new : Option TakenCommand) → slot < length items →
-    (λ k. slice_index_or (slice_set items slot new) k None) ≡ changed (λ k. slice_index_or items k None) slot new
+    held_in (slice_set items slot new) ≡ changed (held_in items) slot new
 set_slot items slot new small =
-    let was : ℕ → Option TakenCommand = λ k. slice_index_or items k None in
+    let was : ℕ → Option TakenCommand = held_in items in
     fun_ext (λ k.
     elim (eqb_tells k slot) [
       | inl here ↦ rw here.1 (get_or-set_same items slot new None small ∙ sym (changed_same was slot new))
@@ -65,3 +67,7 @@ none_held n = fun_ext (by n)
     by zero k = refl
     by (suc m) zero = refl
     by (suc m) (suc k) = by m k
+
+-- a port that is there, whatever would stand for one that isn't
+pub at_port : (ports : List PortModel) (p : ℕ) (any : PortModel) → p < length ports → slice_index_or ports p any ≡ slice_index_or ports p blank
+at_port ports p any there = get_or_default ports p any blank there

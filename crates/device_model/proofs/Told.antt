@@ -35,7 +35,7 @@ fetched_takes old h o port slot f =
     ap (λ (d : Device). (d.port port).taken slot) f.effect
     ∙ (ap (λ p. p.taken slot) (changed_same old.port port (with_fetch (old.port port) slot f.meaning f.places))
     ∙ changed_same (old.port port).taken slot (Some t)) in
-    let w = taken_slot (held_in (slice_index_or h.ports port blank).taken.slots) slot t taken in
+    let w = taken_slot (held_in (slice_index_or h.ports port blank).taken) slot t taken in
     let P : Taken → Type 0 = λ x. Takes x.meaning.operation in
     subst P (sym w.2) (is_taken w.0.transfer)
 

@@ -22,7 +22,7 @@ MayTakeSome p slot = (m : Media) (operation : Operation) → IsFetchable (port_o
 
 -- the port works on this command, which it has taken in this slot
 pub record HoldsAt (p : PortModel) (slot : ℕ) (t : TakenCommand) : Type 0 where
-  pub held : held_in p.taken.slots slot ≡ Some t
+  pub held : held_in p.taken slot ≡ Some t
   pub works : (m : Media) → WorksOn (port_of p m) slot (taken_of t) (operation_of t.transfer)
 
 -- the next piece of this command goes to or from this address, and is this sector, if it is one

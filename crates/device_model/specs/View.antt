@@ -74,7 +74,7 @@ taken_of t =
       cleared = 0;
     }
 
--- what is in each slot of a list of them
+-- what is in each slot, of a list of them
 abbrev pub held_in : List (Option TakenCommand) → ℕ → Option TakenCommand
 held_in slots = λ slot. slice_index_or slots slot None
 
@@ -116,7 +116,7 @@ port_of p m =
       link_due = p.link_due;
       halt = NotHalted;
       broken = false;
-      taken = slots_of (held_in p.taken.slots);
+      taken = slots_of (held_in p.taken);
       notes = notes_of p.readings;
     }
 
@@ -146,7 +146,7 @@ blank =
       present = false;
       fresh = false;
       link_due = false;
-      taken = record { slots = [] };
+      taken = [];
       readings = record {
         st_set_at = 0;
         sctl_written_at = 0;

@@ -88,14 +88,13 @@ impl<S: SectorStore> Model<S> {
         requires depth { (1 ≤ config.depth) × (config.depth ≤ 32) }
         ensures { IfOk result (IsNewModel S.size S.told config disk0 disk1) }
     {
+        let port0 = PortModel::new(alloc, true)?;
+        let port1 = PortModel::new(alloc, false)?;
+        let port2 = PortModel::new(alloc, false)?;
+        let port3 = PortModel::new(alloc, false)?;
         let hardware = Hardware {
             memory: vec![in alloc; 0u8; FRAME_BYTES as usize * usize::from(config.frames)]?,
-            ports: [
-                PortModel::new(true),
-                PortModel::new(false),
-                PortModel::new(false),
-                PortModel::new(false),
-            ],
+            ports: [port0, port1, port2, port3],
             cap: capabilities(config.pi, config.slots, config.ncq),
             pi: u32::from(config.pi),
             hr: false,

@@ -1,5 +1,5 @@
 // One port of the model.
-ghost use Rattle.std.specs.Prelude.{◌≡◌, unwrap_or};
+ghost use Rattle.std.specs.Prelude.{◌≡◌, unwrap_or, IfOk};
 ghost use Rattle.adapter.specs.Commands.{direction_of, is_queued, pieces_moved, reads_memory};
 ghost use Rattle.adapter.specs.Idle.{IsIdlePort};
 ghost use Rattle.device_model.specs.Modelled.{IsReset};
@@ -7,6 +7,7 @@ ghost use Rattle.device_model.specs.View.{Media, cause_of, operation_of, port_of
 
 use crate::taken::TakenCommands;
 use adapter::{Direction, Operation, Prd};
+use std::alloc::{AllocError, Global};
 
 /// Where the driver has put the command list and the received FIS area, and which of these registers it has written.
 #[derive(Clone, Copy, Debug, Default)]
@@ -161,12 +162,13 @@ pub struct PortModel {
 
 impl PortModel {
     /// A port as after a reset, with a disk or without.
-    pub fn new(present: bool) -> PortModel
-        ensures idle { (m : Media) → IsIdlePort (port_of result m) }
-        ensures present { result.present ≡ present }
-        ensures reset { (m : Media) → IsReset (port_of result m) }
+    pub fn new(alloc: Global, present: bool) -> Result<PortModel, AllocError>
+        ensures idle { IfOk result (λ p. (m : Media) → IsIdlePort (port_of p m)) }
+        ensures present { IfOk result (λ p. p.present ≡ present) }
+        ensures reset { IfOk result (λ p. (m : Media) → IsReset (port_of p m)) }
     {
-        PortModel {
+        let taken = TakenCommands::new(alloc)?;
+        Ok(PortModel {
             addresses: Addresses::default(),
             st: false,
             fre: false,
@@ -185,9 +187,9 @@ impl PortModel {
             present,
             fresh: false,
             link_due: false,
-            taken: TakenCommands::new(),
+            taken,
             readings: Readings::default(),
-        }
+        })
     }
 
     /// PxTFD (AHCI 1.3.1, 3.3.8).

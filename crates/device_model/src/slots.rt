@@ -28,8 +28,8 @@ impl PortModel {
     /// A piece of a slot's command was moved.
     pub fn advance(&mut self, slot: u8)
         requires slot { slot < 32 }
-        requires room { IfSome (held_in self.old.taken.slots slot) (λ t. t.moved + 1 < 2 ^ 32) }
-        ensures { (m : Media) (t : TakenCommand) (bytes : List ℕ) → held_in self.old.taken.slots slot ≡ Some t →
+        requires room { IfSome (held_in self.old.taken slot) (λ t. t.moved + 1 < 2 ^ 32) }
+        ensures { (m : Media) (t : TakenCommand) (bytes : List ℕ) → held_in self.old.taken slot ≡ Some t →
             port_of self.new (media_after m (taken_of t) bytes) ≡ with_move (port_of self.old m) slot (taken_of t) bytes }
     {
         self.taken.add_moved(slot);

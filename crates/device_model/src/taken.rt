@@ -1,36 +1,51 @@
 // The commands that a port has taken.
-ghost use Rattle.std.specs.Prelude.{◌≡◌, ◌<◌, ◌+◌, ◌^◌, ◌↔◌, ℕ, IsTrue, IfSome, None, Some, true, length};
+ghost use Rattle.std.specs.Prelude.{◌≡◌, ◌<◌, ◌+◌, ◌^◌, ◌↔◌, ℕ, IsTrue, IfOk, IfSome, None, Some, true, length};
 ghost use Rattle.adapter.specs.Commands.{is_queued};
 ghost use Rattle.adapter.specs.Memory.{changed};
 ghost use Rattle.device_model.specs.View.{held_in, operation_of};
 ghost use Rattle.device_model.specs.declared.port.TakenCommand.{TakenCommand};
 
 use crate::port::TakenCommand;
+use std::alloc::{AllocError, Global};
+use std::marker::Model;
 
 /// How many slots a command list has at the most (AHCI 1.3.1, 4.2.2).
 const SLOTS: usize = 32;
 
-/// The commands that a port has taken, each in its slot.
+/// The commands that a port has taken, each in its slot. Their memory is found once, as they are made.
 #[derive(Debug, Drop)]
 pub struct TakenCommands {
-    slots: [Option<TakenCommand>; SLOTS],
+    slots: Vec<Option<TakenCommand>>,
+}
+
+impl Model for TakenCommands {
+    ghost use Rattle.std.specs.Prelude.{◌≡◌, List, Option, length};
+    ghost use Rattle.device_model.specs.declared.port.TakenCommand.{TakenCommand};
+
+    ghost Value = { List (Option TakenCommand) };
+
+    ghost view = { λ s. s.slots.items };
+
+    ghost invariant = { λ s. length s.slots.items ≡ 32 };
 }
 
 impl TakenCommands {
     /// None is taken.
-    pub fn new() -> TakenCommands
-        ensures { held_in result.slots ≡ (λ slot. None) }
+    pub fn new(alloc: Global) -> Result<TakenCommands, AllocError>
+        ensures { IfOk result (λ taken. held_in taken ≡ (λ slot. None)) }
     {
-        TakenCommands {
-            slots: [None; SLOTS],
+        let mut slots = Vec::with_capacity(alloc, SLOTS)?;
+        for _slot in 0..SLOTS {
+            slots.push(None)?;
         }
+        Ok(TakenCommands { slots })
     }
 
     /// The command that is taken in a slot.
     pub fn get(&self, slot: u8) -> Option<&TakenCommand>
         requires { slot < 32 }
-        ensures found { IfSome result (λ command. held_in self.now.slots slot ≡ Some command.now) }
-        ensures none { result ≡ None → held_in self.now.slots slot ≡ None }
+        ensures found { IfSome result (λ command. held_in self.now slot ≡ Some command.now) }
+        ensures none { result ≡ None → held_in self.now slot ≡ None }
     {
         self.slots[usize::from(slot)].as_ref()
     }
@@ -38,7 +53,7 @@ impl TakenCommands {
     /// A command is taken in a slot.
     pub fn put(&mut self, slot: u8, command: TakenCommand)
         requires { slot < 32 }
-        ensures { held_in self.new.slots ≡ changed (held_in self.old.slots) slot (Some command) }
+        ensures { held_in self.new ≡ changed (held_in self.old) slot (Some command) }
     {
         self.slots[usize::from(slot)] = Some(command);
     }
@@ -46,8 +61,8 @@ impl TakenCommands {
     /// One more piece of a slot's command was moved.
     pub fn add_moved(&mut self, slot: u8)
         requires slot { slot < 32 }
-        requires room { IfSome (held_in self.old.slots slot) (λ t. t.moved + 1 < 2 ^ 32) }
-        ensures { (t : TakenCommand) → held_in self.old.slots slot ≡ Some t → held_in self.new.slots ≡ changed (held_in self.old.slots) slot (Some (record t { moved = t.moved + 1 })) }
+        requires room { IfSome (held_in self.old slot) (λ t. t.moved + 1 < 2 ^ 32) }
+        ensures { (t : TakenCommand) → held_in self.old slot ≡ Some t → held_in self.new ≡ changed (held_in self.old) slot (Some (record t { moved = t.moved + 1 })) }
     {
         count_move(&mut self.slots[usize::from(slot)]);
     }
@@ -56,7 +71,7 @@ impl TakenCommands {
     #[inline(never)]
     pub fn remove(&mut self, slot: u8)
         requires { slot < 32 }
-        ensures { held_in self.new.slots ≡ changed (held_in self.old.slots) slot None }
+        ensures { held_in self.new ≡ changed (held_in self.old) slot None }
     {
         self.slots[usize::from(slot)] = None;
     }
@@ -64,7 +79,7 @@ impl TakenCommands {
     /// No command is taken any more.
     #[inline(never)]
     pub fn clear(&mut self)
-        ensures { held_in self.new.slots ≡ (λ slot. None) }
+        ensures { held_in self.new ≡ (λ slot. None) }
     {
         for slot in 0..SLOTS {
             self.slots[slot] = None;
@@ -73,14 +88,14 @@ impl TakenCommands {
 
     /// Whether none is taken.
     pub fn is_empty(&self) -> bool
-        ensures { IsTrue result ↔ ((slot : ℕ) → held_in self.now.slots slot ≡ None) }
+        ensures { IsTrue result ↔ ((slot : ℕ) → held_in self.now slot ≡ None) }
     {
         are_empty(&self.slots)
     }
 
     /// Whether each that is taken is queued.
     pub fn are_queued(&self) -> bool
-        ensures { IsTrue result ↔ ((slot : ℕ) (t : TakenCommand) → held_in self.now.slots slot ≡ Some t → is_queued (operation_of t.transfer) ≡ true) }
+        ensures { IsTrue result ↔ ((slot : ℕ) (t : TakenCommand) → held_in self.now slot ≡ Some t → is_queued (operation_of t.transfer) ≡ true) }
     {
         hold_queued(&self.slots)
     }

@@ -2,6 +2,7 @@ use Rattle.std.proofs.Common.{rules, ◌<◌, ◌≤◌, length}
 use Rattle.adapter.specs.Steps.{with_reset}
 use Rattle.device_model.proofs.EachPort.{none_done, change_port, all_done}
 use Rattle.device_model.proofs.GoingOn.{blank_reset}
+use Rattle.device_model.proofs.SlotLemmas.{at_port}
 use Rattle.device_model.proofs.hardware.reset_all.Goals as goal
 
 pub loop-port-init : goal.loop-port-init
@@ -10,7 +11,8 @@ loop-port-init c = none_done (λ _. with_reset) c.args.ports.now
 pub loop-port-preserved : goal.loop-port-preserved
 loop-port-preserved c =
     let small : c.loop-port.port < length c.loop-port.ports = search rules in
-    change_port (λ _. with_reset) c.args.ports.now c.loop-port.ports c.loop-port.port c.reset.new.self small c.reset.ensures c.loop-port.invariant
+    change_port (λ _. with_reset) c.args.ports.now c.loop-port.ports c.loop-port.port c.reset.new.self small
+    (rw (at_port c.loop-port.ports c.loop-port.port c.index-ports-port.result small) at c.reset.ensures) c.loop-port.invariant
 
 pub returns-clause-size : goal.returns-clause-size
 returns-clause-size c = c.loop-port.invariant.size

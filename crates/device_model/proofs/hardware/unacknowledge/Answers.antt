@@ -3,6 +3,7 @@ use Rattle.std.specs.Prelude.{if◌then◌else◌}
 use Rattle.adapter.specs.Access.{unacknowledged}
 use Rattle.device_model.specs.View.{Media, acknowledging, port_of, blank}
 use Rattle.device_model.proofs.EachPort.{none_done, skip_port, change_port, all_done}
+use Rattle.device_model.proofs.SlotLemmas.{at_port}
 use Rattle.device_model.proofs.hardware.unacknowledge.Goals as goal
 use Rattle.device_model.proofs.hardware.unacknowledge.Goals.{then-is_set, else-is_set}
 
@@ -17,7 +18,7 @@ loop-port-preserved c =
       | then-is_set w ↦
           let one = sym c.is_set.ensures ∙ w.if-is_set.true in
           rw w.ports-is
-          (change_port f c.args.ports.now c.loop-port.ports c.loop-port.port w.unacknowledge.new.self small (λ m. rw one (w.unacknowledge.ensures m))
+          (change_port f c.args.ports.now c.loop-port.ports c.loop-port.port w.unacknowledge.new.self small (λ m. rw one (rw (at_port c.loop-port.ports c.loop-port.port w.index-ports-port.result small) at (w.unacknowledge.ensures m)))
           c.loop-port.invariant)
       | else-is_set w ↦
           let zero = sym c.is_set.ensures ∙ w.if-is_set.false in

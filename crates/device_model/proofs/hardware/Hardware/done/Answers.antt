@@ -8,6 +8,7 @@ use Rattle.device_model.specs.declared.hardware.Hardware.{Hardware}
 use Rattle.device_model.specs.declared.port.TakenCommand.{TakenCommand}
 use Rattle.device_model.proofs.Finishing.{holds}
 use Rattle.device_model.proofs.Stepping.{may_end, port_ends}
+use Rattle.device_model.proofs.SlotLemmas.{at_port}
 use Rattle.device_model.proofs.hardware.Hardware.done.Goals as goal
 
 pub returns-clause-did : goal.returns-clause-did
@@ -18,7 +19,7 @@ returns-clause-did c = λ _ o.
     let small : p < length h.ports = search rules in
     let same : c.from.result ≡ p = c.from.ensures ∙ sym c.from-place.ensures in
     port_ends h o p port c.args.slot c.end.new.self c.in-Some.command.now c.record.new.tape _ c.from-place.ensures small (rw same at c.in-Some.ensures.found)
-    (c.if-command-count_pieces.false ∙ c.count_pieces.ensures) (c.end.ensures (o.media p)) (rw c.operation.ensures at c.record.ensures.added c.if-not-record.false)
+    (c.if-command-count_pieces.false ∙ c.count_pieces.ensures) (rw (at_port h.ports p c.index-self-place.result small) at (c.end.ensures (o.media p))) (rw c.operation.ensures at c.record.ensures.added c.if-not-record.false)
     (c.send_end.ensures.sent o)
 
 pub returns-in_default-clause-left : goal.returns-in_default-clause-left

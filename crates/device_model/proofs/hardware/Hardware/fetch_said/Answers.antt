@@ -7,6 +7,7 @@ use Rattle.device_model.specs.Fetched.{bytes_of}
 use Rattle.device_model.specs.View.{port_of, taken_of, blank}
 use Rattle.device_model.proofs.Stepping.{port_takes, fetch_says, fetch_takes}
 use Rattle.device_model.proofs.Ready.{may_be_taken}
+use Rattle.device_model.proofs.SlotLemmas.{at_port}
 use Rattle.device_model.proofs.hardware.Hardware.fetch_said.Goals as goal
 
 pub returns-clause-did : goal.returns-clause-did
@@ -16,22 +17,26 @@ returns-clause-did c = λ _ o.
     let small : c.from-place.result < length h.ports = search rules in
     let P : ℕ → Type 0 = λ q. MayTakeSome (slice_index_or h.ports q blank) c.args.slot in
     let may = subst P (sym c.from-place.ensures) c.requires.may in
-    let taken = may_be_taken (slice_index_or h.ports c.from-place.result blank) c.args.slot c.in-Some.command may (c.is_alone.ensures.alone c.if-not-is_alone.false) in
+    let taken = may_be_taken (slice_index_or h.ports c.from-place.result blank) c.args.slot c.in-Some.command may (rw (at_port h.ports c.from-place.result c.index-self-place-2.result small) at (c.is_alone.ensures.alone c.if-not-is_alone.false)) in
     port_takes h o c.from-place.result c.args.port c.args.slot _ c.in-Some.command c.from-place.ensures small (taken m)
-    (rw c.deref.ensures.value at c.in-Some.ensures.found.1) (c.take.ensures m)
+    (rw (at_port h.ports c.from-place.result c.index-self-place.result small) at (rw c.deref.ensures.value at c.in-Some.ensures.found.1))
+    (rw (at_port h.ports c.from-place.result c.index-self-place-3.result small) at (c.take.ensures m))
 
 pub returns-in_default-clause-only : goal.returns-in_default-clause-only
 returns-in_default-clause-only c = λ _ o m places takes may.
     let says = fetch_says c.args.self.now o c.from-place.result c.args.port c.args.slot m places c.from-place.ensures may in
-    c.read_command.ensures.only c.in_default.is m places takes (rw (← c.deref.ensures.value) at says)
+    let small : c.from-place.result < length c.args.self.now.ports = search rules in
+    (rw (at_port c.args.self.now.ports c.from-place.result c.index-self-place.result small) at (c.read_command.ensures.only c.in_default.is m places takes))
+    (rw (← c.deref.ensures.value) at says)
 
 -- another command is taken
 pub returns-then-not-is_alone-clause-only : goal.returns-then-not-is_alone-clause-only
 returns-then-not-is_alone-clause-only c = λ _ o m places takes may.
     let h = c.args.self.now in
     let says = fetch_says h o c.from-place.result c.args.port c.args.slot m places c.from-place.ensures may in
-    let said = rw c.deref.ensures.value at c.in-Some.ensures.found.1 in
+    let small : c.from-place.result < length c.args.self.now.ports = search rules in
+    let said = rw (at_port h.ports c.from-place.result c.index-self-place.result small) at (rw c.deref.ensures.value at c.in-Some.ensures.found.1) in
     let one = says_meaning (bytes_of h.memory.items) _ c.args.slot m (taken_of c.in-Some.command).meaning places _ says said in
     let alone = (fetch_takes h o c.from-place.result c.args.port c.args.slot m places c.from-place.ensures may).alone in
-    c.is_alone.ensures.only c.if-not-is_alone.true (o.media c.from-place.result)
+    (rw (at_port h.ports c.from-place.result c.index-self-place-2.result small) at (c.is_alone.ensures.only c.if-not-is_alone.true (o.media c.from-place.result)))
     (subst (λ (x : Meaning). IsAlone (port_of (slice_index_or h.ports c.from-place.result blank) (o.media c.from-place.result)) x.operation) one alone)

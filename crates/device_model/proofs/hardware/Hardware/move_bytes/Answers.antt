@@ -4,6 +4,7 @@ use Rattle.std.specs.Vec.{vec_len, vec_capacity, with_items}
 use Rattle.std.proofs.lemmas.List.{with_items_is}
 use Rattle.device_model.specs.Fetched.{bytes_of}
 use Rattle.device_model.proofs.Stepping.{moved_by, port_moves}
+use Rattle.device_model.proofs.SlotLemmas.{at_port}
 use Rattle.device_model.proofs.hardware.Hardware.move_bytes.Goals as goal
 
 pub returns-clause-moved : goal.returns-clause-moved
@@ -26,7 +27,7 @@ returns-clause-moved c = λ o.
       t,
       next,
       port_moves h o c.from.result c.args.port c.args.slot c.args.next _ t c.record-recorded.new.tape (with_items h.memory c.put_piece.new.memory) bytes
-          c.operation.result c.direction.result c.from.ensures small next (c.advance.ensures (o.media c.from.result) t bytes held)
+          c.operation.result c.direction.result c.from.ensures small next ((rw (at_port h.ports c.from.result c.index-self-from.result small) at (c.advance.ensures (o.media c.from.result) t bytes)) held)
           c.operation.ensures c.direction.ensures noted (ap length same ∙ size)
           (ap (λ (l : List ℕ). bytes_of l) same ∙ rw c.deref_mut.ensures.value at c.put_piece.ensures.put),
     )

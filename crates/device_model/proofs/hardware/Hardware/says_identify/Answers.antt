@@ -1,4 +1,4 @@
-use Rattle.std.proofs.Common.{Bool, Option, refl, slice_index_or, subst, sym}
+use Rattle.std.proofs.Common.{rules, ◌<◌, length, Bool, Option, refl, slice_index_or, subst, sym}
 use Rattle.adapter.specs.Steps.{IsAlone}
 use Rattle.device_model.specs.Finishing.{Identifies}
 use Rattle.device_model.specs.View.{Media, operation_of, port_of, blank}
@@ -6,15 +6,17 @@ use Rattle.device_model.specs.Whole.{device_of}
 use Rattle.device_model.specs.declared.port.Transfer.{Transfer}
 use Rattle.device_model.specs.declared.port.Transfer.TheVariants as transfer
 use Rattle.device_model.proofs.Ready.{finds, identify_crowded, identify_said, identify_unmeant, identify_unsaid, identify_endless, may_identify, ready_may}
+use Rattle.device_model.proofs.SlotLemmas.{at_port}
 use Rattle.device_model.proofs.hardware.Hardware.says_identify.Goals as goal
 
 pub returns-then-is_alone : goal.returns-then-is_alone
 returns-then-is_alone c = λ o.
     let h = c.args.self.now in
-    let said = rw c.deref.ensures.value at c.in_ok-command.ensures.found in
+    let some : 0 < length c.args.self.now.ports = search rules in
+    let said = rw (at_port h.ports 0 c.index-self-0.result some) at (rw c.deref.ensures.value at c.in_ok-command.ensures.found) in
     let kind = c.in_ok-command.ensures.kind in
     let beside = λ (m : Media).
-    subst (λ (k : Transfer). IsAlone (port_of (slice_index_or h.ports 0 blank) m) (operation_of k)) (sym kind) (c.is_alone.ensures.alone c.if-is_alone.true m) in
+    subst (λ (k : Transfer). IsAlone (port_of (slice_index_or h.ports 0 blank) m) (operation_of k)) (sym kind) (rw (at_port h.ports 0 c.index-self-0-2.result some) at (c.is_alone.ensures.alone c.if-is_alone.true m)) in
     finds (device_of h o) c.args.slot c.can_end.result
     (λ e. identify_said h c.args.slot c.len.result c.len.ensures c.in_ok-command.command said.0 said.1 kind c.requires.may beside (c.can_end.ensures.ends e) o)
     (λ e. (
@@ -26,11 +28,13 @@ returns-then-is_alone c = λ o.
 pub returns-else-is_alone : goal.returns-else-is_alone
 returns-else-is_alone c = λ o.
     let h = c.args.self.now in
-    let never = identify_crowded h c.args.slot transfer.Identify refl (c.is_alone.ensures.only c.if-is_alone.false) o in
+    let some : 0 < length c.args.self.now.ports = search rules in
+    let never = identify_crowded h c.args.slot transfer.Identify refl (rw (at_port h.ports 0 c.index-self-0-2.result some) at (c.is_alone.ensures.only c.if-is_alone.false)) o in
     (never, λ has. never (ready_may h c.args.slot c.requires.may o has))
 
 pub returns-in_err-command : goal.returns-in_err-command
 returns-in_err-command c = λ o.
-    let none = rw c.deref.ensures.value at c.read_as.ensures.only c.in_err-command.was in
+    let some : 0 < length c.args.self.now.ports = search rules in
+    let none = rw (at_port c.args.self.now.ports 0 c.index-self-0.result some) at (rw c.deref.ensures.value at c.read_as.ensures.only c.in_err-command.was) in
     let P : Option Bool → Type 0 = λ r. Identifies (device_of c.args.self.now o) c.args.slot r in
     subst P (sym c.from_residual.ensures) (identify_unmeant c.args.self.now c.args.slot none o, identify_unsaid c.args.self.now c.args.slot _ refl none c.requires.may o)

@@ -9,6 +9,7 @@ use Rattle.device_model.specs.declared.port.PortModel.{PortModel}
 use Rattle.device_model.proofs.GoingOn.{linked_settled}
 use Rattle.device_model.proofs.Own.{own_on}
 use Rattle.device_model.proofs.Ports.{port_links, port_same, port_settles}
+use Rattle.device_model.proofs.SlotLemmas.{at_port}
 use Rattle.device_model.proofs.hardware.Hardware.settle_port.Goals as goal
 
 pub returns-then-link-clause-own : goal.returns-then-link-clause-own
@@ -18,8 +19,9 @@ returns-then-link-clause-own c = λ o held loose.
     let mid : Hardware = record h { ports = slice_set h.ports p c.settle.new.self } in
     let small : p < length h.ports = search rules in
     let still : p < length mid.ports = search rules in
-    let up = c.link.ensures.up c.if-link.true (o.media p) in
-    own_on (Settles held) (device_of h o) (device_of mid o) _ (port_settles h o p c.settle.new.self held small loose (c.settle.ensures.does (o.media p)))
+    let up = rw (at_port mid.ports p c.index-self-port-2.result still) at (c.link.ensures.up c.if-link.true (o.media p)) in
+    let does = rw (at_port h.ports p c.index-self-port.result small) at (c.settle.ensures.does (o.media p)) in
+    own_on (Settles held) (device_of h o) (device_of mid o) _ (port_settles h o p c.settle.new.self held small loose does)
     (port_links mid o p c.link.new.self held _ still loose up.0 up.1 (c.send_signature.ensures.sent o))
 
 pub returns-else-link-clause-own : goal.returns-else-link-clause-own
@@ -30,8 +32,8 @@ returns-else-link-clause-own c = λ o held loose.
     let small : p < length h.ports = search rules in
     let still : p < length mid.ports = search rules in
     let P : Device → Type 0 = λ d. LeadsOwn (Settles held) (device_of h o) d in
-    subst P (sym (port_same mid o p c.link.new.self still (c.link.ensures.same c.if-link.false)))
-    (port_settles h o p c.settle.new.self held small loose (c.settle.ensures.does (o.media p)))
+    subst P (sym (port_same mid o p c.link.new.self still (rw (at_port mid.ports p c.index-self-port-2.result still) at (c.link.ensures.same c.if-link.false))))
+    (port_settles h o p c.settle.new.self held small loose (rw (at_port h.ports p c.index-self-port.result small) at (c.settle.ensures.does (o.media p))))
 
 pub returns-then-link-clause-settled : goal.returns-then-link-clause-settled
 returns-then-link-clause-settled c = λ o.
@@ -43,7 +45,7 @@ returns-then-link-clause-settled c = λ o.
     let there = ap (λ (x : Hardware). slice_index_or x.ports p blank) c.send_signature.ensures.rest ∙ get_or-set_same mid p c.link.new.self blank still in
     let P : PortModel → Type 0 = λ x. IsSettledPort (port_of x (o.media p)) in
     subst P (sym there)
-    (linked_settled c.settle.new.self _ c.link.new.self (o.media p) (get_or-set_same h.ports p c.settle.new.self blank small) c.settle.ensures.fallen
+    (linked_settled c.settle.new.self _ c.link.new.self (o.media p) (get_or-set_same h.ports p c.settle.new.self c.index-self-port-2.result small) c.settle.ensures.fallen
     c.settle.ensures.area c.link.ensures.linked c.link.ensures.engine c.link.ensures.area)
 
 pub returns-else-link-clause-settled : goal.returns-else-link-clause-settled
@@ -55,7 +57,7 @@ returns-else-link-clause-settled c = λ o.
     let still : p < length mid = search rules in
     let P : PortModel → Type 0 = λ x. IsSettledPort (port_of x (o.media p)) in
     subst P (sym (get_or-set_same mid p c.link.new.self blank still))
-    (linked_settled c.settle.new.self _ c.link.new.self (o.media p) (get_or-set_same h.ports p c.settle.new.self blank small) c.settle.ensures.fallen
+    (linked_settled c.settle.new.self _ c.link.new.self (o.media p) (get_or-set_same h.ports p c.settle.new.self c.index-self-port-2.result small) c.settle.ensures.fallen
     c.settle.ensures.area c.link.ensures.linked c.link.ensures.engine c.link.ensures.area)
 
 pub returns-then-link-clause-others : goal.returns-then-link-clause-others

@@ -15,18 +15,18 @@ returns g c = record {
     disk = refl;
     plugged = c.remember.ensures (λ w x. disk_over w (g.S.SectorStore.size x) (g.S.SectorStore.told x))
         ∙ ap (λ l. map (λ s. disk_over s.which (g.S.SectorStore.size s.store.value) (g.S.SectorStore.told s.store.value)) l ++ disk_over Disk0 (g.S.SectorStore.size c.args.disk0) (g.S.SectorStore.told c.args.disk0) ∷ []) {y = []} (search rules);
-    present = c.new.ensures.present;
+    present = c.in_ok-port0.ensures.present;
     others = λ port other.
-        ports_are (λ k p. k ≢ 0 → p.present ≡ false) _ _ _ _ (λ no. absurd (no refl)) (λ _. c.new-2.ensures.present) (λ _. c.new-3.ensures.present) (λ _. c.new-4.ensures.present) port (λ _ _. refl) other;
+        ports_are (λ k p. k ≢ 0 → p.present ≡ false) _ _ _ _ (λ no. absurd (no refl)) (λ _. c.in_ok-port1.ensures.present) (λ _. c.in_ok-port2.ensures.present) (λ _. c.in_ok-port3.ensures.present) port (λ _ _. refl) other;
     unused = search rules;
     off = refl;
     silent = refl;
     zeros = all_zero _ _ (c.in_ok-vec.ensures.items_if_clones_equal (λ y e. e));
     ports = λ port small.
-        ports_are (λ _. IsResetModel) _ _ _ _ c.new.ensures.reset c.new-2.ensures.reset c.new-3.ensures.reset c.new-4.ensures.reset port (λ past. absurd (omega (arith, past, small))) _;
+        ports_are (λ _. IsResetModel) _ _ _ _ c.in_ok-port0.ensures.reset c.in_ok-port1.ensures.reset c.in_ok-port2.ensures.reset c.in_ok-port3.ensures.reset port (λ past. absurd (omega (arith, past, small))) _;
     idle = record {
       no_reset = refl;
-      port = λ port. ports_are (λ _. IsIdleModel) _ _ _ _ c.new.ensures.idle c.new-2.ensures.idle c.new-3.ensures.idle c.new-4.ensures.idle port (λ _. blank_idle) _;
+      port = λ port. ports_are (λ _. IsIdleModel) _ _ _ _ c.in_ok-port0.ensures.idle c.in_ok-port1.ensures.idle c.in_ok-port2.ensures.idle c.in_ok-port3.ensures.idle port (λ _. blank_idle) _;
     };
   };
   sane = record {

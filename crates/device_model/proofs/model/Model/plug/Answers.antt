@@ -1,4 +1,4 @@
-use Rattle.std.proofs.Common.{ℕ, ◌≡◌, ◌&&◌, [], ◌∷◌, ◌++◌, List, ◌∙◌, ap, arith, refl, sym, subst, inl, inr}
+use Rattle.std.proofs.Common.{rules, ◌<◌, length, ℕ, ◌≡◌, ◌&&◌, [], ◌∷◌, ◌++◌, List, ◌∙◌, ap, arith, refl, sym, subst, inl, inr}
 use Rattle.std.specs.Prelude.{is_some, map}
 use Rattle.adapter.specs.Asked.{DoesPlug}
 use Rattle.adapter.specs.Device.{Device, Disk}
@@ -14,6 +14,7 @@ use Rattle.device_model.specs.declared.model.Model.{Model}
 use Rattle.device_model.proofs.TwoDisks.{both_turned, in_kept, number_small, of_number, one_number}
 use Rattle.device_model.proofs.Finishing.{outside_put}
 use Rattle.device_model.proofs.NewModel.{disks_are}
+use Rattle.device_model.proofs.SlotLemmas.{at_port}
 use Rattle.device_model.proofs.Telling.{gains_one}
 use Rattle.device_model.proofs.model.Model.plug.Given.{Over}
 use Rattle.device_model.proofs.model.Model.plug.Goals as goal
@@ -25,7 +26,8 @@ returns-then-not-plug g c =
     let o : Outside = outside_at g.S.SectorStore.size g.S.SectorStore.told m in
     let disk : Disk = disk_over m.which (g.S.SectorStore.size m.disk) (g.S.SectorStore.told m.disk) in
     let same = c.plug.ensures.refused c.if-not-plug.true o in
-    let free = c.if-self-offset0.false in
+    let some : 0 < length c.args.self.now.hardware.ports = search rules in
+    let free = rw (at_port c.args.self.now.hardware.ports 0 c.index-self-0.result some) at c.if-self-offset0.false in
     let small = number_small c.in-Some.which in
     elim (c.plug.ensures.left c.if-not-plug.true o) [
       | inl never ↦ absurd (never.0 free)
@@ -103,8 +105,10 @@ returns g c =
     let P : ℕ → Type 0 = λ p. DoesPlug p c.args.disk.0 (device_at g.S.SectorStore.size g.S.SectorStore.told m) (device_at g.S.SectorStore.size g.S.SectorStore.told (after g c)) in
     let Q : Model g.row.S.Denot → Type 0 = λ x. Did g.S.SectorStore.size g.S.SectorStore.told g.S.SectorStore.failures plug m (record x { plugged = c.remember.new.plugged }) in
     let small = number_small c.in-Some.which in
+    let some : 0 < length c.args.self.now.hardware.ports = search rules in
+    let free = rw (at_port c.args.self.now.hardware.ports 0 c.index-self-0.result some) at c.if-self-offset0.false in
     let put = c.plug.ensures.did c.if-not-plug.false o (disk_over t.which (g.S.SectorStore.size t.disk) (g.S.SectorStore.told t.disk)) (ap disk_number c.turn_to.ensures.which ∙ sym c.number.ensures) in (
-      (c.if-port-ne0.false, omega (arith, small, c.in-Some.ensures.found), c.if-self-offset0.false),
+      (c.if-port-ne0.false, omega (arith, small, c.in-Some.ensures.found), free),
       subst Q (sym c.turn_to.ensures.rest)
           (record {
             asked = subst P (sym c.if-port-ne0.false) (does g c);

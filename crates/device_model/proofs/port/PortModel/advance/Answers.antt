@@ -9,9 +9,9 @@ use Rattle.device_model.proofs.port.PortModel.advance.Goals as goal
 
 pub returns : goal.returns
 returns c = λ m t bytes held.
-    let was : ℕ → Option TakenCommand = held_in c.args.self.now.taken.slots in
+    let was : ℕ → Option TakenCommand = held_in c.args.self.now.taken in
     let slot : ℕ = c.args.slot in
-    let slots : slots_of (held_in c.add_moved.new.self.slots) ≡ changed (slots_of was) slot (Some (record (taken_of t) { moved = t.moved + 1 })) =
+    let slots : slots_of (held_in c.add_moved.new.self) ≡ changed (slots_of was) slot (Some (record (taken_of t) { moved = t.moved + 1 })) =
     ap slots_of (c.add_moved.ensures t held) ∙ slots_changed was slot (Some (record t { moved = t.moved + 1 })) in
     ap (λ (f : ℕ → Option Taken). record (port_of c.args.self.now (media_after m (taken_of t) bytes)) { taken = f })
     (slots

@@ -19,7 +19,7 @@ returns-then-is_queued c = λ m.
     let slot : ℕ = c.args.slot in
     let state : PortState = with_done (port_of p m) slot (cause_of k) (operation_of k) in
     let queued : true ≡ is_queued (operation_of k) = sym c.if-is_queued.true ∙ c.is_queued.ensures in
-    let taken = ap slots_of c.remove.ensures ∙ slots_changed (held_in p.taken.slots) slot None in
+    let taken = ap slots_of c.remove.ensures ∙ slots_changed (held_in p.taken) slot None in
     let is : bits_of c.with_bit_as-self.result ≡ changed (bits_of p.is) (cause_of k) true =
     c.with_bit_as-self.ensures ∙ ap (λ (place : ℕ). changed (bits_of p.is) place true) c.cause.ensures in
     let tfd : bit_and c.task_file.result 0xff7f ≡ bit_and (port_of p m).tfd 0xff7f = ap (λ (n : ℕ). bit_and n 0xff7f) c.task_file.ensures in
@@ -36,7 +36,7 @@ returns-else-is_queued c = λ m.
     let slot : ℕ = c.args.slot in
     let state : PortState = with_done (port_of p m) slot (cause_of k) (operation_of k) in
     let plain : false ≡ is_queued (operation_of k) = sym c.if-is_queued.false ∙ c.is_queued.ensures in
-    let taken = ap slots_of c.remove.ensures ∙ slots_changed (held_in p.taken.slots) slot None in
+    let taken = ap slots_of c.remove.ensures ∙ slots_changed (held_in p.taken) slot None in
     let is : bits_of c.with_bit_as-self.result ≡ changed (bits_of p.is) (cause_of k) true =
     c.with_bit_as-self.ensures ∙ ap (λ (place : ℕ). changed (bits_of p.is) place true) c.cause.ensures in
     let tfd : bit_and c.task_file.result 0xff7f ≡ bit_and (port_of p m).tfd 0xff7f = ap (λ (n : ℕ). bit_and n 0xff7f) c.task_file.ensures in

@@ -8,7 +8,7 @@ use Rattle.device_model.proofs.port.PortModel.is_alone.Goals as goal
 
 pub returns-then-is_queued-clause-only : goal.returns-then-is_queued-clause-only
 returns-then-is_queued-clause-only c = λ no m alone.
-    let taken = held_in c.args.self.now.taken.slots in
+    let taken = held_in c.args.self.now.taken in
     let queued : true ≡ is_queued (operation_of c.args.transfer) = sym c.if-is_queued.true ∙ c.is_queued.ensures in
     true-false
     (c.are_queued.ensures.1
@@ -17,7 +17,7 @@ returns-then-is_queued-clause-only c = λ no m alone.
 
 pub returns-else-is_queued-clause-only : goal.returns-else-is_queued-clause-only
 returns-else-is_queued-clause-only c = λ no m alone.
-    let taken = held_in c.args.self.now.taken.slots in
+    let taken = held_in c.args.self.now.taken in
     let plain : is_queued (operation_of c.args.transfer) ≡ false = sym c.is_queued.ensures ∙ c.if-is_queued.false in
     true-false
     (c.is_empty.ensures.1

@@ -13,7 +13,7 @@ returns-clause-idle c = λ m. record {
   fr = refl;
   ci = zero_bit;
   sact = zero_bit;
-  taken = λ slot. ap (λ (f : ℕ → Option TakenCommand). option_map taken_of (f slot)) c.new.ensures;
+  taken = λ slot. ap (λ (f : ℕ → Option TakenCommand). option_map taken_of (f slot)) c.in_ok-taken.ensures;
 }
 
 pub returns-clause-reset : goal.returns-clause-reset

@@ -18,7 +18,7 @@ returns-then-is_queued c = λ m.
     let r : TakenCommand = c.args.command in
     let state : PortState = with_fetch (port_of p m) c.args.slot (taken_of r).meaning (taken_of r).places in
     let queued : true ≡ is_queued (operation_of r.transfer) = sym c.if-is_queued.true ∙ c.is_queued.ensures in
-    let taken = ap slots_of c.put.ensures ∙ slots_begun (held_in p.taken.slots) c.args.slot r c.requires.unmoved in
+    let taken = ap slots_of c.put.ensures ∙ slots_begun (held_in p.taken) c.args.slot r c.requires.unmoved in
     let ci : bits_of c.with_bit_as-self.result ≡ changed (bits_of p.ci) c.args.slot false =
     c.with_bit_as-self.ensures ∙ ap (λ (place : ℕ). changed (bits_of p.ci) place false) c.from.ensures in
     (λ i. record (port_of p m) { taken = taken i; ci = ci i })
@@ -31,7 +31,7 @@ returns-else-is_queued c = λ m.
     let r : TakenCommand = c.args.command in
     let state : PortState = with_fetch (port_of p m) c.args.slot (taken_of r).meaning (taken_of r).places in
     let plain : false ≡ is_queued (operation_of r.transfer) = sym c.if-is_queued.false ∙ c.is_queued.ensures in
-    let taken = ap slots_of c.put.ensures ∙ slots_begun (held_in p.taken.slots) c.args.slot r c.requires.unmoved in
+    let taken = ap slots_of c.put.ensures ∙ slots_begun (held_in p.taken) c.args.slot r c.requires.unmoved in
     let tfd : bit_or c.task_file.result 0x80 ≡ bit_or (port_of p m).tfd 0x80 = ap (λ (n : ℕ). bit_or n 0x80) c.task_file.ensures in
     (λ i. record (port_of p m) { taken = taken i; tfd = tfd i })
     ∙ ap (λ (b : Bool). record state { ci = if b then changed (bits_of p.ci) c.args.slot false else bits_of p.ci; tfd = if b then (port_of p m).tfd else bit_or (port_of p m).tfd 0x80 }) plain

@@ -1,4 +1,5 @@
-use Rattle.std.proofs.Common.{rules, ℕ, ◌≡◌, ◌<◌, ◌∙◌, None, Some, length, slice_index_or, ap}
+use Rattle.std.proofs.Common.{rules, ◌≡◌, ◌<◌, ◌∙◌, None, Some, length, slice_index_or}
+use Rattle.std.proofs.lemmas.List.{get_or_default}
 use Rattle.adapter.specs.Memory.{changed}
 use Rattle.device_model.specs.View.{held_in}
 use Rattle.device_model.proofs.SlotLemmas.{set_slot}
@@ -6,8 +7,8 @@ use Rattle.device_model.proofs.taken.TakenCommands.add_moved.Goals as goal
 
 pub returns : goal.returns
 returns c = λ t held.
-    let items = c.args.self.now.slots in
+    let items = c.self.inside.slots.items in
     let small : c.from.result < length items = search rules in
-    let there : slice_index_or items c.from.result None ≡ Some t = ap (λ (place : ℕ). slice_index_or items place None) c.from.ensures ∙ held in
-    let more = c.count_move.ensures t there in
-    set_slot items c.from.result c.count_move.new.taken small ∙ (λ i. changed (held_in items) (c.from.ensures i) (more i))
+    let there : slice_index_or items c.from.result None ≡ Some t = (λ i. held_in (c.self.view_is i) (c.from.ensures i)) ∙ held in
+    let more = c.count_move.ensures t (c.index_mut.ensures.value ∙ (get_or_default items c.from.result c.index_mut.result.now None small ∙ there)) in
+    set_slot items c.from.result c.count_move.new.taken small ∙ (λ i. changed (held_in (c.self.view_is i)) (c.from.ensures i) (more i))

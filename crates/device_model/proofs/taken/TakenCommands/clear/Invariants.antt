@@ -4,6 +4,6 @@ use Rattle.device_model.proofs.taken.TakenCommands.clear.Given as goal
 -- the slots below are empty
 abbrev pub invariant-loop-slot : goal.invariant-loop-slot
 invariant-loop-slot l = record {
-  size : length l.self.slots ≡ 32;
-  below : (k : ℕ) → k < l.slot → slice_index_or l.self.slots k None ≡ None;
+  size : length l.self-inside.slots.items ≡ 32;
+  below : (k : ℕ) → k < l.slot → slice_index_or l.self-inside.slots.items k None ≡ None;
 }

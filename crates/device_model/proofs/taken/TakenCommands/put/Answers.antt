@@ -1,4 +1,4 @@
-use Rattle.std.proofs.Common.{rules, ℕ, ◌<◌, ◌∙◌, Some, length, ap}
+use Rattle.std.proofs.Common.{rules, ◌<◌, ◌∙◌, Some, length}
 use Rattle.adapter.specs.Memory.{changed}
 use Rattle.device_model.specs.View.{held_in}
 use Rattle.device_model.proofs.SlotLemmas.{set_slot}
@@ -6,6 +6,6 @@ use Rattle.device_model.proofs.taken.TakenCommands.put.Goals as goal
 
 pub returns : goal.returns
 returns c =
-    let items = c.args.self.now.slots in
+    let items = c.self.inside.slots.items in
     let small : c.from.result < length items = search rules in
-    set_slot items c.from.result (Some c.args.command) small ∙ ap (λ (place : ℕ). changed (held_in items) place (Some c.args.command)) c.from.ensures
+    set_slot items c.from.result (Some c.args.command) small ∙ (λ i. changed (held_in (c.self.view_is i)) (c.from.ensures i) (Some c.args.command))
