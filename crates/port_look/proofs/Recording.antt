@@ -14,5 +14,5 @@ pub services_recorded : (laws : Laws) (q : ℕ) (old new : Device) → IsDrivenB
 services_recorded laws q old new a =
     kept (λ x y. IsRecorded x.tape (x.port q) q → IsRecorded y.tape (y.port q) q) (λ d h. h) (λ x y z s t h. t (s h)) IsService
     (λ access x y is does. laws.access_recorded (port_at q) access x y
-    (spares_port (port_at q) Cmd (λ e. cc) (λ e. cc) access is) (spares_port (port_at q) Sctl (λ e. cc) (λ e. cc) access is) does)
+    (spares_port (port_at q) Cmd (λ e. cc) (λ e. cc) (λ e. cc) access is) (spares_port (port_at q) Sctl (λ e. cc) (λ e. cc) (λ e. cc) access is) does)
     old new a

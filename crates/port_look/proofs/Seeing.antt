@@ -75,7 +75,7 @@ module _ (laws : Laws) where
   service_unlinks port access old new on is does = (
     laws.access_grows access old new does,
     λ undue. (
-      laws.access_undue port access old new on.no_reset undue (spares_port port Sctl (λ e. cc) (λ e. cc) access is) does,
+      laws.access_undue port access old new on.no_reset undue (spares_port port Sctl (λ e. cc) (λ e. cc) (λ e. cc) access is) does,
       λ none up. ((laws.access_change port access old new on.no_reset undue does).det none up).0,
     ),
   )

@@ -1,5 +1,5 @@
 -- Accesses that serve ports, one after another, and what they leave.
-use Rattle.std.proofs.Common.{ℕ, ◌≡◌, ◌≢◌, false, inl, inr, refl, sym, ◌∙◌, ap, subst}
+use Rattle.std.proofs.Common.{ℕ, ◌≡◌, ◌≢◌, ◌⊎◌, ⊎_elim, false, inl, inr, refl, sym, ◌∙◌, ap, subst}
 use Rattle.ata_types.specs.declared.Port.{Port}
 use Rattle.hba_regs.specs.declared.reg.Reg.{Reg}
 use Rattle.hba_regs.specs.declared.reg.Reg.TheVariants as reg
@@ -39,20 +39,23 @@ looking_beside port other (Storing at bytes) ne here = absurd here
 looking_beside port other (Loading at bytes) ne here = absurd here
 
 -- no other register is written
-pub spares_other : (r : Reg) → (reg.Is ≡ r → ⊥) → ((port : Port) → Px port Is ≡ r → ⊥) → ((port : Port) → Px port Ci ≡ r → ⊥) → (access : Access) → IsService access → SparesRegister r access
-spares_other r one two three (Writing w v) (inl e) = λ q. one (sym e ∙ q)
-spares_other r one two three (Writing w v) (inr (port, inl e)) = λ q. two port (sym e ∙ q)
-spares_other r one two three (Writing w v) (inr (port, inr e)) = λ q. three port (sym e ∙ q)
-spares_other r one two three (Reading w v) is = tt
-spares_other r one two three (Loading at bytes) is = tt
-spares_other r one two three (Storing at bytes) is = tt
+pub spares_other : (r : Reg) → (reg.Is ≡ r → ⊥) → ((port : Port) (its : PortReg) → (its ≡ Is) ⊎ ((its ≡ Ci) ⊎ (its ≡ Sact)) → Px port its ≡ r → ⊥) → (access : Access) → IsService access → SparesRegister r access
+spares_other r one own (Writing w v) (inl e) = λ q. one (sym e ∙ q)
+spares_other r one own (Writing w v) (inr (port, inl e)) = λ q. own port Is (inl refl) (sym e ∙ q)
+spares_other r one own (Writing w v) (inr (port, inr (inl e))) = λ q. own port Ci (inr (inl refl)) (sym e ∙ q)
+spares_other r one own (Writing w v) (inr (port, inr (inr e))) = λ q. own port Sact (inr (inr refl)) (sym e ∙ q)
+spares_other r one own (Reading w v) is = tt
+spares_other r one own (Loading at bytes) is = tt
+spares_other r one own (Storing at bytes) is = tt
 
 pub spares_ghc : (access : Access) → IsService access → SparesRegister Ghc access
-spares_ghc = spares_other Ghc (λ e. cc) (λ port e. cc) (λ port e. cc)
+spares_ghc = spares_other Ghc (λ e. cc) (λ port its which e. absurd (let z : Px port its ≡ Ghc = e in cc))
 
--- of a port, neither another
-pub spares_port : (port : Port) (r : PortReg) → (Is ≡ r → ⊥) → (Ci ≡ r → ⊥) → (access : Access) → IsService access → SparesRegister (Px port r) access
-spares_port port r one two = spares_other (Px port r) (λ e. cc) (λ q e. one (let z : Px q Is ≡ Px port r = e in cc)) (λ q e. two (let z : Px q Ci ≡ Px port r = e in cc))
+-- of a port, no other
+pub spares_port : (port : Port) (r : PortReg) → (Is ≡ r → ⊥) → (Ci ≡ r → ⊥) → (Sact ≡ r → ⊥) → (access : Access) → IsService access → SparesRegister (Px port r) access
+spares_port port r one two three = spares_other (Px port r) (λ e. absurd (let z : reg.Is ≡ Px port r = e in cc)) (λ q its which e.
+    let same : its ≡ r = let z : Px q its ≡ Px port r = e in cc in
+    ⊎_elim (λ (is : its ≡ Is). one (sym is ∙ same)) (λ w. ⊎_elim (λ (is : its ≡ Ci). two (sym is ∙ same)) (λ (is : its ≡ Sact). three (sym is ∙ same)) w) which)
 
 -- ---- what they leave
 
@@ -86,7 +89,7 @@ module _ (laws : Laws) where
       (services_keep (λ x y. LeavesStarted (x.port port.0) (y.port port.0)) (λ d. (refl, refl)) (λ x y z p q. (q.0 ∙ p.0, q.1 ∙ p.1))
       (λ access x y ready is does.
       let left : LeavesControls access port (x.port port.0) (y.port port.0) = laws.access_controls port access x y ready.no_reset does in
-      ((left.command (spares_port port Cmd (λ e. cc) (λ e. cc) access is)).0, (left.list (spares_port port Clb (λ e. cc) (λ e. cc) access is)).0))
+      ((left.command (spares_port port Cmd (λ e. cc) (λ e. cc) (λ e. cc) access is)).0, (left.list (spares_port port Clb (λ e. cc) (λ e. cc) (λ e. cc) access is)).0))
       old new on a).0
 
   pub services_controls : (port : ℕ) (old new : Device) → IsOn old → IsDrivenBy IsService old new → LeavesNoted (old.port port) (new.port port)
@@ -95,23 +98,21 @@ module _ (laws : Laws) where
       (λ x y z p q. (q.0 ∙ p.0, q.1 ∙ p.1, q.2 ∙ p.2, q.3 ∙ p.3))
       (λ access x y ready is does.
       let left : LeavesControls access (port_at port) (x.port port) (y.port port) = laws.access_controls (port_at port) access x y ready.no_reset does in
-      let control = left.control (spares_port (port_at port) Sctl (λ e. cc) (λ e. cc) access is) in
-      (control.0, left.interrupts (spares_port (port_at port) Ie (λ e. cc) (λ e. cc) access is), control.1, (left.command (spares_port (port_at port) Cmd (λ e. cc) (λ e. cc) access is)).2))
+      let control = left.control (spares_port (port_at port) Sctl (λ e. cc) (λ e. cc) (λ e. cc) access is) in
+      (control.0, left.interrupts (spares_port (port_at port) Ie (λ e. cc) (λ e. cc) (λ e. cc) access is), control.1, (left.command (spares_port (port_at port) Cmd (λ e. cc) (λ e. cc) (λ e. cc) access is)).2))
       old new on a).0
 
-  -- bits of PxSACT that are clear stay so
-  service_inactive : (port slot : ℕ) (access : Access) (old new : Device) → IsService access → Does access old new → (old.port port).sact slot ≡ false → (new.port port).sact slot ≡ false
-  service_inactive port slot (Reading r v) old new is does u = laws.reads_clear port slot r v old new does u
-  service_inactive port slot (Writing r v) old new is does u =
-      laws.writes_clear (port_at port) slot r v old new (λ e. absurd (spares_port (port_at port) Sact (λ e. cc) (λ e. cc) (Writing r v) is e)) does u
-  service_inactive port slot (Loading at bytes) old new is does u = laws.steps_clear port slot old new does.steps u
-  service_inactive port slot (Storing at bytes) old new is does u =
-      let s = laws.store_leaves at bytes old new does in
-      subst (λ (p : PortState). p.sact slot ≡ false) (sym (s.2 port)) (laws.steps_clear port slot old s.0 s.1 u)
+  -- over a look, bits of PxSACT that are clear stay so
+  looking_inactive : (port : Port) (q slot : ℕ) (access : Access) (old new : Device) → IsLooking port access → Does access old new → (old.port q).sact slot ≡ false → (new.port q).sact slot ≡ false
+  looking_inactive port q slot (Reading r v) old new is does u = laws.reads_clear q slot r v old new does u
+  looking_inactive port q slot (Writing r v) old new (inl e) does u = laws.writes_clear (port_at q) slot r v old new (λ (s : r ≡ Px (port_at q) Sact). absurd (let z : Px port Is ≡ Px (port_at q) Sact = sym e ∙ s in cc)) does u
+  looking_inactive port q slot (Writing r v) old new (inr is) does u = laws.writes_clear (port_at q) slot r v old new (λ (s : r ≡ Px (port_at q) Sact). absurd (let z : reg.Is ≡ Px (port_at q) Sact = sym is.0 ∙ s in cc)) does u
+  looking_inactive port q slot (Loading at bytes) old new is does u = absurd is
+  looking_inactive port q slot (Storing at bytes) old new is does u = absurd is
 
-  pub services_inactive : (port slot : ℕ) (old new : Device) → IsDrivenBy IsService old new → (old.port port).sact slot ≡ false → (new.port port).sact slot ≡ false
-  services_inactive port slot =
-      kept (λ x y. (x.port port).sact slot ≡ false → (y.port port).sact slot ≡ false) (λ d h. h) (λ x y z p q h. q (p h)) IsService (service_inactive port slot)
+  pub looks_inactive : (port : Port) (q slot : ℕ) (old new : Device) → IsDrivenBy (IsLooking port) old new → (old.port q).sact slot ≡ false → (new.port q).sact slot ≡ false
+  looks_inactive port q slot =
+      kept (λ x y. (x.port q).sact slot ≡ false → (y.port q).sact slot ≡ false) (λ d h. h) (λ x y z p q h. q (p h)) (IsLooking port) (looking_inactive port q slot)
 
   -- ---- a port that runs well
 
@@ -122,8 +123,8 @@ module _ (laws : Laws) where
   service_well : (port : Port) (access : Access) (old new : Device) → IsOn old → IsService access → Does access old new → Undisturbed port.0 old new → RunsWell (old.port port.0) → RunsWell (new.port port.0)
   service_well port access old new on is does calm well =
       laws.well_of (new.port port.0)
-      (laws.access_started port access old new on.no_reset (λ v e. absurd (subst (SparesRegister (Px port Cmd)) e (spares_port port Cmd (λ e. cc) (λ e. cc) access is) refl))
-      (spares_port port Sctl (λ e. cc) (λ e. cc) access is) calm does (laws.started_well (old.port port.0) well))
+      (laws.access_started port access old new on.no_reset (λ v e. absurd (subst (SparesRegister (Px port Cmd)) e (spares_port port Cmd (λ e. cc) (λ e. cc) (λ e. cc) access is) refl))
+      (spares_port port Sctl (λ e. cc) (λ e. cc) (λ e. cc) access is) calm does (laws.started_well (old.port port.0) well))
       (laws.shows_still (old.port port.0) (new.port port.0) (laws.access_clear port access old new on.no_reset well.linked calm does) well.quiet)
 
   pub services_well : (port : Port) (old new : Device) → IsOn old → IsDrivenBy IsService old new → Undisturbed port.0 old new → RunsWell (old.port port.0) → RunsWell (new.port port.0)
@@ -146,6 +147,6 @@ module _ (laws : Laws) where
       (λ x y z p q. record { is = λ place h. q.is place (p.is place h); serr_n = λ h. q.serr_n (p.serr_n h); serr_x = λ h. q.serr_x (p.serr_x h) })
       (IsOrdinary port) (λ access is. spares_ghc access is.0)
       (λ access x y ready is does.
-      let news = laws.access_news port access x y ready.no_reset (spares_port port Serr (λ e. cc) (λ e. cc) access is.0) does in
+      let news = laws.access_news port access x y ready.no_reset (spares_port port Serr (λ e. cc) (λ e. cc) (λ e. cc) access is.0) does in
       record { is = laws.access_causes port access x y ready.no_reset is.1 does; serr_n = news.0; serr_x = news.1 })
       old new on a).0

@@ -3,15 +3,15 @@ use Rattle.std.specs.Prelude.{true, ◌≡◌, ◌⊎◌}
 use Rattle.ata_types.specs.declared.Port.{Port}
 use Rattle.hba_regs.specs.declared.reg.Reg.TheVariants as reg
 use Rattle.hba_regs.specs.declared.reg.Reg.TheVariants.{Px}
-use Rattle.hba_regs.specs.declared.reg.PortReg.TheVariants.{Is, Ci}
+use Rattle.hba_regs.specs.declared.reg.PortReg.TheVariants.{Is, Ci, Sact}
 use Rattle.adapter.specs.Access.{Access}
 use Rattle.adapter.specs.Access.Access.{Writing}
 use Rattle.adapter.specs.Device.{PortState}
 use Rattle.agreement.specs.Links.{SparesRegister}
 
--- Of registers it writes IS, or a port's PxIS or PxCI, if any.
+-- Of registers it writes IS, or a port's PxIS, PxCI or PxSACT, if any.
 abbrev pub IsService : Access → Type 0
-IsService (Writing r v) = (r ≡ reg.Is) ⊎ ((port : Port) × ((r ≡ Px port Is) ⊎ (r ≡ Px port Ci)))
+IsService (Writing r v) = (r ≡ reg.Is) ⊎ ((port : Port) × ((r ≡ Px port Is) ⊎ ((r ≡ Px port Ci) ⊎ (r ≡ Px port Sact))))
 IsService access = Unit {0}
 
 -- the same, but for writes of this port's PxIS

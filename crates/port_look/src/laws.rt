@@ -46,8 +46,8 @@ pub fn services_leave()
         → RunsWell (old.port port.0) → RunsWell (new.port port.0) }
     ensures recorded { (port : ℕ) (old new : Device) → IsDrivenBy IsService old new → IsRecorded old.tape (old.port port) port
         → IsRecorded new.tape (new.port port) port }
-    ensures inactive { (port slot : ℕ) (old new : Device) → IsDrivenBy IsService old new
-        → (old.port port).sact slot ≡ false → (new.port port).sact slot ≡ false }
+    ensures inactive { (port : Port) (q slot : ℕ) (old new : Device) → IsDrivenBy (IsLooking port) old new
+        → (old.port q).sact slot ≡ false → (new.port q).sact slot ≡ false }
     ensures agrees { (uses : Uses) (old new : Device) → IsFollowed IsService (IsUse uses) old new → IsAgreed uses old
         → IsAgreed uses new }
 {

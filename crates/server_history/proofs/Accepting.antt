@@ -168,15 +168,15 @@ module _ (laws : LawsBelow) (s : Server) (k : IsKept s) (r : Request) (acc : IsA
     event first past leads =
         lead_by first past s new (Submit r) (Submitted (Ok id)) (x.steps ++ early) (ap (λ (n : Server). n.wanted) same) ports_same_too leads settles.kept
         (may-append m x.steps early (tt, fresh m was is) x.may)
-        (belong_on port {D = DeviceStep} (Submit r) (ports_of new.ports) (λ p own. (its_ready p own, refl)) x.steps early x.only (tt, inr refl))
+        (belong_on port {D = DeviceStep} (Submit r) (ports_of new) (λ p own. (its_ready p own, refl)) x.steps early x.only (tt, inr refl))
         (last_on port x.steps early x.only x.last (tt, λ other h i. false≢true h) (λ other i j. false≢true j))
-        (lawful_on port old.moment no_evidence (ports_of new.ports) x.steps early x.only tt)
+        (lawful_on port old.moment no_evidence (ports_of new) x.steps early x.only tt)
         (allowed, (asked, accepts_on port x.steps early x.only, refl), same_ports_are, all_issued)
         driven.accesses
         (driven.all, (row, its_row, All-weaker (IsPlainIssuing port) (IssuesOn row.port) (λ access here. subst (λ (p : Port). IssuesOn p access) (sym port_is) (issuing_is port port_low access here)) driven.accesses driven.only))
         (λ other. All-weaker (IsPlainIssuing port) (LeavesEngine other) (issuing_leaves port other) driven.accesses driven.only)
         (λ other is_ready. due_now other)
-        (λ other healthy. record { finds = tt; faults = tt; tries = tt; boots = tt; trouble = untroubled (told_by s.device old.moment.ports) (with_device s.device old) (ports_of new.ports) new.device other healthy; well = λ i. absurd (uninterrupted s.device old.moment.ports other i); heeds = uninterrupted s.device old.moment.ports other })
+        (λ other healthy. record { finds = tt; faults = tt; tries = tt; boots = tt; trouble = untroubled (told_by s.device old.moment.ports) (with_device s.device old) (ports_of new) new.device other healthy; well = λ i. absurd (uninterrupted s.device old.moment.ports other i); heeds = uninterrupted s.device old.moment.ports other })
         (backed_then s.device s.device new.device m early x.steps (own_backed s.device m (Accept asked) (λ no. no)) x.backed)
         stands
       where
@@ -207,7 +207,7 @@ module _ (laws : LawsBelow) (s : Server) (k : IsKept s) (r : Request) (acc : IsA
         ports_same_too : new.ports ≡ s.ports
         ports_same_too = ap (λ (n : Server). n.ports) same
 
-        its_ready : (p : machine.Pending) → p.request.port ≡ port → (ports_of new.ports).state p.request.port ≡ ReadyState
+        its_ready : (p : machine.Pending) → p.request.port ≡ port → (ports_of new).state p.request.port ≡ ReadyState
         its_ready p own = ap (λ (q : Port). state_of (found_of new.ports q.0)) own ∙ ap (λ (found : List Found). state_of (found_of found port.0)) ports_same_too ∙ ready
 
         allowed : IsAcceptable (events.situation_of old.moment) r
@@ -216,10 +216,10 @@ module _ (laws : LawsBelow) (s : Server) (k : IsKept s) (r : Request) (acc : IsA
         its_row : IsNamed m.rows r row
         its_row = subst (λ (rows : List GrantRow). IsNamed rows r row) (sym is.rows) named
 
-        same_ports_are : SamePorts old.moment.ports (ports_of new.ports)
-        same_ports_are = ports_same old.moment.ports (ports_of new.ports) (leads.stands.ports_are ∙ ap ports_of (sym ports_same_too))
+        same_ports_are : SamePorts old.moment.ports (ports_of new)
+        same_ports_are = ports_same old.moment.ports (ports_of new) (leads.stands.ports_are ∙ ap ports_of (sym ports_same_too))
 
-        all_issued : AllIssued (record { machine = after m (x.steps ++ early); ports = ports_of new.ports })
+        all_issued : AllIssued (record { machine = after m (x.steps ++ early); ports = ports_of new })
         all_issued other on = none_due new (after m (x.steps ++ early)) stands other (settles.issued other)
 
         due_now : (other : Port) → IssuesDue plain_mode (x.steps ++ early) (after m (x.steps ++ early)) other

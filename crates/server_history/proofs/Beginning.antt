@@ -242,7 +242,7 @@ module _ (laws : TakenLaws) (s : Server) (host : Host) (d : Device) (is : IsIdle
     next = begun.next ∙ ap (λ (k : ℕ). k + 1) (sym n.last);
   }
 
-  ports_fit : AreFit (ports_of s.ports)
+  ports_fit : AreFit (ports_of s)
   ports_fit = record {
     few = λ port served. four port.0 served;
     absent = λ port other. absent_is (found_of s.ports port.0) other;
@@ -292,7 +292,7 @@ module _ (laws : TakenLaws) (s : Server) (host : Host) (d : Device) (is : IsIdle
       let kept : IsKept s = kept_by later reached stands in (
         record { kept = kept; issued = none_due },
         (
-          record { device = s.device; moment = record { machine = later; ports = ports_of s.ports } },
+          record { device = s.device; moment = record { machine = later; ports = ports_of s } },
           record {
             history = ((begun, ports_fit), ((slots s kept later reached stands, holds_with s kept later reached stands), (kept.on, taken.interrupts)));
             stands = record { device_is = refl; ports_are = refl; machine = stands };

@@ -114,23 +114,23 @@ module _ (laws : LawsBelow) where
           let m = at.machine in
           let x = (device_adds (known m.uses none_parked s.device) new moves).adds old.moment.machine (reached first past s leads) m.knows in
           let steps : List Step = x.0 in
-          lead_by first past s (record s { device = new }) (Told step) (Stepped true) steps refl refl leads (device_kept s new k.kept moves) x.1 (devices_belong (Told step) (ports_of s.ports) steps x.3.only) (devices_last steps x.3.only)
-          (devices_lawful old.moment no_evidence (ports_of s.ports) steps x.3.only)
-          (x.3.only, ports_same old.moment.ports (ports_of s.ports) at.ports_are)
+          lead_by first past s (record s { device = new }) (Told step) (Stepped true) steps refl refl leads (device_kept s new k.kept moves) x.1 (devices_belong (Told step) (ports_of s) steps x.3.only) (devices_last steps x.3.only)
+          (devices_lawful old.moment no_evidence (ports_of s) steps x.3.only)
+          (x.3.only, ports_same old.moment.ports (ports_of s) at.ports_are)
           []
           (refl, asked)
           (λ port. All-nil (LeavesEngine port))
           (λ port. tt)
-          (λ port healthy. record { finds = tt; faults = tt; tries = tt; boots = tt; trouble = untroubled (told_by s.device old.moment.ports) (with_device s.device old) (ports_of s.ports) new port healthy; well = λ i. absurd (uninterrupted s.device old.moment.ports port i); heeds = uninterrupted s.device old.moment.ports port })
+          (λ port healthy. record { finds = tt; faults = tt; tries = tt; boots = tt; trouble = untroubled (told_by s.device old.moment.ports) (with_device s.device old) (ports_of s) new port healthy; well = λ i. absurd (uninterrupted s.device old.moment.ports port i); heeds = uninterrupted s.device old.moment.ports port })
           x.3.backed
           (machine_on s new old.moment.machine steps m x.3.only x.2)
 
   -- ---- calls that do nothing
 
   nothing_adds : (s : Server) (ask : Ask DeviceStep) (said : Said) → IsSettled s → ((m : Moment) → CameBy m ask said [] s.device s.device)
-      → ((old : Instant Device) → Stands old s → (evidence : Evidence) → IsAnswered ask said old.moment evidence [] (record { machine = old.moment.machine; ports = ports_of s.ports }))
-      → ((old : Instant Device) → IsReached old.moment.machine → Stands old s → (port : Port) → Issues ask [] old.moment.machine (ports_of s.ports) port)
-      → ((old : Instant Device) (port : Port) → StaysHealthy port.0 old.device s.device → TiesPort old (happening old s.device ask said [] (ports_of s.ports)) [] port)
+      → ((old : Instant Device) → Stands old s → (evidence : Evidence) → IsAnswered ask said old.moment evidence [] (record { machine = old.moment.machine; ports = ports_of s }))
+      → ((old : Instant Device) → IsReached old.moment.machine → Stands old s → (port : Port) → Issues ask [] old.moment.machine (ports_of s) port)
+      → ((old : Instant Device) (port : Port) → StaysHealthy port.0 old.device s.device → TiesPort old (happening old s.device ask said [] (ports_of s)) [] port)
       → Adds s s ask said
   nothing_adds s ask said k came answered issues parts = record { settled = k; adds = adds }
     where
@@ -144,30 +144,30 @@ module _ (laws : LawsBelow) where
   pub undone_adds : (s : Server) (step : DeviceStep) → IsSettled s → Adds s s (Told step) (Stepped false)
   undone_adds s step k =
       nothing_adds s (Told step) (Stepped false) k (λ m. (refl, refl))
-      (λ old at evidence. (refl, ports_same old.moment.ports (ports_of s.ports) at.ports_are)) (λ old was at port. tt)
-      (λ old port healthy. record { finds = tt; faults = tt; tries = tt; boots = tt; trouble = untroubled (told_by old.device old.moment.ports) old (ports_of s.ports) s.device port healthy; well = λ i. absurd (uninterrupted old.device old.moment.ports port i); heeds = uninterrupted old.device old.moment.ports port })
+      (λ old at evidence. (refl, ports_same old.moment.ports (ports_of s) at.ports_are)) (λ old was at port. tt)
+      (λ old port healthy. record { finds = tt; faults = tt; tries = tt; boots = tt; trouble = untroubled (told_by old.device old.moment.ports) old (ports_of s) s.device port healthy; well = λ i. absurd (uninterrupted old.device old.moment.ports port i); heeds = uninterrupted old.device old.moment.ports port })
 
-  pub state_adds : (s : Server) (port : Port) → IsSettled s → Adds s s (State port) (Shown ((ports_of s.ports).state port))
+  pub state_adds : (s : Server) (port : Port) → IsSettled s → Adds s s (State port) (Shown ((ports_of s).state port))
   state_adds s port k =
-      nothing_adds s (State port) (Shown ((ports_of s.ports).state port)) k (λ m. (refl, refl))
-      (λ old at evidence. (ap (λ (ports : Ports). ports.state port) (sym at.ports_are), refl, ports_same old.moment.ports (ports_of s.ports) at.ports_are)) (λ old was at port. tt)
-      (λ old port healthy. record { finds = tt; faults = tt; tries = tt; boots = tt; trouble = untroubled (told_by old.device old.moment.ports) old (ports_of s.ports) s.device port healthy; well = λ i. absurd (uninterrupted old.device old.moment.ports port i); heeds = uninterrupted old.device old.moment.ports port })
+      nothing_adds s (State port) (Shown ((ports_of s).state port)) k (λ m. (refl, refl))
+      (λ old at evidence. (ap (λ (ports : Ports). ports.state port) (sym at.ports_are), refl, ports_same old.moment.ports (ports_of s) at.ports_are)) (λ old was at port. tt)
+      (λ old port healthy. record { finds = tt; faults = tt; tries = tt; boots = tt; trouble = untroubled (told_by old.device old.moment.ports) old (ports_of s) s.device port healthy; well = λ i. absurd (uninterrupted old.device old.moment.ports port i); heeds = uninterrupted old.device old.moment.ports port })
 
   pub store_refused : (s : Server) (client : ClientId) (frame : Frame) (offset : ℕ) (bytes : List ℕ) (fault : MemFault) → IsSettled s
       → IsFirstMemFault (owner_of s.table) (lent_to s.table) client frame offset (length bytes) fault → Adds s s (StoreAt client frame offset bytes) (store_said (Err fault))
   store_refused s client frame offset bytes fault k is =
       nothing_adds s (StoreAt client frame offset bytes) (store_said (Err fault)) k (λ m. (refl, refl))
-      (λ old at evidence. (as_told s old.moment.machine at.machine (λ owner lent. IsFirstMemFault owner lent client frame offset (length bytes) fault) is, refl, ports_same old.moment.ports (ports_of s.ports) at.ports_are))
+      (λ old at evidence. (as_told s old.moment.machine at.machine (λ owner lent. IsFirstMemFault owner lent client frame offset (length bytes) fault) is, refl, ports_same old.moment.ports (ports_of s) at.ports_are))
       (λ old was at port. tt)
-      (λ old port healthy. record { finds = tt; faults = tt; tries = tt; boots = tt; trouble = untroubled (told_by old.device old.moment.ports) old (ports_of s.ports) s.device port healthy; well = λ i. absurd (uninterrupted old.device old.moment.ports port i); heeds = uninterrupted old.device old.moment.ports port })
+      (λ old port healthy. record { finds = tt; faults = tt; tries = tt; boots = tt; trouble = untroubled (told_by old.device old.moment.ports) old (ports_of s) s.device port healthy; well = λ i. absurd (uninterrupted old.device old.moment.ports port i); heeds = uninterrupted old.device old.moment.ports port })
 
   pub load_refused : (s : Server) (client : ClientId) (frame : Frame) (offset count : ℕ) (bytes : List ℕ) (fault : MemFault) → IsSettled s
       → IsFirstMemFault (owner_of s.table) (lent_to s.table) client frame offset count fault → Adds s s (LoadAt client frame offset count) (load_said (Err fault) bytes)
   load_refused s client frame offset count bytes fault k is =
       nothing_adds s (LoadAt client frame offset count) (load_said (Err fault) bytes) k (λ m. (refl, refl))
-      (λ old at evidence. (as_told s old.moment.machine at.machine (λ owner lent. IsFirstMemFault owner lent client frame offset count fault) is, refl, ports_same old.moment.ports (ports_of s.ports) at.ports_are))
+      (λ old at evidence. (as_told s old.moment.machine at.machine (λ owner lent. IsFirstMemFault owner lent client frame offset count fault) is, refl, ports_same old.moment.ports (ports_of s) at.ports_are))
       (λ old was at port. tt)
-      (λ old port healthy. record { finds = tt; faults = tt; tries = tt; boots = tt; trouble = untroubled (told_by old.device old.moment.ports) old (ports_of s.ports) s.device port healthy; well = λ i. absurd (uninterrupted old.device old.moment.ports port i); heeds = uninterrupted old.device old.moment.ports port })
+      (λ old port healthy. record { finds = tt; faults = tt; tries = tt; boots = tt; trouble = untroubled (told_by old.device old.moment.ports) old (ports_of s) s.device port healthy; well = λ i. absurd (uninterrupted old.device old.moment.ports port i); heeds = uninterrupted old.device old.moment.ports port })
 
   -- ---- what a request meets
 
@@ -186,9 +186,9 @@ module _ (laws : LawsBelow) where
   pub submit_refused : (s : Server) (r : Request) (refusal : Refusal) → IsSettled s → IsFirstRefusal (situation_of s) r refusal → Adds s s (Submit r) (Submitted (Err refusal))
   submit_refused s r refusal k is =
       nothing_adds s (Submit r) (Submitted (Err refusal)) k (λ m. (refl, refl))
-      (λ old at evidence. (subst (λ (x : Situation). IsFirstRefusal x r refusal) (sym (situation_is s old at)) is, refl, ports_same old.moment.ports (ports_of s.ports) at.ports_are))
+      (λ old at evidence. (subst (λ (x : Situation). IsFirstRefusal x r refusal) (sym (situation_is s old at)) is, refl, ports_same old.moment.ports (ports_of s) at.ports_are))
       (λ old was at port ready. none_issued s old.moment.machine at.machine [] (λ id. refl) port (k.issued port))
-      (λ old port healthy. record { finds = tt; faults = tt; tries = tt; boots = tt; trouble = untroubled (told_by old.device old.moment.ports) old (ports_of s.ports) s.device port healthy; well = λ i. absurd (uninterrupted old.device old.moment.ports port i); heeds = uninterrupted old.device old.moment.ports port })
+      (λ old port healthy. record { finds = tt; faults = tt; tries = tt; boots = tt; trouble = untroubled (told_by old.device old.moment.ports) old (ports_of s) s.device port healthy; well = λ i. absurd (uninterrupted old.device old.moment.ports port i); heeds = uninterrupted old.device old.moment.ports port })
 
   -- ---- clients' bytes
 
@@ -246,15 +246,15 @@ module _ (laws : LawsBelow) where
             let old : Instant Device = now first past in
             let at : Stands old s = leads.stands in
             let x = load_ends s new client frame offset bytes k opens loads old.moment.machine (reached first past s leads) at.machine in
-            lead_by first past s (record s { device = new }) (LoadAt client frame offset (length bytes)) (load_said (Ok tt) bytes) (Load client frame offset bytes ∷ x.0.steps) refl refl leads (load_kept loads) x.0.may (devices_belong {D = DeviceStep} (LoadAt client frame offset (length bytes)) (ports_of s.ports) x.0.steps x.0.only, inr (refl, refl, refl, refl))
+            lead_by first past s (record s { device = new }) (LoadAt client frame offset (length bytes)) (load_said (Ok tt) bytes) (Load client frame offset bytes ∷ x.0.steps) refl refl leads (load_kept loads) x.0.may (devices_belong {D = DeviceStep} (LoadAt client frame offset (length bytes)) (ports_of s) x.0.steps x.0.only, inr (refl, refl, refl, refl))
             (devices_last x.0.steps x.0.only, λ id h i. false≢true h)
-            (devices_lawful old.moment no_evidence (ports_of s.ports) x.0.steps x.0.only)
-            (as_told s old.moment.machine at.machine (λ owner lent. IsOpen owner lent client frame offset (length bytes)) opens, ap (λ (rest : List (List ℕ)). bytes ∷ rest) (devices_transfer x.0.steps x.0.only), ports_same old.moment.ports (ports_of s.ports) at.ports_are)
+            (devices_lawful old.moment no_evidence (ports_of s) x.0.steps x.0.only)
+            (as_told s old.moment.machine at.machine (λ owner lent. IsOpen owner lent client frame offset (length bytes)) opens, ap (λ (rest : List (List ℕ)). bytes ∷ rest) (devices_transfer x.0.steps x.0.only), ports_same old.moment.ports (ports_of s) at.ports_are)
             (Loading (4096 * frame.0 + offset) bytes ∷ [])
             ((new, loads, refl), refl)
             (λ port. All-cons (LeavesEngine port) (Loading (4096 * frame.0 + offset) bytes) [] (tt, tt) (All-nil (LeavesEngine port)))
             (λ port. tt)
-            (λ port healthy. record { finds = tt; faults = tt; tries = tt; boots = tt; trouble = untroubled (told_by s.device old.moment.ports) (with_device s.device old) (ports_of s.ports) new port healthy; well = λ i. absurd (uninterrupted s.device old.moment.ports port i); heeds = uninterrupted s.device old.moment.ports port })
+            (λ port healthy. record { finds = tt; faults = tt; tries = tt; boots = tt; trouble = untroubled (told_by s.device old.moment.ports) (with_device s.device old) (ports_of s) new port healthy; well = λ i. absurd (uninterrupted s.device old.moment.ports port i); heeds = uninterrupted s.device old.moment.ports port })
             x.0.backed x.1
 
     pub store_adds : Stores (4096 * frame.0 + offset) bytes s.device new → Adds s (record s { device = new }) (StoreAt client frame offset bytes) (store_said (Ok tt))
@@ -266,15 +266,15 @@ module _ (laws : LawsBelow) where
             let old : Instant Device = now first past in
             let at : Stands old s = leads.stands in
             let x = store_ends s new client frame offset bytes k opens stores old.moment.machine (reached first past s leads) at.machine in
-            lead_by first past s (record s { device = new }) (StoreAt client frame offset bytes) (store_said (Ok tt)) (Store client frame offset bytes ∷ x.0.steps) refl refl leads (store_kept stores) x.0.may (devices_belong {D = DeviceStep} (StoreAt client frame offset bytes) (ports_of s.ports) x.0.steps x.0.only, inr (refl, refl, refl, refl))
+            lead_by first past s (record s { device = new }) (StoreAt client frame offset bytes) (store_said (Ok tt)) (Store client frame offset bytes ∷ x.0.steps) refl refl leads (store_kept stores) x.0.may (devices_belong {D = DeviceStep} (StoreAt client frame offset bytes) (ports_of s) x.0.steps x.0.only, inr (refl, refl, refl, refl))
             (devices_last x.0.steps x.0.only, λ id h i. false≢true h)
-            (devices_lawful old.moment no_evidence (ports_of s.ports) x.0.steps x.0.only)
-            (as_told s old.moment.machine at.machine (λ owner lent. IsOpen owner lent client frame offset (length bytes)) opens, ap (λ (rest : List (List ℕ)). bytes ∷ rest) (devices_transfer x.0.steps x.0.only), ports_same old.moment.ports (ports_of s.ports) at.ports_are)
+            (devices_lawful old.moment no_evidence (ports_of s) x.0.steps x.0.only)
+            (as_told s old.moment.machine at.machine (λ owner lent. IsOpen owner lent client frame offset (length bytes)) opens, ap (λ (rest : List (List ℕ)). bytes ∷ rest) (devices_transfer x.0.steps x.0.only), ports_same old.moment.ports (ports_of s) at.ports_are)
             (Storing (4096 * frame.0 + offset) bytes ∷ [])
             ((new, stores, refl), refl)
             (λ port. All-cons (LeavesEngine port) (Storing (4096 * frame.0 + offset) bytes) [] (tt, tt) (All-nil (LeavesEngine port)))
             (λ port. tt)
-            (λ port healthy. record { finds = tt; faults = tt; tries = tt; boots = tt; trouble = untroubled (told_by s.device old.moment.ports) (with_device s.device old) (ports_of s.ports) new port healthy; well = λ i. absurd (uninterrupted s.device old.moment.ports port i); heeds = uninterrupted s.device old.moment.ports port })
+            (λ port healthy. record { finds = tt; faults = tt; tries = tt; boots = tt; trouble = untroubled (told_by s.device old.moment.ports) (with_device s.device old) (ports_of s) new port healthy; well = λ i. absurd (uninterrupted s.device old.moment.ports port i); heeds = uninterrupted s.device old.moment.ports port })
             x.0.backed x.1
 
   -- of so many bytes

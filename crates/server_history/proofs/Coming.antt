@@ -66,7 +66,7 @@ issuing_turns Such port such low (Loading at bytes) here = absurd here
 
 -- what serves ports writes neither PxCMD nor PxSCTL, nor GHC
 service_leaves : (port : Port) (access : Access) → IsService access → LeavesEngine port access
-service_leaves port access here = (spares_port port Cmd (λ e. cc) (λ e. cc) access here, spares_port port Sctl (λ e. cc) (λ e. cc) access here)
+service_leaves port access here = (spares_port port Cmd (λ e. cc) (λ e. cc) (λ e. cc) access here, spares_port port Sctl (λ e. cc) (λ e. cc) (λ e. cc) access here)
 
 pub issuing_leaves : (port other : Port) (access : Access) → IsPlainIssuing port access → LeavesEngine other access
 issuing_leaves port other access here = service_leaves other access (plain_serves port access here)

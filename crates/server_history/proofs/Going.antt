@@ -142,14 +142,14 @@ with_device d i = record { device = d; moment = i.moment }
 -- a call, with what its event needs
 pub lead_by : (first : Instant Device) (past : List (Happening Device DeviceStep)) (s new : Server) (ask : Ask DeviceStep) (said : Said) (steps : List Step)
     → new.wanted ≡ s.wanted → new.ports ≡ s.ports → Leads first past s → IsKept new
-    → AllMay (now first past).moment.machine steps → Belong ask (ports_of new.ports) steps → IssuesLast steps
-    → AllLawful (now first past).moment no_evidence (ports_of new.ports) steps
-    → IsAnswered ask said (now first past).moment (told_by s.device (now first past).moment.ports) steps (record { machine = after (now first past).moment.machine steps; ports = ports_of new.ports })
+    → AllMay (now first past).moment.machine steps → Belong ask (ports_of new) steps → IssuesLast steps
+    → AllLawful (now first past).moment no_evidence (ports_of new) steps
+    → IsAnswered ask said (now first past).moment (told_by s.device (now first past).moment.ports) steps (record { machine = after (now first past).moment.machine steps; ports = ports_of new })
     → (accesses : List Access) → CameBy (now first past).moment ask said accesses s.device new.device
     → ((port : Port) → All (LeavesEngine port) accesses)
-    → ((port : Port) → Issues ask steps (after (now first past).moment.machine steps) (ports_of new.ports) port)
+    → ((port : Port) → Issues ask steps (after (now first past).moment.machine steps) (ports_of new) port)
     → ((port : Port) → StaysHealthy port.0 s.device new.device
-    → TiesPort (with_device s.device (now first past)) (happening (with_device s.device (now first past)) new.device ask said steps (ports_of new.ports)) accesses port)
+    → TiesPort (with_device s.device (now first past)) (happening (with_device s.device (now first past)) new.device ask said steps (ports_of new)) accesses port)
     → IsBacked s.device new.device (now first past).moment.machine steps
     → IsMachineOf new (after (now first past).moment.machine steps)
     → (h : Happening Device DeviceStep) × (h.event.ask ≡ ask) × (h.event.said ≡ said) × Leads first (h ∷ past) new
@@ -164,9 +164,9 @@ lead_by first past s new ask said steps wanted_is ports_is leads kept may belong
         may = may;
         belong = belong;
         last = last;
-        lawful = lawful_told s.device old.moment.ports old.moment (ports_of new.ports) steps lawful;
+        lawful = lawful_told s.device old.moment.ports old.moment (ports_of new) steps lawful;
         fit = subst AreFit ports fit;
-        disks = λ e o here i same. disks_same old.moment.ports (ports_of new.ports) ports e.request.port;
+        disks = λ e o here i same. disks_same old.moment.ports (ports_of new) ports e.request.port;
         answered = answered;
       },
       subst (λ (d : Device). Ties new.wanted (with_device d old) h) (sym at.device_is) ties,
@@ -181,14 +181,14 @@ lead_by first past s new ask said steps wanted_is ports_is leads kept may belong
     at : Stands old s
     at = leads.stands
 
-    ports : old.moment.ports ≡ ports_of new.ports
+    ports : old.moment.ports ≡ ports_of new
     ports = at.ports_are ∙ ap ports_of (sym ports_is)
 
     fit : AreFit old.moment.ports
     fit = history_fit (Begins s.wanted) (Ties s.wanted) first past leads.history
 
     h : Happening Device DeviceStep
-    h = happening (with_device s.device old) new.device ask said steps (ports_of new.ports)
+    h = happening (with_device s.device old) new.device ask said steps (ports_of new)
 
     later : Machine
     later = after old.moment.machine steps
@@ -201,7 +201,7 @@ lead_by first past s new ask said steps wanted_is ports_is leads kept may belong
       accesses = accesses;
       came = came;
       backed = backed;
-      evidenced = evidenced ask said accesses (with_device s.device old) (ports_of new.ports) new.device (λ port ready. (ready_low old port fit ready).1) leaves;
+      evidenced = evidenced ask said accesses (with_device s.device old) (ports_of new) new.device (λ port ready. (ready_low old port fit ready).1) leaves;
       issues = issues;
       port = parts;
       holds = (slots new kept later reached stands, holds_with new kept later reached stands);

@@ -106,7 +106,7 @@ module _ (s : Server) (r : Request) (acc : IsAcceptable (situation_of s) r) (row
 
     module _ (laws : LawsBelow) (m : Machine) (reached : IsReached m) (is : IsMachineOf s m) where
       abbrev at : Instant Device
-      at = record { device = s.device; moment = record { machine = m; ports = ports_of s.ports } }
+      at = record { device = s.device; moment = record { machine = m; ports = ports_of s } }
 
       allowed : IsAcceptable (events.situation_of at.moment) r
       allowed = subst (λ (x : Situation). IsAcceptable x r) (sym (situation_is laws s at (record { device_is = refl; ports_are = refl; machine = is }))) acc

@@ -45,7 +45,7 @@ link_still : (port : Port) (access : Access) (old new : Device) → IsOn old →
 link_still port access old new on is does saw = by access is does
   where
     spared : (a : Access) → IsService a → Does a old new → SparesReading (Px port Ssts) a → (new.port port.0).notes.link_count ≡ 64
-    spared a its did other = ((access_notes port a old new did).link other).1 (spares_port port Sctl (λ e. cc) (λ e. cc) a its) ∙ saw
+    spared a its did other = ((access_notes port a old new did).link other).1 (spares_port port Sctl (λ e. cc) (λ e. cc) (λ e. cc) a its) ∙ saw
 
     read : (r : Reg) (v : ℕ) → IsService (Reading r v) → Does (Reading r v) old new → (new.port port.0).notes.link_count ≡ 64
     read (Px p Ssts) v its did = ⊎_elim
@@ -65,11 +65,11 @@ link_still port access old new on is does saw = by access is does
 each : (port : Port) (access : Access) (old new : Device) → IsOn old → IsService access → Does access old new → Holds port.0 old → Holds port.0 new
 each port access old new on is does h =
     let left : LeavesControls access port (old.port port.0) (new.port port.0) = access_controls port access old new on.no_reset does in
-    let command = left.command (spares_port port Cmd (λ e. cc) (λ e. cc) access is) in
-    let list = left.list (spares_port port Clb (λ e. cc) (λ e. cc) access is) in
-    let list_upper = left.list_upper (spares_port port Clbu (λ e. cc) (λ e. cc) access is) in
-    let received = left.received (spares_port port Fb (λ e. cc) (λ e. cc) access is) in
-    let received_upper = left.received_upper (spares_port port Fbu (λ e. cc) (λ e. cc) access is) in
+    let command = left.command (spares_port port Cmd (λ e. cc) (λ e. cc) (λ e. cc) access is) in
+    let list = left.list (spares_port port Clb (λ e. cc) (λ e. cc) (λ e. cc) access is) in
+    let list_upper = left.list_upper (spares_port port Clbu (λ e. cc) (λ e. cc) (λ e. cc) access is) in
+    let received = left.received (spares_port port Fb (λ e. cc) (λ e. cc) (λ e. cc) access is) in
+    let received_upper = left.received_upper (spares_port port Fbu (λ e. cc) (λ e. cc) (λ e. cc) access is) in
     record {
       st = command.0 ∙ h.st;
       cr = command.3 h.st h.cr;
@@ -82,7 +82,7 @@ each port access old new on is does h =
 pub shown_on : Laws → (port : Port) (old new : Device) → IsOn old → IsDrivenBy IsService old new → HasDeviceOrNone (old.port port.0) → HasDeviceOrNone (new.port port.0)
 shown_on laws port old new on driven =
     (services_keep laws (λ x y. HasDeviceOrNone (x.port port.0) → HasDeviceOrNone (y.port port.0)) (λ d h. h) (λ x y z p q h. q (p h))
-    (λ access x y ready is does. access_shown port access x y ready.no_reset (spares_port port Sctl (λ e. cc) (λ e. cc) access is) does) old new on driven).0
+    (λ access x y ready is does. access_shown port access x y ready.no_reset (spares_port port Sctl (λ e. cc) (λ e. cc) (λ e. cc) access is) does) old new on driven).0
 
 pub runs_on : Laws → (port : Port) (old new : Device) → IsOn old → IsDrivenBy IsService old new → Runs port.0 old → Runs port.0 new
 runs_on laws port old new on driven r = record {

@@ -113,9 +113,9 @@ module _ (laws : LawsBelow) (s : Server) (start : IsSettled s) (old : Moment) (r
   record Progress (n : ℕ) (c : Server) (replies : List Reply) : Type 0 where
     settled : IsSettled c
     same : SameSettings s c
-    driven : IsDrivenBy (IsTurn (TendsPort (ports_of s.ports))) s.device c.device
+    driven : IsDrivenBy (IsTurn (TendsPort (ports_of s))) s.device c.device
     steps : List Step
-    turns : AreTurns old (ports_of s.ports) n n steps
+    turns : AreTurns old (ports_of s) n n steps
     stands : IsMachineOf c (after old.machine steps)
     backed : IsBacked s.device c.device old.machine steps
     answers : List (Pending × Outcome)
@@ -132,9 +132,9 @@ module _ (laws : LawsBelow) (s : Server) (start : IsSettled s) (old : Moment) (r
   begun = record {
     settled = start;
     same = refl;
-    driven = by_none (IsTurn (TendsPort (ports_of s.ports))) s.device;
+    driven = by_none (IsTurn (TendsPort (ports_of s))) s.device;
     steps = [];
-    turns = no_turns old (ports_of s.ports);
+    turns = no_turns old (ports_of s);
     stands = at;
     backed = nothing_backed s.device old.machine;
     answers = [];
@@ -180,7 +180,7 @@ module _ (laws : LawsBelow) (s : Server) (start : IsSettled s) (old : Moment) (r
     same = p.same;
     driven = p.driven;
     steps = p.steps;
-    turns = turns_more old (ports_of s.ports) n n (n + 1) (n + 1) p.steps (omega arith) (omega arith) p.turns;
+    turns = turns_more old (ports_of s) n n (n + 1) (n + 1) p.steps (omega arith) (omega arith) p.turns;
     stands = p.stands;
     backed = p.backed;
     answers = p.answers;
@@ -205,7 +205,7 @@ module _ (laws : LawsBelow) (s : Server) (start : IsSettled s) (old : Moment) (r
     abbrev m : Machine
     m = after old.machine p.steps
 
-    its_served : TendsPort (ports_of s.ports) (port_at n)
+    its_served : TendsPort (ports_of s) (port_at n)
     its_served = (ap is_served found_is, λ dead. let z : ReadyState ≡ Dead = sym (ap state_of found_is) ∙ dead in absurd cc)
 
     m_reached : IsReached m
@@ -265,14 +265,14 @@ module _ (laws : LawsBelow) (s : Server) (start : IsSettled s) (old : Moment) (r
         x.2.entry.port ∙ x.2.port_is
 
     module _ (replies : List Reply) (serves : ServesPort (port_at n) replies c mid) where
-      turn_is : TurnList (TendsPort (ports_of s.ports)) (port_at n) its_served (slots_at c.slots n) replies c.device mid.device serves.turn
-      turn_is = turn_list (TendsPort (ports_of s.ports)) (port_at n) its_served laws.looks low (slots_at c.slots n) replies c.device mid.device serves.turn
+      turn_is : TurnList (TendsPort (ports_of s)) (port_at n) its_served (slots_at c.slots n) replies c.device mid.device serves.turn
+      turn_is = turn_list (TendsPort (ports_of s)) (port_at n) its_served laws.looks low (slots_at c.slots n) replies c.device mid.device serves.turn
 
       through : IsDrivenBy IsService c.device mid.device
-      through = driven_as (IsTurn (TendsPort (ports_of s.ports))) IsService c.device mid.device (λ access is. is.0) turn_is.driven
+      through = driven_as (IsTurn (TendsPort (ports_of s))) IsService c.device mid.device (λ access is. is.0) turn_is.driven
 
       so_far : IsDrivenBy IsService s.device c.device
-      so_far = driven_as (IsTurn (TendsPort (ports_of s.ports))) IsService s.device c.device (λ access is. is.0) p.driven
+      so_far = driven_as (IsTurn (TendsPort (ports_of s))) IsService s.device c.device (λ access is. is.0) p.driven
 
       -- what goes well in both went well so far, and since
       well_parts : (q : Port) → StaysHealthy q.0 s.device mid.device → StaysHealthy q.0 s.device c.device × (RunsWell (c.device.port q.0) × Undisturbed q.0 c.device mid.device)
@@ -341,7 +341,7 @@ module _ (laws : LawsBelow) (s : Server) (start : IsSettled s) (old : Moment) (r
           (cases_eq q.0 n))
 
       -- the port had its turn, and these requests were answered
-      had_turn : AreTurns old (ports_of s.ports) (n + 1) (n + 1) all → (answers : List (Pending × Outcome)) → IsPermutation answers (answers_of all) → AllPairs IsToldBefore answers
+      had_turn : AreTurns old (ports_of s) (n + 1) (n + 1) all → (answers : List (Pending × Outcome)) → IsPermutation answers (answers_of all) → AllPairs IsToldBefore answers
           → All (λ a. a.0.request.port.0 < n + 1) answers → before ++ replies ≡ map reply_of answers
           → (StaysHealthy n s.device mid.device → (e : Pending) → Contains old.machine.book e → e.request.port ≡ port_at n → e.ended ≡ true → (done : Pending) × (done.request ≡ e.request) × Contains all (Answer done Ok))
           → (StaysHealthy n s.device mid.device → (e : Pending) → IsIssuedOn (port_at n) old.machine e → FindsDone (port_at n) (p.driven.accesses ++ turn_is.driven.accesses) began all)
@@ -352,7 +352,7 @@ module _ (laws : LawsBelow) (s : Server) (start : IsSettled s) (old : Moment) (r
         driven = record {
           accesses = p.driven.accesses ++ turn_is.driven.accesses;
           all = does_append p.driven.accesses turn_is.driven.accesses s.device c.device mid.device p.driven.all turn_is.driven.all;
-          only = All-append (IsTurn (TendsPort (ports_of s.ports))) p.driven.accesses turn_is.driven.accesses p.driven.only turn_is.driven.only;
+          only = All-append (IsTurn (TendsPort (ports_of s))) p.driven.accesses turn_is.driven.accesses p.driven.only turn_is.driven.only;
         };
         steps = all;
         turns = turns;
@@ -522,7 +522,7 @@ module _ (laws : LawsBelow) (s : Server) (start : IsSettled s) (old : Moment) (r
           here = ap (λ (late : List Access). p.driven.accesses ++ late) checks.2.1.here
               ∙ sym (append_assoc p.driven.accesses checks.2.1.before (Reading (Px (port_at n) Ci) k.reads.issued ∷ Reading (Px (port_at n) Sact) k.reads.active ∷ checks.2.1.later));
           running = All-append (LeavesCommand (port_at n)) p.driven.accesses checks.2.1.before
-              (λ i d small. (turn_leaves (TendsPort (ports_of s.ports)) (port_at n) _ (p.driven.only i d small)).0) checks.2.1.running;
+              (λ i d small. (turn_leaves (TendsPort (ports_of s)) (port_at n) _ (p.driven.only i d small)).0) checks.2.1.running;
         };
         exact = λ other slot own says. ⊎_elim
             (λ (same : slot ≡ (leading other own).has.slot). subst (λ (i : ℕ). IsAnsweredOk other (all replies serves) ↔ AreClear i) (sym same) (at_slot other own))
@@ -534,7 +534,7 @@ module _ (laws : LawsBelow) (s : Server) (start : IsSettled s) (old : Moment) (r
 
     -- These steps answered these; those of these requests that are left come later by id.
     record SoFar (left : List Held) (steps : List Step) (answers : List (Pending × Outcome)) : Type 0 where
-      turns : AreTurns old (ports_of s.ports) n (suc n) steps
+      turns : AreTurns old (ports_of s) n (suc n) steps
       permuted : IsPermutation answers (answers_of steps)
       ordered : AllPairs IsToldBefore answers
       low : All (λ a. a.0.request.port.0 < n + 1) answers
@@ -543,7 +543,7 @@ module _ (laws : LawsBelow) (s : Server) (start : IsSettled s) (old : Moment) (r
     one_more : (e : Held) (left : List Held) (done : Pending) (steps : List Step) (answers : List (Pending × Outcome)) → AllPairs IsEarlier (e ∷ left) → HasEnded (port_at n) e done
         → Contains (after old.machine steps).book done → SoFar (e ∷ left) steps answers → SoFar left (Answer done Ok ∷ steps) (answers ++ (done, Ok) ∷ [])
     one_more e left done steps answers order has here f = record {
-      turns = answer_on old (ports_of s.ports) reached n steps done (ap (λ (q : Port). q.0) own) here (suc n) (omega arith) has.issued has.touched has.ended
+      turns = answer_on old (ports_of s) reached n steps done (ap (λ (q : Port). q.0) own) here (suc n) (omega arith) has.issued has.touched has.ended
           (ap (λ (q : Port). state_of (found_of s.ports q.0)) own ∙ ready) f.turns;
       permuted = IsPermutation-push_more answers (answers_of steps) ((done, Ok) ∷ answers_of steps) (done, Ok) f.permuted (IsPermutation-refl _);
       ordered = all_pairs_push IsToldBefore answers (done, Ok) f.ordered (λ k d small. ⊎_elim
@@ -586,7 +586,7 @@ module _ (laws : LawsBelow) (s : Server) (start : IsSettled s) (old : Moment) (r
 
       begins : SoFar b.requests early p.answers
       begins = record {
-        turns = turns_more old (ports_of s.ports) n n n (suc n) early (omega arith) (omega arith) (devices_on old (ports_of s.ports) n n b.before p.steps b.first first.0 p.turns);
+        turns = turns_more old (ports_of s) n n n (suc n) early (omega arith) (omega arith) (devices_on old (ports_of s) n n b.before p.steps b.first first.0 p.turns);
         permuted = subst (IsPermutation p.answers) (sym (devices_answer b.before p.steps b.first)) p.permuted;
         ordered = p.ordered;
         low = λ i d small. let lt = p.low i d small in omega (arith, lt);
@@ -599,16 +599,16 @@ module _ (laws : LawsBelow) (s : Server) (start : IsSettled s) (old : Moment) (r
       base_is : after old.machine base ≡ after m (answers_in b.ended ++ b.before)
       base_is = ap (after old.machine) (sym (append_assoc (answers_in b.ended) b.before p.steps)) ∙ after-append old.machine (answers_in b.ended ++ b.before) p.steps
 
-      then_on : AreTurns old (ports_of s.ports) (suc n) (suc n) (b.later ++ base)
-      then_on = issues_on old (ports_of s.ports) reached n (port_at n) refl ready refl b.later base b.last
+      then_on : AreTurns old (ports_of s) (suc n) (suc n) (b.later ++ base)
+      then_on = issues_on old (ports_of s) reached n (port_at n) refl ready refl b.later base b.last
           (subst (λ (k : Machine). AllMay k b.later) (sym base_is) both.1)
-          (turns_more old (ports_of s.ports) n (suc n) (suc n) (suc n) base (omega arith) (omega arith) answered.turns)
+          (turns_more old (ports_of s) n (suc n) (suc n) (suc n) base (omega arith) (omega arith) answered.turns)
 
       whole : late ++ p.steps ≡ b.later ++ base
       whole = ap (λ (steps : List Step). steps ++ p.steps) b.steps_are ∙ append_assoc b.later (answers_in b.ended ++ b.before) p.steps ∙ ap (λ (steps : List Step). b.later ++ steps) (append_assoc (answers_in b.ended) b.before p.steps)
 
-      its_turns : AreTurns old (ports_of s.ports) (n + 1) (n + 1) (late ++ p.steps)
-      its_turns = turns_more old (ports_of s.ports) (suc n) (suc n) (n + 1) (n + 1) (late ++ p.steps) (omega arith) (omega arith) (subst (AreTurns old (ports_of s.ports) (suc n) (suc n)) (sym whole) then_on)
+      its_turns : AreTurns old (ports_of s) (n + 1) (n + 1) (late ++ p.steps)
+      its_turns = turns_more old (ports_of s) (suc n) (suc n) (n + 1) (n + 1) (late ++ p.steps) (omega arith) (omega arith) (subst (AreTurns old (ports_of s) (suc n) (suc n)) (sym whole) then_on)
 
       its_answers : answers_of (late ++ p.steps) ≡ answers_of base
       its_answers = ap answers_of whole ∙ issuing_answers (port_at n) b.later base b.last
@@ -701,9 +701,9 @@ module _ (laws : LawsBelow) (s new : Server) (replies : List Reply) (start : IsS
   stands = subst (λ (x : Server). IsMachineOf x (after old.machine p.steps)) p.same p.stands
 
   abbrev end : Moment
-  end = record { machine = after old.machine p.steps; ports = ports_of s.ports }
+  end = record { machine = after old.machine p.steps; ports = ports_of s }
 
-  same : old.ports ≡ ports_of s.ports
+  same : old.ports ≡ ports_of s
   same = leads.stands.ports_are
 
   is_ready : (port : Port) → old.ports.state port ≡ state_of (found_of s.ports port.0)
@@ -728,8 +728,8 @@ module _ (laws : LawsBelow) (s new : Server) (replies : List Reply) (start : IsS
     };
     issues = λ port is. none_due later (after old.machine p.steps) stands port (settled.issued port);
     emptied = emptied;
-    becomes = serviced_same s.device old.ports old.ports (ports_of s.ports) same;
-    disk = λ port. inl (ports_same old.ports (ports_of s.ports) same port);
+    becomes = serviced_same s.device old.ports old.ports (ports_of s) same;
+    disk = λ port. inl (ports_same old.ports (ports_of s) same port);
   }
 
   -- a ready port had its turn
@@ -742,13 +742,13 @@ module _ (laws : LawsBelow) (s new : Server) (replies : List Reply) (start : IsS
       let found_ready : state_of (found_of s.ports port.0) ≡ ReadyState = sym (is_ready port) ∙ ready in
       calmly old end p.steps port
       ((at.knows.agrees.disk port.0).present ∙ well.well.present)
-      (ports_same old.ports (ports_of s.ports) same port)
+      (ports_same old.ports (ports_of s) same port)
       (none_refused p.steps (λ e o h. (p.turns.told e o h).0))
       (p.heeded port (counted port ready) found_ready well)
 
   -- a port that isn't ready is stopped, or idle: it doesn't run well
   port_part : (port : Port) → StaysHealthy port.0 s.device new.device
-      → TiesPort (with_device s.device (now first past)) (happening (with_device s.device (now first past)) new.device Service (Served replies) p.steps (ports_of s.ports)) p.driven.accesses port
+      → TiesPort (with_device s.device (now first past)) (happening (with_device s.device (now first past)) new.device Service (Served replies) p.steps (ports_of s)) p.driven.accesses port
   port_part port well = record {
     finds = λ ready e its. p.finds port (counted port ready) (sym (is_ready port) ∙ ready) well e its;
     faults = λ alone. absurd (false≢true (sym (well.well.quiet.quiet 30 (omega arith) (omega arith)) ∙ alone.shows.fault));
@@ -763,14 +763,14 @@ module _ (laws : LawsBelow) (s new : Server) (replies : List Reply) (start : IsS
           (λ fatal. no_fatal (s.device.port port.0) well.well (fatal_shows (s.device.port port.0) fatal))
           (λ loss. no_loss (s.device.port port.0) well.well (loss_shows (s.device.port port.0) (⊎_elim (λ change. inl change) (λ out. inr out.0) loss)))
           trouble),
-      inl (ports_same old.ports (ports_of s.ports) same port),
+      inl (ports_same old.ports (ports_of s) same port),
     );
-    trouble = untroubled (told_by s.device old.ports) (with_device s.device (now first past)) (ports_of s.ports) new.device port well;
+    trouble = untroubled (told_by s.device old.ports) (with_device s.device (now first past)) (ports_of s) new.device port well;
     well = λ i. absurd (uninterrupted s.device old.ports port i);
     heeds = λ ready. serves_told s.device old.ports old end p.steps port well.well (heeds port well ready);
   }
     where
-      idle : (ports_of s.ports).served port ≡ true → state_of (found_of s.ports port.0) ≢ ReadyState → ⊥
+      idle : (ports_of s).served port ≡ true → state_of (found_of s.ports port.0) ≢ ReadyState → ⊥
       idle served other = not_running s start.kept port served other well.well
 
       not_bad : HasBadDisk old.ports port → old.ports.state port ≡ ReadyState → ⊥
@@ -782,8 +782,8 @@ module _ (laws : LawsBelow) (s new : Server) (replies : List Reply) (start : IsS
       (lead_by first past s later Service (Served replies) p.steps refl refl leads holds
       p.turns.may p.turns.belong p.turns.last p.turns.lawful all_answered
       p.driven.accesses
-      (p.driven.all, subst (λ (ports : Ports). All (IsServing (TendsPort ports)) p.driven.accesses) (sym same) (λ i d small. turn_serving (TendsPort (ports_of s.ports)) _ (p.driven.only i d small)))
-      (λ port i d small. turn_leaves (TendsPort (ports_of s.ports)) port _ (p.driven.only i d small))
+      (p.driven.all, subst (λ (ports : Ports). All (IsServing (TendsPort ports)) p.driven.accesses) (sym same) (λ i d small. turn_serving (TendsPort (ports_of s)) _ (p.driven.only i d small)))
+      (λ port i d small. turn_leaves (TendsPort (ports_of s)) port _ (p.driven.only i d small))
       (λ port ready. p.due port)
       port_part
       p.backed stands)

@@ -50,7 +50,7 @@ module _ (s : Server) (k : IsKept s) (m : Machine) (reached : IsReached m) (is :
   slots = record { uses = is.uses; parked = none_parked }
 
   abbrev pub instant : Instant Device
-  instant = record { device = s.device; moment = record { machine = m; ports = ports_of s.ports } }
+  instant = record { device = s.device; moment = record { machine = m; ports = ports_of s } }
 
   none_kept : (port : Port) → NoneKept m port
   none_kept port e here = absurd (contains_none e (subst (λ (es : List Pending). Contains es e) is.kept here))

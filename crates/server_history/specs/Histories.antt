@@ -12,7 +12,7 @@ use Rattle.server_history.specs.Server.{Server, ports_of, IsSettled, IsMachineOf
 -- An instant of a history is where the server stands: the device is its own, the ports are what it says, and the machine stands for it.
 pub record Stands (now : Instant Device) (s : Server) : Type 0 where
   pub device_is : now.device ≡ s.device
-  pub ports_are : now.moment.ports ≡ ports_of s.ports
+  pub ports_are : now.moment.ports ≡ ports_of s
   pub machine : IsMachineOf s now.moment.machine
 
 -- what a store of a client's bytes says

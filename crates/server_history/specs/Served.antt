@@ -1,5 +1,5 @@
 -- How a port is served, as the block machine has it (this project's own).
-use Rattle.std.specs.Prelude.{ℕ, Bool, true, false, ◌≡◌, ◌≢◌, ◌⊎◌, ◌↔◌, ◌<◌, ◌+◌, ◌++◌, List, [], ◌∷◌, map, Option, Some, None, AllPairs, Contains}
+use Rattle.std.specs.Prelude.{ℕ, Bool, true, false, not, ◌≡◌, ◌≢◌, ◌⊎◌, ◌↔◌, ◌<◌, ◌+◌, ◌++◌, List, [], ◌∷◌, map, Option, Some, None, AllPairs, Contains}
 use Rattle.std.specs.List.{AllZip}
 use Rattle.ata_types.specs.declared.Port.{Port}
 use Rattle.ata_types.specs.declared.request.Outcome.TheVariants as outcome
@@ -12,7 +12,8 @@ use Rattle.agreement.specs.Agrees.{port_at}
 use Rattle.agreement.specs.Driven.{IsDrivenBy}
 use Rattle.agreement.specs.Driver.{IsBacked}
 use Rattle.agreement.specs.Facts.{RunsWell, Undisturbed}
-use Rattle.block_machine.specs.Due.{IsDue}
+use Rattle.block_machine.specs.Due.{IsDue, is_plain}
+use Rattle.block_machine.specs.declared.due.Mode.{Mode}
 use Rattle.block_machine.specs.Events.{AllMay, AllDevices, IsDevices}
 use Rattle.block_machine.specs.Histories.{IsReached}
 use Rattle.block_machine.specs.Left.{after}
@@ -24,19 +25,14 @@ use Rattle.driver_history.specs.Histories.{IssuesDue}
 use Rattle.host_boot.specs.declared.Found.{Found}
 use Rattle.host_boot.specs.declared.Found.TheVariants.{Ready}
 use Rattle.adapter.specs.Access.{Access}
-use Rattle.adapter.specs.Access.Access.{Writing, Storing}
-use Rattle.agreement.specs.Driven.{IsBitOf}
-use Rattle.command_table.specs.Written.{IsTableStore}
 use Rattle.hba_regs.specs.Bits.{bit}
-use Rattle.hba_regs.specs.declared.reg.PortReg.TheVariants.{Ci}
-use Rattle.hba_regs.specs.declared.reg.Reg.TheVariants.{Px}
 use Rattle.ncq.specs.Masks.{FindsDone}
-use Rattle.ncq.specs.Transfers.{IssuesTransfer}
+use Rattle.ncq.specs.Transfers.{IsIssuing, IssuesTransfer}
 use Rattle.ncq.specs.declared.Transfer.{Transfer}
 use Rattle.request_queue.specs.Entries.{Held, IsEarlier, asks, asks_of, at, due_ids, issue, without}
 use Rattle.request_queue.specs.Machine.{IsEntry}
-use Rattle.server_history.specs.Server.{Server, IsSettled, IsMachineOf, plain_mode, slots_at, used_for, with_slot}
-use Rattle.slots.specs.Uses.{Uses as PortSlots, use_at}
+use Rattle.server_history.specs.Server.{Server, IsSettled, IsMachineOf, mode_in, slots_at, used_for, with_slot}
+use Rattle.slots.specs.Uses.{Uses as PortSlots, IsLowestFree, use_at}
 use Rattle.slots.specs.declared.Use.{Use as SlotUse}
 use Rattle.port_look.specs.Looks.{LooksAt}
 use Rattle.port_look.specs.declared.Look.{Look}
@@ -53,11 +49,9 @@ is_used (Some used) = true
 abbrev pub IsMaskOf : PortSlots → ℕ → Type 0
 IsMaskOf slots mask = (slot : ℕ) → slot < 32 → bit mask slot ≡ is_used (use_at slots slot)
 
--- It stores header or table of slot 0, or writes PxCI with bit 0 alone.
-abbrev pub IsPlainIssuing : Port → Access → Type 0
-IsPlainIssuing port (Writing r v) = (r ≡ Px port Ci) × IsBitOf 0 v
-IsPlainIssuing port (Storing at bytes) = IsTableStore port.0 0 (Storing at bytes)
-IsPlainIssuing port access = ⊥
+-- it stores header or table of a slot of the port, or writes that slot's bit of PxSACT or PxCI
+abbrev pub IssuesIn : Port → Access → Type 0
+IssuesIn port access = (slot : ℕ) × (slot < 32) × IsIssuing port slot access
 
 -- no slot has its bit
 abbrev pub HasNone : ℕ → Type 0
@@ -75,7 +69,7 @@ pub record Checks (port : Port) (slots : PortSlots) (mask : ℕ) (replies : List
   pub reads : FindsDone port mask done old read
   pub exact : (slot : ℕ) (used : SlotUse) → slot < 32 → use_at slots slot ≡ Some used → bit done slot ≡ true ↔ IsAnsweredIn used.id replies
   pub running : HasNone done → (replies ≡ []) × (new ≡ read)
-  pub over : IsDrivenBy (IsPlainIssuing port) read new
+  pub over : IsDrivenBy (IssuesIn port) read new
 
 -- The slots that are used were checked. Where none is, nothing was read, nobody was answered, and that was all.
 pub record ChecksUsed (port : Port) (slots : PortSlots) (replies : List Reply) (old new : Device) : Type 0 where
@@ -95,22 +89,27 @@ pub record HasTurn (port : Port) (slots : PortSlots) (replies : List Reply) (old
 
 -- ---- requests are issued
 
--- a request, as it is issued
-abbrev pub transfer_of : Held → Transfer
-transfer_of e = record { op = e.entry.op; range = e.entry.range; queued = false }
+-- a request, as a port with this mode issues it
+abbrev pub transfer_of : Mode → Held → Transfer
+transfer_of mode e = record { op = e.entry.op; range = e.entry.range; queued = not (is_plain mode e.entry.op) }
 
--- A due request of the port was issued in slot 0: its bit of PxCI is set.
+-- what a slot is used for that has its command
+abbrev pub use_for : Mode → Held → SlotUse
+use_for mode e = record { id = e.entry.id; queued = (transfer_of mode e).queued }
+
+-- A due request of the port was issued in the lowest slot that was free.
 pub record IssuesOne (port : Port) (id : RequestId) (old new : Server) : Type 0 where
   pub request : Held
   pub here : Contains old.book request
   pub id_is : request.entry.id ≡ id
   pub port_is : request.entry.port ≡ port
-  pub due : IsDue plain_mode (asks_of old.book) (asks request.entry)
-  pub issues : IssuesTransfer port 0 (transfer_of request) request.frames old.device new.device
-  pub sent : (new.device.port port.0).ci 0 ≡ true
+  pub due : IsDue (mode_in old port) (asks_of old.book) (asks request.entry)
+  pub slot : ℕ
+  pub lowest : IsLowestFree (slots_at old.slots port.0) slot
+  pub issues : IssuesTransfer port slot (transfer_of (mode_in old port) request) request.frames old.device new.device
   pub server : new ≡ record old {
     device = new.device;
-    slots = with_slot old.slots port.0 0 (Some (record { id = id; queued = false }));
+    slots = with_slot old.slots port.0 slot (Some (use_for (mode_in old port) request));
     book = map (at id issue) old.book;
   }
 
@@ -121,7 +120,7 @@ IssuesEach port (id ∷ ids) old new = (mid : Server) × IssuesOne port id old m
 
 -- the port's due requests were issued, in order of acceptance
 abbrev pub IssuesAll : Port → Server → Server → Type 0
-IssuesAll port old new = IssuesEach port (due_ids plain_mode port (asks_of old.book)) old new
+IssuesAll port old new = IssuesEach port (due_ids (mode_in old port) port (asks_of old.book)) old new
 
 -- ---- a request is accepted
 
@@ -207,10 +206,10 @@ AnswersTurn port replies old new turn =
 -- ---- as the machine has it
 
 -- the steps are the device's, but for those that issue requests of the port
-abbrev pub IssuesOnly : Port → List Step → Type 0
-IssuesOnly port [] = Unit {0}
-IssuesOnly port (Issue mode e ∷ steps) = (mode ≡ plain_mode) × (e.request.port ≡ port) × IssuesOnly port steps
-IssuesOnly port (step ∷ steps) = IsDevices step × IssuesOnly port steps
+abbrev pub IssuesOnly : Mode → Port → List Step → Type 0
+IssuesOnly mode port [] = Unit {0}
+IssuesOnly mode port (Issue its e ∷ steps) = (its ≡ mode) × (e.request.port ≡ port) × IssuesOnly mode port steps
+IssuesOnly mode port (step ∷ steps) = IsDevices step × IssuesOnly mode port steps
 
 -- the answers of these requests, one after another, the last first
 abbrev pub answers_in : List Pending → List Step
@@ -227,7 +226,7 @@ pub record HasEnded (port : Port) (request : Held) (done : Pending) : Type 0 whe
 
 -- The steps are the device's, then the answers of these requests, which had ended, and then the device's but for the issues of requests of the
 -- port.
-pub record AnswersBy (port : Port) (replies : List Reply) (steps : List Step) : Type 0 where
+pub record AnswersBy (mode : Mode) (port : Port) (replies : List Reply) (steps : List Step) : Type 0 where
   pub requests : List Held
   pub told : replies ≡ map done_reply requests
   pub ordered : AllPairs IsEarlier requests
@@ -237,7 +236,7 @@ pub record AnswersBy (port : Port) (replies : List Reply) (steps : List Step) : 
   pub before : List Step
   pub steps_are : steps ≡ later ++ (answers_in ended ++ before)
   pub first : AllDevices before
-  pub last : IssuesOnly port later
+  pub last : IssuesOnly mode port later
 
 -- What a port's turn adds to a machine that stands for the server.
 pub record AddsTurn (port : Port) (replies : List Reply) (old new : Server) (m : Machine) : Type 0 where
@@ -245,8 +244,8 @@ pub record AddsTurn (port : Port) (replies : List Reply) (old new : Server) (m :
   pub may : AllMay m steps
   pub stands : IsMachineOf new (after m steps)
   pub backed : IsBacked old.device new.device m steps
-  pub answers : AnswersBy port replies steps
-  pub issues : IssuesDue plain_mode steps (after m steps) port
+  pub answers : AnswersBy (mode_in old port) port replies steps
+  pub issues : IssuesDue (mode_in old port) steps (after m steps) port
 
 -- What serving a port does: the port has its turn, in which those of its requests are answered that are found done; and from each machine that
 -- stands for the old server such steps lead to one that stands for the new. On a port that goes well, each is whose command's bits were clear when the turn began.

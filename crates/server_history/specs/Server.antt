@@ -1,5 +1,5 @@
 -- What a server of several ports holds, and the block machine that stands for it (this project's own).
-use Rattle.std.specs.Prelude.{ℕ, Bool, true, false, ◌≡◌, ◌⊎◌, ◌+◌, ◌*◌, ◌<◌, ◌≤◌, List, [], Option, Some, None, All, AllPairs, length, slice_index_or, slice_set}
+use Rattle.std.specs.Prelude.{ℕ, Bool, true, false, not, ◌≡◌, ◌⊎◌, ◌+◌, ◌*◌, ◌<◌, ◌≤◌, List, [], Option, Some, None, All, AllPairs, Contains, length, slice_index_or, slice_set}
 use Rattle.ata_types.specs.declared.Port.{Port}
 use Rattle.ata_types.specs.declared.PortState.{PortState}
 use Rattle.ata_types.specs.declared.PortState.TheVariants.{Absent, Ready as ReadyState, Dead}
@@ -15,7 +15,7 @@ use Rattle.agreement.specs.Driven.{known}
 use Rattle.agreement.specs.Driver.{Knows}
 use Rattle.agreement.specs.Links.{HasDeviceOrNone}
 use Rattle.agreement.specs.Slots.{Free, Own, Serves, Use, Uses}
-use Rattle.block_machine.specs.Due.{NoneDue}
+use Rattle.block_machine.specs.Due.{NoneDue, is_plain}
 use Rattle.block_machine.specs.Histories.{IsReached}
 use Rattle.block_machine.specs.Left.{IsRow}
 use Rattle.block_machine.specs.Ports.{Ports}
@@ -33,17 +33,18 @@ use Rattle.request_queue.specs.Entries.{Held, asks_of, unanswered_of, IsAccepted
 use Rattle.request_queue.specs.Machine.{IsBook}
 use Rattle.slots.specs.Uses.{Uses as PortSlots, use_at, with_use}
 use Rattle.slots.specs.declared.Use.{Use as SlotUse}
-use Rattle.driver_history.specs.Holds.{Runs}
+use Rattle.driver_history.specs.Holds.{Runs, mode_of}
 
 -- The device behind the adapter; the grants; by frame its owner and the request that it is lent to; by port the disk that is wanted,
--- what it was found to be, and what its slots are used for; the unanswered requests in order of acceptance, with what is lent to them; and the
--- id that was handed out last, or 0.
+-- what it was found to be, how it takes commands, and what its slots are used for; the unanswered requests in order of acceptance, with what is
+-- lent to them; and the id that was handed out last, or 0.
 pub record Server : Type 0 where
   pub device : Device
   pub grants : List GrantRow
   pub table : Table
   pub wanted : List Wanted
   pub ports : List Found
+  pub modes : List Mode
   pub slots : List PortSlots
   pub book : List Held
   pub last : ℕ
@@ -79,14 +80,28 @@ trims_of _ = false
 abbrev pub plain_mode : Mode
 plain_mode = record { queued = false; usable = 1 }
 
-abbrev pub ports_of : List Found → Ports
-ports_of found = record {
-  served = λ port. is_served (found_of found port.0);
-  state = λ port. state_of (found_of found port.0);
-  serial = λ port. serial_of (found_of found port.0);
-  sectors = λ port. sectors_of (found_of found port.0);
-  trims = λ port. trims_of (found_of found port.0);
-  mode = λ port. plain_mode;
+-- how the port takes commands; one that there isn't takes plain ones
+abbrev pub mode_at : List Mode → ℕ → Mode
+mode_at modes port = slice_index_or modes port plain_mode
+
+-- how a port that was found so takes commands, by an adapter of these abilities (CAP): a ready one as adapter and disk both can, another
+-- one at a time
+abbrev pub mode_found : ℕ → Found → Mode
+mode_found cap (Ready info) = mode_of cap info
+mode_found cap _ = plain_mode
+
+-- the port's mode
+abbrev pub mode_in : Server → Port → Mode
+mode_in s port = mode_at s.modes port.0
+
+abbrev pub ports_of : Server → Ports
+ports_of s = record {
+  served = λ port. is_served (found_of s.ports port.0);
+  state = λ port. state_of (found_of s.ports port.0);
+  serial = λ port. serial_of (found_of s.ports port.0);
+  sectors = λ port. sectors_of (found_of s.ports port.0);
+  trims = λ port. trims_of (found_of s.ports port.0);
+  mode = mode_in s;
 }
 
 -- what a request meets
@@ -95,9 +110,9 @@ situation_of s = record {
   rows = s.grants;
   owner = owner_of s.table;
   lent = lent_to s.table;
-  state = (ports_of s.ports).state;
-  sectors = (ports_of s.ports).sectors;
-  trims = (ports_of s.ports).trims;
+  state = (ports_of s).state;
+  sectors = (ports_of s).sectors;
+  trims = (ports_of s).trims;
   unanswered = λ client. unanswered_of s.book client.0;
   next = s.last + 1;
 }
@@ -163,27 +178,26 @@ abbrev pub OwnsClientFrames : Table → ℕ → Type 0
 OwnsClientFrames table size = (frame : Frame) (client : ClientId) → owner_of table frame ≡ Some client
     → (DRIVER_FRAMES ≤ frame.0) × (FRAME_BYTES * frame.0 + FRAME_BYTES ≤ size)
 
--- What stands behind each port, as it was found; a ready one runs, with no bit of PxSACT; and one with a disk that isn't served shows a device, or has
--- none in.
+-- What stands behind each port, as it was found; a ready one runs; and one with a disk that isn't served shows a device, or has none in.
 pub record IsPortOf (wanted : List Wanted) (found : List Found) (port : ℕ) (d : Device) : Type 0 where
   pub behind : StillStandsBehind (wanted_of wanted port) (found_of found port) port d
   pub runs : state_of (found_of found port) ≡ ReadyState → Runs port d
-  pub unqueued : state_of (found_of found port) ≡ ReadyState → (slot : ℕ) → (d.port port).sact slot ≡ false
   pub shown : FoundBadDisk (state_of (found_of found port)) → HasDeviceOrNone (d.port port)
 
--- how many slots of the port may be used
-abbrev pub usable_of : Found → ℕ
-usable_of (Ready info) = plain_mode.usable
-usable_of _ = 0
+-- how many slots of a port may be used: those of its mode, if it is ready
+abbrev pub usable_of : Found → Mode → ℕ
+usable_of (Ready info) mode = mode.usable
+usable_of _ mode = 0
 
 -- The port may use so many of its 32 slots, and uses no other.
-pub record HasSlots (found : List Found) (slots : List PortSlots) (port : ℕ) : Type 0 where
-  pub places : length (slice_index_or slots port no_slots).places ≡ 32
-  pub usable : (slice_index_or slots port no_slots).usable ≡ plain_mode.usable
-  pub unused : (slot : ℕ) → usable_of (found_of found port) ≤ slot → used_for slots port slot ≡ None
+pub record HasSlots (found : List Found) (modes : List Mode) (slots : List PortSlots) (port : ℕ) : Type 0 where
+  pub places : length (slots_at slots port).places ≡ 32
+  pub usable : (slots_at slots port).usable ≡ (mode_at modes port).usable
+  pub unused : (slot : ℕ) → usable_of (found_of found port) (mode_at modes port) ≤ slot → used_for slots port slot ≡ None
 
 -- What holds of a server at each moment of a call. The adapter is on and has the memory of the driver and of the clients, and each port that is
--- served; each port is as it was found, and runs if that was ready; the four ports use the slots that they may; grants are for reads and writes;
+-- served; each port is as it was found, and runs if that was ready; the four ports take commands as adapter and disk can, and use the slots that
+-- they may, for queued commands or for plain ones; grants are for reads and writes;
 -- requests are as they were accepted, in order, and of ready ports; and some machine that a history leads to stands for the server.
 pub record IsKept (s : Server) : Type 0 where
   pub on : IsOn s.device
@@ -191,7 +205,10 @@ pub record IsKept (s : Server) : Type 0 where
   pub there : (port : ℕ) → is_served (found_of s.ports port) ≡ true → HasPort s.device port
   pub behind : (port : ℕ) → port < 4 → IsPortOf s.wanted s.ports port s.device
   pub four : length s.slots ≡ 4
-  pub slots : (port : ℕ) → port < 4 → HasSlots s.ports s.slots port
+  pub modes : (port : ℕ) → port < 4 → mode_at s.modes port ≡ mode_found s.device.cap (found_of s.ports port)
+  pub slots : (port : ℕ) → port < 4 → HasSlots s.ports s.modes s.slots port
+  pub kinds : (port : Port) (slot : ℕ) (used : SlotUse) (e : Held) → used_for s.slots port.0 slot ≡ Some used → Contains s.book e → e.entry.id ≡ used.id
+      → used.queued ≡ not (is_plain (mode_in s port) e.entry.op)
   pub rows : All IsTransferRow s.grants
   pub owners : OwnsClientFrames s.table s.device.size
   pub accepted : All (IsAccepted s.grants s.table) s.book
@@ -205,7 +222,7 @@ pub record IsKept (s : Server) : Type 0 where
 -- Between calls each request is issued that is due.
 pub record IsSettled (s : Server) : Type 0 where
   pub kept : IsKept s
-  pub issued : (port : Port) → NoneDue plain_mode (asks_of s.book) port
+  pub issued : (port : Port) → NoneDue (mode_in s port) (asks_of s.book) port
 
 -- A server as it is made: what was found and wanted of four ports, at most 64 grants that differ in name, owners that are clients 1 to 8, no
 -- frame lent, nothing asked, and no id handed out.
@@ -220,8 +237,9 @@ pub record IsNewServer (host : Host) (s : Server) : Type 0 where
   pub room : DRIVER_BYTES ≤ s.device.size
   pub lent : (frame : Frame) → lent_to s.table frame ≡ None
   pub four_slots : length s.slots ≡ 4
-  pub places : (port : ℕ) → port < 4 → length (slice_index_or s.slots port no_slots).places ≡ 32
-  pub usable : (port : ℕ) → port < 4 → (slice_index_or s.slots port no_slots).usable ≡ plain_mode.usable
+  pub places : (port : ℕ) → port < 4 → length (slots_at s.slots port).places ≡ 32
+  pub modes : (port : ℕ) → port < 4 → mode_at s.modes port ≡ mode_found s.device.cap (found_of s.ports port)
+  pub usable : (port : ℕ) → port < 4 → (slots_at s.slots port).usable ≡ (mode_at s.modes port).usable
   pub unused : (port slot : ℕ) → used_for s.slots port slot ≡ None
   pub book : s.book ≡ []
   pub last : s.last ≡ 0

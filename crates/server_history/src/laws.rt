@@ -108,7 +108,7 @@ pub fn refusals_add()
     ensures load { (s : Server) (client : ClientId) (frame : Frame) (offset count : ℕ) (bytes : List ℕ) (fault : MemFault) → IsSettled s
         → IsFirstMemFault (owner_of s.table) (lent_to s.table) client frame offset count fault
         → Adds s s (LoadAt client frame offset count) (load_said (Err fault) bytes) }
-    ensures state { (s : Server) (port : Port) → IsSettled s → Adds s s (State port) (Shown ((ports_of s.ports).state port)) }
+    ensures state { (s : Server) (port : Port) → IsSettled s → Adds s s (State port) (Shown ((ports_of s).state port)) }
 {
     the_laws_below_hold();
 }

@@ -1,5 +1,5 @@
 use Rattle.port_look.proofs.Recording.{services_recorded}
-use Rattle.port_look.proofs.Serving.{services_on, services_same, services_port, services_controls, services_well, services_inactive, services_agree}
+use Rattle.port_look.proofs.Serving.{services_on, services_same, services_port, services_controls, services_well, looks_inactive, services_agree}
 use Rattle.port_look.proofs.laws.services_leave.Goals as goal
 
 pub returns-clause-on : goal.returns-clause-on
@@ -15,7 +15,7 @@ pub returns-clause-controls : goal.returns-clause-controls
 returns-clause-controls c = services_controls c.laws_hold.ensures
 
 pub returns-clause-inactive : goal.returns-clause-inactive
-returns-clause-inactive c = services_inactive c.laws_hold.ensures
+returns-clause-inactive c = looks_inactive c.laws_hold.ensures
 
 pub returns-clause-agrees : goal.returns-clause-agrees
 returns-clause-agrees c = services_agree c.laws_hold.ensures
