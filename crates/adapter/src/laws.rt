@@ -1,4 +1,4 @@
-// Laws of the definitions, for the crates above: the clause is the theorem. Nothing calls these functions.
+// Laws of the definitions, for the crates above: the clause is the theorem. Nothing that runs calls these functions.
 ghost use Rattle.std.specs.Prelude.{◌≡◌, ◌+◌, ◌≤◌, ◌++◌, ℕ, Bool, true, false, List};
 ghost use Rattle.ata_types.specs.declared.Port.{Port};
 ghost use Rattle.ata_types.specs.declared.memory.TheConstants.{FRAME_BYTES, RECEIVED_BYTES};

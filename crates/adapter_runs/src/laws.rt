@@ -1,4 +1,4 @@
-// Laws on runs: the clause is the theorem. Nothing calls these functions.
+// Laws on runs: the clause is the theorem. Nothing that runs calls these functions.
 ghost use Rattle.std.specs.Prelude.{◌≢◌, Bool, ℕ};
 ghost use Rattle.adapter.specs.Device.{Device};
 ghost use Rattle.adapter.specs.Steps.{Can};

@@ -4,6 +4,7 @@ pub mod Acting
 mod Patching
 mod Bytes
 mod Quiet
+mod StoredOver
 mod Taking
 mod Reached
 mod Moving

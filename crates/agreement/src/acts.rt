@@ -1,4 +1,4 @@
-// Laws of a part of a call, act by act: the clause is the theorem. Nothing calls these functions.
+// Laws of a part of a call, act by act: the clause is the theorem. Nothing that runs calls these functions.
 ghost use Rattle.std.specs.Prelude.{ℕ, All, None, Some, ◌≡◌, ◌++◌, List, [], ◌∷◌};
 ghost use Rattle.ata_types.specs.declared.Port.{Port};
 ghost use Rattle.hba_regs.specs.declared.reg.Reg.TheVariants.{Px};

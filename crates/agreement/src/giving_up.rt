@@ -1,4 +1,4 @@
-// Laws of slots that are given up together, and of the slot of a fault: the clause is the theorem. Nothing calls these functions.
+// Laws of slots that are given up together, and of the slot of a fault: the clause is the theorem. Nothing that runs calls these functions.
 ghost use Rattle.std.specs.Prelude.{ℕ, true, false, ◌⊎◌, ◌≡◌, ◌≢◌, ◌<◌, List, Contains};
 ghost use Rattle.ata_types.specs.declared.request.RequestId.{RequestId};
 ghost use Rattle.adapter.specs.Device.{Device};

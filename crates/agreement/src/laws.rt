@@ -1,4 +1,4 @@
-// Laws of the relation, for the crates above: the clause is the theorem. Nothing calls these functions.
+// Laws of the relation, for the crates above: the clause is the theorem. Nothing that runs calls these functions.
 ghost use Rattle.std.specs.List.{list_any};
 ghost use Rattle.std.specs.Prelude.{◌≡◌, ◌+◌, ◌*◌, ◌/◌, ◌%◌, ◌<◌, ◌≤◌, ◌∷◌, ◌++◌, ℕ, Bool, true, false, [], List, length, map, Contains, ◌≢◌, ◌⊎◌, None, Some, All};
 ghost use Rattle.ata_types.specs.declared.Port.{Port};

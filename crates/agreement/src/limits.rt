@@ -1,4 +1,4 @@
-// What the laws of plain work are about, and what they can't do without: the clause is the theorem. Nothing calls these functions.
+// What the laws of plain work are about, and what they can't do without: the clause is the theorem. Nothing that runs calls these functions.
 ghost use Rattle.std.specs.Prelude.{ℕ, true, false, ◌≡◌, Some};
 ghost use Rattle.adapter.specs.Commands.{is_queued};
 ghost use Rattle.adapter.specs.Device.{Taken, Device};

@@ -1,5 +1,5 @@
-// Laws of a slot that is made ready and issued: the clause is the theorem. Nothing calls these functions.
-ghost use Rattle.std.specs.Prelude.{ℕ, true, false, ◌≡◌, ◌≢◌, ◌<◌, ◌≤◌, ◌/◌, ◌%◌, List, length, not};
+// Laws of a slot that is made ready and issued: the clause is the theorem. Nothing that runs calls these functions.
+ghost use Rattle.std.specs.Prelude.{ℕ, true, false, ◌≡◌, ◌≢◌, ◌<◌, ◌≤◌, ◌/◌, ◌%◌, List, All, length, not};
 ghost use Rattle.ata_types.specs.declared.Port.{Port};
 ghost use Rattle.hba_regs.specs.Bits.{bit};
 ghost use Rattle.hba_regs.specs.declared.reg.Reg.TheVariants.{Px};
@@ -15,12 +15,13 @@ ghost use Rattle.block_machine.specs.Histories.{IsReached};
 ghost use Rattle.block_machine.specs.State.{Pending, Machine};
 ghost use Rattle.block_machine.specs.Steps.{Issue, May};
 ghost use Rattle.block_machine.specs.declared.due.Mode.{Mode};
+ghost use Rattle.agreement.specs.Acts.{Act, AreDone, accesses_of};
 ghost use Rattle.agreement.specs.Agrees.{Agrees};
-ghost use Rattle.agreement.specs.Driver.{IsPrepared, MissesTable, LeavesUses};
+ghost use Rattle.agreement.specs.Driver.{IsPrepared, Known, Knows, MissesTable, LeavesUses};
 ghost use Rattle.agreement.specs.Links.{SparesRegister};
 ghost use Rattle.agreement.specs.Slots.{Free, Armed, Uses, put, Means, HasBlock};
 ghost use Rattle.agreement.specs.Started.{ClearsNoStart};
-ghost use Rattle.agreement.specs.Readying.{IsStored, IsReadied};
+ghost use Rattle.agreement.specs.Readying.{IsStored, IsReadied, LeavesStored};
 
 /// While no reset is pending, what is stored for a slot of a running port stays so, whatever the device does, and over each access that
 /// doesn't clear ST, doesn't write PxCLB and stores nothing in the slot's header or table; so a slot stays readied. A free slot is
@@ -54,4 +55,11 @@ pub fn readied_is_issued()
         → bit v slot ≡ true → ((k : ℕ) → k ≢ slot → bit v k ≡ false) → IsPrepared uses m d port slot mode e v }
     ensures readied { (uses : Uses) (m : Machine) (d : Device) (port slot : ℕ) (mode : Mode) (e : Pending) (v : ℕ)
         → (x : IsPrepared uses m d port slot mode e v) → IsReadied uses d port slot x.command x.places }
+{}
+
+/// What is stored for a slot stays so over acts whose accesses leave it.
+pub fn stored_stays_over_acts()
+    ensures { (port : Port) (slot : ℕ) (c : Meaning) (places : List ℕ) (acts : List Act) (k later : Known) (m : Machine) → IsReached m
+        → Knows m k → AreDone acts k m later → All (LeavesStored port slot) (accesses_of acts) → IsOn k.device
+        → IsStored k.device port.0 slot c places → IsStored later.device port.0 slot c places }
 {}

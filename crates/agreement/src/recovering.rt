@@ -1,4 +1,4 @@
-// Laws of how a port runs well again without COMRESET: the clause is the theorem. Nothing calls these functions.
+// Laws of how a port runs well again without COMRESET: the clause is the theorem. Nothing that runs calls these functions.
 ghost use Rattle.std.specs.Prelude.{ℕ, true, false, ◌≡◌, ◌≢◌, ◌≤◌};
 ghost use Rattle.ata_types.specs.declared.Port.{Port};
 ghost use Rattle.hba_regs.specs.Bits.{bit};

@@ -1,4 +1,4 @@
-// Laws of stretches of accesses, for the crates above: the clause is the theorem. Nothing calls these functions.
+// Laws of stretches of accesses, for the crates above: the clause is the theorem. Nothing that runs calls these functions.
 ghost use Rattle.std.specs.Prelude.{ℕ, false, ◌≡◌, ◌≢◌, ◌++◌, List, Contains, length, None};
 ghost use Rattle.ata_types.specs.declared.Port.{Port};
 ghost use Rattle.hba_regs.specs.Bits.{bit};

@@ -1,4 +1,4 @@
-// Laws of the definitions, for callers: the clause is the theorem. Nothing calls these functions.
+// Laws of the definitions, for callers: the clause is the theorem. Nothing that runs calls these functions.
 ghost use Rattle.std.specs.Prelude.{ℕ, ◌≡◌, ◌≢◌, All, List, Option};
 ghost use Rattle.ata_types.specs.declared.Port.{Port};
 ghost use Rattle.ata_types.specs.declared.PortState.{PortState};

@@ -27,7 +27,8 @@ use Rattle.host_boot.specs.declared.Found.TheVariants.{Ready}
 use Rattle.adapter.specs.Access.{Access}
 use Rattle.hba_regs.specs.Bits.{bit}
 use Rattle.ncq.specs.Masks.{FindsDone}
-use Rattle.ncq.specs.Transfers.{IsIssuing, IssuesTransfer}
+use Rattle.ncq.specs.Transfers.{IsIssuing, IssuesTransfer, meaning_of}
+use Rattle.agreement.specs.Readying.{IsStored}
 use Rattle.ncq.specs.declared.Transfer.{Transfer}
 use Rattle.request_queue.specs.Entries.{Held, IsEarlier, asks, asks_of, at, due_ids, issue, without}
 use Rattle.request_queue.specs.Machine.{IsEntry}
@@ -107,6 +108,7 @@ pub record IssuesOne (port : Port) (id : RequestId) (old new : Server) : Type 0 
   pub slot : ℕ
   pub lowest : IsLowestFree (slots_at old.slots port.0) slot
   pub issues : IssuesTransfer port slot (transfer_of (mode_in old port) request) request.frames old.device new.device
+  pub stored : IsStored new.device port.0 slot (meaning_of (transfer_of (mode_in old port) request)) (places_of request.frames request.entry.range.count)
   pub server : new ≡ record old {
     device = new.device;
     slots = with_slot old.slots port.0 slot (Some (use_for (mode_in old port) request));

@@ -8,12 +8,14 @@ use Rattle.ata_types.specs.declared.memory.TheConstants.{DRIVER_BYTES, DRIVER_FR
 use Rattle.ata_types.specs.declared.request.ClientId.{ClientId}
 use Rattle.ata_types.specs.declared.request.Frame.{Frame}
 use Rattle.ata_types.specs.declared.request.RequestId.{RequestId}
+use Rattle.adapter.specs.Commands.{Meaning, is_queued}
 use Rattle.adapter.specs.Device.{Device}
 use Rattle.adapter.specs.Rules.{IsOn, HasPort}
 use Rattle.adapter.specs.declared.command.Operation.TheVariants.{Identify}
 use Rattle.agreement.specs.Driven.{known}
 use Rattle.agreement.specs.Driver.{Knows}
 use Rattle.agreement.specs.Links.{HasDeviceOrNone}
+use Rattle.agreement.specs.Readying.{IsStored}
 use Rattle.agreement.specs.Slots.{Free, Own, Serves, Use, Uses}
 use Rattle.block_machine.specs.Due.{NoneDue, is_plain}
 use Rattle.block_machine.specs.Histories.{IsReached}
@@ -195,6 +197,13 @@ pub record HasSlots (found : List Found) (modes : List Mode) (slots : List PortS
   pub usable : (slots_at slots port).usable ≡ (mode_at modes port).usable
   pub unused : (slot : ℕ) → usable_of (found_of found port) (mode_at modes port) ≤ slot → used_for slots port slot ≡ None
 
+-- header and table of a slot of a port that runs say a command that is queued, or one that isn't
+pub record HasCommand (queued : Bool) (d : Device) (port slot : ℕ) : Type 0 where
+  pub command : Meaning
+  pub places : List ℕ
+  pub stored : IsStored d port slot command places
+  pub kind : is_queued command.operation ≡ queued
+
 -- What holds of a server at each moment of a call. The adapter is on and has the memory of the driver and of the clients, and each port that is
 -- served; each port is as it was found, and runs if that was ready; the four ports take commands as adapter and disk can, and use the slots that
 -- they may, for queued commands or for plain ones; grants are for reads and writes;
@@ -209,6 +218,7 @@ pub record IsKept (s : Server) : Type 0 where
   pub slots : (port : ℕ) → port < 4 → HasSlots s.ports s.modes s.slots port
   pub kinds : (port : Port) (slot : ℕ) (used : SlotUse) (e : Held) → used_for s.slots port.0 slot ≡ Some used → Contains s.book e → e.entry.id ≡ used.id
       → used.queued ≡ not (is_plain (mode_in s port) e.entry.op)
+  pub commands : (port slot : ℕ) (used : SlotUse) → used_for s.slots port slot ≡ Some used → HasCommand used.queued s.device port slot
   pub rows : All IsTransferRow s.grants
   pub owners : OwnsClientFrames s.table s.device.size
   pub accepted : All (IsAccepted s.grants s.table) s.book
