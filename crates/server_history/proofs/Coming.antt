@@ -22,10 +22,11 @@ use Rattle.agreement.specs.Driven.{IsDrivenBy}
 use Rattle.agreement.specs.Facts.{RunsWell, Undisturbed}
 use Rattle.command_table.specs.Written.{IsTableStore}
 use Rattle.driver_history.specs.Histories.{IssuesOn}
+use Rattle.ncq.specs.Transfers.{IsIssuing}
 use Rattle.driver_history.specs.Trace.{IsDriversOwn, IsOfPorts, IsServing, LeavesCommand, LeavesEngine, ReadsMasks}
-use Rattle.server_history.specs.Served.{Checks, HasNone, HasTurn, IsMaskOf, IsPlainIssuing, is_used}
+use Rattle.server_history.specs.Served.{Checks, HasNone, HasTurn, IsMaskOf, IssuesIn, is_used}
 use Rattle.slots.specs.Uses.{Uses as PortSlots, use_at}
-use Rattle.server_history.proofs.Plain.{both_read, plain_serves}
+use Rattle.server_history.proofs.Plain.{both_read, issues_serve, issuing_serves}
 use Rattle.port_look.specs.Looks.{LooksAt}
 use Rattle.port_look.specs.Laws.{Laws}
 use Rattle.port_look.specs.Services.{IsService}
@@ -47,29 +48,38 @@ none_loaded old new steps = record { steps = steps; shows = refl }
 abbrev pub IsTurn : (Port → Type 0) → Access → Type 0
 IsTurn Such access = IsService access × (IsDriversOwn access × IsOfPorts Such access)
 
--- header and table of slot 0 lie in the driver's frames
-table_own : (port at : ℕ) (bytes : List ℕ) → port < 4 → IsTableStore port 0 (Storing at bytes) → at + length bytes ≤ 163840
-table_own port at bytes low (inl h) = omega (arith, low, h.0, h.1)
-table_own port at bytes low (inr h) = omega (arith, low, h.0, h.1)
+-- header and table of a slot lie in the driver's frames
+table_own : (port slot at : ℕ) (bytes : List ℕ) → port < 4 → slot < 32 → IsTableStore port slot (Storing at bytes) → at + length bytes ≤ 163840
+table_own port slot at bytes low small (inl h) = omega (arith, low, small, h.0, h.1)
+table_own port slot at bytes low small (inr h) = omega (arith, low, small, h.0, h.1)
 
-pub issuing_is : (port : Port) → port.0 < 4 → (access : Access) → IsPlainIssuing port access → IssuesOn port access
-issuing_is port low (Writing r v) here = inr here.0
-issuing_is port low (Storing at bytes) here = table_own port.0 at bytes low here
-issuing_is port low (Reading r v) here = absurd here
-issuing_is port low (Loading at bytes) here = absurd here
+issuing_on : (port : Port) (slot : ℕ) → port.0 < 4 → slot < 32 → (access : Access) → IsIssuing port slot access → IssuesOn port access
+issuing_on port slot low small (Writing r v) here = here.0
+issuing_on port slot low small (Storing at bytes) here = table_own port.0 slot at bytes low small here
+issuing_on port slot low small (Reading r v) here = absurd here
+issuing_on port slot low small (Loading at bytes) here = absurd here
 
-issuing_turns : (Such : Port → Type 0) (port : Port) → Such port → port.0 < 4 → (access : Access) → IsPlainIssuing port access → IsTurn Such access
-issuing_turns Such port such low (Writing r v) here = (plain_serves port (Writing r v) here, (tt, subst (λ (q : Reg). IsOfPorts Such (Writing q v)) (sym here.0) such))
-issuing_turns Such port such low (Storing at bytes) here = (plain_serves port (Storing at bytes) here, (table_own port.0 at bytes low here, tt))
-issuing_turns Such port such low (Reading r v) here = absurd here
-issuing_turns Such port such low (Loading at bytes) here = absurd here
+pub issuing_is : (port : Port) → port.0 < 4 → (access : Access) → IssuesIn port access → IssuesOn port access
+issuing_is port low access here = issuing_on port here.0 low here.1 access here.2
+
+issuing_turn : (Such : Port → Type 0) (port : Port) (slot : ℕ) → Such port → port.0 < 4 → slot < 32 → (access : Access) → IsIssuing port slot access → IsTurn Such access
+issuing_turn Such port slot such low small (Writing r v) here =
+    (issuing_serves port slot (Writing r v) here, (tt, ⊎_elim
+    (λ (is : r ≡ Px port Sact). subst (λ (q : Reg). IsOfPorts Such (Writing q v)) (sym is) such)
+    (λ (is : r ≡ Px port Ci). subst (λ (q : Reg). IsOfPorts Such (Writing q v)) (sym is) such) here.0))
+issuing_turn Such port slot such low small (Storing at bytes) here = (issuing_serves port slot (Storing at bytes) here, (table_own port.0 slot at bytes low small here, tt))
+issuing_turn Such port slot such low small (Reading r v) here = absurd here
+issuing_turn Such port slot such low small (Loading at bytes) here = absurd here
+
+issuing_turns : (Such : Port → Type 0) (port : Port) → Such port → port.0 < 4 → (access : Access) → IssuesIn port access → IsTurn Such access
+issuing_turns Such port such low access here = issuing_turn Such port here.0 such low here.1 access here.2
 
 -- what serves ports writes neither PxCMD nor PxSCTL, nor GHC
 service_leaves : (port : Port) (access : Access) → IsService access → LeavesEngine port access
 service_leaves port access here = (spares_port port Cmd (λ e. cc) (λ e. cc) (λ e. cc) access here, spares_port port Sctl (λ e. cc) (λ e. cc) (λ e. cc) access here)
 
-pub issuing_leaves : (port other : Port) (access : Access) → IsPlainIssuing port access → LeavesEngine other access
-issuing_leaves port other access here = service_leaves other access (plain_serves port access here)
+pub issuing_leaves : (port other : Port) (access : Access) → IssuesIn port access → LeavesEngine other access
+issuing_leaves port other access here = service_leaves other access (issues_serve port access here)
 
 pub turn_leaves : (Such : Port → Type 0) (port : Port) (access : Access) → IsTurn Such access → LeavesEngine port access
 turn_leaves Such port access here = service_leaves port access here.0

@@ -4,11 +4,12 @@ use Rattle.std.proofs.lemmas.Bool.{cases_eq}
 use Rattle.std.proofs.lemmas.List.{get_or-set_same, get_or-set_other, length-set}
 use Rattle.agreement.specs.Slots.{Use, Uses, put}
 use Rattle.agreement.proofs.Putting.{put_cases, put_same}
+use Rattle.block_machine.specs.declared.due.Mode.{Mode}
 use Rattle.host_boot.specs.Taken.{found_of}
 use Rattle.host_boot.specs.declared.Found.{Found}
 use Rattle.slots.specs.Uses.{Uses as PortSlots, with_use}
 use Rattle.slots.specs.declared.Use.{Use as SlotUse}
-use Rattle.server_history.specs.Server.{HasSlots, IsUsedAs, no_slots, usable_of, use_of, used_for, with_slot}
+use Rattle.server_history.specs.Server.{HasSlots, IsUsedAs, mode_at, no_slots, usable_of, use_of, used_for, with_slot}
 
 module _ (slots : List PortSlots) (port slot : ℕ) (used : Option SlotUse) (low : port < length slots) (small : slot < length (get_or slots port no_slots).places) where
   abbrev its : PortSlots
@@ -42,8 +43,8 @@ module _ (slots : List PortSlots) (port slot : ℕ) (used : Option SlotUse) (low
       (put_cases uses port slot (use_of used) q k)
 
 -- the four ports have their slots still
-module _ (found : List Found) (slots : List PortSlots) (port slot : ℕ) (used : Option SlotUse) (four : length slots ≡ 4) (low : port < 4) (slot_low : slot < usable_of (found_of found port))
-    (few : usable_of (found_of found port) ≤ 32) (has : (q : ℕ) → q < 4 → HasSlots found slots q) where
+module _ (found : List Found) (modes : List Mode) (slots : List PortSlots) (port slot : ℕ) (used : Option SlotUse) (four : length slots ≡ 4) (low : port < 4) (slot_low : slot < usable_of (found_of found port) (mode_at modes port))
+    (few : usable_of (found_of found port) (mode_at modes port) ≤ 32) (has : (q : ℕ) → q < 4 → HasSlots found modes slots q) where
   in_list : port < length slots
   in_list = omega (arith, four, low)
 
@@ -53,7 +54,7 @@ module _ (found : List Found) (slots : List PortSlots) (port slot : ℕ) (used :
   pub placed_four : length (with_slot slots port slot used) ≡ 4
   placed_four = length-set slots port (with_use (get_or slots port no_slots) slot used) ∙ four
 
-  pub placed_has : (q : ℕ) → q < 4 → HasSlots found (with_slot slots port slot used) q
+  pub placed_has : (q : ℕ) → q < 4 → HasSlots found modes (with_slot slots port slot used) q
   placed_has q small = record {
     places = ⊎_elim
         (λ (e : q ≡ port).
@@ -63,11 +64,12 @@ module _ (found : List Found) (slots : List PortSlots) (port slot : ℕ) (used :
         (cases_eq q port);
     usable = ⊎_elim
         (λ (e : q ≡ port).
-        ap (λ (p : ℕ). (get_or (with_slot slots port slot used) p no_slots).usable) e ∙ ap (λ (u : PortSlots). u.usable) (here slots port slot used in_list in_places) ∙ (has port low).usable)
+        ap (λ (p : ℕ). (get_or (with_slot slots port slot used) p no_slots).usable) e ∙ ap (λ (u : PortSlots). u.usable) (here slots port slot used in_list in_places) ∙ (has port low).usable
+        ∙ ap (λ (p : ℕ). (mode_at modes p).usable) (sym e))
         (λ (n : q ≢ port). ap (λ (u : PortSlots). u.usable) (other q n) ∙ (has q small).usable)
         (cases_eq q port);
     unused = λ k high.
-        placed_other slots port slot used in_list in_places q k (λ e s. let h = subst (λ (p : ℕ). usable_of (found_of found p) ≤ k) e high in absurd (omega (arith, h, s, slot_low)))
+        placed_other slots port slot used in_list in_places q k (λ e s. let h = subst (λ (p : ℕ). usable_of (found_of found p) (mode_at modes p) ≤ k) e high in absurd (omega (arith, h, s, slot_low)))
         ∙ (has q small).unused k high;
   }
     where

@@ -1,5 +1,5 @@
--- How plain transfers are issued in slot 0 and found done, access by access.
-use Rattle.std.proofs.Common.{ℕ, ◌≡◌, List, [], ◌∷◌, ◌&&◌, not, refl, sym, inr, subst, arith}
+-- How transfers are issued and found done, access by access.
+use Rattle.std.proofs.Common.{ℕ, ◌≡◌, List, [], ◌∷◌, sym, inl, inr, subst, ⊎_elim}
 use Rattle.std.specs.List.{All}
 use Rattle.std.proofs.lemmas.List.Elements.{All-append, All-cons, All-nil}
 use Rattle.ata_types.specs.declared.Port.{Port}
@@ -13,35 +13,21 @@ use Rattle.adapter.specs.Device.{Device}
 use Rattle.agreement.specs.Driven.{IsDrivenBy}
 use Rattle.command_table.specs.Written.{IsTableStore}
 use Rattle.ncq.specs.Masks.{FindsDone, IsFinding}
-use Rattle.ncq.specs.Transfers.{IssuesTransfer}
+use Rattle.ncq.specs.Transfers.{IsIssuing}
 use Rattle.request_queue.specs.Entries.{Held}
-use Rattle.server_history.specs.Served.{IsPlainIssuing, transfer_of}
+use Rattle.server_history.specs.Served.{IssuesIn}
 use Rattle.port_look.specs.Services.{IsService}
 
 -- ---- issuing
 
-pub plain_serves : (port : Port) (access : Access) → IsPlainIssuing port access → IsService access
-plain_serves port (Writing r v) here = inr (port, inr here.0)
-plain_serves port (Storing at bytes) here = tt
-plain_serves port (Loading at bytes) here = absurd here
-plain_serves port (Reading r v) here = absurd here
+pub issuing_serves : (port : Port) (slot : ℕ) (access : Access) → IsIssuing port slot access → IsService access
+issuing_serves port slot (Writing r v) here = ⊎_elim (λ (is : r ≡ Px port Sact). inr (port, inr (inr is))) (λ (is : r ≡ Px port Ci). inr (port, inr (inl is))) here.0
+issuing_serves port slot (Storing at bytes) here = tt
+issuing_serves port slot (Loading at bytes) here = absurd here
+issuing_serves port slot (Reading r v) here = absurd here
 
-store_is_plain : (port : Port) (access : Access) → IsTableStore port.0 0 access → IsPlainIssuing port access
-store_is_plain port (Storing at bytes) here = here
-store_is_plain port (Writing r v) here = absurd here
-store_is_plain port (Loading at bytes) here = absurd here
-store_is_plain port (Reading r v) here = absurd here
-
--- a plain transfer is issued by such accesses alone
-pub issued_plain : (port : Port) (e : Held) (frames : List Frame) (old new : Device) → IssuesTransfer port 0 (transfer_of e) frames old new → IsDrivenBy (IsPlainIssuing port) old new
-issued_plain port e frames old new issues = record {
-  accesses = issues.driven.accesses;
-  all = issues.driven.all;
-  only = subst (All (IsPlainIssuing port)) (sym issues.order.order)
-      (All-append (IsPlainIssuing port) issues.order.stores (Writing (Px port Ci) issues.order.own ∷ [])
-      (λ i d small. store_is_plain port _ (issues.order.only i d small))
-      (All-cons (IsPlainIssuing port) (Writing (Px port Ci) issues.order.own) [] (refl, issues.order.alone) (All-nil (IsPlainIssuing port))));
-}
+pub issues_serve : (port : Port) (access : Access) → IssuesIn port access → IsService access
+issues_serve port access here = issuing_serves port here.0 access here.2
 
 -- ---- finding what is done
 
@@ -57,7 +43,3 @@ module _ (port : Port) (mask done : ℕ) (old new : Device) (f : FindsDone port 
   both_read =
       let all : DoesAll (Reading (Px port Ci) f.issued ∷ Reading (Px port Sact) f.active ∷ []) old new = subst (λ (accesses : List Access). DoesAll accesses old new) f.reads f.driven.all in
       (all.0, all.1, subst (Reads (Px port Sact) f.active all.0) (sym all.2.2) all.2.1)
-
--- slot 0 is done where its bits were clear in both
-pub first_told : (port : Port) (done : ℕ) (old new : Device) (f : FindsDone port 1 done old new) → bit done 0 ≡ (not (bit f.issued 0) && not (bit f.active 0))
-first_told port done old new f = f.tells 0 (omega arith)

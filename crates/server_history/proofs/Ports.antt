@@ -18,7 +18,7 @@ use Rattle.host_boot.specs.declared.Found.TheVariants.{Unserved, Ready, Unready}
 use Rattle.identify.specs.declared.wanted.Wanted.{Wanted}
 use Rattle.port_look.specs.Laws.{Laws}
 use Rattle.port_look.specs.Services.{IsService}
-use Rattle.port_look.proofs.Serving.{services_controls, services_inactive}
+use Rattle.port_look.proofs.Serving.{services_controls}
 use Rattle.server_history.specs.Server.{IsPortOf, state_of}
 use Rattle.server_history.proofs.Behind.{left_on, ready_on}
 use Rattle.server_history.proofs.Running.{runs_on, shown_on}
@@ -59,7 +59,6 @@ port_on laws wanted found port old new same on by left silent is =
     record {
       behind = behind (found_of found port) left silent is.behind;
       runs = λ ready. runs_on laws (port_at port) old new on by (is.runs ready);
-      unqueued = λ ready slot. services_inactive laws port slot old new by (is.unqueued ready slot);
       shown = λ bad. shown_on laws (port_at port) old new on by (is.shown bad);
     }
   where

@@ -1,24 +1,29 @@
 -- What the slots of ports are used for, and how that of a ready port is given up.
-use Rattle.std.proofs.Common.{ℕ, ◌≡◌, ◌≢◌, ◌≤◌, ◌<◌, ◌⊎◌, true, List, Option, None, Some, inl, inr, refl, sym, ap, ◌∙◌, subst, ⊎_elim, arith, eq-eqb}
+use Rattle.std.proofs.Common.{ℕ, ◌≡◌, ◌≢◌, ◌≤◌, ◌<◌, ◌+◌, ◌/◌, ◌%◌, ◌⊎◌, true, false, not, map, List, Option, None, Some, inl, inr, refl, sym, ap, ◌∙◌, subst, ⊎_elim, arith, eq-eqb}
 use Rattle.std.specs.List.{Contains}
-use Rattle.std.proofs.lemmas.Bool.{and_from, cases_eq, cases_lt, cond-true, false≢true, or_left}
+use Rattle.std.proofs.lemmas.Bool.{and_from, cases_Bool, cases_eq, cases_lt, cond-true, false≢true, or_left}
 use Rattle.std.proofs.lemmas.List.Elements.{All-contains}
 use Rattle.ata_types.specs.declared.Port.{Port}
 use Rattle.ata_types.specs.declared.PortState.TheVariants.{Absent, Dead, Ready as ReadyState}
+use Rattle.std.specs.Prelude.{IsSome}
 use Rattle.ata_types.specs.declared.request.Op.{Op}
 use Rattle.ata_types.specs.declared.request.Op.TheVariants.{Read, Write, Trim, Flush}
 use Rattle.ata_types.specs.declared.request.RequestId.{RequestId}
 use Rattle.adapter.specs.Commands.{Meaning}
 use Rattle.hba_regs.specs.Bits.{bit}
 use Rattle.adapter.specs.Device.{Device, PortState}
+use Rattle.adapter.specs.declared.command.Operation.{Operation}
 use Rattle.adapter.specs.declared.command.Operation.TheVariants.{Identify}
 use Rattle.block_machine.specs.Due.{IsDue, is_plain}
-use Rattle.block_machine.specs.State.{Machine, Pending}
-use Rattle.block_machine.proofs.Counting.{unheld}
-use Rattle.block_machine.proofs.Members.{contains_none, into_map}
+use Rattle.block_machine.specs.Ports.{IsMode}
+use Rattle.block_machine.specs.State.{Machine, Pending, unanswered}
+use Rattle.block_machine.specs.Steps.{Issue, May}
+use Rattle.block_machine.specs.declared.due.Mode.{Mode}
+use Rattle.block_machine.specs.declared.due.Unanswered.{Unanswered}
+use Rattle.block_machine.proofs.Members.{contains_none}
 use Rattle.agreement.specs.Driven.{AgreesWith, known}
 use Rattle.agreement.specs.Driver.{Knows, parking}
-use Rattle.agreement.specs.Slots.{Free, Own, Serves, Use, IsDropped, IsEnded, IsOver, IsServed, ServesRequest, Stage}
+use Rattle.agreement.specs.Slots.{Armed, Free, Own, Serves, Use, IsDropped, IsEnded, IsOver, IsServed, ServesRequest, Stage}
 use Rattle.agreement.proofs.Deciding.{park_knows}
 use Rattle.command_table.specs.Written.{IsUnused}
 use Rattle.host_boot.specs.Taken.{StillStandsBehind, found_of, wanted_of}
@@ -27,10 +32,13 @@ use Rattle.host_boot.specs.declared.Found.TheVariants.{Unserved, Ready, Unready}
 use Rattle.identify.specs.declared.DiskInfo.{DiskInfo}
 use Rattle.request_queue.specs.Entries.{Held, asks, asks_of}
 use Rattle.request_queue.specs.Machine.{IsEntry}
+use Rattle.slots.specs.Uses.{IsLowestFree, IsTaken}
 use Rattle.slots.specs.declared.Use.{Use as SlotUse}
 use Rattle.server_history.specs.Served.{is_used}
-use Rattle.server_history.specs.Server.{Server, IsKept, IsMachineOf, IsUsedAs, is_served, none_parked, plain_mode, state_of, usable_of, use_of, used_for}
-use Rattle.server_history.proofs.Zips.{at_right}
+use Rattle.server_history.specs.Server.{Server, IsKept, IsMachineOf, IsUsedAs, is_served, mode_at, mode_found, mode_in, none_parked, slots_at, state_of, usable_of, use_of, used_for}
+use Rattle.server_history.specs.Below.{LawsBelow}
+use Rattle.server_history.proofs.Asks.{asked_alike, same_book}
+use Rattle.server_history.proofs.Zips.{at_left, at_right}
 
 -- ---- ready ports
 
@@ -57,12 +65,25 @@ not_dead s port ready is = let z : Dead ≡ ReadyState = sym (ap state_of is) �
 pub of_ready : (s : Server) → IsKept s → (e : Held) → Contains s.book e → state_of (found_of s.ports e.entry.port.0) ≡ ReadyState
 of_ready s k e here = All-contains (λ (x : Held). state_of (found_of s.ports x.entry.port.0) ≡ ReadyState) s.book e k.ready here
 
--- every command is plain
-pub all_plain : (op : Op) → is_plain plain_mode op ≡ true
-all_plain Read = refl
-all_plain Write = refl
-all_plain Trim = refl
-all_plain Flush = refl
+-- ---- how a port takes commands
+
+-- any port has 1 to 32 usable slots, no more than the adapter has, and one where commands aren't queued
+pub mode_fit : (cap : ℕ) (found : Found) → IsMode (mode_found cap found) × ((mode_found cap found).usable ≤ cap / 256 % 32 + 1)
+mode_fit cap Unserved = ((omega arith, omega arith, λ plain. refl), omega arith)
+mode_fit cap (Ready info) = ((omega arith, omega arith, λ plain. refl), omega arith)
+mode_fit cap (Unready state) = ((omega arith, omega arith, λ plain. refl), omega arith)
+
+pub its_mode : (s : Server) (port : ℕ) → IsKept s → port < 4 → IsMode (mode_at s.modes port) × ((mode_at s.modes port).usable ≤ s.device.cap / 256 % 32 + 1)
+its_mode s port k low = subst (λ (m : Mode). IsMode m × (m.usable ≤ s.device.cap / 256 % 32 + 1)) (sym (k.modes port low)) (mode_fit s.device.cap (found_of s.ports port))
+
+-- a ready port may use the slots of its mode
+pub usable_ready : (s : Server) (port : ℕ) (k : IsKept s) → state_of (found_of s.ports port) ≡ ReadyState → usable_of (found_of s.ports port) (mode_at s.modes port) ≡ (mode_at s.modes port).usable
+usable_ready s port k ready = ap (λ (f : Found). usable_of f (mode_at s.modes port)) (ready_found s port k ready).1.1
+
+-- a read or a write is plain where commands aren't queued
+pub transfer_plain : (mode : Mode) (op : Op) → (op ≡ Read) ⊎ (op ≡ Write) → is_plain mode op ≡ not mode.queued
+transfer_plain mode op (inl e) = ap (is_plain mode) e
+transfer_plain mode op (inr e) = ap (is_plain mode) e
 
 -- ---- slots
 
@@ -82,11 +103,12 @@ used_or_not None = inr refl
 used_or_not (Some u) = inl (u, refl)
 
 -- a used slot is one that the port may use
-pub used_low : (s : Server) (port slot : ℕ) (u : SlotUse) → IsKept s → port < 4 → used_for s.slots port slot ≡ Some u → slot < usable_of (found_of s.ports port)
-used_low s port slot u k low used = ⊎_elim
-    (λ (less : slot < usable_of (found_of s.ports port)). less)
-    (λ (high : usable_of (found_of s.ports port) ≤ slot). let z : None ≡ Some u = sym ((k.slots port low).unused slot high) ∙ used in absurd cc)
-    (cases_lt slot (usable_of (found_of s.ports port)))
+pub used_low : (s : Server) (port slot : ℕ) (u : SlotUse) → IsKept s → port < 4 → used_for s.slots port slot ≡ Some u → slot < usable_of (found_of s.ports port) (mode_at s.modes port)
+used_low s port slot u k low used =
+    let usable = usable_of (found_of s.ports port) (mode_at s.modes port) in ⊎_elim
+    (λ (less : slot < usable). less)
+    (λ (high : usable ≤ slot). let z : None ≡ Some u = sym ((k.slots port low).unused slot high) ∙ used in absurd cc)
+    (cases_lt slot usable)
 
 pub busy_used : (used : Option SlotUse) → is_used used ≡ true → (u : SlotUse) × (used ≡ Some u)
 busy_used None busy = absurd (false≢true busy)
@@ -148,18 +170,14 @@ served_request s m port slot is id serves =
 
 -- ---- what is issued has a slot
 
--- a ready port uses slot 0 alone
-pub only_first : (s : Server) (port slot : ℕ) → IsKept s → state_of (found_of s.ports port) ≡ ReadyState → slot ≢ 0 → used_for s.slots port slot ≡ None
-only_first s port slot k ready other =
-    let found = ready_found s port k ready in
-    (k.slots port found.0).unused slot (subst (λ (f : Found). usable_of f ≤ slot) (sym found.1.1) (omega (arith, other)))
-
--- a slot that a ready port uses is slot 0
-pub first_used : (s : Server) (port slot : ℕ) (u : SlotUse) → IsKept s → state_of (found_of s.ports port) ≡ ReadyState → used_for s.slots port slot ≡ Some u → slot ≡ 0
-first_used s port slot u k ready used = ⊎_elim
-    (λ (head : slot ≡ 0). head)
-    (λ (other : slot ≢ 0). let z : None ≡ Some u = sym (only_first s port slot k ready other) ∙ used in absurd cc)
-    (cases_eq slot 0)
+-- a used slot of a ready port is one of the 32
+pub used_small : (s : Server) (port slot : ℕ) (u : SlotUse) → IsKept s → state_of (found_of s.ports port) ≡ ReadyState → used_for s.slots port slot ≡ Some u → slot < 32
+used_small s port slot u k ready used =
+    let low = (ready_found s port k ready).0 in
+    let few = (its_mode s port k low).0.1 in
+    let small = used_low s port slot u k low used in
+    let same = usable_ready s port k ready in
+    omega (arith, few, small, same)
 
 -- A request of a ready port that is issued has a slot.
 pub record HasSlot (s : Server) (port : Port) (id : RequestId) : Type 0 where
@@ -175,30 +193,105 @@ issued_has s m port is k ready e here own issued = ⊎_elim
     (λ (parked : Contains (none_parked port.0) e.request.id). absurd (contains_none e.request.id parked))
     (λ (w : (slot : ℕ) × (is.uses port.0 slot ≡ Serves e.request.id)).
     let x = used_serves s m port.0 is ready w.0 e.request.id w.1 in
-    let head = first_used s port.0 w.0 x.0 k ready x.1 in
-    record { slot = w.0; small = omega (arith, head); used = x.0; used_is = x.1; id_is = x.2 })
+    record { slot = w.0; small = used_small s port.0 w.0 x.0 k ready x.1; used = x.0; used_is = x.1; id_is = x.2 })
     (is.knows.have port.0 e (inl (here, issued)) (ap (λ (p : Port). p.0) own))
 
--- where a request of the port is due, nothing of it is issued, so that slot 0 is free
-pub due_unused : (s : Server) (e : Held) → IsKept s → Contains s.book e → IsDue plain_mode (asks_of s.book) (asks e.entry) → used_for s.slots e.entry.port.0 0 ≡ None
-due_unused s e k here due = ⊎_elim
-    (λ (x : (u : SlotUse) × (used_for s.slots port 0 ≡ Some u)). absurd (stands_back x.0 x.1))
-    (λ (none : used_for s.slots port 0 ≡ None). none)
-    (used_or_not (used_for s.slots port 0))
-  where
-    port : ℕ
-    port = e.entry.port.0
+-- ---- a request that is due finds a free slot
 
-    ready : state_of (found_of s.ports port) ≡ ReadyState
-    ready = of_ready s k e here
+module _ (laws : LawsBelow) (s : Server) (e : Held) (k : IsKept s) (here : Contains s.book e) (due : IsDue (mode_in s e.entry.port) (asks_of s.book) (asks e.entry)) where
+  abbrev port : Port
+  port = e.entry.port
 
-    stands_back : (u : SlotUse) → used_for s.slots port 0 ≡ Some u → ⊥
-    stands_back u used =
-        let x = served_request s k.machine port 0 k.stands u.id (serves_used s k.machine port k.stands ready 0 u used) in
-        let other = asks x.request.entry in
-        let issued : x.request.entry.issued ≡ true = sym x.entry.issued ∙ x.issued in
-        false≢true (sym (unheld plain_mode (asks_of s.book) (asks e.entry) due.clear other (into_map (λ (y : Held). asks y.entry) s.book x.request x.there))
-        ∙ and_from _ _ (eq-eqb x.request.entry.port.0 port x.port_is) (cond-true (is_plain plain_mode e.entry.op) _ _ (all_plain e.entry.op) ∙ or_left _ _ issued))
+  abbrev mode : Mode
+  mode = mode_in s port
+
+  ready : state_of (found_of s.ports port.0) ≡ ReadyState
+  ready = of_ready s k e here
+
+  x : (p : Pending) × Contains k.machine.book p × IsEntry e p
+  x = at_left IsEntry s.book k.machine.book k.stands.book e here
+
+  abbrev p : Pending
+  p = x.0
+
+  may : May k.machine (Issue mode p)
+  may = (
+    x.1,
+    (let B : List Unanswered → Type 0 = λ book. IsDue mode book (unanswered p) in
+    let R : Unanswered → Type 0 = λ r. IsDue mode (asks_of s.book) r in
+    subst B (sym (same_book s.book k.machine.book k.stands.book)) (subst R (sym (asked_alike e p x.2)) due)),
+    λ y there. absurd (contains_none y (subst (λ (es : List Pending). Contains es y) k.stands.kept there)),
+  )
+
+  use_known : (slot : ℕ) → k.stands.uses p.request.port.0 slot ≡ use_of (used_for s.slots port.0 slot)
+  use_known slot = ap (λ (q : Port). k.stands.uses q.0 slot) x.2.port ∙ ready_use s k.machine port.0 k.stands ready slot
+
+  not_armed : (used : Option SlotUse) → use_of used ≡ Armed → ⊥
+  not_armed None is = let z : Free ≡ Armed = is in cc
+  not_armed (Some used) is = let z : Serves used.id ≡ Armed = is in cc
+
+  never_own : (used : Option SlotUse) (o : Operation) → use_of used ≡ Own o → ⊥
+  never_own None o is = let z : Free ≡ Own o = is in cc
+  never_own (Some used) o is = let z : Serves used.id ≡ Own o = is in cc
+
+  free_none : (used : Option SlotUse) → use_of used ≡ Free → used ≡ None
+  free_none None is = refl
+  free_none (Some used) is = let z : Serves used.id ≡ Free = is in absurd cc
+
+  own_none : (o : Operation) → k.stands.uses p.request.port.0 0 ≡ Own o → ⊥
+  own_none o is = never_own (used_for s.slots port.0 0) o (sym (use_known 0) ∙ is)
+
+  armed_none : (slot : ℕ) → k.stands.uses p.request.port.0 slot ≡ Armed → ⊥
+  armed_none slot is = not_armed (used_for s.slots port.0 slot) (sym (use_known slot) ∙ is)
+
+  -- a plain one finds slot 0 free
+  pub plain_free : is_plain mode e.entry.op ≡ true → used_for s.slots port.0 0 ≡ None
+  plain_free plain = free_none (used_for s.slots port.0 0) (sym (use_known 0) ∙ laws.plain_free k.stands.uses k.machine s.device k.reached k.stands.knows.agrees mode p may own_none armed_none (ap (is_plain mode) x.2.op ∙ plain))
+
+  -- and a queued one some usable slot
+  pub queued_free : is_plain mode e.entry.op ≡ false → (slot : ℕ) × (slot < mode.usable) × (used_for s.slots port.0 slot ≡ None)
+  queued_free queued =
+      let f = laws.queued_free k.stands.uses k.machine s.device k.reached k.stands.knows.agrees mode p may own_none armed_none (ap (is_plain mode) x.2.op ∙ queued) in
+      (f.0, f.1, free_none (used_for s.slots port.0 f.0) (sym (use_known f.0) ∙ f.2))
+
+  low : port.0 < 4
+  low = (ready_found s port.0 k ready).0
+
+  -- so not all are taken
+  pub never_full : ((slot : ℕ) → slot < (slots_at s.slots port.0).usable → IsTaken (slots_at s.slots port.0) slot) → ⊥
+  never_full all = ⊎_elim
+      (λ (plain : is_plain mode e.entry.op ≡ true). free_taken 0 (let some = (its_mode s port.0 k low).0.0 in some) (plain_free plain))
+      (λ (queued : is_plain mode e.entry.op ≡ false). let f = queued_free queued in free_taken f.0 f.1 f.2)
+      (cases_Bool (is_plain mode e.entry.op))
+    where
+      free_taken : (slot : ℕ) → slot < mode.usable → used_for s.slots port.0 slot ≡ None → ⊥
+      free_taken slot small free =
+          let z : IsSome (used_for s.slots port.0 slot) = all slot (subst (λ (n : ℕ). slot < n) (sym (k.slots port.0 low).usable) small) in
+          some_not (used_for s.slots port.0 slot) free z
+
+      some_not : (used : Option SlotUse) → used ≡ None → IsSome used → ⊥
+      some_not None is some = absurd (false≢true some)
+      some_not (Some u) is some = let z : Some u ≡ None = is in cc
+
+  -- The lowest free slot is one of the adapter's, and slot 0 for a plain command; some machine agrees with a driver that doesn't use it.
+  pub lowest_may : (slot : ℕ) → IsLowestFree (slots_at s.slots port.0) slot
+      → (slot < mode.usable) × (slot < 32) × (slot ≤ s.device.cap / 256 % 32) × (is_plain mode e.entry.op ≡ true → slot ≡ 0) × AgreesWith (IsUnused port.0 slot) s.device
+  lowest_may slot lowest = (
+    small,
+    (let few = fit.0.1 in omega (arith, few, small)),
+    (let few = fit.1 in omega (arith, few, small)),
+    (λ plain. ⊎_elim (λ (head : slot ≡ 0). head) (λ (other : slot ≢ 0). absurd (taken_not (plain_free plain) (lowest.2 0 (omega (arith, other))))) (cases_eq slot 0)),
+    (k.stands.uses, free_unused s k.machine port.0 k.stands ready slot lowest.1, record { machine = k.machine; parked = none_parked; reached = k.reached; knows = k.stands.knows }),
+  )
+    where
+      fit : IsMode mode × (mode.usable ≤ s.device.cap / 256 % 32 + 1)
+      fit = its_mode s port.0 k low
+
+      small : slot < mode.usable
+      small = subst (λ (n : ℕ). slot < n) (k.slots port.0 low).usable lowest.0
+
+      taken_not : used_for s.slots port.0 0 ≡ None → IsTaken (slots_at s.slots port.0) 0 → ⊥
+      taken_not free some = let y : false ≡ true = subst (λ (o : Option SlotUse). IsSome o) free some in false≢true y
 
 -- ---- a slot is given up
 
@@ -215,12 +308,3 @@ stage_over memory p port slot e c places (inr (inr left)) over = left
 pub parked_at : (s : Server) (m : Machine) (port : Port) (slot : ℕ) → (is : IsMachineOf s m) → (id : RequestId) → is.uses port.0 slot ≡ Serves id → IsOver (s.device.port port.0) slot
     → Knows m (parking (known is.uses none_parked s.device) port.0 slot id)
 parked_at s m port slot is id serves over = park_knows (known is.uses none_parked s.device) m is.knows port.0 slot over id serves
-
--- ---- a machine agrees where it is free
-
-pub agreed_due : (s : Server) (e : Held) → IsKept s → Contains s.book e → IsDue plain_mode (asks_of s.book) (asks e.entry) → AgreesWith (IsUnused e.entry.port.0 0) s.device
-agreed_due s e k here due = (
-  k.stands.uses,
-  free_unused s k.machine e.entry.port.0 k.stands (of_ready s k e here) 0 (due_unused s e k here due),
-  record { machine = k.machine; parked = none_parked; reached = k.reached; knows = k.stands.knows },
-)

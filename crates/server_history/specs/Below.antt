@@ -1,5 +1,5 @@
 -- What laws of the crates below say of requests, of transfers, and of accesses that serve ports: the laws of this crate rest on them.
-use Rattle.std.specs.Prelude.{ℕ, ◌≡◌, ◌≢◌, ◌≤◌, ◌<◌, ◌↔◌, List, [], ◌∷◌, ◌++◌, map, Option, None, All, Contains}
+use Rattle.std.specs.Prelude.{ℕ, true, false, ◌≡◌, ◌≢◌, ◌≤◌, ◌<◌, ◌↔◌, List, [], ◌∷◌, ◌++◌, map, Option, None, All, Contains}
 use Rattle.ata_types.specs.declared.Port.{Port}
 use Rattle.ata_types.specs.declared.grant.GrantRow.{GrantRow}
 use Rattle.ata_types.specs.declared.request.Frame.{Frame}
@@ -8,14 +8,18 @@ use Rattle.ata_types.specs.declared.request.RequestId.{RequestId}
 use Rattle.adapter.specs.Access.{Access}
 use Rattle.adapter.specs.Device.{Device}
 use Rattle.adapter.specs.declared.command.Operation.{Operation}
-use Rattle.agreement.specs.Acts.{InSlots}
+use Rattle.adapter.specs.Commands.{Meaning}
+use Rattle.adapter.specs.Rules.{IsOn}
+use Rattle.agreement.specs.Acts.{Act, AreDone, InSlots, accesses_of}
+use Rattle.agreement.specs.Agrees.{Agrees}
+use Rattle.agreement.specs.Readying.{IsStored, LeavesStored}
 use Rattle.agreement.specs.Acts.{at as at_slots}
 use Rattle.agreement.specs.Driven.{AnyUse, IsFollowed, IsOf, SendsNone}
-use Rattle.agreement.specs.Driver.{EndsWith, Knows}
-use Rattle.agreement.specs.Slots.{Own, op_of}
-use Rattle.block_machine.specs.Due.{AreDueInTurn, IsDue, IsInOrder as machine_in_order, due_of, of_port, with_issued, with_none}
+use Rattle.agreement.specs.Driver.{EndsWith, Known, Knows}
+use Rattle.agreement.specs.Slots.{Armed, Free, Own, Uses, op_of}
+use Rattle.block_machine.specs.Due.{AreDueInTurn, IsDue, is_plain, IsInOrder as machine_in_order, due_of, of_port, with_issued, with_none}
 use Rattle.block_machine.specs.State.{Machine, Pending, unanswered}
-use Rattle.block_machine.specs.Steps.{Accept, Issue, Answer, after_step, newly_accepted}
+use Rattle.block_machine.specs.Steps.{Accept, Issue, Answer, May, after_step, newly_accepted}
 use Rattle.block_machine.specs.State as machine
 use Rattle.block_machine.specs.Steps as steps
 use Rattle.ata_types.specs.declared.request.ClientId.{ClientId}
@@ -60,6 +64,15 @@ pub record LawsBelow : Type 0 where
   pub same_due : (mode : Mode) (port : Port) (book other : List Unanswered) (r : Unanswered) → of_port port book ≡ of_port port other → r.port ≡ port → IsDue mode book r ↔ IsDue mode other r
   pub issued_apart : (port : Port) (book : List Unanswered) (r : Unanswered) → machine_in_order book → Contains book r → r.port ≢ port → of_port port (with_issued r.id book) ≡ of_port port book
   pub answered_apart : (port : Port) (book : List Unanswered) (r : Unanswered) → machine_in_order book → Contains book r → r.port ≢ port → of_port port (with_none r.id book) ≡ of_port port book
+  -- a request that is due finds a free slot
+  pub plain_free : (uses : Uses) (m : Machine) (d : Device) → IsReached m → Agrees uses m d → (mode : Mode) (e : Pending) → May m (Issue mode e)
+      → ((o : Operation) → uses e.request.port.0 0 ≡ Own o → ⊥) → ((slot : ℕ) → uses e.request.port.0 slot ≡ Armed → ⊥) → is_plain mode e.request.asked.op ≡ true → uses e.request.port.0 0 ≡ Free
+  pub queued_free : (uses : Uses) (m : Machine) (d : Device) → IsReached m → Agrees uses m d → (mode : Mode) (e : Pending) → May m (Issue mode e)
+      → ((o : Operation) → uses e.request.port.0 0 ≡ Own o → ⊥) → ((slot : ℕ) → uses e.request.port.0 slot ≡ Armed → ⊥) → is_plain mode e.request.asked.op ≡ false
+      → (slot : ℕ) × (slot < mode.usable) × (uses e.request.port.0 slot ≡ Free)
+  -- what is stored for a slot stays so over acts that leave it
+  pub stored : (port : Port) (slot : ℕ) (c : Meaning) (places : List ℕ) (acts : List Act) (k later : Known) (m : Machine) → IsReached m → Knows m k → AreDone acts k m later
+      → All (LeavesStored port slot) (accesses_of acts) → IsOn k.device → IsStored k.device port.0 slot c places → IsStored later.device port.0 slot c places
   -- accesses that serve ports
   pub looks : Laws
   -- a transfer is issued

@@ -29,6 +29,7 @@ use Rattle.hba_regs.specs.Bits.{bit}
 use Rattle.ncq.specs.Masks.{FindsDone}
 use Rattle.ncq.specs.Transfers.{IsIssuing, IssuesTransfer, meaning_of}
 use Rattle.agreement.specs.Readying.{IsStored}
+use Rattle.command_table.specs.Places.{places_of}
 use Rattle.ncq.specs.declared.Transfer.{Transfer}
 use Rattle.request_queue.specs.Entries.{Held, IsEarlier, asks, asks_of, at, due_ids, issue, without}
 use Rattle.request_queue.specs.Machine.{IsEntry}
