@@ -8,6 +8,7 @@ use Rattle.ata_types.specs.declared.request.Outcome.{Outcome}
 use Rattle.ata_types.specs.declared.request.Outcome.TheVariants.{Ok}
 use Rattle.ata_types.specs.declared.request.Reply.{Reply}
 use Rattle.adapter.specs.Device.{Device}
+use Rattle.block_machine.specs.declared.due.Mode.{Mode}
 use Rattle.block_machine.specs.Events.{AllDevices, AllMay, IsDevices, answers_of, reply_of}
 use Rattle.block_machine.specs.Left.{after}
 use Rattle.block_machine.specs.Ports.{Ports, IsServiced}
@@ -56,15 +57,15 @@ no_answer (step ∷ steps) only e o here = ⊎_elim
     (λ (there : Contains steps (Answer e o)). no_answer steps only.0 e o there)
     (contains_cases step steps (Answer e o) here)
 
-pub no_answer_issuing : (port : Port) (steps : List Step) → IssuesOnly port steps → (e : Pending) (o : Outcome) → Contains steps (Answer e o) → ⊥
-no_answer_issuing port [] only e o here = contains_none (Answer e o) here
-no_answer_issuing port (Issue mode x ∷ steps) only e o here = ⊎_elim
-    (λ (is : Answer e o ≡ Issue mode x). absurd (let z : Answer e o ≡ Issue mode x = is in cc))
-    (λ (there : Contains steps (Answer e o)). no_answer_issuing port steps only.2 e o there)
-    (contains_cases (Issue mode x) steps (Answer e o) here)
-no_answer_issuing port (step ∷ steps) only e o here = ⊎_elim
+pub no_answer_issuing : (mode : Mode) (port : Port) (steps : List Step) → IssuesOnly mode port steps → (e : Pending) (o : Outcome) → Contains steps (Answer e o) → ⊥
+no_answer_issuing mode port [] only e o here = contains_none (Answer e o) here
+no_answer_issuing mode port (Issue its x ∷ steps) only e o here = ⊎_elim
+    (λ (is : Answer e o ≡ Issue its x). absurd (let z : Answer e o ≡ Issue its x = is in cc))
+    (λ (there : Contains steps (Answer e o)). no_answer_issuing mode port steps only.2 e o there)
+    (contains_cases (Issue its x) steps (Answer e o) here)
+no_answer_issuing mode port (step ∷ steps) only e o here = ⊎_elim
     (λ (is : Answer e o ≡ step). subst IsDevices (sym is) only.0)
-    (λ (there : Contains steps (Answer e o)). no_answer_issuing port steps only.1 e o there)
+    (λ (there : Contains steps (Answer e o)). no_answer_issuing mode port steps only.1 e o there)
     (contains_cases step steps (Answer e o) here)
 
 -- the answers of these alone
@@ -109,8 +110,8 @@ ended_stood m (x ∷ ended) may p here = ⊎_elim
     parts = may_parts m (answers_in ended) (Answer x Ok ∷ []) may
 
 -- nor do steps that issue requests
-pub issuing_answers : (port : Port) (late base : List Step) → IssuesOnly port late → answers_of (late ++ base) ≡ answers_of base
-issuing_answers port [] base only = refl
-issuing_answers port (Issue mode e ∷ late) base only = issuing_answers port late base only.2
-issuing_answers port (Answer e o ∷ late) base only = absurd only.0
-issuing_answers port (step ∷ late) base only = issuing_answers port late base only.1
+pub issuing_answers : (mode : Mode) (port : Port) (late base : List Step) → IssuesOnly mode port late → answers_of (late ++ base) ≡ answers_of base
+issuing_answers mode port [] base only = refl
+issuing_answers mode port (Issue its e ∷ late) base only = issuing_answers mode port late base only.2
+issuing_answers mode port (Answer e o ∷ late) base only = absurd only.0
+issuing_answers mode port (step ∷ late) base only = issuing_answers mode port late base only.1

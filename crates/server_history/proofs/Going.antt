@@ -1,6 +1,6 @@
 -- A server goes on over steps of the device, and calls add events to its histories.
-use Rattle.std.proofs.Common.{ℕ, ◌≡◌, ◌≤◌, ◌<◌, ◌+◌, ◌*◌, get_or, length, Option, None, List, [], ◌∷◌, refl, sym, ap, ◌∙◌, subst}
-use Rattle.std.specs.List.{All, AllZip}
+use Rattle.std.proofs.Common.{ℕ, ◌≡◌, ◌≤◌, ◌<◌, ◌+◌, ◌*◌, get_or, length, not, Option, None, Some, List, [], ◌∷◌, refl, sym, ap, ◌∙◌, subst}
+use Rattle.std.specs.List.{All, AllZip, Contains}
 use Rattle.ata_types.specs.declared.Port.{Port}
 use Rattle.ata_types.specs.declared.PortState.TheVariants.{Ready as ReadyState}
 use Rattle.ata_types.specs.declared.request.ClientId.{ClientId}
@@ -31,7 +31,9 @@ use Rattle.server_history.specs.Histories.{Leads, Stands}
 use Rattle.request_queue.specs.Entries.{Held, IsAccepted, IsInOrder}
 use Rattle.request_queue.specs.Machine.{IsBook, IsEntry, range_of}
 use Rattle.slots.specs.Uses.{Uses as PortSlots}
-use Rattle.server_history.specs.Server.{HasSlots, Server, IsKept, IsMachineOf, IsPortOf, none_parked, ports_of, state_of}
+use Rattle.server_history.specs.Server.{HasCommand, HasSlots, Server, IsKept, IsMachineOf, IsPortOf, mode_found, mode_in, none_parked, ports_of, state_of, used_for}
+use Rattle.slots.specs.declared.Use.{Use as SlotUse}
+use Rattle.block_machine.specs.Due.{is_plain}
 use Rattle.server_history.proofs.Standing.{holds_with, slots}
 use Rattle.server_history.proofs.Told.{evidenced, lawful_told, no_evidence, told_by}
 
@@ -90,17 +92,22 @@ machine_on s new m steps is own knows = machine_with s new m (after m steps) is 
 
 -- a server with this device, these loans, slots and book
 pub kept_then : (s : Server) (device : Device) (table : Table) (slots : List PortSlots) (book : List Held) (last : ℕ) → IsKept s → IsOn device → SameAdapter s.device device
-    → ((port : ℕ) → port < 4 → IsPortOf s.wanted s.ports port device) → table.owners ≡ s.table.owners → length slots ≡ 4 → ((port : ℕ) → port < 4 → HasSlots s.ports slots port)
+    → ((port : ℕ) → port < 4 → IsPortOf s.wanted s.ports port device) → table.owners ≡ s.table.owners → length slots ≡ 4 → ((port : ℕ) → port < 4 → HasSlots s.ports s.modes slots port)
+    → ((port : Port) (slot : ℕ) (used : SlotUse) (e : Held) → used_for slots port.0 slot ≡ Some used → Contains book e → e.entry.id ≡ used.id → used.queued ≡ not (is_plain (mode_in s port) e.entry.op))
+    → ((port slot : ℕ) (used : SlotUse) → used_for slots port slot ≡ Some used → HasCommand used.queued device port slot)
     → All (IsAccepted s.grants table) book → IsInOrder book → All (λ e. e.entry.id.0 ≤ last) book → All (λ e. state_of (found_of s.ports e.entry.port.0) ≡ ReadyState) book → (m : Machine) → IsReached m
     → IsMachineOf (record s { device = device; table = table; slots = slots; book = book; last = last }) m
     → IsKept (record s { device = device; table = table; slots = slots; book = book; last = last })
-kept_then s device table slots book last k on same behind owners four used accepted ordered handed_out ready m reached is = record {
+kept_then s device table slots book last k on same behind owners four used kinds commands accepted ordered handed_out ready m reached is = record {
   on = on;
   room = subst (λ (n : ℕ). 163840 ≤ n) (sym same.size) k.room;
   there = λ port served. let t = k.there port served in (t.0, ap (λ (pi : ℕ). bit pi port) same.pi ∙ t.1);
   behind = behind;
   four = four;
+  modes = λ port low. k.modes port low ∙ ap (λ (cap : ℕ). mode_found cap (found_of s.ports port)) (sym same.cap);
   slots = used;
+  kinds = kinds;
+  commands = commands;
   rows = k.rows;
   owners = λ frame client own.
       let o = k.owners frame client (ap (λ (list : List (Option ClientId)). get_or list frame.0 None) (sym owners) ∙ own) in
@@ -116,10 +123,10 @@ kept_then s device table slots book last k on same behind owners four used accep
 
 -- the same with another device alone
 pub kept_on : (s : Server) (new : Device) → (k : IsKept s) → IsOn new → SameAdapter s.device new
-    → ((port : ℕ) → port < 4 → IsPortOf s.wanted s.ports port new) → (steps : List Step) → AllMay k.machine steps
+    → ((port : ℕ) → port < 4 → IsPortOf s.wanted s.ports port new) → ((port slot : ℕ) (used : SlotUse) → used_for s.slots port slot ≡ Some used → HasCommand used.queued new port slot) → (steps : List Step) → AllMay k.machine steps
     → IsMachineOf (record s { device = new }) (after k.machine steps) → IsKept (record s { device = new })
-kept_on s new k on same behind steps may is =
-    kept_then s new s.table s.slots s.book s.last k on same behind refl k.four k.slots k.accepted k.ordered k.handed_out k.ready (after k.machine steps) (reached_more k.machine steps k.reached may) is
+kept_on s new k on same behind commands steps may is =
+    kept_then s new s.table s.slots s.book s.last k on same behind refl k.four k.slots k.kinds commands k.accepted k.ordered k.handed_out k.ready (after k.machine steps) (reached_more k.machine steps k.reached may) is
 
 -- ---- events
 
@@ -139,9 +146,13 @@ happening old new ask said steps ports =
 abbrev pub with_device : Device → Instant Device → Instant Device
 with_device d i = record { device = d; moment = i.moment }
 
+-- servers with the same ports, which take commands in the same way
+same_ports : (s new : Server) → s.ports ≡ new.ports → s.modes ≡ new.modes → ports_of s ≡ ports_of new
+same_ports s new ports modes = λ i. ports_of (record s { ports = ports i; modes = modes i })
+
 -- a call, with what its event needs
 pub lead_by : (first : Instant Device) (past : List (Happening Device DeviceStep)) (s new : Server) (ask : Ask DeviceStep) (said : Said) (steps : List Step)
-    → new.wanted ≡ s.wanted → new.ports ≡ s.ports → Leads first past s → IsKept new
+    → new.wanted ≡ s.wanted → new.ports ≡ s.ports → new.modes ≡ s.modes → Leads first past s → IsKept new
     → AllMay (now first past).moment.machine steps → Belong ask (ports_of new) steps → IssuesLast steps
     → AllLawful (now first past).moment no_evidence (ports_of new) steps
     → IsAnswered ask said (now first past).moment (told_by s.device (now first past).moment.ports) steps (record { machine = after (now first past).moment.machine steps; ports = ports_of new })
@@ -153,7 +164,7 @@ pub lead_by : (first : Instant Device) (past : List (Happening Device DeviceStep
     → IsBacked s.device new.device (now first past).moment.machine steps
     → IsMachineOf new (after (now first past).moment.machine steps)
     → (h : Happening Device DeviceStep) × (h.event.ask ≡ ask) × (h.event.said ≡ said) × Leads first (h ∷ past) new
-lead_by first past s new ask said steps wanted_is ports_is leads kept may belong last lawful answered accesses came leaves issues parts backed stands = (
+lead_by first past s new ask said steps wanted_is ports_is modes_is leads kept may belong last lawful answered accesses came leaves issues parts backed stands = (
   h,
   refl,
   refl,
@@ -182,7 +193,7 @@ lead_by first past s new ask said steps wanted_is ports_is leads kept may belong
     at = leads.stands
 
     ports : old.moment.ports ≡ ports_of new
-    ports = at.ports_are ∙ ap ports_of (sym ports_is)
+    ports = at.ports_are ∙ same_ports s new (sym ports_is) (sym modes_is)
 
     fit : AreFit old.moment.ports
     fit = history_fit (Begins s.wanted) (Ties s.wanted) first past leads.history

@@ -1,5 +1,5 @@
--- A due request is issued in slot 0 of its port.
-use Rattle.std.proofs.Common.{ℕ, ◌≡◌, ◌<◌, ◌≤◌, false, true, not, Bool, List, ◌∷◌, map, Option, Some, None, refl, sym, ap, ◌∙◌, subst, arith}
+-- A due request is issued in the lowest free slot of its port.
+use Rattle.std.proofs.Common.{ℕ, ◌≡◌, ◌<◌, ◌≤◌, ◌/◌, ◌%◌, false, true, not, Bool, List, ◌∷◌, map, Option, Some, None, refl, sym, ap, ◌∙◌, subst, arith}
 use Rattle.std.proofs.lemmas.Bool.{and_parts, false≢true}
 use Rattle.std.specs.List.{Contains}
 use Rattle.ata_types.specs.declared.Port.{Port}
@@ -7,12 +7,13 @@ use Rattle.ata_types.specs.declared.PortState.TheVariants.{Ready as ReadyState}
 use Rattle.ata_types.specs.declared.request.RequestId.{RequestId}
 use Rattle.adapter.specs.Device.{Device}
 use Rattle.adapter.specs.declared.command.Operation.TheVariants.{Identify}
-use Rattle.block_machine.specs.Due.{IsDue}
+use Rattle.block_machine.specs.Due.{IsDue, is_plain}
 use Rattle.block_machine.specs.Events.{AllDevices, AllMay}
 use Rattle.block_machine.specs.Histories.{IsReached}
 use Rattle.block_machine.specs.Left.{after}
 use Rattle.block_machine.specs.State.{Machine, Pending, unanswered}
 use Rattle.block_machine.specs.Steps.{Step, Issue, May}
+use Rattle.block_machine.specs.declared.due.Mode.{Mode}
 use Rattle.block_machine.specs.declared.due.Unanswered.{Unanswered}
 use Rattle.block_machine.proofs.HistoryLemmas.{reached_more}
 use Rattle.block_machine.proofs.Members.{contains_none}
@@ -25,22 +26,32 @@ use Rattle.agreement.proofs.Sparing.{steps_spare}
 use Rattle.host_boot.specs.Taken.{found_of}
 use Rattle.request_queue.specs.Entries.{Held, asks_of, at, issue}
 use Rattle.request_queue.specs.Machine.{IsBook, IsEntry}
+use Rattle.agreement.specs.Driven.{AgreesWith}
+use Rattle.ata_types.specs.declared.request.Frame.{Frame}
+use Rattle.command_table.specs.Written.{IsUnused}
+use Rattle.ncq.specs.declared.Transfer.{Transfer}
+use Rattle.request_queue.specs.Entries.{asks}
+use Rattle.slots.specs.Uses.{IsLowestFree}
 use Rattle.slots.specs.declared.Use.{Use as SlotUse}
-use Rattle.server_history.specs.Served.{IsPlainIssuing, IssuesOne, transfer_of}
-use Rattle.server_history.specs.Server.{Server, IsKept, IsMachineOf, IsPortOf, IsUsedAs, none_parked, plain_mode, state_of, usable_of, used_for, with_slot}
+use Rattle.server_history.specs.Served.{IssuesOne, transfer_of, use_for}
+use Rattle.server_history.specs.Server.{Server, IsKept, IsMachineOf, IsPortOf, IsUsedAs, mode_at, mode_in, none_parked, slots_at, state_of, usable_of, used_for, with_slot}
 use Rattle.server_history.specs.Below.{LawsBelow}
 use Rattle.server_history.proofs.Asks.{asked_alike, same_book}
 use Rattle.server_history.proofs.Changed.{all_changed}
 use Rattle.server_history.proofs.Going.{book_on, kept_then}
 use Rattle.server_history.proofs.Looking.{behind_served}
 use Rattle.server_history.proofs.Placing.{placed_four, placed_has, placed_uses}
-use Rattle.server_history.proofs.Slots.{all_plain, due_unused, free_unused, not_own, of_ready, ready_found}
+use Rattle.server_history.proofs.Slots.{free_unused, its_mode, lowest_may, not_own, of_ready, ready_found, usable_ready}
 use Rattle.server_history.proofs.Zips.{at_left}
 use Rattle.port_look.specs.Services.{IsService}
 use Rattle.ncq.specs.Transfers.{IsIssuing, IsTransferOf, IssuesTransfer, MayServe}
-use Rattle.server_history.proofs.Plain.{issued_plain, plain_serves}
+use Rattle.server_history.proofs.Plain.{issuing_serves}
 use Rattle.port_look.proofs.Apart.{apart}
 use Rattle.port_look.proofs.Serving.{services_on, services_same}
+
+not_false : (b : Bool) → not b ≡ false → b ≡ true
+not_false true is = refl
+not_false false is = absurd (false≢true (sym is))
 
 not_true : (b : Bool) → not b ≡ true → b ≡ false
 not_true false is = refl
@@ -55,34 +66,45 @@ pub record IsIssue (port : Port) (id : RequestId) (old new : Server) (m : Machin
   pub waits : request.issued ≡ false
   pub steps : List Step
   pub only : AllDevices steps
-  pub may : AllMay m (Issue plain_mode request ∷ steps)
-  pub backed : IsBacked old.device new.device m (Issue plain_mode request ∷ steps)
-  pub stands : IsMachineOf new (after m (Issue plain_mode request ∷ steps))
+  pub may : AllMay m (Issue (mode_in old port) request ∷ steps)
+  pub backed : IsBacked old.device new.device m (Issue (mode_in old port) request ∷ steps)
+  pub stands : IsMachineOf new (after m (Issue (mode_in old port) request ∷ steps))
 
 -- ---- what stands behind the ports then
 
-pub issued_serves : (port : Port) (e : Held) (old new : Device) → IssuesTransfer port 0 (transfer_of e) e.frames old new → IsDrivenBy IsService old new
-issued_serves port e old new issues = driven_as (IsPlainIssuing port) IsService old new (plain_serves port) (issued_plain port e e.frames old new issues)
+pub issued_serves : (port : Port) (slot : ℕ) (old new : Device) → IsDrivenBy (IsIssuing port slot) old new → IsDrivenBy IsService old new
+issued_serves port slot old new driven = driven_as (IsIssuing port slot) IsService old new (issuing_serves port slot) driven
 
 -- on a ready port, that leaves what stands behind each
-behind_issued : LawsBelow → (s : Server) (new : Device) (port : Port) (e : Held) (p : Pending) (k : IsKept s) → state_of (found_of s.ports port.0) ≡ ReadyState
-    → IssuesTransfer port 0 (transfer_of e) e.frames s.device new → IsTransferOf port 0 (transfer_of e) e.frames plain_mode p
-    → MayServe port 0 plain_mode p (record { uses = k.stands.uses; parked = none_parked }) k.machine → (q : ℕ) → q < 4 → IsPortOf s.wanted s.ports q new
-behind_issued laws s new port e p k ready issues its may =
-    behind_served laws.looks s new port k ready (issued_serves port e s.device new issues) (λ q low other. apart laws.looks port (IsIssuing port 0) (laws.issuing_of port 0) q other s.device new k.on issues.driven)
-    (λ q other. laws.issuing_silent port 0 (transfer_of e) e.frames plain_mode p s.device new (record { uses = k.stands.uses; parked = none_parked }) k.machine issues its k.reached k.stands.knows may q Identify refl
+behind_issued : LawsBelow → (s : Server) (new : Device) (port : Port) (slot : ℕ) (mode : Mode) (r : Transfer) (frames : List Frame) (p : Pending) (k : IsKept s) → state_of (found_of s.ports port.0) ≡ ReadyState
+    → IssuesTransfer port slot r frames s.device new → IsTransferOf port slot r frames mode p
+    → MayServe port slot mode p (record { uses = k.stands.uses; parked = none_parked }) k.machine → (q : ℕ) → q < 4 → IsPortOf s.wanted s.ports q new
+behind_issued laws s new port slot mode r frames p k ready issues its may =
+    behind_served laws.looks s new port k ready (issued_serves port slot s.device new issues.driven)
+    (λ q low other. apart laws.looks port (IsIssuing port slot) (laws.issuing_of port slot) q other s.device new k.on issues.driven)
+    (λ q other. laws.issuing_silent port slot r frames mode p s.device new (record { uses = k.stands.uses; parked = none_parked }) k.machine issues its k.reached k.stands.knows may q Identify refl
     (not_own (found_of s.ports q) 0 (used_for s.slots q 0) (k.stands.uses q 0) other (k.stands.used q 0)))
 
 module _ (laws : LawsBelow) (s new : Server) (port : Port) (id : RequestId) (k : IsKept s) (one : IssuesOne port id s new) where
   abbrev e : Held
   e = one.request
 
+  -- how its port takes commands, and its slot
+  abbrev mode : Mode
+  mode = mode_in s port
+
+  abbrev slot : ℕ
+  slot = one.slot
+
+  abbrev r : Transfer
+  r = transfer_of mode e
+
   abbrev its_use : Option SlotUse
-  its_use = Some (record { id = id; queued = false })
+  its_use = Some (use_for mode e)
 
   -- the server then
   abbrev later : Server
-  later = record s { device = new.device; slots = with_slot s.slots port.0 0 its_use; book = map (at id issue) s.book }
+  later = record s { device = new.device; slots = with_slot s.slots port.0 slot its_use; book = map (at id issue) s.book }
 
   port_same : e.entry.port.0 ≡ port.0
   port_same = ap (λ (p : Port). p.0) one.port_is
@@ -90,18 +112,24 @@ module _ (laws : LawsBelow) (s new : Server) (port : Port) (id : RequestId) (k :
   pub issued_ready : state_of (found_of s.ports port.0) ≡ ReadyState
   issued_ready = subst (λ (q : ℕ). state_of (found_of s.ports q) ≡ ReadyState) port_same (of_ready s k e one.here)
 
-  unused : used_for s.slots port.0 0 ≡ None
-  unused = subst (λ (q : ℕ). used_for s.slots q 0 ≡ None) port_same (due_unused s e k one.here one.due)
-
   low : port.0 < 4
   low = (ready_found s port.0 k issued_ready).0
 
-  usable : usable_of (found_of s.ports port.0) ≡ 1
-  usable = ap usable_of (ready_found s port.0 k issued_ready).1.1
+  -- its slot may be used for it
+  may_use : (slot < mode.usable) × (slot < 32) × (slot ≤ s.device.cap / 256 % 32) × (is_plain mode e.entry.op ≡ true → slot ≡ 0) × AgreesWith (IsUnused port.0 slot) s.device
+  may_use = subst (λ (q : Port). (IsDue (mode_in s q) (asks_of s.book) (asks e.entry)) → IsLowestFree (slots_at s.slots q.0) slot
+      → (slot < (mode_in s q).usable) × (slot < 32) × (slot ≤ s.device.cap / 256 % 32) × (is_plain (mode_in s q) e.entry.op ≡ true → slot ≡ 0) × AgreesWith (IsUnused q.0 slot) s.device)
+      one.port_is (λ due lowest. lowest_may laws s e k one.here due slot lowest) one.due one.lowest
+
+  slot_low : slot < usable_of (found_of s.ports port.0) (mode_at s.modes port.0)
+  slot_low = subst (λ (n : ℕ). slot < n) (sym (usable_ready s port.0 k issued_ready)) may_use.0
+
+  few : usable_of (found_of s.ports port.0) (mode_at s.modes port.0) ≤ 32
+  few = let u = usable_ready s port.0 k issued_ready in let f = (its_mode s port.0 k low).0.1 in omega (arith, u, f)
 
   module _ (m : Machine) (reached : IsReached m) (is : IsMachineOf s m) where
-    free : is.uses port.0 0 ≡ Free
-    free = free_unused s m port.0 is issued_ready 0 unused
+    free : is.uses port.0 slot ≡ Free
+    free = free_unused s m port.0 is issued_ready slot one.lowest.1
 
     x : (p : Pending) × Contains m.book p × IsEntry e p
     x = at_left IsEntry s.book m.book is.book e one.here
@@ -109,29 +137,29 @@ module _ (laws : LawsBelow) (s new : Server) (port : Port) (id : RequestId) (k :
     abbrev p : Pending
     p = x.0
 
-    due : IsDue plain_mode (map unanswered m.book) (unanswered p)
+    due : IsDue mode (map unanswered m.book) (unanswered p)
     due =
-        let B : List Unanswered → Type 0 = λ book. IsDue plain_mode book (unanswered p) in
-        let R : Unanswered → Type 0 = λ r. IsDue plain_mode (asks_of s.book) r in
+        let B : List Unanswered → Type 0 = λ book. IsDue mode book (unanswered p) in
+        let R : Unanswered → Type 0 = λ r. IsDue mode (asks_of s.book) r in
         subst B (sym (same_book s.book m.book is.book)) (subst R (sym (asked_alike e p x.2)) one.due)
 
-    may : May m (Issue plain_mode p)
+    may : May m (Issue mode p)
     may = (x.1, due, λ y here. absurd (contains_none y (subst (λ (es : List Pending). Contains es y) is.kept here)))
 
-    its_transfer : IsTransferOf port 0 (transfer_of e) e.frames plain_mode p
+    its_transfer : IsTransferOf port slot r e.frames mode p
     its_transfer = record {
       port_is = x.2.port ∙ one.port_is;
       operation = x.2.op;
       first = ap (λ r. r.first) x.2.range;
       count = ap (λ r. r.count) x.2.range;
       frames_are = x.2.frames;
-      kind = ap not (sym (all_plain e.entry.op));
-      usable = omega arith;
-      head = λ _. refl;
+      kind = refl;
+      usable = may_use.0;
+      head = λ plain. may_use.3 (not_false (is_plain mode e.entry.op) plain);
     }
 
-    ends : EndsWith (known is.uses none_parked s.device) m (Issue plain_mode p) (serving (known is.uses none_parked s.device) port.0 0 p.request.id new.device)
-    ends = laws.issuing_ends port 0 (transfer_of e) e.frames plain_mode p s.device new.device (record { uses = is.uses; parked = none_parked }) m one.issues its_transfer reached is.knows (free, may)
+    ends : EndsWith (known is.uses none_parked s.device) m (Issue mode p) (serving (known is.uses none_parked s.device) port.0 slot p.request.id new.device)
+    ends = laws.issuing_ends port slot r e.frames mode p s.device new.device (record { uses = is.uses; parked = none_parked }) m one.issues its_transfer reached is.knows (free, may)
 
     its_id : p.request.id ≡ id
     its_id = x.2.id ∙ one.id_is
@@ -139,14 +167,14 @@ module _ (laws : LawsBelow) (s new : Server) (port : Port) (id : RequestId) (k :
     spares : SparesBook m (after m ends.steps)
     spares = steps_spare m ends.steps ends.only
 
-    stands : IsMachineOf later (after m (Issue plain_mode p ∷ ends.steps))
+    stands : IsMachineOf later (after m (Issue mode p ∷ ends.steps))
     stands = record {
-      uses = put is.uses port.0 0 (Serves p.request.id);
-      used = subst (λ (u : Use). (q slot : ℕ) → IsUsedAs (found_of s.ports q) slot (used_for (with_slot s.slots port.0 0 its_use) q slot) (put is.uses port.0 0 u q slot)) (ap Serves (sym its_id))
-          (placed_uses s.slots port.0 0 its_use (let l = low in let f = k.four in omega (arith, l, f)) (let h = (k.slots port.0 low).places in omega (arith, h)) s.ports is.uses is.used);
+      uses = put is.uses port.0 slot (Serves p.request.id);
+      used = subst (λ (u : Use). (q n : ℕ) → IsUsedAs (found_of s.ports q) n (used_for (with_slot s.slots port.0 slot its_use) q n) (put is.uses port.0 slot u q n)) (ap Serves (sym x.2.id))
+          (placed_uses s.slots port.0 slot its_use (let l = low in let f = k.four in omega (arith, l, f)) (let h = (k.slots port.0 low).places in let t = may_use.1 in omega (arith, h, t)) s.ports is.uses is.used);
       knows = ends.knows;
-      book = subst (λ (i : RequestId). IsBook (map (at i issue) s.book) (after m (Issue plain_mode p ∷ ends.steps)).book) its_id
-          (laws.issues s.book (after m ends.steps) plain_mode p (book_on s.book m.book (after m ends.steps).book spares.book is.book));
+      book = subst (λ (i : RequestId). IsBook (map (at i issue) s.book) (after m (Issue mode p ∷ ends.steps)).book) its_id
+          (laws.issues s.book (after m ends.steps) mode p (book_on s.book m.book (after m ends.steps).book spares.book is.book));
       kept = subst (λ (es : List Pending). AllFurther es (after m ends.steps).kept) is.kept spares.kept;
       rows = spares.rows ∙ is.rows;
       owner = λ frame. ap (λ f. f frame) spares.owner ∙ is.owner frame;
@@ -165,7 +193,7 @@ module _ (laws : LawsBelow) (s new : Server) (port : Port) (id : RequestId) (k :
       only = ends.only;
       may = ends.may;
       backed = ends.backed;
-      stands = subst (λ (n : Server). IsMachineOf n (after m (Issue plain_mode p ∷ ends.steps))) (sym one.server) stands;
+      stands = subst (λ (n : Server). IsMachineOf n (after m (Issue mode p ∷ ends.steps))) (sym one.server) stands;
     }
       where
         waiting : e.entry.issued ≡ false
@@ -176,28 +204,24 @@ module _ (laws : LawsBelow) (s new : Server) (port : Port) (id : RequestId) (k :
   issue_kept =
       let i = issue_one k.machine k.reached k.stands in
       subst IsKept (sym one.server)
-      (kept_then s new.device s.table (with_slot s.slots port.0 0 its_use) (map (at id issue) s.book) s.last k
+      (kept_then s new.device s.table (with_slot s.slots port.0 slot its_use) (map (at id issue) s.book) s.last k
       (services_on laws.looks s.device new.device k.on driven) (services_same laws.looks s.device new.device driven)
-      (behind_issued laws s new.device port e (p k.machine k.reached k.stands) k issued_ready one.issues (its_transfer k.machine k.reached k.stands)
+      (behind_issued laws s new.device port slot mode r e.frames (p k.machine k.reached k.stands) k issued_ready one.issues (its_transfer k.machine k.reached k.stands)
       (free k.machine k.reached k.stands, may k.machine k.reached k.stands))
       refl
-      (placed_four s.ports s.slots port.0 0 its_use k.four low slot_low few k.slots)
-      (placed_has s.ports s.slots port.0 0 its_use k.four low slot_low few k.slots)
+      (placed_four s.ports s.modes s.slots port.0 slot its_use k.four low slot_low few k.slots)
+      (placed_has s.ports s.modes s.slots port.0 slot its_use k.four low slot_low few k.slots)
+      ?
+      ?
       (laws.still_issued s.grants s.table s.book id k.accepted)
       (laws.issued s.book id k.ordered (e, one.here, one.id_is, waiting))
       (all_changed id issue (λ y. y.entry.id.0 ≤ s.last) (λ y a. a) s.book k.handed_out)
       (all_changed id issue (λ y. state_of (found_of s.ports y.entry.port.0) ≡ ReadyState) (λ y a. a) s.book k.ready)
-      (after k.machine (Issue plain_mode i.request ∷ i.steps)) (reached_more k.machine (Issue plain_mode i.request ∷ i.steps) k.reached i.may)
-      (subst (λ (n : Server). IsMachineOf n (after k.machine (Issue plain_mode i.request ∷ i.steps))) one.server i.stands))
+      (after k.machine (Issue mode i.request ∷ i.steps)) (reached_more k.machine (Issue mode i.request ∷ i.steps) k.reached i.may)
+      (subst (λ (n : Server). IsMachineOf n (after k.machine (Issue mode i.request ∷ i.steps))) one.server i.stands))
     where
       driven : IsDrivenBy IsService s.device new.device
-      driven = issued_serves port e s.device new.device one.issues
+      driven = issued_serves port slot s.device new.device one.issues.driven
 
       waiting : e.entry.issued ≡ false
       waiting = not_true e.entry.issued (and_parts _ _ one.due.clear).0
-
-      slot_low : 0 < usable_of (found_of s.ports port.0)
-      slot_low = let u = usable in omega (arith, u)
-
-      few : usable_of (found_of s.ports port.0) ≤ 32
-      few = let u = usable in omega (arith, u)

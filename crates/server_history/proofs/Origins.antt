@@ -8,6 +8,7 @@ use Rattle.ata_types.specs.declared.request.Reply.{Reply}
 use Rattle.ata_types.specs.declared.request.RequestId.{RequestId}
 use Rattle.agreement.specs.Spares.{SparesBook}
 use Rattle.agreement.proofs.Sparing.{found_before, steps_spare}
+use Rattle.block_machine.specs.declared.due.Mode.{Mode}
 use Rattle.block_machine.specs.Events.{AllDevices, AllMay, IsDevices, IsIssuedIn, issues_it}
 use Rattle.block_machine.specs.Left.{after}
 use Rattle.block_machine.specs.State.{Machine, Pending}
@@ -28,20 +29,20 @@ devices_turn port (Issue mode e ∷ steps) all = absurd all.1
 devices_turn port (Answer e o ∷ steps) all = absurd all.1
 devices_turn port (step ∷ steps) all = (all.1, devices_turn port steps all.0)
 
-issues_turn : (port : Port) (late early : List Step) → IssuesOnly port late → TurnSteps port early → TurnSteps port (late ++ early)
-issues_turn port [] early only turn = turn
-issues_turn port (Issue mode e ∷ late) early only turn = (only.1, issues_turn port late early only.2 turn)
-issues_turn port (Answer e o ∷ late) early only turn = absurd only.0
-issues_turn port (step ∷ late) early only turn = (only.0, issues_turn port late early only.1 turn)
+issues_turn : (mode : Mode) (port : Port) (late early : List Step) → IssuesOnly mode port late → TurnSteps port early → TurnSteps port (late ++ early)
+issues_turn mode port [] early only turn = turn
+issues_turn mode port (Issue its e ∷ late) early only turn = (only.1, issues_turn mode port late early only.2 turn)
+issues_turn mode port (Answer e o ∷ late) early only turn = absurd only.0
+issues_turn mode port (step ∷ late) early only turn = (only.0, issues_turn mode port late early only.1 turn)
 
 answered_turn : (port : Port) (ended : List Pending) (early : List Step) → TurnSteps port early → TurnSteps port (answers_in ended ++ early)
 answered_turn port [] early turn = turn
 answered_turn port (e ∷ ended) early turn =
     subst (TurnSteps port) (sym (append_assoc (answers_in ended) (Answer e Ok ∷ []) early)) (answered_turn port ended (Answer e Ok ∷ early) turn)
 
-pub answers_turn : (port : Port) (replies : List Reply) (steps : List Step) → AnswersBy port replies steps → TurnSteps port steps
-answers_turn port replies steps by =
-    subst (TurnSteps port) (sym by.steps_are) (issues_turn port by.later (answers_in by.ended ++ by.before) by.last (answered_turn port by.ended by.before (devices_turn port by.before by.first)))
+pub answers_turn : (mode : Mode) (port : Port) (replies : List Reply) (steps : List Step) → AnswersBy mode port replies steps → TurnSteps port steps
+answers_turn mode port replies steps by =
+    subst (TurnSteps port) (sym by.steps_are) (issues_turn mode port by.later (answers_in by.ended ++ by.before) by.last (answered_turn port by.ended by.before (devices_turn port by.before by.first)))
 
 -- the same request stands in a book, perhaps not as far
 pub record StandsIn (book : List Pending) (e : Pending) : Type 0 where

@@ -1,6 +1,6 @@
 -- What the slots of ports are used for, and how that of a ready port is given up.
 use Rattle.std.proofs.Common.{ℕ, ◌≡◌, ◌≢◌, ◌≤◌, ◌<◌, ◌+◌, ◌/◌, ◌%◌, ◌⊎◌, true, false, not, map, List, Option, None, Some, inl, inr, refl, sym, ap, ◌∙◌, subst, ⊎_elim, arith, eq-eqb}
-use Rattle.std.specs.List.{Contains}
+use Rattle.std.specs.List.{All, Contains}
 use Rattle.std.proofs.lemmas.Bool.{and_from, cases_Bool, cases_eq, cases_lt, cond-true, false≢true, or_left}
 use Rattle.std.proofs.lemmas.List.Elements.{All-contains}
 use Rattle.ata_types.specs.declared.Port.{Port}
@@ -30,12 +30,15 @@ use Rattle.host_boot.specs.Taken.{StillStandsBehind, found_of, wanted_of}
 use Rattle.host_boot.specs.declared.Found.{Found}
 use Rattle.host_boot.specs.declared.Found.TheVariants.{Unserved, Ready, Unready}
 use Rattle.identify.specs.declared.DiskInfo.{DiskInfo}
-use Rattle.request_queue.specs.Entries.{Held, asks, asks_of}
+use Rattle.ata_types.specs.declared.grant.GrantRow.{GrantRow}
+use Rattle.ata_types.specs.Grant.{Allows}
+use Rattle.dma_frames.specs.Table.{Table}
+use Rattle.request_queue.specs.Entries.{Held, IsAccepted, asks, asks_of}
 use Rattle.request_queue.specs.Machine.{IsEntry}
 use Rattle.slots.specs.Uses.{IsLowestFree, IsTaken}
 use Rattle.slots.specs.declared.Use.{Use as SlotUse}
 use Rattle.server_history.specs.Served.{is_used}
-use Rattle.server_history.specs.Server.{Server, IsKept, IsMachineOf, IsUsedAs, is_served, mode_at, mode_found, mode_in, none_parked, slots_at, state_of, usable_of, use_of, used_for}
+use Rattle.server_history.specs.Server.{Server, IsKept, IsMachineOf, IsTransferRow, IsUsedAs, is_served, mode_at, mode_found, mode_in, none_parked, slots_at, state_of, usable_of, use_of, used_for}
 use Rattle.server_history.specs.Below.{LawsBelow}
 use Rattle.server_history.proofs.Asks.{asked_alike, same_book}
 use Rattle.server_history.proofs.Zips.{at_left, at_right}
@@ -84,6 +87,20 @@ usable_ready s port k ready = ap (λ (f : Found). usable_of f (mode_at s.modes p
 pub transfer_plain : (mode : Mode) (op : Op) → (op ≡ Read) ⊎ (op ≡ Write) → is_plain mode op ≡ not mode.queued
 transfer_plain mode op (inl e) = ap (is_plain mode) e
 transfer_plain mode op (inr e) = ap (is_plain mode) e
+
+-- each request of the book is a read or a write
+accepted_op : (rows : List GrantRow) (table : Table) (e : Held) → All IsTransferRow rows → IsAccepted rows table e → (op : Op) → e.entry.op ≡ op → (e.entry.op ≡ Read) ⊎ (e.entry.op ≡ Write)
+accepted_op rows table e reads is Read same = inl same
+accepted_op rows table e reads is Write same = inr same
+accepted_op rows table e reads is Trim same =
+    let t : IsTransferRow is.row.0 = All-contains IsTransferRow rows is.row.0 reads is.row.1 in
+    let P : Op → Type 0 = λ x. Allows is.row.0.rights x in absurd (false≢true (sym t.trim ∙ subst P same is.row.5))
+accepted_op rows table e reads is Flush same =
+    let t : IsTransferRow is.row.0 = All-contains IsTransferRow rows is.row.0 reads is.row.1 in
+    let P : Op → Type 0 = λ x. Allows is.row.0.rights x in absurd (false≢true (sym t.flush ∙ subst P same is.row.5))
+
+pub transfers : (s : Server) → IsKept s → (e : Held) → Contains s.book e → (e.entry.op ≡ Read) ⊎ (e.entry.op ≡ Write)
+transfers s k e here = accepted_op s.grants s.table e k.rows (All-contains (IsAccepted s.grants s.table) s.book e k.accepted here) e.entry.op refl
 
 -- ---- slots
 
@@ -264,14 +281,14 @@ module _ (laws : LawsBelow) (s : Server) (e : Held) (k : IsKept s) (here : Conta
       (λ (queued : is_plain mode e.entry.op ≡ false). let f = queued_free queued in free_taken f.0 f.1 f.2)
       (cases_Bool (is_plain mode e.entry.op))
     where
+      some_not : (used : Option SlotUse) → used ≡ None → IsSome used → ⊥
+      some_not None is some = absurd (false≢true some)
+      some_not (Some u) is some = let z : Some u ≡ None = is in cc
+
       free_taken : (slot : ℕ) → slot < mode.usable → used_for s.slots port.0 slot ≡ None → ⊥
       free_taken slot small free =
           let z : IsSome (used_for s.slots port.0 slot) = all slot (subst (λ (n : ℕ). slot < n) (sym (k.slots port.0 low).usable) small) in
           some_not (used_for s.slots port.0 slot) free z
-
-      some_not : (used : Option SlotUse) → used ≡ None → IsSome used → ⊥
-      some_not None is some = absurd (false≢true some)
-      some_not (Some u) is some = let z : Some u ≡ None = is in cc
 
   -- The lowest free slot is one of the adapter's, and slot 0 for a plain command; some machine agrees with a driver that doesn't use it.
   pub lowest_may : (slot : ℕ) → IsLowestFree (slots_at s.slots port.0) slot

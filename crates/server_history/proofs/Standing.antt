@@ -1,38 +1,41 @@
 -- What holds at the instant of a server that keeps what it keeps.
-use Rattle.std.proofs.Common.{ℕ, ◌≡◌, ◌≢◌, ◌<◌, ◌≤◌, ◌&&◌, not, Bool, true, false, List, Option, Some, None, inl, inr, refl, sym, ap, ◌∙◌, subst, arith, ⊎_elim}
+use Rattle.std.proofs.Common.{ℕ, ◌≡◌, ◌≢◌, ◌<◌, ◌≤◌, ◌⊎◌, not, Bool, true, false, List, Option, Some, None, inl, inr, refl, sym, ap, ◌∙◌, subst, arith, ⊎_elim}
 use Rattle.std.specs.Prelude.{◌↔◌}
 use Rattle.std.specs.List.{Contains}
 use Rattle.std.proofs.lemmas.Bool.{cases_eq, false≢true}
 use Rattle.ata_types.specs.declared.Port.{Port}
 use Rattle.ata_types.specs.declared.PortState.TheVariants.{Absent, Ready as ReadyState, Foreign, Unfit, Dead}
 use Rattle.ata_types.specs.declared.request.RequestId.{RequestId}
-use Rattle.adapter.specs.Commands.{is_queued}
+use Rattle.ata_types.specs.declared.request.Op.{Op}
+use Rattle.ata_types.specs.declared.request.Op.TheVariants.{Read, Write}
 use Rattle.adapter.specs.Device.{Device}
 use Rattle.agreement.specs.Acts.{InSlots}
 use Rattle.agreement.specs.Facts.{RunsWell}
 use Rattle.agreement.specs.Links.{HasDeviceOrNone}
-use Rattle.agreement.specs.Slots.{Free, Serves, ServesRequest, Stage, IsServed, Use}
+use Rattle.agreement.specs.Slots.{Free, Serves, Use}
+use Rattle.block_machine.specs.Due.{is_plain}
+use Rattle.block_machine.specs.Ports.{IsMode}
+use Rattle.block_machine.specs.declared.due.Mode.{Mode}
 use Rattle.block_machine.specs.Histories.{Instant, IsReached}
 use Rattle.block_machine.specs.State.{Machine, Pending}
 use Rattle.block_machine.specs.Steps.{NoneKept}
 use Rattle.block_machine.proofs.Members.{contains_none}
-use Rattle.block_machine.proofs.Standing.{standing}
 use Rattle.driver_history.specs.Holds.{HasNothing, HasRequests, HoldsOf, HoldsWith, IsClients, IsOfKind, NoneWaits, Runs, ServesIn}
 use Rattle.host_boot.specs.Taken.{FoundBadDisk, IsServed as IsServedPort, StillStandsBehind, found_of, wanted_of}
 use Rattle.host_boot.specs.declared.Found.{Found}
 use Rattle.host_boot.specs.declared.Found.TheVariants.{Unserved, Ready, Unready}
 use Rattle.identify.specs.declared.DiskInfo.{DiskInfo}
 use Rattle.identify.specs.declared.wanted.Wanted.{Wanted}
+use Rattle.request_queue.specs.Entries.{Held}
 use Rattle.request_queue.specs.Machine.{IsEntry}
 use Rattle.slots.specs.declared.Use.{Use as SlotUse}
-use Rattle.server_history.specs.Server.{Server, IsKept, IsMachineOf, IsUsedAs, is_served, none_parked, plain_mode, ports_of, sectors_of, serial_of, state_of, trims_of, usable_of, use_of, used_for}
-use Rattle.server_history.proofs.Slots.{all_plain, free_unused, of_ready, only_first, ready_use, used_as}
+use Rattle.server_history.specs.Server.{Server, IsKept, IsMachineOf, IsUsedAs, is_served, mode_at, mode_found, mode_in, none_parked, ports_of, sectors_of, serial_of, state_of, trims_of, usable_of, use_of, used_for}
+use Rattle.server_history.proofs.Slots.{free_unused, its_mode, of_ready, ready_use, transfer_plain, transfers, usable_ready, used_as, used_low, used_serves}
 use Rattle.server_history.proofs.Zips.{at_right}
 
--- a command is queued that the bits say is queued
-unqueued_is : (st queued sact : Bool) → st ≡ true → sact ≡ st && queued → sact ≡ false → queued ≡ false
-unqueued_is true queued sact on is clear = sym is ∙ clear
-unqueued_is false queued sact on is clear = absurd (false≢true on)
+not_true : (b : Bool) → not b ≡ true → b ≡ false
+not_true false is = refl
+not_true true is = absurd (false≢true is)
 
 -- what is used for a client's request or for none
 clients : (used : Option SlotUse) → IsClients (use_of used)
@@ -62,78 +65,94 @@ module _ (s : Server) (k : IsKept s) (m : Machine) (reached : IsReached m) (is :
 
   module _ (port : Port) (low : port.0 < 4) where
     -- a port that isn't ready uses no slot
-    nothing : (f : Found) → found_of s.ports port.0 ≡ f → usable_of f ≡ 0 → f ≢ Unready Dead → HasNothing slots port.0
+    nothing : (f : Found) → found_of s.ports port.0 ≡ f → usable_of f (mode_at s.modes port.0) ≡ 0 → f ≢ Unready Dead → HasNothing slots port.0
     nothing f e none other = record {
       free = λ slot.
           used_as f slot (used_for s.slots port.0 slot) (is.uses port.0 slot) other (subst (λ (x : Found). IsUsedAs x slot (used_for s.slots port.0 slot) (is.uses port.0 slot)) e (is.used port.0 slot))
-          ∙ ap use_of ((k.slots port.0 low).unused slot (subst (λ (n : ℕ). n ≤ slot) (sym (ap usable_of e ∙ none)) (omega arith)));
+          ∙ ap use_of ((k.slots port.0 low).unused slot (subst (λ (n : ℕ). n ≤ slot) (sym (ap (λ (x : Found). usable_of x (mode_at s.modes port.0)) e ∙ none)) (omega arith)));
       unparked = refl;
     }
 
-    module _ (info : DiskInfo) (found : found_of s.ports port.0 ≡ Ready info) (runs : Runs port.0 s.device) (unqueued : (slot : ℕ) → (s.device.port port.0).sact slot ≡ false) where
+    module _ (info : DiskInfo) (found : found_of s.ports port.0 ≡ Ready info) where
       ready : state_of (found_of s.ports port.0) ≡ ReadyState
       ready = ap state_of found
 
-      -- slot 0 alone is used
-      unused : (slot : ℕ) → slot ≢ 0 → is.uses port.0 slot ≡ Free
-      unused slot other = free_unused s m port.0 is ready slot (only_first s port.0 slot k ready other)
+      abbrev mode : Mode
+      mode = mode_in s port
 
-      head : (slot : ℕ) (id : RequestId) → is.uses port.0 slot ≡ Serves id → slot ≡ 0
-      head slot id serves = ⊎_elim
-          (λ (e : slot ≡ 0). e)
-          (λ (other : slot ≢ 0). let z : Free ≡ Serves id = sym (unused slot other) ∙ serves in absurd cc)
-          (cases_eq slot 0)
+      -- a slot that serves a request is used for it, and the request is in the book
+      serving : (slot : ℕ) (e : Pending) → ServesIn slots instant port slot e → (u : SlotUse) × (used_for s.slots port.0 slot ≡ Some u) × ((h : Held) × Contains s.book h × IsEntry h e × (h.entry.id ≡ u.id))
+      serving slot e serves =
+          let u = used_serves s m port.0 is ready slot e.request.id serves.serves in
+          let h = at_right IsEntry s.book m.book is.book e serves.here in
+          (u.0, u.1, (h.0, h.1, h.2, sym h.2.id ∙ sym u.2))
 
-      kind : (slot : ℕ) (e : Pending) → ServesIn slots instant port slot e → e.ended ≡ false → IsOfKind plain_mode s.device port.0 slot e
-      kind slot e serves unended = record { command = x.command; places = x.places; told = x.told; kind = by x.stage ∙ ap not (sym (all_plain e.request.asked.op)) }
+      -- whether a command is queued
+      kind_is : (slot : ℕ) (e : Pending) → ServesIn slots instant port slot e → (u : SlotUse) → used_for s.slots port.0 slot ≡ Some u → u.queued ≡ not (is_plain mode e.request.asked.op)
+      kind_is slot e serves u used =
+          let x = serving slot e serves in
+          let same : Some x.0 ≡ Some u = sym x.1 ∙ used in
+          let alike : x.0 ≡ u = cc in
+          k.kinds port slot u x.2.0 used x.2.1 (x.2.3 ∙ ap (λ (v : SlotUse). v.id) alike) ∙ ap (λ (o : Op). not (is_plain mode o)) (sym x.2.2.op)
+
+      kind : (slot : ℕ) (e : Pending) → ServesIn slots instant port slot e → e.ended ≡ false → IsOfKind mode s.device port.0 slot e
+      kind slot e serves unended =
+          let x = serving slot e serves in
+          let h = k.commands port.0 slot x.0 x.1 in
+          record { command = h.command; places = h.places; told = h.stored.told; kind = h.kind ∙ kind_is slot e serves x.0 x.1 }
+
+      fit : IsMode mode
+      fit = (its_mode s port.0 k low).0
+
+      -- a slot beyond the usable ones is free
+      unused : (slot : ℕ) → mode.usable ≤ slot → is.uses port.0 slot ≡ Free
+      unused slot high = free_unused s m port.0 is ready slot ((k.slots port.0 low).unused slot (subst (λ (n : ℕ). n ≤ slot) (sym (usable_ready s port.0 k ready)) high))
+
+      -- a plain one is alone: reads and writes are, where commands aren't queued, and then one slot is usable
+      alone : (slot : ℕ) (e : Pending) → ServesIn slots instant port slot e → is_plain mode e.request.asked.op ≡ true → (slot ≡ 0) × ((other : ℕ) → other ≢ 0 → is.uses port.0 other ≡ Free)
+      alone slot e serves plain = (
+        (let small = used_low s port.0 slot x.0 k low x.1 in let u = usable_ready s port.0 k ready in omega (arith, small, u, one)),
+        λ other ne. unused other (omega (arith, one, ne)),
+      )
         where
-          x : ServesRequest m s.device.memory (s.device.port port.0) port.0 slot e.request.id
-          x = subst (λ (u : Use). IsServed m s.device.memory s.device.tape (s.device.port port.0) port.0 slot u) serves.serves (is.knows.agrees.slot port.0 slot)
+          x : (u : SlotUse) × (used_for s.slots port.0 slot ≡ Some u) × ((h : Held) × Contains s.book h × IsEntry h e × (h.entry.id ≡ u.id))
+          x = serving slot e serves
 
-          same : x.pending ≡ e
-          same = ⊎_elim
-              (λ booked. (standing m reached).sound.one x.pending e booked.0 serves.here (ap (λ (i : RequestId). i.0) x.id_is))
-              (λ kept. absurd (contains_none x.pending (subst (λ (es : List Pending). Contains es x.pending) is.kept kept)))
-              x.moves
+          one : mode.usable ≡ 1
+          one = fit.2 (not_true mode.queued (sym (transfer_plain mode e.request.asked.op (subst (λ (o : Op). (o ≡ Read) ⊎ (o ≡ Write)) (sym x.2.2.op) (transfers s k x.2.0 x.2.1))) ∙ plain))
 
-          by : Stage s.device.memory (s.device.port port.0) port.0 slot x.pending x.command x.places → is_queued x.command.operation ≡ false
-          by (inl w) = sym w.sact ∙ unqueued slot
-          by (inr (inl t)) = unqueued_is (s.device.port port.0).st (is_queued x.command.operation) ((s.device.port port.0).sact slot) runs.st t.sact (unqueued slot)
-          by (inr (inr (inl e_is))) = absurd (false≢true (sym unended ∙ ap (λ (p : Pending). p.ended) (sym same) ∙ e_is.ended))
-          by (inr (inr (inr d))) = absurd (false≢true (sym d.stopped ∙ runs.st))
-
-      requests : HasRequests slots instant port plain_mode
+      requests : HasRequests slots instant port mode
       requests = record {
         clients = λ slot. subst IsClients (sym (ready_use s m port.0 is ready slot)) (clients (used_for s.slots port.0 slot));
-        low = λ slot high. unused slot (λ e. absurd (omega (arith, high, e)));
+        low = unused;
         unparked = refl;
         kinds = kind;
-        alone = λ slot e serves plain. (head slot e.request.id serves.serves, unused);
+        alone = alone;
       }
 
     shown_as : (f : Found) → found_of s.ports port.0 ≡ f → FoundBadDisk (state_of f) → HasDeviceOrNone (s.device.port port.0)
     shown_as f e bad = (k.behind port.0 low).shown (subst (λ (x : Found). FoundBadDisk (state_of x)) (sym e) bad)
 
     of : (f : Found) → found_of s.ports port.0 ≡ f → StillStandsBehind (wanted_of s.wanted port.0) f port.0 s.device → (state_of f ≡ ReadyState → Runs port.0 s.device)
-        → (state_of f ≡ ReadyState → (slot : ℕ) → (s.device.port port.0).sact slot ≡ false) → HoldsOf (wanted_of s.wanted port.0) slots instant port (is_served f) (state_of f)
-    of Unserved e behind runs unqueued = record {
+        → HoldsOf (wanted_of s.wanted port.0) slots instant port (is_served f) (state_of f)
+    of Unserved e behind runs = record {
       absent = ap state_of e;
       idle = behind.1;
       slots = nothing Unserved e refl (λ x. cc);
       waits = none_waits port (λ ready. let z : Absent ≡ ReadyState = sym (ap state_of e) ∙ ready in absurd cc);
       kept = none_kept port;
     }
-    of (Ready info) e behind runs unqueued = record {
+    of (Ready info) e behind runs = record {
       on = k.on;
       runs = runs refl;
       info = info;
       disk = behind.1;
-      shows = record { serial = ap serial_of e; sectors = ap sectors_of e; trims = ap trims_of e; mode = refl };
-      slots = requests info e (runs refl) (unqueued refl);
+      shows = record { serial = ap serial_of e; sectors = ap sectors_of e; trims = ap trims_of e; mode = k.modes port.0 low ∙ ap (mode_found s.device.cap) e };
+      slots = requests info e;
       kept = none_kept port;
     }
-    of (Unready ReadyState) e behind runs unqueued = absurd behind.1
-    of (Unready Absent) e behind runs unqueued = record {
+    of (Unready ReadyState) e behind runs = absurd behind.1
+    of (Unready Absent) e behind runs = record {
       on = k.on;
       ends = behind.1;
       shown = λ bad. absurd bad;
@@ -141,7 +160,7 @@ module _ (s : Server) (k : IsKept s) (m : Machine) (reached : IsReached m) (is :
       waits = none_waits port (λ ready. let z : Absent ≡ ReadyState = sym (ap state_of e) ∙ ready in absurd cc);
       kept = none_kept port;
     }
-    of (Unready Foreign) e behind runs unqueued = record {
+    of (Unready Foreign) e behind runs = record {
       on = k.on;
       ends = behind.1;
       shown = λ bad. shown_as (Unready Foreign) e bad;
@@ -149,7 +168,7 @@ module _ (s : Server) (k : IsKept s) (m : Machine) (reached : IsReached m) (is :
       waits = none_waits port (λ ready. let z : Foreign ≡ ReadyState = sym (ap state_of e) ∙ ready in absurd cc);
       kept = none_kept port;
     }
-    of (Unready (Unfit n)) e behind runs unqueued = record {
+    of (Unready (Unfit n)) e behind runs = record {
       on = k.on;
       ends = behind.1;
       shown = λ bad. shown_as (Unready (Unfit n)) e bad;
@@ -157,7 +176,7 @@ module _ (s : Server) (k : IsKept s) (m : Machine) (reached : IsReached m) (is :
       waits = none_waits port (λ ready. let z : Unfit n ≡ ReadyState = sym (ap state_of e) ∙ ready in absurd cc);
       kept = none_kept port;
     }
-    of (Unready Dead) e behind runs unqueued = record {
+    of (Unready Dead) e behind runs = record {
       why = inl behind.1;
       waits = λ on. none_waits port (λ ready. let z : Dead ≡ ReadyState = sym (ap state_of e) ∙ ready in absurd cc);
     }
@@ -167,7 +186,7 @@ module _ (s : Server) (k : IsKept s) (m : Machine) (reached : IsReached m) (is :
     knows = is.knows;
     served = λ port low. served_is (wanted_of s.wanted port.0) (found_of s.ports port.0) port.0 s.device (k.behind port.0 low).behind;
     on = inl k.on;
-    port = λ port low. let b = k.behind port.0 low in of port low (found_of s.ports port.0) refl b.behind b.runs b.unqueued;
+    port = λ port low. let b = k.behind port.0 low in of port low (found_of s.ports port.0) refl b.behind b.runs;
   }
 
 -- a served port that isn't ready is stopped, so that it doesn't run
