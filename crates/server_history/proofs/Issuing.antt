@@ -1,7 +1,7 @@
 -- A due request is issued in the lowest free slot of its port.
-use Rattle.std.proofs.Common.{ℕ, ◌≡◌, ◌<◌, ◌≤◌, ◌/◌, ◌%◌, false, true, not, Bool, List, ◌∷◌, map, Option, Some, None, refl, sym, ap, ◌∙◌, subst, arith}
-use Rattle.std.proofs.lemmas.Bool.{and_parts, false≢true}
-use Rattle.std.specs.List.{Contains}
+use Rattle.std.proofs.Common.{ℕ, ◌≡◌, ◌≢◌, ◌⊎◌, ⊎_elim, inl, inr, length, ◌<◌, ◌≤◌, ◌/◌, ◌%◌, false, true, not, Bool, List, ◌∷◌, map, Option, Some, None, refl, sym, ap, ◌∙◌, subst, arith}
+use Rattle.std.proofs.lemmas.Bool.{and_parts, cases_eq, false≢true}
+use Rattle.std.specs.List.{All, Contains}
 use Rattle.ata_types.specs.declared.Port.{Port}
 use Rattle.ata_types.specs.declared.PortState.TheVariants.{Ready as ReadyState}
 use Rattle.ata_types.specs.declared.request.RequestId.{RequestId}
@@ -16,7 +16,7 @@ use Rattle.block_machine.specs.Steps.{Step, Issue, May}
 use Rattle.block_machine.specs.declared.due.Mode.{Mode}
 use Rattle.block_machine.specs.declared.due.Unanswered.{Unanswered}
 use Rattle.block_machine.proofs.HistoryLemmas.{reached_more}
-use Rattle.block_machine.proofs.Members.{contains_none}
+use Rattle.block_machine.proofs.Members.{contains_none, map_in}
 use Rattle.agreement.specs.Driven.{known, IsDrivenBy}
 use Rattle.agreement.specs.Driver.{EndsWith, IsBacked, serving}
 use Rattle.agreement.specs.Slots.{Free, Serves, Use, put}
@@ -24,7 +24,7 @@ use Rattle.agreement.specs.Spares.{AllFurther, SparesBook}
 use Rattle.agreement.proofs.Driven.{driven_as}
 use Rattle.agreement.proofs.Sparing.{steps_spare}
 use Rattle.host_boot.specs.Taken.{found_of}
-use Rattle.request_queue.specs.Entries.{Held, asks_of, at, issue}
+use Rattle.request_queue.specs.Entries.{Held, asks_of, at, has_id, issue}
 use Rattle.request_queue.specs.Machine.{IsBook, IsEntry}
 use Rattle.agreement.specs.Driven.{AgreesWith}
 use Rattle.ata_types.specs.declared.request.Frame.{Frame}
@@ -34,14 +34,22 @@ use Rattle.request_queue.specs.Entries.{asks}
 use Rattle.slots.specs.Uses.{IsLowestFree}
 use Rattle.slots.specs.declared.Use.{Use as SlotUse}
 use Rattle.server_history.specs.Served.{IssuesOne, transfer_of, use_for}
-use Rattle.server_history.specs.Server.{Server, IsKept, IsMachineOf, IsPortOf, IsUsedAs, mode_at, mode_in, none_parked, slots_at, state_of, usable_of, used_for, with_slot}
+use Rattle.server_history.specs.Server.{HasCommand, Server, IsKept, IsMachineOf, IsPortOf, IsUsedAs, mode_at, mode_in, none_parked, slots_at, state_of, usable_of, used_for, with_slot}
 use Rattle.server_history.specs.Below.{LawsBelow}
 use Rattle.server_history.proofs.Asks.{asked_alike, same_book}
 use Rattle.server_history.proofs.Changed.{all_changed}
 use Rattle.server_history.proofs.Going.{book_on, kept_then}
 use Rattle.server_history.proofs.Looking.{behind_served}
-use Rattle.server_history.proofs.Placing.{placed_four, placed_has, placed_uses}
-use Rattle.server_history.proofs.Slots.{free_unused, its_mode, lowest_may, not_own, of_ready, ready_found, usable_ready}
+use Rattle.server_history.proofs.Placing.{placed_four, placed_has, placed_other, placed_same, placed_uses}
+use Rattle.server_history.proofs.Stored.{AreApart, issuing_leaves_stored}
+use Rattle.std.specs.Prelude.{if◌then◌else◌}
+use Rattle.adapter.specs.Commands.{is_queued}
+use Rattle.agreement.specs.Acts.{at as at_slots}
+use Rattle.agreement.specs.Agrees.{port_at}
+use Rattle.ata_types.specs.declared.request.Op.{Op}
+use Rattle.ata_types.specs.declared.request.Op.TheVariants.{Read, Write}
+use Rattle.ncq.specs.Transfers.{operation_of}
+use Rattle.server_history.proofs.Slots.{free_unused, its_mode, lowest_may, not_own, of_ready, ready_found, transfers, usable_ready, used_there}
 use Rattle.server_history.proofs.Zips.{at_left}
 use Rattle.port_look.specs.Services.{IsService}
 use Rattle.ncq.specs.Transfers.{IsIssuing, IsTransferOf, IssuesTransfer, MayServe}
@@ -199,6 +207,86 @@ module _ (laws : LawsBelow) (s new : Server) (port : Port) (id : RequestId) (k :
         waiting : e.entry.issued ≡ false
         waiting = not_true e.entry.issued (and_parts _ _ one.due.clear).0
 
+  -- the slot that it is issued in, or another
+  its_or_other : (q n : ℕ) → ((q ≡ port.0) × (n ≡ slot)) ⊎ AreApart port.0 slot q n
+  its_or_other q n = ⊎_elim
+      (λ (same : q ≡ port.0). ⊎_elim (λ (its : n ≡ slot). inl (same, its)) (λ (ne : n ≢ slot). inr (λ _ its. ne its)) (cases_eq n slot))
+      (λ (ne : q ≢ port.0). inr (λ same _. ne same))
+      (cases_eq q port.0)
+
+  in_list : port.0 < length s.slots
+  in_list = let f = k.four in let l = low in omega (arith, f, l)
+
+  in_places : slot < length (slots_at s.slots port.0).places
+  in_places = let p = (k.slots port.0 low).places in let t = may_use.1 in omega (arith, p, t)
+
+  its_there : (q n : ℕ) (used : SlotUse) → q ≡ port.0 → n ≡ slot → used_for (with_slot s.slots port.0 slot its_use) q n ≡ Some used → use_for mode e ≡ used
+  its_there q n used same its is =
+      let z : Some (use_for mode e) ≡ Some used = sym (placed_same s.slots port.0 slot its_use in_list in_places)
+          ∙ ap (λ (m : ℕ). used_for (with_slot s.slots port.0 slot its_use) port.0 m) (sym its) ∙ ap (λ (p : ℕ). used_for (with_slot s.slots port.0 slot its_use) p n) (sym same) ∙ is in cc
+
+  was_used : (q n : ℕ) (used : SlotUse) → AreApart port.0 slot q n → used_for (with_slot s.slots port.0 slot its_use) q n ≡ Some used → used_for s.slots q n ≡ Some used
+  was_used q n used other is = sym (placed_other s.slots port.0 slot its_use in_list in_places q n other) ∙ is
+
+  -- each command is queued exactly if its request asks for it
+  kinds_then : (q : Port) (n : ℕ) (used : SlotUse) (h : Held) → used_for (with_slot s.slots port.0 slot its_use) q.0 n ≡ Some used → Contains (map (at id issue) s.book) h → h.entry.id ≡ used.id
+      → used.queued ≡ not (is_plain (mode_in s q) h.entry.op)
+  kinds_then q n used h is there same = ⊎_elim
+      (λ (its : (q.0 ≡ port.0) × (n ≡ slot)).
+      let alike : use_for mode e ≡ used = its_there q.0 n used its.0 its.1 is in
+      let one_is : old.0 ≡ e = laws.one s.book old.0 e k.ordered old.1 one.here (sym (id_same old.0) ∙ sym (ap (λ (x : Held). x.entry.id) old.2) ∙ same ∙ ap (λ (u : SlotUse). u.id) (sym alike)) in
+      ap (λ (u : SlotUse). u.queued) (sym alike) ∙ ap (λ (o : Op). not (is_plain mode o)) (ap (λ (x : Held). x.entry.op) (sym one_is) ∙ sym (op_same old.0) ∙ ap (λ (x : Held). x.entry.op) (sym old.2))
+      ∙ ap (λ (p : ℕ). not (is_plain (mode_at s.modes p) h.entry.op)) (sym its.0))
+      (λ (other : AreApart port.0 slot q.0 n).
+      k.kinds q n used old.0 (was_used q.0 n used other is) old.1 (sym (id_same old.0) ∙ sym (ap (λ (x : Held). x.entry.id) old.2) ∙ same)
+      ∙ ap (λ (o : Op). not (is_plain (mode_in s q) o)) (sym (op_same old.0) ∙ ap (λ (x : Held). x.entry.op) (sym old.2)))
+      (its_or_other q.0 n)
+    where
+      old : (x : Held) × Contains s.book x × (h ≡ at id issue x)
+      old = map_in (at id issue) s.book h there
+
+      op_by : (x : Held) (b : Bool) → (if b then record x { entry = issue x.entry } else x).entry.op ≡ x.entry.op
+      op_by x true = refl
+      op_by x false = refl
+
+      op_same : (x : Held) → (at id issue x).entry.op ≡ x.entry.op
+      op_same x = op_by x (has_id id x)
+
+      id_by : (x : Held) (b : Bool) → (if b then record x { entry = issue x.entry } else x).entry.id ≡ x.entry.id
+      id_by x true = refl
+      id_by x false = refl
+
+      id_same : (x : Held) → (at id issue x).entry.id ≡ x.entry.id
+      id_same x = id_by x (has_id id x)
+
+  -- and its slot's bytes say such a command
+  commands_then : (q n : ℕ) (used : SlotUse) → used_for (with_slot s.slots port.0 slot its_use) q n ≡ Some used → HasCommand used.queued new.device q n
+  commands_then q n used is = ⊎_elim
+      (λ (its : (q ≡ port.0) × (n ≡ slot)).
+      subst (λ (u : SlotUse). HasCommand u.queued new.device q n) (its_there q n used its.0 its.1 is)
+      (subst (λ (p : ℕ). HasCommand r.queued new.device p n) (sym its.0) (subst (λ (m : ℕ). HasCommand r.queued new.device port.0 m) (sym its.1)
+      (record { command = _; places = _; stored = one.stored; kind = queued_is r.queued e.entry.op (transfers s k e one.here) }))))
+      (λ (other : AreApart port.0 slot q n).
+      let was = was_used q n used other is in
+      let t = used_there s q n used k was in
+      let h = k.commands q n used was in
+      let acts = one.issues.comes mode (p k.machine k.reached k.stands) (its_transfer k.machine k.reached k.stands) (record { uses = k.stands.uses; parked = none_parked }) k.machine k.reached k.stands.knows
+          (free k.machine k.reached k.stands, may k.machine k.reached k.stands) in
+      record {
+        command = h.command;
+        places = h.places;
+        stored = laws.stored (port_at q) n h.command h.places acts.acts (at_slots (record { uses = k.stands.uses; parked = none_parked }) s.device) _ k.machine k.reached k.stands.knows acts.done
+            (λ i d small. issuing_leaves_stored port (port_at q) slot n low may_use.1 t.0 t.1 other _ (subst (All (IsIssuing port slot)) (sym acts.accesses_are) one.issues.driven.only i d small)) k.on h.stored;
+        kind = h.kind;
+      })
+      (its_or_other q n)
+    where
+      queued_is : (queued : Bool) (op : Op) → (op ≡ Read) ⊎ (op ≡ Write) → is_queued (operation_of queued op) ≡ queued
+      queued_is true op (inl is) = ap (λ (o : Op). is_queued (operation_of true o)) is
+      queued_is false op (inl is) = ap (λ (o : Op). is_queued (operation_of false o)) is
+      queued_is true op (inr is) = ap (λ (o : Op). is_queued (operation_of true o)) is
+      queued_is false op (inr is) = ap (λ (o : Op). is_queued (operation_of false o)) is
+
   -- the server keeps what it keeps
   pub issue_kept : IsKept new
   issue_kept =
@@ -211,8 +299,8 @@ module _ (laws : LawsBelow) (s new : Server) (port : Port) (id : RequestId) (k :
       refl
       (placed_four s.ports s.modes s.slots port.0 slot its_use k.four low slot_low few k.slots)
       (placed_has s.ports s.modes s.slots port.0 slot its_use k.four low slot_low few k.slots)
-      ?
-      ?
+      kinds_then
+      commands_then
       (laws.still_issued s.grants s.table s.book id k.accepted)
       (laws.issued s.book id k.ordered (e, one.here, one.id_is, waiting))
       (all_changed id issue (λ y. y.entry.id.0 ≤ s.last) (λ y a. a) s.book k.handed_out)

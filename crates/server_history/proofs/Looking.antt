@@ -56,6 +56,7 @@ module _ (s : Server) (new : Device) (port : Port) (k : IsKept s) (ready : state
       (behind_served laws s new port k ready driven left
       (λ q other. followed_silent followed uses none_parked k.machine tt k.reached k.stands.knows (port_at q) Identify refl (none (port_at q)).0 (none (port_at q)).1
       (not_own (found_of s.ports q) 0 (used_for s.slots q 0) (uses q 0) other (k.stands.used q 0))))
+      ?
       x.0 x.1
       (machine_on s new k.machine x.0 k.stands x.3.only x.2)
 

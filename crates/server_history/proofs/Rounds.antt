@@ -26,9 +26,8 @@ use Rattle.block_machine.proofs.Members.{contains_cases, contains_here, contains
 use Rattle.driver_history.specs.Histories.{IssuesDue, unissued}
 use Rattle.request_queue.specs.Entries.{Held, IsInOrder, IsWaiting, asks, asks_of, at, due_ids, has_id, issue}
 use Rattle.server_history.specs.Below.{LawsBelow}
-use Rattle.server_history.specs.Served.{IsPlainIssuing, IssuesAll, IssuesEach, IssuesOne, IssuesOnly}
-use Rattle.server_history.proofs.Plain.{issued_plain}
-use Rattle.server_history.specs.Server.{Server, IsKept, IsMachineOf, IsSettled, plain_mode}
+use Rattle.server_history.specs.Served.{IssuesAll, IssuesEach, IssuesOne, IssuesOnly}
+use Rattle.server_history.specs.Server.{Server, IsKept, IsMachineOf, IsSettled, mode_in}
 use Rattle.server_history.proofs.Asks.{same_book}
 use Rattle.server_history.proofs.Devices.{devices_last, not_handled}
 use Rattle.server_history.proofs.Issuing.{IsIssue, issue_kept, issue_one}
@@ -42,7 +41,7 @@ not_true true is = absurd (false≢true is)
 -- the device's steps issue nothing
 pub devices_issue_none : (id : RequestId) (steps : List Step) → AllDevices steps → list_any (issues_it id) steps ≡ false
 devices_issue_none id [] all = refl
-devices_issue_none id (Issue mode e ∷ steps) all = absurd all.1
+devices_issue_none id (Issue its e ∷ steps) all = absurd all.1
 devices_issue_none id (step ∷ steps) all = devices_issue_none id steps all.0
 
 pub any_append : {X : Type 0} (p : X → Bool) (xs ys : List X) → list_any p (xs ++ ys) ≡ (list_any p xs || list_any p ys)
@@ -66,50 +65,50 @@ issued_late id late early i = any_append (issues_it id) late early ∙ or_left _
 pub issued_early : (id : RequestId) (late early : List Step) → IsIssuedIn id early → IsIssuedIn id (late ++ early)
 issued_early id late early i = any_append (issues_it id) late early ∙ or_right _ _ i
 
-devices_only : (port : Port) (steps : List Step) → AllDevices steps → IssuesOnly port steps
-devices_only port [] all = tt
-devices_only port (Issue mode e ∷ steps) all = absurd all.1
-devices_only port (step ∷ steps) all = (all.1, devices_only port steps all.0)
+devices_only : (mode : Mode) (port : Port) (steps : List Step) → AllDevices steps → IssuesOnly mode port steps
+devices_only mode port [] all = tt
+devices_only mode port (Issue its e ∷ steps) all = absurd all.1
+devices_only mode port (step ∷ steps) all = (all.1, devices_only mode port steps all.0)
 
-pub only_append : (port : Port) (late early : List Step) → IssuesOnly port late → IssuesOnly port early → IssuesOnly port (late ++ early)
-only_append port [] early a b = b
-only_append port (Issue mode e ∷ late) early a b = (a.0, a.1, only_append port late early a.2 b)
-only_append port (step ∷ late) early a b = (a.0, only_append port late early a.1 b)
+pub only_append : (mode : Mode) (port : Port) (late early : List Step) → IssuesOnly mode port late → IssuesOnly mode port early → IssuesOnly mode port (late ++ early)
+only_append mode port [] early a b = b
+only_append mode port (Issue its e ∷ late) early a b = (a.0, a.1, only_append mode port late early a.2 b)
+only_append mode port (step ∷ late) early a b = (a.0, only_append mode port late early a.1 b)
 
 -- what such steps are to a call: each is the device's, or issues a request of the port
-module _ (port : Port) where
-  pub belong_on : {D : Type 0} (ask : Ask D) (ports : Ports) → ((e : Pending) → e.request.port ≡ port → IsServers ask ports (Issue plain_mode e)) → (late early : List Step) → IssuesOnly port late → Belong ask ports early
+module _ (mode : Mode) (port : Port) where
+  pub belong_on : {D : Type 0} (ask : Ask D) (ports : Ports) → ((e : Pending) → e.request.port ≡ port → IsServers ask ports (Issue mode e)) → (late early : List Step) → IssuesOnly mode port late → Belong ask ports early
       → Belong ask ports (late ++ early)
   belong_on ask ports own [] early only b = b
-  belong_on ask ports own (Issue mode e ∷ late) early only b =
+  belong_on ask ports own (Issue its e ∷ late) early only b =
       (belong_on ask ports own late early only.2 b, inr (subst (λ (x : Mode). IsServers ask ports (Issue x e)) (sym only.0) (own e only.1)))
   belong_on ask ports own (step ∷ late) early only b = (belong_on ask ports own late early only.1 b, inl only.0)
 
-  pub last_on : (late early : List Step) → IssuesOnly port late → IssuesLast late → IssuesLast early → ((id : RequestId) → IsIssuedIn id late → IsIssuedIn id early → ⊥) → IssuesLast (late ++ early)
+  pub last_on : (late early : List Step) → IssuesOnly mode port late → IssuesLast late → IssuesLast early → ((id : RequestId) → IsIssuedIn id late → IsIssuedIn id early → ⊥) → IssuesLast (late ++ early)
   last_on [] early only l e apart = e
   last_on (step ∷ late) early only l e apart = (
     last_on late early (rest step only) l.0 e (λ id i. apart id (or_right _ _ i)),
     λ id h i. ⊎_elim (λ (before : IsIssuedIn id late). l.1 id h before) (λ (there : IsIssuedIn id early). apart id (or_left _ _ (issues step only id h)) there) (issued_parts id late early i),
   )
     where
-      rest : (step : Step) → IssuesOnly port (step ∷ late) → IssuesOnly port late
-      rest (Issue mode e) only = only.2
+      rest : (step : Step) → IssuesOnly mode port (step ∷ late) → IssuesOnly mode port late
+      rest (Issue its e) only = only.2
       rest step only = only.1
 
-      issues : (step : Step) → IssuesOnly port (step ∷ late) → (id : RequestId) → handles id step ≡ true → issues_it id step ≡ true
-      issues (Issue mode e) only id h = h
+      issues : (step : Step) → IssuesOnly mode port (step ∷ late) → (id : RequestId) → handles id step ≡ true → issues_it id step ≡ true
+      issues (Issue its e) only id h = h
       issues step only id h = absurd (not_handled id step only.0 h)
 
-  pub lawful_on : (old : Moment) (evidence : Evidence) (ports : Ports) (late early : List Step) → IssuesOnly port late → AllLawful old evidence ports early → AllLawful old evidence ports (late ++ early)
+  pub lawful_on : (old : Moment) (evidence : Evidence) (ports : Ports) (late early : List Step) → IssuesOnly mode port late → AllLawful old evidence ports early → AllLawful old evidence ports (late ++ early)
   lawful_on old evidence ports [] early only l = l
-  lawful_on old evidence ports (Issue mode e ∷ late) early only l = lawful_on old evidence ports late early only.2 l
+  lawful_on old evidence ports (Issue its e ∷ late) early only l = lawful_on old evidence ports late early only.2 l
   lawful_on old evidence ports (Again e ∷ late) early only l = absurd only.0
   lawful_on old evidence ports (Answer e o ∷ late) early only l = absurd only.0
   lawful_on old evidence ports (step ∷ late) early only l = lawful_on old evidence ports late early only.1 l
 
-  pub accepts_on : (late early : List Step) → IssuesOnly port late → accepts_of (late ++ early) ≡ accepts_of early
+  pub accepts_on : (late early : List Step) → IssuesOnly mode port late → accepts_of (late ++ early) ≡ accepts_of early
   accepts_on [] early only = refl
-  accepts_on (Issue mode e ∷ late) early only = accepts_on late early only.2
+  accepts_on (Issue its e ∷ late) early only = accepts_on late early only.2
   accepts_on (Accept r ∷ late) early only = absurd only.0
   accepts_on (step ∷ late) early only = accepts_on late early only.1
 
@@ -121,7 +120,7 @@ pub record AreIssued (port : Port) (ids : List RequestId) (old new : Server) (m 
   pub may : AllMay m steps
   pub backed : IsBacked old.device new.device m steps
   pub stands : IsMachineOf new (after m steps)
-  pub only : IssuesOnly port steps
+  pub only : IssuesOnly (mode_in old port) port steps
   pub named : (id : RequestId) → IsIssuedIn id steps → Contains ids id
   pub all : (id : RequestId) → Contains ids id → IsIssuedIn id steps
   pub last : IssuesLast steps
@@ -186,7 +185,7 @@ module _ (laws : LawsBelow) (port : Port) where
         may = may-append m y.steps early x.may y.may;
         backed = backed_then old.device mid.device new.device m early y.steps x.backed y.backed;
         stands = subst (IsMachineOf new) (sym (after-append m y.steps early)) y.stands;
-        only = only_append port y.steps early y.only (refl, x.port_is, devices_only port x.steps x.only);
+        only = only_append mode port y.steps early y.only (refl, x.port_is, devices_only mode port x.steps x.only);
         named = λ id i. ⊎_elim
             (λ (late : IsIssuedIn id y.steps). contains_there first ids id (y.named id late))
             (λ (here : IsIssuedIn id early). ⊎_elim

@@ -35,10 +35,11 @@ use Rattle.ata_types.specs.Grant.{Allows}
 use Rattle.dma_frames.specs.Table.{Table}
 use Rattle.request_queue.specs.Entries.{Held, IsAccepted, asks, asks_of}
 use Rattle.request_queue.specs.Machine.{IsEntry}
-use Rattle.slots.specs.Uses.{IsLowestFree, IsTaken}
+use Rattle.std.proofs.lemmas.List.{get_or_past}
+use Rattle.slots.specs.Uses.{Uses as PortSlots, IsLowestFree, IsTaken, use_at}
 use Rattle.slots.specs.declared.Use.{Use as SlotUse}
 use Rattle.server_history.specs.Served.{is_used}
-use Rattle.server_history.specs.Server.{Server, IsKept, IsMachineOf, IsTransferRow, IsUsedAs, is_served, mode_at, mode_found, mode_in, none_parked, slots_at, state_of, usable_of, use_of, used_for}
+use Rattle.server_history.specs.Server.{Server, IsKept, IsMachineOf, IsTransferRow, IsUsedAs, is_served, mode_at, mode_found, mode_in, no_slots, none_parked, slots_at, state_of, usable_of, use_of, used_for}
 use Rattle.server_history.specs.Below.{LawsBelow}
 use Rattle.server_history.proofs.Asks.{asked_alike, same_book}
 use Rattle.server_history.proofs.Zips.{at_left, at_right}
@@ -126,6 +127,24 @@ used_low s port slot u k low used =
     (λ (less : slot < usable). less)
     (λ (high : usable ≤ slot). let z : None ≡ Some u = sym ((k.slots port low).unused slot high) ∙ used in absurd cc)
     (cases_lt slot usable)
+
+-- a used slot is one of the 32 of one of the four ports
+pub used_there : (s : Server) (port slot : ℕ) (u : SlotUse) → IsKept s → used_for s.slots port slot ≡ Some u → (port < 4) × (slot < 32)
+used_there s port slot u k used = (low, ⊎_elim
+    (λ (small : slot < 32). small)
+    (λ (high : 32 ≤ slot).
+    let many = (k.slots port low).places in
+    let z : None ≡ Some u = sym (get_or_past (slots_at s.slots port).places slot None (omega (arith, many, high))) ∙ used in absurd cc)
+    (cases_lt slot 32))
+  where
+    low : port < 4
+    low = ⊎_elim
+        (λ (small : port < 4). small)
+        (λ (high : 4 ≤ port).
+        let four = k.four in
+        let none = get_or_past s.slots port no_slots (omega (arith, four, high)) in
+        let z : None ≡ Some u = sym (ap (λ (x : PortSlots). use_at x slot) none) ∙ used in absurd cc)
+        (cases_lt port 4)
 
 pub busy_used : (used : Option SlotUse) → is_used used ≡ true → (u : SlotUse) × (used ≡ Some u)
 busy_used None busy = absurd (false≢true busy)

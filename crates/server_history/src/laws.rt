@@ -1,5 +1,5 @@
 // Laws of the definitions, for callers: the clause is the theorem. Nothing comes of calling these functions.
-ghost use Rattle.std.specs.Prelude.{ℕ, true, false, ◌≡◌, ◌≢◌, ◌⊎◌, ◌<◌, ◌+◌, ◌*◌, List, [], ◌∷◌, Some, None, Ok, Err, length, Contains};
+ghost use Rattle.std.specs.Prelude.{ℕ, true, false, ◌≡◌, ◌≢◌, ◌⊎◌, ◌<◌, ◌≤◌, ◌+◌, ◌*◌, ◌/◌, ◌%◌, List, [], ◌∷◌, Some, None, Ok, Err, length, Contains};
 ghost use Rattle.ata_types.specs.declared.Port.{Port};
 ghost use Rattle.ata_types.specs.declared.PortState.TheVariants.{Ready as ReadyState};
 ghost use Rattle.ata_types.specs.declared.grant.GrantRow.{GrantRow};
@@ -21,7 +21,7 @@ ghost use Rattle.adapter.specs.declared.access.DeviceStep.{DeviceStep};
 ghost use Rattle.agreement.specs.Driven.{AgreesWith, AnyUse, IsFollowed};
 ghost use Rattle.agreement.specs.Facts.{RunsWell, Undisturbed};
 ghost use Rattle.agreement.specs.Slots.{IsOver};
-ghost use Rattle.block_machine.specs.Due.{IsDue, NoneDue};
+ghost use Rattle.block_machine.specs.Due.{IsDue, NoneDue, is_plain};
 ghost use Rattle.block_machine.specs.Events.{Submit, StoreAt, LoadAt, Service, State, Device as Told, Submitted, Served, Shown, Stepped};
 ghost use Rattle.block_machine.specs.Refusals.{IsAcceptable, IsFirstRefusal, IsOpen, IsFirstMemFault};
 ghost use Rattle.block_machine.specs.Rules.{IsNamed};
@@ -35,7 +35,8 @@ ghost use Rattle.request_queue.specs.Entries.{Held, asks, asks_of};
 ghost use Rattle.server_history.specs.Below.{LawsBelow};
 ghost use Rattle.server_history.specs.Histories.{Adds, HasBegun, load_said, store_said};
 ghost use Rattle.server_history.specs.Served.{Accepts, AnswersDone, AnswersOne, HasNone, IsMaskOf, IssuesAll, IssuesOne, ServePorts, ServesPort, accepting};
-ghost use Rattle.server_history.specs.Server.{Server, IsKept, IsNewServer, IsSettled, plain_mode, ports_of, situation_of, slots_at, state_of, used_for};
+ghost use Rattle.server_history.specs.Server.{Server, IsKept, IsNewServer, IsSettled, mode_in, ports_of, situation_of, slots_at, state_of, used_for};
+ghost use Rattle.slots.specs.Uses.{IsLowestFree, IsTaken};
 ghost use Rattle.slots.specs.declared.Use.{Use as SlotUse};
 ghost use Rattle.port_look.specs.Looks.{IsLooking, LooksAt};
 ghost use Rattle.port_look.specs.declared.Look.{Look};
@@ -140,11 +141,20 @@ pub fn client_bytes_add()
     the_laws_below_hold();
 }
 
-/// A due request of a server may be issued: its port's slot 0 is free, and some machine agrees with a driver that doesn't use it.
+/// A due request of a server finds a free slot. The lowest is usable, one of the adapter's, and slot 0 for a plain command; and some machine
+/// agrees with a driver that doesn't use it.
 pub fn a_due_request_may_issue()
-    ensures { (s : Server) (request : Held) → IsKept s → Contains s.book request → IsDue plain_mode (asks_of s.book) (asks request.entry)
-        → AgreesWith (IsUnused request.entry.port.0 0) s.device × (used_for s.slots request.entry.port.0 0 ≡ None) }
-{}
+    ensures lowest { (s : Server) (request : Held) → IsKept s → Contains s.book request
+        → IsDue (mode_in s request.entry.port) (asks_of s.book) (asks request.entry)
+        → (slot : ℕ) → IsLowestFree (slots_at s.slots request.entry.port.0) slot
+        → (slot < (mode_in s request.entry.port).usable) × (slot < 32) × (slot ≤ s.device.cap / 256 % 32)
+        × (is_plain (mode_in s request.entry.port) request.entry.op ≡ true → slot ≡ 0) × AgreesWith (IsUnused request.entry.port.0 slot) s.device }
+    ensures full { (s : Server) (request : Held) → IsKept s → Contains s.book request
+        → IsDue (mode_in s request.entry.port) (asks_of s.book) (asks request.entry)
+        → ((slot : ℕ) → slot < (slots_at s.slots request.entry.port.0).usable → IsTaken (slots_at s.slots request.entry.port.0) slot) → ⊥ }
+{
+    the_laws_below_hold();
+}
 
 /// A slot of a ready port that is used has an unanswered request of the port, which is issued.
 pub fn a_used_slot_has_its_request()
