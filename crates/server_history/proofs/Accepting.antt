@@ -42,8 +42,8 @@ use Rattle.driver_history.specs.Trace.{LeavesEngine}
 use Rattle.driver_history.proofs.Calm.{untroubled}
 use Rattle.server_history.specs.Below.{LawsBelow}
 use Rattle.server_history.specs.Histories.{Adds, Leads}
-use Rattle.server_history.specs.Served.{IsPlainIssuing, Accepts, IssuesAll, accepted_as, accepting}
-use Rattle.server_history.specs.Server.{Server, IsKept, IsMachineOf, IsSettled, none_parked, plain_mode, ports_of, situation_of, state_of}
+use Rattle.server_history.specs.Served.{IssuesIn, Accepts, IssuesAll, accepted_as, accepting}
+use Rattle.server_history.specs.Server.{Server, IsKept, IsMachineOf, IsSettled, none_parked, mode_in, ports_of, situation_of, state_of}
 use Rattle.server_history.proofs.Asks.{none_due}
 use Rattle.server_history.proofs.Calls.{reached, situation_is}
 use Rattle.server_history.proofs.Coming.{issuing_is, issuing_leaves}
@@ -143,13 +143,13 @@ module _ (laws : LawsBelow) (s : Server) (k : IsKept s) (r : Request) (acc : IsA
 
   -- ---- the event
 
-  module _ (none : (other : Port) → NoneDue plain_mode (asks_of s.book) other) (new : Server) (issues : IssuesAll port more new) where
+  module _ (none : (other : Port) → NoneDue (mode_in s other) (asks_of s.book) other) (new : Server) (issues : IssuesAll port more new) where
     abbrev ids : List RequestId
-    ids = due_ids plain_mode port (asks_of more.book)
+    ids = due_ids (mode_in s port) port (asks_of more.book)
 
-    none_other : (other : Port) → other ≢ port → NoneDue plain_mode (asks_of more.book) other
+    none_other : (other : Port) → other ≢ port → NoneDue (mode_in s other) (asks_of more.book) other
     none_other other ne u own due =
-        none other u own ((laws.same_due plain_mode other (asks_of more.book) (asks_of s.book) u (own_longer other s.book e (λ same. ne (sym same))) own).0 due)
+        none other u own ((laws.same_due (mode_in s other) other (asks_of more.book) (asks_of s.book) u (own_longer other s.book e (λ same. ne (sym same))) own).0 due)
 
     settles : IsSettled new
     settles = settled laws port more new accept_kept none_other issues
@@ -157,7 +157,7 @@ module _ (laws : LawsBelow) (s : Server) (k : IsKept s) (r : Request) (acc : IsA
     same : new ≡ record more { device = new.device; slots = new.slots; book = new.book }
     same = each_settings laws port ids more new issues
 
-    driven : IsDrivenBy (IsPlainIssuing port) s.device new.device
+    driven : IsDrivenBy (IssuesIn port) s.device new.device
     driven = each_driven laws port ids more new issues
 
     port_low : port.0 < 4
@@ -173,8 +173,8 @@ module _ (laws : LawsBelow) (s : Server) (k : IsKept s) (r : Request) (acc : IsA
         (lawful_on port old.moment no_evidence (ports_of new) x.steps early x.only tt)
         (allowed, (asked, accepts_on port x.steps early x.only, refl), same_ports_are, all_issued)
         driven.accesses
-        (driven.all, (row, its_row, All-weaker (IsPlainIssuing port) (IssuesOn row.port) (λ access here. subst (λ (p : Port). IssuesOn p access) (sym port_is) (issuing_is port port_low access here)) driven.accesses driven.only))
-        (λ other. All-weaker (IsPlainIssuing port) (LeavesEngine other) (issuing_leaves port other) driven.accesses driven.only)
+        (driven.all, (row, its_row, All-weaker (IssuesIn port) (IssuesOn row.port) (λ access here. subst (λ (p : Port). IssuesOn p access) (sym port_is) (issuing_is port port_low access here)) driven.accesses driven.only))
+        (λ other. All-weaker (IssuesIn port) (LeavesEngine other) (issuing_leaves port other) driven.accesses driven.only)
         (λ other is_ready. due_now other)
         (λ other healthy. record { finds = tt; faults = tt; tries = tt; boots = tt; trouble = untroubled (told_by s.device old.moment.ports) (with_device s.device old) (ports_of new) new.device other healthy; well = λ i. absurd (uninterrupted s.device old.moment.ports other i); heeds = uninterrupted s.device old.moment.ports other })
         (backed_then s.device s.device new.device m early x.steps (own_backed s.device m (Accept asked) (λ no. no)) x.backed)
@@ -222,9 +222,9 @@ module _ (laws : LawsBelow) (s : Server) (k : IsKept s) (r : Request) (acc : IsA
         all_issued : AllIssued (record { machine = after m (x.steps ++ early); ports = ports_of new })
         all_issued other on = none_due new (after m (x.steps ++ early)) stands other (settles.issued other)
 
-        due_now : (other : Port) → IssuesDue plain_mode (x.steps ++ early) (after m (x.steps ++ early)) other
+        due_now : (other : Port) → IssuesDue (mode_in s other) (x.steps ++ early) (after m (x.steps ++ early)) other
         due_now other =
-            subst (λ (n : Machine). IssuesDue plain_mode (x.steps ++ early) n other) (sym (after-append m x.steps early))
+            subst (λ (n : Machine). IssuesDue (mode_in s other) (x.steps ++ early) n other) (sym (after-append m x.steps early))
             (dues_carried laws x.steps (x.steps ++ early) (after (next m was is) x.steps) (after (next m was is) x.steps) other refl
             (λ u here own. sym (any_append (issues_it u.id) x.steps early ∙ or_none (list_any (issues_it u.id) x.steps)))
             (dues laws port more new accept_kept issues (next m was is) x other (none_other other)))

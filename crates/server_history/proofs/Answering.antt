@@ -183,8 +183,10 @@ module _ (laws : LawsBelow) (s new : Server) (port : Port) (e : Held) (k : IsKep
       subst IsKept (sym one.server)
       (kept_then s s.device new.table (with_slot s.slots port.0 slot None) (without id s.book) s.last k
       k.on (same_refl s.device) k.behind one.lent.owners
-      (placed_four s.ports s.slots port.0 slot None k.four low slot_low few k.slots)
-      (placed_has s.ports s.slots port.0 slot None k.four low slot_low few k.slots)
+      (placed_four s.ports s.modes s.slots port.0 slot None k.four low slot_low few k.slots)
+      (placed_has s.ports s.modes s.slots port.0 slot None k.four low slot_low few k.slots)
+      ?
+      ?
       (laws.still_answered s.grants s.table new.table s.book e one.here one.lent k.accepted)
       (laws.fewer s.book id k.ordered)
       (left_each (λ y. y.entry.id.0 ≤ s.last) k.handed_out)
@@ -192,11 +194,8 @@ module _ (laws : LawsBelow) (s new : Server) (port : Port) (e : Held) (k : IsKep
       (after_step k.machine (Answer a.done outcome.Ok)) (reached_more k.machine (Answer a.done outcome.Ok ∷ []) k.reached (tt, a.here))
       (subst (λ (n : Server). IsMachineOf n (after_step k.machine (Answer a.done outcome.Ok))) one.server a.stands))
     where
-      usable : usable_of (found_of s.ports port.0) ≡ 1
-      usable = ap usable_of (ready_found s port.0 k ready).1.1
-
-      slot_low : slot < usable_of (found_of s.ports port.0)
+      slot_low : slot < usable_of (found_of s.ports port.0) (mode_at s.modes port.0)
       slot_low = used_low s port.0 slot one.used k low one.served
 
-      few : usable_of (found_of s.ports port.0) ≤ 32
-      few = let u = usable in omega (arith, u)
+      few : usable_of (found_of s.ports port.0) (mode_at s.modes port.0) ≤ 32
+      few = let u = usable_ready s port.0 k ready in let f = (its_mode s port.0 k (ready_found s port.0 k ready).0).0.1 in omega (arith, u, f)

@@ -49,7 +49,7 @@ use Rattle.block_machine.proofs.Members.{contains_none}
 use Rattle.request_queue.specs.Entries.{Held, IsAccepted, IsInOrder, asks_of}
 use Rattle.request_queue.specs.Machine.{IsBook}
 use Rattle.slots.specs.Uses.{Uses as PortSlots}
-use Rattle.server_history.specs.Server.{Server, AreUsesOf, IsKept, IsMachineOf, IsNewServer, IsPortOf, IsSettled, IsTransferRow, IsUsedAs, is_served, none_parked, plain_mode, ports_of, state_of, use_of, used_for}
+use Rattle.server_history.specs.Server.{Server, AreUsesOf, IsKept, IsMachineOf, IsNewServer, IsPortOf, IsSettled, IsTransferRow, IsUsedAs, is_served, none_parked, mode_in, ports_of, state_of, use_of, used_for}
 use Rattle.host_boot.proofs.Leaving.{boots_begin}
 use Rattle.agreement.proofs.Driven.{followed_adds}
 
@@ -222,7 +222,6 @@ module _ (laws : TakenLaws) (s : Server) (host : Host) (d : Device) (is : IsIdle
   ports_on port below = record {
     behind = boots_begin (wanted_of s.wanted port) (found_of s.ports port) port s.device (behind port below);
     runs = λ ready. (running port below ready).0;
-    unqueued = λ ready. (running port below ready).1;
     shown = shown_as port (found_of s.ports port) refl;
   }
 
@@ -246,7 +245,10 @@ module _ (laws : TakenLaws) (s : Server) (host : Host) (d : Device) (is : IsIdle
   ports_fit = record {
     few = λ port served. four port.0 served;
     absent = λ port other. absent_is (found_of s.ports port.0) other;
-    slots = λ port ready. (omega arith, omega arith, λ _. refl);
+    slots = λ port ready. ⊎_elim
+        (λ (low : port.0 < 4). subst IsMode (sym (n.modes port.0 low)) (mode_fit s.device.cap (found_of s.ports port.0)).0)
+        (λ (high : 4 ≤ port.0). absurd (let z : Absent ≡ ReadyState = sym (ap state_of (found_is port.0 ∙ none_past host.ports port.0 (let l = n.four in omega (arith, l, high)))) ∙ ready in cc))
+        (cases_lt port.0 4);
     causes = λ port cause is. ⊎_elim
         (λ (low : port.0 < 4). cause_is (wanted_of s.wanted port.0) (found_of s.ports port.0) port.0 cause s.device (behind port.0 low) is)
         (λ (high : 4 ≤ port.0). absurd (let z : Absent ≡ Unfit cause = sym (ap state_of (found_is port.0 ∙ none_past host.ports port.0 (let l = n.four in omega (arith, l, high)))) ∙ is in cc))
@@ -268,6 +270,9 @@ module _ (laws : TakenLaws) (s : Server) (host : Host) (d : Device) (is : IsIdle
     owners = n.owners;
     four = n.four_slots;
     slots = λ port low. record { places = n.places port low; usable = n.usable port low; unused = λ slot high. n.unused port slot };
+    modes = n.modes;
+    kinds = λ port slot used e is. absurd (let z : None ≡ Some used = sym (n.unused port.0 slot) ∙ is in cc);
+    commands = λ port slot used is. absurd (let z : None ≡ Some used = sym (n.unused port slot) ∙ is in cc);
     accepted = subst (λ (book : List Held). All (IsAccepted s.grants s.table) book) (sym n.book) (All-nil (IsAccepted s.grants s.table));
     ordered = subst IsInOrder (sym n.book) none_in_order;
     handed_out = subst (λ (book : List Held). All (λ e. e.entry.id.0 ≤ s.last) book) (sym n.book) (All-nil (λ (e : Held). e.entry.id.0 ≤ s.last));
@@ -278,8 +283,8 @@ module _ (laws : TakenLaws) (s : Server) (host : Host) (d : Device) (is : IsIdle
   }
 
   -- nothing is asked, so nothing is due
-  none_due : (port : Port) → NoneDue plain_mode (asks_of s.book) port
-  none_due port = subst (λ (book : List Held). NoneDue plain_mode (asks_of book) port) (sym n.book) (λ r own due. contains_none r due.here)
+  none_due : (port : Port) → NoneDue (mode_in s port) (asks_of s.book) port
+  none_due port = subst (λ (book : List Held). NoneDue (mode_in s port) (asks_of book) port) (sym n.book) (λ r own due. contains_none r due.here)
 
   pub new_server : IsSettled s × HasBegun s
   new_server =

@@ -10,7 +10,7 @@ use Rattle.adapter.proofs.Calls.{does_append}
 use Rattle.agreement.specs.Driven.{IsDrivenBy}
 use Rattle.agreement.specs.Driver.{IsBacked}
 use Rattle.agreement.proofs.Adding.{backed_then, nothing_backed}
-use Rattle.agreement.proofs.Driven.{by_none}
+use Rattle.agreement.proofs.Driven.{by_none, driven_as}
 use Rattle.block_machine.specs.Due.{AreDueInTurn, IsDue, NoneDue, due_of, mark_issued, of_port, with_issued}
 use Rattle.block_machine.specs.Events.{Ask, Moment, AllDevices, AllLawful, AllMay, Belong, IsIssuedIn, IsServers, IssuesLast, accepts_of, handles, issues_it}
 use Rattle.block_machine.specs.Histories.{IsReached}
@@ -24,10 +24,11 @@ use Rattle.block_machine.proofs.EventLemmas.{after-append}
 use Rattle.block_machine.proofs.HistoryLemmas.{may-append, reached_more}
 use Rattle.block_machine.proofs.Members.{contains_cases, contains_here, contains_none, contains_there, into_map, map_in}
 use Rattle.driver_history.specs.Histories.{IssuesDue, unissued}
+use Rattle.ncq.specs.Transfers.{IsIssuing}
 use Rattle.request_queue.specs.Entries.{Held, IsInOrder, IsWaiting, asks, asks_of, at, due_ids, has_id, issue}
 use Rattle.server_history.specs.Below.{LawsBelow}
-use Rattle.server_history.specs.Served.{IssuesAll, IssuesEach, IssuesOne, IssuesOnly}
-use Rattle.server_history.specs.Server.{Server, IsKept, IsMachineOf, IsSettled, mode_in}
+use Rattle.server_history.specs.Served.{IssuesAll, IssuesIn, IssuesEach, IssuesOne, IssuesOnly}
+use Rattle.server_history.specs.Server.{Server, IsKept, IsMachineOf, IsSettled, mode_at, mode_in}
 use Rattle.server_history.proofs.Asks.{same_book}
 use Rattle.server_history.proofs.Devices.{devices_last, not_handled}
 use Rattle.server_history.proofs.Issuing.{IsIssue, issue_kept, issue_one}
@@ -178,14 +179,14 @@ module _ (laws : LawsBelow) (port : Port) where
   }
   each_issued (first ∷ ids) old new k (mid, one, more) m reached is =
       let x : IsIssue port first old mid m = issue_one laws old mid port first k one m reached is in
-      let early : List Step = Issue plain_mode x.request ∷ x.steps in
+      let early : List Step = Issue (mode_in old port) x.request ∷ x.steps in
       let y : AreIssued port ids mid new (after m early) = each_issued ids mid new (issue_kept laws old mid port first k one) more (after m early) (reached_more m early reached x.may) x.stands in
       record {
         steps = y.steps ++ early;
         may = may-append m y.steps early x.may y.may;
         backed = backed_then old.device mid.device new.device m early y.steps x.backed y.backed;
         stands = subst (IsMachineOf new) (sym (after-append m y.steps early)) y.stands;
-        only = only_append mode port y.steps early y.only (refl, x.port_is, devices_only mode port x.steps x.only);
+        only = only_append (mode_in old port) port y.steps early (subst (λ (modes : List Mode). IssuesOnly (mode_at modes port.0) port y.steps) (ap (λ (n : Server). n.modes) one.server) y.only) (refl, x.port_is, devices_only (mode_in old port) port x.steps x.only);
         named = λ id i. ⊎_elim
             (λ (late : IsIssuedIn id y.steps). contains_there first ids id (y.named id late))
             (λ (here : IsIssuedIn id early). ⊎_elim
@@ -217,15 +218,15 @@ module _ (laws : LawsBelow) (port : Port) where
       each_settings ids mid new more ∙ ap (λ (n : Server). record n { device = new.device; slots = new.slots; book = new.book }) one.server
 
   -- the accesses that issue them
-  pub each_driven : (ids : List RequestId) (old new : Server) → IssuesEach port ids old new → IsDrivenBy (IsPlainIssuing port) old.device new.device
-  each_driven [] old new none = subst (λ (n : Server). IsDrivenBy (IsPlainIssuing port) old.device n.device) (sym none) (by_none (IsPlainIssuing port) old.device)
+  pub each_driven : (ids : List RequestId) (old new : Server) → IssuesEach port ids old new → IsDrivenBy (IssuesIn port) old.device new.device
+  each_driven [] old new none = subst (λ (n : Server). IsDrivenBy (IssuesIn port) old.device n.device) (sym none) (by_none (IssuesIn port) old.device)
   each_driven (first ∷ ids) old new (mid, one, more) =
       let late = each_driven ids mid new more in
-      let early = issued_plain port one.request one.request.frames old.device mid.device one.issues in
+      let early = driven_as (IsIssuing port one.slot) (IssuesIn port) old.device mid.device (λ access is. (one.slot, one.small, is)) one.issues.driven in
       record {
         accesses = early.accesses ++ late.accesses;
         all = does_append early.accesses late.accesses old.device mid.device new.device early.all late.all;
-        only = All-append (IsPlainIssuing port) early.accesses late.accesses early.only late.only;
+        only = All-append (IssuesIn port) early.accesses late.accesses early.only late.only;
       }
 
   -- ---- the book then
@@ -240,38 +241,43 @@ module _ (laws : LawsBelow) (port : Port) where
   each_asks (first ∷ ids) old new (mid, one, more) =
       each_asks ids mid new more ∙ ap (with_each ids) (ap (λ (n : Server). asks_of n.book) one.server ∙ laws.asks_issued old.book first)
 
+  -- nothing changes how ports take commands
+  pub each_modes : (ids : List RequestId) (old new : Server) → IssuesEach port ids old new → new.modes ≡ old.modes
+  each_modes [] old new none = ap (λ (n : Server). n.modes) none
+  each_modes (first ∷ ids) old new (mid, one, more) = each_modes ids mid new more ∙ ap (λ (n : Server). n.modes) one.server
+
   -- once all that were due are issued, none is
-  each_done : (ids : List RequestId) (old new : Server) → IssuesEach port ids old new → AreDueInTurn plain_mode port ids (asks_of old.book) → NoneDue plain_mode (asks_of new.book) port
-  each_done [] old new none turns = subst (λ (n : Server). NoneDue plain_mode (asks_of n.book) port) (sym none) turns
-  each_done (first ∷ ids) old new (mid, one, more) turns =
-      each_done ids mid new more
-      (subst (AreDueInTurn plain_mode port ids) (sym (ap (λ (n : Server). asks_of n.book) one.server ∙ laws.asks_issued old.book first)) turns.1)
+  each_done : (mode : Mode) (ids : List RequestId) (old new : Server) → IssuesEach port ids old new → AreDueInTurn mode port ids (asks_of old.book) → NoneDue mode (asks_of new.book) port
+  each_done mode [] old new none turns = subst (λ (n : Server). NoneDue mode (asks_of n.book) port) (sym none) turns
+  each_done mode (first ∷ ids) old new (mid, one, more) turns =
+      each_done mode ids mid new more
+      (subst (AreDueInTurn mode port ids) (sym (ap (λ (n : Server). asks_of n.book) one.server ∙ laws.asks_issued old.book first)) turns.1)
 
   -- requests of another port are as they were
   pub each_apart : (ids : List RequestId) (old new : Server) → IsInOrder old.book → IssuesEach port ids old new → (other : Port) → other ≢ port → of_port other (asks_of new.book) ≡ of_port other (asks_of old.book)
   each_apart [] old new order none other ne = ap (λ (n : Server). of_port other (asks_of n.book)) none
   each_apart (first ∷ ids) old new order (mid, one, more) other ne =
-      each_apart ids mid new (subst (λ (n : Server). IsInOrder n.book) (sym one.server) (laws.issued old.book first order (subst (λ (id : RequestId). IsWaiting id old.book) one.id_is (laws.waits plain_mode old.book (asks one.request.entry) one.due)))) more other ne
+      each_apart ids mid new (subst (λ (n : Server). IsInOrder n.book) (sym one.server) (laws.issued old.book first order (subst (λ (id : RequestId). IsWaiting id old.book) one.id_is (laws.waits (mode_in old port) old.book (asks one.request.entry) one.due)))) more other ne
       ∙ ap (of_port other) (ap (λ (n : Server). asks_of n.book) one.server ∙ laws.asks_issued old.book first ∙ ap (λ (id : RequestId). with_issued id (asks_of old.book)) (sym one.id_is))
       ∙ laws.issued_apart other (asks_of old.book) (asks one.request.entry) (laws.asked old.book order) (into_map (λ (y : Held). asks y.entry) old.book one.request one.here)
       (λ same. ne (sym same ∙ one.port_is))
 
-  pub settled : (old new : Server) → IsKept old → ((other : Port) → other ≢ port → NoneDue plain_mode (asks_of old.book) other) → IssuesAll port old new → IsSettled new
+  pub settled : (old new : Server) → IsKept old → ((other : Port) → other ≢ port → NoneDue (mode_in old other) (asks_of old.book) other) → IssuesAll port old new → IsSettled new
   settled old new k none issues = record {
     kept = each_kept ids old new k issues;
-    issued = λ other. ⊎_elim
+    issued = λ other. subst (λ (modes : List Mode). NoneDue (mode_at modes other.0) (asks_of new.book) other) (sym (each_modes ids old new issues)) (⊎_elim
         (λ (same : other.0 ≡ port.0).
-        subst (NoneDue plain_mode (asks_of new.book)) (ap (λ (n : ℕ). record { 0 = n }) (sym same))
-        (each_done ids old new issues (laws.in_turn plain_mode port (asks_of old.book) (laws.asked old.book k.ordered))))
+        subst (λ (q : Port). NoneDue (mode_in old q) (asks_of new.book) q) (ap (λ (n : ℕ). record { 0 = n }) (sym same))
+        (each_done (mode_in old port) ids old new issues (laws.in_turn (mode_in old port) port (asks_of old.book) (laws.asked old.book k.ordered))))
         (λ (ne : other.0 ≢ port.0).
         let apart : other ≢ port = λ same. ne (ap (λ (p : Port). p.0) same) in
         λ r own is_due. none other apart r own
-        ((laws.same_due plain_mode other (asks_of new.book) (asks_of old.book) r (each_apart ids old new k.ordered issues other apart) own).0 is_due))
-        (cases_eq other.0 port.0);
+        ((laws.same_due (mode_in old other) other (asks_of new.book) (asks_of old.book) r (each_apart ids old new k.ordered issues other apart) own).0 is_due))
+        (cases_eq other.0 port.0));
   }
     where
       ids : List RequestId
-      ids = due_ids plain_mode port (asks_of old.book)
+      ids = due_ids (mode_in old port) port (asks_of old.book)
 
   -- ---- what was due is what was issued
 
@@ -331,21 +337,21 @@ module _ (laws : LawsBelow) (port : Port) where
   unmarked_all f g (x ∷ xs) each =
       ap (λ (y : Unanswered). y ∷ map f (map g xs)) (each x (contains_here x xs x refl)) ∙ ap (λ (ys : List Unanswered). x ∷ ys) (unmarked_all f g xs (λ r here. each r (contains_there x xs r here)))
 
-  module _ (old new : Server) (k : IsKept old) (issues : IssuesAll port old new) (m : Machine) (x : AreIssued port (due_ids plain_mode port (asks_of old.book)) old new m) where
+  module _ (old new : Server) (k : IsKept old) (issues : IssuesAll port old new) (m : Machine) (x : AreIssued port (due_ids (mode_in old port) port (asks_of old.book)) old new m) where
     abbrev ids : List RequestId
-    ids = due_ids plain_mode port (asks_of old.book)
+    ids = due_ids (mode_in old port) port (asks_of old.book)
 
     -- a request of the book whose id is among these is due, and of the port
-    is_due : (r : Unanswered) → Contains (asks_of old.book) r → Contains ids r.id → IsDue plain_mode (asks_of old.book) r × (r.port ≡ port)
+    is_due : (r : Unanswered) → Contains (asks_of old.book) r → Contains ids r.id → IsDue (mode_in old port) (asks_of old.book) r × (r.port ≡ port)
     is_due r here there =
-        let y = map_in (λ (u : Unanswered). u.id) (due_of plain_mode port (asks_of old.book)) r.id there in
-        let own : y.0.port ≡ port = laws.own plain_mode port (asks_of old.book) y.0 y.1 in
-        let its : IsDue plain_mode (asks_of old.book) y.0 = (laws.exact plain_mode port (asks_of old.book) y.0 own).0 y.1 in
+        let y = map_in (λ (u : Unanswered). u.id) (due_of (mode_in old port) port (asks_of old.book)) r.id there in
+        let own : y.0.port ≡ port = laws.own (mode_in old port) port (asks_of old.book) y.0 y.1 in
+        let its : IsDue (mode_in old port) (asks_of old.book) y.0 = (laws.exact (mode_in old port) port (asks_of old.book) y.0 own).0 y.1 in
         let a = map_in (λ (e : Held). asks e.entry) old.book r here in
         let b = map_in (λ (e : Held). asks e.entry) old.book y.0 its.here in
         let one : a.0 ≡ b.0 = laws.one old.book a.0 b.0 k.ordered a.1 b.1 (sym (ap (λ (u : Unanswered). u.id) a.2) ∙ y.2 ∙ ap (λ (u : Unanswered). u.id) b.2) in
         let same : y.0 ≡ r = b.2 ∙ ap (λ (e : Held). asks e.entry) (sym one) ∙ sym a.2 in
-        (subst (IsDue plain_mode (asks_of old.book)) same its, ap (λ (u : Unanswered). u.port) (sym same) ∙ own)
+        (subst (IsDue (mode_in old port) (asks_of old.book)) same its, ap (λ (u : Unanswered). u.port) (sym same) ∙ own)
 
     was : unissued x.steps (map unanswered (after m x.steps).book) ≡ asks_of old.book
     was =
@@ -353,16 +359,16 @@ module _ (laws : LawsBelow) (port : Port) where
         ∙ unmarked_all (mark x.steps) (mark_each ids) (asks_of old.book)
         (λ r here. unmarked ids x.steps r x.named x.all (λ there. not_true r.issued (and_parts _ _ (is_due r here there).0.clear).0))
 
-    pub dues : (q : Port) → (q ≢ port → NoneDue plain_mode (asks_of old.book) q) → IssuesDue plain_mode x.steps (after m x.steps) q
-    dues q none = subst (λ (us : List Unanswered). (r : Unanswered) → Contains us r → r.port ≡ q → IsIssuedIn r.id x.steps ↔ IsDue plain_mode us r) (sym was) exact
+    pub dues : (q : Port) → (q ≢ port → NoneDue (mode_in old q) (asks_of old.book) q) → IssuesDue (mode_in old q) x.steps (after m x.steps) q
+    dues q none = subst (λ (us : List Unanswered). (r : Unanswered) → Contains us r → r.port ≡ q → IsIssuedIn r.id x.steps ↔ IsDue (mode_in old q) us r) (sym was) exact
       where
-        exact : (r : Unanswered) → Contains (asks_of old.book) r → r.port ≡ q → IsIssuedIn r.id x.steps ↔ IsDue plain_mode (asks_of old.book) r
+        exact : (r : Unanswered) → Contains (asks_of old.book) r → r.port ≡ q → IsIssuedIn r.id x.steps ↔ IsDue (mode_in old q) (asks_of old.book) r
         exact r here own = (
-          (λ issued. (is_due r here (x.named r.id issued)).0),
+          (λ issued. let d = is_due r here (x.named r.id issued) in subst (λ (z : Port). IsDue (mode_in old z) (asks_of old.book) r) (sym d.1 ∙ own) d.0),
           (λ its. ⊎_elim
               (λ (same : q.0 ≡ port.0).
               let at : r.port ≡ port = own ∙ ap (λ (n : ℕ). record { 0 = n }) same in
-              x.all r.id (into_map (λ (u : Unanswered). u.id) (due_of plain_mode port (asks_of old.book)) r ((laws.exact plain_mode port (asks_of old.book) r at).1 its)))
+              x.all r.id (into_map (λ (u : Unanswered). u.id) (due_of (mode_in old port) port (asks_of old.book)) r ((laws.exact (mode_in old port) port (asks_of old.book) r at).1 (subst (λ (z : Port). IsDue (mode_in old z) (asks_of old.book) r) (ap (λ (n : ℕ). record { 0 = n }) same) its))))
               (λ (ne : q.0 ≢ port.0). absurd (none (λ same. ne (ap (λ (p : Port). p.0) same)) r own its))
               (cases_eq q.0 port.0)),
         )
@@ -427,12 +433,12 @@ mark_id steps r = by (list_any (issues_it r.id) steps)
 
 -- Where the port's requests are the same in two machines, and the same of them are issued in two lists of steps, what is due once the others
 -- are undone is the same.
-pub dues_carried : LawsBelow → (one other : List Step) (m n : Machine) (q : Port) → of_port q (map unanswered m.book) ≡ of_port q (map unanswered n.book)
+pub dues_carried : LawsBelow → (mode : Mode) → (one other : List Step) (m n : Machine) (q : Port) → of_port q (map unanswered m.book) ≡ of_port q (map unanswered n.book)
     → ((r : Unanswered) → Contains (map unanswered m.book) r → r.port ≡ q → list_any (issues_it r.id) one ≡ list_any (issues_it r.id) other)
-    → IssuesDue plain_mode one m q → IssuesDue plain_mode other n q
-dues_carried laws one other m n q same alike dues r here own = (
-  (λ issued. (laws.same_due plain_mode q a b r marks own).0 (was.0 (id_alike ∙ issued))),
-  (λ due_now. sym id_alike ∙ was.1 ((laws.same_due plain_mode q a b r marks own).1 due_now)),
+    → IssuesDue mode one m q → IssuesDue mode other n q
+dues_carried laws mode one other m n q same alike dues r here own = (
+  (λ issued. (laws.same_due mode q a b r marks own).0 (was.0 (id_alike ∙ issued))),
+  (λ due_now. sym id_alike ∙ was.1 ((laws.same_due mode q a b r marks own).1 due_now)),
 )
   where
     a : List Unanswered
@@ -454,7 +460,7 @@ dues_carried laws one other m n q same alike dues r here own = (
     there_too : Contains a r
     there_too = (own_in q a r (subst (λ (us : List Unanswered). Contains us r) (sym marks) (in_own q b r here own))).0
 
-    was : IsIssuedIn r.id one ↔ IsDue plain_mode a r
+    was : IsIssuedIn r.id one ↔ IsDue mode a r
     was = dues r there_too own
 
     id_alike : list_any (issues_it r.id) one ≡ list_any (issues_it r.id) other

@@ -46,7 +46,7 @@ use Rattle.request_queue.specs.Entries.{Held, asks_of, due_ids}
 use Rattle.slots.specs.Uses.{Uses as PortSlots}
 use Rattle.slots.specs.declared.Use.{Use as SlotUse}
 use Rattle.server_history.specs.Below.{LawsBelow}
-use Rattle.server_history.specs.Served.{AddsTurn, AnswersDone, AnswersEach, AnswersOne, HasNone, HasTurn, IsMaskOf, IsPlainIssuing, IsAnsweredIn, ServesPort, answers_in, done_reply, is_used}
+use Rattle.server_history.specs.Served.{AddsTurn, AnswersDone, AnswersEach, AnswersOne, HasNone, HasTurn, IsMaskOf, IssuesIn, IsAnsweredIn, ServesPort, answers_in, done_reply, is_used}
 use Rattle.server_history.specs.Server.{Server, IsKept, IsMachineOf, IsSettled, none_parked, plain_mode, slots_at, state_of, used_for, with_slot}
 use Rattle.server_history.proofs.Answering.{answer_kept}
 use Rattle.server_history.proofs.Asks.{none_issued}
@@ -265,7 +265,7 @@ module _ (s : Server) (seen : Device) (port : Port) (t : IsSettled s) (ready : s
                 reads = reads;
                 exact = λ slot used small is. ((λ found. absurd (false≢true (sym (none slot small) ∙ found))), (λ w. absurd (contains_none w.0 w.1)));
                 running = λ _. (refl, refl);
-                over = by_none (IsPlainIssuing port) new;
+                over = by_none (IssuesIn port) new;
               };
             };
           })
@@ -352,8 +352,8 @@ module _ (s : Server) (seen : Device) (port : Port) (t : IsSettled s) (ready : s
             z : AreIssued port ids a.mid new (after m base)
             z = each_issued laws port ids a.mid new mid_kept a.issued (after m base) (reached_more m base reached base_may) (subst (IsMachineOf a.mid) (sym base_is) y.stands)
 
-        last_issues : IsDrivenBy (IsPlainIssuing port) found new.device
-        last_issues = subst (λ (d : Device). IsDrivenBy (IsPlainIssuing port) d new.device) mid_device (each_driven laws port ids a.mid new a.issued)
+        last_issues : IsDrivenBy (IssuesIn port) found new.device
+        last_issues = subst (λ (d : Device). IsDrivenBy (IssuesIn port) d new.device) mid_device (each_driven laws port ids a.mid new a.issued)
 
         -- a request is told exactly if its slot was found done
         told_of : (e : Held) → Contains a.requests e → IsAnsweredIn e.entry.id replies

@@ -23,7 +23,7 @@ use Rattle.host_boot.specs.declared.Found.{Found}
 use Rattle.request_queue.specs.Entries.{Held, IsInOrder, asks, asks_of, due_ids}
 use Rattle.server_history.specs.Below.{LawsBelow}
 use Rattle.server_history.specs.Served.{AnswersDone, AnswersEach, AnswersOne, AnswersTurn, HasEnded, HasTurn, SameSettings, answers_in}
-use Rattle.server_history.specs.Server.{Server, IsKept, IsMachineOf, IsSettled, plain_mode, slots_at, state_of}
+use Rattle.server_history.specs.Server.{Server, IsKept, IsMachineOf, IsSettled, mode_in, slots_at, state_of}
 use Rattle.server_history.proofs.Answering.{IsAnswer, answer_kept, answer_one}
 use Rattle.server_history.proofs.Rounds.{each_apart, each_settings, settled}
 use Rattle.dma_frames.specs.Table.{Table}
@@ -101,9 +101,9 @@ module _ (laws : LawsBelow) (port : Port) (done : ℕ) where
   pub answers_settle : (replies : List Reply) (s new : Server) → IsSettled s → state_of (found_of s.ports port.0) ≡ Ready → AreOver port done s.device → AnswersDone port done replies s new → IsSettled new
   answers_settle replies s new t ready over a = settled laws port a.mid new (answers_kept a.requests s a.mid t.kept ready over a.each) none_other a.issued
     where
-      none_other : (other : Port) → other ≢ port → NoneDue plain_mode (asks_of a.mid.book) other
+      none_other : (other : Port) → other ≢ port → NoneDue (mode_in a.mid other) (asks_of a.mid.book) other
       none_other other ne r own due =
-          t.issued other r own ((laws.same_due plain_mode other (asks_of a.mid.book) (asks_of s.book) r (answers_apart a.requests s a.mid t.kept.ordered a.each other ne) own).0 due)
+          t.issued other r own ((laws.same_due (mode_in s other) other (asks_of a.mid.book) (asks_of s.book) r (answers_apart a.requests s a.mid t.kept.ordered a.each other ne) own).0 due)
 
 -- ---- a port's turn
 
@@ -116,12 +116,12 @@ pub turn_settings : LawsBelow → (port : Port) (replies : List Reply) (old new 
 turn_settings laws port replies old new turn (inl (none, is)) = is ∙ ap (λ (n : Server). record old { device = n.device; table = n.table; slots = n.slots; book = n.book }) (sym is)
 turn_settings laws port replies old new turn (inr (calm, some, a)) =
     let c = (turn.calm calm).checks some in
-    each_settings laws port (due_ids plain_mode port (asks_of a.mid.book)) a.mid new a.issued
+    each_settings laws port (due_ids (mode_in a.mid port) port (asks_of a.mid.book)) a.mid new a.issued
     ∙ ap (λ (n : Server). record n { device = new.device; slots = new.slots; book = new.book }) (answers_settings laws port c.done a.requests (record old { device = c.read }) a.mid a.each)
     ∙ ap (λ (table : Table). record old { device = new.device; table = table; slots = new.slots; book = new.book }) (sym table_is)
   where
     table_is : new.table ≡ a.mid.table
-    table_is = ap (λ (n : Server). n.table) (each_settings laws port (due_ids plain_mode port (asks_of a.mid.book)) a.mid new a.issued)
+    table_is = ap (λ (n : Server). n.table) (each_settings laws port (due_ids (mode_in a.mid port) port (asks_of a.mid.book)) a.mid new a.issued)
 
 -- and of the requests of another port
 pub turn_apart : LawsBelow → (port : Port) (replies : List Reply) (old new : Server) (turn : HasTurn port (slots_at old.slots port.0) replies old.device new.device) → IsInOrder old.book
@@ -129,5 +129,5 @@ pub turn_apart : LawsBelow → (port : Port) (replies : List Reply) (old new : S
 turn_apart laws port replies old new turn order (inl (none, is)) other ne = ap (λ (n : Server). of_port other (asks_of n.book)) is
 turn_apart laws port replies old new turn order (inr (calm, some, a)) other ne =
     let c = (turn.calm calm).checks some in
-    each_apart laws port (due_ids plain_mode port (asks_of a.mid.book)) a.mid new (answers_order laws port c.done a.requests (record old { device = c.read }) a.mid order a.each) a.issued other ne
+    each_apart laws port (due_ids (mode_in a.mid port) port (asks_of a.mid.book)) a.mid new (answers_order laws port c.done a.requests (record old { device = c.read }) a.mid order a.each) a.issued other ne
     ∙ answers_apart laws port c.done a.requests (record old { device = c.read }) a.mid order a.each other ne

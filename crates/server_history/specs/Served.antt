@@ -107,6 +107,7 @@ pub record IssuesOne (port : Port) (id : RequestId) (old new : Server) : Type 0 
   pub port_is : request.entry.port ≡ port
   pub due : IsDue (mode_in old port) (asks_of old.book) (asks request.entry)
   pub slot : ℕ
+  pub small : slot < 32
   pub lowest : IsLowestFree (slots_at old.slots port.0) slot
   pub issues : IssuesTransfer port slot (transfer_of (mode_in old port) request) request.frames old.device new.device
   pub stored : IsStored new.device port.0 slot (meaning_of (transfer_of (mode_in old port) request)) (places_of request.frames request.entry.range.count)
