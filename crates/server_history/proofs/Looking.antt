@@ -1,5 +1,5 @@
 -- A server goes on while a ready port is looked at, and while its transfer is looked for.
-use Rattle.std.proofs.Common.{ℕ, ◌≡◌, ◌≢◌, ◌<◌, true, inl, inr, refl, sym, ap, ◌∙◌}
+use Rattle.std.proofs.Common.{ℕ, ◌≡◌, ◌≢◌, ◌<◌, true, inl, inr, refl, sym, ap, ◌∙◌, subst, List}
 use Rattle.std.proofs.lemmas.Bool.{and_parts}
 use Rattle.ata_types.specs.declared.Port.{Port}
 use Rattle.ata_types.specs.declared.PortState.TheVariants.{Dead, Ready as ReadyState}
@@ -20,7 +20,10 @@ use Rattle.server_history.specs.Served.{IsMaskOf}
 use Rattle.server_history.specs.Server.{Server, IsKept, IsPortOf, none_parked, slots_at, state_of, used_for}
 use Rattle.server_history.proofs.Going.{machine_on, kept_on}
 use Rattle.server_history.proofs.Ports.{port_on}
-use Rattle.server_history.proofs.Slots.{AreOver, busy_used, not_own, ready_found, serves_used}
+use Rattle.server_history.proofs.Slots.{AreOver, busy_used, not_own, ready_found, serves_used, used_there}
+use Rattle.server_history.proofs.Stored.{service_leaves_stored}
+use Rattle.agreement.specs.Acts.{at as at_slots}
+use Rattle.std.specs.List.{All}
 use Rattle.port_look.specs.Looks.{IsLooking}
 use Rattle.port_look.specs.Laws.{Laws}
 use Rattle.port_look.specs.Services.{IsService}
@@ -46,9 +49,10 @@ behind_served laws s new port k ready driven left silent q low =
 
 module _ (s : Server) (new : Device) (port : Port) (k : IsKept s) (ready : state_of (found_of s.ports port.0) ≡ ReadyState) where
   -- followed accesses that serve the port, and write no PxCI
-  kept_over : Laws → (May : Access → Type 0) → ((access : Access) → May access → IsService access) → ((q : Port) → NoneWrites May (Px q Ci) × NoneWrites May (Px q Sact))
+  kept_over : LawsBelow → (May : Access → Type 0) → ((access : Access) → May access → IsService access) → ((access : Access) (at : ℕ) (bytes : List ℕ) → May access → access ≡ Storing at bytes → ⊥) → ((q : Port) → NoneWrites May (Px q Ci) × NoneWrites May (Px q Sact))
       → ((q : ℕ) → q < 4 → q ≢ port.0 → LeavesPort (s.device.port q) (new.port q)) → IsFollowed May AnyUse s.device new → IsKept (record s { device = new })
-  kept_over laws May service none left followed =
+  kept_over below May service storeless none left followed =
+      let laws : Laws = below.looks in
       let uses : Uses = k.stands.uses in
       let driven : IsDrivenBy IsService s.device new = driven_as May IsService s.device new service followed.driven in
       let x = (followed_adds followed uses none_parked tt).adds k.machine k.reached k.stands.knows in
@@ -56,7 +60,19 @@ module _ (s : Server) (new : Device) (port : Port) (k : IsKept s) (ready : state
       (behind_served laws s new port k ready driven left
       (λ q other. followed_silent followed uses none_parked k.machine tt k.reached k.stands.knows (port_at q) Identify refl (none (port_at q)).0 (none (port_at q)).1
       (not_own (found_of s.ports q) 0 (used_for s.slots q 0) (uses q 0) other (k.stands.used q 0))))
-      ?
+      (λ q n used is.
+      let t = used_there s q n used k is in
+      let h = k.commands q n used is in
+      let acts = followed.comes (record { uses = uses; parked = none_parked }) k.machine k.reached k.stands.knows tt in
+      record {
+        command = h.command;
+        places = h.places;
+        stored = below.stored (port_at q) n h.command h.places acts.acts (at_slots (record { uses = uses; parked = none_parked }) s.device) (at_slots (record { uses = uses; parked = none_parked }) new) k.machine k.reached k.stands.knows acts.done
+            (λ i d small.
+            let its = subst (All May) (sym acts.accesses_are) followed.driven.only i d small in
+            service_leaves_stored (port_at q) n _ (service _ its) (λ a bytes place e x from to. storeless _ a bytes its e)) k.on h.stored;
+        kind = h.kind;
+      })
       x.0 x.1
       (machine_on s new k.machine x.0 k.stands x.3.only x.2)
 
@@ -73,15 +89,21 @@ module _ (s : Server) (new : Device) (port : Port) (k : IsKept s) (ready : state
   finding_spares q r (Loading at bytes) here = tt
   finding_spares q r (Storing at bytes) here = tt
 
-  pub looking_kept : Laws → IsFollowed (IsLooking port) AnyUse s.device new → IsKept (record s { device = new })
+  looking_stores : (access : Access) (at : ℕ) (bytes : List ℕ) → IsLooking port access → access ≡ Storing at bytes → ⊥
+  looking_stores access at bytes is e = subst (IsLooking port) e is
+
+  finding_stores : (access : Access) (at : ℕ) (bytes : List ℕ) → IsFinding port access → access ≡ Storing at bytes → ⊥
+  finding_stores access at bytes is e = subst (IsFinding port) e is
+
+  pub looking_kept : LawsBelow → IsFollowed (IsLooking port) AnyUse s.device new → IsKept (record s { device = new })
   looking_kept laws followed =
-      kept_over laws (IsLooking port) (looking_service port) (λ q. (looking_spares q Ci (λ e. absurd cc), looking_spares q Sact (λ e. absurd cc))) (λ q low other. apart laws port (IsLooking port) (looking_of port) q other s.device new k.on followed.driven) followed
+      kept_over laws (IsLooking port) (looking_service port) looking_stores (λ q. (looking_spares q Ci (λ e. absurd cc), looking_spares q Sact (λ e. absurd cc))) (λ q low other. apart laws.looks port (IsLooking port) (looking_of port) q other s.device new k.on followed.driven) followed
 
   module _ (laws : LawsBelow) (mask done : ℕ) (finds : FindsDone port mask done s.device new) where
     pub finding_kept : IsKept (record s { device = new })
     finding_kept =
         let followed = laws.finding_followed port mask done s.device new finds in
-        kept_over laws.looks (IsFinding port) (finding_serves port) (λ q. (finding_spares q Ci, finding_spares q Sact))
+        kept_over laws (IsFinding port) (finding_serves port) finding_stores (λ q. (finding_spares q Ci, finding_spares q Sact))
         (λ q low other. apart laws.looks port (IsFinding port) (laws.finding_of port) q other s.device new k.on followed.driven) followed
 
     -- the command of a slot that was found done is over, where only used slots were asked for

@@ -198,7 +198,7 @@ module _ (laws : LawsBelow) (port : Port) where
             (λ (same : id ≡ first). issued_early id y.steps early (or_left _ _ (eq-eqb x.request.request.id.0 id.0 (ap (λ (r : RequestId). r.0) (x.id_is ∙ sym same)))))
             (λ (later : Contains ids id). issued_late id y.steps early (y.all id later))
             (contains_cases first ids id there);
-        last = last_on port y.steps early y.only y.last
+        last = last_on (mode_in mid port) port y.steps early y.only y.last
             (devices_last x.steps x.only, λ id h i. false≢true (sym (devices_issue_none id x.steps x.only) ∙ i))
             (λ id late i. ⊎_elim
             (λ (its : (x.request.request.id.0 == id.0) ≡ true).
