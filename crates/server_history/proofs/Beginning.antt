@@ -23,7 +23,7 @@ use Rattle.agreement.proofs.Sparing.{steps_spare}
 use Rattle.agreement.specs.Links.{HasDeviceOrNone}
 use Rattle.block_machine.specs.Histories.{IsReached}
 use Rattle.block_machine.specs.Left.{after, IsStart}
-use Rattle.block_machine.specs.Ports.{AreFit}
+use Rattle.block_machine.specs.Ports.{AreFit, IsMode}
 use Rattle.block_machine.specs.State.{Disk, Machine, Pending}
 use Rattle.block_machine.specs.Rules.{DifferInName}
 use Rattle.block_machine.proofs.HistoryLemmas.{reached_more}
@@ -40,7 +40,7 @@ use Rattle.identify.specs.declared.wanted.Wanted.{Wanted}
 use Rattle.port_boot.specs.States.{EndsAs, IsUnfit}
 use Rattle.driver_history.specs.Holds.{Runs}
 use Rattle.agreement.specs.Facts.{IsRecorded, RunsWell, Undisturbed}
-use Rattle.server_history.proofs.Slots.{ready_found}
+use Rattle.server_history.proofs.Slots.{mode_fit, ready_found}
 use Rattle.identify.specs.declared.DiskInfo.{DiskInfo}
 use Rattle.server_history.proofs.Standing.{holds_with, slots}
 use Rattle.server_history.specs.Histories.{HasBegun}

@@ -1,7 +1,7 @@
 -- What the slots of ports are used for, and how that of a ready port is given up.
-use Rattle.std.proofs.Common.{ℕ, ◌≡◌, ◌≢◌, ◌≤◌, ◌<◌, ◌+◌, ◌/◌, ◌%◌, ◌⊎◌, true, false, not, map, List, Option, None, Some, inl, inr, refl, sym, ap, ◌∙◌, subst, ⊎_elim, arith, eq-eqb}
+use Rattle.std.proofs.Common.{ℕ, ◌≡◌, ◌≢◌, ◌≤◌, ◌<◌, ◌+◌, ◌/◌, ◌%◌, ◌⊎◌, true, false, not, List, Option, None, Some, inl, inr, refl, sym, ap, ◌∙◌, subst, ⊎_elim, arith}
 use Rattle.std.specs.List.{All, Contains}
-use Rattle.std.proofs.lemmas.Bool.{and_from, cases_Bool, cases_eq, cases_lt, cond-true, false≢true, or_left}
+use Rattle.std.proofs.lemmas.Bool.{cases_Bool, cases_eq, cases_lt, false≢true}
 use Rattle.std.proofs.lemmas.List.Elements.{All-contains}
 use Rattle.ata_types.specs.declared.Port.{Port}
 use Rattle.ata_types.specs.declared.PortState.TheVariants.{Absent, Dead, Ready as ReadyState}
@@ -130,12 +130,15 @@ used_low s port slot u k low used =
 
 -- a used slot is one of the 32 of one of the four ports
 pub used_there : (s : Server) (port slot : ℕ) (u : SlotUse) → IsKept s → used_for s.slots port slot ≡ Some u → (port < 4) × (slot < 32)
-used_there s port slot u k used = (low, ⊎_elim
-    (λ (small : slot < 32). small)
-    (λ (high : 32 ≤ slot).
-    let many = (k.slots port low).places in
-    let z : None ≡ Some u = sym (get_or_past (slots_at s.slots port).places slot None (omega (arith, many, high))) ∙ used in absurd cc)
-    (cases_lt slot 32))
+used_there s port slot u k used = (
+  low,
+  ⊎_elim
+      (λ (small : slot < 32). small)
+      (λ (high : 32 ≤ slot).
+      let many = (k.slots port low).places in
+      let z : None ≡ Some u = sym (get_or_past (slots_at s.slots port).places slot None (omega (arith, many, high))) ∙ used in absurd cc)
+      (cases_lt slot 32),
+)
   where
     low : port < 4
     low = ⊎_elim
@@ -145,6 +148,18 @@ used_there s port slot u k used = (low, ⊎_elim
         let none = get_or_past s.slots port no_slots (omega (arith, four, high)) in
         let z : None ≡ Some u = sym (ap (λ (x : PortSlots). use_at x slot) none) ∙ used in absurd cc)
         (cases_lt port 4)
+
+-- and that port is ready
+pub used_ready : (s : Server) (port slot : ℕ) (u : SlotUse) → IsKept s → used_for s.slots port slot ≡ Some u → state_of (found_of s.ports port) ≡ ReadyState
+used_ready s port slot u k used = by (found_of s.ports port) refl
+  where
+    unused : usable_of (found_of s.ports port) (mode_at s.modes port) ≡ 0 → ⊥
+    unused none = let low = used_low s port slot u k (used_there s port slot u k used).0 used in omega (arith, low, none)
+
+    by : (f : Found) → found_of s.ports port ≡ f → state_of f ≡ ReadyState
+    by Unserved is = absurd (unused (ap (λ (f : Found). usable_of f (mode_at s.modes port)) is))
+    by (Ready info) is = refl
+    by (Unready state) is = absurd (unused (ap (λ (f : Found). usable_of f (mode_at s.modes port)) is))
 
 pub busy_used : (used : Option SlotUse) → is_used used ≡ true → (u : SlotUse) × (used ≡ Some u)
 busy_used None busy = absurd (false≢true busy)
@@ -254,8 +269,8 @@ module _ (laws : LawsBelow) (s : Server) (e : Held) (k : IsKept s) (here : Conta
   may = (
     x.1,
     (let B : List Unanswered → Type 0 = λ book. IsDue mode book (unanswered p) in
-    let R : Unanswered → Type 0 = λ r. IsDue mode (asks_of s.book) r in
-    subst B (sym (same_book s.book k.machine.book k.stands.book)) (subst R (sym (asked_alike e p x.2)) due)),
+        let R : Unanswered → Type 0 = λ r. IsDue mode (asks_of s.book) r in
+        subst B (sym (same_book s.book k.machine.book k.stands.book)) (subst R (sym (asked_alike e p x.2)) due)),
     λ y there. absurd (contains_none y (subst (λ (es : List Pending). Contains es y) k.stands.kept there)),
   )
 
