@@ -1,6 +1,9 @@
 -- What the slots of ports are used for, and how that of a ready port is given up.
-use Rattle.std.proofs.Common.{ℕ, ◌≡◌, ◌≢◌, ◌≤◌, ◌<◌, ◌+◌, ◌/◌, ◌%◌, ◌⊎◌, true, false, not, List, Option, None, Some, inl, inr, refl, sym, ap, ◌∙◌, subst, ⊎_elim, arith}
+use Rattle.std.proofs.Common.{ℕ, Bool, ◌&&◌, ◌≡◌, ◌≢◌, ◌≤◌, ◌<◌, ◌+◌, ◌/◌, ◌%◌, ◌⊎◌, true, false, not, List, Option, None, Some, inl, inr, refl, sym, ap, ◌∙◌, subst, ⊎_elim, arith}
 use Rattle.std.specs.List.{All, Contains}
+use Rattle.std.specs.Prelude.{if◌then◌else◌, min}
+use Rattle.std.proofs.Math.Nat.{min-eq_left, min-eq_right, min-le_left, min-le_right}
+use Rattle.identify.specs.declared.wanted.Wanted.{Wanted}
 use Rattle.std.proofs.lemmas.Bool.{cases_Bool, cases_eq, cases_lt, false≢true}
 use Rattle.std.proofs.lemmas.List.Elements.{All-contains}
 use Rattle.ata_types.specs.declared.Port.{Port}
@@ -71,14 +74,50 @@ of_ready s k e here = All-contains (λ (x : Held). state_of (found_of s.ports x.
 
 -- ---- how a port takes commands
 
--- any port has 1 to 32 usable slots, no more than the adapter has, and one where commands aren't queued
-pub mode_fit : (cap : ℕ) (found : Found) → IsMode (mode_found cap found) × ((mode_found cap found).usable ≤ cap / 256 % 32 + 1)
-mode_fit cap Unserved = ((omega arith, omega arith, λ plain. refl), omega arith)
-mode_fit cap (Ready info) = ((omega arith, omega arith, λ plain. refl), omega arith)
-mode_fit cap (Unready state) = ((omega arith, omega arith, λ plain. refl), omega arith)
+-- a disk that was found takes one command at a time at least
+abbrev TakesSome : Found → Type 0
+TakesSome (Ready info) = 1 ≤ info.depth
+TakesSome _ = Unit {0}
+
+takes_some : (wanted : Wanted) (found : Found) (port : ℕ) (d : Device) → StillStandsBehind wanted found port d → TakesSome found
+takes_some wanted Unserved port d behind = tt
+takes_some wanted (Ready info) port d behind = let depth = behind.1.fit.tells.depth in omega (arith, depth)
+takes_some wanted (Unready state) port d behind = tt
+
+some_min : (a b : ℕ) → 1 ≤ a → 1 ≤ b → 1 ≤ min a b
+some_min a b x y = ⊎_elim
+    (λ (less : a < b). subst (λ (n : ℕ). 1 ≤ n) (sym (min-eq_left (omega (arith, less)))) x)
+    (λ (most : b ≤ a). subst (λ (n : ℕ). 1 ≤ n) (sym (min-eq_right most)) y)
+    (cases_lt a b)
+
+-- with such a disk, a port has 1 to 32 usable slots, no more than the adapter has, and one where commands aren't queued
+abbrev FitsIn : ℕ → Mode → Type 0
+FitsIn cap mode = IsMode mode × (mode.usable ≤ cap / 256 % 32 + 1)
+
+mode_fit : (cap : ℕ) (found : Found) → TakesSome found → FitsIn cap (mode_found cap found)
+mode_fit cap Unserved some = ((omega arith, omega arith, λ plain. refl), omega arith)
+mode_fit cap (Ready info) some = by (bit cap 30 && info.ncq)
+  where
+    many : ℕ
+    many = cap / 256 % 32 + 1
+
+    most : min many (min info.depth 32) ≤ min info.depth 32
+    most = min-le_right many (min info.depth 32)
+
+    by : (b : Bool) → FitsIn cap (if b then record { queued = true; usable = min (cap / 256 % 32 + 1) (min info.depth 32) } else record { queued = false; usable = 1 })
+    by true = (
+      (some_min many (min info.depth 32) (omega arith) (some_min info.depth 32 some (omega arith)), (let l = min-le_right info.depth 32 in omega (arith, most, l)), λ plain. let z : true ≡ false = plain in absurd cc),
+      min-le_left many (min info.depth 32),
+    )
+    by false = ((omega arith, omega arith, λ plain. refl), omega arith)
+mode_fit cap (Unready state) some = ((omega arith, omega arith, λ plain. refl), omega arith)
+
+pub stood_mode : (wanted : Wanted) (found : Found) (port : ℕ) (d : Device) → StillStandsBehind wanted found port d → IsMode (mode_found d.cap found) × ((mode_found d.cap found).usable ≤ d.cap / 256 % 32 + 1)
+stood_mode wanted found port d behind = mode_fit d.cap found (takes_some wanted found port d behind)
 
 pub its_mode : (s : Server) (port : ℕ) → IsKept s → port < 4 → IsMode (mode_at s.modes port) × ((mode_at s.modes port).usable ≤ s.device.cap / 256 % 32 + 1)
-its_mode s port k low = subst (λ (m : Mode). IsMode m × (m.usable ≤ s.device.cap / 256 % 32 + 1)) (sym (k.modes port low)) (mode_fit s.device.cap (found_of s.ports port))
+its_mode s port k low =
+    subst (λ (m : Mode). IsMode m × (m.usable ≤ s.device.cap / 256 % 32 + 1)) (sym (k.modes port low)) (stood_mode (wanted_of s.wanted port) (found_of s.ports port) port s.device (k.behind port low).behind)
 
 -- a ready port may use the slots of its mode
 pub usable_ready : (s : Server) (port : ℕ) (k : IsKept s) → state_of (found_of s.ports port) ≡ ReadyState → usable_of (found_of s.ports port) (mode_at s.modes port) ≡ (mode_at s.modes port).usable
