@@ -173,17 +173,23 @@ impl Book {
     }
 }
 
-/// The place of a request.
+/// The place of a request. Ids rise from place to place, so half of those that are left fall away at a time.
 fn place_of(store: &Store, id: RequestId) -> usize
-    requires { IsUnanswered id store.now }
+    requires ordered { AllPairs IsEarlier store.now }
+    requires unanswered { IsUnanswered id store.now }
     ensures { (e : Held) × (slice_get store.now result ≡ Some e) × (e.entry.id ≡ id) }
 {
-    for place in 0..store.len() {
-        if store.request(place).id.0 == id.0 {
-            return place;
+    let mut first = 0;
+    let mut past = store.len();
+    while past - first > 1 {
+        let middle = first + (past - first) / 2;
+        if store.request(middle).id.0 <= id.0 {
+            first = middle;
+        } else {
+            past = middle;
         }
     }
-    unreachable!()
+    first
 }
 
 fn ids_of(store: &Store, port: Port) -> ArrayVec<RequestId, 128>

@@ -1,6 +1,12 @@
-use Rattle.std.proofs.Common.{ℕ, ◌<◌, ◌≢◌, get_or}
+use Rattle.std.proofs.Common.{ℕ, ◌≡◌, ◌≤◌, ◌<◌, ◌-◌, get_or, length}
 use Rattle.request_queue.specs.Entries.{Held}
 use Rattle.request_queue.proofs.book.place_of.Given as goal
 
-abbrev pub invariant-loop-place : goal.invariant-loop-place
-invariant-loop-place l = (k : ℕ) (d : Held) → k < l.place → (get_or l.store k d).entry.id.0 ≢ l.id.0
+abbrev pub invariant-loop-past : goal.invariant-loop-past
+invariant-loop-past l = record {
+  within : l.past ≤ length l.store;
+  place : (k : ℕ) × (l.first ≤ k) × (k < l.past) × ((d : Held) → (get_or l.store k d).entry.id.0 ≡ l.id.0);
+}
+
+abbrev pub decreases-loop-past : goal.decreases-loop-past
+decreases-loop-past l = l.past - l.first
