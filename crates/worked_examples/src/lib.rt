@@ -20,3 +20,5 @@ mod registers;
 mod requests_of_clients;
 #[cfg(test)]
 mod scripts;
+#[cfg(test)]
+mod trim_blocks;
