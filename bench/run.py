@@ -2,7 +2,7 @@
 """Times the program and the server, and prints tables. `bench/run.py [REQUESTS]` builds `bench` and `blockd` first.
 
 Each script is of reads of eight sectors: asked, done by the disk, and answered; the one asks each after the last is answered, the other asks
-16 at a time. A time is the least of five runs, less that of a script of one line. Instructions are those that callgrind counts. The
+16 at a time, which one service answers. A time is the least of five runs, less that of a script of one line. Instructions are those that callgrind counts. The
 server's calls are compiled into what plays the script, so its part is what is left without the model and without as many lines that ask
 nothing of it but what a port's state is.
 """
@@ -18,33 +18,43 @@ RUNS = 5
 SECTORS = 70_000
 # The functions by which the server reaches the model.
 MODEL = r"device_model::model::(ModelAdapter::(read|write|load|store)|Model::do_step)\b"
-CONFIGURATION = """frames = 256
+ADAPTER = """frames = 256
 slots = 32
 ncq = true
 depth = 32
 trim = "full"
 [[port]]
 number = 0
-[[client]]
-id = 1
-first_frame = 40
-frames = 40
-[[grant]]
-client = 1
-number = 0
-port = 0
-first = 0
-count = 256
-rights = "rw"
 """
+CLIENTS = 8
+# Unanswered requests of one client at most, and frames of each.
+PLACES = 16
 
 
-def script(requests, at_a_time):
-    """Reads of eight sectors, so many of them unanswered at a time."""
-    lines = []
+def configuration(grants):
+    """Eight clients with a grant of all sectors each, after so many less one of client 1 that no line uses: its last is the one that lines use."""
+    text = ADAPTER
+    for client in range(1, CLIENTS + 1):
+        text += f"[[client]]\nid = {client}\nfirst_frame = {40 + PLACES * (client - 1)}\nframes = {PLACES}\n"
+    named = [(1, number) for number in range(grants - CLIENTS + 1)] + [(client, 0) for client in range(2, CLIENTS + 1)]
+    for client, number in sorted(named, key=lambda name: name == (1, grants - CLIENTS)):
+        text += f'[[grant]]\nclient = {client}\nnumber = {number}\nport = 0\nfirst = 0\ncount = 256\nrights = "rw"\n'
+    return text
+
+
+def waiting():
+    """127 writes of the same sectors, of which the first is issued in slot 0, and isn't done."""
+    names = [(client, 40 + PLACES * (client - 1) + place) for client in range(CLIENTS, 0, -1) for place in range(PLACES)]
+    return [f"write {client} 0 200 8 {frame}" for client, frame in names[:-1]]
+
+
+def script(requests, at_a_time, before=(), grant=0, slot=0):
+    """These lines, and then reads of eight sectors, so many of them unanswered at a time; the first goes in this slot."""
+    lines = list(before)
+    first = 40 + PLACES - at_a_time
     for _ in range(requests // at_a_time):
-        lines += [f"read 1 0 0 8 {40 + place}" for place in range(at_a_time)]
-        lines += ["dev finish 0 0", "service"] * at_a_time
+        lines += [f"read 1 {grant} 0 8 {first + place}" for place in range(at_a_time)]
+        lines += [f"dev finish 0 {slot + place}" for place in range(at_a_time)] + ["service"]
     return "".join(f"{line}\n" for line in lines)
 
 
@@ -75,13 +85,20 @@ def instructions(words, folder):
     return found
 
 
-def of_each(text, bench, room):
+def of_each(text, bench, room, config="config"):
     """How many instructions a request takes in each function: what more requests take, less what fewer take."""
     few, more = 1_600, 3_200
     (room / "few").write_text(text(few))
     (room / "more").write_text(text(more))
-    less, much = (instructions([bench, "config", name], room) for name in ("few", "more"))
+    less, much = (instructions([bench, config, name], room) for name in ("few", "more"))
     return {name: (count - less.get(name, 0)) / (more - few) for name, count in much.items()}
+
+
+def parts(found, lines):
+    """All, the model's part, and what is left without as many lines that ask nothing of the server."""
+    whole = max(found.values())
+    model = sum(count for name, count in found.items() if re.match(MODEL, name))
+    return whole, model, whole - model - lines
 
 
 def build(program):
@@ -102,7 +119,7 @@ def main():
     bench, blockd = build("bench"), build("blockd")
     with tempfile.TemporaryDirectory() as folder:
         room = pathlib.Path(folder)
-        (room / "config").write_text(CONFIGURATION)
+        (room / "config").write_text(configuration(CLIENTS))
         (room / "one").write_text("service\n")
         with open(room / "image", "wb") as image:
             image.truncate(512 * SECTORS)
@@ -110,25 +127,31 @@ def main():
             "memory": lambda name: [bench, "config", name],
             "a file": lambda name: [blockd, "--config", "config", "--image", "image", "--script", name],
         }
-        print(f"{requests} reads of 8 sectors, three events each\n")
-        print("| Disk | Asked at a time | Seconds | Events a second | Microseconds a request |")
-        print("|---|---|---|---|---|")
+        print(f"{requests} reads of 8 sectors\n")
+        print("| Disk | Asked at a time | Seconds | Microseconds a request |")
+        print("|---|---|---|---|")
         for at_a_time in (1, 16):
             name = f"by_{at_a_time}"
             (room / name).write_text(script(requests, at_a_time))
             for disk, words in over.items():
                 spent = seconds(words(name), room) - seconds(words("one"), room)
-                print(f"| {disk} | {at_a_time} | {spent:.3f} | {3 * requests / spent:,.0f} | {1e6 * spent / requests:.2f} |")
-        each = of_each(lambda requests: script(requests, 1), bench, room)
-        whole = max(each.values())
-        model = sum(count for name, count in each.items() if re.match(MODEL, name))
+                print(f"| {disk} | {at_a_time} | {spent:.3f} | {1e6 * spent / requests:.2f} |")
+        (room / "many").write_text(configuration(64))
+        last = 64 - CLIENTS
         lines = max(of_each(lambda requests: "state 0\n" * 3 * requests, bench, room).values())
-        print("\n| Part | Instructions a request |")
-        print("|---|---|")
-        print(f"| all | {whole:,.0f} |")
-        print(f"| the model: register accesses and steps | {model:,.0f} |")
-        print(f"| reading and printing three lines | {lines:,.0f} |")
-        print(f"| the server, and what the line that asks for a read is longer | {whole - model - lines:,.0f} |")
+        print(f"\nReading and printing three lines: {lines:,.0f} instructions\n")
+        print("| Asked at a time | Unanswered | Grants | Instructions a request | the model's | the server's, and what the line of a read is longer |")
+        print("|---|---|---|---|---|---|")
+        for at_a_time, before, grants, text in (
+            (1, 1, CLIENTS, lambda requests: script(requests, 1)),
+            (1, 1, 64, lambda requests: script(requests, 1, grant=last)),
+            (1, 128, CLIENTS, lambda requests: script(requests, 1, waiting(), slot=1)),
+            (16, 16, CLIENTS, lambda requests: script(requests, 16)),
+        ):
+            found = of_each(text, bench, room, "config" if grants == CLIENTS else "many")
+            spent = lines if at_a_time == 1 else lines * (2 + 1 / at_a_time) / 3
+            whole, model, server = parts(found, spent)
+            print(f"| {at_a_time} | {before} | {grants} | {whole:,.0f} | {model:,.0f} | {server:,.0f} |")
 
 
 if __name__ == "__main__":

@@ -22,6 +22,10 @@ number = 0
 id = 1
 first_frame = 40
 frames = 40
+[[client]]
+id = 2
+first_frame = 80
+frames = 40
 [[grant]]
 client = 1
 number = 0
@@ -29,6 +33,13 @@ port = 0
 first = 0
 count = 256
 rights = \"rw\"
+[[grant]]
+client = 2
+number = 0
+port = 0
+first = 0
+count = 256
+rights = \"r\"
 ";
 
 /// The sectors of the disk.
@@ -37,18 +48,31 @@ const SECTORS: u32 = 256;
 /// As many requests as a client may have unanswered.
 const MOST: u16 = 16;
 
-/// The first frame of the client: the first that isn't the driver's.
+/// The first client's first frame: the first that isn't the driver's. Another client's begin as many further on.
 const FIRST: u16 = DRIVER_FRAMES;
+
+/// Frames of each client.
+const FRAMES: u16 = 40;
+
+/// How many reads are asked before a service, by which rows.
+const TOGETHER: [(u16, &str); 6] = [
+    (1, "1 read of 8 sectors, and the service that answers it"),
+    (2, "2 reads of 8 sectors, and the service that answers both"),
+    (4, "4 reads of 8 sectors, and the service that answers all"),
+    (8, "8 reads of 8 sectors, and the service that answers all"),
+    (16, "16 reads of 8 sectors, and the service that answers all"),
+    (32, "32 reads of 8 sectors, and the service that answers all"),
+];
 
 /// A server whose accesses are counted.
 type Served = Server<Counted<Model<MemStore>>>;
 
-/// Reads or writes eight sectors from sector 0 on. `None` if it is refused.
-fn transfer(server: &mut Served, op: Op, frame: u16) -> Option<()> {
+/// Reads or writes eight sectors from sector 0 on, for a client. `None` if it is refused.
+fn transfer(server: &mut Served, client: u8, op: Op, frame: u16) -> Option<()> {
     let mut frames = ArrayVec::new();
     frames.push(Frame(frame));
     let request = Request {
-        client: ClientId(1),
+        client: ClientId(client),
         grant: 0,
         op,
         first: Sector(0),
@@ -59,9 +83,12 @@ fn transfer(server: &mut Served, op: Op, frame: u16) -> Option<()> {
     Some(())
 }
 
-/// Has the disk do what is issued, and asks the server for replies: `None` if there aren't this many.
-fn answer(server: &mut Served, replies: usize) -> Option<()> {
-    let _done = server.device(&DeviceStep::Finish(Port(0), Slot(0)));
+/// Has the disk do what is issued in the lowest slots, so many, the last first, and asks the server for replies: `None` if there aren't this
+/// many.
+fn answer(server: &mut Served, slots: u16, replies: usize) -> Option<()> {
+    for slot in (0..slots).rev() {
+        let _done = server.device(&DeviceStep::Finish(Port(0), Slot(slot as u8)));
+    }
     (server.service().len() == replies).then_some(())
 }
 
@@ -95,17 +122,17 @@ impl<W: io::Write> Table<'_, W> {
 /// Calls that go one after another, each for itself.
 fn each<W: io::Write>(server: &mut Served, table: &mut Table<'_, W>) -> Option<()> {
     table.row("a server is made, and a port with a disk is booted", server)?;
-    answer(server, 0)?;
+    answer(server, 1, 0)?;
     table.row("a service, nothing is asked", server)?;
-    transfer(server, Op::Read, FIRST)?;
+    transfer(server, 1, Op::Read, FIRST)?;
     table.row("a read of 8 sectors, which is issued", server)?;
-    transfer(server, Op::Write, FIRST + 1)?;
-    table.row("a write of 8 sectors, which waits", server)?;
+    transfer(server, 1, Op::Write, FIRST + 1)?;
+    table.row("a write of the same sectors, which waits", server)?;
     let _none = server.service();
     table.row("a service, nothing is done", server)?;
-    answer(server, 1)?;
+    answer(server, 1, 1)?;
     table.row("a service, which answers one and issues the next", server)?;
-    answer(server, 1)?;
+    answer(server, 1, 1)?;
     table.row("a service, which answers the last", server)?;
     let mut bytes = [0u8; 64];
     server
@@ -118,20 +145,17 @@ fn each<W: io::Write>(server: &mut Served, table: &mut Table<'_, W>) -> Option<(
     table.row("a store of 64 bytes", server)
 }
 
-/// As many reads as there may be, each answered before the next is asked, and then all asked before the first is answered.
-fn many<W: io::Write>(server: &mut Served, table: &mut Table<'_, W>) -> Option<()> {
-    for place in 0..MOST {
-        transfer(server, Op::Read, FIRST + place)?;
-        answer(server, 1)?;
+/// Reads that are asked, by two clients where one may not ask so many, done by the disk in the opposite order, and answered by one service.
+fn together<W: io::Write>(server: &mut Served, table: &mut Table<'_, W>) -> Option<()> {
+    for (count, calls) in TOGETHER {
+        for place in 0..count {
+            let client = place / MOST;
+            transfer(server, 1 + client as u8, Op::Read, FIRST + FRAMES * client + place % MOST)?;
+        }
+        answer(server, count, usize::from(count))?;
+        table.row(calls, server)?;
     }
-    table.row("16 reads of 8 sectors, one after another", server)?;
-    for place in 0..MOST {
-        transfer(server, Op::Read, FIRST + place)?;
-    }
-    for _ in 0..MOST {
-        answer(server, 1)?;
-    }
-    table.row("16 reads of 8 sectors, all asked at first", server)
+    Some(())
 }
 
 /// The whole table.
@@ -146,7 +170,7 @@ fn rows<W: io::Write>(server: &mut Served, out: &mut W) -> Option<()> {
         told: Counts::NONE,
     };
     each(server, &mut table)?;
-    many(server, &mut table)
+    together(server, &mut table)
 }
 
 /// Prints a row for each kind of call: its register reads and writes, and its stores and loads of memory. `None` where a call did something

@@ -1,5 +1,5 @@
 -- What the server doesn't do yet (this project's own).
-use Rattle.std.specs.Prelude.{ℕ, Bool, false}
+use Rattle.std.specs.Prelude.{ℕ}
 use Rattle.adapter.specs.Device.{Device}
 use Rattle.driver_history.specs.Evidence.{StaysHealthy}
 
@@ -8,7 +8,3 @@ use Rattle.driver_history.specs.Evidence.{StaysHealthy}
 -- call's part is asked of every port.)
 abbrev pub IsAskedOf : ℕ → Device → Device → Type 0
 IsAskedOf port old new = StaysHealthy port old new
-
--- Commands aren't queued: whatever adapter and disk can do, one is issued at a time. (This becomes `true` when they are.)
-abbrev pub queues_commands : Bool
-queues_commands = false

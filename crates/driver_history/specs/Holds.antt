@@ -26,7 +26,6 @@ use Rattle.identify.specs.declared.DiskInfo.{DiskInfo}
 use Rattle.identify.specs.declared.wanted.Wanted.{Wanted}
 use Rattle.port_boot.specs.States.{EndsAs, HasFitDisk}
 use Rattle.port_control.specs.Ports.{programmed}
-use Rattle.driver_history.specs.Guard.{queues_commands}
 
 -- ---- a ready port
 
@@ -34,7 +33,7 @@ use Rattle.driver_history.specs.Guard.{queues_commands}
 -- 32 values allow; else one at a time (CAP: AHCI 1.3.1, 3.1.1).
 abbrev pub mode_of : ℕ → DiskInfo → Mode
 mode_of cap info =
-    if queues_commands && bit cap 30 && info.ncq
+    if bit cap 30 && info.ncq
     then record { queued = true; usable = min (cap / 256 % 32 + 1) (min info.depth 32) }
     else record { queued = false; usable = 1 }
 

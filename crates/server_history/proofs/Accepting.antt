@@ -1,5 +1,5 @@
 -- A request that is accepted adds an event, and the server keeps what it keeps.
-use Rattle.std.proofs.Common.{ℕ, ◌≡◌, ◌≢◌, ◌+◌, ◌≤◌, ◌<◌, ◌==◌, cond, Bool, true, false, List, [], ◌∷◌, ◌++◌, Option, Some, None, Ok, inr, refl, sym, ap, ◌∙◌, subst, arith, ⊎_elim, eqb-true, eq-eqb}
+use Rattle.std.proofs.Common.{ℕ, ◌≡◌, ◌≢◌, ◌+◌, ◌≤◌, ◌<◌, ◌==◌, cond, Bool, true, false, List, [], ◌∷◌, ◌++◌, not, Option, Some, None, Ok, inr, refl, sym, ap, ◌∙◌, subst, arith, ⊎_elim, eqb-true, eq-eqb}
 use Rattle.std.specs.List.{All, Contains, list_any}
 use Rattle.std.specs.Prelude.{slice_index_or}
 use Rattle.std.proofs.lemmas.Bool.{cond-true, cond-false, false≢true, ne_eqb, or_cases}
@@ -13,7 +13,7 @@ use Rattle.ata_types.specs.declared.request.Request.{Request}
 use Rattle.ata_types.specs.declared.request.RequestId.{RequestId}
 use Rattle.adapter.specs.Device.{Device}
 use Rattle.adapter.specs.declared.access.DeviceStep.{DeviceStep}
-use Rattle.block_machine.specs.Due.{NoneDue, of_port}
+use Rattle.block_machine.specs.Due.{NoneDue, is_plain, of_port}
 use Rattle.block_machine.specs.Events as events
 use Rattle.block_machine.specs.Events.{Moment, Submit, Submitted, AllDevices, AllIssued, AllLawful, Belong, IsIssuedIn, IssuesLast, accepts_of, issues_it}
 use Rattle.block_machine.specs.Histories.{Instant, Happening, IsReached, now}
@@ -27,7 +27,7 @@ use Rattle.block_machine.specs.Steps.{Step, Accept, IsNew, after_step, lend}
 use Rattle.block_machine.specs.declared.due.Unanswered.{Unanswered}
 use Rattle.block_machine.proofs.EventLemmas.{after-append}
 use Rattle.block_machine.proofs.HistoryLemmas.{may-append, reached_more}
-use Rattle.block_machine.proofs.Members.{contains_here, contains_there, some_in}
+use Rattle.block_machine.proofs.Members.{append_in, contains_here, contains_there, some_in}
 use Rattle.agreement.specs.Driven.{IsDrivenBy, known}
 use Rattle.agreement.proofs.Adding.{backed_then}
 use Rattle.agreement.proofs.Calling.{own_backed}
@@ -43,14 +43,16 @@ use Rattle.driver_history.proofs.Calm.{untroubled}
 use Rattle.server_history.specs.Below.{LawsBelow}
 use Rattle.server_history.specs.Histories.{Adds, Leads}
 use Rattle.server_history.specs.Served.{IssuesIn, Accepts, IssuesAll, accepted_as, accepting}
-use Rattle.server_history.specs.Server.{Server, IsKept, IsMachineOf, IsSettled, none_parked, mode_in, ports_of, situation_of, state_of}
+use Rattle.server_history.specs.Server.{Server, IsKept, IsMachineOf, IsSettled, none_parked, mode_in, ports_of, situation_of, state_of, used_for}
+use Rattle.slots.specs.declared.Use.{Use as SlotUse}
+use Rattle.block_machine.specs.declared.due.Mode.{Mode}
 use Rattle.server_history.proofs.Asks.{none_due}
 use Rattle.server_history.proofs.Calls.{reached, situation_is}
 use Rattle.server_history.proofs.Coming.{issuing_is, issuing_leaves}
-use Rattle.server_history.proofs.Going.{kept_then, lead_by, ports_same, with_device}
+use Rattle.server_history.proofs.Going.{kept_then, lead_by, ports_same, same_ports, with_device}
 use Rattle.server_history.proofs.Granting.{has_room, is_accepted, is_new, on_ready, request_in, entry_in, unlent}
 use Rattle.server_history.proofs.Rounds.{AreIssued, accepts_on, any_append, belong_on, dues, dues_carried, each_driven, each_issued, each_settings, last_on, lawful_on, or_none, settled}
-use Rattle.server_history.proofs.Slots.{ready_found}
+use Rattle.server_history.proofs.Slots.{ready_found, served_request, serves_used, used_ready}
 use Rattle.server_history.proofs.Told.{no_evidence, told_by, uninterrupted}
 
 -- ---- lending
@@ -134,8 +136,19 @@ module _ (laws : LawsBelow) (s : Server) (k : IsKept s) (r : Request) (acc : IsA
       next = let n = is.next in omega (arith, n);
     }
 
+  -- each used slot's command is of its request's kind still: the new request has no slot
+  kinds_then : (q : Port) (slot : ℕ) (used : SlotUse) (h : Held) → used_for s.slots q.0 slot ≡ Some used → Contains (s.book ++ e ∷ []) h → h.entry.id ≡ used.id → used.queued ≡ not (is_plain (mode_in s q) h.entry.op)
+  kinds_then q slot used h is there same = ⊎_elim
+      (λ (old : Contains s.book h). k.kinds q slot used h is old same)
+      (λ (new : h ≡ e).
+      let x = served_request s k.machine q.0 slot k.stands used.id (serves_used s k.machine q.0 k.stands (used_ready s q.0 slot used k is) slot used is) in
+      let low = All-contains (λ (y : Held). y.entry.id.0 ≤ s.last) s.book x.request k.handed_out x.there in
+      let its : x.request.entry.id.0 ≡ id.0 = ap (λ (i : RequestId). i.0) (x.id_is ∙ sym same ∙ ap (λ (y : Held). y.entry.id) new) in
+      absurd (omega (arith, low, its, id_is)))
+      (append_in s.book e h there)
+
   pub accept_kept : IsKept more
-  accept_kept = kept_then s s.device table s.slots (s.book ++ e ∷ []) (s.last + 1) k k.on (same_refl s.device) k.behind lends.owners k.four k.slots accepted
+  accept_kept = kept_then s s.device table s.slots (s.book ++ e ∷ []) (s.last + 1) k k.on (same_refl s.device) k.behind lends.owners k.four k.slots kinds_then k.commands accepted
       (laws.longer s.book e k.ordered earlier (refl, refl, refl) its.client_from its.client_to (has_room s r acc row named port port_is))
       (All-push (λ (x : Held). x.entry.id.0 ≤ s.last + 1) s.book e (All-weaker (λ (x : Held). x.entry.id.0 ≤ s.last) (λ (x : Held). x.entry.id.0 ≤ s.last + 1) (λ x low. omega (arith, low)) s.book k.handed_out) (omega (arith, id_is)))
       (All-push (λ (x : Held). state_of (found_of s.ports x.entry.port.0) ≡ ReadyState) s.book e k.ready ready)
@@ -166,12 +179,12 @@ module _ (laws : LawsBelow) (s : Server) (k : IsKept s) (r : Request) (acc : IsA
     pub event : (first : Instant Device) (past : List (Happening Device DeviceStep)) → Leads first past s
         → (h : Happening Device DeviceStep) × (h.event.ask ≡ Submit r) × (h.event.said ≡ Submitted (Ok id)) × Leads first (h ∷ past) new
     event first past leads =
-        lead_by first past s new (Submit r) (Submitted (Ok id)) (x.steps ++ early) (ap (λ (n : Server). n.wanted) same) ports_same_too leads settles.kept
+        lead_by first past s new (Submit r) (Submitted (Ok id)) (x.steps ++ early) (ap (λ (n : Server). n.wanted) same) ports_same_too modes_same_too leads settles.kept
         (may-append m x.steps early (tt, fresh m was is) x.may)
-        (belong_on port {D = DeviceStep} (Submit r) (ports_of new) (λ p own. (its_ready p own, refl)) x.steps early x.only (tt, inr refl))
-        (last_on port x.steps early x.only x.last (tt, λ other h i. false≢true h) (λ other i j. false≢true j))
-        (lawful_on port old.moment no_evidence (ports_of new) x.steps early x.only tt)
-        (allowed, (asked, accepts_on port x.steps early x.only, refl), same_ports_are, all_issued)
+        (belong_on mode port {D = DeviceStep} (Submit r) (ports_of new) (λ p own. (its_ready p own, its_mode p own)) x.steps early x.only (tt, inr refl))
+        (last_on mode port x.steps early x.only x.last (tt, λ other h i. false≢true h) (λ other i j. false≢true j))
+        (lawful_on mode port old.moment no_evidence (ports_of new) x.steps early x.only tt)
+        (allowed, (asked, accepts_on mode port x.steps early x.only, refl), same_ports_are, all_issued)
         driven.accesses
         (driven.all, (row, its_row, All-weaker (IssuesIn port) (IssuesOn row.port) (λ access here. subst (λ (p : Port). IssuesOn p access) (sym port_is) (issuing_is port port_low access here)) driven.accesses driven.only))
         (λ other. All-weaker (IssuesIn port) (LeavesEngine other) (issuing_leaves port other) driven.accesses driven.only)
@@ -204,6 +217,15 @@ module _ (laws : LawsBelow) (s : Server) (k : IsKept s) (r : Request) (acc : IsA
         stands : IsMachineOf new (after m (x.steps ++ early))
         stands = subst (IsMachineOf new) (sym (after-append m x.steps early)) x.stands
 
+        mode : Mode
+        mode = mode_in s port
+
+        modes_same_too : new.modes ≡ s.modes
+        modes_same_too = ap (λ (n : Server). n.modes) same
+
+        its_mode : (p : machine.Pending) → p.request.port ≡ port → (ports_of new).mode p.request.port ≡ mode
+        its_mode p own = ap (mode_in new) own ∙ ap (λ (n : Server). mode_in n port) same
+
         ports_same_too : new.ports ≡ s.ports
         ports_same_too = ap (λ (n : Server). n.ports) same
 
@@ -217,17 +239,21 @@ module _ (laws : LawsBelow) (s : Server) (k : IsKept s) (r : Request) (acc : IsA
         its_row = subst (λ (rows : List GrantRow). IsNamed rows r row) (sym is.rows) named
 
         same_ports_are : SamePorts old.moment.ports (ports_of new)
-        same_ports_are = ports_same old.moment.ports (ports_of new) (leads.stands.ports_are ∙ ap ports_of (sym ports_same_too))
+        same_ports_are = ports_same old.moment.ports (ports_of new) (leads.stands.ports_are ∙ same_ports s new (sym ports_same_too) (sym modes_same_too))
 
         all_issued : AllIssued (record { machine = after m (x.steps ++ early); ports = ports_of new })
-        all_issued other on = none_due new (after m (x.steps ++ early)) stands other (settles.issued other)
+        all_issued other on = none_due new (after m (x.steps ++ early)) stands (mode_in new other) other (settles.issued other)
 
-        due_now : (other : Port) → IssuesDue (mode_in s other) (x.steps ++ early) (after m (x.steps ++ early)) other
+        mode_is : (other : Port) → mode_in new other ≡ mode_in s other
+        mode_is other = ap (λ (n : Server). mode_in n other) same
+
+        due_now : (other : Port) → IssuesDue (mode_in new other) (x.steps ++ early) (after m (x.steps ++ early)) other
         due_now other =
-            subst (λ (n : Machine). IssuesDue (mode_in s other) (x.steps ++ early) n other) (sym (after-append m x.steps early))
-            (dues_carried laws x.steps (x.steps ++ early) (after (next m was is) x.steps) (after (next m was is) x.steps) other refl
+            subst (λ (takes : Mode). IssuesDue takes (x.steps ++ early) (after m (x.steps ++ early)) other) (sym (mode_is other))
+            (subst (λ (n : Machine). IssuesDue (mode_in s other) (x.steps ++ early) n other) (sym (after-append m x.steps early))
+            (dues_carried laws (mode_in s other) x.steps (x.steps ++ early) (after (next m was is) x.steps) (after (next m was is) x.steps) other refl
             (λ u here own. sym (any_append (issues_it u.id) x.steps early ∙ or_none (list_any (issues_it u.id) x.steps)))
-            (dues laws port more new accept_kept issues (next m was is) x other (none_other other)))
+            (dues laws port more new accept_kept issues (next m was is) x other (none_other other))))
 
 pub acceptance : LawsBelow → (s new : Server) (port : Port) (r : Request) (id : RequestId) → IsSettled s → IsAcceptable (situation_of s) r → Accepts port r id s new → Adds s new (Submit r) (Submitted (Ok id))
 acceptance laws s new port r id k acc a = record {

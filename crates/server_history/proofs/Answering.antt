@@ -1,5 +1,5 @@
 -- The request of a ready port's slot, whose command is over, is answered.
-use Rattle.std.proofs.Common.{ℕ, ◌≡◌, ◌<◌, ◌≤◌, ◌==◌, Bool, true, false, cond, List, [], ◌∷◌, get_or, Option, Some, None, inl, refl, sym, ap, ◌∙◌, subst, ⊎_elim, arith, eqb-true, eq-eqb}
+use Rattle.std.proofs.Common.{ℕ, ◌≡◌, ◌<◌, ◌≤◌, ◌==◌, Bool, true, false, cond, List, [], ◌∷◌, length, get_or, Option, Some, None, inl, refl, sym, ap, ◌∙◌, subst, ⊎_elim, arith, eqb-true, eq-eqb}
 use Rattle.std.specs.List.{All, Contains}
 use Rattle.std.proofs.lemmas.Bool.{cond-true, false≢true}
 use Rattle.std.proofs.lemmas.List.{get_or_default}
@@ -29,11 +29,11 @@ use Rattle.host_boot.specs.Taken.{found_of}
 use Rattle.request_queue.specs.Entries.{Held, IsAccepted, without}
 use Rattle.request_queue.specs.Machine.{IsBook, IsEntry}
 use Rattle.server_history.specs.Served.{AnswersOne, HasEnded}
-use Rattle.server_history.specs.Server.{Server, IsKept, IsMachineOf, none_parked, state_of, usable_of, with_slot}
+use Rattle.server_history.specs.Server.{Server, IsKept, IsMachineOf, mode_at, none_parked, slots_at, state_of, usable_of, with_slot}
 use Rattle.server_history.specs.Below.{LawsBelow}
 use Rattle.server_history.proofs.Going.{kept_then}
-use Rattle.server_history.proofs.Placing.{placed_four, placed_has, placed_uses}
-use Rattle.server_history.proofs.Slots.{IsServedBy, used_low, parked_at, ready_found, served_request, serves_used, stage_over}
+use Rattle.server_history.proofs.Placing.{freed_was, placed_four, placed_has, placed_uses}
+use Rattle.server_history.proofs.Slots.{IsServedBy, its_mode, used_low, parked_at, ready_found, served_request, serves_used, stage_over, usable_ready}
 
 -- ---- loans
 
@@ -185,8 +185,8 @@ module _ (laws : LawsBelow) (s new : Server) (port : Port) (e : Held) (k : IsKep
       k.on (same_refl s.device) k.behind one.lent.owners
       (placed_four s.ports s.modes s.slots port.0 slot None k.four low slot_low few k.slots)
       (placed_has s.ports s.modes s.slots port.0 slot None k.four low slot_low few k.slots)
-      ?
-      ?
+      (λ q n used h is there same. k.kinds q n used h (freed_was s.slots port.0 slot in_list in_places q.0 n used is) ((laws.left s.book id h).0 there).0 same)
+      (λ q n used is. k.commands q n used (freed_was s.slots port.0 slot in_list in_places q n used is))
       (laws.still_answered s.grants s.table new.table s.book e one.here one.lent k.accepted)
       (laws.fewer s.book id k.ordered)
       (left_each (λ y. y.entry.id.0 ≤ s.last) k.handed_out)
@@ -196,6 +196,12 @@ module _ (laws : LawsBelow) (s new : Server) (port : Port) (e : Held) (k : IsKep
     where
       slot_low : slot < usable_of (found_of s.ports port.0) (mode_at s.modes port.0)
       slot_low = used_low s port.0 slot one.used k low one.served
+
+      in_list : port.0 < length s.slots
+      in_list = let f = k.four in let l = low in omega (arith, f, l)
+
+      in_places : slot < length (slots_at s.slots port.0).places
+      in_places = let p = (k.slots port.0 low).places in let t = one.small in omega (arith, p, t)
 
       few : usable_of (found_of s.ports port.0) (mode_at s.modes port.0) ≤ 32
       few = let u = usable_ready s port.0 k ready in let f = (its_mode s port.0 k (ready_found s port.0 k ready).0).0.1 in omega (arith, u, f)

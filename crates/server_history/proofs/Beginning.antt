@@ -23,7 +23,7 @@ use Rattle.agreement.proofs.Sparing.{steps_spare}
 use Rattle.agreement.specs.Links.{HasDeviceOrNone}
 use Rattle.block_machine.specs.Histories.{IsReached}
 use Rattle.block_machine.specs.Left.{after, IsStart}
-use Rattle.block_machine.specs.Ports.{AreFit}
+use Rattle.block_machine.specs.Ports.{AreFit, IsMode}
 use Rattle.block_machine.specs.State.{Disk, Machine, Pending}
 use Rattle.block_machine.specs.Rules.{DifferInName}
 use Rattle.block_machine.proofs.HistoryLemmas.{reached_more}
@@ -40,7 +40,7 @@ use Rattle.identify.specs.declared.wanted.Wanted.{Wanted}
 use Rattle.port_boot.specs.States.{EndsAs, IsUnfit}
 use Rattle.driver_history.specs.Holds.{Runs}
 use Rattle.agreement.specs.Facts.{IsRecorded, RunsWell, Undisturbed}
-use Rattle.server_history.proofs.Slots.{ready_found}
+use Rattle.server_history.proofs.Slots.{ready_found, stood_mode}
 use Rattle.identify.specs.declared.DiskInfo.{DiskInfo}
 use Rattle.server_history.proofs.Standing.{holds_with, slots}
 use Rattle.server_history.specs.Histories.{HasBegun}
@@ -246,7 +246,7 @@ module _ (laws : TakenLaws) (s : Server) (host : Host) (d : Device) (is : IsIdle
     few = λ port served. four port.0 served;
     absent = λ port other. absent_is (found_of s.ports port.0) other;
     slots = λ port ready. ⊎_elim
-        (λ (low : port.0 < 4). subst IsMode (sym (n.modes port.0 low)) (mode_fit s.device.cap (found_of s.ports port.0)).0)
+        (λ (low : port.0 < 4). subst IsMode (sym (n.modes port.0 low)) (stood_mode (wanted_of s.wanted port.0) (found_of s.ports port.0) port.0 s.device (ports_on port.0 low).behind).0)
         (λ (high : 4 ≤ port.0). absurd (let z : Absent ≡ ReadyState = sym (ap state_of (found_is port.0 ∙ none_past host.ports port.0 (let l = n.four in omega (arith, l, high)))) ∙ ready in cc))
         (cases_lt port.0 4);
     causes = λ port cause is. ⊎_elim

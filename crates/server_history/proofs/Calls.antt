@@ -1,5 +1,5 @@
 -- Calls that leave the book: the device's steps, refusals, and clients' bytes.
-use Rattle.std.proofs.Common.{ℕ, ◌≡◌, ◌+◌, ◌*◌, ◌<◌, true, false, List, [], ◌∷◌, Ok, Err, ◌≢◌, Option, Some, length, refl, sym, ap, subst, inr}
+use Rattle.std.proofs.Common.{ℕ, ◌≡◌, ◌+◌, ◌*◌, ◌<◌, true, false, List, [], ◌∷◌, Ok, Err, ◌≢◌, Option, Some, ◌≤◌, length, refl, sym, ap, subst, inl, inr, arith}
 use Rattle.std.proofs.lemmas.Bool.{false≢true}
 use Rattle.std.proofs.lemmas.List.Elements.{All-cons, All-nil}
 use Rattle.ata_types.specs.declared.Port.{Port}
@@ -52,14 +52,18 @@ use Rattle.driver_history.specs.Evidence.{StaysHealthy}
 use Rattle.driver_history.specs.Trace.{LeavesEngine}
 use Rattle.driver_history.proofs.Calm.{untroubled}
 use Rattle.server_history.specs.Histories.{Adds, Leads, Stands, load_said, store_said}
-use Rattle.server_history.specs.Server.{Server, IsKept, IsMachineOf, IsPortOf, IsSettled, none_parked, ports_of, situation_of, used_for}
+use Rattle.server_history.specs.Server.{HasCommand, Server, IsKept, IsMachineOf, IsPortOf, IsSettled, mode_in, none_parked, ports_of, situation_of, used_for}
+use Rattle.slots.specs.declared.Use.{Use as SlotUse}
+use Rattle.agreement.specs.Agrees.{port_at}
+use Rattle.agreement.specs.Places.{IsTable}
+use Rattle.server_history.proofs.Stored.{service_leaves_stored}
 use Rattle.server_history.proofs.Asks.{none_issued}
 use Rattle.server_history.proofs.Devices.{devices_belong, devices_last, devices_lawful, devices_transfer}
 use Rattle.server_history.proofs.Coming.{none_loaded}
 use Rattle.server_history.proofs.Going.{happening, kept_on, lead_by, machine_on, machine_with, ports_same, with_device}
 use Rattle.server_history.proofs.Told.{no_evidence, told_by, uninterrupted}
 use Rattle.server_history.proofs.Ports.{IsOfBytes, bytes_leave, bytes_serve, port_on}
-use Rattle.server_history.proofs.Slots.{not_own}
+use Rattle.server_history.proofs.Slots.{not_own, used_there}
 
 -- ---- what a history leads to
 
@@ -71,12 +75,25 @@ module _ (first : Instant Device) (past : List (Happening Device DeviceStep)) (s
 pub as_told : (s : Server) (m : Machine) → IsMachineOf s m → (P : (Frame → Option ClientId) → (Frame → Option RequestId) → Type 0) → P (owner_of s.table) (lent_to s.table) → P m.owner m.lent
 as_told s m is P holds = subst (λ owner. P owner m.lent) (sym (fun_ext is.owner)) (subst (λ lent. P (owner_of s.table) lent) (sym (fun_ext is.lent)) holds)
 
+-- what it stores lies above the driver's own memory
+abbrev StoresAbove : Access → Type 0
+StoresAbove access = (at : ℕ) (bytes : List ℕ) → access ≡ Storing at bytes → 163840 ≤ at
+
+loads_above : (at : ℕ) (bytes : List ℕ) → StoresAbove (Loading at bytes)
+loads_above at bytes from stored is = let x : Loading at bytes ≡ Storing from stored = is in absurd cc
+
+-- header and table of a slot lie below that
+above_table : (port slot place : ℕ) → port < 4 → slot < 32 → IsTable port slot place → 163840 ≤ place → ⊥
+above_table port slot place low small (inl t) high = omega (arith, low, small, t.1, high)
+above_table port slot place low small (inr (inl t)) high = omega (arith, low, small, t.1, high)
+above_table port slot place low small (inr (inr t)) high = omega (arith, low, small, t.1, high)
+
 module _ (laws : LawsBelow) where
   -- ---- accesses of bytes
 
-  module _ (s : Server) (k : IsKept s) (new : Device) (access : Access) (is : IsOfBytes access) (does : Does access s.device new) where
+  module _ (s : Server) (k : IsKept s) (new : Device) (access : Access) (its : IsOfBytes access) (above : StoresAbove access) (does : Does access s.device new) where
     served : IsDrivenBy IsService s.device new
-    served = by_one IsService access s.device new (bytes_serve access is) does
+    served = by_one IsService access s.device new (bytes_serve access its) does
 
     same : SameAdapter s.device new
     same = access_same access s.device new does
@@ -88,18 +105,31 @@ module _ (laws : LawsBelow) where
 
     ports_on : (port : ℕ) → port < 4 → IsPortOf s.wanted s.ports port new
     ports_on port below =
-        port_on laws.looks s.wanted s.ports port s.device new same k.on served (λ unready. bytes_leave access s.device new is k.on does port) (silent port) (k.behind port below)
+        port_on laws.looks s.wanted s.ports port s.device new same k.on served (λ unready. bytes_leave access s.device new its k.on does port) (silent port) (k.behind port below)
+
+    -- what is stored for slots stays
+    commands_on : (port slot : ℕ) (used : SlotUse) → used_for s.slots port slot ≡ Some used → HasCommand used.queued new port slot
+    commands_on port slot used is =
+        let t = used_there s port slot used k is in
+        let h = k.commands port slot used is in
+        let leaves = service_leaves_stored (port_at port) slot access (bytes_serve access its) (λ at bytes place e table from to. above_table port slot place t.0 t.1 table (let a = above at bytes e in omega (arith, a, from))) in
+        record {
+          command = h.command;
+          places = h.places;
+          stored = laws.stored_access k.stands.uses k.machine (port_at port) slot h.command h.places access s.device new k.reached k.stands.knows.agrees k.on.no_reset leaves.start leaves.list leaves.table does h.stored;
+          kind = h.kind;
+        }
 
     -- a machine that spares the book
     kept_with : (steps : List Step) → AllMay k.machine steps → IsMachineOf (record s { device = new }) (after k.machine steps) → IsKept (record s { device = new })
-    kept_with steps may stands = kept_on s new k (services_on laws.looks s.device new k.on served) same ports_on ? steps may stands
+    kept_with steps may stands = kept_on s new k (services_on laws.looks s.device new k.on served) same ports_on commands_on steps may stands
 
   -- ---- the device's steps
 
   pub device_kept : (s : Server) (new : Device) → IsKept s → Steps s.device new → IsKept (record s { device = new })
   device_kept s new k steps =
       let x = (device_adds (known k.stands.uses none_parked s.device) new steps).adds k.machine k.reached k.stands.knows in
-      kept_with s k new (Loading 0 []) tt (none_loaded s.device new steps) x.0 x.1
+      kept_with s k new (Loading 0 []) tt (loads_above 0 []) (none_loaded s.device new steps) x.0 x.1
       (machine_on s new k.machine x.0 k.stands x.3.only x.2)
 
   pub device_adds_event : (s : Server) (new : Device) (step : DeviceStep) → IsSettled s → Asked step s.device new → Steps s.device new
@@ -187,7 +217,7 @@ module _ (laws : LawsBelow) where
   submit_refused s r refusal k is =
       nothing_adds s (Submit r) (Submitted (Err refusal)) k (λ m. (refl, refl))
       (λ old at evidence. (subst (λ (x : Situation). IsFirstRefusal x r refusal) (sym (situation_is s old at)) is, refl, ports_same old.moment.ports (ports_of s) at.ports_are))
-      (λ old was at port ready. none_issued s old.moment.machine at.machine [] (λ id. refl) port (k.issued port))
+      (λ old was at port ready. none_issued s old.moment.machine at.machine [] (λ id. refl) (mode_in s port) port (k.issued port))
       (λ old port healthy. record { finds = tt; faults = tt; tries = tt; boots = tt; trouble = untroubled (told_by old.device old.moment.ports) old (ports_of s) s.device port healthy; well = λ i. absurd (uninterrupted old.device old.moment.ports port i); heeds = uninterrupted old.device old.moment.ports port })
 
   -- ---- clients' bytes
@@ -230,12 +260,21 @@ module _ (laws : LawsBelow) where
     pub load_kept : Loads (4096 * frame.0 + offset) bytes s.device new → IsKept (record s { device = new })
     load_kept loads =
         let x = load_ends s new client frame offset bytes k opens loads k.machine k.reached k.stands in
-        kept_with s k new (Loading (4096 * frame.0 + offset) bytes) tt loads (Load client frame offset bytes ∷ x.0.steps) x.0.may x.1
+        kept_with s k new (Loading (4096 * frame.0 + offset) bytes) tt (loads_above (4096 * frame.0 + offset) bytes) loads (Load client frame offset bytes ∷ x.0.steps) x.0.may x.1
 
     pub store_kept : Stores (4096 * frame.0 + offset) bytes s.device new → IsKept (record s { device = new })
     store_kept stores =
         let x = store_ends s new client frame offset bytes k opens stores k.machine k.reached k.stands in
-        kept_with s k new (Storing (4096 * frame.0 + offset) bytes) tt stores (Store client frame offset bytes ∷ x.0.steps) x.0.may x.1
+        kept_with s k new (Storing (4096 * frame.0 + offset) bytes) tt above stores (Store client frame offset bytes ∷ x.0.steps) x.0.may x.1
+      where
+        owned : (40 ≤ frame.0) × (4096 * frame.0 + 4096 ≤ s.device.size)
+        owned = k.owners frame client (open_owned (owner_of s.table) (lent_to s.table) client frame offset (length bytes) opens)
+
+        above : StoresAbove (Storing (4096 * frame.0 + offset) bytes)
+        above at stored is =
+            let x : Storing (4096 * frame.0 + offset) bytes ≡ Storing at stored = is in
+            let same : 4096 * frame.0 + offset ≡ at = cc in
+            let o = owned.0 in omega (arith, same, o)
 
     pub load_adds : Loads (4096 * frame.0 + offset) bytes s.device new → Adds s (record s { device = new }) (LoadAt client frame offset (length bytes)) (load_said (Ok tt) bytes)
     load_adds loads = record { settled = record { kept = load_kept loads; issued = t.issued }; adds = adds }

@@ -63,10 +63,15 @@ pub issuing_is : (port : Port) → port.0 < 4 → (access : Access) → IssuesIn
 issuing_is port low access here = issuing_on port here.0 low here.1 access here.2
 
 issuing_turn : (Such : Port → Type 0) (port : Port) (slot : ℕ) → Such port → port.0 < 4 → slot < 32 → (access : Access) → IsIssuing port slot access → IsTurn Such access
-issuing_turn Such port slot such low small (Writing r v) here =
-    (issuing_serves port slot (Writing r v) here, (tt, ⊎_elim
-    (λ (is : r ≡ Px port Sact). subst (λ (q : Reg). IsOfPorts Such (Writing q v)) (sym is) such)
-    (λ (is : r ≡ Px port Ci). subst (λ (q : Reg). IsOfPorts Such (Writing q v)) (sym is) such) here.0))
+issuing_turn Such port slot such low small (Writing r v) here = (
+  issuing_serves port slot (Writing r v) here,
+  (
+    tt,
+    ⊎_elim
+        (λ (is : r ≡ Px port Sact). subst (λ (q : Reg). IsOfPorts Such (Writing q v)) (sym is) such)
+        (λ (is : r ≡ Px port Ci). subst (λ (q : Reg). IsOfPorts Such (Writing q v)) (sym is) such) here.0,
+  ),
+)
 issuing_turn Such port slot such low small (Storing at bytes) here = (issuing_serves port slot (Storing at bytes) here, (table_own port.0 slot at bytes low small here, tt))
 issuing_turn Such port slot such low small (Reading r v) here = absurd here
 issuing_turn Such port slot such low small (Loading at bytes) here = absurd here

@@ -147,7 +147,7 @@ abbrev pub with_device : Device → Instant Device → Instant Device
 with_device d i = record { device = d; moment = i.moment }
 
 -- servers with the same ports, which take commands in the same way
-same_ports : (s new : Server) → s.ports ≡ new.ports → s.modes ≡ new.modes → ports_of s ≡ ports_of new
+pub same_ports : (s new : Server) → s.ports ≡ new.ports → s.modes ≡ new.modes → ports_of s ≡ ports_of new
 same_ports s new ports modes = λ i. ports_of (record s { ports = ports i; modes = modes i })
 
 -- a call, with what its event needs

@@ -1,6 +1,6 @@
 -- A due request is issued in the lowest free slot of its port.
-use Rattle.std.proofs.Common.{ℕ, ◌≡◌, ◌≢◌, ◌⊎◌, ⊎_elim, inl, inr, length, ◌<◌, ◌≤◌, ◌/◌, ◌%◌, false, true, not, Bool, List, ◌∷◌, map, Option, Some, None, refl, sym, ap, ◌∙◌, subst, arith}
-use Rattle.std.proofs.lemmas.Bool.{and_parts, cases_eq, false≢true}
+use Rattle.std.proofs.Common.{ℕ, ◌≡◌, ◌⊎◌, ⊎_elim, inl, inr, length, ◌<◌, ◌≤◌, ◌/◌, ◌%◌, false, true, not, Bool, List, ◌∷◌, map, Option, Some, refl, sym, ap, ◌∙◌, subst, arith}
+use Rattle.std.proofs.lemmas.Bool.{and_parts, false≢true}
 use Rattle.std.specs.List.{All, Contains}
 use Rattle.ata_types.specs.declared.Port.{Port}
 use Rattle.ata_types.specs.declared.PortState.TheVariants.{Ready as ReadyState}
@@ -40,7 +40,7 @@ use Rattle.server_history.proofs.Asks.{asked_alike, same_book}
 use Rattle.server_history.proofs.Changed.{all_changed}
 use Rattle.server_history.proofs.Going.{book_on, kept_then}
 use Rattle.server_history.proofs.Looking.{behind_served}
-use Rattle.server_history.proofs.Placing.{placed_four, placed_has, placed_other, placed_same, placed_uses}
+use Rattle.server_history.proofs.Placing.{its_or_other, placed_four, placed_has, placed_same, placed_uses, placed_was}
 use Rattle.server_history.proofs.Stored.{AreApart, issuing_leaves_stored}
 use Rattle.std.specs.Prelude.{if◌then◌else◌}
 use Rattle.adapter.specs.Commands.{is_queued}
@@ -207,13 +207,6 @@ module _ (laws : LawsBelow) (s new : Server) (port : Port) (id : RequestId) (k :
         waiting : e.entry.issued ≡ false
         waiting = not_true e.entry.issued (and_parts _ _ one.due.clear).0
 
-  -- the slot that it is issued in, or another
-  its_or_other : (q n : ℕ) → ((q ≡ port.0) × (n ≡ slot)) ⊎ AreApart port.0 slot q n
-  its_or_other q n = ⊎_elim
-      (λ (same : q ≡ port.0). ⊎_elim (λ (its : n ≡ slot). inl (same, its)) (λ (ne : n ≢ slot). inr (λ _ its. ne its)) (cases_eq n slot))
-      (λ (ne : q ≢ port.0). inr (λ same _. ne same))
-      (cases_eq q port.0)
-
   in_list : port.0 < length s.slots
   in_list = let f = k.four in let l = low in omega (arith, f, l)
 
@@ -223,10 +216,10 @@ module _ (laws : LawsBelow) (s new : Server) (port : Port) (id : RequestId) (k :
   its_there : (q n : ℕ) (used : SlotUse) → q ≡ port.0 → n ≡ slot → used_for (with_slot s.slots port.0 slot its_use) q n ≡ Some used → use_for mode e ≡ used
   its_there q n used same its is =
       let z : Some (use_for mode e) ≡ Some used = sym (placed_same s.slots port.0 slot its_use in_list in_places)
-          ∙ ap (λ (m : ℕ). used_for (with_slot s.slots port.0 slot its_use) port.0 m) (sym its) ∙ ap (λ (p : ℕ). used_for (with_slot s.slots port.0 slot its_use) p n) (sym same) ∙ is in cc
+      ∙ ap (λ (m : ℕ). used_for (with_slot s.slots port.0 slot its_use) port.0 m) (sym its) ∙ ap (λ (p : ℕ). used_for (with_slot s.slots port.0 slot its_use) p n) (sym same) ∙ is in cc
 
   was_used : (q n : ℕ) (used : SlotUse) → AreApart port.0 slot q n → used_for (with_slot s.slots port.0 slot its_use) q n ≡ Some used → used_for s.slots q n ≡ Some used
-  was_used q n used other is = sym (placed_other s.slots port.0 slot its_use in_list in_places q n other) ∙ is
+  was_used q n used other is = placed_was s.slots port.0 slot its_use in_list in_places q n used other is
 
   -- each command is queued exactly if its request asks for it
   kinds_then : (q : Port) (n : ℕ) (used : SlotUse) (h : Held) → used_for (with_slot s.slots port.0 slot its_use) q.0 n ≡ Some used → Contains (map (at id issue) s.book) h → h.entry.id ≡ used.id
@@ -240,7 +233,7 @@ module _ (laws : LawsBelow) (s new : Server) (port : Port) (id : RequestId) (k :
       (λ (other : AreApart port.0 slot q.0 n).
       k.kinds q n used old.0 (was_used q.0 n used other is) old.1 (sym (id_same old.0) ∙ sym (ap (λ (x : Held). x.entry.id) old.2) ∙ same)
       ∙ ap (λ (o : Op). not (is_plain (mode_in s q) o)) (sym (op_same old.0) ∙ ap (λ (x : Held). x.entry.op) (sym old.2)))
-      (its_or_other q.0 n)
+      (its_or_other port.0 slot q.0 n)
     where
       old : (x : Held) × Contains s.book x × (h ≡ at id issue x)
       old = map_in (at id issue) s.book h there
@@ -271,7 +264,7 @@ module _ (laws : LawsBelow) (s new : Server) (port : Port) (id : RequestId) (k :
       let t = used_there s q n used k was in
       let h = k.commands q n used was in
       let acts = one.issues.comes mode (p k.machine k.reached k.stands) (its_transfer k.machine k.reached k.stands) (record { uses = k.stands.uses; parked = none_parked }) k.machine k.reached k.stands.knows
-          (free k.machine k.reached k.stands, may k.machine k.reached k.stands) in
+      (free k.machine k.reached k.stands, may k.machine k.reached k.stands) in
       record {
         command = h.command;
         places = h.places;
@@ -279,7 +272,7 @@ module _ (laws : LawsBelow) (s new : Server) (port : Port) (id : RequestId) (k :
             (λ i d small. issuing_leaves_stored port (port_at q) slot n low may_use.1 t.0 t.1 other _ (subst (All (IsIssuing port slot)) (sym acts.accesses_are) one.issues.driven.only i d small)) k.on h.stored;
         kind = h.kind;
       })
-      (its_or_other q n)
+      (its_or_other port.0 slot q n)
     where
       queued_is : (queued : Bool) (op : Op) → (op ≡ Read) ⊎ (op ≡ Write) → is_queued (operation_of queued op) ≡ queued
       queued_is true op (inl is) = ap (λ (o : Op). is_queued (operation_of true o)) is

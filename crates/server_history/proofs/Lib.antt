@@ -11,6 +11,7 @@ pub mod Turns
 pub mod Zips
 pub mod Asks
 pub mod Slots
+pub mod Said
 pub mod Stored
 pub mod Placing
 pub mod Changed

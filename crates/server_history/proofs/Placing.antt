@@ -1,5 +1,5 @@
 -- A slot of a port put to another use.
-use Rattle.std.proofs.Common.{ℕ, ◌≡◌, ◌≢◌, ◌≤◌, ◌<◌, List, get_or, length, Option, None, inl, sym, ap, ◌∙◌, subst, ⊎_elim, arith}
+use Rattle.std.proofs.Common.{ℕ, ◌≡◌, ◌≢◌, ◌≤◌, ◌<◌, List, get_or, length, ◌⊎◌, Option, None, Some, inl, inr, sym, ap, ◌∙◌, subst, ⊎_elim, arith}
 use Rattle.std.proofs.lemmas.Bool.{cases_eq}
 use Rattle.std.proofs.lemmas.List.{get_or-set_same, get_or-set_other, length-set}
 use Rattle.agreement.specs.Slots.{Use, Uses, put}
@@ -41,6 +41,27 @@ module _ (slots : List PortSlots) (port slot : ℕ) (used : Option SlotUse) (low
       let P : Option SlotUse → Type 0 = λ p. IsUsedAs (found_of found q) k p (uses q k) in
       subst U (sym there.1) (subst P (sym (placed_other q k there.0)) (was q k)))
       (put_cases uses port slot (use_of used) q k)
+
+  -- what is used afterwards, but for this slot, was used before
+  pub placed_was : (q k : ℕ) (u : SlotUse) → (q ≡ port → k ≡ slot → ⊥) → used_for (with_slot slots port slot used) q k ≡ Some u → used_for slots q k ≡ Some u
+  placed_was q k u other is = sym (placed_other q k other) ∙ is
+
+-- it is this slot, or another
+pub its_or_other : (port slot q k : ℕ) → ((q ≡ port) × (k ≡ slot)) ⊎ (q ≡ port → k ≡ slot → ⊥)
+its_or_other port slot q k = ⊎_elim
+    (λ (same : q ≡ port). ⊎_elim (λ (its : k ≡ slot). inl (same, its)) (λ (ne : k ≢ slot). inr (λ _ its. ne its)) (cases_eq k slot))
+    (λ (ne : q ≢ port). inr (λ same _. ne same))
+    (cases_eq q port)
+
+-- what is used once a slot was freed is another, and was used before
+pub freed_was : (slots : List PortSlots) (port slot : ℕ) → port < length slots → slot < length (get_or slots port no_slots).places → (q k : ℕ) (u : SlotUse)
+    → used_for (with_slot slots port slot None) q k ≡ Some u → used_for slots q k ≡ Some u
+freed_was slots port slot low small q k u is = ⊎_elim
+    (λ (its : (q ≡ port) × (k ≡ slot)).
+    let z : None ≡ Some u = sym (placed_same slots port slot None low small) ∙ ap (λ (n : ℕ). used_for (with_slot slots port slot None) port n) (sym its.1)
+    ∙ ap (λ (p : ℕ). used_for (with_slot slots port slot None) p k) (sym its.0) ∙ is in absurd cc)
+    (λ (other : q ≡ port → k ≡ slot → ⊥). placed_was slots port slot None low small q k u other is)
+    (its_or_other port slot q k)
 
 -- the four ports have their slots still
 module _ (found : List Found) (modes : List Mode) (slots : List PortSlots) (port slot : ℕ) (used : Option SlotUse) (four : length slots ≡ 4) (low : port < 4) (slot_low : slot < usable_of (found_of found port) (mode_at modes port))

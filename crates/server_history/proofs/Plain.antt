@@ -1,20 +1,13 @@
 -- How transfers are issued and found done, access by access.
 use Rattle.std.proofs.Common.{ℕ, ◌≡◌, List, [], ◌∷◌, sym, inl, inr, subst, ⊎_elim}
-use Rattle.std.specs.List.{All}
-use Rattle.std.proofs.lemmas.List.Elements.{All-append, All-cons, All-nil}
 use Rattle.ata_types.specs.declared.Port.{Port}
-use Rattle.ata_types.specs.declared.request.Frame.{Frame}
-use Rattle.hba_regs.specs.Bits.{bit}
 use Rattle.hba_regs.specs.declared.reg.PortReg.TheVariants.{Ci, Sact}
 use Rattle.hba_regs.specs.declared.reg.Reg.TheVariants.{Px}
 use Rattle.adapter.specs.Access.{Access, DoesAll, Reads}
 use Rattle.adapter.specs.Access.Access.{Reading, Writing, Loading, Storing}
 use Rattle.adapter.specs.Device.{Device}
-use Rattle.agreement.specs.Driven.{IsDrivenBy}
-use Rattle.command_table.specs.Written.{IsTableStore}
 use Rattle.ncq.specs.Masks.{FindsDone, IsFinding}
 use Rattle.ncq.specs.Transfers.{IsIssuing}
-use Rattle.request_queue.specs.Entries.{Held}
 use Rattle.server_history.specs.Served.{IssuesIn}
 use Rattle.port_look.specs.Services.{IsService}
 

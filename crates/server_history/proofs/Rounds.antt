@@ -4,6 +4,7 @@ use Rattle.std.specs.Prelude.{◌↔◌, if◌then◌else◌}
 use Rattle.std.specs.List.{Contains, list_any}
 use Rattle.std.proofs.lemmas.Bool.{cases_Bool, cases_eq, cond-true, cond-false, false≢true, or_cases, or_left, or_right, and_parts}
 use Rattle.std.proofs.lemmas.List.Elements.{All-append}
+use Rattle.std.proofs.lemmas.List.{get_or-set_other}
 use Rattle.ata_types.specs.declared.Port.{Port}
 use Rattle.ata_types.specs.declared.request.RequestId.{RequestId}
 use Rattle.adapter.proofs.Calls.{does_append}
@@ -28,7 +29,7 @@ use Rattle.ncq.specs.Transfers.{IsIssuing}
 use Rattle.request_queue.specs.Entries.{Held, IsInOrder, IsWaiting, asks, asks_of, at, due_ids, has_id, issue}
 use Rattle.server_history.specs.Below.{LawsBelow}
 use Rattle.server_history.specs.Served.{IssuesAll, IssuesIn, IssuesEach, IssuesOne, IssuesOnly}
-use Rattle.server_history.specs.Server.{Server, IsKept, IsMachineOf, IsSettled, mode_at, mode_in}
+use Rattle.server_history.specs.Server.{Server, IsKept, IsMachineOf, IsSettled, mode_at, mode_in, no_slots, slots_at}
 use Rattle.server_history.proofs.Asks.{same_book}
 use Rattle.server_history.proofs.Devices.{devices_last, not_handled}
 use Rattle.server_history.proofs.Issuing.{IsIssue, issue_kept, issue_one}
@@ -261,6 +262,12 @@ module _ (laws : LawsBelow) (port : Port) where
       ∙ ap (of_port other) (ap (λ (n : Server). asks_of n.book) one.server ∙ laws.asks_issued old.book first ∙ ap (λ (id : RequestId). with_issued id (asks_of old.book)) (sym one.id_is))
       ∙ laws.issued_apart other (asks_of old.book) (asks one.request.entry) (laws.asked old.book order) (into_map (λ (y : Held). asks y.entry) old.book one.request one.here)
       (λ same. ne (sym same ∙ one.port_is))
+
+  -- and so are the slots of another port
+  pub each_slots : (ids : List RequestId) (old new : Server) → IssuesEach port ids old new → (other : ℕ) → other ≢ port.0 → slots_at new.slots other ≡ slots_at old.slots other
+  each_slots [] old new none other ne = ap (λ (n : Server). slots_at n.slots other) none
+  each_slots (first ∷ ids) old new (mid, one, more) other ne = each_slots ids mid new more other ne ∙ ap (λ (n : Server). slots_at n.slots other) one.server
+      ∙ get_or-set_other old.slots port.0 other _ no_slots ne
 
   pub settled : (old new : Server) → IsKept old → ((other : Port) → other ≢ port → NoneDue (mode_in old other) (asks_of old.book) other) → IssuesAll port old new → IsSettled new
   settled old new k none issues = record {

@@ -62,18 +62,22 @@ use Rattle.driver_history.proofs.Calm.{untroubled}
 use Rattle.server_history.specs.Histories.{Adds, Leads}
 use Rattle.server_history.specs.Below.{LawsBelow}
 use Rattle.server_history.specs.Served.{AddsTurn, AnswersBy, Checks, HasEnded, IsMaskOf, IsAnsweredIn, SameSettings, ServePorts, ServesPort, answers_in, done_reply, is_used}
-use Rattle.server_history.specs.Server.{Server, IsKept, IsMachineOf, IsSettled, is_served, plain_mode, ports_of, slots_at, state_of}
+use Rattle.server_history.specs.Server.{Server, IsKept, IsMachineOf, IsSettled, is_served, mode_in, ports_of, slots_at, state_of, used_for}
 use Rattle.server_history.proofs.Coming.{IsBusy, IsTurn, TurnList, turn_leaves, turn_list, turn_serving}
 use Rattle.server_history.proofs.Asks.{none_due, none_issued, same_book}
 use Rattle.server_history.proofs.Going.{happening, lead_by, ports_same, with_device}
 use Rattle.server_history.proofs.Origins.{TurnSteps, answers_turn, issued_before, stood}
-use Rattle.server_history.proofs.Settling.{same_more, turn_apart, turn_settings}
+use Rattle.server_history.proofs.Settling.{same_more, turn_apart, turn_settings, turn_slots}
 use Rattle.server_history.proofs.Rounds.{any_append, dues_carried, or_none}
 use Rattle.server_history.proofs.Serving.{still_over}
 use Rattle.server_history.proofs.Answered.{answered_in, ended_stood, in_answered, issuing_answers, may_parts, no_answer, no_answer_issuing, none_refused, serviced_same, told_so, with_ok}
 use Rattle.server_history.proofs.Standing.{not_running}
 use Rattle.server_history.proofs.Told.{fatal_shows, grounded_told, loss_shows, no_evidence, no_fatal, no_loss, serves_told, told_by, uninterrupted}
-use Rattle.server_history.proofs.Slots.{HasSlot, first_used, free_unused, issued_has, of_ready, only_first, ready_found, serves_used}
+use Rattle.server_history.proofs.Slots.{HasSlot, free_unused, issued_has, of_ready, ready_found, serves_used, used_or_not}
+use Rattle.server_history.proofs.Said.{one_said}
+use Rattle.slots.specs.declared.Use.{Use as SlotUse}
+use Rattle.slots.specs.Uses.{Uses as PortSlots, use_at}
+use Rattle.block_machine.specs.declared.due.Mode.{Mode}
 use Rattle.server_history.proofs.Zips.{at_left, at_right}
 use Rattle.server_history.proofs.Turns.{AreTurns, IsSame, answer_on, devices_answer, devices_on, issues_on, no_turns, turns_more}
 use Rattle.server_history.proofs.Plain.{both_read}
@@ -81,7 +85,7 @@ use Rattle.port_look.specs.Services.{IsService}
 use Rattle.port_look.specs.Looks.{IsLooking}
 use Rattle.port_look.specs.declared.Look.TheVariants.{Undisturbed as Calm}
 use Rattle.port_look.proofs.Seeing.{look_driven}
-use Rattle.port_look.proofs.Serving.{calm_parts, looking_service, services_inactive, services_well}
+use Rattle.port_look.proofs.Serving.{calm_parts, looks_inactive, services_well}
 
 same_some : {X : Type 0} {a b : X} → Some a ≡ Some b → a ≡ b
 same_some is = cc
@@ -126,7 +130,8 @@ module _ (laws : LawsBelow) (s : Server) (start : IsSettled s) (old : Moment) (r
     heeded : (port : Port) → port.0 < n → state_of (found_of s.ports port.0) ≡ ReadyState → StaysHealthy port.0 s.device c.device → AnswersEnded old.machine steps port
     finds : (port : Port) → port.0 < n → state_of (found_of s.ports port.0) ≡ ReadyState → StaysHealthy port.0 s.device c.device → (e : Pending) → IsIssuedOn port old.machine e
         → FindsDone port driven.accesses began steps
-    due : (port : Port) → IssuesDue plain_mode steps (after old.machine steps) port
+    due : (port : Port) → IssuesDue (mode_in s port) steps (after old.machine steps) port
+    ahead : (port : ℕ) → n ≤ port → slots_at c.slots port ≡ slots_at s.slots port
 
   begun : Progress 0 s []
   begun = record {
@@ -144,7 +149,8 @@ module _ (laws : LawsBelow) (s : Server) (start : IsSettled s) (old : Moment) (r
     told = refl;
     heeded = λ port lt. absurd (omega (arith, lt));
     finds = λ port lt. absurd (omega (arith, lt));
-    due = λ port. none_issued s old.machine at [] (λ id. refl) port (start.issued port);
+    due = λ port. none_issued s old.machine at [] (λ id. refl) (mode_in s port) port (start.issued port);
+    ahead = λ port past. refl;
   }
 
   -- what was found done on a port was so still, where later steps answer nobody of it
@@ -197,6 +203,7 @@ module _ (laws : LawsBelow) (s : Server) (start : IsSettled s) (old : Moment) (r
         (λ (most : n ≤ port.0). absurd (other (ap (λ (q : ℕ). state_of (found_of s.ports q)) (omega (arith, lt, most)) ∙ ready)))
         (cases_lt port.0 n);
     due = p.due;
+    ahead = λ port past. p.ahead port (omega (arith, past));
   }
 
   -- ---- a turn
@@ -219,6 +226,13 @@ module _ (laws : LawsBelow) (s : Server) (start : IsSettled s) (old : Moment) (r
 
     low : n < 4
     low = (ready_found s n kept ready).0
+
+    -- how the port takes commands
+    abbrev takes : Mode
+    takes = mode_in c (port_at n)
+
+    modes_is : (q : Port) → mode_in c q ≡ mode_in s q
+    modes_is q = ap (λ (x : Server). mode_in x q) p.same
 
     ready_c : state_of (found_of c.ports n) ≡ ReadyState
     ready_c = ap (λ (found : List Found). state_of (found_of found n)) ports_is ∙ ready
@@ -250,16 +264,16 @@ module _ (laws : LawsBelow) (s : Server) (start : IsSettled s) (old : Moment) (r
         (clear.0.over.issued, clear.0.sact)
 
     -- who is answered in the turn is one of these, which are of the port
-    turn_ended : (replies : List Reply) (late : List Step) (b : AnswersBy (port_at n) replies late) → (e : Pending) (o : Outcome) → Contains late (Answer e o) → Contains b.ended e
+    turn_ended : (replies : List Reply) (late : List Step) (b : AnswersBy takes (port_at n) replies late) → (e : Pending) (o : Outcome) → Contains late (Answer e o) → Contains b.ended e
     turn_ended replies late b e o here = ⊎_elim
-        (λ later. absurd (no_answer_issuing (port_at n) b.later b.last e o later))
+        (λ later. absurd (no_answer_issuing takes (port_at n) b.later b.last e o later))
         (λ rest. ⊎_elim
         (λ answered. (answered_in b.ended e o answered).0)
         (λ early. absurd (no_answer b.before b.first e o early))
         (Contains-append_cases (answers_in b.ended) b.before (Answer e o) rest))
         (Contains-append_cases b.later (answers_in b.ended ++ b.before) (Answer e o) (subst (λ (steps : List Step). Contains steps (Answer e o)) b.steps_are here))
 
-    turn_answers : (replies : List Reply) (late : List Step) → AnswersBy (port_at n) replies late → (e : Pending) (o : Outcome) → Contains late (Answer e o) → e.request.port ≡ port_at n
+    turn_answers : (replies : List Reply) (late : List Step) → AnswersBy takes (port_at n) replies late → (e : Pending) (o : Outcome) → Contains late (Answer e o) → e.request.port ≡ port_at n
     turn_answers replies late b e o here =
         let x = at_right (HasEnded (port_at n)) b.requests b.ended b.each e (turn_ended replies late b e o here) in
         x.2.entry.port ∙ x.2.port_is
@@ -294,7 +308,7 @@ module _ (laws : LawsBelow) (s : Server) (start : IsSettled s) (old : Moment) (r
       all = x.steps ++ p.steps
 
       turn_steps : TurnSteps (port_at n) x.steps
-      turn_steps = answers_turn (port_at n) replies x.steps x.answers
+      turn_steps = answers_turn takes (port_at n) replies x.steps x.answers
 
       whole_is : after old.machine all ≡ after m x.steps
       whole_is = after-append old.machine x.steps p.steps
@@ -328,14 +342,14 @@ module _ (laws : LawsBelow) (s : Server) (start : IsSettled s) (old : Moment) (r
           (λ (none : list_any (issues_it u.id) x.steps ≡ false). sym (any_append (issues_it u.id) x.steps p.steps ∙ ap (λ (b : Bool). b || list_any (issues_it u.id) p.steps) none))
           (cases_Bool (list_any (issues_it u.id) x.steps))
 
-      due_now : (q : Port) → IssuesDue plain_mode all (after old.machine all) q
-      due_now q = subst (λ (k : Machine). IssuesDue plain_mode all k q) (sym whole_is) (⊎_elim
+      due_now : (q : Port) → IssuesDue (mode_in s q) all (after old.machine all) q
+      due_now q = subst (λ (k : Machine). IssuesDue (mode_in s q) all k q) (sym whole_is) (⊎_elim
           (λ (same : q.0 ≡ n).
-          subst (IssuesDue plain_mode all (after m x.steps)) (ap port_at (sym same))
-          (dues_carried laws x.steps all (after m x.steps) (after m x.steps) (port_at n) refl own_alike x.issues))
+          subst (λ (r : Port). IssuesDue (mode_in s r) all (after m x.steps) r) (ap port_at (sym same))
+          (dues_carried laws (mode_in s (port_at n)) x.steps all (after m x.steps) (after m x.steps) (port_at n) refl own_alike (subst (λ (mode : Mode). IssuesDue mode x.steps (after m x.steps) (port_at n)) (modes_is (port_at n)) x.issues)))
           (λ (ne : q.0 ≢ n).
           let apart : q ≢ port_at n = λ same. ne (ap (λ (p : Port). p.0) same) in
-          dues_carried laws p.steps all m (after m x.steps) q
+          dues_carried laws (mode_in s q) p.steps all m (after m x.steps) q
           (ap (of_port q) (same_book c.book m.book p.stands.book) ∙ sym (turn_apart laws (port_at n) replies c mid serves.turn p.settled.kept.ordered serves.answers q apart) ∙ ap (of_port q) (sym (same_book mid.book (after m x.steps).book x.stands.book)))
           (other_alike q apart) (p.due q))
           (cases_eq q.0 n))
@@ -381,6 +395,7 @@ module _ (laws : LawsBelow) (s : Server) (start : IsSettled s) (old : Moment) (r
             (here_finds (subst (λ (r : Port). StaysHealthy r.0 s.device mid.device) (sym q_is) well) e (subst (λ (r : Port). IsIssuedOn r old.machine e) (sym q_is) its)))
             (cases_lt q.0 n);
         due = due_now;
+        ahead = λ q past. turn_slots laws (port_at n) replies c mid serves.turn serves.answers q (λ same. omega (arith, past, same)) ∙ p.ahead q (omega (arith, past));
       }
 
       -- who is told is answered, and who is answered is told
@@ -403,7 +418,7 @@ module _ (laws : LawsBelow) (s : Server) (start : IsSettled s) (old : Moment) (r
                   (Contains-append_right b.later (answers_in b.ended ++ b.before) (Answer d.0 Ok) (Contains-append_left (answers_in b.ended) b.before (Answer d.0 Ok) (in_answered b.ended d.0 d.1)))),
             )
           where
-            early_may : (b : AnswersBy (port_at n) replies x.steps) → AllMay m b.before × AllMay (after m b.before) (answers_in b.ended)
+            early_may : (b : AnswersBy takes (port_at n) replies x.steps) → AllMay m b.before × AllMay (after m b.before) (answers_in b.ended)
             early_may b = may_parts m (answers_in b.ended) b.before (may_parts m b.later (answers_in b.ended ++ b.before) (subst (AllMay m) b.steps_are x.may)).0
 
         answered_told : e.request.port ≡ port_at n → IsAnsweredOk e all → IsAnsweredIn h.has.used.id replies
@@ -470,14 +485,25 @@ module _ (laws : LawsBelow) (s : Server) (start : IsSettled s) (old : Moment) (r
 
         -- bytes of another slot may say its command still: then it has ended, and that slot isn't used
         module _ (slot : ℕ) (apart : slot ≢ h.slot) (says : ServesRequest old.machine s.device.memory (s.device.port n) n slot other.request.id) where
-          not_first : slot ≢ 0
-          not_first first = apart (first ∙ sym (first_used c n h.slot h.used p.settled.kept ready_c h.used_is))
+          -- the port's slots are what they were when the service began
+          used_then : (i : ℕ) → used_for c.slots n i ≡ used_for s.slots n i
+          used_then i = ap (λ (slots : PortSlots). use_at slots i) (p.ahead n (omega arith))
+
+          unused : used_for s.slots n slot ≡ None
+          unused = ⊎_elim
+              (λ (x : (u : SlotUse) × (used_for s.slots n slot ≡ Some u)).
+              let same : other.request.id ≡ x.0.id = one_said laws s kept old.machine at n slot x.0 other.request.id ready x.1 says in
+              let there = serves_used s old.machine n at ready slot x.0 x.1 ∙ ap Serves (sym same) in
+              let here = serves_used s old.machine n at ready h.slot h.used (sym (used_then h.slot) ∙ h.used_is) ∙ ap Serves (h.id_is ∙ ap (λ r. r.id) (leading other own).same_as.request) in
+              absurd (apart (at.knows.agrees.apart n slot n h.slot other.request.id there here).1))
+              (λ none. none)
+              (used_or_not (used_for s.slots n slot))
 
           has_ended : other.ended ≡ true
           has_ended = ap (λ (x : Pending). x.ended) (sym same) ∙ by says.stage
             where
               free : IsFree (s.device.port n) slot
-              free = subst (λ (u : Use). IsServed old.machine s.device.memory s.device.tape (s.device.port n) n slot u) (free_unused s old.machine n at ready slot (only_first s n slot kept ready not_first)) (at.knows.agrees.slot n slot)
+              free = subst (λ (u : Use). IsServed old.machine s.device.memory s.device.tape (s.device.port n) n slot u) (free_unused s old.machine n at ready slot unused) (at.knows.agrees.slot n slot)
 
               same : says.pending ≡ other
               same = ⊎_elim
@@ -497,11 +523,11 @@ module _ (laws : LawsBelow) (s : Server) (start : IsSettled s) (old : Moment) (r
                 (still_over (port_at n) slot c.device serves.turn.seen looks (record { issued = free.issued; free = free.free })),
             active_clear (port_at n) slot k.reads.active masks_read.0 k.read says.placed.slot_below masks_read.2
                 (reads_clear n slot (Px (port_at n) Ci) k.reads.issued serves.turn.seen masks_read.0 masks_read.1
-                (services_inactive laws.looks n slot c.device serves.turn.seen (driven_as (IsLooking (port_at n)) IsService c.device serves.turn.seen (looking_service (port_at n)) looks) free.unarmed)),
+                (looks_inactive laws.looks (port_at n) n slot c.device serves.turn.seen looks free.unarmed)),
           )
             where
               free : IsFree (c.device.port n) slot
-              free = subst (λ (u : Use). IsServed m c.device.memory c.device.tape (c.device.port n) n slot u) (free_unused c m n p.stands ready_c slot (only_first c n slot p.settled.kept ready_c not_first)) (p.stands.knows.agrees.slot n slot)
+              free = subst (λ (u : Use). IsServed m c.device.memory c.device.tape (c.device.port n) n slot u) (free_unused c m n p.stands ready_c slot (used_then slot ∙ unused)) (p.stands.knows.agrees.slot n slot)
 
               looks : IsDrivenBy (IsLooking (port_at n)) c.device serves.turn.seen
               looks = look_driven (port_at n) serves.turn.look c.device serves.turn.seen serves.turn.looks
@@ -571,7 +597,7 @@ module _ (laws : LawsBelow) (s : Server) (start : IsSettled s) (old : Moment) (r
         subst (λ (list : List (Pending × Outcome)). SoFar [] ((answers_in ended ++ Answer done Ok ∷ []) ++ steps) list) (append_assoc answers ((done, Ok) ∷ []) (map with_ok ended))
         (subst (λ (list : List Step). SoFar [] list ((answers ++ (done, Ok) ∷ []) ++ map with_ok ended)) (sym (append_assoc (answers_in ended) (Answer done Ok ∷ []) steps)) rest)
 
-    module _ (replies : List Reply) (late : List Step) (may : AllMay m late) (b : AnswersBy (port_at n) replies late) where
+    module _ (replies : List Reply) (late : List Step) (may : AllMay m late) (b : AnswersBy takes (port_at n) replies late) where
       both : AllMay m (answers_in b.ended ++ b.before) × AllMay (after m (answers_in b.ended ++ b.before)) b.later
       both = may_parts m b.later (answers_in b.ended ++ b.before) (subst (AllMay m) b.steps_are may)
 
@@ -600,7 +626,7 @@ module _ (laws : LawsBelow) (s : Server) (start : IsSettled s) (old : Moment) (r
       base_is = ap (after old.machine) (sym (append_assoc (answers_in b.ended) b.before p.steps)) ∙ after-append old.machine (answers_in b.ended ++ b.before) p.steps
 
       then_on : AreTurns old (ports_of s) (suc n) (suc n) (b.later ++ base)
-      then_on = issues_on old (ports_of s) reached n (port_at n) refl ready refl b.later base b.last
+      then_on = issues_on old (ports_of s) reached n (port_at n) refl ready takes (sym (modes_is (port_at n))) b.later base b.last
           (subst (λ (k : Machine). AllMay k b.later) (sym base_is) both.1)
           (turns_more old (ports_of s) n (suc n) (suc n) (suc n) base (omega arith) (omega arith) answered.turns)
 
@@ -611,7 +637,7 @@ module _ (laws : LawsBelow) (s : Server) (start : IsSettled s) (old : Moment) (r
       its_turns = turns_more old (ports_of s) (suc n) (suc n) (n + 1) (n + 1) (late ++ p.steps) (omega arith) (omega arith) (subst (AreTurns old (ports_of s) (suc n) (suc n)) (sym whole) then_on)
 
       its_answers : answers_of (late ++ p.steps) ≡ answers_of base
-      its_answers = ap answers_of whole ∙ issuing_answers (port_at n) b.later base b.last
+      its_answers = ap answers_of whole ∙ issuing_answers takes (port_at n) b.later base b.last
 
       told : before ++ replies ≡ map reply_of (p.answers ++ map with_ok b.ended)
       told =
@@ -726,7 +752,7 @@ module _ (laws : LawsBelow) (s new : Server) (replies : List Reply) (start : IsS
       emptied = λ e other h here own. not_unplugged Unplugged refl (p.turns.told e Unplugged h).0;
       alike = λ e other h here own. not_unplugged Unplugged refl (p.turns.told e Unplugged h).0;
     };
-    issues = λ port is. none_due later (after old.machine p.steps) stands port (settled.issued port);
+    issues = λ port is. none_due later (after old.machine p.steps) stands (mode_in later port) port (settled.issued port);
     emptied = emptied;
     becomes = serviced_same s.device old.ports old.ports (ports_of s) same;
     disk = λ port. inl (ports_same old.ports (ports_of s) same port);
@@ -779,7 +805,7 @@ module _ (laws : LawsBelow) (s new : Server) (replies : List Reply) (start : IsS
 
   pub service_event : (h : Happening Device DeviceStep) × (h.event.ask ≡ Service) × (h.event.said ≡ Served replies) × Leads first (h ∷ past) new
   service_event = subst (λ (x : Server). (h : Happening Device DeviceStep) × (h.event.ask ≡ Service) × (h.event.said ≡ Served replies) × Leads first (h ∷ past) x) (sym p.same)
-      (lead_by first past s later Service (Served replies) p.steps refl refl ? leads holds
+      (lead_by first past s later Service (Served replies) p.steps refl refl refl leads holds
       p.turns.may p.turns.belong p.turns.last p.turns.lawful all_answered
       p.driven.accesses
       (p.driven.all, subst (λ (ports : Ports). All (IsServing (TendsPort ports)) p.driven.accesses) (sym same) (λ i d small. turn_serving (TendsPort (ports_of s)) _ (p.driven.only i d small)))

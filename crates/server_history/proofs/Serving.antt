@@ -20,12 +20,13 @@ use Rattle.agreement.specs.Driver.{IsBacked}
 use Rattle.agreement.specs.Facts.{RunsWell, Undisturbed}
 use Rattle.agreement.specs.Slots.{IsOver, Serves, ServesRequest, Stage}
 use Rattle.agreement.proofs.Adding.{backed_then}
-use Rattle.agreement.proofs.Driven.{along, by_none, driven_as, followed_as, followed_then, followed_adds}
+use Rattle.agreement.proofs.Driven.{along, by_none, followed_as, followed_then, followed_adds}
 use Rattle.agreement.proofs.Finished.{access_over}
 use Rattle.block_machine.specs.Events.{AllDevices, AllMay, issues_it}
 use Rattle.block_machine.specs.Histories.{IsReached}
 use Rattle.block_machine.specs.Left.{after}
 use Rattle.block_machine.specs.State.{Machine, Pending}
+use Rattle.block_machine.specs.declared.due.Mode.{Mode}
 use Rattle.block_machine.specs.Steps.{Step, Answer}
 use Rattle.block_machine.proofs.EventLemmas.{after-append}
 use Rattle.block_machine.proofs.HistoryLemmas.{may-append, reached_more}
@@ -41,13 +42,13 @@ use Rattle.port_look.specs.Services.{IsService}
 use Rattle.port_look.specs.declared.Look.{Look}
 use Rattle.port_look.specs.declared.Look.TheVariants.{Undisturbed as Calm}
 use Rattle.port_look.proofs.Seeing.{seen_well}
-use Rattle.port_look.proofs.Serving.{looking_service, services_inactive}
+use Rattle.port_look.proofs.Serving.{looking_service, looks_inactive}
 use Rattle.request_queue.specs.Entries.{Held, asks_of, due_ids}
 use Rattle.slots.specs.Uses.{Uses as PortSlots}
 use Rattle.slots.specs.declared.Use.{Use as SlotUse}
 use Rattle.server_history.specs.Below.{LawsBelow}
-use Rattle.server_history.specs.Served.{AddsTurn, AnswersDone, AnswersEach, AnswersOne, HasNone, HasTurn, IsMaskOf, IssuesIn, IsAnsweredIn, ServesPort, answers_in, done_reply, is_used}
-use Rattle.server_history.specs.Server.{Server, IsKept, IsMachineOf, IsSettled, none_parked, plain_mode, slots_at, state_of, used_for, with_slot}
+use Rattle.server_history.specs.Served.{AddsTurn, AnswersDone, AnswersEach, AnswersOne, HasNone, HasTurn, IsMaskOf, IssuesIn, IssuesOnly, IsAnsweredIn, ServesPort, answers_in, done_reply, is_used}
+use Rattle.server_history.specs.Server.{Server, IsKept, IsMachineOf, IsSettled, mode_in, none_parked, slots_at, state_of, used_for, with_slot}
 use Rattle.server_history.proofs.Answering.{answer_kept}
 use Rattle.server_history.proofs.Asks.{none_issued}
 use Rattle.server_history.proofs.Coming.{bit_zero}
@@ -104,7 +105,7 @@ nobody_answered s new port settled turn followed never = record {
           first = x.4;
           last = tt;
         };
-        issues = none_issued (record s { device = new }) (after m x.0) x.2 x.0 (λ id. devices_issue_none id x.0 x.4) port (settled.issued port);
+        issues = none_issued (record s { device = new }) (after m x.0) x.2 x.0 (λ id. devices_issue_none id x.0 x.4) (mode_in s port) port (settled.issued port);
       };
   answered = λ well calm slot used small its ci sact. absurd (never well calm slot used small its ci sact);
 }
@@ -152,7 +153,7 @@ module _ (s : Server) (port : Port) (k : IsKept s) (ready : state_of (found_of s
       → (s.device.port port.0).sact slot ≡ false → ((seen.port port.0).ci slot ≡ false) × ((seen.port port.0).sact slot ≡ false)
   still_clear laws seen driven used its ci sact = (
     (still_over port slot s.device seen driven (clear_over used its ci sact)).issued,
-    services_inactive laws port.0 slot s.device seen (driven_as (IsLooking port) IsService s.device seen (looking_service port) driven) sact,
+    looks_inactive laws port port.0 slot s.device seen driven sact,
   )
 
 -- ---- who is told
@@ -284,7 +285,7 @@ module _ (s : Server) (seen : Device) (port : Port) (t : IsSettled s) (ready : s
         served = followed_then IsService AnyUse s.device seen found (looks_serve port s.device seen looks) (finds_serve laws port mask done seen found reads)
 
         seen_kept : IsKept (record s { device = seen })
-        seen_kept = looking_kept s seen port k ready laws.looks looks
+        seen_kept = looking_kept s seen port k ready laws looks
 
         found_kept : IsKept from
         found_kept = finding_kept (record s { device = seen }) found port seen_kept ready laws mask done reads
@@ -299,7 +300,11 @@ module _ (s : Server) (seen : Device) (port : Port) (t : IsSettled s) (ready : s
         mid_device = ap (λ (n : Server). n.device) (answers_settings laws port done a.requests from a.mid a.each)
 
         abbrev ids : List RequestId
-        ids = due_ids plain_mode port (asks_of a.mid.book)
+        ids = due_ids (mode_in a.mid port) port (asks_of a.mid.book)
+
+        -- it takes commands as it did
+        mode_is : mode_in a.mid port ≡ mode_in s port
+        mode_is = ap (λ (n : Server). mode_in n port) (answers_settings laws port done a.requests from a.mid a.each)
 
         turn_adds : (m : Machine) → IsReached m → IsMachineOf s m → AddsTurn port replies s new m
         turn_adds m reached is = record {
@@ -317,12 +322,12 @@ module _ (s : Server) (seen : Device) (port : Port) (t : IsSettled s) (ready : s
             before = x.0;
             steps_are = refl;
             first = x.4;
-            last = z.only;
+            last = subst (λ (mode : Mode). IssuesOnly mode port z.steps) mode_is z.only;
           };
-          issues = subst (λ (n : Machine). IssuesDue plain_mode (z.steps ++ base) n port) (sym (after-append m z.steps base))
-              (dues_carried laws z.steps (z.steps ++ base) (after (after m base) z.steps) (after (after m base) z.steps) port refl
+          issues = subst (λ (mode : Mode). IssuesDue mode (z.steps ++ base) (after m (z.steps ++ base)) port) mode_is (subst (λ (n : Machine). IssuesDue (mode_in a.mid port) (z.steps ++ base) n port) (sym (after-append m z.steps base))
+              (dues_carried laws (mode_in a.mid port) z.steps (z.steps ++ base) (after (after m base) z.steps) (after (after m base) z.steps) port refl
               (λ u here own. sym (any_append (issues_it u.id) z.steps base ∙ ap (λ (b : Bool). list_any (issues_it u.id) z.steps || b) (none_in_base u.id) ∙ or_none (list_any (issues_it u.id) z.steps)))
-              (dues laws port a.mid new mid_kept a.issued (after m base) z port (λ ne. absurd (ne refl))));
+              (dues laws port a.mid new mid_kept a.issued (after m base) z port (λ ne. absurd (ne refl)))));
         }
           where
             x : (steps : List Step) × AllMay m steps × IsMachineOf from (after m steps) × IsBacked s.device found m steps × AllDevices steps

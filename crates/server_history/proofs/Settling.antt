@@ -1,6 +1,7 @@
 -- Requests of a port whose slots were found done are answered, one after another; and then its due requests are issued.
 use Rattle.std.proofs.Common.{ℕ, ◌≡◌, ◌≢◌, List, [], ◌∷◌, inl, inr, sym, ap, ◌∙◌, subst}
 use Rattle.std.specs.List.{AllZip}
+use Rattle.std.proofs.lemmas.List.{get_or-set_other}
 use Rattle.ata_types.specs.declared.Port.{Port}
 use Rattle.ata_types.specs.declared.PortState.TheVariants.{Ready}
 use Rattle.ata_types.specs.declared.request.Outcome.TheVariants.{Ok}
@@ -9,7 +10,8 @@ use Rattle.adapter.specs.Device.{Device}
 use Rattle.agreement.specs.Driver.{IsBacked}
 use Rattle.agreement.proofs.Adding.{backed_then, nothing_backed}
 use Rattle.agreement.proofs.Calling.{own_backed}
-use Rattle.block_machine.specs.Due.{NoneDue, of_port}
+use Rattle.block_machine.specs.Due.{IsDue, NoneDue, of_port}
+use Rattle.block_machine.specs.declared.due.Mode.{Mode}
 use Rattle.block_machine.specs.Events.{AllMay}
 use Rattle.block_machine.specs.Histories.{IsReached}
 use Rattle.block_machine.specs.Left.{after}
@@ -23,9 +25,9 @@ use Rattle.host_boot.specs.declared.Found.{Found}
 use Rattle.request_queue.specs.Entries.{Held, IsInOrder, asks, asks_of, due_ids}
 use Rattle.server_history.specs.Below.{LawsBelow}
 use Rattle.server_history.specs.Served.{AnswersDone, AnswersEach, AnswersOne, AnswersTurn, HasEnded, HasTurn, SameSettings, answers_in}
-use Rattle.server_history.specs.Server.{Server, IsKept, IsMachineOf, IsSettled, mode_in, slots_at, state_of}
+use Rattle.server_history.specs.Server.{Server, IsKept, IsMachineOf, IsSettled, mode_in, no_slots, slots_at, state_of}
 use Rattle.server_history.proofs.Answering.{IsAnswer, answer_kept, answer_one}
-use Rattle.server_history.proofs.Rounds.{each_apart, each_settings, settled}
+use Rattle.server_history.proofs.Rounds.{each_apart, each_settings, each_slots, settled}
 use Rattle.dma_frames.specs.Table.{Table}
 use Rattle.server_history.proofs.Slots.{AreOver}
 
@@ -62,6 +64,12 @@ module _ (laws : LawsBelow) (port : Port) (done : ℕ) where
   answers_settings [] old new none = none ∙ ap (λ (n : Server). record old { table = n.table; slots = n.slots; book = n.book }) (sym none)
   answers_settings (e ∷ requests) old new (mid, one, its, more) =
       answers_settings requests mid new more ∙ ap (λ (n : Server). record n { table = new.table; slots = new.slots; book = new.book }) one.server
+
+  -- and the slots of other ports as they were
+  pub answers_slots : (requests : List Held) (old new : Server) → AnswersEach port done requests old new → (other : ℕ) → other ≢ port.0 → slots_at new.slots other ≡ slots_at old.slots other
+  answers_slots [] old new none other ne = ap (λ (n : Server). slots_at n.slots other) none
+  answers_slots (e ∷ requests) old new (mid, one, its, more) other ne =
+      answers_slots requests mid new more other ne ∙ ap (λ (n : Server). slots_at n.slots other) one.server ∙ get_or-set_other old.slots port.0 other _ no_slots ne
 
   -- what is over and ready stays so
   pub over_on : (e : Held) (old mid : Server) → AnswersOne port e old mid → AreOver port done old.device → AreOver port done mid.device
@@ -103,7 +111,9 @@ module _ (laws : LawsBelow) (port : Port) (done : ℕ) where
     where
       none_other : (other : Port) → other ≢ port → NoneDue (mode_in a.mid other) (asks_of a.mid.book) other
       none_other other ne r own due =
-          t.issued other r own ((laws.same_due (mode_in s other) other (asks_of a.mid.book) (asks_of s.book) r (answers_apart a.requests s a.mid t.kept.ordered a.each other ne) own).0 due)
+          let mode_is : mode_in a.mid other ≡ mode_in s other = ap (λ (n : Server). mode_in n other) (answers_settings a.requests s a.mid a.each) in
+          let here : IsDue (mode_in s other) (asks_of a.mid.book) r = subst (λ (mode : Mode). IsDue mode (asks_of a.mid.book) r) mode_is due in
+          t.issued other r own ((laws.same_due (mode_in s other) other (asks_of a.mid.book) (asks_of s.book) r (answers_apart a.requests s a.mid t.kept.ordered a.each other ne) own).0 here)
 
 -- ---- a port's turn
 
@@ -131,3 +141,12 @@ turn_apart laws port replies old new turn order (inr (calm, some, a)) other ne =
     let c = (turn.calm calm).checks some in
     each_apart laws port (due_ids (mode_in a.mid port) port (asks_of a.mid.book)) a.mid new (answers_order laws port c.done a.requests (record old { device = c.read }) a.mid order a.each) a.issued other ne
     ∙ answers_apart laws port c.done a.requests (record old { device = c.read }) a.mid order a.each other ne
+
+-- and of the slots of another port
+pub turn_slots : LawsBelow → (port : Port) (replies : List Reply) (old new : Server) (turn : HasTurn port (slots_at old.slots port.0) replies old.device new.device) → AnswersTurn port replies old new turn
+    → (other : ℕ) → other ≢ port.0 → slots_at new.slots other ≡ slots_at old.slots other
+turn_slots laws port replies old new turn (inl (none, is)) other ne = ap (λ (n : Server). slots_at n.slots other) is
+turn_slots laws port replies old new turn (inr (calm, some, a)) other ne =
+    let c = (turn.calm calm).checks some in
+    each_slots laws port (due_ids (mode_in a.mid port) port (asks_of a.mid.book)) a.mid new a.issued other ne
+    ∙ answers_slots laws port c.done a.requests (record old { device = c.read }) a.mid a.each other ne

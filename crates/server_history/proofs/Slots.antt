@@ -1,7 +1,10 @@
 -- What the slots of ports are used for, and how that of a ready port is given up.
-use Rattle.std.proofs.Common.{ℕ, ◌≡◌, ◌≢◌, ◌≤◌, ◌<◌, ◌+◌, ◌/◌, ◌%◌, ◌⊎◌, true, false, not, map, List, Option, None, Some, inl, inr, refl, sym, ap, ◌∙◌, subst, ⊎_elim, arith, eq-eqb}
+use Rattle.std.proofs.Common.{ℕ, Bool, ◌&&◌, ◌≡◌, ◌≢◌, ◌≤◌, ◌<◌, ◌+◌, ◌/◌, ◌%◌, ◌⊎◌, true, false, not, List, Option, None, Some, inl, inr, refl, sym, ap, ◌∙◌, subst, ⊎_elim, arith}
 use Rattle.std.specs.List.{All, Contains}
-use Rattle.std.proofs.lemmas.Bool.{and_from, cases_Bool, cases_eq, cases_lt, cond-true, false≢true, or_left}
+use Rattle.std.specs.Prelude.{if◌then◌else◌, min}
+use Rattle.std.proofs.Math.Nat.{min-eq_left, min-eq_right, min-le_left, min-le_right}
+use Rattle.identify.specs.declared.wanted.Wanted.{Wanted}
+use Rattle.std.proofs.lemmas.Bool.{cases_Bool, cases_eq, cases_lt, false≢true}
 use Rattle.std.proofs.lemmas.List.Elements.{All-contains}
 use Rattle.ata_types.specs.declared.Port.{Port}
 use Rattle.ata_types.specs.declared.PortState.TheVariants.{Absent, Dead, Ready as ReadyState}
@@ -71,14 +74,50 @@ of_ready s k e here = All-contains (λ (x : Held). state_of (found_of s.ports x.
 
 -- ---- how a port takes commands
 
--- any port has 1 to 32 usable slots, no more than the adapter has, and one where commands aren't queued
-pub mode_fit : (cap : ℕ) (found : Found) → IsMode (mode_found cap found) × ((mode_found cap found).usable ≤ cap / 256 % 32 + 1)
-mode_fit cap Unserved = ((omega arith, omega arith, λ plain. refl), omega arith)
-mode_fit cap (Ready info) = ((omega arith, omega arith, λ plain. refl), omega arith)
-mode_fit cap (Unready state) = ((omega arith, omega arith, λ plain. refl), omega arith)
+-- a disk that was found takes one command at a time at least
+abbrev TakesSome : Found → Type 0
+TakesSome (Ready info) = 1 ≤ info.depth
+TakesSome _ = Unit {0}
+
+takes_some : (wanted : Wanted) (found : Found) (port : ℕ) (d : Device) → StillStandsBehind wanted found port d → TakesSome found
+takes_some wanted Unserved port d behind = tt
+takes_some wanted (Ready info) port d behind = let depth = behind.1.fit.tells.depth in omega (arith, depth)
+takes_some wanted (Unready state) port d behind = tt
+
+some_min : (a b : ℕ) → 1 ≤ a → 1 ≤ b → 1 ≤ min a b
+some_min a b x y = ⊎_elim
+    (λ (less : a < b). subst (λ (n : ℕ). 1 ≤ n) (sym (min-eq_left (omega (arith, less)))) x)
+    (λ (most : b ≤ a). subst (λ (n : ℕ). 1 ≤ n) (sym (min-eq_right most)) y)
+    (cases_lt a b)
+
+-- with such a disk, a port has 1 to 32 usable slots, no more than the adapter has, and one where commands aren't queued
+abbrev FitsIn : ℕ → Mode → Type 0
+FitsIn cap mode = IsMode mode × (mode.usable ≤ cap / 256 % 32 + 1)
+
+mode_fit : (cap : ℕ) (found : Found) → TakesSome found → FitsIn cap (mode_found cap found)
+mode_fit cap Unserved some = ((omega arith, omega arith, λ plain. refl), omega arith)
+mode_fit cap (Ready info) some = by (bit cap 30 && info.ncq)
+  where
+    many : ℕ
+    many = cap / 256 % 32 + 1
+
+    most : min many (min info.depth 32) ≤ min info.depth 32
+    most = min-le_right many (min info.depth 32)
+
+    by : (b : Bool) → FitsIn cap (if b then record { queued = true; usable = min (cap / 256 % 32 + 1) (min info.depth 32) } else record { queued = false; usable = 1 })
+    by true = (
+      (some_min many (min info.depth 32) (omega arith) (some_min info.depth 32 some (omega arith)), (let l = min-le_right info.depth 32 in omega (arith, most, l)), λ plain. let z : true ≡ false = plain in absurd cc),
+      min-le_left many (min info.depth 32),
+    )
+    by false = ((omega arith, omega arith, λ plain. refl), omega arith)
+mode_fit cap (Unready state) some = ((omega arith, omega arith, λ plain. refl), omega arith)
+
+pub stood_mode : (wanted : Wanted) (found : Found) (port : ℕ) (d : Device) → StillStandsBehind wanted found port d → IsMode (mode_found d.cap found) × ((mode_found d.cap found).usable ≤ d.cap / 256 % 32 + 1)
+stood_mode wanted found port d behind = mode_fit d.cap found (takes_some wanted found port d behind)
 
 pub its_mode : (s : Server) (port : ℕ) → IsKept s → port < 4 → IsMode (mode_at s.modes port) × ((mode_at s.modes port).usable ≤ s.device.cap / 256 % 32 + 1)
-its_mode s port k low = subst (λ (m : Mode). IsMode m × (m.usable ≤ s.device.cap / 256 % 32 + 1)) (sym (k.modes port low)) (mode_fit s.device.cap (found_of s.ports port))
+its_mode s port k low =
+    subst (λ (m : Mode). IsMode m × (m.usable ≤ s.device.cap / 256 % 32 + 1)) (sym (k.modes port low)) (stood_mode (wanted_of s.wanted port) (found_of s.ports port) port s.device (k.behind port low).behind)
 
 -- a ready port may use the slots of its mode
 pub usable_ready : (s : Server) (port : ℕ) (k : IsKept s) → state_of (found_of s.ports port) ≡ ReadyState → usable_of (found_of s.ports port) (mode_at s.modes port) ≡ (mode_at s.modes port).usable
@@ -130,12 +169,15 @@ used_low s port slot u k low used =
 
 -- a used slot is one of the 32 of one of the four ports
 pub used_there : (s : Server) (port slot : ℕ) (u : SlotUse) → IsKept s → used_for s.slots port slot ≡ Some u → (port < 4) × (slot < 32)
-used_there s port slot u k used = (low, ⊎_elim
-    (λ (small : slot < 32). small)
-    (λ (high : 32 ≤ slot).
-    let many = (k.slots port low).places in
-    let z : None ≡ Some u = sym (get_or_past (slots_at s.slots port).places slot None (omega (arith, many, high))) ∙ used in absurd cc)
-    (cases_lt slot 32))
+used_there s port slot u k used = (
+  low,
+  ⊎_elim
+      (λ (small : slot < 32). small)
+      (λ (high : 32 ≤ slot).
+      let many = (k.slots port low).places in
+      let z : None ≡ Some u = sym (get_or_past (slots_at s.slots port).places slot None (omega (arith, many, high))) ∙ used in absurd cc)
+      (cases_lt slot 32),
+)
   where
     low : port < 4
     low = ⊎_elim
@@ -145,6 +187,18 @@ used_there s port slot u k used = (low, ⊎_elim
         let none = get_or_past s.slots port no_slots (omega (arith, four, high)) in
         let z : None ≡ Some u = sym (ap (λ (x : PortSlots). use_at x slot) none) ∙ used in absurd cc)
         (cases_lt port 4)
+
+-- and that port is ready
+pub used_ready : (s : Server) (port slot : ℕ) (u : SlotUse) → IsKept s → used_for s.slots port slot ≡ Some u → state_of (found_of s.ports port) ≡ ReadyState
+used_ready s port slot u k used = by (found_of s.ports port) refl
+  where
+    unused : usable_of (found_of s.ports port) (mode_at s.modes port) ≡ 0 → ⊥
+    unused none = let low = used_low s port slot u k (used_there s port slot u k used).0 used in omega (arith, low, none)
+
+    by : (f : Found) → found_of s.ports port ≡ f → state_of f ≡ ReadyState
+    by Unserved is = absurd (unused (ap (λ (f : Found). usable_of f (mode_at s.modes port)) is))
+    by (Ready info) is = refl
+    by (Unready state) is = absurd (unused (ap (λ (f : Found). usable_of f (mode_at s.modes port)) is))
 
 pub busy_used : (used : Option SlotUse) → is_used used ≡ true → (u : SlotUse) × (used ≡ Some u)
 busy_used None busy = absurd (false≢true busy)
@@ -254,8 +308,8 @@ module _ (laws : LawsBelow) (s : Server) (e : Held) (k : IsKept s) (here : Conta
   may = (
     x.1,
     (let B : List Unanswered → Type 0 = λ book. IsDue mode book (unanswered p) in
-    let R : Unanswered → Type 0 = λ r. IsDue mode (asks_of s.book) r in
-    subst B (sym (same_book s.book k.machine.book k.stands.book)) (subst R (sym (asked_alike e p x.2)) due)),
+        let R : Unanswered → Type 0 = λ r. IsDue mode (asks_of s.book) r in
+        subst B (sym (same_book s.book k.machine.book k.stands.book)) (subst R (sym (asked_alike e p x.2)) due)),
     λ y there. absurd (contains_none y (subst (λ (es : List Pending). Contains es y) k.stands.kept there)),
   )
 

@@ -5,7 +5,7 @@ use Rattle.ata_types.specs.declared.Port.{Port}
 use Rattle.hba_regs.specs.declared.reg.PortReg.TheVariants.{Cmd, Clb}
 use Rattle.hba_regs.specs.declared.reg.Reg.TheVariants.{Px}
 use Rattle.adapter.specs.Access.{Access}
-use Rattle.adapter.specs.Access.Access.{Reading, Writing, Loading, Storing}
+use Rattle.adapter.specs.Access.Access.{Storing}
 use Rattle.agreement.specs.Links.{SparesRegister}
 use Rattle.agreement.specs.Places.{IsTable}
 use Rattle.agreement.specs.Readying.{LeavesStored}

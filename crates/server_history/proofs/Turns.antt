@@ -23,7 +23,6 @@ use Rattle.block_machine.proofs.HistoryLemmas.{reached_more}
 use Rattle.block_machine.proofs.Members.{at_cases, contains_cases, contains_none, into_map, map_in, without_in}
 use Rattle.block_machine.proofs.Standing.{standing}
 use Rattle.server_history.specs.Served.{IssuesOnly}
-use Rattle.server_history.specs.Server.{plain_mode}
 use Rattle.server_history.proofs.Devices.{not_handled}
 use Rattle.server_history.proofs.Rounds.{not_true}
 use Rattle.server_history.proofs.Told.{no_evidence}
@@ -263,8 +262,8 @@ module _ (old : Moment) (ports : Ports) where
         left y there other = ⊎_elim (λ q. absurd (other (one (suc n) (suc n) x y there q.0))) (λ q. q.1) (at_cases e.request.id issue y)
 
 -- requests of the port are issued by such steps
-module _ (old : Moment) (ports : Ports) (reached : IsReached old.machine) (n : ℕ) (port : Port) (its : port.0 ≡ n) (ready : ports.state port ≡ Ready) (takes : ports.mode port ≡ plain_mode) where
-  pub issues_on : (late base : List Step) → IssuesOnly port late → AllMay (after old.machine base) late → AreTurns old ports (suc n) (suc n) base → AreTurns old ports (suc n) (suc n) (late ++ base)
+module _ (old : Moment) (ports : Ports) (reached : IsReached old.machine) (n : ℕ) (port : Port) (its : port.0 ≡ n) (ready : ports.state port ≡ Ready) (kind : Mode) (takes : ports.mode port ≡ kind) where
+  pub issues_on : (late base : List Step) → IssuesOnly kind port late → AllMay (after old.machine base) late → AreTurns old ports (suc n) (suc n) base → AreTurns old ports (suc n) (suc n) (late ++ base)
   issues_on [] base only may x = x
   issues_on (Issue mode e ∷ late) base only may x =
       issue_on old ports reached n (late ++ base) e (ap (λ (p : Port). p.0) only.1 ∙ its) its_may.0 mode its_may

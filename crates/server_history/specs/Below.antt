@@ -1,5 +1,5 @@
 -- What laws of the crates below say of requests, of transfers, and of accesses that serve ports: the laws of this crate rest on them.
-use Rattle.std.specs.Prelude.{ℕ, true, false, ◌≡◌, ◌≢◌, ◌≤◌, ◌<◌, ◌↔◌, List, [], ◌∷◌, ◌++◌, map, Option, None, All, Contains}
+use Rattle.std.specs.Prelude.{ℕ, true, false, ◌≡◌, ◌≢◌, ◌≤◌, ◌<◌, ◌↔◌, List, [], ◌∷◌, ◌++◌, map, Option, None, All, Contains, length}
 use Rattle.ata_types.specs.declared.Port.{Port}
 use Rattle.ata_types.specs.declared.grant.GrantRow.{GrantRow}
 use Rattle.ata_types.specs.declared.request.Frame.{Frame}
@@ -13,6 +13,14 @@ use Rattle.adapter.specs.Rules.{IsOn}
 use Rattle.agreement.specs.Acts.{Act, AreDone, InSlots, accesses_of}
 use Rattle.agreement.specs.Agrees.{Agrees}
 use Rattle.agreement.specs.Readying.{IsStored, LeavesStored}
+use Rattle.adapter.specs.Access.{Access, Does}
+use Rattle.adapter.specs.Access.Access.{Storing}
+use Rattle.adapter.specs.Says.{Says}
+use Rattle.agreement.specs.Driver.{MissesTable}
+use Rattle.agreement.specs.Links.{SparesRegister}
+use Rattle.agreement.specs.Started.{ClearsNoStart}
+use Rattle.hba_regs.specs.declared.reg.PortReg.TheVariants.{Clb}
+use Rattle.hba_regs.specs.declared.reg.Reg.TheVariants.{Px}
 use Rattle.agreement.specs.Acts.{at as at_slots}
 use Rattle.agreement.specs.Driven.{AnyUse, IsFollowed, IsOf, SendsNone}
 use Rattle.agreement.specs.Driver.{EndsWith, Known, Knows}
@@ -70,9 +78,15 @@ pub record LawsBelow : Type 0 where
   pub queued_free : (uses : Uses) (m : Machine) (d : Device) → IsReached m → Agrees uses m d → (mode : Mode) (e : Pending) → May m (Issue mode e)
       → ((o : Operation) → uses e.request.port.0 0 ≡ Own o → ⊥) → ((slot : ℕ) → uses e.request.port.0 slot ≡ Armed → ⊥) → is_plain mode e.request.asked.op ≡ false
       → (slot : ℕ) × (slot < mode.usable) × (uses e.request.port.0 slot ≡ Free)
+  -- the bytes of a slot say one command
+  pub one_said : (memory : ℕ → ℕ) (list slot : ℕ) (m n : Meaning) (xs ys : List ℕ) → Says memory list slot m xs → Says memory list slot n ys → (m ≡ n) × (xs ≡ ys)
   -- what is stored for a slot stays so over acts that leave it
   pub stored : (port : Port) (slot : ℕ) (c : Meaning) (places : List ℕ) (acts : List Act) (k later : Known) (m : Machine) → IsReached m → Knows m k → AreDone acts k m later
       → All (LeavesStored port slot) (accesses_of acts) → IsOn k.device → IsStored k.device port.0 slot c places → IsStored later.device port.0 slot c places
+  -- and over an access that leaves it
+  pub stored_access : (uses : Uses) (m : Machine) (port : Port) (slot : ℕ) (c : Meaning) (places : List ℕ) (access : Access) (old new : Device) → IsReached m → Agrees uses m old → old.hr ≡ false
+      → ClearsNoStart port access → SparesRegister (Px port Clb) access → ((at : ℕ) (bytes : List ℕ) → access ≡ Storing at bytes → MissesTable port.0 slot at (length bytes)) → Does access old new
+      → IsStored old port.0 slot c places → IsStored new port.0 slot c places
   -- accesses that serve ports
   pub looks : Laws
   -- a transfer is issued

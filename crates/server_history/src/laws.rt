@@ -42,8 +42,9 @@ ghost use Rattle.port_look.specs.Looks.{IsLooking, LooksAt};
 ghost use Rattle.port_look.specs.declared.Look.{Look};
 ghost use Rattle.port_look.specs.declared.Look.TheVariants.{Undisturbed as Calm};
 
+use adapter::laws::saying_is_one;
 use agreement::laws::due_finds_free_slot;
-use agreement::readying::stored_stays_over_acts;
+use agreement::readying::{readied_stays, stored_stays_over_acts};
 use block_machine::laws::{due_in_turn, due_is_exact, other_ports_stay, own_requests_count};
 use host_boot::laws::what_was_taken_over_may_be_served;
 use ncq::laws::{calls_are_of_one_port, finding_is_followed, issuing_performs};
@@ -70,7 +71,9 @@ fn the_laws_below_hold()
     own_requests_count();
     other_ports_stay();
     due_finds_free_slot();
+    saying_is_one();
     stored_stays_over_acts();
+    readied_stays();
     laws_hold();
     issuing_performs();
     calls_are_of_one_port();

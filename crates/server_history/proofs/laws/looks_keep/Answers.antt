@@ -2,7 +2,7 @@ use Rattle.server_history.proofs.Looking.{looking_kept, finding_kept, found_over
 use Rattle.server_history.proofs.laws.looks_keep.Goals as goal
 
 pub returns-clause-looking : goal.returns-clause-looking
-returns-clause-looking c s new port k ready followed = looking_kept s new port k ready c.the_laws_below_hold.ensures.looks followed
+returns-clause-looking c s new port k ready followed = looking_kept s new port k ready c.the_laws_below_hold.ensures followed
 
 pub returns-clause-finding : goal.returns-clause-finding
 returns-clause-finding c s new port mask done k ready finds = finding_kept s new port k ready c.the_laws_below_hold.ensures mask done finds

@@ -1,0 +1,100 @@
+-- The bytes of a slot of a ready port say one request's command.
+use Rattle.std.proofs.Common.{ℕ, ◌≡◌, ◌≤◌, ◌⊎◌, List, length, slice_index, Some, inl, inr, refl, sym, ap, ◌∙◌, subst, ⊎_elim, arith}
+use Rattle.std.specs.List.{Contains}
+use Rattle.std.proofs.lemmas.List.Elements.{All-contains}
+use Rattle.ata_types.specs.declared.PortState.TheVariants.{Ready as ReadyState}
+use Rattle.ata_types.specs.declared.request.Frame.{Frame}
+use Rattle.ata_types.specs.declared.request.Op.{Op}
+use Rattle.ata_types.specs.declared.request.Op.TheVariants.{Read, Write}
+use Rattle.ata_types.specs.declared.request.RequestId.{RequestId}
+use Rattle.agreement.specs.Places.{place_in}
+use Rattle.agreement.specs.Slots.{ArePlaces, ServesRequest}
+use Rattle.block_machine.specs.Rules.{IsCount, frames_for}
+use Rattle.block_machine.specs.State.{Accepted, Machine, Pending, frame_at}
+use Rattle.block_machine.proofs.Members.{contains_none}
+use Rattle.dma_frames.specs.Table.{lent_to}
+use Rattle.host_boot.specs.Taken.{found_of}
+use Rattle.request_queue.specs.Entries.{Held, IsAccepted}
+use Rattle.request_queue.specs.Machine.{IsEntry}
+use Rattle.slots.specs.declared.Use.{Use as SlotUse}
+use Rattle.server_history.specs.Below.{LawsBelow}
+use Rattle.server_history.specs.Server.{Server, IsKept, IsMachineOf, state_of, used_for}
+use Rattle.server_history.proofs.Slots.{IsServedBy, served_request, serves_used, transfers}
+use Rattle.server_history.proofs.Zips.{at_right}
+
+-- the first place of a read or a write is that of its first frame
+first_place : (op : Op) → (op ≡ Read) ⊎ (op ≡ Write) → (port : ℕ) (r : Accepted) (places : List ℕ) → ArePlaces op port r places → 1 ≤ r.asked.count → slice_index places 0 ≡ place_in r.asked.frames.items 0
+first_place op (inl reads) port r places are some = (subst (λ (o : Op). ArePlaces o port r places) reads are).1 0 some
+first_place op (inr writes) port r places are some = (subst (λ (o : Op). ArePlaces o port r places) writes are).1 0 some
+
+module _ (laws : LawsBelow) (s : Server) (k : IsKept s) (m : Machine) (is : IsMachineOf s m) where
+  -- a request of the book has a first frame, which is lent to it
+  record HasFirst (p : Pending) : Type 0 where
+    some : 1 ≤ p.request.asked.count
+    transfers_it : (p.request.asked.op ≡ Read) ⊎ (p.request.asked.op ≡ Write)
+    lent : lent_to s.table (frame_at p.request.asked.frames.items 0) ≡ Some p.request.id
+
+  has_first : (p : Pending) → Contains m.book p → HasFirst p
+  has_first p here = record { some = subst (λ (n : ℕ). 1 ≤ n) (sym (ap (λ r. r.count) x.2.range)) many; transfers_it = its_op; lent = its_lent }
+    where
+      x : (h : Held) × Contains s.book h × IsEntry h p
+      x = at_right IsEntry s.book m.book is.book p here
+
+      a : IsAccepted s.grants s.table x.0
+      a = All-contains (IsAccepted s.grants s.table) s.book x.0 k.accepted x.1
+
+      op : (x.0.entry.op ≡ Read) ⊎ (x.0.entry.op ≡ Write)
+      op = transfers s k x.0 x.1
+
+      its_op : (p.request.asked.op ≡ Read) ⊎ (p.request.asked.op ≡ Write)
+      its_op = subst (λ (o : Op). (o ≡ Read) ⊎ (o ≡ Write)) (sym x.2.op) op
+
+      -- one sector at least, in one frame at least
+      sized : (o : Op) → (o ≡ Read) ⊎ (o ≡ Write) → x.0.entry.op ≡ o → (1 ≤ x.0.entry.range.count) × (1 ≤ length x.0.frames)
+      sized o (inl reads) same =
+          let c = subst (λ (y : Op). IsCount y x.0.entry.range.count) (same ∙ reads) a.sectors in let f = a.frames ∙ ap (λ (y : Op). frames_for y x.0.entry.range.count) (same ∙ reads) in let c0 = c.0 in (c0, omega (arith, c0, f))
+      sized o (inr writes) same =
+          let c = subst (λ (y : Op). IsCount y x.0.entry.range.count) (same ∙ writes) a.sectors in let f = a.frames ∙ ap (λ (y : Op). frames_for y x.0.entry.range.count) (same ∙ writes) in let c0 = c.0 in (c0, omega (arith, c0, f))
+
+      many : 1 ≤ x.0.entry.range.count
+      many = (sized x.0.entry.op op refl).0
+
+      its_lent : lent_to s.table (frame_at p.request.asked.frames.items 0) ≡ Some p.request.id
+      its_lent =
+          subst (λ (frames : List Frame). lent_to s.table (frame_at frames 0) ≡ Some p.request.id) (sym x.2.frames)
+          (a.lent 0 (record { 0 = 0 }) (sized x.0.entry.op op refl).1 ∙ ap Some (sym x.2.id))
+
+  -- what a used slot says besides is its own request's
+  pub one_said : (port slot : ℕ) (used : SlotUse) (id : RequestId) → state_of (found_of s.ports port) ≡ ReadyState → used_for s.slots port slot ≡ Some used
+      → ServesRequest m s.device.memory (s.device.port port) port slot id → id ≡ used.id
+  one_said port slot used id ready its says = sym says.id_is ∙ same_some (sym there.lent ∙ ap (lent_to s.table) frame_is ∙ own.lent) ∙ x.serves.id_is
+    where
+      same_some : {a b : RequestId} → Some a ≡ Some b → a ≡ b
+      same_some e = cc
+
+      x : IsServedBy s m port slot used.id
+      x = served_request s m port slot is used.id (serves_used s m port is ready slot used its)
+
+      booked : Contains m.book says.pending
+      booked = ⊎_elim
+          (λ b. b.0)
+          (λ kept. absurd (contains_none says.pending (subst (λ (es : List Pending). Contains es says.pending) is.kept kept)))
+          says.moves
+
+      there : HasFirst says.pending
+      there = has_first says.pending booked
+
+      own : HasFirst x.serves.pending
+      own = has_first x.serves.pending x.here
+
+      places_are : says.places ≡ x.serves.places
+      places_are = (laws.one_said s.device.memory (s.device.port port).bases.clb slot says.command x.serves.command says.places x.serves.places says.told.says x.serves.told.says).1
+
+      first_is : place_in says.pending.request.asked.frames.items 0 ≡ place_in x.serves.pending.request.asked.frames.items 0
+      first_is =
+          sym (first_place says.pending.request.asked.op there.transfers_it port says.pending.request says.places says.means.places_are there.some)
+          ∙ ap (λ (places : List ℕ). slice_index places 0) places_are
+          ∙ first_place x.serves.pending.request.asked.op own.transfers_it port x.serves.pending.request x.serves.places x.serves.means.places_are own.some
+
+      frame_is : frame_at says.pending.request.asked.frames.items 0 ≡ frame_at x.serves.pending.request.asked.frames.items 0
+      frame_is = ap (λ (n : ℕ). record { 0 = n }) (let f = first_is in omega (arith, f))
