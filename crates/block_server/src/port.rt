@@ -1,5 +1,5 @@
 // What is due on a port is issued.
-ghost use Rattle.std.specs.Prelude.{◌≡◌, [], map};
+ghost use Rattle.std.specs.Prelude.{◌≡◌, [], length, map};
 ghost use Rattle.block_machine.specs.Due.{IsDue, due_of};
 ghost use Rattle.block_server.specs.Ports.{Lends, with_part};
 ghost use Rattle.request_queue.specs.Entries.{Held, asks, asks_of};
@@ -60,6 +60,7 @@ pub(crate) fn issue_due<A: Adapter>(
     requires lends { (s : Server) × Lends s (A.device adapter.old) book.old slots.old port mode }
     ensures issues { (s : Server) → Lends s (A.device adapter.old) book.old slots.old port mode
         → IssuesAll port s (with_part s (A.device adapter.new) book.new slots.new port) }
+    ensures as_many { length book.new ≡ length book.old }
     ensures none { due_of mode port (asks_of book.old) ≡ [] → adapter.new ≡ adapter.old }
 {
     due_in_turn();

@@ -1,8 +1,10 @@
-use Rattle.std.proofs.Common.{◌≡◌, Bool, List, Some, not, ap, ◌∙◌, subst}
+use Rattle.std.proofs.Common.{◌≡◌, ◌<◌, ◌≤◌, ◌/◌, ◌%◌, List, Some, not, ap, ◌∙◌, subst}
+use Rattle.agreement.specs.Driven.{AgreesWith}
 use Rattle.agreement.specs.Readying.{IsStored}
 use Rattle.ata_types.specs.declared.request.Frame.{Frame}
 use Rattle.block_machine.specs.Due.{is_plain}
 use Rattle.command_table.specs.Places.{places_of}
+use Rattle.command_table.specs.Written.{IsUnused}
 use Rattle.ncq.specs.Transfers.{IssuesTransfer, meaning_of}
 use Rattle.ncq.specs.declared.Transfer.{Transfer}
 use Rattle.request_queue.specs.declared.Entry.{Entry}
@@ -28,22 +30,6 @@ issue-requires-clause-fits g c =
     c.request-entry.result (sending.entry_is l.0 device book slots c.args.port c.args.mode l.1 c.args.id c.requires.due one c.request-entry.result c.request-entry.ensures)
     c.frames.result.now (c.frames.ensures.frames ∙ sending.frames_are l.0 device book slots c.args.port c.args.mode l.1 c.args.id c.requires.due one c.loan.result.now.frames c.loan.ensures.held)
 
-may : (g : Over) (c : In-Some g) → (c.in-Some.slot.0 < 32) × (c.in-Some.slot.0 ≤ (g.A.Adapter.device c.args.adapter.now).cap / 256 % 32)
-    × AgreesWith (IsUnused c.args.port.0 c.in-Some.slot.0) (g.A.Adapter.device c.args.adapter.now)
-may g c =
-    let l = c.requires.lends in
-    sending.may_issue l.0 (g.A.Adapter.device c.args.adapter.now) c.args.book.now c.args.slots.now c.args.port c.args.mode l.1 c.args.id c.requires.due c.a_due_request_may_issue.ensures.lowest
-    c.in-Some.slot.0 c.in-Some.ensures.lowest
-
-pub issue-requires-clause-slot : goal.issue-requires-clause-slot
-issue-requires-clause-slot g c = (may g c.before).0
-
-pub issue-requires-clause-usable : goal.issue-requires-clause-usable
-issue-requires-clause-usable g c = (may g c.before).1
-
-pub issue-requires-clause-agreed : goal.issue-requires-clause-agreed
-issue-requires-clause-agreed g c = (may g c.before).2
-
 pub returns : goal.returns
 returns g c = record {
   issues = λ s l.
@@ -53,6 +39,7 @@ returns g c = record {
       let one = c.an_id_is_one_request.ensures.one in
       let e = c.requires.due.0 in
       let transfer : Transfer = record { op = c.request-entry.result.op; range = c.request-entry.result.range; queued = not c.is_plain.result } in
+      let small = (sending.may_issue s (device c.args.adapter.now) c.args.book.now c.args.slots.now port c.args.mode l c.args.id c.requires.due c.a_due_request_may_issue.ensures.lowest slot c.in-Some.ensures.lowest).0 in
       let entry_is = sending.entry_is s (device c.args.adapter.now) c.args.book.now c.args.slots.now port c.args.mode l c.args.id c.requires.due one c.request-entry.result c.request-entry.ensures in
       let transfer_is = sending.transfer_is s (device c.args.adapter.now) c.args.book.now c.args.slots.now port c.args.mode l c.args.id c.requires.due c.is_plain.result c.request-entry.result c.is_plain.ensures entry_is in
       let lent_is = c.frames.ensures.frames ∙ sending.frames_are s (device c.args.adapter.now) c.args.book.now c.args.slots.now port c.args.mode l c.args.id c.requires.due one c.loan.result.now.frames c.loan.ensures.held in
@@ -61,7 +48,7 @@ returns g c = record {
       let FS : List Frame → Type 0 = λ frames. IsStored (device c.issue.new.adapter) port.0 slot (meaning_of transfer) (places_of frames transfer.range.count) in
       let TS : Transfer → Type 0 = λ t. IsStored (device c.issue.new.adapter) port.0 slot (meaning_of t) (places_of e.frames t.range.count) in
       sending.sent s (device c.args.adapter.now) c.args.book.now c.args.slots.now port c.args.mode l c.args.id c.requires.due
-      slot (may g c.before).0 c.in-Some.ensures.lowest (device c.issue.new.adapter)
+      slot small c.in-Some.ensures.lowest (device c.issue.new.adapter)
       (subst T transfer_is (subst F lent_is c.issue.ensures.issues)) (subst TS transfer_is (subst FS lent_is c.issue.ensures.stored)) c.issue-2.new.self c.issue-2.ensures
       c.take.new.self (c.in-Some.ensures.taken ∙ ap (λ (t : Transfer). with_use c.args.slots.now slot (Some (record { id = c.args.id; queued = t.queued }))) transfer_is);
 }
