@@ -1,16 +1,16 @@
 // What is done on a port is answered.
-ghost use Rattle.std.specs.Prelude.{ℕ, ◌≡◌, ◌≤◌, ◌<◌, ◌+◌, length, Some, true};
+ghost use Rattle.std.specs.Prelude.{ℕ, ◌≡◌, ◌≤◌, ◌<◌, ◌+◌, length, None, Some, true};
 ghost use Rattle.ata_types.specs.declared.Port.{Port};
 ghost use Rattle.block_server.specs.Ports.{AnswersAll, AnswersSlot, LendsDone, with_answers};
 ghost use Rattle.hba_regs.specs.Bits.{bit};
 ghost use Rattle.server_history.specs.Server.{Server};
-ghost use Rattle.slots.specs.Uses.{use_at};
+ghost use Rattle.slots.specs.Uses.{use_at, with_use};
 ghost use Rattle.slots.specs.declared.Use.{Use as SlotUse};
 
 use ata_types::{Outcome, Replies, Reply, Slot};
 use dma_frames::FrameTable;
 use request_queue::Book;
-use request_queue::laws::{an_id_is_one_request, the_book_stays_in_order};
+use request_queue::laws::{an_id_is_one_request, operations_change_one_request};
 use server_history::laws::{a_used_slot_has_its_request, requests_keep};
 use slots::Slots;
 
@@ -22,6 +22,7 @@ fn answer_one(book: &mut Book, table: &mut FrameTable, slots: &mut Slots, slot: 
     requires used { (used : SlotUse) × (use_at slots.old slot.0 ≡ Some used) }
     ensures answers { (s : Server) (port : Port) (done : ℕ) → LendsDone s table.old book.old slots.old port done
         → AnswersSlot port slot.0 result s (with_answers s table.new book.new slots.new port) }
+    ensures freed { slots.new ≡ with_use slots.old slot.0 None }
     ensures fewer { length book.new < length book.old }
 {
     a_used_slot_has_its_request();
@@ -55,7 +56,7 @@ pub(crate) fn answer_done(
 {
     a_used_slot_has_its_request();
     requests_keep();
-    the_book_stays_in_order();
+    operations_change_one_request();
     while let Some(slot) = slots.earliest(done) {
         replies.push(answer_one(book, table, slots, slot));
     }
