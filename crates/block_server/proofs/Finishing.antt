@@ -14,17 +14,20 @@ use Rattle.ata_types.specs.declared.request.Outcome.TheVariants.{Ok}
 use Rattle.ata_types.specs.declared.request.Reply.{Reply}
 use Rattle.ata_types.specs.declared.request.RequestId.{RequestId}
 use Rattle.hba_regs.specs.Bits.{bit}
+use Rattle.adapter.specs.Device.{Device}
 use Rattle.adapter.specs.Rules.{HasPort}
+use Rattle.block_machine.specs.declared.due.Mode.{Mode}
 use Rattle.agreement.specs.Slots.{IsOver}
-use Rattle.block_server.specs.Ports.{AnswersAll, AnswersSlot, LendsDone, with_answers}
+use Rattle.block_server.specs.Ports.{AnswersAll, AnswersSlot, Lends, LendsDone, with_answers, with_part}
+use Rattle.block_server.specs.View.{ServerView, server_of}
 use Rattle.dma_frames.specs.Table.{LendsOnly, Table}
 use Rattle.host_boot.specs.Taken.{found_of}
 use Rattle.request_queue.specs.Entries.{Held, IsEarlier, IsInOrder, has_id, without}
-use Rattle.server_history.specs.Served.{AnswersEach, AnswersOne, done_reply}
-use Rattle.server_history.specs.Server.{Server, IsKept, no_slots, slots_at, state_of, used_for, with_slot}
+use Rattle.server_history.specs.Served.{AnswersDone, AnswersEach, AnswersOne, IssuesAll, done_reply}
+use Rattle.server_history.specs.Server.{Server, IsKept, IsSettled, mode_at, mode_in, no_slots, slots_at, state_of, used_for, with_slot}
 use Rattle.slots.specs.Uses.{Uses as PortSlots, IsEarliest, use_at, with_use}
 use Rattle.slots.specs.declared.Use.{Use as SlotUse}
-use Rattle.block_server.proofs.Sending.{served_ready}
+use Rattle.block_server.proofs.Sending.{served_ready, slots_said}
 
 -- each slot that is used has a request
 abbrev pub HaveRequests : Type 0
@@ -252,3 +255,46 @@ module _ (have : HaveRequests) (keep : AnswersKeep) (leaves : LeavesOthers) (por
     later = λ k used small marked taken.
         All-push (λ x. x.entry.id.0 < used.id.0) some.requests e (some.later k used small marked (was k small marked used taken)) (comes_later k small marked used taken);
   }
+
+-- ---- what was found done on the port
+
+-- it was answered, and what is due then is issued
+module _ (s : Server) (port : Port) (done : ℕ) (before after : List Reply) (table : Table) (book : List Held) (slots : PortSlots)
+    (answers : AnswersAll port done before after s (with_answers s table book slots port)) (lent : LendsDone (with_answers s table book slots port) table book slots port done) where
+  pub lends_on : (mode : Mode) → mode_in s port ≡ mode → Lends (with_answers s table book slots port) s.device book slots port mode
+  lends_on mode mode_is = record { kept = lent.kept; ready = lent.ready; device_is = refl; book_is = refl; slots_are = lent.slots_are; mode_is = mode_is }
+
+  pub finishes : (device : Device) (later : List Held) (u : PortSlots) → IssuesAll port (with_answers s table book slots port) (with_part (with_answers s table book slots port) device later u port)
+      → (number : ℕ) → number ≡ port.0 → AnswersDone port done (map done_reply answers.requests) s (record s { device = device; table = table; slots = set s.slots number u; book = later })
+  finishes device later u issues number is = record {
+    requests = answers.requests;
+    told = refl;
+    ordered = answers.ordered;
+    mid = with_answers s table book slots port;
+    each = answers.each;
+    free = answers.free;
+    issued = subst (λ (n : ℕ). IssuesAll port (with_answers s table book slots port) (record s { device = device; table = table; slots = set s.slots n u; book = later })) (sym is)
+        (subst (λ (list : List PortSlots). IssuesAll port (with_answers s table book slots port) (record s { device = device; table = table; slots = list; book = later })) (set-set s.slots port.0 slots u) issues);
+  }
+
+-- what a call has of the server that it begins with
+module _ {A : Type 0} (device : A → Device) (v now : ServerView A) (is : v ≡ now) (settled : IsSettled (server_of device v)) (port : Port) (ready : state_of (found_of now.ports port.0) ≡ Ready) where
+  pub ready_before : state_of (found_of v.ports port.0) ≡ Ready
+  ready_before = subst (λ (x : ServerView A). state_of (found_of x.ports port.0) ≡ Ready) (sym is) ready
+
+  pub mode_before : (mode : Mode) → mode ≡ mode_at now.modes port.0 → mode_in (server_of device v) port ≡ mode
+  mode_before mode said = ap (λ (x : ServerView A). mode_at x.modes port.0) is ∙ sym said
+
+  module _ (done : ℕ) (over : (slot : ℕ) → slot < 32 → bit done slot ≡ true → IsOver ((device now.adapter).port port.0) slot) where
+    pub over_before : (slot : ℕ) → slot < 32 → bit done slot ≡ true → IsOver ((device v.adapter).port port.0) slot
+    over_before = subst (λ (x : ServerView A). (slot : ℕ) → slot < 32 → bit done slot ≡ true → IsOver ((device x.adapter).port port.0) slot) (sym is) over
+
+    pub lent_before : (number : ℕ) → number ≡ port.0 → (default : PortSlots) → LendsDone (server_of device v) v.table v.book (get_or v.slots number default) port done
+    lent_before number number_is default = record {
+      kept = settled.kept;
+      ready = ready_before;
+      table_is = refl;
+      book_is = refl;
+      slots_are = slots_said (server_of device v) port.0 settled.kept (settled.kept.there port.0 (served_ready (found_of v.ports port.0) ready_before)).0 number number_is default;
+      over = over_before;
+    }

@@ -52,6 +52,8 @@ pub(crate) fn answer_done(
     requires room { length replies.old.items + length book.old ≤ 128 }
     ensures answers { (s : Server) (port : Port) → LendsDone s table.old book.old slots.old port done
         → AnswersAll port done replies.old.items replies.new.items s (with_answers s table.new book.new slots.new port) }
+    ensures lends { (s : Server) (port : Port) → LendsDone s table.old book.old slots.old port done
+        → LendsDone (with_answers s table.new book.new slots.new port) table.new book.new slots.new port done }
     ensures room { length replies.new.items + length book.new ≤ 128 }
 {
     a_used_slot_has_its_request();

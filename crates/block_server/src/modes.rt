@@ -9,7 +9,7 @@ use host_boot::{Found, Host, PORTS};
 use slots::{SLOTS, Slots};
 
 /// One plain command at a time.
-const PLAIN: Mode = Mode {
+pub(crate) const PLAIN: Mode = Mode {
     queued: false,
     usable: 1,
 };

@@ -4,7 +4,7 @@ ghost use Rattle.std.specs.Prelude.{◌≡◌, ◌≢◌, ◌<◌, ◌≤◌, �
 
 use crate::ServerError;
 use crate::answering::answer_done;
-use crate::modes::{modes_of, unused_slots};
+use crate::modes::{PLAIN, modes_of, unused_slots};
 use crate::port::issue_due;
 use adapter::{Adapter, DeviceStep, Stepped};
 use arrayvec::ArrayVec;
@@ -102,7 +102,7 @@ impl<A: Adapter> Server<A> {
     ghost use Rattle.server_history.specs.Histories.{Adds, store_said, load_said};
     ghost use Rattle.ata_types.specs.declared.request.Reply.{Reply};
     ghost use Rattle.server_history.specs.Served.{AnswersDone, ServesPort};
-    ghost use Rattle.server_history.specs.Server.{IsSettled, ports_of, situation_of, state_of, sectors_of};
+    ghost use Rattle.server_history.specs.Server.{IsSettled, mode_at, ports_of, situation_of, state_of, sectors_of};
     ghost use Rattle.hba_regs.specs.Bits.{bit};
     ghost use Rattle.agreement.specs.Slots.{IsOver};
     ghost use Rattle.ata_types.specs.declared.PortState.TheVariants.{Ready};
@@ -167,6 +167,16 @@ impl<A: Adapter> Server<A> {
             .unwrap_or(Found::Unserved)
     }
 
+    /// How a port takes commands.
+    fn mode(&self, port: Port) -> Mode
+        ensures { result ≡ mode_at self.now.modes port.0 }
+    {
+        self.modes
+            .get(usize::from(port.0))
+            .copied()
+            .unwrap_or(PLAIN)
+    }
+
     /// What a port is to its clients. One that isn't served is `Absent`.
     pub fn state(&self, port: Port) -> PortState
         ensures state { result ≡ (ports_of self.now.ports).state port }
@@ -227,6 +237,7 @@ impl<A: Adapter> Server<A> {
     {
         requests_keep();
         acceptances_add();
+        let mode = self.mode(port);
         let id = RequestId(self.last + 1);
         let loan = self.table.lend(r.client, r.frames.as_slice(), id);
         let entry = Entry {
@@ -245,7 +256,6 @@ impl<A: Adapter> Server<A> {
         };
         self.book.accept(entry, loan);
         self.last = id.0;
-        let mode = self.modes[usize::from(port.0)];
         let slots = &mut self.slots[usize::from(port.0)];
         issue_due(&mut self.adapter, &mut self.book, slots, port, mode);
         id
@@ -276,7 +286,7 @@ impl<A: Adapter> Server<A> {
         ensures room { length replies.new.items + length self.new.book ≤ 128 }
     {
         a_finished_port_settles();
-        let mode = self.modes[usize::from(port.0)];
+        let mode = self.mode(port);
         let slots = &mut self.slots[usize::from(port.0)];
         answer_done(&mut self.book, &mut self.table, slots, done, replies);
         issue_due(&mut self.adapter, &mut self.book, slots, port, mode);

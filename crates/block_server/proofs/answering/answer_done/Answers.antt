@@ -41,3 +41,6 @@ pub returns-clause-answers : goal.returns-clause-answers
 returns-clause-answers c = λ s port l.
     finishing.all_answered port c.args.done c.args.replies.now.items c.loop-slot.replies.items s (with_answers s c.loop-slot.table c.loop-slot.book c.loop-slot.slots port)
     c.loop-slot.table c.loop-slot.book c.loop-slot.slots (c.loop-slot.invariant.answers s port l) c.in_default.ensures.none
+
+pub returns-clause-lends : goal.returns-clause-lends
+returns-clause-lends c = λ s port l. (c.loop-slot.invariant.answers s port l).lends
