@@ -1,5 +1,5 @@
 -- Requests of a ready port are answered whose commands are over: what is asked of the calls, and what the server then is.
-use Rattle.std.proofs.Common.{ℕ, zero, suc, Bool, true, false, not, cond, ◌≡◌, ◌≢◌, ◌+◌, ◌<◌, ◌≤◌, ◌==◌, ◌++◌, List, [], ◌∷◌, map, length, Some, None, refl, sym, ap, ◌∙◌, subst, arith, get_or, set, eq-eqb, append_assoc, ⊎_elim}
+use Rattle.std.proofs.Common.{ℕ, zero, suc, Bool, true, false, not, cond, ◌≡◌, ◌≢◌, ◌<◌, ◌≤◌, ◌++◌, List, [], ◌∷◌, map, length, Some, None, refl, sym, ap, ◌∙◌, subst, arith, get_or, set, eq-eqb, append_assoc, ⊎_elim}
 use Rattle.std.specs.List.{All, AllPairs, Contains}
 use Rattle.std.specs.Prelude.{◌↔◌, Option}
 use Rattle.std.specs.Int.{bit_at}
@@ -9,7 +9,6 @@ use Rattle.std.proofs.lemmas.List.Elements.{All-push}
 use Rattle.std.proofs.lemmas.List.Quantifiers.{all_pairs_push}
 use Rattle.ata_types.specs.declared.Port.{Port}
 use Rattle.ata_types.specs.declared.PortState.TheVariants.{Ready}
-use Rattle.ata_types.specs.declared.request.ClientId.{ClientId}
 use Rattle.ata_types.specs.declared.request.Outcome.TheVariants.{Ok}
 use Rattle.ata_types.specs.declared.request.Reply.{Reply}
 use Rattle.ata_types.specs.declared.request.RequestId.{RequestId}
@@ -24,7 +23,7 @@ use Rattle.dma_frames.specs.Table.{LendsOnly, Table}
 use Rattle.host_boot.specs.Taken.{found_of}
 use Rattle.request_queue.specs.Entries.{Held, IsEarlier, IsInOrder, has_id, without}
 use Rattle.server_history.specs.Served.{AnswersDone, AnswersEach, AnswersOne, IssuesAll, done_reply}
-use Rattle.server_history.specs.Server.{Server, IsKept, IsSettled, mode_at, mode_in, no_slots, slots_at, state_of, used_for, with_slot}
+use Rattle.server_history.specs.Server.{Server, IsKept, IsSettled, mode_at, mode_in, no_slots, state_of, used_for}
 use Rattle.slots.specs.Uses.{Uses as PortSlots, IsEarliest, use_at, with_use}
 use Rattle.slots.specs.declared.Use.{Use as SlotUse}
 use Rattle.block_server.proofs.Sending.{served_ready, slots_said}

@@ -1,6 +1,5 @@
 -- A due request of a port is issued: what is asked of the calls, and what the server then is.
-use Rattle.std.proofs.Common.{ℕ, ◌≡◌, ◌≢◌, ◌+◌, ◌/◌, ◌%◌, ◌^◌, ◌<◌, ◌≤◌, Bool, not, true, inl, inr, List, ◌∷◌, drop, length, map, get_or, set, Option, Some, None, refl, sym, ◌∙◌, ap, subst, arith}
-use Rattle.std.specs.Prelude.{IfSome, IfNone, IsSome}
+use Rattle.std.proofs.Common.{ℕ, ◌≡◌, ◌≢◌, ◌+◌, ◌/◌, ◌%◌, ◌^◌, ◌<◌, ◌≤◌, Bool, not, true, inl, inr, List, ◌∷◌, drop, length, map, get_or, set, Some, refl, sym, ◌∙◌, ap, subst, arith}
 use Rattle.std.specs.List.{All, Contains}
 use Rattle.std.proofs.lemmas.Bool.{true≢false}
 use Rattle.std.proofs.lemmas.List.{drop_more, get_or_default, get_or-set_same, set-get_or, set-set}
@@ -8,7 +7,6 @@ use Rattle.std.proofs.lemmas.List.Elements.{All-contains}
 use Rattle.ata_types.specs.Grant.{Allows}
 use Rattle.ata_types.specs.declared.Port.{Port}
 use Rattle.ata_types.specs.declared.PortState.TheVariants.{Absent, Ready}
-use Rattle.ata_types.specs.declared.Slot.{Slot}
 use Rattle.ata_types.specs.declared.grant.GrantRow.{GrantRow}
 use Rattle.ata_types.specs.declared.request.Frame.{Frame}
 use Rattle.ata_types.specs.declared.request.Op.{Op}
@@ -35,8 +33,7 @@ use Rattle.request_queue.specs.Entries.{Held, IsAccepted, IsInOrder, asks, asks_
 use Rattle.request_queue.specs.declared.Entry.{Entry}
 use Rattle.server_history.specs.Served.{IssuesOne, transfer_of, use_for}
 use Rattle.server_history.specs.Server.{Server, IsKept, IsTransferRow, is_served, mode_in, no_slots, slots_at, state_of, with_slot}
-use Rattle.slots.specs.Uses.{Uses as PortSlots, IsLowestFree, IsTaken, use_at, with_use}
-use Rattle.slots.specs.declared.Use.{Use as SlotUse}
+use Rattle.slots.specs.Uses.{Uses as PortSlots, IsLowestFree, IsTaken, with_use}
 use Rattle.ncq.specs.Transfers.{IsFit, IsTransfer, IssuesTransfer, MayTransfer, meaning_of}
 
 -- ---- what a request of the book is, where grants are to read and to write
@@ -180,9 +177,11 @@ module _ (s : Server) (device : Device) (book : List Held) (slots : PortSlots) (
         × (is_plain (mode_in s request.entry.port) request.entry.op ≡ true → slot ≡ 0) × AgreesWith (IsUnused request.entry.port.0 slot) s.device)
         → (slot : ℕ) → IsLowestFree slots slot → (slot < 32) × (slot ≤ device.cap / 256 % 32) × AgreesWith (IsUnused port.0 slot) device
     may_issue may slot lowest =
-        let m = may s e l.kept here its_due slot (subst (λ (u : PortSlots). IsLowestFree u slot) its_slots lowest) in
-        (m.1, subst (λ (d : Device). slot ≤ d.cap / 256 % 32) l.device_is m.2,
-          subst (AgreesWith (IsUnused port.0 slot)) l.device_is (subst (λ (p : Port). AgreesWith (IsUnused p.0 slot) s.device) turn.3 m.4))
+        let m = may s e l.kept here its_due slot (subst (λ (u : PortSlots). IsLowestFree u slot) its_slots lowest) in (
+          m.1,
+          subst (λ (d : Device). slot ≤ d.cap / 256 % 32) l.device_is m.2,
+          subst (AgreesWith (IsUnused port.0 slot)) l.device_is (subst (λ (p : Port). AgreesWith (IsUnused p.0 slot) s.device) turn.3 m.4),
+        )
 
     -- and there is one
     pub is_free : ((s : Server) (request : Held) → IsKept s → Contains s.book request → IsDue (mode_in s request.entry.port) (asks_of s.book) (asks request.entry)

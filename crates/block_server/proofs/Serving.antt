@@ -1,5 +1,5 @@
 -- The adapter has a ready port, and a mask has the slots that it uses.
-use Rattle.std.proofs.Common.{ℕ, Bool, true, false, ◌≡◌, ◌<◌, ◌==◌, ◌↔◌, Option, Some, None, get_or, refl, sym, ap, ◌∙◌, subst, arith, eq-eqb}
+use Rattle.std.proofs.Common.{ℕ, true, false, ◌≡◌, ◌<◌, ◌==◌, ◌↔◌, Option, Some, None, get_or, refl, sym, ap, ◌∙◌, subst, arith, eq-eqb}
 use Rattle.std.specs.Int.{bit_at}
 use Rattle.std.specs.Prelude.{IsSome}
 use Rattle.std.proofs.lemmas.Bool.{eqb-false, false≢true, ne_eqb}
@@ -10,7 +10,7 @@ use Rattle.hba_regs.specs.Bits.{bit}
 use Rattle.adapter.specs.Rules.{HasPort}
 use Rattle.host_boot.specs.Taken.{found_of}
 use Rattle.server_history.specs.Served.{HasNone, IsMaskOf, is_used}
-use Rattle.server_history.specs.Server.{Server, IsKept, no_slots, slots_at, state_of}
+use Rattle.server_history.specs.Server.{Server, IsKept, slots_at, state_of}
 use Rattle.slots.specs.Uses.{Uses as PortSlots, IsTaken, use_at}
 use Rattle.slots.specs.declared.Use.{Use as SlotUse}
 use Rattle.block_server.proofs.Sending.{served_ready, slots_said}

@@ -102,7 +102,7 @@ impl<A: Adapter> Server<A> {
     ghost use Rattle.server_history.specs.Histories.{Adds, store_said, load_said};
     ghost use Rattle.ata_types.specs.declared.request.Reply.{Reply};
     ghost use Rattle.server_history.specs.Served.{AnswersDone, ServesPort};
-    ghost use Rattle.server_history.specs.Server.{IsSettled, mode_at, ports_of, situation_of, state_of, sectors_of};
+    ghost use Rattle.server_history.specs.Server.{IsSettled, mode_at, situation_of, state_of, sectors_of};
     ghost use Rattle.hba_regs.specs.Bits.{bit};
     ghost use Rattle.agreement.specs.Slots.{IsOver};
     ghost use Rattle.ata_types.specs.declared.PortState.TheVariants.{Ready};
@@ -179,7 +179,7 @@ impl<A: Adapter> Server<A> {
 
     /// What a port is to its clients. One that isn't served is `Absent`.
     pub fn state(&self, port: Port) -> PortState
-        ensures state { result ≡ (ports_of self.now.ports).state port }
+        ensures state { result ≡ state_of (found_of self.now.ports port.0) }
         ensures adds { Adds (server_of A.device self.now) (server_of A.device self.now) (State port) (Shown result) }
     {
         refusals_add();

@@ -1,4 +1,4 @@
-use Rattle.std.proofs.Common.{◌≡◌, ◌+◌, ◌≤◌, ◌++◌, List, [], ◌∷◌, length, sym, ap, ◌∙◌, subst, arith, eq-eqb}
+use Rattle.std.proofs.Common.{◌++◌, List, [], ◌∷◌, sym, subst, arith, eq-eqb}
 use Rattle.std.specs.Int.{bit_at}
 use Rattle.ata_types.specs.declared.request.Reply.{Reply}
 use Rattle.block_server.specs.Ports.{with_answers}
@@ -28,8 +28,8 @@ loop-slot-preserved c = record {
       let some = c.loop-slot.invariant.answers s port l in
       let answers = c.answer_one.ensures.answers now port c.args.done some.lends in
       let more = finishing.one_more c.a_used_slot_has_its_request.ensures c.requests_keep.ensures.answered c.operations_change_one_request.ensures.answered port c.args.done
-          before c.loop-slot.replies.items s now c.loop-slot.table c.loop-slot.book c.loop-slot.slots some c.in-Some.slot.0 c.in-Some.ensures.found
-          c.answer_one.result then.table then.book then.slots answers c.answer_one.ensures.freed in
+      before c.loop-slot.replies.items s now c.loop-slot.table c.loop-slot.book c.loop-slot.slots some c.in-Some.slot.0 c.in-Some.ensures.found
+      c.answer_one.result then.table then.book then.slots answers c.answer_one.ensures.freed in
       let R : List Reply → Type 0 = λ after. AnswersSome port c.args.done before after s (with_answers s then.table then.book then.slots port) then.table then.book then.slots in
       let S : Server → Type 0 = λ x. AnswersSome port c.args.done before (c.loop-slot.replies.items ++ c.answer_one.result ∷ []) s x then.table then.book then.slots in
       subst R (sym c.push.ensures.items)

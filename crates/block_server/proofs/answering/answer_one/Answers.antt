@@ -1,4 +1,4 @@
-use Rattle.std.proofs.Common.{sym, subst, ◌≡◌, ◌<◌, ◌∙◌, List, length}
+use Rattle.std.proofs.Common.{sym, subst, ◌<◌, ◌∙◌, List, length}
 use Rattle.request_queue.specs.Entries.{Held}
 use Rattle.block_server.proofs.Finishing as finishing
 use Rattle.block_server.proofs.answering.answer_one.Goals as goal

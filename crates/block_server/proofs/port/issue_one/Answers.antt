@@ -1,16 +1,11 @@
-use Rattle.std.proofs.Common.{◌≡◌, ◌<◌, ◌≤◌, ◌/◌, ◌%◌, List, Some, not, ap, ◌∙◌, subst}
-use Rattle.agreement.specs.Driven.{AgreesWith}
+use Rattle.std.proofs.Common.{List, Some, not, ap, ◌∙◌, subst}
 use Rattle.agreement.specs.Readying.{IsStored}
 use Rattle.ata_types.specs.declared.request.Frame.{Frame}
-use Rattle.block_machine.specs.Due.{is_plain}
 use Rattle.command_table.specs.Places.{places_of}
-use Rattle.command_table.specs.Written.{IsUnused}
 use Rattle.ncq.specs.Transfers.{IssuesTransfer, meaning_of}
 use Rattle.ncq.specs.declared.Transfer.{Transfer}
-use Rattle.request_queue.specs.declared.Entry.{Entry}
 use Rattle.slots.specs.Uses.{with_use}
 use Rattle.block_server.proofs.Sending as sending
-use Rattle.block_server.proofs.port.issue_one.Given.{Over}
 use Rattle.block_server.proofs.port.issue_one.Goals as goal
 use Rattle.block_server.proofs.port.issue_one.Goals.{After-issue-2, In-Some}
 

@@ -1,5 +1,4 @@
-use Rattle.std.proofs.Common.{◌≡◌, ◌++◌, List, [], append-nil, arith, length, sym, ap, ◌∙◌, subst}
-use Rattle.ata_types.specs.declared.request.Reply.{Reply}
+use Rattle.std.proofs.Common.{[], append-nil, arith, length, sym, ap, subst}
 use Rattle.block_server.specs.Seen.{seen}
 use Rattle.block_server.specs.View.{ServerView, server_of}
 use Rattle.server_history.specs.Served.{IsMaskOf, ServesPort}
@@ -25,8 +24,11 @@ returns-in_default g c =
     let same = ap (λ (v : ServerView g.row.A.Denot). length v.book) c.self.view_is in
     let P : ServerView g.row.A.Denot → Type 0 = λ v. ServesPort c.args.port [] (server_of device v) (record s { device = device c.look_at.new.adapter }) in
     record {
-      serves = ([], sym (append-nil c.args.replies.now.items),
-          subst P c.self.view_is (c.a_port_is_served.ensures.told s (device c.look_at.new.adapter) c.args.port c.look_at.result c.self.invariant ready c.look_at.ensures.looks c.look_at.ensures.followed c.in_default.not-Undisturbed));
+      serves = (
+        [],
+        sym (append-nil c.args.replies.now.items),
+        subst P c.self.view_is (c.a_port_is_served.ensures.told s (device c.look_at.new.adapter) c.args.port c.look_at.result c.self.invariant ready c.look_at.ensures.looks c.look_at.ensures.followed c.in_default.not-Undisturbed),
+      );
       settled = record { kept = seen_kept; issued = c.self.invariant.issued };
       ports = ap (λ (v : ServerView g.row.A.Denot). v.ports) c.self.view_is;
       room = let room = c.requires.room in omega (arith, room, same);
@@ -47,10 +49,12 @@ returns-then-used-eq0-clause-serves g c =
     let ready = finishing.ready_before device (seen c.self.inside) c.args.self.now c.self.view_is c.self.invariant c.args.port c.requires.ready in
     let seen_kept = c.looks_keep.ensures.looking s (device c.look_at.new.adapter) c.args.port c.self.invariant.kept ready c.look_at.ensures.followed in
     let its = serving.its_mask s c.args.port c.self.invariant.kept ready c.from.result c.from.ensures c.index-self-from.result c.taken-used.result c.taken-used.ensures in
-    let P : ServerView g.row.A.Denot → Type 0 = λ v. ServesPort c.args.port [] (server_of device v) (record s { device = device c.look_at.new.adapter }) in
-    ([], sym (append-nil c.args.replies.now.items),
+    let P : ServerView g.row.A.Denot → Type 0 = λ v. ServesPort c.args.port [] (server_of device v) (record s { device = device c.look_at.new.adapter }) in (
+      [],
+      sym (append-nil c.args.replies.now.items),
       subst P c.self.view_is (c.a_port_is_served.ensures.idle s (device c.look_at.new.adapter) c.args.port c.self.invariant ready c.in-Undisturbed.ensures.looks c.look_at.ensures.followed
-      (subst (IsMaskOf (slots_at s.slots c.args.port.0)) c.if-used-eq0.true its)))
+          (subst (IsMaskOf (slots_at s.slots c.args.port.0)) c.if-used-eq0.true its)),
+    )
 
 pub returns-then-used-eq0-clause-settled : goal.returns-then-used-eq0-clause-settled
 returns-then-used-eq0-clause-settled g c =
@@ -85,7 +89,7 @@ finish-requires-clause-over g c =
     let seen_kept = c.looks_keep.ensures.looking s (device c.look_at.new.adapter) c.args.port c.self.invariant.kept ready c.look_at.ensures.followed in
     let its = serving.its_mask s c.args.port c.self.invariant.kept ready c.from.result c.from.ensures c.index-self-from.result c.taken-used.result c.taken-used.ensures in
     λ slot small found. c.looks_keep.ensures.found (record s { device = device c.look_at.new.adapter }) (device c.done-finished.new.adapter) c.args.port c.taken-used.result c.done-finished.result slot
-        seen_kept ready its small c.done-finished.ensures.finds found
+    seen_kept ready its small c.done-finished.ensures.finds found
 
 pub invariant_of-self-else-finished-ne0 : goal.invariant_of-self-else-finished-ne0
 invariant_of-self-else-finished-ne0 g c =
@@ -105,11 +109,13 @@ returns-then-finished-ne0-clause-serves g c =
     let its = serving.its_mask s c.args.port c.self.invariant.kept ready c.from.result c.from.ensures c.index-self-from.result c.taken-used.result c.taken-used.ensures in
     let new = server_of device c.finish.new.self in
     let done = c.finish.ensures.finishes in
-    let P : ServerView g.row.A.Denot → Type 0 = λ v. ServesPort c.args.port done.0 (server_of device v) new in
-    (done.0, done.1,
+    let P : ServerView g.row.A.Denot → Type 0 = λ v. ServesPort c.args.port done.0 (server_of device v) new in (
+      done.0,
+      done.1,
       subst P c.self.view_is (c.a_port_is_served.ensures.finished s new (device c.look_at.new.adapter) (device c.done-finished.new.adapter) c.args.port c.taken-used.result c.done-finished.result done.0 c.self.invariant ready
-      c.in-Undisturbed.ensures.looks c.look_at.ensures.followed its (λ none. c.if-used-eq0.false (serving.zero_of_none c.taken-used.result c.taken-used.type_inv none)) c.done-finished.ensures.finds c.done-finished.ensures.seen
-      (λ none. c.if-finished-ne0.true (serving.zero_of_none c.done-finished.result c.done-finished.type_inv none)) done.2))
+          c.in-Undisturbed.ensures.looks c.look_at.ensures.followed its (λ none. c.if-used-eq0.false (serving.zero_of_none c.taken-used.result c.taken-used.type_inv none)) c.done-finished.ensures.finds c.done-finished.ensures.seen
+          (λ none. c.if-finished-ne0.true (serving.zero_of_none c.done-finished.result c.done-finished.type_inv none)) done.2),
+    )
 
 pub returns-else-finished-ne0-clause-serves : goal.returns-else-finished-ne0-clause-serves
 returns-else-finished-ne0-clause-serves g c =
@@ -118,11 +124,13 @@ returns-else-finished-ne0-clause-serves g c =
     let ready = finishing.ready_before device (seen c.self.inside) c.args.self.now c.self.view_is c.self.invariant c.args.port c.requires.ready in
     let seen_kept = c.looks_keep.ensures.looking s (device c.look_at.new.adapter) c.args.port c.self.invariant.kept ready c.look_at.ensures.followed in
     let its = serving.its_mask s c.args.port c.self.invariant.kept ready c.from.result c.from.ensures c.index-self-from.result c.taken-used.result c.taken-used.ensures in
-    let P : ServerView g.row.A.Denot → Type 0 = λ v. ServesPort c.args.port [] (server_of device v) (record s { device = device c.done-finished.new.adapter }) in
-    ([], sym (append-nil c.args.replies.now.items),
+    let P : ServerView g.row.A.Denot → Type 0 = λ v. ServesPort c.args.port [] (server_of device v) (record s { device = device c.done-finished.new.adapter }) in (
+      [],
+      sym (append-nil c.args.replies.now.items),
       subst P c.self.view_is (c.a_port_is_served.ensures.unfinished s (device c.look_at.new.adapter) (device c.done-finished.new.adapter) c.args.port c.taken-used.result c.self.invariant ready
-      c.in-Undisturbed.ensures.looks c.look_at.ensures.followed its (λ none. c.if-used-eq0.false (serving.zero_of_none c.taken-used.result c.taken-used.type_inv none)) c.done-finished.result c.done-finished.ensures.finds c.done-finished.ensures.seen
-      (serving.none_of_zero c.done-finished.result c.if-finished-ne0.false)))
+          c.in-Undisturbed.ensures.looks c.look_at.ensures.followed its (λ none. c.if-used-eq0.false (serving.zero_of_none c.taken-used.result c.taken-used.type_inv none)) c.done-finished.result c.done-finished.ensures.finds c.done-finished.ensures.seen
+          (serving.none_of_zero c.done-finished.result c.if-finished-ne0.false)),
+    )
 
 pub returns-else-finished-ne0-clause-settled : goal.returns-else-finished-ne0-clause-settled
 returns-else-finished-ne0-clause-settled g c =

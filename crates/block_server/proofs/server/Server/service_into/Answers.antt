@@ -1,7 +1,5 @@
 use Rattle.std.proofs.Common.{◌≡◌, ◌++◌, List, append_assoc, arith, length, sym, ap, ◌∙◌, subst, rules}
-use Rattle.std.proofs.lemmas.Grind.{common_steps}
 use Rattle.ata_types.specs.declared.request.Reply.{Reply}
-use Rattle.agreement.specs.Agrees.{port_at}
 use Rattle.block_server.specs.View.{ServerView, server_of}
 use Rattle.host_boot.specs.declared.Found.{Found}
 use Rattle.server_history.specs.Served.{ServePorts}
