@@ -11,15 +11,16 @@ use Rattle.ata_types.specs.declared.request.Request.{Request}
 use Rattle.ata_types.specs.declared.request.RequestId.{RequestId}
 use Rattle.adapter.specs.Rules.{HasPort}
 use Rattle.block_machine.specs.Refusals.{IsAcceptable}
+use Rattle.block_machine.specs.declared.due.Mode.{Mode}
 use Rattle.block_machine.specs.Rules.{BreaksNone, HasNoFault, IsNamed}
 use Rattle.dma_frames.specs.Table.{LendsOnly, Table, owner_of, lent_to}
 use Rattle.host_boot.specs.Taken.{found_of}
 use Rattle.request_queue.specs.Entries.{Held, unanswered_of}
 use Rattle.server_history.specs.Served.{Accepts, IssuesAll, accepted_as, accepting}
-use Rattle.server_history.specs.Server.{Server, IsKept, no_slots, situation_of, state_of}
+use Rattle.server_history.specs.Server.{Server, IsKept, mode_in, no_slots, situation_of, state_of}
 use Rattle.server_history.proofs.Granting.{has_room, on_ready}
 use Rattle.slots.specs.Uses.{Uses as PortSlots}
-use Rattle.block_server.proofs.Sending.{served_ready, slots_at}
+use Rattle.block_server.proofs.Sending.{served_ready, slots_said}
 use Rattle.block_server.specs.Calls.{IsFor}
 use Rattle.block_server.specs.Ports.{Lends}
 
@@ -46,7 +47,7 @@ module _ (s : Server) (r : Request) (acc : IsAcceptable (situation_of s) r) wher
     there = k.there port.0 (served_ready (found_of s.ports port.0) ready)
 
     pub its_slots : (number : ℕ) → number ≡ port.0 → (default : PortSlots) → slice_index_or s.slots port.0 no_slots ≡ slice_index_or s.slots number default
-    its_slots = slots_at s port.0 k there.0
+    its_slots = slots_said s port.0 k there.0
 
     -- ---- what the server then is
 
@@ -62,13 +63,14 @@ module _ (s : Server) (r : Request) (acc : IsAcceptable (situation_of s) r) wher
       pub its_book : s.book ++ accepted_as port r id ∷ [] ≡ book
       its_book = sym (book_is ∙ ap (λ (fs : List Frame). s.book ++ record { entry = (accepted_as port r id).entry; frames = fs } ∷ []) (loan_is ∙ frames_are))
 
-      pub lends : (slots : PortSlots) → slice_index_or s.slots port.0 no_slots ≡ slots → Lends (accepting port r id table s) s.device book slots port
-      lends slots are = record {
+      pub lends : (slots : PortSlots) → slice_index_or s.slots port.0 no_slots ≡ slots → (mode : Mode) → mode_in s port ≡ mode → Lends (accepting port r id table s) s.device book slots port mode
+      lends slots are mode mode_is = record {
         kept = keeps s port r is.0 id table k acc is.1 is.2 id_is its_lent;
         ready = ready;
         device_is = refl;
         book_is = its_book;
         slots_are = are;
+        mode_is = mode_is;
       }
 
       pub accepts : (new : Server) → IssuesAll port (accepting port r id table s) new → Accepts port r id s new

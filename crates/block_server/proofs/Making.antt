@@ -10,9 +10,10 @@ use Rattle.block_machine.specs.Rules.{DifferInName}
 use Rattle.block_machine.proofs.Members.{map_in}
 use Rattle.dma_frames.specs.Table.{HasFrame, Run, owner_of, lent_to}
 use Rattle.grants.specs.Rows.{SameRows}
+use Rattle.host_boot.specs.Taken.{found_of}
 use Rattle.host_boot.specs.declared.Host.{Host}
 use Rattle.plan.specs.Plan.{HasClientFrames, IsClient, IsPlan, IsServedGrant, PlanView}
-use Rattle.server_history.specs.Server.{IsNewServer, IsTransferRow, Server, no_slots, used_for}
+use Rattle.server_history.specs.Server.{IsNewServer, IsTransferRow, Server, mode_at, mode_found, no_slots, used_for}
 use Rattle.block_server.specs.Made.{transfer_row}
 
 -- rows keep their names
@@ -47,9 +48,10 @@ module _ (s : Server) (host : Host) (plan : PlanView) (is : IsPlan plan) (rows :
       (omega (arith, inside.0, run.2.0), omega (arith, inside.2, run.2.1), subst IsClient run.3 its)
 
   pub new_fits : AllPairs DifferInName s.grants → length s.grants ≤ 64 → ((frame : Frame) → lent_to s.table frame ≡ None) → s.ports ≡ host.ports → length host.ports ≡ 4
-      → length s.slots ≡ 4 → ((port : ℕ) → port < 4 → length (get_or s.slots port no_slots).places ≡ 32) → ((port : ℕ) → port < 4 → (get_or s.slots port no_slots).usable ≡ 1)
+      → length s.slots ≡ 4 → ((port : ℕ) → port < 4 → length (get_or s.slots port no_slots).places ≡ 32) → ((port : ℕ) → port < 4 → mode_at s.modes port ≡ mode_found s.device.cap (found_of s.ports port))
+      → ((port : ℕ) → port < 4 → (get_or s.slots port no_slots).usable ≡ (mode_at s.modes port).usable)
       → ((port slot : ℕ) → used_for s.slots port slot ≡ None) → s.book ≡ [] → s.last ≡ 0 → IsNewServer host s
-  new_fits names few free ports four four_slots places usable unused book last = record {
+  new_fits names few free ports four four_slots places modes usable unused book last = record {
     ports = ports;
     four = four;
     rows = λ k d small. transfer_rows (get_or s.grants k d) (k, small, get_or_default s.grants k (get_or s.grants k d) d small);
@@ -61,6 +63,7 @@ module _ (s : Server) (host : Host) (plan : PlanView) (is : IsPlan plan) (rows :
     lent = free;
     four_slots = four_slots;
     places = places;
+    modes = modes;
     usable = usable;
     unused = unused;
     book = book;

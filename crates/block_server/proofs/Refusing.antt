@@ -40,16 +40,16 @@ module _ (s : Server) (reads : All IsTransferRow s.grants) (r : Request) (none :
     ids = λ h. below 13 9 (omega arith) h;
   }
 
-  pub not_ready : (state : PortState) → state ≡ (ports_of s.ports).state row.port → (state ≡ Ready → ⊥) → IsFirstRefusal (situation_of s) r (PortNotReady state)
+  pub not_ready : (state : PortState) → state ≡ (ports_of s).state row.port → (state ≡ Ready → ⊥) → IsFirstRefusal (situation_of s) r (PortNotReady state)
   not_ready state state_is other = ruling.not_ready_first (situation_of s) r state (other, (row, named, sym state_is)) none_nine
 
-  module _ (ready : (ports_of s.ports).state row.port ≡ Ready) where
+  module _ (ready : (ports_of s).state row.port ≡ Ready) where
     always_ready : (state : PortState) → Applies (situation_of s) r (PortNotReady state) → ⊥
     always_ready state applies =
         let its = applies.1 in
-        applies.0 (sym its.2 ∙ ap (λ (x : GrantRow). (ports_of s.ports).state x.port) (the_same its.0 its.1) ∙ ready)
+        applies.0 (sym its.2 ∙ ap (λ (x : GrantRow). (ports_of s).state x.port) (the_same its.0 its.1) ∙ ready)
 
-    pub outside_disk : ((r.op ≢ Flush) × ((ports_of s.ports).sectors row.port < r.first.0 + r.count)) → IsFirstRefusal (situation_of s) r OutsideDisk
+    pub outside_disk : ((r.op ≢ Flush) × ((ports_of s).sectors row.port < r.first.0 + r.count)) → IsFirstRefusal (situation_of s) r OutsideDisk
     outside_disk leaves = ruling.outside_disk_first (situation_of s) r (leaves.0, (row, named, leaves.1)) (record {
       rules = none;
       ready = λ _. always_ready;
@@ -59,12 +59,12 @@ module _ (s : Server) (reads : All IsTransferRow s.grants) (r : Request) (none :
       ids = λ h. below 13 10 (omega arith) h;
     })
 
-    module _ (inside : ((r.op ≢ Flush) × ((ports_of s.ports).sectors row.port < r.first.0 + r.count)) → ⊥) where
+    module _ (inside : ((r.op ≢ Flush) × ((ports_of s).sectors row.port < r.first.0 + r.count)) → ⊥) where
       pub client_full : 16 ≤ unanswered_of s.book r.client.0 → IsFirstRefusal (situation_of s) r ClientFull
       client_full full = ruling.client_full_first (situation_of s) r full (record {
         rules = none;
         ready = λ _. always_ready;
-        disk = λ _ applies. inside (applies.0, subst (λ (x : GrantRow). (ports_of s.ports).sectors x.port < r.first.0 + r.count) (the_same applies.1.0 applies.1.1) applies.1.2);
+        disk = λ _ applies. inside (applies.0, subst (λ (x : GrantRow). (ports_of s).sectors x.port < r.first.0 + r.count) (the_same applies.1.0 applies.1.1) applies.1.2);
         trim = λ _. never_trim;
         full = λ h. below 12 12 (omega arith) h;
         ids = λ h. below 13 12 (omega arith) h;
@@ -75,7 +75,7 @@ module _ (s : Server) (reads : All IsTransferRow s.grants) (r : Request) (none :
         ids_spent spent = ruling.ids_spent_first (situation_of s) r spent (record {
           rules = none;
           ready = λ _. always_ready;
-          disk = λ _ applies. inside (applies.0, subst (λ (x : GrantRow). (ports_of s.ports).sectors x.port < r.first.0 + r.count) (the_same applies.1.0 applies.1.1) applies.1.2);
+          disk = λ _ applies. inside (applies.0, subst (λ (x : GrantRow). (ports_of s).sectors x.port < r.first.0 + r.count) (the_same applies.1.0 applies.1.1) applies.1.2);
           trim = λ _. never_trim;
           full = λ _ applies. omega (arith, applies, room);
           ids = λ h. below 13 13 (omega arith) h;
@@ -85,7 +85,7 @@ module _ (s : Server) (reads : All IsTransferRow s.grants) (r : Request) (none :
         none_applies left = ruling.acceptable (situation_of s) r (record {
           rules = none;
           ready = λ _. always_ready;
-          disk = λ _ applies. inside (applies.0, subst (λ (x : GrantRow). (ports_of s.ports).sectors x.port < r.first.0 + r.count) (the_same applies.1.0 applies.1.1) applies.1.2);
+          disk = λ _ applies. inside (applies.0, subst (λ (x : GrantRow). (ports_of s).sectors x.port < r.first.0 + r.count) (the_same applies.1.0 applies.1.1) applies.1.2);
           trim = λ _. never_trim;
           full = λ _ applies. omega (arith, applies, room);
           ids = λ _ applies. omega (arith, applies, left);

@@ -9,7 +9,8 @@ use Rattle.block_server.specs.Running.{AddEach, Answered, Answers, Ran, ask_of, 
 use Rattle.block_server.specs.View.{ServerView, server_of}
 use Rattle.block_machine.specs.Histories.{Happening, Instant}
 use Rattle.server_history.specs.Histories.{Adds, Leads}
-use Rattle.server_history.specs.Server.{Server, IsSettled, ports_of}
+use Rattle.host_boot.specs.Taken.{found_of}
+use Rattle.server_history.specs.Server.{Server, IsSettled, ports_of, state_of}
 use Rattle.block_server.specs.declared.types.Event.{Event}
 use Rattle.block_server.specs.declared.types.Said.{Said}
 
@@ -51,7 +52,7 @@ module _ {A : Type 0} (device : A → Device) where
       (between, x, its, ask_is, said_is, here, add_more between mid new events said first (x ∷ past) later event one h rest answers asked told leads)
 
   -- a look at a port's state, where the state itself adds an event
-  pub shown_adds : ((s : Server) (port : Port) → IsSettled s → Adds s s (State port) (Shown ((ports_of s.ports).state port))) → (s : ServerView A) (port : Port) (state : PortState)
-      → IsSettled (server_of device s) → state ≡ (ports_of s.ports).state port → Adds (server_of device s) (server_of device s) (State port) (Shown state)
+  pub shown_adds : ((s : Server) (port : Port) → IsSettled s → Adds s s (State port) (Shown ((ports_of s).state port))) → (s : ServerView A) (port : Port) (state : PortState)
+      → IsSettled (server_of device s) → state ≡ state_of (found_of s.ports port.0) → Adds (server_of device s) (server_of device s) (State port) (Shown state)
   shown_adds adds s port state k is =
       subst (λ (x : PortState). Adds (server_of device s) (server_of device s) (State port) (Shown x)) (sym is) (adds (server_of device s) port k)

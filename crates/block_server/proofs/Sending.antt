@@ -1,6 +1,5 @@
 -- A due request of a port is issued: what is asked of the calls, and what the server then is.
-use Rattle.std.proofs.Common.{ℕ, ◌≡◌, ◌≢◌, ◌+◌, ◌/◌, ◌^◌, ◌<◌, ◌≤◌, false, true, inl, inr, List, ◌∷◌, drop, length, map, get_or, set, Option, Some, None, refl, sym, ◌∙◌, ap, subst, arith}
-use Rattle.std.specs.Prelude.{IfSome, IfNone, IsSome}
+use Rattle.std.proofs.Common.{ℕ, ◌≡◌, ◌≢◌, ◌+◌, ◌/◌, ◌%◌, ◌^◌, ◌<◌, ◌≤◌, Bool, not, true, inl, inr, List, ◌∷◌, drop, length, map, get_or, set, Some, refl, sym, ◌∙◌, ap, subst, arith}
 use Rattle.std.specs.List.{All, Contains}
 use Rattle.std.proofs.lemmas.Bool.{true≢false}
 use Rattle.std.proofs.lemmas.List.{drop_more, get_or_default, get_or-set_same, set-get_or, set-set}
@@ -8,21 +7,23 @@ use Rattle.std.proofs.lemmas.List.Elements.{All-contains}
 use Rattle.ata_types.specs.Grant.{Allows}
 use Rattle.ata_types.specs.declared.Port.{Port}
 use Rattle.ata_types.specs.declared.PortState.TheVariants.{Absent, Ready}
-use Rattle.ata_types.specs.declared.Slot.{Slot}
 use Rattle.ata_types.specs.declared.grant.GrantRow.{GrantRow}
 use Rattle.ata_types.specs.declared.request.Frame.{Frame}
 use Rattle.ata_types.specs.declared.request.Op.{Op}
 use Rattle.ata_types.specs.declared.request.Op.TheVariants.{Read, Write, Trim, Flush}
 use Rattle.ata_types.specs.declared.request.RequestId.{RequestId}
 use Rattle.adapter.specs.Device.{Device}
-use Rattle.block_machine.specs.Due.{AreDueInTurn, IsDue}
+use Rattle.agreement.specs.Readying.{IsStored}
+use Rattle.block_machine.specs.Due.{AreDueInTurn, IsDue, is_plain}
 use Rattle.block_machine.proofs.Members.{map_in}
 use Rattle.block_machine.specs.Rules.{IsCount, frames_for}
+use Rattle.block_machine.specs.declared.due.Mode.{Mode}
 use Rattle.block_machine.specs.declared.due.Unanswered.{Unanswered}
 use Rattle.block_server.specs.Ports.{Lends, with_part}
 use Rattle.dma_frames.specs.Table.{Table}
 use Rattle.adapter.specs.Rules.{IsOn, HasPort}
 use Rattle.agreement.specs.Driven.{AgreesWith}
+use Rattle.command_table.specs.Places.{places_of}
 use Rattle.command_table.specs.Written.{IsUnused}
 use Rattle.driver_history.specs.Holds.{Runs}
 use Rattle.host_boot.specs.Taken.{found_of}
@@ -30,11 +31,10 @@ use Rattle.host_boot.specs.declared.Found.{Found}
 use Rattle.host_boot.specs.declared.Found.TheVariants.{Unserved, Ready as FoundReady, Unready}
 use Rattle.request_queue.specs.Entries.{Held, IsAccepted, IsInOrder, asks, asks_of, at, issue}
 use Rattle.request_queue.specs.declared.Entry.{Entry}
-use Rattle.server_history.specs.Served.{IssuesOne, transfer_of}
-use Rattle.server_history.specs.Server.{Server, IsKept, IsTransferRow, is_served, no_slots, plain_mode, state_of, used_for, with_slot}
-use Rattle.slots.specs.Uses.{Uses as PortSlots, IsLowestFree, IsTaken, use_at, with_use}
-use Rattle.slots.specs.declared.Use.{Use as SlotUse}
-use Rattle.ncq.specs.Transfers.{IsFit, IsTransfer, IssuesTransfer, MayTransfer}
+use Rattle.server_history.specs.Served.{IssuesOne, transfer_of, use_for}
+use Rattle.server_history.specs.Server.{Server, IsKept, IsTransferRow, is_served, mode_in, no_slots, slots_at, state_of, with_slot}
+use Rattle.slots.specs.Uses.{Uses as PortSlots, IsLowestFree, IsTaken, with_use}
+use Rattle.ncq.specs.Transfers.{IsFit, IsTransfer, IssuesTransfer, MayTransfer, meaning_of}
 
 -- ---- what a request of the book is, where grants are to read and to write
 
@@ -74,32 +74,21 @@ module _ (rows : List GrantRow) (table : Table) (e : Held) (reads : All IsTransf
   frames_fit = is.frames ∙ of_both (λ op. frames_for op e.entry.range.count ≡ (e.entry.range.count + 7) / 8) refl refl
 
   -- as a transfer, wherever its entry and its frames are told
-  pub fits : (entry : Entry) → entry ≡ e.entry → (frames : List Frame) → frames ≡ e.frames → IsFit (record { op = entry.op; range = entry.range; queued = false }) frames
-  fits entry entry_is frames frames_are =
-      subst (λ (x : Entry). IsFit (record { op = x.op; range = x.range; queued = false }) frames) (sym entry_is)
-      (subst (IsFit (record { op = e.entry.op; range = e.entry.range; queued = false })) (sym frames_are)
+  pub fits : (queued : Bool) (entry : Entry) → entry ≡ e.entry → (frames : List Frame) → frames ≡ e.frames → IsFit (record { op = entry.op; range = entry.range; queued = queued }) frames
+  fits queued entry entry_is frames frames_are =
+      subst (λ (x : Entry). IsFit (record { op = x.op; range = x.range; queued = queued }) frames) (sym entry_is)
+      (subst (IsFit (record { op = e.entry.op; range = e.entry.range; queued = queued })) (sym frames_are)
       (record { transfers = moves; some = some_sector; few = few_sectors; first = first_below; number = frames_fit }))
 
 -- ---- what is lent
 
 -- a due request of the port, with this id
-abbrev pub IsTurn : List Held → Port → RequestId → Type 0
-IsTurn book port id = (request : Held) × Contains book request × (request.entry.id ≡ id) × (request.entry.port ≡ port) × IsDue plain_mode (asks_of book) (asks request.entry)
-
--- the lowest slot is taken where only it is usable, and free
-pub taken : (old new : PortSlots) (r : Option Slot) (used : SlotUse) → old.usable ≡ 1 → use_at old 0 ≡ None → IfSome r (λ slot. IsLowestFree old slot.0)
-    → IfSome r (λ slot. new ≡ with_use old slot.0 (Some used)) → IfNone r ((slot : ℕ) → slot < old.usable → IsTaken old slot) → new ≡ with_use old 0 (Some used)
-taken old new (Some slot) used one free lowest is full =
-    let small = lowest.0 in
-    subst (λ (n : ℕ). new ≡ with_use old n (Some used)) (omega (arith, small, one)) is
-taken old new None used one free lowest is full =
-    let z : IsSome (use_at old 0) = full 0 (omega (arith, one)) in
-    let y : false ≡ true = subst (λ (o : Option SlotUse). IsSome o) free z in
-    absurd (true≢false (sym y))
+abbrev pub IsTurn : List Held → Port → Mode → RequestId → Type 0
+IsTurn book port mode id = (request : Held) × Contains book request × (request.entry.id ≡ id) × (request.entry.port ≡ port) × IsDue mode (asks_of book) (asks request.entry)
 
 -- the slots of a port, wherever that is said to be
-pub slots_at : (s : Server) (port : ℕ) → IsKept s → port < 4 → (number : ℕ) → number ≡ port → (default : PortSlots) → get_or s.slots port no_slots ≡ get_or s.slots number default
-slots_at s port k low number is default =
+pub slots_said : (s : Server) (port : ℕ) → IsKept s → port < 4 → (number : ℕ) → number ≡ port → (default : PortSlots) → get_or s.slots port no_slots ≡ get_or s.slots number default
+slots_said s port k low number is default =
     let f = k.four in
     get_or_default s.slots port no_slots default (omega (arith, f, low)) ∙ ap (λ (n : ℕ). get_or s.slots n default) (sym is)
 
@@ -109,7 +98,7 @@ served_ready Unserved ready = let z : Absent ≡ Ready = ready in absurd cc
 served_ready (FoundReady info) ready = refl
 served_ready (Unready state) ready = refl
 
-module _ (s : Server) (device : Device) (book : List Held) (slots : PortSlots) (port : Port) (l : Lends s device book slots port) where
+module _ (s : Server) (device : Device) (book : List Held) (slots : PortSlots) (port : Port) (mode : Mode) (l : Lends s device book slots port mode) where
   there : HasPort s.device port.0
   there = l.kept.there port.0 (served_ready (found_of s.ports port.0) l.ready)
 
@@ -139,21 +128,27 @@ module _ (s : Server) (device : Device) (book : List Held) (slots : PortSlots) (
 
   -- other parts in its place
   module _ (new : Device) (later : List Held) (used : PortSlots) where
-    pub lent_on_from : IsKept (with_part s new later used port) → Lends (with_part s new later used port) new later used port
-    lent_on_from kept = record { kept = kept; ready = l.ready; device_is = refl; book_is = refl; slots_are = get_or-set_same s.slots port.0 used no_slots in_list }
+    pub lent_on_from : IsKept (with_part s new later used port) → Lends (with_part s new later used port) new later used port mode
+    lent_on_from kept = record { kept = kept; ready = l.ready; device_is = refl; book_is = refl; slots_are = get_or-set_same s.slots port.0 used no_slots in_list; mode_is = l.mode_is }
 
     pub lent_again : (d : Device) (b : List Held) (u : PortSlots) → with_part (with_part s new later used port) d b u port ≡ with_part s d b u port
     lent_again d b u = ap (λ (list : List PortSlots). record s { device = d; slots = list; book = b }) (set-set s.slots port.0 used u)
 
-  module _ (id : RequestId) (turn : IsTurn book port id) where
+  module _ (id : RequestId) (turn : IsTurn book port mode id) where
     abbrev e : Held
     e = turn.0
 
     here : Contains s.book e
     here = subst (λ (b : List Held). Contains b e) (sym l.book_is) turn.1
 
-    due : IsDue plain_mode (asks_of s.book) (asks e.entry)
-    due = subst (λ (b : List Held). IsDue plain_mode (asks_of b) (asks e.entry)) (sym l.book_is) turn.4
+    due : IsDue (mode_in s port) (asks_of s.book) (asks e.entry)
+    due = subst (λ (m : Mode). IsDue m (asks_of s.book) (asks e.entry)) (sym l.mode_is) (subst (λ (b : List Held). IsDue mode (asks_of b) (asks e.entry)) (sym l.book_is) turn.4)
+
+    its_due : IsDue (mode_in s e.entry.port) (asks_of s.book) (asks e.entry)
+    its_due = subst (λ (p : Port). IsDue (mode_in s p) (asks_of s.book) (asks e.entry)) (sym turn.3) due
+
+    its_slots : slots ≡ slots_at s.slots e.entry.port.0
+    its_slots = sym l.slots_are ∙ ap (λ (p : Port). slots_at s.slots p.0) (sym turn.3)
 
     pub its : IsAccepted s.grants s.table e
     its = All-contains (IsAccepted s.grants s.table) s.book e l.kept.accepted here
@@ -169,41 +164,55 @@ module _ (s : Server) (device : Device) (book : List Held) (slots : PortSlots) (
       pub frames_are : (fs : List Frame) → (found : Held) × Contains book found × (found.entry.id ≡ id) × (found.frames ≡ fs) → fs ≡ e.frames
       frames_are fs f = sym f.3 ∙ ap (λ (x : Held). x.frames) (found_is f.0 f.1 f.2)
 
-    module _ (may : (s : Server) (request : Held) → IsKept s → Contains s.book request → IsDue plain_mode (asks_of s.book) (asks request.entry)
-        → AgreesWith (IsUnused request.entry.port.0 0) s.device × (used_for s.slots request.entry.port.0 0 ≡ None)) where
-      may_issue : AgreesWith (IsUnused port.0 0) s.device × (used_for s.slots port.0 0 ≡ None)
-      may_issue = subst (λ (p : Port). AgreesWith (IsUnused p.0 0) s.device × (used_for s.slots p.0 0 ≡ None)) turn.3 (may s e l.kept here due)
+    -- as its port's mode has it, wherever its entry is told
+    pub transfer_is : (plain : Bool) (r : Entry) → plain ≡ is_plain mode r.op → r ≡ e.entry → record { op = r.op; range = r.range; queued = not plain } ≡ transfer_of mode e
+    transfer_is plain r plain_is r_is =
+        ap (λ (b : Bool). record { op = r.op; range = r.range; queued = not b }) plain_is
+        ∙ ap (λ (x : Entry). record { op = x.op; range = x.range; queued = not (is_plain mode x.op) }) r_is
 
-      pub agreed : AgreesWith (IsUnused port.0 0) device
-      agreed = subst (AgreesWith (IsUnused port.0 0)) l.device_is may_issue.0
+    -- a slot that it may be issued in
+    pub may_issue : ((s : Server) (request : Held) → IsKept s → Contains s.book request → IsDue (mode_in s request.entry.port) (asks_of s.book) (asks request.entry)
+        → (slot : ℕ) → IsLowestFree (slots_at s.slots request.entry.port.0) slot
+        → (slot < (mode_in s request.entry.port).usable) × (slot < 32) × (slot ≤ s.device.cap / 256 % 32)
+        × (is_plain (mode_in s request.entry.port) request.entry.op ≡ true → slot ≡ 0) × AgreesWith (IsUnused request.entry.port.0 slot) s.device)
+        → (slot : ℕ) → IsLowestFree slots slot → (slot < 32) × (slot ≤ device.cap / 256 % 32) × AgreesWith (IsUnused port.0 slot) device
+    may_issue may slot lowest =
+        let m = may s e l.kept here its_due slot (subst (λ (u : PortSlots). IsLowestFree u slot) its_slots lowest) in (
+          m.1,
+          subst (λ (d : Device). slot ≤ d.cap / 256 % 32) l.device_is m.2,
+          subst (AgreesWith (IsUnused port.0 slot)) l.device_is (subst (λ (p : Port). AgreesWith (IsUnused p.0 slot) s.device) turn.3 m.4),
+        )
 
-      -- it was issued
-      pub sent : (new : Device) → IssuesTransfer port 0 (transfer_of e) e.frames device new → (new.port port.0).ci 0 ≡ true → (later : List Held) → later ≡ map (at id issue) book
-          → (used : PortSlots) (r : Option Slot) → IfSome r (λ slot. IsLowestFree slots slot.0)
-          → IfSome r (λ slot. used ≡ with_use slots slot.0 (Some (record { id = id; queued = false }))) → IfNone r ((slot : ℕ) → slot < slots.usable → IsTaken slots slot)
-          → IssuesOne port id s (with_part s new later used port)
-      sent new issues its_bit later later_is used r lowest took full = record {
-        request = e;
-        here = here;
-        id_is = turn.2;
-        port_is = turn.3;
-        due = due;
-        issues = subst (λ (d : Device). IssuesTransfer port 0 (transfer_of e) e.frames d new) (sym l.device_is) issues;
-        sent = its_bit;
-        server = λ i. record s { device = new; slots = set_to i; book = (later_is ∙ ap (map (at id issue)) (sym l.book_is)) i };
-      }
-        where
-          usable : slots.usable ≡ 1
-          usable = ap (λ (u : PortSlots). u.usable) (sym l.slots_are) ∙ (l.kept.slots port.0 there.0).usable
+    -- and there is one
+    pub is_free : ((s : Server) (request : Held) → IsKept s → Contains s.book request → IsDue (mode_in s request.entry.port) (asks_of s.book) (asks request.entry)
+        → ((slot : ℕ) → slot < (slots_at s.slots request.entry.port.0).usable → IsTaken (slots_at s.slots request.entry.port.0) slot) → ⊥)
+        → ((slot : ℕ) → slot < slots.usable → IsTaken slots slot) → ⊥
+    is_free full all = full s e l.kept here its_due (subst (λ (u : PortSlots). (slot : ℕ) → slot < u.usable → IsTaken u slot) its_slots all)
 
-          free : use_at slots 0 ≡ None
-          free = ap (λ (u : PortSlots). use_at u 0) (sym l.slots_are) ∙ may_issue.1
+    -- it was issued
+    pub sent : (slot : ℕ) → slot < 32 → IsLowestFree slots slot → (new : Device) → IssuesTransfer port slot (transfer_of mode e) e.frames device new
+        → IsStored new port.0 slot (meaning_of (transfer_of mode e)) (places_of e.frames e.entry.range.count) → (later : List Held) → later ≡ map (at id issue) book
+        → (used : PortSlots) → used ≡ with_use slots slot (Some (record { id = id; queued = not (is_plain mode e.entry.op) })) → IssuesOne port id s (with_part s new later used port)
+    sent slot small lowest new issues stored later later_is used used_is = record {
+      request = e;
+      here = here;
+      id_is = turn.2;
+      port_is = turn.3;
+      due = due;
+      slot = slot;
+      small = small;
+      lowest = subst (λ (u : PortSlots). IsLowestFree u slot) (sym l.slots_are) lowest;
+      issues = subst (λ (m : Mode). IssuesTransfer port slot (transfer_of m e) e.frames s.device new) (sym l.mode_is)
+          (subst (λ (d : Device). IssuesTransfer port slot (transfer_of mode e) e.frames d new) (sym l.device_is) issues);
+      stored = subst (λ (m : Mode). IsStored new port.0 slot (meaning_of (transfer_of m e)) (places_of e.frames e.entry.range.count)) (sym l.mode_is) stored;
+      server = λ i. record s { device = new; slots = set_to i; book = (later_is ∙ ap (map (at id issue)) (sym l.book_is)) i };
+    }
+      where
+        use_is : with_use slots slot (Some (record { id = id; queued = not (is_plain mode e.entry.op) })) ≡ with_use (slots_at s.slots port.0) slot (Some (use_for (mode_in s port) e))
+        use_is = λ i. with_use (sym l.slots_are i) slot (Some (record { id = sym turn.2 i; queued = not (is_plain (sym l.mode_is i) e.entry.op) }))
 
-          used_is : used ≡ with_use slots 0 (Some (record { id = id; queued = false }))
-          used_is = taken slots used r (record { id = id; queued = false }) usable free lowest took full
-
-          set_to : set s.slots port.0 used ≡ with_slot s.slots port.0 0 (Some (record { id = id; queued = false }))
-          set_to = ap (set s.slots port.0) (used_is ∙ ap (λ (u : PortSlots). with_use u 0 (Some (record { id = id; queued = false }))) (sym l.slots_are))
+        set_to : set s.slots port.0 used ≡ with_slot s.slots port.0 slot (Some (use_for (mode_in s port) e))
+        set_to = ap (set s.slots port.0) (used_is ∙ use_is)
 
 -- ---- one after another
 
@@ -212,9 +221,9 @@ pub next_there : (ids : List RequestId) (place : ℕ) (d : RequestId) → place 
 next_there ids place d low = drop_more ids place d low
 
 -- the next one is due
-pub next_due : (book : List Held) (port : Port) (ids : List RequestId) (place : ℕ) (d : RequestId) → place < length ids → AreDueInTurn plain_mode port (drop place ids) (asks_of book) → IsTurn book port (get_or ids place d)
-next_due book port ids place d low turns =
-    let t : AreDueInTurn plain_mode port (get_or ids place d ∷ drop (place + 1) ids) (asks_of book) = subst (λ (xs : List RequestId). AreDueInTurn plain_mode port xs (asks_of book)) (next_there ids place d low) turns in
+pub next_due : (book : List Held) (port : Port) (mode : Mode) (ids : List RequestId) (place : ℕ) (d : RequestId) → place < length ids → AreDueInTurn mode port (drop place ids) (asks_of book) → IsTurn book port mode (get_or ids place d)
+next_due book port mode ids place d low turns =
+    let t : AreDueInTurn mode port (get_or ids place d ∷ drop (place + 1) ids) (asks_of book) = subst (λ (xs : List RequestId). AreDueInTurn mode port xs (asks_of book)) (next_there ids place d low) turns in
     let r = t.0 in
     let x = map_in (λ (e : Held). asks e.entry) book r.0 r.3.here in
-    (x.0, x.1, ap (λ (u : Unanswered). u.id) (sym x.2) ∙ r.1, ap (λ (u : Unanswered). u.port) (sym x.2) ∙ r.2, subst (IsDue plain_mode (asks_of book)) x.2 r.3)
+    (x.0, x.1, ap (λ (u : Unanswered). u.id) (sym x.2) ∙ r.1, ap (λ (u : Unanswered). u.port) (sym x.2) ∙ r.2, subst (IsDue mode (asks_of book)) x.2 r.3)

@@ -23,7 +23,7 @@ use Rattle.dma_frames.specs.Table.{owner_of, lent_to}
 use Rattle.block_machine.specs.Due.{due_of}
 use Rattle.request_queue.specs.Entries.{asks_of}
 use Rattle.server_history.specs.Served.{Accepts, ServePorts, accepting}
-use Rattle.server_history.specs.Server.{plain_mode, situation_of}
+use Rattle.server_history.specs.Server.{mode_in, situation_of}
 
 -- only the adapter is another
 abbrev pub SameServer : {A : Type 0} → ServerView A → ServerView A → Type 0
@@ -38,7 +38,7 @@ pub record AcceptsRequest {A : Type 0} (device : A → Device) (old new : Server
   pub acceptable : IsAcceptable (situation_of (server_of device old)) r
   pub port : Port
   pub accepts : Accepts port r id (server_of device old) (server_of device new)
-  pub same : due_of plain_mode port (asks_of (accepting port r id accepts.table (server_of device old)).book) ≡ [] → new.adapter ≡ old.adapter
+  pub same : due_of (mode_in (server_of device old) port) port (asks_of (accepting port r id accepts.table (server_of device old)).book) ≡ [] → new.adapter ≡ old.adapter
 
 -- A refused request is told the first cause that applies, and changes nothing: neither server nor adapter.
 abbrev pub Submits : {A : Type 0} → (A → Device) → ServerView A → ServerView A → Request → Result RequestId Refusal → Type 0

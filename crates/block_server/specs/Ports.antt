@@ -1,33 +1,57 @@
 -- A port's part of a server, as it is lent to what drives the port (this project's own).
-use Rattle.std.specs.Prelude.{ℕ, true, ◌≡◌, ◌<◌, List, [], ◌∷◌, Option, Some, None, slice_index_or, slice_set}
+use Rattle.std.specs.Prelude.{ℕ, true, ◌≡◌, ◌<◌, ◌++◌, List, AllPairs, None, map, slice_set}
 use Rattle.ata_types.specs.declared.Port.{Port}
 use Rattle.ata_types.specs.declared.PortState.TheVariants.{Ready}
 use Rattle.ata_types.specs.declared.request.Reply.{Reply}
 use Rattle.hba_regs.specs.Bits.{bit}
 use Rattle.adapter.specs.Device.{Device}
+use Rattle.agreement.specs.Slots.{IsOver}
+use Rattle.block_machine.specs.declared.due.Mode.{Mode}
+use Rattle.dma_frames.specs.Table.{Table}
 use Rattle.host_boot.specs.Taken.{found_of}
-use Rattle.request_queue.specs.Entries.{Held}
-use Rattle.server_history.specs.Server.{Server, IsKept, no_slots, state_of}
+use Rattle.request_queue.specs.Entries.{Held, IsEarlier}
+use Rattle.server_history.specs.Served.{AnswersEach, AnswersOne, done_reply}
+use Rattle.server_history.specs.Server.{Server, IsKept, mode_in, slots_at, state_of, used_for}
 use Rattle.slots.specs.Uses.{Uses as PortSlots}
 
--- the server keeps what it keeps, and has this device, this book, and these slots of a port that is ready
-pub record Lends (s : Server) (device : Device) (book : List Held) (slots : PortSlots) (port : Port) : Type 0 where
+-- the server keeps what it keeps, and has this device, this book, and these slots of a port that is ready and has this mode
+pub record Lends (s : Server) (device : Device) (book : List Held) (slots : PortSlots) (port : Port) (mode : Mode) : Type 0 where
   pub kept : IsKept s
   pub ready : state_of (found_of s.ports port.0) ≡ Ready
   pub device_is : s.device ≡ device
   pub book_is : s.book ≡ book
-  pub slots_are : slice_index_or s.slots port.0 no_slots ≡ slots
-
--- slot 0 has its bit, and no other has
-pub record IsFirst (mask : ℕ) : Type 0 where
-  pub first : bit mask 0 ≡ true
-  pub alone : (slot : ℕ) → slot < 32 → bit mask slot ≡ true → slot ≡ 0
-
--- as a list
-abbrev pub reply_list : Option Reply → List Reply
-reply_list None = []
-reply_list (Some reply) = reply ∷ []
+  pub slots_are : slots_at s.slots port.0 ≡ slots
+  pub mode_is : mode_in s port ≡ mode
 
 -- the server, with these in their place
 abbrev pub with_part : Server → Device → List Held → PortSlots → Port → Server
 with_part s device book slots port = record s { device = device; slots = slice_set s.slots port.0 slots; book = book }
+
+-- The server keeps what it keeps, and has these loans, this book, and these slots of a port that is ready. The commands of the slots that have
+-- their bits set here are over.
+pub record LendsDone (s : Server) (table : Table) (book : List Held) (slots : PortSlots) (port : Port) (done : ℕ) : Type 0 where
+  pub kept : IsKept s
+  pub ready : state_of (found_of s.ports port.0) ≡ Ready
+  pub table_is : s.table ≡ table
+  pub book_is : s.book ≡ book
+  pub slots_are : slots_at s.slots port.0 ≡ slots
+  pub over : (slot : ℕ) → slot < 32 → bit done slot ≡ true → IsOver (s.device.port port.0) slot
+
+-- the server, with these in their place
+abbrev pub with_answers : Server → Table → List Held → PortSlots → Port → Server
+with_answers s table book slots port = record s { table = table; slots = slice_set s.slots port.0 slots; book = book }
+
+-- the request of this slot was answered by this reply
+pub record AnswersSlot (port : Port) (slot : ℕ) (reply : Reply) (old new : Server) : Type 0 where
+  pub request : Held
+  pub answers : AnswersOne port request old new
+  pub slot_is : answers.slot ≡ slot
+  pub reply_is : reply ≡ done_reply request
+
+-- What was found done was answered, in order of acceptance, by replies that came after others; and no slot of it is in use any more.
+pub record AnswersAll (port : Port) (done : ℕ) (before after : List Reply) (old new : Server) : Type 0 where
+  pub requests : List Held
+  pub told : after ≡ before ++ map done_reply requests
+  pub ordered : AllPairs IsEarlier requests
+  pub each : AnswersEach port done requests old new
+  pub free : (slot : ℕ) → slot < 32 → bit done slot ≡ true → used_for new.slots port.0 slot ≡ None

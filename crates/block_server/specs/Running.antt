@@ -15,7 +15,8 @@ use Rattle.block_machine.specs.Events as machine
 use Rattle.block_machine.specs.Histories.{Happening, Instant}
 use Rattle.adapter.specs.declared.access.DeviceStep.{DeviceStep}
 use Rattle.server_history.specs.Histories.{Adds, Leads, store_said}
-use Rattle.server_history.specs.Server.{ports_of}
+use Rattle.server_history.specs.Server.{state_of}
+use Rattle.host_boot.specs.Taken.{found_of}
 use Rattle.block_server.specs.View.{ServerView, server_of}
 use Rattle.block_server.specs.declared.types.Event.{Event}
 use Rattle.block_server.specs.declared.types.Event.TheVariants.{Submit, ClientStore, ClientLoad, Service, State, Device as Step}
@@ -51,7 +52,7 @@ Answers device (ClientStore client frame offset bytes) (said.Stored result) old 
 Answers device (ClientLoad client frame offset n) (said.Loaded (Ok bytes)) old new = TellsBytes device old new client frame offset (min n 64) bytes.items
 Answers device (ClientLoad client frame offset n) (said.Loaded (Err fault)) old new = RefusesBytes old new client frame offset (min n 64) fault
 Answers device Service (said.Served replies) old new = Services device old new replies.items
-Answers device (State port) (said.State state) old new = (state ≡ (ports_of old.ports).state port) × (new ≡ old)
+Answers device (State port) (said.State state) old new = (state ≡ state_of (found_of old.ports port.0)) × (new ≡ old)
 Answers device (Step step) (said.Stepped done) old new = StepsDevice device old new step done
 Answers device _ _ old new = ⊥
 

@@ -2,6 +2,7 @@
 use Rattle.std.specs.Prelude.{ℕ, List}
 use Rattle.ata_types.specs.declared.grant.GrantRow.{GrantRow}
 use Rattle.adapter.specs.Device.{Device}
+use Rattle.block_machine.specs.declared.due.Mode.{Mode}
 use Rattle.dma_frames.specs.Table.{Table}
 use Rattle.host_boot.specs.declared.Found.{Found}
 use Rattle.identify.specs.declared.wanted.Wanted.{Wanted}
@@ -14,9 +15,10 @@ pub record ServerView (A : Type 0) : Type 0 where
   -- the grants, and by frame its owner and the request that it is lent to
   pub grants : List GrantRow
   pub table : Table
-  -- by port, the disk that is wanted, what it was found to be, and what its slots are used for
+  -- by port, the disk that is wanted, what it was found to be, how it takes commands, and what its slots are used for
   pub wanted : List Wanted
   pub ports : List Found
+  pub modes : List Mode
   pub slots : List PortSlots
   -- the unanswered requests of all ports, in order of acceptance
   pub book : List Held
@@ -31,6 +33,7 @@ server_of device s = record {
   table = s.table;
   wanted = s.wanted;
   ports = s.ports;
+  modes = s.modes;
   slots = s.slots;
   book = s.book;
   last = s.last;

@@ -1,7 +1,9 @@
 //! The server: it holds clients' grants and frames, and drives the disks for them.
 #![tactic(auto)]
 
+mod answering;
 pub mod laws;
+mod modes;
 mod port;
 mod run;
 mod server;

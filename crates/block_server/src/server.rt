@@ -1,31 +1,32 @@
 // The server.
 ghost use Rattle.block_server.specs.Made.{transfer_row};
-ghost use Rattle.server_history.specs.Server.{no_slots, used_for};
-ghost use Rattle.std.specs.Prelude.{◌≡◌, ◌≢◌, ◌<◌, ◌≤◌, ◌+◌, ◌↔◌, ◌*◌, ◌∷◌, [], ℕ, IsTrue, IfOk, IfErr, OnOk, MatchOption, None, Ok, Some, length, map, option_map, slice_index_or, true};
+ghost use Rattle.std.specs.Prelude.{◌≡◌, ◌≢◌, ◌<◌, ◌≤◌, ◌+◌, ◌↔◌, ◌*◌, ◌++◌, List, ℕ, IsTrue, IfOk, IfErr, OnOk, MatchOption, Ok, length, map, option_map, true};
 
 use crate::ServerError;
-use crate::port::{FIRST, PLAIN, issue_due};
+use crate::answering::answer_done;
+use crate::modes::{PLAIN, modes_of, unused_slots};
+use crate::port::issue_due;
 use adapter::{Adapter, DeviceStep, Stepped};
 use arrayvec::ArrayVec;
 use ata_types::{
-    ClientId, FRAME_BYTES, Frame, GrantRow, MemFault, Op, Outcome, Port, PortState, Range, Refusal,
-    Replies, Reply, Request, RequestId, Rights,
+    ClientId, FRAME_BYTES, Frame, GrantRow, MemFault, Op, Port, PortState, Range, Refusal, Replies,
+    Request, RequestId, Rights,
 };
+use block_machine::Mode;
 use configuration::Config;
 use dma_frames::FrameTable;
 use grants::{Grants, decide};
-use hba_regs::is_set;
 use host_boot::{Found, PORTS, take_over};
 use identify::Wanted;
 use ncq::done;
 use plan::Plan;
 use port_look::{Look, look_at};
-use request_queue::laws::an_id_is_one_request;
+use request_queue::laws::the_book_stays_in_order;
 use request_queue::{Book, Entry};
 use server_history::laws::{
-    a_finished_port_settles, a_new_server_has_begun, a_port_is_served, a_used_slot_has_its_request,
-    acceptances_add, client_bytes_add, device_steps_add, looks_keep, open_bytes_are_free,
-    refusals_add, requests_keep, services_add,
+    a_finished_port_settles, a_new_server_has_begun, a_port_is_served, acceptances_add,
+    client_bytes_add, device_steps_add, looks_keep, open_bytes_are_free, refusals_add,
+    requests_keep, services_add,
 };
 use slots::Slots;
 use std::alloc::Global;
@@ -44,6 +45,7 @@ pub struct Server<A: Adapter> {
     table: Box<FrameTable>,
     wanted: [Wanted; PORTS],
     ports: [Found; PORTS],
+    modes: [Mode; PORTS],
     slots: [Slots; PORTS],
     book: Book,
     last: u64,
@@ -87,20 +89,6 @@ fn transfer_rows(rows: &[GrantRow]) -> ArrayVec<GrantRow, MOST_GRANTS>
     kept
 }
 
-/// The slots of each port, of which none is used: as many are usable as ports take commands at a time.
-fn unused_slots() -> [Slots; PORTS]
-    ensures places { (port : ℕ) → port < 4 → length (slice_index_or result port no_slots).places ≡ 32 }
-    ensures usable { (port : ℕ) → port < 4 → (slice_index_or result port no_slots).usable ≡ 1 }
-    ensures unused { (port slot : ℕ) → used_for result port slot ≡ None }
-{
-    [
-        Slots::new(PLAIN.usable),
-        Slots::new(PLAIN.usable),
-        Slots::new(PLAIN.usable),
-        Slots::new(PLAIN.usable),
-    ]
-}
-
 impl<A: Adapter> Server<A> {
     ghost use Rattle.block_machine.specs.Events.{Service, Served, Submit, Submitted, StoreAt, LoadAt, State, Shown};
     ghost use Rattle.block_machine.specs.Refusals.{IsAcceptable, IsFirstRefusal, IsOpen, IsFirstMemFault};
@@ -112,10 +100,10 @@ impl<A: Adapter> Server<A> {
     ghost use Rattle.host_boot.specs.Taken.{found_of};
     ghost use Rattle.request_queue.specs.Entries.{Held};
     ghost use Rattle.server_history.specs.Histories.{Adds, store_said, load_said};
-    ghost use Rattle.block_server.specs.Ports.{IsFirst, reply_list};
+    ghost use Rattle.ata_types.specs.declared.request.Reply.{Reply};
     ghost use Rattle.server_history.specs.Served.{AnswersDone, ServesPort};
-    ghost use Rattle.server_history.specs.Server.{IsSettled, ports_of, situation_of, state_of, sectors_of, used_for};
-    ghost use Rattle.slots.specs.declared.Use.{Use as SlotUse};
+    ghost use Rattle.server_history.specs.Server.{IsSettled, mode_at, situation_of, state_of, sectors_of};
+    ghost use Rattle.hba_regs.specs.Bits.{bit};
     ghost use Rattle.agreement.specs.Slots.{IsOver};
     ghost use Rattle.ata_types.specs.declared.PortState.TheVariants.{Ready};
 
@@ -146,15 +134,17 @@ impl<A: Adapter> Server<A> {
             return Err((ServerError::NoMemory, adapter));
         };
         let wanted = *plan.wanted();
-        let ports = take_over(&mut adapter, &wanted).ports;
+        let host = take_over(&mut adapter, &wanted);
+        let modes = modes_of(&host);
         a_new_server_has_begun();
         Ok(Server {
             adapter,
             grants,
             table,
             wanted,
-            ports,
-            slots: unused_slots(),
+            ports: host.ports,
+            modes,
+            slots: unused_slots(&modes),
             book,
             last: 0,
         })
@@ -177,9 +167,19 @@ impl<A: Adapter> Server<A> {
             .unwrap_or(Found::Unserved)
     }
 
+    /// How a port takes commands.
+    fn mode(&self, port: Port) -> Mode
+        ensures { result ≡ mode_at self.now.modes port.0 }
+    {
+        self.modes
+            .get(usize::from(port.0))
+            .copied()
+            .unwrap_or(PLAIN)
+    }
+
     /// What a port is to its clients. One that isn't served is `Absent`.
     pub fn state(&self, port: Port) -> PortState
-        ensures state { result ≡ (ports_of self.now.ports).state port }
+        ensures state { result ≡ state_of (found_of self.now.ports port.0) }
         ensures adds { Adds (server_of A.device self.now) (server_of A.device self.now) (State port) (Shown result) }
     {
         refusals_add();
@@ -228,7 +228,7 @@ impl<A: Adapter> Server<A> {
         Ok(row.port)
     }
 
-    /// Puts the request last into the book, lends it its frames, and issues it where its port has no other.
+    /// Puts the request last into the book, lends it its frames, and issues what is due on its port then.
     fn accept(&mut self, r: &Request, port: Port) -> RequestId
         requires acceptable { IsAcceptable (situation_of (server_of A.device self.old)) r.now }
         requires port { IsFor self.old.grants r.now port }
@@ -237,6 +237,7 @@ impl<A: Adapter> Server<A> {
     {
         requests_keep();
         acceptances_add();
+        let mode = self.mode(port);
         let id = RequestId(self.last + 1);
         let loan = self.table.lend(r.client, r.frames.as_slice(), id);
         let entry = Entry {
@@ -256,7 +257,7 @@ impl<A: Adapter> Server<A> {
         self.book.accept(entry, loan);
         self.last = id.0;
         let slots = &mut self.slots[usize::from(port.0)];
-        issue_due(&mut self.adapter, &mut self.book, slots, port);
+        issue_due(&mut self.adapter, &mut self.book, slots, port, mode);
         id
     }
 
@@ -272,55 +273,53 @@ impl<A: Adapter> Server<A> {
         Ok(self.accept(r, port))
     }
 
-    /// Answers the request of a port's slot 0, whose command is over: its frames are given back, and what is due then is issued. It is what was
-    /// found done, if that is slot 0 alone.
-    fn finish(&mut self, port: Port, id: RequestId) -> Reply
+    /// Answers the requests of a ready port whose slots were found done, in order of acceptance: their frames are given back. Then what is due
+    /// on the port is issued.
+    fn finish(&mut self, port: Port, done: u32, replies: &mut Replies)
         requires ready { state_of (found_of self.old.ports port.0) ≡ Ready }
-        requires used { (used : SlotUse) × (used_for self.old.slots port.0 0 ≡ Some used) × (used.id ≡ id) }
-        requires over { IsOver ((A.device self.old.adapter).port port.0) 0 }
-        ensures finishes { (done : ℕ) → IsFirst done → AnswersDone port done (result ∷ []) (server_of A.device self.old) (server_of A.device self.new) }
+        requires over { (slot : ℕ) → slot < 32 → bit done slot ≡ true → IsOver ((A.device self.old.adapter).port port.0) slot }
+        requires room { length replies.old.items + length self.old.book ≤ 128 }
+        ensures finishes { (its : List Reply) × (replies.new.items ≡ replies.old.items ++ its)
+            × AnswersDone port done its (server_of A.device self.old) (server_of A.device self.new) }
         ensures settled { IsSettled (server_of A.device self.new) }
         ensures ports { self.new.ports ≡ self.old.ports }
+        ensures room { length replies.new.items + length self.new.book ≤ 128 }
     {
-        a_used_slot_has_its_request();
-        an_id_is_one_request();
-        requests_keep();
         a_finished_port_settles();
+        let mode = self.mode(port);
         let slots = &mut self.slots[usize::from(port.0)];
-        let _ = slots.free(FIRST);
-        let (entry, loan) = self.book.answer(id);
-        self.table.give_back(loan);
-        issue_due(&mut self.adapter, &mut self.book, slots, port);
-        Reply {
-            id,
-            client: entry.client,
-            outcome: Outcome::Ok,
-        }
+        answer_done(&mut self.book, &mut self.table, slots, done, replies);
+        issue_due(&mut self.adapter, &mut self.book, slots, port, mode);
     }
 
-    /// Looks at a ready port. Where the command of what it has issued is done, that is answered, and what is due then is issued. Where
+    /// Looks at a ready port. Where commands of what it has issued are done, those requests are answered, and then what is due is issued. Where
     /// the look tells of anything, nobody is answered.
-    fn serve_port(&mut self, port: Port) -> Option<Reply>
+    fn serve_port(&mut self, port: Port, replies: &mut Replies)
         requires ready { state_of (found_of self.old.ports port.0) ≡ Ready }
-        ensures serves { ServesPort port (reply_list result) (server_of A.device self.old) (server_of A.device self.new) }
+        requires room { length replies.old.items + length self.old.book ≤ 128 }
+        ensures serves { (its : List Reply) × (replies.new.items ≡ replies.old.items ++ its)
+            × ServesPort port its (server_of A.device self.old) (server_of A.device self.new) }
         ensures settled { IsSettled (server_of A.device self.new) }
         ensures ports { self.new.ports ≡ self.old.ports }
+        ensures room { length replies.new.items + length self.new.book ≤ 128 }
     {
         looks_keep();
         a_port_is_served();
         let Look::Undisturbed = look_at(&mut self.adapter, port) else {
-            return None;
+            return;
         };
-        let first = self.slots[usize::from(port.0)].used_for(FIRST)?;
         let used = self.slots[usize::from(port.0)].taken();
-        if !is_set(done(&mut self.adapter, port, used), 0) {
-            return None;
+        if used == 0 {
+            return;
         }
-        Some(self.finish(port, first.id))
+        let finished = done(&mut self.adapter, port, used);
+        if finished != 0 {
+            self.finish(port, finished, replies);
+        }
     }
 
-    /// Serves each ready port, in rising number: where its transfer is done, that is answered, its frames are given back, and what is due
-    /// then is issued. Where the look at a port tells of something, nobody is answered there.
+    /// Serves each ready port, in rising number: transfers that are done are answered, in order of acceptance, their frames are given back, and
+    /// what is due then is issued. Where the look at a port tells of something, nobody is answered there.
     pub fn service(&mut self) -> Replies
         ensures services { Services A.device self.old self.new result.items }
         ensures adds { Adds (server_of A.device self.old) (server_of A.device self.new) Service (Served result.items) }
@@ -336,15 +335,14 @@ impl<A: Adapter> Server<A> {
         ensures adds { Adds (server_of A.device self.old) (server_of A.device self.new) Service (Served replies.new.items) }
     {
         services_add();
+        the_book_stays_in_order();
         replies.clear();
         let ports = self.ports;
         for number in 0..PORTS {
             let Found::Ready(_) = ports[number] else {
                 continue;
             };
-            if let Some(reply) = self.serve_port(Port(number as u8)) {
-                replies.push(reply);
-            }
+            self.serve_port(Port(number as u8), replies);
         }
     }
 
@@ -423,6 +421,7 @@ impl<A: Adapter> Server<A> {
             table,
             wanted: _,
             ports: _,
+            modes: _,
             slots: _,
             book,
             last: _,

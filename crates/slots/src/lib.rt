@@ -2,7 +2,7 @@
 #![tactic(auto)]
 
 ghost use Rattle.std.specs.Prelude.{◌≡◌, ◌↔◌, ℕ, ◌<◌, ◌≤◌, length, IfSome, IfNone, Some, None, IsSome, true, slice_index_or};
-ghost use Rattle.slots.specs.Uses.{IsTaken, IsLowestFree, use_at, with_use};
+ghost use Rattle.slots.specs.Uses.{IsEarliest, IsEarliestOf, IsTaken, IsLowestFree, use_at, with_use};
 ghost use Rattle.std.specs.Int.{bit_at};
 
 use ata_types::{RequestId, Slot};
@@ -90,6 +90,15 @@ impl Slots {
         mask_of(&self.places)
     }
 
+    /// Of the slots that are taken and have their bits set here, the one whose request has the least id. `None` where there is none.
+    pub fn earliest(&self, mask: u32) -> Option<Slot>
+        ensures found { IfSome result (λ slot. IsEarliest self.now mask slot.0) }
+        ensures none { IfNone result ((slot : ℕ) → slot < 32 → bit_at mask slot ≡ 1 → use_at self.now slot ≡ None) }
+    {
+        let place = earliest_of(&self.places, mask)?;
+        Some(Slot(place))
+    }
+
     /// How many slots may be used.
     pub fn usable(&self) -> u8
         ensures value { result ≡ self.now.usable }
@@ -131,4 +140,28 @@ fn lowest_free(places: &[Option<Use>], usable: u8) -> Option<u8>
         }
     }
     None
+}
+
+/// Of the places that are used and have their bits set, the one with the least id.
+fn earliest_of(places: &[Option<Use>], mask: u32) -> Option<u8>
+    requires { length places.now ≡ 32 }
+    ensures found { IfSome result (λ place. IsEarliestOf places.now mask place) }
+    ensures none { IfNone result ((place : ℕ) → place < 32 → bit_at mask place ≡ 1 → slice_index_or places.now place None ≡ None) }
+{
+    let mut earliest = None;
+    let mut least = RequestId(0);
+    for place in 0..32u8 {
+        let left = mask >> place;
+        if left == 0 {
+            return earliest;
+        }
+        let Some(used) = places[place as usize] else {
+            continue;
+        };
+        if left & 1 == 1 && (earliest.is_none() || used.id.0 < least.0) {
+            earliest = Some(place);
+            least = used.id;
+        }
+    }
+    earliest
 }

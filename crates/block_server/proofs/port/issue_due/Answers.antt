@@ -1,12 +1,13 @@
 use Rattle.std.proofs.Common.{◌≡◌, ◌+◌, ◌≤◌, suc, List, [], ◌∷◌, drop, get_or, length, refl, sym, ap, ◌∙◌, subst, arith}
-use Rattle.std.proofs.lemmas.List.{drop_all, drop_more}
+use Rattle.std.proofs.lemmas.List.{drop_all, drop_more, length-map}
 use Rattle.ata_types.specs.declared.request.RequestId.{RequestId}
 use Rattle.block_machine.specs.Due.{AreDueInTurn}
+use Rattle.block_machine.specs.declared.due.Mode.{Mode}
 use Rattle.block_machine.specs.declared.due.Unanswered.{Unanswered}
 use Rattle.block_server.specs.Ports.{Lends, with_part}
-use Rattle.request_queue.specs.Entries.{Held, IsInOrder, asks_of, due_ids}
+use Rattle.request_queue.specs.Entries.{Held, IsInOrder, asks_of, at, due_ids, issue}
 use Rattle.server_history.specs.Served.{IssuesEach, IssuesOne}
-use Rattle.server_history.specs.Server.{Server, IsKept, plain_mode}
+use Rattle.server_history.specs.Server.{Server, IsKept}
 use Rattle.block_server.proofs.Sending as sending
 use Rattle.block_server.proofs.port.issue_due.Goals as goal
 
@@ -19,10 +20,11 @@ loop-place-init g c =
     let l = c.requires.lends.1 in
     let order : IsInOrder book = subst IsInOrder l.book_is l.kept.ordered in
     record {
-      rest = λ s new k e. subst (λ (x : Server). IssuesEach port c.issuable-due.result.items x new) (sending.lent_same s device book slots port k) e;
-      lends = λ s k. sending.lent_on_from s device book slots port k device book slots (subst IsKept (sym (sending.lent_same s device book slots port k)) k.kept);
-      turns = subst (λ (ids : List RequestId). AreDueInTurn plain_mode port ids (asks_of book)) (sym c.issuable-due.ensures)
-          (c.due_in_turn.ensures plain_mode port (asks_of book) (c.the_book_stays_in_order.ensures.asks book order));
+      rest = λ s new k e. subst (λ (x : Server). IssuesEach port c.issuable-due.result.items x new) (sending.lent_same s device book slots port c.args.mode k) e;
+      lends = λ s k. sending.lent_on_from s device book slots port c.args.mode k device book slots (subst IsKept (sym (sending.lent_same s device book slots port c.args.mode k)) k.kept);
+      turns = subst (λ (ids : List RequestId). AreDueInTurn c.args.mode port ids (asks_of book)) (sym c.issuable-due.ensures)
+          (c.due_in_turn.ensures c.args.mode port (asks_of book) (c.the_book_stays_in_order.ensures.asks book order));
+      many = refl;
       same = λ _. refl;
     }
 
@@ -33,8 +35,8 @@ issue_one-requires-clause-lends g c =
 
 pub issue_one-requires-clause-due : goal.issue_one-requires-clause-due
 issue_one-requires-clause-due g c =
-    let T : List RequestId → Type 0 = λ ids. sending.IsTurn c.loop-place.book c.args.port (get_or ids c.loop-place.place (record { 0 = 0 })) in
-    subst T (sym c.deref.ensures.0) (sending.next_due c.loop-place.book c.args.port c.issuable-due.result.items c.loop-place.place (record { 0 = 0 }) (let low = c.loop-place-test.true in let e = c.len-place-end.ensures.value in omega (arith, low, e)) c.loop-place.invariant.turns)
+    let T : List RequestId → Type 0 = λ ids. sending.IsTurn c.loop-place.book c.args.port c.args.mode (get_or ids c.loop-place.place (record { 0 = 0 })) in
+    subst T (sym c.deref.ensures.0) (sending.next_due c.loop-place.book c.args.port c.args.mode c.issuable-due.result.items c.loop-place.place (record { 0 = 0 }) (let low = c.loop-place-test.true in let e = c.len-place-end.ensures.value in omega (arith, low, e)) c.loop-place.invariant.turns)
 
 pub loop-place-preserved : goal.loop-place-preserved
 loop-place-preserved g c =
@@ -48,8 +50,8 @@ loop-place-preserved g c =
     let ids = c.issuable-due.result.items in
     let place = c.loop-place.place in
     let so_far = c.loop-place.invariant in
-    let D : List RequestId → Type 0 = λ xs. (s : Server) → Lends s now book slots port → IssuesOne port (get_or xs place (record { 0 = 0 })) s (with_part s then later used port) in
-    let one : (s : Server) → Lends s now book slots port → IssuesOne port (get_or ids place (record { 0 = 0 })) s (with_part s then later used port) = subst D c.deref.ensures.0 c.issue_one.ensures.issues in
+    let D : List RequestId → Type 0 = λ xs. (s : Server) → Lends s now book slots port c.args.mode → IssuesOne port (get_or xs place (record { 0 = 0 })) s (with_part s then later used port) in
+    let one : (s : Server) → Lends s now book slots port c.args.mode → IssuesOne port (get_or ids place (record { 0 = 0 })) s (with_part s then later used port) = subst D c.deref.ensures.0 c.issue_one.ensures.issues in
     let low : suc place ≤ length ids = (let l = c.loop-place-test.true in let e = c.len-place-end.ensures.value in omega (arith, l, e)) in
     let next = drop_more ids place (record { 0 = 0 }) low in
     let s0 = c.requires.lends.0 in
@@ -60,19 +62,22 @@ loop-place-preserved g c =
           let mid : Server = with_part p then later used port in
           so_far.rest s new k
           (subst (λ (xs : List RequestId). IssuesEach port xs p new) (sym next)
-          (mid, one p (so_far.lends s k), subst (λ (x : Server). IssuesEach port (drop (place + 1) ids) x new) (sym (sending.lent_again s (g.A.Adapter.device c.args.adapter.now) c.args.book.now c.args.slots.now port k now book slots then later used)) e));
+          (mid, one p (so_far.lends s k), subst (λ (x : Server). IssuesEach port (drop (place + 1) ids) x new) (sym (sending.lent_again s (g.A.Adapter.device c.args.adapter.now) c.args.book.now c.args.slots.now port c.args.mode k now book slots then later used)) e));
       lends = λ s k.
           let p : Server = with_part s now book slots port in
           let mid : Server = with_part p then later used port in
           let kept : IsKept mid = c.requests_keep.ensures.issued p mid port (get_or ids place (record { 0 = 0 })) (so_far.lends s k).kept (one p (so_far.lends s k)) in
-          sending.lent_on_from s (g.A.Adapter.device c.args.adapter.now) c.args.book.now c.args.slots.now port k then later used
-          (subst IsKept (sending.lent_again s (g.A.Adapter.device c.args.adapter.now) c.args.book.now c.args.slots.now port k now book slots then later used) kept);
+          sending.lent_on_from s (g.A.Adapter.device c.args.adapter.now) c.args.book.now c.args.slots.now port c.args.mode k then later used
+          (subst IsKept (sending.lent_again s (g.A.Adapter.device c.args.adapter.now) c.args.book.now c.args.slots.now port c.args.mode k now book slots then later used) kept);
       turns =
           let p : Server = with_part s0 now book slots port in
           let is = ap (λ (x : Server). asks_of x.book) (one p (so_far.lends s0 l0)).server ∙ c.operations_change_what_is_due.ensures.issue book (get_or ids place (record { 0 = 0 })) in
-          let T : List RequestId → Type 0 = λ xs. AreDueInTurn plain_mode port xs (asks_of book) in
-          let turn : AreDueInTurn plain_mode port (get_or ids place (record { 0 = 0 }) ∷ drop (place + 1) ids) (asks_of book) = subst T next so_far.turns in
-          subst (λ (us : List Unanswered). AreDueInTurn plain_mode port (drop (place + 1) ids) us) (sym is) turn.1;
+          let T : List RequestId → Type 0 = λ xs. AreDueInTurn c.args.mode port xs (asks_of book) in
+          let turn : AreDueInTurn c.args.mode port (get_or ids place (record { 0 = 0 }) ∷ drop (place + 1) ids) (asks_of book) = subst T next so_far.turns in
+          subst (λ (us : List Unanswered). AreDueInTurn c.args.mode port (drop (place + 1) ids) us) (sym is) turn.1;
+      many =
+          let p : Server = with_part s0 now book slots port in
+          ap (λ (x : Server). length x.book) (one p (so_far.lends s0 l0)).server ∙ length-map book (at (get_or ids place (record { 0 = 0 })) issue) ∙ so_far.many;
       same = λ zero_is. absurd (omega (arith, zero_is));
     }
 
@@ -83,5 +88,6 @@ returns-clause-issues g c = λ s l.
     let ids = c.issuable-due.result.items in
     let p : Server = with_part s now c.loop-place.book c.loop-place.slots port in
     let none : drop c.loop-place.place ids ≡ [] = drop_all c.loop-place.place ids (let h = c.loop-place-test.false in let e = c.len-place-end.ensures.value in omega (arith, h, e)) in
-    subst (λ (xs : List RequestId). IssuesEach port xs s p) (c.issuable-due.ensures ∙ ap (λ (b : List Held). due_ids plain_mode port (asks_of b)) (sym l.book_is))
-    (c.loop-place.invariant.rest s p l (subst (λ (xs : List RequestId). IssuesEach port xs p p) (sym none) refl))
+    let M : Mode → Type 0 = λ mode. IssuesEach port (due_ids mode port (asks_of s.book)) s p in
+    subst M (sym l.mode_is) (subst (λ (xs : List RequestId). IssuesEach port xs s p) (c.issuable-due.ensures ∙ ap (λ (b : List Held). due_ids c.args.mode port (asks_of b)) (sym l.book_is))
+    (c.loop-place.invariant.rest s p l (subst (λ (xs : List RequestId). IssuesEach port xs p p) (sym none) refl)))

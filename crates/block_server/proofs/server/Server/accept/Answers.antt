@@ -1,7 +1,8 @@
-use Rattle.std.proofs.Common.{ℕ, ◌≡◌, ◌+◌, List, Ok, refl, sym, [], subst, arith, slice_index_or, slice_set}
+use Rattle.std.proofs.Common.{ℕ, ◌≡◌, ◌+◌, List, Ok, refl, sym, ap, ◌∙◌, [], subst, arith, slice_index_or, slice_set}
 use Rattle.ata_types.specs.declared.request.Frame.{Frame}
 use Rattle.block_machine.specs.Events.{Submit, Submitted}
 use Rattle.block_machine.specs.Due.{due_of}
+use Rattle.block_machine.specs.declared.due.Mode.{Mode}
 use Rattle.block_machine.specs.Refusals.{IsAcceptable}
 use Rattle.block_machine.specs.Rules.{HasNoFault}
 use Rattle.dma_frames.specs.Table.{owner_of, lent_to}
@@ -12,7 +13,7 @@ use Rattle.block_server.specs.View.{ServerView, server_of}
 use Rattle.request_queue.specs.Entries.{Held, asks_of}
 use Rattle.server_history.specs.Histories.{Adds}
 use Rattle.server_history.specs.Served.{Accepts, accepting}
-use Rattle.server_history.specs.Server.{Server, plain_mode, situation_of}
+use Rattle.server_history.specs.Server.{Server, mode_in, situation_of}
 use Rattle.block_server.proofs.Accepting as accepted
 use Rattle.block_server.proofs.server.Server.accept.Given.{Over}
 use Rattle.block_server.proofs.server.Server.accept.Goals as goal
@@ -37,9 +38,13 @@ issue_due-requires g c = record {
         c.requests_keep.ensures.accepted (record { 0 = c.self.inside.last + 1 }) refl c.as_slice.result.now c.as_slice.ensures.value
         c.lend-loan.new.self (rw c.deref_mut.ensures.value at c.lend-loan.ensures.lent) c.lend-loan.result.frames c.lend-loan.ensures.frames c.accept.new.self c.accept.ensures
         (slice_index_or c.self.inside.slots c.from.result c.index-self-from.result)
-        (accepted.its_slots (server_of g.A.Adapter.device (seen c.self.inside)) c.args.r.now (subst (λ (v : ServerView g.row.A.Denot). IsAcceptable (situation_of (server_of g.A.Adapter.device v)) c.args.r.now) (sym c.self.view_is) c.requires.acceptable) c.self.invariant.kept c.args.port (subst (λ (v : ServerView g.row.A.Denot). IsFor v.grants c.args.r.now c.args.port) (sym c.self.view_is) c.requires.port) c.from.result c.from.ensures c.index-self-from.result),
+        (accepted.its_slots (server_of g.A.Adapter.device (seen c.self.inside)) c.args.r.now (subst (λ (v : ServerView g.row.A.Denot). IsAcceptable (situation_of (server_of g.A.Adapter.device v)) c.args.r.now) (sym c.self.view_is) c.requires.acceptable) c.self.invariant.kept c.args.port (subst (λ (v : ServerView g.row.A.Denot). IsFor v.grants c.args.r.now c.args.port) (sym c.self.view_is) c.requires.port) c.from.result c.from.ensures c.index-self-from.result) c.mode-mode.result (ap (λ (v : ServerView g.row.A.Denot). mode_in (server_of g.A.Adapter.device v) c.args.port) c.self.view_is ∙ sym c.mode-mode.ensures),
   );
 }
+
+-- the port's mode
+mode_is : (g : Over) (c : After-issue_due g) → mode_in (server_of g.A.Adapter.device (seen c.self.inside)) c.args.port ≡ c.mode-mode.result
+mode_is g c = ap (λ (v : ServerView g.row.A.Denot). mode_in (server_of g.A.Adapter.device v) c.args.port) c.self.view_is ∙ sym c.mode-mode.ensures
 
 -- the server then
 abbrev after : (g : Over) (c : After-issue_due g) → ServerView g.row.A.Denot
@@ -62,7 +67,7 @@ sent g c =
     c.requests_keep.ensures.accepted (record { 0 = c.self.inside.last + 1 }) refl c.as_slice.result.now c.as_slice.ensures.value
     c.lend-loan.new.self (rw c.deref_mut.ensures.value at c.lend-loan.ensures.lent) c.lend-loan.result.frames c.lend-loan.ensures.frames c.accept.new.self c.accept.ensures
     (slice_index_or c.self.inside.slots c.from.result c.index-self-from.result)
-    (accepted.its_slots (server_of g.A.Adapter.device (seen c.self.inside)) c.args.r.now (subst (λ (v : ServerView g.row.A.Denot). IsAcceptable (situation_of (server_of g.A.Adapter.device v)) c.args.r.now) (sym c.self.view_is) c.requires.acceptable) c.self.invariant.kept c.args.port (subst (λ (v : ServerView g.row.A.Denot). IsFor v.grants c.args.r.now c.args.port) (sym c.self.view_is) c.requires.port) c.from.result c.from.ensures c.index-self-from.result) in
+    (accepted.its_slots (server_of g.A.Adapter.device (seen c.self.inside)) c.args.r.now (subst (λ (v : ServerView g.row.A.Denot). IsAcceptable (situation_of (server_of g.A.Adapter.device v)) c.args.r.now) (sym c.self.view_is) c.requires.acceptable) c.self.invariant.kept c.args.port (subst (λ (v : ServerView g.row.A.Denot). IsFor v.grants c.args.r.now c.args.port) (sym c.self.view_is) c.requires.port) c.from.result c.from.ensures c.index-self-from.result) c.mode-mode.result (mode_is g c) in
     let more : Server = accepting c.args.port c.args.r.now (record { 0 = c.self.inside.last + 1 }) c.lend-loan.new.self s in
     subst (λ (n : ℕ). Accepts c.args.port c.args.r.now (record { 0 = c.self.inside.last + 1 }) s (record more { device = g.A.Adapter.device c.issue_due.new.adapter; slots = slice_set c.self.inside.slots n c.issue_due.new.slots; book = c.issue_due.new.book })) (sym c.from.ensures)
     (accepts (with_part more (g.A.Adapter.device c.issue_due.new.adapter) c.issue_due.new.book c.issue_due.new.slots c.args.port) (c.issue_due.ensures.issues more lends))
@@ -81,7 +86,8 @@ returns-clause-accepts g c =
           let book = accepted.its_book (server_of g.A.Adapter.device (seen c.self.inside)) c.args.r.now (subst (λ (v : ServerView g.row.A.Denot). IsAcceptable (situation_of (server_of g.A.Adapter.device v)) c.args.r.now) (sym c.self.view_is) c.requires.acceptable) c.self.invariant.kept c.args.port (subst (λ (v : ServerView g.row.A.Denot). IsFor v.grants c.args.r.now c.args.port) (sym c.self.view_is) c.requires.port)
           c.requests_keep.ensures.accepted (record { 0 = c.self.inside.last + 1 }) refl c.as_slice.result.now c.as_slice.ensures.value
           c.lend-loan.new.self (rw c.deref_mut.ensures.value at c.lend-loan.ensures.lent) c.lend-loan.result.frames c.lend-loan.ensures.frames c.accept.new.self c.accept.ensures in
-          c.issue_due.ensures.none (subst (λ (b : List Held). due_of plain_mode c.args.port (asks_of b) ≡ []) book none);
+          c.issue_due.ensures.none (subst (λ (b : List Held). due_of c.mode-mode.result c.args.port (asks_of b) ≡ []) book
+          (subst (λ (m : Mode). due_of m c.args.port (asks_of (accepting c.args.port c.args.r.now (record { 0 = c.self.inside.last + 1 }) (sent g c).table (server_of g.A.Adapter.device (seen c.self.inside))).book) ≡ []) (mode_is g c) none));
     })
 
 pub returns-clause-adds : goal.returns-clause-adds

@@ -22,24 +22,26 @@ pub invariant_of-result : goal.invariant_of-result
 invariant_of-result g c =
     let device = g.A.Adapter.device in
     let plan = c.in-Ok.plan in
-    let s : Server = record { device = device c.take_over.new.adapter; grants = c.in-Ok-from_rows.grants; table = c.in-Ok-boxed.table.value; wanted = c.wanted.result.now; ports = c.take_over.result.ports; slots = c.unused_slots.result; book = c.in-Ok-new.book; last = 0 } in
+    let s : Server = record { device = device c.take_over-host.new.adapter; grants = c.in-Ok-from_rows.grants; table = c.in-Ok-boxed.table.value; wanted = c.wanted.result.now; ports = c.take_over-host.result.ports; modes = c.modes_of-modes.result; slots = c.unused_slots.result; book = c.in-Ok-new.book; last = 0 } in
     let rows_are : c.as_slice.result.now ≡ map transfer_row plan.grants = c.as_slice.ensures.value ∙ c.transfer_rows.ensures ∙ ap (map transfer_row) c.grants.ensures.grants in
-    let room : 4096 * plan.frames ≤ s.device.size = let f = c.in-Ok.ensures.made.frames in let r = c.requires.ready.room c.in-Ok.ensures.sound in let z = c.take_over.ensures.taken.same.size in omega (arith, f, r, z) in
-    (c.a_new_server_has_begun.ensures s c.take_over.result (device c.args.adapter) c.requires.ready.idle (g.met.A.Adapter.tells c.args.adapter) c.take_over.ensures.taken
-    (new_fits s c.take_over.result plan c.in-Ok.ensures.fits (subst (λ (rows : List GrantRow). SameRows rows c.in-Ok-from_rows.grants) rows_are c.in-Ok-from_rows.ensures.rows)
-    (rw c.owners.ensures.owners at c.in-Ok-boxed.ensures.only) room c.in-Ok-from_rows.ensures.names c.in-Ok-from_rows.ensures.few c.in-Ok-boxed.ensures.free refl c.take_over.ensures.four (search rules) c.unused_slots.ensures.places c.unused_slots.ensures.usable c.unused_slots.ensures.unused c.in-Ok-new.ensures refl)).0
+    let room : 4096 * plan.frames ≤ s.device.size = let f = c.in-Ok.ensures.made.frames in let r = c.requires.ready.room c.in-Ok.ensures.sound in let z = c.take_over-host.ensures.taken.same.size in omega (arith, f, r, z) in
+    (c.a_new_server_has_begun.ensures s c.take_over-host.result (device c.args.adapter) c.requires.ready.idle (g.met.A.Adapter.tells c.args.adapter) c.take_over-host.ensures.taken
+    (new_fits s c.take_over-host.result plan c.in-Ok.ensures.fits (subst (λ (rows : List GrantRow). SameRows rows c.in-Ok-from_rows.grants) rows_are c.in-Ok-from_rows.ensures.rows)
+    (rw c.owners.ensures.owners at c.in-Ok-boxed.ensures.only) room c.in-Ok-from_rows.ensures.names c.in-Ok-from_rows.ensures.few c.in-Ok-boxed.ensures.free refl c.take_over-host.ensures.four (search rules) c.unused_slots.ensures.places
+    (λ port low. c.modes_of-modes.ensures.found s.device.cap port c.take_over-host.ensures.taken.slots c.take_over-host.ensures.taken.queued low) c.unused_slots.ensures.usable c.unused_slots.ensures.unused c.in-Ok-new.ensures refl)).0
 
 pub returns-clause-made : goal.returns-clause-made
 returns-clause-made g c =
     let device = g.A.Adapter.device in
     let plan = c.in-Ok.plan in
-    let s : Server = record { device = device c.take_over.new.adapter; grants = c.in-Ok-from_rows.grants; table = c.in-Ok-boxed.table.value; wanted = c.wanted.result.now; ports = c.take_over.result.ports; slots = c.unused_slots.result; book = c.in-Ok-new.book; last = 0 } in
+    let s : Server = record { device = device c.take_over-host.new.adapter; grants = c.in-Ok-from_rows.grants; table = c.in-Ok-boxed.table.value; wanted = c.wanted.result.now; ports = c.take_over-host.result.ports; modes = c.modes_of-modes.result; slots = c.unused_slots.result; book = c.in-Ok-new.book; last = 0 } in
     let rows_are : c.as_slice.result.now ≡ map transfer_row plan.grants = c.as_slice.ensures.value ∙ c.transfer_rows.ensures ∙ ap (map transfer_row) c.grants.ensures.grants in
     let rows = subst (λ (rows : List GrantRow). SameRows rows c.in-Ok-from_rows.grants) rows_are c.in-Ok-from_rows.ensures.rows in
-    let room : 4096 * plan.frames ≤ s.device.size = let f = c.in-Ok.ensures.made.frames in let r = c.requires.ready.room c.in-Ok.ensures.sound in let z = c.take_over.ensures.taken.same.size in omega (arith, f, r, z) in
-    let begun = c.a_new_server_has_begun.ensures s c.take_over.result (device c.args.adapter) c.requires.ready.idle (g.met.A.Adapter.tells c.args.adapter) c.take_over.ensures.taken
-    (new_fits s c.take_over.result plan c.in-Ok.ensures.fits rows
-    (rw c.owners.ensures.owners at c.in-Ok-boxed.ensures.only) room c.in-Ok-from_rows.ensures.names c.in-Ok-from_rows.ensures.few c.in-Ok-boxed.ensures.free refl c.take_over.ensures.four (search rules) c.unused_slots.ensures.places c.unused_slots.ensures.usable c.unused_slots.ensures.unused c.in-Ok-new.ensures refl) in
+    let room : 4096 * plan.frames ≤ s.device.size = let f = c.in-Ok.ensures.made.frames in let r = c.requires.ready.room c.in-Ok.ensures.sound in let z = c.take_over-host.ensures.taken.same.size in omega (arith, f, r, z) in
+    let begun = c.a_new_server_has_begun.ensures s c.take_over-host.result (device c.args.adapter) c.requires.ready.idle (g.met.A.Adapter.tells c.args.adapter) c.take_over-host.ensures.taken
+    (new_fits s c.take_over-host.result plan c.in-Ok.ensures.fits rows
+    (rw c.owners.ensures.owners at c.in-Ok-boxed.ensures.only) room c.in-Ok-from_rows.ensures.names c.in-Ok-from_rows.ensures.few c.in-Ok-boxed.ensures.free refl c.take_over-host.ensures.four (search rules) c.unused_slots.ensures.places
+    (λ port low. c.modes_of-modes.ensures.found s.device.cap port c.take_over-host.ensures.taken.slots c.take_over-host.ensures.taken.queued low) c.unused_slots.ensures.usable c.unused_slots.ensures.unused c.in-Ok-new.ensures refl) in
     record {
       plan = plan;
       is_plan = c.in-Ok.ensures.fits;
@@ -49,9 +51,9 @@ returns-clause-made g c =
       only = rw c.owners.ensures.owners at c.in-Ok-boxed.ensures.only;
       free = c.in-Ok-boxed.ensures.free;
       wanted = c.wanted.ensures.wanted;
-      host = c.take_over.result;
+      host = c.take_over-host.result;
       ports = refl;
-      taken = rw c.wanted.ensures.wanted at c.take_over.ensures.taken;
+      taken = rw c.wanted.ensures.wanted at c.take_over-host.ensures.taken;
       book = c.in-Ok-new.ensures;
       last = refl;
       unused = c.unused_slots.ensures.unused;

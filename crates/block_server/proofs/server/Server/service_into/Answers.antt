@@ -1,14 +1,11 @@
-use Rattle.std.proofs.Common.{◌≡◌, ◌++◌, List, [], ◌∷◌, Option, append_assoc, arith, length, sym, ap, ◌∙◌, subst, rules}
-use Rattle.std.proofs.lemmas.Grind.{common_steps}
+use Rattle.std.proofs.Common.{◌≡◌, ◌++◌, List, append_assoc, arith, length, sym, ap, ◌∙◌, subst, rules}
 use Rattle.ata_types.specs.declared.request.Reply.{Reply}
-use Rattle.agreement.specs.Agrees.{port_at}
 use Rattle.block_server.specs.View.{ServerView, server_of}
-use Rattle.block_server.specs.Ports.{reply_list}
-use Rattle.server_history.specs.Served.{ServePorts, ServesPort}
+use Rattle.host_boot.specs.declared.Found.{Found}
+use Rattle.server_history.specs.Served.{ServePorts}
 use Rattle.server_history.specs.Server.{IsSettled}
 use Rattle.block_server.proofs.Turns.{all_served, one_served}
 use Rattle.block_server.proofs.server.Server.service_into.Goals as goal
-use Rattle.block_server.proofs.server.Server.service_into.Goals.{in-Some, in_default-serve_port}
 
 pub loop-number-preserved : goal.loop-number-preserved
 loop-number-preserved g c =
@@ -18,30 +15,16 @@ loop-number-preserved g c =
     let s = server_of device c.loop-number.self in
     let mid = server_of device c.serve_port.new.self in
     let four : length ports ≡ 4 = search rules in
-    let S : Option Reply → Type 0 = λ reply. ServesPort (port_at c.loop-number.number) (reply_list reply) s mid in
-    let kept_ports : c.serve_port.new.self.ports ≡ ports = c.serve_port.ensures.ports ∙ so_far.ports in
-    elim c.match-serve_port.branch [
-      | in-Some w ↦ record {
-        rest = λ later new more.
-            let W : List Reply → Type 0 = λ told. ServePorts 0 c.args.self.now.ports told (server_of device c.args.self.now) new in
-            subst W (sym (ap (λ (told : List Reply). told ++ later) (ap (λ r. r.items) w.replies-is ∙ w.push.ensures.items) ∙ append_assoc c.loop-number.replies.items (w.in-Some.reply ∷ []) later))
-            (so_far.rest (w.in-Some.reply ∷ later) new
-            (one_served ports c.loop-number.number c.in-Ready.field-0 s mid new (w.in-Some.reply ∷ []) later (omega (arith, four, c.loop-number-test.true)) c.in-Ready.is c.serve_port.ensures.settled
-            (subst S w.in-Some.is c.serve_port.ensures.serves) more));
-        ports = kept_ports;
-        few = let told = ap (λ r. length r.items) w.replies-is in omega (arith, told, w.push.ensures.len, so_far.few);
-      }
-      | in_default-serve_port w ↦ record {
-        rest = λ later new more.
-            let W : List Reply → Type 0 = λ told. ServePorts 0 c.args.self.now.ports told (server_of device c.args.self.now) new in
-            subst W (sym (ap (λ (told : List Reply). told ++ later) (ap (λ r. r.items) w.replies-is)))
-            (so_far.rest later new
-            (one_served ports c.loop-number.number c.in-Ready.field-0 s mid new [] later (omega (arith, four, c.loop-number-test.true)) c.in-Ready.is c.serve_port.ensures.settled
-            (subst S w.in_default-serve_port.is c.serve_port.ensures.serves) more));
-        ports = kept_ports;
-        few = let told = ap (λ r. length r.items) w.replies-is in omega (arith, told, so_far.few);
-      }
-    ]
+    let served = c.serve_port.ensures.serves in
+    record {
+      rest = λ later new more.
+          let W : List Reply → Type 0 = λ told. ServePorts 0 c.args.self.now.ports told (server_of device c.args.self.now) new in
+          subst W (sym (ap (λ (told : List Reply). told ++ later) served.1 ∙ append_assoc c.loop-number.replies.items served.0 later))
+          (so_far.rest (served.0 ++ later) new
+          (one_served ports c.loop-number.number c.in-Ready.field-0 s mid new served.0 later (omega (arith, four, c.loop-number-test.true)) c.in-Ready.is c.serve_port.ensures.settled served.2 more));
+      ports = c.serve_port.ensures.ports ∙ so_far.ports;
+      room = c.serve_port.ensures.room;
+    }
 
 pub returns-clause-services : goal.returns-clause-services
 returns-clause-services g c =
@@ -59,4 +42,14 @@ returns-clause-adds g c =
     (subst K c.self.view_is c.self.invariant) (returns-clause-services g c)
 
 pub loop-number-init : goal.loop-number-init
-loop-number-init g c = grind (arith, common_steps)
+loop-number-init g c =
+    let same = ap (λ (v : ServerView g.row.A.Denot). length v.book) c.self.view_is in
+    let ports = ap (λ (v : ServerView g.row.A.Denot). v.ports) c.self.view_is in
+    record {
+      rest = λ later new served.
+          let W : List Found → Type 0 = λ ports. ServePorts 0 ports later (server_of g.A.Adapter.device c.args.self.now) new in
+          let T : List Reply → Type 0 = λ told. ServePorts 0 c.args.self.now.ports (told ++ later) (server_of g.A.Adapter.device c.args.self.now) new in
+          subst T (sym c.clear.ensures) (subst W ports served);
+      ports = sym ports;
+      room = let all = c.the_book_stays_in_order.ensures.all c.self.inside.book c.self.invariant.kept.ordered in let none = ap length c.clear.ensures in omega (arith, all, none, same);
+    }

@@ -1,4 +1,4 @@
-use Rattle.std.proofs.Common.{◌≡◌, ◌≤◌, ◌++◌, List, drop, length}
+use Rattle.std.proofs.Common.{◌≡◌, ◌+◌, ◌≤◌, ◌++◌, List, drop, length}
 use Rattle.ata_types.specs.declared.request.Reply.{Reply}
 use Rattle.server_history.specs.Served.{ServePorts}
 use Rattle.server_history.specs.Server.{Server}
@@ -10,5 +10,5 @@ invariant-loop-number g l = record {
   rest : (later : List Reply) (new : Server) → ServePorts l.number (drop l.number l.ports) later (server_of g.A.Adapter.device l.self) new
       → ServePorts 0 l.fn.self.ports (l.replies.items ++ later) (server_of g.A.Adapter.device l.fn.self) new;
   ports : l.self.ports ≡ l.ports;
-  few : length l.replies.items ≤ l.number;
+  room : length l.replies.items + length l.self.book ≤ 128;
 }

@@ -1,0 +1,59 @@
+// How the ports of an adapter that was taken over take commands.
+ghost use Rattle.std.specs.Prelude.{ℕ, ◌≡◌, ◌<◌, ◌≤◌, ◌+◌, ◌/◌, ◌%◌, None, length};
+ghost use Rattle.hba_regs.specs.Bits.{bit};
+ghost use Rattle.host_boot.specs.Taken.{found_of};
+ghost use Rattle.server_history.specs.Server.{mode_at, mode_found, slots_at, used_for};
+
+use block_machine::Mode;
+use host_boot::{Found, Host, PORTS};
+use slots::{SLOTS, Slots};
+
+/// One plain command at a time.
+pub(crate) const PLAIN: Mode = Mode {
+    queued: false,
+    usable: 1,
+};
+
+/// How a port that was found so takes commands: queued where adapter and disk both can, in as many slots as both have; else one at a time.
+fn mode_of(host: &Host, found: &Found) -> Mode
+    ensures found { (cap : ℕ) → host.now.slots ≡ cap / 256 % 32 + 1 → host.now.queued ≡ bit cap 30 → result ≡ mode_found cap found.now }
+    ensures few { result.usable ≤ 32 }
+{
+    match found {
+        Found::Ready(info) if host.queued && info.ncq => Mode {
+            queued: true,
+            usable: host.slots.min(info.depth).min(SLOTS as u8),
+        },
+        _ => PLAIN,
+    }
+}
+
+/// How each port takes commands.
+pub(crate) fn modes_of(host: &Host) -> [Mode; PORTS]
+    requires four { length host.now.ports ≡ 4 }
+    ensures found { (cap port : ℕ) → host.now.slots ≡ cap / 256 % 32 + 1 → host.now.queued ≡ bit cap 30 → port < 4
+        → mode_at result port ≡ mode_found cap (found_of host.now.ports port) }
+    ensures few { (port : ℕ) → (mode_at result port).usable ≤ 32 }
+{
+    [
+        mode_of(host, &host.ports[0]),
+        mode_of(host, &host.ports[1]),
+        mode_of(host, &host.ports[2]),
+        mode_of(host, &host.ports[3]),
+    ]
+}
+
+/// The slots of each port, of which none is used: as many are usable as the port's mode has.
+pub(crate) fn unused_slots(modes: &[Mode; PORTS]) -> [Slots; PORTS]
+    requires few { (port : ℕ) → (mode_at modes.now port).usable ≤ 32 }
+    ensures places { (port : ℕ) → port < 4 → length (slots_at result port).places ≡ 32 }
+    ensures usable { (port : ℕ) → port < 4 → (slots_at result port).usable ≡ (mode_at modes.now port).usable }
+    ensures unused { (port slot : ℕ) → used_for result port slot ≡ None }
+{
+    [
+        Slots::new(modes[0].usable),
+        Slots::new(modes[1].usable),
+        Slots::new(modes[2].usable),
+        Slots::new(modes[3].usable),
+    ]
+}
