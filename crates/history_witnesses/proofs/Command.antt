@@ -1,11 +1,14 @@
 -- A read of one sector, as it stands in memory: into the first 512 bytes of frame 40.
-use Rattle.std.proofs.Common.{ℕ, zero, suc, ◌≡◌, ◌≤◌, ◌<◌, ◌+◌, List, [], ◌∷◌, ◌++◌, All, length, replicate, slice_index, refl, arith}
+use Rattle.std.proofs.Common.{ℕ, zero, suc, ◌≡◌, ◌≤◌, ◌<◌, ◌+◌, ◌*◌, List, [], ◌∷◌, ◌++◌, All, length, replicate, slice_index, refl, arith}
 use Rattle.std.proofs.lemmas.Bool.{true≢false}
 use Rattle.std.proofs.lemmas.List.{get_or-replicate}
 use Rattle.adapter.specs.FirstRead.{header_bytes}
 use Rattle.adapter.specs.Memory.{bytes_at, patched}
 use Rattle.adapter.specs.ReadDone.{read_of}
-use Rattle.adapter.specs.Says.{Says, IsWhole, cut}
+use Rattle.adapter.specs.Commands.{IsMeaning, Meaning, command_of, pieces_moved, reads_memory}
+use Rattle.adapter.specs.Says.{IsWhole, cut}
+use Rattle.adapter.specs.Spelling.{SpellsCommand, SpellsHeader, SpellsPrd}
+use Rattle.agreement.specs.Places.{table_of}
 use Rattle.adapter.specs.declared.command.Prd.{Prd}
 use Rattle.agreement.specs.Slots.{Told}
 
@@ -23,52 +26,51 @@ zeros at = 0
 unfoldable pub read_memory : ℕ → ℕ
 read_memory = patched (patched (patched zeros 0 header_bytes) 0x1000 read_bytes) 0x1080 place_bytes
 
-zeros_past : (first : List ℕ) (n i : ℕ) → length first ≤ i → i < length first + n → slice_index (first ++ replicate n 0) i ≡ 0
+pub zeros_past : (first : List ℕ) (n i : ℕ) → length first ≤ i → i < length first + n → slice_index (first ++ replicate n 0) i ≡ 0
 zeros_past [] n i low high = get_or-replicate n i 0 0 (omega (arith, high))
 zeros_past (x ∷ first) n zero low high = absurd (omega (arith, low))
 zeros_past (x ∷ first) n (suc i) low high = zeros_past first n i (omega (arith, low)) (omega (arith, high))
 
-abbrev prd : Prd
-prd = record { address = 0x28000; bytes = 512 }
+whole : (prd : Prd) → IsWhole prd → All IsWhole (prd ∷ [])
+whole prd is zero d small = is
+whole prd is (suc k) d small = absurd (omega (arith, small))
 
-whole : All IsWhole (prd ∷ [])
-whole zero d small = refl
-whole (suc k) d small = absurd (omega (arith, small))
-
-says : Says read_memory 0 0 (read_of 100 1) (cut 0x28000 1)
-unfolding read_memory patched bytes_at
-says = record {
-  table = 0x1000;
-  prds = prd ∷ [];
-  header = record { size = refl; first = refl; points = refl; aligned = refl; zeros = λ i low high. zeros_past header_bytes 20 i low high };
-  fis = record {
-    size = refl;
-    kind = refl;
-    c_bit = refl;
-    code = refl;
-    features = refl;
-    lba = refl;
-    device = refl;
-    count = refl;
-    zeros = λ i low high. zeros_past read_bytes 6 i low high;
+-- The header, the FIS and the PRD of a slot of port 0 say a read of one sector into this place.
+pub told_one : (memory : ℕ → ℕ) (slot : ℕ) (c : Meaning) (address : ℕ) → SpellsHeader (bytes_at memory (0 + 32 * slot) 32) (reads_memory c.operation) 1 (table_of 0 slot)
+    → SpellsCommand (bytes_at memory (table_of 0 slot) 20) (command_of c.operation slot c.first c.count) → IsMeaning c
+    → SpellsPrd (bytes_at memory (table_of 0 slot + 128) 16) (record { address = address; bytes = 512 }) → 1 ≡ pieces_moved c.operation c.count → Told memory 0 0 slot c (cut address 1)
+told_one memory slot c address header fis meaning prd many = record {
+  says = record {
+    table = table_of 0 slot;
+    prds = record { address = address; bytes = 512 } ∷ [];
+    header = header;
+    fis = fis;
+    meaning = meaning;
+    stand = (prd, tt);
+    few = omega arith;
+    whole = whole (record { address = address; bytes = 512 }) refl;
+    in_order = refl;
+    as_many = many;
   };
-  meaning = record { ranged = λ _. (omega arith, omega arith, omega arith); not_ranged = λ h. absurd (true≢false h) };
-  stand = (
-    record {
-      size = refl;
-      allowed = record { even_address = refl; even_bytes = refl; some = omega arith; limit = omega arith };
-      address = refl;
-      upper = refl;
-      count = refl;
-    },
-    tt,
-  );
+  table_is = refl;
   few = omega arith;
-  whole = whole;
-  in_order = refl;
-  as_many = refl;
 }
 
 pub told : Told read_memory 0 0 0 (read_of 100 1) (cut 0x28000 1)
-unfolding says
-told = record { says = says; table_is = refl; few = omega arith }
+unfolding read_memory patched bytes_at
+told = told_one read_memory 0 (read_of 100 1) 0x28000
+    (record { size = refl; first = refl; points = refl; aligned = refl; zeros = λ i low high. zeros_past header_bytes 20 i low high })
+    (record {
+      size = refl;
+      kind = refl;
+      c_bit = refl;
+      code = refl;
+      features = refl;
+      lba = refl;
+      device = refl;
+      count = refl;
+      zeros = λ i low high. zeros_past read_bytes 6 i low high;
+    })
+    (record { ranged = λ _. (omega arith, omega arith, omega arith); not_ranged = λ h. absurd (true≢false h) })
+    (record { size = refl; allowed = record { even_address = refl; even_bytes = refl; some = omega arith; limit = omega arith }; address = refl; upper = refl; count = refl })
+    refl

@@ -6,6 +6,9 @@ mod Command
 mod Submitting
 mod Losing
 mod Memory
+mod Ready
+mod Issuing
+mod Serving
 mod Accepting
 mod Recovering
 mod Recovered

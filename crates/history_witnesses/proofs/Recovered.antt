@@ -47,9 +47,10 @@ use Rattle.history_witnesses.proofs.Command.{read_memory}
 use Rattle.history_witnesses.proofs.Devices.{IsOf, WritesOf, leaves, serving, AreServing}
 use Rattle.history_witnesses.proofs.Holding.{IsUnnamed, fit_disk, named, named_is, no_slots, requests_none, runs_on, tries_ready, unnamed_evidenced, unserved_at, IsCalm, gained_none, no_trouble, ran_none}
 use Rattle.history_witnesses.proofs.Memory.{past_driver}
-use Rattle.history_witnesses.proofs.Pages.{info}
 use Rattle.history_witnesses.proofs.Submitting.{issued, second, submitted, pages}
-use Rattle.history_witnesses.proofs.Accepting.{agreeing, asked, both, calm, first, fit_both, free_apart, in_book, issuing, no_page, not_dead, other_page, second_ready, served_of, served_ready, starts, submit, submit_happens, submit_parts, submit_ties, submitted_at, waiting, begins}
+use Rattle.history_witnesses.proofs.Accepting.{asked, both, first, in_book, issuing, submit, submit_happens, submit_parts, submit_ties, submitted_at, waiting}
+use Rattle.history_witnesses.proofs.Pages.{plainly}
+use Rattle.history_witnesses.proofs.Ready.{agreeing, begins, calm, fit_ready, free_apart, no_page, not_dead, other_page, second_ready, served_of, served_ready, starts}
 use Rattle.history_witnesses.proofs.Recovering.{allowed, does, fault, from_fall, from_stop, recovered, started, tape_failed, told, until_stop}
 use Rattle.history_witnesses.proofs.Members.{nowhere, only}
 
@@ -88,8 +89,8 @@ unfolding changed
 ready = record {
   on = record { ae = refl; no_reset = refl };
   runs = runs_on 0 recovered refl refl refl refl refl (omega arith) refl refl refl;
-  info = info;
-  disk = fit_disk 0 recovered [] (page_entry 1 ∷ entry.Fault fault ∷ []) refl refl refl refl (other_page (entry.Fault fault ∷ []) (unpaged 0));
+  info = plainly.info;
+  disk = fit_disk plainly 0 recovered [] (page_entry plainly.page 1 ∷ entry.Fault fault ∷ []) refl refl refl refl (other_page plainly.page (entry.Fault fault ∷ []) (unpaged 0));
   shows = record { serial = refl; sectors = refl; trims = refl; mode = refl };
   slots = requests_none no_slots recovered_at (port_at 0) (both.mode (port_at 0)) (λ slot. refl) refl;
   kept = λ e k. absurd (nowhere e k);
@@ -97,7 +98,7 @@ ready = record {
 
 port_recovered : (n : ℕ) → HoldsOf (wanted_of (Any ∷ Any ∷ []) n) no_slots recovered_at (port_at n) (both.served (port_at n)) (both.state (port_at n))
 port_recovered zero = ready
-port_recovered (suc zero) = second_ready no_slots answered (entry.Fault fault ∷ []) started read_memory (unpaged 1) (λ slot. refl) refl refl
+port_recovered (suc zero) = second_ready plainly no_slots answered (entry.Fault fault ∷ []) read_memory started (unpaged 1) (λ slot. refl) refl refl
 port_recovered (suc (suc n)) = unserved_at no_slots recovered_at (suc (suc n)) refl refl (record { free = λ slot. refl; unparked = refl }) (λ e here. absurd (nowhere e here)) (λ e kept. absurd (nowhere e kept))
 
 holds_recovered : HoldsWith (Any ∷ Any ∷ []) no_slots recovered_at
@@ -161,7 +162,7 @@ of_served = (tended, (tended, (tended, (tended, ((λ is. cc, tended), (tended, (
     tended = (refl, not_dead 0)
 
 quiet : (n : ℕ) → both.state (port_at n) ≡ Ready → (ShowsLoss (port_at n) submitted recovered → ⊥) × (ShowsFailure (submitted.port n) → ⊥)
-quiet = calm read_memory issued refl refl refl (λ place. refl) recovered
+quiet = calm submitted.tape read_memory issued refl refl refl (λ place from. refl) recovered
 
 evidenced_of : (n : ℕ) → IsEvidencedOf Service (Served replies) recovery_accesses submitted_at both recovered fault_evidence (port_at n)
 evidenced_of zero = record {
@@ -337,7 +338,7 @@ happens = record {
       named 0,
     ),
   );
-  fit = fit_both;
+  fit = fit_ready plainly;
   disks = λ e o here. absurd (nowhere e here);
   answered = record {
     tells = record { answers = (waiting, outcome.DeviceError 0x41 0x40) ∷ []; same = IsPermutation-refl _; ordered = λ i j d less low. absurd (omega (arith, less, low)); told = refl };
@@ -402,7 +403,7 @@ recovery_ties = record {
   well = runs_well;
   does = does;
   allowed = allowed;
-  history = ((((starts, fit_both), begins), submit_happens, submit_ties), happens, ties);
+  history = ((((starts, fit_ready plainly), begins plainly), submit_happens, submit_ties), happens, ties);
   accesses = refl;
   submit_parts = submit_parts;
   service_parts = λ port. part_of port.0;

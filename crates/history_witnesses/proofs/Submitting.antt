@@ -13,14 +13,18 @@ use Rattle.adapter.specs.Steps.{Steps, begun, with_fetch}
 use Rattle.adapter.specs.Steps.Step.{Fetch}
 use Rattle.adapter.specs.declared.tape.Entry.{Entry}
 use Rattle.agreement.specs.Agrees.{port_at}
-use Rattle.history_witnesses.specs.Scene.{device_with, page_entry, running_port}
+use Rattle.history_witnesses.specs.Scene.{device_with, fit_page, page_entry, running_port}
 use Rattle.history_witnesses.proofs.Command.{place_bytes, read_bytes, read_memory, told, zeros}
 use Rattle.history_witnesses.proofs.Devices.{but_first, other_bit, put_device, step_first, writes}
 
 -- ---- it is issued
 
+-- both ports have sent this page
+abbrev pub sent : List ℕ → List Entry
+sent page = page_entry page 0 ∷ page_entry page 1 ∷ []
+
 abbrev pub pages : List Entry
-pages = page_entry 0 ∷ page_entry 1 ∷ []
+pages = sent fit_page
 
 abbrev pub second : PortState
 second = running_port 1
